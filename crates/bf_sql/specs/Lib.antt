@@ -1,0 +1,4 @@
+pub mod Database
+pub mod History
+pub mod Meaning
+pub mod Refusals

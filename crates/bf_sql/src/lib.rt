@@ -1,0 +1,10 @@
+//! Statements, scripts, replies and histories, and in `specs/` what they mean.
+#![tactic(auto)]
+
+pub mod history;
+pub mod reply;
+pub mod statement;
+
+pub use history::{Entry, History, Outcome, Transcripts};
+pub use reply::{Cell, Refusal, Reply};
+pub use statement::{ColumnForm, ColumnRule, List, Script, Session, Statement};
