@@ -90,3 +90,6 @@ pub fn bullfrog<I: Source, O: Sink>(
         Err(_) => Status::WriteFault,
     }
 }
+
+#[cfg(test)]
+mod tests;

@@ -1,7 +1,7 @@
-ghost use Rattle.std.specs.Prelude.{IfOk};
-ghost use Rattle.std.specs.List.{AllByRecursion};
+ghost use Rattle.std.specs.Prelude.{◌≡◌, [], ◌∷◌, IfOk};
 ghost use Rattle.bf_run.specs.Form.{IsPlain, IsOfForm};
 ghost use Rattle.bf_run.specs.Engine.{IsCreation};
+ghost use Rattle.bf_run.specs.Serving.{AreOfForm};
 
 use super::serve;
 use bf_base::{Key, Name, Row, Sequence, Value};
@@ -11,112 +11,132 @@ use bf_sql::{
 use std::alloc::Global;
 use std::test::Fail;
 
-fn name(alloc: Global, text: &[u8]) -> Result<Name, Fail> {
-    Ok(Name::of(alloc, text)?)
+/// The statements behind the first: the table and the number of an INSERT, or the table of a
+/// SELECT.
+const PARTS: [(&str, Option<i64>); 7] = [
+    ("t", Some(3)),
+    ("t", Some(1)),
+    ("t", Some(2)),
+    ("t", None),
+    ("t", Some(3)),
+    ("u", None),
+    ("u", Some(4)),
+];
+
+fn name(alloc: Global, text: &str) -> Result<Name, Fail> {
+    Ok(Name::of(alloc, text.as_bytes())?)
+}
+
+fn one<T: Drop>(alloc: Global, item: T) -> Result<Sequence<T>, Fail>
+    ensures { IfOk result (λ list. list ≡ item ∷ []) }
+{
+    Ok(Sequence::of(Vec::from_array(alloc, [item])?))
 }
 
 /// CREATE TABLE t (c INT, PRIMARY KEY (c))
 fn creation(alloc: Global) -> Result<Statement, Fail>
     ensures { IfOk result IsCreation }
 {
-    let column = name(alloc, b"c")?;
+    let column = name(alloc, "c")?;
     let key = column.copy(alloc)?;
     let rule = ColumnRule {
         name: column,
         form: ColumnForm::Int,
     };
     Ok(Statement::CreateTable {
-        name: name(alloc, b"t")?,
-        columns: Sequence::of(Vec::from_array(alloc, [rule])?),
-        key: Sequence::of(Vec::from_array(alloc, [key])?),
+        name: name(alloc, "t")?,
+        columns: one(alloc, rule)?,
+        key: one(alloc, key)?,
     })
 }
 
-/// INSERT INTO t VALUES (number)
-fn insert(alloc: Global, number: i64) -> Result<Statement, Fail>
+fn plain(alloc: Global, table: &str, number: Option<i64>) -> Result<Statement, Fail>
     ensures { IfOk result IsPlain }
 {
-    let row = Row::of(Vec::from_array(alloc, [Value::Int(number)])?);
-    Ok(Statement::Insert {
-        table: name(alloc, b"t")?,
-        tuples: Sequence::of(Vec::from_array(alloc, [row])?),
-    })
+    let table = name(alloc, table)?;
+    match number {
+        Some(number) => {
+            let row = Row::of(Vec::from_array(alloc, [Value::Int(number)])?);
+            let tuples = one(alloc, row)?;
+            Ok(Statement::Insert { table, tuples })
+        }
+        None => Ok(Statement::Select {
+            list: List::All,
+            table,
+        }),
+    }
 }
 
-/// SELECT * FROM table
-fn select(alloc: Global, table: &[u8]) -> Result<Statement, Fail>
-    ensures { IfOk result IsPlain }
+fn statements(alloc: Global) -> Result<Vec<Statement>, Fail>
+    ensures { IfOk result (λ statements. AreOfForm statements.items) }
 {
-    Ok(Statement::Select {
-        list: List::All,
-        table: name(alloc, table)?,
-    })
+    let mut statements = Vec::new(alloc);
+    statements.push(creation(alloc)?)?;
+    for (table, number) in PARTS {
+        statements.push(plain(alloc, table, number)?)?;
+    }
+    Ok(statements)
 }
 
-/// A script that creates the table and then has these statements.
-fn script(alloc: Global, parts: [Statement; 6]) -> Result<Script, Fail>
-    requires { AllByRecursion IsPlain parts }
+fn script(alloc: Global) -> Result<Script, Fail>
     ensures { IfOk result IsOfForm }
 {
-    let mut statements = Vec::with_capacity(alloc, 7)?;
-    statements.push(creation(alloc)?)?;
-    let mut parts = Vec::from_array(alloc, parts)?;
-    statements.append(&mut parts)?;
     let session = Session {
         phase: 1,
-        statements: Sequence::of(statements),
+        statements: Sequence::of(statements(alloc)?),
     };
     Ok(Script {
         phases: 1,
-        sessions: Sequence::of(Vec::from_array(alloc, [session])?),
+        sessions: one(alloc, session)?,
     })
 }
 
-/// The reply that has rows of these numbers.
-fn rows(alloc: Global, numbers: [i64; 3]) -> Result<Reply, Fail> {
+/// The reply that has rows of the numbers from 1 to 3.
+fn three_rows(alloc: Global) -> Result<Reply, Fail> {
     let mut rows = Vec::new(alloc);
-    for number in numbers {
-        let cell = Cell::Value(Value::Int(number));
-        rows.push(Sequence::of(Vec::from_array(alloc, [cell])?))?;
+    for number in 1..4 {
+        rows.push(one(alloc, Cell::Value(Value::Int(number)))?)?;
     }
     Ok(Reply::Rows(Sequence::of(rows)))
+}
+
+fn no_table(alloc: Global) -> Result<Reply, Fail> {
+    Ok(Reply::Refused(Refusal::NoTable(name(alloc, "u")?)))
+}
+
+fn expected(alloc: Global) -> Result<Vec<Reply>, Fail> {
+    let mut replies = Vec::new(alloc);
+    replies.push(Reply::Created)?;
+    for _ in 0..3 {
+        replies.push(Reply::Inserted(1))?;
+    }
+    replies.push(three_rows(alloc)?)?;
+    let taken = Key::of(Vec::from_array(alloc, [Value::Int(3)])?);
+    replies.push(Reply::Refused(Refusal::DuplicateKey(taken)))?;
+    replies.push(no_table(alloc)?)?;
+    replies.push(no_table(alloc)?)?;
+    Ok(replies)
 }
 
 #[test]
 fn replies_in_order(rt: HostRuntime) -> Result<(), Fail> {
     let alloc = rt.alloc();
-    let parts = [
-        insert(alloc, 3)?,
-        insert(alloc, 1)?,
-        insert(alloc, 2)?,
-        select(alloc, b"t")?,
-        insert(alloc, 3)?,
-        select(alloc, b"u")?,
-    ];
-    let taken = Key::of(Vec::from_array(alloc, [Value::Int(3)])?);
-    let expected = [
-        Reply::Created,
-        Reply::Inserted(1),
-        Reply::Inserted(1),
-        Reply::Inserted(1),
-        rows(alloc, [1, 2, 3])?,
-        Reply::Refused(Refusal::DuplicateKey(taken)),
-        Reply::Refused(Refusal::NoTable(name(alloc, b"u")?)),
-    ];
-    let run = serve(alloc, &script(alloc, parts)?)?;
+    let run = serve(alloc, &script(alloc)?)?;
     let sessions = run.transcripts.sessions.as_slice();
     assert_eq!(rt; sessions.len(), 1);
-    assert_eq!(rt; sessions[0].as_slice(), expected.as_slice());
-    let numbers: Vec<u64> = run
-        .history
-        .entries
-        .as_slice()
-        .iter()
-        .map(|entry| {
-            let Outcome::Committed(number) = entry.outcome;
-            number
-        })
-        .collect(alloc)?;
-    assert_eq!(rt; numbers.as_slice(), [1, 2, 3, 4, 5, 6, 7].as_slice());
+    assert_eq!(rt; sessions[0].as_slice(), expected(alloc)?.as_slice());
+    Ok(())
+}
+
+#[test]
+fn entries_in_order(rt: HostRuntime) -> Result<(), Fail> {
+    let run = serve(rt.alloc(), &script(rt.alloc())?)?;
+    let entries = run.history.entries.as_slice();
+    assert_eq!(rt; entries.len(), 8);
+    for (entry, number) in entries.iter().zip(1..9) {
+        assert_eq!(rt; entry.session, 1);
+        assert_eq!(rt; (entry.first, entry.last), (number, number));
+        assert_eq!(rt; entry.outcome, Outcome::Committed(u64::from(number)));
+    }
     Ok(())
 }
