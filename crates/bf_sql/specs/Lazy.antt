@@ -24,8 +24,9 @@ pub record Granule : Type 0 where
 abbrev pub same_granule : Granule → Granule → Bool
 same_granule g h = same_name g.source h.source && g.position == h.position
 
--- a migration: the database at its flip, its statement, and the granules that have moved
+-- a migration: its number from 1 on, the database at its flip, its statement, and the granules that have moved
 pub record Migration : Type 0 where
+  pub number : ℕ
   pub old : Database
   pub migrate : Migrate
   pub done : List Granule
@@ -94,9 +95,17 @@ view_of lazy = record lazy.live { tables = map (λ s. stored s.table (due lazy.l
 abbrev pub IsValid : LazyState → Type 0
 IsValid lazy = IsTrue (list_all (λ s. list_all (λ row. not (is_early lazy.last s.table row)) s.rows) lazy.live.tables)
 
--- the flip as it is done: the sources are set aside, the targets are empty, and nothing has moved
+abbrev pub number_of : Option Migration → ℕ
+number_of None = 0
+number_of (Some last) = last.number
+
+-- a migration begins: the database at its flip is kept, and nothing has moved
+abbrev pub begun : Option Migration → Database → Migrate → Migration
+begun last db m = record { number = number_of last + 1; old = db; migrate = m; done = [] }
+
+-- the flip as it is done: the sources are set aside, and the targets are empty
 abbrev pub flipped_lazily : LazyState → Migrate → LazyState
 flipped_lazily lazy m = record {
   live = replaced lazy.live m (map (λ t. record { table = target_table lazy.live t; rows = [] }) m.targets);
-  last = Some (record { old = lazy.live; migrate = m; done = [] });
+  last = Some (begun lazy.last lazy.live m);
 }
