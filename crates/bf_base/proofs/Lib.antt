@@ -1,2 +1,4 @@
+pub mod Apart
+pub mod Items
 pub mod Names
 pub mod Order

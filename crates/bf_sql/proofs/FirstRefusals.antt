@@ -28,7 +28,7 @@ script = alone (
     CreateTable (codes "t") (one (rule (codes "id") form.Int)) (one (codes "id"))
     ∷ Insert (codes "t") (one (row 3))
     ∷ Insert (codes "t") (one (row 3))
-    ∷ Select All (codes "u")
+    ∷ Select All (codes "u") None
     ∷ []
     )
 

@@ -20,7 +20,7 @@ script = alone (
     ∷ Insert (codes "t") (one (row 3))
     ∷ Insert (codes "t") (one (row 1))
     ∷ Insert (codes "t") (one (row 2))
-    ∷ Select All (codes "t")
+    ∷ Select All (codes "t") None
     ∷ []
     )
 
