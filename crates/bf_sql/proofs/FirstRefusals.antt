@@ -1,5 +1,5 @@
 -- Refused statements, and which objection is told.
-use Rattle.std.specs.Prelude.{◌≡◌, List, [], ◌∷◌, codes, refl, pos}
+use Rattle.std.specs.Prelude.{◌≡◌, List, [], ◌∷◌, None, codes, refl, pos}
 use Rattle.bf_base.specs.declared.table.Admit.TheVariants as admit
 use Rattle.bf_base.specs.declared.value.Value.TheVariants.{Int, Text}
 use Rattle.bf_sql.specs.declared.history.Entry.{Entry}

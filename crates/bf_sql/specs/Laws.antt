@@ -1,6 +1,5 @@
 -- Words of the laws.
-use Rattle.std.specs.Prelude.{◌≡◌, ℕ, nat_lt, Bool, List, length, Option, find, option_map, option_and_then, IsTrue}
-use Rattle.std.specs.List.{list_all}
+use Rattle.std.specs.Prelude.{◌≡◌, ℕ, List, Option, find, option_map, option_and_then}
 use Rattle.bf_base.specs.declared.value.Value.{Value}
 use Rattle.bf_base.specs.declared.table.Table.{Table}
 use Rattle.bf_base.specs.Lists.{same_key}
@@ -24,10 +23,3 @@ pub record HaveSame (a b : Database) : Type 0 where
   pub number : a.number ≡ b.number
   pub table : (name : List ℕ) → table_at a name ≡ table_at b name
   pub row : (name : List ℕ) (key : List Value) → row_at a name key ≡ row_at b name key
-
--- each place of a table's key is that of a column
-abbrev pub is_key_within : Stored → Bool
-is_key_within s = list_all (λ place. nat_lt place (length s.table.columns)) s.table.key
-
-abbrev pub AreKeysWithin : Database → Type 0
-AreKeysWithin db = IsTrue (list_all is_key_within db.tables)
