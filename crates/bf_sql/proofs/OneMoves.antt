@@ -34,7 +34,7 @@ named name = record { table = None; column = name }
 
 -- MIGRATE (CREATE TABLE u AS SELECT n, id FROM t)
 abbrev change : Change
-change = record { targets = one (record { name = codes "u"; arm = record { items = Column (named (codes "n")) ∷ Column (named (codes "id")) ∷ []; «from» = codes "t" } }) }
+change = record { targets = one (record { name = codes "u"; arm = record { items = Column (named (codes "n")) ∷ Column (named (codes "id")) ∷ []; from = codes "t" } }) }
 
 -- CREATE TABLE t (id INT, n INT, PRIMARY KEY (id)); INSERT INTO t VALUES (1, 10); INSERT INTO t VALUES (2, 20)
 abbrev first_part : List Statement
@@ -66,6 +66,10 @@ run = refl
 -- the row of id 2 has moved, and that of id 1 has not
 moved : sweep_of (migration_after None empty_database statements) ≡ Running 1 1 0 0
 moved = refl
+
+-- the MIGRATE alone moves none
+moved_none : sweep_of (migration_after None empty_database (first_part ++ one (Migrate change))) ≡ Running 1 0 0 0
+moved_none = refl
 
 -- and then INSERT INTO u VALUES (5, 1)
 abbrev longer : List Statement
