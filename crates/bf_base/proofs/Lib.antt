@@ -2,3 +2,4 @@ pub mod Apart
 pub mod Items
 pub mod Names
 pub mod Order
+pub mod Parts

@@ -163,7 +163,7 @@ module _ {K : Type 0} {cmp : K → K → Ordering} (o : IsTotalOrder cmp) where
     list_all-with_placed test ys (x ∷ xs) = grind (arith, list_all-with_placed test (placed cmp key ys x) xs, list_all-placed test ys x)
 
     -- a list with further items has a key where the list or the items have it
-    has-with_placed : (ys xs : List X) (k : K) → has (eq_by_cmp cmp) (map key (with_placed cmp key ys xs)) k ≡ has (eq_by_cmp cmp) (map key (ys ++ xs)) k
+    pub has-with_placed : (ys xs : List X) (k : K) → has (eq_by_cmp cmp) (map key (with_placed cmp key ys xs)) k ≡ has (eq_by_cmp cmp) (map key (ys ++ xs)) k
     has-with_placed ys xs k =
         let test = eq_by_cmp cmp k in
         list_any-map test key (with_placed cmp key ys xs) ∙ list_any-with_placed (λ x. test (key x)) ys xs ∙ sym (list_any-append (λ x. test (key x)) ys xs) ∙ sym (list_any-map test key (ys ++ xs))

@@ -1,5 +1,6 @@
 mod FirstRefusals
 pub mod Flipped
+pub mod Granules
 pub mod Images
 pub mod Kept
 pub mod Keys
