@@ -11,6 +11,14 @@ use Rattle.bf_base.specs.Lists.{rises, placed, with_placed, in_order, has}
 use Rattle.bf_base.proofs.Items.{SameItems, no_items, same_first, exchanged, through, same_items, same_items_if, turned, before, between, mapped, list_any-same_items}
 use Rattle.bf_base.proofs.Order.{first_is, less_from_test, equal_from_test, look_up, turned_less, symmetric, rises_skip, rises_cons, rises_tail, rises-placed}
 
+-- what no item passes, none that a test leaves passes
+pub list_any-filter : {X : Type 0} (test p : X → Bool) (xs : List X) → list_any test xs ≡ false → list_any test (filter p xs) ≡ false
+list_any-filter test p [] none = refl
+list_any-filter test p (x ∷ xs) none = elim (p x) as (λ b. list_any test (cond b (x ∷ filter p xs) (filter p xs)) ≡ false) [
+  | true ↦ or_from _ _ (or_parts _ _ none).0 (list_any-filter test p xs (or_parts _ _ none).1)
+  | false ↦ list_any-filter test p xs (or_parts _ _ none).1
+]
+
 -- no item is the same as another
 abbrev pub are_apart : {K : Type 0} → (K → K → Bool) → List K → Bool
 are_apart same [] = true
@@ -41,6 +49,13 @@ module _ {K : Type 0} (same : K → K → Bool) where
       let first = not_from_false _ (list_any-append (same k) ks ls ∙ none) in
       let h' = and_parts (not (has same ks k)) (are_apart same ks) h in
       and_from _ _ first (apart-append ks ls h'.1 g (and_parts (not (has same ls k)) _ across).1)
+
+  pub apart-filter : (test : K → Bool) (ks : List K) → are_apart same ks ≡ true → are_apart same (filter test ks) ≡ true
+  apart-filter test [] h = refl
+  apart-filter test (k ∷ ks) h = elim (test k) as (λ b. are_apart same (cond b (k ∷ filter test ks) (filter test ks)) ≡ true) [
+    | true ↦ and_from _ _ (not_from_false _ (list_any-filter (same k) test ks (not-true _ (and_parts _ _ h).0))) (apart-filter test ks (and_parts _ _ h).1)
+    | false ↦ apart-filter test ks (and_parts _ _ h).1
+  ]
 
 module _ {K : Type 0} {cmp : K → K → Ordering} (o : IsTotalOrder cmp) where
   exchange_first : (a b : K) (ks : List K) → are_apart (eq_by_cmp cmp) (a ∷ b ∷ ks) ≡ are_apart (eq_by_cmp cmp) (b ∷ a ∷ ks)

@@ -1,6 +1,6 @@
 -- Lists with the same items in whatever order.
-use Rattle.std.proofs.Common.{◌≡◌, Bool, true, false, not, cond, ◌||◌, List, [], ◌∷◌, ◌++◌, map, refl, sym, ap, subst, ◌∙◌, arith, filter, flat_map, append_assoc}
-use Rattle.std.specs.List.{list_any}
+use Rattle.std.proofs.Common.{◌≡◌, Bool, true, false, not, cond, ◌&&◌, ◌||◌, List, [], ◌∷◌, ◌++◌, map, refl, sym, ap, subst, ◌∙◌, arith, filter, flat_map, append_assoc}
+use Rattle.std.specs.List.{list_any, list_all}
 use Rattle.std.proofs.lemmas.List.{append-nil}
 
 pub data SameItems {X : Type 0} : List X → List X → Type 0 where
@@ -47,6 +47,12 @@ module _ {X : Type 0} where
   list_any-same_items test (same_first {x = x} r) = ap (λ b. test x || b) (list_any-same_items test r)
   list_any-same_items test (exchanged {x = x} {y = y} {xs = xs}) = grind arith
   list_any-same_items test (through r s) = list_any-same_items test r ∙ list_any-same_items test s
+
+  pub list_all-same_items : (test : X → Bool) {xs ys : List X} → SameItems xs ys → list_all test xs ≡ list_all test ys
+  list_all-same_items test no_items = refl
+  list_all-same_items test (same_first {x = x} r) = ap (λ b. test x && b) (list_all-same_items test r)
+  list_all-same_items test (exchanged {x = x} {y = y} {xs = xs}) = grind arith
+  list_all-same_items test (through r s) = list_all-same_items test r ∙ list_all-same_items test s
 
 module _ {X Y : Type 0} where
   pub mapped : (f : X → Y) {xs ys : List X} → SameItems xs ys → SameItems (map f xs) (map f ys)

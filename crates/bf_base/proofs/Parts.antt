@@ -26,14 +26,6 @@ module _ {X : Type 0} where
   filter-filter p q [] = refl
   filter-filter p q (x ∷ xs) = grind (arith, filter-filter p q xs)
 
-  -- what no item passes, none that a test leaves passes
-  pub list_any-filter : (test p : X → Bool) (xs : List X) → list_any test xs ≡ false → list_any test (filter p xs) ≡ false
-  list_any-filter test p [] none = refl
-  list_any-filter test p (x ∷ xs) none = elim (p x) as (λ b. list_any test (cond b (x ∷ filter p xs) (filter p xs)) ≡ false) [
-    | true ↦ or_from _ _ (or_parts _ _ none).0 (list_any-filter test p xs (or_parts _ _ none).1)
-    | false ↦ list_any-filter test p xs (or_parts _ _ none).1
-  ]
-
   pub all_not_from_none : (test : X → Bool) (xs : List X) → list_any test xs ≡ false → list_all (λ x. not (test x)) xs ≡ true
   all_not_from_none test [] none = refl
   all_not_from_none test (x ∷ xs) none = and_from _ _ (not_from_false _ (or_parts _ _ none).0) (all_not_from_none test xs (or_parts _ _ none).1)

@@ -73,7 +73,7 @@ module _ (db : Database) (m : Migrate) (is : IsDatabase db) (none : migrate_obje
   pub keyed_source : (t : Target) → target_objections db t ≡ [] → is_keyed (table_at db t.arm.from) ≡ true
   keyed_source t e = all_at_name is_keyed db t.arm.from is.rows_by_key (source_there db t e)
 
-  admitted_source : (t : Target) → target_objections db t ≡ [] → are_admitted (table_at db t.arm.from) ≡ true
+  pub admitted_source : (t : Target) → target_objections db t ≡ [] → are_admitted (table_at db t.arm.from) ≡ true
   admitted_source t e = all_at_name are_admitted db t.arm.from is.rows_admitted (source_there db t e)
 
   pub keeps_flipped : IsDatabase (flipped db m)

@@ -1,6 +1,8 @@
 -- The granules of a migration are apart, and the parts that come of them make the images.
 use Rattle.std.proofs.Common.{◌≡◌, ℕ, zero, suc, ◌+◌, ◌<◌, Bool, true, false, not, ◌&&◌, ◌||◌, ◌==◌, cond, if◌then◌else◌, List, [], ◌∷◌, ◌++◌, map, fold, length, take, drop, filter, flat_map, find, Option, Some, None, refl, sym, ap, ap₂, subst, ◌∙◌, inl, inr, arith, is_eq, slice_range}
 use Rattle.std.specs.List.{list_any, list_all, range_with_len}
+use Rattle.std.proofs.Math.ListN.{drop_of_length-le}
+use Rattle.std.proofs.lemmas.Bool.Decides.{nat_tests}
 use Rattle.std.proofs.lemmas.Bool.{and_parts, and_from, and_left, and_right, or_left, or_right, or_parts, or_from, or_cases, not_from_false, not-true, eqb-true, eq-eqb, ne_eqb, false≢true}
 use Rattle.std.proofs.lemmas.Cmp.{tied_itself}
 use Rattle.std.proofs.lemmas.List.{append-nil, map-append}
@@ -34,8 +36,11 @@ same_granule-equal g h e =
     let position = eqb-true g.position h.position parts.1 in
     λ i. record { source = source i; position = position i }
 
+same_number-symmetric : (a b : ℕ) → (a == b) ≡ (b == a)
+same_number-symmetric a b = grind (arith, nat_tests)
+
 pub same_granule-symmetric : (g h : Granule) → same_granule g h ≡ same_granule h g
-same_granule-symmetric g h = ap₂ (λ b c. b && c) (same_name-symmetric g.source h.source) ?
+same_granule-symmetric g h = ap₂ (λ b c. b && c) (same_name-symmetric g.source h.source) (same_number-symmetric g.position h.position)
 
 -- the sources that targets add to those seen before
 abbrev with_source : List (List ℕ) → Target → List (List ℕ)
@@ -106,13 +111,8 @@ granules_apart old m =
         (sources_of m) (sources_apart m)
 
 -- the rows of a list, one after the other
-drop_all : {X : Type 0} (n : ℕ) (xs : List X) → n ≡ length xs → drop n xs ≡ []
-drop_all n [] e = rw e refl
-drop_all zero (x ∷ xs) e = absurd (omega arith)
-drop_all (suc n) (x ∷ xs) e = drop_all n xs (omega arith)
-
 rows_in_turn : {X Y : Type 0} (f : X → Y) (rows : List X) (n k : ℕ) → n + k ≡ length rows → flat_map (λ p. map f (slice_range rows p (p + 1))) (range_with_len n k) ≡ map f (drop n rows)
-rows_in_turn f rows n zero e = sym (ap (map f) (drop_all n rows (omega arith)))
+rows_in_turn f rows n zero e = sym (ap (map f) (drop_of_length-le rows (omega arith)))
 rows_in_turn f rows n (suc k) e =
     let rest = rows_in_turn f rows (n + 1) k (omega arith) in
     ap (λ zs. map f (slice_range rows n (n + 1)) ++ zs) rest ∙ sym (map-append f (slice_range rows n (n + 1)) (drop (n + 1) rows)) ∙ sym (ap (map f) (drop_split rows n (n + 1) (omega arith)))
