@@ -25,7 +25,7 @@ equal_from_test r e = grind arith
 some_is_none : {A : Type 0} {x : A} → Some x ≡ None → ⊥
 some_is_none e = cc
 
-none_from_test : {A : Type 0} (o : Option A) → is_some o ≡ false → o ≡ None
+pub none_from_test : {A : Type 0} (o : Option A) → is_some o ≡ false → o ≡ None
 none_from_test None e = refl
 none_from_test (Some x) e = absurd cc
 

@@ -16,6 +16,18 @@ module _ {X : Type 0} where
       let rest : filter test xs ≡ xs = filter_all test xs (and_parts _ _ all).1 in
       rw first (ap (λ zs. x ∷ zs) rest)
 
+  pub list_all_always : (xs : List X) → list_all (λ x. true) xs ≡ true
+  list_all_always [] = refl
+  list_all_always (x ∷ xs) = list_all_always xs
+
+  pub filter_always : (xs : List X) → filter (λ x. true) xs ≡ xs
+  filter_always [] = refl
+  filter_always (x ∷ xs) = ap (λ zs. x ∷ zs) (filter_always xs)
+
+  pub map_itself : (f : X → X) → ((x : X) → f x ≡ x) → (xs : List X) → map f xs ≡ xs
+  map_itself f same [] = refl
+  map_itself f same (x ∷ xs) = ap₂ (λ y ys. y ∷ ys) (same x) (map_itself f same xs)
+
   pub filter_none : (test : X → Bool) (xs : List X) → list_any test xs ≡ false → filter test xs ≡ []
   filter_none test [] none = refl
   filter_none test (x ∷ xs) none =
@@ -115,12 +127,8 @@ module _ {X Y : Type 0} where
         let none = or_from (has alike bs y) (has alike cs y) (not-true _ p'.0) (not-true _ q'.0) in
         and_from _ _ (not_from_false _ (list_any-append (alike y) bs cs ∙ none)) (not_in_either bs cs ys p'.1 q'.1)
 
-    not_in_none : (ys : List Y) → list_all (λ b. true) ys ≡ true
-    not_in_none [] = refl
-    not_in_none (y ∷ ys) = not_in_none ys
-
     across_all : (x : X) (xs : List X) → has same xs x ≡ false → list_all (λ b. not (has alike (flat_map f xs) b)) (f x) ≡ true
-    across_all x [] none = not_in_none (f x)
+    across_all x [] none = list_all_always (f x)
     across_all x (y ∷ ys) none = not_in_either (f y) (flat_map f ys) (f x) (across x y (or_parts _ _ none).0) (across_all x ys (or_parts _ _ none).1)
 
     pub apart-flat_map : (xs : List X) → are_apart same xs ≡ true → are_apart alike (flat_map f xs) ≡ true

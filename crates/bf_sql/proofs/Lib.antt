@@ -1,4 +1,5 @@
 mod FirstRefusals
+pub mod Beginning
 pub mod Due
 pub mod Flipped
 pub mod Granules

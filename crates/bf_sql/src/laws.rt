@@ -8,7 +8,9 @@ ghost use Rattle.bf_sql.specs.declared.statement.Statement.{Statement};
 ghost use Rattle.bf_sql.specs.Database.{Database, IsDatabase};
 ghost use Rattle.bf_sql.specs.History.{replayed};
 ghost use Rattle.bf_sql.specs.Laws.{HaveSame, IsLazy, IsSeenAs};
-ghost use Rattle.bf_sql.specs.Lazy.{Granule, LazyState, same_granule, pending_of, view_of, moved};
+ghost use Rattle.bf_sql.specs.Lazy.{Granule, LazyState, same_granule, pending_of, view_of, moved, flipped_lazily};
+ghost use Rattle.bf_sql.specs.Migrations.{migrate_objections, flipped};
+ghost use Rattle.bf_sql.specs.declared.statement.Migrate.{Migrate};
 ghost use Rattle.bf_sql.specs.Meaning.{executed};
 
 /// A statement leaves a database a database.
@@ -29,4 +31,11 @@ pub fn equal_look_ups_make_equal_databases()
 /// A granule that has not moved may move at any moment: the database that is seen stays.
 pub fn moving_leaves_the_view()
     ensures { (lazy : LazyState) (g : Granule) → IsLazy lazy → IsTrue (has same_granule (pending_of lazy.last) g) → IsSeenAs (view_of lazy) (moved lazy g) }
+{}
+
+/// Where nothing is left to move, a flip that moves nothing is seen as the flip.
+pub fn a_lazy_flip_views_as_the_flip()
+    ensures {
+        (lazy : LazyState) (m : Migrate) → IsLazy lazy → pending_of lazy.last ≡ [] → migrate_objections lazy.live m ≡ [] → IsSeenAs (flipped (view_of lazy) m) (flipped_lazily lazy m)
+    }
 {}
