@@ -144,7 +144,7 @@ not_both false true = refl
 not_both false false = refl
 
 -- a granule that waits behind another
-still_waits : (done : List Granule) (g h : Granule) → (not (has same_granule done h) && not (same_granule g h)) ≡ not (has same_granule (done ++ g ∷ []) h)
+pub still_waits : (done : List Granule) (g h : Granule) → (not (has same_granule done h) && not (same_granule g h)) ≡ not (has same_granule (done ++ g ∷ []) h)
 still_waits done g h = ap (λ b. not (has same_granule done h) && not b) (same_granule-symmetric g h) ∙ not_both (has same_granule done h) (same_granule h g) ∙ ap not (sym (list_any-append (same_granule h) done (g ∷ [])))
 
 -- a granule moves: what was pending is that granule and what is pending then

@@ -358,7 +358,7 @@ module _ (lazy : LazyState) (is : IsLazy lazy) where
       agrees_if s (record lazy { live = (effect lazy.live s).1 }) (after ∙ live_settled lazy (objections lazy.live s ++ row_objections lazy.live s) (effect lazy.live s)) (λ e. absurd (never e)) (λ e r. absurd (never e))
 
   -- MIGRATE
-  nothing_pending : (last : Option Migration) (m : Change) → objections view (Migrate m) ≡ [] → list_all (has same_granule (done_of last)) (needed_by last view (Migrate m)) ≡ true → pending_of last ≡ []
+  pub nothing_pending : (last : Option Migration) (m : Change) → objections view (Migrate m) ≡ [] → list_all (has same_granule (done_of last)) (needed_by last view (Migrate m)) ≡ true → pending_of last ≡ []
   nothing_pending None m e moved = refl
   nothing_pending (Some last) m e moved =
       let all : list_all (has same_granule last.done) (granules_of last.old last.migrate) ≡ true = ap (λ os. list_all (has same_granule last.done) (none_if_refused os (granules_of last.old last.migrate))) (sym e) ∙ moved in
