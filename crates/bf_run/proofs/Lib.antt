@@ -1,0 +1,4 @@
+pub mod Fields
+pub mod Lexed
+pub mod Numbers
+pub mod Parsed
