@@ -331,6 +331,7 @@ pub fn script(alloc: Global, tokens: &[Token]) -> Result<Script, ParsingError>
 }
 
 /// The script that a text is, if it is one of the form, in time linear in its bytes.
+#[tactic(auto, using(crate::proofs::Parsed::is_of_form))]
 pub fn read_script(alloc: Global, text: &[u8]) -> Result<Option<Script>, Memory>
     ensures found { IfOk result (FindsScript text.now) }
     ensures of_form { IfOk result (λ found. IfSome found IsOfForm) }
