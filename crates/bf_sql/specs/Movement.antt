@@ -1,5 +1,5 @@
 -- What has moved: the granules that the statements of a run needed, and no others.
-use Rattle.std.specs.Prelude.{ℕ, ◌||◌, List, [], ◌∷◌, ◌++◌, filter, length, Option, Some, None, position, unwrap_or}
+use Rattle.std.specs.Prelude.{ℕ, not, List, [], ◌∷◌, ◌++◌, filter, length, Option, Some, None, position, unwrap_or}
 use Rattle.bf_base.specs.Lists.{same_name, has}
 use Rattle.bf_sql.specs.declared.statement.Statement.{Statement}
 use Rattle.bf_sql.specs.declared.statement.Statement.TheVariants as st
@@ -10,13 +10,12 @@ use Rattle.bf_sql.specs.Database.{Database}
 use Rattle.bf_sql.specs.Refusals.{objections, row_objections}
 use Rattle.bf_sql.specs.Meaning.{executed}
 use Rattle.bf_sql.specs.Migrations.{sources_of}
-use Rattle.bf_sql.specs.Lazy.{Granule, Migration, same_granule, granules_of, pending, needed_by, begun}
+use Rattle.bf_sql.specs.Lazy.{Granule, Migration, same_granule, pending, needed_by, begun}
 
--- the last migration with further granules moved; those that have moved stand in the order of the granules
+-- the last migration with further granules moved, each once
 abbrev pub with_moved : Option Migration → List Granule → Option Migration
 with_moved None granules = None
-with_moved (Some last) granules =
-    Some (record last { done = filter (λ g. has same_granule last.done g || has same_granule granules g) (granules_of last.old last.migrate) })
+with_moved (Some last) granules = Some (record last { done = last.done ++ filter (λ g. not (has same_granule last.done g)) granules })
 
 abbrev pub unless_objected : List Refusal → Option Migration → Option Migration → Option Migration
 unless_objected [] next last = next
