@@ -1,7 +1,14 @@
 mod FirstRefusals
+pub mod Due
+pub mod Flipped
+pub mod Granules
+pub mod Images
 pub mod Kept
 pub mod Keys
+pub mod Moving
+mod OneMoves
 mod RowThree
 pub mod Same
 pub mod Spelling
+pub mod Stored
 pub mod Unobjected

@@ -1,12 +1,14 @@
 //! Laws of the definitions. Each is the contract of a function that does nothing.
 
-ghost use Rattle.std.specs.Prelude.{◌≡◌, List};
+ghost use Rattle.std.specs.Prelude.{◌≡◌, List, [], IsTrue};
+ghost use Rattle.bf_base.specs.Lists.{has};
 ghost use Rattle.bf_sql.specs.declared.history.Entry.{Entry};
 ghost use Rattle.bf_sql.specs.declared.statement.Script.{Script};
 ghost use Rattle.bf_sql.specs.declared.statement.Statement.{Statement};
 ghost use Rattle.bf_sql.specs.Database.{Database, IsDatabase};
 ghost use Rattle.bf_sql.specs.History.{replayed};
-ghost use Rattle.bf_sql.specs.Laws.{AreKeysWithin, HaveSame};
+ghost use Rattle.bf_sql.specs.Laws.{HaveSame, IsLazy, IsSeenAs};
+ghost use Rattle.bf_sql.specs.Lazy.{Granule, LazyState, same_granule, pending_of, view_of, moved};
 ghost use Rattle.bf_sql.specs.Meaning.{executed};
 
 /// A statement leaves a database a database.
@@ -24,7 +26,7 @@ pub fn equal_look_ups_make_equal_databases()
     ensures { (a b : Database) → IsDatabase a → IsDatabase b → HaveSame a b → a ≡ b }
 {}
 
-/// A statement leaves each table with a key of its own columns.
-pub fn statements_keep_keys_within_columns()
-    ensures { (db : Database) (s : Statement) → AreKeysWithin db → AreKeysWithin (executed db s).1 }
+/// A granule that has not moved may move at any moment: the database that is seen stays.
+pub fn moving_leaves_the_view()
+    ensures { (lazy : LazyState) (g : Granule) → IsLazy lazy → IsTrue (has same_granule (pending_of lazy.last) g) → IsSeenAs (view_of lazy) (moved lazy g) }
 {}
