@@ -6,10 +6,10 @@
 ghost use Rattle.std.specs.Prelude.{◌≡◌, ℕ, ◌++◌, List, OnOk, IfOk, map, codes};
 ghost use Rattle.std.specs.List.{flat_map};
 ghost use Rattle.std.specs.Fmt.{decimal, signed_decimal};
-ghost use Rattle.bf_run.specs.Report.{quoted, value_text, cell_text, listed, values_text, refusal_text, place_text, row_line, body_text, reply_text, session_text, texts_from, outcome_text, entry_text, end_text, report_text};
+ghost use Rattle.bf_run.specs.Report.{quoted, value_text, cell_text, listed, values_text, refusal_text, place_text, row_line, body_text, reply_text, session_text, texts_from, outcome_text, entry_text, sweep_text, end_text, report_text};
 
 use bf_base::{Memory, Sequence, Value};
-use bf_sql::{Cell, Entry, History, Outcome, Refusal, Reply, Transcripts};
+use bf_sql::{Cell, Entry, History, Outcome, Refusal, Reply, Sweep, Transcripts};
 use itoa::Buffer;
 use std::alloc::Global;
 
@@ -136,6 +136,13 @@ fn put_between(out: &mut Vec<u8>, front: &[u8], values: &[Value], back: &[u8]) -
     put(out, back)
 }
 
+fn put_too_many_rows(out: &mut Vec<u8>, table: &[u8], rows: u32) -> Result<(), Memory>
+    ensures { OnOk result (out.new.items ≡ out.old.items ++ (codes "E17 too many rows " ++ table.now ++ codes " " ++ decimal rows)) }
+{
+    put_both(out, b"E17 too many rows ", table)?;
+    put_numbered(out, b" ", u64::from(rows))
+}
+
 /// Appends a refusal's text.
 pub fn put_refusal(out: &mut Vec<u8>, refusal: &Refusal) -> Result<(), Memory>
     ensures ok { OnOk result (out.new.items ≡ out.old.items ++ refusal_text refusal.now) }
@@ -150,6 +157,11 @@ pub fn put_refusal(out: &mut Vec<u8>, refusal: &Refusal) -> Result<(), Memory>
         Refusal::TableExists(name) => put_both(out, b"E7 table exists ", name.as_bytes()),
         Refusal::WrongCount => put(out, b"E8 wrong count"),
         Refusal::NameTwice(name) => put_both(out, b"E13 name twice ", name.as_bytes()),
+        Refusal::KeyNotInherited(target) => {
+            put_both(out, b"E15 key not inherited ", target.as_bytes())
+        }
+        Refusal::SourceUnknown(name) => put_both(out, b"E16 source unknown ", name.as_bytes()),
+        Refusal::TooManyRows(table, rows) => put_too_many_rows(out, table.as_bytes(), *rows),
     }
 }
 
@@ -198,6 +210,10 @@ fn put_body(out: &mut Vec<u8>, session: u64, statement: u64, reply: &Reply) -> R
             put_numbered(out, b"rows ", rows.len() as u64)?;
             put(out, b"\n")?;
             put_rows(out, session, statement, rows)
+        }
+        Reply::Migrated(targets) => {
+            put_numbered(out, b"migrated ", u64::from(*targets))?;
+            put(out, b"\n")
         }
         Reply::Refused(refusal) => {
             put_refusal(out, refusal)?;
@@ -261,27 +277,52 @@ fn put_entries(out: &mut Vec<u8>, entries: &[Entry]) -> Result<(), Memory>
     Ok(())
 }
 
-fn put_end(out: &mut Vec<u8>, commits: u64) -> Result<(), Memory>
-    ensures { OnOk result (out.new.items ≡ out.old.items ++ end_text commits) }
+fn put_sweep(out: &mut Vec<u8>, sweep: Sweep) -> Result<(), Memory>
+    ensures { OnOk result (out.new.items ≡ out.old.items ++ sweep_text sweep) }
+{
+    match sweep {
+        Sweep::Never => put(out, b"none"),
+        Sweep::Complete { migration, moved } => {
+            put_number(out, u64::from(migration))?;
+            put_numbered(out, b" complete ", u64::from(moved))
+        }
+        Sweep::Running {
+            migration,
+            moved,
+            unit,
+            position,
+        } => {
+            put_number(out, u64::from(migration))?;
+            put_numbered(out, b" moved ", u64::from(moved))?;
+            put_numbered(out, b" next unit ", u64::from(unit))?;
+            put_numbered(out, b" position ", u64::from(position))
+        }
+    }
+}
+
+fn put_end(out: &mut Vec<u8>, commits: u64, sweep: Sweep) -> Result<(), Memory>
+    ensures { OnOk result (out.new.items ≡ out.old.items ++ end_text commits sweep) }
 {
     put_numbered(out, b"end commits ", commits)?;
-    put(out, b" migration none")?;
+    put(out, b" migration ")?;
+    put_sweep(out, sweep)?;
     put(out, b"\n")
 }
 
-/// The report of a run, in time linear in its bytes.
+/// The report of a run and of how far its last migration has come, in time linear in its bytes.
 pub fn report(
     alloc: Global,
     transcripts: &Transcripts,
     history: &History,
+    sweep: Sweep,
 ) -> Result<Vec<u8>, Memory>
-    ensures { IfOk result (λ text. text.items ≡ report_text transcripts.now.sessions history.now.entries) }
+    ensures { IfOk result (λ text. text.items ≡ report_text transcripts.now.sessions history.now.entries sweep) }
 {
     let entries = history.entries.as_slice();
     let mut text = Vec::new(alloc);
     put_sessions(&mut text, transcripts.sessions.as_slice())?;
     put_entries(&mut text, entries)?;
-    put_end(&mut text, entries.len() as u64)?;
+    put_end(&mut text, entries.len() as u64, sweep)?;
     Ok(text)
 }
 

@@ -24,7 +24,7 @@ fn find_report(alloc: Global, text: &[u8]) -> Result<Option<Vec<u8>>, Memory>
         return Ok(None);
     };
     let run = serve(alloc, &script)?;
-    Ok(Some(report(alloc, &run.transcripts, &run.history)?))
+    Ok(Some(report(alloc, &run.transcripts, &run.history, run.sweep)?))
 }
 
 /// The status and its whole text, before a byte is written.

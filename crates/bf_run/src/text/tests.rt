@@ -2,7 +2,7 @@
 
 use crate::text::report;
 use bf_base::{Key, Memory, Name, NameError, Sequence, Text, TextError, Value};
-use bf_sql::{Cell, Entry, History, Outcome, Refusal, Reply, Transcripts};
+use bf_sql::{Cell, Entry, History, Outcome, Refusal, Reply, Sweep, Transcripts};
 use std::alloc::{AllocFailed, Global};
 use std::test::Fail;
 
@@ -39,10 +39,11 @@ fn text_of(
     alloc: Global,
     sessions: Vec<Sequence<Reply>>,
     entries: Vec<Entry>,
+    sweep: Sweep,
 ) -> Result<Vec<u8>, Memory> {
     let sessions = Sequence::of(sessions);
     let entries = Sequence::of(entries);
-    report(alloc, &Transcripts { sessions }, &History { entries })
+    report(alloc, &Transcripts { sessions }, &History { entries }, sweep)
 }
 
 #[test]
@@ -59,7 +60,7 @@ fn prints_each_reply(rt: HostRuntime) -> Result<(), Fail> {
     let further = vec![in alloc; Reply::Rows(Sequence::of(Vec::new(alloc)))]?;
     let sessions = vec![in alloc; Sequence::of(replies), Sequence::of(further)]?;
     let entries = vec![in alloc; entry(1, 1, 1, 1), entry(2, 1, 3, 2)]?;
-    let bytes = text_of(alloc, sessions, entries)?;
+    let bytes = text_of(alloc, sessions, entries, Sweep::Never)?;
     let expected = "1.1 created\n\
         1.2 inserted 1\n\
         1.3 E1 no table u\n\
@@ -90,9 +91,12 @@ fn prints_each_refusal(rt: HostRuntime) -> Result<(), Fail> {
     refused(&mut replies, Refusal::TableExists(name(alloc, "t")?))?;
     refused(&mut replies, Refusal::WrongCount)?;
     refused(&mut replies, Refusal::NameTwice(name(alloc, "n")?))?;
+    refused(&mut replies, Refusal::KeyNotInherited(name(alloc, "ph")?))?;
+    refused(&mut replies, Refusal::SourceUnknown(name(alloc, "w")?))?;
+    refused(&mut replies, Refusal::TooManyRows(name(alloc, "big")?, 1_048_577))?;
     replies.push(Reply::Inserted(u32::MAX))?;
     let sessions = vec![in alloc; Sequence::of(replies)]?;
-    let bytes = text_of(alloc, sessions, Vec::new(alloc))?;
+    let bytes = text_of(alloc, sessions, Vec::new(alloc), Sweep::Never)?;
     let expected = "1.1 E1 no table t1\n\
         1.2 E2 no column c_2\n\
         1.3 E3 type mismatch\n\
@@ -102,8 +106,39 @@ fn prints_each_refusal(rt: HostRuntime) -> Result<(), Fail> {
         1.7 E7 table exists t\n\
         1.8 E8 wrong count\n\
         1.9 E13 name twice n\n\
-        1.10 inserted 4294967295\n\
+        1.10 E15 key not inherited ph\n\
+        1.11 E16 source unknown w\n\
+        1.12 E17 too many rows big 1048577\n\
+        1.13 inserted 4294967295\n\
         end commits 0 migration none\n";
     assert_eq!(rt; bytes.as_slice(), expected.as_bytes());
+    Ok(())
+}
+
+#[test]
+fn prints_how_far_a_migration_has_come(rt: HostRuntime) -> Result<(), Fail> {
+    let alloc = rt.alloc();
+    let running = Sweep::Running {
+        migration: 1,
+        moved: 2,
+        unit: 0,
+        position: 3,
+    };
+    let complete = Sweep::Complete {
+        migration: 2,
+        moved: 1000,
+    };
+    let ends = [
+        (running, "end commits 1 migration 1 moved 2 next unit 0 position 3\n"),
+        (complete, "end commits 1 migration 2 complete 1000\n"),
+    ];
+    for (sweep, end) in ends {
+        let replies = Sequence::of(vec![in alloc; Reply::Migrated(2)]?);
+        let sessions = vec![in alloc; replies]?;
+        let bytes = text_of(alloc, sessions, vec![in alloc; entry(1, 1, 1, 1)]?, sweep)?;
+        let start = "1.1 migrated 2\nentry 1 session 1 from 1 to 1 committed 1\n";
+        assert!(rt; bytes.starts_with(start.as_bytes()), "{end}");
+        assert!(rt; bytes.ends_with(end.as_bytes()), "{end}");
+    }
     Ok(())
 }
