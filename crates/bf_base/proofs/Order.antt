@@ -25,7 +25,7 @@ equal_from_test r e = grind arith
 some_is_none : {A : Type 0} {x : A} → Some x ≡ None → ⊥
 some_is_none e = cc
 
-none_from_test : {A : Type 0} (o : Option A) → is_some o ≡ false → o ≡ None
+pub none_from_test : {A : Type 0} (o : Option A) → is_some o ≡ false → o ≡ None
 none_from_test None e = refl
 none_from_test (Some x) e = absurd cc
 
@@ -44,7 +44,7 @@ found_or_behind : {A : Type 0} (x : A) (behind : Option A) (test some_behind : B
 found_or_behind x behind true some_behind e = refl
 found_or_behind x behind false some_behind e = e
 
-list_any-map : {A B : Type 0} (test : B → Bool) (f : A → B) (xs : List A) → list_any test (map f xs) ≡ list_any (λ x. test (f x)) xs
+pub list_any-map : {A B : Type 0} (test : B → Bool) (f : A → B) (xs : List A) → list_any test (map f xs) ≡ list_any (λ x. test (f x)) xs
 list_any-map test f [] = refl
 list_any-map test f (x ∷ xs) = ap (λ b. test (f x) || b) (list_any-map test f xs)
 

@@ -1,7 +1,7 @@
 -- Filters, lists made of blocks, and what holds of each item.
 use Rattle.std.proofs.Common.{◌≡◌, Bool, true, false, not, ◌&&◌, ◌||◌, cond, if◌then◌else◌, List, [], ◌∷◌, ◌++◌, map, filter, flat_map, find, Option, Some, None, Ordering, refl, sym, ap, ap₂, ◌∙◌, inl, inr, arith, option_map, is_lt}
 use Rattle.std.specs.List.{list_any, list_all, AllByRecursion}
-use Rattle.std.proofs.lemmas.Bool.{and_parts, and_from, or_parts, or_from, not-true, not_from_false, cases_Bool, false≢true}
+use Rattle.std.proofs.lemmas.Bool.{and_parts, and_from, or_parts, or_from, not-true, not_from_false, not_from_true, cases_Bool, false≢true}
 use Rattle.std.proofs.lemmas.List.{append-nil}
 use Rattle.std.proofs.lemmas.List.Concat.{flat_map-append}
 use Rattle.std.proofs.lemmas.List.Folds.{list_any-append, list_all-append}
@@ -16,6 +16,18 @@ module _ {X : Type 0} where
       let rest : filter test xs ≡ xs = filter_all test xs (and_parts _ _ all).1 in
       rw first (ap (λ zs. x ∷ zs) rest)
 
+  pub list_all_always : (xs : List X) → list_all (λ x. true) xs ≡ true
+  list_all_always [] = refl
+  list_all_always (x ∷ xs) = list_all_always xs
+
+  pub filter_always : (xs : List X) → filter (λ x. true) xs ≡ xs
+  filter_always [] = refl
+  filter_always (x ∷ xs) = ap (λ zs. x ∷ zs) (filter_always xs)
+
+  pub map_itself : (f : X → X) → ((x : X) → f x ≡ x) → (xs : List X) → map f xs ≡ xs
+  map_itself f same [] = refl
+  map_itself f same (x ∷ xs) = ap₂ (λ y ys. y ∷ ys) (same x) (map_itself f same xs)
+
   pub filter_none : (test : X → Bool) (xs : List X) → list_any test xs ≡ false → filter test xs ≡ []
   filter_none test [] none = refl
   filter_none test (x ∷ xs) none =
@@ -29,6 +41,10 @@ module _ {X : Type 0} where
   pub all_not_from_none : (test : X → Bool) (xs : List X) → list_any test xs ≡ false → list_all (λ x. not (test x)) xs ≡ true
   all_not_from_none test [] none = refl
   all_not_from_none test (x ∷ xs) none = and_from _ _ (not_from_false _ (or_parts _ _ none).0) (all_not_from_none test xs (or_parts _ _ none).1)
+
+  pub none_fails : (test : X → Bool) (xs : List X) → list_all test xs ≡ true → list_any (λ x. not (test x)) xs ≡ false
+  none_fails test [] all = refl
+  none_fails test (x ∷ xs) all = or_from _ _ (not_from_true _ (and_parts _ _ all).0) (none_fails test xs (and_parts _ _ all).1)
 
   pub none_from_all_not : (test : X → Bool) (xs : List X) → list_all (λ x. not (test x)) xs ≡ true → list_any test xs ≡ false
   none_from_all_not test [] all = refl
@@ -76,6 +92,14 @@ module _ {X Y : Type 0} where
     | false ↦ find-map test f xs
   ]
 
+  -- maps that agree, with one exchanged for a map that agrees where it does
+  pub map_agree_then : (f g h : X → Y) → ((x : X) → f x ≡ g x → h x ≡ g x) → (xs : List X) → map f xs ≡ map g xs → map h xs ≡ map g xs
+  map_agree_then f g h one [] same = refl
+  map_agree_then f g h one (x ∷ xs) same =
+      let first : f x ≡ g x = cc in
+      let rest : map f xs ≡ map g xs = cc in
+      ap₂ (λ y ys. y ∷ ys) (one x first) (map_agree_then f g h one xs rest)
+
   pub flat_map_none : (f : X → List Y) → ((x : X) → f x ≡ []) → (xs : List X) → flat_map f xs ≡ []
   flat_map_none f none [] = refl
   flat_map_none f none (x ∷ xs) = rw (none x, flat_map_none f none xs) refl
@@ -115,12 +139,8 @@ module _ {X Y : Type 0} where
         let none = or_from (has alike bs y) (has alike cs y) (not-true _ p'.0) (not-true _ q'.0) in
         and_from _ _ (not_from_false _ (list_any-append (alike y) bs cs ∙ none)) (not_in_either bs cs ys p'.1 q'.1)
 
-    not_in_none : (ys : List Y) → list_all (λ b. true) ys ≡ true
-    not_in_none [] = refl
-    not_in_none (y ∷ ys) = not_in_none ys
-
     across_all : (x : X) (xs : List X) → has same xs x ≡ false → list_all (λ b. not (has alike (flat_map f xs) b)) (f x) ≡ true
-    across_all x [] none = not_in_none (f x)
+    across_all x [] none = list_all_always (f x)
     across_all x (y ∷ ys) none = not_in_either (f y) (flat_map f ys) (f x) (across x y (or_parts _ _ none).0) (across_all x ys (or_parts _ _ none).1)
 
     pub apart-flat_map : (xs : List X) → are_apart same xs ≡ true → are_apart alike (flat_map f xs) ≡ true

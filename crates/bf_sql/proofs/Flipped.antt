@@ -24,10 +24,10 @@ name_cmp-IsAntisymmetric = slice_cmp-IsAntisymmetric nat_cmp-IsAntisymmetric
 
 module _ (db : Database) (m : Migrate) (f : Target → Stored) (named : (t : Target) → name_of (f t) ≡ t.name) where
   -- the tables that stay
-  abbrev kept : List Stored
+  abbrev pub kept : List Stored
   kept = filter (λ s. not (has same_name (sources_of m) s.table.name)) db.tables
 
-  has-kept : (name : List ℕ) → has (eq_by_cmp name_cmp) (map name_of kept) name ≡ (is_some (stored_at db name) && not (has same_name (sources_of m) name))
+  pub has-kept : (name : List ℕ) → has (eq_by_cmp name_cmp) (map name_of kept) name ≡ (is_some (stored_at db name) && not (has same_name (sources_of m) name))
   has-kept name =
       has-filter name_cmp_total name_of name_cmp-IsAntisymmetric (λ n. not (has same_name (sources_of m) n)) db.tables name
       ∙ ap (λ b. b && not (has same_name (sources_of m) name)) (has-stored_at db name)

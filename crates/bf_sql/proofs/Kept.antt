@@ -83,7 +83,7 @@ keeps_inserted db name tuples s is at fine new =
     (both ∙ and_from _ _ admitted (admitted_where_none s tuples new fine))
 
 -- an effect keeps a database where there is no objection
-keeps_effect : (db : Database) (s : Statement) → IsDatabase db → objections db s ≡ [] → row_objections db s ≡ [] → IsDatabase (effect db s).1
+pub keeps_effect : (db : Database) (s : Statement) → IsDatabase db → objections db s ≡ [] → row_objections db s ≡ [] → IsDatabase (effect db s).1
 keeps_effect db (CreateTable name columns key) is none new =
     let absent = none_when (is_some (stored_at db name)) (refusal.TableExists name) (none_left _ _ (none_left _ _ none)) in
     keeps_with_new_table db (table_of name columns key) is absent (new_key_within name columns key (none_right _ _ none))

@@ -1,4 +1,6 @@
 mod FirstRefusals
+pub mod Alike
+pub mod Beginning
 pub mod Due
 pub mod Flipped
 pub mod Granules
@@ -9,6 +11,7 @@ pub mod Moving
 mod OneMoves
 mod RowThree
 pub mod Same
+pub mod Serving
 pub mod Spelling
 pub mod Stored
 pub mod Unobjected
