@@ -3,3 +3,4 @@ pub mod Items
 pub mod Names
 pub mod Order
 pub mod Parts
+pub mod Ties

@@ -1,31 +1,35 @@
--- The scripts that are served so far: one session that creates one table of one column, which is its
--- key, and then inserts single numbers into tables and selects from them.
-use Rattle.std.specs.Prelude.{◌≡◌, ℕ, ℤ, List, [], ◌∷◌}
-use Rattle.std.specs.List.{AllByRecursion}
+-- The statements that are served so far, as the form spells them.
+use Rattle.std.specs.Prelude.{ℕ, ℤ, List, [], ◌∷◌, map, None, Some}
 use Rattle.bf_base.specs.declared.value.Value.TheVariants.{Int}
 use Rattle.bf_sql.specs.declared.statement.ColumnForm.TheVariants as form
 use Rattle.bf_sql.specs.declared.statement.List.TheVariants.{All}
+use Rattle.bf_sql.specs.declared.statement.Ref.{Ref as Column}
+use Rattle.bf_sql.specs.declared.statement.Compare.TheVariants.{Equal}
+use Rattle.bf_sql.specs.declared.statement.Operand.TheVariants.{Value, Ref}
+use Rattle.bf_sql.specs.declared.statement.RawCond.{RawCond}
+use Rattle.bf_sql.specs.declared.statement.RawCond.TheVariants.{Compare}
+use Rattle.bf_sql.specs.declared.statement.Item.TheVariants as item
 use Rattle.bf_sql.specs.declared.statement.Statement.{Statement}
-use Rattle.bf_sql.specs.declared.statement.Statement.TheVariants.{CreateTable, Insert, Select}
+use Rattle.bf_sql.specs.declared.statement.Statement.TheVariants.{CreateTable, Insert, Select, Migrate}
 use Rattle.bf_sql.specs.declared.statement.Script.{Script}
 
--- CREATE TABLE t ( c INT , PRIMARY KEY ( c ) )
-abbrev pub creation : List ℕ → List ℕ → Statement
-creation t c = CreateTable t (record { name = c; form = form.Int } ∷ []) (c ∷ [])
+-- a column by its name alone
+abbrev pub plain : List ℕ → Column
+plain name = record { table = None; column = name }
+
+-- CREATE TABLE t ( c INT ,.. , PRIMARY KEY ( k ) )
+abbrev pub creation : List ℕ → List (List ℕ) → List ℕ → Statement
+creation t columns k = CreateTable t (map (λ c. record { name = c; form = form.Int }) columns) (k ∷ [])
+
+
+-- c = z
+abbrev pub equality : List ℕ → ℤ → RawCond
+equality c z = Compare Equal (Ref (plain c)) (Value (Int z))
+
+-- MIGRATE ( CREATE TABLE u AS SELECT c ,.. FROM t )
+abbrev pub migration : List ℕ → List (List ℕ) → List ℕ → Statement
+migration u columns t = Migrate (record { targets = record { name = u; arm = record { items = map (λ c. item.Column (plain c)) columns; from = t } } ∷ [] })
 
 -- a script of one session, in its one phase
 abbrev pub one_session : List Statement → Script
 one_session ss = record { phases = 1; sessions = record { phase = 1; statements = ss } ∷ [] }
-
--- INSERT INTO n VALUES ( z )  or  SELECT * FROM n
-abbrev pub IsPlain : Statement → Type 0
-IsPlain (Insert n tuples) = (z : ℤ) × (tuples ≡ (Int z ∷ []) ∷ [])
-IsPlain (Select All n) = Unit {0}
-IsPlain (CreateTable t columns key) = ⊥
-
-pub record IsOfForm (script : Script) : Type 0 where
-  pub table : List ℕ
-  pub column : List ℕ
-  pub parts : List Statement
-  pub plain : AllByRecursion IsPlain parts
-  pub spelled : script ≡ one_session (creation table column ∷ parts)

@@ -4,14 +4,16 @@ use Rattle.std.specs.Fmt.{decimal, signed_decimal}
 use Rattle.bf_base.specs.declared.value.Value.{Value}
 use Rattle.bf_base.specs.declared.value.Value.TheVariants.{Int, Text}
 use Rattle.bf_sql.specs.declared.reply.Refusal.{Refusal}
-use Rattle.bf_sql.specs.declared.reply.Refusal.TheVariants.{NoTable, NoColumn, TypeMismatch, DuplicateKey, OutOfRange, TooLong, TableExists, WrongCount, NameTwice}
+use Rattle.bf_sql.specs.declared.reply.Refusal.TheVariants.{NoTable, NoColumn, TypeMismatch, DuplicateKey, OutOfRange, TooLong, TableExists, WrongCount, NameTwice, KeyNotInherited, SourceUnknown, TooManyRows}
 use Rattle.bf_sql.specs.declared.reply.Cell.{Cell}
 use Rattle.bf_sql.specs.declared.reply.Cell.TheVariants as cells
 use Rattle.bf_sql.specs.declared.reply.Reply.{Reply}
-use Rattle.bf_sql.specs.declared.reply.Reply.TheVariants.{Created, Inserted, Rows, Refused}
+use Rattle.bf_sql.specs.declared.reply.Reply.TheVariants.{Created, Inserted, Rows, Migrated, Refused}
 use Rattle.bf_sql.specs.declared.history.Outcome.{Outcome}
 use Rattle.bf_sql.specs.declared.history.Outcome.TheVariants.{Committed}
 use Rattle.bf_sql.specs.declared.history.Entry.{Entry}
+use Rattle.bf_sql.specs.declared.history.Sweep.{Sweep}
+use Rattle.bf_sql.specs.declared.history.Sweep.TheVariants.{Never, Complete, Running}
 
 abbrev pub newline : List ℕ
 newline = 10 ∷ []
@@ -46,6 +48,9 @@ refusal_text TooLong = codes "E6 too long"
 refusal_text (TableExists name) = codes "E7 table exists " ++ name
 refusal_text WrongCount = codes "E8 wrong count"
 refusal_text (NameTwice name) = codes "E13 name twice " ++ name
+refusal_text (KeyNotInherited target) = codes "E15 key not inherited " ++ target
+refusal_text (SourceUnknown name) = codes "E16 source unknown " ++ name
+refusal_text (TooManyRows table rows) = codes "E17 too many rows " ++ table ++ codes " " ++ decimal rows
 
 -- S.N, where S is a session and N a statement
 abbrev pub place_text : ℕ → ℕ → List ℕ
@@ -60,6 +65,7 @@ abbrev pub body_text : ℕ → ℕ → Reply → List ℕ
 body_text s n Created = codes "created" ++ newline
 body_text s n (Inserted k) = codes "inserted " ++ decimal k ++ newline
 body_text s n (Rows rows) = codes "rows " ++ decimal (length rows) ++ newline ++ flat_map (row_line s n) rows
+body_text s n (Migrated k) = codes "migrated " ++ decimal k ++ newline
 body_text s n (Refused refusal) = refusal_text refusal ++ newline
 
 abbrev pub reply_text : ℕ → ℕ → Reply → List ℕ
@@ -82,10 +88,17 @@ entry_text k e =
     codes "entry " ++ decimal k ++ codes " session " ++ decimal e.session ++ codes " from " ++ decimal e.first ++ codes " to " ++ decimal e.last
     ++ codes " " ++ outcome_text e.outcome ++ newline
 
--- the number of commits, and that there was no migration
-abbrev pub end_text : ℕ → List ℕ
-end_text commits = codes "end commits " ++ decimal commits ++ codes " migration none" ++ newline
+-- how far the last migration has come, if there was one
+abbrev pub sweep_text : Sweep → List ℕ
+sweep_text Never = codes "none"
+sweep_text (Complete m moved) = decimal m ++ codes " complete " ++ decimal moved
+sweep_text (Running m moved unit position) =
+    decimal m ++ codes " moved " ++ decimal moved ++ codes " next unit " ++ decimal unit ++ codes " position " ++ decimal position
 
--- REPORT: by session and statement, then by entry. Each entry is a commit
-abbrev pub report_text : List (List Reply) → List Entry → List ℕ
-report_text transcripts history = texts_from session_text 1 transcripts ++ texts_from entry_text 1 history ++ end_text (length history)
+-- the number of commits, and the last migration
+abbrev pub end_text : ℕ → Sweep → List ℕ
+end_text commits sweep = codes "end commits " ++ decimal commits ++ codes " migration " ++ sweep_text sweep ++ newline
+
+-- REPORT: by session and statement, then by entry, then the end. Each entry is a commit
+abbrev pub report_text : List (List Reply) → List Entry → Sweep → List ℕ
+report_text transcripts history sweep = texts_from session_text 1 transcripts ++ texts_from entry_text 1 history ++ end_text (length history) sweep
