@@ -1,6 +1,6 @@
 -- A granule that has not moved may move at any moment: the view stays.
-use Rattle.std.proofs.Common.{◌≡◌, ℕ, Bool, true, false, not, ◌&&◌, ◌||◌, List, [], ◌∷◌, ◌++◌, map, filter, find, Option, Some, None, option_map, refl, sym, ap, ap₂, subst, ◌∙◌, arith}
-use Rattle.std.specs.List.{list_any, list_all, AllByRecursion}
+use Rattle.std.proofs.Common.{◌≡◌, ℕ, Bool, true, false, not, List, [], ◌∷◌, ◌++◌, map, filter, find, Option, Some, None, option_map, refl, sym, ap, ◌∙◌}
+use Rattle.std.specs.List.{list_all, AllByRecursion}
 use Rattle.std.proofs.lemmas.Bool.{and_parts, and_from, or_parts, not_from_false, not-true, false≢true}
 use Rattle.std.proofs.lemmas.Grind.{fold-append}
 use Rattle.std.proofs.lemmas.List.{map-append}
@@ -10,14 +10,13 @@ use Rattle.bf_base.specs.declared.value.Value.{Value}
 use Rattle.bf_base.specs.Lists.{same_name, same_key, has, placed, with_placed, rises, name_cmp}
 use Rattle.bf_base.specs.Tables.{key_of}
 use Rattle.bf_base.specs.Values.{key_cmp, key_cmp_total}
-use Rattle.bf_base.proofs.Apart.{are_apart, apart_from_rises, apart_left, apart_right, apart_across, apart-append, are_apart-same_items, with_placed-same_items, rises-placed_apart}
-use Rattle.bf_base.proofs.Items.{SameItems, mapped, turned, list_any-same_items, list_all-same_items}
+use Rattle.bf_base.proofs.Apart.{are_apart, apart_from_rises, apart_left, apart_across, apart-append, are_apart-same_items, with_placed-same_items, rises-placed_apart}
+use Rattle.bf_base.proofs.Items.{SameItems, mapped, list_any-same_items, list_all-same_items}
 use Rattle.bf_base.proofs.Order.{list_all-with_placed}
 use Rattle.bf_base.proofs.Parts.{filter_all, find-map, map_each, list_all_each}
 use Rattle.bf_sql.specs.Database.{Database, Stored, IsDatabase, stored_at, is_admitted, is_keyed, is_key_within}
 use Rattle.bf_sql.specs.Laws.{table_at, IsUnderWay, IsUnderWayIfAny, IsLazy, IsSeenAs}
 use Rattle.bf_sql.specs.Lazy.{Granule, Migration, LazyState, same_granule, pending, pending_of, rows_of, due, is_early, is_on_time, seen, view_of, with_rows_of, with_done, moved}
-use Rattle.bf_sql.specs.Migrations.{target_table}
 use Rattle.bf_sql.proofs.Due.{each_found, due_apart, due_admitted, due_parts}
 use Rattle.bf_sql.proofs.Stored.{name_of, are_admitted, all_at_found, list_all-if}
 
@@ -25,7 +24,7 @@ use Rattle.bf_sql.proofs.Stored.{name_of, are_admitted, all_at_found, list_all-i
 pub table_at-kept : (db : Database) (f : Stored → Stored) → ((s : Stored) → (f s).table ≡ s.table) → (name : List ℕ) → table_at (record db { tables = map f db.tables }) name ≡ table_at db name
 table_at-kept db f same name =
     let found : find (λ s. same_name s.table.name name) (map f db.tables) ≡ option_map f (stored_at db name) =
-      find-map (λ s. same_name s.table.name name) f db.tables ∙ (λ i. option_map f (find (λ s. same_name (same s i).name name) db.tables)) in
+    find-map (λ s. same_name s.table.name name) f db.tables ∙ (λ i. option_map f (find (λ s. same_name (same s i).name name) db.tables)) in
     ap (option_map (λ s. s.table)) found ∙ on (stored_at db name)
   where
     on : (o : Option Stored) → option_map (λ s. s.table) (option_map f o) ≡ option_map (λ s. s.table) o
@@ -76,10 +75,10 @@ module _ (live : Database) (last : Migration) (g : Granule) (is : IsDatabase liv
     rows_and_own_apart : are_apart same_key (keys (s.rows ++ own)) ≡ true
     rows_and_own_apart =
         let across = list_all-if (λ row. not (is_early (Some last) s.table row)) (λ row. not (has same_key (keys own) (key_of s.table row)))
-          (λ row e. not_from_false _ (neither (key_of s.table row) (not-true _ e)).0) s.rows on_time in
+        (λ row e. not_from_false _ (neither (key_of s.table row) (not-true _ e)).0) s.rows on_time in
         ap (are_apart same_key) (map-append (key_of s.table) s.rows own)
         ∙ apart-append same_key (keys s.rows) (keys own) (apart_from_rises key_cmp_total (keys s.rows) keyed) (apart_left same_key (keys own) (keys later) both_apart)
-            (list_all-map (λ k. not (has same_key (keys own) k)) (key_of s.table) s.rows ∙ across)
+        (list_all-map (λ k. not (has same_key (keys own) k)) (key_of s.table) s.rows ∙ across)
 
     then_keyed : is_keyed (with_rows_of (Some last) g s) ≡ true
     then_keyed = rises-placed_apart key_cmp_total (key_of s.table) s.rows own keyed rows_and_own_apart

@@ -1,16 +1,15 @@
 -- A lazy state serves statements as its view would, and moves what they need and nothing else.
-use Rattle.std.proofs.Common.{◌≡◌, ℕ, ◌+◌, Bool, true, false, not, ◌&&◌, ◌||◌, cond, if◌then◌else◌, List, [], ◌∷◌, ◌++◌, map, filter, fold, Option, Some, None, refl, sym, ap, ap₂, subst, ◌∙◌, inl, inr, append_assoc, is_eq}
+use Rattle.std.proofs.Common.{◌≡◌, ◌+◌, Bool, true, false, not, cond, if◌then◌else◌, List, [], ◌∷◌, ◌++◌, map, filter, Option, Some, None, refl, sym, ap, ap₂, subst, ◌∙◌, inl, inr, append_assoc}
 use Rattle.std.specs.List.{list_any, list_all}
 use Rattle.std.proofs.lemmas.Bool.{and_parts, and_from, or_left, or_right, not_from_false, not-true, cases_Bool, eq-eqb}
 use Rattle.std.proofs.lemmas.List.{append-nil}
 use Rattle.std.proofs.lemmas.List.Folds.{list_any-append}
 use Rattle.std.proofs.lemmas.List.Elements.{filter_agree}
-use Rattle.bf_base.specs.Lists.{same_name, same_key, has}
+use Rattle.bf_base.specs.Lists.{same_key, has}
 use Rattle.bf_base.specs.Tables.{key_of}
 use Rattle.bf_base.proofs.Apart.{are_apart, apart-filter, list_any-filter}
 use Rattle.bf_base.proofs.Parts.{filter_all, filter-filter, all_not_from_none}
 use Rattle.bf_sql.specs.declared.reply.Refusal.{Refusal}
-use Rattle.bf_sql.specs.declared.reply.Reply.{Reply}
 use Rattle.bf_sql.specs.declared.statement.Statement.{Statement}
 use Rattle.bf_sql.specs.declared.statement.Statement.TheVariants.{CreateTable, Insert, Select, Migrate}
 use Rattle.bf_sql.specs.declared.statement.Migrate.{Migrate as Change}
@@ -18,7 +17,7 @@ use Rattle.bf_sql.specs.declared.statement.Target.{Target}
 use Rattle.bf_sql.specs.Database.{Database}
 use Rattle.bf_sql.specs.History.{run_group}
 use Rattle.bf_sql.specs.Laws.{IsLazy, IsSeenAs, HaveMoved}
-use Rattle.bf_sql.specs.Lazy.{Granule, Migration, LazyState, same_granule, target_of, on_target, granules_of, part_of, giving, needed, none_if_refused, needed_by, pending, pending_of, done_of, view_of, with_done, moved, moved_once, moved_all, number_of, begun, flipped_lazily, unless_objected, after_statement, served, served_all}
+use Rattle.bf_sql.specs.Lazy.{Granule, Migration, LazyState, same_granule, target_of, on_target, granules_of, part_of, needed, none_if_refused, needed_by, pending_of, done_of, view_of, with_done, moved, moved_once, moved_all, number_of, begun, flipped_lazily, unless_objected, after_statement, served, served_all}
 use Rattle.bf_sql.specs.Conditions.{satisfies}
 use Rattle.bf_sql.specs.Meaning.{executed}
 use Rattle.bf_sql.specs.Migrations.{target_table}
@@ -29,7 +28,7 @@ use Rattle.bf_sql.proofs.Beginning.{view_itself}
 use Rattle.bf_sql.proofs.Due.{still_waits}
 use Rattle.bf_sql.proofs.Granules.{same_name-itself, same_granule-equal, granules_apart}
 use Rattle.bf_sql.proofs.Moving.{keeps_view}
-use Rattle.bf_sql.proofs.Serving.{Agrees, agrees, nothing_pending}
+use Rattle.bf_sql.proofs.Serving.{agrees, nothing_pending}
 use Rattle.bf_sql.proofs.Stored.{list_all-filter, list_all-if}
 
 -- each item of a list is one of them
@@ -223,13 +222,13 @@ last_served lazy is (Migrate m) =
     let seen = seen_ready lazy is st in
     let known : objections (view_of lazy) st ≡ objections readied.live st = ap (λ db. objections db st) (sym seen.view) ∙ same_objections readied st in
     let whole : objections readied.live st ≡ [] → view_of lazy ≡ readied.live = λ e.
-      sym seen.view ∙ view_itself readied (nothing_pending readied seen.lazy_state readied.last m (same_objections readied st ∙ e) (have_moved lazy is st)) in
+    sym seen.view ∙ view_itself readied (nothing_pending readied seen.lazy_state readied.last m (same_objections readied st ∙ e) (have_moved lazy is st)) in
     let number : number_of readied.last ≡ number_of lazy.last = ap number_of (last_ready lazy is st) ∙ number_kept lazy.last (need lazy is st) in
     begins_alike (objections readied.live st) (row_objections readied.live st) (row_objections (view_of lazy) st) (flipped_lazily readied m) readied
-      (Some (begun lazy.last (view_of lazy) m)) (with_moved lazy.last (needed_by lazy.last (view_of lazy) st))
-      (λ e. ap (λ db. row_objections db st) (sym (whole e)))
-      (λ e i. Some (record { number = number i + 1; old = sym (whole e) i; migrate = m; done = [] }))
-      (moved_as_told lazy is st)
+    (Some (begun lazy.last (view_of lazy) m)) (with_moved lazy.last (needed_by lazy.last (view_of lazy) st))
+    (λ e. ap (λ db. row_objections db st) (sym (whole e)))
+    (λ e i. Some (record { number = number i + 1; old = sym (whole e) i; migrate = m; done = [] }))
+    (moved_as_told lazy is st)
     ∙ ap (λ os. unless_objected (os ++ row_objections (view_of lazy) st) (Some (begun lazy.last (view_of lazy) m)) (with_moved lazy.last (needed_by lazy.last (view_of lazy) st))) (sym known)
 
 pub served_alike : (lazy : LazyState) (s : Statement) → IsLazy lazy → ServedAlike lazy s

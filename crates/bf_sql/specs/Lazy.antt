@@ -15,7 +15,7 @@ use Rattle.bf_sql.specs.declared.statement.Statement.TheVariants as st
 use Rattle.bf_sql.specs.Database.{Database, Stored}
 use Rattle.bf_sql.specs.Conditions.{satisfies}
 use Rattle.bf_sql.specs.Refusals.{objections, row_objections}
-use Rattle.bf_sql.specs.Migrations.{table_at, arm_rows, target_table, sources_of, replaced}
+use Rattle.bf_sql.specs.Migrations.{source_at, arm_rows, target_table, sources_of, replaced}
 use Rattle.bf_sql.specs.Meaning.{executed}
 
 -- what moves together: a row of an old table, by its position in key order
@@ -45,12 +45,12 @@ on_target (Some t) what = what t
 module _ (old : Database) (m : Migrate) where
   -- GRANULES: each source's rows in key order
   abbrev pub granules_of : List Granule
-  granules_of = flat_map (λ source. map (λ at. record { source = source; position = at }) (range_with_len 0 (length (table_at old source).rows))) (sources_of m)
+  granules_of = flat_map (λ source. map (λ at. record { source = source; position = at }) (range_with_len 0 (length (source_at old source).rows))) (sources_of m)
 
   -- PART: what a target has of a granule, computed over its old table cut down to the granule's row
   abbrev pub part_of : Target → Granule → List (List Value)
   part_of target g =
-      if same_name target.arm.from g.source then arm_rows old target.arm (slice_range (table_at old g.source).rows g.position (g.position + 1)) else []
+      if same_name target.arm.from g.source then arm_rows old target.arm (slice_range (source_at old g.source).rows g.position (g.position + 1)) else []
 
   -- OWNER: the granule whose part has a row of a target with a key, if there is one
   abbrev pub owner_of : Target → List Value → Option Granule
