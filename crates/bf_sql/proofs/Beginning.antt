@@ -163,6 +163,8 @@ module _ (live : Database) (last : Option Migration) (m : Migrate) (is : IsDatab
       old = is;
       fine = fine;
       targets = map_each _ (λ t. table_at flat t.name) (λ t. Some (target_table live t)) target_there m.targets found;
+      granules = refl;
+      once = refl;
     };
     valid =
         list_all-with_placed name_cmp_total name_of (is_on_time (Some next)) stays (map empty m.targets)

@@ -125,6 +125,8 @@ module _ (lazy : LazyState) (is : IsLazy lazy) where
       fine = way.fine;
       targets = map_agree_then (λ t. table_at lazy.live t.name) (λ t. Some (target_table last.old t)) (λ t. table_at (with_new_table lazy.live table) t.name)
           (λ t e. other_table t.name (target_table last.old t) e) last.migrate.targets way.targets;
+      granules = way.granules;
+      once = way.once;
     }
 
     create_agrees : IsDatabase (with_new_table lazy.live table) → IsSeenAs (with_new_table view table) (record lazy { live = with_new_table lazy.live table })
@@ -309,6 +311,8 @@ module _ (lazy : LazyState) (is : IsLazy lazy) where
         old = way.old;
         fine = way.fine;
         targets = (λ i. map (λ t. table_at-kept lazy.live changed same_table t.name i) last.migrate.targets) ∙ way.targets;
+        granules = way.granules;
+        once = way.once;
       }
 
       insert_seen : IsDatabase (with_rows lazy.live own_name kept_rows) → IsSeenAs (with_rows view own_name seen_then) (record lazy { live = with_rows lazy.live own_name kept_rows })
