@@ -1,6 +1,6 @@
 use Rattle.std.proofs.Common.{◌≡◌, ◌+◌, ◌++◌, drop}
-use Rattle.bf_run.specs.Report.{texts_from, reply_text}
-use Rattle.bf_run.proofs.text.put_session.Given as goal
+use Rattle.bf_text.specs.Report.{texts_from, reply_text}
+use Rattle.bf_text.proofs.text.put_session.Given as goal
 
 abbrev pub invariant-loop-index : goal.invariant-loop-index
 invariant-loop-index l =

@@ -50,7 +50,7 @@ refusal_text WrongCount = codes "E8 wrong count"
 refusal_text (NameTwice name) = codes "E13 name twice " ++ name
 refusal_text (KeyNotInherited target) = codes "E15 key not inherited " ++ target
 refusal_text (SourceUnknown name) = codes "E16 source unknown " ++ name
-refusal_text (TooManyRows table rows) = codes "E17 too many rows " ++ table ++ codes " " ++ decimal rows
+refusal_text (TooManyRows table rows) = (codes "E17 too many rows " ++ table) ++ (codes " " ++ decimal rows)
 
 -- S.N, where S is a session and N a statement
 abbrev pub place_text : ℕ → ℕ → List ℕ
@@ -91,9 +91,9 @@ entry_text k e =
 -- how far the last migration has come, if there was one
 abbrev pub sweep_text : Sweep → List ℕ
 sweep_text Never = codes "none"
-sweep_text (Complete m moved) = decimal m ++ codes " complete " ++ decimal moved
+sweep_text (Complete m moved) = decimal m ++ (codes " complete " ++ decimal moved)
 sweep_text (Running m moved unit position) =
-    decimal m ++ codes " moved " ++ decimal moved ++ codes " next unit " ++ decimal unit ++ codes " position " ++ decimal position
+    decimal m ++ (codes " moved " ++ decimal moved) ++ (codes " next unit " ++ decimal unit) ++ (codes " position " ++ decimal position)
 
 -- the number of commits, and the last migration
 abbrev pub end_text : ℕ → Sweep → List ℕ

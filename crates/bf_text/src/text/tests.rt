@@ -43,7 +43,12 @@ fn text_of(
 ) -> Result<Vec<u8>, Memory> {
     let sessions = Sequence::of(sessions);
     let entries = Sequence::of(entries);
-    report(alloc, &Transcripts { sessions }, &History { entries }, sweep)
+    report(
+        alloc,
+        &Transcripts { sessions },
+        &History { entries },
+        sweep,
+    )
 }
 
 #[test]
@@ -93,7 +98,10 @@ fn prints_each_refusal(rt: HostRuntime) -> Result<(), Fail> {
     refused(&mut replies, Refusal::NameTwice(name(alloc, "n")?))?;
     refused(&mut replies, Refusal::KeyNotInherited(name(alloc, "ph")?))?;
     refused(&mut replies, Refusal::SourceUnknown(name(alloc, "w")?))?;
-    refused(&mut replies, Refusal::TooManyRows(name(alloc, "big")?, 1_048_577))?;
+    refused(
+        &mut replies,
+        Refusal::TooManyRows(name(alloc, "big")?, 1_048_577),
+    )?;
     replies.push(Reply::Inserted(u32::MAX))?;
     let sessions = vec![in alloc; Sequence::of(replies)]?;
     let bytes = text_of(alloc, sessions, Vec::new(alloc), Sweep::Never)?;
@@ -129,7 +137,10 @@ fn prints_how_far_a_migration_has_come(rt: HostRuntime) -> Result<(), Fail> {
         moved: 1000,
     };
     let ends = [
-        (running, "end commits 1 migration 1 moved 2 next unit 0 position 3\n"),
+        (
+            running,
+            "end commits 1 migration 1 moved 2 next unit 0 position 3\n",
+        ),
         (complete, "end commits 1 migration 2 complete 1000\n"),
     ];
     for (sweep, end) in ends {

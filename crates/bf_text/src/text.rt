@@ -6,7 +6,7 @@
 ghost use Rattle.std.specs.Prelude.{◌≡◌, ℕ, ◌++◌, List, OnOk, IfOk, map, codes};
 ghost use Rattle.std.specs.List.{flat_map};
 ghost use Rattle.std.specs.Fmt.{decimal, signed_decimal};
-ghost use Rattle.bf_run.specs.Report.{quoted, value_text, cell_text, listed, values_text, refusal_text, place_text, row_line, body_text, reply_text, session_text, texts_from, outcome_text, entry_text, sweep_text, end_text, report_text};
+ghost use Rattle.bf_text.specs.Report.{quoted, value_text, cell_text, listed, values_text, refusal_text, place_text, row_line, body_text, reply_text, session_text, texts_from, outcome_text, entry_text, sweep_text, end_text, report_text};
 
 use bf_base::{Memory, Sequence, Value};
 use bf_sql::{Cell, Entry, History, Outcome, Refusal, Reply, Sweep, Transcripts};
@@ -137,7 +137,7 @@ fn put_between(out: &mut Vec<u8>, front: &[u8], values: &[Value], back: &[u8]) -
 }
 
 fn put_too_many_rows(out: &mut Vec<u8>, table: &[u8], rows: u32) -> Result<(), Memory>
-    ensures { OnOk result (out.new.items ≡ out.old.items ++ (codes "E17 too many rows " ++ table.now ++ codes " " ++ decimal rows)) }
+    ensures { OnOk result (out.new.items ≡ out.old.items ++ ((codes "E17 too many rows " ++ table.now) ++ (codes " " ++ decimal rows))) }
 {
     put_both(out, b"E17 too many rows ", table)?;
     put_numbered(out, b" ", u64::from(rows))
@@ -277,6 +277,22 @@ fn put_entries(out: &mut Vec<u8>, entries: &[Entry]) -> Result<(), Memory>
     Ok(())
 }
 
+fn put_running(
+    out: &mut Vec<u8>,
+    migration: u64,
+    moved: u64,
+    unit: u64,
+    position: u64,
+) -> Result<(), Memory>
+    ensures { OnOk result (out.new.items ≡ out.old.items ++ sweep_text (Sweep.Running migration moved unit position)) }
+{
+    put_number(out, migration)?;
+    put_numbered(out, b" moved ", moved)?;
+    put_numbered(out, b" next unit ", unit)?;
+    put_numbered(out, b" position ", position)?;
+    Ok(())
+}
+
 fn put_sweep(out: &mut Vec<u8>, sweep: Sweep) -> Result<(), Memory>
     ensures { OnOk result (out.new.items ≡ out.old.items ++ sweep_text sweep) }
 {
@@ -291,12 +307,13 @@ fn put_sweep(out: &mut Vec<u8>, sweep: Sweep) -> Result<(), Memory>
             moved,
             unit,
             position,
-        } => {
-            put_number(out, u64::from(migration))?;
-            put_numbered(out, b" moved ", u64::from(moved))?;
-            put_numbered(out, b" next unit ", u64::from(unit))?;
-            put_numbered(out, b" position ", u64::from(position))
-        }
+        } => put_running(
+            out,
+            u64::from(migration),
+            u64::from(moved),
+            u64::from(unit),
+            u64::from(position),
+        ),
     }
 }
 
@@ -306,7 +323,8 @@ fn put_end(out: &mut Vec<u8>, commits: u64, sweep: Sweep) -> Result<(), Memory>
     put_numbered(out, b"end commits ", commits)?;
     put(out, b" migration ")?;
     put_sweep(out, sweep)?;
-    put(out, b"\n")
+    put(out, b"\n")?;
+    Ok(())
 }
 
 /// The report of a run and of how far its last migration has come, in time linear in its bytes.
