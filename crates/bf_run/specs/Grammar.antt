@@ -1,9 +1,8 @@
--- The scripts of the form, as tokens: one session that creates one table of INT columns with a key of one
--- column, inserts into tables and selects from them, may migrate that table once, and goes on.
-use Rattle.std.specs.Prelude.{◌≡◌, ℕ, zero, suc, ◌<◌, ◌≤◌, ◌^◌, ℤ, pos, negsuc, Bool, true, false, not, ◌&&◌, List, [], ◌∷◌, ◌++◌, length, map, codes, Option, Some, None, IsTrue}
-use Rattle.std.specs.List.{list_any, list_all}
+-- The scripts of the form, as tokens.
+use Rattle.std.specs.Prelude.{◌≡◌, ℕ, zero, suc, ◌<◌, ◌≤◌, ◌^◌, ℤ, pos, negsuc, Bool, false, List, [], ◌∷◌, ◌++◌, length, map, codes, Option, Some, None}
+use Rattle.std.specs.List.{list_any}
 use Rattle.bf_base.specs.declared.value.Value.TheVariants.{Int}
-use Rattle.bf_base.specs.Lists.{same_name, has}
+use Rattle.bf_base.specs.Lists.{same_name}
 use Rattle.bf_sql.specs.declared.statement.List.TheVariants.{All}
 use Rattle.bf_sql.specs.declared.statement.Statement.{Statement}
 use Rattle.bf_sql.specs.declared.statement.Statement.TheVariants.{CreateTable, Insert, Select, Migrate}
@@ -11,7 +10,7 @@ use Rattle.bf_sql.specs.declared.statement.Script.{Script}
 use Rattle.bf_run.specs.declared.token.Sign.TheVariants.{OpeningParenthesis, ClosingParenthesis, Comma, Semicolon, Star, Minus, Equals}
 use Rattle.bf_run.specs.declared.token.Token.{Token}
 use Rattle.bf_run.specs.declared.token.Token.TheVariants.{Word, Number, Sign}
-use Rattle.bf_run.specs.Form.{creation, equality, migration, one_session}
+use Rattle.bf_run.specs.Form.{equality, one_session, most_parts, AreColumns, AreItems, Migrated, Plot, statements_of}
 use Rattle.bf_run.specs.Lexing.{IsLexed}
 
 -- the words that are no names
@@ -61,16 +60,11 @@ star = Sign Star
 abbrev pub equals : Token
 equals = Sign Equals
 
-
 -- one or more parts with commas between
 abbrev pub AreListed : {A : Type 0} → (List Token → A → Type 0) → List Token → List A → Type 0
 AreListed IsOne ts [] = ⊥
 AreListed IsOne ts (x ∷ []) = IsOne ts x
 AreListed IsOne ts (x ∷ y ∷ zs) = (front : List Token) × (rest : List Token) × (ts ≡ front ++ comma ∷ rest) × IsOne front x × AreListed IsOne rest (y ∷ zs)
-
--- the most parts of a list
-abbrev pub most_parts : ℕ
-most_parts = 16
 
 -- c INT
 abbrev pub IsColumn : List Token → List ℕ → Type 0
@@ -80,19 +74,13 @@ IsColumn ts c = IsName c × (ts ≡ word c ∷ word (codes "int") ∷ [])
 abbrev pub IsItem : List Token → List ℕ → Type 0
 IsItem ts c = IsName c × (ts ≡ word c ∷ [])
 
--- names that differ
-abbrev pub are_distinct : List (List ℕ) → Bool
-are_distinct [] = true
-are_distinct (c ∷ cs) = not (has same_name cs c) && are_distinct cs
-
 -- CREATE TABLE t ( c INT ,.. , PRIMARY KEY ( k ) ) ;  of different columns, one of which is the key
 pub record IsCreation (ts : List Token) (t : List ℕ) (columns : List (List ℕ)) (k : List ℕ) : Type 0 where
   pub table_named : IsName t
+  pub key_named : IsName k
   pub listed : List Token
-  pub are_columns : AreListed IsColumn listed columns
-  pub within : length columns ≤ most_parts
-  pub distinct : IsTrue (are_distinct columns)
-  pub key_among : IsTrue (has same_name columns k)
+  pub are_listed : AreListed IsColumn listed columns
+  pub are_columns : AreColumns columns k
   pub spelled : ts ≡ word (codes "create") ∷ word (codes "table") ∷ word t ∷ opening ∷ (listed ++ comma ∷ word (codes "primary") ∷ word (codes "key") ∷ opening ∷ word k ∷ closing ∷ closing ∷ semicolon ∷ [])
 
 -- INSERT INTO n VALUES ( z ,.. ) ;
@@ -120,11 +108,8 @@ pub record IsSelectionWhere (ts : List Token) (n c : List ℕ) (z : ℤ) : Type 
 pub record IsMigration (ts : List Token) (u : List ℕ) (items : List (List ℕ)) (t : List ℕ) (columns : List (List ℕ)) (k : List ℕ) : Type 0 where
   pub target_named : IsName u
   pub listed : List Token
-  pub are_items : AreListed IsItem listed items
-  pub within : length items ≤ most_parts
-  pub distinct : IsTrue (are_distinct items)
-  pub of_the_table : IsTrue (list_all (has same_name columns) items)
-  pub key_among : IsTrue (has same_name items k)
+  pub are_listed : AreListed IsItem listed items
+  pub are_items : AreItems columns k items
   pub spelled : ts ≡ word (codes "migrate") ∷ opening ∷ word (codes "create") ∷ word (codes "table") ∷ word u ∷ word (codes "as") ∷ word (codes "select") ∷ (listed ++ word (codes "from") ∷ word t ∷ closing ∷ semicolon ∷ [])
 
 -- an INSERT or a SELECT
@@ -143,33 +128,10 @@ AreParts ts (s ∷ ss) = (front : List Token) × (rest : List Token) × (ts ≡ 
 abbrev pub start : List Token
 start = word (codes "phase") ∷ semicolon ∷ word (codes "session") ∷ semicolon ∷ []
 
--- a MIGRATE: the new table, its columns, and the statements behind it
-pub record Migrated : Type 0 where
-  pub table : List ℕ
-  pub items : List (List ℕ)
-  pub parts : List Statement
-
--- what a script of the form says: its table and the statements on it, and where it migrates, the new table and the
--- statements behind it
-pub record Plot : Type 0 where
-  pub table : List ℕ
-  pub columns : List (List ℕ)
-  pub key : List ℕ
-  pub parts : List Statement
-  pub migrated : Option Migrated
-
-abbrev pub migrated_statements : List ℕ → Option Migrated → List Statement
-migrated_statements t None = []
-migrated_statements t (Some m) = migration m.table m.items t ∷ m.parts
-
--- its statements in order
-abbrev pub statements_of : Plot → List Statement
-statements_of plot = creation plot.table plot.columns plot.key ∷ plot.parts ++ migrated_statements plot.table plot.migrated
-
--- the tokens of the MIGRATE and of what follows it
-abbrev pub GoesOn : Plot → List Token → Option Migrated → Type 0
-GoesOn plot ts None = ts ≡ []
-GoesOn plot ts (Some m) = (front : List Token) × (rest : List Token) × (ts ≡ front ++ rest) × IsMigration front m.table m.items plot.table plot.columns plot.key × AreParts rest m.parts
+-- the tokens of the MIGRATE of a table and of what follows it
+abbrev pub GoesOn : List ℕ → List (List ℕ) → List ℕ → List Token → Option Migrated → Type 0
+GoesOn t columns k ts None = ts ≡ []
+GoesOn t columns k ts (Some m) = (front : List Token) × (rest : List Token) × (ts ≡ front ++ rest) × IsMigration front m.table m.items t columns k × AreParts rest m.parts
 
 -- the tokens spell a script of the form
 pub record IsScript (ts : List Token) (script : Script) : Type 0 where
@@ -180,7 +142,7 @@ pub record IsScript (ts : List Token) (script : Script) : Type 0 where
   pub begins : ts ≡ start ++ created ++ parts ++ rest
   pub is_creation : IsCreation created plot.table plot.columns plot.key
   pub are_parts : AreParts parts plot.parts
-  pub goes_on : GoesOn plot rest plot.migrated
+  pub goes_on : GoesOn plot.table plot.columns plot.key rest plot.migrated
   pub spelled : script ≡ one_session (statements_of plot)
 
 -- the bytes are a script of the form

@@ -12,7 +12,7 @@ use Rattle.bf_sql.specs.declared.history.Sweep.{Sweep}
 use Rattle.bf_run.specs.declared.status.Status.{Status}
 use Rattle.bf_run.specs.declared.status.Status.TheVariants.{Done, Usage, ReadFault, WriteFault, Memory, NotBuilt}
 use Rattle.bf_run.specs.Grammar.{IsScriptText}
-use Rattle.bf_run.specs.Report.{report_text, newline}
+use Rattle.bf_text.specs.Report.{report_text, newline}
 use Rattle.bf_run.specs.Run.{IsRun}
 
 -- STREAM: the bytes that a source has left, or that a sink took, where they are told, and its count of faults, each

@@ -7,9 +7,10 @@ ghost use Rattle.bf_run.specs.Outcome.{IsAnswer, Ends, FindsReport};
 use crate::parse::read_script;
 use crate::serve::serve;
 use crate::status::Status;
-use crate::text::report;
+
 use crate::words::are_try;
 use bf_base::Memory;
+use bf_text::report;
 use bf_io::{ReadError, Sink, Source, read_all, write_whole};
 use std::alloc::Global;
 
