@@ -94,6 +94,3 @@ pub fn serve(alloc: Global, script: &Script) -> Result<Run, Memory>
         },
     })
 }
-
-#[cfg(test)]
-mod tests;
