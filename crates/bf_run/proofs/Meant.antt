@@ -32,7 +32,7 @@ one_column_is table one =
     of_parts table.columns table.key one.columns one.key
 
 -- without a condition each row is selected
-filter_all : (rows : List (List Value)) → filter (λ row. true) rows ≡ rows
+pub filter_all : (rows : List (List Value)) → filter (λ row. true) rows ≡ rows
 filter_all [] = refl
 filter_all (row ∷ rows) = ap (λ (rs : List (List Value)). row ∷ rs) (filter_all rows)
 
