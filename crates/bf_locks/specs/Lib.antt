@@ -1,0 +1,5 @@
+pub mod LockNames
+pub mod Locks
+pub mod Modes
+pub mod Table
+pub mod Waits

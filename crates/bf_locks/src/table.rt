@@ -1,0 +1,197 @@
+//! The lock table.
+
+ghost use Rattle.std.specs.Prelude.{◌≡◌, IfOk, OnErr};
+ghost use Rattle.std.specs.FinMap.{empty};
+ghost use Rattle.bf_locks.specs.Locks.{held, IsConsistent, IsJudged, after, without_owner};
+
+use crate::answer::LockAnswer;
+use crate::mode::{Mode, compatible, join};
+use crate::name::LockName;
+use bf_base::{Memory, Seq};
+use std::alloc::Global;
+use std::collections::BTreeMap;
+use std::marker::Model;
+
+/// Which owners hold which names, and in which modes.
+///
+/// Owners are start numbers, and a smaller number is older. Contracts see a finite map from pairs
+/// of a name and an owner to modes. No two owners hold one name in modes that are not compatible.
+#[derive(Drop)]
+pub struct LockTable {
+    alloc: Global,
+    // The modes of each name's holders, by owner.
+    holders: BTreeMap<LockName, BTreeMap<u64, Mode>>,
+    // The names that each owner holds.
+    owned: BTreeMap<u64, Vec<LockName>>,
+}
+
+impl Model for LockTable {
+    ghost use Rattle.std.specs.Coded.{coded×, coded_ℕ};
+    ghost use Rattle.std.specs.FinMap.{code};
+    ghost use Rattle.bf_locks.specs.contracts.mode.Mode as modes;
+    ghost use Rattle.bf_locks.specs.contracts.name.LockName as names;
+    ghost use Rattle.bf_locks.specs.Locks.{Locks};
+
+    ghost Value = { Locks };
+
+    ghost coded = { code (coded× names.the_row.coded coded_ℕ) modes.the_row.coded };
+
+    ghost use Rattle.bf_locks.specs.Table.{locks_of, IsSound};
+
+    ghost view = { λ table. locks_of table.holders };
+
+    ghost invariant = { λ table. IsSound table.holders table.owned };
+}
+
+impl LockTable {
+    /// A table in which nothing is held. Takes no memory.
+    pub fn new(alloc: Global) -> LockTable
+        ensures empty { result ≡ empty }
+        ensures consistent { IsConsistent result }
+    {
+        LockTable {
+            alloc,
+            holders: BTreeMap::new(alloc),
+            owned: BTreeMap::new(alloc),
+        }
+    }
+
+    /// Asks for a name in a mode.
+    ///
+    /// The request is judged against the other holders of the name, with the join of the mode that
+    /// the owner holds and the asked one: `Granted` where none conflicts, and the owner then holds
+    /// the join; `Die` of the oldest that conflicts where that is older; else `Wait` for all that
+    /// conflict. `Wait`, `Die` and `Memory` change nothing.
+    ///
+    /// Logarithmic in the names that are held, and one or two passes over the holders of this one.
+    pub fn ask(&mut self, owner: u64, name: &LockName, mode: Mode) -> Result<LockAnswer, Memory>
+        ensures judged { IfOk result (λ answer. IsJudged self.old owner name.now mode answer) }
+        ensures after { IfOk result (λ answer. self.new ≡ after self.old owner name.now mode answer) }
+        ensures memory { OnErr result (self.new ≡ self.old) }
+        ensures consistent { IsConsistent self.new }
+    {
+        let wanted = match self.holds(owner, name) {
+            Some(before) => join(before, mode),
+            None => mode,
+        };
+        let answer = self.judge(owner, name, wanted)?;
+        if let LockAnswer::Granted = &answer {
+            self.grant(owner, name, wanted)?;
+        }
+        Ok(answer)
+    }
+
+    /// Frees all that an owner holds. Takes no memory.
+    ///
+    /// For each name that the owner holds, logarithmic in the names that are held and in the
+    /// holders of that one.
+    pub fn free_all(&mut self, owner: u64)
+        ensures freed { self.new ≡ without_owner self.old owner }
+        ensures consistent { IsConsistent self.new }
+    {
+        if let Some(names) = self.owned.remove(&owner) {
+            for name in names {
+                free(&mut self.holders, &name, owner);
+            }
+        }
+    }
+
+    /// The mode in which an owner holds a name, and `None` exactly where it holds none.
+    /// Takes no memory. Logarithmic in the names that are held and in the holders of this one.
+    pub fn holds(&self, owner: u64, name: &LockName) -> Option<Mode>
+        ensures mode { result ≡ held self.now name.now owner }
+        ensures consistent { IsConsistent self.now }
+    {
+        match self.holders.get(name) {
+            Some(holders) => holders.get(&owner).copied(),
+            None => None,
+        }
+    }
+
+    // The answer to an owner that wants to hold a name in a mode.
+    fn judge(&self, owner: u64, name: &LockName, wanted: Mode) -> Result<LockAnswer, Memory> {
+        let Some(holders) = self.holders.get(name) else {
+            return Ok(LockAnswer::Granted);
+        };
+        match oldest_conflict(holders, owner, wanted) {
+            None => Ok(LockAnswer::Granted),
+            Some(oldest) if oldest < owner => Ok(LockAnswer::Die(oldest)),
+            Some(_) => {
+                let others = conflicts(self.alloc, holders, owner, wanted)?;
+                Ok(LockAnswer::Wait(Seq::of(others)))
+            }
+        }
+    }
+
+    // Lets an owner hold a name in a mode, in place of the mode in which it held it before.
+    fn grant(&mut self, owner: u64, name: &LockName, wanted: Mode) -> Result<(), Memory> {
+        if self.holds(owner, name).is_none() {
+            self.list(owner, name)?;
+        }
+        match self.holders.get_mut(name) {
+            Some(holders) => {
+                holders.insert(owner, wanted)?;
+            }
+            None => {
+                let mut holders = BTreeMap::new(self.alloc);
+                holders.insert(owner, wanted)?;
+                self.holders.insert(name.copy(self.alloc)?, holders)?;
+            }
+        }
+        Ok(())
+    }
+
+    // Adds a name to an owner's list.
+    fn list(&mut self, owner: u64, name: &LockName) -> Result<(), Memory> {
+        let name = name.copy(self.alloc)?;
+        match self.owned.get_mut(&owner) {
+            Some(names) => names.push(name)?,
+            None => {
+                let mut names = Vec::new(self.alloc);
+                names.push(name)?;
+                self.owned.insert(owner, names)?;
+            }
+        }
+        Ok(())
+    }
+}
+
+// Whether a holder conflicts with an owner that wants to hold the name in a mode.
+fn is_conflict(other: u64, theirs: Mode, owner: u64, wanted: Mode) -> bool {
+    other != owner && !compatible(theirs, wanted)
+}
+
+fn oldest_conflict(holders: &BTreeMap<u64, Mode>, owner: u64, wanted: Mode) -> Option<u64> {
+    for (other, theirs) in holders {
+        if is_conflict(*other, *theirs, owner, wanted) {
+            return Some(*other);
+        }
+    }
+    None
+}
+
+// The owners that conflict, rising.
+fn conflicts(
+    alloc: Global,
+    holders: &BTreeMap<u64, Mode>,
+    owner: u64,
+    wanted: Mode,
+) -> Result<Vec<u64>, Memory> {
+    let mut others = Vec::new(alloc);
+    for (other, theirs) in holders {
+        if is_conflict(*other, *theirs, owner, wanted) {
+            others.push(*other)?;
+        }
+    }
+    Ok(others)
+}
+
+// Takes an owner from the holders of a name, and the name away where nobody holds it then.
+fn free(holders: &mut BTreeMap<LockName, BTreeMap<u64, Mode>>, name: &LockName, owner: u64) {
+    if let Some(those) = holders.get_mut(name) {
+        those.remove(&owner);
+        if those.is_empty() {
+            holders.remove(name);
+        }
+    }
+}
