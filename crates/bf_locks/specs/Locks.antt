@@ -5,11 +5,12 @@ use Rattle.std.specs.List.Sorted.{IsStrictlyIncreasing}
 use Rattle.std.specs.declared.cmp.Ordering.{Ordering}
 use Rattle.std.specs.Ordering.{nat_cmp, on, then_cmp}
 use Rattle.std.specs.FinMap as map
+use Rattle.std.specs.Cmp.{IsTotalOrder, nat_cmp_total, on_total, then_total}
 use Rattle.bf_locks.specs.declared.mode.Mode.{Mode}
 use Rattle.bf_locks.specs.declared.name.LockName.{LockName}
 use Rattle.bf_locks.specs.declared.answer.LockAnswer.{LockAnswer}
 use Rattle.bf_locks.specs.declared.answer.LockAnswer.TheVariants.{Granted, Wait, Die}
-use Rattle.bf_locks.specs.LockNames.{lock_name_cmp}
+use Rattle.bf_locks.specs.LockNames.{lock_name_cmp, lock_name_cmp_total}
 use Rattle.bf_locks.specs.Modes.{are_compatible, join_of}
 
 -- a name and an owner of it
@@ -19,6 +20,9 @@ Holding = LockName × ℕ
 -- by name, then by owner
 abbrev pub holding_cmp : Holding → Holding → Ordering
 holding_cmp = then_cmp (on (λ holding. holding.0) lock_name_cmp) (on (λ holding. holding.1) nat_cmp)
+
+pub holding_cmp_total : IsTotalOrder holding_cmp
+holding_cmp_total = then_total (on_total (λ (holding : Holding). holding.0) lock_name_cmp_total) (on_total (λ (holding : Holding). holding.1) nat_cmp_total)
 
 -- what is held: the mode at each pair of a name and an owner that holds it
 abbrev pub Locks : Type 0

@@ -1,5 +1,5 @@
 -- Lock modes: which go together, which covers which, and the least that covers two.
-use Rattle.std.specs.Prelude.{ℕ, Bool, true, false, not, ◌&&◌, ◌||◌, IsTrue, if◌then◌else◌}
+use Rattle.std.specs.Prelude.{ℕ, Bool, true, false, ◌&&◌, ◌||◌, List, IsTrue, if◌then◌else◌, codes}
 use Rattle.bf_locks.specs.declared.mode.Mode.{Mode}
 use Rattle.bf_locks.specs.declared.mode.Mode.TheVariants.{IS, IX, S, SIX, X}
 
@@ -60,3 +60,11 @@ number_of IX = 1
 number_of S = 2
 number_of SIX = 3
 number_of X = 4
+
+-- the word of a mode, as its bytes
+abbrev pub word_of : Mode → List ℕ
+word_of IS = codes "IS"
+word_of IX = codes "IX"
+word_of S = codes "S"
+word_of SIX = codes "SIX"
+word_of X = codes "X"

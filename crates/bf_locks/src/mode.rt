@@ -1,9 +1,10 @@
 //! Lock modes.
 
 ghost use Rattle.std.specs.Prelude.{◌≡◌, ◌↔◌, not, Some};
-ghost use Rattle.bf_locks.specs.Modes.{are_compatible, interfere, join_of, covers, IsLeastCover, number_of};
+ghost use Rattle.bf_tables.specs.Cases.{word_at};
+ghost use Rattle.bf_locks.specs.Modes.{are_compatible, interfere, join_of, covers, IsLeastCover, number_of, word_of};
 
-use bf_tables::{case_of_number, number_of_case};
+use bf_tables::{Cases, case_of_number, number_of_case, of_cases};
 
 /// In which way an owner holds a name, and with it the parts of what the name stands for.
 #[derive(Clone, Copy, Debug, PartialEq, Eq)]
@@ -39,6 +40,13 @@ impl Mode {
         ensures { (mode : Mode) → (result ≡ Some mode) ↔ (number_of mode ≡ number) }
     {
         modes!(case_of_number, number)
+    }
+
+    /// The words of the modes, by their numbers. Takes no memory.
+    pub fn cases() -> Cases<5>
+        ensures { (mode : Mode) → word_at result (number_of mode) ≡ Some (word_of mode) }
+    {
+        of_cases([(0, "IS"), (1, "IX"), (2, "S"), (3, "SIX"), (4, "X")]).unwrap()
     }
 }
 

@@ -7,7 +7,7 @@ ghost use Rattle.std.specs.Cmp.Rules.{comparing};
 ghost use Rattle.std.proofs.Common.{rules};
 ghost use Rattle.bf_locks.specs.LockNames.{lock_name_cmp, lock_name_cmp_total};
 
-use bf_base::{Key, Memory, Name};
+use bf_base::{Key, Memory, Name, TryClone};
 use std::alloc::Global;
 use std::cmp::Ordering;
 
@@ -35,6 +35,12 @@ impl LockName {
                 Ok(LockName::One(table, key.copy(alloc)?))
             }
         }
+    }
+}
+
+impl TryClone for LockName {
+    fn try_clone(&self, alloc: Global) -> Result<LockName, Memory> {
+        self.copy(alloc)
     }
 }
 

@@ -7,7 +7,7 @@ ghost use Rattle.bf_locks.specs.Locks.{held, IsConsistent, IsJudged, after, with
 use crate::answer::LockAnswer;
 use crate::mode::{Mode, compatible, join};
 use crate::name::LockName;
-use bf_base::{Memory, Seq};
+use bf_base::{Memory, Sequence};
 use std::alloc::Global;
 use std::collections::BTreeMap;
 use std::marker::Model;
@@ -70,13 +70,15 @@ impl LockTable {
         ensures memory { OnErr result (self.new ≡ self.old) }
         ensures consistent { IsConsistent self.new }
     {
-        let wanted = match self.holds(owner, name) {
+        let holders = self.holders.get(name);
+        let before = mode_among(holders, owner);
+        let wanted = match before {
             Some(before) => join(before, mode),
             None => mode,
         };
-        let answer = self.judge(owner, name, wanted)?;
+        let answer = judge(self.alloc, holders, owner, wanted)?;
         if let LockAnswer::Granted = &answer {
-            self.grant(owner, name, wanted)?;
+            self.grant(owner, name, wanted, before.is_none())?;
         }
         Ok(answer)
     }
@@ -102,58 +104,87 @@ impl LockTable {
         ensures mode { result ≡ held self.now name.now owner }
         ensures consistent { IsConsistent self.now }
     {
-        match self.holders.get(name) {
-            Some(holders) => holders.get(&owner).copied(),
-            None => None,
-        }
+        mode_among(self.holders.get(name), owner)
     }
 
-    // The answer to an owner that wants to hold a name in a mode.
-    fn judge(&self, owner: u64, name: &LockName, wanted: Mode) -> Result<LockAnswer, Memory> {
-        let Some(holders) = self.holders.get(name) else {
-            return Ok(LockAnswer::Granted);
-        };
-        match oldest_conflict(holders, owner, wanted) {
-            None => Ok(LockAnswer::Granted),
-            Some(oldest) if oldest < owner => Ok(LockAnswer::Die(oldest)),
-            Some(_) => {
-                let others = conflicts(self.alloc, holders, owner, wanted)?;
-                Ok(LockAnswer::Wait(Seq::of(others)))
-            }
+    // Lets an owner hold a name in a mode, in place of the one in which it held it before. The
+    // name comes on the owner's list first, where it is new there.
+    fn grant(
+        &mut self,
+        owner: u64,
+        name: &LockName,
+        mode: Mode,
+        is_new: bool,
+    ) -> Result<(), Memory> {
+        if is_new {
+            list(self.alloc, &mut self.owned, owner, name)?;
         }
+        put(self.alloc, &mut self.holders, name, owner, mode)
     }
+}
 
-    // Lets an owner hold a name in a mode, in place of the mode in which it held it before.
-    fn grant(&mut self, owner: u64, name: &LockName, wanted: Mode) -> Result<(), Memory> {
-        if self.holds(owner, name).is_none() {
-            self.list(owner, name)?;
-        }
-        match self.holders.get_mut(name) {
-            Some(holders) => {
-                holders.insert(owner, wanted)?;
-            }
-            None => {
-                let mut holders = BTreeMap::new(self.alloc);
-                holders.insert(owner, wanted)?;
-                self.holders.insert(name.copy(self.alloc)?, holders)?;
-            }
-        }
-        Ok(())
+// The mode of an owner among the holders of a name, if there are some.
+fn mode_among(holders: Option<&BTreeMap<u64, Mode>>, owner: u64) -> Option<Mode> {
+    match holders {
+        Some(holders) => holders.get(&owner).copied(),
+        None => None,
     }
+}
 
-    // Adds a name to an owner's list.
-    fn list(&mut self, owner: u64, name: &LockName) -> Result<(), Memory> {
-        let name = name.copy(self.alloc)?;
-        match self.owned.get_mut(&owner) {
-            Some(names) => names.push(name)?,
-            None => {
-                let mut names = Vec::new(self.alloc);
-                names.push(name)?;
-                self.owned.insert(owner, names)?;
-            }
+// The answer to an owner that wants to hold a name in a mode, among its holders.
+fn judge(
+    alloc: Global,
+    holders: Option<&BTreeMap<u64, Mode>>,
+    owner: u64,
+    wanted: Mode,
+) -> Result<LockAnswer, Memory> {
+    let Some(holders) = holders else {
+        return Ok(LockAnswer::Granted);
+    };
+    match oldest_conflict(holders, owner, wanted) {
+        None => Ok(LockAnswer::Granted),
+        Some(oldest) if oldest < owner => Ok(LockAnswer::Die(oldest)),
+        Some(_) => {
+            let others = conflicts(alloc, holders, owner, wanted)?;
+            Ok(LockAnswer::Wait(Sequence::of(others)))
         }
-        Ok(())
     }
+}
+
+// Puts an owner among the holders of a name, in a mode.
+fn put(
+    alloc: Global,
+    holders: &mut BTreeMap<LockName, BTreeMap<u64, Mode>>,
+    name: &LockName,
+    owner: u64,
+    mode: Mode,
+) -> Result<(), Memory> {
+    if let Some(those) = holders.get_mut(name) {
+        those.insert(owner, mode)?;
+        return Ok(());
+    }
+    let mut those = BTreeMap::new(alloc);
+    those.insert(owner, mode)?;
+    holders.insert(name.copy(alloc)?, those)?;
+    Ok(())
+}
+
+// Adds a name to an owner's list.
+fn list(
+    alloc: Global,
+    owned: &mut BTreeMap<u64, Vec<LockName>>,
+    owner: u64,
+    name: &LockName,
+) -> Result<(), Memory> {
+    let name = name.copy(alloc)?;
+    if let Some(names) = owned.get_mut(&owner) {
+        names.push(name)?;
+        return Ok(());
+    }
+    let mut names = Vec::new(alloc);
+    names.push(name)?;
+    owned.insert(owner, names)?;
+    Ok(())
 }
 
 // Whether a holder conflicts with an owner that wants to hold the name in a mode.

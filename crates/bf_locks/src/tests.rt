@@ -61,16 +61,31 @@ fn an_upgrade_among_other_holders(rt: HostRuntime) -> Result<(), Fail> {
     let table = whole(alloc)?;
     let mut locks = LockTable::new(alloc);
     for owner in [5, 2, 9] {
-        assert_eq!(rt; told(alloc, &locks.ask(owner, &table, Mode::IS)?)?.as_str(), "granted");
+        assert_eq!(rt;
+            told(alloc, &locks.ask(owner, &table, Mode::IS)?)?.as_str(),
+            "granted"
+        );
     }
-    assert_eq!(rt; told(alloc, &locks.ask(2, &table, Mode::X)?)?.as_str(), "wait [5, 9]");
-    assert_eq!(rt; told(alloc, &locks.ask(5, &table, Mode::X)?)?.as_str(), "die 2");
+    assert_eq!(rt;
+        told(alloc, &locks.ask(2, &table, Mode::X)?)?.as_str(),
+        "wait [5, 9]"
+    );
+    assert_eq!(rt;
+        told(alloc, &locks.ask(5, &table, Mode::X)?)?.as_str(),
+        "die 2"
+    );
     assert_eq!(rt; locks.holds(5, &table), Some(Mode::IS));
     locks.free_all(2);
     locks.free_all(9);
-    assert_eq!(rt; told(alloc, &locks.ask(5, &table, Mode::X)?)?.as_str(), "granted");
+    assert_eq!(rt;
+        told(alloc, &locks.ask(5, &table, Mode::X)?)?.as_str(),
+        "granted"
+    );
     assert_eq!(rt; locks.holds(5, &table), Some(Mode::X));
-    assert_eq!(rt; told(alloc, &locks.ask(5, &table, Mode::IS)?)?.as_str(), "granted");
+    assert_eq!(rt;
+        told(alloc, &locks.ask(5, &table, Mode::IS)?)?.as_str(),
+        "granted"
+    );
     assert_eq!(rt; locks.holds(5, &table), Some(Mode::X));
     assert_eq!(rt; locks.holds(2, &table), None);
     Ok(())
@@ -81,8 +96,14 @@ fn freeing_takes_what_the_owner_holds(rt: HostRuntime) -> Result<(), Fail> {
     let alloc = rt.alloc();
     let mut locks = LockTable::new(alloc);
     for number in 0..40 {
-        assert_eq!(rt; told(alloc, &locks.ask(7, &row(alloc, number)?, Mode::S)?)?.as_str(), "granted");
-        assert_eq!(rt; told(alloc, &locks.ask(8, &row(alloc, number)?, Mode::S)?)?.as_str(), "granted");
+        assert_eq!(rt;
+            told(alloc, &locks.ask(7, &row(alloc, number)?, Mode::S)?)?.as_str(),
+            "granted"
+        );
+        assert_eq!(rt;
+            told(alloc, &locks.ask(8, &row(alloc, number)?, Mode::S)?)?.as_str(),
+            "granted"
+        );
     }
     locks.free_all(6);
     locks.free_all(7);
