@@ -1,9 +1,8 @@
 //! The top call.
 
-ghost use Rattle.std.specs.Prelude.{◌≡◌, ◌≤◌, IfOk, map};
+ghost use Rattle.std.specs.Prelude.{◌≡◌, IfOk, map};
 ghost use Rattle.std.specs.Option.{option_map};
-ghost use Rattle.bf_io.specs.Causes.{Rose};
-ghost use Rattle.bf_run.specs.Outcome.{Comes, IsTextOf, Wrote, FindsReport};
+ghost use Rattle.bf_run.specs.Outcome.{IsAnswer, Ends, FindsReport};
 
 use crate::parse::read_script;
 use crate::serve::serve;
@@ -34,10 +33,9 @@ fn answer<I: Source>(
     words: &[&str],
     input: &mut I,
 ) -> Result<(Status, Vec<u8>), Memory>
-    ensures comes { IfOk result (λ a. Comes (map (λ w. w.now) words.now) (I.left input.old) (I.left input.new)
-        (Rose (I.faults input.old) (I.faults input.new)) ⊥ a.0) }
-    ensures text { IfOk result (λ a. IsTextOf (I.left input.old) a.0 a.1.items) }
-    ensures later { I.faults input.old ≤ I.faults input.new }
+    ensures { IfOk result (λ a. IsAnswer (map (λ word. word.now) words.now)
+        (record { bytes = I.left input.old; bytes_after = I.left input.new;
+                  faults = I.faults input.old; faults_after = I.faults input.new }) a.0 a.1.items) }
 {
     if !are_try(words) {
         return Ok((Status::Usage, Vec::from_slice(alloc, b"usage error\n")?));
@@ -66,14 +64,11 @@ pub fn bullfrog<I: Source, O: Sink>(
     input: &mut I,
     output: &mut O,
 ) -> Status
-    // At Done the input is a script, and what is written is the report of a legal run of it.
-    ensures report_written { Wrote (map (λ w. w.now) words.now) (I.left input.old) (I.left input.new)
-        (Rose (I.faults input.old) (I.faults input.new)) (Rose (O.faults output.old) (O.faults output.new))
-        (O.taken output.old) (O.taken output.new) result }
-
-    // Each status comes exactly where it says.
-    ensures causes { Comes (map (λ w. w.now) words.now) (I.left input.old) (I.left input.new)
-        (Rose (I.faults input.old) (I.faults input.new)) (Rose (O.faults output.old) (O.faults output.new)) result }
+    ensures { Ends (map (λ word. word.now) words.now)
+        (record { bytes = I.left input.old; bytes_after = I.left input.new;
+                  faults = I.faults input.old; faults_after = I.faults input.new })
+        (record { bytes = O.taken output.old; bytes_after = O.taken output.new;
+                  faults = O.faults output.old; faults_after = O.faults output.new }) result }
 {
     let Ok((status, text)) = answer(alloc, words, input) else {
         return Status::Memory;

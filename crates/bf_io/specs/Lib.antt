@@ -1,0 +1,4 @@
+pub mod Causes
+pub mod SinkState
+pub mod SourceState
+pub mod Whole
