@@ -1,3 +1,4 @@
+pub mod Judgement
 pub mod LockNames
 pub mod Locks
 pub mod Modes

@@ -18,8 +18,12 @@ Holders = BTreeMap LockName (BTreeMap ℕ Mode)
 abbrev pub locks_of : Holders → Locks
 locks_of holders = from_entries (flat_map (λ entry. map (λ holder. ((entry.0, holder.0), holder.1)) entry.1.entries) holders.entries)
 
+-- the owner's list has the name
+abbrev pub IsListed : BTreeMap ℕ (Vec LockName) → ℕ → LockName → Type 0
+IsListed owned owner name = IsSomeAnd (tree.get nat_cmp owned owner) (λ names. Contains names.items name)
+
 -- the holders are in the names' order and conflict nowhere, and each owner's list has each name that it holds
 pub record IsSound (holders : Holders) (owned : BTreeMap ℕ (Vec LockName)) : Type 0 where
   pub ordered : tree.IsOrdered lock_name_cmp holders
   pub consistent : IsConsistent (locks_of holders)
-  pub listed : (name : LockName) (owner : ℕ) → IsSome (held (locks_of holders) name owner) → IsSomeAnd (tree.get nat_cmp owned owner) (λ names. Contains names.items name)
+  pub listed : (name : LockName) (owner : ℕ) → IsSome (held (locks_of holders) name owner) → IsListed owned owner name

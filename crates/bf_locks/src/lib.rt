@@ -2,6 +2,8 @@
 #![tactic(auto)]
 
 pub mod answer;
+mod holdings;
+mod judgement;
 pub mod mode;
 pub mod name;
 pub mod table;

@@ -1,13 +1,15 @@
 //! The lock table.
 
-ghost use Rattle.std.specs.Prelude.{◌≡◌, IfOk, OnErr};
-ghost use Rattle.std.specs.FinMap.{empty};
+ghost use Rattle.std.specs.Prelude.{◌≡◌, false, IfOk, OnOk, OnErr, IsSome};
+ghost use Rattle.std.specs.FinMap as map;
 ghost use Rattle.bf_locks.specs.Locks.{held, IsConsistent, IsJudged, after, without_owner};
 
 use crate::answer::LockAnswer;
-use crate::mode::{Mode, compatible, join};
+use crate::holdings::{free_each, list, put};
+use crate::judgement::{joined, judge, mode_among};
+use crate::mode::Mode;
 use crate::name::LockName;
-use bf_base::{Memory, Sequence};
+use bf_base::Memory;
 use std::alloc::Global;
 use std::collections::BTreeMap;
 use std::marker::Model;
@@ -46,7 +48,7 @@ impl Model for LockTable {
 impl LockTable {
     /// A table in which nothing is held. Takes no memory.
     pub fn new(alloc: Global) -> LockTable
-        ensures empty { result ≡ empty }
+        ensures empty { result ≡ map.empty }
         ensures consistent { IsConsistent result }
     {
         LockTable {
@@ -72,15 +74,14 @@ impl LockTable {
     {
         let holders = self.holders.get(name);
         let before = mode_among(holders, owner);
-        let wanted = match before {
-            Some(before) => join(before, mode),
-            None => mode,
-        };
-        let answer = judge(self.alloc, holders, owner, wanted)?;
-        if let LockAnswer::Granted = &answer {
-            self.grant(owner, name, wanted, before.is_none())?;
+        let wanted = joined(before, mode);
+        match judge(self.alloc, holders, owner, wanted)? {
+            LockAnswer::Granted => {
+                self.grant(owner, name, wanted, before.is_none())?;
+                Ok(LockAnswer::Granted)
+            }
+            refused => Ok(refused),
         }
-        Ok(answer)
     }
 
     /// Frees all that an owner holds. Takes no memory.
@@ -92,9 +93,7 @@ impl LockTable {
         ensures consistent { IsConsistent self.new }
     {
         if let Some(names) = self.owned.remove(&owner) {
-            for name in names {
-                free(&mut self.holders, &name, owner);
-            }
+            free_each(&mut self.holders, names, owner);
         }
     }
 
@@ -115,114 +114,15 @@ impl LockTable {
         name: &LockName,
         mode: Mode,
         is_new: bool,
-    ) -> Result<(), Memory> {
+    ) -> Result<(), Memory>
+        requires consistent { IsConsistent (map.insert self.old (name.now, owner) mode) }
+        requires listed { is_new ≡ false → IsSome (held self.old name.now owner) }
+        ensures granted { OnOk result (self.new ≡ map.insert self.old (name.now, owner) mode) }
+        ensures memory { OnErr result (self.new ≡ self.old) }
+    {
         if is_new {
             list(self.alloc, &mut self.owned, owner, name)?;
         }
         put(self.alloc, &mut self.holders, name, owner, mode)
-    }
-}
-
-// The mode of an owner among the holders of a name, if there are some.
-fn mode_among(holders: Option<&BTreeMap<u64, Mode>>, owner: u64) -> Option<Mode> {
-    match holders {
-        Some(holders) => holders.get(&owner).copied(),
-        None => None,
-    }
-}
-
-// The answer to an owner that wants to hold a name in a mode, among its holders.
-fn judge(
-    alloc: Global,
-    holders: Option<&BTreeMap<u64, Mode>>,
-    owner: u64,
-    wanted: Mode,
-) -> Result<LockAnswer, Memory> {
-    let Some(holders) = holders else {
-        return Ok(LockAnswer::Granted);
-    };
-    match oldest_conflict(holders, owner, wanted) {
-        None => Ok(LockAnswer::Granted),
-        Some(oldest) if oldest < owner => Ok(LockAnswer::Die(oldest)),
-        Some(_) => {
-            let others = conflicts(alloc, holders, owner, wanted)?;
-            Ok(LockAnswer::Wait(Sequence::of(others)))
-        }
-    }
-}
-
-// Puts an owner among the holders of a name, in a mode.
-fn put(
-    alloc: Global,
-    holders: &mut BTreeMap<LockName, BTreeMap<u64, Mode>>,
-    name: &LockName,
-    owner: u64,
-    mode: Mode,
-) -> Result<(), Memory> {
-    if let Some(those) = holders.get_mut(name) {
-        those.insert(owner, mode)?;
-        return Ok(());
-    }
-    let mut those = BTreeMap::new(alloc);
-    those.insert(owner, mode)?;
-    holders.insert(name.copy(alloc)?, those)?;
-    Ok(())
-}
-
-// Adds a name to an owner's list.
-fn list(
-    alloc: Global,
-    owned: &mut BTreeMap<u64, Vec<LockName>>,
-    owner: u64,
-    name: &LockName,
-) -> Result<(), Memory> {
-    let name = name.copy(alloc)?;
-    if let Some(names) = owned.get_mut(&owner) {
-        names.push(name)?;
-        return Ok(());
-    }
-    let mut names = Vec::new(alloc);
-    names.push(name)?;
-    owned.insert(owner, names)?;
-    Ok(())
-}
-
-// Whether a holder conflicts with an owner that wants to hold the name in a mode.
-fn is_conflict(other: u64, theirs: Mode, owner: u64, wanted: Mode) -> bool {
-    other != owner && !compatible(theirs, wanted)
-}
-
-fn oldest_conflict(holders: &BTreeMap<u64, Mode>, owner: u64, wanted: Mode) -> Option<u64> {
-    for (other, theirs) in holders {
-        if is_conflict(*other, *theirs, owner, wanted) {
-            return Some(*other);
-        }
-    }
-    None
-}
-
-// The owners that conflict, rising.
-fn conflicts(
-    alloc: Global,
-    holders: &BTreeMap<u64, Mode>,
-    owner: u64,
-    wanted: Mode,
-) -> Result<Vec<u64>, Memory> {
-    let mut others = Vec::new(alloc);
-    for (other, theirs) in holders {
-        if is_conflict(*other, *theirs, owner, wanted) {
-            others.push(*other)?;
-        }
-    }
-    Ok(others)
-}
-
-// Takes an owner from the holders of a name, and the name away where nobody holds it then.
-fn free(holders: &mut BTreeMap<LockName, BTreeMap<u64, Mode>>, name: &LockName, owner: u64) {
-    if let Some(those) = holders.get_mut(name) {
-        those.remove(&owner);
-        if those.is_empty() {
-            holders.remove(name);
-        }
     }
 }
