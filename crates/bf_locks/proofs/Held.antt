@@ -32,6 +32,23 @@ insert_cases locks name owner mode at by =
       | inr is_not ↦ inr (new ∙ cond-false _ _ _ is_not)
     ]
 
+-- after a removal, a pair is not held where it is the one removed, and else as before
+pub remove_cases : (locks : Locks) (name : LockName) (owner : ℕ) (at : LockName) (by : ℕ)
+    → ((at ≡ name) × (by ≡ owner) × (held (map.remove locks (name, owner)) at by ≡ None)) ⊎ (held (map.remove locks (name, owner)) at by ≡ held locks at by)
+remove_cases locks name owner at by =
+    let new = get-remove holding_cmp_total locks (name, owner) (at, by) in
+    elim (cases_Bool (eq_by_cmp holding_cmp (at, by) (name, owner))) [
+      | inl is ↦
+        let same : ◌≡◌ {A = Holding} (at, by) (name, owner) = tells_apart holding_cmp-IsAntisymmetric (at, by) (name, owner) is in
+        inl (ap (λ (h : Holding). h.0) same, ap (λ (h : Holding). h.1) same, new ∙ cond-true _ _ _ is)
+      | inr is_not ↦ inr (new ∙ cond-false _ _ _ is_not)
+    ]
+
+-- the pair that is removed is not held
+pub held_removed : (locks : Locks) (name : LockName) (owner : ℕ) → held (map.remove locks (name, owner)) name owner ≡ None
+held_removed locks name owner =
+    get-remove holding_cmp_total locks (name, owner) (name, owner) ∙ cond-true _ _ _ ((eq_by_cmp_equiv holding_cmp_total).refl (name, owner))
+
 -- the pair that is inserted has its mode
 pub held_inserted : (locks : Locks) (name : LockName) (owner : ℕ) (mode : Mode) → held (map.insert locks (name, owner) mode) name owner ≡ Some mode
 held_inserted locks name owner mode =

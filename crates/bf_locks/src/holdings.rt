@@ -61,16 +61,16 @@ pub(crate) fn list(
 /// Takes an owner from the holders of each of some names, which are all that it holds.
 pub(crate) fn free_each(
     holders: &mut BTreeMap<LockName, BTreeMap<u64, Mode>>,
-    names: Vec<LockName>,
+    names: &[LockName],
     owner: u64,
 )
     requires ordered { tree.IsOrdered lock_name_cmp holders.old }
-    requires all { (name : Name) → IsSome (held (locks_of holders.old) name owner) → Contains names.items name }
+    requires all { (name : Name) → IsSome (held (locks_of holders.old) name owner) → Contains names.now name }
     ensures freed { locks_of holders.new ≡ without_owner (locks_of holders.old) owner }
     ensures ordered { tree.IsOrdered lock_name_cmp holders.new }
 {
     for name in names {
-        free(holders, &name, owner);
+        free(holders, name, owner);
     }
 }
 

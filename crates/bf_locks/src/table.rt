@@ -93,7 +93,7 @@ impl LockTable {
         ensures consistent { IsConsistent self.new }
     {
         if let Some(names) = self.owned.remove(&owner) {
-            free_each(&mut self.holders, names, owner);
+            free_each(&mut self.holders, names.as_slice(), owner);
         }
     }
 

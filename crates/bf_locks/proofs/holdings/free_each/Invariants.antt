@@ -1,6 +1,5 @@
-use Rattle.std.proofs.Common.{◌≡◌, ◌≢◌, ℕ, length, IsSome, Contains}
+use Rattle.std.proofs.Common.{◌≡◌, ◌≢◌, ℕ, drop, IsSome, Contains}
 use Rattle.std.specs.BTreeMap as tree
-use Rattle.std.specs.Vec.Iter.{into_iter_items, into_iter_len}
 use Rattle.bf_locks.specs.declared.name.LockName.{LockName}
 use Rattle.bf_locks.specs.LockNames.{lock_name_cmp}
 use Rattle.bf_locks.specs.Locks.{held}
@@ -12,6 +11,5 @@ abbrev pub invariant-loop-name : goal.invariant-loop-name
 invariant-loop-name l = record {
   ordered : tree.IsOrdered lock_name_cmp l.holders;
   others : (name : LockName) (other : ℕ) → other ≢ l.owner → held (locks_of l.holders) name other ≡ held (locks_of l.initial.holders) name other;
-  left : (name : LockName) → IsSome (held (locks_of l.holders) name l.owner) → Contains (into_iter_items l.name-iterator) name;
-  counted : into_iter_len l.name-iterator ≡ length (into_iter_items l.name-iterator);
+  left : (name : LockName) → IsSome (held (locks_of l.holders) name l.owner) → Contains (drop l.name-index l.names) name;
 }
