@@ -79,7 +79,7 @@ sorted_filter test (x ∷ those) sorted = elim (test x) as (λ b. IsStrictlySort
 -- the first of numbers in order is the least
 least_first : (first : ℕ) (rest : List ℕ) (other : ℕ) → IsStrictlySortedBy nat_cmp (first ∷ rest) → Contains (first ∷ rest) other → first ≤ other
 least_first first rest other sorted (zero, within, is) = omega (arith, is)
-least_first first rest other sorted (suc k, within, is) = omega (arith, is, below_from_sorted (first ∷ rest) 0 (suc k) 0 sorted (omega arith) within)
+least_first first rest other sorted (suc k, within, is) = omega (arith, is, below_from_sorted (first ∷ rest) 0 (suc k) other sorted (omega arith) within)
 
 some_and : {A : Type 0} (P : A → Type 0) (o : Option A) → IsSomeAnd o P → (x : A) × (o ≡ Some x) × P x
 some_and P None h = absurd h
