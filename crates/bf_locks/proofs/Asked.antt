@@ -53,10 +53,10 @@ module _ (holders : Holders) (locks : Locks) (view_is : locks_of holders ≡ loc
   pub judged : IfSome found (λ those. tree.IsOrdered nat_cmp those) → (answer : LockAnswer) → answer ≡ answer_for owner (conflicting_among owner mine found) → IsJudged locks owner name mode answer
   judged sorted answer is =
       subst (IsJudged locks owner name mode) (sym (is ∙ ap (λ m. answer_for owner (conflicting_among owner m found)) mine_wanted))
-          (judged_where locks owner name mode found reads_found sorted)
+      (judged_where locks owner name mode found reads_found sorted)
 
   -- and a grant keeps it consistent
   pub granted_consistent : IfSome found (λ those. tree.IsOrdered nat_cmp those) → Granted ≡ answer_for owner (conflicting_among owner mine found) → IsConsistent (locks_of holders) → IsConsistent (map.insert locks (name, owner) mine)
   granted_consistent sorted is consistent =
       subst (λ m. IsConsistent (map.insert locks (name, owner) m)) (sym mine_wanted)
-          (consistent_granted locks owner name mode (judged sorted Granted is) (subst IsConsistent view_is consistent))
+      (consistent_granted locks owner name mode (judged sorted Granted is) (subst IsConsistent view_is consistent))

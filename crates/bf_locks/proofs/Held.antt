@@ -1,7 +1,6 @@
 -- What is held after a grant and after an owner has freed all, and that both keep it consistent.
-use Rattle.std.proofs.Common.{◌≡◌, ◌≢◌, ◌⊎◌, ℕ, Bool, true, false, cond, not, eqb, Option, Some, None, IsTrue, IsSomeAnd, refl, sym, ap, subst, ◌∙◌, inl, inr, arith, rules}
-use Rattle.std.specs.Ordering.{eq_by_cmp, nat_cmp}
-use Rattle.std.specs.declared.cmp.Ordering.TheVariants.{Equal}
+use Rattle.std.proofs.Common.{◌≡◌, ◌≢◌, ◌⊎◌, ℕ, true, false, cond, not, eqb, Some, None, IsSomeAnd, refl, sym, ap, subst, ◌∙◌, inl, inr}
+use Rattle.std.specs.Ordering.{eq_by_cmp}
 use Rattle.std.specs.Cmp.{eq_by_cmp_equiv}
 use Rattle.std.specs.FinMap as map
 use Rattle.std.specs.FinMap.{same_map, get-insert, get-remove, get-empty, get-retain_keys}
@@ -27,8 +26,8 @@ insert_cases locks name owner mode at by =
     let new = get-insert holding_cmp_total locks (name, owner) mode (at, by) in
     elim (cases_Bool (eq_by_cmp holding_cmp (at, by) (name, owner))) [
       | inl is ↦
-        let same : ◌≡◌ {A = Holding} (at, by) (name, owner) = tells_apart holding_cmp-IsAntisymmetric (at, by) (name, owner) is in
-        inl (ap (λ (h : Holding). h.0) same, ap (λ (h : Holding). h.1) same, new ∙ cond-true _ _ _ is)
+          let same : ◌≡◌ {A = Holding} (at, by) (name, owner) = tells_apart holding_cmp-IsAntisymmetric (at, by) (name, owner) is in
+          inl (ap (λ (h : Holding). h.0) same, ap (λ (h : Holding). h.1) same, new ∙ cond-true _ _ _ is)
       | inr is_not ↦ inr (new ∙ cond-false _ _ _ is_not)
     ]
 
@@ -39,8 +38,8 @@ remove_cases locks name owner at by =
     let new = get-remove holding_cmp_total locks (name, owner) (at, by) in
     elim (cases_Bool (eq_by_cmp holding_cmp (at, by) (name, owner))) [
       | inl is ↦
-        let same : ◌≡◌ {A = Holding} (at, by) (name, owner) = tells_apart holding_cmp-IsAntisymmetric (at, by) (name, owner) is in
-        inl (ap (λ (h : Holding). h.0) same, ap (λ (h : Holding). h.1) same, new ∙ cond-true _ _ _ is)
+          let same : ◌≡◌ {A = Holding} (at, by) (name, owner) = tells_apart holding_cmp-IsAntisymmetric (at, by) (name, owner) is in
+          inl (ap (λ (h : Holding). h.0) same, ap (λ (h : Holding). h.1) same, new ∙ cond-true _ _ _ is)
       | inr is_not ↦ inr (new ∙ cond-false _ _ _ is_not)
     ]
 
@@ -112,30 +111,31 @@ module _ (locks : Locks) (owner : ℕ) (name : LockName) (mode : Mode) (none : (
   -- where nobody conflicts, each other holder's mode goes with the wanted one
   goes_with : (other : ℕ) (theirs : Mode) → other ≢ owner → held locks name other ≡ Some theirs → are_compatible theirs (wanted locks owner name mode) ≡ true
   goes_with other theirs apart holds = true_from_ne_false _ (λ against. none other (record {
-      another = apart;
-      against = subst (λ o. IsSomeAnd o (λ theirs. are_compatible theirs (wanted locks owner name mode) ≡ false)) (sym holds) against;
-    }))
+    another = apart;
+    against = subst (λ o. IsSomeAnd o (λ theirs. are_compatible theirs (wanted locks owner name mode) ≡ false)) (sym holds) against;
+  }))
 
   -- a grant where nobody conflicts keeps it consistent
   pub consistent_granted : IsConsistent locks → IsConsistent (after locks owner name mode Granted)
-  consistent_granted consistent = record { apart = λ at one other a b apart first second.
-      let mine = wanted locks owner name mode in
-      elim (insert_cases locks name owner mine at one) [
-        | inl new ↦ elim (insert_cases locks name owner mine at other) [
-          | inl also ↦ absurd (apart (new.1 ∙ sym also.1))
-          | inr kept ↦
-            let theirs : held locks name other ≡ Some b = subst (λ n. held locks n other ≡ Some b) new.0 (sym kept ∙ second) in
-            let mine_is : mine ≡ a = same_Some _ _ (sym new.2 ∙ first) in
-            let other_is : other ≢ owner = λ e. apart (new.1 ∙ sym e) in
-            ap (λ m. are_compatible m b) (sym mine_is) ∙ symmetric mine b ∙ goes_with other b other_is theirs
-        ]
-        | inr kept_one ↦ elim (insert_cases locks name owner mine at other) [
-          | inl new ↦
-            let theirs : held locks name one ≡ Some a = subst (λ n. held locks n one ≡ Some a) new.0 (sym kept_one ∙ first) in
-            let mine_is : mine ≡ b = same_Some _ _ (sym new.2 ∙ second) in
-            let one_is : one ≢ owner = λ e. apart (e ∙ sym new.1) in
-            ap (are_compatible a) (sym mine_is) ∙ goes_with one a one_is theirs
-          | inr kept ↦ consistent.apart at one other a b apart (sym kept_one ∙ first) (sym kept ∙ second)
-        ]
-      ]
-    }
+  consistent_granted consistent = record {
+    apart = λ at one other a b apart first second.
+        let mine = wanted locks owner name mode in
+        elim (insert_cases locks name owner mine at one) [
+          | inl new ↦ elim (insert_cases locks name owner mine at other) [
+            | inl also ↦ absurd (apart (new.1 ∙ sym also.1))
+            | inr kept ↦
+                let theirs : held locks name other ≡ Some b = subst (λ n. held locks n other ≡ Some b) new.0 (sym kept ∙ second) in
+                let mine_is : mine ≡ a = same_Some _ _ (sym new.2 ∙ first) in
+                let other_is : other ≢ owner = λ e. apart (new.1 ∙ sym e) in
+                ap (λ m. are_compatible m b) (sym mine_is) ∙ symmetric mine b ∙ goes_with other b other_is theirs
+          ]
+          | inr kept_one ↦ elim (insert_cases locks name owner mine at other) [
+            | inl new ↦
+                let theirs : held locks name one ≡ Some a = subst (λ n. held locks n one ≡ Some a) new.0 (sym kept_one ∙ first) in
+                let mine_is : mine ≡ b = same_Some _ _ (sym new.2 ∙ second) in
+                let one_is : one ≢ owner = λ e. apart (e ∙ sym new.1) in
+                ap (are_compatible a) (sym mine_is) ∙ goes_with one a one_is theirs
+            | inr kept ↦ consistent.apart at one other a b apart (sym kept_one ∙ first) (sym kept ∙ second)
+          ]
+        ];
+  }

@@ -1,24 +1,23 @@
 -- What is held by holders, read at a name and an owner, and after a change at one name.
-use Rattle.std.proofs.Common.{◌≡◌, ℕ, Bool, true, false, cond, List, [], ◌∷◌, ◌++◌, map, length, Option, Some, None, IsSome, refl, sym, ap, ◌∙◌, inl, inr, arith, rules}
+use Rattle.std.proofs.Common.{◌≡◌, ℕ, Bool, true, false, cond, List, [], ◌∷◌, ◌++◌, map, length, Option, Some, None, refl, sym, ap, ◌∙◌, arith}
 use Rattle.std.specs.List.{flat_map}
 use Rattle.std.specs.List.Sorted.{IsStrictlySortedBy}
 use Rattle.std.specs.Option.{option_and_then, option_or}
 use Rattle.std.specs.Ordering.{eq_by_cmp, is_eq, nat_cmp, ordering_then}
 use Rattle.std.specs.declared.cmp.Ordering.TheVariants.{Less, Equal, Greater}
-use Rattle.std.specs.Cmp.{eq_by_cmp_equiv, nat_cmp_total}
+use Rattle.std.specs.Cmp.{eq_by_cmp_equiv}
 use Rattle.std.specs.FinMap as finite
 use Rattle.std.specs.FinMap.{get-from_entries, get-insert, get-remove, find}
 use Rattle.std.specs.BTreeMap as tree
 use Rattle.std.specs.BTreeMap.{BTreeMap, is_at}
 use Rattle.std.specs.Map.{lookup, keys_of}
-use Rattle.std.proofs.lemmas.Bool.{cases_Bool, cond-true, cond-false}
 use Rattle.std.proofs.lemmas.Map.{lookup-none}
 use Rattle.std.proofs.lemmas.Map.Entries.{none_past_head}
 use Rattle.std.proofs.lemmas.Map.Keys.{sorted_tail, IsDistinct-from_sorted}
 use Rattle.bf_locks.specs.declared.mode.Mode.{Mode}
 use Rattle.bf_locks.specs.declared.name.LockName.{LockName}
 use Rattle.bf_locks.specs.LockNames.{lock_name_cmp, lock_name_cmp_total}
-use Rattle.bf_locks.specs.Locks.{Holding, Locks, holding_cmp, holding_cmp_total, held}
+use Rattle.bf_locks.specs.Locks.{Holding, holding_cmp, holding_cmp_total, held}
 use Rattle.bf_locks.specs.Table.{Holders, locks_of}
 use Rattle.bf_locks.proofs.Ties.{lock_name_cmp-IsAntisymmetric}
 use Rattle.bf_locks.proofs.Held.{same_locks}
@@ -49,7 +48,7 @@ find_of_one name owner at [] = elim (is_eq (lock_name_cmp name at)) as (λ b. �
 find_of_one name owner at (h ∷ those) =
     ap (cond (eq_by_cmp holding_cmp (name, owner) (at, h.0)) (Some h.1)) (find_of_one name owner at those)
     ∙ elim (lock_name_cmp name at) as (λ o. cond (is_eq (ordering_then o (nat_cmp owner h.0))) (Some h.1) (cond (is_eq o) (lookup (is_at (nat_cmp owner)) those) None)
-        ≡ cond (is_eq o) (cond (is_eq (nat_cmp owner h.0)) (Some h.1) (lookup (is_at (nat_cmp owner)) those)) None) [
+    ≡ cond (is_eq o) (cond (is_eq (nat_cmp owner h.0)) (Some h.1) (lookup (is_at (nat_cmp owner)) those)) None) [
       | Less ↦ refl
       | Equal ↦ refl
       | Greater ↦ refl
@@ -73,8 +72,8 @@ find_of_all name owner (e ∷ entries) sorted =
     ∙ ap (option_or (cond (is_eq (lock_name_cmp name e.0)) here None)) rest
     ∙ elim (is_eq (lock_name_cmp name e.0)) as (λ b. is_eq (lock_name_cmp name e.0) ≡ b → option_or (cond b here None) (mode_in later owner) ≡ mode_in (cond b (Some e.1) later) owner) [
       | true ↦ λ is.
-        let none : later ≡ None = lookup-none (is_at (lock_name_cmp name)) entries (none_past_head (eq_by_cmp_equiv lock_name_cmp_total) name e entries (IsDistinct-from_sorted lock_name_cmp (keys_of (e ∷ entries)) sorted) is) in
-        ap (λ o. option_or here (mode_in o owner)) none ∙ or_none here
+          let none : later ≡ None = lookup-none (is_at (lock_name_cmp name)) entries (none_past_head (eq_by_cmp_equiv lock_name_cmp_total) name e entries (IsDistinct-from_sorted lock_name_cmp (keys_of (e ∷ entries)) sorted) is) in
+          ap (λ o. option_or here (mode_in o owner)) none ∙ or_none here
       | false ↦ λ is_not. refl
     ] refl
 

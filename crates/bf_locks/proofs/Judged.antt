@@ -1,26 +1,22 @@
 -- The answer that the holders of a name give is the one that wait-die gives.
-use Rattle.std.proofs.Common.{◌≡◌, ◌≢◌, ◌↔◌, ◌⊎◌, ℕ, zero, suc, ◌+◌, ◌<◌, ◌≤◌, Bool, true, false, cond, not, eqb, ltb, ◌&&◌, List, [], ◌∷◌, map, filter, length, get_or, Option, Some, None, IsSomeAnd, Contains, refl, sym, ap, subst, ◌∙◌, inl, inr, arith, rules}
+use Rattle.std.proofs.Common.{◌≡◌, ◌≢◌, ◌⊎◌, ℕ, zero, suc, ◌≤◌, Bool, true, false, cond, not, eqb, ltb, ◌&&◌, List, [], ◌∷◌, map, filter, Option, Some, None, IsSomeAnd, Contains, refl, sym, ap, subst, ◌∙◌, inl, inr, arith}
 use Rattle.std.specs.List.{AllByRecursion}
-use Rattle.std.specs.List.Sorted.{IsStrictlySortedBy, IsStrictlyIncreasing}
-use Rattle.std.specs.Option.{option_map_or}
+use Rattle.std.specs.List.Sorted.{IsStrictlySortedBy}
 use Rattle.std.specs.Ordering.{nat_cmp, eq_by_cmp}
-use Rattle.std.specs.declared.cmp.Ordering.{Ordering}
-use Rattle.std.specs.declared.cmp.Ordering.TheVariants.{Less, Equal, Greater}
+use Rattle.std.specs.declared.cmp.Ordering.TheVariants.{Less}
 use Rattle.std.specs.Cmp.{nat_cmp_total, eq_by_cmp_equiv}
 use Rattle.std.specs.FinMap.{nat_cmp-IsAntisymmetric}
-use Rattle.std.specs.BTreeMap as tree
-use Rattle.std.specs.BTreeMap.{BTreeMap, is_at}
+use Rattle.std.specs.BTreeMap.{is_at}
 use Rattle.std.specs.Map.{lookup, keys_of}
-use Rattle.std.proofs.lemmas.Bool.{cases_Bool, and_parts, not-true, eqb-false, ne_eqb, ltb-true, ltb-false, cond-true, cond-false}
-use Rattle.std.proofs.lemmas.Map.Keys.{sorted_head, sorted_tail, IsDistinct-from_sorted, IsStrictlyIncreasing-from_sorted, below_from_sorted}
+use Rattle.std.proofs.lemmas.Bool.{and_parts, not-true, eqb-false, ne_eqb, ltb-true, ltb-false}
+use Rattle.std.proofs.lemmas.Map.Keys.{IsDistinct-from_sorted, IsStrictlyIncreasing-from_sorted, below_from_sorted}
 use Rattle.std.proofs.lemmas.Map.Views.{Contains-from_lookup, lookup-from_Contains, tells_apart}
 use Rattle.bf_locks.specs.declared.mode.Mode.{Mode}
 use Rattle.bf_locks.specs.declared.name.LockName.{LockName}
-use Rattle.bf_locks.specs.declared.answer.LockAnswer.TheVariants.{Granted, Wait, Die}
+use Rattle.bf_locks.specs.declared.answer.LockAnswer.TheVariants.{Wait, Die}
 use Rattle.bf_locks.specs.Modes.{are_compatible}
-use Rattle.bf_locks.specs.Judgement.{is_conflict, conflicting, conflicting_among, answer_for}
-use Rattle.bf_locks.specs.Locks.{Locks, held, wanted, Conflicts, Dies, Waits, IsJudged}
-use Rattle.bf_locks.proofs.Holders.{mode_in}
+use Rattle.bf_locks.specs.Judgement.{is_conflict, conflicting, answer_for}
+use Rattle.bf_locks.specs.Locks.{Locks, held, wanted, Conflicts, IsJudged}
 
 contains_here : {A : Type 0} (x : A) (xs : List A) → Contains (x ∷ xs) x
 contains_here x xs = (0, omega arith, refl)
@@ -50,11 +46,11 @@ passing_owner : (test : ℕ × Mode → Bool) (those : List (ℕ × Mode)) (owne
 passing_owner test [] owner at = absurd (omega (arith, at.1))
 passing_owner test (x ∷ those) owner at =
     elim (test x) as (λ b. test x ≡ b → Contains (map (λ (h : ℕ × Mode). h.0) (cond b (x ∷ filter test those) (filter test those))) owner
-        → (mode : Mode) × Contains (x ∷ those) (owner, mode) × (test (owner, mode) ≡ true)) [
+    → (mode : Mode) × Contains (x ∷ those) (owner, mode) × (test (owner, mode) ≡ true)) [
       | true ↦ λ is at. elim (contains_cases x.0 _ owner at) [
         | inl here ↦
-          let same : ◌≡◌ {A = ℕ × Mode} x (owner, x.1) = ap (λ (o : ℕ). (o, x.1)) here in
-          (x.1, subst (Contains (x ∷ those)) same (contains_here x those), sym (ap test same) ∙ is)
+            let same : ◌≡◌ {A = ℕ × Mode} x (owner, x.1) = ap (λ (o : ℕ). (o, x.1)) here in
+            (x.1, subst (Contains (x ∷ those)) same (contains_here x those), sym (ap test same) ∙ is)
         | inr later ↦ let found = passing_owner test those owner later in (found.0, contains_later x those (owner, found.0) found.1, found.2)
       ]
       | false ↦ λ is_not at. let found = passing_owner test those owner at in (found.0, contains_later x those (owner, found.0) found.1, found.2)
@@ -96,8 +92,8 @@ module _ (locks : Locks) (owner : ℕ) (name : LockName) (mode : Mode) (those : 
       let mine = wanted locks owner name mode in
       let theirs = some_and (λ theirs. are_compatible theirs mine ≡ false) _ conflict.against in
       owner_passes (is_conflict owner mine) those (other, theirs.0)
-          (Contains-from_lookup {eq = eq_by_cmp nat_cmp} (tells_apart nat_cmp-IsAntisymmetric) other theirs.0 those (sym (reads other) ∙ theirs.1))
-          (conflict_test owner other mine theirs.0 conflict.another theirs.2)
+      (Contains-from_lookup {eq = eq_by_cmp nat_cmp} (tells_apart nat_cmp-IsAntisymmetric) other theirs.0 those (sym (reads other) ∙ theirs.1))
+      (conflict_test owner other mine theirs.0 conflict.another theirs.2)
 
   listed_conflict : (other : ℕ) → Contains (conflicting owner (wanted locks owner name mode) those) other → Conflicts locks owner name mode other
   listed_conflict other at =

@@ -1,5 +1,5 @@
 -- A graph of waits rises along each edge, so it has no cycle.
-use Rattle.std.proofs.Common.{◌≡◌, ℕ, ◌<◌, List, [], ◌∷◌, Contains, get_or, subst, arith}
+use Rattle.std.proofs.Common.{ℕ, ◌<◌, List, [], ◌∷◌, Contains, subst, arith}
 use Rattle.bf_locks.specs.Waits.{Graph, WaitsFor, IsMadeByAnswers, Leads, HasCycle}
 
 waits_rise : (waiting named : ℕ) → WaitsFor waiting named → waiting < named

@@ -1,5 +1,5 @@
 -- That a lock table stays sound when it grants and when it frees.
-use Rattle.std.proofs.Common.{◌≡◌, ◌≢◌, ℕ, Option, Some, None, IsSome, IsSomeAnd, Contains, Result, Ok, Err, OnOk, OnErr, refl, sym, ap, subst, ◌∙◌, inl, inr}
+use Rattle.std.proofs.Common.{◌≡◌, ◌≢◌, ℕ, IsSome, IsSomeAnd, Contains, Result, Ok, Err, OnOk, OnErr, sym, ap, subst, ◌∙◌, inl, inr}
 use Rattle.std.specs.Global.{Vec}
 use Rattle.std.specs.FinMap as map
 use Rattle.std.specs.BTreeMap as tree
@@ -9,7 +9,7 @@ use Rattle.std.proofs.lemmas.Bool.{cases_eq, false≢true}
 use Rattle.bf_locks.specs.declared.mode.Mode.{Mode}
 use Rattle.bf_locks.specs.declared.name.LockName.{LockName}
 use Rattle.bf_locks.specs.LockNames.{lock_name_cmp}
-use Rattle.bf_locks.specs.Locks.{Locks, held, IsConsistent, without_owner}
+use Rattle.bf_locks.specs.Locks.{held, IsConsistent, without_owner}
 use Rattle.bf_locks.specs.Table.{Holders, locks_of, IsListed, IsSound}
 use Rattle.bf_locks.proofs.Held.{insert_cases, consistent_without, held_without_own, held_without_other}
 

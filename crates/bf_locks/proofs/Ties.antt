@@ -1,5 +1,5 @@
 -- Only equal lock names tie, and only equal pairs of a name and an owner.
-use Rattle.std.proofs.Common.{◌≡◌, ℕ, List, [], refl, ap}
+use Rattle.std.proofs.Common.{◌≡◌, ℕ, List, refl, ap}
 use Rattle.std.specs.declared.cmp.Ordering.{Ordering}
 use Rattle.std.specs.declared.cmp.Ordering.TheVariants.{Less, Equal, Greater}
 use Rattle.std.specs.Ordering.{ordering_then, nat_cmp}
@@ -10,7 +10,7 @@ use Rattle.bf_base.specs.Values.{key_cmp, key_cmp-IsAntisymmetric}
 use Rattle.bf_locks.specs.declared.name.LockName.{LockName}
 use Rattle.bf_locks.specs.declared.name.LockName.TheVariants.{Catalog, Whole, One}
 use Rattle.bf_locks.specs.LockNames.{lock_name_cmp}
-use Rattle.bf_locks.specs.Locks.{Holding, holding_cmp}
+use Rattle.bf_locks.specs.Locks.{holding_cmp}
 
 -- where two comparisons in turn tie, each does
 both_tie : (a b : Ordering) → ordering_then a b ≡ Equal → (a ≡ Equal) × (b ≡ Equal)

@@ -1,5 +1,5 @@
 -- How a lock table is kept: the holders of each name, and the names of each owner.
-use Rattle.std.specs.Prelude.{◌≡◌, ℕ, List, map, flat_map, IsSome, Some, Contains, IsSomeAnd}
+use Rattle.std.specs.Prelude.{ℕ, map, flat_map, IsSome, Contains, IsSomeAnd}
 use Rattle.std.specs.Global.{Vec}
 use Rattle.std.specs.FinMap.{from_entries}
 use Rattle.std.specs.BTreeMap as tree
@@ -8,7 +8,7 @@ use Rattle.std.specs.Ordering.{nat_cmp}
 use Rattle.bf_locks.specs.declared.mode.Mode.{Mode}
 use Rattle.bf_locks.specs.declared.name.LockName.{LockName}
 use Rattle.bf_locks.specs.LockNames.{lock_name_cmp}
-use Rattle.bf_locks.specs.Locks.{Holding, Locks, held, IsConsistent}
+use Rattle.bf_locks.specs.Locks.{Locks, held, IsConsistent}
 
 -- the holders of each name that is held: their modes by owner
 abbrev pub Holders : Type 0

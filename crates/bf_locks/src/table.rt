@@ -108,13 +108,7 @@ impl LockTable {
 
     // Lets an owner hold a name in a mode, in place of the one in which it held it before. The
     // name comes on the owner's list first, where it is new there.
-    fn grant(
-        &mut self,
-        owner: u64,
-        name: &LockName,
-        mode: Mode,
-        is_new: bool,
-    ) -> Result<(), Memory>
+    fn grant(&mut self, owner: u64, name: &LockName, mode: Mode, is_new: bool) -> Result<(), Memory>
         requires consistent { IsConsistent (map.insert self.old (name.now, owner) mode) }
         requires listed { is_new ≡ false → IsSome (held self.old name.now owner) }
         ensures granted { OnOk result (self.new ≡ map.insert self.old (name.now, owner) mode) }

@@ -19,4 +19,4 @@ loop-name-preserved c =
 pub returns-clause-freed : goal.returns-clause-freed
 returns-clause-freed c =
     all_freed (locks_of c.args.holders.now) (locks_of c.loop-name.holders) c.args.owner c.loop-name.invariant.others
-        (λ at some. none_left c.args.names.now c.loop-name.name-index at c.loop-name-test.false (c.loop-name.invariant.left at some))
+    (λ at some. none_left c.args.names.now c.loop-name.name-index at c.loop-name-test.false (c.loop-name.invariant.left at some))

@@ -1,6 +1,5 @@
-use Rattle.std.proofs.Common.{Some, IsSome, sym, ap, subst, ◌∙◌}
+use Rattle.std.proofs.Common.{IsSome, sym, ap, subst, ◌∙◌}
 use Rattle.std.proofs.lemmas.Bool.{false≢true}
-use Rattle.std.specs.FinMap as map
 use Rattle.std.specs.FinMap.{get-empty}
 use Rattle.bf_locks.specs.Locks.{IsConsistent, held, holding_cmp}
 use Rattle.bf_locks.proofs.Held.{consistent_empty}
