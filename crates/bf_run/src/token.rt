@@ -1,7 +1,7 @@
 //! Tokens.
 
 ghost use Rattle.std.specs.Prelude.{◌≡◌};
-ghost use Rattle.bf_run.specs.Lexing.{sign_of};
+ghost use Rattle.bf_run.specs.Tokens.{is_word, is_sign};
 
 use bf_base::Name;
 
@@ -22,4 +22,28 @@ pub enum Token {
     Word(Name),
     Number(u64),
     Sign(Sign),
+}
+
+impl Token {
+    /// Whether it is this word, which is given in lower case.
+    pub fn is_word(&self, word: &[u8]) -> bool
+        ensures { result ≡ is_word word.now self.now }
+    {
+        match self {
+            Token::Word(name) => name.as_bytes() == word,
+            Token::Number(_) => false,
+            Token::Sign(_) => false,
+        }
+    }
+
+    /// Whether it is this sign.
+    pub fn is_sign(&self, sign: Sign) -> bool
+        ensures { result ≡ is_sign sign self.now }
+    {
+        match self {
+            Token::Sign(own) => *own == sign,
+            Token::Word(_) => false,
+            Token::Number(_) => false,
+        }
+    }
 }

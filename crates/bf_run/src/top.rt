@@ -34,8 +34,12 @@ fn answer<I: Source>(
     input: &mut I,
 ) -> Result<(Status, Vec<u8>), Memory>
     ensures { IfOk result (λ a. IsAnswer (map (λ word. word.now) words.now)
-        (record { bytes = I.left input.old; bytes_after = I.left input.new;
-                  faults = I.faults input.old; faults_after = I.faults input.new }) a.0 a.1.items) }
+        (record {
+          bytes = I.left input.old;
+          bytes_after = I.left input.new;
+          faults = I.faults input.old;
+          faults_after = I.faults input.new;
+        }) a.0 a.1.items) }
 {
     if !are_try(words) {
         return Ok((Status::Usage, Vec::from_slice(alloc, b"usage error\n")?));
@@ -65,10 +69,18 @@ pub fn bullfrog<I: Source, O: Sink>(
     output: &mut O,
 ) -> Status
     ensures { Ends (map (λ word. word.now) words.now)
-        (record { bytes = I.left input.old; bytes_after = I.left input.new;
-                  faults = I.faults input.old; faults_after = I.faults input.new })
-        (record { bytes = O.taken output.old; bytes_after = O.taken output.new;
-                  faults = O.faults output.old; faults_after = O.faults output.new }) result }
+        (record {
+          bytes = I.left input.old;
+          bytes_after = I.left input.new;
+          faults = I.faults input.old;
+          faults_after = I.faults input.new;
+        })
+        (record {
+          bytes = O.taken output.old;
+          bytes_after = O.taken output.new;
+          faults = O.faults output.old;
+          faults_after = O.faults output.new;
+        }) result }
 {
     let Ok((status, text)) = answer(alloc, words, input) else {
         return Status::Memory;
@@ -78,3 +90,6 @@ pub fn bullfrog<I: Source, O: Sink>(
         Err(_) => Status::WriteFault,
     }
 }
+
+#[cfg(test)]
+mod tests;

@@ -1,0 +1,7 @@
+mod FirstRefusals
+pub mod Kept
+pub mod Keys
+mod RowThree
+pub mod Same
+pub mod Spelling
+pub mod Unobjected

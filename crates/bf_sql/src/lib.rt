@@ -2,6 +2,7 @@
 #![tactic(auto)]
 
 pub mod history;
+pub mod laws;
 pub mod reply;
 pub mod statement;
 

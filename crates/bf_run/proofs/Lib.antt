@@ -1,0 +1,9 @@
+pub mod Fields
+pub mod Inserted
+pub mod Legal
+pub mod Lexed
+pub mod Meant
+pub mod Numbers
+pub mod Parsed
+pub mod Placing
+pub mod Told

@@ -1,0 +1,15 @@
+//! The top call: from the bytes of a script to the printed report of its run.
+#![tactic(auto)]
+
+pub mod engine;
+pub mod lex;
+pub mod parse;
+pub mod serve;
+pub mod status;
+pub mod text;
+pub mod token;
+pub mod top;
+pub mod words;
+
+pub use status::Status;
+pub use top::bullfrog;

@@ -1,0 +1,130 @@
+ghost use Rattle.std.specs.Prelude.{Some};
+
+use super::*;
+use bf_io::{CalmSource, IoError, MemorySink, MemorySource};
+use std::test::Fail;
+
+const START: &str = "PHASE; SESSION; CREATE TABLE t (id INT, PRIMARY KEY (id)); ";
+
+/// The status of a call on a script behind the start, and what it wrote.
+fn call(alloc: Global, words: &[&str], script: &str) -> Result<(Status, Vec<u8>), Memory> {
+    let mut text = Vec::from_slice(alloc, START.as_bytes())?;
+    text.extend_from_slice(script.as_bytes())?;
+    let mut input = CalmSource::new(text);
+    let mut output = MemorySink::new(alloc, 4096, Vec::new(alloc))?;
+    let status = bullfrog(alloc, words, &mut input, &mut output);
+    Ok((status, Vec::from_slice(alloc, output.bytes())?))
+}
+
+#[test]
+fn prints_the_replies_and_the_history(rt: HostRuntime) -> Result<(), Fail> {
+    let alloc = rt.alloc();
+    let script =
+        "INSERT INTO t VALUES (3); INSERT INTO t VALUES (1); INSERT INTO t VALUES (2); SELECT * FROM t;";
+    let (status, text) = call(alloc, &["try"], script)?;
+    assert_eq!(rt; status, Status::Done);
+    let wanted =
+        "1.1 created\n1.2 inserted 1\n1.3 inserted 1\n1.4 inserted 1\n1.5 rows 3\n1.5 | 1\n1.5 | 2\n1.5 | 3\n\
+entry 1 session 1 from 1 to 1 committed 1\nentry 2 session 1 from 2 to 2 committed 2\n\
+entry 3 session 1 from 3 to 3 committed 3\nentry 4 session 1 from 4 to 4 committed 4\n\
+entry 5 session 1 from 5 to 5 committed 5\nend commits 5 migration none\n";
+    assert_eq!(rt; text.as_slice(), wanted.as_bytes());
+    let script = "INSERT INTO t VALUES (3); INSERT INTO t VALUES (3); SELECT * FROM u;";
+    let (status, text) = call(alloc, &["try"], script)?;
+    assert_eq!(rt; status, Status::Done);
+    let wanted = "1.1 created\n1.2 inserted 1\n1.3 E4 duplicate key (3)\n1.4 E1 no table u\n\
+entry 1 session 1 from 1 to 1 committed 1\nentry 2 session 1 from 2 to 2 committed 2\n\
+entry 3 session 1 from 3 to 3 committed 3\nentry 4 session 1 from 4 to 4 committed 4\n\
+end commits 4 migration none\n";
+    assert_eq!(rt; text.as_slice(), wanted.as_bytes());
+    Ok(())
+}
+
+#[test]
+fn refuses_other_words_and_other_forms(rt: HostRuntime) -> Result<(), Fail> {
+    let alloc = rt.alloc();
+    let none: [&str; 0] = [];
+    let usage = b"usage error\n".as_slice();
+    for words in [none.as_slice(), &["go"], &["TRY"], &["try", "try"], &[""]] {
+        let (status, text) = call(alloc, words, "")?;
+        assert_eq!(rt; status, Status::Usage);
+        assert_eq!(rt; text.as_slice(), usage);
+    }
+    for script in [
+        "SELECT * FROM",
+        "BEGIN;",
+        "-- a comment",
+        "INSERT INTO t VALUES ('a');",
+        "\x00",
+    ] {
+        let (status, text) = call(alloc, &["try"], script)?;
+        assert_eq!(rt; status, Status::NotBuilt, "{script:?}");
+        assert_eq!(rt; text.as_slice(), b"not built\n".as_slice());
+    }
+    let mut input = CalmSource::new(Vec::from_slice(alloc, b"PHASE; SESSION;")?);
+    let mut output = MemorySink::new(alloc, 100, Vec::new(alloc))?;
+    let status = bullfrog(alloc, &["try"], &mut input, &mut output);
+    assert_eq!(rt; status.number(), 9);
+    assert_eq!(rt; output.bytes(), b"not built\n".as_slice());
+    Ok(())
+}
+
+// The script is read in one piece, and a second read finds its end.
+#[test]
+fn tells_each_failing_read(rt: HostRuntime) -> Result<(), Fail> {
+    let alloc = rt.alloc();
+    for failing in [1, 2] {
+        let bytes = Vec::from_slice(alloc, START.as_bytes())?;
+        let mut input = MemorySource::new(bytes, vec![in alloc; failing]?);
+        let mut output = MemorySink::new(alloc, 1000, Vec::new(alloc))?;
+        let status = bullfrog(alloc, &["try"], &mut input, &mut output);
+        assert_eq!(rt; status, Status::ReadFault, "at read {failing}");
+        assert_eq!(rt; input.faults(), 1);
+        assert_eq!(rt; output.bytes(), b"read fault\n".as_slice());
+    }
+    let bytes = Vec::from_slice(alloc, START.as_bytes())?;
+    let mut input = MemorySource::new(bytes, vec![in alloc; 3]?);
+    let mut output = MemorySink::new(alloc, 1000, Vec::new(alloc))?;
+    let status = bullfrog(alloc, &["try"], &mut input, &mut output);
+    assert_eq!(rt; status, Status::Done);
+    Ok(())
+}
+
+/// A sink that takes at most 7 bytes at a time.
+#[derive(Drop)]
+struct Narrow {
+    inner: MemorySink,
+}
+
+impl Sink for Narrow {
+    ghost taken = { λ sink. Some sink.inner.taken };
+
+    ghost faults = { λ sink. sink.inner.faults };
+
+    fn write(&mut self, bytes: &[u8]) -> Result<usize, IoError> {
+        self.inner.write(&bytes[..bytes.len().min(7)])
+    }
+}
+
+// The report has 83 bytes, which are twelve writes.
+#[test]
+fn leaves_a_prefix_at_each_failing_write(rt: HostRuntime) -> Result<(), Fail> {
+    let alloc = rt.alloc();
+    let whole =
+        b"1.1 created\nentry 1 session 1 from 1 to 1 committed 1\nend commits 1 migration none\n";
+    for failing in 1..=12u64 {
+        let mut input = CalmSource::new(Vec::from_slice(alloc, START.as_bytes())?);
+        let inner = MemorySink::new(alloc, 1000, vec![in alloc; failing]?)?;
+        let mut output = Narrow { inner };
+        let status = bullfrog(alloc, &["try"], &mut input, &mut output);
+        assert_eq!(rt; status, Status::WriteFault, "at write {failing}");
+        let written = output.inner.bytes();
+        assert_eq!(rt;
+            written.len() as u64,
+            7 * (failing - 1),
+            "at write {failing}"
+        );
+        assert!(rt; whole.starts_with(written), "at write {failing}");
+    }
+    Ok(())
+}

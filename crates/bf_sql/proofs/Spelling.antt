@@ -1,0 +1,54 @@
+-- Short spellings for examples.
+use Rattle.std.specs.Prelude.{ℕ, pos, List, [], ◌∷◌}
+use Rattle.bf_base.specs.declared.value.Value.{Value}
+use Rattle.bf_base.specs.declared.value.Value.TheVariants.{Int}
+use Rattle.bf_base.specs.declared.table.Admit.{Admit}
+use Rattle.bf_base.specs.declared.table.Column.{Column}
+use Rattle.bf_base.specs.declared.table.Table.{Table}
+use Rattle.bf_sql.specs.declared.history.Entry.{Entry}
+use Rattle.bf_sql.specs.declared.history.Outcome.TheVariants.{Committed}
+use Rattle.bf_sql.specs.declared.reply.Cell.{Cell}
+use Rattle.bf_sql.specs.declared.reply.Cell.TheVariants as cells
+use Rattle.bf_sql.specs.declared.statement.ColumnForm.{ColumnForm}
+use Rattle.bf_sql.specs.declared.statement.ColumnRule.{ColumnRule}
+use Rattle.bf_sql.specs.declared.statement.Script.{Script}
+use Rattle.bf_sql.specs.declared.statement.Statement.{Statement}
+use Rattle.bf_sql.specs.Database.{Stored, Database}
+
+-- a list of one item
+abbrev pub one : {X : Type 0} → X → List X
+one x = x ∷ []
+
+-- a row of one number, and one as SELECT gives it
+abbrev pub row : ℕ → List Value
+row n = one (Int (pos n))
+
+abbrev pub given : ℕ → List Cell
+given n = one (cells.Value (Int (pos n)))
+
+abbrev pub rule : List ℕ → ColumnForm → ColumnRule
+rule name form = record { name = name; form = form }
+
+abbrev pub column : List ℕ → Admit → Column
+column name admits = record { name = name; admits = admits }
+
+abbrev pub table : List ℕ → List Column → List ℕ → Table
+table name columns key = record { name = name; columns = columns; key = key }
+
+abbrev pub stored : Table → List (List Value) → Stored
+stored table rows = record { table = table; rows = rows }
+
+abbrev pub database : ℕ → List Stored → Database
+database number tables = record { number = number; tables = tables }
+
+-- a script of one session
+abbrev pub alone : List Statement → Script
+alone statements = record { phases = 1; sessions = one (record { phase = 1; statements = statements }) }
+
+-- statements of session 1, as a commit
+abbrev pub entry : ℕ → ℕ → ℕ → Entry
+entry first last n = record { session = 1; first = first; last = last; outcome = Committed n }
+
+-- a statement of session 1, as the commit of its own number
+abbrev pub commit : ℕ → Entry
+commit n = entry n n n

@@ -1,0 +1,49 @@
+//! `bullfrog try`: runs the script of standard input, and prints its report.
+#![tactic(auto)]
+
+mod reading;
+mod writing;
+
+use bf_run::{Status, bullfrog};
+use reading::Reading;
+use std::alloc::{AllocError, Global};
+use std::env::Env;
+use std::io::ErrorKind;
+use std::process::ExitCode;
+use std::{env, io};
+use writing::Writing;
+
+/// The words behind the program's name.
+fn words<R: Env + AllocGlobal>(rt: &R) -> io::Result<Vec<String>> {
+    let mut words = Vec::new(rt.alloc());
+    for word in env::args(rt)?.skip(1) {
+        words.push(word)?;
+    }
+    Ok(words)
+}
+
+fn texts(alloc: Global, words: &[String]) -> Result<Vec<&str>, AllocError> {
+    words.iter().map(|word| word.as_str()).collect(alloc)
+}
+
+fn serve<R: AllocGlobal + Input + Print>(rt: &R, words: &[&str]) -> Status {
+    let mut source = Reading::new(rt.reader());
+    let mut sink = Writing::new(io::writer(rt));
+    bullfrog(rt.alloc(), words, &mut source, &mut sink)
+}
+
+/// Words that are not UTF-8 are served as none, which are wrong too.
+fn run<R: Env + AllocGlobal + Input + Print>(rt: &R) -> Status {
+    match words(rt) {
+        Ok(words) => match texts(rt.alloc(), words.as_slice()) {
+            Ok(texts) => serve(rt, texts.as_slice()),
+            Err(_) => Status::Memory,
+        },
+        Err(error) if error.kind() == ErrorKind::OutOfMemory => Status::Memory,
+        Err(_) => serve(rt, &[]),
+    }
+}
+
+fn main(rt: HostRuntime) -> ExitCode {
+    ExitCode::from(run(&rt).number())
+}
