@@ -1,6 +1,5 @@
 -- What a statement of the form means on the one table.
-use Rattle.std.proofs.Common.{◌≡◌, ℕ, ℤ, true, false, List, [], ◌∷◌, ◌++◌, map, filter, None, refl, sym, ap, subst, ◌∙◌, IsTrue}
-use Rattle.std.specs.List.{list_all}
+use Rattle.std.proofs.Common.{◌≡◌, ℕ, ℤ, true, false, List, [], ◌∷◌, map, filter, None, refl, sym, ap, subst, ◌∙◌}
 use Rattle.std.proofs.lemmas.Bool.{and_parts, and_from}
 use Rattle.std.proofs.lemmas.List.{append-nil}
 use Rattle.bf_base.specs.declared.value.Value.{Value}
@@ -9,15 +8,14 @@ use Rattle.bf_base.specs.declared.table.Admit.TheVariants as admits
 use Rattle.bf_base.specs.declared.table.Column.{Column}
 use Rattle.bf_base.specs.declared.table.Table.{Table}
 use Rattle.bf_base.specs.Values.{key_cmp, key_cmp_total}
-use Rattle.bf_base.specs.Lists.{same_name, same_key, has, placed, rises}
+use Rattle.bf_base.specs.Lists.{same_name, same_key, has, placed}
 use Rattle.bf_base.specs.Tables.{key_of}
 use Rattle.bf_base.proofs.Order.{rises-placed, list_all-placed}
 use Rattle.bf_sql.specs.declared.statement.List.TheVariants.{All}
 use Rattle.bf_sql.specs.declared.statement.Statement.TheVariants.{Insert, Select}
-use Rattle.bf_sql.specs.declared.reply.Reply.{Reply}
 use Rattle.bf_sql.specs.declared.reply.Reply.TheVariants.{Inserted, Rows, Refused}
 use Rattle.bf_sql.specs.declared.reply.Refusal.TheVariants.{NoTable, DuplicateKey}
-use Rattle.bf_sql.specs.Database.{Database, Stored, IsDatabase, is_admitted}
+use Rattle.bf_sql.specs.Database.{Stored, is_admitted}
 use Rattle.bf_sql.specs.Meaning.{executed, selected}
 use Rattle.bf_run.specs.Engine.{database_of, IsOneColumn, IsServed, IsOneNumber}
 

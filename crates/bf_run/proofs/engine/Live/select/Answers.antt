@@ -1,4 +1,4 @@
-use Rattle.std.proofs.Common.{◌≡◌, true, List, take, map, sym, ◌∙◌, ap, rules}
+use Rattle.std.proofs.Common.{◌≡◌, true, List, map, sym, ◌∙◌, ap, rules}
 use Rattle.std.proofs.lemmas.List.{take_all}
 use Rattle.bf_base.specs.Lists.{same_name}
 use Rattle.bf_sql.specs.declared.reply.Cell.{Cell}
