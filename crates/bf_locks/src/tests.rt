@@ -179,17 +179,14 @@ fn freeing_takes_what_the_owner_holds(rt: HostRuntime) -> Result<(), Fail> {
 #[test]
 fn lock_names_are_in_order(rt: HostRuntime) -> Result<(), Fail> {
     let alloc = rt.alloc();
-    let names = [
-        LockName::Catalog,
-        whole(alloc)?,
-        row(alloc, 1)?,
-        row(alloc, 2)?,
-    ];
-    for (i, a) in names.iter().enumerate() {
-        assert!(rt; a.copy(alloc)? == *a);
-        for b in &names[i + 1..] {
-            assert!(rt; a < b);
-        }
-    }
+    let table = whole(alloc)?;
+    let first = row(alloc, 1)?;
+    let second = row(alloc, 2)?;
+    assert!(rt; LockName::Catalog < table);
+    assert!(rt; table < first);
+    assert!(rt; first < second);
+    let copy = first.copy(alloc)?;
+    assert!(rt; copy == first);
+    assert!(rt; copy != second);
     Ok(())
 }
