@@ -16,7 +16,7 @@ pub returns-clause-ok : goal.returns-clause-ok
 returns-clause-ok c =
     let here : same_name c.args.self.now.table.name c.args.table.now ≡ true = search rules in
     let copied : c.of.result ≡ selected All (map (λ row. row.value) c.as_slice-row-items.result.now) =
-        c.of.ensures ∙ c.loop-row.invariant ∙ (λ i. selected All (map (λ row. row.value) (take_all c.loop-row.row-index c.as_slice-row-items.result.now c.loop-row-test.false i))) in
+    c.of.ensures ∙ c.loop-row.invariant ∙ (λ i. selected All (map (λ row. row.value) (take_all c.loop-row.row-index c.as_slice-row-items.result.now c.loop-row-test.false i))) in
     let stored : selected All (map (λ row. row.value) c.as_slice-row-items.result.now) ≡ selected All c.args.self.now.rows =
-        (λ i. selected All (map (λ row. row.value) (c.as_slice-row-items.ensures.value i))) ∙ (λ i. selected All (c.self.view_is i).rows) in
+    (λ i. selected All (map (λ row. row.value) (c.as_slice-row-items.ensures.value i))) ∙ (λ i. selected All (c.self.view_is i).rows) in
     select_here c.args.self.now c.args.table.now here ∙ ap (λ (cells : List (List Cell)). let answer : Reply × Database = (Rows cells, database_of c.args.self.now) in answer) (sym (copied ∙ stored))
