@@ -1,3 +1,6 @@
+pub mod Apart
+pub mod Items
 pub mod Names
 pub mod Order
+pub mod Parts
 pub mod Ties

@@ -1,5 +1,5 @@
 -- What an insert at a row's place leaves of boxed rows.
-use Rattle.std.proofs.Common.{◌≡◌, ℕ, true, List, [], ◌∷◌, map, insert, ap, sym, subst, ◌∙◌}
+use Rattle.std.proofs.Common.{◌≡◌, ℕ, true, List, [], ◌∷◌, map, insert, ap, ◌∙◌}
 use Rattle.bf_base.specs.declared.value.Value.{Value}
 use Rattle.bf_base.specs.declared.table.Table.{Table}
 use Rattle.bf_base.specs.Values.{key_cmp}
@@ -7,7 +7,6 @@ use Rattle.bf_base.specs.Lists.{same_name, placed}
 use Rattle.bf_base.specs.Tables.{key_of}
 use Rattle.bf_sql.specs.declared.statement.Statement.TheVariants.{Insert}
 use Rattle.bf_sql.specs.declared.reply.Reply.TheVariants.{Inserted}
-use Rattle.bf_sql.specs.Database.{Stored}
 use Rattle.bf_sql.specs.Meaning.{executed}
 use Rattle.bf_run.specs.Engine.{database_of, IsServed, IsOneNumber, IsPlaceFor}
 use Rattle.bf_run.proofs.Meant.{insert_new, insert_kept}

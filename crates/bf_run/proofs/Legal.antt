@@ -1,18 +1,18 @@
 -- A session whose statements run in turn has a legal history.
-use Rattle.std.proofs.Common.{◌≡◌, ℕ, suc, ◌+◌, ◌-◌, ◌<◌, ◌≤◌, Bool, true, false, not, ◌&&◌, ◌||◌, ◌==◌, nat_lt, nat_le, List, [], ◌∷◌, ◌++◌, length, map, take, drop, refl, sym, ap, subst, ◌∙◌, arith, IsTrue, append_assoc, length-append}
-use Rattle.std.specs.List.{list_any, list_all, filter, enumerate_from, flat_map}
+use Rattle.std.proofs.Common.{◌≡◌, ℕ, suc, ◌+◌, ◌-◌, ◌<◌, ◌≤◌, Bool, true, not, ◌&&◌, ◌==◌, nat_lt, List, [], ◌∷◌, ◌++◌, length, map, refl, sym, ap, subst, ◌∙◌, arith, append_assoc, length-append}
+use Rattle.std.specs.List.{list_any, list_all, filter, enumerate_from}
 use Rattle.std.proofs.Math.Seq.{drop-append_seam}
 use Rattle.std.proofs.lemmas.Bool.{and_parts, and_from, eqb-true}
 use Rattle.std.proofs.lemmas.Bool.Decides.{nat_tests}
 use Rattle.std.proofs.lemmas.List.{append-nil}
 use Rattle.std.proofs.lemmas.List.Folds.{list_all-append}
-use Rattle.bf_base.specs.Lists.{part, with_before, with_before_from}
+use Rattle.bf_base.specs.Lists.{part, with_before_from}
 use Rattle.bf_sql.specs.declared.statement.Statement.{Statement}
 use Rattle.bf_sql.specs.declared.reply.Reply.{Reply}
 use Rattle.bf_sql.specs.declared.history.Entry.{Entry}
 use Rattle.bf_sql.specs.Database.{Database, empty_database}
 use Rattle.bf_sql.specs.Meaning.{executed}
-use Rattle.bf_sql.specs.History.{groups_from, groups_of, run_group, statements_of, outcomes_from, replayed, told, answered, apart, has_statement, is_whole_group, may_precede, IsLegalHistory, IsAllAnswered}
+use Rattle.bf_sql.specs.History.{groups_from, statements_of, outcomes_from, replayed, told, has_statement, is_whole_group, may_precede}
 use Rattle.bf_run.specs.Form.{one_session}
 use Rattle.bf_run.specs.Serving.{replies_to, entry_at, entries_from}
 use Rattle.bf_run.specs.Run.{IsRun}

@@ -1,6 +1,5 @@
 -- What a statement of the form means on the one table.
-use Rattle.std.proofs.Common.{◌≡◌, ℕ, ℤ, true, false, List, [], ◌∷◌, ◌++◌, map, refl, sym, ap, subst, ◌∙◌, IsTrue}
-use Rattle.std.specs.List.{list_all}
+use Rattle.std.proofs.Common.{◌≡◌, ℕ, ℤ, true, false, List, [], ◌∷◌, map, filter, None, refl, sym, ap, subst, ◌∙◌}
 use Rattle.std.proofs.lemmas.Bool.{and_parts, and_from}
 use Rattle.std.proofs.lemmas.List.{append-nil}
 use Rattle.bf_base.specs.declared.value.Value.{Value}
@@ -9,15 +8,14 @@ use Rattle.bf_base.specs.declared.table.Admit.TheVariants as admits
 use Rattle.bf_base.specs.declared.table.Column.{Column}
 use Rattle.bf_base.specs.declared.table.Table.{Table}
 use Rattle.bf_base.specs.Values.{key_cmp, key_cmp_total}
-use Rattle.bf_base.specs.Lists.{same_name, same_key, has, placed, rises}
+use Rattle.bf_base.specs.Lists.{same_name, same_key, has, placed}
 use Rattle.bf_base.specs.Tables.{key_of}
 use Rattle.bf_base.proofs.Order.{rises-placed, list_all-placed}
 use Rattle.bf_sql.specs.declared.statement.List.TheVariants.{All}
 use Rattle.bf_sql.specs.declared.statement.Statement.TheVariants.{Insert, Select}
-use Rattle.bf_sql.specs.declared.reply.Reply.{Reply}
 use Rattle.bf_sql.specs.declared.reply.Reply.TheVariants.{Inserted, Rows, Refused}
 use Rattle.bf_sql.specs.declared.reply.Refusal.TheVariants.{NoTable, DuplicateKey}
-use Rattle.bf_sql.specs.Database.{Database, Stored, IsDatabase, is_admitted}
+use Rattle.bf_sql.specs.Database.{Stored, is_admitted}
 use Rattle.bf_sql.specs.Meaning.{executed, selected}
 use Rattle.bf_run.specs.Engine.{database_of, IsOneColumn, IsServed, IsOneNumber}
 
@@ -31,18 +29,23 @@ one_column_is table one =
     → record { name = table.name; columns = columns; key = key } ≡ one_column table.name one.column = λ columns key e f. rw (e, f) refl in
     of_parts table.columns table.key one.columns one.key
 
+-- without a condition each row is selected
+pub filter_all : (rows : List (List Value)) → filter (λ row. true) rows ≡ rows
+filter_all [] = refl
+filter_all (row ∷ rows) = ap (λ (rs : List (List Value)). row ∷ rs) (filter_all rows)
+
 -- a statement on another name is refused
 pub insert_elsewhere : (s : Stored) (name : List ℕ) (tuples : List (List Value)) → same_name s.table.name name ≡ false
     → executed (database_of s) (Insert name tuples) ≡ (Refused (NoTable name), database_of s)
 insert_elsewhere s name tuples elsewhere = rw elsewhere refl
 
 pub select_elsewhere : (s : Stored) (name : List ℕ) → same_name s.table.name name ≡ false
-    → executed (database_of s) (Select All name) ≡ (Refused (NoTable name), database_of s)
+    → executed (database_of s) (Select All name None) ≡ (Refused (NoTable name), database_of s)
 select_elsewhere s name elsewhere = rw elsewhere refl
 
 pub select_here : (s : Stored) (name : List ℕ) → same_name s.table.name name ≡ true
-    → executed (database_of s) (Select All name) ≡ (Rows (selected All s.rows), database_of s)
-select_here s name here = rw here refl
+    → executed (database_of s) (Select All name None) ≡ (Rows (selected All s.rows), database_of s)
+select_here s name here = rw (here, filter_all s.rows) refl
 
 -- a key that is there, and a new one
 insert_taken_of : (t c : List ℕ) (rows : List (List Value)) (name : List ℕ) (z : ℤ) → same_name t name ≡ true
@@ -68,7 +71,7 @@ insert_kept_of t c rows z served new =
     let admitted = list_all-placed key_cmp_total (key_of table) (is_admitted table) rows row ∙ (and_parts _ _ served.database.rows_admitted).0 in
     record {
       one_column = served.one_column;
-      database = record { tables_by_name = refl; rows_by_key = and_from _ _ by_key refl; rows_admitted = and_from _ _ admitted refl };
+      database = record { tables_by_name = refl; rows_by_key = and_from _ _ by_key refl; rows_admitted = and_from _ _ admitted refl; keys_within = refl };
     }
 
 -- what holds of a table of one column and of a number holds of a served table and its row

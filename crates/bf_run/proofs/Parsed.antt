@@ -12,7 +12,7 @@ use Rattle.bf_base.specs.declared.value.Value.TheVariants.{Int}
 use Rattle.bf_sql.specs.declared.statement.List.TheVariants.{All}
 use Rattle.bf_sql.specs.declared.statement.Script.{Script}
 use Rattle.bf_sql.specs.declared.statement.Statement.{Statement}
-use Rattle.bf_sql.specs.declared.statement.Statement.TheVariants.{CreateTable, Insert, Select}
+use Rattle.bf_sql.specs.declared.statement.Statement.TheVariants.{CreateTable, Insert, Select, Migrate}
 use Rattle.bf_run.specs.declared.token.Sign.TheVariants.{OpeningParenthesis, ClosingParenthesis, Comma, Semicolon, Star}
 use Rattle.bf_run.specs.declared.token.Token.{Token}
 use Rattle.bf_run.specs.declared.token.Token.TheVariants.{Word}
@@ -74,7 +74,7 @@ select_takes ts x e =
     let d = step_word (codes "from") b.0 _ _ b.2 in
     let n = step_name d.0 _ _ d.2 in
     let s = step_sign Semicolon n.0.1 _ _ n.3 in
-    let p : (Select All n.0.0, s.0) ≡ x = some_is (Select All n.0.0, s.0) x s.2 in
+    let p : (Select All n.0.0 None, s.0) ≡ x = some_is (Select All n.0.0 None, s.0) x s.2 in
     let front = word (codes "select") ∷ star ∷ word (codes "from") ∷ Word n.0.0 ∷ semicolon ∷ [] in
     let whole : ts ≡ front ++ s.0 = cc (a.1, b.1, d.1, n.1, s.1) in
     subst (λ (y : Statement × List Token). Takes ts y) p (front, whole, (n.2, refl))
@@ -84,7 +84,7 @@ insert_again : (n : List ℕ) (number : List Token) (z : ℤ) (rest : List Token
 unfolding insert_at
 insert_again n number z rest name h = rw (name, signed_again number z (closing ∷ semicolon ∷ rest) h) refl
 
-select_again : (n : List ℕ) (rest : List Token) → IsName n → select_at (word (codes "select") ∷ star ∷ word (codes "from") ∷ Word n ∷ semicolon ∷ rest) ≡ Some (Select All n, rest)
+select_again : (n : List ℕ) (rest : List Token) → IsName n → select_at (word (codes "select") ∷ star ∷ word (codes "from") ∷ Word n ∷ semicolon ∷ rest) ≡ Some (Select All n None, rest)
 unfolding select_at
 select_again n rest name = rw name refl
 
@@ -98,8 +98,10 @@ part_takes (t ∷ ts) x e =
 
 pub part_again : (s : Statement) (front rest : List Token) → IsPart front s → part_at (front ++ rest) ≡ Some (s, rest)
 part_again (CreateTable t columns key) front rest h = absurd h
-part_again (Select All n) front rest h =
-    subst (λ (u : List Token). part_at (u ++ rest) ≡ Some (Select All n, rest)) (sym h.1) (select_again n rest h.0)
+part_again (Select All n (Some cond)) front rest h = absurd h
+part_again (Migrate m) front rest h = absurd h
+part_again (Select All n None) front rest h =
+    subst (λ (u : List Token). part_at (u ++ rest) ≡ Some (Select All n None, rest)) (sym h.1) (select_again n rest h.0)
 part_again (Insert n tuples) front rest h =
     let regroup = append_assoc h.1 (closing ∷ semicolon ∷ []) rest in
     let one : part_at (word (codes "insert") ∷ word (codes "into") ∷ Word n ∷ word (codes "values") ∷ opening ∷ ((h.1 ++ closing ∷ semicolon ∷ []) ++ rest)) ≡ Some (Insert n ((Int h.2 ∷ []) ∷ []), rest) = subst (λ (u : List Token). part_at (word (codes "insert") ∷ word (codes "into") ∷ Word n ∷ word (codes "values") ∷ opening ∷ u) ≡ Some (Insert n ((Int h.2 ∷ []) ∷ []), rest)) (sym regroup) (insert_again n h.1 h.2 rest h.0 h.3) in
@@ -251,7 +253,9 @@ one_script ts script other h k =
 
 is_plain : (ts : List Token) (s : Statement) → IsPart ts s → IsPlain s
 is_plain ts (CreateTable t columns key) h = h
-is_plain ts (Select All n) h = tt
+is_plain ts (Migrate m) h = h
+is_plain ts (Select All n (Some cond)) h = h
+is_plain ts (Select All n None) h = tt
 is_plain ts (Insert n tuples) h = (h.2, h.4)
 
 are_plain : (ts : List Token) (ss : List Statement) → AreParts ts ss → AllByRecursion IsPlain ss

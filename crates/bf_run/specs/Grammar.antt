@@ -1,12 +1,12 @@
 -- The scripts of the form, as tokens: one session that creates one table of one column, and then
 -- inserts into tables and selects from them.
-use Rattle.std.specs.Prelude.{◌≡◌, ℕ, zero, suc, ◌<◌, ◌≤◌, ◌^◌, ℤ, pos, negsuc, Bool, false, List, [], ◌∷◌, ◌++◌, codes}
+use Rattle.std.specs.Prelude.{◌≡◌, ℕ, zero, suc, ◌<◌, ◌≤◌, ◌^◌, ℤ, pos, negsuc, Bool, false, List, [], ◌∷◌, ◌++◌, codes, Some, None}
 use Rattle.std.specs.List.{list_any}
 use Rattle.bf_base.specs.declared.value.Value.TheVariants.{Int}
 use Rattle.bf_base.specs.Lists.{same_name}
 use Rattle.bf_sql.specs.declared.statement.List.TheVariants.{All}
 use Rattle.bf_sql.specs.declared.statement.Statement.{Statement}
-use Rattle.bf_sql.specs.declared.statement.Statement.TheVariants.{CreateTable, Insert, Select}
+use Rattle.bf_sql.specs.declared.statement.Statement.TheVariants.{CreateTable, Insert, Select, Migrate}
 use Rattle.bf_sql.specs.declared.statement.Script.{Script}
 use Rattle.bf_run.specs.declared.token.Sign.TheVariants.{OpeningParenthesis, ClosingParenthesis, Comma, Semicolon, Star, Minus}
 use Rattle.bf_run.specs.declared.token.Token.{Token}
@@ -69,8 +69,10 @@ abbrev pub IsPart : List Token → Statement → Type 0
 IsPart ts (Insert n tuples) =
     IsName n × (number : List Token) × (z : ℤ) × IsSigned number z × (tuples ≡ (Int z ∷ []) ∷ [])
     × (ts ≡ word (codes "insert") ∷ word (codes "into") ∷ Word n ∷ word (codes "values") ∷ opening ∷ (number ++ closing ∷ semicolon ∷ []))
-IsPart ts (Select All n) = IsName n × (ts ≡ word (codes "select") ∷ star ∷ word (codes "from") ∷ Word n ∷ semicolon ∷ [])
+IsPart ts (Select All n None) = IsName n × (ts ≡ word (codes "select") ∷ star ∷ word (codes "from") ∷ Word n ∷ semicolon ∷ [])
+IsPart ts (Select All n (Some cond)) = ⊥
 IsPart ts (CreateTable t columns key) = ⊥
+IsPart ts (Migrate m) = ⊥
 
 abbrev pub AreParts : List Token → List Statement → Type 0
 AreParts ts [] = ts ≡ []

@@ -5,7 +5,6 @@ pub mod Lexing
 pub mod Outcome
 pub mod Parsing
 pub mod Reading
-pub mod Report
 pub mod Run
 pub mod Scanning
 pub mod Serving

@@ -83,7 +83,7 @@ select_at ts = do
   d ← word_at (codes "from") b
   n ← name_at d
   e ← sign_at Semicolon n.1
-  Some (Select All n.0, e)
+  Some (Select All n.0 None, e)
 
 abbrev pub part_at : List Token → Option (Statement × List Token)
 part_at [] = None

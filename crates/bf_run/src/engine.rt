@@ -110,7 +110,7 @@ impl Live {
         match statement {
             Statement::Insert { table, tuples } => self.insert(alloc, table, &tuples.as_slice()[0]),
             Statement::Select { table, .. } => self.select(alloc, table),
-            Statement::CreateTable { .. } => unreachable!(),
+            Statement::CreateTable { .. } | Statement::Migrate(_) => unreachable!(),
         }
     }
 
@@ -150,7 +150,7 @@ impl Live {
 
     /// All rows.
     fn select(&self, alloc: Global, table: &Name) -> Result<Reply, Memory>
-        ensures ok { IfOk result (λ reply. executed (database_of self.now) (Statement.Select All table.now) ≡ (reply, database_of self.now)) }
+        ensures ok { IfOk result (λ reply. executed (database_of self.now) (Statement.Select All table.now None) ≡ (reply, database_of self.now)) }
         ensures database { IsDatabase (database_of self.now) }
     {
         if self.table.name != *table {

@@ -6,7 +6,6 @@ pub mod lex;
 pub mod parse;
 pub mod serve;
 pub mod status;
-pub mod text;
 pub mod token;
 pub mod top;
 pub mod words;

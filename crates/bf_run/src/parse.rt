@@ -205,7 +205,8 @@ fn select(alloc: Global, tokens: &[Token]) -> Result<(Statement, &[Token]), Pars
     let (table, rest) = name(alloc, rest)?;
     let rest = after_sign(rest, Sign::Semicolon)?;
     let list = bf_sql::List::All;
-    Ok((Statement::Select { list, table }, rest))
+    let cond = None;
+    Ok((Statement::Select { list, table, cond }, rest))
 }
 
 /// The statement at the front, and what follows it.

@@ -1,5 +1,5 @@
 -- Refused statements, and which objection is told.
-use Rattle.std.specs.Prelude.{◌≡◌, List, [], ◌∷◌, codes, refl, pos}
+use Rattle.std.specs.Prelude.{◌≡◌, List, [], ◌∷◌, None, codes, refl, pos}
 use Rattle.bf_base.specs.declared.table.Admit.TheVariants as admit
 use Rattle.bf_base.specs.declared.value.Value.TheVariants.{Int, Text}
 use Rattle.bf_sql.specs.declared.history.Entry.{Entry}
@@ -28,7 +28,7 @@ script = alone (
     CreateTable (codes "t") (one (rule (codes "id") form.Int)) (one (codes "id"))
     ∷ Insert (codes "t") (one (row 3))
     ∷ Insert (codes "t") (one (row 3))
-    ∷ Select All (codes "u")
+    ∷ Select All (codes "u") None
     ∷ []
     )
 

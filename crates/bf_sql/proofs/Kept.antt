@@ -1,50 +1,45 @@
 -- A statement leaves a database a database.
-use Rattle.std.proofs.Common.{◌≡◌, ℕ, Bool, true, false, cond, if◌then◌else◌, List, [], ◌∷◌, ◌++◌, map, length, refl, sym, ap, ap₂, ◌∙◌, flat_map, find, Option, Some, None, is_some}
+use Rattle.std.proofs.Common.{◌≡◌, ℕ, Bool, true, false, cond, if◌then◌else◌, List, [], ◌∷◌, ◌++◌, map, length, refl, sym, ap, ap₂, ◌∙◌, flat_map, filter, Option, Some, None, is_some}
 use Rattle.std.specs.Ordering.{eq_by_cmp}
 use Rattle.std.specs.List.{list_all}
-use Rattle.std.proofs.lemmas.Bool.{and_from, and_parts}
+use Rattle.std.proofs.lemmas.Bool.{and_from}
 use Rattle.bf_base.specs.declared.value.Value.{Value}
 use Rattle.bf_base.specs.declared.table.Table.{Table}
 use Rattle.bf_base.specs.Lists.{same_name, name_cmp, rises, with_placed}
 use Rattle.bf_base.specs.Tables.{key_of}
 use Rattle.bf_base.specs.Values.{key_cmp, key_cmp_total}
 use Rattle.bf_base.proofs.Names.{name_cmp_total, same_name-tie}
-use Rattle.bf_base.proofs.Order.{same_from_some, look_up, changed_at, rises-placed, rises-with_placed, list_all-placed, list_all-with_placed, is_some-look_up, list_all-changed_at}
+use Rattle.bf_base.proofs.Order.{changed_at, rises-placed, rises-with_placed, list_all-placed, list_all-with_placed, list_all-changed_at}
 use Rattle.bf_sql.specs.declared.history.Entry.{Entry}
 use Rattle.bf_sql.specs.declared.history.Outcome.{Outcome}
 use Rattle.bf_sql.specs.declared.history.Outcome.TheVariants.{Committed}
 use Rattle.bf_sql.specs.declared.statement.Script.{Script}
 use Rattle.bf_sql.specs.declared.statement.Statement.{Statement}
-use Rattle.bf_sql.specs.declared.statement.Statement.TheVariants.{CreateTable, Insert, Select}
+use Rattle.bf_sql.specs.declared.statement.Statement.TheVariants.{CreateTable, Insert, Select, Migrate}
 use Rattle.bf_sql.specs.declared.reply.Refusal.{Refusal}
 use Rattle.bf_sql.specs.declared.reply.Refusal.TheVariants as refusal
 use Rattle.bf_sql.specs.declared.reply.Reply.{Reply}
 use Rattle.bf_sql.specs.declared.reply.Reply.TheVariants as reply
-use Rattle.bf_sql.specs.Database.{Database, Stored, IsDatabase, stored_at, with_new_table, with_rows, is_keyed, is_admitted}
+use Rattle.bf_sql.specs.Database.{Database, Stored, IsDatabase, stored_at, with_new_table, with_rows, is_keyed, is_admitted, is_key_within}
+use Rattle.bf_sql.specs.Conditions.{satisfies}
 use Rattle.bf_sql.specs.History.{run_group, settled, replayed, statements_of}
 use Rattle.bf_sql.specs.Meaning.{executed, effect, unless_refused, on_table, selected, table_of}
 use Rattle.bf_sql.specs.Refusals.{objections, row_objections, insert_objections, tuple_objections, judge}
+use Rattle.bf_sql.proofs.Flipped.{keeps_flipped}
+use Rattle.bf_sql.proofs.Keys.{new_key_within}
+use Rattle.bf_sql.proofs.Stored.{name_of, are_admitted, stored_at-look_up, has-stored_at, all_at_found}
 use Rattle.bf_sql.proofs.Unobjected.{none_left, none_right, none_when, new_where_none, admitted_where_none}
 
-abbrev pub name_of : Stored → List ℕ
-name_of s = s.table.name
-
-abbrev are_admitted : Stored → Bool
-are_admitted s = list_all (is_admitted s.table) s.rows
-
--- the table of a name is a look-up in a list in order
-pub stored_at-look_up : (db : Database) (name : List ℕ) → stored_at db name ≡ look_up name_cmp name_of db.tables name
-stored_at-look_up db name i = find (λ s. same_name-tie s.table.name name i) db.tables
-
 -- a table of a new name
-keeps_with_new_table : (db : Database) (table : Table) → IsDatabase db → is_some (stored_at db table.name) ≡ false → IsDatabase (with_new_table db table)
-keeps_with_new_table db table is new =
+keeps_with_new_table : (db : Database) (table : Table) → IsDatabase db → is_some (stored_at db table.name) ≡ false → is_key_within (record { table = table; rows = [] }) ≡ true → IsDatabase (with_new_table db table)
+keeps_with_new_table db table is new within =
     let s : Stored = record { table = table; rows = [] } in
-    let none = sym (is_some-look_up name_cmp_total name_of db.tables table.name) ∙ ap is_some (sym (stored_at-look_up db table.name)) ∙ new in
+    let none = has-stored_at db table.name ∙ new in
     record {
       tables_by_name = rises-placed name_cmp_total name_of db.tables s is.tables_by_name none;
       rows_by_key = list_all-placed name_cmp_total name_of is_keyed db.tables s ∙ is.rows_by_key;
       rows_admitted = list_all-placed name_cmp_total name_of are_admitted db.tables s ∙ is.rows_admitted;
+      keys_within = list_all-placed name_cmp_total name_of is_key_within db.tables s ∙ and_from _ _ within is.keys_within;
     }
 
 with_rows-changed_at : (db : Database) (name : List ℕ) (rows : List (List Value)) → (with_rows db name rows).tables ≡ changed_at name_cmp name_of (λ s. record s { rows = rows }) name db.tables
@@ -65,20 +60,14 @@ keeps_with_rows : (db : Database) (name : List ℕ) (rows : List (List Value)) (
 keeps_with_rows db name rows s is at keyed admitted =
     let found = sym (stored_at-look_up db name) ∙ at in
     let change : Stored → Stored = λ s. record s { rows = rows } in
+    let within = all_at_found is_key_within (λ s. same_name s.table.name name) db.tables s at is.keys_within in
     let same = with_rows-changed_at db name rows in
     record {
       tables_by_name = ap (λ ss. rises name_cmp (map name_of ss)) same ∙ ap (rises name_cmp) (names_with_rows name rows db.tables) ∙ is.tables_by_name;
       rows_by_key = ap (list_all is_keyed) same ∙ list_all-changed_at name_cmp_total name_of change is_keyed name s db.tables is.tables_by_name found is.rows_by_key keyed;
       rows_admitted = ap (list_all are_admitted) same ∙ list_all-changed_at name_cmp_total name_of change are_admitted name s db.tables is.tables_by_name found is.rows_admitted admitted;
+      keys_within = ap (list_all is_key_within) same ∙ list_all-changed_at name_cmp_total name_of change is_key_within name s db.tables is.tables_by_name found is.keys_within within;
     }
-
--- what is true of each item is true of one that is found
-pub all_at_found : {X : Type 0} (test p : X → Bool) (xs : List X) (x : X) → find p xs ≡ Some x → list_all test xs ≡ true → test x ≡ true
-all_at_found test p [] x e all = absurd cc
-all_at_found test p (y ∷ ys) x e all = elim (p y) as (λ b. cond b (Some y) (find p ys) ≡ Some x → test x ≡ true) [
-  | true ↦ λ e. rw (← same_from_some y x e) (and_parts _ _ all).0
-  | false ↦ λ e. all_at_found test p ys x e (and_parts _ _ all).1
-] e
 
 -- further rows without an objection
 keeps_inserted : (db : Database) (name : List ℕ) (tuples : List (List Value)) (s : Stored) → IsDatabase db → stored_at db name ≡ Some s
@@ -94,10 +83,10 @@ keeps_inserted db name tuples s is at fine new =
     (both ∙ and_from _ _ admitted (admitted_where_none s tuples new fine))
 
 -- an effect keeps a database where there is no objection
-keeps_effect : (db : Database) (s : Statement) → IsDatabase db → objections db s ≡ [] → row_objections db s ≡ [] → IsDatabase (effect db s).1
+pub keeps_effect : (db : Database) (s : Statement) → IsDatabase db → objections db s ≡ [] → row_objections db s ≡ [] → IsDatabase (effect db s).1
 keeps_effect db (CreateTable name columns key) is none new =
     let absent = none_when (is_some (stored_at db name)) (refusal.TableExists name) (none_left _ _ (none_left _ _ none)) in
-    keeps_with_new_table db (table_of name columns key) is absent
+    keeps_with_new_table db (table_of name columns key) is absent (new_key_within name columns key (none_right _ _ none))
 keeps_effect db (Insert name tuples) is none new = inserted (stored_at db name) refl none new
   where
     inserted : (found : Option Stored) → stored_at db name ≡ found
@@ -106,11 +95,12 @@ keeps_effect db (Insert name tuples) is none new = inserted (stored_at db name) 
         → IsDatabase (on_table found db (λ s. (reply.Inserted (length tuples), with_rows db name (with_placed key_cmp (key_of s.table) s.rows tuples)))).1
     inserted None at none new = is
     inserted (Some s) at none new = keeps_inserted db name tuples s is at none new
-keeps_effect db (Select list name) is none new = selected_from (stored_at db name)
+keeps_effect db (Select list name cond) is none new = selected_from (stored_at db name)
   where
-    selected_from : (found : Option Stored) → IsDatabase (on_table found db (λ s. (reply.Rows (selected list s.rows), db))).1
+    selected_from : (found : Option Stored) → IsDatabase (on_table found db (λ s. (reply.Rows (selected list (filter (satisfies s.table cond) s.rows)), db))).1
     selected_from None = is
     selected_from (Some s) = is
+keeps_effect db (Migrate m) is none new = keeps_flipped db m is none
 
 -- a refusal keeps a database
 keeps_unless_refused : (rs : List Refusal) (db : Database) (done : Reply × Database) → IsDatabase db → (rs ≡ [] → IsDatabase done.1) → IsDatabase (unless_refused rs db done).1

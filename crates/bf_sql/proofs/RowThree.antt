@@ -1,5 +1,5 @@
 -- Three rows that come in any order are read in key order.
-use Rattle.std.specs.Prelude.{◌≡◌, List, [], ◌∷◌, codes, refl}
+use Rattle.std.specs.Prelude.{◌≡◌, List, [], ◌∷◌, None, codes, refl}
 use Rattle.bf_base.specs.declared.table.Admit.TheVariants as admit
 use Rattle.bf_sql.specs.declared.history.Entry.{Entry}
 use Rattle.bf_sql.specs.declared.reply.Reply.{Reply}
@@ -20,7 +20,7 @@ script = alone (
     ∷ Insert (codes "t") (one (row 3))
     ∷ Insert (codes "t") (one (row 1))
     ∷ Insert (codes "t") (one (row 2))
-    ∷ Select All (codes "t")
+    ∷ Select All (codes "t") None
     ∷ []
     )
 
@@ -51,7 +51,7 @@ answered : IsAllAnswered script transcripts
 answered = refl
 
 last_is_database : IsDatabase last
-last_is_database = record { tables_by_name = refl; rows_by_key = refl; rows_admitted = refl }
+last_is_database = record { tables_by_name = refl; rows_by_key = refl; rows_admitted = refl; keys_within = refl }
 
 -- Histories and transcripts that are not legal, each by the field that refuses it.
 -- entries 3 and 4 in each other's place

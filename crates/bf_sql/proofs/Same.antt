@@ -9,7 +9,7 @@ use Rattle.bf_base.proofs.Names.{name_cmp_total}
 use Rattle.bf_base.proofs.Order.{look_up, same_from_some, same_from_look_ups}
 use Rattle.bf_sql.specs.Database.{Database, Stored, IsDatabase, stored_at, is_keyed}
 use Rattle.bf_sql.specs.Laws.{HaveSame, row_in}
-use Rattle.bf_sql.proofs.Kept.{name_of, stored_at-look_up, all_at_found}
+use Rattle.bf_sql.proofs.Stored.{name_of, stored_at-look_up, all_at_found}
 
 -- rows in order with the same look-ups by the keys of one table
 same_rows : (a b : Table) (xs ys : List (List Value)) → a ≡ b → rises key_cmp (map (key_of a) xs) ≡ true → rises key_cmp (map (key_of b) ys) ≡ true

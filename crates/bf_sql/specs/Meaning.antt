@@ -1,5 +1,5 @@
 -- The meaning of a statement: its reply, and the database after it.
-use Rattle.std.specs.Prelude.{ℕ, List, [], ◌∷◌, ◌++◌, map, length, Option, Some, None, unwrap_or, position}
+use Rattle.std.specs.Prelude.{ℕ, List, [], ◌∷◌, ◌++◌, map, filter, length, Option, Some, None, unwrap_or, position}
 use Rattle.bf_base.specs.declared.value.Value.{Value}
 use Rattle.bf_base.specs.declared.table.Admit.{Admit}
 use Rattle.bf_base.specs.declared.table.Admit.TheVariants as admits
@@ -13,13 +13,15 @@ use Rattle.bf_sql.specs.declared.statement.ColumnRule.{ColumnRule}
 use Rattle.bf_sql.specs.declared.statement.List.{List as Items}
 use Rattle.bf_sql.specs.declared.statement.List.TheVariants.{All}
 use Rattle.bf_sql.specs.declared.statement.Statement.{Statement}
-use Rattle.bf_sql.specs.declared.statement.Statement.TheVariants.{CreateTable, Insert, Select}
+use Rattle.bf_sql.specs.declared.statement.Statement.TheVariants.{CreateTable, Insert, Select, Migrate}
 use Rattle.bf_sql.specs.declared.reply.Refusal.{Refusal}
 use Rattle.bf_sql.specs.declared.reply.Cell.{Cell}
 use Rattle.bf_sql.specs.declared.reply.Cell.TheVariants as cells
 use Rattle.bf_sql.specs.declared.reply.Reply.{Reply}
 use Rattle.bf_sql.specs.declared.reply.Reply.TheVariants as reply
 use Rattle.bf_sql.specs.Database.{Database, Stored, stored_at, with_new_table, with_rows}
+use Rattle.bf_sql.specs.Conditions.{satisfies}
+use Rattle.bf_sql.specs.Migrations.{flipped}
 use Rattle.bf_sql.specs.Refusals.{rule_names, objections, row_objections}
 
 abbrev pub admit_of : ColumnForm → Admit
@@ -51,7 +53,8 @@ abbrev pub effect : Database → Statement → Reply × Database
 effect db (CreateTable name columns key) = (reply.Created, with_new_table db (table_of name columns key))
 effect db (Insert table tuples) =
     on_table (stored_at db table) db (λ s. (reply.Inserted (length tuples), with_rows db table (with_placed key_cmp (key_of s.table) s.rows tuples)))
-effect db (Select list table) = on_table (stored_at db table) db (λ s. (reply.Rows (selected list s.rows), db))
+effect db (Select list table cond) = on_table (stored_at db table) db (λ s. (reply.Rows (selected list (filter (satisfies s.table cond) s.rows)), db))
+effect db (Migrate m) = (reply.Migrated (length m.targets), flipped db m)
 
 abbrev pub unless_refused : List Refusal → Database → Reply × Database → Reply × Database
 unless_refused [] db done = done

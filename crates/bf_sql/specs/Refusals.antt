@@ -9,10 +9,12 @@ use Rattle.bf_base.specs.Lists.{same_name, same_key, has, with_before, when}
 use Rattle.bf_base.specs.Tables.{kind_of, kind_admitted, same_kind, fit_of, key_of}
 use Rattle.bf_sql.specs.declared.statement.ColumnRule.{ColumnRule}
 use Rattle.bf_sql.specs.declared.statement.Statement.{Statement}
-use Rattle.bf_sql.specs.declared.statement.Statement.TheVariants.{CreateTable, Insert, Select}
+use Rattle.bf_sql.specs.declared.statement.Statement.TheVariants.{CreateTable, Insert, Select, Migrate}
 use Rattle.bf_sql.specs.declared.reply.Refusal.{Refusal}
 use Rattle.bf_sql.specs.declared.reply.Refusal.TheVariants as refusal
 use Rattle.bf_sql.specs.Database.{Database, Stored, stored_at}
+use Rattle.bf_sql.specs.Conditions.{cond_objections}
+use Rattle.bf_sql.specs.Migrations.{migrate_objections, too_many_rows}
 
 -- the objections to a statement on the table of a name, where there is one
 abbrev pub judge : Option Stored → List ℕ → (Stored → List Refusal) → List Refusal
@@ -43,7 +45,8 @@ objections db (CreateTable name columns key) =
     ++ flat_map (λ p. twice (rule_names p.0) p.1.name) (with_before columns)
     ++ names_objections (rule_names columns) key
 objections db (Insert table tuples) = judge (stored_at db table) table (λ s. flat_map (tuple_objections s.table) tuples)
-objections db (Select list table) = judge (stored_at db table) table (λ s. [])
+objections db (Select list table cond) = judge (stored_at db table) table (λ s. cond_objections s.table cond)
+objections db (Migrate m) = migrate_objections db m
 
 abbrev pub unfit : Fit → List Refusal
 unfit Fits = []
@@ -67,4 +70,5 @@ insert_objections s tuples = flat_map (λ p. unfit_values s.table p.1 ++ taken_k
 abbrev pub row_objections : Database → Statement → List Refusal
 row_objections db (CreateTable name columns key) = []
 row_objections db (Insert table tuples) = judge (stored_at db table) table (λ s. insert_objections s tuples)
-row_objections db (Select list table) = []
+row_objections db (Select list table cond) = []
+row_objections db (Migrate m) = too_many_rows db m

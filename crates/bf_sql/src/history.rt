@@ -31,3 +31,23 @@ pub struct Transcripts {
 pub struct History {
     pub entries: Sequence<Entry>,
 }
+
+/// How far the last migration has come. Migrations are counted from 1, units and positions
+/// from 0; `moved` is the number of granules that are done.
+#[derive(Clone, Copy, Debug, PartialEq, Eq)]
+pub enum Sweep {
+    /// There was no migration.
+    Never,
+    /// Each granule has moved.
+    Complete {
+        migration: u32,
+        moved: u32,
+    },
+    /// The granule of this position of this unit is the first that has not moved.
+    Running {
+        migration: u32,
+        moved: u32,
+        unit: u8,
+        position: u32,
+    },
+}

@@ -6,6 +6,9 @@ pub mod laws;
 pub mod reply;
 pub mod statement;
 
-pub use history::{Entry, History, Outcome, Transcripts};
+pub use history::{Entry, History, Outcome, Sweep, Transcripts};
 pub use reply::{Cell, Refusal, Reply};
-pub use statement::{ColumnForm, ColumnRule, List, Script, Session, Statement};
+pub use statement::{
+    Arm, ColumnForm, ColumnRule, Compare, Item, List, Migrate, Operand, RawCond, Ref, Script,
+    Session, Statement, Target,
+};

@@ -23,6 +23,12 @@ pub enum Refusal {
     WrongCount,
     /// E13: this name stands twice in one list.
     NameTwice(Name),
+    /// E15: this new table has not all columns of the key of the table that it is made of.
+    KeyNotInherited(Name),
+    /// E16: no table has this name, of which a new one is to be made.
+    SourceUnknown(Name),
+    /// E17: this table has this many rows, which is more than 2^20.
+    TooManyRows(Name, u32),
 }
 
 /// One place of a row that SELECT gives.
@@ -38,5 +44,7 @@ pub enum Reply {
     /// The number of new rows.
     Inserted(u32),
     Rows(Sequence<Sequence<Cell>>),
+    /// The number of new tables.
+    Migrated(u8),
     Refused(Refusal),
 }

@@ -1,6 +1,6 @@
 //! Statements as they are written, and the scripts that they make.
 
-use bf_base::{Name, Row, Sequence};
+use bf_base::{Name, Row, Sequence, Value};
 
 /// What a column is declared to admit.
 #[derive(Clone, Copy, Debug, PartialEq, Eq)]
@@ -23,6 +23,59 @@ pub enum List {
     All,
 }
 
+/// A column by its name, which may stand behind its table's.
+#[derive(Debug, Drop, PartialEq, Eq)]
+pub struct Ref {
+    pub table: Option<Name>,
+    pub column: Name,
+}
+
+/// How two values are compared.
+#[derive(Clone, Copy, Debug, PartialEq, Eq)]
+pub enum Compare {
+    Equal,
+}
+
+/// What a condition compares.
+#[derive(Debug, Drop, PartialEq, Eq)]
+pub enum Operand {
+    Value(Value),
+    Ref(Ref),
+}
+
+/// A condition on a row, as it is written.
+#[derive(Debug, Drop, PartialEq, Eq)]
+pub enum RawCond {
+    Compare(Compare, Operand, Operand),
+}
+
+/// A column of a new table, as an arm of a MIGRATE gives it.
+#[derive(Debug, Drop, PartialEq, Eq)]
+pub enum Item {
+    /// A column of the old table, which keeps its name.
+    Column(Ref),
+}
+
+/// SELECT in a MIGRATE: the rows of a new table out of those of an old one.
+#[derive(Debug, Drop, PartialEq, Eq)]
+pub struct Arm {
+    pub items: Sequence<Item>,
+    pub from: Name,
+}
+
+/// A new table of a MIGRATE.
+#[derive(Debug, Drop, PartialEq, Eq)]
+pub struct Target {
+    pub name: Name,
+    pub arm: Arm,
+}
+
+/// The new tables that take the place of the old ones which they are made of.
+#[derive(Debug, Drop, PartialEq, Eq)]
+pub struct Migrate {
+    pub targets: Sequence<Target>,
+}
+
 /// A parsed statement.
 #[derive(Debug, Drop, PartialEq, Eq)]
 pub enum Statement {
@@ -37,11 +90,14 @@ pub enum Statement {
         table: Name,
         tuples: Sequence<Row>,
     },
-    /// The rows of a table in key order.
+    /// The rows of a table that satisfy a condition, in key order.
     Select {
         list: List,
         table: Name,
+        cond: Option<RawCond>,
     },
+    /// New tables in the place of old ones, from this moment on.
+    Migrate(Migrate),
 }
 
 /// The statements of one client, in order. Phases are counted from 1.

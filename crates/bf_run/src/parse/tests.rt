@@ -28,6 +28,7 @@ fn select(alloc: Global, table: &[u8]) -> Result<Statement, Fail> {
     Ok(Statement::Select {
         list: bf_sql::List::All,
         table: Name::of(alloc, table)?,
+        cond: None,
     })
 }
 

@@ -1,4 +1,4 @@
-use Rattle.std.proofs.Common.{◌≡◌, ◌∷◌, ◌∙◌, ap, arith, rules}
+use Rattle.std.proofs.Common.{◌≡◌, ◌∷◌, arith}
 use Rattle.bf_run.specs.Form.{creation}
 use Rattle.bf_run.proofs.Legal.{run_of_session}
 use Rattle.bf_run.proofs.serve.serve.Goals as goal

@@ -1,0 +1,35 @@
+-- The order of lock names.
+use Rattle.std.specs.Prelude.{ℕ, List, []}
+use Rattle.std.specs.declared.cmp.Ordering.{Ordering}
+use Rattle.std.specs.Ordering.{nat_cmp, on, then_cmp}
+use Rattle.std.specs.Cmp.{IsTotalOrder, nat_cmp_total, on_total, then_total}
+use Rattle.std.specs.Cmp.Lexicographic.{slice_cmp, nat_list_cmp_total}
+use Rattle.bf_base.specs.declared.value.Value.{Value}
+use Rattle.bf_base.specs.Values.{key_cmp, key_cmp_total}
+use Rattle.bf_locks.specs.declared.name.LockName.{LockName}
+use Rattle.bf_locks.specs.declared.name.LockName.TheVariants.{Catalog, Whole, One}
+
+-- the catalog stands before the whole tables, and these before the single keys
+abbrev pub rank_of : LockName → ℕ
+rank_of Catalog = 0
+rank_of (Whole table) = 1
+rank_of (One table key) = 2
+
+-- the bytes of the table's name (the catalog has none)
+abbrev pub table_of : LockName → List ℕ
+table_of Catalog = []
+table_of (Whole table) = table
+table_of (One table key) = table
+
+-- the values of the key (only a single key has some)
+abbrev pub key_of : LockName → List Value
+key_of Catalog = []
+key_of (Whole table) = []
+key_of (One table key) = key
+
+-- by rank, then by table, then by key
+abbrev pub lock_name_cmp : LockName → LockName → Ordering
+lock_name_cmp = then_cmp (on rank_of nat_cmp) (then_cmp (on table_of (slice_cmp nat_cmp)) (on key_of key_cmp))
+
+pub lock_name_cmp_total : IsTotalOrder lock_name_cmp
+lock_name_cmp_total = then_total (on_total rank_of nat_cmp_total) (then_total (on_total table_of nat_list_cmp_total) (on_total key_of key_cmp_total))

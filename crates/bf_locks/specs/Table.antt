@@ -1,0 +1,29 @@
+-- How a lock table is kept: the holders of each name, and the names of each owner.
+use Rattle.std.specs.Prelude.{ℕ, map, flat_map, IsSome, Contains, IsSomeAnd}
+use Rattle.std.specs.Global.{Vec}
+use Rattle.std.specs.FinMap.{from_entries}
+use Rattle.std.specs.BTreeMap as tree
+use Rattle.std.specs.BTreeMap.{BTreeMap}
+use Rattle.std.specs.Ordering.{nat_cmp}
+use Rattle.bf_locks.specs.declared.mode.Mode.{Mode}
+use Rattle.bf_locks.specs.declared.name.LockName.{LockName}
+use Rattle.bf_locks.specs.LockNames.{lock_name_cmp}
+use Rattle.bf_locks.specs.Locks.{Locks, held, IsConsistent}
+
+-- the holders of each name that is held: their modes by owner
+abbrev pub Holders : Type 0
+Holders = BTreeMap LockName (BTreeMap ℕ Mode)
+
+-- what is held by holders
+abbrev pub locks_of : Holders → Locks
+locks_of holders = from_entries (flat_map (λ entry. map (λ holder. ((entry.0, holder.0), holder.1)) entry.1.entries) holders.entries)
+
+-- the owner's list has the name
+abbrev pub IsListed : BTreeMap ℕ (Vec LockName) → ℕ → LockName → Type 0
+IsListed owned owner name = IsSomeAnd (tree.get nat_cmp owned owner) (λ names. Contains names.items name)
+
+-- the holders are in the names' order and conflict nowhere, and each owner's list has each name that it holds
+pub record IsSound (holders : Holders) (owned : BTreeMap ℕ (Vec LockName)) : Type 0 where
+  pub ordered : tree.IsOrdered lock_name_cmp holders
+  pub consistent : IsConsistent (locks_of holders)
+  pub listed : (name : LockName) (owner : ℕ) → IsSome (held (locks_of holders) name owner) → IsListed owned owner name

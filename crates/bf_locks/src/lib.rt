@@ -1,0 +1,17 @@
+//! Locks on the catalog, on tables and on single keys, in five modes, by wait-die.
+#![tactic(auto)]
+
+pub mod answer;
+mod holdings;
+mod judgement;
+pub mod mode;
+pub mod name;
+pub mod table;
+
+pub use answer::{LockAnswer, no_cycle_of_waits};
+pub use mode::{Mode, compatible, join};
+pub use name::LockName;
+pub use table::LockTable;
+
+#[cfg(test)]
+mod tests;

@@ -1,0 +1,122 @@
+//! The lock table.
+
+ghost use Rattle.std.specs.Prelude.{◌≡◌, false, IfOk, OnOk, OnErr, IsSome};
+ghost use Rattle.std.specs.FinMap as map;
+ghost use Rattle.bf_locks.specs.Locks.{held, IsConsistent, IsJudged, after, without_owner};
+
+use crate::answer::LockAnswer;
+use crate::holdings::{free_each, list, put};
+use crate::judgement::{joined, judge, mode_among};
+use crate::mode::Mode;
+use crate::name::LockName;
+use bf_base::Memory;
+use std::alloc::Global;
+use std::collections::BTreeMap;
+use std::marker::Model;
+
+/// Which owners hold which names, and in which modes.
+///
+/// Owners are start numbers, and a smaller number is older. Contracts see a finite map from pairs
+/// of a name and an owner to modes. No two owners hold one name in modes that are not compatible.
+#[derive(Drop)]
+pub struct LockTable {
+    alloc: Global,
+    // The modes of each name's holders, by owner.
+    holders: BTreeMap<LockName, BTreeMap<u64, Mode>>,
+    // The names that each owner holds.
+    owned: BTreeMap<u64, Vec<LockName>>,
+}
+
+impl Model for LockTable {
+    ghost use Rattle.std.specs.Coded.{coded×, coded_ℕ};
+    ghost use Rattle.std.specs.FinMap.{code};
+    ghost use Rattle.bf_locks.specs.contracts.mode.Mode as modes;
+    ghost use Rattle.bf_locks.specs.contracts.name.LockName as names;
+    ghost use Rattle.bf_locks.specs.Locks.{Locks};
+
+    ghost Value = { Locks };
+
+    ghost coded = { code (coded× names.the_row.coded coded_ℕ) modes.the_row.coded };
+
+    ghost use Rattle.bf_locks.specs.Table.{locks_of, IsSound};
+
+    ghost view = { λ table. locks_of table.holders };
+
+    ghost invariant = { λ table. IsSound table.holders table.owned };
+}
+
+impl LockTable {
+    /// A table in which nothing is held. Takes no memory.
+    pub fn new(alloc: Global) -> LockTable
+        ensures empty { result ≡ map.empty }
+        ensures consistent { IsConsistent result }
+    {
+        LockTable {
+            alloc,
+            holders: BTreeMap::new(alloc),
+            owned: BTreeMap::new(alloc),
+        }
+    }
+
+    /// Asks for a name in a mode.
+    ///
+    /// The request is judged against the other holders of the name, with the join of the mode that
+    /// the owner holds and the asked one: `Granted` where none conflicts, and the owner then holds
+    /// the join; `Die` of the oldest that conflicts where that is older; else `Wait` for all that
+    /// conflict. `Wait`, `Die` and `Memory` change nothing.
+    ///
+    /// Logarithmic in the names that are held, and one or two passes over the holders of this one.
+    pub fn ask(&mut self, owner: u64, name: &LockName, mode: Mode) -> Result<LockAnswer, Memory>
+        ensures judged { IfOk result (λ answer. IsJudged self.old owner name.now mode answer) }
+        ensures after { IfOk result (λ answer. self.new ≡ after self.old owner name.now mode answer) }
+        ensures memory { OnErr result (self.new ≡ self.old) }
+        ensures consistent { IsConsistent self.new }
+    {
+        let holders = self.holders.get(name);
+        let before = mode_among(holders, owner);
+        let wanted = joined(before, mode);
+        match judge(self.alloc, holders, owner, wanted)? {
+            LockAnswer::Granted => {
+                self.grant(owner, name, wanted, before.is_none())?;
+                Ok(LockAnswer::Granted)
+            }
+            refused => Ok(refused),
+        }
+    }
+
+    /// Frees all that an owner holds. Takes no memory.
+    ///
+    /// For each name that the owner holds, logarithmic in the names that are held and in the
+    /// holders of that one.
+    pub fn free_all(&mut self, owner: u64)
+        ensures freed { self.new ≡ without_owner self.old owner }
+        ensures consistent { IsConsistent self.new }
+    {
+        if let Some(names) = self.owned.remove(&owner) {
+            free_each(&mut self.holders, names.as_slice(), owner);
+        }
+    }
+
+    /// The mode in which an owner holds a name, and `None` exactly where it holds none.
+    /// Takes no memory. Logarithmic in the names that are held and in the holders of this one.
+    pub fn holds(&self, owner: u64, name: &LockName) -> Option<Mode>
+        ensures mode { result ≡ held self.now name.now owner }
+        ensures consistent { IsConsistent self.now }
+    {
+        mode_among(self.holders.get(name), owner)
+    }
+
+    // Lets an owner hold a name in a mode, in place of the one in which it held it before. The
+    // name comes on the owner's list first, where it is new there.
+    fn grant(&mut self, owner: u64, name: &LockName, mode: Mode, is_new: bool) -> Result<(), Memory>
+        requires consistent { IsConsistent (map.insert self.old (name.now, owner) mode) }
+        requires listed { is_new ≡ false → IsSome (held self.old name.now owner) }
+        ensures granted { OnOk result (self.new ≡ map.insert self.old (name.now, owner) mode) }
+        ensures memory { OnErr result (self.new ≡ self.old) }
+    {
+        if is_new {
+            list(self.alloc, &mut self.owned, owner, name)?;
+        }
+        put(self.alloc, &mut self.holders, name, owner, mode)
+    }
+}
