@@ -1,10 +1,10 @@
 -- Filters, lists made of blocks, and what holds of each item.
-use Rattle.std.proofs.Common.{◌≡◌, Bool, true, false, not, ◌&&◌, ◌||◌, cond, if◌then◌else◌, List, [], ◌∷◌, ◌++◌, map, filter, flat_map, find, Some, Ordering, refl, sym, ap, ap₂, ◌∙◌, inl, inr, arith, option_map, is_lt}
+use Rattle.std.proofs.Common.{◌≡◌, Bool, true, false, not, ◌&&◌, ◌||◌, cond, if◌then◌else◌, List, [], ◌∷◌, ◌++◌, map, filter, flat_map, find, Option, Some, None, Ordering, refl, sym, ap, ap₂, ◌∙◌, inl, inr, arith, option_map, is_lt}
 use Rattle.std.specs.List.{list_any, list_all, AllByRecursion}
 use Rattle.std.proofs.lemmas.Bool.{and_parts, and_from, or_parts, or_from, not-true, not_from_false, not_from_true, cases_Bool, false≢true}
 use Rattle.std.proofs.lemmas.List.{append-nil}
 use Rattle.std.proofs.lemmas.List.Concat.{flat_map-append}
-use Rattle.std.proofs.lemmas.List.Folds.{list_any-append}
+use Rattle.std.proofs.lemmas.List.Folds.{list_any-append, list_all-append}
 use Rattle.bf_base.specs.Lists.{placed, has}
 use Rattle.bf_base.proofs.Apart.{are_apart, apart-append}
 
@@ -130,23 +130,23 @@ module _ {X Y : Type 0} where
   module _ (same : X → X → Bool) (alike : Y → Y → Bool) (f : X → List Y)
       (each : (x : X) → are_apart alike (f x) ≡ true)
       (across : (x y : X) → same x y ≡ false → list_all (λ b. not (has alike (f y) b)) (f x) ≡ true)
-    where
-      not_in_either : (bs cs ys : List Y) → list_all (λ b. not (has alike bs b)) ys ≡ true → list_all (λ b. not (has alike cs b)) ys ≡ true → list_all (λ b. not (has alike (bs ++ cs) b)) ys ≡ true
-      not_in_either bs cs [] p q = refl
-      not_in_either bs cs (y ∷ ys) p q =
-          let p' = and_parts (not (has alike bs y)) (list_all (λ b. not (has alike bs b)) ys) p in
-          let q' = and_parts (not (has alike cs y)) (list_all (λ b. not (has alike cs b)) ys) q in
-          let none = or_from (has alike bs y) (has alike cs y) (not-true _ p'.0) (not-true _ q'.0) in
-          and_from _ _ (not_from_false _ (list_any-append (alike y) bs cs ∙ none)) (not_in_either bs cs ys p'.1 q'.1)
+      where
+    not_in_either : (bs cs ys : List Y) → list_all (λ b. not (has alike bs b)) ys ≡ true → list_all (λ b. not (has alike cs b)) ys ≡ true → list_all (λ b. not (has alike (bs ++ cs) b)) ys ≡ true
+    not_in_either bs cs [] p q = refl
+    not_in_either bs cs (y ∷ ys) p q =
+        let p' = and_parts (not (has alike bs y)) (list_all (λ b. not (has alike bs b)) ys) p in
+        let q' = and_parts (not (has alike cs y)) (list_all (λ b. not (has alike cs b)) ys) q in
+        let none = or_from (has alike bs y) (has alike cs y) (not-true _ p'.0) (not-true _ q'.0) in
+        and_from _ _ (not_from_false _ (list_any-append (alike y) bs cs ∙ none)) (not_in_either bs cs ys p'.1 q'.1)
 
-      across_all : (x : X) (xs : List X) → has same xs x ≡ false → list_all (λ b. not (has alike (flat_map f xs) b)) (f x) ≡ true
-      across_all x [] none = list_all_always (f x)
-      across_all x (y ∷ ys) none = not_in_either (f y) (flat_map f ys) (f x) (across x y (or_parts _ _ none).0) (across_all x ys (or_parts _ _ none).1)
+    across_all : (x : X) (xs : List X) → has same xs x ≡ false → list_all (λ b. not (has alike (flat_map f xs) b)) (f x) ≡ true
+    across_all x [] none = list_all_always (f x)
+    across_all x (y ∷ ys) none = not_in_either (f y) (flat_map f ys) (f x) (across x y (or_parts _ _ none).0) (across_all x ys (or_parts _ _ none).1)
 
-      pub apart-flat_map : (xs : List X) → are_apart same xs ≡ true → are_apart alike (flat_map f xs) ≡ true
-      apart-flat_map [] apart = refl
-      apart-flat_map (x ∷ xs) apart =
-          apart-append alike (f x) (flat_map f xs) (each x) (apart-flat_map xs (and_parts _ _ apart).1) (across_all x xs (not-true _ (and_parts _ _ apart).0))
+    pub apart-flat_map : (xs : List X) → are_apart same xs ≡ true → are_apart alike (flat_map f xs) ≡ true
+    apart-flat_map [] apart = refl
+    apart-flat_map (x ∷ xs) apart =
+        apart-append alike (f x) (flat_map f xs) (each x) (apart-flat_map xs (and_parts _ _ apart).1) (across_all x xs (not-true _ (and_parts _ _ apart).0))
 
   -- where each item with a block that has something is out, what is left has nothing
   pub nothing_left : (f : X → List Y) (test : Y → Bool) (out : X → Bool) (xs : List X) → list_all out (filter (λ x. list_any test (f x)) xs) ≡ true

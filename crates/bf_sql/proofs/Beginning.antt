@@ -1,5 +1,5 @@
 -- A flip that moves nothing leaves the view that the flip leaves.
-use Rattle.std.proofs.Common.{◌≡◌, ℕ, Bool, true, false, not, ◌&&◌, cond, List, [], ◌∷◌, ◌++◌, map, filter, flat_map, find, Option, Some, None, is_some, option_map, refl, sym, ap, ap₂, subst, ◌∙◌, append_assoc}
+use Rattle.std.proofs.Common.{◌≡◌, ℕ, Bool, true, false, not, ◌&&◌, ◌||◌, cond, List, [], ◌∷◌, ◌++◌, map, filter, flat_map, find, Option, Some, None, is_some, option_map, refl, sym, ap, ap₂, subst, ◌∙◌, arith, append_assoc, is_eq}
 use Rattle.std.specs.List.{list_any, list_all, AllByRecursion}
 use Rattle.std.specs.Option.{option_or}
 use Rattle.std.specs.Ordering.{eq_by_cmp}
@@ -10,7 +10,7 @@ use Rattle.bf_base.specs.declared.value.Value.{Value}
 use Rattle.bf_base.specs.Lists.{same_name, same_key, has, with_placed, in_order, with_before, with_before_from, name_cmp}
 use Rattle.bf_base.specs.Tables.{key_of}
 use Rattle.bf_base.specs.Values.{key_cmp}
-use Rattle.bf_base.proofs.Apart.{apart_from_rises, are_apart-same_items, with_placed-items, look_up-same_items, map-with_placed}
+use Rattle.bf_base.proofs.Apart.{are_apart, apart_from_rises, are_apart-same_items, with_placed-items, look_up-same_items, map-with_placed}
 use Rattle.bf_base.proofs.Items.{mapped}
 use Rattle.bf_base.proofs.Names.{name_cmp_total, same_name-tie}
 use Rattle.bf_base.proofs.Order.{look_up, is_some-look_up, none_from_test, list_all-with_placed}
@@ -19,8 +19,8 @@ use Rattle.bf_sql.specs.declared.reply.Refusal.TheVariants as refusal
 use Rattle.bf_sql.specs.declared.statement.Target.{Target}
 use Rattle.bf_sql.specs.declared.statement.Migrate.{Migrate}
 use Rattle.bf_sql.specs.Database.{Database, Stored, IsDatabase, stored_at}
-use Rattle.bf_sql.specs.Laws.{table_at, IsLazy, IsSeenAs}
-use Rattle.bf_sql.specs.Lazy.{Migration, LazyState, target_of, on_target, granules_of, part_of, pending, pending_of, rows_of, due, is_on_time, seen, view_of, begun, flipped_lazily}
+use Rattle.bf_sql.specs.Laws.{table_at, IsUnderWay, IsLazy, IsSeenAs}
+use Rattle.bf_sql.specs.Lazy.{Granule, Migration, LazyState, target_of, on_target, granules_of, part_of, pending, pending_of, rows_of, due, is_early, is_on_time, seen, view_of, begun, flipped_lazily}
 use Rattle.bf_sql.specs.Migrations.{sources_of, target_table, is_taken, migrate_objections, image_of, stored, replaced, flipped}
 use Rattle.bf_sql.proofs.Due.{passes_if_found, each_found}
 use Rattle.bf_sql.proofs.Flipped.{kept, has-kept, keeps_emptied}
@@ -64,8 +64,8 @@ found_from before [] e = tt
 found_from before (t ∷ ts) e =
     let named = λ (u : Target). same_name u.name t.name in
     let first = find-append named before (t ∷ ts)
-    ∙ ap (λ o. option_or o (find named (t ∷ ts))) (none_if_none_passes named before (not-true _ (and_parts _ _ e).0))
-    ∙ ap (λ b. cond b (Some t) (find named ts)) (same_name-itself t.name) in
+      ∙ ap (λ o. option_or o (find named (t ∷ ts))) (none_if_none_passes named before (not-true _ (and_parts _ _ e).0))
+      ∙ ap (λ b. cond b (Some t) (find named ts)) (same_name-itself t.name) in
     let rest = found_from (before ++ t ∷ []) ts (and_parts _ _ e).1 in
     (first, subst (λ us. AllByRecursion (λ t. find (λ u. same_name u.name t.name) us ≡ Some t) ts) (append_assoc before (t ∷ []) ts) rest)
 
@@ -106,16 +106,16 @@ module _ (live : Database) (last : Option Migration) (m : Migrate) (is : IsDatab
           let named = same_name-equal t.name s.table.name (passes_if_found (λ t. same_name t.name s.table.name) m.targets t e) in
           let new = not-true _ (all_at_found (λ t. not (is_some (stored_at live t.name) && not (has same_name (sources_of m) t.name))) (λ t. same_name t.name s.table.name) m.targets t e new_names) in
           let taken : (is_some (stored_at live t.name) && not (has same_name (sources_of m) t.name)) ≡ true =
-          ap (λ n. is_some (stored_at live n) && not (has same_name (sources_of m) n)) named ∙ ap₂ (λ o b. is_some o && not b) at stays in
+            ap (λ n. is_some (stored_at live n) && not (has same_name (sources_of m) n)) named ∙ ap₂ (λ o b. is_some o && not b) at stays in
           absurd (false≢true (sym new ∙ taken))
 
   none_due_in : (ss : List Stored) → AllByRecursion (λ s. stored_at live s.table.name ≡ Some s) ss → AllByRecursion (λ s. due (Some next) s.table.name ≡ []) (filter (λ s. not (has same_name (sources_of m) s.table.name)) ss)
   none_due_in [] all = tt
   none_due_in (s ∷ ss) all = elim (has same_name (sources_of m) s.table.name) as (λ b. has same_name (sources_of m) s.table.name ≡ b
       → AllByRecursion (λ s. due (Some next) s.table.name ≡ []) (cond (not b) (s ∷ filter (λ s. not (has same_name (sources_of m) s.table.name)) ss) (filter (λ s. not (has same_name (sources_of m) s.table.name)) ss))) [
-        | true ↦ λ e. none_due_in ss all.1
-        | false ↦ λ e. (none_due s all.0 e, none_due_in ss all.1)
-      ] refl
+    | true ↦ λ e. none_due_in ss all.1
+    | false ↦ λ e. (none_due s all.0 e, none_due_in ss all.1)
+  ] refl
 
   nothing_in_what_stays : AllByRecursion (λ s. due (Some next) s.table.name ≡ []) stays
   nothing_in_what_stays = none_due_in live.tables (each_found live is)
@@ -125,7 +125,7 @@ module _ (live : Database) (last : Option Migration) (m : Migrate) (is : IsDatab
   seen_full t e =
       let there = all_at_found (λ t. has same_name (sources_of m) t.arm.from) (λ u. same_name u.name t.name) m.targets t e (sources_have m) in
       let coming : due (Some next) t.name ≡ image_of live t =
-      ap (λ f. on_target f (λ t. flat_map (part_of live m t) (pending next))) e ∙ ap (flat_map (part_of live m t)) all_pending ∙ parts_make_the_image live m t there in
+        ap (λ f. on_target f (λ t. flat_map (part_of live m t) (pending next))) e ∙ ap (flat_map (part_of live m t)) all_pending ∙ parts_make_the_image live m t there in
       λ i. record { table = target_table live t; rows = in_order key_cmp (key_of (target_table live t)) (coming i) }
 
   pub view_of_flip : view_of (flipped_lazily (record { live = live; last = last }) m) ≡ flipped live m
@@ -148,12 +148,12 @@ module _ (live : Database) (last : Option Migration) (m : Migrate) (is : IsDatab
       let apart = are_apart-same_items name_cmp_total (mapped name_of (with_placed-items name_cmp_total name_of stays (map empty m.targets))) ∙ apart_from_rises name_cmp_total (map name_of flat.tables) flat_database.tables_by_name in
       let not_before = none_from_test (look_up name_cmp name_of stays t.name) (is_some-look_up name_cmp_total name_of stays t.name ∙ has-kept live m empty (λ t. refl) t.name ∙ new_name) in
       let among : look_up name_cmp name_of (map empty m.targets) t.name ≡ Some (empty t) =
-      find-map (λ s. eq_by_cmp name_cmp (name_of s) t.name) empty m.targets ∙ (λ i. option_map empty (find (λ u. sym (same_name-tie u.name t.name) i) m.targets)) ∙ ap (option_map empty) e in
+        find-map (λ s. eq_by_cmp name_cmp (name_of s) t.name) empty m.targets ∙ (λ i. option_map empty (find (λ u. sym (same_name-tie u.name t.name) i) m.targets)) ∙ ap (option_map empty) e in
       let here : stored_at flat t.name ≡ Some (empty t) =
-      stored_at-look_up flat t.name
-      ∙ sym (look_up-same_items name_cmp_total name_of (with_placed-items name_cmp_total name_of stays (map empty m.targets)) apart t.name)
-      ∙ find-append (λ s. eq_by_cmp name_cmp (name_of s) t.name) stays (map empty m.targets)
-      ∙ ap₂ option_or not_before among in
+        stored_at-look_up flat t.name
+        ∙ sym (look_up-same_items name_cmp_total name_of (with_placed-items name_cmp_total name_of stays (map empty m.targets)) apart t.name)
+        ∙ find-append (λ s. eq_by_cmp name_cmp (name_of s) t.name) stays (map empty m.targets)
+        ∙ ap₂ option_or not_before among in
       ap (option_map (λ s. s.table)) here
 
   pub lazy_after_flip : IsLazy (flipped_lazily (record { live = live; last = last }) m)
@@ -163,12 +163,10 @@ module _ (live : Database) (last : Option Migration) (m : Migrate) (is : IsDatab
       old = is;
       fine = fine;
       targets = map_each _ (λ t. table_at flat t.name) (λ t. Some (target_table live t)) target_there m.targets found;
-      granules = refl;
-      once = refl;
     };
     valid =
-        list_all-with_placed name_cmp_total name_of (is_on_time (Some next)) stays (map empty m.targets)
-        ∙ and_from _ _ (list_all_each _ (is_on_time (Some next)) (on_time_itself (Some next)) stays nothing_in_what_stays) (list_all-map (is_on_time (Some next)) empty m.targets ∙ list_all_always m.targets);
+      list_all-with_placed name_cmp_total name_of (is_on_time (Some next)) stays (map empty m.targets)
+      ∙ and_from _ _ (list_all_each _ (is_on_time (Some next)) (on_time_itself (Some next)) stays nothing_in_what_stays) (list_all-map (is_on_time (Some next)) empty m.targets ∙ list_all_always m.targets);
   }
 
 pub flips_as_the_flip : (lazy : LazyState) (m : Migrate) → IsLazy lazy → pending_of lazy.last ≡ [] → migrate_objections lazy.live m ≡ [] → IsSeenAs (flipped (view_of lazy) m) (flipped_lazily lazy m)

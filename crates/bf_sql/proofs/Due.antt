@@ -1,23 +1,28 @@
 -- What the targets of a migration under way have of its granules.
-use Rattle.std.proofs.Common.{◌≡◌, ℕ, Bool, true, false, not, ◌&&◌, ◌||◌, cond, List, [], ◌∷◌, ◌++◌, map, get_or, filter, flat_map, find, Option, Some, None, option_map, refl, sym, ap, ap₂, ◌∙◌}
-use Rattle.std.specs.List.{list_all, AllByRecursion}
-use Rattle.std.proofs.lemmas.Bool.{and_parts}
+use Rattle.std.proofs.Common.{◌≡◌, ℕ, ◌<◌, Bool, true, false, not, ◌&&◌, ◌||◌, cond, List, [], ◌∷◌, ◌++◌, map, length, get_or, filter, flat_map, find, Option, Some, None, option_map, unwrap_or, refl, sym, ap, ap₂, subst, ◌∙◌, inl, inr, arith}
+use Rattle.std.specs.List.{list_any, list_all, AllByRecursion}
+use Rattle.std.specs.Ordering.{eq_by_cmp}
+use Rattle.std.proofs.lemmas.Bool.{and_parts, and_from, not_from_false, not-true, cases_Bool}
 use Rattle.std.proofs.lemmas.Cmp.{tied_itself}
 use Rattle.std.proofs.lemmas.List.{map-append}
 use Rattle.std.proofs.lemmas.List.Elements.{recursion_from_All, filter_agree}
 use Rattle.std.proofs.lemmas.List.Folds.{list_any-append, list_all-append}
+use Rattle.bf_base.specs.declared.value.Value.{Value}
+use Rattle.bf_base.specs.declared.table.Table.{Table}
 use Rattle.bf_base.specs.Lists.{same_name, same_key, has}
 use Rattle.bf_base.specs.Tables.{key_of}
-use Rattle.bf_base.specs.Values.{key_cmp_total}
+use Rattle.bf_base.specs.Values.{key_cmp, key_cmp_total}
 use Rattle.bf_base.proofs.Apart.{are_apart, apart-filter, apart_from_rises, apart_right, are_apart-same_items}
-use Rattle.bf_base.proofs.Items.{SameItems, no_items, parted, mapped, list_all-same_items, same_items_if, through}
+use Rattle.bf_base.proofs.Items.{SameItems, no_items, parted, mapped, list_any-same_items, list_all-same_items, same_items_if, through}
 use Rattle.bf_base.proofs.Names.{name_cmp_total}
 use Rattle.bf_base.proofs.Order.{same_from_some, look_up-at}
 use Rattle.bf_base.proofs.Parts.{filter-filter, filter_same}
+use Rattle.bf_sql.specs.declared.reply.Refusal.{Refusal}
 use Rattle.bf_sql.specs.declared.statement.Target.{Target}
+use Rattle.bf_sql.specs.declared.statement.Migrate.{Migrate}
 use Rattle.bf_sql.specs.Database.{Database, Stored, IsDatabase, stored_at, is_admitted}
 use Rattle.bf_sql.specs.Laws.{table_at, IsUnderWay}
-use Rattle.bf_sql.specs.Lazy.{Granule, Migration, same_granule, target_of, on_target, granules_of, part_of, pending, rows_of, due}
+use Rattle.bf_sql.specs.Lazy.{Granule, Migration, same_granule, target_of, on_target, granules_of, part_of, pending, rows_of, due, with_done}
 use Rattle.bf_sql.specs.Migrations.{target_table, target_objections, sources_of, image_of}
 use Rattle.bf_sql.proofs.Flipped.{keyed_source, admitted_source}
 use Rattle.bf_sql.proofs.Granules.{same_name-equal, same_granule-equal, same_granule-symmetric, granules_apart, sources_have, parts_make_the_image}
@@ -60,8 +65,8 @@ name_if_found db name s at = same_name-equal s.table.name name (passes_if_found 
 -- each table of a database is found by its name
 pub each_found : (db : Database) → IsDatabase db → AllByRecursion (λ s. stored_at db s.table.name ≡ Some s) db.tables
 each_found db is = recursion_from_All _ db.tables (λ k d within.
-    let s = get_or db.tables k d in
-    stored_at-look_up db s.table.name ∙ look_up-at name_cmp_total name_of db.tables k s.table.name d is.tables_by_name within (tied_itself name_cmp_total s.table.name))
+  let s = get_or db.tables k d in
+  stored_at-look_up db s.table.name ∙ look_up-at name_cmp_total name_of db.tables k s.table.name d is.tables_by_name within (tied_itself name_cmp_total s.table.name))
 
 -- the rows of some granules, and those of the others
 pub rows_of-parted : (last : Option Migration) (p : Granule → Bool) (granules : List Granule) (name : List ℕ)
@@ -139,7 +144,7 @@ not_both false true = refl
 not_both false false = refl
 
 -- a granule that waits behind another
-pub still_waits : (done : List Granule) (g h : Granule) → (not (has same_granule done h) && not (same_granule g h)) ≡ not (has same_granule (done ++ g ∷ []) h)
+still_waits : (done : List Granule) (g h : Granule) → (not (has same_granule done h) && not (same_granule g h)) ≡ not (has same_granule (done ++ g ∷ []) h)
 still_waits done g h = ap (λ b. not (has same_granule done h) && not b) (same_granule-symmetric g h) ∙ not_both (has same_granule done h) (same_granule h g) ∙ ap not (sym (list_any-append (same_granule h) done (g ∷ [])))
 
 -- a granule moves: what was pending is that granule and what is pending then

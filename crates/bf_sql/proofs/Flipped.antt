@@ -1,5 +1,5 @@
 -- A flip leaves a database a database, whether the rows come at once or later.
-use Rattle.std.proofs.Common.{◌≡◌, ℕ, Bool, true, false, not, ◌&&◌, ◌||◌, List, [], ◌∷◌, ◌++◌, map, refl, sym, ap, ap₂, ◌∙◌, filter, is_some}
+use Rattle.std.proofs.Common.{◌≡◌, ℕ, Bool, true, false, not, ◌&&◌, ◌||◌, List, [], ◌∷◌, ◌++◌, map, refl, sym, ap, ap₂, subst, ◌∙◌, arith, filter, flat_map, is_some}
 use Rattle.std.specs.List.{list_all, list_any}
 use Rattle.std.specs.Ordering.{eq_by_cmp}
 use Rattle.std.specs.FinMap.{IsAntisymmetric, nat_cmp-IsAntisymmetric, slice_cmp-IsAntisymmetric}
@@ -14,7 +14,7 @@ use Rattle.bf_sql.specs.declared.reply.Refusal.TheVariants as refusal
 use Rattle.bf_sql.specs.declared.statement.Target.{Target}
 use Rattle.bf_sql.specs.declared.statement.Migrate.{Migrate}
 use Rattle.bf_sql.specs.Database.{Database, Stored, IsDatabase, stored_at, is_keyed, is_key_within}
-use Rattle.bf_sql.specs.Migrations.{source_at, sources_of, target_table, target_objections, is_taken, migrate_objections, image_of, stored, replaced, flipped}
+use Rattle.bf_sql.specs.Migrations.{table_at, sources_of, target_table, target_objections, is_taken, migrate_objections, image_of, stored, replaced, flipped}
 use Rattle.bf_sql.proofs.Images.{source_there, image_keyed, image_admitted, target_key_within}
 use Rattle.bf_sql.proofs.Stored.{name_of, are_admitted, has-stored_at, all_at_name, list_all-filter}
 use Rattle.bf_sql.proofs.Unobjected.{none_left, none_right, none_when, none_of_each}
@@ -70,10 +70,10 @@ module _ (db : Database) (m : Migrate) (is : IsDatabase db) (none : migrate_obje
   of_each : (test : Stored → Bool) (f : Target → Stored) → ((t : Target) → target_objections db t ≡ [] → test (f t) ≡ true) → list_all test (map f m.targets) ≡ true
   of_each test f one = list_all-map test f m.targets ∙ none_of_each (target_objections db) (λ t. test (f t)) one m.targets (none_left _ _ none)
 
-  pub keyed_source : (t : Target) → target_objections db t ≡ [] → is_keyed (source_at db t.arm.from) ≡ true
+  pub keyed_source : (t : Target) → target_objections db t ≡ [] → is_keyed (table_at db t.arm.from) ≡ true
   keyed_source t e = all_at_name is_keyed db t.arm.from is.rows_by_key (source_there db t e)
 
-  pub admitted_source : (t : Target) → target_objections db t ≡ [] → are_admitted (source_at db t.arm.from) ≡ true
+  pub admitted_source : (t : Target) → target_objections db t ≡ [] → are_admitted (table_at db t.arm.from) ≡ true
   admitted_source t e = all_at_name are_admitted db t.arm.from is.rows_admitted (source_there db t e)
 
   pub keeps_flipped : IsDatabase (flipped db m)

@@ -1,13 +1,13 @@
 -- The granules of a migration are apart, and the parts that come of them make the images.
-use Rattle.std.proofs.Common.{◌≡◌, ℕ, zero, suc, ◌+◌, ◌<◌, true, false, not, ◌&&◌, ◌==◌, if◌then◌else◌, List, [], ◌∷◌, ◌++◌, map, fold, length, drop, flat_map, refl, sym, ap, ap₂, ◌∙◌, arith, is_eq, slice_range}
-use Rattle.std.specs.List.{list_all, range_with_len}
+use Rattle.std.proofs.Common.{◌≡◌, ℕ, zero, suc, ◌+◌, ◌<◌, Bool, true, false, not, ◌&&◌, ◌||◌, ◌==◌, cond, if◌then◌else◌, List, [], ◌∷◌, ◌++◌, map, fold, length, take, drop, filter, flat_map, find, Option, Some, None, refl, sym, ap, ap₂, subst, ◌∙◌, inl, inr, arith, is_eq, slice_range}
+use Rattle.std.specs.List.{list_any, list_all, range_with_len}
 use Rattle.std.proofs.Math.ListN.{drop_of_length-le}
 use Rattle.std.proofs.lemmas.Bool.Decides.{nat_tests}
-use Rattle.std.proofs.lemmas.Bool.{and_parts, and_from, and_left, and_right, or_left, or_right, or_from, not_from_false, eqb-true, ne_eqb}
+use Rattle.std.proofs.lemmas.Bool.{and_parts, and_from, and_left, and_right, or_left, or_right, or_parts, or_from, or_cases, not_from_false, not-true, eqb-true, eq-eqb, ne_eqb, false≢true}
 use Rattle.std.proofs.lemmas.Cmp.{tied_itself}
-use Rattle.std.proofs.lemmas.List.{map-append}
+use Rattle.std.proofs.lemmas.List.{append-nil, map-append}
 use Rattle.std.proofs.lemmas.List.Folds.{flat_map-map, drop_split, list_any-append}
-use Rattle.bf_base.specs.Lists.{same_name, has}
+use Rattle.bf_base.specs.Lists.{same_name, name_cmp, has}
 use Rattle.bf_base.specs.Tables.{cell}
 use Rattle.bf_base.proofs.Apart.{are_apart, apart-append}
 use Rattle.bf_base.proofs.Names.{name_cmp_total, same_name-tie, same_name-tie_back}
@@ -17,7 +17,7 @@ use Rattle.bf_sql.specs.declared.statement.Target.{Target}
 use Rattle.bf_sql.specs.declared.statement.Migrate.{Migrate}
 use Rattle.bf_sql.specs.Database.{Database}
 use Rattle.bf_sql.specs.Lazy.{Granule, same_granule, granules_of, part_of}
-use Rattle.bf_sql.specs.Migrations.{source_at, arm_rows, item_places, sources_of, image_of}
+use Rattle.bf_sql.specs.Migrations.{table_at, arm_rows, item_places, sources_of, image_of}
 use Rattle.bf_sql.proofs.Flipped.{name_cmp-IsAntisymmetric}
 
 pub same_name-equal : (a b : List ℕ) → same_name a b ≡ true → a ≡ b
@@ -105,10 +105,10 @@ blocks_across x y (p ∷ ps) qs e = and_from _ _ (not_from_false _ (none_elsewhe
 
 pub granules_apart : (old : Database) (m : Migrate) → are_apart same_granule (granules_of old m) ≡ true
 granules_apart old m =
-    apart-flat_map same_name same_granule (λ source. map (at source) (range_with_len 0 (length (source_at old source).rows)))
-    (λ source. block_apart source 0 (length (source_at old source).rows))
-    (λ x y e. blocks_across x y (range_with_len 0 (length (source_at old x).rows)) (range_with_len 0 (length (source_at old y).rows)) e)
-    (sources_of m) (sources_apart m)
+    apart-flat_map same_name same_granule (λ source. map (at source) (range_with_len 0 (length (table_at old source).rows)))
+        (λ source. block_apart source 0 (length (table_at old source).rows))
+        (λ x y e. blocks_across x y (range_with_len 0 (length (table_at old x).rows)) (range_with_len 0 (length (table_at old y).rows)) e)
+        (sources_of m) (sources_apart m)
 
 -- the rows of a list, one after the other
 rows_in_turn : {X Y : Type 0} (f : X → Y) (rows : List X) (n k : ℕ) → n + k ≡ length rows → flat_map (λ p. map f (slice_range rows p (p + 1))) (range_with_len n k) ≡ map f (drop n rows)
@@ -120,15 +120,15 @@ rows_in_turn f rows n (suc k) e =
 -- PARTS MAKE THE IMAGE, each row of it once
 pub parts_make_the_image : (old : Database) (m : Migrate) (t : Target) → has same_name (sources_of m) t.arm.from ≡ true → flat_map (part_of old m t) (granules_of old m) ≡ image_of old t
 parts_make_the_image old m t there =
-    let rows = (source_at old t.arm.from).rows in
-    let block : List ℕ → List Granule = λ source. map (at source) (range_with_len 0 (length (source_at old source).rows)) in
+    let rows = (table_at old t.arm.from).rows in
+    let block : List ℕ → List Granule = λ source. map (at source) (range_with_len 0 (length (table_at old source).rows)) in
     let own : flat_map (part_of old m t) (block t.arm.from) ≡ image_of old t =
-    flat_map-map (part_of old m t) (at t.arm.from) (range_with_len 0 (length rows))
-    ∙ (λ i. flat_map (λ p. if same_name-itself t.arm.from i then arm_rows old t.arm (slice_range rows p (p + 1)) else []) (range_with_len 0 (length rows)))
-    ∙ rows_in_turn (λ row. map (cell row) (item_places old t.arm)) rows 0 (length rows) (omega arith) in
+      flat_map-map (part_of old m t) (at t.arm.from) (range_with_len 0 (length rows))
+      ∙ (λ i. flat_map (λ p. if same_name-itself t.arm.from i then arm_rows old t.arm (slice_range rows p (p + 1)) else []) (range_with_len 0 (length rows)))
+      ∙ rows_in_turn (λ row. map (cell row) (item_places old t.arm)) rows 0 (length rows) (omega arith) in
     let others : (x : List ℕ) → same_name t.arm.from x ≡ false → flat_map (part_of old m t) (block x) ≡ [] = λ x e.
-    flat_map-map (part_of old m t) (at x) (range_with_len 0 (length (source_at old x).rows))
-    ∙ flat_map_none (λ p. part_of old m t (at x p)) (λ p. ap (λ b. if b then arm_rows old t.arm (slice_range (source_at old x).rows p (p + 1)) else []) e) (range_with_len 0 (length (source_at old x).rows)) in
+      flat_map-map (part_of old m t) (at x) (range_with_len 0 (length (table_at old x).rows))
+      ∙ flat_map_none (λ p. part_of old m t (at x p)) (λ p. ap (λ b. if b then arm_rows old t.arm (slice_range (table_at old x).rows p (p + 1)) else []) e) (range_with_len 0 (length (table_at old x).rows)) in
     flat_map-flat_map (part_of old m t) block (sources_of m)
     ∙ flat_map_of_one same_name (λ source. flat_map (part_of old m t) (block source)) t.arm.from others (λ x e. same_name-equal t.arm.from x e) (sources_of m) (sources_apart m) there
     ∙ own

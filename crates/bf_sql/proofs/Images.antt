@@ -1,8 +1,8 @@
 -- The image of a target to which there is no objection: its rows are admitted, and have the keys of the old rows.
-use Rattle.std.proofs.Common.{◌≡◌, ℕ, zero, suc, ◌+◌, ◌<◌, true, false, not, nat_lt, nat_eq, List, [], ◌∷◌, map, length, get_or, position, refl, sym, ap, ap₂, subst, ◌∙◌, zero-add, inl, inr, ◌==◌, arith, zip, Some, None, is_some, slice_index_or}
+use Rattle.std.proofs.Common.{◌≡◌, ℕ, zero, suc, ◌+◌, ◌<◌, Bool, true, false, not, ◌&&◌, cond, nat_lt, nat_eq, List, [], ◌∷◌, ◌++◌, map, length, get_or, position, refl, sym, ap, ap₂, subst, ◌∙◌, zero-add, inl, inr, ◌==◌, arith, filter, flat_map, zip, Option, Some, None, is_some, slice_index_or, if◌then◌else◌}
 use lib.ListN.{length-map}
 use Rattle.std.specs.List.{list_all, filter_map, cons_option, enumerate_from}
-use Rattle.std.proofs.lemmas.Bool.{and_from, and_parts, lt-ltb, ltb-true, not-false, cases_Bool, eqb-true, eq-eqb, false≢true}
+use Rattle.std.proofs.lemmas.Bool.{and_from, and_parts, lt-ltb, ltb-true, not-false, not-true, cases_Bool, eqb-true, eq-eqb, false≢true}
 use Rattle.std.proofs.lemmas.List.{get_or-map}
 use Rattle.std.proofs.lemmas.List.Folds.{list_all-map}
 use Rattle.std.proofs.lemmas.List.Quantifiers.{position-Some}
@@ -11,17 +11,18 @@ use Rattle.bf_base.specs.declared.value.Value.{Value}
 use Rattle.bf_base.specs.declared.table.Admit.{Admit}
 use Rattle.bf_base.specs.declared.table.Column.{Column}
 use Rattle.bf_base.specs.declared.table.Table.{Table}
-use Rattle.bf_base.specs.Lists.{rises, in_order}
+use Rattle.bf_base.specs.Lists.{rises, in_order, when}
 use Rattle.bf_base.specs.Tables.{cell, cells, key_of, fit_of}
 use Rattle.bf_base.specs.Values.{key_cmp, key_cmp_total}
 use Rattle.bf_base.proofs.Apart.{in_order-rises}
+use Rattle.bf_sql.specs.declared.reply.Refusal.{Refusal}
 use Rattle.bf_sql.specs.declared.reply.Refusal.TheVariants as refusal
 use Rattle.bf_sql.specs.declared.statement.Ref.{Ref}
 use Rattle.bf_sql.specs.declared.statement.Item.{Item}
 use Rattle.bf_sql.specs.declared.statement.Target.{Target}
 use Rattle.bf_sql.specs.Conditions.{places_of, place_of_ref, admitted_by, ref_objections}
-use Rattle.bf_sql.specs.Database.{Database, stored_at, is_fit, is_admitted, is_keyed, is_key_within}
-use Rattle.bf_sql.specs.Migrations.{source_at, item_ref, item_places, key_items, target_table, target_objections, image_of, stored}
+use Rattle.bf_sql.specs.Database.{Database, Stored, stored_at, is_fit, is_admitted, is_keyed, is_key_within}
+use Rattle.bf_sql.specs.Migrations.{table_at, item_ref, item_places, key_items, arm_rows, target_table, target_objections, image_of, stored}
 use Rattle.bf_sql.proofs.Stored.{are_admitted, list_all-filter, list_all-if}
 use Rattle.bf_sql.proofs.Unobjected.{none_left, none_right, none_when, none_of_each}
 
@@ -81,7 +82,7 @@ fits_at (c ∷ cs) (v ∷ vs) zero d counted fits within = (and_parts _ _ fits).
 fits_at (c ∷ cs) (v ∷ vs) (suc place) d counted fits within = fits_at cs vs place d (omega arith) (and_parts _ _ fits).1 (omega arith)
 
 -- what an admitted row is
-counted_if : (table : Table) (row : List Value) → is_admitted table row ≡ true → length row ≡ length table.columns
+pub counted_if : (table : Table) (row : List Value) → is_admitted table row ≡ true → length row ≡ length table.columns
 counted_if table row admitted = elim (cases_Bool (length row == length table.columns)) [
   | inl counted ↦ eqb-true (length row) (length table.columns) counted
   | inr other ↦ absurd (false≢true (rw other at admitted))
@@ -108,10 +109,10 @@ items_fit table row (i ∷ is) admitted within =
     let first = fits_at table.columns row place _ (counted_if table row admitted) (fits_if table row admitted) (ltb-true place (length table.columns) (and_parts _ _ within).0) in
     and_from _ _ first (items_fit table row is admitted (and_parts _ _ within).1)
 
-items_admitted : (old : Database) (t : Target) (row : List Value) → list_all (λ i. nat_lt (place_of_ref (source_at old t.arm.from).table (item_ref i)) (length (source_at old t.arm.from).table.columns)) t.arm.items ≡ true
-    → is_admitted (source_at old t.arm.from).table row ≡ true → is_admitted (target_table old t) (map (cell row) (item_places old t.arm)) ≡ true
+items_admitted : (old : Database) (t : Target) (row : List Value) → list_all (λ i. nat_lt (place_of_ref (table_at old t.arm.from).table (item_ref i)) (length (table_at old t.arm.from).table.columns)) t.arm.items ≡ true
+    → is_admitted (table_at old t.arm.from).table row ≡ true → is_admitted (target_table old t) (map (cell row) (item_places old t.arm)) ≡ true
 items_admitted old t row within admitted =
-    let table = (source_at old t.arm.from).table in
+    let table = (table_at old t.arm.from).table in
     let counted = length-map (item_places old t.arm) (cell row) ∙ length-map t.arm.items (λ i. place_of_ref table (item_ref i)) ∙ sym (length-map t.arm.items (item_column table)) in
     admitted_from (target_table old t) (map (cell row) (item_places old t.arm)) counted (items_fit table row t.arm.items admitted within)
 
@@ -120,36 +121,36 @@ module _ (old : Database) (t : Target) (none : target_objections old t ≡ []) w
   pub source_there : is_some (stored_at old t.arm.from) ≡ true
   source_there = not-false _ (none_when (not (is_some (stored_at old t.arm.from))) (refusal.SourceUnknown t.arm.from) (none_left _ _ (none_left _ _ (none_left _ _ none))))
 
-  items_within : list_all (λ i. nat_lt (place_of_ref (source_at old t.arm.from).table (item_ref i)) (length (source_at old t.arm.from).table.columns)) t.arm.items ≡ true
+  pub items_within : list_all (λ i. nat_lt (place_of_ref (table_at old t.arm.from).table (item_ref i)) (length (table_at old t.arm.from).table.columns)) t.arm.items ≡ true
   items_within =
-      let table = (source_at old t.arm.from).table in
+      let table = (table_at old t.arm.from).table in
       none_of_each (λ i. ref_objections table (item_ref i)) _ (λ i e. ref_within table (item_ref i) e) t.arm.items (none_right _ _ (none_left _ _ (none_left _ _ none)))
 
   -- the rows of the image have the keys of the old rows
-  pub image_keys : map (key_of (target_table old t)) (image_of old t) ≡ map (key_of (source_at old t.arm.from).table) (source_at old t.arm.from).rows
+  pub image_keys : map (key_of (target_table old t)) (image_of old t) ≡ map (key_of (table_at old t.arm.from).table) (table_at old t.arm.from).rows
   image_keys =
-      let source = source_at old t.arm.from in
+      let source = table_at old t.arm.from in
       let given = not-false _ (none_when (not (list_all is_some (key_items old t.arm))) (refusal.KeyNotInherited t.name) (none_right _ _ none)) in
       map-map (key_of (target_table old t)) (λ row. map (cell row) (item_places old t.arm)) source.rows ∙ (λ i. map (λ row. inherited_key (cell row) (item_places old t.arm) source.table.key given i) source.rows)
 
   -- so they are in order
-  pub image_rises : is_keyed (source_at old t.arm.from) ≡ true → rises key_cmp (map (key_of (target_table old t)) (image_of old t)) ≡ true
+  pub image_rises : is_keyed (table_at old t.arm.from) ≡ true → rises key_cmp (map (key_of (target_table old t)) (image_of old t)) ≡ true
   image_rises keyed = ap (rises key_cmp) image_keys ∙ keyed
 
-  pub stored_image : is_keyed (source_at old t.arm.from) ≡ true → in_order key_cmp (key_of (target_table old t)) (image_of old t) ≡ image_of old t
+  pub stored_image : is_keyed (table_at old t.arm.from) ≡ true → in_order key_cmp (key_of (target_table old t)) (image_of old t) ≡ image_of old t
   stored_image keyed = in_order-rises key_cmp_total (key_of (target_table old t)) (image_of old t) (image_rises keyed)
 
-  pub image_keyed : is_keyed (source_at old t.arm.from) ≡ true → is_keyed (stored (target_table old t) (image_of old t)) ≡ true
+  pub image_keyed : is_keyed (table_at old t.arm.from) ≡ true → is_keyed (stored (target_table old t) (image_of old t)) ≡ true
   image_keyed keyed = ap (λ rows. rises key_cmp (map (key_of (target_table old t)) rows)) (stored_image keyed) ∙ image_rises keyed
 
-  pub image_admitted : is_keyed (source_at old t.arm.from) ≡ true → are_admitted (source_at old t.arm.from) ≡ true → are_admitted (stored (target_table old t) (image_of old t)) ≡ true
+  pub image_admitted : is_keyed (table_at old t.arm.from) ≡ true → are_admitted (table_at old t.arm.from) ≡ true → are_admitted (stored (target_table old t) (image_of old t)) ≡ true
   image_admitted keyed admitted =
-      let source = source_at old t.arm.from in
+      let source = table_at old t.arm.from in
       let each = list_all-if (is_admitted source.table) (λ row. is_admitted (target_table old t) (map (cell row) (item_places old t.arm))) (λ row e. items_admitted old t row items_within e) source.rows admitted in
       ap (list_all (is_admitted (target_table old t))) (stored_image keyed) ∙ list_all-map (is_admitted (target_table old t)) (λ row. map (cell row) (item_places old t.arm)) source.rows ∙ each
 
   pub target_key_within : is_key_within (stored (target_table old t) (image_of old t)) ≡ true
   target_key_within =
-      let source = source_at old t.arm.from in
+      let source = table_at old t.arm.from in
       let as_many : length (item_places old t.arm) ≡ length (target_table old t).columns = length-map t.arm.items (λ i. place_of_ref source.table (item_ref i)) ∙ sym (length-map t.arm.items (item_column source.table)) in
       subst (λ n. list_all (λ j. nat_lt j n) (target_table old t).key ≡ true) as_many (inherited_within (item_places old t.arm) source.table.key)

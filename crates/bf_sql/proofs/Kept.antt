@@ -2,14 +2,14 @@
 use Rattle.std.proofs.Common.{◌≡◌, ℕ, Bool, true, false, cond, if◌then◌else◌, List, [], ◌∷◌, ◌++◌, map, length, refl, sym, ap, ap₂, ◌∙◌, flat_map, filter, Option, Some, None, is_some}
 use Rattle.std.specs.Ordering.{eq_by_cmp}
 use Rattle.std.specs.List.{list_all}
-use Rattle.std.proofs.lemmas.Bool.{and_from}
+use Rattle.std.proofs.lemmas.Bool.{and_from, and_parts}
 use Rattle.bf_base.specs.declared.value.Value.{Value}
 use Rattle.bf_base.specs.declared.table.Table.{Table}
 use Rattle.bf_base.specs.Lists.{same_name, name_cmp, rises, with_placed}
 use Rattle.bf_base.specs.Tables.{key_of}
 use Rattle.bf_base.specs.Values.{key_cmp, key_cmp_total}
 use Rattle.bf_base.proofs.Names.{name_cmp_total, same_name-tie}
-use Rattle.bf_base.proofs.Order.{changed_at, rises-placed, rises-with_placed, list_all-placed, list_all-with_placed, list_all-changed_at}
+use Rattle.bf_base.proofs.Order.{same_from_some, look_up, changed_at, rises-placed, rises-with_placed, list_all-placed, list_all-with_placed, is_some-look_up, list_all-changed_at}
 use Rattle.bf_sql.specs.declared.history.Entry.{Entry}
 use Rattle.bf_sql.specs.declared.history.Outcome.{Outcome}
 use Rattle.bf_sql.specs.declared.history.Outcome.TheVariants.{Committed}

@@ -1,18 +1,24 @@
 -- The key of a table is one of its own columns.
-use Rattle.std.proofs.Common.{◌≡◌, ℕ, ◌+◌, ◌<◌, Bool, true, false, not, ◌||◌, cond, nat_lt, List, [], ◌∷◌, ◌++◌, length, sym, ap, subst, ◌∙◌, inl, inr, ◌==◌, arith}
+use Rattle.std.proofs.Common.{◌≡◌, ℕ, ◌+◌, ◌<◌, Bool, true, false, not, ◌&&◌, ◌||◌, cond, if◌then◌else◌, nat_lt, List, [], ◌∷◌, ◌++◌, map, length, refl, sym, ap, subst, ◌∙◌, inl, inr, ◌==◌, arith, Option, Some, None}
 use lib.ListN.{length-map}
 use Rattle.std.specs.List.{list_any, list_all, position_or_len}
 use Rattle.std.proofs.lemmas.List.Folds.{list_all-map}
-use Rattle.std.proofs.lemmas.Bool.{lt-ltb, not-false, cases_Bool, eqb-true, false≢true}
+use Rattle.std.proofs.lemmas.Bool.{and_from, and_parts, lt-ltb, not-false, cases_Bool, eqb-true, false≢true}
 use Rattle.bf_base.specs.declared.value.Value.{Value}
 use Rattle.bf_base.specs.Lists.{same_name, has, when, with_before}
 use Rattle.bf_base.specs.Tables.{IsKeyWithin}
+use Rattle.bf_base.proofs.Names.{name_cmp_total}
+use Rattle.bf_base.proofs.Order.{list_all-placed}
+use Rattle.bf_sql.specs.declared.reply.Refusal.{Refusal}
 use Rattle.bf_sql.specs.declared.reply.Refusal.TheVariants as refusal
+use Rattle.bf_sql.specs.declared.reply.Reply.{Reply}
 use Rattle.bf_sql.specs.declared.statement.ColumnRule.{ColumnRule}
+use Rattle.bf_sql.specs.declared.statement.Statement.{Statement}
+use Rattle.bf_sql.specs.declared.statement.Statement.TheVariants.{CreateTable, Insert, Select}
 use Rattle.bf_sql.specs.Database.{Stored, is_admitted, is_key_within}
-use Rattle.bf_sql.specs.Meaning.{table_of, place_of, admit_of}
-use Rattle.bf_sql.specs.Refusals.{rule_names, names_objections, twice}
-use Rattle.bf_sql.proofs.Unobjected.{none_left, none_when, none_of_each, list_all-with_before_from}
+use Rattle.bf_sql.specs.Meaning.{executed, effect, unless_refused, on_table, table_of, place_of, admit_of}
+use Rattle.bf_sql.specs.Refusals.{objections, row_objections, rule_names, names_objections, twice}
+use Rattle.bf_sql.proofs.Unobjected.{none_left, none_right, none_when, none_of_each, list_all-with_before_from}
 
 -- where some item passes, the first that does has a place
 placed_within : {X : Type 0} (p : X → Bool) (xs : List X) → list_any p xs ≡ true → position_or_len p xs < length xs

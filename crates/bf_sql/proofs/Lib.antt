@@ -11,7 +11,6 @@ pub mod Moving
 mod OneMoves
 mod RowThree
 pub mod Same
-pub mod Served
 pub mod Serving
 pub mod Spelling
 pub mod Stored

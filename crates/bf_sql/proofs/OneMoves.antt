@@ -3,8 +3,10 @@ use Rattle.std.specs.Prelude.{◌≡◌, ℕ, pos, List, [], ◌∷◌, ◌++◌
 use Rattle.bf_base.specs.declared.value.Value.{Value as Datum}
 use Rattle.bf_base.specs.declared.value.Value.TheVariants.{Int}
 use Rattle.bf_base.specs.declared.table.Admit.TheVariants as admit
+use Rattle.bf_sql.specs.declared.history.Entry.{Entry}
 use Rattle.bf_sql.specs.declared.history.Sweep.TheVariants.{Complete, Running}
 use Rattle.bf_sql.specs.declared.reply.Refusal.TheVariants as refusal
+use Rattle.bf_sql.specs.declared.reply.Reply.{Reply}
 use Rattle.bf_sql.specs.declared.reply.Reply.TheVariants as reply
 use Rattle.bf_sql.specs.declared.reply.Cell.TheVariants as cells
 use Rattle.bf_sql.specs.declared.statement.ColumnForm.TheVariants as form
@@ -19,8 +21,7 @@ use Rattle.bf_sql.specs.declared.statement.Statement.{Statement}
 use Rattle.bf_sql.specs.declared.statement.Statement.TheVariants.{CreateTable, Insert, Select, Migrate}
 use Rattle.bf_sql.specs.Database.{Database, empty_database}
 use Rattle.bf_sql.specs.History.{run_group}
-use Rattle.bf_sql.specs.Laws.{IsLazy}
-use Rattle.bf_sql.specs.Lazy.{LazyState, view_of, flipped_lazily, served_all}
+use Rattle.bf_sql.specs.Lazy.{LazyState, view_of, flipped_lazily}
 use Rattle.bf_sql.specs.Migrations.{flipped}
 use Rattle.bf_sql.specs.Movement.{migration_after, sweep_of}
 use Rattle.bf_sql.proofs.Spelling.{one, rule, column, table, stored, database}
@@ -95,18 +96,3 @@ before_flip = (run_group empty_database first_part).1
 
 view : view_of (flipped_lazily (record { live = before_flip; last = None }) change) ≡ flipped before_flip change
 view = refl
-
--- the statements as a lazy state serves them
-abbrev nothing_yet : LazyState
-nothing_yet = record { live = empty_database; last = None }
-
-served_longer : (served_all nothing_yet longer).0 ≡ (run_group empty_database longer).0
-served_longer = refl
-
--- the live tables before the last statement: one row has moved
-kept_before : (served_all nothing_yet statements).1.live
-    ≡ database 2 (one (stored (table (codes "u") (column (codes "n") admit.Int ∷ column (codes "id") admit.Int ∷ []) (one 1)) (one (two 20 2))))
-kept_before = refl
-
-is_lazy : IsLazy nothing_yet
-is_lazy = record { live = record { tables_by_name = refl; rows_by_key = refl; rows_admitted = refl; keys_within = refl }; last = tt; valid = refl }

@@ -1,25 +1,27 @@
 -- A statement on the live tables agrees with the view where what it needs has moved.
-use Rattle.std.proofs.Common.{◌≡◌, ℕ, Bool, true, false, not, ◌||◌, cond, if◌then◌else◌, List, [], ◌∷◌, ◌++◌, map, filter, flat_map, length, Option, Some, None, is_some, option_map, refl, sym, ap, ap₂, subst, ◌∙◌, inl, inr}
-use Rattle.std.specs.List.{list_any, list_all}
-use Rattle.std.proofs.lemmas.Bool.{and_from, or_parts, false≢true, cases_Bool}
+use Rattle.std.proofs.Common.{◌≡◌, ℕ, Bool, true, false, not, ◌&&◌, ◌||◌, cond, if◌then◌else◌, List, [], ◌∷◌, ◌++◌, map, filter, flat_map, find, fold, length, Option, Some, None, is_some, option_map, refl, sym, ap, ap₂, subst, ◌∙◌, inl, inr, arith}
+use Rattle.std.specs.List.{list_any, list_all, AllByRecursion}
+use Rattle.std.proofs.lemmas.Bool.{and_parts, and_from, or_parts, or_from, not_from_false, not-true, false≢true, cases_Bool}
 use Rattle.std.proofs.lemmas.Grind.{fold-append}
 use Rattle.std.proofs.lemmas.List.{map-append}
 use Rattle.std.proofs.lemmas.List.Folds.{list_any-append, list_all-map}
 use Rattle.std.proofs.lemmas.Simd.{map-map}
 use Rattle.bf_base.specs.declared.value.Value.{Value}
 use Rattle.bf_base.specs.declared.table.Table.{Table}
-use Rattle.bf_base.specs.Lists.{same_name, same_key, has, placed, with_placed, with_before_from, name_cmp, when}
+use Rattle.bf_base.specs.Lists.{same_name, same_key, has, placed, with_placed, with_before, with_before_from, name_cmp, when}
 use Rattle.bf_base.specs.Tables.{key_of}
 use Rattle.bf_base.specs.Values.{key_cmp, key_cmp_total}
-use Rattle.bf_base.proofs.Apart.{are_apart, apart_from_rises, apart_right, apart-append, are_apart-same_items, with_placed-same_items, with_placed-items, filter-with_placed, map-placed}
-use Rattle.bf_base.proofs.Items.{mapped, other_way}
+use Rattle.bf_base.proofs.Apart.{are_apart, apart_from_rises, apart_left, apart_right, apart-append, are_apart-same_items, with_placed-same_items, with_placed-items, filter-with_placed, map-placed}
+use Rattle.bf_base.proofs.Items.{SameItems, mapped, other_way}
 use Rattle.bf_base.proofs.Names.{name_cmp_total}
 use Rattle.bf_base.proofs.Order.{same_from_some, symmetric, list_any-map, list_all-placed, list_all-with_placed, has-with_placed, rises-with_placed}
-use Rattle.bf_base.proofs.Parts.{filter_all, filter_none, find-placed, map_each, map_agree_then, list_all_each, nothing_left, has_either_way, all_not_from_none, none_fails}
+use Rattle.bf_base.proofs.Parts.{filter_all, filter_none, find-map, find-placed, map_each, map_agree_then, list_all_each, nothing_left, has_either_way, all_not_from_none, none_fails}
+use Rattle.bf_sql.specs.declared.reply.Cell.{Cell}
 use Rattle.bf_sql.specs.declared.reply.Refusal.{Refusal}
 use Rattle.bf_sql.specs.declared.reply.Refusal.TheVariants as refusal
 use Rattle.bf_sql.specs.declared.reply.Reply.{Reply}
 use Rattle.bf_sql.specs.declared.reply.Reply.TheVariants as reply
+use Rattle.bf_sql.specs.declared.statement.ColumnRule.{ColumnRule}
 use Rattle.bf_sql.specs.declared.statement.List.{List as Items}
 use Rattle.bf_sql.specs.declared.statement.RawCond.{RawCond}
 use Rattle.bf_sql.specs.declared.statement.Statement.{Statement}
@@ -28,10 +30,10 @@ use Rattle.bf_sql.specs.declared.statement.Migrate.{Migrate as Change}
 use Rattle.bf_sql.specs.declared.statement.Target.{Target}
 use Rattle.bf_sql.specs.Conditions.{satisfies, cond_objections}
 use Rattle.bf_sql.specs.Database.{Database, Stored, IsDatabase, stored_at, with_new_table, with_rows, is_keyed}
-use Rattle.bf_sql.specs.Laws.{table_at, IsUnderWayIfAny, IsLazy, IsSeenAs, HaveMoved}
-use Rattle.bf_sql.specs.Lazy.{Granule, Migration, LazyState, same_granule, target_of, on_target, granules_of, part_of, giving, needed, none_if_refused, needed_by, pending, pending_of, done_of, due, is_early, is_on_time, seen, view_of, flipped_lazily, unless_objected, after_statement}
+use Rattle.bf_sql.specs.Laws.{table_at, IsUnderWay, IsUnderWayIfAny, IsLazy, IsSeenAs, HaveMoved}
+use Rattle.bf_sql.specs.Lazy.{Granule, Migration, LazyState, same_granule, target_of, on_target, granules_of, part_of, giving, needed, none_if_refused, needed_by, pending, pending_of, done_of, rows_of, due, is_early, is_on_time, seen, view_of, flipped_lazily, unless_objected, after_statement}
 use Rattle.bf_sql.specs.Meaning.{executed, effect, unless_refused, on_table, selected, table_of}
-use Rattle.bf_sql.specs.Migrations.{target_table}
+use Rattle.bf_sql.specs.Migrations.{target_table, migrate_objections}
 use Rattle.bf_sql.specs.Refusals.{objections, row_objections, judge, tuple_objections, insert_objections, taken_key, unfit_values}
 use Rattle.bf_sql.proofs.Alike.{stored_in_view, same_objections}
 use Rattle.bf_sql.proofs.Beginning.{seen_itself, view_itself, flips_as_the_flip}
@@ -39,8 +41,8 @@ use Rattle.bf_sql.proofs.Due.{passes_if_found, agree_at_found, name_if_found, ea
 use Rattle.bf_sql.proofs.Granules.{same_name-equal}
 use Rattle.bf_sql.proofs.Kept.{keeps_effect}
 use Rattle.bf_sql.proofs.Moving.{table_at-kept}
-use Rattle.bf_sql.proofs.Stored.{name_of, all_at_found}
-use Rattle.bf_sql.proofs.Unobjected.{none_left, none_when, new_where_none}
+use Rattle.bf_sql.proofs.Stored.{name_of, all_at_found, list_all-if}
+use Rattle.bf_sql.proofs.Unobjected.{none_left, none_right, none_when, new_where_none}
 
 pub record Agrees (lazy : LazyState) (s : Statement) : Type 0 where
   pub reply : (executed lazy.live s).0 ≡ (executed (view_of lazy) s).0
@@ -124,15 +126,13 @@ module _ (lazy : LazyState) (is : IsLazy lazy) where
       old = way.old;
       fine = way.fine;
       targets = map_agree_then (λ t. table_at lazy.live t.name) (λ t. Some (target_table last.old t)) (λ t. table_at (with_new_table lazy.live table) t.name)
-          (λ t e. other_table t.name (target_table last.old t) e) last.migrate.targets way.targets;
-      granules = way.granules;
-      once = way.once;
+        (λ t e. other_table t.name (target_table last.old t) e) last.migrate.targets way.targets;
     }
 
     create_agrees : IsDatabase (with_new_table lazy.live table) → IsSeenAs (with_new_table view table) (record lazy { live = with_new_table lazy.live table })
     create_agrees is_database =
         let tables = map-placed name_cmp_total name_of name_of (seen lazy.last) (λ s. refl) lazy.live.tables new
-        ∙ ap (placed name_cmp name_of view.tables) (seen_itself lazy.last new (nothing_due lazy.last is.last)) in
+          ∙ ap (placed name_cmp name_of view.tables) (seen_itself lazy.last new (nothing_due lazy.last is.last)) in
         record {
           lazy_state = record {
             live = is_database;
@@ -202,16 +202,17 @@ module _ (lazy : LazyState) (is : IsLazy lazy) where
         let kept : effect lazy.live st ≡ act lazy.live s = ap (λ o. on_table o lazy.live (act lazy.live)) at in
         let shown : effect view st ≡ act view (seen lazy.last s) = ap (λ o. on_table o view (act view)) seen_at in
         agrees_if st (record lazy { live = (effect lazy.live st).1 }) (live_settled lazy (objections lazy.live st ++ row_objections lazy.live st) (effect lazy.live st)) (λ e. refl)
-        (λ e r.
-        let moved' : list_all (has same_granule (done_of lazy.last)) (needed_on lazy.last own_name (selecting cond)) ≡ true =
-        ap (list_all (has same_granule (done_of lazy.last))) (sym (need_of_select lazy.last view list own_name cond (same_objections lazy st ∙ e))) ∙ moved in
-        let none = none_due_passes s at (selecting cond) lazy.last is.last moved' in
-        let rows : filter (satisfies s.table cond) (seen lazy.last s).rows ≡ filter (satisfies s.table cond) s.rows =
-        ap (filter (satisfies s.table cond)) (seen_rows s at) ∙ filter-with_placed key_cmp_total (key_of s.table) (satisfies s.table cond) s.rows coming none in
-        let here : IsSeenAs view (record lazy { live = lazy.live }) = record { lazy_state = is; view = refl } in (
-          ap (λ d. d.0) kept ∙ ap (λ rows. reply.Rows (selected list rows)) (sym rows) ∙ sym (ap (λ d. d.0) shown),
-          subst (λ d. IsSeenAs d.1 (record lazy { live = (effect lazy.live st).1 })) (sym shown) (subst (λ d. IsSeenAs view (record lazy { live = d.1 })) (sym kept) here),
-        ))
+          (λ e r.
+            let moved' : list_all (has same_granule (done_of lazy.last)) (needed_on lazy.last own_name (selecting cond)) ≡ true =
+              ap (list_all (has same_granule (done_of lazy.last))) (sym (need_of_select lazy.last view list own_name cond (same_objections lazy st ∙ e))) ∙ moved in
+            let none = none_due_passes s at (selecting cond) lazy.last is.last moved' in
+            let rows : filter (satisfies s.table cond) (seen lazy.last s).rows ≡ filter (satisfies s.table cond) s.rows =
+              ap (filter (satisfies s.table cond)) (seen_rows s at) ∙ filter-with_placed key_cmp_total (key_of s.table) (satisfies s.table cond) s.rows coming none in
+            let here : IsSeenAs view (record lazy { live = lazy.live }) = record { lazy_state = is; view = refl } in
+            (
+              ap (λ d. d.0) kept ∙ ap (λ rows. reply.Rows (selected list rows)) (sym rows) ∙ sym (ap (λ d. d.0) shown),
+              subst (λ d. IsSeenAs d.1 (record lazy { live = (effect lazy.live st).1 })) (sym shown) (subst (λ d. IsSeenAs view (record lazy { live = d.1 })) (sym kept) here),
+            ))
 
     -- INSERT
     module _ (tuples : List (List Value)) (new : list_any (has same_key (keys coming)) (keys tuples) ≡ false) where
@@ -220,14 +221,14 @@ module _ (lazy : LazyState) (is : IsLazy lazy) where
       taken_alike earlier tuple free =
           let k = key_of s.table tuple in
           let split : (rows : List (List Value)) → has same_key (keys (rows ++ earlier)) k ≡ (has same_key (keys rows) k || has same_key (keys earlier) k) = λ rows.
-          ap (λ ks. has same_key ks k) (map-append (key_of s.table) rows earlier) ∙ list_any-append (same_key k) (keys rows) (keys earlier) in
+            ap (λ ks. has same_key ks k) (map-append (key_of s.table) rows earlier) ∙ list_any-append (same_key k) (keys rows) (keys earlier) in
           let shown : has same_key (keys (seen lazy.last s).rows) k ≡ has same_key (keys s.rows) k =
-          ap (λ rows. has same_key (keys rows) k) (seen_rows s at)
-          ∙ has-with_placed key_cmp_total (key_of s.table) s.rows coming k
-          ∙ ap (λ ks. has same_key ks k) (map-append (key_of s.table) s.rows coming)
-          ∙ list_any-append (same_key k) (keys s.rows) (keys coming)
-          ∙ ap (λ b. has same_key (keys s.rows) k || b) free
-          ∙ or_false (has same_key (keys s.rows) k) in
+            ap (λ rows. has same_key (keys rows) k) (seen_rows s at)
+            ∙ has-with_placed key_cmp_total (key_of s.table) s.rows coming k
+            ∙ ap (λ ks. has same_key ks k) (map-append (key_of s.table) s.rows coming)
+            ∙ list_any-append (same_key k) (keys s.rows) (keys coming)
+            ∙ ap (λ b. has same_key (keys s.rows) k || b) free
+            ∙ or_false (has same_key (keys s.rows) k) in
           split (seen lazy.last s).rows ∙ ap (λ b. b || has same_key (keys earlier) k) shown ∙ sym (split s.rows)
         where
           or_false : (b : Bool) → (b || false) ≡ b
@@ -288,9 +289,9 @@ module _ (lazy : LazyState) (is : IsLazy lazy) where
       seen_changed : (u : Stored) → stored_at lazy.live u.table.name ≡ Some u → seen lazy.last (changed u) ≡ (if same_name u.table.name own_name then record (seen lazy.last u) { rows = seen_then } else seen lazy.last u)
       seen_changed u found = elim (same_name u.table.name own_name) as (λ b. same_name u.table.name own_name ≡ b
           → seen lazy.last (if b then record u { rows = kept_rows } else u) ≡ (if b then record (seen lazy.last u) { rows = seen_then } else seen lazy.last u)) [
-            | true ↦ λ e. subst (λ (w : Stored). seen lazy.last (record w { rows = kept_rows }) ≡ record (seen lazy.last w) { rows = seen_then }) (sym (it_is u found e)) same_seen
-            | false ↦ λ e. refl
-          ] refl
+        | true ↦ λ e. subst (λ (w : Stored). seen lazy.last (record w { rows = kept_rows }) ≡ record (seen lazy.last w) { rows = seen_then }) (sym (it_is u found e)) same_seen
+        | false ↦ λ e. refl
+      ] refl
 
       changed_on_time : (u : Stored) → stored_at lazy.live u.table.name ≡ Some u → is_on_time lazy.last (changed u) ≡ true
       changed_on_time u found = elim (same_name u.table.name own_name) as (λ b. same_name u.table.name own_name ≡ b → is_on_time lazy.last (if b then record u { rows = kept_rows } else u) ≡ true) [
@@ -311,15 +312,13 @@ module _ (lazy : LazyState) (is : IsLazy lazy) where
         old = way.old;
         fine = way.fine;
         targets = (λ i. map (λ t. table_at-kept lazy.live changed same_table t.name i) last.migrate.targets) ∙ way.targets;
-        granules = way.granules;
-        once = way.once;
       }
 
       insert_seen : IsDatabase (with_rows lazy.live own_name kept_rows) → IsSeenAs (with_rows view own_name seen_then) (record lazy { live = with_rows lazy.live own_name kept_rows })
       insert_seen is_database =
           let tables = map-map (seen lazy.last) changed lazy.live.tables
-          ∙ map_each _ (λ u. seen lazy.last (changed u)) (λ u. if same_name u.table.name own_name then record (seen lazy.last u) { rows = seen_then } else seen lazy.last u) seen_changed lazy.live.tables (each_found lazy.live is.live)
-          ∙ sym (map-map (λ (u : Stored). if same_name u.table.name own_name then record u { rows = seen_then } else u) (seen lazy.last) lazy.live.tables) in
+            ∙ map_each _ (λ u. seen lazy.last (changed u)) (λ u. if same_name u.table.name own_name then record (seen lazy.last u) { rows = seen_then } else seen lazy.last u) seen_changed lazy.live.tables (each_found lazy.live is.live)
+            ∙ sym (map-map (λ (u : Stored). if same_name u.table.name own_name then record u { rows = seen_then } else u) (seen lazy.last) lazy.live.tables) in
           record {
             lazy_state = record {
               live = is_database;
@@ -338,18 +337,19 @@ module _ (lazy : LazyState) (is : IsLazy lazy) where
         let rows_kept : row_objections lazy.live st ≡ insert_objections s tuples = ap (λ o. judge o own_name (λ s. insert_objections s tuples)) at in
         let rows_shown : row_objections view st ≡ insert_objections (seen lazy.last s) tuples = ap (λ o. judge o own_name (λ s. insert_objections s tuples)) seen_at in
         let new : objections lazy.live st ≡ [] → list_any (has same_key (keys coming)) (keys tuples) ≡ false = λ e.
-        let moved' : list_all (has same_granule (done_of lazy.last)) (needed_on lazy.last own_name (inserting tuples)) ≡ true =
-        ap (list_all (has same_granule (done_of lazy.last))) (sym (need_of_insert lazy.last view own_name tuples (same_objections lazy st ∙ e))) ∙ moved in
-        has_either_way same_key (symmetric key_cmp_total) (keys coming) (keys tuples) ∙ list_any-map (has same_key (keys tuples)) (key_of s.table) coming ∙ none_due_passes s at (inserting tuples) lazy.last is.last moved' in
+          let moved' : list_all (has same_granule (done_of lazy.last)) (needed_on lazy.last own_name (inserting tuples)) ≡ true =
+            ap (list_all (has same_granule (done_of lazy.last))) (sym (need_of_insert lazy.last view own_name tuples (same_objections lazy st ∙ e))) ∙ moved in
+          has_either_way same_key (symmetric key_cmp_total) (keys coming) (keys tuples) ∙ list_any-map (has same_key (keys tuples)) (key_of s.table) coming ∙ none_due_passes s at (inserting tuples) lazy.last is.last moved' in
         agrees_if st (record lazy { live = (effect lazy.live st).1 }) (live_settled lazy (objections lazy.live st ++ row_objections lazy.live st) (effect lazy.live st))
-        (λ e. rows_kept ∙ inserts_alike_from [] tuples (new e) ∙ sym rows_shown)
-        (λ e r.
-        let is_database : IsDatabase (with_rows lazy.live own_name (with_placed key_cmp (key_of s.table) s.rows tuples)) = subst (λ d. IsDatabase d.1) kept (keeps_effect lazy.live st is.live e r) in
-        let here = insert_seen tuples (new e) (sym rows_kept ∙ r) is_database in (
-          ap (λ d. d.0) kept ∙ sym (ap (λ d. d.0) shown),
-          subst (λ d. IsSeenAs d.1 (record lazy { live = (effect lazy.live st).1 })) (sym shown)
-              (subst (λ d. IsSeenAs (act view (seen lazy.last s)).1 (record lazy { live = d.1 })) (sym kept) here),
-        ))
+          (λ e. rows_kept ∙ inserts_alike_from [] tuples (new e) ∙ sym rows_shown)
+          (λ e r.
+            let is_database : IsDatabase (with_rows lazy.live own_name (with_placed key_cmp (key_of s.table) s.rows tuples)) = subst (λ d. IsDatabase d.1) kept (keeps_effect lazy.live st is.live e r) in
+            let here = insert_seen tuples (new e) (sym rows_kept ∙ r) is_database in
+            (
+              ap (λ d. d.0) kept ∙ sym (ap (λ d. d.0) shown),
+              subst (λ d. IsSeenAs d.1 (record lazy { live = (effect lazy.live st).1 })) (sym shown)
+                (subst (λ d. IsSeenAs (act view (seen lazy.last s)).1 (record lazy { live = d.1 })) (sym kept) here),
+            ))
 
   -- a statement on a table that is not there
   absent_agrees : (s : Statement) (name : List ℕ) → objections lazy.live s ≡ refusal.NoTable name ∷ [] → after_statement lazy s ≡ record lazy { live = (executed lazy.live s).1 } → Agrees lazy s
@@ -358,7 +358,7 @@ module _ (lazy : LazyState) (is : IsLazy lazy) where
       agrees_if s (record lazy { live = (effect lazy.live s).1 }) (after ∙ live_settled lazy (objections lazy.live s ++ row_objections lazy.live s) (effect lazy.live s)) (λ e. absurd (never e)) (λ e r. absurd (never e))
 
   -- MIGRATE
-  pub nothing_pending : (last : Option Migration) (m : Change) → objections view (Migrate m) ≡ [] → list_all (has same_granule (done_of last)) (needed_by last view (Migrate m)) ≡ true → pending_of last ≡ []
+  nothing_pending : (last : Option Migration) (m : Change) → objections view (Migrate m) ≡ [] → list_all (has same_granule (done_of last)) (needed_by last view (Migrate m)) ≡ true → pending_of last ≡ []
   nothing_pending None m e moved = refl
   nothing_pending (Some last) m e moved =
       let all : list_all (has same_granule last.done) (granules_of last.old last.migrate) ≡ true = ap (λ os. list_all (has same_granule last.done) (none_if_refused os (granules_of last.old last.migrate))) (sym e) ∙ moved in
@@ -368,7 +368,7 @@ module _ (lazy : LazyState) (is : IsLazy lazy) where
   agrees (CreateTable name columns key) moved =
       let st = CreateTable name columns key in
       agrees_if st (record lazy { live = (effect lazy.live st).1 }) (live_settled lazy (objections lazy.live st ++ row_objections lazy.live st) (effect lazy.live st)) (λ e. refl)
-      (λ e r. (refl, create_agrees (table_of name columns key) (none_when (is_some (stored_at lazy.live name)) (refusal.TableExists name) (none_left _ _ (none_left _ _ e))) (keeps_effect lazy.live st is.live e r)))
+        (λ e r. (refl, create_agrees (table_of name columns key) (none_when (is_some (stored_at lazy.live name)) (refusal.TableExists name) (none_left _ _ (none_left _ _ e))) (keeps_effect lazy.live st is.live e r)))
   agrees (Insert name tuples) moved = on (stored_at lazy.live name) refl
     where
       on : (o : Option Stored) → stored_at lazy.live name ≡ o → Agrees lazy (Insert name tuples)
@@ -386,5 +386,5 @@ module _ (lazy : LazyState) (is : IsLazy lazy) where
   agrees (Migrate m) moved =
       let none : objections lazy.live (Migrate m) ≡ [] → pending_of lazy.last ≡ [] = λ e. nothing_pending lazy.last m (same_objections lazy (Migrate m) ∙ e) moved in
       agrees_if (Migrate m) (flipped_lazily lazy m) refl
-      (λ e. ap (λ db. row_objections db (Migrate m)) (sym (view_itself lazy (none e))))
-      (λ e r. (refl, flips_as_the_flip lazy m is (none e) e))
+        (λ e. ap (λ db. row_objections db (Migrate m)) (sym (view_itself lazy (none e))))
+        (λ e r. (refl, flips_as_the_flip lazy m is (none e) e))

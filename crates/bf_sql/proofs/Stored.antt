@@ -1,5 +1,5 @@
 -- The tables of a database, found by their names.
-use Rattle.std.proofs.Common.{◌≡◌, ℕ, Bool, true, false, cond, List, [], ◌∷◌, map, refl, sym, ap, ◌∙◌, find, unwrap_or, Some, None, is_some, filter}
+use Rattle.std.proofs.Common.{◌≡◌, ℕ, Bool, true, false, cond, List, [], ◌∷◌, map, refl, sym, ap, ◌∙◌, find, unwrap_or, Option, Some, None, is_some, filter}
 use Rattle.std.specs.List.{list_all}
 use Rattle.std.specs.Ordering.{eq_by_cmp}
 use Rattle.std.proofs.lemmas.Bool.{and_from, and_parts}
@@ -7,7 +7,7 @@ use Rattle.bf_base.specs.Lists.{same_name, name_cmp, has}
 use Rattle.bf_base.proofs.Names.{name_cmp_total, same_name-tie}
 use Rattle.bf_base.proofs.Order.{same_from_some, look_up, is_some-look_up}
 use Rattle.bf_sql.specs.Database.{Database, Stored, stored_at, is_admitted}
-use Rattle.bf_sql.specs.Migrations.{source_at, no_table}
+use Rattle.bf_sql.specs.Migrations.{table_at, no_table}
 
 abbrev pub name_of : Stored → List ℕ
 name_of s = s.table.name
@@ -44,7 +44,7 @@ list_all-if p q one [] all = refl
 list_all-if p q one (x ∷ xs) all = and_from _ _ (one x (and_parts _ _ all).0) (list_all-if p q one xs (and_parts _ _ all).1)
 
 -- what is true of each table is true of one of a name that is there
-pub all_at_name : (test : Stored → Bool) (db : Database) (name : List ℕ) → list_all test db.tables ≡ true → is_some (stored_at db name) ≡ true → test (source_at db name) ≡ true
+pub all_at_name : (test : Stored → Bool) (db : Database) (name : List ℕ) → list_all test db.tables ≡ true → is_some (stored_at db name) ≡ true → test (table_at db name) ≡ true
 all_at_name test db name all there = elim (stored_at db name) as (λ f. stored_at db name ≡ f → is_some f ≡ true → test (unwrap_or f no_table) ≡ true) [
   | None ↦ λ at there. absurd cc
   | Some s ↦ λ at there. all_at_found test (λ s. same_name s.table.name name) db.tables s at all

@@ -1,12 +1,12 @@
 -- Words of the laws.
-use Rattle.std.specs.Prelude.{◌≡◌, ℕ, not, List, [], map, Option, Some, None, find, option_map, option_and_then, IsTrue}
+use Rattle.std.specs.Prelude.{◌≡◌, ℕ, List, [], map, Option, Some, None, find, option_map, option_and_then, IsTrue}
 use Rattle.std.specs.List.{list_all}
 use Rattle.bf_base.specs.declared.value.Value.{Value}
 use Rattle.bf_base.specs.declared.table.Table.{Table}
-use Rattle.bf_base.specs.Lists.{same_key, has, with_before}
+use Rattle.bf_base.specs.Lists.{same_key, has}
 use Rattle.bf_base.specs.Tables.{key_of}
 use Rattle.bf_sql.specs.Database.{Database, Stored, IsDatabase, stored_at}
-use Rattle.bf_sql.specs.Lazy.{Granule, Migration, LazyState, same_granule, granules_of, done_of, view_of, IsValid}
+use Rattle.bf_sql.specs.Lazy.{Granule, Migration, LazyState, same_granule, done_of, view_of, IsValid}
 use Rattle.bf_sql.specs.Migrations.{target_table, migrate_objections}
 
 -- the table of a name
@@ -27,14 +27,11 @@ pub record HaveSame (a b : Database) : Type 0 where
   pub table : (name : List ℕ) → table_at a name ≡ table_at b name
   pub row : (name : List ℕ) (key : List Value) → row_at a name key ≡ row_at b name key
 
--- a migration under way: the database at its flip had nothing against it, its targets are live tables as it made them,
--- and what has moved are granules of it, each once
+-- a migration under way: the database at its flip had nothing against it, and its targets are live tables as it made them
 pub record IsUnderWay (live : Database) (last : Migration) : Type 0 where
   pub old : IsDatabase last.old
   pub fine : migrate_objections last.old last.migrate ≡ []
   pub targets : map (λ t. table_at live t.name) last.migrate.targets ≡ map (λ t. Some (target_table last.old t)) last.migrate.targets
-  pub granules : IsTrue (list_all (has same_granule (granules_of last.old last.migrate)) last.done)
-  pub once : IsTrue (list_all (λ p. not (has same_granule p.0 p.1)) (with_before last.done))
 
 abbrev pub IsUnderWayIfAny : Database → Option Migration → Type 0
 IsUnderWayIfAny live None = Unit {0}

@@ -1,5 +1,5 @@
 -- Granules, the parts of the images that come from each, and the state of an engine that moves them late.
-use Rattle.std.specs.Prelude.{ℕ, ◌+◌, Bool, not, ◌&&◌, ◌==◌, List, [], ◌∷◌, ◌++◌, map, flat_map, filter, fold, find, length, slice_range, Option, Some, None, IsTrue, if◌then◌else◌}
+use Rattle.std.specs.Prelude.{ℕ, ◌+◌, Bool, not, ◌&&◌, ◌==◌, List, [], ◌∷◌, ◌++◌, map, flat_map, filter, find, length, slice_range, Option, Some, None, IsTrue, if◌then◌else◌}
 use Rattle.std.specs.List.{list_all, list_any, range_with_len}
 use Rattle.bf_base.specs.declared.value.Value.{Value}
 use Rattle.bf_base.specs.declared.table.Table.{Table}
@@ -15,7 +15,7 @@ use Rattle.bf_sql.specs.declared.statement.Statement.TheVariants as st
 use Rattle.bf_sql.specs.Database.{Database, Stored}
 use Rattle.bf_sql.specs.Conditions.{satisfies}
 use Rattle.bf_sql.specs.Refusals.{objections, row_objections}
-use Rattle.bf_sql.specs.Migrations.{source_at, arm_rows, target_table, sources_of, replaced}
+use Rattle.bf_sql.specs.Migrations.{table_at, arm_rows, target_table, sources_of, replaced}
 use Rattle.bf_sql.specs.Meaning.{executed}
 
 -- what moves together: a row of an old table, by its position in key order
@@ -45,12 +45,12 @@ on_target (Some t) what = what t
 module _ (old : Database) (m : Migrate) where
   -- GRANULES: each source's rows in key order
   abbrev pub granules_of : List Granule
-  granules_of = flat_map (λ source. map (λ at. record { source = source; position = at }) (range_with_len 0 (length (source_at old source).rows))) (sources_of m)
+  granules_of = flat_map (λ source. map (λ at. record { source = source; position = at }) (range_with_len 0 (length (table_at old source).rows))) (sources_of m)
 
   -- PART: what a target has of a granule, computed over its old table cut down to the granule's row
   abbrev pub part_of : Target → Granule → List (List Value)
   part_of target g =
-      if same_name target.arm.from g.source then arm_rows old target.arm (slice_range (source_at old g.source).rows g.position (g.position + 1)) else []
+      if same_name target.arm.from g.source then arm_rows old target.arm (slice_range (table_at old g.source).rows g.position (g.position + 1)) else []
 
   -- OWNER: the granule whose part has a row of a target with a key, if there is one
   abbrev pub owner_of : Target → List Value → Option Granule
@@ -149,31 +149,11 @@ flipped_lazily lazy m = record {
   last = Some (begun lazy.last lazy.live m);
 }
 
-abbrev pub unless_objected : {X : Type 0} → List Refusal → X → X → X
-unless_objected [] next before = next
-unless_objected (r ∷ rs) next before = before
+abbrev pub unless_objected : List Refusal → LazyState → LazyState → LazyState
+unless_objected [] next lazy = next
+unless_objected (r ∷ rs) next lazy = lazy
 
 -- a statement on the live tables, as if they were all; a MIGRATE flips lazily
 abbrev pub after_statement : LazyState → Statement → LazyState
 after_statement lazy (st.Migrate m) = unless_objected (objections lazy.live (st.Migrate m) ++ row_objections lazy.live (st.Migrate m)) (flipped_lazily lazy m) lazy
 after_statement lazy s = record lazy { live = (executed lazy.live s).1 }
-
--- those granules of a list that have not moved move, one after the other
-abbrev pub moved_once : LazyState → Granule → LazyState
-moved_once lazy g = if has same_granule (done_of lazy.last) g then lazy else moved lazy g
-
-abbrev pub moved_all : LazyState → List Granule → LazyState
-moved_all lazy granules = fold moved_once lazy granules
-
--- SERVED: what a statement needs moves, and then it runs on the live tables
-abbrev pub served : LazyState → Statement → Reply × LazyState
-served lazy s =
-    let ready = moved_all lazy (needed_by lazy.last lazy.live s) in
-    ((executed ready.live s).0, after_statement ready s)
-
-abbrev pub served_all : LazyState → List Statement → List Reply × LazyState
-served_all lazy [] = ([], lazy)
-served_all lazy (s ∷ ss) =
-    let (answer, next) = served lazy s in
-    let (answers, last) = served_all next ss in
-    (answer ∷ answers, last)

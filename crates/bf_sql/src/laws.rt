@@ -6,11 +6,10 @@ ghost use Rattle.bf_sql.specs.declared.history.Entry.{Entry};
 ghost use Rattle.bf_sql.specs.declared.statement.Script.{Script};
 ghost use Rattle.bf_sql.specs.declared.statement.Statement.{Statement};
 ghost use Rattle.bf_sql.specs.Database.{Database, IsDatabase};
-ghost use Rattle.bf_sql.specs.History.{replayed, run_group};
+ghost use Rattle.bf_sql.specs.History.{replayed};
 ghost use Rattle.bf_sql.specs.Laws.{HaveMoved, HaveSame, IsLazy, IsSeenAs};
-ghost use Rattle.bf_sql.specs.Lazy.{Granule, LazyState, same_granule, pending_of, needed_by, view_of, moved, flipped_lazily, after_statement, served_all};
+ghost use Rattle.bf_sql.specs.Lazy.{Granule, LazyState, same_granule, pending_of, needed_by, view_of, moved, flipped_lazily, after_statement};
 ghost use Rattle.bf_sql.specs.Migrations.{migrate_objections, flipped};
-ghost use Rattle.bf_sql.specs.Movement.{migration_after};
 ghost use Rattle.bf_sql.specs.declared.statement.Migrate.{Migrate};
 ghost use Rattle.bf_sql.specs.Meaning.{executed};
 
@@ -36,21 +35,18 @@ pub fn moving_leaves_the_view()
 
 /// Where nothing is left to move, a flip that moves nothing is seen as the flip.
 pub fn a_lazy_flip_views_as_the_flip()
-    ensures { (lazy : LazyState) (m : Migrate) → IsLazy lazy → pending_of lazy.last ≡ [] → migrate_objections lazy.live m ≡ [] → IsSeenAs (flipped (view_of lazy) m) (flipped_lazily lazy m) }
+    ensures {
+        (lazy : LazyState) (m : Migrate) → IsLazy lazy → pending_of lazy.last ≡ [] → migrate_objections lazy.live m ≡ [] → IsSeenAs (flipped (view_of lazy) m) (flipped_lazily lazy m)
+    }
 {}
 
 /// Where the granules that a statement needs have moved, it has on the live tables the reply that
 /// it has on the database that is seen, and is seen to leave what it leaves there.
 pub fn a_statement_after_its_need()
-    ensures reply { (lazy : LazyState) (s : Statement) → IsLazy lazy → HaveMoved lazy (needed_by lazy.last (view_of lazy) s) → (executed lazy.live s).0 ≡ (executed (view_of lazy) s).0 }
-    ensures state { (lazy : LazyState) (s : Statement) → IsLazy lazy → HaveMoved lazy (needed_by lazy.last (view_of lazy) s) → IsSeenAs (executed (view_of lazy) s).1 (after_statement lazy s) }
-{}
-
-/// Statements for each of which what it needs moves first, and then it runs on the live tables,
-/// have the replies of a database that makes each new table at its flip, and what moves is what
-/// they need there.
-pub fn a_lazy_run_is_seen_as_the_run()
-    ensures replies { (lazy : LazyState) (statements : List Statement) → IsLazy lazy → (served_all lazy statements).0 ≡ (run_group (view_of lazy) statements).0 }
-    ensures state { (lazy : LazyState) (statements : List Statement) → IsLazy lazy → IsSeenAs (run_group (view_of lazy) statements).1 (served_all lazy statements).1 }
-    ensures moved { (lazy : LazyState) (statements : List Statement) → IsLazy lazy → (served_all lazy statements).1.last ≡ migration_after lazy.last (view_of lazy) statements }
+    ensures reply {
+        (lazy : LazyState) (s : Statement) → IsLazy lazy → HaveMoved lazy (needed_by lazy.last (view_of lazy) s) → (executed lazy.live s).0 ≡ (executed (view_of lazy) s).0
+    }
+    ensures state {
+        (lazy : LazyState) (s : Statement) → IsLazy lazy → HaveMoved lazy (needed_by lazy.last (view_of lazy) s) → IsSeenAs (executed (view_of lazy) s).1 (after_statement lazy s)
+    }
 {}
