@@ -1,6 +1,2 @@
-pub mod Apart
-pub mod Items
 pub mod Names
 pub mod Order
-pub mod Parts
-pub mod Ties

@@ -12,20 +12,20 @@ use Rattle.std.proofs.lemmas.List.Sorted.{searchable_from_sorted}
 use Rattle.bf_base.specs.Lists.{rises, placed, with_placed, has, with_before_from, with_before}
 
 -- a test of a list's first item, if it has one
-abbrev pub first_is : {K : Type 0} → (K → Bool) → List K → Bool
+abbrev first_is : {K : Type 0} → (K → Bool) → List K → Bool
 first_is test [] = true
 first_is test (x ∷ xs) = test x
 
-pub less_from_test : (r : Ordering) → is_lt r ≡ true → r ≡ Less
+less_from_test : (r : Ordering) → is_lt r ≡ true → r ≡ Less
 less_from_test r e = grind arith
 
-pub equal_from_test : (r : Ordering) → is_eq r ≡ true → r ≡ Equal
+equal_from_test : (r : Ordering) → is_eq r ≡ true → r ≡ Equal
 equal_from_test r e = grind arith
 
 some_is_none : {A : Type 0} {x : A} → Some x ≡ None → ⊥
 some_is_none e = cc
 
-pub none_from_test : {A : Type 0} (o : Option A) → is_some o ≡ false → o ≡ None
+none_from_test : {A : Type 0} (o : Option A) → is_some o ≡ false → o ≡ None
 none_from_test None e = refl
 none_from_test (Some x) e = absurd cc
 
@@ -44,33 +44,33 @@ found_or_behind : {A : Type 0} (x : A) (behind : Option A) (test some_behind : B
 found_or_behind x behind true some_behind e = refl
 found_or_behind x behind false some_behind e = e
 
-pub list_any-map : {A B : Type 0} (test : B → Bool) (f : A → B) (xs : List A) → list_any test (map f xs) ≡ list_any (λ x. test (f x)) xs
+list_any-map : {A B : Type 0} (test : B → Bool) (f : A → B) (xs : List A) → list_any test (map f xs) ≡ list_any (λ x. test (f x)) xs
 list_any-map test f [] = refl
 list_any-map test f (x ∷ xs) = ap (λ b. test (f x) || b) (list_any-map test f xs)
 
 module _ {K : Type 0} {cmp : K → K → Ordering} (o : IsTotalOrder cmp) where
   -- the order, read from the other side
-  pub turned : (a b : K) → cmp a b ≡ Greater → cmp b a ≡ Less
+  turned : (a b : K) → cmp a b ≡ Greater → cmp b a ≡ Less
   turned a b e = o.antisymm b a ∙ ap ordering_reverse e
 
-  pub turned_less : (a b : K) → cmp a b ≡ Less → cmp b a ≡ Greater
+  turned_less : (a b : K) → cmp a b ≡ Less → cmp b a ≡ Greater
   turned_less a b e = o.antisymm b a ∙ ap ordering_reverse e
 
-  pub turned_equal : (a b : K) → cmp a b ≡ Equal → cmp b a ≡ Equal
+  turned_equal : (a b : K) → cmp a b ≡ Equal → cmp b a ≡ Equal
   turned_equal a b e = o.antisymm b a ∙ ap ordering_reverse e
 
   -- neither before nor the same is behind
   behind : (a b : K) → is_lt (cmp a b) ≡ false → is_eq (cmp a b) ≡ false → is_lt (cmp b a) ≡ true
   behind a b p q = grind (arith, turned a b)
 
-  pub symmetric : (a b : K) → eq_by_cmp cmp a b ≡ eq_by_cmp cmp b a
+  symmetric : (a b : K) → eq_by_cmp cmp a b ≡ eq_by_cmp cmp b a
   symmetric = (eq_by_cmp_equiv o).symm
 
-  pub rises_cons : (k : K) (ks : List K) → first_is (λ b. is_lt (cmp k b)) ks ≡ true → rises cmp ks ≡ true → rises cmp (k ∷ ks) ≡ true
+  rises_cons : (k : K) (ks : List K) → first_is (λ b. is_lt (cmp k b)) ks ≡ true → rises cmp ks ≡ true → rises cmp (k ∷ ks) ≡ true
   rises_cons k [] e h = refl
   rises_cons k (b ∷ ks) e h = and_from _ _ e h
 
-  pub rises_first : (k : K) (ks : List K) → rises cmp (k ∷ ks) ≡ true → first_is (λ b. is_lt (cmp k b)) ks ≡ true
+  rises_first : (k : K) (ks : List K) → rises cmp (k ∷ ks) ≡ true → first_is (λ b. is_lt (cmp k b)) ks ≡ true
   rises_first k [] h = refl
   rises_first k (b ∷ ks) h = (and_parts _ _ h).0
 
@@ -79,7 +79,7 @@ module _ {K : Type 0} {cmp : K → K → Ordering} (o : IsTotalOrder cmp) where
   rises_tail k (b ∷ ks) h = (and_parts _ _ h).1
 
   -- without the second key
-  pub rises_skip : (a b : K) (ks : List K) → rises cmp (a ∷ b ∷ ks) ≡ true → rises cmp (a ∷ ks) ≡ true
+  rises_skip : (a b : K) (ks : List K) → rises cmp (a ∷ b ∷ ks) ≡ true → rises cmp (a ∷ ks) ≡ true
   rises_skip a b [] h = refl
   rises_skip a b (c ∷ ks) h =
       let first = o.trans a b c (less_from_test _ (and_parts _ _ h).0) (less_from_test _ (and_parts _ _ (and_parts _ _ h).1).0) in
@@ -163,7 +163,7 @@ module _ {K : Type 0} {cmp : K → K → Ordering} (o : IsTotalOrder cmp) where
     list_all-with_placed test ys (x ∷ xs) = grind (arith, list_all-with_placed test (placed cmp key ys x) xs, list_all-placed test ys x)
 
     -- a list with further items has a key where the list or the items have it
-    pub has-with_placed : (ys xs : List X) (k : K) → has (eq_by_cmp cmp) (map key (with_placed cmp key ys xs)) k ≡ has (eq_by_cmp cmp) (map key (ys ++ xs)) k
+    has-with_placed : (ys xs : List X) (k : K) → has (eq_by_cmp cmp) (map key (with_placed cmp key ys xs)) k ≡ has (eq_by_cmp cmp) (map key (ys ++ xs)) k
     has-with_placed ys xs k =
         let test = eq_by_cmp cmp k in
         list_any-map test key (with_placed cmp key ys xs) ∙ list_any-with_placed (λ x. test (key x)) ys xs ∙ sym (list_any-append (λ x. test (key x)) ys xs) ∙ sym (list_any-map test key (ys ++ xs))

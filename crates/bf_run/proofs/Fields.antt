@@ -5,7 +5,7 @@ use Rattle.bf_base.specs.Lists.{same_name}
 use Rattle.std.specs.Cmp.Lexicographic.{same_text}
 use Rattle.std.proofs.lemmas.Bool.{ltb-true, lt-ltb, leb-true, le-leb, eqb-true}
 use Rattle.bf_run.specs.declared.token.Sign.{Sign as SignKind}
-use Rattle.bf_run.specs.declared.token.Sign.TheVariants.{OpeningParenthesis, ClosingParenthesis, Comma, Semicolon, Star, Minus}
+use Rattle.bf_run.specs.declared.token.Sign.TheVariants.{OpeningParenthesis, ClosingParenthesis, Comma, Semicolon, Star, Minus, Equals}
 use Rattle.bf_run.specs.declared.token.Token.{Token}
 use Rattle.bf_run.specs.declared.token.Token.TheVariants.{Word, Number, Sign}
 use Rattle.bf_run.specs.Lexing.{sign_of}
@@ -34,7 +34,7 @@ pub word_itself : (w : List ℕ) → same_name w w ≡ true
 word_itself [] = refl
 word_itself (b ∷ bs) = rw (eq-eqb b b refl, word_itself bs) refl
 
-is_word_is : (w : List ℕ) (t : Token) → is_word w t ≡ true → t ≡ Word w
+pub is_word_is : (w : List ℕ) (t : Token) → is_word w t ≡ true → t ≡ Word w
 is_word_is w (Word v) e = ap Word (same_word v w e)
 is_word_is w (Number n) e = absurd cc
 is_word_is w (Sign s) e = absurd cc
@@ -47,13 +47,14 @@ sign_of-byte_of Comma = refl
 sign_of-byte_of Semicolon = refl
 sign_of-byte_of Star = refl
 sign_of-byte_of Minus = refl
+sign_of-byte_of Equals = refl
 
 one_sign : (s t : SignKind) → same_sign s t ≡ true → s ≡ t
 one_sign s t e =
     let same : Some s ≡ Some t = sym (sign_of-byte_of s) ∙ ap sign_of (eqb-true (byte_of s) (byte_of t) e) ∙ sign_of-byte_of t in
     cc
 
-is_sign_is : (sign : SignKind) (t : Token) → is_sign sign t ≡ true → t ≡ Sign sign
+pub is_sign_is : (sign : SignKind) (t : Token) → is_sign sign t ≡ true → t ≡ Sign sign
 is_sign_is sign (Word v) e = absurd cc
 is_sign_is sign (Number n) e = absurd cc
 is_sign_is sign (Sign s) e = ap Sign (one_sign s sign e)
@@ -144,3 +145,8 @@ step_name ts f y e = let b = bind_some (name_at ts) f y e in let n = name_takes 
 
 pub step_signed : {B : Type 0} (ts : List Token) (f : ℤ × List Token → Option B) (y : B) → (signed_at ts >>= f) ≡ Some y → (z : ℤ × List Token) × (number : List Token) × IsSigned number z.0 × (ts ≡ number ++ z.1) × (f z ≡ Some y)
 step_signed ts f y e = let b = bind_some (signed_at ts) f y e in let n = signed_takes ts b.0 b.1 in (b.0, n.0, n.1, n.2, b.2)
+
+-- a token that was taken, and what follows it
+infixr 10 ◌▸◌
+pub ◌▸◌ : {A : Type 0} {t : A} {ts us vs : List A} → ts ≡ t ∷ us → us ≡ vs → ts ≡ t ∷ vs
+◌▸◌ {t = t} e d = e ∙ ap (λ u. t ∷ u) d

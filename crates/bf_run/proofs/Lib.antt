@@ -1,9 +1,7 @@
 pub mod Fields
-pub mod Inserted
-pub mod Legal
 pub mod Lexed
-pub mod Meant
+pub mod Lists
+pub mod Migrations
 pub mod Numbers
-pub mod Parsed
-pub mod Placing
-pub mod Told
+pub mod Scripts
+pub mod Statements

@@ -3,7 +3,7 @@ use Rattle.std.specs.Prelude.{◌≡◌, ℕ, ◌+◌, ◌-◌, ◌*◌, ◌^◌
 use Rattle.std.specs.List.{prefix_len}
 use Rattle.bf_base.specs.Names.{is_lower, is_digit, is_name, folded}
 use Rattle.bf_run.specs.declared.token.Sign.{Sign as SignKind}
-use Rattle.bf_run.specs.declared.token.Sign.TheVariants.{OpeningParenthesis, ClosingParenthesis, Comma, Semicolon, Star, Minus}
+use Rattle.bf_run.specs.declared.token.Sign.TheVariants.{OpeningParenthesis, ClosingParenthesis, Comma, Semicolon, Star, Minus, Equals}
 use Rattle.bf_run.specs.declared.token.Token.{Token}
 use Rattle.bf_run.specs.declared.token.Token.TheVariants.{Word, Number, Sign}
 
@@ -17,7 +17,7 @@ is_letter byte = (nat_le 65 byte && nat_le byte 90) || is_lower byte
 abbrev pub is_word_byte : ℕ → Bool
 is_word_byte byte = is_letter byte || is_digit byte || byte == 95
 
--- ( ) , ; * -
+-- ( ) , ; * - =
 abbrev pub sign_of : ℕ → Option SignKind
 sign_of byte =
     if byte == 40 then Some OpeningParenthesis
@@ -26,6 +26,7 @@ sign_of byte =
     else if byte == 59 then Some Semicolon
     else if byte == 42 then Some Star
     else if byte == 45 then Some Minus
+    else if byte == 61 then Some Equals
     else None
 
 -- the number that digits write, behind a number

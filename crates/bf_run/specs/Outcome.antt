@@ -1,114 +1,54 @@
--- What a call of the program answers, when, and what it writes.
-use Rattle.std.specs.Prelude.{◌≡◌, ℕ, ◌+◌, ◌<◌, ◌≤◌, ◌^◌, ◌⊎◌, Bool, true, false, List, [], ◌∷◌, ◌++◌, length, codes, Option, Some, None}
-use Rattle.std.specs.Io.KnownBytes.{Appends, Keeps, Consumes, IsAtEnd}
-use lib.Pointwise.{pointwise}
-use Rattle.bf_io.specs.Causes.{Rose}
-use Rattle.bf_io.specs.Whole.{TookPrefix}
+-- What the top call answers, when, and what it writes.
+use Rattle.std.specs.Prelude.{◌≡◌, ℕ, ◌<◌, ◌≤◌, ◌^◌, ◌⊎◌, Bool, true, false, List, [], ◌∷◌, ◌++◌, length, codes, Option, Some, None}
+use Rattle.std.specs.Io.KnownBytes.{Appends, Keeps, IsAtEnd}
+use Rattle.bf_io.specs.Whole.{IfTold, TookFront}
 use Rattle.bf_base.specs.Lists.{same_name}
 use Rattle.bf_sql.specs.declared.statement.Script.{Script}
 use Rattle.bf_sql.specs.declared.reply.Reply.{Reply}
 use Rattle.bf_sql.specs.declared.history.Entry.{Entry}
-use Rattle.bf_sql.specs.declared.history.Sweep.TheVariants.{Never}
 use Rattle.bf_run.specs.declared.status.Status.{Status}
 use Rattle.bf_run.specs.declared.status.Status.TheVariants.{Done, Usage, ReadFault, WriteFault, Memory, NotBuilt}
 use Rattle.bf_run.specs.Grammar.{IsScriptText}
-use Rattle.bf_text.specs.Report.{report_text, newline}
+use Rattle.bf_run.specs.Report.{report_text, newline}
 use Rattle.bf_run.specs.Run.{IsRun}
-
--- STREAM: the bytes that a source has left, or that a sink took, where they are told, and its count of faults, each
--- before and after a call
-pub record Stream : Type 0 where
-  pub bytes : Option (List ℕ)
-  pub bytes_after : Option (List ℕ)
-  pub faults : ℕ
-  pub faults_after : ℕ
-
--- no call of it failed
-abbrev pub IsCalm : Stream → Type 0
-IsCalm stream = stream.faults_after ≡ stream.faults
 
 -- the one word `try`
 abbrev pub is_try : List (List ℕ) → Bool
-is_try words = pointwise same_name words (codes "try" ∷ [])
+is_try [] = false
+is_try (w ∷ []) = same_name w (codes "try")
+is_try (w ∷ v ∷ ws) = false
 
--- what holds of the bytes of a source: of those that it tells, or of some
-abbrev pub OfBytes : Option (List ℕ) → (List ℕ → Type 0) → Type 0
-OfBytes None P = (bytes : List ℕ) × P bytes
-OfBytes (Some bytes) P = P bytes
-
--- the text is the report of a run of the script that the bytes are
+-- the text is the report of a run of the script that the bytes are, where they are told
 pub record IsReport (left : Option (List ℕ)) (text : List ℕ) : Type 0 where
   pub script : Script
   pub transcripts : List (List Reply)
   pub history : List Entry
-  pub is_script : OfBytes left (λ bytes. IsScriptText bytes script)
+  pub is_script : IfTold left (λ bytes. IsScriptText bytes script)
   pub is_run : IsRun script transcripts history
-  pub report_written : text ≡ report_text transcripts history Never
+  pub report_written : text ≡ report_text transcripts history
 
 -- the most bytes that a script has
 abbrev pub longest_script : ℕ
 longest_script = 2 ^ 24
 
--- a script of the form within the limit
-abbrev pub IsServed : List ℕ → Type 0
-IsServed bytes = (length bytes ≤ longest_script) × (script : Script) × IsScriptText bytes script
-
 -- more bytes than a script has, or no script of the form
-abbrev pub IsNotServed : List ℕ → Type 0
-IsNotServed bytes = (longest_script < length bytes) ⊎ ((script : Script) → IsScriptText bytes script → ⊥)
+abbrev pub IsNotBuilt : List ℕ → Type 0
+IsNotBuilt bytes = (longest_script < length bytes) ⊎ ((script : Script) → IsScriptText bytes script → ⊥)
 
--- the source was read to its end, or until it had given one byte more than a script has
-abbrev pub IsReadThrough : Stream → Type 0
-IsReadThrough input = IsAtEnd input.bytes_after ⊎ ((read : List ℕ) × (length read ≡ longest_script + 1) × Consumes input.bytes input.bytes_after read)
+-- a script of the form within the limit
+abbrev pub IsBuilt : List ℕ → Type 0
+IsBuilt bytes = (length bytes ≤ longest_script) × (script : Script) × IsScriptText bytes script
 
--- CAUSES: when a status comes, for the words and the source, before anything is written. Where the source tells its
--- bytes no two of Usage, NotBuilt and Done can come for one input, so each of them comes exactly there, but for faults
--- and want of memory
-abbrev pub Comes : List (List ℕ) → Stream → Status → Type 0
-Comes words input Usage = (is_try words ≡ false) × Keeps input.bytes input.bytes_after × IsCalm input
-Comes words input NotBuilt = (is_try words ≡ true) × IsCalm input × OfBytes input.bytes IsNotServed × IsReadThrough input
-Comes words input Done = (is_try words ≡ true) × IsCalm input × OfBytes input.bytes IsServed × IsAtEnd input.bytes_after
-Comes words input ReadFault = (is_try words ≡ true) × Rose input.faults input.faults_after
-Comes words input WriteFault = ⊥
-Comes words input Memory = Unit {0}
-
--- the text of a status that has one
-abbrev pub IsTextOf : Stream → Status → List ℕ → Type 0
-IsTextOf input Usage text = text ≡ codes "usage error" ++ newline
-IsTextOf input NotBuilt text = text ≡ codes "not built" ++ newline
-IsTextOf input Done text = IsReport input.bytes text
-IsTextOf input ReadFault text = text ≡ codes "read fault" ++ newline
-IsTextOf input WriteFault text = ⊥
-IsTextOf input Memory text = ⊥
-
--- a status that comes, with its text
-pub record IsAnswer (words : List (List ℕ)) (input : Stream) (status : Status) (text : List ℕ) : Type 0 where
-  pub causes : Comes words input status
-  pub is_text : IsTextOf input status text
-
--- the sink took the whole text of an answer, and no write failed
-pub record AnswersWhole (words : List (List ℕ)) (input output : Stream) (status : Status) : Type 0 where
-  pub text : List ℕ
-  pub answer : IsAnswer words input status text
-  pub written : Appends output.bytes output.bytes_after text
-  pub calm : IsCalm output
-
--- a write failed in the place of an answer, of whose text the sink took a prefix
-pub record IsCutShort (words : List (List ℕ)) (input output : Stream) : Type 0 where
-  pub status : Status
-  pub text : List ℕ
-  pub answer : IsAnswer words input status text
-  pub written : TookPrefix output.bytes output.bytes_after text
-  pub rose : Rose output.faults output.faults_after
-
--- OUTCOME of a call: a whole answer, an answer cut short by a fault of the sink, or want of memory and nothing written
-abbrev pub Ends : List (List ℕ) → Stream → Stream → Status → Type 0
-Ends words input output WriteFault = IsCutShort words input output
-Ends words input output Memory = Keeps output.bytes output.bytes_after × IsCalm output
-Ends words input output Done = AnswersWhole words input output Done
-Ends words input output Usage = AnswersWhole words input output Usage
-Ends words input output NotBuilt = AnswersWhole words input output NotBuilt
-Ends words input output ReadFault = AnswersWhole words input output ReadFault
+-- When a status comes, for the words, the source's bytes before and after, where they are told, and whether the counts
+-- of faults of the source and of the sink rose. No two of Usage, NotBuilt and Done come for one input, so each comes
+-- exactly there; at Done the source was read to its end
+abbrev pub Comes : List (List ℕ) → Option (List ℕ) → Option (List ℕ) → Type 0 → Type 0 → Status → Type 0
+Comes words left after read_rose write_rose Usage = is_try words ≡ false
+Comes words left after read_rose write_rose NotBuilt = (is_try words ≡ true) × IfTold left IsNotBuilt
+Comes words left after read_rose write_rose Done = (is_try words ≡ true) × IfTold left IsBuilt × IsAtEnd after
+Comes words left after read_rose write_rose ReadFault = (is_try words ≡ true) × read_rose
+Comes words left after read_rose write_rose WriteFault = write_rose
+Comes words left after read_rose write_rose Memory = Unit {0}
 
 -- the number that the program ends with
 abbrev pub number_of_status : Status → ℕ
@@ -119,7 +59,31 @@ number_of_status WriteFault = 4
 number_of_status Memory = 7
 number_of_status NotBuilt = 9
 
+-- the text of a status that is written whole
+abbrev pub IsTextOf : Option (List ℕ) → Status → List ℕ → Type 0
+IsTextOf left Usage text = text ≡ codes "usage error" ++ newline
+IsTextOf left NotBuilt text = text ≡ codes "not built" ++ newline
+IsTextOf left Done text = IsReport left text
+IsTextOf left ReadFault text = text ≡ codes "read fault" ++ newline
+IsTextOf left WriteFault text = ⊥
+IsTextOf left Memory text = ⊥
+
+-- the sink took the whole text of a status
+abbrev pub WroteWhole : Option (List ℕ) → Option (List ℕ) → Option (List ℕ) → Status → Type 0
+WroteWhole left old new status = (text : List ℕ) × IsTextOf left status text × Appends old new text
+
 -- the report of the script that a text is, or nothing where the text is no script of the form
 abbrev pub FindsReport : List ℕ → Option (List ℕ) → Type 0
 FindsReport text (Some report) = IsReport (Some text) report
 FindsReport text None = (script : Script) → IsScriptText text script → ⊥
+
+-- What the sink took, by the status: its text; where a write failed, a front of the text of the status in whose place
+-- the fault stands; nothing where memory ran out
+abbrev pub Wrote : List (List ℕ) → Option (List ℕ) → Option (List ℕ) → Type 0 → Type 0 → Option (List ℕ) → Option (List ℕ) → Status → Type 0
+Wrote words left after read_rose write_rose old new Done = WroteWhole left old new Done
+Wrote words left after read_rose write_rose old new Usage = WroteWhole left old new Usage
+Wrote words left after read_rose write_rose old new NotBuilt = WroteWhole left old new NotBuilt
+Wrote words left after read_rose write_rose old new ReadFault = WroteWhole left old new ReadFault
+Wrote words left after read_rose write_rose old new WriteFault =
+    (status : Status) × (text : List ℕ) × Comes words left after read_rose write_rose status × IsTextOf left status text × TookFront old new text
+Wrote words left after read_rose write_rose old new Memory = Keeps old new

@@ -2,7 +2,7 @@
 use Rattle.std.specs.Prelude.{ℕ, Bool, false, List, ◌==◌}
 use Rattle.bf_base.specs.Lists.{same_name}
 use Rattle.bf_run.specs.declared.token.Sign.{Sign as SignKind}
-use Rattle.bf_run.specs.declared.token.Sign.TheVariants.{OpeningParenthesis, ClosingParenthesis, Comma, Semicolon, Star, Minus}
+use Rattle.bf_run.specs.declared.token.Sign.TheVariants.{OpeningParenthesis, ClosingParenthesis, Comma, Semicolon, Star, Minus, Equals}
 use Rattle.bf_run.specs.declared.token.Token.{Token}
 use Rattle.bf_run.specs.declared.token.Token.TheVariants.{Word, Number, Sign}
 
@@ -14,6 +14,7 @@ byte_of Comma = 44
 byte_of Semicolon = 59
 byte_of Star = 42
 byte_of Minus = 45
+byte_of Equals = 61
 
 abbrev pub same_sign : SignKind → SignKind → Bool
 same_sign a b = byte_of a == byte_of b

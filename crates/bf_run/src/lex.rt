@@ -66,6 +66,7 @@ fn sign_of(byte: u8) -> Option<Sign>
         b';' => Some(Sign::Semicolon),
         b'*' => Some(Sign::Star),
         b'-' => Some(Sign::Minus),
+        b'=' => Some(Sign::Equals),
         _ => None,
     }
 }

@@ -1,14 +1,6 @@
-//! The top call: from the bytes of a script to the printed report of its run.
+//! From the bytes of a script to the script.
 #![tactic(auto)]
 
-pub mod engine;
 pub mod lex;
 pub mod parse;
-pub mod serve;
-pub mod status;
 pub mod token;
-pub mod top;
-pub mod words;
-
-pub use status::Status;
-pub use top::bullfrog;

@@ -14,6 +14,7 @@ pub enum Sign {
     Semicolon,
     Star,
     Minus,
+    Equals,
 }
 
 /// A token. A word, which may be a keyword, is folded to lower case; a number is at most 2^63.

@@ -1,17 +1,17 @@
 //! The top call.
 
-ghost use Rattle.std.specs.Prelude.{◌≡◌, IfOk, map};
+ghost use Rattle.std.specs.Prelude.{◌≡◌, ◌≤◌, IfOk, map};
 ghost use Rattle.std.specs.Option.{option_map};
-ghost use Rattle.bf_run.specs.Outcome.{IsAnswer, Ends, FindsReport};
+ghost use Rattle.bf_io.specs.Causes.{Rose};
+ghost use Rattle.bf_run.specs.Outcome.{Comes, IsTextOf, Wrote, FindsReport};
 
 use crate::parse::read_script;
 use crate::serve::serve;
 use crate::status::Status;
+use crate::text::report;
 use crate::words::are_try;
 use bf_base::Memory;
 use bf_io::{ReadError, Sink, Source, read_all, write_whole};
-use bf_sql::Sweep;
-use bf_text::report;
 use std::alloc::Global;
 
 /// The most bytes of a script.
@@ -25,7 +25,7 @@ fn find_report(alloc: Global, text: &[u8]) -> Result<Option<Vec<u8>>, Memory>
         return Ok(None);
     };
     let run = serve(alloc, &script)?;
-    Ok(Some(report(alloc, &run.transcripts, &run.history, Sweep::Never)?))
+    Ok(Some(report(alloc, &run.transcripts, &run.history)?))
 }
 
 /// The status and its whole text, before a byte is written.
@@ -34,13 +34,10 @@ fn answer<I: Source>(
     words: &[&str],
     input: &mut I,
 ) -> Result<(Status, Vec<u8>), Memory>
-    ensures { IfOk result (λ a. IsAnswer (map (λ word. word.now) words.now)
-        (record {
-          bytes = I.left input.old;
-          bytes_after = I.left input.new;
-          faults = I.faults input.old;
-          faults_after = I.faults input.new;
-        }) a.0 a.1.items) }
+    ensures comes { IfOk result (λ a. Comes (map (λ w. w.now) words.now) (I.left input.old) (I.left input.new)
+        (Rose (I.faults input.old) (I.faults input.new)) ⊥ a.0) }
+    ensures text { IfOk result (λ a. IsTextOf (I.left input.old) a.0 a.1.items) }
+    ensures later { I.faults input.old ≤ I.faults input.new }
 {
     if !are_try(words) {
         return Ok((Status::Usage, Vec::from_slice(alloc, b"usage error\n")?));
@@ -69,19 +66,14 @@ pub fn bullfrog<I: Source, O: Sink>(
     input: &mut I,
     output: &mut O,
 ) -> Status
-    ensures { Ends (map (λ word. word.now) words.now)
-        (record {
-          bytes = I.left input.old;
-          bytes_after = I.left input.new;
-          faults = I.faults input.old;
-          faults_after = I.faults input.new;
-        })
-        (record {
-          bytes = O.taken output.old;
-          bytes_after = O.taken output.new;
-          faults = O.faults output.old;
-          faults_after = O.faults output.new;
-        }) result }
+    // At Done the input is a script, and what is written is the report of a legal run of it.
+    ensures report_written { Wrote (map (λ w. w.now) words.now) (I.left input.old) (I.left input.new)
+        (Rose (I.faults input.old) (I.faults input.new)) (Rose (O.faults output.old) (O.faults output.new))
+        (O.taken output.old) (O.taken output.new) result }
+
+    // Each status comes exactly where it says.
+    ensures causes { Comes (map (λ w. w.now) words.now) (I.left input.old) (I.left input.new)
+        (Rose (I.faults input.old) (I.faults input.new)) (Rose (O.faults output.old) (O.faults output.new)) result }
 {
     let Ok((status, text)) = answer(alloc, words, input) else {
         return Status::Memory;
@@ -91,6 +83,3 @@ pub fn bullfrog<I: Source, O: Sink>(
         Err(_) => Status::WriteFault,
     }
 }
-
-#[cfg(test)]
-mod tests;

@@ -1,5 +1,5 @@
 -- What a ref means in a table, what is wrong with a condition, and when a row satisfies it.
-use Rattle.std.specs.Prelude.{ℕ, Bool, true, not, ◌&&◌, List, [], ◌++◌, map, filter, length, Option, Some, None, ◌==◌, slice_index_or}
+use Rattle.std.specs.Prelude.{ℕ, Bool, true, false, not, ◌&&◌, List, [], ◌∷◌, ◌++◌, map, filter, length, Option, Some, None, ◌==◌, nat_lt, slice_index_or}
 use Rattle.std.specs.List.{enumerate_from}
 use Rattle.std.specs.Ordering.{is_eq}
 use Rattle.bf_base.specs.declared.table.Kind.{Kind}

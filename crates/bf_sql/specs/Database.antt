@@ -1,6 +1,6 @@
 -- The database: a finite map from names to tables, each with a finite map from keys to rows.
 -- Both maps are lists in order, and `IsDatabase` says that they are maps.
-use Rattle.std.specs.Prelude.{ℕ, ◌+◌, Bool, true, false, List, [], map, length, find, zip, Option, ◌==◌, nat_lt, if◌then◌else◌, IsTrue}
+use Rattle.std.specs.Prelude.{ℕ, ◌+◌, Bool, List, [], map, length, find, zip, Option, ◌==◌, if◌then◌else◌, IsTrue}
 use Rattle.std.specs.List.{list_all}
 use Rattle.bf_base.specs.declared.value.Value.{Value}
 use Rattle.bf_base.specs.declared.table.Fit.{Fit}
@@ -9,6 +9,7 @@ use Rattle.bf_base.specs.declared.table.Table.{Table}
 use Rattle.bf_base.specs.Values.{key_cmp}
 use Rattle.bf_base.specs.Lists.{same_name, name_cmp, rises, placed}
 use Rattle.bf_base.specs.Tables.{fit_of, key_of}
+use Rattle.std.specs.Prelude.{true, false}
 
 -- a table and all its rows, in the order of their keys
 pub record Stored : Type 0 where
@@ -52,13 +53,8 @@ is_admitted table row = if length row == length table.columns then list_all (λ 
 abbrev pub is_keyed : Stored → Bool
 is_keyed s = rises key_cmp (map (key_of s.table) s.rows)
 
--- each place of a table's key is that of a column
-abbrev pub is_key_within : Stored → Bool
-is_key_within s = list_all (λ place. nat_lt place (length s.table.columns)) s.table.key
-
 -- what is true of each database
 pub record IsDatabase (db : Database) : Type 0 where
   pub tables_by_name : IsTrue (rises name_cmp (map (λ s. s.table.name) db.tables))
   pub rows_by_key : IsTrue (list_all is_keyed db.tables)
   pub rows_admitted : IsTrue (list_all (λ s. list_all (is_admitted s.table) s.rows) db.tables)
-  pub keys_within : IsTrue (list_all is_key_within db.tables)

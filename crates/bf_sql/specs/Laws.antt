@@ -1,13 +1,11 @@
 -- Words of the laws.
-use Rattle.std.specs.Prelude.{◌≡◌, ℕ, not, List, [], map, Option, Some, None, find, option_map, option_and_then, IsTrue}
+use Rattle.std.specs.Prelude.{◌≡◌, ℕ, nat_lt, Bool, List, length, Option, find, option_map, option_and_then, IsTrue}
 use Rattle.std.specs.List.{list_all}
 use Rattle.bf_base.specs.declared.value.Value.{Value}
 use Rattle.bf_base.specs.declared.table.Table.{Table}
-use Rattle.bf_base.specs.Lists.{same_key, has, with_before}
+use Rattle.bf_base.specs.Lists.{same_key}
 use Rattle.bf_base.specs.Tables.{key_of}
-use Rattle.bf_sql.specs.Database.{Database, Stored, IsDatabase, stored_at}
-use Rattle.bf_sql.specs.Lazy.{Granule, Migration, LazyState, same_granule, granules_of, done_of, view_of, IsValid}
-use Rattle.bf_sql.specs.Migrations.{target_table, migrate_objections}
+use Rattle.bf_sql.specs.Database.{Database, Stored, stored_at}
 
 -- the table of a name
 abbrev pub table_at : Database → List ℕ → Option Table
@@ -27,30 +25,9 @@ pub record HaveSame (a b : Database) : Type 0 where
   pub table : (name : List ℕ) → table_at a name ≡ table_at b name
   pub row : (name : List ℕ) (key : List Value) → row_at a name key ≡ row_at b name key
 
--- a migration under way: the database at its flip had nothing against it, its targets are live tables as it made them,
--- and what has moved are granules of it, each once
-pub record IsUnderWay (live : Database) (last : Migration) : Type 0 where
-  pub old : IsDatabase last.old
-  pub fine : migrate_objections last.old last.migrate ≡ []
-  pub targets : map (λ t. table_at live t.name) last.migrate.targets ≡ map (λ t. Some (target_table last.old t)) last.migrate.targets
-  pub granules : IsTrue (list_all (has same_granule (granules_of last.old last.migrate)) last.done)
-  pub once : IsTrue (list_all (λ p. not (has same_granule p.0 p.1)) (with_before last.done))
+-- each place of a table's key is that of a column
+abbrev pub is_key_within : Stored → Bool
+is_key_within s = list_all (λ place. nat_lt place (length s.table.columns)) s.table.key
 
-abbrev pub IsUnderWayIfAny : Database → Option Migration → Type 0
-IsUnderWayIfAny live None = Unit {0}
-IsUnderWayIfAny live (Some last) = IsUnderWay live last
-
--- what is true of each lazy state
-pub record IsLazy (lazy : LazyState) : Type 0 where
-  pub live : IsDatabase lazy.live
-  pub last : IsUnderWayIfAny lazy.live lazy.last
-  pub valid : IsValid lazy
-
--- a lazy state with a database as its view
-pub record IsSeenAs (db : Database) (lazy : LazyState) : Type 0 where
-  pub lazy_state : IsLazy lazy
-  pub view : view_of lazy ≡ db
-
--- each granule of a list has moved
-abbrev pub HaveMoved : LazyState → List Granule → Type 0
-HaveMoved lazy granules = IsTrue (list_all (has same_granule (done_of lazy.last)) granules)
+abbrev pub AreKeysWithin : Database → Type 0
+AreKeysWithin db = IsTrue (list_all is_key_within db.tables)

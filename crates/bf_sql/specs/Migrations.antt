@@ -1,7 +1,9 @@
 -- New tables as queries over whole old tables: what stands in their way, their images, and the flip.
-use Rattle.std.specs.Prelude.{ℕ, ◌+◌, ◌^◌, Bool, not, ◌&&◌, ◌||◌, List, [], ◌∷◌, ◌++◌, map, flat_map, filter, fold, length, Option, nat_lt, is_some, position, unwrap_or, nat_eq, if◌then◌else◌}
+use Rattle.std.specs.Prelude.{ℕ, ◌+◌, ◌^◌, Bool, not, ◌&&◌, ◌||◌, List, [], ◌∷◌, ◌++◌, map, flat_map, filter, fold, length, Option, Some, None, nat_lt, is_some, position, unwrap_or, nat_eq, if◌then◌else◌}
 use Rattle.std.specs.List.{list_all, list_any, filter_map}
+use Rattle.std.specs.Option.{option_map}
 use Rattle.bf_base.specs.declared.value.Value.{Value}
+use Rattle.bf_base.specs.declared.table.Column.{Column}
 use Rattle.bf_base.specs.declared.table.Table.{Table}
 use Rattle.bf_base.specs.Values.{key_cmp}
 use Rattle.bf_base.specs.Lists.{same_name, name_cmp, has, with_before, when, with_placed, in_order}
@@ -20,9 +22,9 @@ use Rattle.bf_sql.specs.Conditions.{place_of_ref, admitted_by, ref_objections}
 abbrev pub no_table : Stored
 no_table = record { table = record { name = []; columns = []; key = [] }; rows = [] }
 
--- the source of a name with its rows; nothing where there is none
-abbrev pub source_at : Database → List ℕ → Stored
-source_at db name = unwrap_or (stored_at db name) no_table
+-- the table of a name with its rows; nothing where there is none
+abbrev pub table_at : Database → List ℕ → Stored
+table_at db name = unwrap_or (stored_at db name) no_table
 
 abbrev pub item_ref : Item → Ref
 item_ref (item.Column ref) = ref
@@ -34,11 +36,11 @@ item_names arm = map (λ i. (item_ref i).column) arm.items
 module _ (old : Database) (arm : Arm) where
   -- the places of an arm's items in the rows of its table
   abbrev pub item_places : List ℕ
-  item_places = map (λ i. place_of_ref (source_at old arm.from).table (item_ref i)) arm.items
+  item_places = map (λ i. place_of_ref (table_at old arm.from).table (item_ref i)) arm.items
 
   -- for each key column, the first item that gives it, if there is one
   abbrev pub key_items : List (Option ℕ)
-  key_items = map (λ place. position (nat_eq place) item_places) (source_at old arm.from).table.key
+  key_items = map (λ place. position (nat_eq place) item_places) (table_at old arm.from).table.key
 
   -- an arm's rows, out of given rows of its table
   abbrev pub arm_rows : List (List Value) → List (List Value)
@@ -48,7 +50,7 @@ module _ (old : Database) (arm : Arm) where
 abbrev pub target_table : Database → Target → Table
 target_table old target = record {
   name = target.name;
-  columns = map (λ i. record { name = (item_ref i).column; admits = admitted_by (source_at old target.arm.from).table (item_ref i) }) target.arm.items;
+  columns = map (λ i. record { name = (item_ref i).column; admits = admitted_by (table_at old target.arm.from).table (item_ref i) }) target.arm.items;
   key = filter_map (λ k. k) (key_items old target.arm);
 }
 
@@ -60,7 +62,7 @@ sources_of m = fold (λ seen t. if has same_name seen t.arm.from then seen else 
 abbrev pub target_objections : Database → Target → List Refusal
 target_objections db target =
     when (not (is_some (stored_at db target.arm.from))) (refusal.SourceUnknown target.arm.from)
-    ++ flat_map (λ i. ref_objections (source_at db target.arm.from).table (item_ref i)) target.arm.items
+    ++ flat_map (λ i. ref_objections (table_at db target.arm.from).table (item_ref i)) target.arm.items
     ++ flat_map (λ p. when (has same_name p.0 p.1) (refusal.NameTwice p.1)) (with_before (item_names target.arm))
     ++ when (not (list_all is_some (key_items db target.arm))) (refusal.KeyNotInherited target.name)
 
@@ -81,11 +83,11 @@ most_rows = 2 ^ 20
 -- what the rows have against it: a source with too many
 abbrev pub too_many_rows : Database → Migrate → List Refusal
 too_many_rows db m =
-    flat_map (λ name. when (nat_lt most_rows (length (source_at db name).rows)) (refusal.TooManyRows name (length (source_at db name).rows))) (sources_of m)
+    flat_map (λ name. when (nat_lt most_rows (length (table_at db name).rows)) (refusal.TooManyRows name (length (table_at db name).rows))) (sources_of m)
 
 -- IMAGE: what the arm of a target gives over the whole old table
 abbrev pub image_of : Database → Target → List (List Value)
-image_of old target = arm_rows old target.arm (source_at old target.arm.from).rows
+image_of old target = arm_rows old target.arm (table_at old target.arm.from).rows
 
 -- a table with rows in the order of their keys
 abbrev pub stored : Table → List (List Value) → Stored

@@ -3,18 +3,23 @@ use Rattle.std.specs.Prelude.{ℕ, not, List, [], ◌∷◌, ◌++◌, filter, l
 use Rattle.bf_base.specs.Lists.{same_name, has}
 use Rattle.bf_sql.specs.declared.statement.Statement.{Statement}
 use Rattle.bf_sql.specs.declared.statement.Statement.TheVariants as st
+use Rattle.bf_sql.specs.declared.reply.Refusal.{Refusal}
 use Rattle.bf_sql.specs.declared.history.Sweep.{Sweep}
 use Rattle.bf_sql.specs.declared.history.Sweep.TheVariants.{Never, Complete, Running}
 use Rattle.bf_sql.specs.Database.{Database}
 use Rattle.bf_sql.specs.Refusals.{objections, row_objections}
 use Rattle.bf_sql.specs.Meaning.{executed}
 use Rattle.bf_sql.specs.Migrations.{sources_of}
-use Rattle.bf_sql.specs.Lazy.{Granule, Migration, same_granule, pending, needed_by, begun, unless_objected}
+use Rattle.bf_sql.specs.Lazy.{Granule, Migration, same_granule, pending, needed_by, begun}
 
 -- the last migration with further granules moved, each once
 abbrev pub with_moved : Option Migration → List Granule → Option Migration
 with_moved None granules = None
 with_moved (Some last) granules = Some (record last { done = last.done ++ filter (λ g. not (has same_granule last.done g)) granules })
+
+abbrev pub unless_objected : List Refusal → Option Migration → Option Migration → Option Migration
+unless_objected [] next last = next
+unless_objected (r ∷ rs) next last = last
 
 -- the last migration after a statement on a database: what the statement needed has moved, and a MIGRATE that nothing
 -- stands in the way of has begun

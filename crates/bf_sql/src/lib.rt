@@ -2,7 +2,6 @@
 #![tactic(auto)]
 
 pub mod history;
-pub mod laws;
 pub mod reply;
 pub mod statement;
 

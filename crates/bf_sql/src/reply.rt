@@ -11,7 +11,7 @@ pub enum Refusal {
     NoColumn(Name),
     /// E3: a value is not of its column's kind.
     TypeMismatch,
-    /// E4: a row has this key already, or an earlier tuple of the statement.
+    /// E4: a row has this key already.
     DuplicateKey(Key),
     /// E5: a number is outside its column's range.
     OutOfRange,

@@ -1,7 +1,7 @@
 use Rattle.std.proofs.Common.{subst}
 use Rattle.bf_run.specs.Grammar.{IsScript}
 use Rattle.bf_run.proofs.Lexed.{one_lexing}
-use Rattle.bf_run.proofs.Parsed.{one_script}
+use Rattle.bf_run.proofs.Scripts.{one_script}
 use Rattle.bf_run.proofs.parse.one_reading.Goals as goal
 
 pub returns : goal.returns

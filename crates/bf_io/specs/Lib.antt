@@ -1,4 +1,0 @@
-pub mod Causes
-pub mod SinkState
-pub mod SourceState
-pub mod Whole

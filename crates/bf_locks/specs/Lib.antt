@@ -1,6 +1,0 @@
-pub mod Judgement
-pub mod LockNames
-pub mod Locks
-pub mod Modes
-pub mod Table
-pub mod Waits

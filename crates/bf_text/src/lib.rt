@@ -1,6 +1,0 @@
-//! The exact texts of replies, refusals and reports.
-#![tactic(auto)]
-
-pub mod text;
-
-pub use text::{put_refusal, put_values, report};
