@@ -1,6 +1,6 @@
 -- A session whose statements run in turn has a legal history.
-use Rattle.std.proofs.Common.{◌≡◌, ℕ, suc, ◌+◌, ◌-◌, ◌<◌, ◌≤◌, Bool, true, not, ◌&&◌, ◌==◌, nat_lt, List, [], ◌∷◌, ◌++◌, length, map, refl, sym, ap, subst, ◌∙◌, arith, append_assoc, length-append}
-use Rattle.std.specs.List.{list_any, list_all, filter, enumerate_from}
+use Rattle.std.proofs.Common.{◌≡◌, ℕ, suc, ◌+◌, ◌-◌, ◌<◌, ◌≤◌, Bool, true, not, ◌&&◌, ◌==◌, nat_lt, List, [], ◌∷◌, ◌++◌, length, map, refl, sym, ap, subst, ◌∙◌, arith, append_assoc, length-append, None}
+use Rattle.std.specs.List.{list_any, list_all, filter, enumerate_from, flat_map}
 use Rattle.std.proofs.Math.Seq.{drop-append_seam}
 use Rattle.std.proofs.lemmas.Bool.{and_parts, and_from, eqb-true}
 use Rattle.std.proofs.lemmas.Bool.Decides.{nat_tests}
@@ -13,7 +13,8 @@ use Rattle.bf_sql.specs.declared.history.Entry.{Entry}
 use Rattle.bf_sql.specs.Database.{Database, empty_database}
 use Rattle.bf_sql.specs.Meaning.{executed}
 use Rattle.bf_sql.specs.History.{groups_from, statements_of, outcomes_from, replayed, told, has_statement, is_whole_group, may_precede}
-use Rattle.bf_run.specs.Form.{one_session}
+use Rattle.bf_sql.specs.Movement.{migration_after, sweep_of}
+use Rattle.bf_form.specs.Form.{one_session}
 use Rattle.bf_run.specs.Serving.{replies_to, entry_at, entries_from}
 use Rattle.bf_run.specs.Run.{IsRun}
 
@@ -98,8 +99,17 @@ module _ (all : List Statement) where
       subst (λ (rs : List Reply). map (told (rs ∷ [])) (entries_from (k + 1) ss) ≡ (replayed (one_session all) next (entries_from (k + 1) ss)).0) (append_assoc before (reply ∷ []) (replies_to next ss)) later in
       rw (picked, told_here) (ap (λ rest. (reply ∷ []) ∷ rest) later_told)
 
+  -- the entries have the statements behind a front
+  all_there : (k : ℕ) (front : List Statement) (ss : List Statement) → all ≡ front ++ ss → k ≡ suc (length front) → flat_map (statements_of (one_session all)) (entries_from k ss) ≡ ss
+  all_there k front [] split here = refl
+  all_there k front (s ∷ ss) split here =
+      let picked : statements_of (one_session all) (entry_at k) ≡ s ∷ [] = rw split (part_here k front s ss here) in
+      let one_more : all ≡ (front ++ s ∷ []) ++ ss = split ∙ sym (append_assoc front (s ∷ []) ss) in
+      let later = all_there (k + 1) (front ++ s ∷ []) ss one_more (omega (arith, length-append front (s ∷ []))) in
+      rw picked (ap (λ rest. s ∷ rest) later)
+
 -- the statements of one session, run in turn, are a run of its script
-pub run_of_session : (all : List Statement) → IsRun (one_session all) (replies_to empty_database all ∷ []) (entries_from 1 all)
+pub run_of_session : (all : List Statement) → IsRun (one_session all) (replies_to empty_database all ∷ []) (entries_from 1 all) (sweep_of (migration_after None empty_database all))
 run_of_session all =
     let replies = replies_to empty_database all in
     let answered_all = length-replies_to empty_database all in
@@ -112,4 +122,5 @@ run_of_session all =
         others = rw append-nil (none_apart (entries_from 1 all) 1 replies (λ k low high. entry_found 1 k all low (omega arith)));
       };
       all_answered = ap (λ n. n ∷ []) answered_all;
+      moves_only_needed = ap (λ ss. sweep_of (migration_after None empty_database ss)) (sym (all_there all 1 [] all refl refl));
     }

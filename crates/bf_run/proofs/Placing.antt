@@ -1,20 +1,24 @@
--- Where a row goes among boxed rows in key order.
-use Rattle.std.proofs.Common.{◌≡◌, ℕ, zero, suc, ◌<◌, ◌≤◌, true, false, List, [], ◌∷◌, map, length, get_or, Less, Equal, Greater, Result, Ok, Err, IfOk, IfErr, refl, sym, ap, ◌∙◌, arith, insert, IsTrue}
-use Rattle.std.specs.List.{HoldsAt}
+-- Where a row goes among boxed rows in key order, and which row has a key.
+use Rattle.std.proofs.Common.{◌≡◌, ℕ, zero, suc, ◌+◌, ◌<◌, ◌≤◌, Bool, true, false, List, [], ◌∷◌, map, filter, length, get_or, Ordering, Less, Equal, Greater, Result, Ok, Err, Some, None, IfOk, IfErr, refl, sym, ap, subst, ◌∙◌, inl, inr, arith, insert, IsTrue, is_eq, pos, option_to_list}
+use Rattle.std.specs.List.{HoldsAt, range_with_len}
 use Rattle.std.specs.List.Sorted.{IsPartitionPoint, IsNonDecreasingBy, IsSearchInRange, IsBinarySearchResult}
 use Rattle.std.specs.Ordering.{ordering_index, ordering_then}
-use Rattle.std.proofs.lemmas.Bool.{and_parts}
-use Rattle.std.proofs.lemmas.List.{length-map}
+use Rattle.std.specs.Result.{result_ok}
+use Rattle.std.proofs.lemmas.Bool.{and_parts, cases_lt}
+use Rattle.std.proofs.lemmas.List.{length-map, get_or-map, get_or_default}
 use Rattle.bf_base.specs.declared.value.Value.{Value}
+use Rattle.bf_base.specs.declared.value.Value.TheVariants.{Int}
 use Rattle.bf_base.specs.declared.table.Table.{Table}
-use Rattle.bf_base.specs.Values.{value_cmp, key_cmp, key_cmp_total}
+use Rattle.bf_base.specs.Values.{value_cmp, key_cmp, value_cmp_total, key_cmp_total, value_cmp-IsAntisymmetric}
 use Rattle.bf_base.specs.Lists.{same_key, has, placed, rises}
 use Rattle.bf_base.specs.Tables.{cell, key_of}
-use Rattle.bf_base.proofs.Order.{placed-insert, has-none, has-at, searchable_from_rises}
-use Rattle.bf_run.specs.Engine.{has_key_of, IsServed, IsOneNumber, IsPlaceFor}
+use Rattle.bf_base.proofs.Order.{placed-insert, has-none, has-at, searchable_from_rises, less_from_rises, turned_less}
+use Rattle.bf_sql.specs.Database.{Stored}
+use Rattle.bf_run.specs.Engine.{has_key_of, has_value, key_column_of, places_where, IsServed, IsPlaceFor}
+use Rattle.bf_run.proofs.Places.{no_place, only_place}
 
 -- keys of one value are compared by it
-one_value : (a b : Value) → key_cmp (a ∷ []) (b ∷ []) ≡ value_cmp a b
+pub one_value : (a b : Value) → key_cmp (a ∷ []) (b ∷ []) ≡ value_cmp a b
 one_value a b = elim (value_cmp a b) as (λ o. ordering_then o Equal ≡ o) [ Less ↦ refl | Equal ↦ refl | Greater ↦ refl ]
 
 map_map : {A B C : Type 0} (g : B → C) (f : A → B) (xs : List A) → map g (map f xs) ≡ map (λ x. g (f x)) xs
@@ -93,41 +97,83 @@ module _ {B : Type 0} (open_box : B → List Value) (table : Table) (column : �
       sym (placed-insert key_cmp_total key (map open_box boxes) at row parted_rows)
       ∙ sym (ap (λ (by : List Value → List Value). placed key_cmp by (map open_box boxes) row) key_by_cell)
 
--- what a search for a value among the boxed rows of a served table says of a row
-searched : {B : Type 0} (open_box : B → List Value) (table : Table) (boxes : List B) (row : List Value) (column : ℕ) (value : Value) (r : Result ℕ ℕ)
-    → IsServed (record { table = table; rows = map open_box boxes }) → table.key ≡ column ∷ [] → value ≡ cell row column
-    → IsSearchInRange r (length boxes) → IsBinarySearchResult (λ box. value_cmp (cell (open_box box) column) value) boxes r
-    → record {
-      found : IfOk r (λ _. IsTrue (has_key_of (record { table = table; rows = map open_box boxes }) row));
-      absent : IfErr r (IsPlaceFor (record { table = table; rows = map open_box boxes }) row);
-    }
-searched open_box table boxes row column value (Ok at) served one_key is in_range equal =
-    record { found = taken_at open_box table column one_key boxes at row in_range (λ d. rw (← is) (equal d)); absent = tt }
-searched open_box table boxes row column value (Err at) served one_key is in_range parted =
-    let rising = comparisons_rise open_box table column one_key boxes (and_parts _ _ served.database.rows_by_key).0 value in
-    let here = rw is at (parted rising) in
-    record {
-      found = tt;
-      absent = record {
-        within = omega (arith, length-map boxes open_box);
-        key_new = new_at open_box table column one_key boxes at row here;
-        in_place = placed_at open_box table column one_key boxes at row in_range here;
-      };
-    }
 
--- the value of a row of one number in its first column
-value_is : (row : List Value) → IsOneNumber row → (column : ℕ) → column ≡ 0 → (value : Value) → value ≡ get_or row column value → value ≡ cell row column
-value_is row number column first value is = is ∙ rw (number.1, first) refl
+  module _ (value : Value) where
+    -- whether the row of a place has the value, by the comparison
+    tested : (boxes : List B) (k : ℕ) (d : B) (r : Ordering) → k < length boxes → value_cmp (cell (open_box (get_or boxes k d)) column) value ≡ r
+        → has_value column value (get_or (map open_box boxes) (0 + k) []) ≡ is_eq r
+    tested boxes k d r within is =
+        let same : 0 + k ≡ k = omega arith in
+        ap (λ i. has_value column value (get_or (map open_box boxes) i [])) same ∙ ap (has_value column value) (get_or-map open_box boxes k d [] within) ∙ ap is_eq is
 
--- the same where the column is read from the key, and the value from the row
-pub searched_by_key : {B : Type 0} (open_box : B → List Value) (table : Table) (boxes : List B) (row : List Value) (key : List ℕ) (value : Value) (r : Result ℕ ℕ)
-    → IsServed (record { table = table; rows = map open_box boxes }) → IsOneNumber row → key ≡ table.key → value ≡ get_or row (get_or key 0 0) value
-    → IsSearchInRange r (length boxes) → IsBinarySearchResult (λ box. value_cmp (cell (open_box box) (get_or key 0 0)) value) boxes r
-    → record {
-      found : IfOk r (λ _. IsTrue (has_key_of (record { table = table; rows = map open_box boxes }) row));
-      absent : IfErr r (IsPlaceFor (record { table = table; rows = map open_box boxes }) row);
-    }
-searched_by_key open_box table boxes row key value r served number key_is is in_range position =
-    let first : get_or key 0 0 ≡ 0 = rw (key_is, served.one_column.key) refl in
-    let one_key : table.key ≡ get_or key 0 0 ∷ [] = rw first served.one_column.key in
-    searched open_box table boxes row (get_or key 0 0) value r served one_key (value_is row number (get_or key 0 0) first value is) in_range position
+    -- a row whose value is found is the only one that has it
+    pub found_only : (boxes : List B) (at : ℕ) → rises key_cmp (map (key_of table) (map open_box boxes)) ≡ true → at < length boxes → HoldsAt (λ box. value_cmp (cell (open_box box) column) value ≡ Equal) boxes at
+        → places_where (has_value column value) (map open_box boxes) ≡ at ∷ []
+    found_only [] at sorted within equal = absurd (omega arith)
+    found_only (b ∷ bs) at sorted within equal =
+        let boxes = b ∷ bs in
+        let cell_at = λ (k : ℕ). cell (open_box (get_or boxes k b)) column in
+        let is : cell_at at ≡ value = value_cmp-IsAntisymmetric (cell_at at) value (equal b) in
+        let rising = subst (λ (ks : List (List Value)). rises key_cmp ks ≡ true) (keys_are boxes) sorted in
+        let less : (i j : ℕ) → i < j → j < length boxes → value_cmp (cell_at i) (cell_at j) ≡ Less = λ i j before in_range. sym (one_value (cell_at i) (cell_at j)) ∙ less_from_rises key_cmp_total key_in boxes i j b rising before in_range in
+        let below : (k : ℕ) → k < at → value_cmp (cell_at k) value ≡ Less = λ k before. ap (value_cmp (cell_at k)) (sym is) ∙ less k at before within in
+        let above : (k : ℕ) → at < k → k < length boxes → value_cmp (cell_at k) value ≡ Greater = λ k behind in_range. ap (value_cmp (cell_at k)) (sym is) ∙ turned_less value_cmp_total (cell_at at) (cell_at k) (less at k behind in_range) in
+        let long : length (map open_box boxes) ≡ length boxes = length-map boxes open_box in
+        let only = only_place (λ k. has_value column value (get_or (map open_box boxes) k [])) 0 (length boxes) at within (tested boxes at b Equal within (equal b))
+          (λ k before. tested boxes k b Less (omega arith) (below k before)) (λ k behind in_range. tested boxes k b Greater in_range (above k behind in_range)) in
+        let first : 0 + at ≡ at = omega arith in
+        ap (λ n. filter (λ k. has_value column value (get_or (map open_box boxes) k [])) (range_with_len 0 n)) long ∙ only ∙ ap (λ k. k ∷ []) first
+
+    -- between the rows with lesser and with greater values none has it
+    pub found_none : (boxes : List B) (at : ℕ)
+        → IsPartitionPoint (λ box. value_cmp (cell (open_box box) column) value ≡ Less) (λ box. value_cmp (cell (open_box box) column) value ≡ Greater) boxes at
+        → places_where (has_value column value) (map open_box boxes) ≡ []
+    found_none [] at parted = refl
+    found_none (b ∷ bs) at parted =
+        let boxes = b ∷ bs in
+        let long : length (map open_box boxes) ≡ length boxes = length-map boxes open_box in
+        let none = no_place (λ k. has_value column value (get_or (map open_box boxes) k [])) 0 (length boxes) (λ k within. elim (cases_lt k at) [
+          | inl before ↦ tested boxes k b Less within (parted.0 k b (omega arith) before)
+          | inr behind ↦ tested boxes k b Greater within (parted.1 k b behind within)
+        ]) in
+        ap (λ n. filter (λ k. has_value column value (get_or (map open_box boxes) k [])) (range_with_len 0 n)) long ∙ none
+
+-- the key's column
+key_column_is : (table : Table) (served_key : ℕ) → table.key ≡ served_key ∷ [] → (column : ℕ) → column ≡ key_column_of table → table.key ≡ column ∷ []
+key_column_is table place one column is =
+    let first : key_column_of table ≡ place = ap (λ ks. get_or ks 0 0) one in
+    one ∙ ap (λ k. k ∷ []) (sym (is ∙ first))
+
+module _ {B : Type 0} (open_box : B → List Value) (table : Table) (boxes : List B) (served : IsServed (record { table = table; rows = map open_box boxes })) (column : ℕ) (is_key : column ≡ key_column_of table) where
+  abbrev stored : Stored
+  stored = record { table = table; rows = map open_box boxes }
+
+  one_key_here : table.key ≡ column ∷ []
+  one_key_here = key_column_is table served.key_place served.one_key column is_key
+
+  rising_here : rises key_cmp (map (key_of table) (map open_box boxes)) ≡ true
+  rising_here = (and_parts _ _ served.database.rows_by_key).0
+
+  -- what a search for the value of a row in the key's column says of the row
+  pub searched : (row : List Value) (value : Value) (r : Result ℕ ℕ) → column < length row → value ≡ get_or row column value → IsSearchInRange r (length boxes) → IsBinarySearchResult (λ box. value_cmp (cell (open_box box) column) value) boxes r
+      → record { found : IfOk r (λ _. IsTrue (has_key_of stored row)); absent : IfErr r (IsPlaceFor stored row) }
+  searched row value (Ok at) within is in_range equal =
+      let own : value ≡ cell row column = is ∙ get_or_default row column value (Int (pos 0)) within in
+      record { found = taken_at open_box table column one_key_here boxes at row in_range (λ d. rw (← own) (equal d)); absent = tt }
+  searched row value (Err at) within is in_range parted =
+      let own : value ≡ cell row column = is ∙ get_or_default row column value (Int (pos 0)) within in
+      let here = rw own at (parted (comparisons_rise open_box table column one_key_here boxes rising_here value)) in
+      record {
+        found = tt;
+        absent = record {
+          within = omega (arith, length-map boxes open_box);
+          key_new = new_at open_box table column one_key_here boxes at row here;
+          in_place = placed_at open_box table column one_key_here boxes at row in_range here;
+        };
+      }
+
+  -- which row has a value as its key
+  pub found_by_key : (value : Value) (r : Result ℕ ℕ) → IsSearchInRange r (length boxes) → IsBinarySearchResult (λ box. value_cmp (cell (open_box box) column) value) boxes r
+      → places_where (has_value column value) (map open_box boxes) ≡ option_to_list (result_ok r)
+  found_by_key value (Ok at) in_range equal = found_only open_box table column one_key_here value boxes at rising_here in_range equal
+  found_by_key value (Err at) in_range parted = found_none open_box table column one_key_here value boxes at (parted (comparisons_rise open_box table column one_key_here boxes rising_here value))

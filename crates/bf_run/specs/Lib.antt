@@ -1,11 +1,5 @@
 pub mod Engine
-pub mod Form
-pub mod Grammar
-pub mod Lexing
+pub mod Marks
 pub mod Outcome
-pub mod Parsing
-pub mod Reading
 pub mod Run
-pub mod Scanning
 pub mod Serving
-pub mod Tokens

@@ -8,10 +8,10 @@ use Rattle.bf_base.specs.Lists.{same_name}
 use Rattle.bf_sql.specs.declared.statement.Script.{Script}
 use Rattle.bf_sql.specs.declared.reply.Reply.{Reply}
 use Rattle.bf_sql.specs.declared.history.Entry.{Entry}
-use Rattle.bf_sql.specs.declared.history.Sweep.TheVariants.{Never}
+use Rattle.bf_sql.specs.declared.history.Sweep.{Sweep}
 use Rattle.bf_run.specs.declared.status.Status.{Status}
 use Rattle.bf_run.specs.declared.status.Status.TheVariants.{Done, Usage, ReadFault, WriteFault, Memory, NotBuilt}
-use Rattle.bf_run.specs.Grammar.{IsScriptText}
+use Rattle.bf_form.specs.Grammar.{IsScriptText}
 use Rattle.bf_text.specs.Report.{report_text, newline}
 use Rattle.bf_run.specs.Run.{IsRun}
 
@@ -41,9 +41,10 @@ pub record IsReport (left : Option (List ℕ)) (text : List ℕ) : Type 0 where
   pub script : Script
   pub transcripts : List (List Reply)
   pub history : List Entry
+  pub sweep : Sweep
   pub is_script : OfBytes left (λ bytes. IsScriptText bytes script)
-  pub is_run : IsRun script transcripts history
-  pub report_written : text ≡ report_text transcripts history Never
+  pub is_run : IsRun script transcripts history sweep
+  pub report_written : text ≡ report_text transcripts history sweep
 
 -- the most bytes that a script has
 abbrev pub longest_script : ℕ

@@ -7,7 +7,7 @@ use Rattle.bf_sql.specs.declared.history.Outcome.TheVariants.{Committed}
 use Rattle.bf_sql.specs.declared.history.Entry.{Entry}
 use Rattle.bf_sql.specs.Database.{Database}
 use Rattle.bf_sql.specs.Meaning.{executed}
-use Rattle.bf_run.specs.Form.{creation, IsPlain}
+use Rattle.bf_form.specs.Form.{Plot, AreColumns, MigratesPlainly, IsPlain, statements_of}
 
 -- the replies to statements, each run on what the one before it left
 abbrev pub replies_to : Database → List Statement → List Reply
@@ -23,10 +23,10 @@ abbrev pub entries_from : ℕ → List Statement → List Entry
 entries_from k [] = []
 entries_from k (s ∷ ss) = entry_at k ∷ entries_from (k + 1) ss
 
--- the statements of a script of the form: one that creates a table, and then plain ones
+-- the statements of a script of the form
 pub record AreOfForm (statements : List Statement) : Type 0 where
-  pub table : List ℕ
-  pub column : List ℕ
-  pub parts : List Statement
-  pub plain : AllByRecursion IsPlain parts
-  pub spelled : statements ≡ creation table column ∷ parts
+  pub plot : Plot
+  pub are_columns : AreColumns plot.columns plot.key
+  pub plain : AllByRecursion IsPlain plot.parts
+  pub migrates : MigratesPlainly plot.columns plot.key plot.migrated
+  pub spelled : statements ≡ statements_of plot

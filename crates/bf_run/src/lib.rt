@@ -2,11 +2,8 @@
 #![tactic(auto)]
 
 pub mod engine;
-pub mod lex;
-pub mod parse;
 pub mod serve;
 pub mod status;
-pub mod token;
 pub mod top;
 pub mod words;
 

@@ -1,14 +1,15 @@
 //! The run of a script.
 
-ghost use Rattle.std.specs.Prelude.{◌≡◌, ◌+◌, [], ◌∷◌, ◌++◌, length, IfOk, OnOk};
+ghost use Rattle.std.specs.Prelude.{◌≡◌, ◌+◌, [], ◌∷◌, ◌++◌, length, None, IfOk, OnOk};
 ghost use Rattle.bf_sql.specs.Database.{empty_database};
-ghost use Rattle.bf_run.specs.Form.{IsOfForm};
+ghost use Rattle.bf_sql.specs.Movement.{migration_after, sweep_of};
+ghost use Rattle.bf_form.specs.Form.{IsOfForm};
 ghost use Rattle.bf_run.specs.Run.{IsRun};
 ghost use Rattle.bf_run.specs.Serving.{entry_at, replies_to, entries_from, AreOfForm};
 
-use crate::engine::Live;
+use crate::engine::Engine;
 use bf_base::{Memory, Sequence};
-use bf_sql::{Entry, History, Outcome, Reply, Script, Statement, Transcripts};
+use bf_sql::{Entry, History, Outcome, Reply, Script, Statement, Sweep, Transcripts};
 use std::alloc::Global;
 
 /// What a run leaves.
@@ -16,6 +17,7 @@ use std::alloc::Global;
 pub struct Run {
     pub transcripts: Transcripts,
     pub history: History,
+    pub sweep: Sweep,
 }
 
 /// What the statements that have run leave: their replies, and an entry for each.
@@ -55,25 +57,26 @@ fn next_number(count: usize) -> Result<u32, Memory>
 }
 
 /// Runs the statements of a session, one after the other, from the empty database.
-fn run_all(alloc: Global, statements: &[Statement]) -> Result<Course, Memory>
+fn run_all(alloc: Global, statements: &[Statement]) -> Result<(Course, Sweep), Memory>
     requires { AreOfForm statements.now }
-    ensures replies { IfOk result (λ course. course.replies.items ≡ replies_to empty_database statements.now) }
-    ensures entries { IfOk result (λ course. course.entries.items ≡ entries_from 1 statements.now) }
+    ensures replies { IfOk result (λ run. run.0.replies.items ≡ replies_to empty_database statements.now) }
+    ensures entries { IfOk result (λ run. run.0.entries.items ≡ entries_from 1 statements.now) }
+    ensures sweep { IfOk result (λ run. run.1 ≡ sweep_of (migration_after None empty_database statements.now)) }
 {
     let [creation, rest @ ..] = statements else {
         unreachable!()
     };
-    let mut live = Live::create(alloc, creation)?;
+    let mut engine = Engine::create(alloc, creation)?;
     let mut course = Course {
         replies: Vec::with_capacity(alloc, statements.len())?,
         entries: Vec::with_capacity(alloc, statements.len())?,
     };
     course.commit(Reply::Created)?;
     for statement in rest {
-        let reply = live.execute(alloc, statement)?;
+        let reply = engine.execute(alloc, statement)?;
         course.commit(reply)?;
     }
-    Ok(course)
+    Ok((course, engine.sweep()))
 }
 
 /// Serves the statements of a script of the form, one after the other, from the empty
@@ -81,9 +84,9 @@ fn run_all(alloc: Global, statements: &[Statement]) -> Result<Course, Memory>
 /// new one, and a SELECT a copy of the rows.
 pub fn serve(alloc: Global, script: &Script) -> Result<Run, Memory>
     requires { IsOfForm script.now }
-    ensures { IfOk result (λ run. IsRun script.now run.transcripts.sessions run.history.entries) }
+    ensures { IfOk result (λ run. IsRun script.now run.transcripts.sessions run.history.entries run.sweep) }
 {
-    let course = run_all(alloc, script.sessions.as_slice()[0].statements.as_slice())?;
+    let (course, sweep) = run_all(alloc, script.sessions.as_slice()[0].statements.as_slice())?;
     let replies = Sequence::of(course.replies);
     Ok(Run {
         transcripts: Transcripts {
@@ -92,5 +95,9 @@ pub fn serve(alloc: Global, script: &Script) -> Result<Run, Memory>
         history: History {
             entries: Sequence::of(course.entries),
         },
+        sweep,
     })
 }
+
+#[cfg(test)]
+mod tests;

@@ -4,13 +4,12 @@ ghost use Rattle.std.specs.Prelude.{◌≡◌, IfOk, map};
 ghost use Rattle.std.specs.Option.{option_map};
 ghost use Rattle.bf_run.specs.Outcome.{IsAnswer, Ends, FindsReport};
 
-use crate::parse::read_script;
 use crate::serve::serve;
 use crate::status::Status;
 use crate::words::are_try;
 use bf_base::Memory;
+use bf_form::read_script;
 use bf_io::{ReadError, Sink, Source, read_all, write_whole};
-use bf_sql::Sweep;
 use bf_text::report;
 use std::alloc::Global;
 
@@ -25,7 +24,7 @@ fn find_report(alloc: Global, text: &[u8]) -> Result<Option<Vec<u8>>, Memory>
         return Ok(None);
     };
     let run = serve(alloc, &script)?;
-    Ok(Some(report(alloc, &run.transcripts, &run.history, Sweep::Never)?))
+    Ok(Some(report(alloc, &run.transcripts, &run.history, run.sweep)?))
 }
 
 /// The status and its whole text, before a byte is written.

@@ -1,15 +1,16 @@
-use Rattle.std.proofs.Common.{◌≡◌, ◌+◌, ◌++◌, drop, length}
-use Rattle.std.specs.List.{AllByRecursion}
+use Rattle.std.proofs.Common.{◌≡◌, ◌+◌, ◌++◌, drop, length, None}
 use Rattle.bf_sql.specs.Database.{empty_database}
-use Rattle.bf_run.specs.Form.{IsPlain}
-use Rattle.bf_run.specs.Engine.{database_of}
+use Rattle.bf_sql.specs.Lazy.{view_of}
+use Rattle.bf_sql.specs.Movement.{migration_after}
 use Rattle.bf_run.specs.Serving.{replies_to, entries_from}
+use Rattle.bf_run.proofs.Plotted.{MayAllRun}
 use Rattle.bf_run.proofs.serve.run_all.Given as goal
 
--- what has been noted, and what is still to come, is all
+-- what has been noted, and what is still to come, is all; and what is to come may run
 abbrev pub invariant-loop-statement : goal.invariant-loop-statement
 invariant-loop-statement l = record {
-  plain : AllByRecursion IsPlain (drop l.statement-index l.rest);
-  replies : replies_to empty_database l.statements ≡ l.course.replies.items ++ replies_to (database_of l.live) (drop l.statement-index l.rest);
+  may_run : MayAllRun l.engine.last (view_of l.engine) (drop l.statement-index l.rest);
+  replies : replies_to empty_database l.statements ≡ l.course.replies.items ++ replies_to (view_of l.engine) (drop l.statement-index l.rest);
   entries : entries_from 1 l.statements ≡ l.course.entries.items ++ entries_from (length l.course.entries.items + 1) (drop l.statement-index l.rest);
+  moves : migration_after None empty_database l.statements ≡ migration_after l.engine.last (view_of l.engine) (drop l.statement-index l.rest);
 }

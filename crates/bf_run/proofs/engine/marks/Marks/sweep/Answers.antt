@@ -1,0 +1,15 @@
+use Rattle.std.proofs.Common.{◌∙◌, Some, None, sym}
+use Rattle.bf_run.proofs.Marked.{swept_by_marks}
+use Rattle.bf_run.proofs.engine.marks.Marks.sweep.Goals as goal
+
+pub returns-in-None : goal.returns-in-None
+returns-in-None c =
+    let first = rw c.deref.ensures.value at c.in-None.ensures.first in
+    let count = c.len-moved.ensures ∙ c.self.inside.moved.ok.0 in
+    rw (← c.self.view_is, count) (swept_by_marks c.self.inside.is_done.items c.self.inside.moved.items c.self.inside.moved.cap c.self.invariant None first)
+
+pub returns-in-Some : goal.returns-in-Some
+returns-in-Some c =
+    let first = rw c.deref.ensures.value at c.in-Some.ensures.first in
+    let count = c.len-moved.ensures ∙ c.self.inside.moved.ok.0 in
+    rw (← c.self.view_is, count) (swept_by_marks c.self.inside.is_done.items c.self.inside.moved.items c.self.inside.moved.cap c.self.invariant (Some c.in-Some.at) first)
