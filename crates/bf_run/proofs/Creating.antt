@@ -43,7 +43,7 @@ none_twice : (seen cs : List (List ℕ)) → list_all (λ c. not (has same_name 
 none_twice seen [] apart distinct = refl
 none_twice seen (c ∷ cs) apart distinct =
     let here : twice (rule_names (map int_column seen)) c ≡ [] =
-      ap (λ names. twice names c) (names_declared seen) ∙ ap (λ b. when b (refusal.NameTwice c)) (not-true _ (and_parts _ _ apart).0) in
+    ap (λ names. twice names c) (names_declared seen) ∙ ap (λ b. when b (refusal.NameTwice c)) (not-true _ (and_parts _ _ apart).0) in
     let more = apart_more seen cs c (and_parts _ _ apart).1 (not-true _ (and_parts _ _ distinct).0) in
     let rest = none_twice (seen ++ c ∷ []) cs more (and_parts _ _ distinct).1 in
     ap₂ (λ xs ys. xs ++ ys) here (ap (λ rules. flat_map (λ p. twice (rule_names p.0) p.1.name) (with_before_from rules (map int_column cs))) (sym (map-append int_column seen (c ∷ []))) ∙ rest)
@@ -109,5 +109,5 @@ module _ (statement : Statement) (made : IsCreation statement) where
     as_made key place first at =
         let key_is : key ≡ made.key = first ∙ ap (λ ks. slice_index_or ks 0 key) keys_is in
         let place_is : place ≡ place_of (rule_names rules) made.key =
-          at ∙ ap₂ (λ k rs. unwrap_or (position (λ rule. same_name k rule.name) rs) 0) key_is declared_is ∙ ap (λ o. unwrap_or o 0) (sym (position-map (λ rule. rule.name) (same_name made.key) rules)) in
+        at ∙ ap₂ (λ k rs. unwrap_or (position (λ rule. same_name k rule.name) rs) 0) key_is declared_is ∙ ap (λ o. unwrap_or o 0) (sym (position-map (λ rule. rule.name) (same_name made.key) rules)) in
         λ i. record { name = name_is i; columns = map (λ rule. record { name = rule.name; admits = admit_of rule.form }) (declared_is i); key = place_is i ∷ [] }

@@ -149,7 +149,7 @@ pub places_more : (table : Table) (items : List Item) → ArePlain items → (sl
 places_more table items plainly slice same at item within is before after column place far here named pushed =
     let ref_is = plain_item slice (subst ArePlain (sym same) plainly) at item within is in
     let place_is : place ≡ place_of_ref table (item_ref (slice_index_or slice at item)) =
-      here ∙ ap (λ c. place_of_ref table (plain c)) named ∙ ap (place_of_ref table) (sym ref_is) ∙ ap (λ i. place_of_ref table (item_ref i)) is in
+    here ∙ ap (λ c. place_of_ref table (plain c)) named ∙ ap (place_of_ref table) (sym ref_is) ∙ ap (λ i. place_of_ref table (item_ref i)) is in
     pushed ∙ ap₂ (λ front p. front ++ p ∷ []) far place_is ∙ sym (map_more (λ i. place_of_ref table (item_ref i)) slice at item within)
 
 pub columns_more : (table : Table) (items : List Item) → ArePlain items → (at : ℕ) (item : Item) → at < length items → item ≡ slice_index_or items at item
@@ -199,7 +199,7 @@ module _ (live : Stored) (served : IsServed live) (u : List ℕ) (items : List (
   flipped_state : state_of next (Some aside) ≡ flipped_lazily (state_of live None) m
   flipped_state =
       let left : next ∷ [] ≡ (replaced (one_table 1 live) m (next ∷ [])).tables =
-        ap (λ b. with_placed name_cmp (λ (s : Stored). s.table.name) (cond (not (b || false)) (live ∷ []) []) (next ∷ [])) (sym (same_name-itself live.table.name)) in
+      ap (λ b. with_placed name_cmp (λ (s : Stored). s.table.name) (cond (not (b || false)) (live ∷ []) []) (next ∷ [])) (sym (same_name-itself live.table.name)) in
       λ i. record { live = record { number = 2; tables = left i }; last = Some (record { number = 1; old = one_table 1 live; migrate = only_target u (kept_names i) live.table.name; done = [] }) }
 
   flip_seen : IsSeenAs (flipped (view_of (state_of live None)) m) (flipped_lazily (state_of live None) m)
@@ -301,8 +301,8 @@ module _ (live : Stored) (frozen : Option Aside) (m : Flip) (tied : IsTiedIfAny 
   refused_first target is many =
       subst (λ (f : Option Aside). IsAnswered live f (Migrate m) (reply.Refused (refusal.TooManyRows target.arm.from (length live.rows))) live f) (sym not_yet)
       (subst (λ (f : Flip). IsAnswered live None (Migrate f) (reply.Refused (refusal.TooManyRows target.arm.from (length live.rows))) live None) (sym spelled_by)
-          (subst (λ (x : Target). IsAnswered live None (Migrate (only_target first.target first.items live.table.name)) (reply.Refused (refusal.TooManyRows x.arm.from (length live.rows))) live None) (sym (target_by target is))
-              (refused live served_first first.target first.items fine_by many)))
+      (subst (λ (x : Target). IsAnswered live None (Migrate (only_target first.target first.items live.table.name)) (reply.Refused (refusal.TooManyRows x.arm.from (length live.rows))) live None) (sym (target_by target is))
+      (refused live served_first first.target first.items fine_by many)))
 
   pub begins_first : (target : Target) → target ≡ slice_index_or m.targets 0 target → length live.rows ≤ most_rows → (next : Stored) (left : Option Aside) → IsFlipped live target next left
       → IsAnswered live frozen (Migrate m) (reply.Migrated 1) next left
@@ -311,12 +311,12 @@ module _ (live : Stored) (frozen : Option Aside) (m : Flip) (tied : IsTiedIfAny 
       let after = begins live served_first first.target first.items fine_by few in
       let made : next ≡ empty (target_table (one_table 1 live) to) = flip.made ∙ ap (λ (x : Target). empty (target_table (one_table 1 live) x)) (target_by target is) in
       let kept_aside : left ≡ Some (record { source = live; places = item_places (one_table 1 live) to.arm; moved = [] }) =
-        flip.aside ∙ ap (λ (x : Target). Some (record { source = live; places = item_places (one_table 1 live) x.arm; moved = [] })) (target_by target is) in
+      flip.aside ∙ ap (λ (x : Target). Some (record { source = live; places = item_places (one_table 1 live) x.arm; moved = [] })) (target_by target is) in
       let flip_is : IsAnswered live frozen (Migrate (only_target first.target first.items live.table.name)) (reply.Migrated 1) (empty (target_table (one_table 1 live) to)) (Some (record { source = live; places = item_places (one_table 1 live) to.arm; moved = [] })) =
-        subst (λ (f : Option Aside). IsAnswered live f (Migrate (only_target first.target first.items live.table.name)) (reply.Migrated 1) (empty (target_table (one_table 1 live) to)) (Some (record { source = live; places = item_places (one_table 1 live) to.arm; moved = [] }))) (sym not_yet) after in
+      subst (λ (f : Option Aside). IsAnswered live f (Migrate (only_target first.target first.items live.table.name)) (reply.Migrated 1) (empty (target_table (one_table 1 live) to)) (Some (record { source = live; places = item_places (one_table 1 live) to.arm; moved = [] }))) (sym not_yet) after in
       subst (λ (f : Flip). IsAnswered live frozen (Migrate f) (reply.Migrated 1) next left) (sym spelled_by)
       (subst (λ (n : Stored). IsAnswered live frozen (Migrate (only_target first.target first.items live.table.name)) (reply.Migrated 1) n left) (sym made)
-          (subst (λ (l : Option Aside). IsAnswered live frozen (Migrate (only_target first.target first.items live.table.name)) (reply.Migrated 1) (empty (target_table (one_table 1 live) to)) l) (sym kept_aside) flip_is))
+      (subst (λ (l : Option Aside). IsAnswered live frozen (Migrate (only_target first.target first.items live.table.name)) (reply.Migrated 1) (empty (target_table (one_table 1 live) to)) l) (sym kept_aside) flip_is))
 
 -- what a flip of the one table asks of what it makes
 module _ (live : Stored) (served : IsServed live) (target : Target) (first : IsFirstTarget live target) where
@@ -326,7 +326,7 @@ module _ (live : Stored) (served : IsServed live) (target : Target) (first : IsF
   pub few_places : (places : List ℕ) → places ≡ map (λ i. place_of_ref live.table (item_ref i)) target.arm.items → length places ≤ most_parts
   few_places places are =
       let as_many : length places ≡ length first.items =
-        ap (λ ps. length ps) are ∙ length-map target.arm.items (λ i. place_of_ref live.table (item_ref i)) ∙ ap (λ is. length is) first.spelled ∙ length-map first.items kept in
+      ap (λ ps. length ps) are ∙ length-map target.arm.items (λ i. place_of_ref live.table (item_ref i)) ∙ ap (λ is. length is) first.spelled ∙ length-map first.items kept in
       subst (λ n. n ≤ most_parts) (sym as_many) first.within
 
   pub flip_served : (key : ℕ) (places : List ℕ) (table : Table) → key ≡ key_column_of live.table → places ≡ map (λ i. place_of_ref live.table (item_ref i)) target.arm.items

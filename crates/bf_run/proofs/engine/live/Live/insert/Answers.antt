@@ -25,7 +25,7 @@ pub returns-in_ok-insert-in-Err-clause-ok : goal.returns-in_ok-insert-in-Err-cla
 returns-in_ok-insert-in-Err-clause-ok c =
     let boxes = c.self.inside.rows.items in
     let means = came_in_means (λ (box : Box Row Global). box.value) c.self.inside.table boxes c.insert.new.self.items c.args.row.now c.in-Err.place c.in_ok-row-in-Err.row c.self.invariant (rw c.self.view_is c.in-Err.ensures.absent)
-      c.in_ok-insert-in-Err.ensures.items (c.in_ok-row-in-Err.ensures.ok ∙ c.in_ok-copy-in-Err.ensures) c.requires.numbers (subst (λ (s : Stored). length c.args.row.now ≡ length s.table.columns) (sym c.self.view_is) c.requires.count) in
+    c.in_ok-insert-in-Err.ensures.items (c.in_ok-row-in-Err.ensures.ok ∙ c.in_ok-copy-in-Err.ensures) c.requires.numbers (subst (λ (s : Stored). length c.args.row.now ≡ length s.table.columns) (sym c.self.view_is) c.requires.count) in
     rw (← c.self.view_is) means
 
 pub returns-in_ok-insert-in-Err-clause-served : goal.returns-in_ok-insert-in-Err-clause-served
