@@ -64,10 +64,10 @@ position-map : {X Y : Type 0} (f : X → Y) (test : Y → Bool) (xs : List X) �
 position-map f test xs = ap₂ (λ p n. cond (nat_lt p n) (Some p) None) (position_or_len-map f test xs) (length-map xs f)
 
 module _ (statement : Statement) (made : IsCreation statement) where
-  abbrev rules : List ColumnRule
+  abbrev pub rules : List ColumnRule
   rules = map int_column made.columns
 
-  abbrev table : Table
+  abbrev pub table : Table
   table = table_of made.table rules (made.key ∷ [])
 
   no_names : names_objections (rule_names rules) (made.key ∷ []) ≡ []
@@ -97,17 +97,17 @@ module _ (statement : Statement) (made : IsCreation statement) where
     keys_is : keys ≡ made.key ∷ []
     keys_is = cc (sym is ∙ made.spelled)
 
-    pub few_declared : length declared ≤ most_parts
-    few_declared = subst (λ n. n ≤ most_parts) (sym (ap (λ rs. length rs) declared_is ∙ length-map made.columns int_column)) made.are_columns.within
-
-    pub key_there : 0 < length keys
-    key_there = subst (λ (ks : List (List ℕ)). 0 < length ks) (sym keys_is) (omega arith)
-
-    -- the table as the engine makes it
-    pub as_made : (key : List ℕ) (place : ℕ) → key ≡ slice_index_or keys 0 key → place ≡ unwrap_or (position (λ rule. same_name key rule.name) declared) 0
-        → record { name = name; columns = map (λ rule. record { name = rule.name; admits = admit_of rule.form }) declared; key = place ∷ [] } ≡ table
-    as_made key place first at =
-        let key_is : key ≡ made.key = first ∙ ap (λ ks. slice_index_or ks 0 key) keys_is in
+    -- the table as the engine makes it of copies
+    pub as_made : (rules_read : List ColumnRule) (keys_read : List (List ℕ)) → rules_read ≡ declared → keys_read ≡ keys → (key : List ℕ) (place : ℕ) (copy : List ℕ) (columns : List Column) (places : List ℕ)
+        → key ≡ slice_index_or keys_read 0 key → place ≡ unwrap_or (position (λ rule. same_name key rule.name) rules_read) 0
+        → copy ≡ name → columns ≡ map (λ rule. record { name = rule.name; admits = admit_of rule.form }) rules_read → places ≡ place ∷ []
+        → record { name = copy; columns = columns; key = places } ≡ table
+    as_made rules_read keys_read read keys_read_is key place copy columns places first at copied made_columns made_key =
+        let rules_are : rules_read ≡ rules = read ∙ declared_is in
+        let key_is : key ≡ made.key = first ∙ ap (λ ks. slice_index_or ks 0 key) (keys_read_is ∙ keys_is) in
         let place_is : place ≡ place_of (rule_names rules) made.key =
-          at ∙ ap₂ (λ k rs. unwrap_or (position (λ rule. same_name k rule.name) rs) 0) key_is declared_is ∙ ap (λ o. unwrap_or o 0) (sym (position-map (λ rule. rule.name) (same_name made.key) rules)) in
-        λ i. record { name = name_is i; columns = map (λ rule. record { name = rule.name; admits = admit_of rule.form }) (declared_is i); key = place_is i ∷ [] }
+          at ∙ ap₂ (λ k rs. unwrap_or (position (λ rule. same_name k rule.name) rs) 0) key_is rules_are ∙ ap (λ o. unwrap_or o 0) (sym (position-map (λ rule. rule.name) (same_name made.key) rules)) in
+        let name_made : copy ≡ made.table = copied ∙ name_is in
+        let columns_made : columns ≡ map (λ rule. record { name = rule.name; admits = admit_of rule.form }) rules = made_columns ∙ ap (map (λ rule. record { name = rule.name; admits = admit_of rule.form })) rules_are in
+        let key_made : places ≡ place_of (rule_names rules) made.key ∷ [] = made_key ∙ ap (λ p. p ∷ []) place_is in
+        λ i. record { name = name_made i; columns = columns_made i; key = key_made i }
