@@ -21,10 +21,10 @@ use Rattle.bf_sql.specs.declared.reply.Reply.{Reply}
 use Rattle.bf_sql.specs.declared.reply.Reply.TheVariants as reply
 use Rattle.bf_sql.specs.Conditions.{place_of_ref, admitted_by}
 use Rattle.bf_sql.specs.Database.{Database, Stored, IsDatabase, stored_at}
-use Rattle.bf_sql.specs.Lazy.{LazyState, view_of, flipped_lazily, begun}
+use Rattle.bf_sql.specs.Lazy.{LazyState, view_of, flipped_lazily, begun, unless_objected}
 use Rattle.bf_sql.specs.Laws.{IsLazy, IsSeenAs}
 use Rattle.bf_sql.specs.Meaning.{executed, effect, unless_refused}
-use Rattle.bf_sql.specs.Movement.{migration_by, unless_objected}
+use Rattle.bf_sql.specs.Movement.{migration_by}
 use Rattle.bf_sql.specs.Refusals.{objections, row_objections}
 use Rattle.bf_base.specs.declared.value.Value.{Value}
 use Rattle.bf_sql.specs.Migrations.{replaced, source_at, no_table, item_ref, item_places, key_items, target_table, target_objections, migrate_objections, most_rows, flipped, sources_of}
@@ -118,14 +118,6 @@ module _ (s : Stored) (served : IsServed s) (target : Target) (none : target_obj
     one_key = new_key;
     database = record { tables_by_name = refl; rows_by_key = refl; rows_admitted = refl; keys_within = and_from _ _ (target_key_within (one_table 1 s) target none) refl };
   }
-
-  -- as the engine makes it
-  pub new_table : (key : ℕ) (places : List ℕ) → key ≡ key_column_of s.table → places ≡ map (λ i. place_of_ref s.table (item_ref i)) target.arm.items
-      → record { name = target.name; columns = columns_by s.table target.arm.items; key = place_of_key key places ∷ [] } ≡ target_table (one_table 1 s) target
-  new_table key places at are =
-      let key_at : key ≡ served.key_place = at ∙ ap (λ k. slice_index_or k 0 0) served.one_key in
-      let key_same : place_of_key key places ∷ [] ≡ (target_table (one_table 1 s) target).key = ap₂ (λ k ps. place_of_key k ps ∷ []) key_at (are ∙ places_are) ∙ sym new_key in
-      λ i. record { name = target.name; columns = columns_are i; key = key_same i }
 
   pub new_places : (places : List ℕ) → places ≡ map (λ i. place_of_ref s.table (item_ref i)) target.arm.items → places ≡ item_places (one_table 1 s) target.arm
   new_places places are = are ∙ places_are
@@ -318,25 +310,19 @@ module _ (live : Stored) (frozen : Option Aside) (m : Flip) (tied : IsTiedIfAny 
       (subst (λ (n : Stored). IsAnswered live frozen (Migrate (only_target first.target first.items live.table.name)) (reply.Migrated 1) n left) (sym made)
           (subst (λ (l : Option Aside). IsAnswered live frozen (Migrate (only_target first.target first.items live.table.name)) (reply.Migrated 1) (empty (target_table (one_table 1 live) to)) l) (sym kept_aside) flip_is))
 
--- what a flip of the one table asks of what it makes
+-- what a flip of the one table makes, by what is read of that table
 module _ (live : Stored) (served : IsServed live) (target : Target) (first : IsFirstTarget live target) where
-  pub plain_items : ArePlain target.arm.items
-  plain_items = (first.items, first.spelled)
+  pub places_made : (read : Table) (places : List ℕ) → read ≡ live.table → places ≡ map (λ i. place_of_ref read (item_ref i)) target.arm.items → places ≡ item_places (one_table 1 live) target.arm
+  places_made read places same are = new_places live served target first.fine places (are ∙ ap (λ (t : Table). map (λ i. place_of_ref t (item_ref i)) target.arm.items) same)
 
-  pub few_places : (places : List ℕ) → places ≡ map (λ i. place_of_ref live.table (item_ref i)) target.arm.items → length places ≤ most_parts
-  few_places places are =
-      let as_many : length places ≡ length first.items =
-        ap (λ ps. length ps) are ∙ length-map target.arm.items (λ i. place_of_ref live.table (item_ref i)) ∙ ap (λ is. length is) first.spelled ∙ length-map first.items kept in
-      subst (λ n. n ≤ most_parts) (sym as_many) first.within
+  pub table_made : (key : ℕ) (read : Table) (places : List ℕ) (table : Table) → key ≡ key_column_of live.table → read ≡ live.table → places ≡ item_places (one_table 1 live) target.arm
+      → table ≡ record { name = target.name; columns = columns_by read target.arm.items; key = place_of_key key places ∷ [] } → table ≡ target_table (one_table 1 live) target
+  table_made key read places table at same are is =
+      let columns_same : columns_by read target.arm.items ≡ (target_table (one_table 1 live) target).columns =
+        ap (λ (t : Table). columns_by t target.arm.items) same ∙ columns_are live served target first.fine in
+      let key_same : place_of_key key places ∷ [] ≡ (target_table (one_table 1 live) target).key =
+        ap₂ (λ k ps. place_of_key k ps ∷ []) (at ∙ ap (λ ks. slice_index_or ks 0 0) served.one_key) are ∙ sym (new_key live served target first.fine) in
+      is ∙ (λ i. record { name = target.name; columns = columns_same i; key = key_same i })
 
-  pub flip_served : (key : ℕ) (places : List ℕ) (table : Table) → key ≡ key_column_of live.table → places ≡ map (λ i. place_of_ref live.table (item_ref i)) target.arm.items
-      → table ≡ record { name = target.name; columns = columns_by live.table target.arm.items; key = place_of_key key places ∷ [] } → IsServed (empty table)
-  flip_served key places table at are is = subst (λ (t : Table). IsServed (empty t)) (sym (is ∙ new_table live served target first.fine key places at are)) (new_served live served target first.fine)
-
-  pub flip_done : (key : ℕ) (places : List ℕ) (table : Table) → key ≡ key_column_of live.table → places ≡ map (λ i. place_of_ref live.table (item_ref i)) target.arm.items
-      → table ≡ record { name = target.name; columns = columns_by live.table target.arm.items; key = place_of_key key places ∷ [] }
-      → IsFlipped live target (empty table) (Some (record { source = live; places = places; moved = [] }))
-  flip_done key places table at are is = record {
-    made = ap empty (is ∙ new_table live served target first.fine key places at are);
-    aside = ap (λ ps. Some (record { source = live; places = ps; moved = [] })) (new_places live served target first.fine places are);
-  }
+  pub flip_served : (table : Table) → table ≡ target_table (one_table 1 live) target → IsServed (empty table)
+  flip_served table is = subst (λ (t : Table). IsServed (empty t)) (sym is) (new_served live served target first.fine)
