@@ -29,7 +29,7 @@ twice_declared : (seen cs : List (List ℕ)) → flat_map (λ p. twice (rule_nam
 twice_declared seen [] = refl
 twice_declared seen (c ∷ cs) =
     let further : with_before_from (map int_column seen ++ int_column c ∷ []) (map int_column cs) ≡ with_before_from (map int_column (seen ++ c ∷ [])) (map int_column cs) =
-      ap (λ rules. with_before_from rules (map int_column cs)) (sym (map-append int_column seen (c ∷ []))) in
+    ap (λ rules. with_before_from rules (map int_column cs)) (sym (map-append int_column seen (c ∷ []))) in
     ap₂ (λ xs ys. xs ++ ys) (ap (λ names. twice names c) (names_declared seen)) (ap (flat_map (λ p. twice (rule_names p.0) p.1.name)) further ∙ twice_declared (seen ++ c ∷ []) cs)
 
 all_ints : (columns : List (List ℕ)) → AllByRecursion (λ (c : Column). c.admits ≡ admits.Int) (map (λ rule. record { name = rule.name; admits = admit_of rule.form }) (map int_column columns))
@@ -79,7 +79,7 @@ module _ (statement : Statement) (made : IsCreation statement) where
         let rules_are : rules_read ≡ rules = read ∙ declared_is in
         let key_is : key ≡ made.key = first ∙ ap (λ ks. slice_index_or ks 0 key) (keys_read_is ∙ keys_is) in
         let place_is : place ≡ place_of (rule_names rules) made.key =
-          at ∙ ap₂ (λ k rs. unwrap_or (position (λ rule. same_name k rule.name) rs) 0) key_is rules_are ∙ ap (λ o. unwrap_or o 0) (sym (position-map (λ rule. rule.name) (same_name made.key) rules)) in
+        at ∙ ap₂ (λ k rs. unwrap_or (position (λ rule. same_name k rule.name) rs) 0) key_is rules_are ∙ ap (λ o. unwrap_or o 0) (sym (position-map (λ rule. rule.name) (same_name made.key) rules)) in
         let name_made : copy ≡ made.table = copied ∙ name_is in
         let columns_made : columns ≡ map (λ rule. record { name = rule.name; admits = admit_of rule.form }) rules = made_columns ∙ ap (map (λ rule. record { name = rule.name; admits = admit_of rule.form })) rules_are in
         let key_made : places ≡ place_of (rule_names rules) made.key ∷ [] = made_key ∙ ap (λ p. p ∷ []) place_is in

@@ -112,7 +112,7 @@ pub places_more : (table : Table) (items : List Item) → ArePlain items → (sl
 places_more table items plainly slice same at item within is before after column place far here named pushed =
     let ref_is = plain_item slice (subst ArePlain (sym same) plainly) at item within is in
     let place_is : place ≡ place_of_ref table (item_ref (slice_index_or slice at item)) =
-      here ∙ ap (λ c. place_of_ref table (plain c)) named ∙ ap (place_of_ref table) (sym ref_is) ∙ ap (λ i. place_of_ref table (item_ref i)) is in
+    here ∙ ap (λ c. place_of_ref table (plain c)) named ∙ ap (place_of_ref table) (sym ref_is) ∙ ap (λ i. place_of_ref table (item_ref i)) is in
     pushed ∙ ap₂ (λ front p. front ++ p ∷ []) far place_is ∙ sym (map_more (λ i. place_of_ref table (item_ref i)) slice at item within)
 
 pub columns_more : (table : Table) (items : List Item) → ArePlain items → (at : ℕ) (item : Item) → at < length items → item ≡ slice_index_or items at item
@@ -162,7 +162,7 @@ module _ (live : Stored) (served : IsServed live) (u : List ℕ) (items : List (
   flipped_state : state_of next (Some aside) ≡ flipped_lazily (state_of live None) m
   flipped_state =
       let left : next ∷ [] ≡ (replaced (one_table 1 live) m (next ∷ [])).tables =
-        ap (λ b. with_placed name_cmp (λ (s : Stored). s.table.name) (cond (not (b || false)) (live ∷ []) []) (next ∷ [])) (sym (same_name-itself live.table.name)) in
+      ap (λ b. with_placed name_cmp (λ (s : Stored). s.table.name) (cond (not (b || false)) (live ∷ []) []) (next ∷ [])) (sym (same_name-itself live.table.name)) in
       λ i. record { live = record { number = 2; tables = left i }; last = Some (record { number = 1; old = one_table 1 live; migrate = only_target u (kept_names i) live.table.name; done = [] }) }
 
   flip_seen : IsSeenAs (flipped (view_of (state_of live None)) m) (flipped_lazily (state_of live None) m)
@@ -220,10 +220,6 @@ none_kept : (live : Stored) (frozen : Option Aside) → (state_of live frozen).l
 none_kept live None e = refl
 none_kept live (Some aside) e = absurd cc
 
--- the one target of a first migration
-abbrev pub only_of : Flip → Target
-only_of m = slice_index_or m.targets 0 (first_target [] [] [])
-
 module _ (live : Stored) (frozen : Option Aside) (m : Flip) (tied : IsTiedIfAny live frozen) (first : IsFirstMigration (state_of live frozen) m) where
   not_yet : frozen ≡ None
   not_yet = none_kept live frozen first.none
@@ -256,16 +252,13 @@ module _ (live : Stored) (frozen : Option Aside) (m : Flip) (tied : IsTiedIfAny 
     fine = target_fine live first.target first.items live.table.name fine_by;
   })
 
-  pub there_is_one : 0 < length m.targets
-  there_is_one = subst (λ (f : Flip). 0 < length f.targets) (sym spelled_by) (omega arith)
-
   pub refused_first : (target : Target) → target ≡ slice_index_or m.targets 0 target → most_rows < length live.rows
       → IsAnswered live frozen (Migrate m) (reply.Refused (refusal.TooManyRows target.arm.from (length live.rows))) live frozen
   refused_first target is many =
       subst (λ (f : Option Aside). IsAnswered live f (Migrate m) (reply.Refused (refusal.TooManyRows target.arm.from (length live.rows))) live f) (sym not_yet)
       (subst (λ (f : Flip). IsAnswered live None (Migrate f) (reply.Refused (refusal.TooManyRows target.arm.from (length live.rows))) live None) (sym spelled_by)
-          (subst (λ (x : Target). IsAnswered live None (Migrate (only_target first.target first.items live.table.name)) (reply.Refused (refusal.TooManyRows x.arm.from (length live.rows))) live None) (sym (target_by target is))
-              (refused live served_first first.target first.items fine_by many)))
+      (subst (λ (x : Target). IsAnswered live None (Migrate (only_target first.target first.items live.table.name)) (reply.Refused (refusal.TooManyRows x.arm.from (length live.rows))) live None) (sym (target_by target is))
+      (refused live served_first first.target first.items fine_by many)))
 
   pub begins_first : (target : Target) → target ≡ slice_index_or m.targets 0 target → length live.rows ≤ most_rows → (next : Stored) (left : Option Aside) → IsFlipped live target next left
       → IsAnswered live frozen (Migrate m) (reply.Migrated 1) next left
@@ -274,12 +267,12 @@ module _ (live : Stored) (frozen : Option Aside) (m : Flip) (tied : IsTiedIfAny 
       let after = begins live served_first first.target first.items fine_by few in
       let made : next ≡ empty (target_table (one_table 1 live) to) = flip.made ∙ ap (λ (x : Target). empty (target_table (one_table 1 live) x)) (target_by target is) in
       let kept_aside : left ≡ Some (record { source = live; places = item_places (one_table 1 live) to.arm; moved = [] }) =
-        flip.aside ∙ ap (λ (x : Target). Some (record { source = live; places = item_places (one_table 1 live) x.arm; moved = [] })) (target_by target is) in
+      flip.aside ∙ ap (λ (x : Target). Some (record { source = live; places = item_places (one_table 1 live) x.arm; moved = [] })) (target_by target is) in
       let flip_is : IsAnswered live frozen (Migrate (only_target first.target first.items live.table.name)) (reply.Migrated 1) (empty (target_table (one_table 1 live) to)) (Some (record { source = live; places = item_places (one_table 1 live) to.arm; moved = [] })) =
-        subst (λ (f : Option Aside). IsAnswered live f (Migrate (only_target first.target first.items live.table.name)) (reply.Migrated 1) (empty (target_table (one_table 1 live) to)) (Some (record { source = live; places = item_places (one_table 1 live) to.arm; moved = [] }))) (sym not_yet) after in
+      subst (λ (f : Option Aside). IsAnswered live f (Migrate (only_target first.target first.items live.table.name)) (reply.Migrated 1) (empty (target_table (one_table 1 live) to)) (Some (record { source = live; places = item_places (one_table 1 live) to.arm; moved = [] }))) (sym not_yet) after in
       subst (λ (f : Flip). IsAnswered live frozen (Migrate f) (reply.Migrated 1) next left) (sym spelled_by)
       (subst (λ (n : Stored). IsAnswered live frozen (Migrate (only_target first.target first.items live.table.name)) (reply.Migrated 1) n left) (sym made)
-          (subst (λ (l : Option Aside). IsAnswered live frozen (Migrate (only_target first.target first.items live.table.name)) (reply.Migrated 1) (empty (target_table (one_table 1 live) to)) l) (sym kept_aside) flip_is))
+      (subst (λ (l : Option Aside). IsAnswered live frozen (Migrate (only_target first.target first.items live.table.name)) (reply.Migrated 1) (empty (target_table (one_table 1 live) to)) l) (sym kept_aside) flip_is))
 
 -- what a flip of the one table makes, by what is read of that table
 module _ (live : Stored) (served : IsServed live) (target : Target) (first : IsFirstTarget live target) where
@@ -290,9 +283,9 @@ module _ (live : Stored) (served : IsServed live) (target : Target) (first : IsF
       → table ≡ record { name = target.name; columns = columns_by read target.arm.items; key = place_of_key key places ∷ [] } → table ≡ target_table (one_table 1 live) target
   table_made key read places table at same are is =
       let columns_same : columns_by read target.arm.items ≡ (target_table (one_table 1 live) target).columns =
-        ap (λ (t : Table). columns_by t target.arm.items) same ∙ columns_are live served target first.fine in
+      ap (λ (t : Table). columns_by t target.arm.items) same ∙ columns_are live served target first.fine in
       let key_same : place_of_key key places ∷ [] ≡ (target_table (one_table 1 live) target).key =
-        ap₂ (λ k ps. place_of_key k ps ∷ []) (at ∙ ap (λ ks. slice_index_or ks 0 0) served.one_key) are ∙ sym (new_key live served target first.fine) in
+      ap₂ (λ k ps. place_of_key k ps ∷ []) (at ∙ ap (λ ks. slice_index_or ks 0 0) served.one_key) are ∙ sym (new_key live served target first.fine) in
       is ∙ (λ i. record { name = target.name; columns = columns_same i; key = key_same i })
 
   pub flip_served : (table : Table) → table ≡ target_table (one_table 1 live) target → IsServed (empty table)

@@ -45,7 +45,7 @@ place_created t cs k name =
     let rules = map int_column cs in
     let by_rule : position (same_name name) (rule_names rules) ≡ position (λ (rule : ColumnRule). same_name name rule.name) rules = position-map (λ (rule : ColumnRule). rule.name) (same_name name) rules in
     let by_column : position (λ (c : Column). same_name name c.name) (created_columns cs) ≡ position (λ (rule : ColumnRule). same_name name rule.name) rules =
-      position-map (λ (rule : ColumnRule). record { name = rule.name; admits = admit_of rule.form }) (λ (c : Column). same_name name c.name) rules in
+    position-map (λ (rule : ColumnRule). record { name = rule.name; admits = admit_of rule.form }) (λ (c : Column). same_name name c.name) rules in
     ap (λ (o : Option ℕ). unwrap_or o 0) (by_rule ∙ sym by_column) ∙ place_named (created_table t cs k) name
 
 some_position : {X : Type 0} (p : X → Bool) (xs : List X) → list_any p xs ≡ true → is_some (position p xs) ≡ true

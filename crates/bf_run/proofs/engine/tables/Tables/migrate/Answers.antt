@@ -20,8 +20,8 @@ returns-then-count-gt-MOST_ROWS-clause-ok c =
     let from = c.index-as_slice-0.result.arm.from in
     let many : most_rows < length live.rows = omega arith in
     let refused : IsAnswered live frozen (Migrate c.args.migrate.now) (Refused (TooManyRows from c.len-count.result)) live frozen =
-      subst (λ n. IsAnswered live frozen (Migrate c.args.migrate.now) (Refused (TooManyRows from n)) live frozen) (sym c.len-count.ensures)
-      (refused_first live frozen c.args.migrate.now c.requires.tied c.requires.form c.index-as_slice-0.result (only_target (goal.at.returns-then-count-gt-MOST_ROWS-clause-ok c).After-len-count) many) in
+    subst (λ n. IsAnswered live frozen (Migrate c.args.migrate.now) (Refused (TooManyRows from n)) live frozen) (sym c.len-count.ensures)
+    (refused_first live frozen c.args.migrate.now c.requires.tied c.requires.form c.index-as_slice-0.result (only_target (goal.at.returns-then-count-gt-MOST_ROWS-clause-ok c).After-len-count) many) in
     IfOk-weaker _ _ _ (λ (reply : Reply) is. subst (λ (r : Reply). IsAnswered live frozen (Migrate c.args.migrate.now) r live frozen) (sym is) refused) c.too_many_rows.ensures
 
 pub flip-requires-clause-first : goal.flip-requires-clause-first
