@@ -1,5 +1,6 @@
 -- What statements of the form need, and what they mean on the live table.
 use Rattle.std.proofs.Common.{◌≡◌, ℕ, zero, suc, ◌+◌, ◌<◌, Bool, true, false, not, ◌||◌, ◌==◌, cond, List, [], ◌∷◌, ◌++◌, map, filter, zip, flat_map, length, get_or, Option, Some, None, refl, sym, ap, ap₂, subst, ◌∙◌, arith, pos, is_eq, IsTrue, unwrap_or}
+use Rattle.std.proofs.Math.Bool.{or-false}
 use Rattle.std.specs.List.{list_any, list_all, range_with_len, enumerate_from, position_from, AllByRecursion}
 use Rattle.std.proofs.lemmas.Iterator.Adapters.{position_from-zero}
 use Rattle.std.proofs.lemmas.Bool.{cases_Bool}
@@ -63,7 +64,7 @@ module _ (live : Stored) (aside : Aside) (tied : IsTied live aside) where
         let zero_on : 0 + k ≡ k = omega arith in
         ap (λ i. list_any test (part (at i))) zero_on
         ∙ ap (list_any test) (part_is live aside tied k within)
-        ∙ or_false (test (cells aside.places (row_at aside.source k)))
+        ∙ or-false (test (cells aside.places (row_at aside.source k)))
         ∙ same (cells aside.places (row_at aside.source k))
         ∙ ap passes (sym (get_or-map (cells aside.places) rows k [] [] within))
         ∙ sym (ap (λ i. passes (get_or images i [])) zero_on) in
@@ -71,10 +72,6 @@ module _ (live : Stored) (aside : Aside) (tied : IsTied live aside) where
       ∙ filter-map (λ g. list_any test (part g)) at (range_with_len 0 (length rows))
       ∙ ap (map at) (filter_places (λ k. list_any test (part (at k))) (λ k. passes (get_or images k [])) 0 (length rows) one)
       ∙ ap (λ n. map at (filter (λ k. passes (get_or images k [])) (range_with_len 0 n))) (sym (length-map rows (cells aside.places)))
-    where
-      or_false : (b : Bool) → (b || false) ≡ b
-      or_false true = refl
-      or_false false = refl
 
 -- where the catalog has nothing against a statement
 nothing_seen : (live : Stored) (f : Option Aside) (s : Statement) → ((n : ℕ) → objections (one_table n live) s ≡ []) → objections (view_of (state_of live f)) s ≡ []
@@ -97,12 +94,8 @@ key_alone : (table : Table) (k : ℕ) → table.key ≡ k ∷ [] → (row other 
 key_alone table k one row other =
     let of_key : (key : List ℕ) → key ≡ k ∷ [] → has same_key (map (cells key) (row ∷ [])) (cells key other) ≡ has_value (get_or key 0 0) (cell row (get_or key 0 0)) other = λ key e.
       subst (λ (ks : List ℕ). has same_key (map (cells ks) (row ∷ [])) (cells ks other) ≡ has_value (get_or ks 0 0) (cell row (get_or ks 0 0)) other) (sym e)
-      (or_false (same_key (cell other k ∷ []) (cell row k ∷ [])) ∙ ap is_eq (one_value (cell other k) (cell row k))) in
+      (or-false (same_key (cell other k ∷ []) (cell row k ∷ [])) ∙ ap is_eq (one_value (cell other k) (cell row k))) in
     of_key table.key one
-  where
-    or_false : (b : Bool) → (b || false) ≡ b
-    or_false true = refl
-    or_false false = refl
 
 pub insert_need : (live : Stored) (f : Option Aside) → IsTiedIfAny live f → (name : List ℕ) (row : List Value) → AreNumbers row → name ≡ live.table.name → length row ≡ length live.table.columns
     → needed_by (state_of live f).last (view_of (state_of live f)) (Insert name (row ∷ [])) ≡ granules_where f (has_value (key_column_of live.table) (cell row (key_column_of live.table)))

@@ -2,7 +2,7 @@
 use Rattle.std.proofs.Common.{◌≡◌, ℕ, zero, suc, ◌+◌, ◌-◌, ◌<◌, ◌≤◌, Bool, true, false, not, ◌&&◌, ◌||◌, ◌==◌, cond, nat_eq, nat_lt, List, [], ◌∷◌, ◌++◌, map, flat_map, filter, find, length, get_or, take, drop, Option, Some, None, refl, sym, ap, ap₂, subst, ◌∙◌, inl, inr, arith, IsTrue, unwrap_or, is_eq, pos}
 use Rattle.std.specs.List.{list_any, list_all, range_with_len, slice_range}
 use Rattle.std.proofs.Math.Seq.{drop-cons}
-use Rattle.std.proofs.lemmas.Bool.{cases_Bool, and_parts, and_from, or_parts, or_from, not-true, not_from_false, false≢true}
+use Rattle.std.proofs.lemmas.Bool.{cases_Bool, and_parts, and_from, eq-eqb, or_parts, or_from, or_right, not-true, not_from_false, false≢true}
 use Rattle.std.proofs.lemmas.Bool.Decides.{nat_tests}
 use Rattle.std.proofs.lemmas.List.{append-nil, map-append, length-map, get_or-map}
 use Rattle.std.proofs.lemmas.List.Folds.{list_any-append, list_all-append, list_all-map, list_all_at}
@@ -54,25 +54,18 @@ passing_there p source a zero k within passes = absurd (omega arith)
 passing_there p source a (suc n) zero within passes =
     let same : a + 0 ≡ a = omega arith in
     let here : p (granule_at source a) ≡ true = ap (λ i. p (granule_at source i)) (sym same) ∙ passes in
-    let itself : same_granule (granule_at source (a + 0)) (granule_at source a) ≡ true = ap (λ b. b && ((a + 0) == a)) (same_name-itself source) ∙ equal_places (a + 0) a same in
+    let itself : same_granule (granule_at source (a + 0)) (granule_at source a) ≡ true = ap (λ b. b && ((a + 0) == a)) (same_name-itself source) ∙ eq-eqb (a + 0) a same in
     ap (λ b. has same_granule (cond b (granule_at source a ∷ filter p (map (granule_at source) (range_with_len (a + 1) n))) (filter p (map (granule_at source) (range_with_len (a + 1) n)))) (granule_at source (a + 0))) here
     ∙ ap (λ b. b || has same_granule (filter p (map (granule_at source) (range_with_len (a + 1) n))) (granule_at source (a + 0))) itself
-  where
-    equal_places : (i j : ℕ) → i ≡ j → (i == j) ≡ true
-    equal_places i j e = grind (arith, nat_tests)
 passing_there p source a (suc n) (suc k) within passes =
     let same : (a + 1) + k ≡ a + suc k = omega arith in
     let rest = passing_there p source (a + 1) n k (omega arith) (ap (λ i. p (granule_at source i)) same ∙ passes) in
     let later : has same_granule (filter p (map (granule_at source) (range_with_len (a + 1) n))) (granule_at source (a + suc k)) ≡ true =
       ap (λ i. has same_granule (filter p (map (granule_at source) (range_with_len (a + 1) n))) (granule_at source i)) (sym same) ∙ rest in
     elim (p (granule_at source a)) as (λ b. has same_granule (cond b (granule_at source a ∷ filter p (map (granule_at source) (range_with_len (a + 1) n))) (filter p (map (granule_at source) (range_with_len (a + 1) n)))) (granule_at source (a + suc k)) ≡ true) [
-      | true ↦ or_either _ _ later
+      | true ↦ or_right _ _ later
       | false ↦ later
     ]
-  where
-    or_either : (b c : Bool) → c ≡ true → (b || c) ≡ true
-    or_either true c e = refl
-    or_either false c e = e
 
 module _ (live : Stored) (aside : Aside) (tied : IsTied live aside) where
   abbrev source : Stored
