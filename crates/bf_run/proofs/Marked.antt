@@ -2,7 +2,7 @@
 use Rattle.std.proofs.Common.{◌≡◌, ℕ, zero, suc, ◌+◌, ◌<◌, ◌≤◌, Bool, true, false, not, ◌||◌, cond, nat_eq, List, [], ◌∷◌, ◌++◌, map, filter, length, get_or, set, replicate, refl, sym, ap, ap₂, ◌∙◌, arith, Option, Some, None, position, length-append}
 use Rattle.std.proofs.Math.ListN.{length-set}
 use Rattle.std.proofs.Math.Bool.{or-false, or-true}
-use Rattle.std.specs.List.{list_any, range_with_len, position_from}
+use Rattle.std.specs.List.{range_with_len, position_from}
 use Rattle.std.proofs.lemmas.Bool.Decides.{nat_tests}
 use Rattle.std.proofs.lemmas.List.{length-replicate}
 use Rattle.std.proofs.lemmas.List.Folds.{list_any-append}

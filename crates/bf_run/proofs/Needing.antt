@@ -1,9 +1,8 @@
 -- What statements of the form need, and what they mean on the live table.
-use Rattle.std.proofs.Common.{◌≡◌, ℕ, zero, suc, ◌+◌, ◌<◌, Bool, true, false, not, ◌||◌, ◌==◌, cond, List, [], ◌∷◌, ◌++◌, map, filter, zip, flat_map, length, get_or, Option, Some, None, refl, sym, ap, ap₂, subst, ◌∙◌, arith, pos, is_eq, IsTrue, unwrap_or}
+use Rattle.std.proofs.Common.{◌≡◌, ℕ, zero, suc, ◌+◌, ◌<◌, Bool, true, false, not, ◌==◌, cond, List, [], ◌∷◌, ◌++◌, map, filter, length, get_or, Option, Some, None, refl, sym, ap, ap₂, subst, ◌∙◌, arith, pos, is_eq, unwrap_or}
 use Rattle.std.proofs.Math.Bool.{or-false}
-use Rattle.std.specs.List.{list_any, list_all, range_with_len, enumerate_from, position_from, AllByRecursion}
+use Rattle.std.specs.List.{list_any, range_with_len, enumerate_from, position_from, AllByRecursion}
 use Rattle.std.proofs.lemmas.Iterator.Adapters.{position_from-zero}
-use Rattle.std.proofs.lemmas.Bool.{cases_Bool}
 use Rattle.std.proofs.lemmas.Bool.Decides.{nat_tests}
 use Rattle.std.proofs.lemmas.List.{append-nil, length-map, get_or-map, get_or_default}
 use Rattle.std.proofs.lemmas.List.Elements.{filter_agree}
@@ -15,7 +14,6 @@ use Rattle.bf_base.specs.declared.table.Column.{Column}
 use Rattle.bf_base.specs.declared.table.Table.{Table}
 use Rattle.bf_base.specs.Lists.{same_name, same_key, has, when}
 use Rattle.bf_base.specs.Tables.{cell, cells, key_of, kind_of, kind_admitted, same_kind}
-use Rattle.bf_base.specs.Values.{value_cmp}
 use Rattle.bf_base.proofs.Parts.{filter_always}
 use Rattle.bf_sql.specs.declared.statement.List.TheVariants.{All}
 use Rattle.bf_sql.specs.declared.statement.RawCond.{RawCond}
@@ -25,9 +23,9 @@ use Rattle.bf_sql.specs.declared.reply.Reply.{Reply}
 use Rattle.bf_sql.specs.declared.reply.Reply.TheVariants as reply
 use Rattle.bf_sql.specs.declared.reply.Refusal.{Refusal}
 use Rattle.bf_sql.specs.declared.reply.Refusal.TheVariants as refusal
-use Rattle.bf_sql.specs.Conditions.{satisfies, place_of_ref, places_of, admitted_by, ref_objections, cond_objections}
-use Rattle.bf_sql.specs.Database.{Database, Stored}
-use Rattle.bf_sql.specs.Lazy.{Granule, Migration, granules_of, part_of, giving, needed, needed_by, none_if_refused, on_target, view_of}
+use Rattle.bf_sql.specs.Conditions.{satisfies, place_of_ref, places_of, ref_objections, cond_objections}
+use Rattle.bf_sql.specs.Database.{Stored}
+use Rattle.bf_sql.specs.Lazy.{Granule, part_of, giving, needed, needed_by, none_if_refused, on_target, view_of}
 use Rattle.bf_sql.specs.Meaning.{selected}
 use Rattle.bf_sql.specs.Migrations.{target_table}
 use Rattle.bf_sql.specs.Movement.{with_moved}
