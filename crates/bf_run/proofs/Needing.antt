@@ -1,8 +1,8 @@
 -- What statements of the form need, and what they mean on the live table.
-use Rattle.std.proofs.Common.{◌≡◌, ℕ, zero, suc, ◌+◌, ◌<◌, Bool, true, false, not, ◌||◌, ◌==◌, cond, List, [], ◌∷◌, ◌++◌, map, filter, zip, flat_map, length, get_or, Option, Some, None, refl, sym, ap, ap₂, subst, ◌∙◌, arith, pos, is_eq, IsTrue, unwrap_or}
-use Rattle.std.specs.List.{list_any, list_all, range_with_len, enumerate_from, position_from, AllByRecursion}
+use Rattle.std.proofs.Common.{◌≡◌, ℕ, zero, suc, ◌+◌, ◌<◌, Bool, true, false, not, ◌==◌, cond, List, [], ◌∷◌, ◌++◌, map, filter, length, get_or, Option, Some, None, refl, sym, ap, ap₂, subst, ◌∙◌, arith, pos, is_eq, unwrap_or}
+use Rattle.std.proofs.Math.Bool.{or-false}
+use Rattle.std.specs.List.{list_any, range_with_len, enumerate_from, position_from, AllByRecursion}
 use Rattle.std.proofs.lemmas.Iterator.Adapters.{position_from-zero}
-use Rattle.std.proofs.lemmas.Bool.{cases_Bool}
 use Rattle.std.proofs.lemmas.Bool.Decides.{nat_tests}
 use Rattle.std.proofs.lemmas.List.{append-nil, length-map, get_or-map, get_or_default}
 use Rattle.std.proofs.lemmas.List.Elements.{filter_agree}
@@ -14,7 +14,6 @@ use Rattle.bf_base.specs.declared.table.Column.{Column}
 use Rattle.bf_base.specs.declared.table.Table.{Table}
 use Rattle.bf_base.specs.Lists.{same_name, same_key, has, when}
 use Rattle.bf_base.specs.Tables.{cell, cells, key_of, kind_of, kind_admitted, same_kind}
-use Rattle.bf_base.specs.Values.{value_cmp}
 use Rattle.bf_base.proofs.Parts.{filter_always}
 use Rattle.bf_sql.specs.declared.statement.List.TheVariants.{All}
 use Rattle.bf_sql.specs.declared.statement.RawCond.{RawCond}
@@ -24,9 +23,9 @@ use Rattle.bf_sql.specs.declared.reply.Reply.{Reply}
 use Rattle.bf_sql.specs.declared.reply.Reply.TheVariants as reply
 use Rattle.bf_sql.specs.declared.reply.Refusal.{Refusal}
 use Rattle.bf_sql.specs.declared.reply.Refusal.TheVariants as refusal
-use Rattle.bf_sql.specs.Conditions.{satisfies, place_of_ref, places_of, admitted_by, ref_objections, cond_objections}
-use Rattle.bf_sql.specs.Database.{Database, Stored}
-use Rattle.bf_sql.specs.Lazy.{Granule, Migration, granules_of, part_of, giving, needed, needed_by, none_if_refused, on_target, view_of}
+use Rattle.bf_sql.specs.Conditions.{satisfies, place_of_ref, places_of, ref_objections, cond_objections}
+use Rattle.bf_sql.specs.Database.{Stored}
+use Rattle.bf_sql.specs.Lazy.{Granule, part_of, giving, needed, needed_by, none_if_refused, on_target, view_of}
 use Rattle.bf_sql.specs.Meaning.{selected}
 use Rattle.bf_sql.specs.Migrations.{target_table}
 use Rattle.bf_sql.specs.Movement.{with_moved}
@@ -36,7 +35,7 @@ use Rattle.bf_sql.proofs.Granules.{same_name-itself, same_name-equal}
 use Rattle.bf_form.specs.Form.{plain}
 use Rattle.bf_run.specs.Engine.{Aside, AreNumbers, IsAnswered, IsInt, IsServed, IsTied, IsTiedIfAny, RunsTo, StaysSeen, column_named, comparison, granule_at, granules_where, has_value, images_of, key_column_of, one_table, row_at, state_of}
 use Rattle.bf_run.proofs.Answering.{IsOrdinary, answered, changes_of, live_of, refused, served_if}
-use Rattle.bf_run.proofs.Named.{place_named}
+use Rattle.bf_run.proofs.Flipping.{place_named}
 use Rattle.bf_run.proofs.Inserting.{tuple_fine, kinds_alone}
 use Rattle.bf_run.proofs.Places.{filter_places, filter-map}
 use Rattle.bf_run.proofs.Placing.{one_value}
@@ -60,21 +59,17 @@ module _ (live : Stored) (aside : Aside) (tied : IsTied live aside) where
       let images = images_of aside in
       let part = part_of (one_table 1 aside.source) (last live aside tied).migrate (target live aside tied) in
       let one : (k : ℕ) → k < length rows → list_any test (part (at (0 + k))) ≡ passes (get_or images (0 + k) []) = λ k within.
-      let zero_on : 0 + k ≡ k = omega arith in
-      ap (λ i. list_any test (part (at i))) zero_on
-      ∙ ap (list_any test) (part_is live aside tied k within)
-      ∙ or_false (test (cells aside.places (row_at aside.source k)))
-      ∙ same (cells aside.places (row_at aside.source k))
-      ∙ ap passes (sym (get_or-map (cells aside.places) rows k [] [] within))
-      ∙ sym (ap (λ i. passes (get_or images i [])) zero_on) in
+        let zero_on : 0 + k ≡ k = omega arith in
+        ap (λ i. list_any test (part (at i))) zero_on
+        ∙ ap (list_any test) (part_is live aside tied k within)
+        ∙ or-false (test (cells aside.places (row_at aside.source k)))
+        ∙ same (cells aside.places (row_at aside.source k))
+        ∙ ap passes (sym (get_or-map (cells aside.places) rows k [] [] within))
+        ∙ sym (ap (λ i. passes (get_or images i [])) zero_on) in
       ap (filter (λ g. list_any test (part g))) (granules_are live aside tied)
       ∙ filter-map (λ g. list_any test (part g)) at (range_with_len 0 (length rows))
       ∙ ap (map at) (filter_places (λ k. list_any test (part (at k))) (λ k. passes (get_or images k [])) 0 (length rows) one)
       ∙ ap (λ n. map at (filter (λ k. passes (get_or images k [])) (range_with_len 0 n))) (sym (length-map rows (cells aside.places)))
-    where
-      or_false : (b : Bool) → (b || false) ≡ b
-      or_false true = refl
-      or_false false = refl
 
 -- where the catalog has nothing against a statement
 nothing_seen : (live : Stored) (f : Option Aside) (s : Statement) → ((n : ℕ) → objections (one_table n live) s ≡ []) → objections (view_of (state_of live f)) s ≡ []
@@ -96,13 +91,9 @@ module _ (live : Stored) (name : List ℕ) (row : List Value) where
 key_alone : (table : Table) (k : ℕ) → table.key ≡ k ∷ [] → (row other : List Value) → has same_key (map (key_of table) (row ∷ [])) (key_of table other) ≡ has_value (key_column_of table) (cell row (key_column_of table)) other
 key_alone table k one row other =
     let of_key : (key : List ℕ) → key ≡ k ∷ [] → has same_key (map (cells key) (row ∷ [])) (cells key other) ≡ has_value (get_or key 0 0) (cell row (get_or key 0 0)) other = λ key e.
-    subst (λ (ks : List ℕ). has same_key (map (cells ks) (row ∷ [])) (cells ks other) ≡ has_value (get_or ks 0 0) (cell row (get_or ks 0 0)) other) (sym e)
-    (or_false (same_key (cell other k ∷ []) (cell row k ∷ [])) ∙ ap is_eq (one_value (cell other k) (cell row k))) in
+      subst (λ (ks : List ℕ). has same_key (map (cells ks) (row ∷ [])) (cells ks other) ≡ has_value (get_or ks 0 0) (cell row (get_or ks 0 0)) other) (sym e)
+      (or-false (same_key (cell other k ∷ []) (cell row k ∷ [])) ∙ ap is_eq (one_value (cell other k) (cell row k))) in
     of_key table.key one
-  where
-    or_false : (b : Bool) → (b || false) ≡ b
-    or_false true = refl
-    or_false false = refl
 
 pub insert_need : (live : Stored) (f : Option Aside) → IsTiedIfAny live f → (name : List ℕ) (row : List Value) → AreNumbers row → name ≡ live.table.name → length row ≡ length live.table.columns
     → needed_by (state_of live f).last (view_of (state_of live f)) (Insert name (row ∷ [])) ≡ granules_where f (has_value (key_column_of live.table) (cell row (key_column_of live.table)))
@@ -115,7 +106,7 @@ insert_need live (Some aside) tied name row numbers named count =
     let test : Table → List Value → Bool = λ t other. has same_key (map (key_of t) (row ∷ [])) (key_of t other) in
     let passes = has_value (key_column_of live.table) (cell row (key_column_of live.table)) in
     let by_key : (other : List Value) → test (target_table old (target live aside tied)) other ≡ passes other = λ other.
-    ap (λ (t : Table). test t other) (sym (made live aside tied)) ∙ key_alone live.table tied.served.key_place tied.served.one_key row other in
+      ap (λ (t : Table). test t other) (sym (made live aside tied)) ∙ key_alone live.table tied.served.key_place tied.served.one_key row other in
     ap (λ n. needed_by (Some (last live aside tied)) (view_of (state_of live (Some aside))) (Insert n (row ∷ []))) named
     ∙ ap (λ os. none_if_refused os (needed old m s)) none
     ∙ ap (λ t. on_target t (λ t. giving old m (test (target_table old t)) t)) (target_is live aside tied)
@@ -144,7 +135,7 @@ select_need live (Some aside) tied condition fine passes same =
     let m = (last live aside tied).migrate in
     let none = nothing_seen live (Some aside) s (select_fine live live.table.name condition (same_name-itself live.table.name) fine) in
     let by_table : (row : List Value) → satisfies (target_table old (target live aside tied)) condition row ≡ passes row = λ row.
-    ap (λ (t : Table). satisfies t condition row) (sym (made live aside tied)) ∙ same row in
+      ap (λ (t : Table). satisfies t condition row) (sym (made live aside tied)) ∙ same row in
     ap (λ os. none_if_refused os (needed old m s)) none
     ∙ ap (λ t. on_target t (λ t. giving old m (satisfies (target_table old t) condition) t)) (target_is live aside tied)
     ∙ giving_is live aside tied (satisfies (target_table old (target live aside tied)) condition) passes by_table
@@ -162,9 +153,9 @@ none_from : (test : Column → Bool) (n : ℕ) (columns : List Column) → posit
 none_from test n [] e = refl
 none_from test n (c ∷ cs) e = elim (test c) as (λ b. cond b (Some n) (position_from test (n + 1) cs) ≡ None
     → (length (map (λ c. c.0) (cond b ((n, c) ∷ filter (λ c. test c.1) (enumerate_from (n + 1) cs)) (filter (λ c. test c.1) (enumerate_from (n + 1) cs)))) == 0) ≡ true) [
-      | true ↦ λ e. absurd cc
-      | false ↦ λ e. none_from test (n + 1) cs e
-    ] e
+  | true ↦ λ e. absurd cc
+  | false ↦ λ e. none_from test (n + 1) cs e
+] e
 
 not_zero : (n : ℕ) → (suc n == 0) ≡ false
 not_zero n = grind (arith, nat_tests)
@@ -173,9 +164,9 @@ some_from : (test : Column → Bool) (n : ℕ) (columns : List Column) (place : 
 some_from test n [] place e = absurd cc
 some_from test n (c ∷ cs) place e = elim (test c) as (λ b. cond b (Some n) (position_from test (n + 1) cs) ≡ Some place
     → (length (map (λ c. c.0) (cond b ((n, c) ∷ filter (λ c. test c.1) (enumerate_from (n + 1) cs)) (filter (λ c. test c.1) (enumerate_from (n + 1) cs)))) == 0) ≡ false) [
-      | true ↦ λ e. not_zero (length (map (λ c. c.0) (filter (λ c. test c.1) (enumerate_from (n + 1) cs))))
-      | false ↦ λ e. some_from test (n + 1) cs place e
-    ] e
+  | true ↦ λ e. not_zero (length (map (λ c. c.0) (filter (λ c. test c.1) (enumerate_from (n + 1) cs))))
+  | false ↦ λ e. some_from test (n + 1) cs place e
+] e
 
 none_named : (table : Table) (name : List ℕ) → column_named table name ≡ None → (length (places_of table (plain name)) == 0) ≡ true
 none_named table name e = none_from (λ c. same_name name c.name) 0 table.columns (sym (position_from-zero (λ c. same_name name c.name) table.columns) ∙ e)
@@ -195,7 +186,8 @@ module _ (live : Stored) (served : IsServed live) (column : List ℕ) (value : V
   against =
       let kinds = int_at live.table.columns (place_of_ref live.table (plain column)) served.ints in
       let told : Value → Admit → List Refusal = λ v a. ref_objections live.table (plain column) ++ [] ++ when (not (same_kind (kind_admitted a) (kind_of v))) refusal.TypeMismatch in
-      ap₂ told number.1 kinds ∙ append-nil (when (length (places_of live.table (plain column)) == 0) (refusal.NoColumn column))
+      let alone = when (length (places_of live.table (plain column)) == 0) (refusal.NoColumn column) in
+      ap₂ told number.1 kinds ∙ append-nil (alone ++ []) ∙ append-nil alone
 
   pub no_column : column_named live.table column ≡ None → (n : ℕ) → objections (one_table n live) (Select All live.table.name (Some (comparison column value))) ≡ refusal.NoColumn column ∷ []
   no_column none n =
@@ -229,7 +221,7 @@ insert_answered live f tied name row numbers here count key value is_key within 
     let named : name ≡ live.table.name = sym (same_name-equal live.table.name name here) in
     let own : value ≡ cell row key = is ∙ get_or_default row key value (Int (pos 0)) within in
     let test_is : granules_where f (has_value (key_column_of live.table) (cell row (key_column_of live.table))) ≡ granules_where f (has_value key value) =
-    ap (λ k. granules_where f (has_value k (cell row k))) (sym is_key) ∙ ap (λ v. granules_where f (has_value key v)) (sym own) in
+      ap (λ k. granules_where f (has_value k (cell row k))) (sym is_key) ∙ ap (λ v. granules_where f (has_value key v)) (sym own) in
     let need = insert_need live f tied name row numbers named count ∙ test_is in
     let of_name : mid.table.name ≡ name = ap (λ (t : Table). t.name) seen.table ∙ sym named in
     let runs_so = subst (λ (n : List ℕ). RunsTo mid (Insert n (row ∷ [])) answer next) of_name runs in
