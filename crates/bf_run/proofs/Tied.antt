@@ -242,7 +242,7 @@ pub images_all : (aside : Aside) → places_where (λ row. true) (images_of asid
 images_all aside = filter_always (range_with_len 0 (length (images_of aside))) ∙ ap (range_with_len 0) (length-map aside.source.rows (cells aside.places))
 
 -- the granules of places that have not moved
-waiting : (source : List ℕ) (moved ks : List ℕ) → filter (λ g. not (has same_granule (map (granule_at source) moved) g)) (map (granule_at source) ks) ≡ map (granule_at source) (filter (λ k. not (has nat_eq moved k)) ks)
+pub waiting : (source : List ℕ) (moved ks : List ℕ) → filter (λ g. not (has same_granule (map (granule_at source) moved) g)) (map (granule_at source) ks) ≡ map (granule_at source) (filter (λ k. not (has nat_eq moved k)) ks)
 waiting source moved [] = refl
 waiting source moved (k ∷ ks) =
     let test = λ (g : Granule). not (has same_granule (map (granule_at source) moved) g) in

@@ -81,7 +81,7 @@ fits_at (c ∷ cs) (v ∷ vs) zero d counted fits within = (and_parts _ _ fits).
 fits_at (c ∷ cs) (v ∷ vs) (suc place) d counted fits within = fits_at cs vs place d (omega arith) (and_parts _ _ fits).1 (omega arith)
 
 -- what an admitted row is
-counted_if : (table : Table) (row : List Value) → is_admitted table row ≡ true → length row ≡ length table.columns
+pub counted_if : (table : Table) (row : List Value) → is_admitted table row ≡ true → length row ≡ length table.columns
 counted_if table row admitted = elim (cases_Bool (length row == length table.columns)) [
   | inl counted ↦ eqb-true (length row) (length table.columns) counted
   | inr other ↦ absurd (false≢true (rw other at admitted))
@@ -120,7 +120,7 @@ module _ (old : Database) (t : Target) (none : target_objections old t ≡ []) w
   pub source_there : is_some (stored_at old t.arm.from) ≡ true
   source_there = not-false _ (none_when (not (is_some (stored_at old t.arm.from))) (refusal.SourceUnknown t.arm.from) (none_left _ _ (none_left _ _ (none_left _ _ none))))
 
-  items_within : list_all (λ i. nat_lt (place_of_ref (source_at old t.arm.from).table (item_ref i)) (length (source_at old t.arm.from).table.columns)) t.arm.items ≡ true
+  pub items_within : list_all (λ i. nat_lt (place_of_ref (source_at old t.arm.from).table (item_ref i)) (length (source_at old t.arm.from).table.columns)) t.arm.items ≡ true
   items_within =
       let table = (source_at old t.arm.from).table in
       none_of_each (λ i. ref_objections table (item_ref i)) _ (λ i e. ref_within table (item_ref i) e) t.arm.items (none_right _ _ (none_left _ _ (none_left _ _ none)))
