@@ -80,6 +80,14 @@ fewer (false ∷ bs) zero d less e = omega (arith, at_most_all bs)
 fewer (true ∷ bs) (suc at) d less e = omega (arith, fewer bs at d (omega arith) e)
 fewer (false ∷ bs) (suc at) d less e = omega (arith, fewer bs at d (omega arith) e)
 
+-- as many rows have moved as a table has at most
+pub few_moved : (is_done : List Bool) (moved : List ℕ) (room : ℕ) → AreMarks is_done moved room → length moved ≤ most_rows
+few_moved is_done moved room are =
+    let some = at_most_all is_done in
+    let count = are.once in
+    let few = are.few in
+    omega arith
+
 -- the mark of a place
 pub is_marked : (is_done : List Bool) (moved : List ℕ) (room : ℕ) → AreMarks is_done moved room → (at : ℕ) (d : Bool) → at < length is_done → get_or is_done at d ≡ has nat_eq moved at
 is_marked is_done moved room are at d within = ap (λ bs. get_or bs at d) are.of_moved ∙ get_or-map-range_with_len (has nat_eq moved) 0 (length is_done) at at d within (omega arith)

@@ -195,8 +195,8 @@ module _ (live : Stored) (served : IsServed live) (column : List ℕ) (value : V
   against =
       let kinds = int_at live.table.columns (place_of_ref live.table (plain column)) served.ints in
       let told : Value → Admit → List Refusal = λ v a. ref_objections live.table (plain column) ++ [] ++ when (not (same_kind (kind_admitted a) (kind_of v))) refusal.TypeMismatch in
-      let unknown = when (length (places_of live.table (plain column)) == 0) (refusal.NoColumn column) in
-      ap₂ told number.1 kinds ∙ append-nil (unknown ++ []) ∙ append-nil unknown
+      let alone = when (length (places_of live.table (plain column)) == 0) (refusal.NoColumn column) in
+      ap₂ told number.1 kinds ∙ append-nil (alone ++ []) ∙ append-nil alone
 
   pub no_column : column_named live.table column ≡ None → (n : ℕ) → objections (one_table n live) (Select All live.table.name (Some (comparison column value))) ≡ refusal.NoColumn column ∷ []
   no_column none n =

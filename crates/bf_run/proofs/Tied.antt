@@ -242,15 +242,15 @@ pub images_all : (aside : Aside) → places_where (λ row. true) (images_of asid
 images_all aside = filter_always (range_with_len 0 (length (images_of aside))) ∙ ap (range_with_len 0) (length-map aside.source.rows (cells aside.places))
 
 -- the granules of places that have not moved
-pub waiting : (source : List ℕ) (moved ks : List ℕ) → filter (λ g. not (has same_granule (map (granule_at source) moved) g)) (map (granule_at source) ks) ≡ map (granule_at source) (filter (λ k. not (has nat_eq moved k)) ks)
-waiting source moved [] = refl
-waiting source moved (k ∷ ks) =
-    let test = λ (g : Granule). not (has same_granule (map (granule_at source) moved) g) in
-    ap (λ b. cond (not b) (granule_at source k ∷ filter test (map (granule_at source) ks)) (filter test (map (granule_at source) ks))) (has_moved source moved k)
-    ∙ elim (has nat_eq moved k) as (λ b. cond (not b) (granule_at source k ∷ filter test (map (granule_at source) ks)) (filter test (map (granule_at source) ks))
-    ≡ map (granule_at source) (cond (not b) (k ∷ filter (λ k. not (has nat_eq moved k)) ks) (filter (λ k. not (has nat_eq moved k)) ks))) [
-      | true ↦ waiting source moved ks
-      | false ↦ ap (λ gs. granule_at source k ∷ gs) (waiting source moved ks)
+pub waiting : (table : List ℕ) (moved ks : List ℕ) → filter (λ g. not (has same_granule (map (granule_at table) moved) g)) (map (granule_at table) ks) ≡ map (granule_at table) (filter (λ k. not (has nat_eq moved k)) ks)
+waiting table moved [] = refl
+waiting table moved (k ∷ ks) =
+    let test = λ (g : Granule). not (has same_granule (map (granule_at table) moved) g) in
+    ap (λ b. cond (not b) (granule_at table k ∷ filter test (map (granule_at table) ks)) (filter test (map (granule_at table) ks))) (has_moved table moved k)
+    ∙ elim (has nat_eq moved k) as (λ b. cond (not b) (granule_at table k ∷ filter test (map (granule_at table) ks)) (filter test (map (granule_at table) ks))
+    ≡ map (granule_at table) (cond (not b) (k ∷ filter (λ k. not (has nat_eq moved k)) ks) (filter (λ k. not (has nat_eq moved k)) ks))) [
+      | true ↦ waiting table moved ks
+      | false ↦ ap (λ gs. granule_at table k ∷ gs) (waiting table moved ks)
     ]
 
 -- what the migration is after moves
@@ -276,5 +276,5 @@ moved_last live aside next left seen ks e =
     there ∙ ap told done
 
 -- in the same way where there may be no old table
-pub stays : (live : Stored) (aside : Aside) (next : Stored) (left : Aside) → IsSeenStill live aside next left → StaysSeen live (Some aside) next (Some left)
-stays live aside next left seen = record { tied = seen.tied; table = seen.table; view = seen.view }
+pub stays : (live : Stored) (aside : Aside) (then : Stored) (rest : Aside) → IsSeenStill live aside then rest → StaysSeen live (Some aside) then (Some rest)
+stays live aside then rest seen = record { tied = seen.tied; table = seen.table; view = seen.view }

@@ -1,6 +1,12 @@
-use Rattle.std.proofs.Common.{◌∙◌, Some, None, sym}
-use Rattle.bf_run.proofs.Marked.{swept_by_marks}
+use Rattle.std.proofs.Common.{◌∙◌, Some, None, sym, arith}
+use Rattle.bf_run.proofs.Marked.{few_moved, swept_by_marks}
 use Rattle.bf_run.proofs.engine.marks.Marks.sweep.Goals as goal
+
+pub overflow_cast-moved : goal.overflow_cast-moved
+overflow_cast-moved c =
+    let count = c.len-moved.ensures ∙ c.self.inside.moved.ok.0 in
+    let few = few_moved c.self.inside.is_done.items c.self.inside.moved.items c.self.inside.moved.cap c.self.invariant in
+    omega arith
 
 pub returns-in-None : goal.returns-in-None
 returns-in-None c =
