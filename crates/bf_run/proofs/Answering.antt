@@ -35,7 +35,7 @@ live_of live None = refl
 live_of live (Some aside) = refl
 
 -- the state is one that moves lazily
-pub lazy_if : (live : Stored) (f : Option Aside) → IsTiedIfAny live f → IsLazy (state_of live f)
+lazy_if : (live : Stored) (f : Option Aside) → IsTiedIfAny live f → IsLazy (state_of live f)
 lazy_if live None served = record { live = served.database; last = tt; valid = and_from _ _ (on_time_itself None live refl) refl }
 lazy_if live (Some aside) tied = tied.lazy
 
@@ -44,7 +44,7 @@ served_if live None served = served
 served_if live (Some aside) tied = tied.served
 
 -- the state with other rows in the live table
-pub with_live : (mid next : Stored) (f : Option Aside) → next.table ≡ mid.table → record (state_of mid f) { live = one_table (changes_of f) next } ≡ state_of next f
+with_live : (mid next : Stored) (f : Option Aside) → next.table ≡ mid.table → record (state_of mid f) { live = one_table (changes_of f) next } ≡ state_of next f
 with_live mid next None same = refl
 with_live mid next (Some aside) same =
     let state : Table → LazyState = λ t. record {

@@ -44,7 +44,7 @@ all_fit (c ∷ cs) [] ints = refl
 all_fit (c ∷ cs) (z ∷ zs) ints = rw ints.0 (all_fit cs zs ints.1)
 
 -- a row of numbers has only values of its columns' kinds
-pub kinds_alone : (s : Stored) → IsServed s → (row : List Value) → AreNumbers row → flat_map (λ p. when (not (same_kind (kind_of p.1) (kind_admitted p.0.admits))) TypeMismatch) (zip s.table.columns row) ≡ []
+kinds_alone : (s : Stored) → IsServed s → (row : List Value) → AreNumbers row → flat_map (λ p. when (not (same_kind (kind_of p.1) (kind_admitted p.0.admits))) TypeMismatch) (zip s.table.columns row) ≡ []
 kinds_alone s served row numbers =
     subst (λ (r : List Value). flat_map (λ p. when (not (same_kind (kind_of p.1) (kind_admitted p.0.admits))) TypeMismatch) (zip s.table.columns r) ≡ []) (sym numbers.1) (kinds_fine s.table.columns numbers.0 served.ints)
 
@@ -95,11 +95,11 @@ module _ (s : Stored) (served : IsServed s) (row : List Value) (numbers : AreNum
   pub insert_taken : IsTrue (has_key_of s row) → RunsTo s (Insert s.table.name (row ∷ [])) (Refused (DuplicateKey (key_of s.table row))) s
   insert_taken taken n = meaning n ∙ ap (λ b. unless_refused (when b (DuplicateKey (key_of s.table row))) (one_table n s) (Inserted 1, one_table n (with_row s row))) taken
 
-  pub insert_new : has_key_of s row ≡ false → RunsTo s (Insert s.table.name (row ∷ [])) (Inserted 1) (with_row s row)
+  insert_new : has_key_of s row ≡ false → RunsTo s (Insert s.table.name (row ∷ [])) (Inserted 1) (with_row s row)
   insert_new new n = meaning n ∙ ap (λ b. unless_refused (when b (DuplicateKey (key_of s.table row))) (one_table n s) (Inserted 1, one_table n (with_row s row))) new
 
 -- boxed rows, after a row came in at its place
-pub box_came_in : {B : Type 0} (open_box : B → List Value) (table : Table) (boxes new : List B) (row : List Value) (place : ℕ) (box : B)
+box_came_in : {B : Type 0} (open_box : B → List Value) (table : Table) (boxes new : List B) (row : List Value) (place : ℕ) (box : B)
     → insert (map open_box boxes) place row ≡ placed key_cmp (key_of table) (map open_box boxes) row → new ≡ insert boxes place box → open_box box ≡ row
     → map open_box new ≡ placed key_cmp (key_of table) (map open_box boxes) row
 box_came_in open_box table boxes new row place box in_place inserted opens =

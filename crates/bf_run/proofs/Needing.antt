@@ -36,15 +36,15 @@ use Rattle.bf_form.specs.Form.{plain}
 use Rattle.bf_run.specs.Engine.{Aside, AreNumbers, IsAnswered, IsInt, IsServed, IsTied, IsTiedIfAny, RunsTo, StaysSeen, column_named, comparison, granule_at, granules_where, has_value, images_of, key_column_of, one_table, row_at, state_of}
 use Rattle.bf_run.proofs.Answering.{IsOrdinary, answered, changes_of, live_of, refused, served_if}
 use Rattle.bf_run.proofs.Flipping.{place_named}
-use Rattle.bf_run.proofs.Inserting.{tuple_fine, kinds_alone}
+use Rattle.bf_run.proofs.Inserting.{tuple_fine}
 use Rattle.bf_run.proofs.Places.{filter_places, filter-map}
 use Rattle.bf_run.proofs.Placing.{one_value}
 use Rattle.bf_run.proofs.Tied.{last, target, target_is, granules_are, made, part_is}
 
-pub insert_ordinary : (name : List ℕ) (tuples : List (List Value)) → IsOrdinary (Insert name tuples)
+insert_ordinary : (name : List ℕ) (tuples : List (List Value)) → IsOrdinary (Insert name tuples)
 insert_ordinary name tuples = record { after = λ lazy. refl; moves = λ last db. refl }
 
-pub select_ordinary : (name : List ℕ) (condition : Option RawCond) → IsOrdinary (Select All name condition)
+select_ordinary : (name : List ℕ) (condition : Option RawCond) → IsOrdinary (Select All name condition)
 select_ordinary name condition = record { after = λ lazy. refl; moves = λ last db. refl }
 
 module _ (live : Stored) (aside : Aside) (tied : IsTied live aside) where
@@ -77,14 +77,7 @@ nothing_seen live f s none = same_objections (state_of live f) s ∙ ap (λ db. 
 
 -- INSERT
 module _ (live : Stored) (name : List ℕ) (row : List Value) where
-  pub insert_elsewhere : same_name live.table.name name ≡ false → (n : ℕ) → objections (one_table n live) (Insert name (row ∷ [])) ≡ refusal.NoTable name ∷ []
-  insert_elsewhere elsewhere n = rw elsewhere refl
-
-  pub insert_wrong_count : IsServed live → AreNumbers row → same_name live.table.name name ≡ true → (length row == length live.table.columns) ≡ false
-      → (n : ℕ) → objections (one_table n live) (Insert name (row ∷ [])) ≡ refusal.WrongCount ∷ []
-  insert_wrong_count served numbers here other n = rw (here, other, kinds_alone live served row numbers) refl
-
-  pub insert_fine : IsServed live → AreNumbers row → same_name live.table.name name ≡ true → length row ≡ length live.table.columns → (n : ℕ) → objections (one_table n live) (Insert name (row ∷ [])) ≡ []
+  insert_fine : IsServed live → AreNumbers row → same_name live.table.name name ≡ true → length row ≡ length live.table.columns → (n : ℕ) → objections (one_table n live) (Insert name (row ∷ [])) ≡ []
   insert_fine served numbers here count n = rw (here, tuple_fine live served row numbers count) refl
 
 -- the rows of a key, by the key's value
@@ -95,7 +88,7 @@ key_alone table k one row other =
       (or-false (same_key (cell other k ∷ []) (cell row k ∷ [])) ∙ ap is_eq (one_value (cell other k) (cell row k))) in
     of_key table.key one
 
-pub insert_need : (live : Stored) (f : Option Aside) → IsTiedIfAny live f → (name : List ℕ) (row : List Value) → AreNumbers row → name ≡ live.table.name → length row ≡ length live.table.columns
+insert_need : (live : Stored) (f : Option Aside) → IsTiedIfAny live f → (name : List ℕ) (row : List Value) → AreNumbers row → name ≡ live.table.name → length row ≡ length live.table.columns
     → needed_by (state_of live f).last (view_of (state_of live f)) (Insert name (row ∷ [])) ≡ granules_where f (has_value (key_column_of live.table) (cell row (key_column_of live.table)))
 insert_need live None tied name row numbers named count = refl
 insert_need live (Some aside) tied name row numbers named count =
@@ -114,9 +107,6 @@ insert_need live (Some aside) tied name row numbers named count =
 
 -- SELECT
 module _ (live : Stored) (name : List ℕ) (condition : Option RawCond) where
-  pub select_elsewhere : same_name live.table.name name ≡ false → (n : ℕ) → objections (one_table n live) (Select All name condition) ≡ refusal.NoTable name ∷ []
-  select_elsewhere elsewhere n = rw elsewhere refl
-
   select_fine : same_name live.table.name name ≡ true → cond_objections live.table condition ≡ [] → (n : ℕ) → objections (one_table n live) (Select All name condition) ≡ []
   select_fine here none n = rw (here, none) refl
 
@@ -141,10 +131,10 @@ select_need live (Some aside) tied condition fine passes same =
     ∙ giving_is live aside tied (satisfies (target_table old (target live aside tied)) condition) passes by_table
 
 -- all rows
-pub all_needed : (live : Stored) (f : Option Aside) → IsTiedIfAny live f → needed_by (state_of live f).last (view_of (state_of live f)) (Select All live.table.name None) ≡ granules_where f (λ row. true)
+all_needed : (live : Stored) (f : Option Aside) → IsTiedIfAny live f → needed_by (state_of live f).last (view_of (state_of live f)) (Select All live.table.name None) ≡ granules_where f (λ row. true)
 all_needed live f tied = select_need live f tied None refl (λ row. true) (λ row. refl)
 
-pub all_selected : (live : Stored) → RunsTo live (Select All live.table.name None) (reply.Rows (selected All live.rows)) live
+all_selected : (live : Stored) → RunsTo live (Select All live.table.name None) (reply.Rows (selected All live.rows)) live
 all_selected live = subst (λ (rows : List (List Value)). RunsTo live (Select All live.table.name None) (reply.Rows (selected All rows)) live) (filter_always live.rows)
     (select_runs live live.table.name None refl refl (λ row. true) (λ row. refl))
 
@@ -205,11 +195,11 @@ module _ (live : Stored) (served : IsServed live) (column : List ℕ) (value : V
     same_test : (row : List Value) → satisfies live.table (Some (comparison column value)) row ≡ has_value place value row
     same_test row = ap (λ k. has_value k value row) place_is
 
-    pub column_needed : (f : Option Aside) → IsTiedIfAny live f
+    column_needed : (f : Option Aside) → IsTiedIfAny live f
         → needed_by (state_of live f).last (view_of (state_of live f)) (Select All live.table.name (Some (comparison column value))) ≡ granules_where f (has_value place value)
     column_needed f tied = select_need live f tied (Some (comparison column value)) fine_column (has_value place value) same_test
 
-    pub column_selected : RunsTo live (Select All live.table.name (Some (comparison column value))) (reply.Rows (selected All (filter (has_value place value) live.rows))) live
+    column_selected : RunsTo live (Select All live.table.name (Some (comparison column value))) (reply.Rows (selected All (filter (has_value place value) live.rows))) live
     column_selected = select_runs live live.table.name (Some (comparison column value)) refl fine_column (has_value place value) same_test
 
 -- an INSERT into the live table, once the row with its key has moved
@@ -247,11 +237,7 @@ column_answered live f tied column value number place is mid g seen moved =
     answered live f (Select All live.table.name condition) (select_ordinary live.table.name condition) mid g (granules_where f (has_value place value)) seen moved
     (column_needed live (served_if live f tied) column value number place is f tied) (reply.Rows (selected All (filter (has_value place value) mid.rows))) mid runs refl served
 
--- statements that the catalog refuses
-pub insert_refused : (live : Stored) (f : Option Aside) → IsTiedIfAny live f → (name : List ℕ) (row : List Value) (r : Refusal) → ((n : ℕ) → objections (one_table n live) (Insert name (row ∷ [])) ≡ r ∷ [])
-    → IsAnswered live f (Insert name (row ∷ [])) (reply.Refused r) live f
-insert_refused live f tied name row r against = refused live f (Insert name (row ∷ [])) (insert_ordinary name (row ∷ [])) tied r against
-
+-- a SELECT that the catalog refuses
 pub select_refused : (live : Stored) (f : Option Aside) → IsTiedIfAny live f → (name : List ℕ) (condition : Option RawCond) (r : Refusal) → ((n : ℕ) → objections (one_table n live) (Select All name condition) ≡ r ∷ [])
     → IsAnswered live f (Select All name condition) (reply.Refused r) live f
 select_refused live f tied name condition r against = refused live f (Select All name condition) (select_ordinary name condition) tied r against

@@ -55,14 +55,14 @@ module _ {B : Type 0} (open_box : B → List Value) (table : Table) (column : �
       ap (λ keys. has same_key keys (key_of table row)) (keys_are boxes) ∙ ap (λ key. has same_key (map key_in boxes) key) (key_is row)
 
   -- a row whose value is found has its key taken
-  pub taken_at : (boxes : List B) (at : ℕ) (row : List Value) → at < length boxes → HoldsAt (λ box. value_cmp (cell (open_box box) column) (cell row column) ≡ Equal) boxes at
+  taken_at : (boxes : List B) (at : ℕ) (row : List Value) → at < length boxes → HoldsAt (λ box. value_cmp (cell (open_box box) column) (cell row column) ≡ Equal) boxes at
       → has same_key (map (key_of table) (map open_box boxes)) (key_of table row) ≡ true
   taken_at [] at row in_range equal = absurd (omega arith)
   taken_at (b ∷ bs) at row in_range equal =
       has_is (b ∷ bs) row ∙ has-at key_cmp_total key_in (b ∷ bs) at (cell row column ∷ []) b in_range (one_value (cell (open_box (get_or (b ∷ bs) at b)) column) (cell row column) ∙ equal b)
 
   -- the comparisons with a value rise, as a binary search asks
-  pub comparisons_rise : (boxes : List B) → rises key_cmp (map (key_of table) (map open_box boxes)) ≡ true → (value : Value)
+  comparisons_rise : (boxes : List B) → rises key_cmp (map (key_of table) (map open_box boxes)) ≡ true → (value : Value)
       → IsNonDecreasingBy (λ box. ordering_index (value_cmp (cell (open_box box) column) value)) boxes
   comparisons_rise boxes sorted value i j d before in_range =
       let rising = searchable_from_rises key_cmp_total key_in boxes (value ∷ []) (rw (keys_are boxes) at sorted) i j d before in_range in
@@ -77,7 +77,7 @@ module _ {B : Type 0} (open_box : B → List Value) (table : Table) (column : �
       (λ k d low high. same k d ∙ parted.0 k d low high, λ k d low high. same k d ∙ parted.1 k d low high)
 
   -- at such a place the key is new
-  pub new_at : (boxes : List B) (at : ℕ) (row : List Value)
+  new_at : (boxes : List B) (at : ℕ) (row : List Value)
       → IsPartitionPoint (λ box. value_cmp (cell (open_box box) column) (cell row column) ≡ Less) (λ box. value_cmp (cell (open_box box) column) (cell row column) ≡ Greater) boxes at
       → has same_key (map (key_of table) (map open_box boxes)) (key_of table row) ≡ false
   new_at boxes at row parted = has_is boxes row ∙ has-none key_cmp_total key_in boxes at (cell row column ∷ []) (gap boxes at (cell row column) parted)
@@ -106,7 +106,7 @@ module _ {B : Type 0} (open_box : B → List Value) (table : Table) (column : �
         ap (λ i. has_value column value (get_or (map open_box boxes) i [])) same ∙ ap (has_value column value) (get_or-map open_box boxes k d [] within) ∙ ap is_eq is
 
     -- a row whose value is found is the only one that has it
-    pub found_only : (boxes : List B) (at : ℕ) → rises key_cmp (map (key_of table) (map open_box boxes)) ≡ true → at < length boxes → HoldsAt (λ box. value_cmp (cell (open_box box) column) value ≡ Equal) boxes at
+    found_only : (boxes : List B) (at : ℕ) → rises key_cmp (map (key_of table) (map open_box boxes)) ≡ true → at < length boxes → HoldsAt (λ box. value_cmp (cell (open_box box) column) value ≡ Equal) boxes at
         → places_where (has_value column value) (map open_box boxes) ≡ at ∷ []
     found_only [] at sorted within equal = absurd (omega arith)
     found_only (b ∷ bs) at sorted within equal =
@@ -124,7 +124,7 @@ module _ {B : Type 0} (open_box : B → List Value) (table : Table) (column : �
         ap (λ n. filter (λ k. has_value column value (get_or (map open_box boxes) k [])) (range_with_len 0 n)) long ∙ only ∙ ap (λ k. k ∷ []) first
 
     -- between the rows with lesser and with greater values none has it
-    pub found_none : (boxes : List B) (at : ℕ)
+    found_none : (boxes : List B) (at : ℕ)
         → IsPartitionPoint (λ box. value_cmp (cell (open_box box) column) value ≡ Less) (λ box. value_cmp (cell (open_box box) column) value ≡ Greater) boxes at
         → places_where (has_value column value) (map open_box boxes) ≡ []
     found_none [] at parted = refl

@@ -234,7 +234,7 @@ pub images_all : (aside : Aside) → places_where (λ row. true) (images_of asid
 images_all aside = filter_always (range_with_len 0 (length (images_of aside))) ∙ ap (range_with_len 0) (length-map aside.source.rows (cells aside.places))
 
 -- the granules of places that have not moved
-waiting : (table : List ℕ) (moved ks : List ℕ) → filter (λ g. not (has same_granule (map (granule_at table) moved) g)) (map (granule_at table) ks) ≡ map (granule_at table) (filter (λ k. not (has nat_eq moved k)) ks)
+pub waiting : (table : List ℕ) (moved ks : List ℕ) → filter (λ g. not (has same_granule (map (granule_at table) moved) g)) (map (granule_at table) ks) ≡ map (granule_at table) (filter (λ k. not (has nat_eq moved k)) ks)
 waiting table moved [] = refl
 waiting table moved (k ∷ ks) =
     let test = λ (g : Granule). not (has same_granule (map (granule_at table) moved) g) in
