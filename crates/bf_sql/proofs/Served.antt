@@ -17,7 +17,7 @@ use Rattle.bf_sql.specs.declared.statement.Target.{Target}
 use Rattle.bf_sql.specs.Database.{Database}
 use Rattle.bf_sql.specs.History.{run_group}
 use Rattle.bf_sql.specs.Laws.{IsLazy, IsSeenAs, HaveMoved}
-use Rattle.bf_sql.specs.Lazy.{Granule, Migration, LazyState, same_granule, target_of, on_target, granules_of, part_of, needed, none_if_refused, needed_by, pending_of, done_of, view_of, with_done, moved, moved_once, moved_all, number_of, begun, flipped_lazily, unless_objected, after_statement, served, served_all}
+use Rattle.bf_sql.specs.Lazy.{Granule, Migration, LazyState, same_granule, target_of, on_target, granules_of, part_of, needed, none_if_refused, needed_by, pending_of, done_of, view_of, with_done, moved, moved_unless_done, moved_all, number_of, begun, flipped_lazily, unless_objected, after_statement, served, served_all}
 use Rattle.bf_sql.specs.Conditions.{satisfies}
 use Rattle.bf_sql.specs.Meaning.{executed}
 use Rattle.bf_sql.specs.Migrations.{target_table}
@@ -141,15 +141,15 @@ no_more : (last : Option Migration) → last ≡ with_moved last []
 no_more None = refl
 no_more (Some last) = ap (λ done. Some (record last { done = done })) (sym (append-nil last.done))
 
-last_once : (lazy : LazyState) (g : Granule) (b : Bool) → (if b then lazy else moved lazy g).last ≡ (if b then lazy.last else with_done lazy.last g)
-last_once lazy g true = refl
-last_once lazy g false = refl
+last_unless_done : (lazy : LazyState) (g : Granule) (b : Bool) → (if b then lazy else moved lazy g).last ≡ (if b then lazy.last else with_done lazy.last g)
+last_unless_done lazy g true = refl
+last_unless_done lazy g false = refl
 
 last_after_moves : (lazy : LazyState) (gs : List Granule) → are_apart same_granule gs ≡ true → (moved_all lazy gs).last ≡ with_moved lazy.last gs
 last_after_moves lazy [] apart = no_more lazy.last
 last_after_moves lazy (g ∷ gs) apart =
-    last_after_moves (moved_once lazy g) gs (and_parts _ _ apart).1
-    ∙ ap (λ last. with_moved last gs) (last_once lazy g (has same_granule (done_of lazy.last) g))
+    last_after_moves (moved_unless_done lazy g) gs (and_parts _ _ apart).1
+    ∙ ap (λ last. with_moved last gs) (last_unless_done lazy g (has same_granule (done_of lazy.last) g))
     ∙ step_last lazy.last gs g (not-true _ (and_parts _ _ apart).0)
 
 -- each of them is done then
