@@ -9,6 +9,7 @@ pub mod Kept
 pub mod Keys
 pub mod Moving
 mod OneMoves
+pub mod Owners
 mod RowThree
 pub mod Same
 pub mod Served
