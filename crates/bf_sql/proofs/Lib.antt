@@ -1,6 +1,7 @@
 mod FirstRefusals
 pub mod Alike
 pub mod Beginning
+pub mod Complete
 pub mod Due
 pub mod Flipped
 pub mod Granules

@@ -1,7 +1,7 @@
 -- A lazy state serves statements as its view would, and moves what they need and nothing else.
 use Rattle.std.proofs.Common.{◌≡◌, ◌+◌, Bool, true, false, not, cond, if◌then◌else◌, List, [], ◌∷◌, ◌++◌, map, filter, Option, Some, None, refl, sym, ap, ap₂, subst, ◌∙◌, inl, inr, append_assoc}
 use Rattle.std.specs.List.{list_any, list_all}
-use Rattle.std.proofs.lemmas.Bool.{and_parts, and_from, or_left, or_right, not_from_false, not-true, cases_Bool, eq-eqb}
+use Rattle.std.proofs.lemmas.Bool.{and_parts, and_from, or_left, or_right, not_from_false, not-true, cases_Bool}
 use Rattle.std.proofs.lemmas.List.{append-nil}
 use Rattle.std.proofs.lemmas.List.Folds.{list_any-append}
 use Rattle.std.proofs.lemmas.List.Elements.{filter_agree}
@@ -26,7 +26,7 @@ use Rattle.bf_sql.specs.Refusals.{objections, row_objections}
 use Rattle.bf_sql.proofs.Alike.{same_objections}
 use Rattle.bf_sql.proofs.Beginning.{view_itself}
 use Rattle.bf_sql.proofs.Due.{still_waits}
-use Rattle.bf_sql.proofs.Granules.{same_name-itself, same_granule-equal, granules_apart}
+use Rattle.bf_sql.proofs.Granules.{same_granule-itself, same_granule-equal, granules_apart}
 use Rattle.bf_sql.proofs.Moving.{keeps_view}
 use Rattle.bf_sql.proofs.Serving.{agrees, nothing_pending}
 use Rattle.bf_sql.proofs.Stored.{list_all-filter, list_all-if}
@@ -34,9 +34,6 @@ use Rattle.bf_sql.proofs.Stored.{list_all-filter, list_all-if}
 -- each item of a list is one of them
 has-more : (x : Granule) (before xs : List Granule) → list_all (has same_granule xs) before ≡ true → list_all (has same_granule (x ∷ xs)) before ≡ true
 has-more x before xs all = list_all-if (has same_granule xs) (has same_granule (x ∷ xs)) (λ g e. or_right _ _ e) before all
-
-same_granule-itself : (g : Granule) → same_granule g g ≡ true
-same_granule-itself g = and_from _ _ (same_name-itself g.source) (eq-eqb g.position g.position refl)
 
 has_each : (xs : List Granule) → list_all (has same_granule xs) xs ≡ true
 has_each [] = refl
