@@ -36,20 +36,20 @@ pub fn equal_look_ups_make_equal_databases()
     ensures { (a b : Database) → IsDatabase a → IsDatabase b → HaveSame a b → a ≡ b }
 {}
 
-/// The parts that a target has of the granules, one behind the other, are its image of the whole
-/// old table.
+/// What a target has of each granule, one behind the other, is its image of the whole old table.
 pub fn parts_make_the_image()
     ensures { (old : Database) (m : Migrate) (t : Target) → Contains m.targets t → flat_map (part_of old m t) (granules_of old m) ≡ image_of old t }
 {}
 
-/// Where the catalog has nothing against a MIGRATE, a key of a target is in the part of one granule,
-/// its owner, and of no other; where it has no owner, of none.
+/// Where the catalog has nothing against a MIGRATE, one granule alone has a row of a target with a
+/// given key: the key's owner. Where the key has no owner, none has.
 pub fn a_key_has_one_owner()
     ensures { (old : Database) (m : Migrate) (t : Target) (key : List Value) → IsDatabase old → migrate_objections old m ≡ [] → Contains m.targets t → filter (λ g. has same_key (map (key_of (target_table old t)) (part_of old m t g)) key) (granules_of old m) ≡ option_to_list (owner_of old m t key) }
 {}
 
-/// There an INSERT of one tuple into a target needs the owner of the tuple's key, and one of
-/// several tuples needs the granules that are the owner of the key of one of them.
+/// Where the catalog has nothing against a MIGRATE, an INSERT of one tuple into a target needs the
+/// owner of the tuple's key and nothing else. An INSERT of several tuples needs a granule exactly
+/// where it is the owner of the key of one of them.
 pub fn an_insert_needs_the_owners()
     ensures one { (old : Database) (m : Migrate) (name : List ℕ) (tuple : List Value) → IsDatabase old → migrate_objections old m ≡ [] → needed old m (Insert name (tuple ∷ [])) ≡ on_target (target_of m name) (λ t. option_to_list (owner_of old m t (key_of (target_table old t) tuple))) }
     ensures several { (old : Database) (m : Migrate) (name : List ℕ) (tuples : List (List Value)) (g : Granule) → IsDatabase old → migrate_objections old m ≡ [] → has same_granule (needed old m (Insert name tuples)) g ≡ has same_granule (on_target (target_of m name) (λ t. filter_map (λ tuple. owner_of old m t (key_of (target_table old t) tuple)) tuples)) g }
