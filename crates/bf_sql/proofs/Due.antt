@@ -15,10 +15,11 @@ use Rattle.bf_base.proofs.Names.{name_cmp_total}
 use Rattle.bf_base.proofs.Order.{same_from_some, look_up-at}
 use Rattle.bf_base.proofs.Parts.{filter-filter, filter_same}
 use Rattle.bf_sql.specs.declared.statement.Target.{Target}
+use Rattle.bf_sql.specs.declared.statement.Migrate.{Migrate}
 use Rattle.bf_sql.specs.Database.{Database, Stored, IsDatabase, stored_at, is_admitted}
 use Rattle.bf_sql.specs.Laws.{table_at, IsUnderWay}
 use Rattle.bf_sql.specs.Lazy.{Granule, Migration, same_granule, target_of, on_target, granules_of, part_of, pending, rows_of, due}
-use Rattle.bf_sql.specs.Migrations.{target_table, target_objections, sources_of, image_of}
+use Rattle.bf_sql.specs.Migrations.{target_table, target_objections, sources_of, migrate_objections, image_of}
 use Rattle.bf_sql.proofs.Flipped.{keyed_source, admitted_source}
 use Rattle.bf_sql.proofs.Granules.{same_name-equal, same_granule-equal, same_granule-symmetric, granules_apart, sources_have, parts_make_the_image}
 use Rattle.bf_sql.proofs.Images.{image_rises, image_admitted, stored_image}
@@ -74,6 +75,13 @@ rows_of-parted (Some last) p granules name = on (target_of last.migrate name)
     on None = no_items
     on (Some t) = parted (part_of last.old last.migrate t) p granules
 
+-- the rows that a target has of all granules have different keys
+pub keys_apart : (old : Database) (m : Migrate) → IsDatabase old → migrate_objections old m ≡ [] → (t : Target) → target_objections old t ≡ [] → has same_name (sources_of m) t.arm.from ≡ true
+    → are_apart same_key (map (key_of (target_table old t)) (flat_map (part_of old m t) (granules_of old m))) ≡ true
+keys_apart old m is fine t none there =
+    let keyed = keyed_source old m is fine t none in
+    ap (λ rows. are_apart same_key (map (key_of (target_table old t)) rows)) (parts_make_the_image old m t there) ∙ apart_from_rises key_cmp_total (map (key_of (target_table old t)) (image_of old t)) (image_rises old t none keyed)
+
 module _ (live : Database) (last : Migration) (way : IsUnderWay live last) where
   -- a live table of a target's name is the target's table
   pub made_by : (s : Stored) (t : Target) → stored_at live s.table.name ≡ Some s → target_of last.migrate s.table.name ≡ Some t → s.table ≡ target_table last.old t
@@ -87,13 +95,14 @@ module _ (live : Database) (last : Migration) (way : IsUnderWay live last) where
     fine_target : target_objections last.old t ≡ []
     fine_target = nothing_at_found (target_objections last.old) (λ t. same_name t.name name) last.migrate.targets t (none_left _ _ way.fine) found
 
+    source_of_target : has same_name (sources_of last.migrate) t.arm.from ≡ true
+    source_of_target = all_at_found (λ t. has same_name (sources_of last.migrate) t.arm.from) (λ t. same_name t.name name) last.migrate.targets t found (sources_have last.migrate)
+
     parts_at : flat_map (part_of last.old last.migrate t) (granules_of last.old last.migrate) ≡ image_of last.old t
-    parts_at = parts_make_the_image last.old last.migrate t (all_at_found (λ t. has same_name (sources_of last.migrate) t.arm.from) (λ t. same_name t.name name) last.migrate.targets t found (sources_have last.migrate))
+    parts_at = parts_make_the_image last.old last.migrate t source_of_target
 
     parts_apart : are_apart same_key (map (key_of (target_table last.old t)) (flat_map (part_of last.old last.migrate t) (granules_of last.old last.migrate))) ≡ true
-    parts_apart =
-        let keyed = keyed_source last.old last.migrate way.old way.fine t fine_target in
-        ap (λ rows. are_apart same_key (map (key_of (target_table last.old t)) rows)) parts_at ∙ apart_from_rises key_cmp_total (map (key_of (target_table last.old t)) (image_of last.old t)) (image_rises last.old t fine_target keyed)
+    parts_apart = keys_apart last.old last.migrate way.old way.fine t fine_target source_of_target
 
     parts_admitted : list_all (is_admitted (target_table last.old t)) (flat_map (part_of last.old last.migrate t) (granules_of last.old last.migrate)) ≡ true
     parts_admitted =

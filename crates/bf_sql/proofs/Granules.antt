@@ -1,9 +1,9 @@
 -- The granules of a migration are apart, and the parts that come of them make the images.
-use Rattle.std.proofs.Common.{◌≡◌, ℕ, zero, suc, ◌+◌, ◌<◌, true, false, not, ◌&&◌, ◌==◌, if◌then◌else◌, List, [], ◌∷◌, ◌++◌, map, fold, length, drop, flat_map, refl, sym, ap, ap₂, ◌∙◌, arith, is_eq, slice_range}
+use Rattle.std.proofs.Common.{◌≡◌, ℕ, zero, suc, ◌+◌, ◌<◌, Bool, true, false, not, ◌&&◌, ◌==◌, if◌then◌else◌, List, [], ◌∷◌, ◌++◌, map, fold, length, drop, flat_map, refl, sym, ap, ap₂, ◌∙◌, arith, is_eq, slice_range}
 use Rattle.std.specs.List.{list_all, range_with_len}
 use Rattle.std.proofs.Math.ListN.{drop_of_length-le}
 use Rattle.std.proofs.lemmas.Bool.Decides.{nat_tests}
-use Rattle.std.proofs.lemmas.Bool.{and_parts, and_from, and_left, and_right, or_left, or_right, or_from, not_from_false, eqb-true, ne_eqb}
+use Rattle.std.proofs.lemmas.Bool.{and_parts, and_from, and_left, and_right, or_left, or_right, or_from, not_from_false, eqb-true, eq-eqb, ne_eqb}
 use Rattle.std.proofs.lemmas.Cmp.{tied_itself}
 use Rattle.std.proofs.lemmas.List.{map-append}
 use Rattle.std.proofs.lemmas.List.Folds.{flat_map-map, drop_split, list_any-append}
@@ -36,6 +36,9 @@ same_granule-equal g h e =
     let position = eqb-true g.position h.position parts.1 in
     λ i. record { source = source i; position = position i }
 
+pub same_granule-itself : (g : Granule) → same_granule g g ≡ true
+same_granule-itself g = and_from _ _ (same_name-itself g.source) (eq-eqb g.position g.position refl)
+
 same_number-symmetric : (a b : ℕ) → (a == b) ≡ (b == a)
 same_number-symmetric a b = grind (arith, nat_tests)
 
@@ -46,16 +49,16 @@ same_granule-symmetric g h = ap₂ (λ b c. b && c) (same_name-symmetric g.sourc
 abbrev with_source : List (List ℕ) → Target → List (List ℕ)
 with_source seen t = if has same_name seen t.arm.from then seen else seen ++ t.arm.from ∷ []
 
-one_more_apart : (seen : List (List ℕ)) (name : List ℕ) → are_apart same_name seen ≡ true → has same_name seen name ≡ false → are_apart same_name (seen ++ name ∷ []) ≡ true
-one_more_apart seen name apart new =
-    let none = has_either_way same_name same_name-symmetric (name ∷ []) seen ∙ or_from _ _ new refl in
-    apart-append same_name seen (name ∷ []) apart refl (all_not_from_none _ seen none)
+pub one_more_apart : {K : Type 0} (same : K → K → Bool) → ((a b : K) → same a b ≡ same b a) → (seen : List K) (k : K) → are_apart same seen ≡ true → has same seen k ≡ false → are_apart same (seen ++ k ∷ []) ≡ true
+one_more_apart same symmetric seen k apart new =
+    let none = has_either_way same symmetric (k ∷ []) seen ∙ or_from _ _ new refl in
+    apart-append same seen (k ∷ []) apart refl (all_not_from_none _ seen none)
 
 apart_from_seen : (seen : List (List ℕ)) (ts : List Target) → are_apart same_name seen ≡ true → are_apart same_name (fold with_source seen ts) ≡ true
 apart_from_seen seen [] apart = apart
 apart_from_seen seen (t ∷ ts) apart = elim (has same_name seen t.arm.from) as (λ b. has same_name seen t.arm.from ≡ b → are_apart same_name (fold with_source (if b then seen else seen ++ t.arm.from ∷ []) ts) ≡ true) [
   | true ↦ λ e. apart_from_seen seen ts apart
-  | false ↦ λ e. apart_from_seen (seen ++ t.arm.from ∷ []) ts (one_more_apart seen t.arm.from apart e)
+  | false ↦ λ e. apart_from_seen (seen ++ t.arm.from ∷ []) ts (one_more_apart same_name same_name-symmetric seen t.arm.from apart e)
 ] refl
 
 pub sources_apart : (m : Migrate) → are_apart same_name (sources_of m) ≡ true

@@ -1,14 +1,18 @@
 mod FirstRefusals
 pub mod Alike
 pub mod Beginning
+pub mod Complete
 pub mod Due
+mod FewMove
 pub mod Flipped
 pub mod Granules
 pub mod Images
 pub mod Kept
 pub mod Keys
 pub mod Moving
-mod OneMoves
+pub mod OneMoves
+pub mod Owners
+mod Refused
 mod RowThree
 pub mod Same
 pub mod Served

@@ -1,20 +1,16 @@
 -- One table moves lazily: a SELECT moves the row that it gives, and an INSERT with the key of a row that row.
-use Rattle.std.specs.Prelude.{◌≡◌, ℕ, pos, List, [], ◌∷◌, ◌++◌, None, Some, codes, refl}
-use Rattle.bf_base.specs.declared.value.Value.{Value as Datum}
+use Rattle.std.specs.Prelude.{◌≡◌, pos, List, [], ◌∷◌, ◌++◌, None, Some, codes, refl}
 use Rattle.bf_base.specs.declared.value.Value.TheVariants.{Int}
 use Rattle.bf_base.specs.declared.table.Admit.TheVariants as admit
 use Rattle.bf_sql.specs.declared.history.Sweep.TheVariants.{Complete, Running}
 use Rattle.bf_sql.specs.declared.reply.Refusal.TheVariants as refusal
 use Rattle.bf_sql.specs.declared.reply.Reply.TheVariants as reply
-use Rattle.bf_sql.specs.declared.reply.Cell.TheVariants as cells
 use Rattle.bf_sql.specs.declared.statement.ColumnForm.TheVariants as form
 use Rattle.bf_sql.specs.declared.statement.Compare.TheVariants.{Equal}
-use Rattle.bf_sql.specs.declared.statement.Item.TheVariants.{Column}
 use Rattle.bf_sql.specs.declared.statement.List.TheVariants.{All}
 use Rattle.bf_sql.specs.declared.statement.Migrate.{Migrate as Change}
 use Rattle.bf_sql.specs.declared.statement.Operand.TheVariants.{Value, Ref}
 use Rattle.bf_sql.specs.declared.statement.RawCond.TheVariants.{Compare}
-use Rattle.bf_sql.specs.declared.statement.Ref.{Ref as Name}
 use Rattle.bf_sql.specs.declared.statement.Statement.{Statement}
 use Rattle.bf_sql.specs.declared.statement.Statement.TheVariants.{CreateTable, Insert, Select, Migrate}
 use Rattle.bf_sql.specs.Database.{Database, empty_database}
@@ -23,20 +19,14 @@ use Rattle.bf_sql.specs.Laws.{IsLazy}
 use Rattle.bf_sql.specs.Lazy.{LazyState, view_of, flipped_lazily, served_all}
 use Rattle.bf_sql.specs.Migrations.{flipped}
 use Rattle.bf_sql.specs.Movement.{migration_after, sweep_of}
-use Rattle.bf_sql.proofs.Spelling.{one, rule, column, table, stored, database}
-
-abbrev two : ℕ → ℕ → List Datum
-two a b = Int (pos a) ∷ Int (pos b) ∷ []
-
-abbrev named : List ℕ → Name
-named name = record { table = None; column = name }
+use Rattle.bf_sql.proofs.Spelling.{one, two, two_given, named, making, rule, column, table, stored, database}
 
 -- MIGRATE (CREATE TABLE u AS SELECT n, id FROM t)
-abbrev change : Change
-change = record { targets = one (record { name = codes "u"; arm = record { items = Column (named (codes "n")) ∷ Column (named (codes "id")) ∷ []; from = codes "t" } }) }
+abbrev pub change : Change
+change = making (codes "u") (codes "n" ∷ codes "id" ∷ []) (codes "t")
 
 -- CREATE TABLE t (id INT, n INT, PRIMARY KEY (id)); INSERT INTO t VALUES (1, 10); INSERT INTO t VALUES (2, 20)
-abbrev first_part : List Statement
+abbrev pub first_part : List Statement
 first_part =
     CreateTable (codes "t") (rule (codes "id") form.Int ∷ rule (codes "n") form.Int ∷ []) (one (codes "id"))
     ∷ Insert (codes "t") (one (two 1 10))
@@ -44,11 +34,11 @@ first_part =
     ∷ []
 
 -- and then the MIGRATE, and SELECT * FROM u WHERE id = 2
-abbrev statements : List Statement
+abbrev pub statements : List Statement
 statements = first_part ++ Migrate change ∷ Select All (codes "u") (Some (Compare Equal (Ref (named (codes "id"))) (Value (Int (pos 2))))) ∷ []
 
 -- the rows of u are in the order of id, its second column
-abbrev last : Database
+abbrev pub last : Database
 last = database 2 (one (stored (table (codes "u") (column (codes "n") admit.Int ∷ column (codes "id") admit.Int ∷ []) (one 1)) (two 10 1 ∷ two 20 2 ∷ [])))
 
 run : run_group empty_database statements ≡ (
@@ -56,7 +46,7 @@ run : run_group empty_database statements ≡ (
       ∷ reply.Inserted 1
       ∷ reply.Inserted 1
       ∷ reply.Migrated 1
-      ∷ reply.Rows (one (cells.Value (Int (pos 20)) ∷ cells.Value (Int (pos 2)) ∷ []))
+      ∷ reply.Rows (one (two_given 20 2))
       ∷ [],
   last,
 )
@@ -79,7 +69,7 @@ run_longer : run_group empty_database longer ≡ (
       ∷ reply.Inserted 1
       ∷ reply.Inserted 1
       ∷ reply.Migrated 1
-      ∷ reply.Rows (one (cells.Value (Int (pos 20)) ∷ cells.Value (Int (pos 2)) ∷ []))
+      ∷ reply.Rows (one (two_given 20 2))
       ∷ reply.Refused (refusal.DuplicateKey (one (Int (pos 1))))
       ∷ [],
   last,
@@ -90,7 +80,7 @@ moved_longer : sweep_of (migration_after None empty_database longer) ≡ Complet
 moved_longer = refl
 
 -- the flip that moves nothing, seen with what is due
-abbrev before_flip : Database
+abbrev pub before_flip : Database
 before_flip = (run_group empty_database first_part).1
 
 view : view_of (flipped_lazily (record { live = before_flip; last = None }) change) ≡ flipped before_flip change

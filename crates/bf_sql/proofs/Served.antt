@@ -1,7 +1,7 @@
 -- A lazy state serves statements as its view would, and moves what they need and nothing else.
 use Rattle.std.proofs.Common.{◌≡◌, ◌+◌, Bool, true, false, not, cond, if◌then◌else◌, List, [], ◌∷◌, ◌++◌, map, filter, Option, Some, None, refl, sym, ap, ap₂, subst, ◌∙◌, inl, inr, append_assoc}
 use Rattle.std.specs.List.{list_any, list_all}
-use Rattle.std.proofs.lemmas.Bool.{and_parts, and_from, or_left, or_right, not_from_false, not-true, cases_Bool, eq-eqb}
+use Rattle.std.proofs.lemmas.Bool.{and_parts, and_from, or_left, or_right, not_from_false, not-true, cases_Bool}
 use Rattle.std.proofs.lemmas.List.{append-nil}
 use Rattle.std.proofs.lemmas.List.Folds.{list_any-append}
 use Rattle.std.proofs.lemmas.List.Elements.{filter_agree}
@@ -17,7 +17,7 @@ use Rattle.bf_sql.specs.declared.statement.Target.{Target}
 use Rattle.bf_sql.specs.Database.{Database}
 use Rattle.bf_sql.specs.History.{run_group}
 use Rattle.bf_sql.specs.Laws.{IsLazy, IsSeenAs, HaveMoved}
-use Rattle.bf_sql.specs.Lazy.{Granule, Migration, LazyState, same_granule, target_of, on_target, granules_of, part_of, needed, none_if_refused, needed_by, pending_of, done_of, view_of, with_done, moved, moved_once, moved_all, number_of, begun, flipped_lazily, unless_objected, after_statement, served, served_all}
+use Rattle.bf_sql.specs.Lazy.{Granule, Migration, LazyState, same_granule, target_of, on_target, granules_of, part_of, needed, none_if_refused, needed_by, pending_of, done_of, view_of, with_done, moved, moved_unless_done, moved_all, number_of, begun, flipped_lazily, unless_objected, after_statement, served, served_all}
 use Rattle.bf_sql.specs.Conditions.{satisfies}
 use Rattle.bf_sql.specs.Meaning.{executed}
 use Rattle.bf_sql.specs.Migrations.{target_table}
@@ -26,7 +26,7 @@ use Rattle.bf_sql.specs.Refusals.{objections, row_objections}
 use Rattle.bf_sql.proofs.Alike.{same_objections}
 use Rattle.bf_sql.proofs.Beginning.{view_itself}
 use Rattle.bf_sql.proofs.Due.{still_waits}
-use Rattle.bf_sql.proofs.Granules.{same_name-itself, same_granule-equal, granules_apart}
+use Rattle.bf_sql.proofs.Granules.{same_granule-itself, same_granule-equal, granules_apart}
 use Rattle.bf_sql.proofs.Moving.{keeps_view}
 use Rattle.bf_sql.proofs.Serving.{agrees, nothing_pending}
 use Rattle.bf_sql.proofs.Stored.{list_all-filter, list_all-if}
@@ -34,9 +34,6 @@ use Rattle.bf_sql.proofs.Stored.{list_all-filter, list_all-if}
 -- each item of a list is one of them
 has-more : (x : Granule) (before xs : List Granule) → list_all (has same_granule xs) before ≡ true → list_all (has same_granule (x ∷ xs)) before ≡ true
 has-more x before xs all = list_all-if (has same_granule xs) (has same_granule (x ∷ xs)) (λ g e. or_right _ _ e) before all
-
-same_granule-itself : (g : Granule) → same_granule g g ≡ true
-same_granule-itself g = and_from _ _ (same_name-itself g.source) (eq-eqb g.position g.position refl)
 
 has_each : (xs : List Granule) → list_all (has same_granule xs) xs ≡ true
 has_each [] = refl
@@ -141,15 +138,15 @@ no_more : (last : Option Migration) → last ≡ with_moved last []
 no_more None = refl
 no_more (Some last) = ap (λ done. Some (record last { done = done })) (sym (append-nil last.done))
 
-last_once : (lazy : LazyState) (g : Granule) (b : Bool) → (if b then lazy else moved lazy g).last ≡ (if b then lazy.last else with_done lazy.last g)
-last_once lazy g true = refl
-last_once lazy g false = refl
+last_unless_done : (lazy : LazyState) (g : Granule) (b : Bool) → (if b then lazy else moved lazy g).last ≡ (if b then lazy.last else with_done lazy.last g)
+last_unless_done lazy g true = refl
+last_unless_done lazy g false = refl
 
 last_after_moves : (lazy : LazyState) (gs : List Granule) → are_apart same_granule gs ≡ true → (moved_all lazy gs).last ≡ with_moved lazy.last gs
 last_after_moves lazy [] apart = no_more lazy.last
 last_after_moves lazy (g ∷ gs) apart =
-    last_after_moves (moved_once lazy g) gs (and_parts _ _ apart).1
-    ∙ ap (λ last. with_moved last gs) (last_once lazy g (has same_granule (done_of lazy.last) g))
+    last_after_moves (moved_unless_done lazy g) gs (and_parts _ _ apart).1
+    ∙ ap (λ last. with_moved last gs) (last_unless_done lazy g (has same_granule (done_of lazy.last) g))
     ∙ step_last lazy.last gs g (not-true _ (and_parts _ _ apart).0)
 
 -- each of them is done then

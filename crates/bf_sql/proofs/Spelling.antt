@@ -1,5 +1,5 @@
 -- Short spellings for examples.
-use Rattle.std.specs.Prelude.{ℕ, pos, List, [], ◌∷◌}
+use Rattle.std.specs.Prelude.{ℕ, pos, List, [], ◌∷◌, map, None}
 use Rattle.bf_base.specs.declared.value.Value.{Value}
 use Rattle.bf_base.specs.declared.value.Value.TheVariants.{Int}
 use Rattle.bf_base.specs.declared.table.Admit.{Admit}
@@ -11,6 +11,9 @@ use Rattle.bf_sql.specs.declared.reply.Cell.{Cell}
 use Rattle.bf_sql.specs.declared.reply.Cell.TheVariants as cells
 use Rattle.bf_sql.specs.declared.statement.ColumnForm.{ColumnForm}
 use Rattle.bf_sql.specs.declared.statement.ColumnRule.{ColumnRule}
+use Rattle.bf_sql.specs.declared.statement.Item.TheVariants as items
+use Rattle.bf_sql.specs.declared.statement.Migrate.{Migrate}
+use Rattle.bf_sql.specs.declared.statement.Ref.{Ref}
 use Rattle.bf_sql.specs.declared.statement.Script.{Script}
 use Rattle.bf_sql.specs.declared.statement.Statement.{Statement}
 use Rattle.bf_sql.specs.Database.{Stored, Database}
@@ -26,6 +29,13 @@ row n = one (Int (pos n))
 abbrev pub given : ℕ → List Cell
 given n = one (cells.Value (Int (pos n)))
 
+-- the same of two numbers
+abbrev pub two : ℕ → ℕ → List Value
+two a b = Int (pos a) ∷ Int (pos b) ∷ []
+
+abbrev pub two_given : ℕ → ℕ → List Cell
+two_given a b = cells.Value (Int (pos a)) ∷ cells.Value (Int (pos b)) ∷ []
+
 abbrev pub rule : List ℕ → ColumnForm → ColumnRule
 rule name form = record { name = name; form = form }
 
@@ -40,6 +50,14 @@ stored table rows = record { table = table; rows = rows }
 
 abbrev pub database : ℕ → List Stored → Database
 database number tables = record { number = number; tables = tables }
+
+-- a column by its name alone
+abbrev pub named : List ℕ → Ref
+named name = record { table = None; column = name }
+
+-- (CREATE TABLE name AS SELECT columns FROM source)
+abbrev pub making : List ℕ → List (List ℕ) → List ℕ → Migrate
+making name columns source = record { targets = one (record { name = name; arm = record { items = map (λ c. items.Column (named c)) columns; from = source } }) }
 
 -- a script of one session
 abbrev pub alone : List Statement → Script

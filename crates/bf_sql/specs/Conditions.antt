@@ -25,7 +25,7 @@ is_qualified_by None table = true
 is_qualified_by (Some qualifier) table = same_name qualifier table
 
 module _ (table : Table) where
-  -- the places of the columns that a ref can mean: one, or none
+  -- the places of the columns that a ref can mean: one, or none, where column names are distinct
   abbrev pub places_of : Column → List ℕ
   places_of ref = map (λ c. c.0) (filter (λ c. is_qualified_by ref.table table.name && same_name ref.column c.1.name) (enumerate_from 0 table.columns))
 

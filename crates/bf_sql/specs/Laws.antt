@@ -27,7 +27,7 @@ pub record HaveSame (a b : Database) : Type 0 where
   pub table : (name : List ℕ) → table_at a name ≡ table_at b name
   pub row : (name : List ℕ) (key : List Value) → row_at a name key ≡ row_at b name key
 
--- a migration under way: the database at its flip had nothing against it, its targets are live tables as it made them,
+-- a migration under way: the catalog at its flip had nothing against it, its targets are live tables as it made them,
 -- and what has moved are granules of it, each once
 pub record IsUnderWay (live : Database) (last : Migration) : Type 0 where
   pub old : IsDatabase last.old

@@ -158,12 +158,13 @@ abbrev pub after_statement : LazyState → Statement → LazyState
 after_statement lazy (st.Migrate m) = unless_objected (objections lazy.live (st.Migrate m) ++ row_objections lazy.live (st.Migrate m)) (flipped_lazily lazy m) lazy
 after_statement lazy s = record lazy { live = (executed lazy.live s).1 }
 
--- those granules of a list that have not moved move, one after the other
-abbrev pub moved_once : LazyState → Granule → LazyState
-moved_once lazy g = if has same_granule (done_of lazy.last) g then lazy else moved lazy g
+-- a granule moves unless it is done
+abbrev pub moved_unless_done : LazyState → Granule → LazyState
+moved_unless_done lazy g = if has same_granule (done_of lazy.last) g then lazy else moved lazy g
 
+-- those granules of a list that are not done move, one after the other
 abbrev pub moved_all : LazyState → List Granule → LazyState
-moved_all lazy granules = fold moved_once lazy granules
+moved_all lazy granules = fold moved_unless_done lazy granules
 
 -- SERVED: what a statement needs moves, and then it runs on the live tables
 abbrev pub served : LazyState → Statement → Reply × LazyState

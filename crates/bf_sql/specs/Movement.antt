@@ -1,5 +1,6 @@
 -- What has moved: the granules that the statements of a run needed, and no others.
-use Rattle.std.specs.Prelude.{ℕ, not, List, [], ◌∷◌, ◌++◌, filter, length, Option, Some, None, position, unwrap_or}
+use Rattle.std.specs.Prelude.{ℕ, not, List, [], ◌∷◌, ◌++◌, filter, length, Option, Some, None, position, unwrap_or, ◌==◌, IsTrue}
+use Rattle.std.specs.List.{list_all, count_by}
 use Rattle.bf_base.specs.Lists.{same_name, has}
 use Rattle.bf_sql.specs.declared.statement.Statement.{Statement}
 use Rattle.bf_sql.specs.declared.statement.Statement.TheVariants as st
@@ -9,7 +10,7 @@ use Rattle.bf_sql.specs.Database.{Database}
 use Rattle.bf_sql.specs.Refusals.{objections, row_objections}
 use Rattle.bf_sql.specs.Meaning.{executed}
 use Rattle.bf_sql.specs.Migrations.{sources_of}
-use Rattle.bf_sql.specs.Lazy.{Granule, Migration, same_granule, pending, needed_by, begun, unless_objected}
+use Rattle.bf_sql.specs.Lazy.{Granule, Migration, same_granule, granules_of, pending, needed_by, begun, unless_objected}
 
 -- the last migration with further granules moved, each once
 abbrev pub with_moved : Option Migration → List Granule → Option Migration
@@ -40,3 +41,7 @@ sweep_by last (first ∷ rest) = Running last.number (length last.done) (unit_of
 abbrev pub sweep_of : Option Migration → Sweep
 sweep_of None = Never
 sweep_of (Some last) = sweep_by last (pending last)
+
+-- COMPLETE: each granule of the migration has moved exactly once
+abbrev pub IsComplete : Migration → Type 0
+IsComplete last = IsTrue (list_all (λ g. count_by (same_granule g) last.done == 1) (granules_of last.old last.migrate))
