@@ -1,9 +1,12 @@
 -- Marks of rows, when one more is set.
 use Rattle.std.proofs.Common.{◌≡◌, ℕ, zero, suc, ◌+◌, ◌<◌, ◌≤◌, Bool, true, false, not, ◌||◌, cond, nat_eq, List, [], ◌∷◌, ◌++◌, map, filter, length, get_or, set, replicate, refl, sym, ap, ap₂, ◌∙◌, arith, Option, Some, None, position, length-append}
 use Rattle.std.proofs.Math.ListN.{length-set}
-use Rattle.std.specs.List.{list_any, range_with_len, position_from}
+use Rattle.std.proofs.Math.Bool.{or-false, or-true}
+use Rattle.std.specs.List.{range_with_len, position_from}
 use Rattle.std.proofs.lemmas.Bool.Decides.{nat_tests}
+use Rattle.std.proofs.lemmas.List.{length-replicate}
 use Rattle.std.proofs.lemmas.List.Folds.{list_any-append}
+use Rattle.std.proofs.lemmas.List.Sums.{count_by-le-length, length-filter}
 use Rattle.std.proofs.lemmas.List.FromFn.{get_or-map-range_with_len}
 use Rattle.std.proofs.lemmas.Iterator.Adapters.{position_from-zero}
 use Rattle.bf_base.specs.Lists.{has}
@@ -19,42 +22,26 @@ sweep_by_first count None = Complete 1 count
 sweep_by_first count (Some at) = Running 1 count 0 at
 
 has_more : (moved : List ℕ) (at k : ℕ) → has nat_eq (moved ++ at ∷ []) k ≡ (has nat_eq moved k || nat_eq k at)
-has_more moved at k = list_any-append (nat_eq k) moved (at ∷ []) ∙ ap (λ b. has nat_eq moved k || b) (or_false (nat_eq k at))
-  where
-    or_false : (b : Bool) → (b || false) ≡ b
-    or_false true = refl
-    or_false false = refl
+has_more moved at k = list_any-append (nat_eq k) moved (at ∷ []) ∙ ap (λ b. has nat_eq moved k || b) (or-false (nat_eq k at))
 
 -- a mark says nothing of the places beyond
 beyond : (moved : List ℕ) (at a n : ℕ) → at < a → map (has nat_eq moved) (range_with_len a n) ≡ map (has nat_eq (moved ++ at ∷ [])) (range_with_len a n)
 beyond moved at a zero less = refl
 beyond moved at a (suc n) less =
     let other : nat_eq a at ≡ false = grind (arith, nat_tests) in
-    let here : has nat_eq moved a ≡ has nat_eq (moved ++ at ∷ []) a = sym (has_more moved at a ∙ ap (λ b. has nat_eq moved a || b) other ∙ or_false (has nat_eq moved a)) in
+    let here : has nat_eq moved a ≡ has nat_eq (moved ++ at ∷ []) a = sym (has_more moved at a ∙ ap (λ b. has nat_eq moved a || b) other ∙ or-false (has nat_eq moved a)) in
     ap₂ (λ b bs. b ∷ bs) here (beyond moved at (a + 1) n (omega arith))
-  where
-    or_false : (b : Bool) → (b || false) ≡ b
-    or_false true = refl
-    or_false false = refl
 
 marked_from : (moved : List ℕ) (a n j at : ℕ) → a + j ≡ at → j < n → set (map (has nat_eq moved) (range_with_len a n)) j true ≡ map (has nat_eq (moved ++ at ∷ [])) (range_with_len a n)
 marked_from moved a zero j at is less = absurd (omega arith)
 marked_from moved a (suc n) zero at is less =
     let here : nat_eq a at ≡ true = grind (arith, nat_tests) in
-    let first : true ≡ has nat_eq (moved ++ at ∷ []) a = sym (has_more moved at a ∙ ap (λ b. has nat_eq moved a || b) here ∙ or_true (has nat_eq moved a)) in
+    let first : true ≡ has nat_eq (moved ++ at ∷ []) a = sym (has_more moved at a ∙ ap (λ b. has nat_eq moved a || b) here ∙ or-true (has nat_eq moved a)) in
     ap₂ (λ b bs. b ∷ bs) first (beyond moved at (a + 1) n (omega arith))
-  where
-    or_true : (b : Bool) → (b || true) ≡ true
-    or_true true = refl
-    or_true false = refl
 marked_from moved a (suc n) (suc j) at is less =
     let other : nat_eq a at ≡ false = grind (arith, nat_tests) in
-    let here : has nat_eq moved a ≡ has nat_eq (moved ++ at ∷ []) a = sym (has_more moved at a ∙ ap (λ b. has nat_eq moved a || b) other ∙ or_false (has nat_eq moved a)) in
+    let here : has nat_eq moved a ≡ has nat_eq (moved ++ at ∷ []) a = sym (has_more moved at a ∙ ap (λ b. has nat_eq moved a || b) other ∙ or-false (has nat_eq moved a)) in
     ap₂ (λ b bs. b ∷ bs) here (marked_from moved (a + 1) n j at (omega arith) (omega arith))
-  where
-    or_false : (b : Bool) → (b || false) ≡ b
-    or_false true = refl
-    or_false false = refl
 
 abbrev set_ones : List Bool → ℕ
 set_ones bs = length (filter (λ b. b) bs)
@@ -68,9 +55,7 @@ counted (true ∷ bs) (suc at) d less e = omega (arith, counted bs at d (omega a
 counted (false ∷ bs) (suc at) d less e = counted bs at d (omega arith) e
 
 at_most_all : (bs : List Bool) → set_ones bs ≤ length bs
-at_most_all [] = omega arith
-at_most_all (true ∷ bs) = omega (arith, at_most_all bs)
-at_most_all (false ∷ bs) = omega (arith, at_most_all bs)
+at_most_all bs = rw length-filter (count_by-le-length (λ b. b) bs)
 
 -- a mark that is not set leaves fewer than all
 fewer : (bs : List Bool) (at : ℕ) (d : Bool) → at < length bs → get_or bs at d ≡ false → set_ones bs < length bs
@@ -130,13 +115,9 @@ none_counted : (n : ℕ) → set_ones (replicate n false) ≡ 0
 none_counted zero = refl
 none_counted (suc n) = none_counted n
 
-length_none : (n : ℕ) → length (replicate n false) ≡ n
-length_none zero = refl
-length_none (suc n) = ap suc (length_none n)
-
 pub no_marks : (n : ℕ) (is_done : List Bool) (moved : List ℕ) (room : ℕ) → n ≤ most_rows → is_done ≡ replicate n false → moved ≡ [] → n ≤ room → AreMarks is_done moved room
 no_marks n is_done moved room few none empty enough =
-    let long : length is_done ≡ n = ap length none ∙ length_none n in
+    let long : length is_done ≡ n = ap length none ∙ length-replicate n false in
     record {
       few = rw long few;
       of_moved = rw (long, none, empty) (none_marked 0 n);

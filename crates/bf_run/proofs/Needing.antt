@@ -1,8 +1,8 @@
 -- What statements of the form need, and what they mean on the live table.
-use Rattle.std.proofs.Common.{◌≡◌, ℕ, zero, suc, ◌+◌, ◌<◌, Bool, true, false, not, ◌||◌, ◌==◌, cond, List, [], ◌∷◌, ◌++◌, map, filter, zip, flat_map, length, get_or, Option, Some, None, refl, sym, ap, ap₂, subst, ◌∙◌, arith, pos, is_eq, IsTrue, unwrap_or}
-use Rattle.std.specs.List.{list_any, list_all, range_with_len, enumerate_from, position_from, AllByRecursion}
+use Rattle.std.proofs.Common.{◌≡◌, ℕ, zero, suc, ◌+◌, ◌<◌, Bool, true, false, not, ◌==◌, cond, List, [], ◌∷◌, ◌++◌, map, filter, length, get_or, Option, Some, None, refl, sym, ap, ap₂, subst, ◌∙◌, arith, pos, is_eq, unwrap_or}
+use Rattle.std.proofs.Math.Bool.{or-false}
+use Rattle.std.specs.List.{list_any, range_with_len, enumerate_from, position_from, AllByRecursion}
 use Rattle.std.proofs.lemmas.Iterator.Adapters.{position_from-zero}
-use Rattle.std.proofs.lemmas.Bool.{cases_Bool}
 use Rattle.std.proofs.lemmas.Bool.Decides.{nat_tests}
 use Rattle.std.proofs.lemmas.List.{append-nil, length-map, get_or-map, get_or_default}
 use Rattle.std.proofs.lemmas.List.Elements.{filter_agree}
@@ -14,7 +14,6 @@ use Rattle.bf_base.specs.declared.table.Column.{Column}
 use Rattle.bf_base.specs.declared.table.Table.{Table}
 use Rattle.bf_base.specs.Lists.{same_name, same_key, has, when}
 use Rattle.bf_base.specs.Tables.{cell, cells, key_of, kind_of, kind_admitted, same_kind}
-use Rattle.bf_base.specs.Values.{value_cmp}
 use Rattle.bf_base.proofs.Parts.{filter_always}
 use Rattle.bf_sql.specs.declared.statement.List.TheVariants.{All}
 use Rattle.bf_sql.specs.declared.statement.RawCond.{RawCond}
@@ -24,9 +23,9 @@ use Rattle.bf_sql.specs.declared.reply.Reply.{Reply}
 use Rattle.bf_sql.specs.declared.reply.Reply.TheVariants as reply
 use Rattle.bf_sql.specs.declared.reply.Refusal.{Refusal}
 use Rattle.bf_sql.specs.declared.reply.Refusal.TheVariants as refusal
-use Rattle.bf_sql.specs.Conditions.{satisfies, place_of_ref, places_of, admitted_by, ref_objections, cond_objections}
-use Rattle.bf_sql.specs.Database.{Database, Stored}
-use Rattle.bf_sql.specs.Lazy.{Granule, Migration, granules_of, part_of, giving, needed, needed_by, none_if_refused, on_target, view_of}
+use Rattle.bf_sql.specs.Conditions.{satisfies, place_of_ref, places_of, ref_objections, cond_objections}
+use Rattle.bf_sql.specs.Database.{Stored}
+use Rattle.bf_sql.specs.Lazy.{Granule, part_of, giving, needed, needed_by, none_if_refused, on_target, view_of}
 use Rattle.bf_sql.specs.Meaning.{selected}
 use Rattle.bf_sql.specs.Migrations.{target_table}
 use Rattle.bf_sql.specs.Movement.{with_moved}
@@ -63,7 +62,7 @@ module _ (live : Stored) (aside : Aside) (tied : IsTied live aside) where
         let zero_on : 0 + k ≡ k = omega arith in
         ap (λ i. list_any test (part (at i))) zero_on
         ∙ ap (list_any test) (part_is live aside tied k within)
-        ∙ or_false (test (cells aside.places (row_at aside.source k)))
+        ∙ or-false (test (cells aside.places (row_at aside.source k)))
         ∙ same (cells aside.places (row_at aside.source k))
         ∙ ap passes (sym (get_or-map (cells aside.places) rows k [] [] within))
         ∙ sym (ap (λ i. passes (get_or images i [])) zero_on) in
@@ -71,10 +70,6 @@ module _ (live : Stored) (aside : Aside) (tied : IsTied live aside) where
       ∙ filter-map (λ g. list_any test (part g)) at (range_with_len 0 (length rows))
       ∙ ap (map at) (filter_places (λ k. list_any test (part (at k))) (λ k. passes (get_or images k [])) 0 (length rows) one)
       ∙ ap (λ n. map at (filter (λ k. passes (get_or images k [])) (range_with_len 0 n))) (sym (length-map rows (cells aside.places)))
-    where
-      or_false : (b : Bool) → (b || false) ≡ b
-      or_false true = refl
-      or_false false = refl
 
 -- where the catalog has nothing against a statement
 nothing_seen : (live : Stored) (f : Option Aside) (s : Statement) → ((n : ℕ) → objections (one_table n live) s ≡ []) → objections (view_of (state_of live f)) s ≡ []
@@ -90,12 +85,8 @@ key_alone : (table : Table) (k : ℕ) → table.key ≡ k ∷ [] → (row other 
 key_alone table k one row other =
     let of_key : (key : List ℕ) → key ≡ k ∷ [] → has same_key (map (cells key) (row ∷ [])) (cells key other) ≡ has_value (get_or key 0 0) (cell row (get_or key 0 0)) other = λ key e.
       subst (λ (ks : List ℕ). has same_key (map (cells ks) (row ∷ [])) (cells ks other) ≡ has_value (get_or ks 0 0) (cell row (get_or ks 0 0)) other) (sym e)
-      (or_false (same_key (cell other k ∷ []) (cell row k ∷ [])) ∙ ap is_eq (one_value (cell other k) (cell row k))) in
+      (or-false (same_key (cell other k ∷ []) (cell row k ∷ [])) ∙ ap is_eq (one_value (cell other k) (cell row k))) in
     of_key table.key one
-  where
-    or_false : (b : Bool) → (b || false) ≡ b
-    or_false true = refl
-    or_false false = refl
 
 insert_need : (live : Stored) (f : Option Aside) → IsTiedIfAny live f → (name : List ℕ) (row : List Value) → AreNumbers row → name ≡ live.table.name → length row ≡ length live.table.columns
     → needed_by (state_of live f).last (view_of (state_of live f)) (Insert name (row ∷ [])) ≡ granules_where f (has_value (key_column_of live.table) (cell row (key_column_of live.table)))

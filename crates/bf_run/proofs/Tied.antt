@@ -1,14 +1,13 @@
 -- The old table's rows and those of the new one that come of them.
-use Rattle.std.proofs.Common.{◌≡◌, ℕ, zero, suc, ◌+◌, ◌-◌, ◌<◌, ◌≤◌, Bool, true, false, not, ◌&&◌, ◌||◌, ◌==◌, cond, nat_eq, nat_lt, List, [], ◌∷◌, ◌++◌, map, flat_map, filter, find, length, get_or, take, drop, Option, Some, None, refl, sym, ap, ap₂, subst, ◌∙◌, inl, inr, arith, IsTrue, unwrap_or, is_eq, pos}
+use Rattle.std.proofs.Common.{◌≡◌, ℕ, zero, suc, ◌+◌, ◌-◌, ◌<◌, Bool, true, false, not, ◌&&◌, ◌||◌, ◌==◌, cond, nat_eq, nat_lt, List, [], ◌∷◌, ◌++◌, map, flat_map, filter, length, get_or, take, drop, Option, Some, None, refl, sym, ap, ap₂, subst, ◌∙◌, inl, inr, arith, IsTrue, unwrap_or, is_eq, pos}
 use Rattle.std.specs.List.{list_any, list_all, range_with_len, slice_range}
 use Rattle.std.proofs.Math.Seq.{drop-cons}
-use Rattle.std.proofs.lemmas.Bool.{cases_Bool, and_parts, and_from, or_parts, or_from, not-true, not_from_false, false≢true}
-use Rattle.std.proofs.lemmas.Bool.Decides.{nat_tests}
+use Rattle.std.proofs.lemmas.Bool.{cases_Bool, and_parts, eq-eqb, or_parts, or_right, not_from_false, false≢true}
 use Rattle.std.proofs.lemmas.List.{append-nil, map-append, length-map, get_or-map}
 use Rattle.std.proofs.lemmas.List.Folds.{list_any-append, list_all-append, list_all-map, list_all_at}
 use Rattle.bf_base.specs.declared.value.Value.{Value}
 use Rattle.bf_base.specs.declared.value.Value.TheVariants.{Int}
-use Rattle.bf_base.specs.Lists.{same_name, same_key, has, with_placed}
+use Rattle.bf_base.specs.Lists.{same_key, has, with_placed}
 use Rattle.bf_base.specs.Tables.{cell, cells, key_of}
 use Rattle.bf_base.specs.Values.{value_cmp, key_cmp, key_cmp_total}
 use Rattle.bf_base.proofs.Items.{list_any-same_items, list_all-same_items}
@@ -16,7 +15,7 @@ use Rattle.bf_base.proofs.Order.{symmetric, list_any-map}
 use Rattle.bf_base.proofs.Parts.{none_from_all_not, has_either_way, filter_always}
 use Rattle.bf_sql.specs.declared.statement.Target.{Target}
 use Rattle.bf_sql.specs.Database.{Database, Stored, stored_at, is_admitted}
-use Rattle.bf_sql.specs.Laws.{IsUnderWay, IsLazy, IsSeenAs}
+use Rattle.bf_sql.specs.Laws.{IsUnderWay, IsLazy}
 use Rattle.bf_sql.specs.Lazy.{Granule, Migration, LazyState, same_granule, granules_of, part_of, pending, rows_of, due, target_of, on_target, view_of, moved}
 use Rattle.bf_base.specs.declared.table.Table.{Table}
 use Rattle.bf_sql.specs.Conditions.{place_of_ref, admitted_by}
@@ -27,7 +26,7 @@ use Rattle.bf_sql.proofs.Granules.{same_name-itself}
 use Rattle.bf_sql.proofs.Images.{counted_if, items_within}
 use Rattle.bf_sql.proofs.Moving.{keeps_view}
 use Rattle.bf_sql.proofs.Unobjected.{none_left}
-use Rattle.bf_run.specs.Engine.{Aside, IsServed, IsTied, IsSeenStill, arm_between, granule_at, StaysSeen, has_key_of, has_value, images_of, migration_between, one_table, only_target, places_where, row_at, state_of, with_moves, with_row}
+use Rattle.bf_run.specs.Engine.{Aside, IsTied, IsSeenStill, arm_between, granule_at, StaysSeen, has_key_of, has_value, images_of, migration_between, one_table, only_target, places_where, row_at, state_of, with_moves, with_row}
 use Rattle.bf_run.proofs.Inserting.{with_row_served}
 use Rattle.bf_run.proofs.Places.{filter_places}
 
@@ -54,25 +53,18 @@ passing_there p source a zero k within passes = absurd (omega arith)
 passing_there p source a (suc n) zero within passes =
     let same : a + 0 ≡ a = omega arith in
     let here : p (granule_at source a) ≡ true = ap (λ i. p (granule_at source i)) (sym same) ∙ passes in
-    let itself : same_granule (granule_at source (a + 0)) (granule_at source a) ≡ true = ap (λ b. b && ((a + 0) == a)) (same_name-itself source) ∙ equal_places (a + 0) a same in
+    let itself : same_granule (granule_at source (a + 0)) (granule_at source a) ≡ true = ap (λ b. b && ((a + 0) == a)) (same_name-itself source) ∙ eq-eqb (a + 0) a same in
     ap (λ b. has same_granule (cond b (granule_at source a ∷ filter p (map (granule_at source) (range_with_len (a + 1) n))) (filter p (map (granule_at source) (range_with_len (a + 1) n)))) (granule_at source (a + 0))) here
     ∙ ap (λ b. b || has same_granule (filter p (map (granule_at source) (range_with_len (a + 1) n))) (granule_at source (a + 0))) itself
-  where
-    equal_places : (i j : ℕ) → i ≡ j → (i == j) ≡ true
-    equal_places i j e = grind (arith, nat_tests)
 passing_there p source a (suc n) (suc k) within passes =
     let same : (a + 1) + k ≡ a + suc k = omega arith in
     let rest = passing_there p source (a + 1) n k (omega arith) (ap (λ i. p (granule_at source i)) same ∙ passes) in
     let later : has same_granule (filter p (map (granule_at source) (range_with_len (a + 1) n))) (granule_at source (a + suc k)) ≡ true =
       ap (λ i. has same_granule (filter p (map (granule_at source) (range_with_len (a + 1) n))) (granule_at source i)) (sym same) ∙ rest in
     elim (p (granule_at source a)) as (λ b. has same_granule (cond b (granule_at source a ∷ filter p (map (granule_at source) (range_with_len (a + 1) n))) (filter p (map (granule_at source) (range_with_len (a + 1) n)))) (granule_at source (a + suc k)) ≡ true) [
-      | true ↦ or_either _ _ later
+      | true ↦ or_right _ _ later
       | false ↦ later
     ]
-  where
-    or_either : (b c : Bool) → c ≡ true → (b || c) ≡ true
-    or_either true c e = refl
-    or_either false c e = e
 
 module _ (live : Stored) (aside : Aside) (tied : IsTied live aside) where
   abbrev source : Stored

@@ -1,6 +1,6 @@
-use Rattle.std.proofs.Common.{◌≡◌, ℕ, ◌<◌, List, [], ◌∷◌, length, get_or, ap, sym, subst, ◌∙◌, OnOk, arith}
+use Rattle.std.proofs.Common.{◌≡◌, ℕ, ◌<◌, List, [], ◌∷◌, length, get_or, ap, sym, subst, ◌∙◌, OnOk}
 use Rattle.std.proofs.lemmas.List.{get_or_default}
-use Rattle.bf_run.specs.Engine.{Aside, has_value, images_of, key_column_of, places_where, with_moves}
+use Rattle.bf_run.specs.Engine.{Aside, has_value, places_where, with_moves}
 use Rattle.bf_run.proofs.Places.{moves_none}
 use Rattle.bf_run.proofs.Tied.{as_many, images_where}
 use Rattle.bf_run.proofs.engine.frozen.Frozen.move_where.Goals as goal

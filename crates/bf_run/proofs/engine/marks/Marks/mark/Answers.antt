@@ -1,4 +1,4 @@
-use Rattle.std.proofs.Common.{◌≡◌, ◌<◌, ℕ, false, nat_eq, length, sym, subst, arith}
+use Rattle.std.proofs.Common.{◌≡◌, ◌<◌, false, nat_eq, sym, subst, arith}
 use Rattle.std.proofs.lemmas.Bool.{false≢true}
 use Rattle.bf_base.specs.Lists.{has}
 use Rattle.bf_run.specs.Engine.{Marked}
