@@ -1,80 +1,53 @@
 -- What CREATE TABLE makes of no table at all.
-use Rattle.std.proofs.Common.{◌≡◌, ℕ, ◌+◌, ◌<◌, ◌≤◌, Bool, true, false, not, ◌&&◌, ◌||◌, cond, nat_lt, List, [], ◌∷◌, ◌++◌, map, flat_map, length, position, unwrap_or, slice_index_or, Option, Some, None, refl, sym, ap, ap₂, subst, ◌∙◌, arith, IsTrue}
-use lib.ListN.{length-map}
-use Rattle.std.specs.List.{list_all, list_any, AllByRecursion, position_or_len}
-use Rattle.std.proofs.lemmas.Bool.{and_parts, and_from, or_parts, or_from, not-true, not_from_false}
+use Rattle.std.proofs.Common.{◌≡◌, ℕ, not, List, [], ◌∷◌, ◌++◌, map, flat_map, position, unwrap_or, slice_index_or, refl, sym, ap, ap₂, subst, ◌∙◌}
+use Rattle.std.specs.List.{AllByRecursion}
 use Rattle.std.proofs.lemmas.List.{map-append}
-use Rattle.std.proofs.lemmas.List.Folds.{list_any-append}
+use Rattle.std.proofs.lemmas.Simd.{map-map}
 use Rattle.bf_base.specs.declared.table.Admit.TheVariants as admits
 use Rattle.bf_base.specs.declared.table.Column.{Column}
 use Rattle.bf_base.specs.declared.table.Table.{Table}
-use Rattle.bf_base.specs.Lists.{same_name, has, when, with_before, with_before_from}
-use Rattle.bf_base.proofs.Names.{same_name-tie, same_name-tie_back}
+use Rattle.bf_base.specs.Lists.{same_name, has, when, with_before_from}
+use Rattle.bf_base.proofs.Parts.{map_itself}
 use Rattle.bf_sql.specs.declared.statement.ColumnRule.{ColumnRule}
 use Rattle.bf_sql.specs.declared.statement.Statement.{Statement}
 use Rattle.bf_sql.specs.declared.statement.Statement.TheVariants.{CreateTable}
 use Rattle.bf_sql.specs.declared.reply.Refusal.TheVariants as refusal
 use Rattle.bf_sql.specs.declared.reply.Reply.TheVariants as reply
-use Rattle.bf_sql.specs.Database.{Database, empty_database, IsDatabase}
+use Rattle.bf_sql.specs.Database.{empty_database, IsDatabase}
 use Rattle.bf_sql.specs.Meaning.{executed, effect, unless_refused, admit_of, table_of, place_of}
 use Rattle.bf_sql.specs.Refusals.{objections, row_objections, rule_names, names_objections, twice}
 use Rattle.bf_sql.proofs.Kept.{keeps_executed}
-use Rattle.bf_form.specs.Form.{int_column, creation, most_parts, are_distinct}
+use Rattle.bf_form.specs.Form.{int_column, creation}
 use Rattle.bf_run.specs.Engine.{one_table, IsServed, IsCreation, empty}
-
-same_name_turned : (a b : List ℕ) → same_name a b ≡ same_name b a
-same_name_turned a b = same_name-tie a b ∙ sym (same_name-tie_back b a)
+use Rattle.bf_run.proofs.Named.{none_twice, position-map}
 
 names_declared : (columns : List (List ℕ)) → rule_names (map int_column columns) ≡ columns
-names_declared [] = refl
-names_declared (c ∷ cs) = ap (λ names. c ∷ names) (names_declared cs)
+names_declared columns = map-map (λ (rule : ColumnRule). rule.name) int_column columns ∙ map_itself (λ (c : List ℕ). c) (λ c. refl) columns
 
--- names that are apart from those before stay so with one more that is apart
-apart_more : (seen cs : List (List ℕ)) (c : List ℕ) → list_all (λ d. not (has same_name seen d)) cs ≡ true → has same_name cs c ≡ false → list_all (λ d. not (has same_name (seen ++ c ∷ []) d)) cs ≡ true
-apart_more seen [] c apart new = refl
-apart_more seen (d ∷ ds) c apart new =
-    let first = not-true _ (and_parts _ _ apart).0 in
-    let news = or_parts (same_name c d) (has same_name ds c) new in
-    let last : (same_name d c || false) ≡ false = or_from _ _ (same_name_turned d c ∙ news.0) refl in
-    and_from _ _ (not_from_false _ (list_any-append (same_name d) seen (c ∷ []) ∙ or_from _ _ first last)) (apart_more seen ds c (and_parts _ _ apart).1 news.1)
-
-none_twice : (seen cs : List (List ℕ)) → list_all (λ c. not (has same_name seen c)) cs ≡ true → are_distinct cs ≡ true
-    → flat_map (λ p. twice (rule_names p.0) p.1.name) (with_before_from (map int_column seen) (map int_column cs)) ≡ []
-none_twice seen [] apart distinct = refl
-none_twice seen (c ∷ cs) apart distinct =
-    let here : twice (rule_names (map int_column seen)) c ≡ [] =
-      ap (λ names. twice names c) (names_declared seen) ∙ ap (λ b. when b (refusal.NameTwice c)) (not-true _ (and_parts _ _ apart).0) in
-    let more = apart_more seen cs c (and_parts _ _ apart).1 (not-true _ (and_parts _ _ distinct).0) in
-    let rest = none_twice (seen ++ c ∷ []) cs more (and_parts _ _ distinct).1 in
-    ap₂ (λ xs ys. xs ++ ys) here (ap (λ rules. flat_map (λ p. twice (rule_names p.0) p.1.name) (with_before_from rules (map int_column cs))) (sym (map-append int_column seen (c ∷ []))) ∙ rest)
-
-all_apart : (cs : List (List ℕ)) → list_all (λ (c : List ℕ). true) cs ≡ true
-all_apart [] = refl
-all_apart (c ∷ cs) = all_apart cs
+-- a name that stands twice among columns that are declared stands twice among their names
+twice_declared : (seen cs : List (List ℕ)) → flat_map (λ p. twice (rule_names p.0) p.1.name) (with_before_from (map int_column seen) (map int_column cs)) ≡ flat_map (λ p. twice p.0 p.1) (with_before_from seen cs)
+twice_declared seen [] = refl
+twice_declared seen (c ∷ cs) =
+    let further : with_before_from (map int_column seen ++ int_column c ∷ []) (map int_column cs) ≡ with_before_from (map int_column (seen ++ c ∷ [])) (map int_column cs) =
+    ap (λ rules. with_before_from rules (map int_column cs)) (sym (map-append int_column seen (c ∷ []))) in
+    ap₂ (λ xs ys. xs ++ ys) (ap (λ names. twice names c) (names_declared seen)) (ap (flat_map (λ p. twice (rule_names p.0) p.1.name)) further ∙ twice_declared (seen ++ c ∷ []) cs)
 
 all_ints : (columns : List (List ℕ)) → AllByRecursion (λ (c : Column). c.admits ≡ admits.Int) (map (λ rule. record { name = rule.name; admits = admit_of rule.form }) (map int_column columns))
 all_ints [] = tt
 all_ints (c ∷ cs) = (refl, all_ints cs)
 
-position_or_len-map : {X Y : Type 0} (f : X → Y) (test : Y → Bool) (xs : List X) → position_or_len test (map f xs) ≡ position_or_len (λ x. test (f x)) xs
-position_or_len-map f test [] = refl
-position_or_len-map f test (x ∷ xs) = ap (λ n. cond (not (test (f x))) (1 + n) 0) (position_or_len-map f test xs)
-
-position-map : {X Y : Type 0} (f : X → Y) (test : Y → Bool) (xs : List X) → position test (map f xs) ≡ position (λ x. test (f x)) xs
-position-map f test xs = ap₂ (λ p n. cond (nat_lt p n) (Some p) None) (position_or_len-map f test xs) (length-map xs f)
-
 module _ (statement : Statement) (made : IsCreation statement) where
-  abbrev rules : List ColumnRule
+  abbrev pub rules : List ColumnRule
   rules = map int_column made.columns
 
-  abbrev table : Table
+  abbrev pub table : Table
   table = table_of made.table rules (made.key ∷ [])
 
   no_names : names_objections (rule_names rules) (made.key ∷ []) ≡ []
   no_names = ap (λ b. (when (not b) (refusal.NoColumn made.key) ++ []) ++ []) (ap (λ names. has same_name names made.key) (names_declared made.columns) ∙ made.are_columns.key_among)
 
   no_objection : (objections empty_database (creation made.table made.columns made.key) ++ row_objections empty_database (creation made.table made.columns made.key)) ≡ []
-  no_objection = ap₂ (λ xs ys. (xs ++ ys) ++ []) (none_twice [] made.columns (all_apart made.columns) made.are_columns.distinct) no_names
+  no_objection = ap₂ (λ xs ys. (xs ++ ys) ++ []) (twice_declared [] made.columns ∙ none_twice made.columns made.are_columns.distinct) no_names
 
   pub is_created : executed empty_database statement ≡ (reply.Created, one_table 1 (empty table))
   is_created = ap (executed empty_database) made.spelled ∙ ap (λ rs. unless_refused rs empty_database (effect empty_database (creation made.table made.columns made.key))) no_objection
@@ -97,17 +70,17 @@ module _ (statement : Statement) (made : IsCreation statement) where
     keys_is : keys ≡ made.key ∷ []
     keys_is = cc (sym is ∙ made.spelled)
 
-    pub few_declared : length declared ≤ most_parts
-    few_declared = subst (λ n. n ≤ most_parts) (sym (ap (λ rs. length rs) declared_is ∙ length-map made.columns int_column)) made.are_columns.within
-
-    pub key_there : 0 < length keys
-    key_there = subst (λ (ks : List (List ℕ)). 0 < length ks) (sym keys_is) (omega arith)
-
-    -- the table as the engine makes it
-    pub as_made : (key : List ℕ) (place : ℕ) → key ≡ slice_index_or keys 0 key → place ≡ unwrap_or (position (λ rule. same_name key rule.name) declared) 0
-        → record { name = name; columns = map (λ rule. record { name = rule.name; admits = admit_of rule.form }) declared; key = place ∷ [] } ≡ table
-    as_made key place first at =
-        let key_is : key ≡ made.key = first ∙ ap (λ ks. slice_index_or ks 0 key) keys_is in
+    -- the table as the engine makes it of copies
+    pub as_made : (rules_read : List ColumnRule) (keys_read : List (List ℕ)) → rules_read ≡ declared → keys_read ≡ keys → (key : List ℕ) (place : ℕ) (copy : List ℕ) (columns : List Column) (places : List ℕ)
+        → key ≡ slice_index_or keys_read 0 key → place ≡ unwrap_or (position (λ rule. same_name key rule.name) rules_read) 0
+        → copy ≡ name → columns ≡ map (λ rule. record { name = rule.name; admits = admit_of rule.form }) rules_read → places ≡ place ∷ []
+        → record { name = copy; columns = columns; key = places } ≡ table
+    as_made rules_read keys_read read keys_read_is key place copy columns places first at copied made_columns made_key =
+        let rules_are : rules_read ≡ rules = read ∙ declared_is in
+        let key_is : key ≡ made.key = first ∙ ap (λ ks. slice_index_or ks 0 key) (keys_read_is ∙ keys_is) in
         let place_is : place ≡ place_of (rule_names rules) made.key =
-          at ∙ ap₂ (λ k rs. unwrap_or (position (λ rule. same_name k rule.name) rs) 0) key_is declared_is ∙ ap (λ o. unwrap_or o 0) (sym (position-map (λ rule. rule.name) (same_name made.key) rules)) in
-        λ i. record { name = name_is i; columns = map (λ rule. record { name = rule.name; admits = admit_of rule.form }) (declared_is i); key = place_is i ∷ [] }
+        at ∙ ap₂ (λ k rs. unwrap_or (position (λ rule. same_name k rule.name) rs) 0) key_is rules_are ∙ ap (λ o. unwrap_or o 0) (sym (position-map (λ rule. rule.name) (same_name made.key) rules)) in
+        let name_made : copy ≡ made.table = copied ∙ name_is in
+        let columns_made : columns ≡ map (λ rule. record { name = rule.name; admits = admit_of rule.form }) rules = made_columns ∙ ap (map (λ rule. record { name = rule.name; admits = admit_of rule.form })) rules_are in
+        let key_made : places ≡ place_of (rule_names rules) made.key ∷ [] = made_key ∙ ap (λ p. p ∷ []) place_is in
+        λ i. record { name = name_made i; columns = columns_made i; key = key_made i }

@@ -1,64 +1,36 @@
 -- What a MIGRATE makes of the one table: the new table, the lazy state, and what is seen.
-use Rattle.std.proofs.Common.{◌≡◌, ℕ, zero, suc, ◌+◌, ◌<◌, ◌≤◌, ◌^◌, Bool, true, false, not, ◌&&◌, ◌||◌, cond, nat_lt, nat_eq, List, [], ◌∷◌, ◌++◌, map, filter, flat_map, length, take, position, unwrap_or, slice_index_or, Option, Some, None, is_some, refl, sym, ap, ap₂, subst, ◌∙◌, inl, inr, zero-add, arith, IsTrue}
-use Rattle.std.specs.List.{list_all, list_any, AllByRecursion, enumerate_from, position_or_len, filter_map, cons_option}
+use Rattle.std.proofs.Common.{◌≡◌, ℕ, zero, suc, ◌+◌, ◌<◌, ◌≤◌, true, false, not, ◌||◌, cond, nat_lt, nat_eq, List, [], ◌∷◌, ◌++◌, map, length, take, position, unwrap_or, slice_index_or, Option, Some, None, is_some, refl, sym, ap, ap₂, subst, ◌∙◌, inl, inr, arith}
+use Rattle.std.specs.List.{list_all, AllByRecursion, filter_map}
 use Rattle.std.proofs.lemmas.Bool.{and_parts, and_from, not-false, cases_Bool, false≢true, lt-ltb, le-ltb}
-use Rattle.std.proofs.lemmas.Bool.Decides.{nat_tests}
-use lib.ListN.{length-map}
 use Rattle.std.proofs.lemmas.List.{append-nil, map_more}
+use Rattle.std.proofs.lemmas.Simd.{map-map}
 use Rattle.bf_base.specs.declared.table.Admit.{Admit}
 use Rattle.bf_base.specs.declared.table.Admit.TheVariants as admits
 use Rattle.bf_base.specs.declared.table.Column.{Column}
 use Rattle.bf_base.specs.declared.table.Table.{Table}
-use Rattle.bf_base.specs.Lists.{same_name, name_cmp, has, when, with_placed}
-use Rattle.bf_base.specs.Tables.{cells}
-use Rattle.bf_sql.specs.declared.statement.Ref.{Ref}
+use Rattle.bf_base.specs.Lists.{same_name, name_cmp, when, with_placed}
 use Rattle.bf_sql.specs.declared.statement.Item.{Item}
 use Rattle.bf_sql.specs.declared.statement.Target.{Target}
 use Rattle.bf_sql.specs.declared.statement.Migrate.{Migrate as Flip}
 use Rattle.bf_sql.specs.declared.statement.Statement.TheVariants.{Migrate}
 use Rattle.bf_sql.specs.declared.reply.Refusal.TheVariants as refusal
-use Rattle.bf_sql.specs.declared.reply.Reply.{Reply}
 use Rattle.bf_sql.specs.declared.reply.Reply.TheVariants as reply
 use Rattle.bf_sql.specs.Conditions.{place_of_ref, admitted_by}
-use Rattle.bf_sql.specs.Database.{Database, Stored, IsDatabase, stored_at}
-use Rattle.bf_sql.specs.Lazy.{LazyState, view_of, flipped_lazily, begun}
+use Rattle.bf_sql.specs.Database.{Database, Stored}
+use Rattle.bf_sql.specs.Lazy.{LazyState, view_of, flipped_lazily, begun, unless_objected}
 use Rattle.bf_sql.specs.Laws.{IsLazy, IsSeenAs}
 use Rattle.bf_sql.specs.Meaning.{executed, effect, unless_refused}
-use Rattle.bf_sql.specs.Movement.{migration_by, unless_objected}
+use Rattle.bf_sql.specs.Movement.{migration_by}
 use Rattle.bf_sql.specs.Refusals.{objections, row_objections}
 use Rattle.bf_base.specs.declared.value.Value.{Value}
-use Rattle.bf_sql.specs.Migrations.{replaced, source_at, no_table, item_ref, item_places, key_items, target_table, target_objections, migrate_objections, most_rows, flipped, sources_of}
+use Rattle.bf_sql.specs.Migrations.{replaced, source_at, item_ref, item_places, key_items, target_table, target_objections, migrate_objections, most_rows, flipped}
 use Rattle.bf_sql.proofs.Beginning.{flips_as_the_flip, view_itself, on_time_itself}
 use Rattle.bf_sql.proofs.Granules.{same_name-equal, same_name-itself}
 use Rattle.bf_sql.proofs.Images.{source_there, target_key_within}
 use Rattle.bf_sql.proofs.Unobjected.{none_left, none_right, none_when}
-use Rattle.bf_form.specs.Form.{plain, kept, most_parts}
-use Rattle.bf_run.specs.Engine.{one_table, IsServed, columns_by, ArePlain, place_of_key, empty, column_named, key_column_of, Aside, only_arm, only_target, arm_between, state_of, IsTied, IsTiedIfAny, IsAnswered, StaysSeen, IsFirstTarget, IsFlipped, IsFirstMigration}
-
-below_both : (a b : ℕ) → nat_lt a b ≡ nat_lt (1 + a) (suc b)
-below_both a b = grind (arith, nat_tests)
-
--- the first place of the items that pass
-first_place : {X : Type 0} (test : X → Bool) (n : ℕ) (xs : List X)
-    → slice_index_or (map (λ c. c.0) (filter (λ c. test c.1) (enumerate_from n xs))) 0 0 ≡ unwrap_or (cond (nat_lt (position_or_len test xs) (length xs)) (Some (n + position_or_len test xs)) None) 0
-first_place test n [] = refl
-first_place test n (x ∷ xs) =
-    let further : n + 1 + position_or_len test xs ≡ n + (1 + position_or_len test xs) = omega arith in
-    let none : n ≡ n + 0 = omega arith in
-    let positive : nat_lt 0 (suc (length xs)) ≡ true = lt-ltb _ _ (omega arith) in
-    let shift : nat_lt (position_or_len test xs) (length xs) ≡ nat_lt (1 + position_or_len test xs) (suc (length xs)) = below_both (position_or_len test xs) (length xs) in
-    elim (test x) as (λ b. slice_index_or (map (λ c. c.0) (cond b ((n, x) ∷ filter (λ c. test c.1) (enumerate_from (n + 1) xs)) (filter (λ c. test c.1) (enumerate_from (n + 1) xs)))) 0 0
-    ≡ unwrap_or (cond (nat_lt (cond (not b) (1 + position_or_len test xs) 0) (suc (length xs))) (Some (n + cond (not b) (1 + position_or_len test xs) 0)) None) 0) [
-      | true ↦ none ∙ ap (λ b. unwrap_or (cond b (Some (n + 0)) None) 0) (sym positive)
-      | false ↦ first_place test (n + 1) xs ∙ ap₂ (λ b k. unwrap_or (cond b (Some k) None) 0) shift further
-    ]
-
--- a column by its name alone is the first of that name
-pub place_named : (table : Table) (name : List ℕ) → unwrap_or (column_named table name) 0 ≡ place_of_ref table (plain name)
-place_named table name =
-    let test : Column → Bool = λ c. same_name name c.name in
-    let at = position_or_len test table.columns in
-    ap (λ k. unwrap_or (cond (nat_lt at (length table.columns)) (Some k) None) 0) (sym (zero-add at)) ∙ sym (first_place test 0 table.columns)
+use Rattle.bf_form.specs.Form.{plain, kept}
+use Rattle.bf_run.specs.Engine.{one_table, IsServed, columns_by, ArePlain, place_of_key, empty, key_column_of, Aside, only_arm, only_target, state_of, IsTied, IsTiedIfAny, IsAnswered, IsFirstTarget, IsFlipped, IsFirstMigration}
+use Rattle.bf_run.proofs.Named.{names_of_items}
 
 -- columns that admit each INT, at whatever place
 int_at : (columns : List Column) → AllByRecursion (λ c. c.admits ≡ admits.Int) columns → (place : ℕ) → slice_index_or (map (λ c. c.admits) columns) place admits.Int ≡ admits.Int
@@ -72,8 +44,7 @@ ints_kept table ints (i ∷ is) = (int_at table.columns ints (place_of_ref table
 
 -- columns that keep their names
 names_kept : (f : Item → Admit) (items : List (List ℕ)) → map (λ (c : Column). c.name) (map (λ i. record { name = (item_ref i).column; admits = f i }) (map kept items)) ≡ items
-names_kept f [] = refl
-names_kept f (c ∷ cs) = ap (λ names. c ∷ names) (names_kept f cs)
+names_kept f items = map-map (λ (c : Column). c.name) (λ i. record { name = (item_ref i).column; admits = f i }) (map kept items) ∙ names_of_items items
 
 -- the place of an inherited key
 one_inherited : (places : List ℕ) (key : ℕ) → is_some (position (nat_eq key) places) ≡ true → filter_map (λ k. k) (position (nat_eq key) places ∷ []) ≡ place_of_key key places ∷ []
@@ -119,14 +90,6 @@ module _ (s : Stored) (served : IsServed s) (target : Target) (none : target_obj
     database = record { tables_by_name = refl; rows_by_key = refl; rows_admitted = refl; keys_within = and_from _ _ (target_key_within (one_table 1 s) target none) refl };
   }
 
-  -- as the engine makes it
-  pub new_table : (key : ℕ) (places : List ℕ) → key ≡ key_column_of s.table → places ≡ map (λ i. place_of_ref s.table (item_ref i)) target.arm.items
-      → record { name = target.name; columns = columns_by s.table target.arm.items; key = place_of_key key places ∷ [] } ≡ target_table (one_table 1 s) target
-  new_table key places at are =
-      let key_at : key ≡ served.key_place = at ∙ ap (λ k. slice_index_or k 0 0) served.one_key in
-      let key_same : place_of_key key places ∷ [] ≡ (target_table (one_table 1 s) target).key = ap₂ (λ k ps. place_of_key k ps ∷ []) key_at (are ∙ places_are) ∙ sym new_key in
-      λ i. record { name = target.name; columns = columns_are i; key = key_same i }
-
   pub new_places : (places : List ℕ) → places ≡ map (λ i. place_of_ref s.table (item_ref i)) target.arm.items → places ≡ item_places (one_table 1 s) target.arm
   new_places places are = are ∙ places_are
 
@@ -149,7 +112,7 @@ pub places_more : (table : Table) (items : List Item) → ArePlain items → (sl
 places_more table items plainly slice same at item within is before after column place far here named pushed =
     let ref_is = plain_item slice (subst ArePlain (sym same) plainly) at item within is in
     let place_is : place ≡ place_of_ref table (item_ref (slice_index_or slice at item)) =
-      here ∙ ap (λ c. place_of_ref table (plain c)) named ∙ ap (place_of_ref table) (sym ref_is) ∙ ap (λ i. place_of_ref table (item_ref i)) is in
+    here ∙ ap (λ c. place_of_ref table (plain c)) named ∙ ap (place_of_ref table) (sym ref_is) ∙ ap (λ i. place_of_ref table (item_ref i)) is in
     pushed ∙ ap₂ (λ front p. front ++ p ∷ []) far place_is ∙ sym (map_more (λ i. place_of_ref table (item_ref i)) slice at item within)
 
 pub columns_more : (table : Table) (items : List Item) → ArePlain items → (at : ℕ) (item : Item) → at < length items → item ≡ slice_index_or items at item
@@ -199,7 +162,7 @@ module _ (live : Stored) (served : IsServed live) (u : List ℕ) (items : List (
   flipped_state : state_of next (Some aside) ≡ flipped_lazily (state_of live None) m
   flipped_state =
       let left : next ∷ [] ≡ (replaced (one_table 1 live) m (next ∷ [])).tables =
-        ap (λ b. with_placed name_cmp (λ (s : Stored). s.table.name) (cond (not (b || false)) (live ∷ []) []) (next ∷ [])) (sym (same_name-itself live.table.name)) in
+      ap (λ b. with_placed name_cmp (λ (s : Stored). s.table.name) (cond (not (b || false)) (live ∷ []) []) (next ∷ [])) (sym (same_name-itself live.table.name)) in
       λ i. record { live = record { number = 2; tables = left i }; last = Some (record { number = 1; old = one_table 1 live; migrate = only_target u (kept_names i) live.table.name; done = [] }) }
 
   flip_seen : IsSeenAs (flipped (view_of (state_of live None)) m) (flipped_lazily (state_of live None) m)
@@ -257,10 +220,6 @@ none_kept : (live : Stored) (frozen : Option Aside) → (state_of live frozen).l
 none_kept live None e = refl
 none_kept live (Some aside) e = absurd cc
 
--- the one target of a first migration
-abbrev pub only_of : Flip → Target
-only_of m = slice_index_or m.targets 0 (first_target [] [] [])
-
 module _ (live : Stored) (frozen : Option Aside) (m : Flip) (tied : IsTiedIfAny live frozen) (first : IsFirstMigration (state_of live frozen) m) where
   not_yet : frozen ≡ None
   not_yet = none_kept live frozen first.none
@@ -293,16 +252,13 @@ module _ (live : Stored) (frozen : Option Aside) (m : Flip) (tied : IsTiedIfAny 
     fine = target_fine live first.target first.items live.table.name fine_by;
   })
 
-  pub there_is_one : 0 < length m.targets
-  there_is_one = subst (λ (f : Flip). 0 < length f.targets) (sym spelled_by) (omega arith)
-
   pub refused_first : (target : Target) → target ≡ slice_index_or m.targets 0 target → most_rows < length live.rows
       → IsAnswered live frozen (Migrate m) (reply.Refused (refusal.TooManyRows target.arm.from (length live.rows))) live frozen
   refused_first target is many =
       subst (λ (f : Option Aside). IsAnswered live f (Migrate m) (reply.Refused (refusal.TooManyRows target.arm.from (length live.rows))) live f) (sym not_yet)
       (subst (λ (f : Flip). IsAnswered live None (Migrate f) (reply.Refused (refusal.TooManyRows target.arm.from (length live.rows))) live None) (sym spelled_by)
-          (subst (λ (x : Target). IsAnswered live None (Migrate (only_target first.target first.items live.table.name)) (reply.Refused (refusal.TooManyRows x.arm.from (length live.rows))) live None) (sym (target_by target is))
-              (refused live served_first first.target first.items fine_by many)))
+      (subst (λ (x : Target). IsAnswered live None (Migrate (only_target first.target first.items live.table.name)) (reply.Refused (refusal.TooManyRows x.arm.from (length live.rows))) live None) (sym (target_by target is))
+      (refused live served_first first.target first.items fine_by many)))
 
   pub begins_first : (target : Target) → target ≡ slice_index_or m.targets 0 target → length live.rows ≤ most_rows → (next : Stored) (left : Option Aside) → IsFlipped live target next left
       → IsAnswered live frozen (Migrate m) (reply.Migrated 1) next left
@@ -311,32 +267,26 @@ module _ (live : Stored) (frozen : Option Aside) (m : Flip) (tied : IsTiedIfAny 
       let after = begins live served_first first.target first.items fine_by few in
       let made : next ≡ empty (target_table (one_table 1 live) to) = flip.made ∙ ap (λ (x : Target). empty (target_table (one_table 1 live) x)) (target_by target is) in
       let kept_aside : left ≡ Some (record { source = live; places = item_places (one_table 1 live) to.arm; moved = [] }) =
-        flip.aside ∙ ap (λ (x : Target). Some (record { source = live; places = item_places (one_table 1 live) x.arm; moved = [] })) (target_by target is) in
+      flip.aside ∙ ap (λ (x : Target). Some (record { source = live; places = item_places (one_table 1 live) x.arm; moved = [] })) (target_by target is) in
       let flip_is : IsAnswered live frozen (Migrate (only_target first.target first.items live.table.name)) (reply.Migrated 1) (empty (target_table (one_table 1 live) to)) (Some (record { source = live; places = item_places (one_table 1 live) to.arm; moved = [] })) =
-        subst (λ (f : Option Aside). IsAnswered live f (Migrate (only_target first.target first.items live.table.name)) (reply.Migrated 1) (empty (target_table (one_table 1 live) to)) (Some (record { source = live; places = item_places (one_table 1 live) to.arm; moved = [] }))) (sym not_yet) after in
+      subst (λ (f : Option Aside). IsAnswered live f (Migrate (only_target first.target first.items live.table.name)) (reply.Migrated 1) (empty (target_table (one_table 1 live) to)) (Some (record { source = live; places = item_places (one_table 1 live) to.arm; moved = [] }))) (sym not_yet) after in
       subst (λ (f : Flip). IsAnswered live frozen (Migrate f) (reply.Migrated 1) next left) (sym spelled_by)
       (subst (λ (n : Stored). IsAnswered live frozen (Migrate (only_target first.target first.items live.table.name)) (reply.Migrated 1) n left) (sym made)
-          (subst (λ (l : Option Aside). IsAnswered live frozen (Migrate (only_target first.target first.items live.table.name)) (reply.Migrated 1) (empty (target_table (one_table 1 live) to)) l) (sym kept_aside) flip_is))
+      (subst (λ (l : Option Aside). IsAnswered live frozen (Migrate (only_target first.target first.items live.table.name)) (reply.Migrated 1) (empty (target_table (one_table 1 live) to)) l) (sym kept_aside) flip_is))
 
--- what a flip of the one table asks of what it makes
+-- what a flip of the one table makes, by what is read of that table
 module _ (live : Stored) (served : IsServed live) (target : Target) (first : IsFirstTarget live target) where
-  pub plain_items : ArePlain target.arm.items
-  plain_items = (first.items, first.spelled)
+  pub places_made : (read : Table) (places : List ℕ) → read ≡ live.table → places ≡ map (λ i. place_of_ref read (item_ref i)) target.arm.items → places ≡ item_places (one_table 1 live) target.arm
+  places_made read places same are = new_places live served target first.fine places (are ∙ ap (λ (t : Table). map (λ i. place_of_ref t (item_ref i)) target.arm.items) same)
 
-  pub few_places : (places : List ℕ) → places ≡ map (λ i. place_of_ref live.table (item_ref i)) target.arm.items → length places ≤ most_parts
-  few_places places are =
-      let as_many : length places ≡ length first.items =
-        ap (λ ps. length ps) are ∙ length-map target.arm.items (λ i. place_of_ref live.table (item_ref i)) ∙ ap (λ is. length is) first.spelled ∙ length-map first.items kept in
-      subst (λ n. n ≤ most_parts) (sym as_many) first.within
+  pub table_made : (key : ℕ) (read : Table) (places : List ℕ) (table : Table) → key ≡ key_column_of live.table → read ≡ live.table → places ≡ item_places (one_table 1 live) target.arm
+      → table ≡ record { name = target.name; columns = columns_by read target.arm.items; key = place_of_key key places ∷ [] } → table ≡ target_table (one_table 1 live) target
+  table_made key read places table at same are is =
+      let columns_same : columns_by read target.arm.items ≡ (target_table (one_table 1 live) target).columns =
+      ap (λ (t : Table). columns_by t target.arm.items) same ∙ columns_are live served target first.fine in
+      let key_same : place_of_key key places ∷ [] ≡ (target_table (one_table 1 live) target).key =
+      ap₂ (λ k ps. place_of_key k ps ∷ []) (at ∙ ap (λ ks. slice_index_or ks 0 0) served.one_key) are ∙ sym (new_key live served target first.fine) in
+      is ∙ (λ i. record { name = target.name; columns = columns_same i; key = key_same i })
 
-  pub flip_served : (key : ℕ) (places : List ℕ) (table : Table) → key ≡ key_column_of live.table → places ≡ map (λ i. place_of_ref live.table (item_ref i)) target.arm.items
-      → table ≡ record { name = target.name; columns = columns_by live.table target.arm.items; key = place_of_key key places ∷ [] } → IsServed (empty table)
-  flip_served key places table at are is = subst (λ (t : Table). IsServed (empty t)) (sym (is ∙ new_table live served target first.fine key places at are)) (new_served live served target first.fine)
-
-  pub flip_done : (key : ℕ) (places : List ℕ) (table : Table) → key ≡ key_column_of live.table → places ≡ map (λ i. place_of_ref live.table (item_ref i)) target.arm.items
-      → table ≡ record { name = target.name; columns = columns_by live.table target.arm.items; key = place_of_key key places ∷ [] }
-      → IsFlipped live target (empty table) (Some (record { source = live; places = places; moved = [] }))
-  flip_done key places table at are is = record {
-    made = ap empty (is ∙ new_table live served target first.fine key places at are);
-    aside = ap (λ ps. Some (record { source = live; places = ps; moved = [] })) (new_places live served target first.fine places are);
-  }
+  pub flip_served : (table : Table) → table ≡ target_table (one_table 1 live) target → IsServed (empty table)
+  flip_served table is = subst (λ (t : Table). IsServed (empty t)) (sym is) (new_served live served target first.fine)

@@ -4,6 +4,7 @@ pub mod Flipping
 pub mod Inserting
 pub mod Legal
 pub mod Marked
+pub mod Named
 pub mod Needing
 pub mod Places
 pub mod Placing

@@ -35,7 +35,7 @@ use Rattle.bf_sql.proofs.Granules.{same_name-itself, same_name-equal}
 use Rattle.bf_form.specs.Form.{plain}
 use Rattle.bf_run.specs.Engine.{Aside, AreNumbers, IsAnswered, IsInt, IsServed, IsTied, IsTiedIfAny, RunsTo, StaysSeen, column_named, comparison, granule_at, granules_where, has_value, images_of, key_column_of, one_table, row_at, state_of}
 use Rattle.bf_run.proofs.Answering.{IsOrdinary, answered, changes_of, live_of, refused, served_if}
-use Rattle.bf_run.proofs.Flipping.{place_named}
+use Rattle.bf_run.proofs.Named.{place_named}
 use Rattle.bf_run.proofs.Inserting.{tuple_fine}
 use Rattle.bf_run.proofs.Places.{filter_places, filter-map}
 use Rattle.bf_run.proofs.Placing.{one_value}

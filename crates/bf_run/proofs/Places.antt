@@ -1,7 +1,7 @@
 -- Places of a list, and those among them that pass a test.
-use Rattle.std.proofs.Common.{◌≡◌, ℕ, zero, suc, ◌+◌, ◌<◌, ◌≤◌, Bool, true, false, not, ◌||◌, cond, nat_eq, List, [], ◌∷◌, ◌++◌, map, filter, length, get_or, refl, sym, ap, ap₂, subst, ◌∙◌, inl, inr, arith, append_assoc, add-one, drop, drop_of_length-le}
-use Rattle.std.specs.List.{list_any, range_with_len}
-use Rattle.std.proofs.lemmas.Bool.{cases_Bool, or_parts, or_from, false≢true}
+use Rattle.std.proofs.Common.{◌≡◌, ℕ, zero, suc, ◌+◌, ◌<◌, ◌≤◌, Bool, true, false, not, ◌||◌, cond, nat_eq, List, [], ◌∷◌, ◌++◌, map, filter, length, get_or, refl, sym, ap, ap₂, ◌∙◌, arith, append_assoc, add-one, drop, drop_of_length-le}
+use Rattle.std.specs.List.{range_with_len}
+use Rattle.std.proofs.lemmas.Bool.{or_parts, or_from}
 use Rattle.std.proofs.lemmas.Bool.Decides.{nat_tests}
 use Rattle.std.proofs.Math.Seq.{drop-cons}
 use Rattle.std.proofs.lemmas.List.{append-nil}
@@ -88,13 +88,14 @@ moves_in_turn moved places at new =
     let fresh = λ (k : ℕ). not (has nat_eq moved k) in
     let not_later : has nat_eq (filter fresh places) at ≡ false = none_left places new in
     let same : has nat_eq (with_moves moved places) at ≡ has nat_eq moved at =
-      list_any-append (nat_eq at) moved (filter fresh places) ∙ ap (λ b. has nat_eq moved at || b) not_later ∙ or_false (has nat_eq moved at) in
+    list_any-append (nat_eq at) moved (filter fresh places) ∙ ap (λ b. has nat_eq moved at || b) not_later ∙ or_false (has nat_eq moved at) in
     let last : filter (λ k. not (has nat_eq (with_moves moved places) k)) (at ∷ []) ≡ filter fresh (at ∷ []) = ap (λ b. cond (not b) (at ∷ []) []) same in
     ap (λ ks. with_moves moved places ++ ks) last ∙ append_assoc moved (filter fresh places) (filter fresh (at ∷ [])) ∙ ap (λ ks. moved ++ ks) (sym (filter-append fresh places (at ∷ [])))
   where
     or_false : (b : Bool) → (b || false) ≡ b
     or_false true = refl
     or_false false = refl
+
     none_left : (ks : List ℕ) → has nat_eq ks at ≡ false → has nat_eq (filter (λ k. not (has nat_eq moved k)) ks) at ≡ false
     none_left [] e = refl
     none_left (k ∷ ks) e =
@@ -109,14 +110,14 @@ pub moves_more : (test : ℕ → Bool) (moved now : List ℕ) (n : ℕ) → now 
     → with_moves now (n ∷ []) ≡ with_moves moved (filter test (range_with_len 0 (n + 1)))
 moves_more test moved now n e passes =
     let more : filter test (range_with_len 0 (n + 1)) ≡ filter test (range_with_len 0 n) ++ n ∷ [] =
-      ap (λ k. filter test (range_with_len 0 k)) (add-one n) ∙ filter_more test n ∙ ap (λ b. filter test (range_with_len 0 n) ++ cond b (n ∷ []) []) passes in
+    ap (λ k. filter test (range_with_len 0 k)) (add-one n) ∙ filter_more test n ∙ ap (λ b. filter test (range_with_len 0 n) ++ cond b (n ∷ []) []) passes in
     ap (λ ks. with_moves ks (n ∷ [])) e ∙ moves_in_turn moved (filter test (range_with_len 0 n)) n (not_among test 0 n n (omega arith)) ∙ ap (with_moves moved) (sym more)
 
 pub moves_no_more : (test : ℕ → Bool) (moved now : List ℕ) (n : ℕ) → now ≡ with_moves moved (filter test (range_with_len 0 n)) → test n ≡ false
     → now ≡ with_moves moved (filter test (range_with_len 0 (n + 1)))
 moves_no_more test moved now n e fails =
     let same : filter test (range_with_len 0 (n + 1)) ≡ filter test (range_with_len 0 n) =
-      ap (λ k. filter test (range_with_len 0 k)) (add-one n) ∙ filter_more test n ∙ ap (λ b. filter test (range_with_len 0 n) ++ cond b (n ∷ []) []) fails ∙ append-nil (filter test (range_with_len 0 n)) in
+    ap (λ k. filter test (range_with_len 0 k)) (add-one n) ∙ filter_more test n ∙ ap (λ b. filter test (range_with_len 0 n) ++ cond b (n ∷ []) []) fails ∙ append-nil (filter test (range_with_len 0 n)) in
     e ∙ ap (with_moves moved) (sym same)
 
 -- the same where each place passes

@@ -1,14 +1,13 @@
 -- The statements of a plot may run, one after the other.
-use Rattle.std.proofs.Common.{◌≡◌, ℕ, suc, ◌+◌, ◌<◌, ◌≤◌, Bool, true, false, not, ◌&&◌, ◌||◌, ◌==◌, cond, nat_lt, nat_eq, List, [], ◌∷◌, ◌++◌, map, filter, flat_map, length, position, unwrap_or, slice_index_or, Option, Some, None, is_some, refl, sym, ap, ap₂, subst, ◌∙◌, inl, inr, zero-add, arith}
+use Rattle.std.proofs.Common.{◌≡◌, ℕ, suc, ◌+◌, ◌≤◌, Bool, true, false, not, ◌&&◌, ◌||◌, ◌==◌, cond, nat_eq, List, [], ◌∷◌, ◌++◌, map, filter, flat_map, length, position, unwrap_or, Option, Some, None, is_some, refl, sym, ap, subst, ◌∙◌, inl, inr, arith}
 use Rattle.std.specs.List.{list_all, list_any, AllByRecursion, enumerate_from, position_or_len}
-use Rattle.std.proofs.lemmas.Bool.{and_parts, and_from, or_right, cases_Bool, false≢true, lt-ltb, not-true}
+use Rattle.std.proofs.lemmas.Bool.{and_parts, or_right, cases_Bool, false≢true, lt-ltb}
 use Rattle.std.proofs.lemmas.Bool.Decides.{nat_tests}
-use Rattle.std.proofs.lemmas.List.Folds.{list_any-append}
 use Rattle.bf_base.specs.declared.value.Value.{Value}
 use Rattle.bf_base.specs.declared.table.Column.{Column}
 use Rattle.bf_base.specs.declared.table.Table.{Table}
 use Rattle.bf_base.specs.Values.{key_cmp}
-use Rattle.bf_base.specs.Lists.{same_name, has, when, with_before, with_before_from, with_placed}
+use Rattle.bf_base.specs.Lists.{same_name, has, when, with_before, with_placed}
 use Rattle.bf_base.specs.Tables.{key_of}
 use Rattle.bf_sql.specs.declared.statement.RawCond.{RawCond}
 use Rattle.bf_sql.specs.declared.statement.ColumnRule.{ColumnRule}
@@ -28,8 +27,10 @@ use Rattle.bf_sql.specs.Refusals.{objections, row_objections, rule_names}
 use Rattle.bf_sql.specs.Lazy.{Migration, LazyState, view_of}
 use Rattle.bf_sql.specs.Movement.{migration_by}
 use Rattle.bf_sql.proofs.Granules.{same_name-equal, same_name-itself, same_name-symmetric}
-use Rattle.bf_form.specs.Form.{Plot, int_column, creation, plain, kept, most_parts, are_distinct, AreItems, Migrated, IsPlain, MigratesPlainly, migrated_statements}
+use Rattle.bf_sql.proofs.Keys.{placed_within}
+use Rattle.bf_form.specs.Form.{Plot, int_column, creation, plain, kept, most_parts, AreItems, Migrated, IsPlain, MigratesPlainly, migrated_statements}
 use Rattle.bf_run.specs.Engine.{one_table, only_target, MayRun}
+use Rattle.bf_run.proofs.Named.{names_of_items, none_twice, place_named, position-map}
 
 -- the columns and the table of a creation
 abbrev created_columns : List (List ℕ) → List Column
@@ -38,48 +39,14 @@ created_columns cs = map (λ (rule : ColumnRule). record { name = rule.name; adm
 abbrev pub created_table : List ℕ → List (List ℕ) → List ℕ → Table
 created_table t cs k = table_of t (map int_column cs) (k ∷ [])
 
-below_both : (a b : ℕ) → nat_lt a b ≡ nat_lt (1 + a) (suc b)
-below_both a b = grind (arith, nat_tests)
-
--- the first place of the items that pass
-first_place : {X : Type 0} (test : X → Bool) (n : ℕ) (xs : List X)
-    → slice_index_or (map (λ c. c.0) (filter (λ c. test c.1) (enumerate_from n xs))) 0 0 ≡ unwrap_or (cond (nat_lt (position_or_len test xs) (length xs)) (Some (n + position_or_len test xs)) None) 0
-first_place test n [] = refl
-first_place test n (x ∷ xs) =
-    let further : n + 1 + position_or_len test xs ≡ n + (1 + position_or_len test xs) = omega arith in
-    let none : n ≡ n + 0 = omega arith in
-    let positive : nat_lt 0 (suc (length xs)) ≡ true = lt-ltb _ _ (omega arith) in
-    let shift : nat_lt (position_or_len test xs) (length xs) ≡ nat_lt (1 + position_or_len test xs) (suc (length xs)) = below_both (position_or_len test xs) (length xs) in
-    elim (test x) as (λ b. slice_index_or (map (λ c. c.0) (cond b ((n, x) ∷ filter (λ c. test c.1) (enumerate_from (n + 1) xs)) (filter (λ c. test c.1) (enumerate_from (n + 1) xs)))) 0 0
-    ≡ unwrap_or (cond (nat_lt (cond (not b) (1 + position_or_len test xs) 0) (suc (length xs))) (Some (n + cond (not b) (1 + position_or_len test xs) 0)) None) 0) [
-      | true ↦ none ∙ ap (λ b. unwrap_or (cond b (Some (n + 0)) None) 0) (sym positive)
-      | false ↦ first_place test (n + 1) xs ∙ ap₂ (λ b k. unwrap_or (cond b (Some k) None) 0) shift further
-    ]
-
-place_named : (table : Table) (name : List ℕ) → unwrap_or (position (λ c. same_name name c.name) table.columns) 0 ≡ place_of_ref table (plain name)
-place_named table name =
-    let test : Column → Bool = λ c. same_name name c.name in
-    let at = position_or_len test table.columns in
-    ap (λ k. unwrap_or (cond (nat_lt at (length table.columns)) (Some k) None) 0) (sym (zero-add at)) ∙ sym (first_place test 0 table.columns)
-
-first_column : (name : List ℕ) (cs : List (List ℕ)) → position_or_len (λ (c : Column). same_name name c.name) (created_columns cs) ≡ position_or_len (same_name name) (rule_names (map int_column cs))
-first_column name [] = refl
-first_column name (c ∷ cs) = ap (λ n. cond (not (same_name name c)) (1 + n) 0) (first_column name cs)
-
-as_many : (cs : List (List ℕ)) → length (created_columns cs) ≡ length (rule_names (map int_column cs))
-as_many [] = refl
-as_many (c ∷ cs) = ap suc (as_many cs)
-
 -- a column by its name is where the creation has it
 place_created : (t : List ℕ) (cs : List (List ℕ)) (k name : List ℕ) → place_of (rule_names (map int_column cs)) name ≡ place_of_ref (created_table t cs k) (plain name)
-place_created t cs k name = ap₂ (λ n m. unwrap_or (cond (nat_lt n m) (Some n) None) 0) (sym (first_column name cs)) (sym (as_many cs)) ∙ place_named (created_table t cs k) name
-
-placed_within : {X : Type 0} (p : X → Bool) (xs : List X) → list_any p xs ≡ true → position_or_len p xs < length xs
-placed_within p [] e = absurd cc
-placed_within p (x ∷ xs) e = elim (p x) as (λ b. (b || list_any p xs) ≡ true → cond (not b) (1 + position_or_len p xs) 0 < length (x ∷ xs)) [
-  | true ↦ λ e. omega arith
-  | false ↦ λ e. omega (arith, placed_within p xs e)
-] e
+place_created t cs k name =
+    let rules = map int_column cs in
+    let by_rule : position (same_name name) (rule_names rules) ≡ position (λ (rule : ColumnRule). same_name name rule.name) rules = position-map (λ (rule : ColumnRule). rule.name) (same_name name) rules in
+    let by_column : position (λ (c : Column). same_name name c.name) (created_columns cs) ≡ position (λ (rule : ColumnRule). same_name name rule.name) rules =
+    position-map (λ (rule : ColumnRule). record { name = rule.name; admits = admit_of rule.form }) (λ (c : Column). same_name name c.name) rules in
+    ap (λ (o : Option ℕ). unwrap_or o 0) (by_rule ∙ sym by_column) ∙ place_named (created_table t cs k) name
 
 some_position : {X : Type 0} (p : X → Bool) (xs : List X) → list_any p xs ≡ true → is_some (position p xs) ≡ true
 some_position p xs e = ap (λ b. is_some (cond b (Some (position_or_len p xs)) None)) (lt-ltb _ _ (placed_within p xs e))
@@ -111,34 +78,6 @@ module _ (t : List ℕ) (cs : List (List ℕ)) (k : List ℕ) where
       nothing_in_both (ref_objections (created_table t cs k) (plain c)) (flat_map (λ i. ref_objections (created_table t cs k) (item_ref i)) (map kept items))
       (nothing_of _ (refusal.NoColumn c) (has_place 0 c cs (and_parts _ _ e).0)) (refs_fine items (and_parts _ _ e).1)
 
-one_apart : (seen : List (List ℕ)) (c d : List ℕ) → has same_name seen d ≡ false → same_name c d ≡ false → not (has same_name (seen ++ c ∷ []) d) ≡ true
-one_apart seen c d e f =
-    let g : same_name d c ≡ false = same_name-symmetric d c ∙ f in
-    rw (list_any-append (same_name d) seen (c ∷ []), e, g) refl
-
-more_apart : (seen : List (List ℕ)) (c : List ℕ) (ds : List (List ℕ)) → not (has same_name ds c) ≡ true → list_all (λ d. not (has same_name seen d)) ds ≡ true → list_all (λ d. not (has same_name (seen ++ c ∷ []) d)) ds ≡ true
-more_apart seen c [] e f = refl
-more_apart seen c (d ∷ ds) e f = elim (cases_Bool (same_name c d)) [
-  | inl same ↦ absurd (false≢true (rw same at e))
-  | inr other ↦
-      let rest : not (has same_name ds c) ≡ true = rw other at e in
-      and_from _ _ (one_apart seen c d (not-true _ (and_parts _ _ f).0) other) (more_apart seen c ds rest (and_parts _ _ f).1)
-]
-
-none_twice : (seen items : List (List ℕ)) → are_distinct items ≡ true → list_all (λ d. not (has same_name seen d)) items ≡ true → flat_map (λ (p : List (List ℕ) × List ℕ). when (has same_name p.0 p.1) (refusal.NameTwice p.1)) (with_before_from seen items) ≡ []
-none_twice seen [] e f = refl
-none_twice seen (c ∷ cs) e f =
-    nothing_in_both (when (has same_name seen c) (refusal.NameTwice c)) (flat_map (λ (p : List (List ℕ) × List ℕ). when (has same_name p.0 p.1) (refusal.NameTwice p.1)) (with_before_from (seen ++ c ∷ []) cs))
-    (nothing_of _ (refusal.NameTwice c) (not-true _ (and_parts _ _ f).0)) (none_twice (seen ++ c ∷ []) cs (and_parts _ _ e).1 (more_apart seen c cs (and_parts _ _ e).0 (and_parts _ _ f).1))
-
-none_seen : (items : List (List ℕ)) → list_all (λ (d : List ℕ). not (has same_name [] d)) items ≡ true
-none_seen [] = refl
-none_seen (c ∷ cs) = none_seen cs
-
-names_back : (items : List (List ℕ)) → map (λ i. (item_ref i).column) (map kept items) ≡ items
-names_back [] = refl
-names_back (c ∷ cs) = ap (λ ns. c ∷ ns) (names_back cs)
-
 same_number : (n : ℕ) → nat_eq n n ≡ true
 same_number n = grind (arith, nat_tests)
 
@@ -165,12 +104,12 @@ module _ (n : ℕ) (rows : List (List Value)) (t : List ℕ) (cs : List (List �
   target_fine : target_objections db (record { name = u; arm = record { items = map kept items; from = t } }) ≡ []
   target_fine =
       let here = same_name-itself t in
-      let names = names_back items in
+      let names = names_of_items items in
       let refs = flat_map (λ i. ref_objections (created_table t cs k) (item_ref i)) (map kept items) in
       let named = flat_map (λ (p : List (List ℕ) × List ℕ). when (has same_name p.0 p.1) (refusal.NameTwice p.1)) (with_before (map (λ i. (item_ref i).column) (map kept items))) in
       let keyed = when (not (is_some (position (nat_eq (place_of (rule_names (map int_column cs)) k)) (map (λ i. place_of_ref (created_table t cs k) (item_ref i)) (map kept items))) && true)) (refusal.KeyNotInherited u) in
       let no_refs : refs ≡ [] = refs_fine t cs k items of_it.of_the_table in
-      let no_names : named ≡ [] = rw names (none_twice [] items of_it.distinct (none_seen items)) in
+      let no_names : named ≡ [] = rw names (none_twice items of_it.distinct) in
       let no_key : keyed ≡ [] = ap (λ b. when (not (b && true)) (refusal.KeyNotInherited u)) key_fine in
       rw here (nothing_in_both (refs ++ named) keyed (nothing_in_both refs named no_refs no_names) no_key)
 

@@ -15,7 +15,7 @@ use Rattle.bf_sql.specs.Refusals.{rule_names, names_objections, twice}
 use Rattle.bf_sql.proofs.Unobjected.{none_left, none_when, none_of_each, list_all-with_before_from}
 
 -- where some item passes, the first that does has a place
-placed_within : {X : Type 0} (p : X → Bool) (xs : List X) → list_any p xs ≡ true → position_or_len p xs < length xs
+pub placed_within : {X : Type 0} (p : X → Bool) (xs : List X) → list_any p xs ≡ true → position_or_len p xs < length xs
 placed_within p [] e = absurd cc
 placed_within p (x ∷ xs) e = elim (p x) as (λ b. (b || list_any p xs) ≡ true → cond (not b) (1 + position_or_len p xs) 0 < length (x ∷ xs)) [
   | true ↦ λ e. omega arith

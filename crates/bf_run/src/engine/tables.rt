@@ -196,8 +196,9 @@ impl Tables {
         ensures err { OnErr result (StaysSeen self.old.live self.old.frozen self.new.live self.new.frozen) }
     {
         let target = &migrate.targets.as_slice()[0];
-        if self.live.len() > MOST_ROWS {
-            return too_many_rows(alloc, &target.arm.from, self.live.len());
+        let count = self.live.len();
+        if count > MOST_ROWS {
+            return too_many_rows(alloc, &target.arm.from, count);
         }
         self.flip(alloc, target)?;
         Ok(Reply::Migrated(1))

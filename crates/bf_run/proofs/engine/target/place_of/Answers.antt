@@ -1,5 +1,4 @@
-use Rattle.std.proofs.Common.{◌≡◌}
-use Rattle.bf_run.proofs.Flipping.{place_named}
+use Rattle.bf_run.proofs.Named.{place_named}
 use Rattle.bf_run.proofs.engine.target.place_of.Goals as goal
 
 pub returns : goal.returns

@@ -1,4 +1,3 @@
-use Rattle.std.proofs.Common.{◌≡◌}
 use Rattle.bf_run.proofs.engine.target.place_of_key.Goals as goal
 
 pub returns : goal.returns
