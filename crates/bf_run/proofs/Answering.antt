@@ -88,12 +88,12 @@ all_in done before (g ∷ gs) =
           let comes : fresh g ≡ true = not_from_false _ waits in
           let parted = filter-append fresh before (g ∷ gs) ∙ ap (λ b. filter fresh before ++ cond b (g ∷ filter fresh gs) (filter fresh gs)) comes in
           let there : has same_granule (filter fresh (before ++ g ∷ gs)) g ≡ true =
-            ap (λ hs. has same_granule hs g) parted ∙ list_any-append (same_granule g) (filter fresh before) (g ∷ filter fresh gs)
-            ∙ ap (λ b. has same_granule (filter fresh before) g || (b || has same_granule (filter fresh gs) g)) (same_granule-itself g) ∙ or-true (has same_granule (filter fresh before) g) in
+          ap (λ hs. has same_granule hs g) parted ∙ list_any-append (same_granule g) (filter fresh before) (g ∷ filter fresh gs)
+          ∙ ap (λ b. has same_granule (filter fresh before) g || (b || has same_granule (filter fresh gs) g)) (same_granule-itself g) ∙ or-true (has same_granule (filter fresh before) g) in
           ap (λ b. has same_granule done g || b) there ∙ or-true (has same_granule done g)
     ] in
     let rest : list_all (has same_granule all) gs ≡ true =
-      subst (λ (hs : List Granule). list_all (has same_granule (done ++ filter fresh hs)) gs ≡ true) (append_assoc before (g ∷ []) gs) (all_in done (before ++ g ∷ []) gs) in
+    subst (λ (hs : List Granule). list_all (has same_granule (done ++ filter fresh hs)) gs ≡ true) (append_assoc before (g ∷ []) gs) (all_in done (before ++ g ∷ []) gs) in
     and_from _ _ here rest
 
 all_done : (last : Option Migration) (db : Database) (s : Statement) (granules : List Granule) → needed_by last db s ≡ granules → list_all (has same_granule (done_of (with_moved last granules))) granules ≡ true
@@ -125,7 +125,7 @@ module _ (live : Stored) (f : Option Aside) (s : Statement) (ordinary : IsOrdina
         let agree = agrees lazy (lazy_if mid g seen.tied) s have_moved in
         let run : executed lazy.live s ≡ (reply, one_table (changes_of g) next) = ap (λ db. executed db s) (live_of mid g) ∙ runs (changes_of g) in
         let after : after_statement lazy s ≡ state_of next g =
-          ordinary.after lazy ∙ ap (λ (db : Database). record lazy { live = db }) (ap (λ done. done.1) run) ∙ with_live mid next g same in
+        ordinary.after lazy ∙ ap (λ (db : Database). record lazy { live = db }) (ap (λ done. done.1) run) ∙ with_live mid next g same in
         let told : (executed (view_of lazy) s).0 ≡ reply = sym agree.reply ∙ ap (λ done. done.0) run in
         let left : (executed (view_of lazy) s).1 ≡ view_of (state_of next g) = sym agree.state.view ∙ ap view_of after in
         let both : executed (view_of lazy) s ≡ (reply, view_of (state_of next g)) = ap₂ (λ (r : Reply) (db : Database). (r, db)) told left in

@@ -59,13 +59,13 @@ module _ (live : Stored) (aside : Aside) (tied : IsTied live aside) where
       let images = images_of aside in
       let part = part_of (one_table 1 aside.source) (last live aside tied).migrate (target live aside tied) in
       let one : (k : ℕ) → k < length rows → list_any test (part (at (0 + k))) ≡ passes (get_or images (0 + k) []) = λ k within.
-        let zero_on : 0 + k ≡ k = omega arith in
-        ap (λ i. list_any test (part (at i))) zero_on
-        ∙ ap (list_any test) (part_is live aside tied k within)
-        ∙ or-false (test (cells aside.places (row_at aside.source k)))
-        ∙ same (cells aside.places (row_at aside.source k))
-        ∙ ap passes (sym (get_or-map (cells aside.places) rows k [] [] within))
-        ∙ sym (ap (λ i. passes (get_or images i [])) zero_on) in
+      let zero_on : 0 + k ≡ k = omega arith in
+      ap (λ i. list_any test (part (at i))) zero_on
+      ∙ ap (list_any test) (part_is live aside tied k within)
+      ∙ or-false (test (cells aside.places (row_at aside.source k)))
+      ∙ same (cells aside.places (row_at aside.source k))
+      ∙ ap passes (sym (get_or-map (cells aside.places) rows k [] [] within))
+      ∙ sym (ap (λ i. passes (get_or images i [])) zero_on) in
       ap (filter (λ g. list_any test (part g))) (granules_are live aside tied)
       ∙ filter-map (λ g. list_any test (part g)) at (range_with_len 0 (length rows))
       ∙ ap (map at) (filter_places (λ k. list_any test (part (at k))) (λ k. passes (get_or images k [])) 0 (length rows) one)
@@ -84,8 +84,8 @@ module _ (live : Stored) (name : List ℕ) (row : List Value) where
 key_alone : (table : Table) (k : ℕ) → table.key ≡ k ∷ [] → (row other : List Value) → has same_key (map (key_of table) (row ∷ [])) (key_of table other) ≡ has_value (key_column_of table) (cell row (key_column_of table)) other
 key_alone table k one row other =
     let of_key : (key : List ℕ) → key ≡ k ∷ [] → has same_key (map (cells key) (row ∷ [])) (cells key other) ≡ has_value (get_or key 0 0) (cell row (get_or key 0 0)) other = λ key e.
-      subst (λ (ks : List ℕ). has same_key (map (cells ks) (row ∷ [])) (cells ks other) ≡ has_value (get_or ks 0 0) (cell row (get_or ks 0 0)) other) (sym e)
-      (or-false (same_key (cell other k ∷ []) (cell row k ∷ [])) ∙ ap is_eq (one_value (cell other k) (cell row k))) in
+    subst (λ (ks : List ℕ). has same_key (map (cells ks) (row ∷ [])) (cells ks other) ≡ has_value (get_or ks 0 0) (cell row (get_or ks 0 0)) other) (sym e)
+    (or-false (same_key (cell other k ∷ []) (cell row k ∷ [])) ∙ ap is_eq (one_value (cell other k) (cell row k))) in
     of_key table.key one
 
 insert_need : (live : Stored) (f : Option Aside) → IsTiedIfAny live f → (name : List ℕ) (row : List Value) → AreNumbers row → name ≡ live.table.name → length row ≡ length live.table.columns
@@ -99,7 +99,7 @@ insert_need live (Some aside) tied name row numbers named count =
     let test : Table → List Value → Bool = λ t other. has same_key (map (key_of t) (row ∷ [])) (key_of t other) in
     let passes = has_value (key_column_of live.table) (cell row (key_column_of live.table)) in
     let by_key : (other : List Value) → test (target_table old (target live aside tied)) other ≡ passes other = λ other.
-      ap (λ (t : Table). test t other) (sym (made live aside tied)) ∙ key_alone live.table tied.served.key_place tied.served.one_key row other in
+    ap (λ (t : Table). test t other) (sym (made live aside tied)) ∙ key_alone live.table tied.served.key_place tied.served.one_key row other in
     ap (λ n. needed_by (Some (last live aside tied)) (view_of (state_of live (Some aside))) (Insert n (row ∷ []))) named
     ∙ ap (λ os. none_if_refused os (needed old m s)) none
     ∙ ap (λ t. on_target t (λ t. giving old m (test (target_table old t)) t)) (target_is live aside tied)
@@ -125,7 +125,7 @@ select_need live (Some aside) tied condition fine passes same =
     let m = (last live aside tied).migrate in
     let none = nothing_seen live (Some aside) s (select_fine live live.table.name condition (same_name-itself live.table.name) fine) in
     let by_table : (row : List Value) → satisfies (target_table old (target live aside tied)) condition row ≡ passes row = λ row.
-      ap (λ (t : Table). satisfies t condition row) (sym (made live aside tied)) ∙ same row in
+    ap (λ (t : Table). satisfies t condition row) (sym (made live aside tied)) ∙ same row in
     ap (λ os. none_if_refused os (needed old m s)) none
     ∙ ap (λ t. on_target t (λ t. giving old m (satisfies (target_table old t) condition) t)) (target_is live aside tied)
     ∙ giving_is live aside tied (satisfies (target_table old (target live aside tied)) condition) passes by_table
@@ -143,9 +143,9 @@ none_from : (test : Column → Bool) (n : ℕ) (columns : List Column) → posit
 none_from test n [] e = refl
 none_from test n (c ∷ cs) e = elim (test c) as (λ b. cond b (Some n) (position_from test (n + 1) cs) ≡ None
     → (length (map (λ c. c.0) (cond b ((n, c) ∷ filter (λ c. test c.1) (enumerate_from (n + 1) cs)) (filter (λ c. test c.1) (enumerate_from (n + 1) cs)))) == 0) ≡ true) [
-  | true ↦ λ e. absurd cc
-  | false ↦ λ e. none_from test (n + 1) cs e
-] e
+      | true ↦ λ e. absurd cc
+      | false ↦ λ e. none_from test (n + 1) cs e
+    ] e
 
 not_zero : (n : ℕ) → (suc n == 0) ≡ false
 not_zero n = grind (arith, nat_tests)
@@ -154,9 +154,9 @@ some_from : (test : Column → Bool) (n : ℕ) (columns : List Column) (place : 
 some_from test n [] place e = absurd cc
 some_from test n (c ∷ cs) place e = elim (test c) as (λ b. cond b (Some n) (position_from test (n + 1) cs) ≡ Some place
     → (length (map (λ c. c.0) (cond b ((n, c) ∷ filter (λ c. test c.1) (enumerate_from (n + 1) cs)) (filter (λ c. test c.1) (enumerate_from (n + 1) cs)))) == 0) ≡ false) [
-  | true ↦ λ e. not_zero (length (map (λ c. c.0) (filter (λ c. test c.1) (enumerate_from (n + 1) cs))))
-  | false ↦ λ e. some_from test (n + 1) cs place e
-] e
+      | true ↦ λ e. not_zero (length (map (λ c. c.0) (filter (λ c. test c.1) (enumerate_from (n + 1) cs))))
+      | false ↦ λ e. some_from test (n + 1) cs place e
+    ] e
 
 none_named : (table : Table) (name : List ℕ) → column_named table name ≡ None → (length (places_of table (plain name)) == 0) ≡ true
 none_named table name e = none_from (λ c. same_name name c.name) 0 table.columns (sym (position_from-zero (λ c. same_name name c.name) table.columns) ∙ e)
@@ -211,7 +211,7 @@ insert_answered live f tied name row numbers here count key value is_key within 
     let named : name ≡ live.table.name = sym (same_name-equal live.table.name name here) in
     let own : value ≡ cell row key = is ∙ get_or_default row key value (Int (pos 0)) within in
     let test_is : granules_where f (has_value (key_column_of live.table) (cell row (key_column_of live.table))) ≡ granules_where f (has_value key value) =
-      ap (λ k. granules_where f (has_value k (cell row k))) (sym is_key) ∙ ap (λ v. granules_where f (has_value key v)) (sym own) in
+    ap (λ k. granules_where f (has_value k (cell row k))) (sym is_key) ∙ ap (λ v. granules_where f (has_value key v)) (sym own) in
     let need = insert_need live f tied name row numbers named count ∙ test_is in
     let of_name : mid.table.name ≡ name = ap (λ (t : Table). t.name) seen.table ∙ sym named in
     let runs_so = subst (λ (n : List ℕ). RunsTo mid (Insert n (row ∷ [])) answer next) of_name runs in

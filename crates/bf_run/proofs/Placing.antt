@@ -94,7 +94,6 @@ module _ {B : Type 0} (open_box : B → List Value) (table : Table) (column : �
       sym (placed-insert key_cmp_total key (map open_box boxes) at row parted_rows)
       ∙ sym (ap (λ (by : List Value → List Value). placed key_cmp by (map open_box boxes) row) key_by_cell)
 
-
   module _ (value : Value) where
     -- whether the row of a place has the value, by the comparison
     tested : (boxes : List B) (k : ℕ) (d : B) (r : Ordering) → k < length boxes → value_cmp (cell (open_box (get_or boxes k d)) column) value ≡ r
@@ -117,7 +116,7 @@ module _ {B : Type 0} (open_box : B → List Value) (table : Table) (column : �
         let above : (k : ℕ) → at < k → k < length boxes → value_cmp (cell_at k) value ≡ Greater = λ k behind in_range. ap (value_cmp (cell_at k)) (sym is) ∙ turned_less value_cmp_total (cell_at at) (cell_at k) (less at k behind in_range) in
         let long : length (map open_box boxes) ≡ length boxes = length-map boxes open_box in
         let only = only_place (λ k. has_value column value (get_or (map open_box boxes) k [])) 0 (length boxes) at within (tested boxes at b Equal within (equal b))
-          (λ k before. tested boxes k b Less (omega arith) (below k before)) (λ k behind in_range. tested boxes k b Greater in_range (above k behind in_range)) in
+        (λ k before. tested boxes k b Less (omega arith) (below k before)) (λ k behind in_range. tested boxes k b Greater in_range (above k behind in_range)) in
         let first : 0 + at ≡ at = omega arith in
         ap (λ n. filter (λ k. has_value column value (get_or (map open_box boxes) k [])) (range_with_len 0 n)) long ∙ only ∙ ap (λ k. k ∷ []) first
 

@@ -28,5 +28,5 @@ module _ (live : Stored) (aside : Aside) (tied : IsTied live aside) where
       let name = aside.source.table.name in
       let range = range_with_len 0 (length aside.source.rows) in
       let waits : pending (migration_between live aside) ≡ map (granule_at name) (filter (λ k. not (has nat_eq aside.moved k)) range) =
-        ap (filter (λ g. not (has same_granule (map (granule_at name) aside.moved) g))) (granules_are live aside tied) ∙ waiting name aside.moved range in
+      ap (filter (λ g. not (has same_granule (map (granule_at name) aside.moved) g))) (granules_are live aside tied) ∙ waiting name aside.moved range in
       by_places (filter (λ k. not (has nat_eq aside.moved k)) range) ∙ ap (sweep_by (migration_between live aside)) (sym waits)

@@ -168,12 +168,7 @@ impl Tables {
     }
 
     /// SELECT from the live table WHERE a column has a value.
-    fn select_where(
-        &mut self,
-        alloc: Global,
-        column: &Name,
-        value: &Value,
-    ) -> Result<Reply, Memory>
+    fn select_where(&mut self, alloc: Global, column: &Name, value: &Value) -> Result<Reply, Memory>
         requires tied { IsTiedIfAny self.old.live self.old.frozen }
         requires form { IsInt value.now }
         ensures ok { IfOk result (λ reply. IsAnswered self.old.live self.old.frozen (Select All self.old.live.table.name (Some (comparison column.now value.now))) reply self.new.live self.new.frozen) }

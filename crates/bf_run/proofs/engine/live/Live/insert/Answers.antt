@@ -1,9 +1,6 @@
 use Rattle.std.proofs.Common.{◌≡◌, IsTrue, length, ◌∙◌, sym, subst, Box, Global}
 use Rattle.bf_base.specs.declared.row.Row.{Row}
 use Rattle.bf_sql.specs.Database.{Stored}
-use Rattle.bf_sql.specs.declared.statement.Statement.TheVariants.{Insert}
-use Rattle.bf_sql.specs.declared.reply.Reply.TheVariants.{Refused}
-use Rattle.bf_sql.specs.declared.reply.Refusal.TheVariants.{DuplicateKey}
 use Rattle.bf_run.specs.Engine.{has_key_of}
 use Rattle.bf_run.proofs.Inserting.{insert_taken, came_in_served, came_in_means, row_admitted}
 use Rattle.bf_run.proofs.engine.live.Live.insert.Goals as goal
@@ -25,7 +22,7 @@ pub returns-in_ok-insert-in-Err-clause-ok : goal.returns-in_ok-insert-in-Err-cla
 returns-in_ok-insert-in-Err-clause-ok c =
     let boxes = c.self.inside.rows.items in
     let means = came_in_means (λ (box : Box Row Global). box.value) c.self.inside.table boxes c.insert.new.self.items c.args.row.now c.in-Err.place c.in_ok-row-in-Err.row c.self.invariant (rw c.self.view_is c.in-Err.ensures.absent)
-      c.in_ok-insert-in-Err.ensures.items (c.in_ok-row-in-Err.ensures.ok ∙ c.in_ok-copy-in-Err.ensures) c.requires.numbers (subst (λ (s : Stored). length c.args.row.now ≡ length s.table.columns) (sym c.self.view_is) c.requires.count) in
+    c.in_ok-insert-in-Err.ensures.items (c.in_ok-row-in-Err.ensures.ok ∙ c.in_ok-copy-in-Err.ensures) c.requires.numbers (subst (λ (s : Stored). length c.args.row.now ≡ length s.table.columns) (sym c.self.view_is) c.requires.count) in
     rw (← c.self.view_is) means
 
 pub returns-in_ok-insert-in-Err-clause-served : goal.returns-in_ok-insert-in-Err-clause-served
