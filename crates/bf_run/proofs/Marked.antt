@@ -93,7 +93,7 @@ module _ (is_done : List Bool) (moved : List ℕ) (room : ℕ) (are : AreMarks i
   marked now room_now more kept =
       let long : length (set is_done at true) ≡ length is_done = length-set is_done at true in
       let of_moved : set is_done at true ≡ map (has nat_eq (moved ++ at ∷ [])) (range_with_len 0 (length is_done)) =
-        ap (λ bs. set bs at true) are.of_moved ∙ marked_from moved 0 (length is_done) at at (omega arith) within in
+      ap (λ bs. set bs at true) are.of_moved ∙ marked_from moved 0 (length is_done) at at (omega arith) within in
       let count = counted is_done at true within not_set in
       let one_more : length now ≡ length moved + 1 = ap length more ∙ length-append moved (at ∷ []) in
       let few = are.few in
@@ -135,9 +135,9 @@ unfolding first_item
 first_waiting f a zero = refl
 first_waiting f a (suc n) = elim (not (f a)) as (λ b. cond b (Some a) (position_from (λ b. not b) (a + 1) (map f (range_with_len (a + 1) n)))
     ≡ first_item (cond b (a ∷ filter (λ k. not (f k)) (range_with_len (a + 1) n)) (filter (λ k. not (f k)) (range_with_len (a + 1) n)))) [
-  | true ↦ refl
-  | false ↦ first_waiting f (a + 1) n
-]
+      | true ↦ refl
+      | false ↦ first_waiting f (a + 1) n
+    ]
 
 swept : (count : ℕ) (places : List ℕ) (first : Option ℕ) → first ≡ first_item places → sweep_by_first count first ≡ sweep_from count places
 unfolding first_item

@@ -60,7 +60,7 @@ passing_there p source a (suc n) (suc k) within passes =
     let same : (a + 1) + k ≡ a + suc k = omega arith in
     let rest = passing_there p source (a + 1) n k (omega arith) (ap (λ i. p (granule_at source i)) same ∙ passes) in
     let later : has same_granule (filter p (map (granule_at source) (range_with_len (a + 1) n))) (granule_at source (a + suc k)) ≡ true =
-      ap (λ i. has same_granule (filter p (map (granule_at source) (range_with_len (a + 1) n))) (granule_at source i)) (sym same) ∙ rest in
+    ap (λ i. has same_granule (filter p (map (granule_at source) (range_with_len (a + 1) n))) (granule_at source i)) (sym same) ∙ rest in
     elim (p (granule_at source a)) as (λ b. has same_granule (cond b (granule_at source a ∷ filter p (map (granule_at source) (range_with_len (a + 1) n))) (filter p (map (granule_at source) (range_with_len (a + 1) n)))) (granule_at source (a + suc k)) ≡ true) [
       | true ↦ or_right _ _ later
       | false ↦ later
@@ -137,7 +137,7 @@ module _ (live : Stored) (aside : Aside) (tied : IsTied live aside) where
     part_is =
         let places = λ (s : Stored). map (λ i. place_of_ref s.table (item_ref i)) target.arm.items in
         let one : (s : Stored) → s ≡ source → map (λ row. map (cell row) aside.places) (slice_range s.rows k (k + 1)) ≡ image ∷ [] =
-          λ s e. ap (λ (s : Stored). map (λ row. map (cell row) aside.places) (slice_range s.rows k (k + 1))) e ∙ ap (map (λ row. map (cell row) aside.places)) (one_row source.rows k within) in
+        λ s e. ap (λ (s : Stored). map (λ row. map (cell row) aside.places) (slice_range s.rows k (k + 1))) e ∙ ap (map (λ row. map (cell row) aside.places)) (one_row source.rows k within) in
         ap (λ b. cond b (arm_rows old target.arm (slice_range (source_at old source.table.name).rows k (k + 1))) []) (same_name-itself source.table.name)
         ∙ ap (λ ps. map (λ row. map (cell row) ps) (slice_range (source_at old source.table.name).rows k (k + 1))) (sym tied.places)
         ∙ one (source_at old source.table.name) source_is
@@ -221,11 +221,11 @@ images_where live aside tied column value within =
     let place = get_or aside.places column 0 in
     let long : length (images_of aside) ≡ length rows = length-map rows image in
     let same : (k : ℕ) → k < length rows → has_value column value (get_or (images_of aside) (0 + k) []) ≡ has_value place value (get_or rows (0 + k) []) = λ k below.
-      let zero_on : 0 + k ≡ k = omega arith in
-      ap (λ i. has_value column value (get_or (images_of aside) i [])) zero_on
-      ∙ ap (has_value column value) (get_or-map image rows k [] [] below)
-      ∙ ap (λ v. is_eq (value_cmp v value)) (get_or-map (cell (get_or rows k [])) aside.places column 0 (Int (pos 0)) within)
-      ∙ sym (ap (λ i. has_value place value (get_or rows i [])) zero_on) in
+    let zero_on : 0 + k ≡ k = omega arith in
+    ap (λ i. has_value column value (get_or (images_of aside) i [])) zero_on
+    ∙ ap (has_value column value) (get_or-map image rows k [] [] below)
+    ∙ ap (λ v. is_eq (value_cmp v value)) (get_or-map (cell (get_or rows k [])) aside.places column 0 (Int (pos 0)) within)
+    ∙ sym (ap (λ i. has_value place value (get_or rows i [])) zero_on) in
     ap (λ n. filter (λ k. has_value column value (get_or (images_of aside) k [])) (range_with_len 0 n)) long
     ∙ filter_places (λ k. has_value column value (get_or (images_of aside) k [])) (λ k. has_value place value (get_or rows k [])) 0 (length rows) same
 
@@ -257,7 +257,7 @@ moved_last live aside next left seen ks e =
     }) in
     let at = granule_at aside.source.table.name in
     let done : map at (with_moves aside.moved ks) ≡ map at aside.moved ++ filter (λ g. not (has same_granule (map at aside.moved) g)) (map at ks) =
-      map-append at aside.moved (filter (λ k. not (has nat_eq aside.moved k)) ks) ∙ ap (λ gs. map at aside.moved ++ gs) (sym (waiting aside.source.table.name aside.moved ks)) in
+    map-append at aside.moved (filter (λ k. not (has nat_eq aside.moved k)) ks) ∙ ap (λ gs. map at aside.moved ++ gs) (sym (waiting aside.source.table.name aside.moved ks)) in
     let there : state next.table left.source left.moved ≡ state live.table aside.source (with_moves aside.moved ks) = λ i. state (seen.table i) (seen.source i) (e i) in
     let told : List Granule → Option Migration = λ gs. Some (record {
       number = 1;

@@ -1,11 +1,9 @@
 //! A table that a migration has set aside, and the moves of its rows into the new one.
 
-ghost use Rattle.std.specs.Prelude.{◌≡◌, ◌<◌, ◌≤◌, [], ◌∷◌, true, length, map, slice_index_or, IsTrue, IfOk, OnOk};
+ghost use Rattle.std.specs.Prelude.{◌≡◌, ◌<◌, [], ◌∷◌, length, nat_lt, IsTrue, IfOk, OnOk};
 ghost use Rattle.std.specs.List.{list_all, range_with_len};
-ghost use Rattle.std.specs.Prelude.{nat_lt};
 ghost use Rattle.bf_base.specs.Tables.{cells};
-ghost use Rattle.bf_sql.specs.Migrations.{most_rows};
-ghost use Rattle.bf_run.specs.Engine.{Aside, IsSeenStill, IsTied, has_value, images_of, marked_of, places_where, row_at, sweep_by_marks, with_moves};
+ghost use Rattle.bf_run.specs.Engine.{IsSeenStill, IsTied, has_value, images_of, marked_of, places_where, sweep_by_marks, with_moves};
 
 use crate::engine::live::Live;
 use crate::engine::marks::Marks;

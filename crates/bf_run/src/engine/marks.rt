@@ -1,6 +1,6 @@
 //! Which rows of a table have moved, and in what order.
 
-ghost use Rattle.std.specs.Prelude.{◌≡◌, ◌+◌, ◌<◌, ◌≤◌, [], ◌∷◌, ◌++◌, length, false, not, nat_eq, position, IfOk, IfSome};
+ghost use Rattle.std.specs.Prelude.{◌≡◌, ◌<◌, ◌≤◌, [], ◌∷◌, ◌++◌, length, false, not, nat_eq, position, IfOk, IfSome};
 ghost use Rattle.bf_base.specs.Lists.{has};
 ghost use Rattle.bf_sql.specs.Migrations.{most_rows};
 ghost use Rattle.bf_run.specs.Engine.{sweep_by_marks};
@@ -24,10 +24,9 @@ pub struct Marks {
 impl Model for Marks {
     ghost use Rattle.std.specs.Prelude.{length};
     ghost use Rattle.bf_run.specs.Engine.{Marked};
+    ghost use Rattle.bf_run.specs.Marks.{AreMarks};
 
     ghost Value = { Marked };
-
-    ghost use Rattle.bf_run.specs.Marks.{AreMarks};
 
     ghost view = { λ marks. record { count = length marks.is_done.items; moved = marks.moved.items } };
 
