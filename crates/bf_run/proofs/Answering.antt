@@ -1,6 +1,7 @@
 -- A statement on the live rows, once what it needs has moved.
-use Rattle.std.proofs.Common.{◌≡◌, ℕ, Bool, true, false, not, ◌||◌, cond, List, [], ◌∷◌, ◌++◌, map, filter, Option, Some, None, Result, Ok, Err, IfOk, OnOk, refl, sym, ap, ap₂, subst, ◌∙◌, inl, inr, arith, append_assoc}
-use Rattle.std.specs.List.{list_any, list_all}
+use Rattle.std.proofs.Common.{◌≡◌, ℕ, true, not, ◌||◌, cond, List, [], ◌∷◌, ◌++◌, map, filter, Option, Some, None, Result, Ok, Err, IfOk, OnOk, refl, sym, ap, ap₂, subst, ◌∙◌, inl, inr, arith, append_assoc}
+use Rattle.std.specs.List.{list_all}
+use Rattle.std.proofs.Math.Bool.{or-true}
 use Rattle.std.proofs.lemmas.Bool.{cases_Bool, and_from, not_from_false}
 use Rattle.std.proofs.lemmas.Bool.Decides.{nat_tests}
 use Rattle.std.proofs.lemmas.List.{append-nil}
@@ -88,16 +89,12 @@ all_in done before (g ∷ gs) =
           let parted = filter-append fresh before (g ∷ gs) ∙ ap (λ b. filter fresh before ++ cond b (g ∷ filter fresh gs) (filter fresh gs)) comes in
           let there : has same_granule (filter fresh (before ++ g ∷ gs)) g ≡ true =
           ap (λ hs. has same_granule hs g) parted ∙ list_any-append (same_granule g) (filter fresh before) (g ∷ filter fresh gs)
-          ∙ ap (λ b. has same_granule (filter fresh before) g || (b || has same_granule (filter fresh gs) g)) (same_granule-itself g) ∙ or_true (has same_granule (filter fresh before) g) in
-          ap (λ b. has same_granule done g || b) there ∙ or_true (has same_granule done g)
+          ∙ ap (λ b. has same_granule (filter fresh before) g || (b || has same_granule (filter fresh gs) g)) (same_granule-itself g) ∙ or-true (has same_granule (filter fresh before) g) in
+          ap (λ b. has same_granule done g || b) there ∙ or-true (has same_granule done g)
     ] in
     let rest : list_all (has same_granule all) gs ≡ true =
     subst (λ (hs : List Granule). list_all (has same_granule (done ++ filter fresh hs)) gs ≡ true) (append_assoc before (g ∷ []) gs) (all_in done (before ++ g ∷ []) gs) in
     and_from _ _ here rest
-  where
-    or_true : (b : Bool) → (b || true) ≡ true
-    or_true true = refl
-    or_true false = refl
 
 all_done : (last : Option Migration) (db : Database) (s : Statement) (granules : List Granule) → needed_by last db s ≡ granules → list_all (has same_granule (done_of (with_moved last granules))) granules ≡ true
 all_done None db s granules need = ap (list_all (has same_granule [])) (sym need)

@@ -1,25 +1,24 @@
 -- What an INSERT of a row of numbers means on a table that is served.
-use Rattle.std.proofs.Common.{◌≡◌, ℕ, ℤ, ◌+◌, Bool, true, false, not, ◌&&◌, ◌==◌, cond, List, [], ◌∷◌, ◌++◌, map, flat_map, zip, length, insert, refl, sym, ap, ap₂, subst, ◌∙◌, arith, IsTrue, eqb}
+use Rattle.std.proofs.Common.{◌≡◌, ℕ, ℤ, Bool, true, false, not, ◌==◌, cond, List, [], ◌∷◌, ◌++◌, map, flat_map, zip, length, insert, refl, sym, ap, ap₂, subst, ◌∙◌, arith, IsTrue}
 use Rattle.std.specs.List.{list_all, AllByRecursion}
 use Rattle.std.proofs.lemmas.Bool.{and_parts, and_from}
 use Rattle.std.proofs.lemmas.Bool.Decides.{nat_tests}
-use Rattle.std.proofs.lemmas.List.{append-nil, length-map}
+use Rattle.std.proofs.lemmas.List.{append-nil}
 use Rattle.bf_base.specs.declared.value.Value.{Value}
 use Rattle.bf_base.specs.declared.value.Value.TheVariants.{Int}
 use Rattle.bf_base.specs.declared.table.Admit.TheVariants as admits
 use Rattle.bf_base.specs.declared.table.Column.{Column}
 use Rattle.bf_base.specs.declared.table.Table.{Table}
 use Rattle.bf_base.specs.Values.{key_cmp, key_cmp_total}
-use Rattle.bf_base.specs.Lists.{same_name, same_key, has, placed, rises, when}
+use Rattle.bf_base.specs.Lists.{placed, when}
 use Rattle.bf_base.specs.Tables.{key_of, kind_of, kind_admitted, same_kind, fit_of}
 use Rattle.bf_base.proofs.Order.{rises-placed, list_all-placed}
 use Rattle.bf_sql.specs.declared.statement.Statement.{Statement}
 use Rattle.bf_sql.specs.declared.statement.Statement.TheVariants.{Insert}
-use Rattle.bf_sql.specs.declared.reply.Reply.{Reply}
 use Rattle.bf_sql.specs.declared.reply.Reply.TheVariants.{Inserted, Refused}
 use Rattle.bf_sql.specs.declared.reply.Refusal.{Refusal}
 use Rattle.bf_sql.specs.declared.reply.Refusal.TheVariants.{TypeMismatch, WrongCount, DuplicateKey}
-use Rattle.bf_sql.specs.Database.{Database, Stored, IsDatabase, is_fit, is_admitted}
+use Rattle.bf_sql.specs.Database.{Stored, is_fit, is_admitted}
 use Rattle.bf_sql.specs.Refusals.{tuple_objections, unfit, unfit_values, objections, row_objections}
 use Rattle.bf_sql.specs.Meaning.{effect, executed, unless_refused}
 use Rattle.bf_sql.proofs.Granules.{same_name-itself}

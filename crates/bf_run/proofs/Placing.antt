@@ -1,11 +1,12 @@
 -- Where a row goes among boxed rows in key order, and which row has a key.
-use Rattle.std.proofs.Common.{◌≡◌, ℕ, zero, suc, ◌+◌, ◌<◌, ◌≤◌, Bool, true, false, List, [], ◌∷◌, map, filter, length, get_or, Ordering, Less, Equal, Greater, Result, Ok, Err, Some, None, IfOk, IfErr, refl, sym, ap, subst, ◌∙◌, inl, inr, arith, insert, IsTrue, is_eq, pos, option_to_list}
+use Rattle.std.proofs.Common.{◌≡◌, ℕ, zero, suc, ◌+◌, ◌<◌, ◌≤◌, true, false, List, [], ◌∷◌, map, filter, length, get_or, Ordering, Less, Equal, Greater, Result, Ok, Err, IfOk, IfErr, refl, sym, ap, subst, ◌∙◌, inl, inr, arith, insert, IsTrue, is_eq, pos, option_to_list}
 use Rattle.std.specs.List.{HoldsAt, range_with_len}
 use Rattle.std.specs.List.Sorted.{IsPartitionPoint, IsNonDecreasingBy, IsSearchInRange, IsBinarySearchResult}
 use Rattle.std.specs.Ordering.{ordering_index, ordering_then}
 use Rattle.std.specs.Result.{result_ok}
 use Rattle.std.proofs.lemmas.Bool.{and_parts, cases_lt}
 use Rattle.std.proofs.lemmas.List.{length-map, get_or-map, get_or_default}
+use Rattle.std.proofs.lemmas.Simd.{map-map}
 use Rattle.bf_base.specs.declared.value.Value.{Value}
 use Rattle.bf_base.specs.declared.value.Value.TheVariants.{Int}
 use Rattle.bf_base.specs.declared.table.Table.{Table}
@@ -20,10 +21,6 @@ use Rattle.bf_run.proofs.Places.{no_place, only_place}
 -- keys of one value are compared by it
 pub one_value : (a b : Value) → key_cmp (a ∷ []) (b ∷ []) ≡ value_cmp a b
 one_value a b = elim (value_cmp a b) as (λ o. ordering_then o Equal ≡ o) [ Less ↦ refl | Equal ↦ refl | Greater ↦ refl ]
-
-map_map : {A B C : Type 0} (g : B → C) (f : A → B) (xs : List A) → map g (map f xs) ≡ map (λ x. g (f x)) xs
-map_map g f [] = refl
-map_map g f (x ∷ xs) = ap (λ ys. g (f x) ∷ ys) (map_map g f xs)
 
 -- what holds of an item by its map holds of the mapped item
 at_map : {A B : Type 0} (f : A → B) (P : B → Type 0) (xs : List A) (k : ℕ) (d : B) → k < length xs → ((e : A) → P (f (get_or xs k e))) → P (get_or (map f xs) k d)
@@ -44,7 +41,7 @@ module _ {B : Type 0} (open_box : B → List Value) (table : Table) (column : �
   key_in box = cell (open_box box) column ∷ []
 
   keys_are : (boxes : List B) → map (key_of table) (map open_box boxes) ≡ map key_in boxes
-  keys_are boxes = rw (one_key, map_map) refl
+  keys_are boxes = rw (one_key, map-map) refl
 
   key_is : (row : List Value) → key_of table row ≡ cell row column ∷ []
   key_is row = rw one_key refl

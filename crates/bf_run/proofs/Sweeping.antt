@@ -1,13 +1,12 @@
 -- How far the migration has come, by the marks.
-use Rattle.std.proofs.Common.{◌≡◌, ℕ, not, cond, nat_eq, List, [], ◌∷◌, map, filter, length, Some, None, unwrap_or, position, refl, sym, ap, ap₂, ◌∙◌}
+use Rattle.std.proofs.Common.{◌≡◌, ℕ, not, cond, nat_eq, List, [], ◌∷◌, map, filter, length, Some, None, unwrap_or, sym, ap, ap₂, ◌∙◌}
 use Rattle.std.specs.List.{range_with_len}
 use Rattle.std.proofs.lemmas.Iterator.Adapters.{position_from-zero}
 use Rattle.std.proofs.lemmas.List.{length-map}
 use Rattle.bf_base.specs.Lists.{same_name, has}
-use Rattle.bf_sql.specs.declared.history.Sweep.{Sweep}
 use Rattle.bf_sql.specs.declared.history.Sweep.TheVariants.{Complete, Running}
 use Rattle.bf_sql.specs.Database.{Stored}
-use Rattle.bf_sql.specs.Lazy.{Granule, same_granule, pending}
+use Rattle.bf_sql.specs.Lazy.{same_granule, pending}
 use Rattle.bf_sql.specs.Movement.{sweep_by, sweep_of, unit_of}
 use Rattle.bf_sql.proofs.Granules.{same_name-itself}
 use Rattle.bf_run.specs.Engine.{Aside, IsTied, granule_at, marked_of, migration_between, sweep_by_marks, sweep_from}

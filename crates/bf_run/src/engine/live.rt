@@ -1,6 +1,6 @@
 //! A table and its rows in key order.
 
-ghost use Rattle.std.specs.Prelude.{◌≡◌, ◌<◌, [], ◌∷◌, map, filter, length, true, false, option_to_list, IsTrue, IfOk, IfErr, IfSome, OnErr, OnOk};
+ghost use Rattle.std.specs.Prelude.{◌≡◌, ◌<◌, [], ◌∷◌, map, filter, length, false, option_to_list, IsTrue, IfOk, IfErr, IfSome, OnErr, OnOk};
 ghost use Rattle.std.specs.List.Sorted.{IsBinarySearchResult, IsSearchInRange};
 ghost use Rattle.bf_base.specs.Values.{value_cmp};
 ghost use Rattle.bf_base.specs.Lists.{same_name};

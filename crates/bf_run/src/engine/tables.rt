@@ -1,11 +1,9 @@
 //! The live table, and what a migration has set aside.
 
 ghost use Rattle.std.specs.Prelude.{◌≡◌, ◌<◌, ◌≤◌, [], ◌∷◌, true, length, None, Some, IfOk, OnErr, OnOk};
-ghost use Rattle.bf_base.specs.Lists.{same_name};
 ghost use Rattle.bf_sql.specs.declared.statement.List.TheVariants.{All};
 ghost use Rattle.bf_sql.specs.declared.statement.Statement.TheVariants.{Insert, Select, Migrate as Flip};
 ghost use Rattle.bf_sql.specs.Database.{empty_database};
-ghost use Rattle.bf_sql.specs.Lazy.{view_of};
 ghost use Rattle.bf_sql.specs.Meaning.{executed};
 ghost use Rattle.bf_sql.specs.Migrations.{most_rows};
 ghost use Rattle.bf_sql.specs.Movement.{sweep_of, with_moved};
