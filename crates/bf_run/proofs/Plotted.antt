@@ -1,5 +1,6 @@
 -- The statements of a plot may run, one after the other.
-use Rattle.std.proofs.Common.{◌≡◌, ℕ, suc, ◌+◌, ◌≤◌, Bool, true, false, not, ◌&&◌, ◌||◌, ◌==◌, cond, nat_eq, List, [], ◌∷◌, ◌++◌, map, filter, flat_map, length, position, unwrap_or, Option, Some, None, is_some, refl, sym, ap, subst, ◌∙◌, inl, inr, arith}
+use Rattle.std.proofs.Common.{◌≡◌, ℕ, suc, ◌+◌, ◌<◌, ◌≤◌, drop, get_or, Bool, true, false, not, ◌&&◌, ◌||◌, ◌==◌, cond, nat_eq, List, [], ◌∷◌, ◌++◌, map, filter, flat_map, length, position, unwrap_or, Option, Some, None, is_some, refl, sym, ap, subst, ◌∙◌, inl, inr, arith}
+use Rattle.std.proofs.Math.Seq.{drop-cons}
 use Rattle.std.specs.List.{list_all, list_any, AllByRecursion, enumerate_from, position_or_len}
 use Rattle.std.proofs.lemmas.Bool.{and_parts, or_right, cases_Bool, false≢true, lt-ltb}
 use Rattle.std.proofs.lemmas.Bool.Decides.{nat_tests}
@@ -237,3 +238,7 @@ plot_may_run plot plainly migrates lazy none created =
     let of = created_is plot.table plot.columns plot.key (view_of lazy) created in
     let may = parts_may (created_table plot.table plot.columns plot.key) (migrated_statements plot.table plot.migrated) (later_may plot.table plot.columns plot.key plot.migrated migrates) plot.parts plainly (view_of lazy) of in
     subst (λ (last : Option Migration). MayAllRun last (view_of lazy) (plot.parts ++ migrated_statements plot.table plot.migrated)) (sym none) may
+
+-- the next of statements that may all run may run
+pub may_run_next : (lazy : LazyState) (ss : List Statement) (at : ℕ) (d : Statement) → at < length ss → MayAllRun lazy.last (view_of lazy) (drop at ss) → MayRun lazy (get_or ss at d)
+may_run_next lazy ss at d within may = may_run lazy (get_or ss at d) (subst (MayAllRun lazy.last (view_of lazy)) (drop-cons ss at d within) may).0
