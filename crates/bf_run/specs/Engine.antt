@@ -1,5 +1,5 @@
 -- The one table that a script of the form has, with its rows, and the table that a MIGRATE sets aside.
-use Rattle.std.specs.Prelude.{◌≡◌, ℕ, ◌+◌, ◌<◌, ◌≤◌, ◌^◌, ℤ, Bool, true, false, not, List, [], ◌∷◌, ◌++◌, map, filter, length, insert, slice_index_or, nat_eq, Option, None, Some, position, unwrap_or}
+use Rattle.std.specs.Prelude.{◌≡◌, ℕ, ◌≤◌, ℤ, Bool, false, not, List, [], ◌∷◌, ◌++◌, map, filter, length, insert, slice_index_or, nat_eq, Option, None, Some, position, unwrap_or}
 use Rattle.std.specs.List.{AllByRecursion, range_with_len}
 use Rattle.std.specs.Ordering.{is_eq}
 use Rattle.bf_base.specs.declared.value.Value.{Value}

@@ -10,7 +10,7 @@ use Rattle.bf_sql.specs.Lazy.{Migration, view_of}
 use Rattle.bf_sql.specs.Meaning.{executed}
 use Rattle.bf_sql.specs.Movement.{migration_after}
 use Rattle.bf_form.specs.Form.{creation, migrated_statements, statements_of}
-use Rattle.bf_run.specs.Serving.{replies_to, entries_from, entry_at}
+use Rattle.bf_run.specs.Serving.{replies_to, entry_at}
 use Rattle.bf_run.specs.Engine.{MayRun}
 use Rattle.bf_run.proofs.Plotted.{MayAllRun, plot_may_run, may_run_next}
 use Rattle.bf_run.proofs.serve.run_all.Goals as goal

@@ -1,4 +1,4 @@
-use Rattle.std.proofs.Common.{◌∙◌, Some, None, sym, arith}
+use Rattle.std.proofs.Common.{◌∙◌, Some, None, arith}
 use Rattle.bf_run.proofs.Marked.{few_moved, swept_by_marks}
 use Rattle.bf_run.proofs.engine.marks.Marks.sweep.Goals as goal
 
