@@ -1,12 +1,12 @@
 -- What private functions promise of the front of a text.
-use Rattle.std.specs.Prelude.{◌≡◌, ℕ, ◌+◌, ◌<◌, ◌≤◌, ◌^◌, Bool, false, ◌&&◌, ◌||◌, ◌==◌, nat_le, if◌then◌else◌, List, [], ◌∷◌, ◌++◌, take, drop, flat_map, length, Option, Some, None, Result, Ok, Err}
+use Rattle.std.specs.Prelude.{◌≡◌, ℕ, ◌+◌, ◌<◌, ◌≤◌, ◌^◌, Bool, false, ◌&&◌, ◌||◌, ◌==◌, nat_le, if◌then◌else◌, List, [], ◌∷◌, ◌++◌, take, drop, flat_map, length, Option, Some, None, Result, Ok, Err, IsTrue}
 use Rattle.bf_lex.specs.declared.sign.Sign.{Sign}
 use Rattle.bf_lex.specs.declared.sign.Sign.TheVariants as sign
 use Rattle.bf_lex.specs.declared.fault.ScriptFault.{ScriptFault}
 use Rattle.bf_lex.specs.declared.fault.ScriptKind.{ScriptKind}
 use Rattle.bf_lex.specs.declared.token.Token.{Token}
 use Rattle.bf_lex.specs.declared.token.TokenKind.{TokenKind}
-use Rattle.bf_lex.specs.Bytes.{is_blank, quote, is_quote, begins, IsGap, IsLastGap}
+use Rattle.bf_lex.specs.Bytes.{is_blank, is_line, line_feed, quote, is_quote, begins, IsGap, IsLastGap}
 use Rattle.bf_lex.specs.Lexemes.{Lexeme, StandsIn, doubled, token_of, number_from}
 use Rattle.bf_lex.specs.Lexing.{IsNext, IsWrong}
 
@@ -14,6 +14,12 @@ use Rattle.bf_lex.specs.Lexing.{IsNext, IsWrong}
 abbrev pub begins_gap : List ℕ → Bool
 begins_gap [] = false
 begins_gap (b ∷ bs) = is_blank b || (b == 45 && begins (λ c. c == 45) bs)
+
+-- a line feed, behind which these bytes stand, ends the line at the front
+pub record EndsLine (text behind : List ℕ) : Type 0 where
+  pub line : List ℕ
+  pub is_line : IsTrue (is_line line)
+  pub split : text ≡ line ++ line_feed ∷ behind
 
 -- the bytes behind a gap that is as long as possible, which are some
 pub record IsBehindGap (text rest : List ℕ) : Type 0 where
@@ -61,7 +67,7 @@ pub record IsClosed (text : List ℕ) (size count : ℕ) : Type 0 where
 -- behind an opening quote, no quote that closes
 pub record IsOpen (text : List ℕ) : Type 0 where
   pub content : List ℕ
-  pub open : text ≡ flat_map doubled content
+  pub unclosed : text ≡ flat_map doubled content
 
 -- the sign of two bytes
 abbrev pub long_sign : ℕ → ℕ → Option Sign

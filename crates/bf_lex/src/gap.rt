@@ -1,8 +1,8 @@
 //! What stands between tokens.
 
-ghost use Rattle.std.specs.Prelude.{◌≡◌, ◌∷◌, ◌++◌, List, ℕ, IsTrue, MatchOption};
-ghost use Rattle.bf_lex.specs.Bytes.{is_blank, is_line, line_feed, IsGap, IsLastGap};
-ghost use Rattle.bf_lex.specs.Reading.{IsBehindGap};
+ghost use Rattle.std.specs.Prelude.{◌≡◌, ◌==◌, IsTrue, MatchOption, position};
+ghost use Rattle.bf_lex.specs.Bytes.{is_blank, is_line, line_feed, IsLastGap};
+ghost use Rattle.bf_lex.specs.Reading.{EndsLine, IsBehindGap};
 
 fn is_blank(byte: u8) -> bool
     ensures { result ≡ is_blank byte }
@@ -10,11 +10,17 @@ fn is_blank(byte: u8) -> bool
     byte == b' ' || byte == b'\t' || byte == b'\n' || byte == b'\r'
 }
 
+fn line_end(text: &[u8]) -> Option<usize>
+    ensures { result ≡ position (λ byte. byte == line_feed) text.now }
+{
+    text.iter().position(|byte| *byte == b'\n')
+}
+
 // The bytes behind the line feed that ends a line, if one does.
 fn behind_line(text: &[u8]) -> Option<&[u8]>
-    ensures { MatchOption result (IsTrue (is_line text.now)) (λ behind. (line : List ℕ) × IsTrue (is_line line) × (text.now ≡ line ++ line_feed ∷ behind.now)) }
+    ensures { MatchOption result (IsTrue (is_line text.now)) (λ behind. EndsLine text.now behind.now) }
 {
-    let end = text.iter().position(|byte| *byte == b'\n')?;
+    let end = line_end(text)?;
     Some(&text[end + 1..])
 }
 
@@ -24,16 +30,14 @@ pub fn behind_gap(text: &[u8]) -> Option<&[u8]>
     ensures { MatchOption result (IsLastGap text.now) (λ rest. IsBehindGap text.now rest.now) }
 {
     let mut rest = text;
-    loop {
-        match rest {
-            [] => return None,
-            [b'-', b'-', line @ ..] => rest = behind_line(line)?,
-            [byte, behind @ ..] => {
-                if !is_blank(*byte) {
-                    return Some(rest);
-                }
-                rest = behind;
-            }
+    while let [first, behind @ ..] = rest {
+        if is_blank(*first) {
+            rest = behind;
+        } else if let [b'-', b'-', line @ ..] = rest {
+            rest = behind_line(line)?;
+        } else {
+            return Some(rest);
         }
     }
+    None
 }
