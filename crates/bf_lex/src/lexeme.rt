@@ -1,6 +1,6 @@
 //! The token at the front of a text.
 
-ghost use Rattle.std.specs.Prelude.{◌≡◌, ◌<◌, IsTrue, MatchOption, length, false};
+ghost use Rattle.std.specs.Prelude.{◌≡◌, ◌<◌, ◌≤◌, IsTrue, MatchOption, length, false};
 ghost use Rattle.std.specs.List.{prefix_len};
 ghost use Rattle.bf_base.specs.Names.{is_digit};
 ghost use Rattle.bf_base.specs.Texts.{is_text_byte, first_bad_of};
@@ -45,13 +45,15 @@ fn is_printable(byte: u8) -> bool
 }
 
 fn word_bytes(text: &[u8]) -> usize
-    ensures { result ≡ prefix_len is_word_byte text.now }
+    ensures value { result ≡ prefix_len is_word_byte text.now }
+    ensures inside { result ≤ length text.now }
 {
     text.iter().take_while(|byte| is_word_byte(**byte)).count()
 }
 
-fn digits(text: &[u8]) -> usize
-    ensures { result ≡ prefix_len is_digit text.now }
+fn digit_bytes(text: &[u8]) -> usize
+    ensures value { result ≡ prefix_len is_digit text.now }
+    ensures inside { result ≤ length text.now }
 {
     text.iter().take_while(|byte| is_digit(**byte)).count()
 }
@@ -95,7 +97,7 @@ fn number(text: &[u8]) -> Result<(TokenKind, usize), (ScriptKind, usize)>
     requires { IsTrue (begins is_digit text.now) }
     ensures { IsRead text.now result }
 {
-    let (digits, _) = text.split_at(digits(text));
+    let (digits, _) = text.split_at(digit_bytes(text));
     match value(digits) {
         Some(value) => Ok((TokenKind::Number(value), digits.len())),
         None => Err((ScriptKind::NumberTooWide, 0)),
@@ -136,22 +138,31 @@ fn quoted(text: &[u8]) -> Result<(TokenKind, usize), (ScriptKind, usize)>
     }
 }
 
+fn begins_quote(text: &[u8]) -> bool
+    ensures { result ≡ begins is_quote text.now }
+{
+    matches!(text, [b'\'', ..])
+}
+
 // How many bytes stand behind an opening quote up to the closing one, which is counted too, and
 // how many bytes they mean; `None` where no quote closes.
 fn closing(text: &[u8]) -> Option<(usize, usize)>
     ensures { MatchOption result (IsOpen text.now) (λ found. IsClosed text.now found.0 found.1) }
 {
     let mut rest = text;
-    let mut content_length = 0;
-    loop {
-        match rest {
-            [] => return None,
-            [b'\'', b'\'', behind @ ..] => rest = behind,
-            [b'\'', behind @ ..] => return Some((text.len() - behind.len(), content_length)),
-            [_, behind @ ..] => rest = behind,
+    let mut count = 0;
+    while let [first, behind @ ..] = rest {
+        if *first != b'\'' {
+            rest = behind;
+            count += 1;
+        } else if begins_quote(behind) {
+            rest = &rest[2..];
+            count += 1;
+        } else {
+            return Some((text.len() - behind.len(), count));
         }
-        content_length += 1;
     }
+    None
 }
 
 fn sign(text: &[u8]) -> Result<(TokenKind, usize), (ScriptKind, usize)>
