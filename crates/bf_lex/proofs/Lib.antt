@@ -4,3 +4,4 @@ pub mod Keywords
 pub mod Numbers
 pub mod Standing
 pub mod Quotes
+pub mod Signs

@@ -100,3 +100,14 @@ abbrev pub IsNextRead : {X : Type 0} → ℕ → List ℕ → (X → Token × Li
 IsNextRead place text view (Ok (Some found)) = IsNext place text (view found).0 (view found).1 × ((view found).0.end + length (view found).1 ≡ place + length text) × (length (view found).1 < length text)
 IsNextRead place text view (Ok None) = IsLastGap text
 IsNextRead place text view (Err fault) = IsWrongBehindGap place text fault
+
+-- a sign with its size, or else another
+abbrev pub sized : Option Sign → ℕ → Option (Sign × ℕ) → Option (Sign × ℕ)
+sized (Some s) size other = Some (s, size)
+sized None size other = other
+
+-- the sign at the front, and its size
+abbrev pub sign_front : List ℕ → Option (Sign × ℕ)
+sign_front [] = None
+sign_front (only ∷ []) = sized (short_sign only) 1 None
+sign_front (first ∷ second ∷ rest) = sized (long_sign first second) 2 (sized (short_sign first) 1 None)

@@ -5,7 +5,7 @@ ghost use Rattle.std.specs.List.{prefix_len};
 ghost use Rattle.bf_base.specs.Names.{is_digit};
 ghost use Rattle.bf_base.specs.Texts.{is_text_byte, first_bad_of};
 ghost use Rattle.bf_lex.specs.Bytes.{is_letter, is_word_byte, is_quote, begins};
-ghost use Rattle.bf_lex.specs.Reading.{begins_gap, IsRead, IsClosed, IsOpen, long_sign, number_within, short_sign};
+ghost use Rattle.bf_lex.specs.Reading.{begins_gap, IsRead, IsClosed, IsOpen, long_sign, number_within, short_sign, sign_front};
 
 use crate::fault::ScriptKind;
 use crate::keyword::Keyword;
@@ -173,15 +173,23 @@ fn sign(text: &[u8]) -> Result<(TokenKind, usize), (ScriptKind, usize)>
     requires no_quote { begins is_quote text.now ≡ false }
     ensures { IsRead text.now result }
 {
-    let first = text[0];
-    if let [_, second, ..] = text {
-        if let Some(sign) = long_sign(first, *second) {
-            return Ok((TokenKind::Sign(sign), 2));
-        }
-    }
-    match short_sign(first) {
-        Some(sign) => Ok((TokenKind::Sign(sign), 1)),
+    match sign_at(text) {
+        Some((sign, length)) => Ok((TokenKind::Sign(sign), length)),
         None => Err((ScriptKind::BadByte, 0)),
+    }
+}
+
+// The sign at the front of a text, and its length.
+fn sign_at(text: &[u8]) -> Option<(Sign, usize)>
+    ensures { result ≡ sign_front text.now }
+{
+    match text {
+        [] => None,
+        [only] => Some((short_sign(*only)?, 1)),
+        [first, second, ..] => match long_sign(*first, *second) {
+            Some(sign) => Some((sign, 2)),
+            None => Some((short_sign(*first)?, 1)),
+        },
     }
 }
 
