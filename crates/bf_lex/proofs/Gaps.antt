@@ -1,8 +1,9 @@
 -- Gaps.
 use Rattle.std.proofs.Common.{◌≡◌, ℕ, ◌<◌, length, get_or, drop, arith, Bool, true, false, List, [], ◌∷◌, ◌++◌, IsTrue, refl, sym, subst, ap, ◌∙◌, append_assoc}
+use Rattle.std.proofs.lemmas.Bool.{both_ways, or_parts, true≢false}
 use Rattle.std.proofs.lemmas.List.{append-nil, nil_from_length}
 use Rattle.bf_lex.specs.Bytes.{is_blank, is_line, line_feed, IsGap, nothing, blank, comment, IsLastGap, closed, open_comment}
-use Rattle.bf_lex.specs.Reading.{EndsLine, IsBehindGap}
+use Rattle.bf_lex.specs.Reading.{begins_gap, EndsLine}
 
 pub gap-append : {g h : List ℕ} → IsGap g → IsGap h → IsGap (g ++ h)
 gap-append nothing k = k
@@ -66,3 +67,22 @@ all_passed text rest p h = passed_all text (subst (Passed text) (nil_from_length
 
 pub ends_in_comment : (text rest : List ℕ) → Passed text rest → 1 < length rest → get_or rest 0 0 ≡ 45 → get_or rest 1 0 ≡ 45 → IsTrue (is_line (drop 2 rest)) → IsLastGap text
 ends_in_comment text rest p h first second is = passed_open text (drop 2 rest) (subst (Passed text) (two_dashes rest h first second) p) is
+
+-- a gap that is no part of a longer one is nothing
+pub gap_begins : {g : List ℕ} → IsGap g → (rest : List ℕ) → begins_gap (g ++ rest) ≡ false → g ≡ []
+gap_begins nothing rest e = refl
+gap_begins (blank byte is k) rest e = absurd (both_ways (is_blank byte) (or_parts _ _ e).0 is)
+gap_begins (comment line is k) rest e = absurd (true≢false e)
+
+last_gap_begins : {g : List ℕ} → IsLastGap g → begins_gap g ≡ false → g ≡ []
+last_gap_begins (closed {gap = gap} k) e = gap_begins k [] (ap begins_gap (append-nil gap) ∙ e)
+last_gap_begins (open_comment {gap = gap} line is k) e =
+    let none : gap ≡ [] = gap_begins k (45 ∷ 45 ∷ line) e in
+    let shown : begins_gap ([] ++ 45 ∷ 45 ∷ line) ≡ false = subst (λ (g : List ℕ). begins_gap (g ++ 45 ∷ 45 ∷ line) ≡ false) none e in
+    absurd (true≢false shown)
+
+pub no_gap : (text : List ℕ) → begins_gap text ≡ false → (gap behind : List ℕ) → text ≡ gap ++ behind → IsGap gap → gap ≡ []
+no_gap text e gap behind split k = gap_begins k behind (ap begins_gap (sym split) ∙ e)
+
+pub no_last_gap : (text : List ℕ) → 0 < length text → begins_gap text ≡ false → IsLastGap text → ⊥
+no_last_gap text some e k = let none = ap length (last_gap_begins k e) in omega arith

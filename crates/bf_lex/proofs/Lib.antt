@@ -1,7 +1,8 @@
+pub mod Firsts
 pub mod Fronts
 pub mod Gaps
 pub mod Keywords
 pub mod Numbers
-pub mod Standing
 pub mod Quotes
 pub mod Signs
+pub mod Standing

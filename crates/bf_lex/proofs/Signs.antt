@@ -48,12 +48,12 @@ long_token_at a c bs s e = record {
   is_token = refl;
 }
 
-sized_is : (o : Option Sign) (size : ℕ) (other : Option (Sign × ℕ)) (s : Sign) (n : ℕ) → sized o size other ≡ Some (s, n)
+pub sized_is : (o : Option Sign) (size : ℕ) (other : Option (Sign × ℕ)) (s : Sign) (n : ℕ) → sized o size other ≡ Some (s, n)
     → ((o ≡ Some s) × (size ≡ n)) ⊎ ((o ≡ None) × (other ≡ Some (s, n)))
 sized_is None size other s n e = inr (refl, e)
 sized_is (Some x) size other s n e = let same = some_pair_parts x s size n e in inl (ap Some same.0, same.1)
 
-short_is : (a : ℕ) (s : Sign) (n : ℕ) → sized (short_sign a) 1 None ≡ Some (s, n) → (short_sign a ≡ Some s) × (1 ≡ n)
+pub short_is : (a : ℕ) (s : Sign) (n : ℕ) → sized (short_sign a) 1 None ≡ Some (s, n) → (short_sign a ≡ Some s) × (1 ≡ n)
 short_is a s n e = elim (sized_is (short_sign a) 1 None s n e) [
   | inl found ↦ found
   | inr none ↦ absurd (none-some (s, n) none.1)
