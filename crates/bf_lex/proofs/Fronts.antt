@@ -30,6 +30,9 @@ position_is test xs n e =
     let found = cond_some (ltb (prefix_len (λ x. not (test x)) xs) (length xs)) (prefix_len (λ x. not (test x)) xs) n e in
     grind (arith, nat_tests)
 
+pub position_inside : (test : ℕ → Bool) (xs : List ℕ) (n : ℕ) → position test xs ≡ Some n → n < length xs
+position_inside test xs n e = (position_is test xs n e).1
+
 no_position : (test : ℕ → Bool) (xs : List ℕ) → position test xs ≡ None → length xs ≤ prefix_len (λ x. not (test x)) xs
 no_position test xs e = grind (arith, nat_tests)
 

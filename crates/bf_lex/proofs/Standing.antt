@@ -1,8 +1,8 @@
 -- What stands at the front of a text, as the functions read it.
 use Rattle.std.proofs.Common.{◌≡◌, ℕ, zero, suc, ◌+◌, ◌<◌, ◌≤◌, ◌^◌, Bool, true, false, not, ◌&&◌, cond, List, [], ◌∷◌, ◌++◌, length, take, drop, get_or, flat_map, Option, Some, None, Result, Ok, Err, IsTrue, refl, sym, subst, ap, ◌∙◌, inl, inr, arith, length-append}
 use Rattle.std.specs.List.{list_all, prefix_len}
-use Rattle.std.proofs.Math.Numerals.{one-add}
-use Rattle.std.proofs.lemmas.Bool.{and_from, and_parts}
+use Rattle.std.proofs.Math.Numerals.{add-one, one-add}
+use Rattle.std.proofs.lemmas.Bool.{and_from, eqb-true}
 use Rattle.std.proofs.lemmas.List.{take-append-drop, length-take-le}
 use Rattle.std.proofs.lemmas.List.Sums.{prefix_len-le-length}
 use Rattle.std.proofs.lemmas.List.Folds.{length-prefix_len}
@@ -97,3 +97,28 @@ pub misread_number : (text bytes : List ℕ) (size : ℕ) (kind : ScriptKind) (o
 misread_number text bytes size kind offset e longest front no_token =
     let stands : Stands Digits text size = rw longest (number_stands text e) in
     misread Digits text bytes size kind offset stands front no_token
+
+text_stands : (text : List ℕ) (size count : ℕ) → begins is_quote text ≡ true → (k : IsClosed (drop 1 text) size count) → Stands (Quoted k.content) text (size + 1)
+text_stands [] size count e k = absurd cc
+text_stands (a ∷ rest) size count e k =
+    let opening : a ≡ quote = eqb-true a quote e in
+    rw add-one (record {
+      spelled = ap (λ (b : ℕ). b ∷ take size rest) opening ∙ ap (λ (bs : List ℕ). quote ∷ bs) k.closed;
+      ends = k.ends;
+    })
+
+text_inside : (text : List ℕ) (size count : ℕ) → begins is_quote text ≡ true → IsClosed (drop 1 text) size count → size + 1 ≤ length text
+text_inside [] size count e k = absurd cc
+text_inside (a ∷ rest) size count e k = omega (arith, k.inside)
+
+pub read_text : (text bytes : List ℕ) (size count : ℕ) (kind : TokenKind)
+    → begins is_quote text ≡ true → (k : IsClosed (drop 1 text) size count) → bytes ≡ take (size + 1) text → token_of (Quoted k.content) bytes ≡ Ok kind
+    → IsTokenAt text kind (length bytes)
+read_text text bytes size count kind e k front is_token =
+    read (Quoted k.content) text bytes (size + 1) kind (text_stands text size count e k) (omega arith) (text_inside text size count e k) front is_token
+
+pub misread_text : (text bytes : List ℕ) (size count : ℕ) (kind : ScriptKind) (offset : ℕ)
+    → begins is_quote text ≡ true → (k : IsClosed (drop 1 text) size count) → bytes ≡ take (size + 1) text → token_of (Quoted k.content) bytes ≡ Err (kind, offset)
+    → IsWrong text kind offset
+misread_text text bytes size count kind offset e k front no_token =
+    misread (Quoted k.content) text bytes (size + 1) kind offset (text_stands text size count e k) front no_token
