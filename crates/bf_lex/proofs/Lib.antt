@@ -2,6 +2,7 @@ pub mod Firsts
 pub mod Fronts
 pub mod Gaps
 pub mod Keywords
+pub mod Lexings
 pub mod Numbers
 pub mod Quotes
 pub mod Signs

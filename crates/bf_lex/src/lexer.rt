@@ -1,6 +1,6 @@
 //! From bytes to tokens.
 
-ghost use Rattle.std.specs.Prelude.{◌≡◌, ◌≤◌, ◌^◌, ℕ, List, Ok, Err, length, IfOk, Result};
+ghost use Rattle.std.specs.Prelude.{◌≡◌, ◌+◌, ◌≤◌, ◌^◌, ℕ, List, Ok, Err, length, IfOk, Result};
 ghost use Rattle.bf_base.specs.Texts.{IsText};
 ghost use Rattle.bf_lex.specs.declared.fault.ScriptFault.{ScriptFault as FaultValue};
 ghost use Rattle.bf_lex.specs.declared.token.Token.{Token as TokenValue};
