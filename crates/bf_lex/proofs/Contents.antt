@@ -44,9 +44,9 @@ copied_more bytes buffer rest behind count k s behind_is =
     let room : count < 255 = omega (arith, old_is.short, counted, length-append (take count buffer) (s.byte ∷ s.others)) in
     let new : List ℕ = set buffer count (get_or rest 0 0) in
     let copied : take (count + 1) new ≡ take count buffer ++ s.byte ∷ [] =
-        take_more_set buffer count (get_or rest 0 0) (omega (arith, k.size, room)) ∙ ap (λ (b : ℕ). take count buffer ++ b ∷ []) (first_is k.left rest s) in
+    take_more_set buffer count (get_or rest 0 0) (omega (arith, k.size, room)) ∙ ap (λ (b : ℕ). take count buffer ++ b ∷ []) (first_is k.left rest s) in
     let content : take (count + 1) new ++ s.others ≡ take count buffer ++ k.left =
-        ap (λ (bs : List ℕ). bs ++ s.others) copied ∙ append_assoc (take count buffer) (s.byte ∷ []) s.others ∙ ap (λ (bs : List ℕ). take count buffer ++ bs) (sym s.left_is) in
+    ap (λ (bs : List ℕ). bs ++ s.others) copied ∙ append_assoc (take count buffer) (s.byte ∷ []) s.others ∙ ap (λ (bs : List ℕ). take count buffer ++ bs) (sym s.left_is) in
     record {
       left = s.others;
       whole = k.whole ∙ ap quoted (sym content);

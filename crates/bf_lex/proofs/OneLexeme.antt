@@ -42,9 +42,10 @@ digits [] e = refl
 digits (b ∷ bs) e = e
 
 same_size : (b c x y : List ℕ) → b ++ x ≡ c ++ y → length b ≡ length c → (b ≡ c) × (x ≡ y)
-same_size b c x y e n =
-    (sym (take_at b x (length b) refl) ∙ ap (take (length b)) e ∙ take_at c y (length b) (sym n),
-      sym (drop_at b x (length b) refl) ∙ ap (drop (length b)) e ∙ drop_at c y (length b) (sym n))
+same_size b c x y e n = (
+  sym (take_at b x (length b) refl) ∙ ap (take (length b)) e ∙ take_at c y (length b) (sym n),
+  sym (drop_at b x (length b) refl) ∙ ap (drop (length b)) e ∙ drop_at c y (length b) (sym n),
+)
 
 -- what two lexemes at one front share
 pub record SameLexeme (l m : Lexeme) (b c x y : List ℕ) : Type 0 where

@@ -39,7 +39,7 @@ record SameNext (t u : Token) (x y : List ℕ) : Type 0 where
 one_next : (at : ℕ) (text : List ℕ) (t u : Token) (x y : List ℕ) → IsNext at text t x → IsNext at text u y → SameNext t u x y
 one_next at text t u x y n m =
     let gaps = one_gap n.is_gap m.is_gap (n.bytes ++ x) (m.bytes ++ y) (sym n.split ∙ m.split)
-        (lexeme_behind n.lexeme (n.bytes ++ x) n.bytes x refl n.stands) (lexeme_behind m.lexeme (m.bytes ++ y) m.bytes y refl m.stands) in
+    (lexeme_behind n.lexeme (n.bytes ++ x) n.bytes x refl n.stands) (lexeme_behind m.lexeme (m.bytes ++ y) m.bytes y refl m.stands) in
     let same = one_lexeme n.lexeme m.lexeme n.bytes m.bytes x y n.stands m.stands gaps.1 in
     let tokens : token_of n.lexeme n.bytes ≡ token_of m.lexeme m.bytes = λ i. token_of (same.lexeme i) (same.bytes i) in
     let kinds : t.kind ≡ u.kind = same_ok t.kind u.kind (sym n.is_token ∙ tokens ∙ m.is_token) in
@@ -137,7 +137,7 @@ one_fault : (text : List ℕ) (one other : ScriptFault) → IsFirstFault text on
 one_fault text one other f g =
     let same = one_front 0 text f.before g.before f.place g.place f.rest g.rest f.front g.front (ended_wrong text one f) (ended_wrong text other g) in
     let gaps = one_gap f.is_gap g.is_gap f.wrong g.wrong (sym f.split ∙ same.rest ∙ g.split)
-        (wrong_no_gap f.wrong one.kind f.offset f.is_wrong) (wrong_no_gap g.wrong other.kind g.offset g.is_wrong) in
+    (wrong_no_gap f.wrong one.kind f.offset f.is_wrong) (wrong_no_gap g.wrong other.kind g.offset g.is_wrong) in
     let there : IsWrong f.wrong other.kind g.offset = subst (λ (bs : List ℕ). IsWrong bs other.kind g.offset) (sym gaps.1) g.is_wrong in
     let wrong = same_wrong f.wrong one.kind other.kind f.offset g.offset f.is_wrong there in
     let ats : one.at ≡ other.at = f.at ∙ (λ i. same.place_is i + length (gaps.0 i) + wrong.1 i) ∙ sym g.at in

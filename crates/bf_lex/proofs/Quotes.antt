@@ -46,7 +46,7 @@ pub closes : (text rest : List ℕ) (count : ℕ) → Written text rest count �
 closes text rest count w some first ends =
     let front : List ℕ = flat_map doubled w.content ++ quote ∷ [] in
     let split : text ≡ front ++ drop 1 rest = w.split ∙ ap (λ (bs : List ℕ). flat_map doubled w.content ++ bs) (first_byte rest some ∙ ap (λ (b : ℕ). b ∷ drop 1 rest) first)
-        ∙ sym (append_assoc (flat_map doubled w.content) (quote ∷ []) (drop 1 rest)) in
+    ∙ sym (append_assoc (flat_map doubled w.content) (quote ∷ []) (drop 1 rest)) in
     let whole : length text ≡ length front + length (drop 1 rest) = ap length split ∙ length-append front (drop 1 rest) in
     let size : length front ≡ length text - length (drop 1 rest) = omega arith in
     record {

@@ -60,7 +60,12 @@ macro_rules! keywords {
 }
 
 // The words of the keywords in order, so that each stands at the place of its keyword's number.
-static WORDS: [&str; 39] = ["all", "and", "as", "begin", "between", "by", "check", "commit", "count", "create", "delete", "from", "group", "index", "insert", "int", "into", "join", "keep", "key", "max", "migrate", "min", "not", "on", "or", "phase", "primary", "rollback", "select", "session", "set", "sum", "table", "union", "update", "values", "varchar", "where"];
+static WORDS: [&str; 39] = [
+    "all", "and", "as", "begin", "between", "by", "check", "commit", "count", "create", "delete",
+    "from", "group", "index", "insert", "int", "into", "join", "keep", "key", "max", "migrate",
+    "min", "not", "on", "or", "phase", "primary", "rollback", "select", "session", "set", "sum",
+    "table", "union", "update", "values", "varchar", "where",
+];
 
 impl Keyword {
     /// The keyword's number, below 39: its place in the order of the words. Takes no memory.
@@ -90,7 +95,48 @@ impl Keyword {
     pub fn cases() -> Cases<39>
         ensures { (keyword : Keyword) → word_at result (number_of keyword) ≡ Some (word_of keyword) }
     {
-        of_cases([(0, "all"), (1, "and"), (2, "as"), (3, "begin"), (4, "between"), (5, "by"), (6, "check"), (7, "commit"), (8, "count"), (9, "create"), (10, "delete"), (11, "from"), (12, "group"), (13, "index"), (14, "insert"), (15, "int"), (16, "into"), (17, "join"), (18, "keep"), (19, "key"), (20, "max"), (21, "migrate"), (22, "min"), (23, "not"), (24, "on"), (25, "or"), (26, "phase"), (27, "primary"), (28, "rollback"), (29, "select"), (30, "session"), (31, "set"), (32, "sum"), (33, "table"), (34, "union"), (35, "update"), (36, "values"), (37, "varchar"), (38, "where")]).unwrap()
+        of_cases([
+            (0, "all"),
+            (1, "and"),
+            (2, "as"),
+            (3, "begin"),
+            (4, "between"),
+            (5, "by"),
+            (6, "check"),
+            (7, "commit"),
+            (8, "count"),
+            (9, "create"),
+            (10, "delete"),
+            (11, "from"),
+            (12, "group"),
+            (13, "index"),
+            (14, "insert"),
+            (15, "int"),
+            (16, "into"),
+            (17, "join"),
+            (18, "keep"),
+            (19, "key"),
+            (20, "max"),
+            (21, "migrate"),
+            (22, "min"),
+            (23, "not"),
+            (24, "on"),
+            (25, "or"),
+            (26, "phase"),
+            (27, "primary"),
+            (28, "rollback"),
+            (29, "select"),
+            (30, "session"),
+            (31, "set"),
+            (32, "sum"),
+            (33, "table"),
+            (34, "union"),
+            (35, "update"),
+            (36, "values"),
+            (37, "varchar"),
+            (38, "where"),
+        ])
+        .unwrap()
     }
 }
 
@@ -117,5 +163,8 @@ fn place(words: &[&str], word: &[u8]) -> Option<usize>
 fn compare(word: &str, bytes: &[u8]) -> Ordering
     ensures { result ≡ name_cmp word.now (folded bytes.now) }
 {
-    word.as_bytes().iter().copied().cmp(bytes.iter().map(|byte| lower(*byte)))
+    word.as_bytes()
+        .iter()
+        .copied()
+        .cmp(bytes.iter().map(|byte| lower(*byte)))
 }

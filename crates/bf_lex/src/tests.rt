@@ -53,12 +53,24 @@ fn keywords_have_numbers_and_words(rt: HostRuntime) -> Result<(), Fail> {
         let keyword = Keyword::of_number(number).ok_or("no keyword")?;
         let word = cases.by_number(number).ok_or("no word")?;
         assert_eq!(rt; keyword.number(), number);
-        assert_eq!(rt; Keyword::of_word(word.as_bytes()), Some(keyword), "of {word}");
+        assert_eq!(rt;
+            Keyword::of_word(word.as_bytes()),
+            Some(keyword),
+            "of {word}"
+        );
     }
     assert_eq!(rt; Keyword::of_number(39), None);
     assert_eq!(rt; Keyword::of_word(b"WHERE"), Some(Keyword::Where));
     assert_eq!(rt; Keyword::of_word(b"All"), Some(Keyword::All));
-    for word in [b"".as_slice(), b"al", b"alll", b"inte", b"a\xCCl", b"wherea", b"zone"] {
+    for word in [
+        b"".as_slice(),
+        b"al",
+        b"alll",
+        b"inte",
+        b"a\xCCl",
+        b"wherea",
+        b"zone",
+    ] {
         assert_eq!(rt; Keyword::of_word(word), None, "of {word:?}");
     }
     Ok(())
@@ -69,14 +81,36 @@ fn numbers_reach_to_2_to_the_63(rt: HostRuntime) -> Result<(), Fail> {
     let alloc = rt.alloc();
     let largest = TokenKind::Number(9_223_372_036_854_775_808);
     lexes(&rt, alloc, b"9223372036854775808", &[token(largest, 0, 19)])?;
-    lexes(&rt, alloc, b"000000000000000009223372036854775808 0", &[
-        token(largest, 0, 36),
-        token(TokenKind::Number(0), 37, 38),
-    ])?;
+    lexes(
+        &rt,
+        alloc,
+        b"000000000000000009223372036854775808 0",
+        &[token(largest, 0, 36), token(TokenKind::Number(0), 37, 38)],
+    )?;
     lexes(&rt, alloc, b"007", &[token(TokenKind::Number(7), 0, 3)])?;
-    lexes(&rt, alloc, b"1a", &[token(TokenKind::Number(1), 0, 1), token(TokenKind::Name, 1, 2)])?;
-    faults(&rt, alloc, b" 9223372036854775809", 1, ScriptKind::NumberTooWide);
-    faults(&rt, alloc, b"99999999999999999999", 0, ScriptKind::NumberTooWide);
+    lexes(
+        &rt,
+        alloc,
+        b"1a",
+        &[
+            token(TokenKind::Number(1), 0, 1),
+            token(TokenKind::Name, 1, 2),
+        ],
+    )?;
+    faults(
+        &rt,
+        alloc,
+        b" 9223372036854775809",
+        1,
+        ScriptKind::NumberTooWide,
+    );
+    faults(
+        &rt,
+        alloc,
+        b"99999999999999999999",
+        0,
+        ScriptKind::NumberTooWide,
+    );
     Ok(())
 }
 
@@ -85,10 +119,12 @@ fn texts_stand_between_quotes(rt: HostRuntime) -> Result<(), Fail> {
     let alloc = rt.alloc();
     lexes(&rt, alloc, b"''", &[token(TokenKind::Text, 0, 2)])?;
     lexes(&rt, alloc, b"''''", &[token(TokenKind::Text, 0, 4)])?;
-    lexes(&rt, alloc, b"'it''s' 'a--b'", &[
-        token(TokenKind::Text, 0, 7),
-        token(TokenKind::Text, 8, 14),
-    ])?;
+    lexes(
+        &rt,
+        alloc,
+        b"'it''s' 'a--b'",
+        &[token(TokenKind::Text, 0, 7), token(TokenKind::Text, 8, 14)],
+    )?;
     faults(&rt, alloc, b" '", 1, ScriptKind::OpenString);
     faults(&rt, alloc, b"'''", 0, ScriptKind::OpenString);
     faults(&rt, alloc, b"'a\x01''", 0, ScriptKind::OpenString);
@@ -148,18 +184,39 @@ fn signs_are_as_long_as_possible(rt: HostRuntime) -> Result<(), Fail> {
     ];
     for (bytes, sign) in signs {
         assert!(rt; bytes.len() < 3);
-        lexes(&rt, alloc, bytes, &[token(TokenKind::Sign(sign), 0, bytes.len() as u32)])?;
+        lexes(
+            &rt,
+            alloc,
+            bytes,
+            &[token(TokenKind::Sign(sign), 0, bytes.len() as u32)],
+        )?;
         assert_eq!(rt; Sign::of_number(sign.number()), Some(sign));
     }
-    lexes(&rt, alloc, b"<>=", &[
-        token(TokenKind::Sign(Sign::Unequal), 0, 2),
-        token(TokenKind::Sign(Sign::Equal), 2, 3),
-    ])?;
-    lexes(&rt, alloc, b"<=>", &[
-        token(TokenKind::Sign(Sign::LessEqual), 0, 2),
-        token(TokenKind::Sign(Sign::Greater), 2, 3),
-    ])?;
-    for (text, at) in [(b"!".as_slice(), 0), (b"|||", 2), (b"<! =", 1), (b"a#", 1), (b"\xff", 0)] {
+    lexes(
+        &rt,
+        alloc,
+        b"<>=",
+        &[
+            token(TokenKind::Sign(Sign::Unequal), 0, 2),
+            token(TokenKind::Sign(Sign::Equal), 2, 3),
+        ],
+    )?;
+    lexes(
+        &rt,
+        alloc,
+        b"<=>",
+        &[
+            token(TokenKind::Sign(Sign::LessEqual), 0, 2),
+            token(TokenKind::Sign(Sign::Greater), 2, 3),
+        ],
+    )?;
+    for (text, at) in [
+        (b"!".as_slice(), 0),
+        (b"|||", 2),
+        (b"<! =", 1),
+        (b"a#", 1),
+        (b"\xff", 0),
+    ] {
         assert!(rt; text.len() < 9);
         faults(&rt, alloc, text, at, ScriptKind::BadByte);
     }
@@ -171,7 +228,10 @@ fn signs_have_numbers_and_words(rt: HostRuntime) -> Result<(), Fail> {
     let words = "( ) , ; . * + - = <> < <= > >= ||";
     let cases = Sign::cases();
     for (number, word) in (0..15).zip(words.split(' ')) {
-        assert_eq!(rt; Sign::of_number(number).map(|sign| sign.number()), Some(number));
+        assert_eq!(rt;
+            Sign::of_number(number).map(|sign| sign.number()),
+            Some(number)
+        );
         assert_eq!(rt; cases.by_number(number), Some(word));
     }
     assert_eq!(rt; Sign::of_number(15), None);
@@ -181,17 +241,34 @@ fn signs_have_numbers_and_words(rt: HostRuntime) -> Result<(), Fail> {
 #[test]
 fn blanks_and_comments_stand_between_tokens(rt: HostRuntime) -> Result<(), Fail> {
     let alloc = rt.alloc();
-    for text in [b"".as_slice(), b" \t\r\n", b"--", b"-- 'a\x01", b"---\n", b"--\n \n-- "] {
+    for text in [
+        b"".as_slice(),
+        b" \t\r\n",
+        b"--",
+        b"-- 'a\x01",
+        b"---\n",
+        b"--\n \n-- ",
+    ] {
         assert!(rt; text.len() < 99);
         lexes(&rt, alloc, text, &[])?;
     }
     let minus = TokenKind::Sign(Sign::Minus);
-    lexes(&rt, alloc, b"- -", &[token(minus, 0, 1), token(minus, 2, 3)])?;
-    lexes(&rt, alloc, b"a-b", &[
-        token(TokenKind::Name, 0, 1),
-        token(minus, 1, 2),
-        token(TokenKind::Name, 2, 3),
-    ])?;
+    lexes(
+        &rt,
+        alloc,
+        b"- -",
+        &[token(minus, 0, 1), token(minus, 2, 3)],
+    )?;
+    lexes(
+        &rt,
+        alloc,
+        b"a-b",
+        &[
+            token(TokenKind::Name, 0, 1),
+            token(minus, 1, 2),
+            token(TokenKind::Name, 2, 3),
+        ],
+    )?;
     let want = [token(TokenKind::Name, 0, 1), token(TokenKind::Name, 8, 9)];
     lexes(&rt, alloc, b"a--'--\r\nb", &want)?;
     lexes(&rt, alloc, b"a -- # \nb-- c\n", &want)?;
@@ -207,6 +284,9 @@ fn contents_have_their_quotes_once(rt: HostRuntime) -> Result<(), Fail> {
     assert_eq!(rt; content(alloc, b"''")?.as_bytes(), b"".as_slice());
     assert_eq!(rt; content(alloc, b"'a b'")?.as_bytes(), b"a b".as_slice());
     assert_eq!(rt; content(alloc, b"''''")?.as_bytes(), b"'".as_slice());
-    assert_eq!(rt; content(alloc, b"'it''s'''")?.as_bytes(), b"it's'".as_slice());
+    assert_eq!(rt;
+        content(alloc, b"'it''s'''")?.as_bytes(),
+        b"it's'".as_slice()
+    );
     Ok(())
 }
