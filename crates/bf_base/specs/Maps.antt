@@ -5,6 +5,12 @@ use Rattle.std.specs.declared.cmp.Ordering.TheVariants.{Less, Equal, Greater}
 use Rattle.std.specs.Ordering.{is_eq}
 use Rattle.bf_base.specs.Lists.{rises}
 
+-- the entries from one on, with another that compares so with that one, and goes among those behind it where it is greater
+abbrev pub beside : {X : Type 0} → Ordering → X → List X → X → List X → List X
+beside Less y ys x placed = x ∷ y ∷ ys
+beside Equal y ys x placed = x ∷ ys
+beside Greater y ys x placed = y ∷ placed
+
 module _ {X K : Type 0} (cmp : K → K → Ordering) (key : X → K) where
   -- the keys come in order, each once
   abbrev pub is_map : List X → Bool
@@ -21,11 +27,6 @@ module _ {X K : Type 0} (cmp : K → K → Ordering) (key : X → K) where
   abbrev pub with_entry : List X → X → List X
   with_entry [] x = x ∷ []
   with_entry (y ∷ ys) x = beside (cmp (key x) (key y)) y ys x (with_entry ys x)
-   where
-    abbrev beside : Ordering → X → List X → X → List X → List X
-    beside Less y ys x placed = x ∷ y ∷ ys
-    beside Equal y ys x placed = x ∷ ys
-    beside Greater y ys x placed = y ∷ placed
 
   -- the map without the entry of a key
   abbrev pub without_key : List X → K → List X
