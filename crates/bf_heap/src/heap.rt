@@ -186,3 +186,6 @@ impl Heap {
         }
     }
 }
+
+#[cfg(test)]
+mod tests;
