@@ -2,7 +2,7 @@
 use Rattle.std.specs.Prelude.{ℕ, List, Option, IsTrue}
 use Rattle.std.specs.Option.{option_map}
 use Rattle.std.specs.declared.cmp.Ordering.{Ordering}
-use Rattle.std.specs.declared.cmp.Ordering.TheVariants.{Less, Equal, Greater}
+use Rattle.std.specs.Ordering.{ordering_then}
 use Rattle.bf_base.specs.declared.value.Value.{Value}
 use Rattle.bf_base.specs.Values.{key_cmp}
 use Rattle.bf_base.specs.Lists.{name_cmp}
@@ -16,14 +16,9 @@ Spot = List ℕ × List Value
 abbrev pub spot_of : Write → Spot
 spot_of write = (write.table, write.key)
 
-abbrev pub then : Ordering → Ordering → Ordering
-then Less next = Less
-then Greater next = Greater
-then Equal next = next
-
 -- by table, then key
 abbrev pub spot_cmp : Spot → Spot → Ordering
-spot_cmp a b = then (name_cmp a.0 b.0) (key_cmp a.1 b.1)
+spot_cmp a b = ordering_then (name_cmp a.0 b.0) (key_cmp a.1 b.1)
 
 -- what a transaction has last written to a key of a table: nothing where it has not written there, and no row where it
 -- has removed what was there

@@ -1,6 +1,8 @@
 //! What a transaction has written so far.
 #![tactic(auto)]
 
+#[cfg(test)]
+mod tests;
 pub mod workspace;
 pub mod write;
 
