@@ -107,7 +107,6 @@ module _ {K : Type 0} {cmp : K → K → Ordering} (o : IsTotalOrder cmp) {X : T
   pub entry_at-with_entry : (xs : List X) (x : X) (k : K) → entry_at cmp key (with_entry cmp key xs x) k ≡ cond (has_key cmp key k x) (Some x) (entry_at cmp key xs k)
   entry_at-with_entry [] x k = refl
   entry_at-with_entry (y ∷ ys) x k =
-      let found : Bool → Option X → Option X = λ b rest. cond b (Some y) rest in
       elim (cmp (key x) (key y)) as (λ r. cmp (key x) (key y) ≡ r
       → entry_at cmp key (beside r y ys x (with_entry cmp key ys x)) k ≡ cond (has_key cmp key k x) (Some x) (entry_at cmp key (y ∷ ys) k)) [
         | Less ↦ λ e. refl
@@ -116,15 +115,15 @@ module _ {K : Type 0} {cmp : K → K → Ordering} (o : IsTotalOrder cmp) {X : T
             rw (← alike) (elim (has_key cmp key k x) as (λ b. cond b (Some x) (entry_at cmp key ys k) ≡ cond b (Some x) (cond b (Some y) (entry_at cmp key ys k))) [ true ↦ refl | false ↦ refl ])
         | Greater ↦ λ e. rw (entry_at-with_entry ys x k) (not_both x y k e (entry_at cmp key ys k))
       ] refl
-   where
-    not_both : (x y : X) (k : K) → cmp (key x) (key y) ≡ Greater → (rest : Option X)
-        → cond (has_key cmp key k y) (Some y) (cond (has_key cmp key k x) (Some x) rest) ≡ cond (has_key cmp key k x) (Some x) (cond (has_key cmp key k y) (Some y) rest)
-    not_both x y k e rest = elim (cases_Bool (has_key cmp key k x)) [
-      | inl tied ↦
-          let other : cmp (key y) k ≡ Less = sym (alike_right o (key x) k (key y) (equal_from_test _ tied)) ∙ turned o (key x) (key y) e in
-          rw (tied, other) refl
-      | inr apart ↦ rw apart refl
-    ]
+    where
+      not_both : (x y : X) (k : K) → cmp (key x) (key y) ≡ Greater → (rest : Option X)
+          → cond (has_key cmp key k y) (Some y) (cond (has_key cmp key k x) (Some x) rest) ≡ cond (has_key cmp key k x) (Some x) (cond (has_key cmp key k y) (Some y) rest)
+      not_both x y k e rest = elim (cases_Bool (has_key cmp key k x)) [
+        | inl tied ↦
+            let other : cmp (key y) k ≡ Less = sym (alike_right o (key x) k (key y) (equal_from_test _ tied)) ∙ turned o (key x) (key y) e in
+            rw (tied, other) refl
+        | inr apart ↦ rw apart refl
+      ]
 
   pub entry_at-without_key : (xs : List X) (gone k : K) → entry_at cmp key (without_key cmp key xs gone) k ≡ cond (is_eq (cmp gone k)) None (entry_at cmp key xs k)
   entry_at-without_key [] gone k = elim (is_eq (cmp gone k)) as (λ b. ◌≡◌ {A = Option X} None (cond b None None)) [ true ↦ refl | false ↦ refl ]
@@ -172,6 +171,7 @@ module _ {K : Type 0} {cmp : K → K → Ordering} (o : IsTotalOrder cmp) {X B :
       → IsGap o key (map opened boxes) i k
   gap_in_boxes boxes i k h within parted =
       let rising = searchable_from_rises o (λ (b : B). key (opened b)) boxes k (ap (rises cmp) (sym (map-map key opened boxes)) ∙ h) in
-      let here = parted rising in
-      (in_boxes opened (λ x. cmp (key x) k ≡ Less) boxes 0 i within here.0,
-       rw (length-map boxes opened) (in_boxes opened (λ x. cmp (key x) k ≡ Greater) boxes i (length boxes) (omega arith) here.1))
+      let here = parted rising in (
+        in_boxes opened (λ x. cmp (key x) k ≡ Less) boxes 0 i within here.0,
+        rw (length-map boxes opened) (in_boxes opened (λ x. cmp (key x) k ≡ Greater) boxes i (length boxes) (omega arith) here.1),
+      )

@@ -5,7 +5,7 @@ use Rattle.std.specs.declared.cmp.Ordering.TheVariants.{Less, Equal, Greater}
 use Rattle.std.specs.Ordering.{is_eq}
 use Rattle.bf_base.specs.Lists.{rises}
 
--- the entries from one on, with another that compares so with that one, and goes among those behind it where it is greater
+-- an entry x beside the first entry y, with which it compares so: before it, in its place, or placed among those behind it
 abbrev pub beside : {X : Type 0} → Ordering → X → List X → X → List X → List X
 beside Less y ys x placed = x ∷ y ∷ ys
 beside Equal y ys x placed = x ∷ ys
