@@ -98,6 +98,3 @@ pub fn serve(alloc: Global, script: &Script) -> Result<Run, Memory>
         sweep,
     })
 }
-
-#[cfg(test)]
-mod tests;

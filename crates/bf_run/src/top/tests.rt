@@ -97,19 +97,19 @@ fn refuses_in_order_and_moves_nothing_then(rt: HostRuntime) -> Result<(), Fail> 
     Ok(())
 }
 
-// The target has the source's name. The condition on n needs the row with 10 alone, and the new
-// row with 10 was never the old table's.
+// The target has the source's name. The condition on n needs the row with 10 alone, once, and the
+// new row with 10 was never the old table's.
 #[test]
 fn migrates_a_table_in_its_own_place(rt: HostRuntime) -> Result<(), Fail> {
     let alloc = rt.alloc();
     let script =
-        "INSERT INTO t VALUES (3, 10); INSERT INTO t VALUES (1, 20); INSERT INTO t VALUES (2, 30); MIGRATE (CREATE TABLE t AS SELECT n, id FROM t); INSERT INTO t VALUES (10, 9); SELECT * FROM t WHERE n = 10; SELECT * FROM t WHERE id = 4; INSERT INTO t VALUES (0, 1);";
+        "INSERT INTO t VALUES (3, 10); INSERT INTO t VALUES (1, 20); INSERT INTO t VALUES (2, 30); MIGRATE (CREATE TABLE t AS SELECT n, id FROM t); INSERT INTO t VALUES (10, 9); SELECT * FROM t WHERE n = 10; SELECT * FROM t WHERE n = 10; SELECT * FROM t WHERE id = 4; INSERT INTO t VALUES (0, 1);";
     let (status, text) = call_behind(alloc, TWO_COLUMNS, &["try"], script)?;
     assert_eq!(rt; status, Status::Done);
     let replies =
-        b"1.1 created\n1.2 inserted 1\n1.3 inserted 1\n1.4 inserted 1\n1.5 migrated 1\n1.6 inserted 1\n1.7 rows 2\n1.7 | 10, 3\n1.7 | 10, 9\n1.8 rows 0\n1.9 E4 duplicate key (1)\n";
+        b"1.1 created\n1.2 inserted 1\n1.3 inserted 1\n1.4 inserted 1\n1.5 migrated 1\n1.6 inserted 1\n1.7 rows 2\n1.7 | 10, 3\n1.7 | 10, 9\n1.8 rows 2\n1.8 | 10, 3\n1.8 | 10, 9\n1.9 rows 0\n1.10 E4 duplicate key (1)\n";
     assert!(rt; text.as_slice().starts_with(replies));
-    let end = b"\nend commits 9 migration 1 moved 2 next unit 0 position 1\n";
+    let end = b"\nend commits 10 migration 1 moved 2 next unit 0 position 1\n";
     assert!(rt; text.as_slice().ends_with(end));
     Ok(())
 }
