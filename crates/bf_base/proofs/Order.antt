@@ -86,7 +86,7 @@ module _ {K : Type 0} {cmp : K → K → Ordering} (o : IsTotalOrder cmp) where
       and_from _ _ (ap is_lt first) (and_parts _ _ (and_parts _ _ h).1).1
 
   -- with a key that ties with the first
-  pub rises_alike : (a b : K) (ks : List K) → cmp a b ≡ Equal → rises cmp (a ∷ ks) ≡ true → rises cmp (b ∷ ks) ≡ true
+  rises_alike : (a b : K) (ks : List K) → cmp a b ≡ Equal → rises cmp (a ∷ ks) ≡ true → rises cmp (b ∷ ks) ≡ true
   rises_alike a b [] e h = refl
   rises_alike a b (c ∷ ks) e h = rw (← o.congr a b c e) h
 
@@ -138,7 +138,7 @@ module _ {K : Type 0} {cmp : K → K → Ordering} (o : IsTotalOrder cmp) where
     has-at (y ∷ ys) (suc i) k d in_range e = or_right _ _ (has-at ys i k d (omega arith) e)
 
     -- an item has a lesser key than each item behind it
-    pub above_first : (x : X) (xs : List X) → rises cmp (key x ∷ map key xs) ≡ true → (j : ℕ) (d : X) → j < length xs → cmp (key x) (key (get_or xs j d)) ≡ Less
+    above_first : (x : X) (xs : List X) → rises cmp (key x ∷ map key xs) ≡ true → (j : ℕ) (d : X) → j < length xs → cmp (key x) (key (get_or xs j d)) ≡ Less
     above_first x [] h j d in_range = absurd (omega arith)
     above_first x (y ∷ ys) h zero d in_range = less_from_test _ (and_parts _ _ h).0
     above_first x (y ∷ ys) h (suc j) d in_range = o.trans _ (key y) _ (less_from_test _ (and_parts _ _ h).0) (above_first y ys (and_parts _ _ h).1 j d (omega arith))
@@ -186,7 +186,7 @@ module _ {K : Type 0} {cmp : K → K → Ordering} (o : IsTotalOrder cmp) where
     rises-with_placed ys xs h new = rises-placed_one_by_one ys [] xs h new
 
     -- a key below all others is not found
-    pub not_found_below : (k : K) (xs : List X) → rises cmp (k ∷ map key xs) ≡ true → find (λ y. eq_by_cmp cmp (key y) k) xs ≡ None
+    not_found_below : (k : K) (xs : List X) → rises cmp (k ∷ map key xs) ≡ true → find (λ y. eq_by_cmp cmp (key y) k) xs ≡ None
     not_found_below k [] h = refl
     not_found_below k (y ∷ ys) h =
         let less = less_from_test _ (and_parts _ _ h).0 in
