@@ -1,0 +1,6 @@
+//! Rows under their keys.
+#![tactic(auto)]
+
+pub mod heap;
+
+pub use heap::Heap;

@@ -1,0 +1,13 @@
+pub mod Contents
+pub mod Firsts
+pub mod Fronts
+pub mod Gaps
+pub mod Keywords
+pub mod Lexings
+pub mod Numbers
+pub mod OneGap
+pub mod OneLexeme
+pub mod OneLexing
+pub mod Quotes
+pub mod Signs
+pub mod Standing

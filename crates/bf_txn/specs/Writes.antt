@@ -1,0 +1,33 @@
+-- The writes of a transaction: for each key of a table that it has written, the last row or the removal.
+use Rattle.std.specs.Prelude.{ℕ, List, Option, IsTrue}
+use Rattle.std.specs.Option.{option_map}
+use Rattle.std.specs.declared.cmp.Ordering.{Ordering}
+use Rattle.std.specs.Ordering.{ordering_then}
+use Rattle.bf_base.specs.declared.value.Value.{Value}
+use Rattle.bf_base.specs.Values.{key_cmp}
+use Rattle.bf_base.specs.Lists.{name_cmp}
+use Rattle.bf_heap.specs.Maps.{is_map, entry_at, with_entry}
+use Rattle.bf_txn.specs.declared.write.Write.{Write}
+
+-- what a write is of: a key of a table
+abbrev pub Spot : Type 0
+Spot = List ℕ × List Value
+
+abbrev pub spot_of : Write → Spot
+spot_of write = (write.table, write.key)
+
+-- by table, then key
+abbrev pub spot_cmp : Spot → Spot → Ordering
+spot_cmp a b = ordering_then (name_cmp a.0 b.0) (key_cmp a.1 b.1)
+
+-- what a transaction has last written to a key of a table: nothing where it has not written there, and no row where it
+-- has removed what was there
+abbrev pub written_at : List Write → Spot → Option (Option (List Value))
+written_at writes spot = option_map (λ w. w.row) (entry_at spot_cmp spot_of writes spot)
+
+abbrev pub with_write : List Write → Write → List Write
+with_write writes write = with_entry spot_cmp spot_of writes write
+
+-- one write a key, sorted by table, then key
+abbrev pub AreWrites : List Write → Type 0
+AreWrites writes = IsTrue (is_map spot_cmp spot_of writes)

@@ -1,0 +1,108 @@
+use super::*;
+use bf_base::{Key, Name, Row, Value};
+use std::alloc::Global;
+use std::process::Abort;
+use std::test::Fail;
+
+fn values(alloc: Global, number: i64) -> Result<Vec<Value>, Fail> {
+    let mut values = Vec::new(alloc);
+    values.push(Value::Int(number))?;
+    Ok(values)
+}
+
+/// Writes a row of a number to a key of a number, or removes what is there.
+fn write(
+    alloc: Global,
+    workspace: &mut Workspace,
+    table: &str,
+    key: i64,
+    number: Option<i64>,
+) -> Result<(), Fail> {
+    let table = Name::of(alloc, table.as_bytes())?;
+    let key = Key::of(values(alloc, key)?);
+    let row = match number {
+        Some(number) => Some(Row::of(values(alloc, number)?)),
+        None => None,
+    };
+    workspace.write(table, key, row)?;
+    Ok(())
+}
+
+/// The number in a row, where there is one.
+fn number(row: Option<&Row>) -> Option<i64> {
+    match row?.as_slice() {
+        [Value::Int(number)] => Some(*number),
+        _ => None,
+    }
+}
+
+/// Reads a key, and compares the number in the row that is written there.
+fn expect(
+    rt: &impl Abort,
+    alloc: Global,
+    workspace: &Workspace,
+    table: &str,
+    key: i64,
+    written: Option<Option<i64>>,
+) -> Result<(), Fail> {
+    let name = Name::of(alloc, table.as_bytes())?;
+    let key = Key::of(values(alloc, key)?);
+    let read = workspace.read(&name, &key).map(|row| number(row));
+    assert_eq!(rt; read, written, "in {table}");
+    Ok(())
+}
+
+#[test]
+fn reads_what_was_last_written(rt: HostRuntime) -> Result<(), Fail> {
+    let alloc = rt.alloc();
+    let mut workspace = Workspace::new(alloc);
+    expect(&rt, alloc, &workspace, "a", 1, None)?;
+    for row in [Some(10), None, Some(11)] {
+        write(alloc, &mut workspace, "a", 1, row)?;
+        expect(&rt, alloc, &workspace, "a", 1, Some(row))?;
+    }
+    expect(&rt, alloc, &workspace, "a", 2, None)?;
+    expect(&rt, alloc, &workspace, "b", 1, None)?;
+    assert_eq!(rt; workspace.write_set(alloc)?.writes.as_slice().len(), 1);
+    Ok(())
+}
+
+const WRITES: [(&str, i64, Option<i64>); 7] = [
+    ("b", 2, Some(1)),
+    ("a", 9, None),
+    ("ab", -3, Some(2)),
+    ("b", 1, Some(3)),
+    ("a", 9, Some(4)),
+    ("a", -9, Some(5)),
+    ("b", 2, None),
+];
+
+/// The last of them for each key, by table, then key.
+const SORTED: [(&str, i64, Option<i64>); 5] = [
+    ("a", -9, Some(5)),
+    ("a", 9, Some(4)),
+    ("ab", -3, Some(2)),
+    ("b", 1, Some(3)),
+    ("b", 2, None),
+];
+
+#[test]
+fn sorts_the_last_writes(rt: HostRuntime) -> Result<(), Fail> {
+    let alloc = rt.alloc();
+    let mut workspace = Workspace::new(alloc);
+    for (table, key, row) in &WRITES {
+        write(alloc, &mut workspace, table, *key, *row)?;
+    }
+    let set = workspace.write_set(alloc)?;
+    assert_eq!(rt; set.writes.as_slice().len(), SORTED.len());
+    for (write, (table, key, row)) in set.writes.as_slice().iter().zip(&SORTED) {
+        assert_eq!(rt; write.table.as_bytes(), table.as_bytes());
+        assert!(rt;
+            write.key == Key::of(values(alloc, *key)?),
+            "at {key} in {table}"
+        );
+        assert_eq!(rt; number(write.row.as_ref()), *row, "at {key} in {table}");
+    }
+    assert!(rt; set == workspace.write_set(alloc)?);
+    Ok(())
+}
