@@ -1,0 +1,27 @@
+-- The trees that the code's nodes are seen as.
+use Rattle.std.specs.Prelude.{ℕ}
+use Rattle.bf_expr.specs.Trees as trees
+use Rattle.bf_expr.specs.Trees.{Expr as Tree, Cond as CondTree}
+use Rattle.bf_expr.specs.declared.bound.Node.{Node}
+use Rattle.bf_expr.specs.declared.bound.Node.TheVariants as node
+use Rattle.bf_expr.specs.declared.bound.Test.{Test}
+use Rattle.bf_expr.specs.declared.bound.Test.TheVariants as test
+
+abbrev pub bound_tree : Node → Tree ℕ
+bound_tree (node.Value v) = trees.literal v
+bound_tree (node.Column i) = trees.column i
+bound_tree (node.Neg a) = trees.negated a.value
+bound_tree (node.Add a b) = trees.plus a.value b.value
+bound_tree (node.Sub a b) = trees.minus a.value b.value
+bound_tree (node.Mul a b) = trees.times a.value b.value
+bound_tree (node.Concat a b) = trees.joined a.value b.value
+
+abbrev pub bound_cond : Test → CondTree ℕ
+bound_cond test.Always = trees.always
+bound_cond (test.Compare op a b) = trees.compared op a b
+bound_cond (test.Between a b c) = trees.between a b c
+bound_cond (test.Not c) = trees.opposite c.value
+bound_cond (test.And c d) = trees.both c.value d.value
+bound_cond (test.Or c d) = trees.either c.value d.value
+
+

@@ -1,0 +1,10 @@
+//! Expressions and conditions over the values of a row.
+#![tactic(auto)]
+
+pub mod compare;
+pub mod evaluation;
+pub mod tree;
+
+pub use compare::Compare;
+pub use evaluation::{Fail, holds, value};
+pub use tree::{Cond, Expr, Node, Test};

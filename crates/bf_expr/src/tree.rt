@@ -1,0 +1,132 @@
+//! Expressions and conditions, whose columns are places in a row.
+
+ghost use Rattle.std.specs.Prelude.{◌≡◌, IfOk};
+ghost use Rattle.bf_expr.specs.Views.{bound_cond, bound_tree};
+
+use crate::compare::Compare;
+use bf_base::{Memory, Value};
+use std::alloc::Global;
+use std::marker::Model;
+
+#[derive(Drop)]
+#[cycle(expr)]
+pub struct Expr {
+    node: Node,
+}
+
+#[derive(Drop)]
+#[cycle(expr)]
+pub enum Node {
+    Value(Value),
+    Column(u8),
+    Neg(Box<Expr>),
+    Add(Box<Expr>, Box<Expr>),
+    Sub(Box<Expr>, Box<Expr>),
+    Mul(Box<Expr>, Box<Expr>),
+    Concat(Box<Expr>, Box<Expr>),
+}
+
+impl Model for Expr {
+    ghost use Rattle.std.specs.Prelude.{ℕ};
+    ghost use Rattle.bf_expr.specs.Trees.{Expr as Tree, nodes};
+    ghost use Rattle.bf_expr.specs.Codes.{expr_code};
+    ghost use Rattle.std.specs.Coded.{coded_ℕ};
+
+    ghost Value = { Tree (ℕ) };
+
+    ghost coded = { expr_code coded_ℕ };
+
+    ghost use Rattle.bf_expr.specs.Views.{bound_tree};
+
+    ghost view = { λ e. bound_tree e.node };
+
+    ghost size = { nodes };
+
+    ghost use Rattle.std.proofs.Common.{arith};
+
+    ghost size_decreases = { λ a h. Prim.grind (arith) };
+}
+
+#[derive(Drop)]
+#[cycle(cond)]
+pub struct Cond {
+    node: Test,
+}
+
+#[derive(Drop)]
+#[cycle(cond)]
+pub enum Test {
+    Always,
+    Compare(Compare, Expr, Expr),
+    Between(Expr, Expr, Expr),
+    Not(Box<Cond>),
+    And(Box<Cond>, Box<Cond>),
+    Or(Box<Cond>, Box<Cond>),
+}
+
+impl Model for Cond {
+    ghost use Rattle.std.specs.Prelude.{ℕ};
+    ghost use Rattle.bf_expr.specs.Trees.{Cond as Tree, tests};
+    ghost use Rattle.bf_expr.specs.Codes.{cond_code};
+    ghost use Rattle.std.specs.Coded.{coded_ℕ};
+
+    ghost Value = { Tree (ℕ) };
+
+    ghost coded = { cond_code coded_ℕ };
+
+    ghost use Rattle.bf_expr.specs.Views.{bound_cond};
+
+    ghost view = { λ c. bound_cond c.node };
+
+    ghost size = { tests };
+
+    ghost use Rattle.std.proofs.Common.{arith};
+
+    ghost size_decreases = { λ a h. Prim.grind (arith) };
+}
+
+impl Expr {
+    /// The expression that a node makes. Takes no memory.
+    pub fn of(node: Node) -> Expr
+        ensures { result ≡ bound_tree node }
+    {
+        Expr { node }
+    }
+
+    /// Its topmost node.
+    pub fn node(&self) -> &Node
+        ensures { bound_tree result.now ≡ self.now }
+    {
+        &self.node
+    }
+
+    /// An equal expression, in time linear in its nodes.
+    pub fn copy(&self, alloc: Global) -> Result<Expr, Memory>
+        ensures { IfOk result (λ copy. copy ≡ self.now) }
+    {
+        todo!()
+    }
+}
+
+impl Cond {
+    /// The condition that a test makes. Takes no memory.
+    pub fn of(node: Test) -> Cond
+        ensures { result ≡ bound_cond node }
+    {
+        Cond { node }
+    }
+
+    /// Its topmost test.
+    pub fn node(&self) -> &Test
+        ensures { bound_cond result.now ≡ self.now }
+    {
+        &self.node
+    }
+
+    /// An equal condition, in time linear in its nodes.
+    pub fn copy(&self, alloc: Global) -> Result<Cond, Memory>
+        ensures { IfOk result (λ copy. copy ≡ self.now) }
+    {
+        todo!()
+    }
+}
