@@ -1,0 +1,49 @@
+//! Why a text is no script.
+
+use bf_base::Memory;
+use thiserror::Error;
+
+/// What is wrong at the place of a fault.
+#[derive(Clone, Copy, Debug, PartialEq, Eq)]
+pub enum ScriptKind {
+    /// A byte with which no token begins, or that no text has.
+    BadByte,
+    /// A quote that no other closes.
+    OpenString,
+    /// A number above 2 ^ 63, or 2 ^ 63 where it can't stand.
+    NumberTooWide,
+    /// The first token that can't continue a script, or the end of a text that ends too early.
+    Syntax,
+    /// A quoted text of more than 255 bytes.
+    TextTooLong,
+    /// A name of more than 63 bytes.
+    NameTooLong,
+    /// The 17th part of a list.
+    TooManyColumns,
+    /// The 65th session, or the 17th of its phase.
+    TooManySessions,
+    /// The 65th MIGRATE.
+    TooManyMigrations,
+    /// The 9th target of a MIGRATE.
+    TooManyTargets,
+    /// The 257th operator or opening parenthesis of an expression or a condition.
+    TooDeep,
+    /// More than 16,777,216 bytes.
+    ScriptTooLong,
+}
+
+/// The first fault of a text, and the byte where it stands, counted from 0.
+#[derive(Clone, Copy, Debug, PartialEq, Eq)]
+pub struct ScriptFault {
+    pub at: u32,
+    pub kind: ScriptKind,
+}
+
+/// Why no script was made of a text.
+#[derive(Clone, Copy, Debug, PartialEq, Eq, Error)]
+pub enum ScriptError {
+    #[error("no script")]
+    Fault(ScriptFault),
+    #[error("out of memory")]
+    Memory,
+}

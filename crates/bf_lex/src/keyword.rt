@@ -1,0 +1,89 @@
+//! Keywords.
+
+ghost use Rattle.std.specs.Prelude.{◌≡◌, ◌↔◌, Some};
+ghost use Rattle.bf_tables.specs.Cases.{word_at};
+ghost use Rattle.bf_base.specs.Names.{folded};
+ghost use Rattle.bf_lex.specs.Words.{keyword_of, number_of, word_of};
+
+use bf_tables::{Cases, case_of_number, number_of_case, of_cases};
+
+/// The words that are no names, in whatever case their letters are.
+#[derive(Clone, Copy, Debug, PartialEq, Eq)]
+pub enum Keyword {
+    All,
+    And,
+    As,
+    Begin,
+    Between,
+    By,
+    Check,
+    Commit,
+    Count,
+    Create,
+    Delete,
+    From,
+    Group,
+    Index,
+    Insert,
+    Int,
+    Into,
+    Join,
+    Keep,
+    Key,
+    Max,
+    Migrate,
+    Min,
+    Not,
+    On,
+    Or,
+    Phase,
+    Primary,
+    Rollback,
+    Select,
+    Session,
+    Set,
+    Sum,
+    Table,
+    Union,
+    Update,
+    Values,
+    Varchar,
+    Where,
+}
+
+macro_rules! keywords {
+    ($callback:ident, $value:expr) => {
+        $callback!($value; Keyword::All = 0, Keyword::And = 1, Keyword::As = 2, Keyword::Begin = 3, Keyword::Between = 4, Keyword::By = 5, Keyword::Check = 6, Keyword::Commit = 7, Keyword::Count = 8, Keyword::Create = 9, Keyword::Delete = 10, Keyword::From = 11, Keyword::Group = 12, Keyword::Index = 13, Keyword::Insert = 14, Keyword::Int = 15, Keyword::Into = 16, Keyword::Join = 17, Keyword::Keep = 18, Keyword::Key = 19, Keyword::Max = 20, Keyword::Migrate = 21, Keyword::Min = 22, Keyword::Not = 23, Keyword::On = 24, Keyword::Or = 25, Keyword::Phase = 26, Keyword::Primary = 27, Keyword::Rollback = 28, Keyword::Select = 29, Keyword::Session = 30, Keyword::Set = 31, Keyword::Sum = 32, Keyword::Table = 33, Keyword::Union = 34, Keyword::Update = 35, Keyword::Values = 36, Keyword::Varchar = 37, Keyword::Where = 38)
+    };
+}
+
+impl Keyword {
+    /// The keyword's number, below 39: its place in the order of the words. Takes no memory.
+    pub fn number(self) -> u8
+        ensures { result ≡ number_of self }
+    {
+        keywords!(number_of_case, self)
+    }
+
+    /// The keyword of a number, and `None` exactly where no keyword has it. Takes no memory.
+    pub fn of_number(number: u8) -> Option<Keyword>
+        ensures { (keyword : Keyword) → (result ≡ Some keyword) ↔ (number_of keyword ≡ number) }
+    {
+        keywords!(case_of_number, number)
+    }
+
+    /// The keyword that a word is, in whatever case its letters are, and `None` exactly where it
+    /// is none. Takes no memory.
+    pub fn of_word(word: &[u8]) -> Option<Keyword>
+        ensures { result ≡ keyword_of (folded word.now) }
+    {
+        Keyword::of_number(Keyword::cases().by_word(word)?)
+    }
+
+    /// The words of the keywords, by their numbers. Takes no memory.
+    pub fn cases() -> Cases<39>
+        ensures { (keyword : Keyword) → word_at result (number_of keyword) ≡ Some (word_of keyword) }
+    {
+        of_cases([(0, "all"), (1, "and"), (2, "as"), (3, "begin"), (4, "between"), (5, "by"), (6, "check"), (7, "commit"), (8, "count"), (9, "create"), (10, "delete"), (11, "from"), (12, "group"), (13, "index"), (14, "insert"), (15, "int"), (16, "into"), (17, "join"), (18, "keep"), (19, "key"), (20, "max"), (21, "migrate"), (22, "min"), (23, "not"), (24, "on"), (25, "or"), (26, "phase"), (27, "primary"), (28, "rollback"), (29, "select"), (30, "session"), (31, "set"), (32, "sum"), (33, "table"), (34, "union"), (35, "update"), (36, "values"), (37, "varchar"), (38, "where")]).unwrap()
+    }
+}

@@ -1,0 +1,14 @@
+//! From the bytes of a script to its tokens.
+#![tactic(auto)]
+
+pub mod fault;
+pub mod keyword;
+pub mod lexer;
+pub mod sign;
+pub mod token;
+
+pub use fault::{ScriptError, ScriptFault, ScriptKind};
+pub use keyword::Keyword;
+pub use lexer::{content, tokens};
+pub use sign::Sign;
+pub use token::{Token, TokenKind};
