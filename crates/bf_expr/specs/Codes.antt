@@ -1,15 +1,19 @@
 -- Trees as lists and back, by which proofs tell trees apart. No contract cites this.
 use Rattle.std.specs.Prelude.{◌≡◌, refl, ℕ, zero, suc, Option, List, [], ◌∷◌, ◌⊎◌}
-use Rattle.std.specs.Coded.{Coded, code_by, coded×, coded⊎, coded_list, coded_ℕ}
+use Rattle.std.specs.Coded.{Coded, code_by, coded×, coded⊎, coded_list, coded_ℕ, coded_option}
 use mathlib.Core.Logic.{inl, inr}
 use mathlib.Core.Path.{◌∙◌}
 use Rattle.bf_base.specs.declared.value.Value.{Value}
 use Rattle.bf_base.specs.contracts.value.Value as value_row
 use Rattle.bf_expr.specs.contracts.compare.Compare as compare_row
 use Rattle.bf_expr.specs.declared.compare.Compare.{Compare}
+use Rattle.bf_expr.specs.declared.raw.Ref.{Ref}
 use Rattle.bf_expr.specs.Trees.{Expr, literal, column, negated, plus, minus, times, joined, Cond, always, compared, between, opposite, both, either}
 use Rattle.bf_base.specs.declared.value.Value.TheVariants.{Int}
 use Rattle.std.specs.Prelude.{pos}
+
+abbrev pub ref_code : Coded Ref
+ref_code = code_by (Option (List ℕ) × List ℕ) (coded× (coded_option (coded_list coded_ℕ)) (coded_list coded_ℕ)) (λ r. (r.table, r.column)) (λ p. record { table = p.0; column = p.1 }) (λ _. refl)
 
 abbrev pub Step : Type 0 → Type 0
 Step R = Value ⊎ (R ⊎ ℕ)

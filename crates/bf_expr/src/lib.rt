@@ -3,8 +3,10 @@
 
 pub mod compare;
 pub mod evaluation;
+pub mod raw;
 pub mod tree;
 
 pub use compare::Compare;
 pub use evaluation::{Fail, holds, value};
+pub use raw::{RawCond, RawExpr, RawNode, RawTest, Ref};
 pub use tree::{Cond, Expr, Node, Test};

@@ -1,0 +1,2 @@
+//! From the bytes of a script to its tree.
+#![tactic(auto)]
