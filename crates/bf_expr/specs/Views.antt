@@ -3,10 +3,10 @@ use Rattle.std.specs.Prelude.{ℕ}
 use Rattle.bf_expr.specs.Trees as trees
 use Rattle.bf_expr.specs.Trees.{Expr as Tree, Cond as CondTree}
 use Rattle.bf_expr.specs.declared.raw.Ref.{Ref}
-use Rattle.bf_expr.specs.declared.bound.Node.{Node}
-use Rattle.bf_expr.specs.declared.bound.Node.TheVariants as node
-use Rattle.bf_expr.specs.declared.bound.Test.{Test}
-use Rattle.bf_expr.specs.declared.bound.Test.TheVariants as test
+use Rattle.bf_expr.specs.declared.tree.Node.{Node}
+use Rattle.bf_expr.specs.declared.tree.Node.TheVariants as node
+use Rattle.bf_expr.specs.declared.tree.Test.{Test}
+use Rattle.bf_expr.specs.declared.tree.Test.TheVariants as test
 use Rattle.bf_expr.specs.declared.raw.RawNode.{RawNode}
 use Rattle.bf_expr.specs.declared.raw.RawNode.TheVariants as raw
 use Rattle.bf_expr.specs.declared.raw.RawTest.{RawTest}

@@ -3,6 +3,7 @@
 
 pub mod compare;
 pub mod evaluation;
+pub mod laws;
 pub mod raw;
 pub mod tree;
 

@@ -4,7 +4,7 @@ ghost use Rattle.std.specs.Prelude.{◌≡◌, IfOk};
 ghost use Rattle.bf_expr.specs.Views.{raw_cond, raw_tree};
 
 use crate::compare::Compare;
-use bf_base::{Memory, Name, Value};
+use bf_base::{Memory, Name, TryClone, Value};
 use std::alloc::Global;
 use std::marker::Model;
 
@@ -94,6 +94,31 @@ impl Model for RawCond {
     ghost size_decreases = { λ a h. Prim.grind (arith) };
 }
 
+impl Ref {
+    /// An equal ref.
+    pub fn copy(&self, alloc: Global) -> Result<Ref, Memory>
+        ensures { IfOk result (λ copy. copy ≡ self.now) }
+    {
+        let column = self.column.copy(alloc)?;
+        match &self.table {
+            Some(table) => Ok(Ref {
+                table: Some(table.copy(alloc)?),
+                column,
+            }),
+            None => Ok(Ref {
+                table: None,
+                column,
+            }),
+        }
+    }
+}
+
+impl TryClone for Ref {
+    fn try_clone(&self, alloc: Global) -> Result<Ref, Memory> {
+        self.copy(alloc)
+    }
+}
+
 impl RawExpr {
     /// The expression that a node makes. Takes no memory.
     pub fn of(node: RawNode) -> RawExpr
@@ -107,6 +132,39 @@ impl RawExpr {
         ensures { raw_tree result.now ≡ self.now }
     {
         &self.node
+    }
+
+    /// An equal expression, in time linear in its nodes.
+    pub fn copy(&self, alloc: Global) -> Result<RawExpr, Memory>
+        ensures { IfOk result (λ copy. copy ≡ self.now) }
+    {
+        match &self.node {
+            RawNode::Value(value) => Ok(RawExpr::of(RawNode::Value(value.copy(alloc)?))),
+            RawNode::Column(column) => Ok(RawExpr::of(RawNode::Column(column.copy(alloc)?))),
+            RawNode::Neg(a) => Ok(RawExpr::of(RawNode::Neg(Box::new(alloc, a.copy(alloc)?)?))),
+            RawNode::Add(a, b) => Ok(RawExpr::of(RawNode::Add(
+                Box::new(alloc, a.copy(alloc)?)?,
+                Box::new(alloc, b.copy(alloc)?)?,
+            ))),
+            RawNode::Sub(a, b) => Ok(RawExpr::of(RawNode::Sub(
+                Box::new(alloc, a.copy(alloc)?)?,
+                Box::new(alloc, b.copy(alloc)?)?,
+            ))),
+            RawNode::Mul(a, b) => Ok(RawExpr::of(RawNode::Mul(
+                Box::new(alloc, a.copy(alloc)?)?,
+                Box::new(alloc, b.copy(alloc)?)?,
+            ))),
+            RawNode::Concat(a, b) => Ok(RawExpr::of(RawNode::Concat(
+                Box::new(alloc, a.copy(alloc)?)?,
+                Box::new(alloc, b.copy(alloc)?)?,
+            ))),
+        }
+    }
+}
+
+impl TryClone for RawExpr {
+    fn try_clone(&self, alloc: Global) -> Result<RawExpr, Memory> {
+        self.copy(alloc)
     }
 }
 
@@ -123,5 +181,39 @@ impl RawCond {
         ensures { raw_cond result.now ≡ self.now }
     {
         &self.node
+    }
+
+    /// An equal condition, in time linear in its nodes.
+    pub fn copy(&self, alloc: Global) -> Result<RawCond, Memory>
+        ensures { IfOk result (λ copy. copy ≡ self.now) }
+    {
+        match &self.node {
+            RawTest::Always => Ok(RawCond::of(RawTest::Always)),
+            RawTest::Compare(op, a, b) => Ok(RawCond::of(RawTest::Compare(
+                *op,
+                a.copy(alloc)?,
+                b.copy(alloc)?,
+            ))),
+            RawTest::Between(a, low, high) => Ok(RawCond::of(RawTest::Between(
+                a.copy(alloc)?,
+                low.copy(alloc)?,
+                high.copy(alloc)?,
+            ))),
+            RawTest::Not(c) => Ok(RawCond::of(RawTest::Not(Box::new(alloc, c.copy(alloc)?)?))),
+            RawTest::And(c, d) => Ok(RawCond::of(RawTest::And(
+                Box::new(alloc, c.copy(alloc)?)?,
+                Box::new(alloc, d.copy(alloc)?)?,
+            ))),
+            RawTest::Or(c, d) => Ok(RawCond::of(RawTest::Or(
+                Box::new(alloc, c.copy(alloc)?)?,
+                Box::new(alloc, d.copy(alloc)?)?,
+            ))),
+        }
+    }
+}
+
+impl TryClone for RawCond {
+    fn try_clone(&self, alloc: Global) -> Result<RawCond, Memory> {
+        self.copy(alloc)
     }
 }

@@ -4,7 +4,7 @@ ghost use Rattle.std.specs.Prelude.{◌≡◌, IfOk};
 ghost use Rattle.bf_expr.specs.Views.{bound_cond, bound_tree};
 
 use crate::compare::Compare;
-use bf_base::{Memory, Value};
+use bf_base::{Memory, TryClone, Value};
 use std::alloc::Global;
 use std::marker::Model;
 
@@ -104,7 +104,33 @@ impl Expr {
     pub fn copy(&self, alloc: Global) -> Result<Expr, Memory>
         ensures { IfOk result (λ copy. copy ≡ self.now) }
     {
-        todo!()
+        match &self.node {
+            Node::Value(value) => Ok(Expr::of(Node::Value(value.copy(alloc)?))),
+            Node::Column(place) => Ok(Expr::of(Node::Column(*place))),
+            Node::Neg(a) => Ok(Expr::of(Node::Neg(Box::new(alloc, a.copy(alloc)?)?))),
+            Node::Add(a, b) => Ok(Expr::of(Node::Add(
+                Box::new(alloc, a.copy(alloc)?)?,
+                Box::new(alloc, b.copy(alloc)?)?,
+            ))),
+            Node::Sub(a, b) => Ok(Expr::of(Node::Sub(
+                Box::new(alloc, a.copy(alloc)?)?,
+                Box::new(alloc, b.copy(alloc)?)?,
+            ))),
+            Node::Mul(a, b) => Ok(Expr::of(Node::Mul(
+                Box::new(alloc, a.copy(alloc)?)?,
+                Box::new(alloc, b.copy(alloc)?)?,
+            ))),
+            Node::Concat(a, b) => Ok(Expr::of(Node::Concat(
+                Box::new(alloc, a.copy(alloc)?)?,
+                Box::new(alloc, b.copy(alloc)?)?,
+            ))),
+        }
+    }
+}
+
+impl TryClone for Expr {
+    fn try_clone(&self, alloc: Global) -> Result<Expr, Memory> {
+        self.copy(alloc)
     }
 }
 
@@ -127,6 +153,33 @@ impl Cond {
     pub fn copy(&self, alloc: Global) -> Result<Cond, Memory>
         ensures { IfOk result (λ copy. copy ≡ self.now) }
     {
-        todo!()
+        match &self.node {
+            Test::Always => Ok(Cond::of(Test::Always)),
+            Test::Compare(op, a, b) => Ok(Cond::of(Test::Compare(
+                *op,
+                a.copy(alloc)?,
+                b.copy(alloc)?,
+            ))),
+            Test::Between(a, low, high) => Ok(Cond::of(Test::Between(
+                a.copy(alloc)?,
+                low.copy(alloc)?,
+                high.copy(alloc)?,
+            ))),
+            Test::Not(c) => Ok(Cond::of(Test::Not(Box::new(alloc, c.copy(alloc)?)?))),
+            Test::And(c, d) => Ok(Cond::of(Test::And(
+                Box::new(alloc, c.copy(alloc)?)?,
+                Box::new(alloc, d.copy(alloc)?)?,
+            ))),
+            Test::Or(c, d) => Ok(Cond::of(Test::Or(
+                Box::new(alloc, c.copy(alloc)?)?,
+                Box::new(alloc, d.copy(alloc)?)?,
+            ))),
+        }
+    }
+}
+
+impl TryClone for Cond {
+    fn try_clone(&self, alloc: Global) -> Result<Cond, Memory> {
+        self.copy(alloc)
     }
 }
