@@ -1,18 +1,22 @@
-mod FirstRefusals
-pub mod Alike
-pub mod Beginning
-pub mod Due
-pub mod Flipped
-pub mod Granules
-pub mod Images
-pub mod Kept
-pub mod Keys
-pub mod Moving
-mod OneMoves
-mod RowThree
-pub mod Same
-pub mod Served
-pub mod Serving
+mod Binding
+mod Block
+mod GroupedTotals
+pub mod GroupedTotalsMoves
+mod JoinedPairs
+pub mod JoinedPairsMoves
+mod JoinedRefusals
+mod KeyOrder
+mod MayFail
+mod MayFailMoves
+mod OpenBlock
+mod Refusals
+mod SecondMigration
+mod SecondMigrationMoves
 pub mod Spelling
-pub mod Stored
-pub mod Unobjected
+mod SplitTable
+pub mod SplitTableMoves
+mod SumLimit
+mod Sweeping
+mod TaggedArms
+mod TaggedArmsMoves
+mod UnitLimit

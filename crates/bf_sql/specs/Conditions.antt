@@ -1,70 +1,37 @@
--- What a ref means in a table, what is wrong with a condition, and when a row satisfies it.
-use Rattle.std.specs.Prelude.{ℕ, Bool, true, not, ◌&&◌, List, [], ◌++◌, map, filter, length, Option, Some, None, ◌==◌, slice_index_or}
-use Rattle.std.specs.List.{enumerate_from}
-use Rattle.std.specs.Ordering.{is_eq}
-use Rattle.bf_base.specs.declared.table.Kind.{Kind}
-use Rattle.bf_base.specs.declared.table.Admit.{Admit}
-use Rattle.bf_base.specs.declared.table.Admit.TheVariants as admits
+-- Conditions as they are written, their top-level conjuncts, and the key that they fix.
+use Rattle.std.specs.Prelude.{ℕ, ◌==◌, if◌then◌else◌, List, [], ◌∷◌, ◌++◌, map, Option, Some, None, option_map, option_and_then}
+use Rattle.std.specs.List.{filter_map}
+use Rattle.bf_base.specs.declared.value.Value.{Value}
 use Rattle.bf_base.specs.declared.table.Table.{Table}
-use Rattle.bf_base.specs.declared.value.Value.{Value as Datum}
-use Rattle.bf_base.specs.Values.{value_cmp}
-use Rattle.bf_base.specs.Lists.{same_name, when}
-use Rattle.bf_base.specs.Tables.{kind_of, kind_admitted, same_kind, cell}
-use Rattle.bf_sql.specs.declared.reply.Refusal.{Refusal}
-use Rattle.bf_sql.specs.declared.reply.Refusal.TheVariants.{NoTable, NoColumn, TypeMismatch}
-use Rattle.bf_sql.specs.declared.statement.Ref.{Ref as Column}
-use Rattle.bf_sql.specs.declared.statement.Compare.{Compare as Comparison}
-use Rattle.bf_sql.specs.declared.statement.Compare.TheVariants.{Equal}
-use Rattle.bf_sql.specs.declared.statement.Operand.{Operand}
-use Rattle.bf_sql.specs.declared.statement.Operand.TheVariants.{Value, Ref}
-use Rattle.bf_sql.specs.declared.statement.RawCond.{RawCond}
-use Rattle.bf_sql.specs.declared.statement.RawCond.TheVariants.{Compare}
+use Rattle.bf_expr.specs.declared.raw.Ref.{Ref}
+use Rattle.bf_expr.specs.declared.compare.Compare.TheVariants.{Equal}
+use Rattle.bf_expr.specs.Trees.{literal, column, Cond, always, compared, both}
 
-abbrev pub is_qualified_by : Option (List ℕ) → List ℕ → Bool
-is_qualified_by None table = true
-is_qualified_by (Some qualifier) table = same_name qualifier table
+-- without a condition, each row satisfies it
+abbrev pub condition_of : Option (Cond Ref) → Cond Ref
+condition_of None = always
+condition_of (Some cond) = cond
 
-module _ (table : Table) where
-  -- the places of the columns that a ref can mean: one, or none
-  abbrev pub places_of : Column → List ℕ
-  places_of ref = map (λ c. c.0) (filter (λ c. is_qualified_by ref.table table.name && same_name ref.column c.1.name) (enumerate_from 0 table.columns))
+-- the conditions that AND joins, from the root down
+abbrev pub conjuncts : {R : Type 0} → Cond R → List (Cond R)
+conjuncts (both c d) = conjuncts c ++ conjuncts d
+conjuncts c = c ∷ []
 
-  abbrev pub place_of_ref : Column → ℕ
-  place_of_ref ref = slice_index_or (places_of ref) 0 0
+-- the value that a conjunct fixes a column at a place to: `column = literal` or `literal = column`
+abbrev pub value_fixed : ℕ → Cond ℕ → Option Value
+value_fixed place (compared Equal (column at) (literal v)) = if at == place then Some v else None
+value_fixed place (compared Equal (literal v) (column at)) = if at == place then Some v else None
+value_fixed place cond = None
 
-  -- what a ref's column admits
-  abbrev pub admitted_by : Column → Admit
-  admitted_by ref = slice_index_or (map (λ c. c.admits) table.columns) (place_of_ref ref) admits.Int
+abbrev pub first : {X : Type 0} → List X → Option X
+first [] = None
+first (x ∷ xs) = Some x
 
-  abbrev pub unknown_qualifier : Option (List ℕ) → List Refusal
-  unknown_qualifier None = []
-  unknown_qualifier (Some qualifier) = when (not (same_name qualifier table.name)) (NoTable qualifier)
+-- all values, where each is there
+abbrev pub all_there : {X : Type 0} → List (Option X) → Option (List X)
+all_there [] = Some []
+all_there (value ∷ values) = option_and_then (λ v. option_map (λ vs. v ∷ vs) (all_there values)) value
 
-  abbrev pub ref_objections : Column → List Refusal
-  ref_objections ref = unknown_qualifier ref.table ++ when (length (places_of ref) == 0) (NoColumn ref.column)
-
-  abbrev pub operand_objections : Operand → List Refusal
-  operand_objections (Value v) = []
-  operand_objections (Ref ref) = ref_objections ref
-
-  abbrev pub kind_of_operand : Operand → Kind
-  kind_of_operand (Value v) = kind_of v
-  kind_of_operand (Ref ref) = kind_admitted (admitted_by ref)
-
-  -- operands from the left, then their kinds
-  abbrev pub cond_objections : Option RawCond → List Refusal
-  cond_objections None = []
-  cond_objections (Some (Compare comparison a b)) =
-      operand_objections a ++ operand_objections b ++ when (not (same_kind (kind_of_operand a) (kind_of_operand b))) TypeMismatch
-
-  abbrev pub operand_in : List Datum → Operand → Datum
-  operand_in row (Value v) = v
-  operand_in row (Ref ref) = cell row (place_of_ref ref)
-
-  abbrev pub compares : Comparison → Datum → Datum → Bool
-  compares Equal a b = is_eq (value_cmp a b)
-
-  -- whether a row satisfies a condition; without one each row does
-  abbrev pub satisfies : Option RawCond → List Datum → Bool
-  satisfies None row = true
-  satisfies (Some (Compare comparison a b)) row = compares comparison (operand_in row a) (operand_in row b)
+-- FIXED KEY: the key that a condition on a table fixes, where each key column has a conjunct that fixes it; the first such serves
+abbrev pub fixed_key : Table → Cond ℕ → Option (List Value)
+fixed_key table cond = all_there (map (λ place. first (filter_map (value_fixed place) (conjuncts cond))) table.key)

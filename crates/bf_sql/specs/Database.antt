@@ -1,40 +1,58 @@
--- The database: a finite map from names to tables, each with a finite map from keys to rows.
--- Both maps are lists in order, and `IsDatabase` says that they are maps.
-use Rattle.std.specs.Prelude.{ℕ, ◌+◌, Bool, true, false, List, [], map, length, find, zip, Option, ◌==◌, nat_lt, if◌then◌else◌, IsTrue}
-use Rattle.std.specs.List.{list_all}
+-- The database: a finite map from names to tables, each with a finite map from keys to rows, and the index rules.
+-- All three are lists in order, and `IsDatabase` says that they are maps.
+use Rattle.std.specs.Prelude.{ℕ, Bool, true, false, not, ◌&&◌, List, [], ◌++◌, map, length, filter, find, zip, Option, option_map, unwrap_or, ◌==◌, nat_lt, if◌then◌else◌, IsTrue}
+use Rattle.std.specs.List.{list_all, list_any}
 use Rattle.bf_base.specs.declared.value.Value.{Value}
 use Rattle.bf_base.specs.declared.table.Fit.{Fit}
 use Rattle.bf_base.specs.declared.table.Fit.TheVariants.{Fits, WrongKind, OutOfRange, TooLong}
 use Rattle.bf_base.specs.declared.table.Table.{Table}
 use Rattle.bf_base.specs.Values.{key_cmp}
-use Rattle.bf_base.specs.Lists.{same_name, name_cmp, rises, placed}
+use Rattle.bf_base.specs.Lists.{same_name, name_cmp, rises, in_order}
 use Rattle.bf_base.specs.Tables.{fit_of, key_of}
+use Rattle.bf_sql.specs.declared.catalog.IndexRule.{IndexRule}
 
 -- a table and all its rows, in the order of their keys
 pub record Stored : Type 0 where
   pub table : Table
   pub rows : List (List Value)
 
--- the number of schema changes so far, and the tables in the order of their names
+-- the number of schema changes so far, and the tables and the index rules in the order of their names
 pub record Database : Type 0 where
   pub number : ℕ
   pub tables : List Stored
+  pub indexes : List IndexRule
 
 abbrev pub empty_database : Database
-empty_database = record { number = 0; tables = [] }
+empty_database = record { number = 0; tables = []; indexes = [] }
 
 -- the table of a name, with its rows
 abbrev pub stored_at : Database → List ℕ → Option Stored
 stored_at db name = find (λ s. same_name s.table.name name) db.tables
 
--- the database with a further table, which has no rows, and its next number
-abbrev pub with_new_table : Database → Table → Database
-with_new_table db table = record {
-  number = db.number + 1;
-  tables = placed name_cmp (λ s. s.table.name) db.tables (record { table = table; rows = [] });
-}
+abbrev pub no_table : Table
+no_table = record { name = []; columns = []; key = [] }
 
--- the database with other rows in the table of a name
+-- the table of a name; one without columns where there is none
+abbrev pub table_at : Database → List ℕ → Table
+table_at db name = unwrap_or (option_map (λ s. s.table) (stored_at db name)) no_table
+
+-- all rows of a table in key order
+abbrev pub rows_of : Database → List ℕ → List (List Value)
+rows_of db name = unwrap_or (option_map (λ s. s.rows) (stored_at db name)) []
+
+-- a table with rows in the order of their keys
+abbrev pub stored : Table → List (List Value) → Stored
+stored table rows = record { table = table; rows = in_order key_cmp (key_of table) rows }
+
+-- the database without the tables that a test picks, and without their indexes
+abbrev pub without : (List ℕ → Bool) → Database → Database
+without gone db = record db { tables = filter (λ s. not (gone s.table.name)) db.tables; indexes = filter (λ i. not (gone i.table)) db.indexes }
+
+-- the database with further tables
+abbrev pub with_tables : List Stored → Database → Database
+with_tables more db = record db { tables = in_order name_cmp (λ s. s.table.name) (more ++ db.tables) }
+
+-- the database with other rows, in key order, in the table of a name
 abbrev pub with_rows : Database → List ℕ → List (List Value) → Database
 with_rows db name rows = record db { tables = map (λ (s : Stored). if same_name s.table.name name then record s { rows = rows } else s) db.tables }
 
@@ -52,13 +70,19 @@ is_admitted table row = if length row == length table.columns then list_all (λ 
 abbrev pub is_keyed : Stored → Bool
 is_keyed s = rises key_cmp (map (key_of s.table) s.rows)
 
--- each place of a table's key is that of a column
-abbrev pub is_key_within : Stored → Bool
-is_key_within s = list_all (λ place. nat_lt place (length s.table.columns)) s.table.key
+-- places are those of a table's columns
+abbrev pub is_within : Table → List ℕ → Bool
+is_within table places = list_all (λ place. nat_lt place (length table.columns)) places
+
+-- an index is on columns of a table that is there
+abbrev pub is_on_table : Database → IndexRule → Bool
+is_on_table db index = list_any (λ s. same_name s.table.name index.table && is_within s.table index.columns) db.tables
 
 -- what is true of each database
 pub record IsDatabase (db : Database) : Type 0 where
   pub tables_by_name : IsTrue (rises name_cmp (map (λ s. s.table.name) db.tables))
+  pub indexes_by_name : IsTrue (rises name_cmp (map (λ i. i.name) db.indexes))
   pub rows_by_key : IsTrue (list_all is_keyed db.tables)
   pub rows_admitted : IsTrue (list_all (λ s. list_all (is_admitted s.table) s.rows) db.tables)
-  pub keys_within : IsTrue (list_all is_key_within db.tables)
+  pub keys_within : IsTrue (list_all (λ s. is_within s.table s.table.key) db.tables)
+  pub indexes_on_tables : IsTrue (list_all (is_on_table db) db.indexes)

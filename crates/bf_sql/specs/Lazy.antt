@@ -1,30 +1,19 @@
--- Granules, the parts of the images that come from each, and the state of an engine that moves them late.
-use Rattle.std.specs.Prelude.{ℕ, ◌+◌, Bool, not, ◌&&◌, ◌==◌, List, [], ◌∷◌, ◌++◌, map, flat_map, filter, fold, find, length, slice_range, Option, Some, None, IsTrue, if◌then◌else◌}
-use Rattle.std.specs.List.{list_all, list_any, range_with_len}
+-- The state of an engine that moves granules late, and the whole database that it stands for.
+use Rattle.std.specs.Prelude.{ℕ, ◌+◌, Bool, not, List, [], ◌∷◌, ◌++◌, map, flat_map, filter, find, length, Option, None, Some, IsTrue}
+use Rattle.std.specs.List.{list_all, enumerate_from}
 use Rattle.bf_base.specs.declared.value.Value.{Value}
+use Rattle.bf_base.specs.declared.granule.Granule.{Granule}
 use Rattle.bf_base.specs.declared.table.Table.{Table}
-use Rattle.bf_base.specs.Lists.{same_name, same_key, has, with_placed}
-use Rattle.bf_base.specs.Tables.{key_of}
 use Rattle.bf_base.specs.Values.{key_cmp}
-use Rattle.bf_sql.specs.declared.reply.Refusal.{Refusal}
-use Rattle.bf_sql.specs.declared.reply.Reply.{Reply}
-use Rattle.bf_sql.specs.declared.statement.Target.{Target}
-use Rattle.bf_sql.specs.declared.statement.Migrate.{Migrate}
-use Rattle.bf_sql.specs.declared.statement.Statement.{Statement}
-use Rattle.bf_sql.specs.declared.statement.Statement.TheVariants as st
+use Rattle.bf_base.specs.Lists.{same_key, has, with_placed}
+use Rattle.bf_base.specs.Tables.{key_of}
+use Rattle.bf_sql.specs.declared.migration.Migrate.{Migrate}
+use Rattle.bf_sql.specs.declared.history.Sweep.{Sweep}
+use Rattle.bf_sql.specs.declared.history.Sweep.TheVariants.{Never, Complete, Running}
 use Rattle.bf_sql.specs.Database.{Database, Stored}
-use Rattle.bf_sql.specs.Conditions.{satisfies}
-use Rattle.bf_sql.specs.Refusals.{objections, row_objections}
-use Rattle.bf_sql.specs.Migrations.{source_at, arm_rows, target_table, sources_of, replaced}
-use Rattle.bf_sql.specs.Meaning.{executed}
-
--- what moves together: a row of an old table, by its position in key order
-pub record Granule : Type 0 where
-  pub source : List ℕ
-  pub position : ℕ
-
-abbrev pub same_granule : Granule → Granule → Bool
-same_granule g h = same_name g.source h.source && g.position == h.position
+use Rattle.bf_sql.specs.Targets.{target_table}
+use Rattle.bf_sql.specs.Images.{replaced}
+use Rattle.bf_sql.specs.Granules.{units_of, anchors_of, granule, granules_of, part_in, same_granule}
 
 -- a migration: its number from 1 on, the database at its flip, its statement, and the granules that have moved
 pub record Migration : Type 0 where
@@ -32,50 +21,6 @@ pub record Migration : Type 0 where
   pub old : Database
   pub migrate : Migrate
   pub done : List Granule
-
--- the target of a name, if there is one
-abbrev pub target_of : Migrate → List ℕ → Option Target
-target_of m name = find (λ t. same_name t.name name) m.targets
-
--- what there is of a target
-abbrev pub on_target : {X : Type 0} → Option Target → (Target → List X) → List X
-on_target None what = []
-on_target (Some t) what = what t
-
-module _ (old : Database) (m : Migrate) where
-  -- GRANULES: each source's rows in key order
-  abbrev pub granules_of : List Granule
-  granules_of = flat_map (λ source. map (λ at. record { source = source; position = at }) (range_with_len 0 (length (source_at old source).rows))) (sources_of m)
-
-  -- PART: what a target has of a granule, computed over its old table cut down to the granule's row
-  abbrev pub part_of : Target → Granule → List (List Value)
-  part_of target g =
-      if same_name target.arm.from g.source then arm_rows old target.arm (slice_range (source_at old g.source).rows g.position (g.position + 1)) else []
-
-  -- OWNER: the granule whose part has a row of a target with a key, if there is one
-  abbrev pub owner_of : Target → List Value → Option Granule
-  owner_of target key = find (λ g. has same_key (map (key_of (target_table old target)) (part_of target g)) key) granules_of
-
-  -- NEED: the granules with a row of a target that passes a test
-  abbrev pub giving : (List Value → Bool) → Target → List Granule
-  giving test target = filter (λ g. list_any test (part_of target g)) granules_of
-
-  abbrev pub needed : Statement → List Granule
-  needed (st.Select list table cond) = on_target (target_of m table) (λ t. giving (satisfies (target_table old t) cond) t)
-  needed (st.Insert table tuples) =
-      on_target (target_of m table) (λ t. giving (λ row. has same_key (map (key_of (target_table old t)) tuples) (key_of (target_table old t) row)) t)
-  needed (st.Migrate next) = granules_of
-  needed (st.CreateTable name columns key) = []
-
-abbrev pub none_if_refused : List Refusal → List Granule → List Granule
-none_if_refused [] granules = granules
-none_if_refused (r ∷ rs) granules = []
-
--- what a statement needs moved before it runs on a database: of the last migration, the granules with a row that its
--- condition selects, or the owners of its keys; all for a further MIGRATE; none where the catalog refuses it
-abbrev pub needed_by : Option Migration → Database → Statement → List Granule
-needed_by None db s = []
-needed_by (Some last) db s = none_if_refused (objections db s) (needed last.old last.migrate s)
 
 -- LAZY STATE: the live tables as they are kept, and the last migration
 pub record LazyState : Type 0 where
@@ -86,22 +31,18 @@ pub record LazyState : Type 0 where
 abbrev pub pending : Migration → List Granule
 pending last = filter (λ g. not (has same_granule last.done g)) (granules_of last.old last.migrate)
 
+-- the rows that the table of a name has of some granules
+abbrev pub rows_from : Option Migration → List Granule → List ℕ → List (List Value)
+rows_from None granules name = []
+rows_from (Some last) granules name = flat_map (part_in last.old last.migrate name) granules
+
 abbrev pub pending_of : Option Migration → List Granule
 pending_of None = []
 pending_of (Some last) = pending last
 
-abbrev pub done_of : Option Migration → List Granule
-done_of None = []
-done_of (Some last) = last.done
-
--- the rows that a table has of some granules
-abbrev pub rows_of : Option Migration → List Granule → List ℕ → List (List Value)
-rows_of None granules name = []
-rows_of (Some last) granules name = on_target (target_of last.migrate name) (λ t. flat_map (part_of last.old last.migrate t) granules)
-
 -- the rows of a table that have not moved into it
 abbrev pub due : Option Migration → List ℕ → List (List Value)
-due last name = rows_of last (pending_of last) name
+due last name = rows_from last (pending_of last) name
 
 -- a row whose owner has not moved
 abbrev pub is_early : Option Migration → Table → List Value → Bool
@@ -124,7 +65,7 @@ IsValid lazy = IsTrue (list_all (is_on_time lazy.last) lazy.live.tables)
 
 -- a table with its rows of a granule, each in its place
 abbrev pub with_rows_of : Option Migration → Granule → Stored → Stored
-with_rows_of last g s = record s { rows = with_placed key_cmp (key_of s.table) s.rows (rows_of last (g ∷ []) s.table.name) }
+with_rows_of last g s = record s { rows = with_placed key_cmp (key_of s.table) s.rows (rows_from last (g ∷ []) s.table.name) }
 
 abbrev pub with_done : Option Migration → Granule → Option Migration
 with_done None g = None
@@ -149,31 +90,15 @@ flipped_lazily lazy m = record {
   last = Some (begun lazy.last lazy.live m);
 }
 
-abbrev pub unless_objected : {X : Type 0} → List Refusal → X → X → X
-unless_objected [] next before = next
-unless_objected (r ∷ rs) next before = before
+-- the granule of each anchor of a migration, with the anchor's place in its unit
+abbrev pub anchored : Migration → List (Granule × ℕ)
+anchored last = flat_map (λ u. map (λ a. (granule u.0 a.1, a.0)) (enumerate_from 0 (anchors_of last.old u.1))) (enumerate_from 0 (units_of last.old last.migrate))
 
--- a statement on the live tables, as if they were all; a MIGRATE flips lazily
-abbrev pub after_statement : LazyState → Statement → LazyState
-after_statement lazy (st.Migrate m) = unless_objected (objections lazy.live (st.Migrate m) ++ row_objections lazy.live (st.Migrate m)) (flipped_lazily lazy m) lazy
-after_statement lazy s = record lazy { live = (executed lazy.live s).1 }
+abbrev pub sweep_by : Migration → Option (Granule × ℕ) → Sweep
+sweep_by last None = Complete last.number (length last.done)
+sweep_by last (Some next) = Running last.number (length last.done) (next.0).unit next.1
 
--- those granules of a list that have not moved move, one after the other
-abbrev pub moved_once : LazyState → Granule → LazyState
-moved_once lazy g = if has same_granule (done_of lazy.last) g then lazy else moved lazy g
-
-abbrev pub moved_all : LazyState → List Granule → LazyState
-moved_all lazy granules = fold moved_once lazy granules
-
--- SERVED: what a statement needs moves, and then it runs on the live tables
-abbrev pub served : LazyState → Statement → Reply × LazyState
-served lazy s =
-    let ready = moved_all lazy (needed_by lazy.last lazy.live s) in
-    ((executed ready.live s).0, after_statement ready s)
-
-abbrev pub served_all : LazyState → List Statement → List Reply × LazyState
-served_all lazy [] = ([], lazy)
-served_all lazy (s ∷ ss) =
-    let (answer, next) = served lazy s in
-    let (answers, last) = served_all next ss in
-    (answer ∷ answers, last)
+-- SWEEP: how many granules have moved, and the first anchor whose granule has not
+abbrev pub sweep_of : Option Migration → Sweep
+sweep_of None = Never
+sweep_of (Some last) = sweep_by last (find (λ a. not (has same_granule last.done a.0)) (anchored last))

@@ -8,6 +8,7 @@ use bf_base::Sequence;
 pub enum Outcome {
     /// Its number among the commits of the run, counted from 1.
     Committed(u64),
+    RolledBack,
 }
 
 /// A transaction in the order of its end: its session, and its first and last statement,

@@ -1,12 +1,22 @@
-//! Statements as they are written, and the scripts that they make.
+//! Statements as they are written.
 
-use bf_base::{Name, Row, Sequence, Value};
+ghost use Rattle.std.specs.Prelude.{◌≡◌, IfOk};
+
+use crate::items::List;
+use crate::migration::Migrate;
+use bf_base::{Memory, Name, Row, Sequence, TryClone};
+use bf_expr::{RawCond, RawExpr};
+use std::alloc::Global;
 
 /// What a column is declared to admit.
-#[derive(Clone, Copy, Debug, PartialEq, Eq)]
+#[derive(Debug, Drop, PartialEq, Eq)]
 pub enum ColumnForm {
     /// `INT`
     Int,
+    /// `INT CHECK (name BETWEEN low AND high)`, where only the column's own name is not refused.
+    Checked(Name, i64, i64),
+    /// `VARCHAR (most)`, where only 1 to 255 is not refused.
+    Varchar(u64),
 }
 
 /// A column as CREATE TABLE declares it.
@@ -16,68 +26,8 @@ pub struct ColumnRule {
     pub form: ColumnForm,
 }
 
-/// What SELECT gives of each row.
-#[derive(Clone, Copy, Debug, PartialEq, Eq)]
-pub enum List {
-    /// `*`, all columns.
-    All,
-}
-
-/// A column by its name, which may stand behind its table's.
-#[derive(Debug, Drop, PartialEq, Eq)]
-pub struct Ref {
-    pub table: Option<Name>,
-    pub column: Name,
-}
-
-/// How two values are compared.
-#[derive(Clone, Copy, Debug, PartialEq, Eq)]
-pub enum Compare {
-    Equal,
-}
-
-/// What a condition compares.
-#[derive(Debug, Drop, PartialEq, Eq)]
-pub enum Operand {
-    Value(Value),
-    Ref(Ref),
-}
-
-/// A condition on a row, as it is written.
-#[derive(Debug, Drop, PartialEq, Eq)]
-pub enum RawCond {
-    Compare(Compare, Operand, Operand),
-}
-
-/// A column of a new table, as an arm of a MIGRATE gives it.
-#[derive(Debug, Drop, PartialEq, Eq)]
-pub enum Item {
-    /// A column of the old table, which keeps its name.
-    Column(Ref),
-}
-
-/// SELECT in a MIGRATE: the rows of a new table out of those of an old one.
-#[derive(Debug, Drop, PartialEq, Eq)]
-pub struct Arm {
-    pub items: Sequence<Item>,
-    pub from: Name,
-}
-
-/// A new table of a MIGRATE.
-#[derive(Debug, Drop, PartialEq, Eq)]
-pub struct Target {
-    pub name: Name,
-    pub arm: Arm,
-}
-
-/// The new tables that take the place of the old ones which they are made of.
-#[derive(Debug, Drop, PartialEq, Eq)]
-pub struct Migrate {
-    pub targets: Sequence<Target>,
-}
-
-/// A parsed statement.
-#[derive(Debug, Drop, PartialEq, Eq)]
+/// A parsed statement. Where it has no condition, each row satisfies it.
+#[derive(Drop)]
 pub enum Statement {
     /// A new table, the columns of which its key names in key order.
     CreateTable {
@@ -85,31 +35,121 @@ pub enum Statement {
         columns: Sequence<ColumnRule>,
         key: Sequence<Name>,
     },
+    /// A new index on the columns of a table.
+    CreateIndex {
+        name: Name,
+        table: Name,
+        columns: Sequence<Name>,
+    },
     /// New rows, one of each tuple.
     Insert {
         table: Name,
         tuples: Sequence<Row>,
     },
-    /// The rows of a table that satisfy a condition, in key order.
+    /// What the rows of a table that satisfy a condition give, in key order.
     Select {
         list: List,
         table: Name,
         cond: Option<RawCond>,
     },
+    /// Columns of the rows that satisfy a condition are set, each to an expression on the old row.
+    Update {
+        table: Name,
+        sets: Sequence<(Name, RawExpr)>,
+        cond: Option<RawCond>,
+    },
+    /// The rows that satisfy a condition leave.
+    Delete {
+        table: Name,
+        cond: Option<RawCond>,
+    },
+    Begin,
+    Commit,
+    Rollback,
     /// New tables in the place of old ones, from this moment on.
     Migrate(Migrate),
 }
 
-/// The statements of one client, in order. Phases are counted from 1.
-#[derive(Debug, Drop, PartialEq, Eq)]
-pub struct Session {
-    pub phase: u32,
-    pub statements: Sequence<Statement>,
+impl ColumnForm {
+    /// An equal form.
+    pub fn copy(&self, alloc: Global) -> Result<ColumnForm, Memory>
+        ensures { IfOk result (λ copy. copy ≡ self.now) }
+    {
+        match self {
+            ColumnForm::Int => Ok(ColumnForm::Int),
+            ColumnForm::Checked(name, low, high) => {
+                Ok(ColumnForm::Checked(name.copy(alloc)?, *low, *high))
+            }
+            ColumnForm::Varchar(most) => Ok(ColumnForm::Varchar(*most)),
+        }
+    }
 }
 
-/// The sessions of a script, in the order of its text, and the number of its phases.
-#[derive(Debug, Drop, PartialEq, Eq)]
-pub struct Script {
-    pub phases: u32,
-    pub sessions: Sequence<Session>,
+impl ColumnRule {
+    /// An equal rule.
+    pub fn copy(&self, alloc: Global) -> Result<ColumnRule, Memory>
+        ensures { IfOk result (λ copy. copy ≡ self.now) }
+    {
+        let name = self.name.copy(alloc)?;
+        let form = self.form.copy(alloc)?;
+        Ok(ColumnRule { name, form })
+    }
+}
+
+impl TryClone for ColumnRule {
+    fn try_clone(&self, alloc: Global) -> Result<ColumnRule, Memory> {
+        self.copy(alloc)
+    }
+}
+
+impl Statement {
+    /// An equal statement.
+    pub fn copy(&self, alloc: Global) -> Result<Statement, Memory>
+        ensures { IfOk result (λ copy. copy ≡ self.now) }
+    {
+        match self {
+            Statement::CreateTable { name, columns, key } => Ok(Statement::CreateTable {
+                name: name.copy(alloc)?,
+                columns: columns.copy(alloc)?,
+                key: key.copy(alloc)?,
+            }),
+            Statement::CreateIndex {
+                name,
+                table,
+                columns,
+            } => Ok(Statement::CreateIndex {
+                name: name.copy(alloc)?,
+                table: table.copy(alloc)?,
+                columns: columns.copy(alloc)?,
+            }),
+            Statement::Insert { table, tuples } => Ok(Statement::Insert {
+                table: table.copy(alloc)?,
+                tuples: tuples.copy(alloc)?,
+            }),
+            Statement::Select { list, table, cond } => Ok(Statement::Select {
+                list: list.copy(alloc)?,
+                table: table.copy(alloc)?,
+                cond: cond.try_clone(alloc)?,
+            }),
+            Statement::Update { table, sets, cond } => Ok(Statement::Update {
+                table: table.copy(alloc)?,
+                sets: sets.copy(alloc)?,
+                cond: cond.try_clone(alloc)?,
+            }),
+            Statement::Delete { table, cond } => Ok(Statement::Delete {
+                table: table.copy(alloc)?,
+                cond: cond.try_clone(alloc)?,
+            }),
+            Statement::Begin => Ok(Statement::Begin),
+            Statement::Commit => Ok(Statement::Commit),
+            Statement::Rollback => Ok(Statement::Rollback),
+            Statement::Migrate(migrate) => Ok(Statement::Migrate(migrate.copy(alloc)?)),
+        }
+    }
+}
+
+impl TryClone for Statement {
+    fn try_clone(&self, alloc: Global) -> Result<Statement, Memory> {
+        self.copy(alloc)
+    }
 }
