@@ -1,6 +1,7 @@
 //! The value of an expression and the truth of a condition on a row.
 
-ghost use Rattle.std.specs.Prelude.{◌≡◌, ◌+ℤ◌, ◌-ℤ◌, ◌*ℤ◌, ◌++◌, neg_ℤ, None, Ok, IfOk, IfSome};
+ghost use Rattle.std.specs.Prelude.{◌≡◌, ◌+ℤ◌, ◌-ℤ◌, ◌*ℤ◌, ◌++◌, neg_ℤ, FitsSigned, None, Ok, IfOk, IfSome};
+ghost use Rattle.std.specs.Int.{w64};
 ghost use Rattle.bf_base.specs.Tables.{cell};
 ghost use Rattle.bf_base.specs.Texts.{first_bad_of};
 ghost use Rattle.bf_base.specs.Values.{value_cmp};
@@ -53,11 +54,12 @@ fn column(alloc: Global, row: &Row, place: u8) -> Result<Value, Memory>
     }
 }
 
-fn number(value: &Value) -> i64
-    ensures { result ≡ number_of value.now }
+fn number(value: &Value) -> i128
+    ensures value { result ≡ number_of value.now }
+    ensures range { FitsSigned w64 result }
 {
     match value {
-        Value::Int(number) => *number,
+        Value::Int(number) => i128::from(*number),
         Value::Text(_) => 0,
     }
 }
@@ -75,42 +77,43 @@ fn bytes(value: &Value) -> &[u8]
 fn exactly(number: i128) -> Result<Value, Fail>
     ensures { Gives result (exact number) }
 {
-    if number >= -0x8000_0000_0000_0000 && number <= 0x7fff_ffff_ffff_ffff {
-        Ok(Value::Int(number as i64))
-    } else {
-        Err(Fail::OutOfRange)
+    match i64::try_from(number) {
+        Ok(number) => Ok(Value::Int(number)),
+        Err(_) => Err(Fail::OutOfRange),
     }
 }
 
 fn negation(x: &Value) -> Result<Value, Fail>
     ensures { Gives result (exact (neg_ℤ (number_of x.now))) }
 {
-    exactly(-(number(x) as i128))
+    exactly(-number(x))
 }
 
 fn sum(x: &Value, y: &Value) -> Result<Value, Fail>
     ensures { Gives result (exact (number_of x.now +ℤ number_of y.now)) }
 {
-    exactly(number(x) as i128 + number(y) as i128)
+    exactly(number(x) + number(y))
 }
 
 fn difference(x: &Value, y: &Value) -> Result<Value, Fail>
     ensures { Gives result (exact (number_of x.now -ℤ number_of y.now)) }
 {
-    exactly(number(x) as i128 - number(y) as i128)
+    exactly(number(x) - number(y))
 }
 
 fn product(x: &Value, y: &Value) -> Result<Value, Fail>
     ensures { Gives result (exact (number_of x.now *ℤ number_of y.now)) }
 {
-    exactly(number(x) as i128 * number(y) as i128)
+    exactly(number(x) * number(y))
 }
 
 fn concatenation(alloc: Global, x: &Value, y: &Value) -> Result<Value, Fail>
     ensures { Gives result (short (bytes_of x.now ++ bytes_of y.now)) }
 {
-    let mut joined = Vec::from_slice(alloc, bytes(x))?;
-    joined.extend_from_slice(bytes(y))?;
+    let (left, right) = (bytes(x), bytes(y));
+    let mut joined = Vec::with_capacity(alloc, left.len() + right.len())?;
+    joined.extend_from_slice(left)?;
+    joined.extend_from_slice(right)?;
     match Text::of(alloc, joined.as_slice()) {
         Ok(text) => Ok(Value::Text(text)),
         Err(TextError::TooLong(_)) => Err(Fail::TooLong),
@@ -198,8 +201,9 @@ pub fn holds(alloc: Global, cond: &Cond, row: &Row) -> Result<bool, Memory>
     match cond.node() {
         Test::Always => Ok(true),
         Test::Compare(compare, a, b) => Ok(is_met(*compare, order(alloc, a, b, row)?)),
-        Test::Between(a, low, high) => Ok(order(alloc, low, a, row)?.is_le()
-            && order(alloc, a, high, row)?.is_le()),
+        Test::Between(a, low, high) => Ok(
+            order(alloc, low, a, row)?.is_le() && order(alloc, a, high, row)?.is_le(),
+        ),
         Test::Not(c) => Ok(!holds(alloc, c, row)?),
         Test::And(c, d) => Ok(holds(alloc, c, row)? && holds(alloc, d, row)?),
         Test::Or(c, d) => Ok(holds(alloc, c, row)? || holds(alloc, d, row)?),

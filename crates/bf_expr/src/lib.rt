@@ -5,6 +5,8 @@ pub mod compare;
 pub mod evaluation;
 pub mod laws;
 pub mod raw;
+#[cfg(test)]
+mod tests;
 pub mod tree;
 
 pub use compare::Compare;
