@@ -1,5 +1,5 @@
 -- The granules of a migration, and the part of the images that comes from each.
-use Rattle.std.specs.Prelude.{ℕ, ◌+◌, ◌-◌, Bool, false, not, ◌&&◌, ◌==◌, nat_lt, nat_le, if◌then◌else◌, List, [], ◌∷◌, ◌++◌, map, flat_map, filter, find, length, slice_range, slice_get, Option, option_map, unwrap_or}
+use Rattle.std.specs.Prelude.{ℕ, ◌+◌, ◌-◌, Bool, false, not, ◌&&◌, ◌==◌, nat_lt, nat_le, if◌then◌else◌, List, [], ◌++◌, map, flat_map, filter, find, length, slice_range, slice_get, Option, option_map, unwrap_or}
 use Rattle.std.specs.List.{list_any, range_with_len, enumerate_from}
 use Rattle.bf_base.specs.declared.value.Value.{Value}
 use Rattle.bf_base.specs.declared.granule.Place.{Place}
