@@ -1,6 +1,10 @@
 //! Why a text is no script.
 
+ghost use Rattle.std.specs.Prelude.{◌≡◌};
+ghost use Rattle.bf_lex.specs.declared.fault.ScriptError.TheVariants.{Fault, Memory as OutOfMemory};
+
 use bf_base::Memory;
+use std::alloc::AllocFailed;
 use thiserror::Error;
 
 /// What is wrong at the place of a fault.
@@ -46,4 +50,28 @@ pub enum ScriptError {
     Fault(ScriptFault),
     #[error("out of memory")]
     Memory,
+}
+
+impl From<ScriptFault> for ScriptError {
+    ghost from_gives = { λ fault error. error ≡ Fault fault };
+
+    fn from(fault: ScriptFault) -> ScriptError {
+        ScriptError::Fault(fault)
+    }
+}
+
+impl From<Memory> for ScriptError {
+    ghost from_gives = { λ _ error. error ≡ OutOfMemory };
+
+    fn from(_e: Memory) -> ScriptError {
+        ScriptError::Memory
+    }
+}
+
+impl<T: Drop> From<AllocFailed<T>> for ScriptError {
+    ghost from_gives = { λ _ error. error ≡ OutOfMemory };
+
+    fn from(_e: AllocFailed<T>) -> ScriptError {
+        ScriptError::Memory
+    }
 }

@@ -1,11 +1,13 @@
 //! Keywords.
 
-ghost use Rattle.std.specs.Prelude.{◌≡◌, ◌↔◌, Some};
+ghost use Rattle.std.specs.Prelude.{◌≡◌, ◌↔◌, ◌<◌, IfNone, IfSome, IsTrue, false, length, map, slice_get};
 ghost use Rattle.bf_tables.specs.Cases.{word_at};
-ghost use Rattle.bf_base.specs.Names.{folded};
+ghost use Rattle.bf_base.specs.Lists.{has, name_cmp, rises, same_name};
+ghost use Rattle.bf_base.specs.Names.{folded, lower_of};
 ghost use Rattle.bf_lex.specs.Words.{keyword_of, number_of, word_of};
 
 use bf_tables::{Cases, case_of_number, number_of_case, of_cases};
+use std::cmp::Ordering;
 
 /// The words that are no names, in whatever case their letters are.
 #[derive(Clone, Copy, Debug, PartialEq, Eq)]
@@ -57,6 +59,9 @@ macro_rules! keywords {
     };
 }
 
+// The words of the keywords in order, so that each stands at the place of its keyword's number.
+static WORDS: [&str; 39] = ["all", "and", "as", "begin", "between", "by", "check", "commit", "count", "create", "delete", "from", "group", "index", "insert", "int", "into", "join", "keep", "key", "max", "migrate", "min", "not", "on", "or", "phase", "primary", "rollback", "select", "session", "set", "sum", "table", "union", "update", "values", "varchar", "where"];
+
 impl Keyword {
     /// The keyword's number, below 39: its place in the order of the words. Takes no memory.
     pub fn number(self) -> u8
@@ -77,7 +82,8 @@ impl Keyword {
     pub fn of_word(word: &[u8]) -> Option<Keyword>
         ensures { result ≡ keyword_of (folded word.now) }
     {
-        Keyword::of_number(Keyword::cases().by_word(word)?)
+        let number = place(&WORDS, word)?;
+        Keyword::of_number(number as u8)
     }
 
     /// The words of the keywords, by their numbers. Takes no memory.
@@ -86,4 +92,30 @@ impl Keyword {
     {
         of_cases([(0, "all"), (1, "and"), (2, "as"), (3, "begin"), (4, "between"), (5, "by"), (6, "check"), (7, "commit"), (8, "count"), (9, "create"), (10, "delete"), (11, "from"), (12, "group"), (13, "index"), (14, "insert"), (15, "int"), (16, "into"), (17, "join"), (18, "keep"), (19, "key"), (20, "max"), (21, "migrate"), (22, "min"), (23, "not"), (24, "on"), (25, "or"), (26, "phase"), (27, "primary"), (28, "rollback"), (29, "select"), (30, "session"), (31, "set"), (32, "sum"), (33, "table"), (34, "union"), (35, "update"), (36, "values"), (37, "varchar"), (38, "where")]).unwrap()
     }
+}
+
+fn lower(byte: u8) -> u8
+    ensures { result ≡ lower_of byte }
+{
+    byte.to_ascii_lowercase()
+}
+
+// The place of a word among words in order, in whatever case its letters are.
+fn place(words: &[&str], word: &[u8]) -> Option<usize>
+    requires { IsTrue (rises name_cmp (map (λ w. w.now) words.now)) }
+    ensures inside { IfSome result (λ at. at < length words.now) }
+    ensures found { IfSome result (λ at. slice_get (map (λ w. w.now) words.now) at ≡ Some (folded word.now)) }
+    ensures none { IfNone result (has same_name (map (λ w. w.now) words.now) (folded word.now) ≡ false) }
+{
+    match words.binary_search_by(|found| compare(found, word)) {
+        Ok(at) => Some(at),
+        Err(_) => None,
+    }
+}
+
+// The order of a word in lower case and of bytes whose letters are read as lower-case ones.
+fn compare(word: &str, bytes: &[u8]) -> Ordering
+    ensures { result ≡ name_cmp word.now (folded bytes.now) }
+{
+    word.as_bytes().iter().copied().cmp(bytes.iter().map(|byte| lower(*byte)))
 }

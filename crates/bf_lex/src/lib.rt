@@ -2,9 +2,13 @@
 #![tactic(auto)]
 
 pub mod fault;
+mod gap;
 pub mod keyword;
+mod lexeme;
 pub mod lexer;
 pub mod sign;
+#[cfg(test)]
+mod tests;
 pub mod token;
 
 pub use fault::{ScriptError, ScriptFault, ScriptKind};
