@@ -1,3 +1,4 @@
+pub mod Contents
 pub mod Firsts
 pub mod Fronts
 pub mod Gaps

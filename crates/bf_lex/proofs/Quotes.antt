@@ -18,7 +18,7 @@ pub nothing_written : (text : List ℕ) → Written text text 0
 nothing_written text = record { content = []; split = refl; counted = refl; room = omega arith }
 
 -- a byte takes one byte or two
-length-doubled : (byte : ℕ) → 1 ≤ length (doubled byte)
+pub length-doubled : (byte : ℕ) → 1 ≤ length (doubled byte)
 length-doubled byte = elim (is_quote byte) as (λ b. 1 ≤ length (if b then quote ∷ quote ∷ [] else byte ∷ [])) [ true ↦ omega arith | false ↦ omega arith ]
 
 one_more : (text : List ℕ) (byte : ℕ) (rest behind : List ℕ) (count : ℕ) → Written text rest count → rest ≡ doubled byte ++ behind → Written text behind (count + 1)
@@ -73,7 +73,7 @@ second_quote (b ∷ []) e = absurd cc
 second_quote (b ∷ c ∷ bs) e = (omega arith, eqb-true c 39 e)
 
 -- doubled bytes can be told apart
-plain : (b : ℕ) → b ≢ 39 → doubled b ≡ b ∷ []
+pub plain : (b : ℕ) → b ≢ 39 → doubled b ≡ b ∷ []
 plain b other = rw (ne_eqb b 39 other) refl
 
 same_doubled : (b d : ℕ) (x y : List ℕ) → doubled b ++ x ≡ doubled d ++ y → (b ≡ d) × (x ≡ y)

@@ -69,12 +69,17 @@ pub fn content(alloc: Global, bytes: &[u8]) -> Result<Text, Memory>
     while let [byte, behind @ ..] = rest {
         inner[length] = *byte;
         length += 1;
-        rest = if *byte == b'\'' { &behind[1..] } else { behind };
+        if *byte == b'\'' {
+            rest = &rest[2..];
+        } else {
+            rest = behind;
+        }
     }
     match Text::of(alloc, &inner[..length]) {
         Ok(text) => Ok(text),
         Err(TextError::Memory) => Err(Memory),
-        Err(_) => unreachable!(),
+        Err(TextError::TooLong(_)) => unreachable!(),
+        Err(TextError::BadByte(_)) => unreachable!(),
     }
 }
 
