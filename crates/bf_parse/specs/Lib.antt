@@ -1,7 +1,10 @@
 pub mod Conditions
 pub mod Expressions
 pub mod Faults
+pub mod Migrations
 pub mod Reading
 pub mod Rules
+pub mod Scripts
+pub mod Statements
 pub mod Steps
 pub mod Words
