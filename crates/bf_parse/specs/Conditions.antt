@@ -1,6 +1,6 @@
 -- CONDITIONS: comparisons of columns and literals, joined by OR, AND and NOT. Comparisons, BETWEENs, NOTs, ANDs between
 -- conditions, ORs and opening parentheses are counted.
-use Rattle.std.specs.Prelude.{◌≡◌, ℕ, ◌+◌, ◌≤◌, ◌^◌, ℤ, pos, neg_ℤ, true, List, [], ◌∷◌, ◌++◌}
+use Rattle.std.specs.Prelude.{◌≡◌, ℕ, ◌+◌, ◌≤◌, ◌^◌, ℤ, pos, neg_ℤ, Bool, List, [], ◌∷◌, ◌++◌}
 use Rattle.bf_base.specs.declared.value.Value.{Value}
 use Rattle.bf_base.specs.declared.value.Value.TheVariants.{Int, Text}
 use Rattle.bf_lex.specs.declared.keyword.Keyword.TheVariants as keyword
@@ -14,10 +14,10 @@ use Rattle.bf_parse.specs.Words as word
 use Rattle.bf_parse.specs.Steps.{Step, Say, Limit, Node}
 use Rattle.bf_parse.specs.Expressions.{NumberRule, RefRule}
 
--- [-] number
+-- [-] number; a minus with no number behind it begins one too, so it is the word behind it that can't go on
 pub data SignedRule : List Step → ℤ → Type 0 where
   number : {steps : List Step} {x : ℤ} (v : ℕ) → NumberRule steps v → x ≡ pos v → SignedRule steps x
-  negative : {steps : List Step} {x : ℤ} (v : ℕ) → v ≤ 2 ^ 63 → steps ≡ Say (word.Minus true) ∷ Say (word.Number v) ∷ [] → x ≡ neg_ℤ (pos v) → SignedRule steps x
+  negative : {steps : List Step} {x : ℤ} (behind : Bool) (v : ℕ) → v ≤ 2 ^ 63 → steps ≡ Say (word.Minus behind) ∷ Say (word.Number v) ∷ [] → x ≡ neg_ℤ (pos v) → SignedRule steps x
 
 -- signed | text
 pub data LiteralRule : List Step → Value → Type 0 where
