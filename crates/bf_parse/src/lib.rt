@@ -1,2 +1,4 @@
 //! From the bytes of a script to its tree.
 #![tactic(auto)]
+
+mod error;
