@@ -1,8 +1,10 @@
 pub mod Conditions
+pub mod Cursors
 pub mod Expressions
 pub mod Faults
 pub mod Outcome
 pub mod Reading
 pub mod Rules
 pub mod Steps
+pub mod Tokens
 pub mod Words

@@ -1,4 +1,5 @@
 //! From the bytes of a script to its tree.
 #![tactic(auto)]
 
+mod cursor;
 mod error;

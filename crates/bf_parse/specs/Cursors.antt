@@ -1,0 +1,16 @@
+-- A place in tokens of a text, as the words that are left there.
+use Rattle.std.specs.Prelude.{ℕ, List, length}
+use Rattle.bf_parse.specs.declared.cursor.Cursor.{Cursor}
+use Rattle.bf_parse.specs.Words.{Word, words_of}
+use Rattle.bf_parse.specs.Tokens.{AreTokens}
+
+-- the words that are left
+abbrev pub words : Cursor → List Word
+words c = words_of c.text.now c.tokens.now
+
+-- how many are left
+abbrev pub left : Cursor → ℕ
+left c = length c.tokens.now
+
+abbrev pub IsPlace : Cursor → Type 0
+IsPlace c = AreTokens c.text.now c.tokens.now
