@@ -1,10 +1,12 @@
 pub mod Conditions
 pub mod Cursors
+pub mod Ends
 pub mod Expressions
 pub mod Faults
 pub mod Outcome
 pub mod Reading
 pub mod Rules
+pub mod Starts
 pub mod Steps
 pub mod Tokens
 pub mod Words

@@ -3,3 +3,4 @@
 
 mod cursor;
 mod error;
+mod start;
