@@ -1,3 +1,5 @@
+mod Contents
 mod Fitting
 mod Lists
 mod Moves
+mod Places
