@@ -4,12 +4,10 @@ use Rattle.std.specs.Prelude.{slice_range}
 use Rattle.std.proofs.Common.{eqb, false}
 use Rattle.std.proofs.lemmas.Bool.{cases_eq, ne_eqb}
 use Rattle.std.proofs.Math.Seq.{take-append_seam}
-use Rattle.bf_base.specs.Texts.{IsText}
 use Rattle.bf_lex.specs.Bytes.{quote}
 use Rattle.bf_lex.specs.Lexemes.{doubled, quoted}
 use Rattle.bf_lex.proofs.Quotes.{plain}
-use Rattle.bf_parse.specs.Cursors.{words}
-use Rattle.bf_parse.specs.Words.{Word, Text, undoubled, content_of}
+use Rattle.bf_parse.specs.Words.{undoubled, content_of}
 
 undoubled_plain : (b : ℕ) (bs : List ℕ) → b ≢ 39 → undoubled (b ∷ bs) ≡ b ∷ undoubled bs
 undoubled_plain b [] other = refl
@@ -30,9 +28,3 @@ between_quotes front =
 pub content-quoted : (bytes inner : List ℕ) → bytes ≡ quoted inner → content_of bytes ≡ inner
 content-quoted bytes inner e = ap content_of e ∙ ap undoubled (between_quotes (flat_map doubled inner)) ∙ undoubled-doubled inner
 
--- a text token at the front
-pub record IsTextWord (bytes : List ℕ) (ws rest : List Word) : Type 0 where
-  pub inner : List ℕ
-  pub is_text : IsText inner
-  pub bytes_are : bytes ≡ quoted inner
-  pub word_is : ws ≡ Text inner ∷ rest

@@ -8,5 +8,6 @@ pub mod Reading
 pub mod Rules
 pub mod Starts
 pub mod Steps
+pub mod Sums
 pub mod Tokens
 pub mod Words

@@ -3,4 +3,7 @@
 
 mod cursor;
 mod error;
+mod expression;
+mod joint;
+mod operand;
 mod start;
