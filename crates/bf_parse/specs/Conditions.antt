@@ -26,7 +26,7 @@ pub data LiteralRule : List Step → Value → Type 0 where
 
 -- literal | ref
 pub data OperandRule : List Step → Expr Ref → Type 0 where
-  literal : {steps : List Step} {x : Expr Ref} (v : Value) → LiteralRule steps v → x ≡ literal v → OperandRule steps x
+  value : {steps : List Step} {x : Expr Ref} (v : Value) → LiteralRule steps v → x ≡ literal v → OperandRule steps x
   ref : {steps : List Step} {x : Expr Ref} (r : Ref) → RefRule steps r → x ≡ column r → OperandRule steps x
 
 abbrev pub compare_sign : Compare → SignCase
@@ -60,7 +60,7 @@ mutual
 
   pub data Negations : CountedCond → List Step → CountedCond → Type 0 where
     no_negation : {c : CountedCond} {steps : List Step} {x : CountedCond} → steps ≡ [] → x ≡ c → Negations c steps x
-    negation : {c : CountedCond} {steps : List Step} {x : CountedCond} (front back : List Step) (d : CountedCond) → Negation (c.1 + 1) front d
+    other_negation : {c : CountedCond} {steps : List Step} {x : CountedCond} (front back : List Step) (d : CountedCond) → Negation (c.1 + 1) front d
         → Negations (both c.0 d.0, d.1) back x → steps ≡ Limit (Node (c.1 + 1)) ∷ Say (word.Keyword keyword.And) ∷ (front ++ back) → Negations c steps x
 
   -- conjunction ( OR conjunction )*, grouped to the left
@@ -70,5 +70,5 @@ mutual
 
   pub data Conjunctions : CountedCond → List Step → CountedCond → Type 0 where
     no_conjunction : {c : CountedCond} {steps : List Step} {x : CountedCond} → steps ≡ [] → x ≡ c → Conjunctions c steps x
-    conjunction : {c : CountedCond} {steps : List Step} {x : CountedCond} (front back : List Step) (d : CountedCond) → Conjunction (c.1 + 1) front d
+    other_conjunction : {c : CountedCond} {steps : List Step} {x : CountedCond} (front back : List Step) (d : CountedCond) → Conjunction (c.1 + 1) front d
         → Conjunctions (either c.0 d.0, d.1) back x → steps ≡ Limit (Node (c.1 + 1)) ∷ Say (word.Keyword keyword.Or) ∷ (front ++ back) → Conjunctions c steps x

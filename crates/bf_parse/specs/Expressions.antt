@@ -5,7 +5,7 @@ use Rattle.bf_base.specs.declared.value.Value.TheVariants.{Int, Text}
 use Rattle.bf_lex.specs.declared.sign.Sign.TheVariants as sign
 use Rattle.bf_expr.specs.declared.raw.Ref.{Ref}
 use Rattle.bf_expr.specs.Trees.{Expr, literal, column, negated, plus, minus, times, joined}
-use Rattle.bf_parse.specs.Words.{Word, Minus} 
+use Rattle.bf_parse.specs.Words.{Word, Minus}
 use Rattle.bf_parse.specs.Words as word
 use Rattle.bf_parse.specs.Steps.{Step, Say, Limit, Node, Widest, said}
 use Rattle.bf_parse.specs.Rules.{Rule, Return, Named, After, Either}
@@ -23,7 +23,7 @@ RefRule = Named (λ first. Either (Return (ref_to None first)) (After (word.Sign
 
 -- the number 2 ^ 63 is an INT behind a minus alone
 pub data NumberRule : List Step → ℕ → Type 0 where
-  number : {steps : List Step} {n : ℕ} → n + 1 ≤ 2 ^ 63 → steps ≡ Say (word.Number n) ∷ [] → NumberRule steps n
+  narrow : {steps : List Step} {n : ℕ} → n + 1 ≤ 2 ^ 63 → steps ≡ Say (word.Number n) ∷ [] → NumberRule steps n
   widest : {steps : List Step} {n : ℕ} → n ≡ 2 ^ 63 → steps ≡ Limit Widest ∷ Say (word.Number n) ∷ [] → NumberRule steps n
 
 -- whether a number stands first
@@ -80,7 +80,7 @@ mutual
   -- ( * factor )* behind a product
   pub data Factors : Counted → List Step → Counted → Type 0 where
     no_factor : {a : Counted} {steps : List Step} {x : Counted} → steps ≡ [] → x ≡ a → Factors a steps x
-    factor : {a : Counted} {steps : List Step} {x : Counted} (front back : List Step) (b : Counted) → Factor (a.1 + 1) front b
+    other_factor : {a : Counted} {steps : List Step} {x : Counted} (front back : List Step) (b : Counted) → Factor (a.1 + 1) front b
         → Factors (times a.0 b.0, b.1) back x → steps ≡ Limit (Node (a.1 + 1)) ∷ Say (word.Sign sign.Star) ∷ (front ++ back) → Factors a steps x
 
   -- product ( (+ | - | ||) product )*
@@ -91,6 +91,6 @@ mutual
   -- ( (+ | - | ||) product )* behind a sum
   pub data Products : Counted → List Step → Counted → Type 0 where
     no_product : {a : Counted} {steps : List Step} {x : Counted} → steps ≡ [] → x ≡ a → Products a steps x
-    product : {a : Counted} {steps : List Step} {x : Counted} (operator : SumOperator) (front back : List Step) (b : Counted) → Product (a.1 + 1) front b
+    other_product : {a : Counted} {steps : List Step} {x : Counted} (operator : SumOperator) (front back : List Step) (b : Counted) → Product (a.1 + 1) front b
         → Products (sum_of operator a.0 b.0, b.1) back x
         → steps ≡ Limit (Node (a.1 + 1)) ∷ Say (sum_word operator front) ∷ (front ++ back) → Products a steps x

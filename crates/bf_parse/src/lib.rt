@@ -1,2 +1,9 @@
 //! From the bytes of a script to its tree.
 #![tactic(auto)]
+
+mod cursor;
+mod error;
+mod expression;
+mod joint;
+mod operand;
+mod start;
