@@ -15,7 +15,7 @@ use Rattle.bf_sql.specs.declared.script.Script.{Script}
 use Rattle.bf_sql.specs.declared.reply.Reply.{Reply}
 use Rattle.bf_sql.specs.declared.history.Entry.{Entry}
 use Rattle.bf_sql.specs.Database.{Database, IsDatabase, empty_database}
-use Rattle.bf_sql.specs.Scopes.{ref_to}
+use Rattle.bf_sql.specs.Scopes.{unqualified}
 use Rattle.bf_sql.specs.History.{replayed, IsLegalHistory, IsAllAnswered}
 use Rattle.bf_sql.proofs.Spelling.{one, number, given, rule, in_one_phase, entry, alone, table, column_of, stored, database}
 
@@ -33,9 +33,9 @@ script = in_one_phase (
     statement.CreateTable (codes "t") (rule (codes "id") form.Int ∷ rule (codes "n") form.Int ∷ []) (one (codes "id"))
     ∷ statement.Select (items.Aggregates (
     total.Count
-    ∷ total.Sum (column (ref_to (codes "n")))
-    ∷ total.Min (column (ref_to (codes "n")))
-    ∷ total.Max (column (ref_to (codes "n")))
+    ∷ total.Sum (column (unqualified (codes "n")))
+    ∷ total.Min (column (unqualified (codes "n")))
+    ∷ total.Max (column (unqualified (codes "n")))
     ∷ []
     )) (codes "t") None
     ∷ statement.Commit

@@ -10,7 +10,7 @@ use Rattle.bf_sql.specs.declared.migration.Item.TheVariants as item
 use Rattle.bf_sql.specs.declared.statement.Statement.TheVariants as statement
 use Rattle.bf_sql.specs.declared.migration.Migrate.{Migrate}
 use Rattle.bf_sql.specs.Database.{Database}
-use Rattle.bf_sql.specs.Scopes.{ref_to}
+use Rattle.bf_sql.specs.Scopes.{unqualified}
 use Rattle.bf_sql.specs.Images.{flipped}
 use Rattle.bf_sql.specs.Granules.{granule, granules_of, part_of}
 use Rattle.bf_sql.specs.Need.{needed_by}
@@ -27,8 +27,8 @@ old = database 2 (
 -- MIGRATE (CREATE TABLE pub AS SELECT id, name || '!' AS name FROM pub)
 abbrev pub migrate : Migrate
 migrate = migration (one (target (codes "pub") (one (arm (
-    item.Column (ref_to (codes "id"))
-    ∷ item.Named (joined (column (ref_to (codes "name"))) (literal (Text (codes "!")))) (codes "name")
+    item.Column (unqualified (codes "id"))
+    ∷ item.Named (joined (column (unqualified (codes "name"))) (literal (Text (codes "!")))) (codes "name")
     ∷ []
     ) (codes "pub") None None []))))
 
@@ -47,5 +47,5 @@ view : view_of (flipped_lazily (record { live = old; last = None }) migrate) ≡
 view = refl
 
 -- SELECT * FROM pub WHERE id = 3
-need1 : needed_by old migrate (flipped old migrate) false (statement.Select items.All (codes "pub") (Some (compared compare.Equal (column (ref_to (codes "id"))) (literal (number 3))))) ≡ one (granule 0 (Row 2))
+need1 : needed_by old migrate (flipped old migrate) false (statement.Select items.All (codes "pub") (Some (compared compare.Equal (column (unqualified (codes "id"))) (literal (number 3))))) ≡ one (granule 0 (Row 2))
 need1 = refl

@@ -15,7 +15,7 @@ use Rattle.bf_sql.specs.declared.reply.Reply.TheVariants as reply
 use Rattle.bf_sql.specs.declared.script.Script.{Script}
 use Rattle.bf_sql.specs.declared.history.Entry.{Entry}
 use Rattle.bf_sql.specs.Database.{Database, IsDatabase, empty_database}
-use Rattle.bf_sql.specs.Scopes.{ref_to}
+use Rattle.bf_sql.specs.Scopes.{unqualified}
 use Rattle.bf_sql.specs.History.{replayed}
 use Rattle.bf_sql.proofs.Spelling.{one, number, given, rule, arm, target, migration, in_one_phase, alone, table, column_of, stored, database}
 
@@ -36,14 +36,14 @@ script = in_one_phase (one (
     ∷ []
     )
     ∷ statement.Migrate (migration (
-    target (codes "pub") (one (arm (item.Column (ref_to (codes "id")) ∷ item.Column (ref_to (codes "name")) ∷ []) (codes "cust") None None []))
-    ∷ target (codes "priv") (one (arm (item.Column (ref_to (codes "id")) ∷ item.Column (ref_to (codes "pin")) ∷ []) (codes "cust") None None []))
+    target (codes "pub") (one (arm (item.Column (unqualified (codes "id")) ∷ item.Column (unqualified (codes "name")) ∷ []) (codes "cust") None None []))
+    ∷ target (codes "priv") (one (arm (item.Column (unqualified (codes "id")) ∷ item.Column (unqualified (codes "pin")) ∷ []) (codes "cust") None None []))
     ∷ []
     ))
-    ∷ statement.Select items.All (codes "pub") (Some (compared compare.Equal (column (ref_to (codes "id"))) (literal (number 2))))
+    ∷ statement.Select items.All (codes "pub") (Some (compared compare.Equal (column (unqualified (codes "id"))) (literal (number 2))))
     ∷ statement.Insert (codes "pub") (one (number 3 ∷ Text (codes "Zed") ∷ []))
     ∷ statement.Select (items.Aggregates (one total.Count)) (codes "cust") None
-    ∷ statement.Delete (codes "pub") (Some (compared compare.Equal (column (ref_to (codes "id"))) (literal (number 1))))
+    ∷ statement.Delete (codes "pub") (Some (compared compare.Equal (column (unqualified (codes "id"))) (literal (number 1))))
     ∷ []
     ))
 

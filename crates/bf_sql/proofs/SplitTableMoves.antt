@@ -11,7 +11,7 @@ use Rattle.bf_sql.specs.declared.migration.Item.TheVariants as item
 use Rattle.bf_sql.specs.declared.statement.Statement.TheVariants as statement
 use Rattle.bf_sql.specs.declared.migration.Migrate.{Migrate}
 use Rattle.bf_sql.specs.Database.{Database}
-use Rattle.bf_sql.specs.Scopes.{ref_to}
+use Rattle.bf_sql.specs.Scopes.{unqualified}
 use Rattle.bf_sql.specs.Images.{flipped}
 use Rattle.bf_sql.specs.Granules.{granule, granules_of, part_of}
 use Rattle.bf_sql.specs.Need.{needed_by}
@@ -29,8 +29,8 @@ old = database 1 (one (stored (table (codes "cust") (column_of (codes "id") admi
 -- MIGRATE (CREATE TABLE pub AS SELECT id, name FROM cust; CREATE TABLE priv AS SELECT id, pin FROM cust)
 abbrev pub migrate : Migrate
 migrate = migration (
-    target (codes "pub") (one (arm (item.Column (ref_to (codes "id")) ∷ item.Column (ref_to (codes "name")) ∷ []) (codes "cust") None None []))
-    ∷ target (codes "priv") (one (arm (item.Column (ref_to (codes "id")) ∷ item.Column (ref_to (codes "pin")) ∷ []) (codes "cust") None None []))
+    target (codes "pub") (one (arm (item.Column (unqualified (codes "id")) ∷ item.Column (unqualified (codes "name")) ∷ []) (codes "cust") None None []))
+    ∷ target (codes "priv") (one (arm (item.Column (unqualified (codes "id")) ∷ item.Column (unqualified (codes "pin")) ∷ []) (codes "cust") None None []))
     ∷ []
     )
 
@@ -49,7 +49,7 @@ view : view_of (flipped_lazily (record { live = old; last = None }) migrate) ≡
 view = refl
 
 -- SELECT * FROM pub WHERE id = 2
-need1 : needed_by old migrate (flipped old migrate) false (statement.Select items.All (codes "pub") (Some (compared compare.Equal (column (ref_to (codes "id"))) (literal (number 2))))) ≡ one (granule 0 (Row 1))
+need1 : needed_by old migrate (flipped old migrate) false (statement.Select items.All (codes "pub") (Some (compared compare.Equal (column (unqualified (codes "id"))) (literal (number 2))))) ≡ one (granule 0 (Row 1))
 need1 = refl
 
 -- INSERT INTO pub VALUES (3, 'Zed')
@@ -61,5 +61,5 @@ need3 : needed_by old migrate (flipped old migrate) false (statement.Select (ite
 need3 = refl
 
 -- DELETE FROM pub WHERE id = 1
-need4 : needed_by old migrate (flipped old migrate) false (statement.Delete (codes "pub") (Some (compared compare.Equal (column (ref_to (codes "id"))) (literal (number 1))))) ≡ one (granule 0 (Row 0))
+need4 : needed_by old migrate (flipped old migrate) false (statement.Delete (codes "pub") (Some (compared compare.Equal (column (unqualified (codes "id"))) (literal (number 1))))) ≡ one (granule 0 (Row 0))
 need4 = refl

@@ -17,11 +17,11 @@ none = refl
 abbrev split_with : List Granule → Option Migration
 split_with done = Some (record { number = 1; old = split.old; migrate = split.migrate; done = done })
 
-first : sweep_of (split_with (one (granule 0 (Row 1)))) ≡ Running 1 1 0 0
-first = refl
+at_first : sweep_of (split_with (one (granule 0 (Row 1)))) ≡ Running 1 1 0 0
+at_first = refl
 
-second : sweep_of (split_with (granule 0 (Row 0) ∷ granule 0 (Row 2) ∷ [])) ≡ Running 1 2 0 1
-second = refl
+at_second : sweep_of (split_with (granule 0 (Row 0) ∷ granule 0 (Row 2) ∷ [])) ≡ Running 1 2 0 1
+at_second = refl
 
 complete : sweep_of (split_with (granule 0 (Row 2) ∷ granule 0 (Row 0) ∷ granule 0 (Row 1) ∷ [])) ≡ Complete 1 3
 complete = refl

@@ -8,7 +8,7 @@ use Rattle.bf_sql.specs.declared.migration.Item.TheVariants as item
 use Rattle.bf_sql.specs.declared.statement.Statement.TheVariants as statement
 use Rattle.bf_sql.specs.declared.migration.Migrate.{Migrate}
 use Rattle.bf_sql.specs.Database.{Database}
-use Rattle.bf_sql.specs.Scopes.{ref_to}
+use Rattle.bf_sql.specs.Scopes.{unqualified}
 use Rattle.bf_sql.specs.Images.{flipped}
 use Rattle.bf_sql.specs.Granules.{granule, granules_of, part_of}
 use Rattle.bf_sql.specs.Need.{needed_by}
@@ -23,14 +23,14 @@ abbrev pub migrate : Migrate
 migrate = migration (one (target (codes "ph") (
     arm (
     item.Named (literal (number 1)) (codes "tag")
-    ∷ item.Column (ref_to (codes "id"))
-    ∷ item.Named (column (ref_to (codes "h"))) (codes "num")
+    ∷ item.Column (unqualified (codes "id"))
+    ∷ item.Named (column (unqualified (codes "h"))) (codes "num")
     ∷ []
     ) (codes "c") None None []
     ∷ arm (
     item.Named (literal (number 2)) (codes "tag")
-    ∷ item.Column (ref_to (codes "id"))
-    ∷ item.Named (column (ref_to (codes "w"))) (codes "num")
+    ∷ item.Column (unqualified (codes "id"))
+    ∷ item.Named (column (unqualified (codes "w"))) (codes "num")
     ∷ []
     ) (codes "c") None None []
     ∷ []

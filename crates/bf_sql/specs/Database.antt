@@ -37,12 +37,12 @@ abbrev pub table_at : Database → List ℕ → Table
 table_at db name = unwrap_or (option_map (λ s. s.table) (stored_at db name)) no_table
 
 -- all rows of a table in key order
-abbrev pub rows_of : Database → List ℕ → List (List Value)
-rows_of db name = unwrap_or (option_map (λ s. s.rows) (stored_at db name)) []
+abbrev pub table_rows : Database → List ℕ → List (List Value)
+table_rows db name = unwrap_or (option_map (λ s. s.rows) (stored_at db name)) []
 
 -- a table with rows in the order of their keys
-abbrev pub stored : Table → List (List Value) → Stored
-stored table rows = record { table = table; rows = in_order key_cmp (key_of table) rows }
+abbrev pub stored_in_order : Table → List (List Value) → Stored
+stored_in_order table rows = record { table = table; rows = in_order key_cmp (key_of table) rows }
 
 -- the database without the tables that a test picks, and without their indexes
 abbrev pub without : (List ℕ → Bool) → Database → Database

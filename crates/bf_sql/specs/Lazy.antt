@@ -75,13 +75,14 @@ with_done (Some last) g = Some (record last { done = last.done ++ g ∷ [] })
 abbrev pub moved : LazyState → Granule → LazyState
 moved lazy g = record { live = record lazy.live { tables = map (with_rows_of lazy.last g) lazy.live.tables }; last = with_done lazy.last g }
 
-abbrev pub number_of : Option Migration → ℕ
-number_of None = 0
-number_of (Some last) = last.number
+-- how many migrations there were
+abbrev pub migrations_so_far : Option Migration → ℕ
+migrations_so_far None = 0
+migrations_so_far (Some last) = last.number
 
 -- a migration begins: the database at its flip is kept, and nothing has moved
 abbrev pub begun : Option Migration → Database → Migrate → Migration
-begun last db m = record { number = number_of last + 1; old = db; migrate = m; done = [] }
+begun last db m = record { number = migrations_so_far last + 1; old = db; migrate = m; done = [] }
 
 -- the flip as it is done: the sources are set aside, and the targets are empty
 abbrev pub flipped_lazily : LazyState → Migrate → LazyState
