@@ -83,7 +83,7 @@ module _ (script : Script) where
         ((list_any (has_statement a.1) (groups_in script a.0) ≡ false) × (a.2 ≡ Refused NoTransaction))
         ⊎ ((g : ℕ × ℕ) × (cause : Cause) × (find (has_statement a.1) (groups_in script a.0) ≡ Some g) × IsAllowed a.0 g cause × IsEndedBy transcripts a.0 g cause)
 
-    -- LEGAL: transcripts and history that a one-thread database could have given
+    -- LEGAL: transcripts and history that a one-thread database could have given, but for groups that a cause has ended
     pub record IsLegalHistory (is_open : ℕ → ℕ × ℕ → Bool) (start : Database) (transcripts : List (List Reply)) (history : List Entry) : Type 0 where
       pub whole_groups : IsTrue (list_all is_whole_group history)
       pub in_order : IsTrue (list_all (λ p. list_all (λ d. may_precede d p.1) p.0) (with_before history))
