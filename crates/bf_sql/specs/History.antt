@@ -13,7 +13,7 @@ use Rattle.bf_sql.specs.declared.history.Outcome.TheVariants.{Committed, RolledB
 use Rattle.bf_sql.specs.declared.history.Entry.{Entry}
 use Rattle.bf_sql.specs.Database.{Database}
 use Rattle.bf_sql.specs.Meaning.{executed}
-use Rattle.bf_sql.specs.Groups.{session_at, groups_in, statements_in, statements_of, outcomes_from}
+use Rattle.bf_sql.specs.Groups.{session_at, groups_in, statements_in, statements_of, has_statement, is_stray, outcomes_from}
 
 -- a group's statements, each on what the one before it left; all but the first stand in its block
 abbrev pub run_group : ℕ → Bool → Database → List Statement → List Reply × Database
@@ -48,10 +48,6 @@ told transcripts e = replies_to transcripts e.session (e.first, e.last)
 abbrev pub answered : List (List Reply) → List (ℕ × ℕ × Reply)
 answered transcripts = flat_map (λ s. map (λ n. (s.0, n.0, n.1)) (enumerate_from 1 s.1)) (enumerate_from 1 transcripts)
 
--- whether a group has statement n
-abbrev pub has_statement : ℕ → ℕ × ℕ → Bool
-has_statement n group = nat_le group.0 n && nat_le n group.1
-
 abbrev pub stands_in : ℕ → ℕ → Entry → Bool
 stands_in s n e = e.session == s && has_statement n (e.first, e.last)
 
@@ -77,10 +73,10 @@ module _ (script : Script) where
 
   -- `IsAllowed` tells of a session, a group and a cause
   module _ (IsAllowed : ℕ → ℕ × ℕ → Cause → Type 0) where
-    -- a COMMIT or ROLLBACK in no group with its refusal, or a statement of a group that ended by a cause
+    -- a COMMIT or ROLLBACK of the text in no group, with its refusal, or a statement of a group that ended by a cause
     abbrev pub IsApart : List (List Reply) → ℕ × ℕ × Reply → Type 0
     IsApart transcripts a =
-        ((list_any (has_statement a.1) (groups_in script a.0) ≡ false) × (a.2 ≡ Refused NoTransaction))
+        (IsTrue (is_stray script a.0 a.1) × (a.2 ≡ Refused NoTransaction))
         ⊎ ((g : ℕ × ℕ) × (cause : Cause) × (find (has_statement a.1) (groups_in script a.0) ≡ Some g) × IsAllowed a.0 g cause × IsEndedBy transcripts a.0 g cause)
 
     -- LEGAL: transcripts and history that a one-thread database could have given, but for groups that a cause has ended
