@@ -55,6 +55,10 @@ run : replayed script empty_database history ≡ (
 )
 run = refl
 
+-- the replay counts the commits, whatever numbers the entries have
+misnumbered : replayed script empty_database (entry 1 1 1 (outcome.Committed 9) ∷ alone 2 ∷ entry 1 3 7 (outcome.Committed 1) ∷ entry 1 8 8 (outcome.Committed 4) ∷ []) ≡ replayed script empty_database history
+misnumbered = refl
+
 last_is_database : IsDatabase last
 last_is_database = record { tables_by_name = refl; indexes_by_name = refl; rows_by_key = refl; rows_admitted = refl; keys_within = refl; indexes_on_tables = refl }
 

@@ -1,5 +1,5 @@
 -- The replay of a history, and legal histories.
-use Rattle.std.specs.Prelude.{◌≡◌, ℕ, ◌⊎◌, Bool, true, false, not, ◌&&◌, ◌||◌, ◌==◌, nat_lt, nat_le, List, [], ◌∷◌, length, map, flat_map, filter, find, Some, slice_index_or, IsTrue}
+use Rattle.std.specs.Prelude.{◌≡◌, ℕ, ◌+◌, ◌⊎◌, Bool, true, false, not, ◌&&◌, ◌||◌, ◌==◌, nat_lt, nat_le, List, [], ◌∷◌, length, map, flat_map, filter, find, Some, slice_index_or, IsTrue}
 use Rattle.std.specs.List.{AllByRecursion, list_any, list_all, enumerate_from}
 use Rattle.bf_base.specs.Lists.{part, with_before}
 use Rattle.bf_sql.specs.declared.statement.Statement.{Statement}
@@ -23,18 +23,29 @@ run_group commit in_block db (s ∷ ss) =
     let (answers, last) = run_group commit true next ss in
     (answer ∷ answers, last)
 
--- a committed group's result takes its place, one that is rolled back leaves the database
-abbrev pub settled : Database → Outcome → List Statement → List Reply × Database
-settled db (Committed n) ss = run_group n false db ss
-settled db RolledBack ss = ((run_group 0 false db ss).0, db)
+-- how many entries are committed up to one, of whose predecessors n are
+abbrev pub commits_with : ℕ → Outcome → ℕ
+commits_with n (Committed number) = n + 1
+commits_with n RolledBack = n
+
+-- a committed group's result takes its place, one that is rolled back leaves the database. `commit` is the number of the
+-- commit that it may end
+abbrev pub settled : ℕ → Database → Outcome → List Statement → List Reply × Database
+settled commit db (Committed number) ss = run_group commit false db ss
+settled commit db RolledBack ss = ((run_group commit false db ss).0, db)
+
+-- the replay of entries behind n committed ones, which counts the commits itself: the numbers in the entries are not read
+abbrev pub replayed_behind : ℕ → Script → Database → List Entry → List (List Reply) × Database
+replayed_behind n script db [] = ([], db)
+replayed_behind n script db (e ∷ es) =
+    let commit = commits_with n e.outcome in
+    let (answers, next) = settled commit db e.outcome (statements_of script e) in
+    let (later, last) = replayed_behind commit script next es in
+    (answers ∷ later, last)
 
 -- REPLAY: one group after the other, on one thread. The replies to each entry, and the last database
 abbrev pub replayed : Script → Database → List Entry → List (List Reply) × Database
-replayed script db [] = ([], db)
-replayed script db (e ∷ es) =
-    let (answers, next) = settled db e.outcome (statements_of script e) in
-    let (later, last) = replayed script next es in
-    (answers ∷ later, last)
+replayed script db history = replayed_behind 0 script db history
 
 -- the replies that the transcripts give to a group of session s
 abbrev pub replies_to : List (List Reply) → ℕ → ℕ × ℕ → List Reply
