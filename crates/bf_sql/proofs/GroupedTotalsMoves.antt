@@ -15,7 +15,7 @@ use Rattle.bf_sql.specs.Images.{flipped}
 use Rattle.bf_sql.specs.Granules.{granule, granules_of, part_of}
 use Rattle.bf_sql.specs.Need.{needed_by}
 use Rattle.bf_sql.specs.Lazy.{view_of, flipped_lazily}
-use Rattle.bf_sql.proofs.Spelling.{one, number, arm, target, migration, table, column_of, stored, database, by_name}
+use Rattle.bf_sql.proofs.Spelling.{one, number, arm, target, migration, table, column_of, stored, database, by_name, at_rest}
 
 abbrev pub old : Database
 old = database 1 (one (stored (table (codes "ord") (
@@ -51,7 +51,7 @@ parts : map (λ g. by_name (part_of old migrate g)) (granules_of old migrate) �
 parts = refl
 
 -- a flip that moves nothing is seen as the flip
-view : view_of (flipped_lazily (record { live = old; last = None }) migrate) ≡ flipped old migrate
+view : view_of (flipped_lazily (at_rest old) migrate) ≡ flipped old migrate
 view = refl
 
 -- SELECT * FROM tot WHERE total > 30 AND cust < 9
