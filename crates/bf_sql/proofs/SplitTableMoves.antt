@@ -2,11 +2,13 @@
 use Rattle.std.specs.Prelude.{◌≡◌, false, [], ◌∷◌, map, Some, None, codes, refl}
 use Rattle.bf_base.specs.declared.value.Value.TheVariants.{Text}
 use Rattle.bf_base.specs.declared.table.Admit.TheVariants as admits
+use Rattle.bf_base.specs.declared.table.Table.{Table}
 use Rattle.bf_base.specs.declared.granule.Place.TheVariants.{Row}
 use Rattle.bf_expr.specs.declared.compare.Compare.TheVariants as compare
-use Rattle.bf_expr.specs.Trees.{literal, column, compared}
+use Rattle.bf_expr.specs.Trees.{literal, column, always, compared}
 use Rattle.bf_sql.specs.declared.items.Aggregate.TheVariants as total
 use Rattle.bf_sql.specs.declared.items.Items.TheVariants as items
+use Rattle.bf_sql.specs.declared.bound.Action.TheVariants as action
 use Rattle.bf_sql.specs.declared.migration.Item.TheVariants as item
 use Rattle.bf_sql.specs.declared.statement.Statement.TheVariants as statement
 use Rattle.bf_sql.specs.declared.migration.Migrate.{Migrate}
@@ -14,7 +16,7 @@ use Rattle.bf_sql.specs.Database.{Database}
 use Rattle.bf_sql.specs.Scopes.{unqualified}
 use Rattle.bf_sql.specs.Images.{flipped}
 use Rattle.bf_sql.specs.Granules.{granule, granules_of, part_of}
-use Rattle.bf_sql.specs.Need.{needed_by}
+use Rattle.bf_sql.specs.Need.{needed, needed_by}
 use Rattle.bf_sql.specs.Lazy.{view_of, flipped_lazily}
 use Rattle.bf_sql.proofs.Spelling.{one, number, arm, target, migration, table, column_of, stored, database, by_name, at_rest}
 
@@ -63,3 +65,10 @@ need3 = refl
 -- DELETE FROM pub WHERE id = 1
 need4 : needed_by old migrate (flipped old migrate) false (statement.Delete (codes "pub") (Some (compared compare.Equal (column (unqualified (codes "id"))) (literal (number 1))))) ≡ one (granule 0 (Row 0))
 need4 = refl
+
+-- a table with the name of one of the targets and another column is no target
+abbrev narrow : Table
+narrow = table (codes "pub") (one (column_of (codes "id") admits.Int)) (one 0)
+
+by_name_alone : needed old migrate (record { catalog = 2; schema_change = false; action = action.Delete narrow always None }) ≡ []
+by_name_alone = refl
