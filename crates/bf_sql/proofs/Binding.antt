@@ -14,7 +14,7 @@ use Rattle.bf_sql.specs.declared.catalog.Catalog.{Catalog}
 use Rattle.bf_sql.specs.declared.statement.ColumnForm.TheVariants as form
 use Rattle.bf_sql.specs.declared.statement.Statement.TheVariants as statement
 use Rattle.bf_sql.specs.declared.reply.Refusal.TheVariants as refusal
-use Rattle.bf_sql.specs.Scopes.{ref_to}
+use Rattle.bf_sql.specs.Scopes.{unqualified}
 use Rattle.bf_sql.specs.Conditions.{fixed_key}
 use Rattle.bf_sql.specs.Bound.{bare, bound_of}
 use Rattle.bf_sql.proofs.Spelling.{one, number, qualified, rule, migration, table, column_of, index}
@@ -30,7 +30,7 @@ abbrev bound : Action → Option Bound
 bound act = Some (record { catalog = 3; schema_change = false; action = act })
 
 abbrev name : List ℕ → Expr Ref
-name column_name = column (ref_to column_name)
+name column_name = column (unqualified column_name)
 
 -- SELECT SUM(n + t.b) FROM t WHERE 7 = b AND n > 2 AND a = 5 AND a = 6: the first conjunct that fixes a column serves
 select :

@@ -13,7 +13,7 @@ use Rattle.bf_sql.specs.declared.script.Script.{Script}
 use Rattle.bf_sql.specs.declared.reply.Reply.{Reply}
 use Rattle.bf_sql.specs.declared.history.Entry.{Entry}
 use Rattle.bf_sql.specs.Database.{Database, IsDatabase, empty_database}
-use Rattle.bf_sql.specs.Scopes.{ref_to}
+use Rattle.bf_sql.specs.Scopes.{unqualified}
 use Rattle.bf_sql.specs.History.{replayed, IsLegalHistory, IsAllAnswered}
 use Rattle.bf_sql.proofs.Spelling.{one, number, given, rule, in_one_phase, entry, alone, table, column_of, stored, database}
 
@@ -30,9 +30,9 @@ script = in_one_phase (one (
     statement.CreateTable (codes "t") (rule (codes "id") form.Int ∷ rule (codes "n") form.Int ∷ []) (one (codes "id"))
     ∷ statement.Insert (codes "t") (one (number 1 ∷ number 10 ∷ []))
     ∷ statement.Begin
-    ∷ statement.Update (codes "t") (one (codes "n", plus (column (ref_to (codes "n"))) (literal (number 1)))) (Some (compared compare.Equal (column (ref_to (codes "id"))) (literal (number 1))))
+    ∷ statement.Update (codes "t") (one (codes "n", plus (column (unqualified (codes "n"))) (literal (number 1)))) (Some (compared compare.Equal (column (unqualified (codes "id"))) (literal (number 1))))
     ∷ statement.Insert (codes "t") ((number 2 ∷ number 20 ∷ []) ∷ (number 1 ∷ number 0 ∷ []) ∷ [])
-    ∷ statement.Delete (codes "t") (Some (compared compare.Equal (column (ref_to (codes "id"))) (literal (number 5))))
+    ∷ statement.Delete (codes "t") (Some (compared compare.Equal (column (unqualified (codes "id"))) (literal (number 5))))
     ∷ statement.Commit
     ∷ statement.Select items.All (codes "t") None
     ∷ []
@@ -54,6 +54,10 @@ run : replayed script empty_database history ≡ (
   last,
 )
 run = refl
+
+-- the replay counts the commits, whatever numbers the entries have
+misnumbered : replayed script empty_database (entry 1 1 1 (outcome.Committed 9) ∷ alone 2 ∷ entry 1 3 7 (outcome.Committed 1) ∷ entry 1 8 8 (outcome.Committed 4) ∷ []) ≡ replayed script empty_database history
+misnumbered = refl
 
 last_is_database : IsDatabase last
 last_is_database = record { tables_by_name = refl; indexes_by_name = refl; rows_by_key = refl; rows_admitted = refl; keys_within = refl; indexes_on_tables = refl }

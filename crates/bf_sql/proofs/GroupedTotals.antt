@@ -12,7 +12,7 @@ use Rattle.bf_sql.specs.declared.reply.Reply.TheVariants as reply
 use Rattle.bf_sql.specs.declared.script.Script.{Script}
 use Rattle.bf_sql.specs.declared.history.Entry.{Entry}
 use Rattle.bf_sql.specs.Database.{Database, IsDatabase, empty_database}
-use Rattle.bf_sql.specs.Scopes.{ref_to}
+use Rattle.bf_sql.specs.Scopes.{unqualified}
 use Rattle.bf_sql.specs.History.{replayed}
 use Rattle.bf_sql.proofs.Spelling.{one, number, given, rule, arm, target, migration, in_one_phase, alone, table, column_of, stored, database}
 
@@ -31,12 +31,12 @@ script = in_one_phase (one (
     ∷ []
     )
     ∷ statement.Migrate (migration (one (target (codes "tot") (one (arm (
-    item.Column (ref_to (codes "cust"))
+    item.Column (unqualified (codes "cust"))
     ∷ item.Total total.Count (codes "cnt")
-    ∷ item.Total (total.Sum (column (ref_to (codes "amt")))) (codes "total")
+    ∷ item.Total (total.Sum (column (unqualified (codes "amt")))) (codes "total")
     ∷ []
-    ) (codes "ord") None None (one (ref_to (codes "cust"))))))))
-    ∷ statement.Select items.All (codes "tot") (Some (both (compared compare.Greater (column (ref_to (codes "total"))) (literal (number 30))) (compared compare.Less (column (ref_to (codes "cust"))) (literal (number 9)))))
+    ) (codes "ord") None None (one (unqualified (codes "cust"))))))))
+    ∷ statement.Select items.All (codes "tot") (Some (both (compared compare.Greater (column (unqualified (codes "total"))) (literal (number 30))) (compared compare.Less (column (unqualified (codes "cust"))) (literal (number 9)))))
     ∷ []
     ))
 

@@ -10,12 +10,12 @@ use Rattle.bf_sql.specs.declared.migration.Item.TheVariants as item
 use Rattle.bf_sql.specs.declared.statement.Statement.TheVariants as statement
 use Rattle.bf_sql.specs.declared.migration.Migrate.{Migrate}
 use Rattle.bf_sql.specs.Database.{Database}
-use Rattle.bf_sql.specs.Scopes.{ref_to}
+use Rattle.bf_sql.specs.Scopes.{unqualified}
 use Rattle.bf_sql.specs.Images.{flipped}
 use Rattle.bf_sql.specs.Granules.{granule, granules_of, part_of}
 use Rattle.bf_sql.specs.Need.{needed_by}
 use Rattle.bf_sql.specs.Lazy.{view_of, flipped_lazily}
-use Rattle.bf_sql.proofs.Spelling.{one, number, arm, target, migration, table, column_of, stored, database, by_name}
+use Rattle.bf_sql.proofs.Spelling.{one, number, arm, target, migration, table, column_of, stored, database, by_name, at_rest}
 
 abbrev pub old : Database
 old = database 1 (one (stored (table (codes "ord") (
@@ -34,11 +34,11 @@ old = database 1 (one (stored (table (codes "ord") (
 -- MIGRATE (CREATE TABLE tot AS SELECT cust, COUNT(*) AS cnt, SUM(amt) AS total FROM ord GROUP BY cust)
 abbrev pub migrate : Migrate
 migrate = migration (one (target (codes "tot") (one (arm (
-    item.Column (ref_to (codes "cust"))
+    item.Column (unqualified (codes "cust"))
     ∷ item.Total total.Count (codes "cnt")
-    ∷ item.Total (total.Sum (column (ref_to (codes "amt")))) (codes "total")
+    ∷ item.Total (total.Sum (column (unqualified (codes "amt")))) (codes "total")
     ∷ []
-    ) (codes "ord") None None (one (ref_to (codes "cust")))))))
+    ) (codes "ord") None None (one (unqualified (codes "cust")))))))
 
 granules : granules_of old migrate ≡ granule 0 (Group (one (number 7))) ∷ granule 0 (Group (one (number 8))) ∷ granule 0 (Group (one (number 9))) ∷ []
 granules = refl
@@ -51,9 +51,9 @@ parts : map (λ g. by_name (part_of old migrate g)) (granules_of old migrate) �
 parts = refl
 
 -- a flip that moves nothing is seen as the flip
-view : view_of (flipped_lazily (record { live = old; last = None }) migrate) ≡ flipped old migrate
+view : view_of (flipped_lazily (at_rest old) migrate) ≡ flipped old migrate
 view = refl
 
 -- SELECT * FROM tot WHERE total > 30 AND cust < 9
-need1 : needed_by old migrate (flipped old migrate) false (statement.Select items.All (codes "tot") (Some (both (compared compare.Greater (column (ref_to (codes "total"))) (literal (number 30))) (compared compare.Less (column (ref_to (codes "cust"))) (literal (number 9)))))) ≡ granule 0 (Group (one (number 7))) ∷ granule 0 (Group (one (number 8))) ∷ []
+need1 : needed_by old migrate (flipped old migrate) false (statement.Select items.All (codes "tot") (Some (both (compared compare.Greater (column (unqualified (codes "total"))) (literal (number 30))) (compared compare.Less (column (unqualified (codes "cust"))) (literal (number 9)))))) ≡ granule 0 (Group (one (number 7))) ∷ granule 0 (Group (one (number 8))) ∷ []
 need1 = refl

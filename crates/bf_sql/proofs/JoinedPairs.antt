@@ -9,7 +9,7 @@ use Rattle.bf_sql.specs.declared.reply.Reply.TheVariants as reply
 use Rattle.bf_sql.specs.declared.script.Script.{Script}
 use Rattle.bf_sql.specs.declared.history.Entry.{Entry}
 use Rattle.bf_sql.specs.Database.{Database, IsDatabase, empty_database}
-use Rattle.bf_sql.specs.Scopes.{ref_to}
+use Rattle.bf_sql.specs.Scopes.{unqualified}
 use Rattle.bf_sql.specs.History.{replayed}
 use Rattle.bf_sql.proofs.Spelling.{one, number, given, qualified, rule, join, arm, target, migration, in_one_phase, alone, table, column_of, stored, database}
 
@@ -26,8 +26,8 @@ script = in_one_phase (one (
     ∷ statement.Insert (codes "a") ((number 1 ∷ number 5 ∷ []) ∷ (number 2 ∷ number 6 ∷ []) ∷ [])
     ∷ statement.Insert (codes "b") ((number 1 ∷ number 5 ∷ []) ∷ (number 2 ∷ number 5 ∷ []) ∷ (number 3 ∷ number 9 ∷ []) ∷ [])
     ∷ statement.Migrate (migration (one (target (codes "j") (one (arm (
-    item.Column (ref_to (codes "aid"))
-    ∷ item.Column (ref_to (codes "bid"))
+    item.Column (unqualified (codes "aid"))
+    ∷ item.Column (unqualified (codes "bid"))
     ∷ item.Column (qualified (codes "a") (codes "v"))
     ∷ []
     ) (codes "a") (Some (join (codes "b") (one (qualified (codes "a") (codes "v"), qualified (codes "b") (codes "v"))))) None [])))))

@@ -7,12 +7,12 @@ use Rattle.bf_sql.specs.declared.migration.Item.TheVariants as item
 use Rattle.bf_sql.specs.declared.statement.Statement.TheVariants as statement
 use Rattle.bf_sql.specs.declared.migration.Migrate.{Migrate}
 use Rattle.bf_sql.specs.Database.{Database}
-use Rattle.bf_sql.specs.Scopes.{ref_to}
+use Rattle.bf_sql.specs.Scopes.{unqualified}
 use Rattle.bf_sql.specs.Images.{flipped}
 use Rattle.bf_sql.specs.Granules.{granule, granules_of, part_of}
 use Rattle.bf_sql.specs.Need.{needed_by}
 use Rattle.bf_sql.specs.Lazy.{view_of, flipped_lazily}
-use Rattle.bf_sql.proofs.Spelling.{one, number, qualified, join, arm, target, migration, table, column_of, stored, database, by_name}
+use Rattle.bf_sql.proofs.Spelling.{one, number, qualified, join, arm, target, migration, table, column_of, stored, database, by_name, at_rest}
 
 abbrev pub old : Database
 old = database 2 (
@@ -24,8 +24,8 @@ old = database 2 (
 -- MIGRATE (CREATE TABLE j AS SELECT aid, bid, a.v FROM a JOIN b ON a.v = b.v)
 abbrev pub migrate : Migrate
 migrate = migration (one (target (codes "j") (one (arm (
-    item.Column (ref_to (codes "aid"))
-    ∷ item.Column (ref_to (codes "bid"))
+    item.Column (unqualified (codes "aid"))
+    ∷ item.Column (unqualified (codes "bid"))
     ∷ item.Column (qualified (codes "a") (codes "v"))
     ∷ []
     ) (codes "a") (Some (join (codes "b") (one (qualified (codes "a") (codes "v"), qualified (codes "b") (codes "v"))))) None []))))
@@ -38,7 +38,7 @@ parts : map (λ g. by_name (part_of old migrate g)) (granules_of old migrate) �
 parts = refl
 
 -- a flip that moves nothing is seen as the flip
-view : view_of (flipped_lazily (record { live = old; last = None }) migrate) ≡ flipped old migrate
+view : view_of (flipped_lazily (at_rest old) migrate) ≡ flipped old migrate
 view = refl
 
 -- SELECT * FROM j

@@ -9,7 +9,7 @@ use Rattle.bf_sql.specs.declared.migration.Item.TheVariants as item
 use Rattle.bf_sql.specs.declared.reply.Refusal.{Refusal}
 use Rattle.bf_sql.specs.declared.reply.Refusal.TheVariants as refusal
 use Rattle.bf_sql.specs.Database.{Database}
-use Rattle.bf_sql.specs.Scopes.{ref_to}
+use Rattle.bf_sql.specs.Scopes.{unqualified}
 use Rattle.bf_sql.specs.Migrations.{migrate_objections}
 use Rattle.bf_sql.proofs.Spelling.{one, number, qualified, join, arm, target, migration, table, column_of, stored, database}
 
@@ -33,29 +33,29 @@ abbrev grouping : List Item → List Ref → List Refusal
 grouping items group = migrate_objections old (migration (one (target (codes "t") (one (arm items (codes "a") None None group)))))
 
 -- ON a.n = b.id has the whole key of b: the key of a serves
-fine : joining (plain (qualified (codes "a") (codes "id")) ∷ plain (ref_to (codes "m")) ∷ []) (one (ref_to (codes "n"), qualified (codes "b") (codes "id"))) ≡ []
+fine : joining (plain (qualified (codes "a") (codes "id")) ∷ plain (unqualified (codes "m")) ∷ []) (one (unqualified (codes "n"), qualified (codes "b") (codes "id"))) ≡ []
 fine = refl
 
 -- ON a.n = b.m has neither: both keys are asked for
-key_missing : joining (plain (qualified (codes "a") (codes "id")) ∷ plain (ref_to (codes "m")) ∷ []) (one (ref_to (codes "n"), ref_to (codes "m"))) ≡ one (refusal.KeyNotInherited (codes "t"))
+key_missing : joining (plain (qualified (codes "a") (codes "id")) ∷ plain (unqualified (codes "m")) ∷ []) (one (unqualified (codes "n"), unqualified (codes "m"))) ≡ one (refusal.KeyNotInherited (codes "t"))
 key_missing = refl
 
 -- the first of: an ambiguous name
-ambiguous : joining (one (plain (ref_to (codes "id")))) (one (ref_to (codes "n"), ref_to (codes "m"))) ≡ refusal.NameTwice (codes "id") ∷ refusal.KeyNotInherited (codes "t") ∷ []
+ambiguous : joining (one (plain (unqualified (codes "id")))) (one (unqualified (codes "n"), unqualified (codes "m"))) ≡ refusal.NameTwice (codes "id") ∷ refusal.KeyNotInherited (codes "t") ∷ []
 ambiguous = refl
 
 -- an equality within one table of two kinds: first the key, then the kinds
-within_one : joining (plain (qualified (codes "a") (codes "id")) ∷ plain (qualified (codes "b") (codes "m")) ∷ []) ((ref_to (codes "n"), qualified (codes "b") (codes "id")) ∷ (ref_to (codes "n"), ref_to (codes "s")) ∷ []) ≡ refusal.KeyNotInherited (codes "t") ∷ refusal.TypeMismatch ∷ []
+within_one : joining (plain (qualified (codes "a") (codes "id")) ∷ plain (qualified (codes "b") (codes "m")) ∷ []) ((unqualified (codes "n"), qualified (codes "b") (codes "id")) ∷ (unqualified (codes "n"), unqualified (codes "s")) ∷ []) ≡ refusal.KeyNotInherited (codes "t") ∷ refusal.TypeMismatch ∷ []
 within_one = refl
 
 -- a column twice in GROUP BY, once behind its table's name
-grouped_twice : grouping (one (plain (ref_to (codes "n")))) (ref_to (codes "n") ∷ qualified (codes "a") (codes "n") ∷ []) ≡ one (refusal.NameTwice (codes "n"))
+grouped_twice : grouping (one (plain (unqualified (codes "n")))) (unqualified (codes "n") ∷ qualified (codes "a") (codes "n") ∷ []) ≡ one (refusal.NameTwice (codes "n"))
 grouped_twice = refl
 
 -- an item that is neither a total nor a column of GROUP BY
-not_grouped : grouping (plain (ref_to (codes "n")) ∷ item.Named (literal (number 1)) (codes "one") ∷ []) (one (ref_to (codes "n"))) ≡ one (refusal.KeyNotInherited (codes "t"))
+not_grouped : grouping (plain (unqualified (codes "n")) ∷ item.Named (literal (number 1)) (codes "one") ∷ []) (one (unqualified (codes "n"))) ≡ one (refusal.KeyNotInherited (codes "t"))
 not_grouped = refl
 
 -- the sum of a column without a check may fail
-may_fail : grouping (plain (ref_to (codes "n")) ∷ item.Total (total.Sum (column (ref_to (codes "id")))) (codes "all") ∷ []) (one (ref_to (codes "n"))) ≡ one (refusal.MayFail (codes "t") 2)
+may_fail : grouping (plain (unqualified (codes "n")) ∷ item.Total (total.Sum (column (unqualified (codes "id")))) (codes "all") ∷ []) (one (unqualified (codes "n"))) ≡ one (refusal.MayFail (codes "t") 2)
 may_fail = refl

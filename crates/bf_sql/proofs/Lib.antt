@@ -1,10 +1,12 @@
 mod Binding
 mod Block
+mod FilteredGroups
 mod GroupedTotals
 pub mod GroupedTotalsMoves
 mod JoinedPairs
 pub mod JoinedPairsMoves
 mod JoinedRefusals
+mod JoinedRows
 mod KeyOrder
 mod MayFail
 mod MayFailMoves
@@ -19,4 +21,6 @@ mod SumLimit
 mod Sweeping
 mod TaggedArms
 mod TaggedArmsMoves
+mod TwoDrivers
+mod TwoSessions
 mod UnitLimit

@@ -11,7 +11,7 @@ use Rattle.bf_sql.specs.declared.reply.Reply.TheVariants as reply
 use Rattle.bf_sql.specs.declared.script.Script.{Script}
 use Rattle.bf_sql.specs.declared.history.Entry.{Entry}
 use Rattle.bf_sql.specs.Database.{Database, IsDatabase, empty_database}
-use Rattle.bf_sql.specs.Scopes.{ref_to}
+use Rattle.bf_sql.specs.Scopes.{unqualified}
 use Rattle.bf_sql.specs.History.{replayed}
 use Rattle.bf_sql.proofs.Spelling.{one, number, given, rule, arm, target, migration, in_one_phase, alone, table, column_of, stored, database}
 
@@ -27,17 +27,17 @@ script = in_one_phase (one (
     statement.CreateTable (codes "p") (rule (codes "id") form.Int ∷ rule (codes "x") form.Int ∷ []) (one (codes "id"))
     ∷ statement.CreateTable (codes "q") (rule (codes "id") form.Int ∷ rule (codes "x") (form.Checked (codes "x") (pos 0) (pos 9)) ∷ []) (one (codes "id"))
     ∷ statement.Migrate (migration (one (target (codes "p2") (one (arm (
-    item.Column (ref_to (codes "id"))
-    ∷ item.Named (plus (column (ref_to (codes "x"))) (literal (number 1))) (codes "y")
+    item.Column (unqualified (codes "id"))
+    ∷ item.Named (plus (column (unqualified (codes "x"))) (literal (number 1))) (codes "y")
     ∷ []
     ) (codes "p") None None [])))))
     ∷ statement.Migrate (migration (one (target (codes "q2") (one (arm (
-    item.Column (ref_to (codes "id"))
-    ∷ item.Named (plus (column (ref_to (codes "x"))) (literal (number 1))) (codes "y")
+    item.Column (unqualified (codes "id"))
+    ∷ item.Named (plus (column (unqualified (codes "x"))) (literal (number 1))) (codes "y")
     ∷ []
     ) (codes "q") None None [])))))
     ∷ statement.Insert (codes "p") (one (number 1 ∷ number 9223372036854775807 ∷ []))
-    ∷ statement.Update (codes "p") (one (codes "x", plus (column (ref_to (codes "x"))) (literal (number 1)))) None
+    ∷ statement.Update (codes "p") (one (codes "x", plus (column (unqualified (codes "x"))) (literal (number 1)))) None
     ∷ statement.Select items.All (codes "p") None
     ∷ []
     ))

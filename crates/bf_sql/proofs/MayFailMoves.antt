@@ -7,12 +7,12 @@ use Rattle.bf_sql.specs.declared.migration.Item.TheVariants as item
 use Rattle.bf_sql.specs.declared.statement.Statement.TheVariants as statement
 use Rattle.bf_sql.specs.declared.migration.Migrate.{Migrate}
 use Rattle.bf_sql.specs.Database.{Database}
-use Rattle.bf_sql.specs.Scopes.{ref_to}
+use Rattle.bf_sql.specs.Scopes.{unqualified}
 use Rattle.bf_sql.specs.Images.{flipped}
 use Rattle.bf_sql.specs.Granules.{granules_of, part_of}
 use Rattle.bf_sql.specs.Need.{needed_by}
 use Rattle.bf_sql.specs.Lazy.{view_of, flipped_lazily}
-use Rattle.bf_sql.proofs.Spelling.{one, number, arm, target, migration, table, column_of, stored, database, by_name}
+use Rattle.bf_sql.proofs.Spelling.{one, number, arm, target, migration, table, column_of, stored, database, by_name, at_rest}
 
 abbrev pub old : Database
 old = database 2 (
@@ -23,7 +23,7 @@ old = database 2 (
 
 -- MIGRATE (CREATE TABLE q2 AS SELECT id, x + 1 AS y FROM q)
 abbrev pub migrate : Migrate
-migrate = migration (one (target (codes "q2") (one (arm (item.Column (ref_to (codes "id")) ∷ item.Named (plus (column (ref_to (codes "x"))) (literal (number 1))) (codes "y") ∷ []) (codes "q") None None []))))
+migrate = migration (one (target (codes "q2") (one (arm (item.Column (unqualified (codes "id")) ∷ item.Named (plus (column (unqualified (codes "x"))) (literal (number 1))) (codes "y") ∷ []) (codes "q") None None []))))
 
 granules : granules_of old migrate ≡ []
 granules = refl
@@ -33,7 +33,7 @@ parts : map (λ g. by_name (part_of old migrate g)) (granules_of old migrate) �
 parts = refl
 
 -- a flip that moves nothing is seen as the flip
-view : view_of (flipped_lazily (record { live = old; last = None }) migrate) ≡ flipped old migrate
+view : view_of (flipped_lazily (at_rest old) migrate) ≡ flipped old migrate
 view = refl
 
 -- INSERT INTO p VALUES (1, 9223372036854775807)
@@ -41,7 +41,7 @@ need1 : needed_by old migrate (flipped old migrate) false (statement.Insert (cod
 need1 = refl
 
 -- UPDATE p SET x = x + 1
-need2 : needed_by old migrate (flipped old migrate) false (statement.Update (codes "p") (one (codes "x", plus (column (ref_to (codes "x"))) (literal (number 1)))) None) ≡ []
+need2 : needed_by old migrate (flipped old migrate) false (statement.Update (codes "p") (one (codes "x", plus (column (unqualified (codes "x"))) (literal (number 1)))) None) ≡ []
 need2 = refl
 
 -- SELECT * FROM p

@@ -1,6 +1,6 @@
 -- A block that its session leaves open is rolled back, and a stray COMMIT is in no transaction.
-use Rattle.std.specs.Prelude.{◌≡◌, false, List, [], ◌∷◌, None, codes, refl}
-use mathlib.Core.Logic.{inl}
+use Rattle.std.specs.Prelude.{◌≡◌, ℕ, false, List, [], ◌∷◌, None, codes, refl}
+use mathlib.Core.Logic.{inl, inr}
 use Rattle.bf_base.specs.declared.table.Admit.TheVariants as admits
 use Rattle.bf_expr.specs.Trees.{column}
 use Rattle.bf_sql.specs.declared.items.Aggregate.TheVariants as total
@@ -12,11 +12,12 @@ use Rattle.bf_sql.specs.declared.reply.Refusal.TheVariants as refusal
 use Rattle.bf_sql.specs.declared.reply.Reply.TheVariants as reply
 use Rattle.bf_sql.specs.declared.history.Outcome.TheVariants as outcome
 use Rattle.bf_sql.specs.declared.script.Script.{Script}
+use Rattle.bf_sql.specs.declared.reply.Cause.{Cause}
 use Rattle.bf_sql.specs.declared.reply.Reply.{Reply}
 use Rattle.bf_sql.specs.declared.history.Entry.{Entry}
 use Rattle.bf_sql.specs.Database.{Database, IsDatabase, empty_database}
-use Rattle.bf_sql.specs.Scopes.{ref_to}
-use Rattle.bf_sql.specs.History.{replayed, IsLegalHistory, IsAllAnswered}
+use Rattle.bf_sql.specs.Scopes.{unqualified}
+use Rattle.bf_sql.specs.History.{replayed, IsApart, IsLegalHistory, IsAllAnswered}
 use Rattle.bf_sql.proofs.Spelling.{one, number, given, rule, in_one_phase, entry, alone, table, column_of, stored, database}
 
 -- SESSION; CREATE TABLE t (id INT, n INT, PRIMARY KEY (id));
@@ -33,9 +34,9 @@ script = in_one_phase (
     statement.CreateTable (codes "t") (rule (codes "id") form.Int ∷ rule (codes "n") form.Int ∷ []) (one (codes "id"))
     ∷ statement.Select (items.Aggregates (
     total.Count
-    ∷ total.Sum (column (ref_to (codes "n")))
-    ∷ total.Min (column (ref_to (codes "n")))
-    ∷ total.Max (column (ref_to (codes "n")))
+    ∷ total.Sum (column (unqualified (codes "n")))
+    ∷ total.Min (column (unqualified (codes "n")))
+    ∷ total.Max (column (unqualified (codes "n")))
     ∷ []
     )) (codes "t") None
     ∷ statement.Commit
@@ -72,11 +73,18 @@ run = refl
 last_is_database : IsDatabase last
 last_is_database = record { tables_by_name = refl; indexes_by_name = refl; rows_by_key = refl; rows_admitted = refl; keys_within = refl; indexes_on_tables = refl }
 
-abbrev transcripts : List (List Reply)
-transcripts =
-    (reply.Created ∷ reply.Rows (one (given 0 ∷ cell.Null ∷ cell.Null ∷ cell.Null ∷ [])) ∷ reply.Refused refusal.NoTransaction ∷ reply.Begun ∷ reply.Refused refusal.InTransaction ∷ reply.Refused refusal.MustBeAlone ∷ reply.Inserted 1 ∷ [])
-    ∷ one (reply.Rows [])
+abbrev told_first : List Reply
+told_first = reply.Created
+    ∷ reply.Rows (one (given 0 ∷ cell.Null ∷ cell.Null ∷ cell.Null ∷ []))
+    ∷ reply.Refused refusal.NoTransaction
+    ∷ reply.Begun
+    ∷ reply.Refused refusal.InTransaction
+    ∷ reply.Refused refusal.MustBeAlone
+    ∷ reply.Inserted 1
     ∷ []
+
+abbrev transcripts : List (List Reply)
+transcripts = told_first ∷ one (reply.Rows []) ∷ []
 
 -- no group is open, and no cause is allowed
 legal : IsLegalHistory script (λ s g cause. ⊥) (λ s g. false) empty_database transcripts history
@@ -84,3 +92,15 @@ legal = record { whole_groups = refl; in_order = refl; outcomes = refl; replies 
 
 answered : IsAllAnswered script transcripts
 answered = refl
+
+-- a reply for which session 2 has no statement
+abbrev told_more : List (List Reply)
+told_more = told_first ∷ (reply.Rows [] ∷ reply.Refused refusal.NoTransaction ∷ []) ∷ []
+
+module _ (IsAllowed : ℕ → ℕ × ℕ → Cause → Type 0) where
+  not_apart : IsApart script IsAllowed told_more (2, 2, reply.Refused refusal.NoTransaction) → ⊥
+  not_apart (inl (stray, same)) = cc
+  not_apart (inr (group, cause, found, allowed, replies)) = cc
+
+  told_more_is_refused : IsLegalHistory script IsAllowed (λ s g. false) empty_database told_more history → ⊥
+  told_more_is_refused legal = not_apart legal.others.1.0

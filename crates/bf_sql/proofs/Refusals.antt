@@ -12,7 +12,7 @@ use Rattle.bf_sql.specs.declared.reply.Reply.TheVariants as reply
 use Rattle.bf_sql.specs.declared.script.Script.{Script}
 use Rattle.bf_sql.specs.declared.history.Entry.{Entry}
 use Rattle.bf_sql.specs.Database.{Database, IsDatabase, empty_database}
-use Rattle.bf_sql.specs.Scopes.{ref_to}
+use Rattle.bf_sql.specs.Scopes.{unqualified}
 use Rattle.bf_sql.specs.History.{replayed}
 use Rattle.bf_sql.proofs.Spelling.{one, number, rule, arm, target, migration, in_one_phase, alone, table, column_of, stored, index, database}
 
@@ -33,14 +33,14 @@ script = in_one_phase (one (
     statement.CreateTable (codes "t") (rule (codes "id") form.Int ∷ rule (codes "s") (form.Varchar 3) ∷ []) (one (codes "id"))
     ∷ statement.CreateIndex (codes "i") (codes "t") (one (codes "s"))
     ∷ statement.Insert (codes "t") (one (number 1 ∷ Text (codes "abc") ∷ []))
-    ∷ statement.Select (items.Exprs (one (column (ref_to (codes "x"))))) (codes "t") None
-    ∷ statement.Select (items.Exprs (one (plus (column (ref_to (codes "s"))) (literal (number 1))))) (codes "t") None
-    ∷ statement.Update (codes "t") (one (codes "s", joined (column (ref_to (codes "s"))) (literal (Text (codes "d"))))) None
+    ∷ statement.Select (items.Exprs (one (column (unqualified (codes "x"))))) (codes "t") None
+    ∷ statement.Select (items.Exprs (one (plus (column (unqualified (codes "s"))) (literal (number 1))))) (codes "t") None
+    ∷ statement.Update (codes "t") (one (codes "s", joined (column (unqualified (codes "s"))) (literal (Text (codes "d"))))) None
     ∷ statement.CreateTable (codes "t") (one (rule (codes "id") form.Int)) (one (codes "id"))
     ∷ statement.Insert (codes "t") (one (one (number 2)))
     ∷ statement.Update (codes "t") (one (codes "id", literal (number 2))) None
     ∷ statement.CreateTable (codes "u") (rule (codes "a") form.Int ∷ rule (codes "a") form.Int ∷ []) (one (codes "a"))
-    ∷ statement.Migrate (migration (one (target (codes "v") (one (arm (one (item.Column (ref_to (codes "id")))) (codes "w") None None [])))))
+    ∷ statement.Migrate (migration (one (target (codes "v") (one (arm (one (item.Column (unqualified (codes "id")))) (codes "w") None None [])))))
     ∷ statement.CreateIndex (codes "i") (codes "t") (one (codes "id"))
     ∷ []
     ))

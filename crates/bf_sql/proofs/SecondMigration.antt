@@ -13,7 +13,7 @@ use Rattle.bf_sql.specs.declared.reply.Reply.TheVariants as reply
 use Rattle.bf_sql.specs.declared.script.Script.{Script}
 use Rattle.bf_sql.specs.declared.history.Entry.{Entry}
 use Rattle.bf_sql.specs.Database.{Database, IsDatabase, empty_database}
-use Rattle.bf_sql.specs.Scopes.{ref_to}
+use Rattle.bf_sql.specs.Scopes.{unqualified}
 use Rattle.bf_sql.specs.History.{replayed}
 use Rattle.bf_sql.proofs.Spelling.{one, number, given, rule, arm, target, migration, in_one_phase, alone, table, column_of, stored, database}
 
@@ -32,16 +32,16 @@ script = in_one_phase (one (
     ∷ []
     )
     ∷ statement.Migrate (migration (
-    target (codes "pub") (one (arm (item.Column (ref_to (codes "id")) ∷ item.Column (ref_to (codes "name")) ∷ []) (codes "cust") None None []))
-    ∷ target (codes "priv") (one (arm (item.Column (ref_to (codes "id")) ∷ item.Column (ref_to (codes "pin")) ∷ []) (codes "cust") None None []))
+    target (codes "pub") (one (arm (item.Column (unqualified (codes "id")) ∷ item.Column (unqualified (codes "name")) ∷ []) (codes "cust") None None []))
+    ∷ target (codes "priv") (one (arm (item.Column (unqualified (codes "id")) ∷ item.Column (unqualified (codes "pin")) ∷ []) (codes "cust") None None []))
     ∷ []
     ))
     ∷ statement.Migrate (migration (one (target (codes "pub") (one (arm (
-    item.Column (ref_to (codes "id"))
-    ∷ item.Named (joined (column (ref_to (codes "name"))) (literal (Text (codes "!")))) (codes "name")
+    item.Column (unqualified (codes "id"))
+    ∷ item.Named (joined (column (unqualified (codes "name"))) (literal (Text (codes "!")))) (codes "name")
     ∷ []
     ) (codes "pub") None None [])))))
-    ∷ statement.Select items.All (codes "pub") (Some (compared compare.Equal (column (ref_to (codes "id"))) (literal (number 3))))
+    ∷ statement.Select items.All (codes "pub") (Some (compared compare.Equal (column (unqualified (codes "id"))) (literal (number 3))))
     ∷ []
     ))
 

@@ -1,5 +1,5 @@
 -- Short spellings for examples.
-use Rattle.std.specs.Prelude.{ℕ, pos, List, [], ◌∷◌, map, Option, Some}
+use Rattle.std.specs.Prelude.{ℕ, pos, List, [], ◌∷◌, map, Option, Some, None}
 use Rattle.bf_base.specs.declared.value.Value.{Value}
 use Rattle.bf_base.specs.declared.value.Value.TheVariants.{Int}
 use Rattle.bf_base.specs.declared.table.Admit.{Admit}
@@ -23,7 +23,9 @@ use Rattle.bf_sql.specs.declared.reply.Cell.TheVariants as cells
 use Rattle.bf_sql.specs.declared.history.Outcome.{Outcome}
 use Rattle.bf_sql.specs.declared.history.Outcome.TheVariants.{Committed}
 use Rattle.bf_sql.specs.declared.history.Entry.{Entry}
+use Rattle.bf_base.specs.declared.granule.Granule.{Granule}
 use Rattle.bf_sql.specs.Database.{Stored, Database}
+use Rattle.bf_sql.specs.Lazy.{LazyState, DoneGranule, done_by}
 
 -- a list of one item
 abbrev pub one : {X : Type 0} → X → List X
@@ -84,6 +86,14 @@ index name table columns = record { name = name; table = table; columns = column
 
 abbrev pub database : ℕ → List Stored → List IndexRule → Database
 database number tables indexes = record { number = number; tables = tables; indexes = indexes }
+
+-- a state without a migration, behind five records
+abbrev pub at_rest : Database → LazyState
+at_rest live = record { live = live; last = None; records = 5 }
+
+-- granules that one record has moved
+abbrev pub moved_by : ℕ → List Granule → List DoneGranule
+moved_by number granules = map (done_by number) granules
 
 -- rows with the names of their targets
 abbrev pub by_name : List (Target × List Value) → List (List ℕ × List Value)

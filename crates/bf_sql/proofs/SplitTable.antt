@@ -15,7 +15,7 @@ use Rattle.bf_sql.specs.declared.reply.Reply.TheVariants as reply
 use Rattle.bf_sql.specs.declared.script.Script.{Script}
 use Rattle.bf_sql.specs.declared.history.Entry.{Entry}
 use Rattle.bf_sql.specs.Database.{Database, IsDatabase, empty_database}
-use Rattle.bf_sql.specs.Scopes.{ref_to}
+use Rattle.bf_sql.specs.Scopes.{unqualified}
 use Rattle.bf_sql.specs.History.{replayed}
 use Rattle.bf_sql.proofs.Spelling.{one, number, given, rule, arm, target, migration, in_one_phase, alone, table, column_of, stored, database}
 
@@ -26,6 +26,8 @@ use Rattle.bf_sql.proofs.Spelling.{one, number, given, rule, arm, target, migrat
 -- INSERT INTO pub VALUES (3, 'Zed');
 -- SELECT COUNT(*) FROM cust;
 -- DELETE FROM pub WHERE id = 1;
+-- SELECT * FROM pub;
+-- SELECT COUNT(*), SUM(pin) FROM priv;
 abbrev script : Script
 script = in_one_phase (one (
     statement.CreateTable (codes "cust") (rule (codes "id") form.Int ∷ rule (codes "name") (form.Varchar 20) ∷ rule (codes "pin") form.Int ∷ []) (one (codes "id"))
@@ -36,19 +38,21 @@ script = in_one_phase (one (
     ∷ []
     )
     ∷ statement.Migrate (migration (
-    target (codes "pub") (one (arm (item.Column (ref_to (codes "id")) ∷ item.Column (ref_to (codes "name")) ∷ []) (codes "cust") None None []))
-    ∷ target (codes "priv") (one (arm (item.Column (ref_to (codes "id")) ∷ item.Column (ref_to (codes "pin")) ∷ []) (codes "cust") None None []))
+    target (codes "pub") (one (arm (item.Column (unqualified (codes "id")) ∷ item.Column (unqualified (codes "name")) ∷ []) (codes "cust") None None []))
+    ∷ target (codes "priv") (one (arm (item.Column (unqualified (codes "id")) ∷ item.Column (unqualified (codes "pin")) ∷ []) (codes "cust") None None []))
     ∷ []
     ))
-    ∷ statement.Select items.All (codes "pub") (Some (compared compare.Equal (column (ref_to (codes "id"))) (literal (number 2))))
+    ∷ statement.Select items.All (codes "pub") (Some (compared compare.Equal (column (unqualified (codes "id"))) (literal (number 2))))
     ∷ statement.Insert (codes "pub") (one (number 3 ∷ Text (codes "Zed") ∷ []))
     ∷ statement.Select (items.Aggregates (one total.Count)) (codes "cust") None
-    ∷ statement.Delete (codes "pub") (Some (compared compare.Equal (column (ref_to (codes "id"))) (literal (number 1))))
+    ∷ statement.Delete (codes "pub") (Some (compared compare.Equal (column (unqualified (codes "id"))) (literal (number 1))))
+    ∷ statement.Select items.All (codes "pub") None
+    ∷ statement.Select (items.Aggregates (total.Count ∷ total.Sum (column (unqualified (codes "pin"))) ∷ [])) (codes "priv") None
     ∷ []
     ))
 
 abbrev history : List Entry
-history = alone 1 ∷ alone 2 ∷ alone 3 ∷ alone 4 ∷ alone 5 ∷ alone 6 ∷ alone 7 ∷ []
+history = alone 1 ∷ alone 2 ∷ alone 3 ∷ alone 4 ∷ alone 5 ∷ alone 6 ∷ alone 7 ∷ alone 8 ∷ alone 9 ∷ []
 
 abbrev last : Database
 last = database 2 (
@@ -66,6 +70,8 @@ run : replayed script empty_database history ≡ (
       ∷ one (reply.Refused (refusal.DuplicateKey (one (number 3))))
       ∷ one (reply.Refused (refusal.NoTable (codes "cust")))
       ∷ one (reply.Deleted 1)
+      ∷ one (reply.Rows ((given 2 ∷ cell.Value (Text (codes "Bob")) ∷ []) ∷ (given 3 ∷ cell.Value (Text (codes "Cy")) ∷ []) ∷ []))
+      ∷ one (reply.Rows (one (given 3 ∷ given 66 ∷ [])))
       ∷ [],
   last,
 )

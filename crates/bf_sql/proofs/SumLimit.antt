@@ -11,7 +11,7 @@ use Rattle.bf_sql.specs.declared.reply.Reply.TheVariants as reply
 use Rattle.bf_sql.specs.declared.script.Script.{Script}
 use Rattle.bf_sql.specs.declared.history.Entry.{Entry}
 use Rattle.bf_sql.specs.Database.{Database, IsDatabase, empty_database}
-use Rattle.bf_sql.specs.Scopes.{ref_to}
+use Rattle.bf_sql.specs.Scopes.{unqualified}
 use Rattle.bf_sql.specs.History.{replayed}
 use Rattle.bf_sql.proofs.Spelling.{one, rule, arm, target, migration, in_one_phase, alone, table, column_of, stored, database}
 
@@ -23,8 +23,8 @@ abbrev script : Script
 script = in_one_phase (one (
     statement.CreateTable (codes "c") (rule (codes "id") form.Int ∷ rule (codes "n") (form.Checked (codes "n") (pos 0) (pos 8796093022207)) ∷ []) (one (codes "id"))
     ∷ statement.CreateTable (codes "d") (rule (codes "id") form.Int ∷ rule (codes "n") (form.Checked (codes "n") (pos 0) (pos 8796093022208)) ∷ []) (one (codes "id"))
-    ∷ statement.Migrate (migration (one (target (codes "s") (one (arm (item.Column (ref_to (codes "id")) ∷ item.Total (total.Sum (column (ref_to (codes "n")))) (codes "m") ∷ []) (codes "d") None None (one (ref_to (codes "id"))))))))
-    ∷ statement.Migrate (migration (one (target (codes "s") (one (arm (item.Column (ref_to (codes "id")) ∷ item.Total (total.Sum (column (ref_to (codes "n")))) (codes "m") ∷ []) (codes "c") None None (one (ref_to (codes "id"))))))))
+    ∷ statement.Migrate (migration (one (target (codes "s") (one (arm (item.Column (unqualified (codes "id")) ∷ item.Total (total.Sum (column (unqualified (codes "n")))) (codes "m") ∷ []) (codes "d") None None (one (unqualified (codes "id"))))))))
+    ∷ statement.Migrate (migration (one (target (codes "s") (one (arm (item.Column (unqualified (codes "id")) ∷ item.Total (total.Sum (column (unqualified (codes "n")))) (codes "m") ∷ []) (codes "c") None None (one (unqualified (codes "id"))))))))
     ∷ []
     ))
 

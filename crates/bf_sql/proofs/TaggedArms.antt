@@ -11,7 +11,7 @@ use Rattle.bf_sql.specs.declared.reply.Reply.TheVariants as reply
 use Rattle.bf_sql.specs.declared.script.Script.{Script}
 use Rattle.bf_sql.specs.declared.history.Entry.{Entry}
 use Rattle.bf_sql.specs.Database.{Database, IsDatabase, empty_database}
-use Rattle.bf_sql.specs.Scopes.{ref_to}
+use Rattle.bf_sql.specs.Scopes.{unqualified}
 use Rattle.bf_sql.specs.History.{replayed}
 use Rattle.bf_sql.proofs.Spelling.{one, number, given, rule, arm, target, migration, in_one_phase, alone, table, column_of, stored, database}
 
@@ -27,14 +27,14 @@ script = in_one_phase (one (
     ∷ statement.Migrate (migration (one (target (codes "ph") (
     arm (
     item.Named (literal (number 1)) (codes "tag")
-    ∷ item.Column (ref_to (codes "id"))
-    ∷ item.Named (column (ref_to (codes "h"))) (codes "num")
+    ∷ item.Column (unqualified (codes "id"))
+    ∷ item.Named (column (unqualified (codes "h"))) (codes "num")
     ∷ []
     ) (codes "c") None None []
     ∷ arm (
     item.Named (literal (number 1)) (codes "tag")
-    ∷ item.Column (ref_to (codes "id"))
-    ∷ item.Named (column (ref_to (codes "w"))) (codes "num")
+    ∷ item.Column (unqualified (codes "id"))
+    ∷ item.Named (column (unqualified (codes "w"))) (codes "num")
     ∷ []
     ) (codes "c") None None []
     ∷ []
@@ -42,14 +42,14 @@ script = in_one_phase (one (
     ∷ statement.Migrate (migration (one (target (codes "ph") (
     arm (
     item.Named (literal (number 1)) (codes "tag")
-    ∷ item.Column (ref_to (codes "id"))
-    ∷ item.Named (column (ref_to (codes "h"))) (codes "num")
+    ∷ item.Column (unqualified (codes "id"))
+    ∷ item.Named (column (unqualified (codes "h"))) (codes "num")
     ∷ []
     ) (codes "c") None None []
     ∷ arm (
     item.Named (literal (number 2)) (codes "tag")
-    ∷ item.Column (ref_to (codes "id"))
-    ∷ item.Named (column (ref_to (codes "w"))) (codes "num")
+    ∷ item.Column (unqualified (codes "id"))
+    ∷ item.Named (column (unqualified (codes "w"))) (codes "num")
     ∷ []
     ) (codes "c") None None []
     ∷ []

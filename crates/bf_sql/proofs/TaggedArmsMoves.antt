@@ -8,12 +8,12 @@ use Rattle.bf_sql.specs.declared.migration.Item.TheVariants as item
 use Rattle.bf_sql.specs.declared.statement.Statement.TheVariants as statement
 use Rattle.bf_sql.specs.declared.migration.Migrate.{Migrate}
 use Rattle.bf_sql.specs.Database.{Database}
-use Rattle.bf_sql.specs.Scopes.{ref_to}
+use Rattle.bf_sql.specs.Scopes.{unqualified}
 use Rattle.bf_sql.specs.Images.{flipped}
 use Rattle.bf_sql.specs.Granules.{granule, granules_of, part_of}
 use Rattle.bf_sql.specs.Need.{needed_by}
 use Rattle.bf_sql.specs.Lazy.{view_of, flipped_lazily}
-use Rattle.bf_sql.proofs.Spelling.{one, number, arm, target, migration, table, column_of, stored, database, by_name}
+use Rattle.bf_sql.proofs.Spelling.{one, number, arm, target, migration, table, column_of, stored, database, by_name, at_rest}
 
 abbrev pub old : Database
 old = database 1 (one (stored (table (codes "c") (column_of (codes "id") admits.Int ∷ column_of (codes "h") admits.Int ∷ column_of (codes "w") admits.Int ∷ []) (one 0)) (one (number 1 ∷ number 20 ∷ number 30 ∷ [])))) []
@@ -23,14 +23,14 @@ abbrev pub migrate : Migrate
 migrate = migration (one (target (codes "ph") (
     arm (
     item.Named (literal (number 1)) (codes "tag")
-    ∷ item.Column (ref_to (codes "id"))
-    ∷ item.Named (column (ref_to (codes "h"))) (codes "num")
+    ∷ item.Column (unqualified (codes "id"))
+    ∷ item.Named (column (unqualified (codes "h"))) (codes "num")
     ∷ []
     ) (codes "c") None None []
     ∷ arm (
     item.Named (literal (number 2)) (codes "tag")
-    ∷ item.Column (ref_to (codes "id"))
-    ∷ item.Named (column (ref_to (codes "w"))) (codes "num")
+    ∷ item.Column (unqualified (codes "id"))
+    ∷ item.Named (column (unqualified (codes "w"))) (codes "num")
     ∷ []
     ) (codes "c") None None []
     ∷ []
@@ -44,7 +44,7 @@ parts : map (λ g. by_name (part_of old migrate g)) (granules_of old migrate) �
 parts = refl
 
 -- a flip that moves nothing is seen as the flip
-view : view_of (flipped_lazily (record { live = old; last = None }) migrate) ≡ flipped old migrate
+view : view_of (flipped_lazily (at_rest old) migrate) ≡ flipped old migrate
 view = refl
 
 -- SELECT * FROM ph

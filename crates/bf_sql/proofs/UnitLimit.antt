@@ -8,7 +8,7 @@ use Rattle.bf_sql.specs.declared.statement.Statement.TheVariants.{Migrate}
 use Rattle.bf_sql.specs.declared.reply.Refusal.TheVariants.{UnitLimit}
 use Rattle.bf_sql.specs.declared.reply.Reply.TheVariants.{Refused, Migrated}
 use Rattle.bf_sql.specs.Database.{Database, Stored}
-use Rattle.bf_sql.specs.Scopes.{ref_to}
+use Rattle.bf_sql.specs.Scopes.{unqualified}
 use Rattle.bf_sql.specs.Meaning.{executed}
 use Rattle.bf_sql.proofs.Spelling.{one, arm, target, migration, table, column_of, stored, database}
 
@@ -21,7 +21,7 @@ five = database 5 (map numbers (codes "a" ∷ codes "b" ∷ codes "c" ∷ codes 
 
 -- CREATE TABLE name AS SELECT id FROM name
 abbrev again : List ℕ → Target
-again name = target name (one (arm (one (item.Column (ref_to (codes "id")))) name None None []))
+again name = target name (one (arm (one (item.Column (unqualified (codes "id")))) name None None []))
 
 abbrev migrate_all : List (List ℕ) → Statement
 migrate_all names = Migrate (migration (map again names))

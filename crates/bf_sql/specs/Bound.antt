@@ -15,7 +15,7 @@ use Rattle.bf_sql.specs.declared.statement.Statement.TheVariants.{CreateTable, C
 use Rattle.bf_sql.specs.declared.reply.Refusal.{Refusal}
 use Rattle.bf_sql.specs.Database.{Database, table_at}
 use Rattle.bf_sql.specs.Conditions.{condition_of, fixed_key}
-use Rattle.bf_sql.specs.Scopes.{scope_of, place_of, ref_to}
+use Rattle.bf_sql.specs.Scopes.{scope_of, place_of, unqualified}
 use Rattle.bf_sql.specs.Objections.{objections}
 use Rattle.bf_sql.specs.Meaning.{table_of, index_of}
 
@@ -41,11 +41,11 @@ module _ (db : Database) (table : List ℕ) where
   abbrev pub place_in : Ref → ℕ
   place_in = place_of (scope_of (table_at db table))
 
-  abbrev pub bound_cond : Option (Cond Ref) → Cond ℕ
-  bound_cond cond = cond_over place_in (condition_of cond)
+  abbrev pub cond_in : Option (Cond Ref) → Cond ℕ
+  cond_in cond = cond_over place_in (condition_of cond)
 
-  abbrev pub bound_set : List ℕ × Expr Ref → ℕ × Expr ℕ
-  bound_set set = (place_in (ref_to set.0), expr_over place_in set.1)
+  abbrev pub set_in : List ℕ × Expr Ref → ℕ × Expr ℕ
+  set_in set = (place_in (unqualified set.0), expr_over place_in set.1)
 
 -- a statement that nothing stands in the way of; a MIGRATE is planned, and not bound
 abbrev pub action_of : Database → Statement → Option Action
@@ -53,13 +53,13 @@ action_of db (CreateTable name rules key) = Some (action.CreateTable (table_of n
 action_of db (CreateIndex name table columns) = Some (action.CreateIndex (index_of name (table_at db table) columns))
 action_of db (Insert table tuples) = Some (action.Insert (table_at db table) tuples)
 action_of db (Select list table cond) =
-    let bound = bound_cond db table cond in
+    let bound = cond_in db table cond in
     Some (action.Select (table_at db table) (items_over (place_in db table) list) bound (fixed_key (table_at db table) bound))
 action_of db (Update table sets cond) =
-    let bound = bound_cond db table cond in
-    Some (action.Update (table_at db table) (map (bound_set db table) sets) bound (fixed_key (table_at db table) bound))
+    let bound = cond_in db table cond in
+    Some (action.Update (table_at db table) (map (set_in db table) sets) bound (fixed_key (table_at db table) bound))
 action_of db (Delete table cond) =
-    let bound = bound_cond db table cond in
+    let bound = cond_in db table cond in
     Some (action.Delete (table_at db table) bound (fixed_key (table_at db table) bound))
 action_of db Begin = Some action.Begin
 action_of db Commit = Some action.Commit

@@ -1,5 +1,5 @@
 -- Conditions as they are written, their top-level conjuncts, and the key that they fix.
-use Rattle.std.specs.Prelude.{ℕ, ◌==◌, if◌then◌else◌, List, [], ◌∷◌, ◌++◌, map, Option, Some, None, option_map, option_and_then}
+use Rattle.std.specs.Prelude.{ℕ, ◌==◌, if◌then◌else◌, List, [], ◌∷◌, ◌++◌, map, Option, Some, None, option_map, option_and_then, slice_get}
 use Rattle.std.specs.List.{filter_map}
 use Rattle.bf_base.specs.declared.value.Value.{Value}
 use Rattle.bf_base.specs.declared.table.Table.{Table}
@@ -23,10 +23,6 @@ value_fixed place (compared Equal (column at) (literal v)) = if at == place then
 value_fixed place (compared Equal (literal v) (column at)) = if at == place then Some v else None
 value_fixed place cond = None
 
-abbrev pub first : {X : Type 0} → List X → Option X
-first [] = None
-first (x ∷ xs) = Some x
-
 -- all values, where each is there
 abbrev pub all_there : {X : Type 0} → List (Option X) → Option (List X)
 all_there [] = Some []
@@ -34,4 +30,4 @@ all_there (value ∷ values) = option_and_then (λ v. option_map (λ vs. v ∷ v
 
 -- FIXED KEY: the key that a condition on a table fixes, where each key column has a conjunct that fixes it; the first such serves
 abbrev pub fixed_key : Table → Cond ℕ → Option (List Value)
-fixed_key table cond = all_there (map (λ place. first (filter_map (value_fixed place) (conjuncts cond))) table.key)
+fixed_key table cond = all_there (map (λ place. slice_get (filter_map (value_fixed place) (conjuncts cond)) 0) table.key)

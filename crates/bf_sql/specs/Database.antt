@@ -1,8 +1,13 @@
 -- The database: a finite map from names to tables, each with a finite map from keys to rows, and the index rules.
 -- All three are lists in order, and `IsDatabase` says that they are maps.
-use Rattle.std.specs.Prelude.{ℕ, Bool, true, false, not, ◌&&◌, List, [], ◌++◌, map, length, filter, find, zip, Option, option_map, unwrap_or, ◌==◌, nat_lt, if◌then◌else◌, IsTrue}
+use Rattle.std.specs.Prelude.{ℕ, Bool, true, false, not, ◌&&◌, List, [], ◌++◌, map, length, filter, find, zip, Option, option_map, unwrap_or, ◌==◌, nat_eq, nat_lt, if◌then◌else◌, IsTrue}
 use Rattle.std.specs.List.{list_all, list_any}
+use Rattle.std.specs.Ordering.{int_eq}
+use lib.Pointwise.{pointwise}
 use Rattle.bf_base.specs.declared.value.Value.{Value}
+use Rattle.bf_base.specs.declared.table.Admit.{Admit}
+use Rattle.bf_base.specs.declared.table.Admit.TheVariants as admits
+use Rattle.bf_base.specs.declared.table.Column.{Column}
 use Rattle.bf_base.specs.declared.table.Fit.{Fit}
 use Rattle.bf_base.specs.declared.table.Fit.TheVariants.{Fits, WrongKind, OutOfRange, TooLong}
 use Rattle.bf_base.specs.declared.table.Table.{Table}
@@ -29,6 +34,19 @@ empty_database = record { number = 0; tables = []; indexes = [] }
 abbrev pub stored_at : Database → List ℕ → Option Stored
 stored_at db name = find (λ s. same_name s.table.name name) db.tables
 
+abbrev pub same_admit : Admit → Admit → Bool
+same_admit admits.Int admits.Int = true
+same_admit (admits.Checked a b) (admits.Checked c d) = int_eq a c && int_eq b d
+same_admit (admits.Varchar m) (admits.Varchar n) = m == n
+same_admit a b = false
+
+abbrev pub same_column : Column → Column → Bool
+same_column c d = same_name c.name d.name && same_admit c.admits d.admits
+
+-- whether two tables have the same name, columns and key
+abbrev pub same_table : Table → Table → Bool
+same_table a b = same_name a.name b.name && pointwise same_column a.columns b.columns && pointwise nat_eq a.key b.key
+
 abbrev pub no_table : Table
 no_table = record { name = []; columns = []; key = [] }
 
@@ -37,12 +55,12 @@ abbrev pub table_at : Database → List ℕ → Table
 table_at db name = unwrap_or (option_map (λ s. s.table) (stored_at db name)) no_table
 
 -- all rows of a table in key order
-abbrev pub rows_of : Database → List ℕ → List (List Value)
-rows_of db name = unwrap_or (option_map (λ s. s.rows) (stored_at db name)) []
+abbrev pub table_rows : Database → List ℕ → List (List Value)
+table_rows db name = unwrap_or (option_map (λ s. s.rows) (stored_at db name)) []
 
 -- a table with rows in the order of their keys
-abbrev pub stored : Table → List (List Value) → Stored
-stored table rows = record { table = table; rows = in_order key_cmp (key_of table) rows }
+abbrev pub stored_in_order : Table → List (List Value) → Stored
+stored_in_order table rows = record { table = table; rows = in_order key_cmp (key_of table) rows }
 
 -- the database without the tables that a test picks, and without their indexes
 abbrev pub without : (List ℕ → Bool) → Database → Database

@@ -12,10 +12,10 @@ use Rattle.bf_sql.specs.declared.migration.Arm.{Arm}
 use Rattle.bf_sql.specs.declared.migration.Target.{Target}
 use Rattle.bf_sql.specs.declared.migration.Migrate.{Migrate}
 use Rattle.bf_sql.specs.Distinct.{distinct}
-use Rattle.bf_sql.specs.Database.{Database, rows_of}
-use Rattle.bf_sql.specs.Targets.{ArmKind, by_from, by_join, by_pair, by_group, arm_kind, width, on_places, joined_names, target_table}
+use Rattle.bf_sql.specs.Database.{Database, table_rows}
+use Rattle.bf_sql.specs.Targets.{ArmKind, by_from, by_join, by_pair, by_group, arm_kind, width, on_places, names_of_join, target_table}
 use Rattle.bf_sql.specs.Migrations.{drivers_of, is_by_row}
-use Rattle.bf_sql.specs.Images.{arm_rows, joined_rows, group_value}
+use Rattle.bf_sql.specs.Images.{arm_rows, rows_of_join, group_value}
 
 -- what a unit's granules stand for: the rows of a driving table, or the values of an arm's group or joined columns
 pub data UnitForm : Type 0 where
@@ -51,38 +51,38 @@ module _ (old : Database) (arm : Arm) where
   abbrev pub anchor_values : ArmKind → List (List Value)
   anchor_values by_from = []
   anchor_values by_join = []
-  anchor_values by_group = map (group_value old arm) (rows_of old arm.from)
-  anchor_values by_pair = map left_value (rows_of old arm.from) ++ map right_value (joined_rows old arm.join)
+  anchor_values by_group = map (group_value old arm) (table_rows old arm.from)
+  anchor_values by_pair = map left_value (table_rows old arm.from) ++ map right_value (rows_of_join old arm.join)
 
   -- the rows of FROM and of JOIN that have a value
   abbrev pub from_with : ArmKind → List Value → List (List Value)
   from_with by_from value = []
   from_with by_join value = []
-  from_with by_group value = filter (λ row. same_key value (group_value old arm row)) (rows_of old arm.from)
-  from_with by_pair value = filter (λ row. same_key value (left_value row)) (rows_of old arm.from)
+  from_with by_group value = filter (λ row. same_key value (group_value old arm row)) (table_rows old arm.from)
+  from_with by_pair value = filter (λ row. same_key value (left_value row)) (table_rows old arm.from)
 
   abbrev pub join_with : List Value → List (List Value)
-  join_with value = filter (λ row. same_key value (right_value row)) (joined_rows old arm.join)
+  join_with value = filter (λ row. same_key value (right_value row)) (rows_of_join old arm.join)
 
   -- the one row at a position of a table
   abbrev pub row_at : List ℕ → ℕ → List (List Value)
-  row_at name at = slice_range (rows_of old name) at (at + 1)
+  row_at name at = slice_range (table_rows old name) at (at + 1)
 
   -- an arm's rows over the old tables with one row of their driver
   abbrev pub rows_driven : ArmKind → List ℕ → ℕ → List (List Value)
-  rows_driven by_from driver at = if same_name arm.from driver then arm_rows old arm (row_at driver at) (joined_rows old arm.join) else []
-  rows_driven by_join driver at = if list_any (same_name driver) (joined_names arm) then arm_rows old arm (rows_of old arm.from) (row_at driver at) else []
+  rows_driven by_from driver at = if same_name arm.from driver then arm_rows old arm (row_at driver at) (rows_of_join old arm.join) else []
+  rows_driven by_join driver at = if list_any (same_name driver) (names_of_join arm) then arm_rows old arm (table_rows old arm.from) (row_at driver at) else []
   rows_driven by_pair driver at = []
   rows_driven by_group driver at = []
 
 -- ANCHORS: the places of a unit by which a sweep goes, where one may come more than once
 abbrev pub anchors_of : Database → UnitForm → List Place
-anchors_of old (rows_unit driver) = map Row (range_with_len 0 (length (rows_of old driver)))
+anchors_of old (rows_unit driver) = map Row (range_with_len 0 (length (table_rows old driver)))
 anchors_of old (values_unit target arm) = map Group (anchor_values old arm (arm_kind old arm))
 
 -- the places of a unit in order, each once
 abbrev pub places_in : Database → UnitForm → List Place
-places_in old (rows_unit driver) = map Row (range_with_len 0 (length (rows_of old driver)))
+places_in old (rows_unit driver) = map Row (range_with_len 0 (length (table_rows old driver)))
 places_in old (values_unit target arm) = map Group (in_order key_cmp (λ v. v) (distinct same_key (anchor_values old arm (arm_kind old arm))))
 
 abbrev pub granule : ℕ → Place → Granule

@@ -1,5 +1,6 @@
 -- Transactions by the text of a script alone.
-use Rattle.std.specs.Prelude.{ℕ, ◌+◌, ◌-◌, Bool, true, false, List, [], ◌∷◌, Option, Some, None, slice_index_or}
+use Rattle.std.specs.Prelude.{ℕ, ◌+◌, ◌-◌, Bool, true, false, not, ◌&&◌, nat_le, List, [], ◌∷◌, Option, Some, None, slice_index_or}
+use Rattle.std.specs.List.{list_any}
 use Rattle.bf_base.specs.Lists.{part}
 use Rattle.bf_sql.specs.declared.statement.Statement.{Statement}
 use Rattle.bf_sql.specs.declared.statement.Statement.TheVariants.{Begin, Commit, Rollback}
@@ -44,6 +45,19 @@ statements_in script s group = part group.0 group.1 (session_at script s).statem
 -- the statements of an entry's group
 abbrev pub statements_of : Script → Entry → List Statement
 statements_of script e = statements_in script e.session (e.first, e.last)
+
+-- whether a group has statement n
+abbrev pub has_statement : ℕ → ℕ × ℕ → Bool
+has_statement n group = nat_le group.0 n && nat_le n group.1
+
+abbrev pub ends_block : Statement → Bool
+ends_block Commit = true
+ends_block Rollback = true
+ends_block s = false
+
+-- whether statement n of session s is there, and is a COMMIT or ROLLBACK in no group
+abbrev pub is_stray : Script → ℕ → ℕ → Bool
+is_stray script s n = list_any ends_block (statements_in script s (n, n)) && not (list_any (has_statement n) (groups_in script s))
 
 abbrev pub last_is_commit : List Statement → Bool
 last_is_commit [] = false

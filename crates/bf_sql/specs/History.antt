@@ -1,5 +1,5 @@
 -- The replay of a history, and legal histories.
-use Rattle.std.specs.Prelude.{◌≡◌, ℕ, ◌⊎◌, Bool, true, false, not, ◌&&◌, ◌||◌, ◌==◌, nat_lt, nat_le, List, [], ◌∷◌, length, map, flat_map, filter, find, Some, slice_index_or, IsTrue}
+use Rattle.std.specs.Prelude.{◌≡◌, ℕ, ◌+◌, ◌⊎◌, Bool, true, false, not, ◌&&◌, ◌||◌, ◌==◌, nat_lt, nat_le, List, [], ◌∷◌, length, map, flat_map, filter, find, Some, slice_index_or, IsTrue}
 use Rattle.std.specs.List.{AllByRecursion, list_any, list_all, enumerate_from}
 use Rattle.bf_base.specs.Lists.{part, with_before}
 use Rattle.bf_sql.specs.declared.statement.Statement.{Statement}
@@ -13,7 +13,7 @@ use Rattle.bf_sql.specs.declared.history.Outcome.TheVariants.{Committed, RolledB
 use Rattle.bf_sql.specs.declared.history.Entry.{Entry}
 use Rattle.bf_sql.specs.Database.{Database}
 use Rattle.bf_sql.specs.Meaning.{executed}
-use Rattle.bf_sql.specs.Groups.{session_at, groups_in, statements_in, statements_of, outcomes_from}
+use Rattle.bf_sql.specs.Groups.{session_at, groups_in, statements_in, statements_of, has_statement, is_stray, outcomes_from}
 
 -- a group's statements, each on what the one before it left; all but the first stand in its block
 abbrev pub run_group : ℕ → Bool → Database → List Statement → List Reply × Database
@@ -23,18 +23,29 @@ run_group commit in_block db (s ∷ ss) =
     let (answers, last) = run_group commit true next ss in
     (answer ∷ answers, last)
 
--- a committed group's result takes its place, one that is rolled back leaves the database
-abbrev pub settled : Database → Outcome → List Statement → List Reply × Database
-settled db (Committed n) ss = run_group n false db ss
-settled db RolledBack ss = ((run_group 0 false db ss).0, db)
+-- how many entries are committed up to one, of whose predecessors n are
+abbrev pub commits_with : ℕ → Outcome → ℕ
+commits_with n (Committed number) = n + 1
+commits_with n RolledBack = n
+
+-- a committed group's result takes its place, one that is rolled back leaves the database. `commit` is the number of the
+-- commit that it may end
+abbrev pub settled : ℕ → Database → Outcome → List Statement → List Reply × Database
+settled commit db (Committed number) ss = run_group commit false db ss
+settled commit db RolledBack ss = ((run_group commit false db ss).0, db)
+
+-- the replay of entries behind n committed ones, which counts the commits itself: the numbers in the entries are not read
+abbrev pub replayed_behind : ℕ → Script → Database → List Entry → List (List Reply) × Database
+replayed_behind n script db [] = ([], db)
+replayed_behind n script db (e ∷ es) =
+    let commit = commits_with n e.outcome in
+    let (answers, next) = settled commit db e.outcome (statements_of script e) in
+    let (later, last) = replayed_behind commit script next es in
+    (answers ∷ later, last)
 
 -- REPLAY: one group after the other, on one thread. The replies to each entry, and the last database
 abbrev pub replayed : Script → Database → List Entry → List (List Reply) × Database
-replayed script db [] = ([], db)
-replayed script db (e ∷ es) =
-    let (answers, next) = settled db e.outcome (statements_of script e) in
-    let (later, last) = replayed script next es in
-    (answers ∷ later, last)
+replayed script db history = replayed_behind 0 script db history
 
 -- the replies that the transcripts give to a group of session s
 abbrev pub replies_to : List (List Reply) → ℕ → ℕ × ℕ → List Reply
@@ -47,10 +58,6 @@ told transcripts e = replies_to transcripts e.session (e.first, e.last)
 -- each answered statement, as its session, its place there and its reply
 abbrev pub answered : List (List Reply) → List (ℕ × ℕ × Reply)
 answered transcripts = flat_map (λ s. map (λ n. (s.0, n.0, n.1)) (enumerate_from 1 s.1)) (enumerate_from 1 transcripts)
-
--- whether a group has statement n
-abbrev pub has_statement : ℕ → ℕ × ℕ → Bool
-has_statement n group = nat_le group.0 n && nat_le n group.1
 
 abbrev pub stands_in : ℕ → ℕ → Entry → Bool
 stands_in s n e = e.session == s && has_statement n (e.first, e.last)
@@ -77,13 +84,13 @@ module _ (script : Script) where
 
   -- `IsAllowed` tells of a session, a group and a cause
   module _ (IsAllowed : ℕ → ℕ × ℕ → Cause → Type 0) where
-    -- a COMMIT or ROLLBACK in no group with its refusal, or a statement of a group that ended by a cause
+    -- a COMMIT or ROLLBACK of the text in no group, with its refusal, or a statement of a group that ended by a cause
     abbrev pub IsApart : List (List Reply) → ℕ × ℕ × Reply → Type 0
     IsApart transcripts a =
-        ((list_any (has_statement a.1) (groups_in script a.0) ≡ false) × (a.2 ≡ Refused NoTransaction))
+        (IsTrue (is_stray script a.0 a.1) × (a.2 ≡ Refused NoTransaction))
         ⊎ ((g : ℕ × ℕ) × (cause : Cause) × (find (has_statement a.1) (groups_in script a.0) ≡ Some g) × IsAllowed a.0 g cause × IsEndedBy transcripts a.0 g cause)
 
-    -- LEGAL: transcripts and history that a one-thread database could have given
+    -- LEGAL: transcripts and history that a one-thread database could have given, but for groups that a cause has ended
     pub record IsLegalHistory (is_open : ℕ → ℕ × ℕ → Bool) (start : Database) (transcripts : List (List Reply)) (history : List Entry) : Type 0 where
       pub whole_groups : IsTrue (list_all is_whole_group history)
       pub in_order : IsTrue (list_all (λ p. list_all (λ d. may_precede d p.1) p.0) (with_before history))

@@ -17,7 +17,7 @@ use Rattle.bf_sql.specs.declared.migration.Arm.{Arm}
 use Rattle.bf_sql.specs.declared.migration.Target.{Target}
 use Rattle.bf_sql.specs.declared.migration.Migrate.{Migrate}
 use Rattle.bf_sql.specs.Distinct.{distinct}
-use Rattle.bf_sql.specs.Database.{Database, Stored, rows_of, stored, without, with_tables}
+use Rattle.bf_sql.specs.Database.{Database, Stored, table_rows, stored_in_order, without, with_tables}
 use Rattle.bf_sql.specs.Conditions.{condition_of}
 use Rattle.bf_sql.specs.Scopes.{Scope, read_in}
 use Rattle.bf_sql.specs.Totals.{total_of}
@@ -56,25 +56,26 @@ module _ (old : Database) (arm : Arm) where
 
   -- over given rows of the FROM and of the JOIN table
   module _ (from join : List (List Value)) where
-    abbrev pub joined_pairs : Option Join → List (List Value)
-    joined_pairs None = from
-    joined_pairs (Some j) = filter (λ row. list_all (is_equal_on (arm_scope old arm) row) j.on) (flat_map (λ r. map (λ s. r ++ s) join) from)
+    -- FROM alone, or the pairs that satisfy ON, side by side
+    abbrev pub matches_of_join : Option Join → List (List Value)
+    matches_of_join None = from
+    matches_of_join (Some j) = filter (λ row. list_all (is_equal_on (arm_scope old arm) row) j.on) (flat_map (λ r. map (λ s. r ++ s) join) from)
 
     -- the rows that satisfy the join and the filter
     abbrev pub satisfying : List (List Value)
-    satisfying = filter (λ row. holds_on (read_in (arm_scope old arm) row) (condition_of arm.cond)) (joined_pairs arm.join)
+    satisfying = filter (λ row. holds_on (read_in (arm_scope old arm) row) (condition_of arm.cond)) (matches_of_join arm.join)
 
     abbrev pub arm_rows : List (List Value)
     arm_rows = map (λ rows. map (item_over rows) arm.items) (groups_by (arm_kind old arm) satisfying)
 
 -- the rows of the JOIN table
-abbrev pub joined_rows : Database → Option Join → List (List Value)
-joined_rows old None = []
-joined_rows old (Some j) = rows_of old j.table
+abbrev pub rows_of_join : Database → Option Join → List (List Value)
+rows_of_join old None = []
+rows_of_join old (Some j) = table_rows old j.table
 
 -- IMAGE: what the arms of a target give over the whole old tables
 abbrev pub image_of : Database → Target → List (List Value)
-image_of old target = flat_map (λ arm. arm_rows old arm (rows_of old arm.from) (joined_rows old arm.join)) target.arms
+image_of old target = flat_map (λ arm. arm_rows old arm (table_rows old arm.from) (rows_of_join old arm.join)) target.arms
 
 -- the database without the sources and their indexes, with new tables, and with its next number
 abbrev pub replaced : Database → Migrate → List Stored → Database
@@ -84,4 +85,4 @@ replaced db m new =
 
 -- FLIP: the sources leave, and each target holds its image of the whole old tables
 abbrev pub flipped : Database → Migrate → Database
-flipped db m = replaced db m (map (λ t. stored (target_table db t) (image_of db t)) m.targets)
+flipped db m = replaced db m (map (λ t. stored_in_order (target_table db t) (image_of db t)) m.targets)

@@ -15,21 +15,34 @@ use Rattle.bf_sql.specs.Targets.{target_table}
 use Rattle.bf_sql.specs.Images.{replaced}
 use Rattle.bf_sql.specs.Granules.{units_of, anchors_of, granule, granules_of, part_in, same_granule}
 
+-- a granule that has moved, and the number of the record that moved it
+pub record DoneGranule : Type 0 where
+  pub granule : Granule
+  pub number : ℕ
+
 -- a migration: its number from 1 on, the database at its flip, its statement, and the granules that have moved
 pub record Migration : Type 0 where
   pub number : ℕ
   pub old : Database
   pub migrate : Migrate
-  pub done : List Granule
+  pub done : List DoneGranule
 
--- LAZY STATE: the live tables as they are kept, and the last migration
+-- LAZY STATE: the live tables as they are kept, the last migration, and how many records its log has
 pub record LazyState : Type 0 where
   pub live : Database
   pub last : Option Migration
+  pub records : ℕ
+
+abbrev pub is_done : Migration → Granule → Bool
+is_done last g = has same_granule (map (λ d. d.granule) last.done) g
+
+-- those of some granules that have not moved
+abbrev pub not_done : Migration → List Granule → List Granule
+not_done last granules = filter (λ g. not (is_done last g)) granules
 
 -- the granules of a migration that have not moved
 abbrev pub pending : Migration → List Granule
-pending last = filter (λ g. not (has same_granule last.done g)) (granules_of last.old last.migrate)
+pending last = not_done last (granules_of last.old last.migrate)
 
 -- the rows that the table of a name has of some granules
 abbrev pub rows_from : Option Migration → List Granule → List ℕ → List (List Value)
@@ -63,31 +76,46 @@ is_on_time last s = list_all (λ row. not (is_early last s.table row)) s.rows
 abbrev pub IsValid : LazyState → Type 0
 IsValid lazy = IsTrue (list_all (is_on_time lazy.last) lazy.live.tables)
 
--- a table with its rows of a granule, each in its place
-abbrev pub with_rows_of : Option Migration → Granule → Stored → Stored
-with_rows_of last g s = record s { rows = with_placed key_cmp (key_of s.table) s.rows (rows_from last (g ∷ []) s.table.name) }
+-- a table with its rows of some granules, each in its place
+abbrev pub with_rows_of : Migration → List Granule → Stored → Stored
+with_rows_of last granules s = record s { rows = with_placed key_cmp (key_of s.table) s.rows (rows_from (Some last) granules s.table.name) }
 
-abbrev pub with_done : Option Migration → Granule → Option Migration
-with_done None g = None
-with_done (Some last) g = Some (record last { done = last.done ++ g ∷ [] })
+abbrev pub done_by : ℕ → Granule → DoneGranule
+done_by number g = record { granule = g; number = number }
 
--- MOVE: the rows of a granule come into the live tables, and the granule is done
-abbrev pub moved : LazyState → Granule → LazyState
-moved lazy g = record { live = record lazy.live { tables = map (with_rows_of lazy.last g) lazy.live.tables }; last = with_done lazy.last g }
+-- a record of moves, where it moves any granule
+abbrev pub with_record_of_moves : LazyState → Migration → List Granule → LazyState
+with_record_of_moves lazy last [] = lazy
+with_record_of_moves lazy last (g ∷ gs) = record {
+  live = record lazy.live { tables = map (with_rows_of last (g ∷ gs)) lazy.live.tables };
+  last = Some (record last { done = last.done ++ map (done_by (lazy.records + 1)) (g ∷ gs) });
+  records = lazy.records + 1;
+}
 
-abbrev pub number_of : Option Migration → ℕ
-number_of None = 0
-number_of (Some last) = last.number
+abbrev pub moved_in : LazyState → Option Migration → List Granule → LazyState
+moved_in lazy None granules = lazy
+moved_in lazy (Some last) granules = with_record_of_moves lazy last (not_done last granules)
+
+-- MOVE: the rows of different granules come into the live tables, and these granules are done, by one record; those that
+-- were done before are left alone
+abbrev pub moved : LazyState → List Granule → LazyState
+moved lazy granules = moved_in lazy lazy.last granules
+
+-- how many migrations there were
+abbrev pub migrations_so_far : Option Migration → ℕ
+migrations_so_far None = 0
+migrations_so_far (Some last) = last.number
 
 -- a migration begins: the database at its flip is kept, and nothing has moved
 abbrev pub begun : Option Migration → Database → Migrate → Migration
-begun last db m = record { number = number_of last + 1; old = db; migrate = m; done = [] }
+begun last db m = record { number = migrations_so_far last + 1; old = db; migrate = m; done = [] }
 
--- the flip as it is done: the sources are set aside, and the targets are empty
+-- the flip as it is done, by one record: the sources are set aside, and the targets are empty
 abbrev pub flipped_lazily : LazyState → Migrate → LazyState
 flipped_lazily lazy m = record {
   live = replaced lazy.live m (map (λ t. record { table = target_table lazy.live t; rows = [] }) m.targets);
   last = Some (begun lazy.last lazy.live m);
+  records = lazy.records + 1;
 }
 
 -- the granule of each anchor of a migration, with the anchor's place in its unit
@@ -101,4 +129,4 @@ sweep_by last (Some next) = Running last.number (length last.done) (next.0).unit
 -- SWEEP: how many granules have moved, and the first anchor whose granule has not
 abbrev pub sweep_of : Option Migration → Sweep
 sweep_of None = Never
-sweep_of (Some last) = sweep_by last (find (λ a. not (has same_granule last.done a.0)) (anchored last))
+sweep_of (Some last) = sweep_by last (find (λ a. not (is_done last a.0)) (anchored last))

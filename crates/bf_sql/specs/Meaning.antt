@@ -16,9 +16,9 @@ use Rattle.bf_sql.specs.declared.statement.Statement.TheVariants.{CreateTable, C
 use Rattle.bf_sql.specs.declared.reply.Refusal.{Refusal}
 use Rattle.bf_sql.specs.declared.reply.Reply.{Reply}
 use Rattle.bf_sql.specs.declared.reply.Reply.TheVariants as reply
-use Rattle.bf_sql.specs.Database.{Database, table_at, rows_of, stored, with_rows, with_tables}
+use Rattle.bf_sql.specs.Database.{Database, table_at, table_rows, stored_in_order, with_rows, with_tables}
 use Rattle.bf_sql.specs.Conditions.{condition_of}
-use Rattle.bf_sql.specs.Scopes.{scope_of, place_of, read_in, ref_to}
+use Rattle.bf_sql.specs.Scopes.{scope_of, place_of, read_in, unqualified}
 use Rattle.bf_sql.specs.Objections.{objections}
 use Rattle.bf_sql.specs.Queries.{selected, answer_of, changed}
 use Rattle.bf_sql.specs.RowObjections.{row_objections}
@@ -31,7 +31,7 @@ admit_of (form.Varchar most) = admits.Varchar most
 
 -- the places of a table's columns by their names
 abbrev pub named_places : Table → List (List ℕ) → List ℕ
-named_places table names = map (λ name. place_of (scope_of table) (ref_to name)) names
+named_places table names = map (λ name. place_of (scope_of table) (unqualified name)) names
 
 abbrev pub keyless_table : List ℕ → List ColumnRule → Table
 keyless_table name rules = record { name = name; columns = map (λ rule. record { name = rule.name; admits = admit_of rule.form }) rules; key = [] }
@@ -55,23 +55,23 @@ next_number db = record db { number = db.number + 1 }
 -- the reply to a statement that nothing stands in the way of, and the database after it. `commit` is the number of the
 -- commit that it may end
 abbrev pub effect : ℕ → Database → Statement → Reply × Database
-effect commit db (CreateTable name rules key) = (reply.Created, next_number (with_tables (stored (table_of name rules key) [] ∷ []) db))
+effect commit db (CreateTable name rules key) = (reply.Created, next_number (with_tables (stored_in_order (table_of name rules key) [] ∷ []) db))
 effect commit db (CreateIndex name table columns) = (reply.Created, next_number (with_index (index_of name (table_at db table) columns) db))
 effect commit db (Insert table tuples) =
-    (reply.Inserted (length tuples), with_rows db table (with_placed key_cmp (key_of (table_at db table)) (rows_of db table) tuples))
+    (reply.Inserted (length tuples), with_rows db table (with_placed key_cmp (key_of (table_at db table)) (table_rows db table) tuples))
 effect commit db (Select list table cond) =
     let read = read_in (scope_of (table_at db table)) in
-    (reply.Rows (answer_of read list (selected read (condition_of cond) (rows_of db table))), db)
+    (reply.Rows (answer_of read list (selected read (condition_of cond) (table_rows db table))), db)
 effect commit db (Update table sets cond) =
     let scope = scope_of (table_at db table) in
-    let change = changed (read_in scope) (λ name. place_of scope (ref_to name)) sets in (
-      reply.Updated (length (selected (read_in scope) (condition_of cond) (rows_of db table))),
-      with_rows db table (map (λ row. if holds_on (read_in scope row) (condition_of cond) then change row else row) (rows_of db table)),
+    let change = changed (read_in scope) (λ name. place_of scope (unqualified name)) sets in (
+      reply.Updated (length (selected (read_in scope) (condition_of cond) (table_rows db table))),
+      with_rows db table (map (λ row. if holds_on (read_in scope row) (condition_of cond) then change row else row) (table_rows db table)),
     )
 effect commit db (Delete table cond) =
     let read = read_in (scope_of (table_at db table)) in (
-      reply.Deleted (length (selected read (condition_of cond) (rows_of db table))),
-      with_rows db table (filter (λ row. not (holds_on (read row) (condition_of cond))) (rows_of db table)),
+      reply.Deleted (length (selected read (condition_of cond) (table_rows db table))),
+      with_rows db table (filter (λ row. not (holds_on (read row) (condition_of cond))) (table_rows db table)),
     )
 effect commit db Begin = (reply.Begun, db)
 effect commit db Commit = (reply.Committed commit, db)

@@ -25,7 +25,7 @@ use Rattle.bf_sql.specs.Database.{Database, stored_at}
 use Rattle.bf_sql.specs.Conditions.{condition_of}
 use Rattle.bf_sql.specs.Scopes.{Scope, place_of, kind_in, kind_objections, ref_objections, expr_objections, cond_objections, total_objections}
 use Rattle.bf_sql.specs.Extents.{may_fail}
-use Rattle.bf_sql.specs.Targets.{ArmKind, by_from, by_join, by_pair, by_group, joined_names, equalities, arm_sources, arm_scope, width, arm_kind, plain_ref, is_total, item_name, key_items, extent_of_item, first_arm}
+use Rattle.bf_sql.specs.Targets.{ArmKind, by_from, by_join, by_pair, by_group, names_of_join, equalities, arm_sources, arm_scope, width, arm_kind, plain_ref, is_total, item_name, key_items, extent_of_item, first_arm}
 
 abbrev pub item_objections : Scope → Item → List Refusal
 item_objections scope (item.Column ref) = ref_objections scope ref
@@ -58,7 +58,7 @@ source_objections db name = when (not (is_some (stored_at db name))) (refusal.So
 abbrev pub arm_objections : Database → Target → Arm → List Refusal
 arm_objections db target arm =
     flat_map (source_objections db) (arm_sources arm)
-    ++ twice_objections (joined_names arm) arm.from
+    ++ twice_objections (names_of_join arm) arm.from
     ++ flat_map (item_objections (arm_scope db arm)) arm.items
     ++ flat_map (on_objections db target arm) (equalities arm)
     ++ cond_objections (arm_scope db arm) (condition_of arm.cond)
@@ -138,7 +138,7 @@ sources_of m = distinct same_name (flat_map (λ t. flat_map arm_sources t.arms) 
 
 abbrev pub driver_by : ArmKind → Arm → List (List ℕ)
 driver_by by_from arm = arm.from ∷ []
-driver_by by_join arm = joined_names arm
+driver_by by_join arm = names_of_join arm
 driver_by by_pair arm = []
 driver_by by_group arm = []
 

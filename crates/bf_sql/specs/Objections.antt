@@ -19,7 +19,7 @@ use Rattle.bf_sql.specs.declared.reply.Refusal.{Refusal}
 use Rattle.bf_sql.specs.declared.reply.Refusal.TheVariants as refusal
 use Rattle.bf_sql.specs.Database.{Database, Stored, stored_at}
 use Rattle.bf_sql.specs.Conditions.{condition_of}
-use Rattle.bf_sql.specs.Scopes.{Scope, scope_of, admitted_by, ref_to, kind_objections, expr_objections, cond_objections, total_objections}
+use Rattle.bf_sql.specs.Scopes.{Scope, scope_of, admitted_by, unqualified, kind_objections, expr_objections, cond_objections, total_objections}
 use Rattle.bf_sql.specs.Migrations.{twice_objections, migrate_objections}
 
 -- the objections to a statement on the table of a name, where there is one
@@ -70,7 +70,7 @@ set_objections table before name e =
     ++ when (has same_name (key_names table) name) (refusal.KeyColumn name)
     ++ twice_objections before name
     ++ expr_objections (scope_of table) e
-    ++ kind_objections (scope_of table) e (kind_admitted (admitted_by (scope_of table) (ref_to name)))
+    ++ kind_objections (scope_of table) e (kind_admitted (admitted_by (scope_of table) (unqualified name)))
 
 abbrev pub sets_objections : Table → List (List ℕ × Expr Ref) → List Refusal
 sets_objections table sets = flat_map (λ p. set_objections table (map (λ s. s.0) p.0) p.1.0 p.1.1) (with_before sets)

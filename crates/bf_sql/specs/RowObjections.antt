@@ -19,9 +19,9 @@ use Rattle.bf_sql.specs.declared.statement.Statement.{Statement}
 use Rattle.bf_sql.specs.declared.statement.Statement.TheVariants.{Insert, Select, Update, Migrate}
 use Rattle.bf_sql.specs.declared.reply.Refusal.{Refusal}
 use Rattle.bf_sql.specs.declared.reply.Refusal.TheVariants.{TypeMismatch, OutOfRange, TooLong, DuplicateKey, TooManyRows}
-use Rattle.bf_sql.specs.Database.{Database, table_at, rows_of}
+use Rattle.bf_sql.specs.Database.{Database, table_at, table_rows}
 use Rattle.bf_sql.specs.Conditions.{condition_of}
-use Rattle.bf_sql.specs.Scopes.{scope_of, read_in, admitted_by, ref_to}
+use Rattle.bf_sql.specs.Scopes.{scope_of, read_in, admitted_by, unqualified}
 use Rattle.bf_sql.specs.Totals.{values_of, exact_sum}
 use Rattle.bf_sql.specs.Queries.{selected}
 use Rattle.bf_sql.specs.Migrations.{sources_of}
@@ -85,15 +85,15 @@ abbrev pub most_rows : ℕ
 most_rows = 2 ^ 20
 
 abbrev pub size_objections : Database → List ℕ → List Refusal
-size_objections db name = when (nat_lt most_rows (length (rows_of db name))) (TooManyRows name (length (rows_of db name)))
+size_objections db name = when (nat_lt most_rows (length (table_rows db name))) (TooManyRows name (length (table_rows db name)))
 
 abbrev pub row_objections : Database → Statement → List Refusal
-row_objections db (Insert table tuples) = insert_objections (table_at db table) (rows_of db table) tuples
+row_objections db (Insert table tuples) = insert_objections (table_at db table) (table_rows db table) tuples
 row_objections db (Select list table cond) =
     let read = read_in (scope_of (table_at db table)) in
-    answer_objections read list (selected read (condition_of cond) (rows_of db table))
+    answer_objections read list (selected read (condition_of cond) (table_rows db table))
 row_objections db (Update table sets cond) =
     let scope = scope_of (table_at db table) in
-    flat_map (change_objections (read_in scope) (λ name. admitted_by scope (ref_to name)) sets) (selected (read_in scope) (condition_of cond) (rows_of db table))
+    flat_map (change_objections (read_in scope) (λ name. admitted_by scope (unqualified name)) sets) (selected (read_in scope) (condition_of cond) (table_rows db table))
 row_objections db (Migrate migrate) = flat_map (size_objections db) (sources_of migrate)
 row_objections db s = []

@@ -29,8 +29,8 @@ is_qualified_by None table = true
 is_qualified_by (Some qualifier) table = same_name qualifier table
 
 -- the ref that is a column's name alone
-abbrev pub ref_to : List ℕ → Ref
-ref_to name = record { table = None; column = name }
+abbrev pub unqualified : List ℕ → Ref
+unqualified name = record { table = None; column = name }
 
 module _ (scope : Scope) where
   -- the places of the columns that a ref can mean

@@ -18,8 +18,8 @@ use Rattle.bf_sql.specs.Scopes.{Scope, scope_of, place_of, admitted_by}
 use Rattle.bf_sql.specs.Extents.{Extent, extent_of, extent_of_total, admit_of_extent}
 
 -- the JOIN table, if there is one
-abbrev pub joined_names : Arm → List (List ℕ)
-joined_names arm = unwrap_or (option_map (λ j. j.table ∷ []) arm.join) []
+abbrev pub names_of_join : Arm → List (List ℕ)
+names_of_join arm = unwrap_or (option_map (λ j. j.table ∷ []) arm.join) []
 
 -- the pairs of ON
 abbrev pub equalities : Arm → List (Ref × Ref)
@@ -27,7 +27,7 @@ equalities arm = unwrap_or (option_map (λ j. j.on) arm.join) []
 
 -- the tables of an arm, FROM and then JOIN
 abbrev pub arm_sources : Arm → List (List ℕ)
-arm_sources arm = arm.from ∷ joined_names arm
+arm_sources arm = arm.from ∷ names_of_join arm
 
 -- how an arm makes rows: one for each row of FROM, one for each row of JOIN, one for each pair, or one for each group
 pub data ArmKind : Type 0 where
@@ -54,7 +54,7 @@ module _ (db : Database) (arm : Arm) where
   from_key = (table_at db arm.from).key
 
   abbrev pub join_key : List ℕ
-  join_key = flat_map (λ name. map (λ k. width + k) (table_at db name).key) (joined_names arm)
+  join_key = flat_map (λ name. map (λ k. width + k) (table_at db name).key) (names_of_join arm)
 
   -- the places that ON names
   abbrev pub on_places : List ℕ

@@ -1,5 +1,5 @@
 -- Totals over a list of rows.
-use Rattle.std.specs.Prelude.{ℤ, pos, ◌+ℤ◌, List, map, length, fold, Option, Some, None, if◌then◌else◌}
+use Rattle.std.specs.Prelude.{ℤ, pos, ◌+ℤ◌, List, [], ◌∷◌, map, length, fold, Option, Some, None, if◌then◌else◌}
 use Rattle.std.specs.List.{reduce}
 use Rattle.std.specs.Ordering.{is_lt}
 use Rattle.bf_base.specs.declared.value.Value.{Value}
@@ -25,6 +25,11 @@ or_null (Some v) = cells.Value v
 abbrev pub exact_sum : List Value → ℤ
 exact_sum values = fold (λ sum v. sum +ℤ number_of v) (pos 0) values
 
+-- the sum as a value, where there is any value
+abbrev pub sum_of : List Value → Option Value
+sum_of [] = None
+sum_of (v ∷ vs) = Some (Int (exact_sum (v ∷ vs)))
+
 module _ {R Row : Type 0} (read : Row → R → Value) (rows : List Row) where
   -- an expression's values on the rows
   abbrev pub values_of : Expr R → List Value
@@ -33,6 +38,6 @@ module _ {R Row : Type 0} (read : Row → R → Value) (rows : List Row) where
   -- COUNT is the number of rows; of no rows, SUM, MIN and MAX are NULL
   abbrev pub total_of : Aggregate (Expr R) → Cell
   total_of Count = cells.Value (Int (pos (length rows)))
-  total_of (Sum e) = or_null (reduce (λ a b. Int (number_of a +ℤ number_of b)) (values_of e))
+  total_of (Sum e) = or_null (sum_of (values_of e))
   total_of (Min e) = or_null (reduce lesser (values_of e))
   total_of (Max e) = or_null (reduce greater (values_of e))
