@@ -1,5 +1,8 @@
+mod Additions
 mod Beginnings
+mod Chains
 mod Contents
+mod Factors
 mod Fitting
 mod Lists
 mod Literals
