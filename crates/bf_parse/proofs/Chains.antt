@@ -13,12 +13,14 @@ use Rattle.bf_parse.specs.Words as word
 use Rattle.bf_parse.specs.Steps.{Step, Say, Limit, Mark, Node, said, fault_at}
 use Rattle.bf_parse.specs.Rules.{Return, After, Marked, Then, Either}
 use Rattle.bf_parse.specs.Reading.{CanGoOn, Ends, Reading, Read, Over, Fits, first}
-use Rattle.bf_parse.specs.Outcome.{IsBehind}
+use Rattle.bf_expr.specs.declared.raw.Ref.{Ref}
+use Rattle.bf_parse.specs.declared.error.Stop.{Stop}
+use Rattle.bf_parse.specs.Outcome.{IsBehind, stopped}
 use Rattle.bf_parse.specs.Ends.{begins, goes_product, goes_sum, is_point}
 use Rattle.bf_parse.specs.Expressions.{Counted, Factor, text, Product, product, Factors, no_factor, other_factor, Sum, sum, Products, no_product, other_product}
 use Rattle.bf_parse.proofs.Fitting.{fits_by, Passes}
 use Rattle.bf_parse.proofs.Lists.{weaker_ends}
-use Rattle.bf_parse.proofs.Moves.{Can, NotHere, Passed, left_here, right_here, return_not_here, return_fits, after_not_here, behind_go, marked_go, counted_over}
+use Rattle.bf_parse.proofs.Moves.{Can, NotHere, Passed, left_here, right_here, return_not_here, return_fits, after_not_here, behind_go, marked_go, counted_over, then_go, then_stop}
 
 -- ---- the limit of counted words
 
@@ -112,3 +114,13 @@ factors_pass a s b back (other_factor front rest c g m p) ends = subst (λ (z : 
 
 pub factors_passed : {f : Counted → Counted} → Passed is_point goes_product (λ b. Factors (f b))
 factors_passed {f = f} = record { it = λ a s b back h ends. factors_pass (f a) s b back h ends }
+
+-- ---- a loop's step, where the count behind the star is known by an equation
+
+pub star_stop : {a : Counted} {m : ℕ} {ws rest : List Word} (e : Stop) → m ≡ a.1 + 1 → a.1 < 256 → IsBehind (Sign sign.Star) ws (Some rest) → Fits is_point (Factor m) rest (stopped e) → Fits goes_product (Factors a) ws (stopped e)
+star_stop {a = a} {m = m} {ws = ws} {rest = rest} e same low h f = star_go low h (then_stop e (factors_passed {f = λ (b : Counted). (tree.times a.0 b.0, b.1)}) (λ b. factors_can) (subst (λ (k : ℕ). Fits is_point (Factor k) rest (stopped e)) same f))
+
+pub star_more : {a : Counted} {m k : ℕ} {ws rest mid : List Word} {b t : tree.Expr Ref} {r : Reading Counted} → m ≡ a.1 + 1 → a.1 < 256 → IsBehind (Sign sign.Star) ws (Some rest) → Fits is_point (Factor m) rest (Read (b, k) mid) → t ≡ tree.times a.0 b
+    → Fits goes_product (Factors (t, k)) mid r → Fits goes_product (Factors a) ws r
+star_more {a = a} {k = k} {rest = rest} {mid = mid} {b = b} {r = r} same low h f value g =
+    star_go low h (then_go (factors_passed {f = λ (b : Counted). (tree.times a.0 b.0, b.1)}) (subst (λ (n : ℕ). Fits is_point (Factor n) rest (Read (b, k) mid)) same f) (subst (λ (x : tree.Expr Ref). Fits goes_product (Factors (x, k)) mid r) value g))

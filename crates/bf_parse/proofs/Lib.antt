@@ -4,8 +4,10 @@ mod Chains
 mod Contents
 mod Factors
 mod Fitting
+mod Joints
 mod Lists
 mod Literals
 mod Moves
 mod Numbered
+mod Operands
 mod Places
