@@ -1,8 +1,13 @@
+mod Additions
 mod Beginnings
+mod Chains
 mod Contents
+mod Factors
 mod Fitting
+mod Joints
 mod Lists
 mod Literals
 mod Moves
 mod Numbered
+mod Operands
 mod Places

@@ -40,7 +40,7 @@ widest_only n front b back more wide (negative v k p q) eq =
 widest_only n front b back more wide (text t p q) eq =
     let d : word.Text t ∷ back ≡ word.Number n ∷ more = ap (λ (z : List Step). said z ++ back) (sym p) ∙ eq in absurd cc
 
-number_said : (front : List Step) (v : ℕ) → NumberRule front v → said front ≡ word.Number v ∷ []
+pub number_said : (front : List Step) (v : ℕ) → NumberRule front v → said front ≡ word.Number v ∷ []
 number_said front v (narrow k p) = ap said p
 number_said front v (widest k p) = ap said p
 

@@ -120,3 +120,7 @@ others_end {w = w} {G = G} {n = n} {acc = acc} {ws = ws} h =
 pub exit : {X A : Type 0} {w : Word → Bool} {G : List Step → A → Type 0} {ws : List Word} (view : X → Reading A) (res : Result X Stop) (e : Stop) → IsErrAnd res (λ x. x ≡ e) → Fits w G ws (stopped e) → Fits w G ws (outcome view res)
 exit view (Ok x) e h f = absurd h
 exit view (Err x) e h f = rw h f
+
+-- why it stopped, as a call told
+pub told : {A : Type 0} {w : Word → Bool} {G : List Step → A → Type 0} {ws : List Word} (e d : Stop) → e ≡ d → Fits w G ws (stopped d) → Fits w G ws (stopped e)
+told {w = w} {G = G} {ws = ws} e d same f = subst (λ (x : Stop). Fits w G ws (stopped x)) (sym same) f

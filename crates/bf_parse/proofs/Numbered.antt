@@ -16,7 +16,7 @@ Numbered flag G s b = G s b × (begins_with_number (said s) ≡ flag)
 -- the steps begin with a word, or with a mark before a word that is no number unless the mark is that of the widest
 pub data Headed : List Step → Type 0 where
   plain : {s : List Step} (w : Word) (rest : List Step) → s ≡ Say w ∷ rest → Headed s
-  wide : {s : List Step} (rest : List Step) → s ≡ Limit Widest ∷ rest → Headed s
+  wide : {s : List Step} (v : ℕ) (rest : List Step) → s ≡ Limit Widest ∷ Say (Number v) ∷ rest → Headed s
   marked : {s : List Step} (m : Mark) (w : Word) (rest : List Step) → is_number w ≡ false → s ≡ Limit m ∷ Say w ∷ rest → Headed s
 
 same_first : (x : List Word) (w : Word) (y z : List Word) → begins_with_number (x ++ w ∷ y) ≡ begins_with_number (x ++ w ∷ z)
@@ -44,7 +44,7 @@ module _ {A : Type 0} (w : Word → Bool) (G : List Step → A → Type 0) where
     where
       by_head : Headed (Limit m ∷ (used ++ rest)) → begins_with_number (said (used ++ rest)) ≡ false
       by_head (plain v r e) = absurd cc
-      by_head (wide r e) = let d : m ≡ Widest = cc in let f : (is_none (fault_at Widest) && within used) ≡ true = subst (λ (k : Mark). (is_none (fault_at k) && within used) ≡ true) d inside in absurd cc
+      by_head (wide v r e) = let d : m ≡ Widest = cc in let f : (is_none (fault_at Widest) && within used) ≡ true = subst (λ (k : Mark). (is_none (fault_at k) && within used) ≡ true) d inside in absurd cc
       by_head (marked k v r none_there e) = let d : used ++ rest ≡ Say v ∷ r = cc in ap (λ (z : List Step). begins_with_number (said z)) d ∙ none_there
 
   pub unnumbered : ((s : List Step) (b : A) → G s b → Headed s) → CanGoOn (Numbered false G) [] → (ws : List Word) (r : Reading A) → begins_with_number ws ≡ false → FitsAs w G ws r → FitsAs w (Numbered false G) ws r
