@@ -1,9 +1,8 @@
 -- The content of a quoted text, read byte after byte.
-use Rattle.std.proofs.Common.{◌≡◌, ◌≢◌, ℕ, ◌+◌, ◌<◌, ◌≤◌, List, [], ◌∷◌, ◌++◌, length, take, drop, get_or, set, flat_map, true, false, if◌then◌else◌, refl, sym, subst, ap, ◌∙◌, inl, inr, arith, append_assoc, length-append, length-set}
+use Rattle.std.proofs.Common.{◌≡◌, ◌≢◌, ℕ, ◌+◌, ◌<◌, ◌≤◌, List, [], ◌∷◌, ◌++◌, length, take, drop, get_or, set, flat_map, refl, sym, subst, ap, ◌∙◌, inl, inr, arith, append_assoc, length-append, length-set}
 use Rattle.std.proofs.lemmas.Bool.{cases_eq}
 use Rattle.std.proofs.lemmas.List.{append-nil, length-take-le, take_more_set}
 use Rattle.bf_base.specs.Texts.{IsText}
-use Rattle.bf_lex.specs.Bytes.{quote, is_quote}
 use Rattle.bf_lex.specs.Lexemes.{doubled, quoted}
 use Rattle.bf_lex.proofs.Quotes.{length-doubled, plain}
 
@@ -44,9 +43,9 @@ copied_more bytes buffer rest behind count k s behind_is =
     let room : count < 255 = omega (arith, old_is.short, counted, length-append (take count buffer) (s.byte ∷ s.others)) in
     let new : List ℕ = set buffer count (get_or rest 0 0) in
     let copied : take (count + 1) new ≡ take count buffer ++ s.byte ∷ [] =
-        take_more_set buffer count (get_or rest 0 0) (omega (arith, k.size, room)) ∙ ap (λ (b : ℕ). take count buffer ++ b ∷ []) (first_is k.left rest s) in
+    take_more_set buffer count (get_or rest 0 0) (omega (arith, k.size, room)) ∙ ap (λ (b : ℕ). take count buffer ++ b ∷ []) (first_is k.left rest s) in
     let content : take (count + 1) new ++ s.others ≡ take count buffer ++ k.left =
-        ap (λ (bs : List ℕ). bs ++ s.others) copied ∙ append_assoc (take count buffer) (s.byte ∷ []) s.others ∙ ap (λ (bs : List ℕ). take count buffer ++ bs) (sym s.left_is) in
+    ap (λ (bs : List ℕ). bs ++ s.others) copied ∙ append_assoc (take count buffer) (s.byte ∷ []) s.others ∙ ap (λ (bs : List ℕ). take count buffer ++ bs) (sym s.left_is) in
     record {
       left = s.others;
       whole = k.whole ∙ ap quoted (sym content);

@@ -1,12 +1,12 @@
 -- What the first byte of a text tells of the lexeme that stands there.
-use Rattle.std.proofs.Common.{◌≡◌, ◌≢◌, ℕ, ◌+◌, ◌<◌, Bool, true, false, if◌then◌else◌, List, [], ◌∷◌, ◌++◌, length, drop, flat_map, Option, Some, None, refl, sym, subst, ap, ◌∙◌, inl, inr, arith}
-use Rattle.std.proofs.lemmas.Bool.{and_parts, cases_Bool, eqb-true, ne_eqb, or_parts}
+use Rattle.std.proofs.Common.{◌≡◌, ℕ, ◌<◌, true, false, if◌then◌else◌, List, [], ◌∷◌, ◌++◌, length, drop, flat_map, Some, None, refl, sym, subst, ap, ◌∙◌, inl, inr, arith}
+use Rattle.std.proofs.lemmas.Bool.{and_parts, eqb-true}
 use Rattle.std.proofs.lemmas.Bool.Decides.{nat_tests}
 use Rattle.std.proofs.lemmas.Option.{none-some}
 use Rattle.bf_base.specs.Names.{is_digit}
 use Rattle.bf_lex.specs.declared.fault.ScriptKind.TheVariants.{BadByte, OpenString}
 use Rattle.bf_lex.specs.declared.sign.Sign.{Sign}
-use Rattle.bf_lex.specs.Bytes.{is_blank, is_letter, quote, is_quote, begins}
+use Rattle.bf_lex.specs.Bytes.{is_letter, quote, is_quote, begins}
 use Rattle.bf_lex.specs.Lexemes.{Lexeme, Word, Digits, Quoted, Mark, StandsIn, doubled}
 use Rattle.bf_lex.specs.Lexing.{IsStray, IsWrong, NoneStands}
 use Rattle.bf_lex.specs.Reading.{begins_gap, IsOpen, long_sign, short_sign, sized, sign_front}
@@ -14,7 +14,7 @@ use Rattle.bf_lex.proofs.Gaps.{no_gap, no_last_gap}
 use Rattle.bf_lex.proofs.Quotes.{is_never_closed}
 use Rattle.bf_lex.proofs.Signs.{mark_front, sized_is, short_is}
 
-data Start : Type 0 where
+pub data Start : Type 0 where
   Letter : Start
   Digit : Start
   Quote : Start
@@ -23,7 +23,7 @@ data Start : Type 0 where
 abbrev start_of : ℕ → Start
 start_of byte = if is_letter byte then Letter else (if is_digit byte then Digit else (if is_quote byte then Quote else Other))
 
-abbrev starts_as : Lexeme → Start
+abbrev pub starts_as : Lexeme → Start
 starts_as Word = Letter
 starts_as Digits = Digit
 starts_as (Quoted content) = Quote
@@ -125,3 +125,13 @@ open_string [] e o = absurd cc
 open_string (a ∷ rest) e o =
     let same : a ≡ quote = eqb-true a quote e in
     subst (λ (b : ℕ). IsWrong (b ∷ rest) OpenString 0) (sym same) (inr (stray quote rest refl (no_text_stands rest o), refl, refl))
+
+-- lexemes at one front begin alike
+pub one_start : (l m : Lexeme) (b c x y : List ℕ) → StandsIn l b x → StandsIn m c y → b ++ x ≡ c ++ y → starts_as l ≡ starts_as m
+one_start l m b c x y s t e =
+    let first = started l b x s in
+    let split : first.first ∷ (first.rest ++ x) ≡ c ++ y = ap (λ (bs : List ℕ). bs ++ x) (sym first.split) ∙ e in
+    sym first.start ∙ starts_same m c y first.first (first.rest ++ x) t split
+
+pub some_bytes : (l : Lexeme) (bytes behind : List ℕ) → StandsIn l bytes behind → 0 < length bytes
+some_bytes l bytes behind s = let first = started l bytes behind s in omega (arith, ap length first.split)

@@ -1,32 +1,26 @@
--- The keyword of a word: the one at the word's place among the words in order.
-use Rattle.std.proofs.Common.{◌≡◌, ℕ, zero, suc, ◌+◌, Bool, true, false, List, [], ◌∷◌, map, Option, Some, None, find, cond, refl, sym, subst, ap, ◌∙◌, add-one, arith}
-use Rattle.std.specs.List.{range_with_len, slice_get}
+-- The keyword of a word: the one whose number goes with the word.
+use Rattle.std.proofs.Common.{◌≡◌, ℕ, ◌<◌, length, get_or, false, List, [], ◌∷◌, map, Option, Some, None, Bor, find, refl, sym, subst, ap, ◌∙◌}
+use Rattle.std.specs.List.{Contains}
 use Rattle.std.proofs.lemmas.Bool.{or_parts}
 use Rattle.std.proofs.lemmas.Cmp.{nat_list_eq_equiv}
+use Rattle.std.proofs.lemmas.List.{get_or_default, get_or-map, length-map}
+use Rattle.std.proofs.lemmas.List.Elements.{Contains-get_or}
+use Rattle.bf_tables.specs.Cases.{Case, cases_by}
 use Rattle.bf_base.specs.Lists.{has, same_name}
 use Rattle.bf_lex.specs.declared.keyword.Keyword.{Keyword}
 use Rattle.bf_lex.specs.declared.keyword.Keyword.TheVariants.{All, And, As, Begin, Between, By, Check, Commit, Count, Create, Delete, From, Group, Index, Insert, Int, Into, Join, Keep, Key, Max, Migrate, Min, Not, On, Or, Phase, Primary, Rollback, Select, Session, Set, Sum, Table, Union, Update, Values, Varchar, Where}
 use Rattle.bf_lex.specs.Words.{word_of, number_of, keywords, keyword_of}
 
--- the item behind a mapped one
-item_at : {X Y : Type 0} (f : X → Y) (xs : List X) (i : ℕ) (y : Y) → slice_get (map f xs) i ≡ Some y → (x : X) × (slice_get xs i ≡ Some x) × (f x ≡ y)
-item_at f [] i y e = absurd cc
-item_at f (x ∷ xs) zero y e = (x, refl, cc)
-item_at f (x ∷ xs) (suc i) y e = item_at f xs i y e
-
-mapped_at : {X Y : Type 0} (f : X → Y) (xs : List X) (i : ℕ) (x : X) → slice_get xs i ≡ Some x → slice_get (map f xs) i ≡ Some (f x)
-mapped_at f [] i x e = absurd cc
-mapped_at f (y ∷ ys) zero x e = let same : y ≡ x = cc in ap (λ z. Some (f z)) same
-mapped_at f (y ∷ ys) (suc i) x e = mapped_at f ys i x e
-
-counted : (first n i m : ℕ) → slice_get (range_with_len first n) i ≡ Some m → m ≡ first + i
-counted first zero i m e = absurd cc
-counted first (suc n) zero m e = let same : first ≡ m = cc in omega arith
-counted first (suc n) (suc i) m e = let rest = counted (first + 1) n i m e in omega arith
-
--- a keyword's number is its place
-number_is : (k : Keyword) (i : ℕ) → slice_get keywords i ≡ Some k → number_of k ≡ i
-number_is k i e = let n = counted 0 39 i (number_of k) (mapped_at number_of keywords i k e) in omega arith
+-- a pair and its word
+pub case_at : (pairs : List (ℕ × Bor (List ℕ))) (i : ℕ) (d e : ℕ × Bor (List ℕ)) (word : List ℕ) → i < length pairs → (get_or pairs i d).1.now ≡ word
+    → Contains (cases_by (λ w. w.now) pairs) ((get_or pairs i e).0, word)
+case_at pairs i d e word inside is =
+    let case : ℕ × Bor (List ℕ) → Case = λ pair. (pair.0, pair.1.now) in
+    let cases : List Case = cases_by (λ w. w.now) pairs in
+    let there : Contains cases (get_or cases i (case e)) = Contains-get_or cases i (case e) (rw length-map inside) in
+    let same_pair : get_or pairs i e ≡ get_or pairs i d = get_or_default pairs i e d inside in
+    let named : (get_or pairs i e).1.now ≡ word = ap (λ (p : ℕ × Bor (List ℕ)). p.1.now) same_pair ∙ is in
+    subst (Contains cases) (get_or-map case pairs i e (case e) inside ∙ ap (λ (w : List ℕ). ((get_or pairs i e).0, w)) named) there
 
 keyword_of_its_word : (k : Keyword) → keyword_of (word_of k) ≡ Some k
 unfolding keyword_of
@@ -70,11 +64,16 @@ keyword_of_its_word Values = refl
 keyword_of_its_word Varchar = refl
 keyword_of_its_word Where = refl
 
--- a word at a keyword's place is that keyword
-pub found : (word : List ℕ) (i : ℕ) (o : Option Keyword) → slice_get (map word_of keywords) i ≡ Some word → ((k : Keyword) → number_of k ≡ i → o ≡ Some k) → o ≡ keyword_of word
-found word i o e is =
-    let at = item_at word_of keywords i word e in
-    is at.0 (number_is at.0 i at.1) ∙ sym (keyword_of_its_word at.0) ∙ ap keyword_of at.2
+-- the numbers and words of the keywords
+abbrev pub case_of : Keyword → Case
+case_of k = (number_of k, word_of k)
+
+-- the keyword whose number and word go together
+pub found : (word : List ℕ) (n : ℕ) (o : Option Keyword) → Contains (map case_of keywords) (n, word) → ((k : Keyword) → number_of k ≡ n → o ≡ Some k) → o ≡ keyword_of word
+found word n o there is =
+    let k : Keyword = get_or keywords there.0 All in
+    let case : case_of k ≡ (n, word) = sym (get_or-map case_of keywords there.0 All (n, word) (rw length-map at there.1)) ∙ there.2 in
+    is k (ap (λ (c : Case). c.0) case) ∙ sym (keyword_of_its_word k) ∙ ap (λ (c : Case). keyword_of c.1) case
 
 none_named : (word : List ℕ) (ks : List Keyword) → has same_name (map word_of ks) word ≡ false → find (λ k. same_name (word_of k) word) ks ≡ None
 none_named word [] e = refl

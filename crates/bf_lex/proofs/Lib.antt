@@ -5,6 +5,9 @@ pub mod Gaps
 pub mod Keywords
 pub mod Lexings
 pub mod Numbers
+pub mod OneGap
+pub mod OneLexeme
+pub mod OneLexing
 pub mod Quotes
 pub mod Signs
 pub mod Standing

@@ -1,7 +1,7 @@
 //! Keywords.
 
-ghost use Rattle.std.specs.Prelude.{◌≡◌, ◌↔◌, ◌<◌, IfNone, IfSome, IsTrue, false, length, map, slice_get};
-ghost use Rattle.bf_tables.specs.Cases.{word_at};
+ghost use Rattle.std.specs.Prelude.{◌≡◌, ◌↔◌, Contains, IfNone, IfSome, IsTrue, false, map};
+ghost use Rattle.bf_tables.specs.Cases.{cases_by, word_at};
 ghost use Rattle.bf_base.specs.Lists.{has, name_cmp, rises, same_name};
 ghost use Rattle.bf_base.specs.Names.{folded, lower_of};
 ghost use Rattle.bf_lex.specs.Words.{keyword_of, number_of, word_of};
@@ -59,8 +59,48 @@ macro_rules! keywords {
     };
 }
 
-// The words of the keywords in order, so that each stands at the place of its keyword's number.
-static WORDS: [&str; 39] = ["all", "and", "as", "begin", "between", "by", "check", "commit", "count", "create", "delete", "from", "group", "index", "insert", "int", "into", "join", "keep", "key", "max", "migrate", "min", "not", "on", "or", "phase", "primary", "rollback", "select", "session", "set", "sum", "table", "union", "update", "values", "varchar", "where"];
+// The words of the keywords in order, each with its keyword's number, which is its place.
+static WORDS: [(u8, &str); 39] = [
+    (0, "all"),
+    (1, "and"),
+    (2, "as"),
+    (3, "begin"),
+    (4, "between"),
+    (5, "by"),
+    (6, "check"),
+    (7, "commit"),
+    (8, "count"),
+    (9, "create"),
+    (10, "delete"),
+    (11, "from"),
+    (12, "group"),
+    (13, "index"),
+    (14, "insert"),
+    (15, "int"),
+    (16, "into"),
+    (17, "join"),
+    (18, "keep"),
+    (19, "key"),
+    (20, "max"),
+    (21, "migrate"),
+    (22, "min"),
+    (23, "not"),
+    (24, "on"),
+    (25, "or"),
+    (26, "phase"),
+    (27, "primary"),
+    (28, "rollback"),
+    (29, "select"),
+    (30, "session"),
+    (31, "set"),
+    (32, "sum"),
+    (33, "table"),
+    (34, "union"),
+    (35, "update"),
+    (36, "values"),
+    (37, "varchar"),
+    (38, "where"),
+];
 
 impl Keyword {
     /// The keyword's number, below 39: its place in the order of the words. Takes no memory.
@@ -82,15 +122,14 @@ impl Keyword {
     pub fn of_word(word: &[u8]) -> Option<Keyword>
         ensures { result ≡ keyword_of (folded word.now) }
     {
-        let number = place(&WORDS, word)?;
-        Keyword::of_number(number as u8)
+        Keyword::of_number(number_of_word(&WORDS, word)?)
     }
 
     /// The words of the keywords, by their numbers. Takes no memory.
     pub fn cases() -> Cases<39>
         ensures { (keyword : Keyword) → word_at result (number_of keyword) ≡ Some (word_of keyword) }
     {
-        of_cases([(0, "all"), (1, "and"), (2, "as"), (3, "begin"), (4, "between"), (5, "by"), (6, "check"), (7, "commit"), (8, "count"), (9, "create"), (10, "delete"), (11, "from"), (12, "group"), (13, "index"), (14, "insert"), (15, "int"), (16, "into"), (17, "join"), (18, "keep"), (19, "key"), (20, "max"), (21, "migrate"), (22, "min"), (23, "not"), (24, "on"), (25, "or"), (26, "phase"), (27, "primary"), (28, "rollback"), (29, "select"), (30, "session"), (31, "set"), (32, "sum"), (33, "table"), (34, "union"), (35, "update"), (36, "values"), (37, "varchar"), (38, "where")]).unwrap()
+        of_cases(WORDS).unwrap()
     }
 }
 
@@ -100,15 +139,14 @@ fn lower(byte: u8) -> u8
     byte.to_ascii_lowercase()
 }
 
-// The place of a word among words in order, in whatever case its letters are.
-fn place(words: &[&str], word: &[u8]) -> Option<usize>
-    requires { IsTrue (rises name_cmp (map (λ w. w.now) words.now)) }
-    ensures inside { IfSome result (λ at. at < length words.now) }
-    ensures found { IfSome result (λ at. slice_get (map (λ w. w.now) words.now) at ≡ Some (folded word.now)) }
-    ensures none { IfNone result (has same_name (map (λ w. w.now) words.now) (folded word.now) ≡ false) }
+// The number of a word among words in order, in whatever case its letters are.
+fn number_of_word(words: &[(u8, &str)], word: &[u8]) -> Option<u8>
+    requires { IsTrue (rises name_cmp (map (λ w. w.1.now) words.now)) }
+    ensures found { IfSome result (λ number. Contains (cases_by (λ w. w.now) words.now) (number, folded word.now)) }
+    ensures none { IfNone result (has same_name (map (λ w. w.1.now) words.now) (folded word.now) ≡ false) }
 {
-    match words.binary_search_by(|found| compare(found, word)) {
-        Ok(at) => Some(at),
+    match words.binary_search_by(|(_, found)| compare(found, word)) {
+        Ok(place) => Some(words[place].0),
         Err(_) => None,
     }
 }
@@ -117,5 +155,8 @@ fn place(words: &[&str], word: &[u8]) -> Option<usize>
 fn compare(word: &str, bytes: &[u8]) -> Ordering
     ensures { result ≡ name_cmp word.now (folded bytes.now) }
 {
-    word.as_bytes().iter().copied().cmp(bytes.iter().map(|byte| lower(*byte)))
+    word.as_bytes()
+        .iter()
+        .copied()
+        .cmp(bytes.iter().map(|byte| lower(*byte)))
 }
