@@ -104,7 +104,7 @@ fn seen(value: Value) -> Found {
     }
 }
 
-fn found(alloc: Global, expr: Expr, cells: &[Cell]) -> Result<Found, Fail> {
+fn evaluated(alloc: Global, expr: Expr, cells: &[Cell]) -> Result<Found, Fail> {
     let row = row(alloc, cells)?;
     Ok(match value(alloc, &expr, &row) {
         Ok(value) => seen(value),
@@ -115,7 +115,7 @@ fn found(alloc: Global, expr: Expr, cells: &[Cell]) -> Result<Found, Fail> {
 }
 
 fn of_numbers(alloc: Global, operator: Operator, a: i64, b: i64) -> Result<Found, Fail> {
-    found(alloc, binary(alloc, operator, number(a), number(b))?, &[])
+    evaluated(alloc, binary(alloc, operator, number(a), number(b))?, &[])
 }
 
 const TWO_TO_31: i64 = 0x8000_0000;
@@ -157,7 +157,7 @@ fn numbers_keep_to_64_bits(rt: HostRuntime) -> Result<(), Fail> {
 }
 
 fn negation_of(alloc: Global, a: i64) -> Result<Found, Fail> {
-    found(alloc, negative(alloc, number(a))?, &[])
+    evaluated(alloc, negative(alloc, number(a))?, &[])
 }
 
 #[test]
@@ -182,7 +182,7 @@ fn joined(alloc: Global, left: usize, right: usize) -> Result<Expr, Fail> {
 }
 
 fn of_letters(alloc: Global, left: usize, right: usize) -> Result<Found, Fail> {
-    found(alloc, joined(alloc, left, right)?, &[])
+    evaluated(alloc, joined(alloc, left, right)?, &[])
 }
 
 #[test]
@@ -213,7 +213,7 @@ fn of_failures(alloc: Global, operator: Operator, range_first: bool) -> Result<F
     } else {
         binary(alloc, operator, too_long, out_of_range)?
     };
-    found(alloc, expr, &[])
+    evaluated(alloc, expr, &[])
 }
 
 #[test]
@@ -236,7 +236,7 @@ fn the_left_failure_comes_first(rt: HostRuntime) -> Result<(), Fail> {
 const CELLS: [Cell; 2] = [Number(7), Letters("aab")];
 
 fn of_columns(alloc: Global, operator: Operator, a: u8, b: u8) -> Result<Found, Fail> {
-    found(
+    evaluated(
         alloc,
         binary(alloc, operator, column(a), column(b))?,
         CELLS.as_slice(),
@@ -247,7 +247,7 @@ fn of_columns(alloc: Global, operator: Operator, a: u8, b: u8) -> Result<Found, 
 fn reads_columns(rt: HostRuntime) -> Result<(), Fail> {
     let alloc = rt.alloc();
     for (place, want) in [(0, Whole(7)), (1, Bytes(3, 2)), (2, Whole(0))] {
-        let found = found(alloc, column(place), CELLS.as_slice())?;
+        let found = evaluated(alloc, column(place), CELLS.as_slice())?;
         assert_eq!(rt; found, want, "at {place}");
     }
     for (operator, a, b, want) in [
