@@ -98,7 +98,7 @@ star_end h = factors_as (right_here (marked_not_here (after_not_here h)) return_
 
 -- ---- what may follow
 
-or_left : (a b : Bool) → (a || b) ≡ false → a ≡ false
+pub or_left : (a b : Bool) → (a || b) ≡ false → a ≡ false
 or_left true b e = absurd cc
 or_left false b e = refl
 

@@ -54,7 +54,7 @@ abbrev pub Parts : ℕ → List Step → Counted → Type 0
 Parts n = Either (LiteralPart n) (Either (Counteds n) (RefPart n))
 
 -- what stands before nothing is all
-whole : (s front back : List Step) → s ≡ front ++ back → back ≡ [] → s ≡ front
+pub whole : (s front back : List Step) → s ≡ front ++ back → back ≡ [] → s ≡ front
 whole s front back split p = split ∙ ap (λ (z : List Step). front ++ z) p ∙ append-nil front
 
 from_literal : (n : ℕ) (s : List Step) (v : Value) (x : Counted) → LiteralRule s v → x ≡ (tree.literal v, n) → Factor n s x
@@ -95,7 +95,7 @@ factor_as {n = n} {ws = ws} {r = r} f = record { it = fits_by is_point (Parts n)
 
 -- ---- with what the parts begin
 
-begins-append : (test : Word → Bool) (s t : List Step) → begins test (said s) ≡ true → begins test (said (s ++ t)) ≡ true
+pub begins-append : (test : Word → Bool) (s t : List Step) → begins test (said s) ≡ true → begins test (said (s ++ t)) ≡ true
 begins-append test [] t e = absurd cc
 begins-append test (Say w ∷ s) t e = e
 begins-append test (Limit m ∷ s) t e = begins-append test s t e
@@ -135,7 +135,7 @@ literal_parenthesis (word.Text k ∷ ws) e = refl
 literal_parenthesis (word.Minus k ∷ ws) e = refl
 literal_parenthesis (word.Sign k ∷ ws) e = absurd cc
 
-literal_name : (ws : List Word) → begins begins_literal ws ≡ true → begins is_name ws ≡ false
+pub literal_name : (ws : List Word) → begins begins_literal ws ≡ true → begins is_name ws ≡ false
 literal_name [] e = refl
 literal_name (word.Keyword k ∷ ws) e = refl
 literal_name (word.Name k ∷ ws) e = absurd cc
@@ -144,7 +144,7 @@ literal_name (word.Text k ∷ ws) e = refl
 literal_name (word.Minus k ∷ ws) e = refl
 literal_name (word.Sign k ∷ ws) e = refl
 
-begins_behind : (test : Word → Bool) (ws rest : List Word) (w : Word) → ws ≡ w ∷ rest → test w ≡ false → begins test ws ≡ false
+pub begins_behind : (test : Word → Bool) (ws rest : List Word) (w : Word) → ws ≡ w ∷ rest → test w ≡ false → begins test ws ≡ false
 begins_behind test ws rest w e f = ap (λ (z : List Word). begins test z) e ∙ f
 
 -- ---- what stands first chooses the part

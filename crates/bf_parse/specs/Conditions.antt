@@ -1,6 +1,6 @@
 -- CONDITIONS: comparisons of columns and literals, joined by OR, AND and NOT. Comparisons, BETWEENs, NOTs, ANDs between
 -- conditions, ORs and opening parentheses are counted.
-use Rattle.std.specs.Prelude.{◌≡◌, ℕ, ◌+◌, ◌≤◌, ◌^◌, ℤ, pos, neg_ℤ, Bool, List, [], ◌∷◌, ◌++◌}
+use Rattle.std.specs.Prelude.{◌≡◌, ℕ, ◌+◌, ◌≤◌, ◌^◌, pos, neg_ℤ, true, List, [], ◌∷◌, ◌++◌}
 use Rattle.bf_base.specs.declared.value.Value.{Value}
 use Rattle.bf_base.specs.declared.value.Value.TheVariants.{Int, Text}
 use Rattle.bf_lex.specs.declared.keyword.Keyword.TheVariants as keyword
@@ -14,14 +14,10 @@ use Rattle.bf_parse.specs.Words as word
 use Rattle.bf_parse.specs.Steps.{Step, Say, Limit, Node}
 use Rattle.bf_parse.specs.Expressions.{NumberRule, RefRule}
 
--- [-] number; a minus with no number behind it begins one too, so it is the word behind it that can't go on
-pub data SignedRule : List Step → ℤ → Type 0 where
-  number : {steps : List Step} {x : ℤ} (v : ℕ) → NumberRule steps v → x ≡ pos v → SignedRule steps x
-  negative : {steps : List Step} {x : ℤ} (behind : Bool) (v : ℕ) → v ≤ 2 ^ 63 → steps ≡ Say (word.Minus behind) ∷ Say (word.Number v) ∷ [] → x ≡ neg_ℤ (pos v) → SignedRule steps x
-
--- signed | text
+-- [-] number | text
 pub data LiteralRule : List Step → Value → Type 0 where
-  signed : {steps : List Step} {x : Value} (z : ℤ) → SignedRule steps z → x ≡ Int z → LiteralRule steps x
+  number : {steps : List Step} {x : Value} (v : ℕ) → NumberRule steps v → x ≡ Int (pos v) → LiteralRule steps x
+  negative : {steps : List Step} {x : Value} (v : ℕ) → v ≤ 2 ^ 63 → steps ≡ Say (word.Minus true) ∷ Say (word.Number v) ∷ [] → x ≡ Int (neg_ℤ (pos v)) → LiteralRule steps x
   text : {steps : List Step} {x : Value} (t : List ℕ) → steps ≡ Say (word.Text t) ∷ [] → x ≡ Text t → LiteralRule steps x
 
 -- literal | ref

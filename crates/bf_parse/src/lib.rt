@@ -1,6 +1,8 @@
 //! From the bytes of a script to its tree.
 #![tactic(auto)]
 
+mod comparison;
+mod condition;
 mod cursor;
 mod error;
 mod expression;
