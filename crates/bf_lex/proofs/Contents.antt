@@ -1,9 +1,8 @@
 -- The content of a quoted text, read byte after byte.
-use Rattle.std.proofs.Common.{◌≡◌, ◌≢◌, ℕ, ◌+◌, ◌<◌, ◌≤◌, List, [], ◌∷◌, ◌++◌, length, take, drop, get_or, set, flat_map, true, false, if◌then◌else◌, refl, sym, subst, ap, ◌∙◌, inl, inr, arith, append_assoc, length-append, length-set}
+use Rattle.std.proofs.Common.{◌≡◌, ◌≢◌, ℕ, ◌+◌, ◌<◌, ◌≤◌, List, [], ◌∷◌, ◌++◌, length, take, drop, get_or, set, flat_map, refl, sym, subst, ap, ◌∙◌, inl, inr, arith, append_assoc, length-append, length-set}
 use Rattle.std.proofs.lemmas.Bool.{cases_eq}
 use Rattle.std.proofs.lemmas.List.{append-nil, length-take-le, take_more_set}
 use Rattle.bf_base.specs.Texts.{IsText}
-use Rattle.bf_lex.specs.Bytes.{quote, is_quote}
 use Rattle.bf_lex.specs.Lexemes.{doubled, quoted}
 use Rattle.bf_lex.proofs.Quotes.{length-doubled, plain}
 

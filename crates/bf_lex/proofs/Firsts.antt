@@ -1,12 +1,12 @@
 -- What the first byte of a text tells of the lexeme that stands there.
-use Rattle.std.proofs.Common.{◌≡◌, ◌≢◌, ℕ, ◌+◌, ◌<◌, Bool, true, false, if◌then◌else◌, List, [], ◌∷◌, ◌++◌, length, drop, flat_map, Option, Some, None, refl, sym, subst, ap, ◌∙◌, inl, inr, arith}
-use Rattle.std.proofs.lemmas.Bool.{and_parts, cases_Bool, eqb-true, ne_eqb, or_parts}
+use Rattle.std.proofs.Common.{◌≡◌, ℕ, ◌<◌, true, false, if◌then◌else◌, List, [], ◌∷◌, ◌++◌, length, drop, flat_map, Some, None, refl, sym, subst, ap, ◌∙◌, inl, inr, arith}
+use Rattle.std.proofs.lemmas.Bool.{and_parts, eqb-true}
 use Rattle.std.proofs.lemmas.Bool.Decides.{nat_tests}
 use Rattle.std.proofs.lemmas.Option.{none-some}
 use Rattle.bf_base.specs.Names.{is_digit}
 use Rattle.bf_lex.specs.declared.fault.ScriptKind.TheVariants.{BadByte, OpenString}
 use Rattle.bf_lex.specs.declared.sign.Sign.{Sign}
-use Rattle.bf_lex.specs.Bytes.{is_blank, is_letter, quote, is_quote, begins}
+use Rattle.bf_lex.specs.Bytes.{is_letter, quote, is_quote, begins}
 use Rattle.bf_lex.specs.Lexemes.{Lexeme, Word, Digits, Quoted, Mark, StandsIn, doubled}
 use Rattle.bf_lex.specs.Lexing.{IsStray, IsWrong, NoneStands}
 use Rattle.bf_lex.specs.Reading.{begins_gap, IsOpen, long_sign, short_sign, sized, sign_front}

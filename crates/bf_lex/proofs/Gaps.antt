@@ -1,5 +1,5 @@
 -- Gaps.
-use Rattle.std.proofs.Common.{◌≡◌, ℕ, ◌<◌, length, get_or, drop, arith, Bool, true, false, List, [], ◌∷◌, ◌++◌, IsTrue, refl, sym, subst, ap, ◌∙◌, append_assoc}
+use Rattle.std.proofs.Common.{◌≡◌, ℕ, ◌<◌, length, get_or, drop, arith, true, false, List, [], ◌∷◌, ◌++◌, IsTrue, refl, sym, subst, ap, ◌∙◌, append_assoc}
 use Rattle.std.proofs.lemmas.Bool.{both_ways, or_parts, true≢false}
 use Rattle.std.proofs.lemmas.List.{append-nil, nil_from_length}
 use Rattle.bf_lex.specs.Bytes.{is_blank, is_line, line_feed, IsGap, nothing, blank, comment, IsLastGap, closed, open_comment}

@@ -1,5 +1,5 @@
 -- Reading token after token.
-use Rattle.std.proofs.Common.{◌≡◌, ℕ, ◌+◌, List, [], ◌∷◌, ◌++◌, length, refl, sym, subst}
+use Rattle.std.proofs.Common.{ℕ, List, [], ◌∷◌, ◌++◌, refl, subst}
 use Rattle.bf_lex.specs.declared.token.Token.{Token}
 use Rattle.bf_lex.specs.Lexing.{Front, IsNext}
 

@@ -1,14 +1,12 @@
 -- One gap stands at the front of a text, as long as possible.
-use Rattle.std.proofs.Common.{◌≡◌, ℕ, ◌<◌, Bool, true, false, not, ◌==◌, List, [], ◌∷◌, ◌++◌, length, IsTrue, refl, sym, subst, ap, ◌∙◌, append_assoc, length-append, arith}
-use Rattle.std.specs.List.{list_all}
+use Rattle.std.proofs.Common.{◌≡◌, ℕ, true, false, not, ◌==◌, List, [], ◌∷◌, ◌++◌, length, IsTrue, refl, sym, subst, ap, ◌∙◌, append_assoc, length-append, arith}
 use Rattle.std.proofs.lemmas.Bool.{and_right, both_ways, false≢true, true≢false}
 use Rattle.std.proofs.lemmas.List.{append-nil}
 use Rattle.bf_lex.specs.Bytes.{is_blank, is_line, line_feed, IsGap, nothing, blank, comment, IsLastGap, closed, open_comment}
-use Rattle.bf_lex.specs.Lexemes.{Lexeme, StandsIn}
 use Rattle.bf_lex.specs.Lexing.{NoneStands}
 use Rattle.bf_lex.specs.Reading.{begins_gap}
 use Rattle.bf_lex.proofs.Firsts.{some_bytes}
-use Rattle.bf_lex.proofs.Gaps.{gap_begins, no_gap}
+use Rattle.bf_lex.proofs.Gaps.{no_gap}
 use Rattle.bf_lex.proofs.OneLexeme.{one_longest, lexeme_no_gap}
 
 -- no gap that ends stands at the front

@@ -1,13 +1,13 @@
 -- One lexeme stands at the front of a text, and it begins no gap.
-use Rattle.std.proofs.Common.{◌≡◌, ℕ, ◌+◌, ◌<◌, Bool, true, false, List, [], ◌∷◌, ◌++◌, length, take, drop, Option, Some, None, IsTrue, refl, sym, subst, ap, ◌∙◌, inl, inr, arith}
+use Rattle.std.proofs.Common.{◌≡◌, ℕ, Bool, true, false, List, [], ◌∷◌, ◌++◌, length, take, drop, Some, None, refl, sym, subst, ap, ◌∙◌, inl, inr, arith}
 use Rattle.std.specs.List.{list_all}
-use Rattle.std.proofs.lemmas.Bool.{and_parts, and_from, both_ways, false≢true, true≢false}
+use Rattle.std.proofs.lemmas.Bool.{and_parts, and_from, both_ways, false≢true}
 use Rattle.std.proofs.lemmas.Bool.Decides.{nat_tests}
 use Rattle.std.proofs.lemmas.List.{take_at, drop_at}
 use Rattle.std.proofs.lemmas.Option.{some_pair_parts}
 use Rattle.bf_base.specs.Names.{is_digit}
 use Rattle.bf_lex.specs.declared.sign.Sign.{Sign}
-use Rattle.bf_lex.specs.Bytes.{is_letter, is_word_byte, is_quote, begins}
+use Rattle.bf_lex.specs.Bytes.{is_letter, is_word_byte, begins}
 use Rattle.bf_lex.specs.Lexemes.{Lexeme, Word, Digits, Quoted, Mark, StandsIn, is_word, is_number, quoted, begins_longer}
 use Rattle.bf_lex.specs.Reading.{begins_gap, long_sign, short_sign, sized, sign_front}
 use Rattle.bf_lex.proofs.Firsts.{one_start}

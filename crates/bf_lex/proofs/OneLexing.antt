@@ -1,15 +1,15 @@
 -- A text has one list of tokens, or one first fault.
-use Rattle.std.proofs.Common.{◌≡◌, ℕ, ◌+◌, Bool, true, false, List, [], ◌∷◌, ◌++◌, length, Result, Ok, Err, refl, sym, subst, ap, ◌∙◌, inl, inr, if◌then◌else◌}
+use Rattle.std.proofs.Common.{◌≡◌, ℕ, ◌+◌, List, [], ◌∷◌, ◌++◌, length, Result, Ok, Err, refl, sym, subst, ap, ◌∙◌, inl, inr}
 use Rattle.bf_lex.specs.declared.fault.ScriptFault.{ScriptFault}
 use Rattle.bf_lex.specs.declared.fault.ScriptKind.{ScriptKind}
 use Rattle.bf_lex.specs.declared.token.Token.{Token}
 use Rattle.bf_lex.specs.declared.token.TokenKind.{TokenKind}
 use Rattle.bf_lex.specs.Bytes.{IsGap, IsLastGap}
 use Rattle.bf_lex.specs.Lexemes.{Lexeme, Misfit, StandsIn, token_of}
-use Rattle.bf_lex.specs.Lexing.{IsNext, Front, IsMisfit, IsStray, IsWrong, IsFirstFault, IsAllTokens, IsLexed}
+use Rattle.bf_lex.specs.Lexing.{IsNext, Front, IsWrong, IsFirstFault, IsAllTokens, IsLexed}
 use Rattle.bf_lex.specs.Reading.{begins_gap}
-use Rattle.bf_lex.proofs.OneGap.{NoGap, none_begins, one_gap, Ending, ending}
-use Rattle.bf_lex.proofs.OneLexeme.{SameLexeme, one_lexeme, lexeme_no_gap}
+use Rattle.bf_lex.proofs.OneGap.{NoGap, none_begins, one_gap, ending}
+use Rattle.bf_lex.proofs.OneLexeme.{one_lexeme, lexeme_no_gap}
 
 ok_is_no_err : {A E : Type 0} (a : A) (e : E) → Ok a ≡ Err e → ⊥
 ok_is_no_err a e p = cc

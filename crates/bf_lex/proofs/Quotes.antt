@@ -1,7 +1,7 @@
 -- Quoted texts.
-use Rattle.std.proofs.Common.{◌≡◌, ◌≢◌, ℕ, zero, suc, ◌+◌, ◌-◌, ◌<◌, ◌≤◌, Bool, true, false, eqb, cond, if◌then◌else◌, List, [], ◌∷◌, ◌++◌, length, take, drop, get_or, flat_map, IsTrue, refl, sym, subst, ap, ◌∙◌, inl, inr, arith, append_assoc, length-append}
+use Rattle.std.proofs.Common.{◌≡◌, ◌≢◌, ℕ, ◌+◌, ◌-◌, ◌<◌, ◌≤◌, true, false, if◌then◌else◌, List, [], ◌∷◌, ◌++◌, length, take, drop, get_or, flat_map, refl, sym, subst, ap, ◌∙◌, inl, inr, arith, append_assoc, length-append}
 use Rattle.std.proofs.lemmas.Bool.{cases_eq, eqb-true, ne_eqb, true≢false}
-use Rattle.std.proofs.lemmas.List.{append-nil, nil_from_length, take_at, drop_at, flat_map_more, length_push}
+use Rattle.std.proofs.lemmas.List.{take_at, drop_at, flat_map_more, length_push}
 use Rattle.bf_lex.specs.Bytes.{quote, is_quote, begins}
 use Rattle.bf_lex.specs.Lexemes.{doubled, quoted}
 use Rattle.bf_lex.specs.Reading.{IsClosed, IsOpen}
@@ -13,9 +13,6 @@ pub record Written (text rest : List ℕ) (count : ℕ) : Type 0 where
   pub split : text ≡ flat_map doubled content ++ rest
   pub counted : count ≡ length content
   pub room : count + length rest ≤ length text
-
-pub nothing_written : (text : List ℕ) → Written text text 0
-nothing_written text = record { content = []; split = refl; counted = refl; room = omega arith }
 
 -- a byte takes one byte or two
 pub length-doubled : (byte : ℕ) → 1 ≤ length (doubled byte)
@@ -56,16 +53,6 @@ closes text rest count w some first ends =
       closed = ap (take (length text - length (drop 1 rest))) split ∙ take_at front (drop 1 rest) (length text - length (drop 1 rest)) size;
       ends = subst (λ (bs : List ℕ). begins is_quote bs ≡ false) (sym (ap (drop (length text - length (drop 1 rest))) split ∙ drop_at front (drop 1 rest) (length text - length (drop 1 rest)) size)) ends;
     }
-
-pub stays_open : (text rest : List ℕ) (count : ℕ) → Written text rest count → length rest ≡ 0 → IsOpen text
-stays_open text rest count w none = record {
-  content = w.content;
-  unclosed = w.split ∙ ap (λ (bs : List ℕ). flat_map doubled w.content ++ bs) (nil_from_length rest none) ∙ append-nil (flat_map doubled w.content);
-}
-
-pub first_quote : (text : List ℕ) → begins is_quote text ≡ true → (0 < length text) × (get_or text 0 0 ≡ 39)
-first_quote [] e = absurd cc
-first_quote (b ∷ bs) e = (omega arith, eqb-true b 39 e)
 
 pub second_quote : (text : List ℕ) → begins is_quote (drop 1 text) ≡ true → (1 < length text) × (get_or text 1 0 ≡ 39)
 second_quote [] e = absurd cc

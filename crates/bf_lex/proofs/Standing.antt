@@ -1,20 +1,17 @@
 -- What stands at the front of a text, as the functions read it.
-use Rattle.std.proofs.Common.{◌≡◌, ℕ, zero, suc, ◌+◌, ◌<◌, ◌≤◌, ◌^◌, Bool, true, false, not, ◌&&◌, cond, List, [], ◌∷◌, ◌++◌, length, take, drop, get_or, flat_map, Option, Some, None, Result, Ok, Err, IsTrue, refl, sym, subst, ap, ◌∙◌, inl, inr, arith, length-append}
-use Rattle.std.specs.List.{list_all, prefix_len}
+use Rattle.std.proofs.Common.{◌≡◌, ℕ, ◌+◌, ◌<◌, ◌≤◌, Bool, true, List, [], ◌∷◌, length, take, drop, Ok, Err, refl, sym, ap, ◌∙◌, inl, arith}
+use Rattle.std.specs.List.{prefix_len}
 use Rattle.std.proofs.Math.Numerals.{add-one, one-add}
 use Rattle.std.proofs.lemmas.Bool.{and_from, eqb-true}
 use Rattle.std.proofs.lemmas.List.{take-append-drop, length-take-le}
 use Rattle.std.proofs.lemmas.List.Sums.{prefix_len-le-length}
-use Rattle.std.proofs.lemmas.List.Folds.{length-prefix_len}
 use Rattle.bf_base.specs.Names.{is_digit}
 use Rattle.bf_lex.specs.declared.fault.ScriptKind.{ScriptKind}
-use Rattle.bf_lex.specs.declared.fault.ScriptKind.TheVariants as kind
 use Rattle.bf_lex.specs.declared.token.TokenKind.{TokenKind}
-use Rattle.bf_lex.specs.declared.token.TokenKind.TheVariants as token
 use Rattle.bf_lex.specs.Bytes.{is_letter, is_word_byte, quote, is_quote, begins}
-use Rattle.bf_lex.specs.Lexemes.{Lexeme, Word, Digits, Quoted, Mark, is_word, is_number, StandsIn, doubled, token_of}
-use Rattle.bf_lex.specs.Lexing.{IsMisfit, IsWrong}
-use Rattle.bf_lex.specs.Reading.{IsTokenAt, IsClosed, number_within}
+use Rattle.bf_lex.specs.Lexemes.{Lexeme, Word, Digits, Quoted, is_word, is_number, StandsIn, token_of}
+use Rattle.bf_lex.specs.Lexing.{IsWrong}
+use Rattle.bf_lex.specs.Reading.{IsTokenAt, IsClosed}
 use Rattle.bf_lex.proofs.Fronts.{passes, stops}
 
 -- a lexeme of so many bytes stands at the front

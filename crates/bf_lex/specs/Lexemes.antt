@@ -1,6 +1,6 @@
 -- LEXEMES: words, runs of digits, quoted texts and signs, whatever their size; and the tokens that they are.
-use Rattle.std.specs.Prelude.{◌≡◌, ℕ, ◌+◌, ◌-◌, ◌*◌, ◌^◌, Bool, true, false, not, ◌&&◌, ◌||◌, ◌==◌, nat_le, if◌then◌else◌, List, [], ◌∷◌, ◌++◌, flat_map, length, Option, Some, None, Result, Ok, Err, IsTrue}
-use Rattle.std.specs.List.{list_all, list_any}
+use Rattle.std.specs.Prelude.{◌≡◌, ℕ, ◌+◌, ◌-◌, ◌*◌, ◌^◌, Bool, false, ◌&&◌, ◌||◌, ◌==◌, nat_le, if◌then◌else◌, List, [], ◌∷◌, ◌++◌, flat_map, length, Option, Some, None, Result, Ok, Err, IsTrue}
+use Rattle.std.specs.List.{list_all}
 use Rattle.bf_base.specs.Lists.{same_name, has}
 use Rattle.bf_base.specs.Names.{is_digit, folded}
 use Rattle.bf_base.specs.Texts.{first_bad_of}

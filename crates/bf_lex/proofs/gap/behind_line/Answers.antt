@@ -1,4 +1,4 @@
-use Rattle.std.proofs.Common.{sym, ◌+◌, length, drop}
+use Rattle.std.proofs.Common.{sym}
 use Rattle.std.proofs.lemmas.List.{take_rest}
 use Rattle.bf_lex.proofs.Fronts.{ends_line, is_open_line}
 use Rattle.bf_lex.proofs.gap.behind_line.Goals as goal

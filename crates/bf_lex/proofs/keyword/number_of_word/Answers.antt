@@ -1,9 +1,8 @@
-use Rattle.std.proofs.Common.{◌≡◌, ℕ, List, Bool, Some, map, Equal, Less, Greater, sym, ◌∙◌, ap, rules}
+use Rattle.std.proofs.Common.{ℕ, List, Bool, map, ◌∙◌, ap, rules}
 use Rattle.std.specs.List.{list_any}
-use Rattle.std.specs.Ordering.{nat_cmp, eq_by_cmp}
 use Rattle.std.specs.FinMap.{nat_cmp-IsAntisymmetric, slice_cmp-IsAntisymmetric}
 use Rattle.std.proofs.lemmas.Fn.{always_returns_same}
-use Rattle.bf_base.specs.Lists.{name_cmp, same_name}
+use Rattle.bf_base.specs.Lists.{name_cmp}
 use Rattle.bf_base.specs.Names.{folded}
 use Rattle.bf_base.proofs.Names.{name_cmp_total, same_name-tie}
 use Rattle.bf_base.proofs.Order.{has-none, searchable_from_rises}

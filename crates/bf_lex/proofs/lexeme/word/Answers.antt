@@ -1,4 +1,4 @@
-use Rattle.std.proofs.Common.{◌≡◌, Ok, Err, nat_le, true, false, refl, arith}
+use Rattle.std.proofs.Common.{◌≡◌, Ok, Err, refl, arith}
 use Rattle.std.proofs.lemmas.Bool.{lt-leb, le-leb}
 use Rattle.bf_lex.specs.declared.fault.ScriptKind.TheVariants as kind
 use Rattle.bf_lex.specs.declared.token.TokenKind.TheVariants as token

@@ -1,4 +1,4 @@
-use Rattle.std.proofs.Common.{arith, sym, ◌∙◌}
+use Rattle.std.proofs.Common.{◌∙◌}
 use Rattle.bf_lex.proofs.Lexings.{front_push}
 use Rattle.bf_lex.proofs.lexer.tokens.Goals as goal
 

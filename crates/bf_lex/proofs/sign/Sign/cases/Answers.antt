@@ -1,5 +1,5 @@
 -- The words of the signs, by their numbers.
-use Rattle.std.proofs.Common.{◌≡◌, ℕ, Some, List, [], ◌∷◌, codes, refl, sym, subst}
+use Rattle.std.proofs.Common.{◌≡◌, Some, List, [], ◌∷◌, codes, refl, sym, subst}
 use Rattle.bf_tables.specs.Cases.{Case, word_at}
 use Rattle.bf_lex.specs.declared.sign.Sign.{Sign}
 use Rattle.bf_lex.specs.declared.sign.Sign.TheVariants as sign
