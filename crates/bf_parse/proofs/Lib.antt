@@ -1,6 +1,7 @@
 mod Additions
 mod Beginnings
 mod Chains
+mod Connections
 mod Contents
 mod Factors
 mod Fitting
@@ -8,6 +9,8 @@ mod Joints
 mod Lists
 mod Literals
 mod Moves
+mod Negations
 mod Numbered
 mod Operands
 mod Places
+mod Tests
