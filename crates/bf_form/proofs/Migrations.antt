@@ -1,7 +1,7 @@
 -- The MIGRATE of a script is what the parser reads.
 use Rattle.std.proofs.Common.{◌≡◌, ℕ, true, List, [], ◌∷◌, ◌++◌, Some, refl, ap, subst, ◌∙◌, append_assoc}
 use Rattle.std.specs.Prelude.{codes}
-use Rattle.bf_sql.specs.declared.statement.Statement.{Statement}
+use Rattle.bf_lazy.specs.declared.statement.Statement.{Statement}
 use Rattle.bf_form.specs.declared.parse.statements.Head.{Head}
 use Rattle.bf_form.specs.declared.token.Sign.TheVariants.{OpeningParenthesis, ClosingParenthesis, Semicolon}
 use Rattle.bf_form.specs.declared.token.Token.{Token}

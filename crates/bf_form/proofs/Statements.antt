@@ -3,10 +3,10 @@ use Rattle.std.proofs.Common.{◌≡◌, ℕ, ◌<◌, Bool, true, false, cond, 
 use Rattle.std.specs.Prelude.{ℤ, codes, ◌&&◌}
 use Rattle.bf_base.specs.declared.value.Value.{Value}
 use Rattle.bf_base.specs.Lists.{same_name}
-use Rattle.bf_sql.specs.declared.statement.List.TheVariants.{All}
-use Rattle.bf_sql.specs.declared.statement.RawCond.{RawCond}
-use Rattle.bf_sql.specs.declared.statement.Statement.{Statement}
-use Rattle.bf_sql.specs.declared.statement.Statement.TheVariants.{CreateTable, Insert, Select, Migrate}
+use Rattle.bf_lazy.specs.declared.statement.List.TheVariants.{All}
+use Rattle.bf_lazy.specs.declared.statement.RawCond.{RawCond}
+use Rattle.bf_lazy.specs.declared.statement.Statement.{Statement}
+use Rattle.bf_lazy.specs.declared.statement.Statement.TheVariants.{CreateTable, Insert, Select, Migrate}
 use Rattle.bf_form.specs.declared.parse.statements.Head.{Head}
 use Rattle.bf_form.specs.declared.token.Sign.TheVariants.{OpeningParenthesis, ClosingParenthesis, Comma, Semicolon, Star, Equals}
 use Rattle.bf_form.specs.declared.token.Token.{Token}

@@ -5,19 +5,19 @@ use Rattle.std.specs.Prelude.{◌≡◌, ℕ, ◌≤◌, ℤ, Bool, true, not, �
 use Rattle.std.specs.List.{list_all, AllByRecursion}
 use Rattle.bf_base.specs.declared.value.Value.TheVariants.{Int}
 use Rattle.bf_base.specs.Lists.{same_name, has}
-use Rattle.bf_sql.specs.declared.statement.ColumnForm.TheVariants as form
-use Rattle.bf_sql.specs.declared.statement.ColumnRule.{ColumnRule}
-use Rattle.bf_sql.specs.declared.statement.List.TheVariants.{All}
-use Rattle.bf_sql.specs.declared.statement.Ref.{Ref as Column}
-use Rattle.bf_sql.specs.declared.statement.Compare.TheVariants.{Equal}
-use Rattle.bf_sql.specs.declared.statement.Operand.TheVariants.{Value, Ref}
-use Rattle.bf_sql.specs.declared.statement.RawCond.{RawCond}
-use Rattle.bf_sql.specs.declared.statement.RawCond.TheVariants.{Compare}
-use Rattle.bf_sql.specs.declared.statement.Item.{Item}
-use Rattle.bf_sql.specs.declared.statement.Item.TheVariants as item
-use Rattle.bf_sql.specs.declared.statement.Statement.{Statement}
-use Rattle.bf_sql.specs.declared.statement.Statement.TheVariants.{CreateTable, Insert, Select, Migrate}
-use Rattle.bf_sql.specs.declared.statement.Script.{Script}
+use Rattle.bf_lazy.specs.declared.statement.ColumnForm.TheVariants as form
+use Rattle.bf_lazy.specs.declared.statement.ColumnRule.{ColumnRule}
+use Rattle.bf_lazy.specs.declared.statement.List.TheVariants.{All}
+use Rattle.bf_lazy.specs.declared.statement.Ref.{Ref as Column}
+use Rattle.bf_lazy.specs.declared.statement.Compare.TheVariants.{Equal}
+use Rattle.bf_lazy.specs.declared.statement.Operand.TheVariants.{Value, Ref}
+use Rattle.bf_lazy.specs.declared.statement.RawCond.{RawCond}
+use Rattle.bf_lazy.specs.declared.statement.RawCond.TheVariants.{Compare}
+use Rattle.bf_lazy.specs.declared.statement.Item.{Item}
+use Rattle.bf_lazy.specs.declared.statement.Item.TheVariants as item
+use Rattle.bf_lazy.specs.declared.statement.Statement.{Statement}
+use Rattle.bf_lazy.specs.declared.statement.Statement.TheVariants.{CreateTable, Insert, Select, Migrate}
+use Rattle.bf_lazy.specs.declared.statement.Script.{Script}
 
 -- a column by its name alone
 abbrev pub plain : List ℕ → Column

@@ -3,10 +3,10 @@ use Rattle.std.specs.Prelude.{◌≡◌, ℕ, zero, suc, ◌<◌, ◌≤◌, ◌
 use Rattle.std.specs.List.{list_any}
 use Rattle.bf_base.specs.declared.value.Value.TheVariants.{Int}
 use Rattle.bf_base.specs.Lists.{same_name}
-use Rattle.bf_sql.specs.declared.statement.List.TheVariants.{All}
-use Rattle.bf_sql.specs.declared.statement.Statement.{Statement}
-use Rattle.bf_sql.specs.declared.statement.Statement.TheVariants.{CreateTable, Insert, Select, Migrate}
-use Rattle.bf_sql.specs.declared.statement.Script.{Script}
+use Rattle.bf_lazy.specs.declared.statement.List.TheVariants.{All}
+use Rattle.bf_lazy.specs.declared.statement.Statement.{Statement}
+use Rattle.bf_lazy.specs.declared.statement.Statement.TheVariants.{CreateTable, Insert, Select, Migrate}
+use Rattle.bf_lazy.specs.declared.statement.Script.{Script}
 use Rattle.bf_form.specs.declared.token.Sign.TheVariants.{OpeningParenthesis, ClosingParenthesis, Comma, Semicolon, Star, Minus, Equals}
 use Rattle.bf_form.specs.declared.token.Token.{Token}
 use Rattle.bf_form.specs.declared.token.Token.TheVariants.{Word, Number, Sign}

@@ -2,11 +2,11 @@
 use Rattle.std.specs.Prelude.{◌≡◌, ℕ, zero, suc, ◌^◌, ℤ, pos, Bool, true, ◌&&◌, List, [], ◌∷◌, ◌++◌, length, Option, Some, None, Result, Ok, Err, if◌then◌else◌, nat_lt, nat_le, codes}
 use Rattle.std.specs.List.{list_all}
 use Rattle.bf_base.specs.Lists.{same_name, has}
-use Rattle.bf_sql.specs.declared.statement.List.TheVariants.{All}
-use Rattle.bf_sql.specs.declared.statement.RawCond.{RawCond}
-use Rattle.bf_sql.specs.declared.statement.Script.{Script}
-use Rattle.bf_sql.specs.declared.statement.Statement.{Statement}
-use Rattle.bf_sql.specs.declared.statement.Statement.TheVariants.{Select}
+use Rattle.bf_lazy.specs.declared.statement.List.TheVariants.{All}
+use Rattle.bf_lazy.specs.declared.statement.RawCond.{RawCond}
+use Rattle.bf_lazy.specs.declared.statement.Script.{Script}
+use Rattle.bf_lazy.specs.declared.statement.Statement.{Statement}
+use Rattle.bf_lazy.specs.declared.statement.Statement.TheVariants.{Select}
 use Rattle.bf_form.specs.declared.token.Sign.{Sign as SignKind}
 use Rattle.bf_form.specs.declared.token.Sign.TheVariants.{OpeningParenthesis, ClosingParenthesis, Comma, Semicolon, Star, Minus, Equals}
 use Rattle.bf_form.specs.declared.token.Token.{Token}

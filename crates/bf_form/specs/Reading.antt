@@ -1,6 +1,6 @@
 -- Reading a text as a script.
 use Rattle.std.specs.Prelude.{ℕ, List, Option, None, Some}
-use Rattle.bf_sql.specs.declared.statement.Script.{Script}
+use Rattle.bf_lazy.specs.declared.statement.Script.{Script}
 use Rattle.bf_form.specs.Grammar.{IsScriptText}
 
 -- the script of a text, or nothing where the text is none

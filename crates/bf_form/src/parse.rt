@@ -1,7 +1,7 @@
 //! From tokens to a script.
 
 ghost use Rattle.std.specs.Prelude.{◌≡◌, ℕ, IfOk, IfSome, List};
-ghost use Rattle.bf_sql.specs.declared.statement.Script.{Script as ScriptValue};
+ghost use Rattle.bf_lazy.specs.declared.statement.Script.{Script as ScriptValue};
 ghost use Rattle.bf_form.specs.declared.parse.ParsingError.TheVariants.{Memory as OutOfMemory};
 ghost use Rattle.bf_form.specs.Form.{IsOfForm};
 ghost use Rattle.bf_form.specs.Grammar.{IsScriptText};
@@ -14,7 +14,7 @@ mod statements;
 
 use crate::lex::{LexingError, tokens};
 use bf_base::Memory;
-use bf_sql::Script;
+use bf_lazy::Script;
 use script::script_of;
 use std::alloc::{AllocFailed, Global};
 use thiserror::Error;

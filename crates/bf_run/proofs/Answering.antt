@@ -9,21 +9,21 @@ use Rattle.std.proofs.lemmas.List.Elements.{filter-append}
 use Rattle.std.proofs.lemmas.List.Folds.{list_any-append}
 use Rattle.bf_base.specs.declared.table.Table.{Table}
 use Rattle.bf_base.specs.Lists.{has}
-use Rattle.bf_sql.specs.declared.statement.Statement.{Statement}
-use Rattle.bf_sql.specs.declared.reply.Reply.{Reply}
-use Rattle.bf_sql.specs.declared.reply.Reply.TheVariants.{Refused}
-use Rattle.bf_sql.specs.declared.reply.Refusal.{Refusal}
-use Rattle.bf_sql.specs.Database.{Database, Stored}
-use Rattle.bf_sql.specs.Laws.{IsLazy, HaveMoved}
-use Rattle.bf_sql.specs.Lazy.{Granule, Migration, LazyState, same_granule, done_of, needed_by, none_if_refused, needed, view_of, after_statement}
-use Rattle.bf_sql.specs.Meaning.{executed, effect, unless_refused}
-use Rattle.bf_sql.specs.Migrations.{item_places}
-use Rattle.bf_sql.specs.Movement.{with_moved, migration_by}
-use Rattle.bf_sql.specs.Refusals.{objections, row_objections}
-use Rattle.bf_sql.proofs.Alike.{same_objections}
-use Rattle.bf_sql.proofs.Beginning.{on_time_itself}
-use Rattle.bf_sql.proofs.Granules.{same_name-itself}
-use Rattle.bf_sql.proofs.Serving.{agrees}
+use Rattle.bf_lazy.specs.declared.statement.Statement.{Statement}
+use Rattle.bf_lazy.specs.declared.reply.Reply.{Reply}
+use Rattle.bf_lazy.specs.declared.reply.Reply.TheVariants.{Refused}
+use Rattle.bf_lazy.specs.declared.reply.Refusal.{Refusal}
+use Rattle.bf_lazy.specs.Database.{Database, Stored}
+use Rattle.bf_lazy.specs.Laws.{IsLazy, HaveMoved}
+use Rattle.bf_lazy.specs.Lazy.{Granule, Migration, LazyState, same_granule, done_of, needed_by, none_if_refused, needed, view_of, after_statement}
+use Rattle.bf_lazy.specs.Meaning.{executed, effect, unless_refused}
+use Rattle.bf_lazy.specs.Migrations.{item_places}
+use Rattle.bf_lazy.specs.Movement.{with_moved, migration_by}
+use Rattle.bf_lazy.specs.Refusals.{objections, row_objections}
+use Rattle.bf_lazy.proofs.Alike.{same_objections}
+use Rattle.bf_lazy.proofs.Beginning.{on_time_itself}
+use Rattle.bf_lazy.proofs.Granules.{same_name-itself}
+use Rattle.bf_lazy.proofs.Serving.{agrees}
 use Rattle.bf_run.specs.Engine.{Aside, IsAnswered, IsServed, IsTiedIfAny, RunsTo, StaysSeen, arm_between, migration_between, one_table, only_target, state_of}
 
 -- how many schema changes there were

@@ -8,15 +8,15 @@ use Rattle.bf_base.specs.declared.table.Column.{Column}
 use Rattle.bf_base.specs.declared.table.Table.{Table}
 use Rattle.bf_base.specs.Lists.{same_name, has, when, with_before_from}
 use Rattle.bf_base.proofs.Parts.{map_itself}
-use Rattle.bf_sql.specs.declared.statement.ColumnRule.{ColumnRule}
-use Rattle.bf_sql.specs.declared.statement.Statement.{Statement}
-use Rattle.bf_sql.specs.declared.statement.Statement.TheVariants.{CreateTable}
-use Rattle.bf_sql.specs.declared.reply.Refusal.TheVariants as refusal
-use Rattle.bf_sql.specs.declared.reply.Reply.TheVariants as reply
-use Rattle.bf_sql.specs.Database.{empty_database, IsDatabase}
-use Rattle.bf_sql.specs.Meaning.{executed, effect, unless_refused, admit_of, table_of, place_of}
-use Rattle.bf_sql.specs.Refusals.{objections, row_objections, rule_names, names_objections, twice}
-use Rattle.bf_sql.proofs.Kept.{keeps_executed}
+use Rattle.bf_lazy.specs.declared.statement.ColumnRule.{ColumnRule}
+use Rattle.bf_lazy.specs.declared.statement.Statement.{Statement}
+use Rattle.bf_lazy.specs.declared.statement.Statement.TheVariants.{CreateTable}
+use Rattle.bf_lazy.specs.declared.reply.Refusal.TheVariants as refusal
+use Rattle.bf_lazy.specs.declared.reply.Reply.TheVariants as reply
+use Rattle.bf_lazy.specs.Database.{empty_database, IsDatabase}
+use Rattle.bf_lazy.specs.Meaning.{executed, effect, unless_refused, admit_of, table_of, place_of}
+use Rattle.bf_lazy.specs.Refusals.{objections, row_objections, rule_names, names_objections, twice}
+use Rattle.bf_lazy.proofs.Kept.{keeps_executed}
 use Rattle.bf_form.specs.Form.{int_column, creation}
 use Rattle.bf_run.specs.Engine.{one_table, IsServed, IsCreation, empty}
 use Rattle.bf_run.proofs.Named.{none_twice, position-map}

@@ -9,25 +9,25 @@ use Rattle.bf_base.specs.declared.table.Admit.TheVariants as admits
 use Rattle.bf_base.specs.declared.table.Column.{Column}
 use Rattle.bf_base.specs.declared.table.Table.{Table}
 use Rattle.bf_base.specs.Lists.{same_name, name_cmp, when, with_placed}
-use Rattle.bf_sql.specs.declared.statement.Item.{Item}
-use Rattle.bf_sql.specs.declared.statement.Target.{Target}
-use Rattle.bf_sql.specs.declared.statement.Migrate.{Migrate as Flip}
-use Rattle.bf_sql.specs.declared.statement.Statement.TheVariants.{Migrate}
-use Rattle.bf_sql.specs.declared.reply.Refusal.TheVariants as refusal
-use Rattle.bf_sql.specs.declared.reply.Reply.TheVariants as reply
-use Rattle.bf_sql.specs.Conditions.{place_of_ref, admitted_by}
-use Rattle.bf_sql.specs.Database.{Database, Stored}
-use Rattle.bf_sql.specs.Lazy.{LazyState, view_of, flipped_lazily, begun, unless_objected}
-use Rattle.bf_sql.specs.Laws.{IsLazy, IsSeenAs}
-use Rattle.bf_sql.specs.Meaning.{executed, effect, unless_refused}
-use Rattle.bf_sql.specs.Movement.{migration_by}
-use Rattle.bf_sql.specs.Refusals.{objections, row_objections}
+use Rattle.bf_lazy.specs.declared.statement.Item.{Item}
+use Rattle.bf_lazy.specs.declared.statement.Target.{Target}
+use Rattle.bf_lazy.specs.declared.statement.Migrate.{Migrate as Flip}
+use Rattle.bf_lazy.specs.declared.statement.Statement.TheVariants.{Migrate}
+use Rattle.bf_lazy.specs.declared.reply.Refusal.TheVariants as refusal
+use Rattle.bf_lazy.specs.declared.reply.Reply.TheVariants as reply
+use Rattle.bf_lazy.specs.Conditions.{place_of_ref, admitted_by}
+use Rattle.bf_lazy.specs.Database.{Database, Stored}
+use Rattle.bf_lazy.specs.Lazy.{LazyState, view_of, flipped_lazily, begun, unless_objected}
+use Rattle.bf_lazy.specs.Laws.{IsLazy, IsSeenAs}
+use Rattle.bf_lazy.specs.Meaning.{executed, effect, unless_refused}
+use Rattle.bf_lazy.specs.Movement.{migration_by}
+use Rattle.bf_lazy.specs.Refusals.{objections, row_objections}
 use Rattle.bf_base.specs.declared.value.Value.{Value}
-use Rattle.bf_sql.specs.Migrations.{replaced, source_at, item_ref, item_places, key_items, target_table, target_objections, migrate_objections, most_rows, flipped}
-use Rattle.bf_sql.proofs.Beginning.{flips_as_the_flip, view_itself, on_time_itself}
-use Rattle.bf_sql.proofs.Granules.{same_name-equal, same_name-itself}
-use Rattle.bf_sql.proofs.Images.{source_there, target_key_within}
-use Rattle.bf_sql.proofs.Unobjected.{none_left, none_right, none_when}
+use Rattle.bf_lazy.specs.Migrations.{replaced, source_at, item_ref, item_places, key_items, target_table, target_objections, migrate_objections, most_rows, flipped}
+use Rattle.bf_lazy.proofs.Beginning.{flips_as_the_flip, view_itself, on_time_itself}
+use Rattle.bf_lazy.proofs.Granules.{same_name-equal, same_name-itself}
+use Rattle.bf_lazy.proofs.Images.{source_there, target_key_within}
+use Rattle.bf_lazy.proofs.Unobjected.{none_left, none_right, none_when}
 use Rattle.bf_form.specs.Form.{plain, kept}
 use Rattle.bf_run.specs.Engine.{one_table, IsServed, columns_by, ArePlain, place_of_key, empty, key_column_of, Aside, only_arm, only_target, state_of, IsTied, IsTiedIfAny, IsAnswered, IsFirstTarget, IsFlipped, IsFirstMigration}
 use Rattle.bf_run.proofs.Named.{names_of_items}

@@ -13,15 +13,15 @@ use Rattle.bf_base.specs.Values.{key_cmp, key_cmp_total}
 use Rattle.bf_base.specs.Lists.{placed, when}
 use Rattle.bf_base.specs.Tables.{key_of, kind_of, kind_admitted, same_kind, fit_of}
 use Rattle.bf_base.proofs.Order.{rises-placed, list_all-placed}
-use Rattle.bf_sql.specs.declared.statement.Statement.{Statement}
-use Rattle.bf_sql.specs.declared.statement.Statement.TheVariants.{Insert}
-use Rattle.bf_sql.specs.declared.reply.Reply.TheVariants.{Inserted, Refused}
-use Rattle.bf_sql.specs.declared.reply.Refusal.{Refusal}
-use Rattle.bf_sql.specs.declared.reply.Refusal.TheVariants.{TypeMismatch, WrongCount, DuplicateKey}
-use Rattle.bf_sql.specs.Database.{Stored, is_fit, is_admitted}
-use Rattle.bf_sql.specs.Refusals.{tuple_objections, unfit, unfit_values, objections, row_objections}
-use Rattle.bf_sql.specs.Meaning.{effect, executed, unless_refused}
-use Rattle.bf_sql.proofs.Granules.{same_name-itself}
+use Rattle.bf_lazy.specs.declared.statement.Statement.{Statement}
+use Rattle.bf_lazy.specs.declared.statement.Statement.TheVariants.{Insert}
+use Rattle.bf_lazy.specs.declared.reply.Reply.TheVariants.{Inserted, Refused}
+use Rattle.bf_lazy.specs.declared.reply.Refusal.{Refusal}
+use Rattle.bf_lazy.specs.declared.reply.Refusal.TheVariants.{TypeMismatch, WrongCount, DuplicateKey}
+use Rattle.bf_lazy.specs.Database.{Stored, is_fit, is_admitted}
+use Rattle.bf_lazy.specs.Refusals.{tuple_objections, unfit, unfit_values, objections, row_objections}
+use Rattle.bf_lazy.specs.Meaning.{effect, executed, unless_refused}
+use Rattle.bf_lazy.proofs.Granules.{same_name-itself}
 use Rattle.bf_run.specs.Engine.{AreNumbers, IsServed, IsPlaceFor, RunsTo, has_key_of, one_table, with_row}
 use Rattle.bf_run.proofs.Placing.{map-insert}
 

@@ -7,13 +7,13 @@ use Rattle.std.proofs.lemmas.Bool.Decides.{nat_tests}
 use Rattle.std.proofs.lemmas.List.{append-nil}
 use Rattle.std.proofs.lemmas.List.Folds.{list_all-append}
 use Rattle.bf_base.specs.Lists.{part, with_before_from}
-use Rattle.bf_sql.specs.declared.statement.Statement.{Statement}
-use Rattle.bf_sql.specs.declared.reply.Reply.{Reply}
-use Rattle.bf_sql.specs.declared.history.Entry.{Entry}
-use Rattle.bf_sql.specs.Database.{Database, empty_database}
-use Rattle.bf_sql.specs.Meaning.{executed}
-use Rattle.bf_sql.specs.History.{groups_from, statements_of, outcomes_from, replayed, told, has_statement, is_whole_group, may_precede}
-use Rattle.bf_sql.specs.Movement.{migration_after, sweep_of}
+use Rattle.bf_lazy.specs.declared.statement.Statement.{Statement}
+use Rattle.bf_lazy.specs.declared.reply.Reply.{Reply}
+use Rattle.bf_lazy.specs.declared.history.Entry.{Entry}
+use Rattle.bf_lazy.specs.Database.{Database, empty_database}
+use Rattle.bf_lazy.specs.Meaning.{executed}
+use Rattle.bf_lazy.specs.History.{groups_from, statements_of, outcomes_from, replayed, told, has_statement, is_whole_group, may_precede}
+use Rattle.bf_lazy.specs.Movement.{migration_after, sweep_of}
 use Rattle.bf_form.specs.Form.{one_session}
 use Rattle.bf_run.specs.Serving.{replies_to, entry_at, entries_from}
 use Rattle.bf_run.specs.Run.{IsRun}

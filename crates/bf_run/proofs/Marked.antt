@@ -10,9 +10,9 @@ use Rattle.std.proofs.lemmas.List.Sums.{count_by-le-length, length-filter}
 use Rattle.std.proofs.lemmas.List.FromFn.{get_or-map-range_with_len}
 use Rattle.std.proofs.lemmas.Iterator.Adapters.{position_from-zero}
 use Rattle.bf_base.specs.Lists.{has}
-use Rattle.bf_sql.specs.Migrations.{most_rows}
-use Rattle.bf_sql.specs.declared.history.Sweep.{Sweep}
-use Rattle.bf_sql.specs.declared.history.Sweep.TheVariants.{Complete, Running}
+use Rattle.bf_lazy.specs.Migrations.{most_rows}
+use Rattle.bf_lazy.specs.declared.history.Sweep.{Sweep}
+use Rattle.bf_lazy.specs.declared.history.Sweep.TheVariants.{Complete, Running}
 use Rattle.bf_run.specs.Engine.{sweep_from, sweep_by_marks}
 use Rattle.bf_run.specs.Marks.{AreMarks}
 

@@ -10,11 +10,11 @@ use Rattle.bf_base.specs.declared.table.Column.{Column}
 use Rattle.bf_base.specs.declared.table.Table.{Table}
 use Rattle.bf_base.specs.Lists.{same_name, has, when, with_before, with_before_from}
 use Rattle.bf_base.proofs.Parts.{list_all_always, map_itself}
-use Rattle.bf_sql.specs.Conditions.{place_of_ref}
-use Rattle.bf_sql.specs.Migrations.{item_ref}
-use Rattle.bf_sql.specs.declared.reply.Refusal.TheVariants as refusal
-use Rattle.bf_sql.specs.Refusals.{twice}
-use Rattle.bf_sql.proofs.Granules.{same_name-symmetric}
+use Rattle.bf_lazy.specs.Conditions.{place_of_ref}
+use Rattle.bf_lazy.specs.Migrations.{item_ref}
+use Rattle.bf_lazy.specs.declared.reply.Refusal.TheVariants as refusal
+use Rattle.bf_lazy.specs.Refusals.{twice}
+use Rattle.bf_lazy.proofs.Granules.{same_name-symmetric}
 use Rattle.bf_form.specs.Form.{plain, kept, are_distinct}
 use Rattle.bf_run.specs.Engine.{column_named}
 

@@ -15,23 +15,23 @@ use Rattle.bf_base.specs.declared.table.Table.{Table}
 use Rattle.bf_base.specs.Lists.{same_name, same_key, has, when}
 use Rattle.bf_base.specs.Tables.{cell, cells, key_of, kind_of, kind_admitted, same_kind}
 use Rattle.bf_base.proofs.Parts.{filter_always}
-use Rattle.bf_sql.specs.declared.statement.List.TheVariants.{All}
-use Rattle.bf_sql.specs.declared.statement.RawCond.{RawCond}
-use Rattle.bf_sql.specs.declared.statement.Statement.{Statement}
-use Rattle.bf_sql.specs.declared.statement.Statement.TheVariants.{Insert, Select}
-use Rattle.bf_sql.specs.declared.reply.Reply.{Reply}
-use Rattle.bf_sql.specs.declared.reply.Reply.TheVariants as reply
-use Rattle.bf_sql.specs.declared.reply.Refusal.{Refusal}
-use Rattle.bf_sql.specs.declared.reply.Refusal.TheVariants as refusal
-use Rattle.bf_sql.specs.Conditions.{satisfies, place_of_ref, places_of, ref_objections, cond_objections}
-use Rattle.bf_sql.specs.Database.{Stored}
-use Rattle.bf_sql.specs.Lazy.{Granule, part_of, giving, needed, needed_by, none_if_refused, on_target, view_of}
-use Rattle.bf_sql.specs.Meaning.{selected}
-use Rattle.bf_sql.specs.Migrations.{target_table}
-use Rattle.bf_sql.specs.Movement.{with_moved}
-use Rattle.bf_sql.specs.Refusals.{objections}
-use Rattle.bf_sql.proofs.Alike.{same_objections}
-use Rattle.bf_sql.proofs.Granules.{same_name-itself, same_name-equal}
+use Rattle.bf_lazy.specs.declared.statement.List.TheVariants.{All}
+use Rattle.bf_lazy.specs.declared.statement.RawCond.{RawCond}
+use Rattle.bf_lazy.specs.declared.statement.Statement.{Statement}
+use Rattle.bf_lazy.specs.declared.statement.Statement.TheVariants.{Insert, Select}
+use Rattle.bf_lazy.specs.declared.reply.Reply.{Reply}
+use Rattle.bf_lazy.specs.declared.reply.Reply.TheVariants as reply
+use Rattle.bf_lazy.specs.declared.reply.Refusal.{Refusal}
+use Rattle.bf_lazy.specs.declared.reply.Refusal.TheVariants as refusal
+use Rattle.bf_lazy.specs.Conditions.{satisfies, place_of_ref, places_of, ref_objections, cond_objections}
+use Rattle.bf_lazy.specs.Database.{Stored}
+use Rattle.bf_lazy.specs.Lazy.{Granule, part_of, giving, needed, needed_by, none_if_refused, on_target, view_of}
+use Rattle.bf_lazy.specs.Meaning.{selected}
+use Rattle.bf_lazy.specs.Migrations.{target_table}
+use Rattle.bf_lazy.specs.Movement.{with_moved}
+use Rattle.bf_lazy.specs.Refusals.{objections}
+use Rattle.bf_lazy.proofs.Alike.{same_objections}
+use Rattle.bf_lazy.proofs.Granules.{same_name-itself, same_name-equal}
 use Rattle.bf_form.specs.Form.{plain}
 use Rattle.bf_run.specs.Engine.{Aside, AreNumbers, IsAnswered, IsInt, IsServed, IsTied, IsTiedIfAny, RunsTo, StaysSeen, column_named, comparison, granule_at, granules_where, has_value, images_of, key_column_of, one_table, row_at, state_of}
 use Rattle.bf_run.proofs.Answering.{IsOrdinary, answered, changes_of, live_of, refused, served_if}

@@ -14,7 +14,7 @@ use Rattle.bf_base.specs.Values.{value_cmp, key_cmp, value_cmp_total, key_cmp_to
 use Rattle.bf_base.specs.Lists.{same_key, has, placed, rises}
 use Rattle.bf_base.specs.Tables.{cell, key_of}
 use Rattle.bf_base.proofs.Order.{placed-insert, has-none, has-at, searchable_from_rises, less_from_rises, turned_less}
-use Rattle.bf_sql.specs.Database.{Stored}
+use Rattle.bf_lazy.specs.Database.{Stored}
 use Rattle.bf_run.specs.Engine.{has_key_of, has_value, key_column_of, places_where, IsServed, IsPlaceFor}
 use Rattle.bf_run.proofs.Places.{no_place, only_place}
 

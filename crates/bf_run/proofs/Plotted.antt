@@ -10,25 +10,25 @@ use Rattle.bf_base.specs.declared.table.Table.{Table}
 use Rattle.bf_base.specs.Values.{key_cmp}
 use Rattle.bf_base.specs.Lists.{same_name, has, when, with_before, with_placed}
 use Rattle.bf_base.specs.Tables.{key_of}
-use Rattle.bf_sql.specs.declared.statement.RawCond.{RawCond}
-use Rattle.bf_sql.specs.declared.statement.ColumnRule.{ColumnRule}
-use Rattle.bf_sql.specs.declared.statement.Ref.{Ref}
-use Rattle.bf_sql.specs.declared.statement.Migrate.{Migrate as Flip}
-use Rattle.bf_sql.specs.declared.statement.List.TheVariants.{All}
-use Rattle.bf_sql.specs.declared.statement.Statement.{Statement}
-use Rattle.bf_sql.specs.declared.statement.Statement.TheVariants.{CreateTable, Insert, Select, Migrate}
-use Rattle.bf_sql.specs.declared.reply.Refusal.{Refusal}
-use Rattle.bf_sql.specs.declared.reply.Refusal.TheVariants as refusal
-use Rattle.bf_sql.specs.declared.reply.Reply.TheVariants as reply
-use Rattle.bf_sql.specs.Database.{Database, stored_at, empty_database}
-use Rattle.bf_sql.specs.Conditions.{place_of_ref, ref_objections, satisfies}
-use Rattle.bf_sql.specs.Migrations.{item_ref, is_taken, target_objections, migrate_objections}
-use Rattle.bf_sql.specs.Meaning.{executed, effect, unless_refused, on_table, selected, table_of, place_of, admit_of}
-use Rattle.bf_sql.specs.Refusals.{objections, row_objections, rule_names}
-use Rattle.bf_sql.specs.Lazy.{Migration, LazyState, view_of}
-use Rattle.bf_sql.specs.Movement.{migration_by}
-use Rattle.bf_sql.proofs.Granules.{same_name-equal, same_name-itself, same_name-symmetric}
-use Rattle.bf_sql.proofs.Keys.{placed_within}
+use Rattle.bf_lazy.specs.declared.statement.RawCond.{RawCond}
+use Rattle.bf_lazy.specs.declared.statement.ColumnRule.{ColumnRule}
+use Rattle.bf_lazy.specs.declared.statement.Ref.{Ref}
+use Rattle.bf_lazy.specs.declared.statement.Migrate.{Migrate as Flip}
+use Rattle.bf_lazy.specs.declared.statement.List.TheVariants.{All}
+use Rattle.bf_lazy.specs.declared.statement.Statement.{Statement}
+use Rattle.bf_lazy.specs.declared.statement.Statement.TheVariants.{CreateTable, Insert, Select, Migrate}
+use Rattle.bf_lazy.specs.declared.reply.Refusal.{Refusal}
+use Rattle.bf_lazy.specs.declared.reply.Refusal.TheVariants as refusal
+use Rattle.bf_lazy.specs.declared.reply.Reply.TheVariants as reply
+use Rattle.bf_lazy.specs.Database.{Database, stored_at, empty_database}
+use Rattle.bf_lazy.specs.Conditions.{place_of_ref, ref_objections, satisfies}
+use Rattle.bf_lazy.specs.Migrations.{item_ref, is_taken, target_objections, migrate_objections}
+use Rattle.bf_lazy.specs.Meaning.{executed, effect, unless_refused, on_table, selected, table_of, place_of, admit_of}
+use Rattle.bf_lazy.specs.Refusals.{objections, row_objections, rule_names}
+use Rattle.bf_lazy.specs.Lazy.{Migration, LazyState, view_of}
+use Rattle.bf_lazy.specs.Movement.{migration_by}
+use Rattle.bf_lazy.proofs.Granules.{same_name-equal, same_name-itself, same_name-symmetric}
+use Rattle.bf_lazy.proofs.Keys.{placed_within}
 use Rattle.bf_form.specs.Form.{Plot, int_column, creation, plain, kept, most_parts, AreItems, Migrated, IsPlain, MigratesPlainly, migrated_statements}
 use Rattle.bf_run.specs.Engine.{one_table, only_target, MayRun}
 use Rattle.bf_run.proofs.Named.{names_of_items, none_twice, place_named, position-map}

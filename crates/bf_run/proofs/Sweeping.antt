@@ -4,11 +4,11 @@ use Rattle.std.specs.List.{range_with_len}
 use Rattle.std.proofs.lemmas.Iterator.Adapters.{position_from-zero}
 use Rattle.std.proofs.lemmas.List.{length-map}
 use Rattle.bf_base.specs.Lists.{same_name, has}
-use Rattle.bf_sql.specs.declared.history.Sweep.TheVariants.{Complete, Running}
-use Rattle.bf_sql.specs.Database.{Stored}
-use Rattle.bf_sql.specs.Lazy.{same_granule, pending}
-use Rattle.bf_sql.specs.Movement.{sweep_by, sweep_of, unit_of}
-use Rattle.bf_sql.proofs.Granules.{same_name-itself}
+use Rattle.bf_lazy.specs.declared.history.Sweep.TheVariants.{Complete, Running}
+use Rattle.bf_lazy.specs.Database.{Stored}
+use Rattle.bf_lazy.specs.Lazy.{same_granule, pending}
+use Rattle.bf_lazy.specs.Movement.{sweep_by, sweep_of, unit_of}
+use Rattle.bf_lazy.proofs.Granules.{same_name-itself}
 use Rattle.bf_run.specs.Engine.{Aside, IsTied, granule_at, marked_of, migration_between, sweep_by_marks, sweep_from}
 use Rattle.bf_run.proofs.Tied.{granules_are, waiting}
 

@@ -13,19 +13,19 @@ use Rattle.bf_base.specs.Values.{value_cmp, key_cmp, key_cmp_total}
 use Rattle.bf_base.proofs.Items.{list_any-same_items, list_all-same_items}
 use Rattle.bf_base.proofs.Order.{symmetric, list_any-map}
 use Rattle.bf_base.proofs.Parts.{none_from_all_not, has_either_way, filter_always}
-use Rattle.bf_sql.specs.declared.statement.Target.{Target}
-use Rattle.bf_sql.specs.Database.{Database, Stored, stored_at, is_admitted}
-use Rattle.bf_sql.specs.Laws.{IsUnderWay, IsLazy}
-use Rattle.bf_sql.specs.Lazy.{Granule, Migration, LazyState, same_granule, granules_of, part_of, pending, rows_of, due, target_of, on_target, view_of, moved}
+use Rattle.bf_lazy.specs.declared.statement.Target.{Target}
+use Rattle.bf_lazy.specs.Database.{Database, Stored, stored_at, is_admitted}
+use Rattle.bf_lazy.specs.Laws.{IsUnderWay, IsLazy}
+use Rattle.bf_lazy.specs.Lazy.{Granule, Migration, LazyState, same_granule, granules_of, part_of, pending, rows_of, due, target_of, on_target, view_of, moved}
 use Rattle.bf_base.specs.declared.table.Table.{Table}
-use Rattle.bf_sql.specs.Conditions.{place_of_ref, admitted_by}
-use Rattle.bf_sql.specs.Migrations.{source_at, no_table, target_table, target_objections, item_ref, arm_rows}
-use Rattle.bf_sql.specs.Movement.{with_moved}
-use Rattle.bf_sql.proofs.Due.{made_by, due_admitted, due_parts}
-use Rattle.bf_sql.proofs.Granules.{same_name-itself}
-use Rattle.bf_sql.proofs.Images.{counted_if, items_within}
-use Rattle.bf_sql.proofs.Moving.{keeps_view}
-use Rattle.bf_sql.proofs.Unobjected.{none_left}
+use Rattle.bf_lazy.specs.Conditions.{place_of_ref, admitted_by}
+use Rattle.bf_lazy.specs.Migrations.{source_at, no_table, target_table, target_objections, item_ref, arm_rows}
+use Rattle.bf_lazy.specs.Movement.{with_moved}
+use Rattle.bf_lazy.proofs.Due.{made_by, due_admitted, due_parts}
+use Rattle.bf_lazy.proofs.Granules.{same_name-itself}
+use Rattle.bf_lazy.proofs.Images.{counted_if, items_within}
+use Rattle.bf_lazy.proofs.Moving.{keeps_view}
+use Rattle.bf_lazy.proofs.Unobjected.{none_left}
 use Rattle.bf_run.specs.Engine.{Aside, IsTied, IsSeenStill, arm_between, granule_at, StaysSeen, has_key_of, has_value, images_of, migration_between, one_table, only_target, places_where, row_at, state_of, with_moves, with_row}
 use Rattle.bf_run.proofs.Inserting.{with_row_served}
 use Rattle.bf_run.proofs.Places.{filter_places}

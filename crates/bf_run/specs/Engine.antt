@@ -10,26 +10,26 @@ use Rattle.bf_base.specs.declared.table.Table.{Table}
 use Rattle.bf_base.specs.Values.{value_cmp, key_cmp}
 use Rattle.bf_base.specs.Lists.{same_name, same_key, has, placed}
 use Rattle.bf_base.specs.Tables.{cell, cells, key_of}
-use Rattle.bf_sql.specs.declared.statement.Statement.{Statement}
-use Rattle.bf_sql.specs.declared.statement.Statement.TheVariants.{Migrate}
-use Rattle.bf_sql.specs.declared.statement.Compare.TheVariants.{Equal}
-use Rattle.bf_sql.specs.declared.statement.Operand.TheVariants as operand
-use Rattle.bf_sql.specs.declared.statement.RawCond.{RawCond}
-use Rattle.bf_sql.specs.declared.statement.RawCond.TheVariants.{Compare}
-use Rattle.bf_sql.specs.declared.statement.Item.{Item}
-use Rattle.bf_sql.specs.declared.statement.Arm.{Arm}
-use Rattle.bf_sql.specs.declared.statement.Target.{Target}
-use Rattle.bf_sql.specs.declared.statement.Migrate.{Migrate as Flip}
-use Rattle.bf_sql.specs.declared.reply.Reply.{Reply}
-use Rattle.bf_sql.specs.declared.history.Sweep.{Sweep}
-use Rattle.bf_sql.specs.declared.history.Sweep.TheVariants.{Complete, Running}
-use Rattle.bf_sql.specs.Database.{Database, Stored, IsDatabase}
-use Rattle.bf_sql.specs.Meaning.{executed}
-use Rattle.bf_sql.specs.Conditions.{admitted_by}
-use Rattle.bf_sql.specs.Migrations.{target_objections, migrate_objections, target_table, item_ref, item_places}
-use Rattle.bf_sql.specs.Lazy.{Granule, Migration, LazyState, view_of}
-use Rattle.bf_sql.specs.Laws.{IsLazy}
-use Rattle.bf_sql.specs.Movement.{migration_by}
+use Rattle.bf_lazy.specs.declared.statement.Statement.{Statement}
+use Rattle.bf_lazy.specs.declared.statement.Statement.TheVariants.{Migrate}
+use Rattle.bf_lazy.specs.declared.statement.Compare.TheVariants.{Equal}
+use Rattle.bf_lazy.specs.declared.statement.Operand.TheVariants as operand
+use Rattle.bf_lazy.specs.declared.statement.RawCond.{RawCond}
+use Rattle.bf_lazy.specs.declared.statement.RawCond.TheVariants.{Compare}
+use Rattle.bf_lazy.specs.declared.statement.Item.{Item}
+use Rattle.bf_lazy.specs.declared.statement.Arm.{Arm}
+use Rattle.bf_lazy.specs.declared.statement.Target.{Target}
+use Rattle.bf_lazy.specs.declared.statement.Migrate.{Migrate as Flip}
+use Rattle.bf_lazy.specs.declared.reply.Reply.{Reply}
+use Rattle.bf_lazy.specs.declared.history.Sweep.{Sweep}
+use Rattle.bf_lazy.specs.declared.history.Sweep.TheVariants.{Complete, Running}
+use Rattle.bf_lazy.specs.Database.{Database, Stored, IsDatabase}
+use Rattle.bf_lazy.specs.Meaning.{executed}
+use Rattle.bf_lazy.specs.Conditions.{admitted_by}
+use Rattle.bf_lazy.specs.Migrations.{target_objections, migrate_objections, target_table, item_ref, item_places}
+use Rattle.bf_lazy.specs.Lazy.{Granule, Migration, LazyState, view_of}
+use Rattle.bf_lazy.specs.Laws.{IsLazy}
+use Rattle.bf_lazy.specs.Movement.{migration_by}
 use Rattle.bf_form.specs.Form.{creation, kept, plain, most_parts, AreColumns, IsPlain}
 
 -- the database of one table, after so many schema changes

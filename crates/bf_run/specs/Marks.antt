@@ -2,7 +2,7 @@
 use Rattle.std.specs.Prelude.{◌≡◌, ℕ, ◌≤◌, Bool, List, map, filter, length, nat_eq}
 use Rattle.std.specs.List.{range_with_len}
 use Rattle.bf_base.specs.Lists.{has}
-use Rattle.bf_sql.specs.Migrations.{most_rows}
+use Rattle.bf_lazy.specs.Migrations.{most_rows}
 
 -- for each row whether it is among those that have moved, each once, with room for all
 pub record AreMarks (is_done : List Bool) (moved : List ℕ) (room : ℕ) : Type 0 where

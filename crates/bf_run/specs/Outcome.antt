@@ -5,10 +5,10 @@ use lib.Pointwise.{pointwise}
 use Rattle.bf_io.specs.Causes.{Rose}
 use Rattle.bf_io.specs.Whole.{TookPrefix}
 use Rattle.bf_base.specs.Lists.{same_name}
-use Rattle.bf_sql.specs.declared.statement.Script.{Script}
-use Rattle.bf_sql.specs.declared.reply.Reply.{Reply}
-use Rattle.bf_sql.specs.declared.history.Entry.{Entry}
-use Rattle.bf_sql.specs.declared.history.Sweep.{Sweep}
+use Rattle.bf_lazy.specs.declared.statement.Script.{Script}
+use Rattle.bf_lazy.specs.declared.reply.Reply.{Reply}
+use Rattle.bf_lazy.specs.declared.history.Entry.{Entry}
+use Rattle.bf_lazy.specs.declared.history.Sweep.{Sweep}
 use Rattle.bf_run.specs.declared.status.Status.{Status}
 use Rattle.bf_run.specs.declared.status.Status.TheVariants.{Done, Usage, ReadFault, WriteFault, Memory, NotBuilt}
 use Rattle.bf_form.specs.Grammar.{IsScriptText}

@@ -1,12 +1,12 @@
 -- A run of a script on one thread, from the empty database.
 use Rattle.std.specs.Prelude.{◌≡◌, List, flat_map, None}
-use Rattle.bf_sql.specs.declared.statement.Script.{Script}
-use Rattle.bf_sql.specs.declared.reply.Reply.{Reply}
-use Rattle.bf_sql.specs.declared.history.Entry.{Entry}
-use Rattle.bf_sql.specs.declared.history.Sweep.{Sweep}
-use Rattle.bf_sql.specs.Database.{empty_database}
-use Rattle.bf_sql.specs.History.{IsLegalHistory, IsAllAnswered, statements_of}
-use Rattle.bf_sql.specs.Movement.{migration_after, sweep_of}
+use Rattle.bf_lazy.specs.declared.statement.Script.{Script}
+use Rattle.bf_lazy.specs.declared.reply.Reply.{Reply}
+use Rattle.bf_lazy.specs.declared.history.Entry.{Entry}
+use Rattle.bf_lazy.specs.declared.history.Sweep.{Sweep}
+use Rattle.bf_lazy.specs.Database.{empty_database}
+use Rattle.bf_lazy.specs.History.{IsLegalHistory, IsAllAnswered, statements_of}
+use Rattle.bf_lazy.specs.Movement.{migration_after, sweep_of}
 
 -- its transcripts and its history are legal, every statement has its reply, and exactly the granules that the
 -- statements needed have moved

@@ -1,12 +1,12 @@
 -- A session whose statements run in turn, each as a transaction of its own: its replies and its entries.
 use Rattle.std.specs.Prelude.{◌≡◌, ℕ, ◌+◌, List, [], ◌∷◌}
 use Rattle.std.specs.List.{AllByRecursion}
-use Rattle.bf_sql.specs.declared.statement.Statement.{Statement}
-use Rattle.bf_sql.specs.declared.reply.Reply.{Reply}
-use Rattle.bf_sql.specs.declared.history.Outcome.TheVariants.{Committed}
-use Rattle.bf_sql.specs.declared.history.Entry.{Entry}
-use Rattle.bf_sql.specs.Database.{Database}
-use Rattle.bf_sql.specs.Meaning.{executed}
+use Rattle.bf_lazy.specs.declared.statement.Statement.{Statement}
+use Rattle.bf_lazy.specs.declared.reply.Reply.{Reply}
+use Rattle.bf_lazy.specs.declared.history.Outcome.TheVariants.{Committed}
+use Rattle.bf_lazy.specs.declared.history.Entry.{Entry}
+use Rattle.bf_lazy.specs.Database.{Database}
+use Rattle.bf_lazy.specs.Meaning.{executed}
 use Rattle.bf_form.specs.Form.{Plot, AreColumns, MigratesPlainly, IsPlain, statements_of}
 
 -- the replies to statements, each run on what the one before it left

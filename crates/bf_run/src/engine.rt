@@ -2,10 +2,10 @@
 //! needs them.
 
 ghost use Rattle.std.specs.Prelude.{◌≡◌, None, IfOk, OnErr, OnOk};
-ghost use Rattle.bf_sql.specs.Database.{empty_database};
-ghost use Rattle.bf_sql.specs.Lazy.{view_of};
-ghost use Rattle.bf_sql.specs.Meaning.{executed};
-ghost use Rattle.bf_sql.specs.Movement.{migration_by, sweep_of};
+ghost use Rattle.bf_lazy.specs.Database.{empty_database};
+ghost use Rattle.bf_lazy.specs.Lazy.{view_of};
+ghost use Rattle.bf_lazy.specs.Meaning.{executed};
+ghost use Rattle.bf_lazy.specs.Movement.{migration_by, sweep_of};
 ghost use Rattle.bf_run.specs.Engine.{IsCreation, MayRun};
 
 mod frozen;
@@ -16,7 +16,7 @@ mod target;
 
 use crate::engine::tables::Tables;
 use bf_base::Memory;
-use bf_sql::{Reply, Statement, Sweep};
+use bf_lazy::{Reply, Statement, Sweep};
 use std::alloc::Global;
 use std::marker::Model;
 
@@ -28,7 +28,7 @@ pub struct Engine {
 }
 
 impl Model for Engine {
-    ghost use Rattle.bf_sql.specs.Lazy.{LazyState};
+    ghost use Rattle.bf_lazy.specs.Lazy.{LazyState};
 
     ghost Value = { LazyState };
 

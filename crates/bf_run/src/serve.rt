@@ -1,15 +1,15 @@
 //! The run of a script.
 
 ghost use Rattle.std.specs.Prelude.{◌≡◌, ◌+◌, [], ◌∷◌, ◌++◌, length, None, IfOk, OnOk};
-ghost use Rattle.bf_sql.specs.Database.{empty_database};
-ghost use Rattle.bf_sql.specs.Movement.{migration_after, sweep_of};
+ghost use Rattle.bf_lazy.specs.Database.{empty_database};
+ghost use Rattle.bf_lazy.specs.Movement.{migration_after, sweep_of};
 ghost use Rattle.bf_form.specs.Form.{IsOfForm};
 ghost use Rattle.bf_run.specs.Run.{IsRun};
 ghost use Rattle.bf_run.specs.Serving.{entry_at, replies_to, entries_from, AreOfForm};
 
 use crate::engine::Engine;
 use bf_base::{Memory, Sequence};
-use bf_sql::{Entry, History, Outcome, Reply, Script, Statement, Sweep, Transcripts};
+use bf_lazy::{Entry, History, Outcome, Reply, Script, Statement, Sweep, Transcripts};
 use std::alloc::Global;
 
 /// What a run leaves.

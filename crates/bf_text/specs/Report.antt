@@ -3,17 +3,17 @@ use Rattle.std.specs.Prelude.{ℕ, ◌+◌, ◌==◌, if◌then◌else◌, List,
 use Rattle.std.specs.Fmt.{decimal, signed_decimal}
 use Rattle.bf_base.specs.declared.value.Value.{Value}
 use Rattle.bf_base.specs.declared.value.Value.TheVariants.{Int, Text}
-use Rattle.bf_sql.specs.declared.reply.Refusal.{Refusal}
-use Rattle.bf_sql.specs.declared.reply.Refusal.TheVariants.{NoTable, NoColumn, TypeMismatch, DuplicateKey, OutOfRange, TooLong, TableExists, WrongCount, NameTwice, KeyNotInherited, SourceUnknown, TooManyRows}
-use Rattle.bf_sql.specs.declared.reply.Cell.{Cell}
-use Rattle.bf_sql.specs.declared.reply.Cell.TheVariants as cells
-use Rattle.bf_sql.specs.declared.reply.Reply.{Reply}
-use Rattle.bf_sql.specs.declared.reply.Reply.TheVariants.{Created, Inserted, Rows, Migrated, Refused}
-use Rattle.bf_sql.specs.declared.history.Outcome.{Outcome}
-use Rattle.bf_sql.specs.declared.history.Outcome.TheVariants.{Committed}
-use Rattle.bf_sql.specs.declared.history.Entry.{Entry}
-use Rattle.bf_sql.specs.declared.history.Sweep.{Sweep}
-use Rattle.bf_sql.specs.declared.history.Sweep.TheVariants.{Never, Complete, Running}
+use Rattle.bf_lazy.specs.declared.reply.Refusal.{Refusal}
+use Rattle.bf_lazy.specs.declared.reply.Refusal.TheVariants.{NoTable, NoColumn, TypeMismatch, DuplicateKey, OutOfRange, TooLong, TableExists, WrongCount, NameTwice, KeyNotInherited, SourceUnknown, TooManyRows}
+use Rattle.bf_lazy.specs.declared.reply.Cell.{Cell}
+use Rattle.bf_lazy.specs.declared.reply.Cell.TheVariants as cells
+use Rattle.bf_lazy.specs.declared.reply.Reply.{Reply}
+use Rattle.bf_lazy.specs.declared.reply.Reply.TheVariants.{Created, Inserted, Rows, Migrated, Refused}
+use Rattle.bf_lazy.specs.declared.history.Outcome.{Outcome}
+use Rattle.bf_lazy.specs.declared.history.Outcome.TheVariants.{Committed}
+use Rattle.bf_lazy.specs.declared.history.Entry.{Entry}
+use Rattle.bf_lazy.specs.declared.history.Sweep.{Sweep}
+use Rattle.bf_lazy.specs.declared.history.Sweep.TheVariants.{Never, Complete, Running}
 
 abbrev pub newline : List ℕ
 newline = 10 ∷ []

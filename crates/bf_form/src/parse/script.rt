@@ -8,7 +8,7 @@ use crate::parse::fields::{after_sign, after_word};
 use crate::parse::statements::{Head, creation, creation_of, migration, part};
 use crate::token::{Sign, Token};
 use bf_base::Sequence;
-use bf_sql::{Script, Session, Statement};
+use bf_lazy::{Script, Session, Statement};
 use std::alloc::Global;
 
 /// What follows `PHASE ; SESSION ;`.

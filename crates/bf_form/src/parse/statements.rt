@@ -10,7 +10,7 @@ use crate::parse::fields::{after_sign, after_word, name, signed};
 use crate::parse::lists::{Columns, Items, Numbers, are_distinct, has, has_all, list};
 use crate::token::{Sign, Token};
 use bf_base::{Memory, Name, Row, Sequence, Value};
-use bf_sql::{
+use bf_lazy::{
     Arm, ColumnForm, ColumnRule, Compare, Item, Migrate, Operand, RawCond, Ref, Statement, Target,
 };
 use std::alloc::Global;
@@ -180,7 +180,7 @@ fn select(alloc: Global, tokens: &[Token]) -> Result<(Statement, &[Token]), Pars
     let (table, rest) = name(alloc, rest)?;
     let (cond, rest) = condition(alloc, rest)?;
     let rest = after_sign(rest, Sign::Semicolon)?;
-    let list = bf_sql::List::All;
+    let list = bf_lazy::List::All;
     Ok((Statement::Select { list, table, cond }, rest))
 }
 

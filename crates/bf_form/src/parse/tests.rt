@@ -1,6 +1,6 @@
 use super::read_script;
 use bf_base::{Name, Row, Sequence, Value};
-use bf_sql::{
+use bf_lazy::{
     Arm, ColumnForm, ColumnRule, Compare, Item, Migrate, Operand, RawCond, Ref, Script, Session,
     Statement, Target,
 };
@@ -41,7 +41,7 @@ fn plain(alloc: Global, column: &str) -> Result<Ref, Fail> {
 
 fn select(alloc: Global, table: &str) -> Result<Statement, Fail> {
     Ok(Statement::Select {
-        list: bf_sql::List::All,
+        list: bf_lazy::List::All,
         table: Name::of(alloc, table.as_bytes())?,
         cond: None,
     })
@@ -51,7 +51,7 @@ fn select_where(alloc: Global, table: &str, column: &str, number: i64) -> Result
     let left = Operand::Ref(plain(alloc, column)?);
     let right = Operand::Value(Value::Int(number));
     Ok(Statement::Select {
-        list: bf_sql::List::All,
+        list: bf_lazy::List::All,
         table: Name::of(alloc, table.as_bytes())?,
         cond: Some(RawCond::Compare(Compare::Equal, left, right)),
     })

@@ -8,7 +8,7 @@ ghost use Rattle.bf_run.specs.Engine.{IsSeenStill, IsTied, has_value, images_of,
 use crate::engine::live::Live;
 use crate::engine::marks::Marks;
 use bf_base::{Memory, Row, Value};
-use bf_sql::Sweep;
+use bf_lazy::Sweep;
 use std::alloc::Global;
 use std::marker::Model;
 

@@ -5,14 +5,14 @@ ghost use Rattle.std.specs.List.Sorted.{IsBinarySearchResult, IsSearchInRange};
 ghost use Rattle.bf_base.specs.Values.{value_cmp};
 ghost use Rattle.bf_base.specs.Lists.{same_name};
 ghost use Rattle.bf_base.specs.Tables.{cell};
-ghost use Rattle.bf_sql.specs.declared.statement.List.TheVariants.{All};
-ghost use Rattle.bf_sql.specs.declared.statement.Statement.TheVariants.{Insert};
-ghost use Rattle.bf_sql.specs.Database.{is_admitted};
-ghost use Rattle.bf_sql.specs.Meaning.{selected};
+ghost use Rattle.bf_lazy.specs.declared.statement.List.TheVariants.{All};
+ghost use Rattle.bf_lazy.specs.declared.statement.Statement.TheVariants.{Insert};
+ghost use Rattle.bf_lazy.specs.Database.{is_admitted};
+ghost use Rattle.bf_lazy.specs.Meaning.{selected};
 ghost use Rattle.bf_run.specs.Engine.{AreNumbers, IsServed, IsPlaceFor, RunsTo, empty, key_column_of, has_key_of, has_value, places_where, row_at, with_row};
 
 use bf_base::{Memory, Name, Row, Sequence, Table, Value, key_of};
-use bf_sql::{Cell, Refusal, Reply};
+use bf_lazy::{Cell, Refusal, Reply};
 use std::alloc::Global;
 use std::cmp::Ordering;
 use std::marker::Model;
@@ -27,7 +27,7 @@ pub struct Live {
 
 impl Model for Live {
     ghost use Rattle.std.specs.Prelude.{map};
-    ghost use Rattle.bf_sql.specs.Database.{Stored};
+    ghost use Rattle.bf_lazy.specs.Database.{Stored};
     ghost use Rattle.bf_run.specs.Engine.{IsServed};
 
     ghost Value = { Stored };

@@ -2,11 +2,11 @@
 
 ghost use Rattle.std.specs.Prelude.{◌≡◌, ◌<◌, ◌≤◌, [], ◌∷◌, ◌++◌, length, false, not, nat_eq, position, IfOk, IfSome};
 ghost use Rattle.bf_base.specs.Lists.{has};
-ghost use Rattle.bf_sql.specs.Migrations.{most_rows};
+ghost use Rattle.bf_lazy.specs.Migrations.{most_rows};
 ghost use Rattle.bf_run.specs.Engine.{sweep_by_marks};
 
 use bf_base::Memory;
-use bf_sql::Sweep;
+use bf_lazy::Sweep;
 use std::alloc::Global;
 use std::marker::Model;
 

@@ -1,12 +1,12 @@
 //! The live table, and what a migration has set aside.
 
 ghost use Rattle.std.specs.Prelude.{◌≡◌, ◌<◌, ◌≤◌, [], ◌∷◌, true, length, None, Some, IfOk, OnErr, OnOk};
-ghost use Rattle.bf_sql.specs.declared.statement.List.TheVariants.{All};
-ghost use Rattle.bf_sql.specs.declared.statement.Statement.TheVariants.{Insert, Select, Migrate as Flip};
-ghost use Rattle.bf_sql.specs.Database.{empty_database};
-ghost use Rattle.bf_sql.specs.Meaning.{executed};
-ghost use Rattle.bf_sql.specs.Migrations.{most_rows};
-ghost use Rattle.bf_sql.specs.Movement.{sweep_of, with_moved};
+ghost use Rattle.bf_lazy.specs.declared.statement.List.TheVariants.{All};
+ghost use Rattle.bf_lazy.specs.declared.statement.Statement.TheVariants.{Insert, Select, Migrate as Flip};
+ghost use Rattle.bf_lazy.specs.Database.{empty_database};
+ghost use Rattle.bf_lazy.specs.Meaning.{executed};
+ghost use Rattle.bf_lazy.specs.Migrations.{most_rows};
+ghost use Rattle.bf_lazy.specs.Movement.{sweep_of, with_moved};
 ghost use Rattle.bf_run.specs.Engine.{AreNumbers, IsAnswered, IsCreation, IsFirstMigration, IsFirstTarget, IsFlipped, IsInt, IsServed, IsTiedIfAny, MayRun, StaysSeen, comparison, granules_where, has_value, one_table, state_of};
 ghost use Rattle.bf_form.specs.Form.{IsPlain};
 
@@ -15,7 +15,7 @@ use crate::engine::live::Live;
 use crate::engine::marks::{MOST_ROWS, Marks};
 use crate::engine::target::{column_named, places_of, table_created, table_of};
 use bf_base::{Memory, Name, Row, Value};
-use bf_sql::{Migrate, Operand, RawCond, Refusal, Reply, Statement, Sweep, Target};
+use bf_lazy::{Migrate, Operand, RawCond, Refusal, Reply, Statement, Sweep, Target};
 use std::alloc::Global;
 use std::mem::replace;
 

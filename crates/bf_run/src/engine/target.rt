@@ -1,17 +1,17 @@
 //! Tables: the columns that statements mean, and the new table of a migration.
 
-ghost use Rattle.bf_sql.specs.declared.reply.Reply.TheVariants.{Created};
+ghost use Rattle.bf_lazy.specs.declared.reply.Reply.TheVariants.{Created};
 ghost use Rattle.std.specs.Prelude.{◌≡◌, ◌≤◌, ◌<◌, [], ◌∷◌, map, length, nat_eq, position, slice_index_or, unwrap_or, IfOk, IfSome};
 ghost use Rattle.bf_base.specs.Lists.{same_name};
-ghost use Rattle.bf_sql.specs.Conditions.{place_of_ref};
-ghost use Rattle.bf_sql.specs.Database.{empty_database};
-ghost use Rattle.bf_sql.specs.Meaning.{admit_of, executed};
-ghost use Rattle.bf_sql.specs.Migrations.{item_ref};
+ghost use Rattle.bf_lazy.specs.Conditions.{place_of_ref};
+ghost use Rattle.bf_lazy.specs.Database.{empty_database};
+ghost use Rattle.bf_lazy.specs.Meaning.{admit_of, executed};
+ghost use Rattle.bf_lazy.specs.Migrations.{item_ref};
 ghost use Rattle.bf_form.specs.Form.{most_parts, plain};
 ghost use Rattle.bf_run.specs.Engine.{ArePlain, IsCreation, IsServed, column_named, columns_by, empty, one_table, place_of_key};
 
 use bf_base::{Admit, Column, Memory, Name, Sequence, Table};
-use bf_sql::{Arm, ColumnRule, Item, Statement, Target};
+use bf_lazy::{Arm, ColumnRule, Item, Statement, Target};
 use std::alloc::Global;
 
 /// The place of the column of a name, if there is one.

@@ -2,7 +2,7 @@
 
 use crate::text::report;
 use bf_base::{Key, Memory, Name, NameError, Sequence, Text, TextError, Value};
-use bf_sql::{Cell, Entry, History, Outcome, Refusal, Reply, Sweep, Transcripts};
+use bf_lazy::{Cell, Entry, History, Outcome, Refusal, Reply, Sweep, Transcripts};
 use std::alloc::{AllocFailed, Global};
 use std::test::Fail;
 

@@ -1,14 +1,14 @@
 use Rattle.std.proofs.Common.{◌≡◌, ◌+◌, ◌-◌, [], ◌∷◌, ◌++◌, length, None, Option, List, drop, refl, ap, sym, ◌∙◌, subst, arith}
 use Rattle.std.proofs.Math.Seq.{take-length}
 use lib.ListN.{take, get_or}
-use Rattle.bf_sql.specs.declared.statement.Statement.{Statement}
-use Rattle.bf_sql.specs.declared.reply.Reply.{Reply}
-use Rattle.bf_sql.specs.declared.reply.Reply.TheVariants.{Created}
-use Rattle.bf_sql.specs.declared.history.Entry.{Entry}
-use Rattle.bf_sql.specs.Database.{Database, empty_database}
-use Rattle.bf_sql.specs.Lazy.{Migration, view_of}
-use Rattle.bf_sql.specs.Meaning.{executed}
-use Rattle.bf_sql.specs.Movement.{migration_after}
+use Rattle.bf_lazy.specs.declared.statement.Statement.{Statement}
+use Rattle.bf_lazy.specs.declared.reply.Reply.{Reply}
+use Rattle.bf_lazy.specs.declared.reply.Reply.TheVariants.{Created}
+use Rattle.bf_lazy.specs.declared.history.Entry.{Entry}
+use Rattle.bf_lazy.specs.Database.{Database, empty_database}
+use Rattle.bf_lazy.specs.Lazy.{Migration, view_of}
+use Rattle.bf_lazy.specs.Meaning.{executed}
+use Rattle.bf_lazy.specs.Movement.{migration_after}
 use Rattle.bf_form.specs.Form.{creation, migrated_statements, statements_of}
 use Rattle.bf_run.specs.Serving.{replies_to, entry_at}
 use Rattle.bf_run.specs.Engine.{MayRun}

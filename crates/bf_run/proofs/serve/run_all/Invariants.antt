@@ -1,7 +1,7 @@
 use Rattle.std.proofs.Common.{◌≡◌, ◌+◌, ◌++◌, drop, length, None}
-use Rattle.bf_sql.specs.Database.{empty_database}
-use Rattle.bf_sql.specs.Lazy.{view_of}
-use Rattle.bf_sql.specs.Movement.{migration_after}
+use Rattle.bf_lazy.specs.Database.{empty_database}
+use Rattle.bf_lazy.specs.Lazy.{view_of}
+use Rattle.bf_lazy.specs.Movement.{migration_after}
 use Rattle.bf_run.specs.Serving.{replies_to, entries_from}
 use Rattle.bf_run.proofs.Plotted.{MayAllRun}
 use Rattle.bf_run.proofs.serve.run_all.Given as goal

@@ -1,5 +1,5 @@
 use Rattle.std.proofs.Common.{◌≡◌, map, take}
-use Rattle.bf_sql.specs.declared.reply.Cell.TheVariants as cells
+use Rattle.bf_lazy.specs.declared.reply.Cell.TheVariants as cells
 use Rattle.bf_run.proofs.engine.live.cells_of.Given as goal
 
 abbrev pub invariant-loop-value : goal.invariant-loop-value

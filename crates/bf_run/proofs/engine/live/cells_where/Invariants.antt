@@ -1,6 +1,6 @@
 use Rattle.std.proofs.Common.{◌≡◌, map, take, filter}
-use Rattle.bf_sql.specs.declared.statement.List.TheVariants.{All}
-use Rattle.bf_sql.specs.Meaning.{selected}
+use Rattle.bf_lazy.specs.declared.statement.List.TheVariants.{All}
+use Rattle.bf_lazy.specs.Meaning.{selected}
 use Rattle.bf_run.specs.Engine.{has_value}
 use Rattle.bf_run.proofs.engine.live.cells_where.Given as goal
 

@@ -1,5 +1,5 @@
 use Rattle.std.proofs.Common.{◌≡◌, map, take}
-use Rattle.bf_sql.specs.Meaning.{admit_of}
+use Rattle.bf_lazy.specs.Meaning.{admit_of}
 use Rattle.bf_run.proofs.engine.target.columns_declared.Given as goal
 
 abbrev pub invariant-loop-rule : goal.invariant-loop-rule

@@ -1,6 +1,6 @@
 use Rattle.std.proofs.Common.{◌≡◌, refl, rules}
-use Rattle.bf_sql.specs.Conditions.{place_of_ref}
-use Rattle.bf_sql.specs.Migrations.{item_ref}
+use Rattle.bf_lazy.specs.Conditions.{place_of_ref}
+use Rattle.bf_lazy.specs.Migrations.{item_ref}
 use Rattle.bf_form.specs.Form.{plain}
 use Rattle.bf_run.proofs.Flipping.{columns_more}
 use Rattle.bf_run.proofs.engine.target.columns_of.Goals as goal

@@ -1,6 +1,6 @@
 use Rattle.std.proofs.Common.{◌≡◌, map, take}
-use Rattle.bf_sql.specs.Conditions.{place_of_ref}
-use Rattle.bf_sql.specs.Migrations.{item_ref}
+use Rattle.bf_lazy.specs.Conditions.{place_of_ref}
+use Rattle.bf_lazy.specs.Migrations.{item_ref}
 use Rattle.bf_run.proofs.engine.target.places_of.Given as goal
 
 abbrev pub invariant-loop-item : goal.invariant-loop-item

@@ -1,6 +1,6 @@
 use Rattle.std.proofs.Common.{◌≡◌, subst, sym, ap, ◌∙◌}
 use Rattle.bf_base.specs.declared.table.Table.{Table}
-use Rattle.bf_sql.specs.declared.reply.Reply.TheVariants.{Created}
+use Rattle.bf_lazy.specs.declared.reply.Reply.TheVariants.{Created}
 use Rattle.bf_run.specs.Engine.{IsServed, empty, one_table}
 use Rattle.bf_run.proofs.Creating.{table, is_created, is_served, as_made}
 use Rattle.bf_run.proofs.engine.target.table_created.Goals as goal

@@ -1,5 +1,5 @@
 use Rattle.std.proofs.Common.{ℕ, Bool, ap, sym, ◌∙◌}
-use Rattle.bf_sql.specs.Database.{Stored}
+use Rattle.bf_lazy.specs.Database.{Stored}
 use Rattle.bf_run.specs.Engine.{Aside, has_value, row_at}
 use Rattle.bf_run.proofs.Places.{moves_more, moves_no_more}
 use Rattle.bf_run.proofs.Tied.{seen_through}

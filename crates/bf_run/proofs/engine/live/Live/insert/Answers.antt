@@ -1,6 +1,6 @@
 use Rattle.std.proofs.Common.{◌≡◌, IsTrue, length, ◌∙◌, sym, subst, Box, Global}
 use Rattle.bf_base.specs.declared.row.Row.{Row}
-use Rattle.bf_sql.specs.Database.{Stored}
+use Rattle.bf_lazy.specs.Database.{Stored}
 use Rattle.bf_run.specs.Engine.{has_key_of}
 use Rattle.bf_run.proofs.Inserting.{insert_taken, came_in_served, came_in_means, row_admitted}
 use Rattle.bf_run.proofs.engine.live.Live.insert.Goals as goal

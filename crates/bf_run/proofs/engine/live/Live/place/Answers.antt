@@ -1,5 +1,5 @@
 use Rattle.std.proofs.Common.{◌≡◌, true, sym, subst, Box, Global}
-use Rattle.bf_sql.specs.Database.{Stored, is_admitted}
+use Rattle.bf_lazy.specs.Database.{Stored, is_admitted}
 use Rattle.bf_base.specs.declared.row.Row.{Row}
 use Rattle.bf_run.proofs.Inserting.{came_in, came_in_served}
 use Rattle.bf_run.proofs.engine.live.Live.place.Goals as goal

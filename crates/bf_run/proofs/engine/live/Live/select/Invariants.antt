@@ -1,6 +1,6 @@
 use Rattle.std.proofs.Common.{◌≡◌, map, take}
-use Rattle.bf_sql.specs.declared.statement.List.TheVariants.{All}
-use Rattle.bf_sql.specs.Meaning.{selected}
+use Rattle.bf_lazy.specs.declared.statement.List.TheVariants.{All}
+use Rattle.bf_lazy.specs.Meaning.{selected}
 use Rattle.bf_run.proofs.engine.live.Live.select.Given as goal
 
 abbrev pub invariant-loop-row : goal.invariant-loop-row

@@ -1,6 +1,6 @@
 use Rattle.std.proofs.Common.{◌∙◌, map, ap, sym, get_or, []}
-use Rattle.bf_sql.specs.declared.statement.List.TheVariants.{All}
-use Rattle.bf_sql.specs.Meaning.{selected}
+use Rattle.bf_lazy.specs.declared.statement.List.TheVariants.{All}
+use Rattle.bf_lazy.specs.Meaning.{selected}
 use Rattle.bf_run.specs.Engine.{has_value, places_where}
 use Rattle.bf_run.proofs.Places.{filter_by_places}
 use Rattle.bf_run.proofs.engine.live.Live.select_where.Goals as goal

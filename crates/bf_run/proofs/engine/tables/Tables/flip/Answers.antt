@@ -1,5 +1,5 @@
 use Rattle.std.proofs.Common.{◌≡◌, [], Some, ap, ◌∙◌}
-use Rattle.bf_sql.specs.Migrations.{item_places, target_table}
+use Rattle.bf_lazy.specs.Migrations.{item_places, target_table}
 use Rattle.bf_run.specs.Engine.{empty, one_table}
 use Rattle.bf_run.proofs.Flipping.{places_made, table_made, flip_served}
 use Rattle.bf_run.proofs.engine.tables.Tables.flip.Goals as goal

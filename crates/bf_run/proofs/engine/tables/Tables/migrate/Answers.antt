@@ -1,10 +1,10 @@
 use Rattle.std.proofs.Common.{◌≡◌, ◌<◌, ◌≤◌, length, slice_index_or, sym, ap, subst, ◌∙◌, arith}
 use Rattle.std.proofs.lemmas.Result.{IfOk-weaker}
-use Rattle.bf_sql.specs.declared.reply.Refusal.TheVariants.{TooManyRows}
-use Rattle.bf_sql.specs.declared.reply.Reply.{Reply}
-use Rattle.bf_sql.specs.declared.reply.Reply.TheVariants.{Refused}
-use Rattle.bf_sql.specs.declared.statement.Statement.TheVariants.{Migrate}
-use Rattle.bf_sql.specs.Migrations.{most_rows}
+use Rattle.bf_lazy.specs.declared.reply.Refusal.TheVariants.{TooManyRows}
+use Rattle.bf_lazy.specs.declared.reply.Reply.{Reply}
+use Rattle.bf_lazy.specs.declared.reply.Reply.TheVariants.{Refused}
+use Rattle.bf_lazy.specs.declared.statement.Statement.TheVariants.{Migrate}
+use Rattle.bf_lazy.specs.Migrations.{most_rows}
 use Rattle.bf_run.specs.Engine.{IsAnswered}
 use Rattle.bf_run.proofs.Flipping.{refused_first, first_is, begins_first}
 use Rattle.bf_run.proofs.engine.tables.Tables.migrate.Goals as goal

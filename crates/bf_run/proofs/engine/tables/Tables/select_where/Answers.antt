@@ -1,5 +1,5 @@
 use Rattle.std.proofs.Common.{Some, sym}
-use Rattle.bf_sql.specs.declared.reply.Refusal.TheVariants.{NoColumn}
+use Rattle.bf_lazy.specs.declared.reply.Refusal.TheVariants.{NoColumn}
 use Rattle.bf_run.specs.Engine.{comparison}
 use Rattle.bf_run.proofs.Answering.{served_if}
 use Rattle.bf_run.proofs.Needing.{column_answered, no_column, select_refused}
