@@ -86,7 +86,7 @@ module _ {K : Type 0} {cmp : K → K → Ordering} (o : IsTotalOrder cmp) where
       and_from _ _ (ap is_lt first) (and_parts _ _ (and_parts _ _ h).1).1
 
   -- with a key that ties with the first
-  rises_alike : (a b : K) (ks : List K) → cmp a b ≡ Equal → rises cmp (a ∷ ks) ≡ true → rises cmp (b ∷ ks) ≡ true
+  pub rises_alike : (a b : K) (ks : List K) → cmp a b ≡ Equal → rises cmp (a ∷ ks) ≡ true → rises cmp (b ∷ ks) ≡ true
   rises_alike a b [] e h = refl
   rises_alike a b (c ∷ ks) e h = rw (← o.congr a b c e) h
 

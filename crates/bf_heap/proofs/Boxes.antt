@@ -8,8 +8,8 @@ use Rattle.std.proofs.lemmas.List.{length-map, get_or-map, map-set, length-set}
 use Rattle.std.proofs.lemmas.List.Edits.{length-insert, length-remove}
 use Rattle.bf_base.specs.declared.value.Value.{Value}
 use Rattle.bf_base.specs.Values.{key_cmp, key_cmp_total}
-use Rattle.bf_heap.specs.Maps.{is_map}
-use Rattle.bf_heap.proofs.Maps.{IsGap, entry_at-found, entry_at-gap, with_entry-found, with_entry-gap, without_key-found, without_key-gap, is_map-with_entry, is_map-without_key, map-insert, map-remove, tie_in_boxes, gap_in_boxes}
+use Rattle.bf_base.specs.Maps.{is_map}
+use Rattle.bf_base.proofs.Maps.{IsGap, entry_at-found, entry_at-gap, with_entry-found, with_entry-gap, without_key-found, without_key-gap, is_map-with_entry, is_map-without_key, map-insert, map-remove, tie_in_boxes, gap_in_boxes}
 use Rattle.bf_heap.specs.Heaps.{Entry, Rows, key_of_entry, row_under, has_row, with_row, without_row, spare_after}
 use Rattle.bf_heap.specs.Room.{IsKept}
 

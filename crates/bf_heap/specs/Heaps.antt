@@ -3,7 +3,7 @@ use Rattle.std.specs.Prelude.{ℕ, ◌+◌, ◌-◌, ◌<◌, ◌^◌, Bool, Lis
 use Rattle.std.specs.Option.{option_map}
 use Rattle.bf_base.specs.declared.value.Value.{Value}
 use Rattle.bf_base.specs.Values.{key_cmp}
-use Rattle.bf_heap.specs.Maps.{is_map, entry_at, with_entry, without_key}
+use Rattle.bf_base.specs.Maps.{is_map, entry_at, with_entry, without_key}
 
 -- a key and the row that stands under it
 abbrev pub Entry : Type 0

@@ -7,7 +7,7 @@ use Rattle.std.specs.Cmp.{IsTotalOrder, on_total, then_total}
 use Rattle.std.proofs.lemmas.List.{length-map, get_or-map, map-set}
 use Rattle.bf_base.specs.Values.{key_cmp_total}
 use Rattle.bf_base.proofs.Names.{name_cmp_total}
-use Rattle.bf_heap.proofs.Maps.{IsGap, entry_at-found, entry_at-gap, with_entry-found, with_entry-gap, is_map-with_entry, map-insert, tie_in_boxes, gap_in_boxes}
+use Rattle.bf_base.proofs.Maps.{IsGap, entry_at-found, entry_at-gap, with_entry-found, with_entry-gap, is_map-with_entry, map-insert, tie_in_boxes, gap_in_boxes}
 use Rattle.bf_txn.specs.declared.write.Write.{Write}
 use Rattle.bf_txn.specs.Writes.{Spot, spot_cmp, spot_of, written_at, with_write, AreWrites}
 

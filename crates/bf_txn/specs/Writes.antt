@@ -6,7 +6,7 @@ use Rattle.std.specs.Ordering.{ordering_then}
 use Rattle.bf_base.specs.declared.value.Value.{Value}
 use Rattle.bf_base.specs.Values.{key_cmp}
 use Rattle.bf_base.specs.Lists.{name_cmp}
-use Rattle.bf_heap.specs.Maps.{is_map, entry_at, with_entry}
+use Rattle.bf_base.specs.Maps.{is_map, entry_at, with_entry}
 use Rattle.bf_txn.specs.declared.write.Write.{Write}
 
 -- what a write is of: a key of a table

@@ -9,16 +9,11 @@ use Rattle.std.proofs.lemmas.Cmp.{alike_right}
 use Rattle.std.proofs.lemmas.Simd.{map-map}
 use Rattle.std.proofs.lemmas.List.{length-map, get_or-map}
 use Rattle.bf_base.specs.Lists.{rises}
-use Rattle.bf_heap.specs.Maps.{is_map, has_key, entry_at, with_entry, beside, without_key}
-use Rattle.bf_base.proofs.Order.{first_is, less_from_test, equal_from_test, turned, turned_less, turned_equal, symmetric, rises_first, rises_cons, rises_tail, rises_skip, look_up-at, look_up-none, searchable_from_rises}
+use Rattle.bf_base.specs.Maps.{is_map, has_key, entry_at, with_entry, beside, without_key}
+use Rattle.bf_base.proofs.Order.{first_is, less_from_test, equal_from_test, turned, turned_less, turned_equal, symmetric, rises_alike, rises_first, rises_cons, rises_tail, rises_skip, look_up-at, look_up-none, searchable_from_rises}
 use Rattle.bf_base.proofs.Apart.{rises-filter}
 
 module _ {K : Type 0} {cmp : K → K → Ordering} (o : IsTotalOrder cmp) {X : Type 0} (key : X → K) where
-  -- a key that ties with the first of a list in order may take its place
-  rises_alike : (a b : K) (ks : List K) → cmp a b ≡ Equal → rises cmp (a ∷ ks) ≡ true → rises cmp (b ∷ ks) ≡ true
-  rises_alike a b [] e h = refl
-  rises_alike a b (c ∷ ks) e h = rw (← o.congr a b c e) h
-
   -- the first of a list in order has a lesser key than each item behind it
   above_first : (x : X) (xs : List X) → rises cmp (key x ∷ map key xs) ≡ true → (j : ℕ) (d : X) → j < length xs → cmp (key x) (key (get_or xs j d)) ≡ Less
   above_first x [] h j d in_range = absurd (omega arith)
@@ -71,7 +66,7 @@ module _ {K : Type 0} {cmp : K → K → Ordering} (o : IsTotalOrder cmp) {X : T
   -- the entry of a key is taken out of its place
   pub without_key-found : (xs : List X) (i : ℕ) (k : K) (d : X) → is_map cmp key xs ≡ true → i < length xs → cmp (key (get_or xs i d)) k ≡ Equal → without_key cmp key xs k ≡ remove xs i
   without_key-found [] i k d h in_range e = absurd (omega arith)
-  without_key-found (y ∷ ys) zero k d h in_range e = rw (e, without_key-below k ys (rises_alike (key y) k (map key ys) e h)) refl
+  without_key-found (y ∷ ys) zero k d h in_range e = rw (e, without_key-below k ys (rises_alike o (key y) k (map key ys) e h)) refl
   without_key-found (y ∷ ys) (suc i) k d h in_range e =
       let first = less_than_tie y ys i k d h (omega arith) e in
       rw (first, without_key-found ys i k d (rises_tail o (key y) (map key ys) h) (omega arith) e) refl
@@ -105,7 +100,7 @@ module _ {K : Type 0} {cmp : K → K → Ordering} (o : IsTotalOrder cmp) {X : T
   is_map-with_entry (y ∷ ys) x h =
       elim (cmp (key x) (key y)) as (λ r. cmp (key x) (key y) ≡ r → is_map cmp key (beside r y ys x (with_entry cmp key ys x)) ≡ true) [
         | Less ↦ λ e. and_from _ _ (ap is_lt e) h
-        | Equal ↦ λ e. rises_alike (key y) (key x) (map key ys) (turned_equal o (key x) (key y) e) h
+        | Equal ↦ λ e. rises_alike o (key y) (key x) (map key ys) (turned_equal o (key x) (key y) e) h
         | Greater ↦ λ e.
             let first = first_with_entry (key y) ys x (rises_first o (key y) (map key ys) h) (turned o (key x) (key y) e) in
             rises_cons o (key y) (map key (with_entry cmp key ys x)) first (is_map-with_entry ys x (rises_tail o (key y) (map key ys) h))

@@ -1,0 +1,16 @@
+mod Additions
+mod Beginnings
+mod Chains
+mod Connections
+mod Contents
+mod Factors
+mod Fitting
+mod Joints
+mod Lists
+mod Literals
+mod Moves
+mod Negations
+mod Numbered
+mod Operands
+mod Places
+mod Tests

@@ -1,0 +1,14 @@
+pub mod Comparisons
+pub mod Conditions
+pub mod Cursors
+pub mod Ends
+pub mod Expressions
+pub mod Faults
+pub mod Outcome
+pub mod Reading
+pub mod Rules
+pub mod Starts
+pub mod Steps
+pub mod Sums
+pub mod Tokens
+pub mod Words

@@ -1,0 +1,36 @@
+//! What joins the products of a sum.
+
+ghost use Rattle.std.specs.Prelude.{◌<◌, IfSome};
+ghost use Rattle.bf_parse.specs.Cursors.{IsPlace, left, words};
+ghost use Rattle.bf_parse.specs.Sums.{IsJoint};
+
+use crate::cursor::Cursor;
+use bf_lex::{Sign, TokenKind};
+
+#[derive(Clone, Copy)]
+pub(crate) enum Joint {
+    /// `+`
+    Plus,
+    /// `-`
+    Difference,
+    /// `||`
+    Concatenation,
+}
+
+/// What joins the next product, and the place behind it.
+pub(crate) fn next_joint(cursor: Cursor<'_>) -> Option<(Joint, Cursor<'_>)>
+    requires { IsPlace cursor }
+    ensures found { IsJoint (words cursor.entry) result }
+    ensures place { IfSome result (λ x. IsPlace x.1) }
+    ensures shorter { IfSome result (λ x. left x.1 < left cursor.entry) }
+{
+    match cursor.next() {
+        None => None,
+        Some((first, behind)) => match first.kind {
+            TokenKind::Sign(Sign::Plus) => Some((Joint::Plus, behind)),
+            TokenKind::Sign(Sign::Minus) => Some((Joint::Difference, behind)),
+            TokenKind::Sign(Sign::Bars) => Some((Joint::Concatenation, behind)),
+            _ => None,
+        },
+    }
+}

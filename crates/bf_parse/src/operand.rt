@@ -1,0 +1,81 @@
+//! Literals and columns.
+
+ghost use Rattle.std.specs.Prelude.{◌≡◌, ◌<◌, ◌≤◌, ◌^◌, IfOk, neg_ℤ, pos};
+ghost use Rattle.bf_parse.specs.Conditions.{LiteralRule};
+ghost use Rattle.bf_parse.specs.Cursors.{IsPlace, left, words};
+ghost use Rattle.bf_parse.specs.Ends.{is_point, nothing};
+ghost use Rattle.bf_parse.specs.Expressions.{RefRule};
+ghost use Rattle.bf_parse.specs.Outcome.{outcome};
+ghost use Rattle.bf_parse.specs.Reading.{Fits, Read};
+
+use crate::cursor::Cursor;
+use crate::error::Stop;
+use crate::start::Front;
+use bf_base::Value;
+use bf_expr::Ref;
+use bf_lex::{ScriptKind, Sign, content};
+use std::alloc::Global;
+
+/// Behind a minus alone this is an INT.
+const WIDEST: u64 = 1 << 63;
+
+/// The literal at a place, and the place behind it.
+pub(crate) fn literal<'a>(alloc: Global, cursor: Cursor<'a>) -> Result<(Value, Cursor<'a>), Stop>
+    requires { IsPlace cursor }
+    ensures fits { Fits nothing LiteralRule (words cursor.entry) (outcome (λ x. Read x.0 (words x.1)) result) }
+    ensures place { IfOk result (λ x. IsPlace x.1) }
+    ensures shorter { IfOk result (λ x. left x.1 < left cursor.entry) }
+{
+    match cursor.front() {
+        Front::Number(number, rest) => {
+            if number < WIDEST {
+                Ok((Value::Int(number as i64), rest))
+            } else {
+                Err(Stop::Limit(ScriptKind::NumberTooWide, cursor.tokens.len()))
+            }
+        }
+        Front::Negative(number, rest) => Ok((Value::Int(negative(number)), rest)),
+        Front::Text(bytes, rest) => Ok((Value::Text(content(alloc, bytes)?), rest)),
+        Front::Other => Err(Stop::Syntax(cursor.tokens.len())),
+    }
+}
+
+fn negative(number: u64) -> i64
+    requires { number ≤ 2 ^ 63 }
+    ensures { result ≡ neg_ℤ (pos number) }
+{
+    if number < WIDEST {
+        -(number as i64)
+    } else {
+        i64::MIN
+    }
+}
+
+/// The column at a place, and the place behind it.
+pub(crate) fn reference<'a>(alloc: Global, cursor: Cursor<'a>) -> Result<(Ref, Cursor<'a>), Stop>
+    requires { IsPlace cursor }
+    ensures fits { Fits is_point RefRule (words cursor.entry) (outcome (λ x. Read x.0 (words x.1)) result) }
+    ensures place { IfOk result (λ x. IsPlace x.1) }
+    ensures shorter { IfOk result (λ x. left x.1 < left cursor.entry) }
+{
+    let (first, rest) = cursor.name(alloc)?;
+    match rest.sign(Sign::Point) {
+        None => Ok((
+            Ref {
+                table: None,
+                column: first,
+            },
+            rest,
+        )),
+        Some(behind) => {
+            let (second, rest) = behind.name(alloc)?;
+            Ok((
+                Ref {
+                    table: Some(first),
+                    column: second,
+                },
+                rest,
+            ))
+        }
+    }
+}

@@ -1,0 +1,26 @@
+mod Binding
+mod Block
+mod FilteredGroups
+mod GroupedTotals
+pub mod GroupedTotalsMoves
+mod JoinedPairs
+pub mod JoinedPairsMoves
+mod JoinedRefusals
+mod JoinedRows
+mod KeyOrder
+mod MayFail
+mod MayFailMoves
+mod OpenBlock
+mod Refusals
+mod SecondMigration
+mod SecondMigrationMoves
+pub mod Spelling
+mod SplitTable
+pub mod SplitTableMoves
+mod SumLimit
+mod Sweeping
+mod TaggedArms
+mod TaggedArmsMoves
+mod TwoDrivers
+mod TwoSessions
+mod UnitLimit
