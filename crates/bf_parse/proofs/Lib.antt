@@ -1,7 +1,6 @@
 mod Additions
 mod Beginnings
 mod Chains
-mod Connections
 mod Contents
 mod Factors
 mod Fitting

@@ -1,6 +1,6 @@
 -- CONDITIONS: comparisons of columns and literals, joined by OR, AND and NOT. Comparisons, BETWEENs, NOTs, ANDs between
 -- conditions, ORs and opening parentheses are counted.
-use Rattle.std.specs.Prelude.{◌≡◌, ℕ, ◌+◌, ◌≤◌, ◌^◌, pos, neg_ℤ, true, List, [], ◌∷◌, ◌++◌}
+use Rattle.std.specs.Prelude.{◌≡◌, ℕ, ◌+◌, ◌≤◌, ◌^◌, pos, neg_ℤ, Bool, List, [], ◌∷◌, ◌++◌}
 use Rattle.bf_base.specs.declared.value.Value.{Value}
 use Rattle.bf_base.specs.declared.value.Value.TheVariants.{Int, Text}
 use Rattle.bf_lex.specs.declared.keyword.Keyword.TheVariants as keyword
@@ -14,10 +14,15 @@ use Rattle.bf_parse.specs.Words as word
 use Rattle.bf_parse.specs.Steps.{Step, Say, Limit, Node}
 use Rattle.bf_parse.specs.Expressions.{NumberRule, RefRule}
 
+-- [-] number. A minus may stand here whatever is behind it; without a number behind, the refused word is the one behind it
+pub data SignedRule : List Step → Value → Type 0 where
+  number : {steps : List Step} {x : Value} (v : ℕ) → NumberRule steps v → x ≡ Int (pos v) → SignedRule steps x
+  negative : {steps : List Step} {x : Value} (v : ℕ) (number_behind : Bool) → v ≤ 2 ^ 63 → steps ≡ Say (word.Minus number_behind) ∷ Say (word.Number v) ∷ []
+      → x ≡ Int (neg_ℤ (pos v)) → SignedRule steps x
+
 -- [-] number | text
 pub data LiteralRule : List Step → Value → Type 0 where
-  number : {steps : List Step} {x : Value} (v : ℕ) → NumberRule steps v → x ≡ Int (pos v) → LiteralRule steps x
-  negative : {steps : List Step} {x : Value} (v : ℕ) → v ≤ 2 ^ 63 → steps ≡ Say (word.Minus true) ∷ Say (word.Number v) ∷ [] → x ≡ Int (neg_ℤ (pos v)) → LiteralRule steps x
+  signed : {steps : List Step} {x : Value} → SignedRule steps x → LiteralRule steps x
   text : {steps : List Step} {x : Value} (t : List ℕ) → steps ≡ Say (word.Text t) ∷ [] → x ≡ Text t → LiteralRule steps x
 
 -- literal | ref
