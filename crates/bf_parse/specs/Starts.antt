@@ -27,9 +27,10 @@ abbrev pub HasFront : List Word → Front → Type 0
 HasFront ws (front.Number n rest) = (ws ≡ Number n ∷ words rest) × (n ≤ 2 ^ 63)
 HasFront ws (front.Negative n rest) = (ws ≡ Minus true ∷ Number n ∷ words rest) × (n ≤ 2 ^ 63)
 HasFront ws (front.Text bytes rest) = (inner : List ℕ) × IsText inner × (bytes.now ≡ quoted inner) × (ws ≡ Text inner ∷ words rest)
-HasFront ws front.Other = begins begins_literal ws ≡ false
+HasFront ws (front.Minus rest) = (ws ≡ Minus false ∷ words rest) × (begins_with_number (words rest) ≡ false)
+HasFront ws front.Other = (begins begins_literal ws ≡ false) × (begins is_opposite ws ≡ false)
 
--- the literal at the front, and the words behind it
+-- the literal at the front, or a minus alone, and the words behind it
 pub record IsFront (ws : List Word) (found : Front) : Type 0 where
   pub it : HasFront ws found
 
@@ -43,5 +44,6 @@ BehindStart P start.Other = Unit {0}
 abbrev pub BehindFront : (Cursor → Type 0) → Front → Type 0
 BehindFront P (front.Number n rest) = P rest
 BehindFront P (front.Negative n rest) = P rest
+BehindFront P (front.Minus rest) = P rest
 BehindFront P (front.Text bytes rest) = P rest
 BehindFront P front.Other = Unit {0}

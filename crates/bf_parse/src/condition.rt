@@ -28,13 +28,13 @@ fn operand<'a>(alloc: Global, cursor: Cursor<'a>) -> Result<(RawExpr, Cursor<'a>
     ensures shorter { IfOk result (λ x. left x.1 < left cursor.entry) }
 {
     match cursor.start() {
-        Start::Literal => {
-            let (value, rest) = literal(alloc, cursor)?;
-            Ok((RawExpr::of(RawNode::Value(value)), rest))
-        }
-        _ => {
+        Start::Other => {
             let (column, rest) = reference(alloc, cursor)?;
             Ok((RawExpr::of(RawNode::Column(column)), rest))
+        }
+        _ => {
+            let (value, rest) = literal(alloc, cursor)?;
+            Ok((RawExpr::of(RawNode::Value(value)), rest))
         }
     }
 }

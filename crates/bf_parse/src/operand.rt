@@ -1,7 +1,8 @@
 //! Literals and columns.
 
 ghost use Rattle.std.specs.Prelude.{◌≡◌, ◌<◌, ◌≤◌, ◌^◌, IfOk, neg_ℤ, pos};
-ghost use Rattle.bf_parse.specs.Conditions.{LiteralRule};
+ghost use Rattle.bf_base.specs.declared.value.Value.TheVariants.{Int as IntValue};
+ghost use Rattle.bf_parse.specs.Conditions.{LiteralRule, SignedRule};
 ghost use Rattle.bf_parse.specs.Cursors.{IsPlace, left, words};
 ghost use Rattle.bf_parse.specs.Ends.{is_point, nothing};
 ghost use Rattle.bf_parse.specs.Expressions.{RefRule};
@@ -19,6 +20,28 @@ use std::alloc::Global;
 /// Behind a minus alone this is an INT.
 const WIDEST: u64 = 1 << 63;
 
+/// The number, or the minus and the number, at a place, and the place behind it.
+pub(crate) fn signed<'a>(cursor: Cursor<'a>) -> Result<(i64, Cursor<'a>), Stop>
+    requires { IsPlace cursor }
+    ensures fits { Fits nothing SignedRule (words cursor.entry) (outcome (λ x. Read (IntValue x.0) (words x.1)) result) }
+    ensures place { IfOk result (λ x. IsPlace x.1) }
+    ensures shorter { IfOk result (λ x. left x.1 < left cursor.entry) }
+{
+    match cursor.front() {
+        Front::Number(number, rest) => {
+            if number < WIDEST {
+                Ok((number as i64, rest))
+            } else {
+                Err(Stop::Limit(ScriptKind::NumberTooWide, cursor.tokens.len()))
+            }
+        }
+        Front::Negative(number, rest) => Ok((negative(number), rest)),
+        Front::Minus(behind) => Err(Stop::Syntax(behind.tokens.len())),
+        Front::Text(_, _) => Err(Stop::Syntax(cursor.tokens.len())),
+        Front::Other => Err(Stop::Syntax(cursor.tokens.len())),
+    }
+}
+
 /// The literal at a place, and the place behind it.
 pub(crate) fn literal<'a>(alloc: Global, cursor: Cursor<'a>) -> Result<(Value, Cursor<'a>), Stop>
     requires { IsPlace cursor }
@@ -27,16 +50,11 @@ pub(crate) fn literal<'a>(alloc: Global, cursor: Cursor<'a>) -> Result<(Value, C
     ensures shorter { IfOk result (λ x. left x.1 < left cursor.entry) }
 {
     match cursor.front() {
-        Front::Number(number, rest) => {
-            if number < WIDEST {
-                Ok((Value::Int(number as i64), rest))
-            } else {
-                Err(Stop::Limit(ScriptKind::NumberTooWide, cursor.tokens.len()))
-            }
-        }
-        Front::Negative(number, rest) => Ok((Value::Int(negative(number)), rest)),
         Front::Text(bytes, rest) => Ok((Value::Text(content(alloc, bytes)?), rest)),
-        Front::Other => Err(Stop::Syntax(cursor.tokens.len())),
+        _ => {
+            let (number, rest) = signed(cursor)?;
+            Ok((Value::Int(number), rest))
+        }
     }
 }
 

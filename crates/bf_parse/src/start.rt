@@ -1,6 +1,6 @@
 //! What stands at the front of an operand.
 
-ghost use Rattle.std.specs.Prelude.{◌≡◌, ◌<◌, ◌∷◌};
+ghost use Rattle.std.specs.Prelude.{◌≡◌, ◌<◌, ◌≤◌, ◌∷◌};
 ghost use Rattle.bf_parse.specs.Expressions.{begins_with_number};
 ghost use Rattle.bf_parse.specs.Words.{Minus, begins_with_number as tokens_begin_with_number};
 ghost use Rattle.bf_parse.specs.Cursors.{IsPlace, left, words};
@@ -28,6 +28,8 @@ pub(crate) enum Front<'a> {
     Number(u64, Cursor<'a>),
     /// The number behind a minus.
     Negative(u64, Cursor<'a>),
+    /// A minus with no number behind it, and the place behind the minus.
+    Minus(Cursor<'a>),
     /// The bytes of a text, with its quotes.
     Text(&'a [u8], Cursor<'a>),
     Other,
@@ -59,7 +61,7 @@ impl<'a> Cursor<'a> {
         }
     }
 
-    /// The literal that stands first, if one does.
+    /// The literal that stands first, or a minus alone.
     pub(crate) fn front(self) -> Front<'a>
         requires { IsPlace self }
         ensures front { IsFront (words self.entry) result }
@@ -83,13 +85,13 @@ fn negative(behind: Cursor<'_>) -> Front<'_>
     requires { IsPlace behind }
     ensures front { IsFront (Minus (begins_with_number (words behind.entry)) ∷ words behind.entry) result }
     ensures place { BehindFront IsPlace result }
-    ensures shorter { BehindFront (λ rest. left rest < left behind.entry) result }
+    ensures shorter { BehindFront (λ rest. left rest ≤ left behind.entry) result }
 {
     match behind.next() {
-        None => Front::Other,
+        None => Front::Minus(behind),
         Some((second, rest)) => match second.kind {
             TokenKind::Number(number) => Front::Negative(number, rest),
-            _ => Front::Other,
+            _ => Front::Minus(behind),
         },
     }
 }
