@@ -2,6 +2,7 @@
 
 ghost use Rattle.std.specs.Prelude.{◌≡◌, ◌<◌, IfErr, IfOk};
 ghost use Rattle.bf_expr.specs.Trees.{both, either, opposite as opposite_tree};
+ghost use Rattle.bf_expr.specs.Views.{operand_tree};
 ghost use Rattle.bf_parse.specs.declared.error.Stop.TheVariants.{Memory as OutOfMemory};
 ghost use Rattle.bf_parse.specs.Comparisons.{TestRule};
 ghost use Rattle.bf_parse.specs.Conditions.{Conjunction, Disjunction, Negation, OperandRule};
@@ -16,25 +17,25 @@ use crate::error::Stop;
 use crate::expression::counted;
 use crate::operand::{literal, reference};
 use crate::start::Start;
-use bf_expr::{RawCond, RawExpr, RawNode, RawTest};
+use bf_expr::{Operand, RawCond, RawTest};
 use bf_lex::{Keyword, Sign};
 use std::alloc::Global;
 
 /// A literal or a column at a place, and the place behind it.
-fn operand<'a>(alloc: Global, cursor: Cursor<'a>) -> Result<(RawExpr, Cursor<'a>), Stop>
+fn operand<'a>(alloc: Global, cursor: Cursor<'a>) -> Result<(Operand, Cursor<'a>), Stop>
     requires { IsPlace cursor }
-    ensures fits { Fits is_point OperandRule (words cursor.entry) (outcome (λ x. Read x.0 (words x.1)) result) }
+    ensures fits { Fits is_point OperandRule (words cursor.entry) (outcome (λ x. Read (operand_tree x.0) (words x.1)) result) }
     ensures place { IfOk result (λ x. IsPlace x.1) }
     ensures shorter { IfOk result (λ x. left x.1 < left cursor.entry) }
 {
     match cursor.start() {
         Start::Other => {
             let (column, rest) = reference(alloc, cursor)?;
-            Ok((RawExpr::of(RawNode::Column(column)), rest))
+            Ok((Operand::Column(column), rest))
         }
         _ => {
             let (value, rest) = literal(alloc, cursor)?;
-            Ok((RawExpr::of(RawNode::Value(value)), rest))
+            Ok((Operand::Value(value), rest))
         }
     }
 }
