@@ -22,7 +22,7 @@ use Rattle.bf_parse.proofs.Beginnings.{Begun, other_not_here}
 use Rattle.bf_parse.proofs.Chains.{node_go, node_deep, marked_not_here}
 use Rattle.bf_parse.proofs.Connections.{negation_can, disjunction_can}
 use Rattle.bf_parse.proofs.Factors.{begins-append, begins_behind, whole}
-use Rattle.bf_parse.proofs.Tests.{begins_operand, operand_begins}
+use Rattle.bf_parse.proofs.Comparisons.{begins_operand, operand_begins}
 
 abbrev pub NotPart : ℕ → List Step → CountedCond → Type 0
 NotPart n = Marked (Node (n + 1)) (After (Keyword keyword.Not) (Then (Negation (n + 1)) (λ x. Return (tree.opposite x.0, x.1))))
@@ -66,9 +66,22 @@ from n s x (parenthesis inner h p) =
 from n s x (comparison op a b front back o u p q) =
     inr (inr (front, Limit (Node (n + 1)) ∷ Say (Sign (compare_sign op)) ∷ back, a, p, o, inl (Say (Sign (compare_sign op)) ∷ back, refl, (op, back, refl, (back, [], b, sym (append-nil back), u, (refl, q))))))
 from n s x (range a low high one two three o u v p q) =
-    inr (inr (one, Limit (Node (n + 1)) ∷ Say (Keyword keyword.Between) ∷ (two ++ Say (Keyword keyword.And) ∷ three), a, p, o,
-      inr (Say (Keyword keyword.Between) ∷ (two ++ Say (Keyword keyword.And) ∷ three), refl, (two ++ Say (Keyword keyword.And) ∷ three, refl,
-        (two, Say (Keyword keyword.And) ∷ three, low, refl, u, (three, refl, (three, [], high, sym (append-nil three), v, (refl, q))))))))
+    inr (inr (
+      one,
+      Limit (Node (n + 1)) ∷ Say (Keyword keyword.Between) ∷ (two ++ Say (Keyword keyword.And) ∷ three),
+      a,
+      p,
+      o,
+      inr (
+        Say (Keyword keyword.Between) ∷ (two ++ Say (Keyword keyword.And) ∷ three),
+        refl,
+        (
+          two ++ Say (Keyword keyword.And) ∷ three,
+          refl,
+          (two, Say (Keyword keyword.And) ∷ three, low, refl, u, (three, refl, (three, [], high, sym (append-nil three), v, (refl, q)))),
+        ),
+      ),
+    ))
 
 negation_as : {n : ℕ} {ws : List Word} {r : Reading CountedCond} → Fits is_point (Parts n) ws r → Fits is_point (Negation n) ws r
 negation_as {n = n} {ws = ws} {r = r} f = record { it = fits_by is_point (Parts n) (Negation n) ws r f.it (to n) (λ s b back g ends same. from n s b g) }

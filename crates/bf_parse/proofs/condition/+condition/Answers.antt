@@ -26,7 +26,7 @@ pub negation-returns-in_err-next-in-Some-sign-clause-fits : goal.negation-return
 negation-returns-in_err-next-in-Some-sign-clause-fits t c =
     exit _ c.from_residual-in_err-next-in-Some-sign.result _ c.from_residual-in_err-next-in-Some-sign.ensures.1
     (told _ _ c.in_err-next-in-Some-sign.ensures.fault
-      (group_deep _ (length-words c.args.cursor.text.now c.args.cursor.tokens.now) c.in_err-next-in-Some-sign.ensures.deep c.in-None.ensures.found c.in-Some-sign.ensures.found))
+    (group_deep _ (length-words c.args.cursor.text.now c.args.cursor.tokens.now) c.in_err-next-in-Some-sign.ensures.deep c.in-None.ensures.found c.in-Some-sign.ensures.found))
 
 pub negation-returns-in_err-inner-in-Some-sign-clause-fits : goal.negation-returns-in_err-inner-in-Some-sign-clause-fits
 negation-returns-in_err-inner-in-Some-sign-clause-fits t c =
