@@ -1,5 +1,5 @@
 -- The arms of a condition without AND and OR.
-use Rattle.std.proofs.Common.{◌≡◌, ℕ, ◌+◌, ◌<◌, ◌≤◌, Bool, true, false, List, [], ◌∷◌, ◌++◌, length, Option, Some, None, Ok, Err, refl, sym, ap, subst, ◌∙◌, ◌⊎◌, inl, inr}
+use Rattle.std.proofs.Common.{◌≡◌, ℕ, ◌+◌, ◌<◌, ◌≤◌, Bool, true, false, List, [], ◌∷◌, ◌++◌, length, Some, None, Ok, Err, refl, sym, ap, subst, ◌∙◌, inl, inr}
 use Rattle.std.proofs.lemmas.List.{append-nil}
 use Rattle.bf_expr.specs.declared.raw.Ref.{Ref}
 use Rattle.bf_expr.specs.Trees as tree
@@ -10,14 +10,14 @@ use Rattle.bf_parse.specs.declared.error.Stop.{Stop}
 use Rattle.bf_parse.specs.Words.{Word, Keyword, Sign}
 use Rattle.bf_parse.specs.Steps.{Step, Say, Limit, Node, said}
 use Rattle.bf_parse.specs.Rules.{Return, After, Marked, Then, Either}
-use Rattle.bf_parse.specs.Reading.{Ends, Reading, Read, Over, Fits}
+use Rattle.bf_parse.specs.Reading.{Reading, Read, Over, Fits}
 use Rattle.bf_parse.specs.Outcome.{IsBehind, IsExpected, stopped}
 use Rattle.bf_parse.specs.Ends.{begins, is_point, goes_disjunction}
 use Rattle.bf_parse.specs.Conditions.{CountedCond, OperandRule, compare_sign, Negation, not, parenthesis, comparison, range, Disjunction}
 use Rattle.bf_parse.specs.Comparisons.{Tested, TestRule}
 use Rattle.bf_parse.proofs.Fitting.{fits_by}
 use Rattle.bf_parse.proofs.Lists as lists
-use Rattle.bf_parse.proofs.Moves.{Can, NotHere, left_here, right_here, after_go, after_stop, after_can, after_not_here, after_passed, then_can, then_go, then_stop, return_can, return_fits, return_passed}
+use Rattle.bf_parse.proofs.Moves.{NotHere, left_here, right_here, after_go, after_stop, after_can, after_not_here, after_passed, then_can, then_go, then_stop, return_can, return_fits, return_passed}
 use Rattle.bf_parse.proofs.Beginnings.{Begun, other_not_here}
 use Rattle.bf_parse.proofs.Chains.{node_go, node_deep, marked_not_here}
 use Rattle.bf_parse.proofs.Connections.{negation_can, disjunction_can}

@@ -1,4 +1,4 @@
-use Rattle.std.proofs.Common.{◌≡◌, ℕ, ◌+◌, arith, refl, sym, rules}
+use Rattle.std.proofs.Common.{arith}
 use Rattle.bf_parse.specs.Conditions.{CountedCond}
 use Rattle.bf_parse.proofs.Connections.{conjunction_as, negations_can, negations_passed, and_deep, and_end, and_stop, and_more, disjunction_as, conjunctions_can, conjunctions_passed, or_deep, or_end, or_stop, or_more}
 use Rattle.bf_parse.proofs.Negations.{not_deep, not_stop, not_read, group_deep, group_stop, group_open, group_read, test_first}
