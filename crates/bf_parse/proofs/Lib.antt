@@ -1,11 +1,13 @@
 mod Additions
 mod Beginnings
 mod Chains
+mod Comparisons
 mod Connections
 mod Contents
 mod Factors
 mod Fitting
 mod Joints
+mod Lexed
 mod Lists
 mod Literals
 mod Moves
@@ -13,4 +15,3 @@ mod Negations
 mod Numbered
 mod Operands
 mod Places
-mod Tests

@@ -9,3 +9,5 @@ mod expression;
 mod joint;
 mod operand;
 mod start;
+#[cfg(test)]
+mod tests;
