@@ -10,7 +10,7 @@ ghost use Rattle.bf_bits.specs.Answers.{answer_for};
 
 use crate::answer::Look;
 use crate::rule::{Claims, Finishes, GivesBack, Law, Looks, Made, Seating, View};
-use crate::words::{gather, lock_mask, marked, migrate_mask, state_of};
+use crate::words::{gather, lock_mask, marked, migrate_mask, state_of, words_for};
 use atomic_table::{Seat, Table};
 use bf_base::Memory;
 use std::alloc::Global;
@@ -91,7 +91,7 @@ impl Bits {
         ensures granules { IfOk result (λ made. made.0.granules ≡ granules) }
         ensures first_seat { IfOk result (λ made. made.1 ≡ first_seat made.0.table done.now) }
     {
-        let words = marked(alloc, (granules / 32 + 1) as usize, done)?;
+        let words = marked(alloc, words_for(granules), done)?;
         let mut kept = Vec::with_capacity(alloc, done.len())?;
         kept.extend_from_slice(done)?;
         let made = Made {

@@ -1,6 +1,6 @@
 //! Words of 32 granules each: for each granule the lock bit, and above it the migrate bit.
 
-ghost use Rattle.std.specs.Prelude.{◌≡◌, ◌/◌, ◌<◌, ◌≤◌, [], ℕ, All, IfOk, MatchBool, bit_or, length, replicate, slice_index, slice_set, vec_capacity};
+ghost use Rattle.std.specs.Prelude.{◌≡◌, ◌+◌, ◌*◌, ◌/◌, ◌<◌, ◌≤◌, [], ℕ, All, IfOk, MatchBool, bit_or, length, replicate, slice_index, slice_set, vec_capacity};
 ghost use Rattle.std.specs.Mem.Slots.{slots_items, slots_len, IsFull};
 ghost use Rattle.std.specs.List.Sorted.{IsStrictlyIncreasing};
 ghost use Rattle.bf_bits.specs.Positions.{Has, IsDistinct};
@@ -48,6 +48,15 @@ pub fn state_of(word: u64, at: u32) -> Look
     } else {
         Look::Free
     }
+}
+
+/// How many words that many granules take: 32 granules each, and at least one word.
+pub fn words_for(granules: u32) -> usize
+    ensures room { granules ≤ 32 * result }
+    ensures some { 0 < result }
+    ensures no_more { 32 * result < granules + 64 }
+{
+    (granules as usize).div_ceil(32).max(1)
 }
 
 /// Words in which both bits of these positions are set, and no others.
