@@ -46,49 +46,58 @@ fn told(answer: BitAnswer) -> &'static str {
     }
 }
 
-// Claims a free granule, gives it back, claims it again and finishes it, and looks each time at it,
-// at the one before it, which is done, and at the one behind it, which is free.
-fn goes_through_its_states(rt: &impl Abort, bits: &Bits, seat: &mut BitSeat, at: u32)
+// Looks at the granule before one, which is done, and at the one behind it, which is free.
+fn looks_around(rt: &impl Abort, bits: &Bits, seat: &mut BitSeat, at: u32)
     requires at { at < bits.now.granules }
     requires own { seat.old.table ≡ bits.now.table }
-    requires none_held { seat.old.view.held ≡ [] }
-    ensures own { seat.new.table ≡ bits.now.table }
-    ensures none_held { seat.new.view.held ≡ [] }
+    ensures own { seat.new.table ≡ seat.old.table }
+    ensures held { seat.new.view.held ≡ seat.old.view.held }
 {
-    assert_eq!(rt; bits.look(seat, at), Look::Free);
+    if 0 < at {
+        assert_eq!(rt; bits.look(seat, at - 1), Look::Done);
+    }
+    let granules = bits.granules();
+    if at + 1 < granules {
+        assert_eq!(rt; bits.look(seat, at + 1), Look::Free);
+    }
+}
+
+// Claims a free granule, and gives it back.
+fn claim_and_give_back(rt: &impl Abort, bits: &Bits, seat: &mut BitSeat, at: u32)
+    requires at { at < bits.now.granules }
+    requires own { seat.old.table ≡ bits.now.table }
+    ensures own { seat.new.table ≡ seat.old.table }
+    ensures held { seat.new.view.held ≡ seat.old.view.held }
+{
     match bits.claim(seat, at) {
         BitAnswer::Claimed(claim) => {
             assert_eq!(rt; bits.look(seat, at), Look::Held);
             assert_eq!(rt; told(bits.claim(seat, at)), "busy");
-            looks_around(rt, bits, seat, at);
             bits.give_back(seat, claim);
         }
-        BitAnswer::Busy | BitAnswer::Done => {}
+        BitAnswer::Busy | BitAnswer::Done => panic!(rt; "{at} was free"),
     }
-    assert_eq!(rt; bits.look(seat, at), Look::Free);
-    finish_one(bits, seat, at);
-    assert_eq!(rt; bits.look(seat, at), Look::Done);
-    assert_eq!(rt; told(bits.claim(seat, at)), "done");
-    looks_around(rt, bits, seat, at);
 }
 
-fn looks_around(rt: &impl Abort, bits: &Bits, seat: &mut BitSeat, at: u32)
+// Takes a free granule through all of its states.
+fn goes_through_its_states(rt: &impl Abort, bits: &Bits, seat: &mut BitSeat, at: u32)
+    requires at { at < bits.now.granules }
     requires own { seat.old.table ≡ bits.now.table }
-    ensures own { seat.new.table ≡ bits.now.table }
-    ensures held { seat.new.view.held ≡ seat.old.view.held }
+    ensures own { seat.new.table ≡ seat.old.table }
 {
-    if 0 < at && at <= bits.granules() {
-        assert_eq!(rt; bits.look(seat, at - 1), Look::Done);
-    }
-    if at < bits.granules() && at + 1 < bits.granules() {
-        assert_eq!(rt; bits.look(seat, at + 1), Look::Free);
-    }
+    assert_eq!(rt; bits.look(seat, at), Look::Free);
+    claim_and_give_back(rt, bits, seat, at);
+    assert_eq!(rt; bits.look(seat, at), Look::Free);
+    looks_around(rt, bits, seat, at);
+    assert_eq!(rt; finish_one(bits, seat, at), 1);
+    assert_eq!(rt; bits.look(seat, at), Look::Done);
+    looks_around(rt, bits, seat, at);
 }
 
 #[test]
 fn each_position_of_three_words_is_its_own(rt: HostRuntime) -> Result<(), Fail> {
     let (bits, mut seat) = Bits::of_done(rt.alloc(), 96, &[])?;
-    for at in 0..bits.granules() {
+    for at in 0..96 {
         goes_through_its_states(&rt, &bits, &mut seat, at);
     }
     Ok(())
@@ -152,7 +161,7 @@ fn two_threads_finish_each_granule_once(rt: HostRuntime) -> Result<(), Fail> {
     let (one, two) = join(&rt, move || work(shared, seat), move || work(shared, other));
     let (mut seat, mine) = one;
     let (other, theirs) = two;
-    assert_eq!(rt; mine + theirs, 5000);
+    assert_eq!(rt; mine as u64 + theirs as u64, 5000);
     bits.join_back(&mut seat, other);
     let done = closed(rt.alloc(), bits, seat)?;
     assert!(rt; done.iter().copied().eq(0..5000));
