@@ -1,5 +1,5 @@
 -- What a stripe has of each key, how a claim is answered, and what stands after each call.
-use Rattle.std.specs.Prelude.{ℕ, ◌≡◌, ◌<◌, ◌≤◌, ◌==◌, Bool, false, List, map, Option, Some, None, if◌then◌else◌}
+use Rattle.std.specs.Prelude.{ℕ, ◌≡◌, ◌<◌, ◌≤◌, List, map, Option, Some, if◌then◌else◌}
 use Rattle.std.specs.FinMap as map
 use Rattle.bf_base.specs.declared.value.Value.{Value}
 use Rattle.bf_base.specs.Values.{key_cmp}
@@ -7,6 +7,7 @@ use Rattle.bf_hash.specs.declared.state.Mark.{Mark}
 use Rattle.bf_hash.specs.declared.state.Mark.TheVariants.{Held, Done}
 use Rattle.bf_hash.specs.declared.state.HashState.{HashState}
 use Rattle.bf_hash.specs.declared.state.HashState.TheVariants.{Free, Held as IsHeld, Done as IsDone}
+use Rattle.bf_hash.specs.States.{state_by, is_held_under}
 use Rattle.bf_hash.specs.declared.state.HashClaim.{HashClaim}
 use Rattle.bf_hash.specs.declared.state.HashAnswer.{HashAnswer}
 use Rattle.bf_hash.specs.declared.state.HashAnswer.TheVariants.{Claimed, Busy, Done as Finished}
@@ -22,12 +23,7 @@ Marks = map.FinMap key_cmp Mark
 abbrev pub mark_of : Marks → Cells → Option Mark
 mark_of stripe key = map.get stripe key
 
--- the state that a mark says, and that no mark says
-abbrev pub state_by : Option Mark → HashState
-state_by None = Free
-state_by (Some (Held ticket)) = IsHeld ticket
-state_by (Some Done) = IsDone
-
+-- the state of a key
 abbrev pub state_of : Marks → Cells → HashState
 state_of stripe key = state_by (mark_of stripe key)
 
@@ -63,12 +59,6 @@ abbrev pub after_answer : Marks → Cells → HashAnswer → Marks
 after_answer stripe key (Claimed claim) = map.insert stripe key (Held claim.ticket)
 after_answer stripe key (Busy ticket) = stripe
 after_answer stripe key Finished = stripe
-
--- whether a state is that of a key which is held under a ticket
-abbrev pub is_held_under : ℕ → HashState → Bool
-is_held_under ticket Free = false
-is_held_under ticket (IsHeld other) = other == ticket
-is_held_under ticket IsDone = false
 
 -- the stripe after a finish and after a give back: each changes it where the key is held under the claim's ticket
 abbrev pub after_finish : Marks → HashClaim → Marks

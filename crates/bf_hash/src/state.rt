@@ -1,6 +1,7 @@
 //! States of keys, claims of them, and what a claim answers.
 
 ghost use Rattle.std.specs.Prelude.{◌≡◌};
+ghost use Rattle.bf_hash.specs.States.{is_held_under};
 
 use bf_base::Key;
 
@@ -22,6 +23,18 @@ pub enum HashState {
     Held(u64),
     /// It is done, and stays so.
     Done,
+}
+
+impl HashState {
+    /// Whether it is held under this ticket.
+    pub fn is_held_under(self, ticket: u64) -> bool
+        ensures { result ≡ is_held_under ticket self }
+    {
+        match self {
+            HashState::Held(other) => other == ticket,
+            HashState::Free | HashState::Done => false,
+        }
+    }
 }
 
 /// A key that is held, and the ticket under which it is. `Stripe::claim` alone makes one.

@@ -3,7 +3,8 @@
 ghost use Rattle.std.specs.Prelude.{◌≡◌, IfOk, OnErr};
 ghost use Rattle.std.specs.BTreeMap as tree;
 ghost use Rattle.bf_base.specs.Values.{key_cmp};
-ghost use Rattle.bf_hash.specs.Stripes.{IsConsistent, IsGranted, IsAnswer, all_done, state_by, state_of, after_answer, after_finish, after_give_back};
+ghost use Rattle.bf_hash.specs.States.{state_by};
+ghost use Rattle.bf_hash.specs.Stripes.{IsConsistent, IsGranted, IsAnswer, all_done, state_of, after_answer, after_finish, after_give_back};
 
 use crate::state::{HashAnswer, HashClaim, HashState, Mark};
 use crate::tickets::Tickets;
@@ -114,7 +115,7 @@ impl Stripe {
     {
         let HashClaim { key, ticket } = claim;
         let found = state_among(&self.states, &key);
-        if found == HashState::Held(ticket) {
+        if found.is_held_under(ticket) {
             let Ok(_) = self.states.insert(key, Mark::Done) else { unreachable!() };
             self.tickets.give(ticket);
         }
@@ -131,7 +132,7 @@ impl Stripe {
     {
         let HashClaim { key, ticket } = claim;
         let found = state_among(&self.states, &key);
-        if found == HashState::Held(ticket) {
+        if found.is_held_under(ticket) {
             self.states.remove(&key);
             self.tickets.give(ticket);
         }
