@@ -1,5 +1,5 @@
 -- A tree of marks, read as a finite map, and how its keys and the taken tickets belong together after each change.
-use Rattle.std.proofs.Common.{◌≡◌, ◌≢◌, ◌⊎◌, inl, inr, ⊎_elim, ℕ, Bool, true, false, cond, List, [], ◌∷◌, ◌++◌, map, Option, Some, None, refl, sym, ap, ◌∙◌, subst, arith, eqb, take, length, get_or}
+use Rattle.std.proofs.Common.{◌≡◌, ◌≢◌, ◌⊎◌, inl, inr, ⊎_elim, ℕ, zero, suc, Bool, true, false, cond, List, [], ◌∷◌, ◌++◌, map, Option, Some, None, refl, sym, ap, ◌∙◌, subst, arith, eqb, take, length, get_or}
 use Rattle.std.specs.Ordering.{eq_by_cmp, is_eq}
 use Rattle.std.specs.Cmp.{eq_by_cmp_equiv}
 use Rattle.std.specs.FinMap as finite
@@ -11,14 +11,18 @@ use Rattle.std.proofs.lemmas.Bool.{cases_Bool, cond-true, cond-false}
 use Rattle.std.proofs.lemmas.Bool.Decides.{nat_tests}
 use Rattle.std.proofs.lemmas.Map.Views.{tells_apart}
 use mathlib.Core.Logic.{dite}
+use mathlib.Core.Option.{some, some-injective, some-ne-none}
+use lib.ListN.{get_elem?}
 use native.Mathlib.Decide.{ℕ_discrete}
 use Rattle.bf_base.specs.Values.{key_cmp, key_cmp_total, key_cmp-IsAntisymmetric}
 use Rattle.bf_hash.specs.declared.state.Mark.{Mark}
 use Rattle.bf_hash.specs.declared.state.Mark.TheVariants.{Held, Done}
+use Rattle.bf_hash.specs.declared.state.HashState.{HashState}
 use Rattle.bf_hash.specs.declared.state.HashState.TheVariants.{Free}
+use Rattle.bf_hash.specs.declared.state.HashClaim.{HashClaim}
 use Rattle.bf_hash.specs.States.{state_by, is_held_under}
 use Rattle.bf_hash.specs.Tickets.{Pool, IsTaken, IsLeastFree, TakesOne, GivesOne}
-use Rattle.bf_hash.specs.Stripes.{Cells, Marks, mark_of, state_of, all_done, IsConsistent, IsLeastTicket}
+use Rattle.bf_hash.specs.Stripes.{Cells, Marks, mark_of, state_of, all_done, after_finish, after_give_back, IsConsistent, IsLeastTicket}
 use Rattle.bf_hash.specs.Keeping.{marks_in, AreTheirs, IsSound}
 
 -- ---- the tree as a finite map
@@ -172,11 +176,40 @@ least_ticket states pool ticket theirs free = record {
   least = λ u up lt. let found = theirs.taken u (free.least u up lt) in (found.0, mark_in states found.0 ∙ found.1);
 }
 
+-- ---- after a finish and after a give back
+module _ (old : BTreeMap Cells Mark) (stripe : Marks) (claim : HashClaim) (found : HashState) (held : Bool)
+    (seen : marks_in old ≡ stripe) (found_is : found ≡ state_by (tree.get key_cmp old claim.key)) (held_is : held ≡ is_held_under claim.ticket found) where
+  pub found_here : found ≡ state_of stripe claim.key
+  found_here = found_is ∙ state_here old stripe claim.key seen
+
+  tested : (b : Bool) → held ≡ b → is_held_under claim.ticket (state_of stripe claim.key) ≡ b
+  tested b is = ap (is_held_under claim.ticket) (sym found_here) ∙ (sym held_is ∙ is)
+
+  pub held_here : held ≡ true → tree.get key_cmp old claim.key ≡ Some (Held claim.ticket)
+  held_here is = held_mark claim.ticket (tree.get key_cmp old claim.key) (ap (is_held_under claim.ticket) (sym found_is) ∙ (sym held_is ∙ is))
+
+  pub finish_changes : (new : BTreeMap Cells Mark) → ChangesAt old new claim.key (Some Done) → held ≡ true → marks_in new ≡ after_finish stripe claim
+  finish_changes new is so = inserted old new claim.key Done is ∙ (ap (λ (s : Marks). finite.insert s claim.key Done) seen ∙ sym (cond-true _ _ _ (tested true so)))
+
+  pub finish_keeps : held ≡ false → stripe ≡ after_finish stripe claim
+  finish_keeps not_so = sym (cond-false _ _ _ (tested false not_so))
+
+  pub give_back_changes : (new : BTreeMap Cells Mark) → ChangesAt old new claim.key None → held ≡ true → marks_in new ≡ after_give_back stripe claim
+  give_back_changes new is so = removed old new claim.key is ∙ (ap (λ (s : Marks). finite.remove s claim.key) seen ∙ sym (cond-true _ _ _ (tested true so)))
+
+  pub give_back_keeps : held ≡ false → stripe ≡ after_give_back stripe claim
+  give_back_keeps not_so = sym (cond-false _ _ _ (tested false not_so))
+
 -- the same entries
 pub theirs_by_entries : (old new : BTreeMap Cells Mark) (pool : Pool) → new.entries ≡ old.entries → AreTheirs (tree.get key_cmp old) pool → AreTheirs (tree.get key_cmp new) pool
 theirs_by_entries old new pool same theirs = subst (λ (es : List (Cells × Mark)). AreTheirs (λ q. lookup (is_at (key_cmp q)) es) pool) (sym same) theirs
 
 -- ---- keys that are done at the making
+pub read_at : (keys : List Cells) (i : ℕ) (key : Cells) → get_elem? keys i ≡ some key → get_or keys i [] ≡ key
+read_at [] i key e = absurd (some-ne-none key (sym e))
+read_at (k ∷ keys) zero key e = some-injective k key e
+read_at (k ∷ keys) (suc i) key e = read_at keys i key e
+
 abbrev pub done_entries : List Cells → List (Cells × Mark)
 done_entries keys = map (λ key. (key, Done)) keys
 

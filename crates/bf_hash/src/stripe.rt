@@ -115,10 +115,13 @@ impl Stripe {
     {
         let HashClaim { key, ticket } = claim;
         let found = state_among(&self.states, &key);
-        if found.is_held_under(ticket) {
-            let Ok(_) = self.states.insert(key, Mark::Done) else { unreachable!() };
-            self.tickets.give(ticket);
+        if !found.is_held_under(ticket) {
+            return found;
         }
+        let Ok(_) = self.states.insert(key, Mark::Done) else {
+            unreachable!()
+        };
+        self.tickets.give(ticket);
         found
     }
 
@@ -132,10 +135,11 @@ impl Stripe {
     {
         let HashClaim { key, ticket } = claim;
         let found = state_among(&self.states, &key);
-        if found.is_held_under(ticket) {
-            self.states.remove(&key);
-            self.tickets.give(ticket);
+        if !found.is_held_under(ticket) {
+            return found;
         }
+        self.states.remove(&key);
+        self.tickets.give(ticket);
         found
     }
 }

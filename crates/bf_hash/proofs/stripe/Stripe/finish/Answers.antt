@@ -1,39 +1,37 @@
-use Rattle.std.proofs.Common.{rules, ◌≡◌, IfOk, OnErr, ℕ, ◌+◌, ◌-◌, ◌*◌, ◌<◌, ◌≤◌, length, ◌/◌, ◌%◌, Bool, true, false, nat_eq, nat_lt, List, [], ◌∷◌, ◌++◌, slice_index_or, slice_set, bit_and, bit_or, Fits, w8, w32, w64, Bor, MutBor}
+use Rattle.std.proofs.Common.{subst}
 use Rattle.std.specs.BTreeMap as tree
 use Rattle.bf_base.specs.Values.{key_cmp}
-use Rattle.bf_hash.specs.States.{state_by}
-use Rattle.bf_hash.specs.Stripes.{IsConsistent, IsGranted, IsAnswer, all_done, state_of, after_answer, after_finish, after_give_back}
+use Rattle.bf_hash.specs.Stripes.{IsConsistent}
+use Rattle.bf_hash.specs.Keeping.{AreTheirs}
+use Rattle.bf_hash.proofs.Marks.{consistent, done_not_held, finish_changes, finish_keeps, found_here, held_here, settled}
 use Rattle.bf_hash.proofs.stripe.Stripe.finish.Goals as goal
 
--- src/stripe.rt:120:13
+pub returns-then-not-is_held_under-clause-found : goal.returns-then-not-is_held_under-clause-found
+returns-then-not-is_held_under-clause-found c = found_here c.self.inside.states c.args.self.now c.args.claim _ _ c.self.view_is c.state_among-found.ensures c.is_held_under.ensures
+
+pub returns-then-not-is_held_under-clause-after : goal.returns-then-not-is_held_under-clause-after
+returns-then-not-is_held_under-clause-after c = finish_keeps c.self.inside.states c.args.self.now c.args.claim _ _ c.self.view_is c.state_among-found.ensures c.is_held_under.ensures c.if-not-is_held_under.true
+
+pub returns-then-not-is_held_under-clause-consistent : goal.returns-then-not-is_held_under-clause-consistent
+returns-then-not-is_held_under-clause-consistent c = subst IsConsistent c.self.view_is (consistent c.self.inside.states _ c.self.invariant.theirs)
+
 pub give-requires : goal.give-requires
-give-requires c = ?
+give-requires c = c.self.invariant.theirs.held c.args.claim.key c.args.claim.ticket (held_here c.self.inside.states c.args.self.now c.args.claim _ _ c.self.view_is c.state_among-found.ensures c.is_held_under.ensures c.if-not-is_held_under.false)
 
--- src/stripe.rt:120:13
+-- the key is held no longer, and its ticket is free
+theirs_now : (c : goal.After-give) → AreTheirs (tree.get key_cmp c.insert.new.self) c.give.new.self
+theirs_now c =
+    settled c.self.inside.states c.insert.new.self c.args.claim.key _ c.in-Ok.ensures.updates.0 c.self.inside.tickets c.give.new.self c.args.claim.ticket done_not_held
+    (held_here c.self.inside.states c.args.self.now c.args.claim _ _ c.self.view_is c.state_among-found.ensures c.is_held_under.ensures c.if-not-is_held_under.false) c.give.ensures c.self.invariant.theirs
+
 pub invariant_of-self : goal.invariant_of-self
-invariant_of-self c = ?
+invariant_of-self c = record { ordered = c.insert.ensures.ordered; theirs = theirs_now c }
 
--- src/stripe.rt:111:5
-pub returns-in-Ok-clause-found : goal.returns-in-Ok-clause-found
-returns-in-Ok-clause-found c = ?
+pub returns-clause-found : goal.returns-clause-found
+returns-clause-found c = found_here c.self.inside.states c.args.self.now c.args.claim _ _ c.self.view_is c.state_among-found.ensures c.is_held_under.ensures
 
--- src/stripe.rt:111:5
-pub returns-in-Ok-clause-after : goal.returns-in-Ok-clause-after
-returns-in-Ok-clause-after c = ?
+pub returns-clause-after : goal.returns-clause-after
+returns-clause-after c = finish_changes c.self.inside.states c.args.self.now c.args.claim _ _ c.self.view_is c.state_among-found.ensures c.is_held_under.ensures c.insert.new.self c.in-Ok.ensures.updates.0 c.if-not-is_held_under.false
 
--- src/stripe.rt:111:5
-pub returns-in-Ok-clause-consistent : goal.returns-in-Ok-clause-consistent
-returns-in-Ok-clause-consistent c = ?
-
--- src/stripe.rt:111:5
-pub returns-else-is_held_under-clause-found : goal.returns-else-is_held_under-clause-found
-returns-else-is_held_under-clause-found c = ?
-
--- src/stripe.rt:111:5
-pub returns-else-is_held_under-clause-after : goal.returns-else-is_held_under-clause-after
-returns-else-is_held_under-clause-after c = ?
-
--- src/stripe.rt:111:5
-pub returns-else-is_held_under-clause-consistent :
-    goal.returns-else-is_held_under-clause-consistent
-returns-else-is_held_under-clause-consistent c = ?
+pub returns-clause-consistent : goal.returns-clause-consistent
+returns-clause-consistent c = consistent c.insert.new.self _ (theirs_now c)

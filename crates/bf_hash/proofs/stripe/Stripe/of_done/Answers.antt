@@ -1,22 +1,33 @@
-use Rattle.std.proofs.Common.{rules, ◌≡◌, IfOk, OnErr, ℕ, ◌+◌, ◌-◌, ◌*◌, ◌<◌, ◌≤◌, length, ◌/◌, ◌%◌, Bool, true, false, nat_eq, nat_lt, List, [], ◌∷◌, ◌++◌, slice_index_or, slice_set, bit_and, bit_or, Fits, w8, w32, w64, Bor, MutBor}
+use Rattle.std.proofs.Common.{[], ◌∷◌, ◌++◌, List, take, sym, ap, subst, ◌∙◌}
+use Rattle.std.proofs.lemmas.List.{take_all, take_more}
 use Rattle.std.specs.BTreeMap as tree
 use Rattle.bf_base.specs.Values.{key_cmp}
-use Rattle.bf_hash.specs.States.{state_by}
-use Rattle.bf_hash.specs.Stripes.{IsConsistent, IsGranted, IsAnswer, all_done, state_of, after_answer, after_finish, after_give_back}
+use Rattle.bf_hash.specs.Stripes.{Cells, IsConsistent}
+use Rattle.bf_hash.specs.Keeping.{AreTheirs}
+use Rattle.bf_hash.proofs.Marks.{HasDone, all_are_done, consistent, done_theirs, has_done_more, read_at}
 use Rattle.bf_hash.proofs.stripe.Stripe.of_done.Goals as goal
 
--- src/stripe.rt:61:9
 pub loop-key-preserved : goal.loop-key-preserved
-loop-key-preserved c = ?
+loop-key-preserved c =
+    let keys = c.args.done.now in
+    let i = c.loop-key.key-index in
+    record {
+      ordered = c.insert.ensures.ordered;
+      done = has_done_more c.loop-key.states c.insert.new.self _ _ (take i keys) _ c.in_ok-copy.ensures
+          (take_more keys i [] c.loop-key-test.true ∙ ap (λ (k : Cells). take i keys ++ k ∷ []) (read_at keys i _ c.key-item.is)) c.in_ok-insert.ensures.updates.0 c.loop-key.invariant.done;
+    }
 
--- src/stripe.rt:64:9
+all_there : (c : goal.After-new) → HasDone c.loop-key.states c.args.done.now
+all_there c = subst (λ (keys : List Cells). HasDone c.loop-key.states keys) (take_all c.loop-key.key-index c.args.done.now c.loop-key-test.false) c.loop-key.invariant.done
+
+theirs_now : (c : goal.After-new) → AreTheirs (tree.get key_cmp c.loop-key.states) c.new.result
+theirs_now c = done_theirs c.loop-key.states c.args.done.now c.new.result (all_there c) c.new.ensures
+
 pub invariant_of-result : goal.invariant_of-result
-invariant_of-result c = ?
+invariant_of-result c = record { ordered = c.loop-key.invariant.ordered; theirs = theirs_now c }
 
--- src/stripe.rt:56:5
 pub returns-clause-all : goal.returns-clause-all
-returns-clause-all c = ?
+returns-clause-all c = all_are_done c.loop-key.states c.args.done.now (all_there c)
 
--- src/stripe.rt:56:5
 pub returns-clause-consistent : goal.returns-clause-consistent
-returns-clause-consistent c = ?
+returns-clause-consistent c = consistent c.loop-key.states _ (theirs_now c)
