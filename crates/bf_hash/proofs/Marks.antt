@@ -1,5 +1,5 @@
 -- A tree of marks, read as a finite map, and how its keys and the taken tickets belong together after each change.
-use Rattle.std.proofs.Common.{◌≡◌, ◌≢◌, ◌⊎◌, inl, inr, ⊎_elim, ℕ, zero, suc, Bool, true, false, cond, List, [], ◌∷◌, ◌++◌, map, Option, Some, None, refl, sym, ap, ◌∙◌, subst, arith, eqb, take, length, get_or}
+use Rattle.std.proofs.Common.{◌≡◌, ◌≢◌, ◌⊎◌, inl, inr, ⊎_elim, ℕ, Bool, true, false, cond, List, [], ◌∷◌, ◌++◌, map, Option, Some, None, refl, sym, ap, ◌∙◌, subst, arith, eqb, take, length, get_or}
 use Rattle.std.specs.Ordering.{eq_by_cmp, is_eq}
 use Rattle.std.specs.Cmp.{eq_by_cmp_equiv}
 use Rattle.std.specs.FinMap as finite
@@ -11,8 +11,6 @@ use Rattle.std.proofs.lemmas.Bool.{cases_Bool, cond-true, cond-false}
 use Rattle.std.proofs.lemmas.Bool.Decides.{nat_tests}
 use Rattle.std.proofs.lemmas.Map.Views.{tells_apart}
 use mathlib.Core.Logic.{dite}
-use mathlib.Core.Option.{some, some-injective, some-ne-none}
-use lib.ListN.{get_elem?}
 use native.Mathlib.Decide.{ℕ_discrete}
 use Rattle.bf_base.specs.Values.{key_cmp, key_cmp_total, key_cmp-IsAntisymmetric}
 use Rattle.bf_hash.specs.declared.state.Mark.{Mark}
@@ -106,13 +104,13 @@ module _ (old new : BTreeMap Cells Mark) (key : Cells) (mark : Option Mark) (is 
         (found.0, there found.0 (λ same. none_held u (sym free ∙ (ap (tree.get key_cmp old) (sym same) ∙ found.1))) ∙ found.1));
     differ = λ q r u e f. ⊎_elim
         (λ first. ⊎_elim
-            (λ second. first.0 ∙ sym second.0)
-            (λ same. absurd (unused (subst (IsTaken pool) (sym (same_ticket ticket u (sym held ∙ (sym first.1 ∙ e)))) (theirs.held r u (sym same ∙ f)))))
-            (cases r))
+        (λ second. first.0 ∙ sym second.0)
+        (λ same. absurd (unused (subst (IsTaken pool) (sym (same_ticket ticket u (sym held ∙ (sym first.1 ∙ e)))) (theirs.held r u (sym same ∙ f)))))
+        (cases r))
         (λ kept. ⊎_elim
-            (λ second. absurd (unused (subst (IsTaken pool) (sym (same_ticket ticket u (sym held ∙ (sym second.1 ∙ f)))) (theirs.held q u (sym kept ∙ e)))))
-            (λ same. theirs.differ q r u (sym kept ∙ e) (sym same ∙ f))
-            (cases r))
+        (λ second. absurd (unused (subst (IsTaken pool) (sym (same_ticket ticket u (sym held ∙ (sym second.1 ∙ f)))) (theirs.held q u (sym kept ∙ e)))))
+        (λ same. theirs.differ q r u (sym kept ∙ e) (sym same ∙ f))
+        (cases r))
         (cases q);
   }
     where
@@ -125,10 +123,10 @@ module _ (old new : BTreeMap Cells Mark) (key : Cells) (mark : Option Mark) (is 
     held = λ q u e. ⊎_elim
         (λ both. absurd (unheld u (sym both.1 ∙ e)))
         (λ same. gives.no_other u
-            (λ is_it.
-            let it : q ≡ key = theirs.differ q key ticket (sym same ∙ (e ∙ ap (λ (n : ℕ). Some (Held n)) is_it)) held in
-            unheld u (sym here ∙ (ap (tree.get key_cmp new) (sym it) ∙ e)))
-            (theirs.held q u (sym same ∙ e)))
+        (λ is_it.
+        let it : q ≡ key = theirs.differ q key ticket (sym same ∙ (e ∙ ap (λ (n : ℕ). Some (Held n)) is_it)) held in
+        unheld u (sym here ∙ (ap (tree.get key_cmp new) (sym it) ∙ e)))
+        (theirs.held q u (sym same ∙ e)))
         (cases q);
     taken = λ u taken.
         let found = theirs.taken u (gives.kept u taken) in
@@ -136,9 +134,9 @@ module _ (old new : BTreeMap Cells Mark) (key : Cells) (mark : Option Mark) (is 
     differ = λ q r u e f. ⊎_elim
         (λ first. absurd (unheld u (sym first.1 ∙ e)))
         (λ kept. ⊎_elim
-            (λ second. absurd (unheld u (sym second.1 ∙ f)))
-            (λ same. theirs.differ q r u (sym kept ∙ e) (sym same ∙ f))
-            (cases r))
+        (λ second. absurd (unheld u (sym second.1 ∙ f)))
+        (λ same. theirs.differ q r u (sym kept ∙ e) (sym same ∙ f))
+        (cases r))
         (cases q);
   }
 
@@ -205,11 +203,6 @@ pub theirs_by_entries : (old new : BTreeMap Cells Mark) (pool : Pool) → new.en
 theirs_by_entries old new pool same theirs = subst (λ (es : List (Cells × Mark)). AreTheirs (λ q. lookup (is_at (key_cmp q)) es) pool) (sym same) theirs
 
 -- ---- keys that are done at the making
-pub read_at : (keys : List Cells) (i : ℕ) (key : Cells) → get_elem? keys i ≡ some key → get_or keys i [] ≡ key
-read_at [] i key e = absurd (some-ne-none key (sym e))
-read_at (k ∷ keys) zero key e = some-injective k key e
-read_at (k ∷ keys) (suc i) key e = read_at keys i key e
-
 abbrev pub done_entries : List Cells → List (Cells × Mark)
 done_entries keys = map (λ key. (key, Done)) keys
 

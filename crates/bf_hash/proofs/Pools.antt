@@ -92,8 +92,8 @@ module _ (xs : List ℕ) (once : (p : ℕ) → times p xs ≤ 1) (no_zero : time
       let b = few n in
       let c = once (n + 1) in
       let here : count_below (n + 1 + 1) xs + 1 ≤ n + 1 = dite (ℕ_discrete t (n + 1))
-          (λ e. let z : times (n + 1) xs ≡ 0 = subst (λ (k : ℕ). times k xs ≡ 0) e none in omega arith)
-          (λ ne. let d = fewer t one_up none n (omega (arith, ne)) in omega arith) in
+      (λ e. let z : times (n + 1) xs ≡ 0 = subst (λ (k : ℕ). times k xs ≡ 0) e none in omega arith)
+      (λ ne. let d = fewer t one_up none n (omega (arith, ne)) in omega arith) in
       subst (λ (m : ℕ). count_below (m + 1) xs + 1 ≤ m) (sym is) here
 
 length-numbers : (xs : List (Reverse ℕ)) → length (numbers_of xs) ≡ length xs

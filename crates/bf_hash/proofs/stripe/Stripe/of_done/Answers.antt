@@ -4,7 +4,7 @@ use Rattle.std.specs.BTreeMap as tree
 use Rattle.bf_base.specs.Values.{key_cmp}
 use Rattle.bf_hash.specs.Stripes.{Cells, IsConsistent}
 use Rattle.bf_hash.specs.Keeping.{AreTheirs}
-use Rattle.bf_hash.proofs.Marks.{HasDone, all_are_done, consistent, done_theirs, has_done_more, read_at}
+use Rattle.bf_hash.proofs.Marks.{HasDone, all_are_done, consistent, done_theirs, has_done_more}
 use Rattle.bf_hash.proofs.stripe.Stripe.of_done.Goals as goal
 
 pub loop-key-preserved : goal.loop-key-preserved
@@ -14,7 +14,7 @@ loop-key-preserved c =
     record {
       ordered = c.insert.ensures.ordered;
       done = has_done_more c.loop-key.states c.insert.new.self _ _ (take i keys) _ c.in_ok-copy.ensures
-          (take_more keys i [] c.loop-key-test.true ∙ ap (λ (k : Cells). take i keys ++ k ∷ []) (read_at keys i _ c.key-item.is)) c.in_ok-insert.ensures.updates.0 c.loop-key.invariant.done;
+          (take_more keys i c.key-item.result c.loop-key-test.true ∙ ap (λ (k : Cells). take i keys ++ k ∷ []) (sym c.key-item.is)) c.in_ok-insert.ensures.updates.0 c.loop-key.invariant.done;
     }
 
 all_there : (c : goal.After-new) → HasDone c.loop-key.states c.args.done.now
