@@ -1,0 +1,10 @@
+use Rattle.std.proofs.Common.{◌≡◌, ◌≤◌, []}
+use Rattle.bf_bits.proofs.tests.work.Given as goal
+
+abbrev pub invariant-loop-at : goal.invariant-loop-at
+invariant-loop-at l =
+    record {
+      own : l.seat.table ≡ l.bits.table;
+      held : l.seat.view.held ≡ [];
+      few : l.moved ≤ l.at;
+    }

@@ -1,0 +1,6 @@
+pub mod Positions
+pub mod Words
+pub mod Tracker
+pub mod Steps
+pub mod Seats
+pub mod Answers

@@ -1,0 +1,14 @@
+//! A tracker of granules that threads share: a lock bit and a migrate bit for each, in words that
+//! change by single atomic steps.
+#![tactic(auto)]
+
+pub mod answer;
+pub mod bits;
+mod rule;
+pub mod rules;
+#[cfg(test)]
+mod tests;
+mod words;
+
+pub use answer::Look;
+pub use bits::{BitAnswer, BitClaim, BitSeat, Bits};

@@ -1,0 +1,4 @@
+pub mod States
+pub mod Tickets
+pub mod Stripes
+pub mod Keeping

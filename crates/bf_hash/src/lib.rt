@@ -1,0 +1,11 @@
+//! A tracker of granules that are named by keys: each is free, held under a ticket, or done.
+#![tactic(auto)]
+
+pub mod state;
+pub mod stripe;
+#[cfg(test)]
+mod tests;
+mod tickets;
+
+pub use state::{HashAnswer, HashClaim, HashState, Mark};
+pub use stripe::Stripe;

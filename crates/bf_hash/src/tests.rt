@@ -1,0 +1,91 @@
+use super::*;
+use bf_base::{Key, Memory, Value};
+use std::alloc::Global;
+use std::test::*;
+
+fn key(alloc: Global, number: i64) -> Result<Key, Memory> {
+    let mut values = Vec::new(alloc);
+    values.push(Value::Int(number))?;
+    Ok(Key::of(values))
+}
+
+// What a claim of a key is answered, and the ticket under which it is held. The claim is let go, and the
+// key stays held.
+fn told(alloc: Global, stripe: &mut Stripe, number: i64) -> Result<(&'static str, u64), Memory> {
+    match stripe.claim(&key(alloc, number)?)? {
+        HashAnswer::Claimed(claim) => Ok(("claimed", claim.ticket())),
+        HashAnswer::Busy(ticket) => Ok(("busy", ticket)),
+        HashAnswer::Done => Ok(("done", 0)),
+    }
+}
+
+// Claims a key at one stripe, and finishes the claim at another. Answers the state
+// that was found there, and `None` where the claim was not granted.
+fn claim_and_finish(
+    alloc: Global,
+    stripe: &mut Stripe,
+    at: &mut Stripe,
+    number: i64,
+) -> Result<Option<HashState>, Memory> {
+    match stripe.claim(&key(alloc, number)?)? {
+        HashAnswer::Claimed(claim) => Ok(Some(at.finish(claim))),
+        HashAnswer::Busy(_) | HashAnswer::Done => Ok(None),
+    }
+}
+
+fn claim_and_give_back(
+    alloc: Global,
+    stripe: &mut Stripe,
+    number: i64,
+) -> Result<Option<HashState>, Memory> {
+    match stripe.claim(&key(alloc, number)?)? {
+        HashAnswer::Claimed(claim) => Ok(Some(stripe.give_back(claim))),
+        HashAnswer::Busy(_) | HashAnswer::Done => Ok(None),
+    }
+}
+
+fn one_done(alloc: Global, number: i64) -> Result<Stripe, Memory> {
+    let mut keys = Vec::new(alloc);
+    keys.push(key(alloc, number)?)?;
+    Stripe::of_done(alloc, keys.as_slice())
+}
+
+#[test]
+fn states_are_answered(rt: HostRuntime) -> Result<(), Fail> {
+    let alloc = rt.alloc();
+    let mut stripe = one_done(alloc, -3)?;
+    assert_eq!(rt; told(alloc, &mut stripe, -3)?, ("done", 0));
+    assert_eq!(rt; told(alloc, &mut stripe, 7)?, ("claimed", 1));
+    assert_eq!(rt; told(alloc, &mut stripe, 7)?, ("busy", 1));
+    Ok(())
+}
+
+#[test]
+fn a_ticket_is_used_again_after_a_give_back(rt: HostRuntime) -> Result<(), Fail> {
+    let alloc = rt.alloc();
+    let mut stripe = Stripe::of_done(alloc, &[])?;
+    assert_eq!(rt; told(alloc, &mut stripe, 10)?, ("claimed", 1));
+    assert_eq!(rt;
+        claim_and_give_back(alloc, &mut stripe, 20)?,
+        Some(HashState::Held(2))
+    );
+    assert_eq!(rt; told(alloc, &mut stripe, 30)?, ("claimed", 2));
+    assert_eq!(rt; told(alloc, &mut stripe, 20)?, ("claimed", 3));
+    Ok(())
+}
+
+// A claim of another stripe has another ticket for the key: it finds the state, and changes nothing.
+#[test]
+fn another_ticket_changes_nothing(rt: HostRuntime) -> Result<(), Fail> {
+    let alloc = rt.alloc();
+    let mut other = Stripe::of_done(alloc, &[])?;
+    let mut stripe = Stripe::of_done(alloc, &[])?;
+    assert_eq!(rt; told(alloc, &mut other, 1)?, ("claimed", 1));
+    assert_eq!(rt; told(alloc, &mut stripe, 2)?, ("claimed", 1));
+    assert_eq!(rt;
+        claim_and_finish(alloc, &mut other, &mut stripe, 2)?,
+        Some(HashState::Held(1))
+    );
+    assert_eq!(rt; told(alloc, &mut stripe, 2)?, ("busy", 1));
+    Ok(())
+}
