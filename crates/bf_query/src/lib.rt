@@ -1,0 +1,4 @@
+//! SELECT, INSERT, UPDATE and DELETE on the rows of a heap under the workspace of a transaction.
+#![tactic(auto)]
+
+pub mod merge;
