@@ -3,10 +3,10 @@ use Rattle.std.specs.Prelude.{◌≡◌, ℕ, Bool, List, map, filter, fold, Opt
 use Rattle.std.specs.List.{All}
 use Rattle.bf_base.specs.declared.value.Value.{Value}
 use Rattle.bf_base.specs.declared.table.Table.{Table}
-use Rattle.bf_base.specs.Lists.{same_name}
 use Rattle.bf_base.specs.Tables.{key_of, IsKeyWithin}
 use Rattle.bf_heap.specs.Heaps.{Entry, with_row, without_row}
 use Rattle.bf_txn.specs.declared.write.Write.{Write}
+use Rattle.bf_txn.specs.Writes.{writes_to}
 
 -- the entries after a write
 abbrev pub changed_by : Option (List Value) → List Value → List Entry → List Entry
@@ -15,10 +15,6 @@ changed_by None key entries = without_row entries key
 
 abbrev pub applied : List Entry → Write → List Entry
 applied entries write = changed_by write.row write.key entries
-
--- the writes to the table of a name
-abbrev pub writes_to : List ℕ → List Write → List Write
-writes_to table writes = filter (λ write. same_name write.table table) writes
 
 -- the entries of the heap with the writes to a table applied
 abbrev pub entries_under : List Entry → List Write → List ℕ → List Entry
