@@ -1,0 +1,4 @@
+pub mod FixedKey
+pub mod Keyed
+pub mod Merging
+pub mod OwnKeys

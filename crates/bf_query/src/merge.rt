@@ -84,10 +84,10 @@ fn scan<'a>(
     writes: &'a [Box<Write>],
     cond: &Cond,
 ) -> Result<Vec<&'a Row>, Memory>
-    requires { AreByKey (map (λ write. write.value) writes.now) }
+    requires heap { IsHeap heap.now }
+    requires writes { AreByKey (map (λ write. write.value) writes.now) }
     ensures { IfOk result (λ rows. map (λ row. row.now) rows.items ≡ selected cell cond.now (rows_ahead heap.now.entries 0 (map (λ write. write.value) writes.now))) }
 {
-    let _ = heap.len();
     let mut merge = Merge {
         heap,
         position: 0,
@@ -138,6 +138,8 @@ pub fn selected_rows<'a>(
     requires keys { StandUnderOwnKeys table.now heap.now.entries workspace.now }
     ensures { IfOk result (λ rows. map (λ row. row.now) rows.items ≡ selected cell cond.now (rows_under heap.now.entries workspace.now table.now.name)) }
 {
+    // By its contract the heap is in the order of its keys.
+    let _ = heap.len();
     match fixed {
         Some(key) => if_it_holds(alloc, row_at(heap, workspace, &table.name, key), cond),
         None => scan(alloc, heap, workspace.of_table(&table.name), cond),
