@@ -2,7 +2,7 @@
 use Rattle.std.proofs.Common.{◌≡◌, ℕ, ◌+◌, ◌<◌, List, [], ◌∷◌, ◌++◌, map, length, get_or, take, drop, Option, Some, None, Err, Result, Ok, refl, sym, ap, ap₂, subst, ◌∙◌, arith, append_assoc, drop-cons, add-one}
 use Rattle.std.specs.Prelude.{flat_map, IsErrAnd}
 use Rattle.std.specs.List.{All}
-use Rattle.std.proofs.lemmas.List.{length-map, get_or-map, take_more}
+use Rattle.std.proofs.lemmas.List.{length-map, get_or-map, take_more, map-append}
 use Rattle.bf_base.specs.Lists.{with_before_from}
 use Rattle.bf_sql.specs.declared.reply.Refusal.{Refusal}
 use Rattle.bf_query.specs.declared.stop.Stop.{Stop}
@@ -30,6 +30,15 @@ handed_on (Err given) e objections all meant whole same here then = subst (λ (s
 module _ {X B : Type 0} (now : B → X) (items : List B) (i : ℕ) (item : B) (in_range : i < length items) (is : item ≡ get_or items i item) where
   pub behind_item : drop i items ≡ item ∷ drop (i + 1) items
   behind_item = drop-cons items i item in_range ∙ ap₂ (λ (x : B) (j : ℕ). x ∷ drop j items) (sym is) (sym (add-one i))
+
+  pub stops_at_item : (f : B → List Refusal) (all : List Refusal) → flat_map f (drop i items) ≡ all → (r : Refusal) → first_of (f item) ≡ Some r → first_of all ≡ Some r
+  stops_at_item f all ahead r here = ap first_of (sym ahead ∙ ap (flat_map f) behind_item) ∙ first_ahead (f item) (flat_map f (drop (i + 1) items)) r here
+
+  -- one more item is mapped
+  pub mapped_more : {Y : Type 0} (f : B → Y) (so_far more : List Y) (next : Y) → so_far ≡ map f (take i items) → more ≡ so_far ++ next ∷ [] → next ≡ f item → more ≡ map f (take (i + 1) items)
+  mapped_more {Y} f so_far more next is_so_far is_more is_next =
+      is_more ∙ ap₂ (λ (ys : List Y) (y : Y). ys ++ y ∷ []) is_so_far is_next
+      ∙ sym (ap (map f) (take_more items i item in_range ∙ ap (λ (x : B). take i items ++ x ∷ []) (sym is)) ∙ map-append f (take i items) (item ∷ []))
 
   -- what holds of each item holds of the one at hand
   pub has_item : (P : X → Type 0) → All P (map now items) → P (now item)

@@ -57,12 +57,12 @@ noted_has table key (t ∷ before) noted =
     noted_has table key before now
     ∙ ap (λ (found : Option Write). is_some found || has same_key (map (key_of table) before) key) (entry_at-with_entry spot_cmp_total spot_of noted (note_of table t) (table.name, key))
     ∙ ap (λ (b : Bool). is_some (cond b (Some (note_of table t)) (entry_at spot_cmp spot_of noted (table.name, key))) || has same_key (map (key_of table) before) key) (same_spot table.name (key_of table t) key)
-    ∙ either (same_key key (key_of table t)) (entry_at spot_cmp spot_of noted (table.name, key)) (has same_key (map (key_of table) before) key)
+    ∙ either (note_of table t) (same_key key (key_of table t)) (entry_at spot_cmp spot_of noted (table.name, key)) (has same_key (map (key_of table) before) key)
   where
-    either : (here : Bool) (found : Option Write) (later : Bool) {x : Write} → (is_some (cond here (Some x) found) || later) ≡ (is_some found || (here || later))
-    either true None later = refl
-    either true (Some y) later = refl
-    either false found later = refl
+    either : (x : Write) (here : Bool) (found : Option Write) (later : Bool) → (is_some (cond here (Some x) found) || later) ≡ (is_some found || (here || later))
+    either x true None later = refl
+    either x true (Some y) later = refl
+    either x false found later = refl
 
 -- a key is taken exactly where it is a key of the rows or of the tuples whose keys are noted
 pub taken : (table : Table) (entries : List Entry) (writes noted : List Write) (before : List (List Value)) (key : List Value) → StandUnderOwnKeys table entries writes → noted ≡ fold with_write [] (map (note_of table) before)

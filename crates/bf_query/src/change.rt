@@ -74,6 +74,14 @@ fn tuple_objection(
     Ok(None)
 }
 
+/// The write of a row to a key of a table, or of its removal.
+fn write_to(alloc: Global, table: &Table, key: Key, row: Option<Row>) -> Result<Write, Memory>
+    ensures { IfOk result (λ write. write ≡ write_of table.now key row) }
+{
+    let table = table.name.copy(alloc)?;
+    Ok(Write { table, key, row })
+}
+
 /// The writes of an INSERT, in the order of its tuples, where nothing stands in its way.
 fn plan_insert(
     alloc: Global,
@@ -94,11 +102,7 @@ fn plan_insert(
             return Err(Stop::Refused(refusal));
         }
         noted.write(table.name.copy(alloc)?, key.copy(alloc)?, None)?;
-        writes.push(Write {
-            table: table.name.copy(alloc)?,
-            key,
-            row: Some(tuple.copy(alloc)?),
-        })?;
+        writes.push(write_to(alloc, table, key, Some(tuple.copy(alloc)?))?)?;
     }
     Ok(Sequence::of(writes))
 }
@@ -177,11 +181,8 @@ fn plan_update(
     let mut writes = Vec::with_capacity(alloc, rows.len())?;
     for row in rows {
         let new = changed_row(alloc, table, sets, row)?;
-        writes.push(Write {
-            table: table.name.copy(alloc)?,
-            key: key_of(alloc, table, row)?,
-            row: Some(new),
-        })?;
+        let key = key_of(alloc, table, row)?;
+        writes.push(write_to(alloc, table, key, Some(new))?)?;
     }
     Ok(Sequence::of(writes))
 }
@@ -193,11 +194,8 @@ fn plan_delete(alloc: Global, table: &Table, rows: &[&Row]) -> Result<Sequence<W
 {
     let mut writes = Vec::with_capacity(alloc, rows.len())?;
     for row in rows {
-        writes.push(Write {
-            table: table.name.copy(alloc)?,
-            key: key_of(alloc, table, row)?,
-            row: None,
-        })?;
+        let key = key_of(alloc, table, row)?;
+        writes.push(write_to(alloc, table, key, None)?)?;
     }
     Ok(Sequence::of(writes))
 }
