@@ -1,3 +1,4 @@
+pub mod Effects
 pub mod FixedKey
 pub mod Inserting
 pub mod Keyed

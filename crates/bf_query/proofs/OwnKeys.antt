@@ -36,7 +36,7 @@ filtered P test (x ∷ xs) all = elim (test x) as (λ b. AllByRecursion P (cond 
   | false ↦ filtered P test xs all.1
 ]
 
-with_one_more : (P : Entry → Type 0) (entries : List Entry) (e : Entry) → AllByRecursion P entries → P e → AllByRecursion P (with_entry key_cmp key_of_entry entries e)
+pub with_one_more : (P : Entry → Type 0) (entries : List Entry) (e : Entry) → AllByRecursion P entries → P e → AllByRecursion P (with_entry key_cmp key_of_entry entries e)
 with_one_more P [] e all here = (here, tt)
 with_one_more P (f ∷ entries) e all here = elim (key_cmp e.0 f.0) as (λ r. AllByRecursion P (beside r f entries e (with_entry key_cmp key_of_entry entries e))) [
   | Less ↦ (here, all)

@@ -2,7 +2,10 @@
 #![tactic(auto)]
 
 pub mod change;
+pub mod laws;
 pub mod merge;
 pub mod stop;
+#[cfg(test)]
+mod tests;
 
 pub use change::changes;
