@@ -146,13 +146,14 @@ module _ (table : Table) (test : List Value → Bool) (new : List Value → Opti
       elim (test e.1) as (λ b. fold applied (e ∷ entries) (map write_for (cond b (e.1 ∷ filter test (rows_of entries)) (filter test (rows_of entries)))) ≡ (if b then option_to_list (option_map (λ row. (e.0, row)) (new e.1)) ++ remade entries else e ∷ remade entries)) [
         | true ↦
             ap (λ (k : List Value). fold applied (changed_by (new e.1) k (e ∷ entries)) (map write_for (filter test (rows_of entries)))) own.0.1
-            ∙ one_remade (new e.1)
+            ∙ elim (new e.1) as (λ r. fold applied (changed_by r e.0 (e ∷ entries)) (map write_for (filter test (rows_of entries))) ≡ option_to_list (option_map (λ row. (e.0, row)) r) ++ remade entries) [
+              | None ↦
+                  let gone = without_key-none key_cmp_total key_of_entry entries e.0 (nothing_at e.0 entries in_order) in
+                  rw (tied_itself key_cmp_total e.0, gone) rest
+              | Some row ↦ rw (tied_itself key_cmp_total e.0) (all_behind (e.0, row) entries _ behind ∙ ap (λ (es : List Entry). (e.0, row) ∷ es) rest)
+            ]
         | false ↦ all_behind e entries _ behind ∙ ap (λ (es : List Entry). e ∷ es) rest
       ]
-    where
-      one_remade : (r : Option (List Value)) → fold applied (changed_by r e.0 (e ∷ entries)) (map write_for (filter test (rows_of entries))) ≡ option_to_list (option_map (λ row. (e.0, row)) r) ++ remade entries
-      one_remade None = rw (tied_itself key_cmp_total e.0, without_key-none key_cmp_total key_of_entry entries e.0 (nothing_at e.0 entries in_order)) rest
-      one_remade (Some row) = rw (tied_itself key_cmp_total e.0) (all_behind (e.0, row) entries _ behind ∙ ap (λ (es : List Entry). (e.0, row) ∷ es) rest)
 
   -- and to all writes alike
   pub written_are : (rows : List (List Value)) → AreTo table.name (map write_for rows)
