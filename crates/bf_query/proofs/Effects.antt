@@ -226,7 +226,7 @@ module _ (table : Table) where
       let new : has same_key (map (key_of table) (rows_of entries)) key ≡ false =
         ap (λ (rs : List (List Value)). has same_key (map (key_of table) rs) key) is ∙ has-with_placed key_cmp_total (key_of table) rows seen key ∙ free in
       let step = placed_is table t entries own new in
-      let own' = with_one_more (λ e. HasOwnKey table e.0 e.1) entries (key, t) own (within.0, refl) in
+      let own' = with_one_more key_cmp key_of_entry (λ e. HasOwnKey table e.0 e.1) entries (key, t) own (within.0, refl) in
       let is' = step ∙ ap (λ (rs : List (List Value)). placed key_cmp (key_of table) rs t) is ∙ sym (fold-append (placed key_cmp (key_of table)) rows seen (t ∷ [])) in
       placed_all rows (seen ++ t ∷ []) tuples (with_row entries key t) own' is' within.1 parts.1
       ∙ ap (λ (rs : List (List Value)). with_placed key_cmp (key_of table) rs tuples) step

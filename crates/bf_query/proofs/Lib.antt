@@ -1,6 +1,7 @@
 pub mod Effects
 pub mod FixedKey
 pub mod Inserting
+pub mod Keeping
 pub mod Keyed
 pub mod Merging
 pub mod OwnKeys

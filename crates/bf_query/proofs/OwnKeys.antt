@@ -29,25 +29,25 @@ pub by_recursion : {X : Type 0} (P : X → Type 0) (xs : List X) → All P xs �
 by_recursion P [] all = tt
 by_recursion P (x ∷ xs) all = (all 0 x (omega arith), by_recursion P xs (λ k d below. all (suc k) d (omega arith)))
 
-filtered : {X : Type 0} (P : X → Type 0) (test : X → Bool) (xs : List X) → AllByRecursion P xs → AllByRecursion P (filter test xs)
+pub filtered : {X : Type 0} (P : X → Type 0) (test : X → Bool) (xs : List X) → AllByRecursion P xs → AllByRecursion P (filter test xs)
 filtered P test [] all = tt
 filtered P test (x ∷ xs) all = elim (test x) as (λ b. AllByRecursion P (cond b (x ∷ filter test xs) (filter test xs))) [
   | true ↦ (all.0, filtered P test xs all.1)
   | false ↦ filtered P test xs all.1
 ]
 
-pub with_one_more : (P : Entry → Type 0) (entries : List Entry) (e : Entry) → AllByRecursion P entries → P e → AllByRecursion P (with_entry key_cmp key_of_entry entries e)
-with_one_more P [] e all here = (here, tt)
-with_one_more P (f ∷ entries) e all here = elim (key_cmp e.0 f.0) as (λ r. AllByRecursion P (beside r f entries e (with_entry key_cmp key_of_entry entries e))) [
+pub with_one_more : {X K : Type 0} (cmp : K → K → Ordering) (key : X → K) (P : X → Type 0) (xs : List X) (x : X) → AllByRecursion P xs → P x → AllByRecursion P (with_entry cmp key xs x)
+with_one_more cmp key P [] x all here = (here, tt)
+with_one_more cmp key P (y ∷ xs) x all here = elim (cmp (key x) (key y)) as (λ r. AllByRecursion P (beside r y xs x (with_entry cmp key xs x))) [
   | Less ↦ (here, all)
   | Equal ↦ (here, all.1)
-  | Greater ↦ (all.0, with_one_more P entries e all.1 here)
+  | Greater ↦ (all.0, with_one_more cmp key P xs x all.1 here)
 ]
 
 -- what is true of all entries, and of each row that is written, is true of all entries then
 applied_keeps : (P : Entry → Type 0) (entries : List Entry) (w : Write) → AllByRecursion P entries → ((row : List Value) → w.row ≡ Some row → P (w.key, row)) → AllByRecursion P (applied entries w)
 applied_keeps P entries w all new = elim (w.row) as (λ r. w.row ≡ r → AllByRecursion P (changed_by r w.key entries)) [
-  | Some row ↦ λ is. with_one_more P entries (w.key, row) all (new row is)
+  | Some row ↦ λ is. with_one_more key_cmp key_of_entry P entries (w.key, row) all (new row is)
   | None ↦ λ is. filtered P (λ e. not (has_key key_cmp key_of_entry w.key e)) entries all
 ] refl
 
@@ -75,12 +75,12 @@ pub weakened : {X : Type 0} (P Q : X → Type 0) → ((x : X) → P x → Q x) �
 weakened P Q then [] all = tt
 weakened P Q then (x ∷ xs) all = (then x all.0, weakened P Q then xs all.1)
 
-each : {X : Type 0} (P : X → Type 0) (xs : List X) → AllByRecursion P xs → All P xs
+pub each : {X : Type 0} (P : X → Type 0) (xs : List X) → AllByRecursion P xs → All P xs
 each P [] all k d below = absurd (omega arith)
 each P (x ∷ xs) all zero d below = all.0
 each P (x ∷ xs) all (suc k) d below = each P xs all.1 k d (omega arith)
 
-rows_within : (table : Table) (entries : List Entry) → OwnKeys table entries → AllByRecursion (IsKeyWithin table) (rows_of entries)
+pub rows_within : (table : Table) (entries : List Entry) → OwnKeys table entries → AllByRecursion (IsKeyWithin table) (rows_of entries)
 rows_within table [] own = tt
 rows_within table (e ∷ entries) own = (own.0.0, rows_within table entries own.1)
 

@@ -1,7 +1,8 @@
 -- Parts of the contracts of changes.
-use Rattle.std.specs.Prelude.{ℕ, Bool, ◌||◌, List, Option, Some, None, is_some}
+use Rattle.std.specs.Prelude.{ℕ, Bool, not, ◌||◌, List, Option, Some, None, is_some, nat_eq, IsTrue}
+use Rattle.std.specs.List.{list_all}
 use Rattle.bf_base.specs.declared.value.Value.{Value}
-use Rattle.bf_base.specs.declared.table.Table.{Table}
+use Rattle.bf_base.specs.Lists.{has}
 use Rattle.bf_heap.specs.Heaps.{Entry, has_row}
 use Rattle.bf_sql.specs.declared.bound.Action.{Action}
 use Rattle.bf_sql.specs.declared.bound.Action.TheVariants as action
@@ -9,7 +10,6 @@ use Rattle.bf_sql.specs.declared.reply.Reply.{Reply}
 use Rattle.bf_sql.specs.declared.reply.Reply.TheVariants as reply
 use Rattle.bf_txn.specs.declared.write.Write.{Write}
 use Rattle.bf_txn.specs.Writes.{written_at}
-use Rattle.bf_query.specs.Actions.{write_of}
 use Rattle.bf_query.specs.Merged.{entries_under}
 
 -- whether a row has a key, or an earlier tuple, whose keys are noted as writes
@@ -22,3 +22,8 @@ counted (action.Insert table tuples) count = Some (reply.Inserted count)
 counted (action.Update table sets cond fixed) count = Some (reply.Updated count)
 counted (action.Delete table cond fixed) count = Some (reply.Deleted count)
 counted other count = None
+
+-- an UPDATE sets no column of the key
+abbrev pub LeavesKeys : Action → Type 0
+LeavesKeys (action.Update table sets cond fixed) = IsTrue (list_all (λ set. not (has nat_eq table.key set.0)) sets)
+LeavesKeys other = Unit {0}
