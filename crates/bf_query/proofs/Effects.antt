@@ -1,5 +1,5 @@
 -- What the writes of a statement make of the rows of their table, and of other tables.
-use Rattle.std.proofs.Common.{◌≡◌, ◌≢◌, ℕ, Bool, true, false, not, ◌&&◌, cond, if◌then◌else◌, List, [], ◌∷◌, ◌++◌, map, filter, find, fold, Ordering, Less, Equal, Greater, Option, Some, None, option_map, unwrap_or, refl, sym, ap, ap₂, subst, ◌∙◌, inl, inr, is_lt, is_eq, arith}
+use Rattle.std.proofs.Common.{◌≡◌, ℕ, Bool, true, false, not, cond, if◌then◌else◌, List, [], ◌∷◌, ◌++◌, map, filter, fold, Ordering, Less, Equal, Greater, Option, Some, None, option_map, unwrap_or, refl, sym, ap, subst, ◌∙◌, inl, inr, is_lt, is_eq}
 use Rattle.std.specs.Prelude.{flat_map}
 use Rattle.std.specs.List.{All, AllByRecursion}
 use Rattle.std.specs.Option.{option_to_list}
@@ -9,13 +9,13 @@ use Rattle.std.proofs.lemmas.Cmp.{tied_itself}
 use Rattle.std.proofs.lemmas.Grind.{fold-append}
 use Rattle.bf_base.specs.declared.value.Value.{Value}
 use Rattle.bf_base.specs.declared.table.Table.{Table}
-use Rattle.bf_base.specs.Lists.{rises, has, name_cmp, same_key, same_name, placed, with_placed, with_before_from, when}
-use Rattle.bf_base.specs.Maps.{is_map, entry_at, with_entry, has_key, beside}
+use Rattle.bf_base.specs.Lists.{has, name_cmp, same_key, same_name, placed, with_placed, with_before_from, when}
+use Rattle.bf_base.specs.Maps.{is_map, entry_at, beside}
 use Rattle.bf_base.specs.Tables.{key_of, IsKeyWithin}
 use Rattle.bf_base.specs.Values.{key_cmp, key_cmp_total, key_cmp-IsAntisymmetric}
 use Rattle.bf_base.proofs.Maps.{entry_at-with_entry, is_map-with_entry, without_key-none}
-use Rattle.bf_base.proofs.Names.{name_cmp_total, same_name-tie}
-use Rattle.bf_base.proofs.Order.{less_from_test, equal_from_test, turned, turned_less, turned_equal, rises_skip, rises_tail, same_from_look_ups, has-with_placed}
+use Rattle.bf_base.proofs.Names.{name_cmp_total}
+use Rattle.bf_base.proofs.Order.{less_from_test, equal_from_test, turned_less, rises_skip, rises_tail, same_from_look_ups, has-with_placed}
 use Rattle.bf_base.proofs.Ties.{name_ties}
 use Rattle.bf_heap.specs.Heaps.{Entry, key_of_entry, row_under, with_row}
 use Rattle.bf_sql.specs.RowObjections.{insert_objections, unfit_row_objections}
@@ -59,12 +59,12 @@ under_one_more entries writes w in_order sorted =
     (is_map-fold (writes_to w.table (with_write writes w)) entries in_order)
     (is_map-fold (w ∷ []) under (is_map-fold (writes_to w.table writes) entries in_order))
     (λ key.
-      row_under-entries_under entries (with_write writes w) w.table key sorted'
-      ∙ ap (λ (found : Option (Option (List Value))). unwrap_or found (row_under entries key)) (written_at-with_write writes w (w.table, key))
-      ∙ ap (λ r. unwrap_or (cond (is_eq (ordering_then r (key_cmp w.key key))) (Some w.row) (written_at writes (w.table, key))) (row_under entries key)) (tied_itself name_cmp_total w.table)
-      ∙ unwrapped (is_eq (key_cmp w.key key)) w.row (written_at writes (w.table, key)) (row_under entries key)
-      ∙ ap (cond (is_eq (key_cmp w.key key)) w.row) (sym (row_under-entries_under entries writes w.table key sorted))
-      ∙ sym (row_under-applied under w key))
+    row_under-entries_under entries (with_write writes w) w.table key sorted'
+    ∙ ap (λ (found : Option (Option (List Value))). unwrap_or found (row_under entries key)) (written_at-with_write writes w (w.table, key))
+    ∙ ap (λ r. unwrap_or (cond (is_eq (ordering_then r (key_cmp w.key key))) (Some w.row) (written_at writes (w.table, key))) (row_under entries key)) (tied_itself name_cmp_total w.table)
+    ∙ unwrapped (is_eq (key_cmp w.key key)) w.row (written_at writes (w.table, key)) (row_under entries key)
+    ∙ ap (cond (is_eq (key_cmp w.key key)) w.row) (sym (row_under-entries_under entries writes w.table key sorted))
+    ∙ sym (row_under-applied under w key))
   where
     unwrapped : (b : Bool) (row : Option (List Value)) (found : Option (Option (List Value))) (else_row : Option (List Value)) → unwrap_or (cond b (Some row) found) else_row ≡ cond b row (unwrap_or found else_row)
     unwrapped true row found else_row = refl
@@ -83,7 +83,7 @@ under_more : (entries : List Entry) (writes more : List Write) (table : List ℕ
 under_more entries writes [] table in_order sorted to = refl
 under_more entries writes (w ∷ more) table in_order sorted to =
     let step : entries_under entries (with_write writes w) table ≡ applied (entries_under entries writes table) w =
-      subst (λ name. entries_under entries (with_write writes w) name ≡ applied (entries_under entries writes name) w) to.0 (under_one_more entries writes w in_order sorted) in
+    subst (λ name. entries_under entries (with_write writes w) name ≡ applied (entries_under entries writes name) w) to.0 (under_one_more entries writes w in_order sorted) in
     under_more entries (with_write writes w) more table in_order (is_map-with_entry spot_cmp_total spot_of writes w sorted) to.1
     ∙ ap (λ (now : List Entry). fold applied now more) step
 
@@ -224,7 +224,7 @@ module _ (table : Table) where
       let parts = nothing_before (objections_to table rows (seen, t)) _ none in
       let free = not_when _ _ (nothing_before (unfit_row_objections table t) _ parts.0).1 in
       let new : has same_key (map (key_of table) (rows_of entries)) key ≡ false =
-        ap (λ (rs : List (List Value)). has same_key (map (key_of table) rs) key) is ∙ has-with_placed key_cmp_total (key_of table) rows seen key ∙ free in
+      ap (λ (rs : List (List Value)). has same_key (map (key_of table) rs) key) is ∙ has-with_placed key_cmp_total (key_of table) rows seen key ∙ free in
       let step = placed_is table t entries own new in
       let own' = with_one_more key_cmp key_of_entry (λ e. HasOwnKey table e.0 e.1) entries (key, t) own (within.0, refl) in
       let is' = step ∙ ap (λ (rs : List (List Value)). placed key_cmp (key_of table) rs t) is ∙ sym (fold-append (placed key_cmp (key_of table)) rows seen (t ∷ [])) in

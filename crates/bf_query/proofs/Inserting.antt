@@ -1,5 +1,5 @@
 -- The tuples of an INSERT, one after the other.
-use Rattle.std.proofs.Common.{◌≡◌, ℕ, ◌+◌, ◌<◌, List, [], ◌∷◌, ◌++◌, map, fold, length, get_or, take, drop, Option, Some, None, refl, sym, ap, ap₂, ◌∙◌, arith}
+use Rattle.std.proofs.Common.{◌≡◌, ℕ, ◌+◌, ◌<◌, List, [], ◌∷◌, ◌++◌, map, fold, length, get_or, take, drop, Option, Some, None, sym, ap, ◌∙◌}
 use Rattle.std.specs.Prelude.{flat_map}
 use Rattle.std.proofs.lemmas.Grind.{fold-append}
 use Rattle.std.proofs.lemmas.List.{take_more, map-append}
@@ -10,7 +10,7 @@ use Rattle.bf_base.specs.Tables.{key_of}
 use Rattle.bf_heap.specs.Heaps.{Entry}
 use Rattle.bf_sql.specs.declared.reply.Refusal.{Refusal}
 use Rattle.bf_sql.specs.declared.reply.Refusal.TheVariants.{DuplicateKey}
-use Rattle.bf_sql.specs.RowObjections.{insert_objections, unfit_row_objections, taken_key_objections}
+use Rattle.bf_sql.specs.RowObjections.{unfit_row_objections, taken_key_objections}
 use Rattle.bf_txn.specs.declared.write.Write.{Write}
 use Rattle.bf_txn.specs.Writes.{with_write}
 use Rattle.bf_query.specs.Changes.{is_taken}

@@ -1,7 +1,7 @@
 -- The writes of an action are to its table, and keep rows under their own keys.
-use Rattle.std.proofs.Common.{◌≡◌, ◌≢◌, ℕ, Bool, true, false, not, ◌&&◌, List, [], ◌∷◌, map, filter, fold, length, get_or, Ordering, Option, Some, None, refl, sym, ap, ap₂, subst, ◌∙◌, inl, inr, is_eq, arith, get_or-set_other}
+use Rattle.std.proofs.Common.{◌≡◌, ◌≢◌, ℕ, true, false, not, List, [], ◌∷◌, map, filter, fold, length, Some, None, refl, sym, ap, ap₂, subst, ◌∙◌, inl, inr, arith, get_or-set_other}
 use Rattle.std.specs.Prelude.{pos, slice_set, nat_eq, nat_lt}
-use Rattle.std.specs.List.{All, AllByRecursion, list_all, list_any}
+use Rattle.std.specs.List.{AllByRecursion, list_all}
 use Rattle.std.proofs.lemmas.Bool.{and_parts, and_from, or_parts, not-true, not_from_false, cases_Bool}
 use Rattle.std.proofs.lemmas.Bool.Decides.{nat_tests}
 use Rattle.std.proofs.lemmas.List.{length-set}

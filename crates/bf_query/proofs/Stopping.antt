@@ -1,9 +1,8 @@
 -- The first objection of several steps: none of those so far, or that of the step at hand.
-use Rattle.std.proofs.Common.{◌≡◌, ℕ, ◌+◌, ◌<◌, List, [], ◌∷◌, ◌++◌, map, length, get_or, take, drop, Option, Some, None, Err, Result, Ok, refl, sym, ap, ap₂, subst, ◌∙◌, arith, append_assoc, drop-cons, add-one}
+use Rattle.std.proofs.Common.{◌≡◌, ℕ, ◌+◌, ◌<◌, List, [], ◌∷◌, ◌++◌, map, length, get_or, take, drop, Some, None, Err, Result, Ok, refl, sym, ap, ap₂, subst, ◌∙◌, arith, drop-cons, add-one}
 use Rattle.std.specs.Prelude.{flat_map, IsErrAnd}
 use Rattle.std.specs.List.{All}
 use Rattle.std.proofs.lemmas.List.{length-map, get_or-map, take_more, map-append}
-use Rattle.bf_base.specs.Lists.{with_before_from}
 use Rattle.bf_sql.specs.declared.reply.Refusal.{Refusal}
 use Rattle.bf_query.specs.declared.stop.Stop.{Stop}
 use Rattle.bf_query.specs.declared.stop.Stop.TheVariants as stop

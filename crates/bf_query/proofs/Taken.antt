@@ -1,14 +1,14 @@
 -- A key is taken where a row or an earlier tuple has it.
-use Rattle.std.proofs.Common.{◌≡◌, ℕ, Bool, true, false, ◌||◌, cond, List, [], ◌∷◌, ◌++◌, map, fold, Ordering, Less, Equal, Greater, Option, Some, None, is_some, option_map, refl, sym, ap, ap₂, ◌∙◌, is_eq, arith}
-use Rattle.std.specs.List.{AllByRecursion, list_any}
-use Rattle.std.specs.Ordering.{ordering_then, eq_by_cmp}
+use Rattle.std.proofs.Common.{◌≡◌, ℕ, Bool, true, false, ◌||◌, cond, List, [], ◌∷◌, ◌++◌, map, fold, Option, Some, None, is_some, option_map, refl, sym, ap, ap₂, ◌∙◌, is_eq}
+use Rattle.std.specs.List.{list_any}
+use Rattle.std.specs.Ordering.{ordering_then}
 use Rattle.std.proofs.lemmas.Cmp.{tied_itself}
 use Rattle.std.proofs.lemmas.List.{map-append}
 use Rattle.std.proofs.lemmas.List.Folds.{list_any-append}
 use Rattle.bf_base.specs.declared.value.Value.{Value}
 use Rattle.bf_base.specs.declared.table.Table.{Table}
-use Rattle.bf_base.specs.Lists.{has, name_cmp, same_key}
-use Rattle.bf_base.specs.Maps.{entry_at, has_key}
+use Rattle.bf_base.specs.Lists.{has, same_key}
+use Rattle.bf_base.specs.Maps.{entry_at}
 use Rattle.bf_base.specs.Tables.{key_of}
 use Rattle.bf_base.specs.Values.{key_cmp, key_cmp_total}
 use Rattle.bf_base.proofs.Maps.{entry_at-with_entry}
@@ -16,11 +16,11 @@ use Rattle.bf_base.proofs.Names.{name_cmp_total}
 use Rattle.bf_base.proofs.Order.{is_some-look_up, symmetric}
 use Rattle.bf_heap.specs.Heaps.{Entry, key_of_entry, has_row}
 use Rattle.bf_txn.specs.declared.write.Write.{Write}
-use Rattle.bf_txn.specs.Writes.{Spot, spot_cmp, spot_of, written_at, with_write}
+use Rattle.bf_txn.specs.Writes.{spot_cmp, spot_of, written_at, with_write}
 use Rattle.bf_txn.proofs.Boxes.{spot_cmp_total}
 use Rattle.bf_query.specs.Actions.{write_of}
 use Rattle.bf_query.specs.Changes.{is_taken}
-use Rattle.bf_query.specs.Merged.{entries_under, rows_under, HasOwnKey, StandUnderOwnKeys}
+use Rattle.bf_query.specs.Merged.{entries_under, rows_under, StandUnderOwnKeys}
 use Rattle.bf_query.proofs.Merging.{rows_of, keys_of}
 use Rattle.bf_query.proofs.OwnKeys.{OwnKeys, own_keys}
 
@@ -71,6 +71,6 @@ taken table entries writes noted before key stand is =
     let rows = rows_under entries writes table.name in
     let in_rows = row_has table (entries_under entries writes table.name) key (own_keys table entries writes stand) in
     let in_notes : is_some (written_at noted (table.name, key)) ≡ has same_key (map (key_of table) before) key =
-      is_some-map (λ (w : Write). w.row) (entry_at spot_cmp spot_of noted (table.name, key)) ∙ ap (λ (ws : List Write). is_some (entry_at spot_cmp spot_of ws (table.name, key))) is ∙ noted_has table key before [] in
+    is_some-map (λ (w : Write). w.row) (entry_at spot_cmp spot_of noted (table.name, key)) ∙ ap (λ (ws : List Write). is_some (entry_at spot_cmp spot_of ws (table.name, key))) is ∙ noted_has table key before [] in
     ap₂ (λ (a b : Bool). a || b) in_rows in_notes
     ∙ sym (ap (list_any (same_key key)) (map-append (key_of table) rows before) ∙ list_any-append (same_key key) (map (key_of table) rows) (map (key_of table) before))

@@ -98,7 +98,9 @@ fn plan_insert(
     let mut writes = Vec::with_capacity(alloc, tuples.len())?;
     for tuple in tuples {
         let key = key_of(alloc, table, tuple)?;
-        if let Some(refusal) = tuple_objection(alloc, table, heap, workspace, &noted, tuple, &key)? {
+        if let Some(refusal) = tuple_objection(
+            alloc, table, heap, workspace, &noted, tuple, &key,
+        )? {
             return Err(Stop::Refused(refusal));
         }
         noted.write(table.name.copy(alloc)?, key.copy(alloc)?, None)?;
@@ -132,13 +134,7 @@ fn value_on(alloc: Global, expr: &Expr, row: &Row) -> Result<Value, Stop>
 
 /// The value that a set gives a column of a row, if the expression has one there and the column
 /// admits it.
-fn set_value(
-    alloc: Global,
-    table: &Table,
-    place: u8,
-    expr: &Expr,
-    row: &Row,
-) -> Result<Value, Stop>
+fn set_value(alloc: Global, table: &Table, place: u8, expr: &Expr, row: &Row) -> Result<Value, Stop>
     ensures { Settles result (value_objections (value_of (cell row.now) expr.now) ++ unfit_objections (admitted_at table.now place) (sure_value (cell row.now) expr.now)) (sure_value (cell row.now) expr.now) }
 {
     let found = value_on(alloc, expr, row)?;
@@ -149,12 +145,7 @@ fn set_value(
 }
 
 /// A row with its sets, all from the old row.
-fn changed_row(
-    alloc: Global,
-    table: &Table,
-    sets: &[(u8, Expr)],
-    row: &Row,
-) -> Result<Row, Stop>
+fn changed_row(alloc: Global, table: &Table, sets: &[(u8, Expr)], row: &Row) -> Result<Row, Stop>
     ensures { Settles result (change_objections cell (admitted_at table.now) sets.now row.now) (changed cell (λ place. place) sets.now row.now) }
 {
     let mut new = row.copy(alloc)?.into_vec();

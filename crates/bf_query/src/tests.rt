@@ -227,9 +227,15 @@ fn an_insert_refuses_a_key_twice(rt: HostRuntime) -> Result<(), Fail> {
     let mut seen = Seen::of(alloc, &[("a", 1, 1)])?;
     let twice = [("a", 2, 1), ("b", 2, 1), ("a", 2, 2)];
     assert_eq!(rt; seen.insert(alloc, &twice)?, Told::Duplicate(2));
-    assert_eq!(rt; seen.insert(alloc, &[("b", 1, 1), ("a", 1, 5)])?, Told::Duplicate(1));
+    assert_eq!(rt;
+        seen.insert(alloc, &[("b", 1, 1), ("a", 1, 5)])?,
+        Told::Duplicate(1)
+    );
     assert!(rt; seen.has(alloc, Where::All, &[("a", 1, 1)])?);
-    assert_eq!(rt; seen.insert(alloc, &[("b", 1, 1), ("ab", 1, 5)])?, Told::Inserted(2));
+    assert_eq!(rt;
+        seen.insert(alloc, &[("b", 1, 1), ("ab", 1, 5)])?,
+        Told::Inserted(2)
+    );
     let rows = [("a", 1, 1), ("ab", 1, 5), ("b", 1, 1)];
     assert!(rt; seen.has(alloc, Where::All, &rows)?);
     Ok(())
@@ -241,7 +247,10 @@ fn an_insert_tests_values_before_the_key(rt: HostRuntime) -> Result<(), Fail> {
     let mut seen = Seen::of(alloc, &[("a", 1, 1)])?;
     assert_eq!(rt; seen.insert(alloc, &[("abcd", 2, 11)])?, Told::TooLong);
     assert_eq!(rt; seen.insert(alloc, &[("a", 1, 11)])?, Told::OutOfRange);
-    assert_eq!(rt; seen.insert(alloc, &[("a", 1, 1), ("abcd", 2, 1)])?, Told::Duplicate(1));
+    assert_eq!(rt;
+        seen.insert(alloc, &[("a", 1, 1), ("abcd", 2, 1)])?,
+        Told::Duplicate(1)
+    );
     Ok(())
 }
 

@@ -1,5 +1,5 @@
 -- The writes to one table among sorted ones: those from the first place on, up to the second.
-use Rattle.std.proofs.Common.{◌≡◌, ℕ, zero, suc, ◌+◌, ◌≤◌, Bool, true, false, not, ◌&&◌, cond, List, [], ◌∷◌, map, filter, length, take, drop, get_or, Ordering, Less, Equal, Greater, refl, sym, ap, ◌∙◌, arith, is_lt, is_le, is_eq}
+use Rattle.std.proofs.Common.{◌≡◌, ℕ, zero, suc, ◌+◌, ◌≤◌, Bool, true, false, not, ◌&&◌, cond, List, [], ◌∷◌, map, filter, take, drop, get_or, Ordering, Less, Equal, Greater, refl, sym, ap, ◌∙◌, arith, is_lt, is_le, is_eq}
 use Rattle.std.specs.List.Sorted.{IsPartitionPoint, IsNonDecreasingBy, IsPartitionedBy}
 use Rattle.std.specs.Ordering.{ordering_index, ordering_then}
 use Rattle.std.proofs.lemmas.List.Sorted.{searchable_from_sorted, IsNonDecreasingBy-drop}

@@ -1,6 +1,4 @@
 use Rattle.std.proofs.Common.{ℕ}
-use Rattle.bf_base.specs.Tables.{cell}
-use Rattle.bf_expr.specs.Evaluation.{sure_value, value_of}
 use Rattle.bf_expr.specs.Trees.{Expr}
 use Rattle.bf_query.proofs.Stopping.{handed_on, stops_at_item}
 use Rattle.bf_query.proofs.change.changed_row.Goals as goal

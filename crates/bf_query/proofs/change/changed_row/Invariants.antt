@@ -1,5 +1,5 @@
 use Rattle.std.proofs.Common.{◌≡◌, drop, fold}
-use Rattle.std.specs.Prelude.{flat_map, slice_set}
+use Rattle.std.specs.Prelude.{slice_set}
 use Rattle.bf_base.specs.Tables.{cell}
 use Rattle.bf_expr.specs.Evaluation.{sure_value}
 use Rattle.bf_sql.specs.Queries.{changed}

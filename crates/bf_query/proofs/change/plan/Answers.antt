@@ -1,4 +1,4 @@
-use Rattle.std.proofs.Common.{sym, ap, ◌∙◌, Bor, List, map}
+use Rattle.std.proofs.Common.{ap, ◌∙◌, Bor, map}
 use Rattle.bf_base.specs.declared.row.Row.{Row}
 use Rattle.bf_query.specs.Merged.{StandUnderOwnKeys}
 use Rattle.bf_query.proofs.OwnKeys.{selected_within}

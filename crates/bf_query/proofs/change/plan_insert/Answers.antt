@@ -1,4 +1,4 @@
-use Rattle.std.proofs.Common.{ℕ, List, Option, ◌≡◌, Some, None, refl, ap, ◌∙◌, rules}
+use Rattle.std.proofs.Common.{ℕ, List, Option, ◌≡◌, Some, None, refl, ap, ◌∙◌}
 use Rattle.bf_base.specs.declared.table.Table.{Table}
 use Rattle.bf_base.specs.declared.value.Value.{Value}
 use Rattle.bf_base.specs.Tables.{key_of}
@@ -31,9 +31,9 @@ loop-tuple-preserved c =
     let note_is = same_note table _ _ (key_of table c.tuple-item.result) c.in_ok-copy.ensures (c.in_ok-copy-2.ensures ∙ c.in_ok-key.ensures) in
     record {
       writes = mapped_more (λ (tuple : List Value). tuple) c.args.tuples.now c.loop-tuple.tuple-index c.tuple-item.result c.loop-tuple-test.true c.tuple-item.is (λ (tuple : List Value). write_of table (key_of table tuple) (Some tuple)) c.loop-tuple.writes.items c.push.new.self.items c.in_ok-write_to.field-0
-        c.loop-tuple.invariant.writes c.in_ok-push.ensures.items write_is;
+          c.loop-tuple.invariant.writes c.in_ok-push.ensures.items write_is;
       noted = noted_more table c.args.heap.now.entries c.args.workspace.now c.requires.keys c.args.tuples.now c.loop-tuple.tuple-index c.tuple-item.result c.loop-tuple-test.true c.tuple-item.is
-        c.loop-tuple.noted c.write.new.self c.loop-tuple.invariant.noted (c.in_ok-write.ensures.ok ∙ ap (with_write c.loop-tuple.noted) note_is);
+          c.loop-tuple.noted c.write.new.self c.loop-tuple.invariant.noted (c.in_ok-write.ensures.ok ∙ ap (with_write c.loop-tuple.noted) note_is);
       objections = next_tuple table c.args.heap.now.entries c.args.workspace.now c.requires.keys c.args.tuples.now c.loop-tuple.tuple-index c.tuple-item.result c.loop-tuple-test.true c.tuple-item.is
-        c.loop-tuple.noted c.loop-tuple.invariant.noted c.in_ok-key.key c.in_ok-key.ensures c.in_ok-refusal.field-0 c.in_ok-refusal.ensures _ c.loop-tuple.invariant.objections (not_some c.in_ok-refusal.field-0 c.in_default.not-Some);
+          c.loop-tuple.noted c.loop-tuple.invariant.noted c.in_ok-key.key c.in_ok-key.ensures c.in_ok-refusal.field-0 c.in_ok-refusal.ensures _ c.loop-tuple.invariant.objections (not_some c.in_ok-refusal.field-0 c.in_default.not-Some);
     }

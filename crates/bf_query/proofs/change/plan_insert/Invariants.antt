@@ -14,5 +14,5 @@ invariant-loop-tuple l = record {
   writes : l.writes.items ≡ map (λ tuple. write_of l.table (key_of l.table tuple) (Some tuple)) (take l.tuple-index l.tuples);
   noted : l.noted ≡ fold with_write [] (map (λ tuple. write_of l.table (key_of l.table tuple) None) (take l.tuple-index l.tuples));
   objections : flat_map (λ p. unfit_row_objections l.table p.1 ++ taken_key_objections l.table (rows_under l.heap.entries l.workspace l.table.name ++ p.0) p.1) (with_before_from (take l.tuple-index l.tuples) (drop l.tuple-index l.tuples))
-    ≡ insert_objections l.table (rows_under l.heap.entries l.workspace l.table.name) l.tuples;
+      ≡ insert_objections l.table (rows_under l.heap.entries l.workspace l.table.name) l.tuples;
 }
