@@ -1,0 +1,405 @@
+//! Changes of a table whose key is its second column and then its first. What a test asserts comes
+//! from a helper as plain data.
+
+ghost use Rattle.std.specs.Prelude.{◌≡◌, [], ◌∷◌, IfOk, Some, length};
+ghost use Rattle.std.specs.List.{All};
+ghost use Rattle.bf_base.specs.declared.table.Table.{Table};
+ghost use Rattle.bf_base.specs.Tables.{IsKeyWithin};
+ghost use Rattle.bf_expr.specs.declared.compare.Compare.TheVariants as compare;
+ghost use Rattle.bf_expr.specs.Trees as trees;
+ghost use Rattle.bf_sql.specs.Conditions.{fixed_key};
+ghost use Rattle.bf_query.specs.Actions.{IsChange, IsWellBound, table_of};
+ghost use Rattle.bf_query.specs.Changes.{LeavesKeys};
+ghost use Rattle.bf_query.specs.Merged.{StandUnderOwnKeys};
+
+use crate::change::changes;
+use crate::merge::selected_rows;
+use bf_base::{Admit, Column, Key, Name, Row, Sequence, Table, Text, Value, key_of};
+use bf_expr::{Compare, Cond, Expr, Node, Test};
+use bf_heap::Heap;
+use bf_sql::{Action, Bound, Refusal, Reply};
+use bf_txn::Workspace;
+use std::alloc::Global;
+use std::test::Fail;
+
+/// A row as a test writes it: a VARCHAR(3), an INT and an INT from 0 to 10.
+type Line = (&'static str, i64, i64);
+
+/// What a test sees of a reply.
+#[derive(Clone, Copy, Debug, PartialEq)]
+enum Told {
+    Inserted(u32),
+    Updated(u32),
+    Deleted(u32),
+    TypeMismatch,
+    OutOfRange,
+    TooLong,
+    /// By the number that the key begins with.
+    Duplicate(i64),
+    Other,
+}
+
+/// Which rows a statement of a test is on.
+#[derive(Clone, Copy, Debug)]
+enum Where {
+    All,
+    /// By the second column.
+    Number(i64),
+    /// By both key columns, which fixes the key.
+    Both(&'static str, i64),
+}
+
+/// A table, and its rows as a transaction sees them.
+#[derive(Drop)]
+struct Seen {
+    table: Table,
+    heap: Heap,
+    workspace: Workspace,
+}
+
+fn text(alloc: Global, letters: &str) -> Result<Value, Fail> {
+    Ok(Value::Text(Text::of(alloc, letters.as_bytes())?))
+}
+
+fn column(alloc: Global, name: &str, admits: Admit) -> Result<Column, Fail> {
+    let name = Name::of(alloc, name.as_bytes())?;
+    Ok(Column { name, admits })
+}
+
+fn table(alloc: Global) -> Result<Table, Fail>
+    ensures { IfOk result (λ table. table.key ≡ 1 ∷ 0 ∷ []) }
+{
+    let mut columns = Vec::new(alloc);
+    columns.push(column(alloc, "letters", Admit::Varchar(3))?)?;
+    columns.push(column(alloc, "number", Admit::Int)?)?;
+    columns.push(column(alloc, "small", Admit::Checked(0, 10))?)?;
+    let mut key = Vec::new(alloc);
+    key.push(1)?;
+    key.push(0)?;
+    Ok(Table {
+        name: Name::of(alloc, b"things")?,
+        columns: Sequence::of(columns),
+        key: Sequence::of(key),
+    })
+}
+
+fn row(alloc: Global, line: Line) -> Result<Row, Fail>
+    ensures { IfOk result (λ row. length row ≡ 3) }
+{
+    let (letters, number, small) = line;
+    let mut values = Vec::new(alloc);
+    values.push(text(alloc, letters)?)?;
+    values.push(Value::Int(number))?;
+    values.push(Value::Int(small))?;
+    Ok(Row::of(values))
+}
+
+fn is_at(place: u8, value: Value) -> Cond
+    ensures { result ≡ trees.compared compare.Equal (trees.column place) (trees.literal value) }
+{
+    let column = Expr::of(Node::Column(place));
+    let literal = Expr::of(Node::Value(value));
+    Cond::of(Test::Compare(Compare::Equal, column, literal))
+}
+
+/// A condition, and the key that it fixes.
+fn bound(alloc: Global, which: Where) -> Result<(Cond, Option<Key>), Fail>
+    ensures { IfOk result (λ bound. (table : Table) → table.key ≡ 1 ∷ 0 ∷ [] → bound.1 ≡ fixed_key table bound.0) }
+{
+    match which {
+        Where::All => Ok((Cond::of(Test::Always), None)),
+        Where::Number(number) => Ok((is_at(1, Value::Int(number)), None)),
+        Where::Both(letters, number) => {
+            let letters = text(alloc, letters)?;
+            let mut key = Vec::new(alloc);
+            key.push(Value::Int(number))?;
+            key.push(letters.copy(alloc)?)?;
+            let letters = Box::new(alloc, is_at(0, letters))?;
+            let number = Box::new(alloc, is_at(1, Value::Int(number)))?;
+            let cond = Cond::of(Test::And(letters, number));
+            Ok((cond, Some(Key::of(key))))
+        }
+    }
+}
+
+fn reply_seen(reply: &Reply) -> Told {
+    match reply {
+        Reply::Inserted(count) => Told::Inserted(*count),
+        Reply::Updated(count) => Told::Updated(*count),
+        Reply::Deleted(count) => Told::Deleted(*count),
+        Reply::Refused(Refusal::TypeMismatch) => Told::TypeMismatch,
+        Reply::Refused(Refusal::OutOfRange) => Told::OutOfRange,
+        Reply::Refused(Refusal::TooLong) => Told::TooLong,
+        Reply::Refused(Refusal::DuplicateKey(key)) => match key.as_slice() {
+            [Value::Int(number), _] => Told::Duplicate(*number),
+            _ => Told::Other,
+        },
+        _ => Told::Other,
+    }
+}
+
+/// Rows in a heap, each under its own key.
+fn heap_of(alloc: Global, table: &Table, lines: &[Line]) -> Result<Heap, Fail>
+    requires { table.now.key ≡ 1 ∷ 0 ∷ [] }
+    ensures { IfOk result (λ heap. StandUnderOwnKeys table.now heap.entries []) }
+{
+    let mut heap = Heap::new(alloc);
+    for line in lines {
+        let row = row(alloc, *line)?;
+        let key = key_of(alloc, table, &row)?;
+        heap.reserve(1)?;
+        let _ = heap.put(key, row);
+    }
+    Ok(heap)
+}
+
+fn rows_of(alloc: Global, table: &Table, lines: &[Line]) -> Result<Sequence<Row>, Fail>
+    requires { table.now.key ≡ 1 ∷ 0 ∷ [] }
+    ensures { IfOk result (All (IsKeyWithin table.now)) }
+{
+    let mut rows = Vec::new(alloc);
+    for line in lines {
+        rows.push(row(alloc, *line)?)?;
+    }
+    Ok(Sequence::of(rows))
+}
+
+impl Seen {
+    /// Rows in the heap, and nothing written.
+    fn of(alloc: Global, lines: &[Line]) -> Result<Seen, Fail>
+        ensures { IfOk result (λ seen. (seen.table.key ≡ 1 ∷ 0 ∷ []) × StandUnderOwnKeys seen.table seen.heap.entries seen.workspace) }
+    {
+        let table = table(alloc)?;
+        let heap = heap_of(alloc, &table, lines)?;
+        Ok(Seen {
+            table,
+            heap,
+            workspace: Workspace::new(alloc),
+        })
+    }
+
+    fn run(self, alloc: Global, action: Action) -> Result<(Seen, Told), Fail>
+        requires change { IsChange action }
+        requires table { table_of action ≡ Some self.table }
+        requires bound { IsWellBound action }
+        requires leaves { LeavesKeys action }
+        requires keys { StandUnderOwnKeys self.table self.heap.entries self.workspace }
+        ensures { IfOk result (λ after. (after.0.table ≡ self.table) × StandUnderOwnKeys self.table after.0.heap.entries after.0.workspace) }
+    {
+        let Seen {
+            table,
+            heap,
+            mut workspace,
+        } = self;
+        let bound = Bound {
+            catalog: 0,
+            schema_change: false,
+            action,
+        };
+        let reply = changes(alloc, &bound, &heap, &mut workspace)?;
+        let told = reply_seen(&reply);
+        let seen = Seen {
+            table,
+            heap,
+            workspace,
+        };
+        Ok((seen, told))
+    }
+
+    fn insert(self, alloc: Global, lines: &[Line]) -> Result<(Seen, Told), Fail>
+        requires key { self.table.key ≡ 1 ∷ 0 ∷ [] }
+        requires keys { StandUnderOwnKeys self.table self.heap.entries self.workspace }
+        ensures { IfOk result (λ after. (after.0.table.key ≡ 1 ∷ 0 ∷ []) × StandUnderOwnKeys after.0.table after.0.heap.entries after.0.workspace) }
+    {
+        let action = Action::Insert {
+            table: self.table.copy(alloc)?,
+            rows: rows_of(alloc, &self.table, lines)?,
+        };
+        self.run(alloc, action)
+    }
+
+    /// Adds a number to the small number of some rows.
+    fn add(self, alloc: Global, number: i64, which: Where) -> Result<(Seen, Told), Fail>
+        requires key { self.table.key ≡ 1 ∷ 0 ∷ [] }
+        requires keys { StandUnderOwnKeys self.table self.heap.entries self.workspace }
+        ensures { IfOk result (λ after. (after.0.table.key ≡ 1 ∷ 0 ∷ []) × StandUnderOwnKeys after.0.table after.0.heap.entries after.0.workspace) }
+    {
+        let small = Box::new(alloc, Expr::of(Node::Column(2)))?;
+        let number = Box::new(alloc, Expr::of(Node::Value(Value::Int(number))))?;
+        let mut sets = Vec::new(alloc);
+        sets.push((2, Expr::of(Node::Add(small, number))))?;
+        let (cond, fixed) = bound(alloc, which)?;
+        let action = Action::Update {
+            table: self.table.copy(alloc)?,
+            sets: Sequence::of(sets),
+            cond,
+            fixed,
+        };
+        self.run(alloc, action)
+    }
+
+    fn delete(self, alloc: Global, which: Where) -> Result<(Seen, Told), Fail>
+        requires key { self.table.key ≡ 1 ∷ 0 ∷ [] }
+        requires keys { StandUnderOwnKeys self.table self.heap.entries self.workspace }
+        ensures { IfOk result (λ after. (after.0.table.key ≡ 1 ∷ 0 ∷ []) × StandUnderOwnKeys after.0.table after.0.heap.entries after.0.workspace) }
+    {
+        let (cond, fixed) = bound(alloc, which)?;
+        let action = Action::Delete {
+            table: self.table.copy(alloc)?,
+            cond,
+            fixed,
+        };
+        self.run(alloc, action)
+    }
+
+    /// Whether these are the rows that satisfy a condition, in key order.
+    fn has(&self, alloc: Global, which: Where, lines: &[Line]) -> Result<bool, Fail>
+        requires key { self.now.table.key ≡ 1 ∷ 0 ∷ [] }
+        requires keys { StandUnderOwnKeys self.now.table self.now.heap.entries self.now.workspace }
+    {
+        let Seen {
+            table,
+            heap,
+            workspace,
+        } = self;
+        let (cond, fixed) = bound(alloc, which)?;
+        let found = selected_rows(alloc, heap, workspace, table, &cond, &fixed)?;
+        if found.len() != lines.len() {
+            return Ok(false);
+        }
+        for (found, line) in found.iter().zip(lines) {
+            if !found.is_same(&row(alloc, *line)?) {
+                return Ok(false);
+            }
+        }
+        Ok(true)
+    }
+}
+
+/// A statement, and the reply that it has.
+type Step = (Statement, Told);
+
+#[derive(Clone, Copy, Debug)]
+enum Statement {
+    Insert(&'static [Line]),
+    Add(i64, Where),
+    Delete(Where),
+}
+
+use Statement::{Add, Delete, Insert};
+
+/// Runs statements on the rows of a heap, and answers the place of the first that has another
+/// reply than its own, and else whether the rows that satisfy a condition are these.
+fn outcome(
+    alloc: Global,
+    lines: &[Line],
+    steps: &[Step],
+    which: Where,
+    left: &[Line],
+) -> Result<(Option<usize>, bool), Fail> {
+    let mut seen = Seen::of(alloc, lines)?;
+    for (place, (statement, reply)) in steps.iter().enumerate() {
+        let (after, told) = match statement {
+            Insert(lines) => seen.insert(alloc, lines)?,
+            Add(number, which) => seen.add(alloc, *number, *which)?,
+            Delete(which) => seen.delete(alloc, *which)?,
+        };
+        seen = after;
+        if told != *reply {
+            return Ok((Some(place), false));
+        }
+    }
+    Ok((None, seen.has(alloc, which, left)?))
+}
+
+/// In key order: by number, then by letters, a text before the longer ones that it begins.
+const LINES: [Line; 4] = [("b", -1, 1), ("", 1, 2), ("a", 1, 9), ("ab", 1, 3)];
+
+#[test]
+fn an_update_that_fails_on_its_third_row_leaves_all(rt: HostRuntime) -> Result<(), Fail> {
+    let steps = [(Add(2, Where::All), Told::OutOfRange)];
+    let outcome = outcome(rt.alloc(), &LINES, &steps, Where::All, &LINES)?;
+    assert_eq!(rt; outcome, (None, true));
+    Ok(())
+}
+
+#[test]
+fn an_update_changes_every_row_from_the_old_one(rt: HostRuntime) -> Result<(), Fail> {
+    let steps = [(Add(1, Where::All), Told::Updated(4))];
+    let left = [("b", -1, 2), ("", 1, 3), ("a", 1, 10), ("ab", 1, 4)];
+    let outcome = outcome(rt.alloc(), &LINES, &steps, Where::All, &left)?;
+    assert_eq!(rt; outcome, (None, true));
+    Ok(())
+}
+
+#[test]
+fn an_insert_refuses_a_key_twice(rt: HostRuntime) -> Result<(), Fail> {
+    let steps = [
+        (
+            Insert(&[("a", 2, 1), ("b", 2, 1), ("a", 2, 2)]),
+            Told::Duplicate(2),
+        ),
+        (Insert(&[("b", 1, 1), ("a", 1, 5)]), Told::Duplicate(1)),
+        (Insert(&[("b", 1, 1), ("aa", 1, 5)]), Told::Inserted(2)),
+    ];
+    let left = [
+        ("", 1, 2),
+        ("a", 1, 9),
+        ("aa", 1, 5),
+        ("ab", 1, 3),
+        ("b", 1, 1),
+    ];
+    let outcome = outcome(rt.alloc(), &LINES, &steps, Where::Number(1), &left)?;
+    assert_eq!(rt; outcome, (None, true));
+    Ok(())
+}
+
+#[test]
+fn an_insert_tests_values_before_the_key(rt: HostRuntime) -> Result<(), Fail> {
+    let steps = [
+        (Insert(&[("abcd", 2, 11)]), Told::TooLong),
+        (Insert(&[("a", 1, 11)]), Told::OutOfRange),
+        (Insert(&[("a", 1, 1), ("abcd", 2, 1)]), Told::Duplicate(1)),
+    ];
+    let outcome = outcome(rt.alloc(), &LINES, &steps, Where::All, &LINES)?;
+    assert_eq!(rt; outcome, (None, true));
+    Ok(())
+}
+
+#[test]
+fn a_key_that_is_removed_is_written_again(rt: HostRuntime) -> Result<(), Fail> {
+    let steps = [
+        (Delete(Where::Both("a", 1)), Told::Deleted(1)),
+        (Delete(Where::Both("a", 1)), Told::Deleted(0)),
+        (Insert(&[("a", 1, 0)]), Told::Inserted(1)),
+        (Insert(&[("a", 1, 0)]), Told::Duplicate(1)),
+        (Delete(Where::Both("ab", 1)), Told::Deleted(1)),
+    ];
+    let left = [("b", -1, 1), ("", 1, 2), ("a", 1, 0)];
+    let outcome = outcome(rt.alloc(), &LINES, &steps, Where::All, &left)?;
+    assert_eq!(rt; outcome, (None, true));
+    Ok(())
+}
+
+#[test]
+fn a_fixed_key_is_one_row(rt: HostRuntime) -> Result<(), Fail> {
+    let steps = [
+        (Add(-9, Where::Both("a", 1)), Told::Updated(1)),
+        (Add(-1, Where::Both("a", 1)), Told::OutOfRange),
+        (Add(1, Where::Both("b", 1)), Told::Updated(0)),
+        (Delete(Where::Number(-1)), Told::Deleted(1)),
+    ];
+    let left = [("", 1, 2), ("a", 1, 0), ("ab", 1, 3)];
+    let outcome = outcome(rt.alloc(), &LINES, &steps, Where::All, &left)?;
+    assert_eq!(rt; outcome, (None, true));
+    Ok(())
+}
+
+#[test]
+fn a_fixed_key_is_looked_up(rt: HostRuntime) -> Result<(), Fail> {
+    let steps = [(Add(-9, Where::Both("a", 1)), Told::Updated(1))];
+    let left = [("a", 1, 0)];
+    let outcome = outcome(rt.alloc(), &LINES, &steps, Where::Both("a", 1), &left)?;
+    assert_eq!(rt; outcome, (None, true));
+    Ok(())
+}
