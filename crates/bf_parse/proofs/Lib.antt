@@ -6,10 +6,13 @@ mod Factors
 mod Fitting
 mod Joints
 mod Lists
+mod Listings
 mod Literals
+mod Maps
 mod Moves
 mod Negations
 mod Numbered
 mod Operands
+mod Parts
 mod Places
 mod Tests
