@@ -20,17 +20,16 @@ use Rattle.bf_parse.specs.Cursors.{words}
 use Rattle.bf_parse.specs.Ends.{begins, begins_literal, is_name, is_opposite, is_parenthesis, is_point, goes_sum}
 use Rattle.bf_parse.specs.Starts.{IsStart}
 use Rattle.bf_parse.specs.Expressions.{Counted, NumberRule, RefRule, Factor, number, negative, opposite, text, ref, parenthesis, Sum, begins_with_number}
-use Rattle.bf_parse.specs.Conditions.{LiteralRule}
 use Rattle.bf_parse.specs.Conditions as literal
 use Rattle.bf_parse.proofs.Fitting.{fits_by}
-use Rattle.bf_parse.proofs.Literals.{literal_begun}
+use Rattle.bf_parse.proofs.Literals.{number_said, Tight}
 use Rattle.bf_parse.proofs.Moves.{Can, NotHere, left_here, right_here}
 use Rattle.bf_parse.proofs.Lists as lists
 use Rattle.bf_parse.proofs.Beginnings.{Begun, other_not_here}
 use Rattle.bf_parse.proofs.Numbered.{Numbered}
 
 abbrev pub LiteralPart : ℕ → List Step → Counted → Type 0
-LiteralPart n = Then LiteralRule (λ v. Return (tree.literal v, n))
+LiteralPart n = Then Tight (λ v. Return (tree.literal v, n))
 
 abbrev pub RefPart : ℕ → List Step → Counted → Type 0
 RefPart n = Then RefRule (λ r. Return (column r, n))
@@ -57,13 +56,15 @@ Parts n = Either (LiteralPart n) (Either (Counteds n) (RefPart n))
 pub whole : (s front back : List Step) → s ≡ front ++ back → back ≡ [] → s ≡ front
 whole s front back split p = split ∙ ap (λ (z : List Step). front ++ z) p ∙ append-nil front
 
-from_literal : (n : ℕ) (s : List Step) (v : Value) (x : Counted) → LiteralRule s v → x ≡ (tree.literal v, n) → Factor n s x
-from_literal n s v x (literal.number u h e) q = number u h (q ∙ ap (λ (z : Value). (tree.literal z, n)) e)
-from_literal n s v x (literal.negative u k p e) q = negative u k p (q ∙ ap (λ (z : Value). (tree.literal z, n)) e)
-from_literal n s v x (literal.text t p e) q = text t p (q ∙ ap (λ (z : Value). (tree.literal z, n)) e)
+from_literal : (n : ℕ) (s : List Step) (v : Value) (x : Counted) → literal.LiteralRule s v → begins begins_literal (said s) ≡ true → x ≡ (tree.literal v, n) → Factor n s x
+from_literal n s v x (literal.signed (literal.number u h e)) is q = number u h (q ∙ ap (λ (z : Value). (tree.literal z, n)) e)
+from_literal n s v x (literal.signed (literal.negative u flag k p e)) is q =
+    let behind : flag ≡ true = ap (λ (z : List Step). begins begins_literal (said z)) (sym p) ∙ is in
+    negative u k (p ∙ ap (λ (f : Bool). Say (Minus f) ∷ Say (word.Number u) ∷ []) behind) (q ∙ ap (λ (z : Value). (tree.literal z, n)) e)
+from_literal n s v x (literal.text t p e) is q = text t p (q ∙ ap (λ (z : Value). (tree.literal z, n)) e)
 
 to : (n : ℕ) (s : List Step) (x : Counted) → Parts n s x → Factor n s x
-to n s x (inl h) = from_literal n s h.2 x (subst (λ (z : List Step). LiteralRule z h.2) (sym (whole s h.0 h.1 h.3 h.5.0)) h.4) h.5.1
+to n s x (inl h) = let tight = subst (λ (z : List Step). Tight z h.2) (sym (whole s h.0 h.1 h.3 h.5.0)) h.4 in from_literal n s h.2 x tight.0 tight.1 h.5.1
 to n s x (inr (inr h)) = ref h.2 (subst (λ (z : List Step). RefRule z h.2) (sym (whole s h.0 h.1 h.3 h.5.0)) h.4) h.5.1
 to n s x (inr (inl (inl h))) =
     let t = h.2.2 in
@@ -82,9 +83,9 @@ to n s x (inr (inl (inr h))) =
     (h.1 ∙ ap (λ (z : List Step). Limit (Node (n + 1)) ∷ z) (h.2.1 ∙ ap (λ (z : List Step). Say (Sign sign.OpeningParenthesis) ∷ z) (t.3 ∙ ap (λ (z : List Step). t.0 ++ z) e)))
 
 from : (n : ℕ) (s : List Step) (x : Counted) → Factor n s x → Parts n s x
-from n s x (number v h q) = inl (s, [], value.Int (pos v), sym (append-nil s), literal.number v h refl, (refl, q))
-from n s x (negative v k p q) = inl (s, [], value.Int (neg_ℤ (pos v)), sym (append-nil s), literal.negative v k p refl, (refl, q))
-from n s x (text t p q) = inl (s, [], value.Text t, sym (append-nil s), literal.text t p refl, (refl, q))
+from n s x (number v h q) = inl (s, [], value.Int (pos v), sym (append-nil s), (literal.signed (literal.number v h refl), ap (λ (z : List Word). begins begins_literal z) (number_said s v h)), (refl, q))
+from n s x (negative v k p q) = inl (s, [], value.Int (neg_ℤ (pos v)), sym (append-nil s), (literal.signed (literal.negative v true k p refl), ap (λ (z : List Step). begins begins_literal (said z)) p), (refl, q))
+from n s x (text t p q) = inl (s, [], value.Text t, sym (append-nil s), (literal.text t p refl, ap (λ (z : List Step). begins begins_literal (said z)) p), (refl, q))
 from n s x (ref r h q) = inr (inr (s, [], r, sym (append-nil s), h, (refl, q)))
 from n s x (opposite a m front f unnumbered p q) = inr (inl (inl (Say (Minus false) ∷ front, p, (front, refl, (front, [], (a, m), sym (append-nil front), (f, unnumbered), (refl, q))))))
 from n s x (parenthesis inner h p) =
@@ -101,7 +102,7 @@ begins-append test (Say w ∷ s) t e = e
 begins-append test (Limit m ∷ s) t e = begins-append test s t e
 
 literal_part_begun : (n : ℕ) → Begun begins_literal (LiteralPart n)
-literal_part_begun n = record { it = λ s b h. ap (λ (z : List Step). begins begins_literal (said z)) h.3 ∙ begins-append begins_literal h.0 h.1 (literal_begun.it h.0 h.2 h.4) }
+literal_part_begun n = record { it = λ s b h. ap (λ (z : List Step). begins begins_literal (said z)) h.3 ∙ begins-append begins_literal h.0 h.1 h.4.1 }
 
 ref_part_begun : (n : ℕ) → Begun is_name (RefPart n)
 ref_part_begun n = record { it = λ s b h. ap (λ (z : List Step). begins is_name (said z)) h.3 ∙ begins-append is_name h.0 h.1 (ap (λ (z : List Step). begins is_name (said z)) h.4.2) }

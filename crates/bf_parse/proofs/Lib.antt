@@ -1,6 +1,7 @@
 mod Additions
 mod Beginnings
 mod Chains
+mod Connections
 mod Contents
 mod Factors
 mod Fitting

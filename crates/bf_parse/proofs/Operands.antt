@@ -23,13 +23,14 @@ use Rattle.bf_parse.proofs.Moves.{Can, then_go, then_stop, then_can, return_can,
 use Rattle.bf_parse.proofs.Chains.{node_go, node_deep, factor_can, sum_can}
 use Rattle.bf_parse.proofs.Factors.{literal_first, opposite_first, parenthesis_first, ref_first, BehindMinus, InParentheses}
 use Rattle.bf_parse.proofs.Additions.{factor_headed}
+use Rattle.bf_parse.proofs.Literals.{tight}
 use Rattle.bf_parse.proofs.Numbered.{Numbered, unnumbered}
 
 pub literal_stop : {n : ℕ} {ws : List Word} (e : Stop) → IsStart ws start.Literal → Fits nothing LiteralRule ws (stopped e) → Fits is_point (Factor n) ws (stopped e)
-literal_stop e h f = literal_first h (then_stop e (return_passed (λ t p. refl)) (λ v. return_can) f)
+literal_stop e h f = literal_first h (then_stop e (return_passed (λ t p. refl)) (λ v. return_can) (tight h.it f))
 
 pub literal_read : {n : ℕ} {ws rest : List Word} {v : Value} → IsStart ws start.Literal → Fits nothing LiteralRule ws (Read v rest) → Fits is_point (Factor n) ws (Read (tree.literal v, n) rest)
-literal_read h f = literal_first h (then_go (return_passed (λ t p. refl)) f return_fits)
+literal_read h f = literal_first h (then_go (return_passed (λ t p. refl)) (tight h.it f) return_fits)
 
 pub ref_stop : {n : ℕ} {ws : List Word} (e : Stop) → IsStart ws start.Other → Fits is_point RefRule ws (stopped e) → Fits is_point (Factor n) ws (stopped e)
 ref_stop e h f = ref_first h (then_stop e (return_passed (λ t p. p)) (λ v. return_can) f)

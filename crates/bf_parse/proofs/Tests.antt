@@ -23,7 +23,7 @@ use Rattle.bf_parse.specs.Rules.{Return, After, Marked, Then, Either}
 use Rattle.bf_parse.specs.Reading.{CanGoOn, Ends, Reading, Read, Stuck, Over, Fits, first}
 use Rattle.bf_parse.specs.Outcome.{IsBehind, IsExpected, stopped}
 use Rattle.bf_parse.specs.Cursors.{words}
-use Rattle.bf_parse.specs.Ends.{begins, begins_literal, is_name, nothing, is_point}
+use Rattle.bf_parse.specs.Ends.{begins, is_name, nothing, is_point}
 use Rattle.bf_parse.specs.Starts.{IsStart}
 use Rattle.bf_parse.specs.Expressions.{RefRule}
 use Rattle.bf_parse.specs.Conditions.{CountedCond, LiteralRule, OperandRule, compare_sign}
@@ -31,7 +31,7 @@ use Rattle.bf_parse.specs.Conditions as cond
 use Rattle.bf_parse.specs.Comparisons.{IsComparison, is_comparison, Compared, Ranged, Tested, TestRule}
 use Rattle.bf_parse.proofs.Fitting.{fits_by, after_read, mark_over, stuck_here}
 use Rattle.bf_parse.proofs.Lists.{left_can}
-use Rattle.bf_parse.proofs.Literals.{literal_begun}
+use Rattle.bf_parse.proofs.Literals.{begins_value, literal_begun, not_value, number_said}
 use Rattle.bf_parse.proofs.Moves.{Can, NotHere, Passed, left_here, right_here, after_go, after_stop, after_can, after_not_here, after_passed, then_can, then_go, then_stop, return_can, return_fits, return_passed, marked_go}
 use Rattle.bf_parse.proofs.Beginnings.{Begun, other_not_here, not_begun}
 use Rattle.bf_parse.proofs.Chains.{shallow, deep, node_go, node_deep, marked_not_here}
@@ -56,53 +56,47 @@ operand_as {ws = ws} {r = r} f = record { it = fits_by is_point (Either LiteralS
     from s b (cond.value v h q) = inl (s, [], v, sym (append-nil s), h, (refl, q))
     from s b (cond.ref r h q) = inr (s, [], r, sym (append-nil s), h, (refl, q))
 
-literal_side_begun : Begun begins_literal LiteralSide
-literal_side_begun = record { it = λ s b h. ap (λ (z : List Step). begins begins_literal (said z)) h.3 ∙ begins-append begins_literal h.0 h.1 (literal_begun.it h.0 h.2 h.4) }
+literal_side_begun : Begun begins_value LiteralSide
+literal_side_begun = record { it = λ s b h. ap (λ (z : List Step). begins begins_value (said z)) h.3 ∙ begins-append begins_value h.0 h.1 (literal_begun.it h.0 h.2 h.4) }
 
 ref_side_begun : Begun is_name RefSide
 ref_side_begun = record { it = λ s b h. ap (λ (z : List Step). begins is_name (said z)) h.3 ∙ begins-append is_name h.0 h.1 (ap (λ (z : List Step). begins is_name (said z)) h.4.2) }
 
-no_literal : (ws : List Word) (s : Start) → IsStart ws s → (s ≡ start.Literal → ⊥) → begins begins_literal ws ≡ false
-no_literal ws start.Literal h not = absurd (not refl)
-no_literal ws (start.Opposite rest) h not = ap (λ (z : List Word). begins begins_literal z) h.it.0
-no_literal ws (start.Parenthesis rest) h not = ap (λ (z : List Word). begins begins_literal z) h.it
-no_literal ws start.Other h not = h.it.0
+no_name : (ws : List Word) (s : Start) → IsStart ws s → (s ≡ start.Other → ⊥) → begins is_name ws ≡ false
+no_name ws start.Literal h not = literal_name ws h.it
+no_name ws (start.Opposite rest) h not = ap (λ (z : List Word). begins is_name z) h.it.0
+no_name ws (start.Parenthesis rest) h not = ap (λ (z : List Word). begins is_name z) h.it
+no_name ws start.Other h not = absurd (not refl)
 
-pub value_stop : {ws : List Word} (e : Stop) → IsStart ws start.Literal → Fits nothing LiteralRule ws (stopped e) → Fits is_point OperandRule ws (stopped e)
-value_stop {ws = ws} e h f = operand_as (left_here (other_not_here ref_side_begun (literal_name ws h.it)) (then_stop e (return_passed (λ t p. refl)) (λ v. return_can) f))
+pub value_stop : {ws : List Word} {s : Start} (e : Stop) → IsStart ws s → (s ≡ start.Other → ⊥) → Fits nothing LiteralRule ws (stopped e) → Fits is_point OperandRule ws (stopped e)
+value_stop {ws = ws} {s = s} e h not f = operand_as (left_here (other_not_here ref_side_begun (no_name ws s h not)) (then_stop e (return_passed (λ t p. refl)) (λ v. return_can) f))
 
-pub value_read : {ws rest : List Word} {v : Value} → IsStart ws start.Literal → Fits nothing LiteralRule ws (Read v rest) → Fits is_point OperandRule ws (Read (tree.literal v) rest)
-value_read {ws = ws} h f = operand_as (left_here (other_not_here ref_side_begun (literal_name ws h.it)) (then_go (return_passed (λ t p. refl)) f return_fits))
+pub value_read : {ws rest : List Word} {s : Start} {v : Value} → IsStart ws s → (s ≡ start.Other → ⊥) → Fits nothing LiteralRule ws (Read v rest) → Fits is_point OperandRule ws (Read (tree.literal v) rest)
+value_read {ws = ws} {s = s} h not f = operand_as (left_here (other_not_here ref_side_begun (no_name ws s h not)) (then_go (return_passed (λ t p. refl)) f return_fits))
 
-pub column_stop : {ws : List Word} {s : Start} (e : Stop) → IsStart ws s → (s ≡ start.Literal → ⊥) → Fits is_point RefRule ws (stopped e) → Fits is_point OperandRule ws (stopped e)
-column_stop {ws = ws} {s = s} e h not f = operand_as (right_here (other_not_here literal_side_begun (no_literal ws s h not)) (then_stop e (return_passed (λ t p. p)) (λ v. return_can) f))
+pub column_stop : {ws : List Word} (e : Stop) → IsStart ws start.Other → Fits is_point RefRule ws (stopped e) → Fits is_point OperandRule ws (stopped e)
+column_stop {ws = ws} e h f = operand_as (right_here (other_not_here literal_side_begun (not_value ws h.it.0 h.it.1)) (then_stop e (return_passed (λ t p. p)) (λ v. return_can) f))
 
-pub column_read : {ws rest : List Word} {s : Start} {v : Ref} → IsStart ws s → (s ≡ start.Literal → ⊥) → Fits is_point RefRule ws (Read v rest) → Fits is_point OperandRule ws (Read (tree.column v) rest)
-column_read {ws = ws} {s = s} h not f = operand_as (right_here (other_not_here literal_side_begun (no_literal ws s h not)) (then_go (return_passed (λ t p. p)) f return_fits))
+pub column_read : {ws rest : List Word} {v : Ref} → IsStart ws start.Other → Fits is_point RefRule ws (Read v rest) → Fits is_point OperandRule ws (Read (tree.column v) rest)
+column_read {ws = ws} h f = operand_as (right_here (other_not_here literal_side_begun (not_value ws h.it.0 h.it.1)) (then_go (return_passed (λ t p. p)) f return_fits))
 
 pub operand_can : Can OperandRule
 operand_can = record { it = (Say (word.Text []) ∷ [], tree.literal (value.Text []), cond.value (value.Text []) (cond.text [] refl refl) refl) }
 
 -- an operand begins
 abbrev pub begins_operand : Word → Bool
-begins_operand w = begins_literal w || is_name w
-
-or_begins : (x : List Word) → begins begins_literal x ≡ true → begins begins_operand x ≡ true
-or_begins [] e = absurd cc
-or_begins (w ∷ x) e = rw e refl
-
-name_begins : (x : List Word) → begins is_name x ≡ true → begins begins_operand x ≡ true
-name_begins [] e = absurd cc
-name_begins (word.Keyword k ∷ x) e = absurd cc
-name_begins (word.Name k ∷ x) e = refl
-name_begins (word.Number k ∷ x) e = refl
-name_begins (word.Text k ∷ x) e = refl
-name_begins (word.Minus k ∷ x) e = absurd cc
-name_begins (word.Sign k ∷ x) e = absurd cc
+begins_operand (word.Keyword k) = false
+begins_operand (word.Name k) = true
+begins_operand (word.Number k) = true
+begins_operand (word.Text k) = true
+begins_operand (word.Minus k) = true
+begins_operand (word.Sign k) = false
 
 pub operand_begins : (s : List Step) (b : tree.Expr Ref) → OperandRule s b → begins begins_operand (said s) ≡ true
-operand_begins s b (cond.value v h q) = or_begins (said s) (literal_begun.it s v h)
-operand_begins s b (cond.ref r h q) = name_begins (said s) (ap (λ (z : List Step). begins is_name (said z)) h.2)
+operand_begins s b (cond.value v (cond.signed (cond.number n h e)) q) = ap (λ (z : List Word). begins begins_operand z) (number_said s n h)
+operand_begins s b (cond.value v (cond.signed (cond.negative n flag k p e)) q) = ap (λ (z : List Step). begins begins_operand (said z)) p
+operand_begins s b (cond.value v (cond.text t p e) q) = ap (λ (z : List Step). begins begins_operand (said z)) p
+operand_begins s b (cond.ref r h q) = ap (λ (z : List Step). begins begins_operand (said z)) h.2
 
 -- ---- the sign of a comparison
 
