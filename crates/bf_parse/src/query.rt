@@ -71,7 +71,8 @@ fn star<'a>(cursor: Cursor<'a>) -> Result<Cursor<'a>, Stop>
 {
     let rest = cursor.expect_sign(Sign::OpeningParenthesis)?;
     let rest = rest.expect_sign(Sign::Star)?;
-    rest.expect_sign(Sign::ClosingParenthesis)
+    let rest = rest.expect_sign(Sign::ClosingParenthesis)?;
+    Ok(rest)
 }
 
 /// The aggregate at a place, and the place behind it.
