@@ -12,6 +12,7 @@ mod Lists
 mod Literals
 mod Maps
 mod Moves
+mod Names
 mod Negations
 mod Numbered
 mod Numbers
