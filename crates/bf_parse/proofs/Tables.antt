@@ -127,31 +127,29 @@ choice_next acc {rest = rest} {a = a} {r = r} low h f comma e k =
 abbrev Flat : {B : Type 0} → (List ColumnRule → List Step → B → Type 0) → List Step → B → Type 0
 Flat H = Then (Listed ColumnRuleRule) (λ columns. After (Sign sign.Comma) (After (Keyword keyword.Primary) (H columns)))
 
-module _ {B : Type 0} {H : List ColumnRule → List Step → B → Type 0} where
-  flat_to : (s : List Step) (b : B) → Then ColumnsRule H s b → Flat H s b
-  flat_to s b h =
-      let read = h.4 in
-      let comma = read.5 in
-      let primary = comma.2 in
-      let tail : read.1 ≡ Say (Sign sign.Comma) ∷ Say (Keyword keyword.Primary) ∷ [] =
-      comma.1 ∙ ap (λ (z : List Step). Say (Sign sign.Comma) ∷ z) (primary.1 ∙ ap (λ (z : List Step). Say (Keyword keyword.Primary) ∷ z) primary.2.0) in
-      let split : s ≡ read.0 ++ Say (Sign sign.Comma) ∷ Say (Keyword keyword.Primary) ∷ h.1 =
-      h.3 ∙ ap (λ (z : List Step). z ++ h.1) (read.3 ∙ ap (λ (z : List Step). read.0 ++ z) tail) ∙ append_assoc read.0 (Say (Sign sign.Comma) ∷ Say (Keyword keyword.Primary) ∷ []) h.1 in
-      (read.0, Say (Sign sign.Comma) ∷ Say (Keyword keyword.Primary) ∷ h.1, read.2, split, read.4,
-      (Say (Keyword keyword.Primary) ∷ h.1, refl, (h.1, refl, subst (λ (x : List ColumnRule). H x h.1 b) primary.2.1 h.5)))
+flat_to : {B : Type 0} (H : List ColumnRule → List Step → B → Type 0) (s : List Step) (b : B) → Then ColumnsRule H s b → Flat H s b
+flat_to H s b h =
+    let read = h.4 in
+    let comma = read.5 in
+    let primary = comma.2 in
+    let tail : read.1 ≡ Say (Sign sign.Comma) ∷ Say (Keyword keyword.Primary) ∷ [] =
+    comma.1 ∙ ap (λ (z : List Step). Say (Sign sign.Comma) ∷ z) (primary.1 ∙ ap (λ (z : List Step). Say (Keyword keyword.Primary) ∷ z) primary.2.0) in
+    let split : s ≡ read.0 ++ Say (Sign sign.Comma) ∷ Say (Keyword keyword.Primary) ∷ h.1 =
+    h.3 ∙ ap (λ (z : List Step). z ++ h.1) (read.3 ∙ ap (λ (z : List Step). read.0 ++ z) tail) ∙ append_assoc read.0 (Say (Sign sign.Comma) ∷ Say (Keyword keyword.Primary) ∷ []) h.1 in
+    (read.0, Say (Sign sign.Comma) ∷ Say (Keyword keyword.Primary) ∷ h.1, read.2, split, read.4,
+    (Say (Keyword keyword.Primary) ∷ h.1, refl, (h.1, refl, subst (λ (x : List ColumnRule). H x h.1 b) primary.2.1 h.5)))
 
-  flat_from : (s : List Step) (b : B) → Flat H s b → Then ColumnsRule H s b
-  flat_from s b h =
-      let comma = h.5 in
-      let primary = comma.2 in
-      let ending : List Step = Say (Sign sign.Comma) ∷ Say (Keyword keyword.Primary) ∷ [] in
-      let split : s ≡ (h.0 ++ Say (Sign sign.Comma) ∷ Say (Keyword keyword.Primary) ∷ []) ++ primary.0 =
-      h.3 ∙ ap (λ (z : List Step). h.0 ++ z) (comma.1 ∙ ap (λ (z : List Step). Say (Sign sign.Comma) ∷ z) primary.1) ∙ sym (append_assoc h.0 (Say (Sign sign.Comma) ∷ Say (Keyword keyword.Primary) ∷ []) primary.0) in
-      (h.0 ++ Say (Sign sign.Comma) ∷ Say (Keyword keyword.Primary) ∷ [], primary.0, h.2, split,
-      (h.0, Say (Sign sign.Comma) ∷ Say (Keyword keyword.Primary) ∷ [], h.2, refl, h.4, (Say (Keyword keyword.Primary) ∷ [], refl, ([], refl, (refl, refl)))), primary.2)
+flat_from : {B : Type 0} (H : List ColumnRule → List Step → B → Type 0) (s : List Step) (b : B) → Flat H s b → Then ColumnsRule H s b
+flat_from H s b h =
+    let comma = h.5 in
+    let primary = comma.2 in
+    let split : s ≡ (h.0 ++ Say (Sign sign.Comma) ∷ Say (Keyword keyword.Primary) ∷ []) ++ primary.0 =
+    h.3 ∙ ap (λ (z : List Step). h.0 ++ z) (comma.1 ∙ ap (λ (z : List Step). Say (Sign sign.Comma) ∷ z) primary.1) ∙ sym (append_assoc h.0 (Say (Sign sign.Comma) ∷ Say (Keyword keyword.Primary) ∷ []) primary.0) in
+    (h.0 ++ Say (Sign sign.Comma) ∷ Say (Keyword keyword.Primary) ∷ [], primary.0, h.2, split,
+    (h.0, Say (Sign sign.Comma) ∷ Say (Keyword keyword.Primary) ∷ [], h.2, refl, h.4, (Say (Keyword keyword.Primary) ∷ [], refl, ([], refl, (refl, refl)))), primary.2)
 
-  pub columns_then : {w : Word → Bool} {ws : List Word} {r : Reading B} → Fits w (Then ColumnsRule H) ws r → Fits w (Flat H) ws r
-  columns_then f = same_rule flat_to flat_from f
+pub columns_then : {B : Type 0} {w : Word → Bool} {H : List ColumnRule → List Step → B → Type 0} {ws : List Word} {r : Reading B} → Fits w (Then ColumnsRule H) ws r → Fits w (Flat H) ws r
+columns_then {H = H} f = same_rule (flat_to H) (flat_from H) f
 
 pub columns_can : Can ColumnsRule
 columns_can = then_can (list_can column_part) (λ columns. after_can (after_can return_can))
