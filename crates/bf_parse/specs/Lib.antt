@@ -4,12 +4,15 @@ pub mod Cursors
 pub mod Ends
 pub mod Expressions
 pub mod Faults
+pub mod Leads
 pub mod Migrations
 pub mod Outcome
+pub mod Pieces
 pub mod Reading
 pub mod Rules
 pub mod Scripts
 pub mod Starts
+pub mod StatementEnds
 pub mod Statements
 pub mod Steps
 pub mod Sums

@@ -1,6 +1,7 @@
 -- STATEMENTS, but for MIGRATE. Each expression and each condition counts by itself, from 0.
-use Rattle.std.specs.Prelude.{◌≡◌, ℕ, ◌≤◌, ◌^◌, ℤ, pos, neg_ℤ, true, List, [], ◌∷◌, ◌++◌, Option, None, Some}
+use Rattle.std.specs.Prelude.{◌≡◌, ℕ, ℤ, List, [], ◌∷◌, ◌++◌, Option, None, Some}
 use Rattle.bf_base.specs.declared.value.Value.{Value}
+use Rattle.bf_base.specs.declared.value.Value.TheVariants as value
 use Rattle.bf_lex.specs.declared.keyword.Keyword.{Keyword as KeywordCase}
 use Rattle.bf_lex.specs.declared.keyword.Keyword.TheVariants as keyword
 use Rattle.bf_lex.specs.declared.sign.Sign.{Sign as SignCase}
@@ -54,10 +55,14 @@ Several rule = Then rule (λ a. Further rule (a ∷ []))
 abbrev pub rule_of : List ℕ → ColumnForm → ColumnRule
 rule_of name form = record { name = name; form = form }
 
+-- signed, as the number that it is
+abbrev pub IntRule : Rule ℤ
+IntRule steps number = SignedRule steps (value.Int number)
+
 -- CHECK ( name BETWEEN signed AND signed )
 abbrev pub CheckRule : Rule ColumnForm
 CheckRule = AfterKeyword keyword.Check (Enclosed
-    (Named (λ checked. AfterKeyword keyword.Between (Then SignedRule (λ low. AfterKeyword keyword.And (Then SignedRule (λ high. Return (form.Checked checked low high)))))))
+    (Named (λ checked. AfterKeyword keyword.Between (Then IntRule (λ low. AfterKeyword keyword.And (Then IntRule (λ high. Return (form.Checked checked low high)))))))
     (λ form. Return form))
 
 -- INT [CHECK ..] | VARCHAR ( number )

@@ -1,0 +1,94 @@
+//! Lists of parts with commas between, each of at most 16 parts.
+
+ghost use Rattle.std.specs.Prelude.{◌≡◌, ◌<◌, ◌≤◌, Bool, List, IfErr, IfOk, if◌then◌else◌};
+ghost use Rattle.bf_lex.specs.declared.fault.ScriptKind.TheVariants.{TooManyColumns as TooManyColumnsKind};
+ghost use Rattle.bf_parse.specs.declared.error.Stop.TheVariants.{Limit as BeyondLimit, Syntax as NoSyntax};
+ghost use Rattle.bf_parse.specs.Cursors.{IsPlace, left, words};
+ghost use Rattle.bf_parse.specs.Ends.{begins, nothing};
+ghost use Rattle.bf_parse.specs.Leads.{IsPart};
+ghost use Rattle.bf_parse.specs.Outcome.{outcome};
+ghost use Rattle.bf_parse.specs.Reading.{Fits, Read};
+ghost use Rattle.bf_parse.specs.Rules.{Listed, Return};
+ghost use Rattle.bf_parse.specs.Statements.{Enclosed};
+ghost use Rattle.bf_parse.specs.StatementEnds.{goes_list};
+ghost use Rattle.bf_parse.specs.Steps.{Step};
+ghost use Rattle.bf_parse.specs.Words.{Word};
+
+use crate::cursor::Cursor;
+use crate::error::Stop;
+use bf_lex::{ScriptKind, Sign};
+use std::alloc::Global;
+
+/// The most parts of a list.
+const MOST_PARTS: usize = 16;
+
+/// What lists are made of.
+pub(crate) trait Part: Drop {
+    ghost rule: { List Step → Self → Type 0 };
+
+    ghost goes_on: { Word → Bool };
+
+    ghost begun: { Word → Bool };
+
+    /// Whether a part begins at a place.
+    fn begins_at(cursor: Cursor<'_>) -> bool
+        requires { IsPlace cursor }
+        ensures { result ≡ begins begun (words cursor.entry) };
+
+    /// The part at a place, and the place behind it.
+    fn read<'a>(alloc: Global, cursor: Cursor<'a>) -> Result<(Self, Cursor<'a>), Stop>
+        requires { IsPlace cursor }
+        ensures fits { Fits goes_on rule (words cursor.entry) (outcome (λ x. Read x.0 (words x.1)) result) }
+        ensures place { IfOk result (λ x. IsPlace x.1) }
+        ensures shorter { IfOk result (λ x. left x.1 < left cursor.entry) };
+}
+
+/// Refuses the part behind this many, where a part begins or not, at a place.
+pub(crate) fn room(parts: usize, begins: bool, cursor: Cursor<'_>) -> Result<(), Stop>
+    ensures room { IfOk result (λ done. parts < 16) }
+    ensures full { IfErr result (λ e. 16 ≤ parts) }
+    ensures fault { IfErr result (λ e. e ≡ (if begins then BeyondLimit TooManyColumnsKind (left cursor.entry) else NoSyntax (left cursor.entry))) }
+{
+    if parts < MOST_PARTS {
+        Ok(())
+    } else if begins {
+        Err(Stop::Limit(ScriptKind::TooManyColumns, cursor.tokens.len()))
+    } else {
+        Err(Stop::Syntax(cursor.tokens.len()))
+    }
+}
+
+/// The list at a place, and the place behind it.
+pub(crate) fn list<'a, P: Part>(alloc: Global, cursor: Cursor<'a>) -> Result<(Vec<P>, Cursor<'a>), Stop>
+    requires part { IsPart P.goes_on P.begun P.rule }
+    requires place { IsPlace cursor }
+    ensures fits { Fits (goes_list P.goes_on) (Listed P.rule) (words cursor.entry) (outcome (λ x. Read x.0.items (words x.1)) result) }
+    ensures place { IfOk result (λ x. IsPlace x.1) }
+    ensures shorter { IfOk result (λ x. left x.1 < left cursor.entry) }
+{
+    let (first, rest) = P::read(alloc, cursor)?;
+    let mut parts = Vec::new(alloc);
+    parts.push(first)?;
+    let mut rest = rest;
+    while let Some(behind) = rest.sign(Sign::Comma) {
+        room(parts.len(), P::begins_at(behind), behind)?;
+        let (part, behind) = P::read(alloc, behind)?;
+        parts.push(part)?;
+        rest = behind;
+    }
+    Ok((parts, rest))
+}
+
+/// The list between parentheses at a place, and the place behind it.
+pub(crate) fn enclosed_list<'a, P: Part>(alloc: Global, cursor: Cursor<'a>) -> Result<(Vec<P>, Cursor<'a>), Stop>
+    requires part { IsPart P.goes_on P.begun P.rule }
+    requires place { IsPlace cursor }
+    ensures fits { Fits nothing (Enclosed (Listed P.rule) (λ parts. Return parts)) (words cursor.entry) (outcome (λ x. Read x.0.items (words x.1)) result) }
+    ensures place { IfOk result (λ x. IsPlace x.1) }
+    ensures shorter { IfOk result (λ x. left x.1 < left cursor.entry) }
+{
+    let rest = cursor.expect_sign(Sign::OpeningParenthesis)?;
+    let (parts, rest) = list(alloc, rest)?;
+    let rest = rest.expect_sign(Sign::ClosingParenthesis)?;
+    Ok((parts, rest))
+}

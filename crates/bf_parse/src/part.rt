@@ -1,0 +1,118 @@
+//! The parts of the lists of statements.
+
+ghost use Rattle.bf_parse.specs.Conditions.{LiteralRule};
+ghost use Rattle.bf_parse.specs.Ends.{goes_sum, is_name, is_point, nothing};
+ghost use Rattle.bf_parse.specs.Expressions.{RefRule};
+ghost use Rattle.bf_parse.specs.StatementEnds.{begins_aggregate, begins_constant, begins_expression};
+ghost use Rattle.bf_parse.specs.Statements.{AggregateRule, ExprRule, NameRule, SetRule};
+
+use crate::cursor::Cursor;
+use crate::error::Stop;
+use crate::list::Part;
+use crate::operand::{literal, reference};
+use crate::query::{aggregate, expression};
+use bf_base::{Name, Value};
+use bf_expr::{RawExpr, Ref};
+use bf_lex::Sign;
+use bf_sql::RawAggregate;
+use std::alloc::Global;
+
+impl Part for Name {
+    ghost rule = { NameRule };
+
+    ghost goes_on = { nothing };
+
+    ghost begun = { is_name };
+
+    fn begins_at(cursor: Cursor<'_>) -> bool {
+        cursor.begins_name()
+    }
+
+    fn read<'a>(alloc: Global, cursor: Cursor<'a>) -> Result<(Name, Cursor<'a>), Stop> {
+        cursor.name(alloc)
+    }
+}
+
+impl Part for Ref {
+    ghost rule = { RefRule };
+
+    ghost goes_on = { is_point };
+
+    ghost begun = { is_name };
+
+    fn begins_at(cursor: Cursor<'_>) -> bool {
+        cursor.begins_name()
+    }
+
+    fn read<'a>(alloc: Global, cursor: Cursor<'a>) -> Result<(Ref, Cursor<'a>), Stop> {
+        reference(alloc, cursor)
+    }
+}
+
+impl Part for Value {
+    ghost rule = { LiteralRule };
+
+    ghost goes_on = { nothing };
+
+    ghost begun = { begins_constant };
+
+    fn begins_at(cursor: Cursor<'_>) -> bool {
+        cursor.begins_constant()
+    }
+
+    fn read<'a>(alloc: Global, cursor: Cursor<'a>) -> Result<(Value, Cursor<'a>), Stop> {
+        literal(alloc, cursor)
+    }
+}
+
+impl Part for RawExpr {
+    ghost rule = { ExprRule };
+
+    ghost goes_on = { goes_sum };
+
+    ghost begun = { begins_expression };
+
+    fn begins_at(cursor: Cursor<'_>) -> bool {
+        cursor.begins_expression()
+    }
+
+    fn read<'a>(alloc: Global, cursor: Cursor<'a>) -> Result<(RawExpr, Cursor<'a>), Stop> {
+        expression(alloc, cursor)
+    }
+}
+
+impl Part for RawAggregate {
+    ghost rule = { AggregateRule };
+
+    ghost goes_on = { nothing };
+
+    ghost begun = { begins_aggregate };
+
+    fn begins_at(cursor: Cursor<'_>) -> bool {
+        cursor.begins_aggregate()
+    }
+
+    fn read<'a>(alloc: Global, cursor: Cursor<'a>) -> Result<(RawAggregate, Cursor<'a>), Stop> {
+        aggregate(alloc, cursor)
+    }
+}
+
+/// A column and the expression that it is set to.
+impl Part for (Name, RawExpr) {
+    ghost rule = { SetRule };
+
+    ghost goes_on = { goes_sum };
+
+    ghost begun = { is_name };
+
+    fn begins_at(cursor: Cursor<'_>) -> bool {
+        cursor.begins_name()
+    }
+
+    fn read<'a>(alloc: Global, cursor: Cursor<'a>) -> Result<((Name, RawExpr), Cursor<'a>), Stop> {
+        let (column, rest) = cursor.name(alloc)?;
+        let rest = rest.expect_sign(Sign::Equal)?;
+        let (expr, rest) = expression(alloc, rest)?;
+        Ok(((column, expr), rest))
+    }
+}

@@ -1,0 +1,142 @@
+//! Conditions that may be missing, aggregates, and SELECT.
+
+ghost use Rattle.std.specs.Prelude.{◌≡◌, ◌<◌, ◌≤◌, IfOk};
+ghost use Rattle.bf_parse.specs.Cursors.{IsPlace, left, words};
+ghost use Rattle.bf_parse.specs.Ends.{goes_sum, nothing};
+ghost use Rattle.bf_parse.specs.Outcome.{outcome};
+ghost use Rattle.bf_parse.specs.Pieces.{StarRule, count};
+ghost use Rattle.bf_parse.specs.Reading.{Fits, Read};
+ghost use Rattle.bf_parse.specs.StatementEnds.{goes_list, goes_where};
+ghost use Rattle.bf_parse.specs.Rules.{Return};
+ghost use Rattle.bf_parse.specs.Statements.{AggregateRule, Enclosed, ExprRule, ListRule, SelectRule, WhereRule};
+
+use crate::condition::condition;
+use crate::cursor::Cursor;
+use crate::error::Stop;
+use crate::expression::sum;
+use crate::list::list;
+use bf_base::Sequence;
+use bf_expr::{RawCond, RawExpr};
+use bf_lex::{Keyword, Sign};
+use bf_sql::{Items, List, RawAggregate, Statement};
+use std::alloc::Global;
+
+/// The condition behind WHERE, where that stands first, and the place behind it.
+pub(crate) fn where_clause<'a>(alloc: Global, cursor: Cursor<'a>) -> Result<(Option<RawCond>, Cursor<'a>), Stop>
+    requires { IsPlace cursor }
+    ensures fits { Fits goes_where WhereRule (words cursor.entry) (outcome (λ x. Read x.0 (words x.1)) result) }
+    ensures place { IfOk result (λ x. IsPlace x.1) }
+    ensures shorter { IfOk result (λ x. left x.1 ≤ left cursor.entry) }
+{
+    match cursor.keyword(Keyword::Where) {
+        None => Ok((None, cursor)),
+        Some(behind) => {
+            let (cond, _, rest) = condition(alloc, behind, 0)?;
+            Ok((Some(cond), rest))
+        }
+    }
+}
+
+/// The expression at a place, and the place behind it.
+pub(crate) fn expression<'a>(alloc: Global, cursor: Cursor<'a>) -> Result<(RawExpr, Cursor<'a>), Stop>
+    requires { IsPlace cursor }
+    ensures fits { Fits goes_sum ExprRule (words cursor.entry) (outcome (λ x. Read x.0 (words x.1)) result) }
+    ensures place { IfOk result (λ x. IsPlace x.1) }
+    ensures shorter { IfOk result (λ x. left x.1 < left cursor.entry) }
+{
+    let (expr, _, rest) = sum(alloc, cursor, 0)?;
+    Ok((expr, rest))
+}
+
+/// The expression between parentheses at a place, and the place behind it.
+fn enclosed<'a>(alloc: Global, cursor: Cursor<'a>) -> Result<(RawExpr, Cursor<'a>), Stop>
+    requires { IsPlace cursor }
+    ensures fits { Fits nothing (Enclosed ExprRule (λ e. Return e)) (words cursor.entry) (outcome (λ x. Read x.0 (words x.1)) result) }
+    ensures place { IfOk result (λ x. IsPlace x.1) }
+    ensures shorter { IfOk result (λ x. left x.1 < left cursor.entry) }
+{
+    let rest = cursor.expect_sign(Sign::OpeningParenthesis)?;
+    let (expr, rest) = expression(alloc, rest)?;
+    let rest = rest.expect_sign(Sign::ClosingParenthesis)?;
+    Ok((expr, rest))
+}
+
+/// The place behind a star between parentheses.
+fn star<'a>(cursor: Cursor<'a>) -> Result<Cursor<'a>, Stop>
+    requires { IsPlace cursor }
+    ensures fits { Fits nothing StarRule (words cursor.entry) (outcome (λ rest. Read count (words rest)) result) }
+    ensures place { IfOk result IsPlace }
+    ensures shorter { IfOk result (λ rest. left rest < left cursor.entry) }
+{
+    let rest = cursor.expect_sign(Sign::OpeningParenthesis)?;
+    let rest = rest.expect_sign(Sign::Star)?;
+    let rest = rest.expect_sign(Sign::ClosingParenthesis)?;
+    Ok(rest)
+}
+
+/// The aggregate at a place, and the place behind it.
+pub(crate) fn aggregate<'a>(alloc: Global, cursor: Cursor<'a>) -> Result<(RawAggregate, Cursor<'a>), Stop>
+    requires { IsPlace cursor }
+    ensures fits { Fits nothing AggregateRule (words cursor.entry) (outcome (λ x. Read x.0 (words x.1)) result) }
+    ensures place { IfOk result (λ x. IsPlace x.1) }
+    ensures shorter { IfOk result (λ x. left x.1 < left cursor.entry) }
+{
+    match cursor.leading() {
+        None => Err(Stop::Syntax(cursor.tokens.len())),
+        Some((keyword, behind)) => match keyword {
+            Keyword::Count => {
+                let rest = star(behind)?;
+                Ok((RawAggregate::Count, rest))
+            }
+            Keyword::Sum => {
+                let (expr, rest) = enclosed(alloc, behind)?;
+                Ok((RawAggregate::Sum(expr), rest))
+            }
+            Keyword::Min => {
+                let (expr, rest) = enclosed(alloc, behind)?;
+                Ok((RawAggregate::Min(expr), rest))
+            }
+            Keyword::Max => {
+                let (expr, rest) = enclosed(alloc, behind)?;
+                Ok((RawAggregate::Max(expr), rest))
+            }
+            _ => Err(Stop::Syntax(cursor.tokens.len())),
+        },
+    }
+}
+
+/// What a SELECT gives, at a place, and the place behind it.
+fn select_list<'a>(alloc: Global, cursor: Cursor<'a>) -> Result<(List, Cursor<'a>), Stop>
+    requires { IsPlace cursor }
+    ensures fits { Fits (goes_list goes_sum) ListRule (words cursor.entry) (outcome (λ x. Read x.0 (words x.1)) result) }
+    ensures place { IfOk result (λ x. IsPlace x.1) }
+    ensures shorter { IfOk result (λ x. left x.1 < left cursor.entry) }
+{
+    match cursor.sign(Sign::Star) {
+        Some(behind) => Ok((Items::All, behind)),
+        None => {
+            if cursor.begins_aggregate() {
+                let (totals, rest) = list::<RawAggregate>(alloc, cursor)?;
+                Ok((Items::Aggregates(Sequence::of(totals)), rest))
+            } else {
+                let (exprs, rest) = list::<RawExpr>(alloc, cursor)?;
+                Ok((Items::Exprs(Sequence::of(exprs)), rest))
+            }
+        }
+    }
+}
+
+/// The SELECT at a place, and the place behind it.
+pub(crate) fn select<'a>(alloc: Global, cursor: Cursor<'a>) -> Result<(Statement, Cursor<'a>), Stop>
+    requires { IsPlace cursor }
+    ensures fits { Fits goes_where SelectRule (words cursor.entry) (outcome (λ x. Read x.0 (words x.1)) result) }
+    ensures place { IfOk result (λ x. IsPlace x.1) }
+    ensures shorter { IfOk result (λ x. left x.1 < left cursor.entry) }
+{
+    let rest = cursor.expect_keyword(Keyword::Select)?;
+    let (list, rest) = select_list(alloc, rest)?;
+    let rest = rest.expect_keyword(Keyword::From)?;
+    let (table, rest) = rest.name(alloc)?;
+    let (cond, rest) = where_clause(alloc, rest)?;
+    Ok((Statement::Select { list, table, cond }, rest))
+}
