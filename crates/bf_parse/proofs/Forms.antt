@@ -1,12 +1,9 @@
 -- What columns are declared to admit.
-use Rattle.std.proofs.Common.{◌≡◌, ℕ, ℤ, pos, Bool, true, false, List, [], ◌∷◌, Option, Some, None, refl, ◌⊎◌, inl, inr}
-use Rattle.bf_base.specs.declared.value.Value.{Value}
+use Rattle.std.proofs.Common.{List, Some, None, refl}
 use Rattle.bf_lex.specs.declared.keyword.Keyword.TheVariants as keyword
-use Rattle.bf_lex.specs.declared.sign.Sign.TheVariants as sign
 use Rattle.bf_sql.specs.declared.statement.ColumnForm.{ColumnForm}
 use Rattle.bf_sql.specs.declared.statement.ColumnForm.TheVariants as form
 use Rattle.bf_parse.specs.Words.{Word, Keyword}
-use Rattle.bf_parse.specs.Steps.{Step, Say}
 use Rattle.bf_parse.specs.Rules.{Return, After, Listed}
 use Rattle.bf_parse.specs.Reading.{Reading, Read, Fits}
 use Rattle.bf_parse.specs.Outcome.{IsBehind}

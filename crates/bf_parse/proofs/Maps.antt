@@ -1,19 +1,19 @@
 -- Readings of a rule whose values are made of those of another, and of rules that spell the same.
-use Rattle.std.proofs.Common.{◌≡◌, ℕ, ℤ, Bool, true, false, List, [], ◌∷◌, ◌++◌, length, Option, Some, None, Ok, Err, refl, sym, ap, subst, ◌∙◌, append_assoc}
+use Rattle.std.proofs.Common.{◌≡◌, Bool, false, List, [], ◌∷◌, ◌++◌, Some, refl, sym, ap, subst, ◌∙◌, append_assoc}
 use Rattle.bf_parse.specs.declared.error.Stop.{Stop}
 use Rattle.bf_parse.specs.declared.error.Stop.TheVariants as stop
 use Rattle.bf_lex.specs.declared.sign.Sign.TheVariants as sign
 use Rattle.bf_parse.specs.Words.{Word, Sign}
 use Rattle.bf_parse.specs.Steps.{Step, Say, said}
 use Rattle.bf_parse.specs.Rules.{Return, After, Then, Either}
-use Rattle.bf_parse.specs.Reading.{CanGoOn, Ends, Reading, Read, Stuck, Over, Lost, FitsAs, FitsRead, FitsStuck, FitsOver, Fits, first}
-use Rattle.bf_parse.specs.Outcome.{IsBehind, IsExpected, stopped}
+use Rattle.bf_parse.specs.Reading.{Ends, Reading, Read, Stuck, Over, Lost, FitsAs, FitsRead, Fits, first}
+use Rattle.bf_parse.specs.Outcome.{stopped}
 use Rattle.bf_parse.specs.Statements.{Enclosed}
 use Rattle.bf_parse.specs.Ends.{nothing}
-use Rattle.bf_parse.proofs.Fitting.{fits_by, stuck_here}
+use Rattle.bf_parse.proofs.Fitting.{fits_by}
 use Rattle.bf_parse.proofs.Lists.{weaker_ends}
 use Rattle.bf_parse.proofs.Lists as lists
-use Rattle.bf_parse.proofs.Moves.{Can, NotHere, Passed, then_go, then_stop, after_go, after_stop, after_passed, after_can, then_can}
+use Rattle.bf_parse.proofs.Moves.{Can, NotHere, Passed, then_go, then_stop}
 
 -- ---- values made of values
 

@@ -1,5 +1,5 @@
 -- Numbers, and the numbers of a CHECK.
-use Rattle.std.proofs.Common.{◌≡◌, ℕ, ℤ, ◌+◌, ◌≤◌, ◌<◌, ◌^◌, pos, neg_ℤ, Bool, true, false, List, [], ◌∷◌, ◌++◌, length, refl, sym, ap, ◌∙◌, arith}
+use Rattle.std.proofs.Common.{◌≡◌, ℕ, ℤ, ◌+◌, ◌≤◌, ◌^◌, pos, false, List, [], ◌∷◌, ◌++◌, length, refl, sym, ap, ◌∙◌, arith}
 use Rattle.bf_base.specs.declared.value.Value.{Value}
 use Rattle.bf_base.specs.declared.value.Value.TheVariants.{Int, Text}
 use Rattle.bf_lex.specs.declared.fault.ScriptKind.TheVariants.{NumberTooWide}
@@ -10,7 +10,6 @@ use Rattle.bf_parse.specs.Words.{Word}
 use Rattle.bf_parse.specs.Words as word
 use Rattle.bf_parse.specs.Steps.{Step, Say, Limit, Widest, said}
 use Rattle.bf_parse.specs.Reading.{Read, Over, Stuck, Fits}
-use Rattle.bf_parse.specs.Cursors.{words}
 use Rattle.bf_parse.specs.Ends.{begins, nothing, begins_literal}
 use Rattle.bf_parse.specs.Starts.{IsFront}
 use Rattle.bf_parse.specs.Expressions.{NumberRule, narrow, widest, is_number}

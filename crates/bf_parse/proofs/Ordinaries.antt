@@ -1,5 +1,5 @@
 -- Which statement stands, and what follows the parts of statements.
-use Rattle.std.proofs.Common.{◌≡◌, ℕ, Bool, true, false, List, [], ◌∷◌, ◌++◌, length, Option, Some, None, refl, sym, ap, subst, ◌∙◌, ◌⊎◌, inl, inr}
+use Rattle.std.proofs.Common.{◌≡◌, ℕ, Bool, true, false, List, [], ◌∷◌, ◌++◌, length, Option, Some, None, refl, sym, ap, subst, ◌∙◌, inl, inr}
 use Rattle.std.specs.Prelude.{◌||◌}
 use Rattle.bf_lex.specs.declared.keyword.Keyword.{Keyword as KeywordCase}
 use Rattle.bf_lex.specs.declared.keyword.Keyword.TheVariants as keyword
@@ -11,10 +11,9 @@ use Rattle.bf_parse.specs.declared.cursor.Cursor.{Cursor}
 use Rattle.bf_parse.specs.Words.{Word, Keyword}
 use Rattle.bf_parse.specs.Words as word
 use Rattle.bf_parse.specs.Steps.{Step, Say, said}
-use Rattle.bf_parse.specs.Rules.{Return, After, Either, Then, Listed}
+use Rattle.bf_parse.specs.Rules.{Return, Then, Listed}
 use Rattle.bf_parse.specs.Reading.{Ends, Reading, Read, Stuck, Fits}
 use Rattle.bf_parse.specs.Outcome.{IsBehind}
-use Rattle.bf_parse.specs.Cursors.{words}
 use Rattle.bf_parse.specs.Ends.{begins, goes_sum, nothing}
 use Rattle.bf_parse.specs.StatementEnds.{goes_list, goes_where, goes_ordinary, is_comma}
 use Rattle.bf_parse.specs.Leads.{IsLead}

@@ -1,7 +1,7 @@
 -- Lists of any rule, of at most 16 parts.
-use Rattle.std.proofs.Common.{◌≡◌, ℕ, suc, ◌+◌, ◌<◌, ◌≤◌, ◌^◌, Bool, true, false, List, [], ◌∷◌, ◌++◌, length, Option, Some, None, refl, sym, ap, subst, ◌∙◌, arith, length-append}
+use Rattle.std.proofs.Common.{◌≡◌, ℕ, suc, ◌<◌, ◌≤◌, Bool, true, false, List, [], ◌∷◌, ◌++◌, length, Some, None, refl, sym, subst, arith, length-append}
 use Rattle.std.proofs.lemmas.Bool.{lt-ltb, le-ltb}
-use Rattle.std.specs.Prelude.{◌||◌, if◌then◌else◌, slice_range}
+use Rattle.std.specs.Prelude.{if◌then◌else◌, slice_range}
 use Rattle.bf_lex.specs.declared.fault.ScriptKind.TheVariants.{TooManyColumns}
 use Rattle.bf_lex.specs.declared.sign.Sign.{Sign as SignCase}
 use Rattle.bf_lex.specs.declared.sign.Sign.TheVariants as sign
@@ -14,7 +14,7 @@ use Rattle.bf_parse.specs.declared.error.Stop.TheVariants as stop
 use Rattle.bf_parse.specs.Words.{Word, Sign, sign_word, word_of, words_of, begins_with_number}
 use Rattle.bf_parse.specs.Steps.{Step, Part, said, fault_at}
 use Rattle.bf_parse.specs.Rules.{Marked, Listed, Others}
-use Rattle.bf_parse.specs.Reading.{Reading, Read, Over, Stuck, Fits, first}
+use Rattle.bf_parse.specs.Reading.{Reading, Read, Over, Stuck, Fits}
 use Rattle.bf_parse.specs.Outcome.{IsBehind, stopped}
 use Rattle.bf_parse.specs.Cursors.{IsPlace, words, left}
 use Rattle.bf_parse.specs.Tokens.{IsSpelling, AreTokensAs}
@@ -24,7 +24,7 @@ use Rattle.bf_parse.specs.Leads.{IsPart, IsSayable}
 use Rattle.bf_parse.proofs.Fitting.{mark_over, mark_stuck}
 use Rattle.bf_parse.proofs.Beginnings.{not_begun}
 use Rattle.bf_parse.proofs.Chains.{or_left}
-use Rattle.bf_parse.proofs.Moves.{Can, Passed, then_can, marked_can, others_passed, others_can, others_comma, marked_go, then_go, then_stop}
+use Rattle.bf_parse.proofs.Moves.{Can, then_can, marked_can, others_passed, others_can, others_comma, marked_go, then_go, then_stop}
 use Rattle.bf_parse.proofs.Places.{length-words}
 
 -- ---- what the words of tokens can be

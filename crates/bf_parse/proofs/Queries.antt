@@ -1,5 +1,5 @@
 -- Conditions that may be missing, expressions, aggregates, and what a SELECT gives.
-use Rattle.std.proofs.Common.{◌≡◌, ℕ, Bool, true, false, List, [], ◌∷◌, ◌++◌, length, Option, Some, None, refl, sym, ap, ◌∙◌, ◌⊎◌, inl, inr}
+use Rattle.std.proofs.Common.{◌≡◌, ℕ, Bool, true, false, List, [], ◌∷◌, length, Option, Some, None, refl, ap, ◌∙◌, inl}
 use Rattle.std.specs.Prelude.{◌||◌}
 use Rattle.bf_expr.specs.declared.raw.Ref.{Ref}
 use Rattle.bf_expr.specs.Trees.{Expr, Cond}
@@ -15,13 +15,13 @@ use Rattle.bf_parse.specs.declared.error.Stop.{Stop}
 use Rattle.bf_parse.specs.Words.{Word, Keyword, Sign}
 use Rattle.bf_parse.specs.Words as word
 use Rattle.bf_parse.specs.Steps.{Step, Say, said}
-use Rattle.bf_parse.specs.Rules.{Return, After, Either, Then, Listed}
-use Rattle.bf_parse.specs.Reading.{Ends, Reading, Read, Stuck, Fits, first}
+use Rattle.bf_parse.specs.Rules.{Return, Then, Listed}
+use Rattle.bf_parse.specs.Reading.{Reading, Read, Stuck, Fits}
 use Rattle.bf_parse.specs.Outcome.{IsBehind, stopped}
 use Rattle.bf_parse.specs.Cursors.{words}
 use Rattle.bf_parse.specs.Ends.{begins, goes_sum, goes_disjunction, nothing}
-use Rattle.bf_parse.specs.StatementEnds.{goes_list, goes_where, goes_ordinary, begins_aggregate, begins_expression}
-use Rattle.bf_parse.specs.Leads.{IsLead, is_keyword}
+use Rattle.bf_parse.specs.StatementEnds.{goes_list, goes_where, begins_aggregate, begins_expression}
+use Rattle.bf_parse.specs.Leads.{IsLead}
 use Rattle.bf_parse.specs.Expressions.{Sum}
 use Rattle.bf_parse.specs.Conditions.{CountedCond, Disjunction}
 use Rattle.bf_parse.specs.Statements.{ExprRule, WhereRule, Enclosed, AggregateRule, ListRule}
@@ -30,9 +30,8 @@ use Rattle.bf_parse.proofs.Beginnings.{Begun, other_not_here, other_stop}
 use Rattle.bf_parse.proofs.Chains.{or_left}
 use Rattle.bf_parse.proofs.Factors.{begins-append}
 use Rattle.bf_parse.proofs.Listings.{aggregate_part, expression_part}
-use Rattle.bf_parse.proofs.Lists.{weaker_ends}
-use Rattle.bf_parse.proofs.Maps.{Maps, map_go, map_stop, wider, any_passed, other_word, either_not_here, enclosed_go, enclosed_stop}
-use Rattle.bf_parse.proofs.Moves.{Can, NotHere, Passed, left_here, right_here, return_not_here, after_not_here, behind_go, return_fits, return_can, return_passed, then_go, then_stop, after_can}
+use Rattle.bf_parse.proofs.Maps.{Maps, map_go, map_stop, wider, other_word, either_not_here, enclosed_go, enclosed_stop}
+use Rattle.bf_parse.proofs.Moves.{Can, left_here, right_here, return_not_here, after_not_here, behind_go, return_fits, return_can, return_passed, then_go, then_stop}
 
 -- ---- a keyword that stands first
 
@@ -125,18 +124,22 @@ no_aggregate {k = k} h a b c d = ap (λ (z : List Word). begins begins_aggregate
 -- ---- what a SELECT gives
 
 exprs_begun : Begun begins_expression (Then (Listed ExprRule) (λ es. Return (items.Exprs es)))
-exprs_begun = record { it = λ s b h.
-    let list = h.4 in
-    ap (λ (z : List Step). begins begins_expression (said z)) h.3 ∙ begins-append begins_expression h.0 h.1
-    (ap (λ (z : List Step). begins begins_expression (said z)) list.3 ∙ begins-append begins_expression list.0 list.1
-    (ap (λ (z : List Step). begins begins_expression (said z)) list.4.1 ∙ expression_part.opens list.4.0 list.2 list.4.2)) }
+exprs_begun = record {
+  it = λ s b h.
+      let list = h.4 in
+      ap (λ (z : List Step). begins begins_expression (said z)) h.3 ∙ begins-append begins_expression h.0 h.1
+      (ap (λ (z : List Step). begins begins_expression (said z)) list.3 ∙ begins-append begins_expression list.0 list.1
+      (ap (λ (z : List Step). begins begins_expression (said z)) list.4.1 ∙ expression_part.opens list.4.0 list.2 list.4.2));
+}
 
 totals_begun : Begun begins_aggregate (Then (Listed AggregateRule) (λ totals. Return (items.Aggregates totals)))
-totals_begun = record { it = λ s b h.
-    let list = h.4 in
-    ap (λ (z : List Step). begins begins_aggregate (said z)) h.3 ∙ begins-append begins_aggregate h.0 h.1
-    (ap (λ (z : List Step). begins begins_aggregate (said z)) list.3 ∙ begins-append begins_aggregate list.0 list.1
-    (ap (λ (z : List Step). begins begins_aggregate (said z)) list.4.1 ∙ aggregate_part.opens list.4.0 list.2 list.4.2)) }
+totals_begun = record {
+  it = λ s b h.
+      let list = h.4 in
+      ap (λ (z : List Step). begins begins_aggregate (said z)) h.3 ∙ begins-append begins_aggregate h.0 h.1
+      (ap (λ (z : List Step). begins begins_aggregate (said z)) list.3 ∙ begins-append begins_aggregate list.0 list.1
+      (ap (λ (z : List Step). begins begins_aggregate (said z)) list.4.1 ∙ aggregate_part.opens list.4.0 list.2 list.4.2));
+}
 
 aggregate_no_expression : (ws : List Word) → begins begins_aggregate ws ≡ true → begins begins_expression ws ≡ false
 aggregate_no_expression [] e = refl

@@ -1,5 +1,5 @@
 -- The columns of a table, behind which stands a comma and PRIMARY: behind a comma stands a column or PRIMARY.
-use Rattle.std.proofs.Common.{◌≡◌, ℕ, suc, ◌<◌, Bool, true, false, List, [], ◌∷◌, ◌++◌, Option, Some, None, Ok, Err, refl, sym, ap, subst, ◌∙◌, ◌⊎◌, inl, inr, arith, length, length-append, append_assoc}
+use Rattle.std.proofs.Common.{◌≡◌, ℕ, suc, ◌<◌, Bool, List, [], ◌∷◌, ◌++◌, Some, None, Ok, Err, refl, sym, ap, subst, ◌∙◌, inl, inr, arith, length, length-append, append_assoc}
 use Rattle.bf_lex.specs.declared.keyword.Keyword.TheVariants as keyword
 use Rattle.bf_lex.specs.declared.sign.Sign.TheVariants as sign
 use Rattle.bf_sql.specs.declared.statement.ColumnRule.{ColumnRule}
@@ -14,8 +14,8 @@ use Rattle.bf_parse.specs.Ends.{nothing}
 use Rattle.bf_parse.specs.StatementEnds.{is_check}
 use Rattle.bf_parse.specs.Statements.{ColumnRuleRule, NameRule, Enclosed, TableRule, IndexRuleRule}
 use Rattle.bf_parse.specs.Pieces.{ColumnsRule}
-use Rattle.bf_parse.proofs.Moves.{Can, NotHere, Passed, left_here, right_here, after_not_here, behind_go, return_fits, then_go, then_stop, then_can, after_can, return_can, others_can, left_can, marked_can, named_can, after_go, after_stop, marked_go}
-use Rattle.bf_parse.proofs.Maps.{same_rule, other_word}
+use Rattle.bf_parse.proofs.Moves.{Can, NotHere, Passed, left_here, right_here, after_not_here, behind_go, return_fits, then_go, then_stop, then_can, after_can, return_can, others_can, left_can, named_can, after_go, after_stop, marked_go}
+use Rattle.bf_parse.proofs.Maps.{same_rule}
 use Rattle.bf_parse.proofs.Listings.{column_part, name_part}
 use Rattle.bf_parse.proofs.Parts.{list_can, part_low}
 
@@ -89,11 +89,13 @@ columns_begin f comma h = same_rule columns_to columns_from (then_go (more_passe
 
 -- where PRIMARY stands, no column does
 column_not_here : (n : ℕ) (acc : List ColumnRule) (ws rest : List Word) → ws ≡ Keyword keyword.Primary ∷ rest → NotHere nothing (Then (Marked (Part n) ColumnRuleRule) (λ e. More (suc n) (acc ++ e ∷ []))) ws
-column_not_here n acc ws rest e = record { it = λ s b back h ends same.
-    let named = h.4.2 in
-    let split : s ≡ Limit (Part n) ∷ Say (Name named.0) ∷ (named.1 ++ h.1) = h.3 ∙ ap (λ (z : List Step). z ++ h.1) (h.4.1 ∙ ap (λ (z : List Step). Limit (Part n) ∷ z) named.2) in
-    let d : Some (Name named.0) ≡ Some (Keyword keyword.Primary) = ap (λ (z : List Step). first (said z ++ back)) (sym split) ∙ same ∙ ap first e in
-    cc }
+column_not_here n acc ws rest e = record {
+  it = λ s b back h ends same.
+      let named = h.4.2 in
+      let split : s ≡ Limit (Part n) ∷ Say (Name named.0) ∷ (named.1 ++ h.1) = h.3 ∙ ap (λ (z : List Step). z ++ h.1) (h.4.1 ∙ ap (λ (z : List Step). Limit (Part n) ∷ z) named.2) in
+      let d : Some (Name named.0) ≡ Some (Keyword keyword.Primary) = ap (λ (z : List Step). first (said z ++ back)) (sym split) ∙ same ∙ ap first e in
+      cc;
+}
 
 pub choice_end : {n : ℕ} {acc : List ColumnRule} {ws rest : List Word} → IsBehind (Keyword keyword.Primary) ws (Some rest) → Fits nothing (Choice n acc) ws (Read acc rest)
 choice_end {n = n} {acc = acc} {ws = ws} {rest = rest} h = right_here (column_not_here n acc ws rest h.it) (behind_go h return_fits)
@@ -135,18 +137,28 @@ flat_to H s b h =
     let tail : read.1 ≡ Say (Sign sign.Comma) ∷ Say (Keyword keyword.Primary) ∷ [] =
     comma.1 ∙ ap (λ (z : List Step). Say (Sign sign.Comma) ∷ z) (primary.1 ∙ ap (λ (z : List Step). Say (Keyword keyword.Primary) ∷ z) primary.2.0) in
     let split : s ≡ read.0 ++ Say (Sign sign.Comma) ∷ Say (Keyword keyword.Primary) ∷ h.1 =
-    h.3 ∙ ap (λ (z : List Step). z ++ h.1) (read.3 ∙ ap (λ (z : List Step). read.0 ++ z) tail) ∙ append_assoc read.0 (Say (Sign sign.Comma) ∷ Say (Keyword keyword.Primary) ∷ []) h.1 in
-    (read.0, Say (Sign sign.Comma) ∷ Say (Keyword keyword.Primary) ∷ h.1, read.2, split, read.4,
-    (Say (Keyword keyword.Primary) ∷ h.1, refl, (h.1, refl, subst (λ (x : List ColumnRule). H x h.1 b) primary.2.1 h.5)))
+    h.3 ∙ ap (λ (z : List Step). z ++ h.1) (read.3 ∙ ap (λ (z : List Step). read.0 ++ z) tail) ∙ append_assoc read.0 (Say (Sign sign.Comma) ∷ Say (Keyword keyword.Primary) ∷ []) h.1 in (
+      read.0,
+      Say (Sign sign.Comma) ∷ Say (Keyword keyword.Primary) ∷ h.1,
+      read.2,
+      split,
+      read.4,
+      (Say (Keyword keyword.Primary) ∷ h.1, refl, (h.1, refl, subst (λ (x : List ColumnRule). H x h.1 b) primary.2.1 h.5)),
+    )
 
 flat_from : {B : Type 0} (H : List ColumnRule → List Step → B → Type 0) (s : List Step) (b : B) → Flat H s b → Then ColumnsRule H s b
 flat_from H s b h =
     let comma = h.5 in
     let primary = comma.2 in
     let split : s ≡ (h.0 ++ Say (Sign sign.Comma) ∷ Say (Keyword keyword.Primary) ∷ []) ++ primary.0 =
-    h.3 ∙ ap (λ (z : List Step). h.0 ++ z) (comma.1 ∙ ap (λ (z : List Step). Say (Sign sign.Comma) ∷ z) primary.1) ∙ sym (append_assoc h.0 (Say (Sign sign.Comma) ∷ Say (Keyword keyword.Primary) ∷ []) primary.0) in
-    (h.0 ++ Say (Sign sign.Comma) ∷ Say (Keyword keyword.Primary) ∷ [], primary.0, h.2, split,
-    (h.0, Say (Sign sign.Comma) ∷ Say (Keyword keyword.Primary) ∷ [], h.2, refl, h.4, (Say (Keyword keyword.Primary) ∷ [], refl, ([], refl, (refl, refl)))), primary.2)
+    h.3 ∙ ap (λ (z : List Step). h.0 ++ z) (comma.1 ∙ ap (λ (z : List Step). Say (Sign sign.Comma) ∷ z) primary.1) ∙ sym (append_assoc h.0 (Say (Sign sign.Comma) ∷ Say (Keyword keyword.Primary) ∷ []) primary.0) in (
+      h.0 ++ Say (Sign sign.Comma) ∷ Say (Keyword keyword.Primary) ∷ [],
+      primary.0,
+      h.2,
+      split,
+      (h.0, Say (Sign sign.Comma) ∷ Say (Keyword keyword.Primary) ∷ [], h.2, refl, h.4, (Say (Keyword keyword.Primary) ∷ [], refl, ([], refl, (refl, refl)))),
+      primary.2,
+    )
 
 pub columns_then : {B : Type 0} {w : Word → Bool} {H : List ColumnRule → List Step → B → Type 0} {ws : List Word} {r : Reading B} → Fits w (Then ColumnsRule H) ws r → Fits w (Flat H) ws r
 columns_then {H = H} f = same_rule (flat_to H) (flat_from H) f

@@ -1,5 +1,5 @@
 -- The keyword at the front, and what a list asks of the rule of its parts.
-use Rattle.std.specs.Prelude.{◌≡◌, ℕ, ◌≤◌, ◌^◌, Bool, true, false, List, [], ◌∷◌, Option, Some, None}
+use Rattle.std.specs.Prelude.{◌≡◌, ◌≤◌, ◌^◌, Bool, true, false, List, [], ◌∷◌, Option, Some, None}
 use Rattle.bf_lex.specs.declared.keyword.Keyword.{Keyword as KeywordCase}
 use Rattle.bf_lex.specs.declared.sign.Sign.TheVariants.{Comma, ClosingParenthesis}
 use Rattle.bf_parse.specs.declared.cursor.Cursor.{Cursor}

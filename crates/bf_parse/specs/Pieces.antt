@@ -1,5 +1,5 @@
 -- Rules of pieces of statements, as the functions that read them have them.
-use Rattle.std.specs.Prelude.{ℕ, ℤ, List}
+use Rattle.std.specs.Prelude.{List}
 use Rattle.bf_lex.specs.declared.keyword.Keyword.TheVariants as keyword
 use Rattle.bf_lex.specs.declared.sign.Sign.TheVariants as sign
 use Rattle.bf_expr.specs.declared.raw.Ref.{Ref}

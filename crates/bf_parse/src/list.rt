@@ -59,7 +59,10 @@ pub(crate) fn room(parts: usize, begins: bool, cursor: Cursor<'_>) -> Result<(),
 }
 
 /// The list at a place, and the place behind it.
-pub(crate) fn list<'a, P: Part>(alloc: Global, cursor: Cursor<'a>) -> Result<(Vec<P>, Cursor<'a>), Stop>
+pub(crate) fn list<'a, P: Part>(
+    alloc: Global,
+    cursor: Cursor<'a>,
+) -> Result<(Vec<P>, Cursor<'a>), Stop>
     requires part { IsPart P.goes_on P.begun P.rule }
     requires place { IsPlace cursor }
     ensures fits { Fits (goes_list P.goes_on) (Listed P.rule) (words cursor.entry) (outcome (λ x. Read x.0.items (words x.1)) result) }
@@ -80,7 +83,10 @@ pub(crate) fn list<'a, P: Part>(alloc: Global, cursor: Cursor<'a>) -> Result<(Ve
 }
 
 /// The list between parentheses at a place, and the place behind it.
-pub(crate) fn enclosed_list<'a, P: Part>(alloc: Global, cursor: Cursor<'a>) -> Result<(Vec<P>, Cursor<'a>), Stop>
+pub(crate) fn enclosed_list<'a, P: Part>(
+    alloc: Global,
+    cursor: Cursor<'a>,
+) -> Result<(Vec<P>, Cursor<'a>), Stop>
     requires part { IsPart P.goes_on P.begun P.rule }
     requires place { IsPlace cursor }
     ensures fits { Fits nothing (Enclosed (Listed P.rule) (λ parts. Return parts)) (words cursor.entry) (outcome (λ x. Read x.0.items (words x.1)) result) }

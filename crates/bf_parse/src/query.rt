@@ -22,7 +22,10 @@ use bf_sql::{Items, List, RawAggregate, Statement};
 use std::alloc::Global;
 
 /// The condition behind WHERE, where that stands first, and the place behind it.
-pub(crate) fn where_clause<'a>(alloc: Global, cursor: Cursor<'a>) -> Result<(Option<RawCond>, Cursor<'a>), Stop>
+pub(crate) fn where_clause<'a>(
+    alloc: Global,
+    cursor: Cursor<'a>,
+) -> Result<(Option<RawCond>, Cursor<'a>), Stop>
     requires { IsPlace cursor }
     ensures fits { Fits goes_where WhereRule (words cursor.entry) (outcome (λ x. Read x.0 (words x.1)) result) }
     ensures place { IfOk result (λ x. IsPlace x.1) }
@@ -38,7 +41,10 @@ pub(crate) fn where_clause<'a>(alloc: Global, cursor: Cursor<'a>) -> Result<(Opt
 }
 
 /// The expression at a place, and the place behind it.
-pub(crate) fn expression<'a>(alloc: Global, cursor: Cursor<'a>) -> Result<(RawExpr, Cursor<'a>), Stop>
+pub(crate) fn expression<'a>(
+    alloc: Global,
+    cursor: Cursor<'a>,
+) -> Result<(RawExpr, Cursor<'a>), Stop>
     requires { IsPlace cursor }
     ensures fits { Fits goes_sum ExprRule (words cursor.entry) (outcome (λ x. Read x.0 (words x.1)) result) }
     ensures place { IfOk result (λ x. IsPlace x.1) }
@@ -75,7 +81,10 @@ fn star<'a>(cursor: Cursor<'a>) -> Result<Cursor<'a>, Stop>
 }
 
 /// The aggregate at a place, and the place behind it.
-pub(crate) fn aggregate<'a>(alloc: Global, cursor: Cursor<'a>) -> Result<(RawAggregate, Cursor<'a>), Stop>
+pub(crate) fn aggregate<'a>(
+    alloc: Global,
+    cursor: Cursor<'a>,
+) -> Result<(RawAggregate, Cursor<'a>), Stop>
     requires { IsPlace cursor }
     ensures fits { Fits nothing AggregateRule (words cursor.entry) (outcome (λ x. Read x.0 (words x.1)) result) }
     ensures place { IfOk result (λ x. IsPlace x.1) }

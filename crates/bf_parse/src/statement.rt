@@ -96,7 +96,10 @@ fn delete<'a>(alloc: Global, cursor: Cursor<'a>) -> Result<(Statement, Cursor<'a
 }
 
 /// The statement at a place, if it is no MIGRATE, and the place behind it.
-pub(crate) fn ordinary<'a>(alloc: Global, cursor: Cursor<'a>) -> Result<(Statement, Cursor<'a>), Stop>
+pub(crate) fn ordinary<'a>(
+    alloc: Global,
+    cursor: Cursor<'a>,
+) -> Result<(Statement, Cursor<'a>), Stop>
     requires { IsPlace cursor }
     ensures fits { Fits goes_ordinary OrdinaryRule (words cursor.entry) (outcome (λ x. Read x.0 (words x.1)) result) }
     ensures place { IfOk result (λ x. IsPlace x.1) }

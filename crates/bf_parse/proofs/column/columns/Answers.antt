@@ -1,5 +1,5 @@
 use Rattle.bf_parse.proofs.Moves.{exit, marked_go}
-use Rattle.std.proofs.Common.{◌≡◌, ◌∷◌, ◌++◌, List, [], arith, ap, ◌∙◌}
+use Rattle.std.proofs.Common.{◌∷◌, ◌++◌, List, [], arith, ap, ◌∙◌}
 use Rattle.bf_parse.proofs.Listings.{column_part}
 use Rattle.bf_parse.proofs.Parts.{part_full, part_low}
 use Rattle.bf_parse.proofs.Tables.{columns_stop, columns_open, columns_first, choice_end, choice_stop, choice_open, choice_next}

@@ -1,4 +1,4 @@
-use Rattle.std.proofs.Common.{◌≡◌, ◌<◌, ℕ, suc, List, length}
+use Rattle.std.proofs.Common.{◌<◌, suc, List, length}
 use Rattle.bf_sql.specs.declared.statement.ColumnRule.{ColumnRule}
 use Rattle.bf_parse.specs.Cursors.{IsPlace, left, words}
 use Rattle.bf_parse.specs.Ends.{nothing}

@@ -1,7 +1,7 @@
 use Rattle.bf_parse.proofs.Moves.{after_can, after_go, after_stop, exit, named_can, named_go, named_stop, return_can, return_fits, then_can, then_go, then_stop}
 use Rattle.bf_parse.proofs.Maps.{any_passed, enclosed_go, enclosed_stop}
 use Rattle.bf_parse.proofs.Listings.{name_part}
-use Rattle.bf_parse.proofs.Tables.{columns_can, columns_then, table_rest_can}
+use Rattle.bf_parse.proofs.Tables.{columns_then, table_rest_can}
 use Rattle.bf_parse.proofs.Forms.{names_can}
 use Rattle.bf_parse.proofs.column.table.Goals as goal
 

@@ -1,4 +1,4 @@
-use Rattle.std.proofs.Common.{◌≡◌, ◌∷◌, ◌++◌, List, [], arith, ap, ◌∙◌}
+use Rattle.std.proofs.Common.{◌∷◌, ◌++◌, List, [], arith, ap, ◌∙◌}
 use Rattle.bf_parse.proofs.Moves.{exit, others_end}
 use Rattle.bf_parse.proofs.Parts.{list_stop, list_first, list_full, list_part_stop, list_next}
 use Rattle.bf_parse.proofs.list.list.Goals as goal
