@@ -9,6 +9,7 @@ pub mod Migrations
 pub mod Outcome
 pub mod Reading
 pub mod Rules
+pub mod ScriptParts
 pub mod Scripts
 pub mod Starts
 pub mod StatementEnds

@@ -9,7 +9,13 @@ mod expression;
 mod joint;
 mod leading;
 mod list;
+mod migrate;
 mod operand;
 mod part;
 mod query;
+mod scripts;
+mod session;
 mod start;
+mod statement;
+
+pub use scripts::script;
