@@ -54,20 +54,20 @@ migrate_part_begun m = record {
       ∙ begins-append begins_migrate h.2.0 h.2.1 (ap (λ (z : List Step). begins begins_migrate (said z)) h.2.4.1);
 }
 
-migrate_not_here : {w : Word → Bool} {m : ℕ} {ws : List Word} → IsBehind (Keyword keyword.Migrate) ws None → NotHere w (Marked (Migration (m + 1)) (Migrated m)) ws
-migrate_not_here {m = m} h = record {
+migrate_not_here : {w : Word → Bool} (m : ℕ) {ws : List Word} → IsBehind (Keyword keyword.Migrate) ws None → NotHere w (Marked (Migration (m + 1)) (Migrated m)) ws
+migrate_not_here m h = record {
   it = λ s b back g ends same.
       h.it (sym same ∙ ap (λ (z : List Step). first (said z ++ back)) (g.1 ∙ ap (λ (z : List Step). Limit (Migration (m + 1)) ∷ z) (g.2.3 ∙ ap (λ (z : List Step). z ++ g.2.1) g.2.4.1)));
 }
 
-ordinary_not_here : {w : Word → Bool} {m : ℕ} {ws rest : List Word} → IsBehind (Keyword keyword.Migrate) ws (Some rest) → NotHere w (OrdinaryPart m) ws
-ordinary_not_here {m = m} {ws = ws} {rest = rest} h = other_not_here (ordinary_part_begun m) (begins_behind begins_ordinary ws rest (Keyword keyword.Migrate) h.it refl)
+ordinary_not_here : {w : Word → Bool} (m : ℕ) {ws rest : List Word} → IsBehind (Keyword keyword.Migrate) ws (Some rest) → NotHere w (OrdinaryPart m) ws
+ordinary_not_here m {ws = ws} {rest = rest} h = other_not_here (ordinary_part_begun m) (begins_behind begins_ordinary ws rest (Keyword keyword.Migrate) h.it refl)
 
 pub ordinary_stop : {m : ℕ} {ws : List Word} (e : Stop) → IsBehind (Keyword keyword.Migrate) ws None → Fits goes_ordinary OrdinaryRule ws (stopped e) → Fits goes_ordinary (StatementRule m) ws (stopped e)
-ordinary_stop e h f = left_here (migrate_not_here h) (then_stop e (return_passed (λ t p. p)) (λ s. return_can) f)
+ordinary_stop {m = m} e h f = left_here (migrate_not_here m h) (then_stop e (return_passed (λ t p. p)) (λ s. return_can) f)
 
 pub ordinary_read : {m : ℕ} {ws rest : List Word} {s : Statement} → IsBehind (Keyword keyword.Migrate) ws None → Fits goes_ordinary OrdinaryRule ws (Read s rest) → Fits goes_ordinary (StatementRule m) ws (Read (s, m) rest)
-ordinary_read h f = left_here (migrate_not_here h) (then_go (return_passed (λ t p. p)) f return_fits)
+ordinary_read {m = m} h f = left_here (migrate_not_here m h) (then_go (return_passed (λ t p. p)) f return_fits)
 
 migrated_can : (m : ℕ) → CanGoOn (Migrated m) (Say (Keyword keyword.Migrate) ∷ [])
 migrated_can m =
@@ -77,15 +77,15 @@ migrated_can m =
 pub migrate_over : {m : ℕ} {ws rest : List Word} {kind : ScriptKind} (k : ℕ) → length ws ≡ k → fault_at (Migration (m + 1)) ≡ Some kind → IsBehind (Keyword keyword.Migrate) ws (Some rest) → Fits goes_ordinary (StatementRule m) ws (Over kind k)
 migrate_over {m = m} {ws = ws} {rest = rest} {kind = kind} k e high h =
     subst (λ (z : ℕ). Fits goes_ordinary (StatementRule m) ws (Over kind z)) e
-    (right_here (ordinary_not_here h) (record { it = mark_over goes_ordinary (Migration (m + 1)) (Migrated m) (Say (Keyword keyword.Migrate) ∷ []) (Keyword keyword.Migrate) ws rest kind high h.it refl (migrated_can m) }))
+    (right_here (ordinary_not_here m h) (record { it = mark_over goes_ordinary (Migration (m + 1)) (Migrated m) (Say (Keyword keyword.Migrate) ∷ []) (Keyword keyword.Migrate) ws rest kind high h.it refl (migrated_can m) }))
 
 pub migrate_stop : {m : ℕ} {ws rest : List Word} (e : Stop) → fault_at (Migration (m + 1)) ≡ None → IsBehind (Keyword keyword.Migrate) ws (Some rest) → Fits nothing MigrateRule ws (stopped e) → Fits goes_ordinary (StatementRule m) ws (stopped e)
-migrate_stop e low h f = right_here (ordinary_not_here h) (marked_go low (then_stop e (return_passed (λ t p. refl)) (λ t. return_can) f))
+migrate_stop {m = m} e low h f = right_here (ordinary_not_here m h) (marked_go low (then_stop e (return_passed (λ t p. refl)) (λ t. return_can) f))
 
 pub migrate_read : {m n : ℕ} {ws rest behind : List Word} {t : MigrateTree} → n ≡ m + 1 → fault_at (Migration (m + 1)) ≡ None → IsBehind (Keyword keyword.Migrate) ws (Some rest) → Fits nothing MigrateRule ws (Read t behind) → Fits goes_ordinary (StatementRule m) ws (Read (Migrate t, n) behind)
 migrate_read {m = m} {ws = ws} {behind = behind} {t = t} same low h f =
     subst (λ (k : ℕ). Fits goes_ordinary (StatementRule m) ws (Read (Migrate t, k) behind)) (sym same)
-    (right_here (ordinary_not_here h) (marked_go low (then_go (return_passed (λ t p. refl)) f return_fits)))
+    (right_here (ordinary_not_here m h) (marked_go low (then_go (return_passed (λ t p. refl)) f return_fits)))
 
 -- ---- statements
 
