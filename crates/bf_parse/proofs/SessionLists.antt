@@ -55,12 +55,12 @@ sessions_pass p s q back (session front rest x g more e) ends = subst (λ (z : L
 sessions_passed : {A : Type 0} {f : A → Progress} → Passed begins_statement goes_sessions (λ x. Sessions (f x))
 sessions_passed {f = f} = record { it = λ x s q back h ends. sessions_pass (f x) s q back h ends }
 
-behind_session_can : {p : Progress} → Can (BehindSession p)
-behind_session_can {p = p} = after_can (then_can (statements_can {m = p.migrations} {before = []}) (λ x. sessions_can))
+behind_session_can : (p : Progress) → Can (BehindSession p)
+behind_session_can p = after_can (then_can (statements_can {m = p.migrations} {before = []}) (λ x. sessions_can))
 
 pub session_over : {p : Progress} {ws rest : List Word} {kind : ScriptKind} (k : ℕ) → length ws ≡ k → fault_at (mark_of p) ≡ Some kind → IsBehind (Keyword keyword.Session) ws (Some rest) → Fits goes_sessions (Sessions p) ws (Over kind k)
 session_over {p = p} {ws = ws} {kind = kind} k e high h =
-    subst (λ (z : ℕ). Fits goes_sessions (Sessions p) ws (Over kind z)) e (sessions_as (left_here (return_not_here h refl) (counted_over high h.it (behind_session_can {p = p}))))
+    subst (λ (z : ℕ). Fits goes_sessions (Sessions p) ws (Over kind z)) e (sessions_as (left_here (return_not_here h refl) (counted_over high h.it (behind_session_can p))))
 
 pub session_open : {p : Progress} {ws rest : List Word} {e : Stop} → fault_at (mark_of p) ≡ None → IsBehind (Keyword keyword.Session) ws (Some rest) → IsExpected (Sign sign.Semicolon) rest (Err e) → Fits goes_sessions (Sessions p) ws (stopped e)
 session_open {p = p} low h semicolon = sessions_as (left_here (return_not_here h refl) (marked_go low (behind_go h (after_stop semicolon (then_can (statements_can {m = p.migrations} {before = []}) (λ x. sessions_can))))))

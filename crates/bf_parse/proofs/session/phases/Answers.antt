@@ -9,10 +9,10 @@ use Rattle.bf_parse.proofs.session.phases.Goals as goal
 
 pub phases-init : goal.phases-init
 phases-init c =
-    let none : c.new.result.phases ≡ 0 = ap (λ (p : Progress). p.phases) c.new.ensures in record {
+    let none : c.new-so_far.result.phases ≡ 0 = ap (λ (p : Progress). p.phases) c.new-so_far.ensures in record {
       place = c.requires.place;
       few = omega arith;
-      fits = λ r f. subst (λ (p : Progress). Fits goes_phases (Phases p) (words c.args.cursor) r) c.new.ensures f;
+      fits = λ r f. subst (λ (p : Progress). Fits goes_phases (Phases p) (words c.args.cursor) r) c.new-so_far.ensures f;
     }
 
 pub returns-in_err-behind-clause-fits : goal.returns-in_err-behind-clause-fits

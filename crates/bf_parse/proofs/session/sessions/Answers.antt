@@ -1,7 +1,6 @@
 use Rattle.std.proofs.Common.{◌≡◌, ℕ, ◌≤◌, ◌∙◌, refl, ap, arith}
-use Rattle.bf_parse.specs.declared.error.Stop.TheVariants.{Memory}
 use Rattle.bf_parse.specs.Scripts.{Progress}
-use Rattle.bf_parse.proofs.Moves.{exit, told}
+use Rattle.bf_parse.proofs.Moves.{exit, lost, told}
 use Rattle.bf_parse.proofs.Places.{length-words}
 use Rattle.bf_parse.proofs.SessionLists.{session_over, session_open, session_stop, session_more, sessions_end}
 use Rattle.bf_parse.proofs.session.sessions.Goals as goal
@@ -26,7 +25,7 @@ returns-in_err-found-clause-fits c =
     (c.sessions.invariant.fits _ (session_stop _ c.in_ok-expect_room.ensures.room c.in-Some.ensures.found c.in_ok-behind.ensures.found c.in_err-found.ensures.fits))
 
 pub returns-in_err-so_far-clause-fits : goal.returns-in_err-so_far-clause-fits
-returns-in_err-so_far-clause-fits c = exit _ c.from_residual-in_err-so_far.result Memory c.from_residual-in_err-so_far.ensures.1 (record { it = tt })
+returns-in_err-so_far-clause-fits c = exit _ c.from_residual-in_err-so_far.result _ c.from_residual-in_err-so_far.ensures.1 (lost _ c.in_err-so_far.ensures.memory)
 
 pub sessions-preserved : goal.sessions-preserved
 sessions-preserved c = record {
