@@ -1,20 +1,25 @@
 -- From the reading of a rule to what all of the words are.
-use Rattle.std.proofs.Common.{◌≡◌, ℕ, Bool, true, false, List, [], ◌∷◌, ◌++◌, length, Result, Ok, Err, refl, sym, ap, subst, ◌∙◌, ◌⊎◌, inl, inr, append_assoc}
+use Rattle.std.proofs.Common.{◌≡◌, ℕ, Bool, true, false, List, [], ◌∷◌, ◌++◌, length, Option, Some, None, Result, Ok, Err, refl, sym, ap, subst, ◌∙◌, ◌⊎◌, inl, inr, append_assoc}
 use Rattle.std.proofs.lemmas.List.{append-nil, append_cancel_left}
 use Rattle.bf_lex.specs.declared.fault.ScriptKind.{ScriptKind}
 use Rattle.bf_sql.specs.declared.script.Script.{Script}
 use Rattle.bf_parse.specs.declared.error.Stop.{Stop}
 use Rattle.bf_parse.specs.declared.error.Stop.TheVariants as stop
-use Rattle.bf_parse.specs.Words.{Word}
+use Rattle.std.specs.Result.{IsErrAnd}
+use Rattle.bf_lex.specs.declared.token.Token.{Token}
+use Rattle.bf_parse.specs.declared.cursor.Cursor.{Cursor}
+use Rattle.bf_parse.specs.Words.{Word, words_of}
 use Rattle.bf_parse.specs.Steps.{Step, Limit, said}
 use Rattle.bf_parse.specs.Rules.{Rule, Return, Then}
 use Rattle.bf_parse.specs.Reading.{Ends, Reading, Read, Stuck, Over, Lost, FitsRead, FitsStuck, FitsOver, Fits, first}
-use Rattle.bf_parse.specs.Outcome.{stopped}
+use Rattle.bf_parse.specs.Outcome.{outcome, stopped}
+use Rattle.bf_parse.specs.Cursors.{IsNext, words}
 use Rattle.bf_parse.specs.Faults.{Answers, CantGoOn, IsOver, IsRead, IsStuck}
 use Rattle.bf_parse.specs.Scripts.{Progress, Phases, ScriptRule, nothing_yet}
 use Rattle.bf_parse.specs.ScriptParts.{goes_phases, script_of}
 use Rattle.bf_parse.proofs.Fitting.{fits_by}
 use Rattle.bf_parse.proofs.Factors.{whole}
+use Rattle.bf_parse.proofs.Places.{next_word}
 use Rattle.bf_parse.proofs.Moves.{return_can, return_fits, return_passed, then_go, then_stop}
 
 module _ {A : Type 0} (w : Word → Bool) (G : List Step → A → Type 0) where
@@ -112,3 +117,14 @@ script_read ws rest p e f = (refl, whole_read goes_phases ScriptRule ws (script_
 pub script_past : (ws rest : List Word) (p : Progress) (k : ℕ) → length rest ≡ k → (rest ≡ [] → ⊥) → Fits goes_phases (Phases nothing_yet) ws (Read p rest) → Answers ScriptRule ws (Stuck k)
 script_past ws [] p k e some f = absurd (some refl)
 script_past ws (t ∷ rest) p k e some f = subst (λ (z : ℕ). IsStuck ScriptRule ws z) e (whole_past goes_phases ScriptRule ws (script_of p) t rest (script_fits f).it)
+
+-- what a `?` passes on
+pub answer_exit : {X A : Type 0} (G : Rule A) (ws : List Word) (view : X → Reading A) (res : Result X Stop) (e : Stop) → IsErrAnd res (λ x. x ≡ e) → Answers G ws (stopped e) → Answers G ws (outcome view res)
+answer_exit G ws view (Ok x) e h f = absurd h
+answer_exit G ws view (Err x) e h f = rw h f
+
+pub no_words : (c : Cursor) → IsNext c None → words c ≡ []
+no_words c h = ap (λ (ts : List Token). words_of c.text.now ts) h.it
+
+pub some_words : (c behind : Cursor) (t : Token) → IsNext c (Some (t, behind)) → words c ≡ [] → ⊥
+some_words c behind t h e = let d = next_word c behind t h in cc
