@@ -1,15 +1,16 @@
 -- The tokens that a text is lexed as are tokens, and no more than its bytes.
-use Rattle.std.proofs.Common.{◌≡◌, ℕ, suc, ◌+◌, ◌-◌, ◌<◌, ◌≤◌, ◌^◌, Bool, true, false, not, cond, leb, List, [], ◌∷◌, ◌++◌, length, map, take, drop, flat_map, Option, Some, None, Result, Ok, Err, refl, sym, ap, subst, ◌∙◌, inl, inr, arith, append_assoc, length-append, length-map}
+use Rattle.std.proofs.Common.{◌≡◌, ℕ, suc, ◌+◌, ◌-◌, ◌<◌, ◌≤◌, ◌^◌, Bool, true, false, not, cond, leb, List, [], ◌∷◌, ◌++◌, length, map, take, drop, flat_map, Option, Some, None, Result, Ok, Err, refl, sym, ap, subst, ◌∙◌, inl, inr, arith, append_assoc, length-append}
 use Rattle.std.proofs.Math.Seq.{take-append_seam, drop-append_seam}
 use Rattle.std.proofs.Math.Numerals.{one-add}
 use Rattle.std.proofs.lemmas.Bool.{and_parts, and_from, cases_eq, leb-true}
-use Rattle.std.proofs.lemmas.List.{take_all}
+use Rattle.std.proofs.lemmas.List.{length-map, take_all}
 use Rattle.std.proofs.lemmas.Bool.Decides.{nat_tests}
 use Rattle.std.proofs.lemmas.List.Folds.{list_all-append}
 use Rattle.std.specs.Prelude.{◌&&◌, slice_range, position, IsTrue}
 use Rattle.std.specs.List.{list_all, prefix_len}
 use Rattle.bf_base.specs.Names.{is_lower, is_name, is_name_byte, lower_of, folded}
 use Rattle.bf_base.specs.Texts.{IsText, is_text_byte, first_bad_of}
+use Rattle.bf_lex.specs.declared.fault.ScriptKind.{ScriptKind}
 use Rattle.bf_lex.specs.declared.fault.ScriptKind.TheVariants as kind
 use Rattle.bf_lex.specs.declared.keyword.Keyword.{Keyword as KeywordCase}
 use Rattle.bf_lex.specs.declared.token.Token.{Token}
@@ -37,7 +38,7 @@ bytes_lower [] e = refl
 bytes_lower (b ∷ bs) e = let p = and_parts _ _ e in and_from _ _ (byte_lower b p.0) (bytes_lower bs p.1)
 
 short : (bs : List ℕ) → length bs ≤ 62 → leb (length (folded bs)) 62 ≡ true
-short bs h = let same : length (folded bs) ≡ length bs = length-map lower_of bs in rw same (grind (arith, nat_tests))
+short bs h = let same : length (folded bs) ≡ length bs = length-map bs lower_of in rw same (grind (arith, nat_tests))
 
 is_folded : (bytes : List ℕ) → is_word bytes ≡ true → length bytes ≤ 63 → is_name (folded bytes) ≡ true
 is_folded [] e h = absurd cc
@@ -46,7 +47,7 @@ is_folded (b ∷ bs) e h =
     and_from _ _ (and_from _ _ (letter_lower b p.0) (short bs (omega arith))) (bytes_lower bs p.1)
 
 -- what is taken under a test
-under : (b : Bool) (k : TokenKind) (fault : kind.ScriptKind × ℕ) (found : TokenKind) → cond b (Ok k) (Err fault) ≡ Ok found → (b ≡ true) × (found ≡ k)
+under : (b : Bool) (k : TokenKind) (fault : ScriptKind × ℕ) (found : TokenKind) → cond b (Ok k) (Err fault) ≡ Ok found → (b ≡ true) × (found ≡ k)
 under true k fault found e = (refl, cc)
 under false k fault found e = absurd cc
 
@@ -58,7 +59,10 @@ word_spelled None bytes found e h =
 
 full : (p : ℕ → Bool) (bs : List ℕ) → list_all p bs ≡ true → prefix_len p bs ≡ length bs
 full p [] e = refl
-full p (b ∷ bs) e = let h = and_parts _ _ e in rw (h.0, one-add) (ap suc (full p bs h.1))
+full p (b ∷ bs) e =
+    let h : (p b ≡ true) × (list_all p bs ≡ true) = and_parts (p b) (list_all p bs) e in
+    let first : p b ≡ true = h.0 in
+    rw (first, one-add) (ap suc (full p bs h.1))
 
 no_position : (test : ℕ → Bool) (xs : List ℕ) → position test xs ≡ None → length xs ≤ prefix_len (λ x. not (test x)) xs
 no_position test xs e = grind (arith, nat_tests)

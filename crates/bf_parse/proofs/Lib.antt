@@ -18,6 +18,7 @@ mod Numbered
 mod Operands
 mod Parts
 mod Places
+mod ScriptTexts
 mod SessionLists
 mod StatementLists
 mod Tests

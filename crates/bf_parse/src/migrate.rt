@@ -19,5 +19,6 @@ pub(crate) fn migrate<'a>(_alloc: Global, cursor: Cursor<'a>) -> Result<(Migrate
     ensures place { IfOk result (λ x. IsPlace x.1) }
     ensures shorter { IfOk result (λ x. left x.1 < left cursor.entry) }
 {
-    Err(Stop::Syntax(cursor.tokens.len()))
+    let _ = cursor;
+    Err(Stop::Memory)
 }
