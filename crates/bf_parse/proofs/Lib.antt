@@ -5,6 +5,7 @@ mod Connections
 mod Contents
 mod Factors
 mod Fitting
+mod Forms
 mod Joints
 mod Lexed
 mod Listings
@@ -15,11 +16,16 @@ mod MigrateShapes
 mod Moves
 mod Negations
 mod Numbered
+mod Numbers
 mod Operands
+mod Ordinaries
 mod Parts
 mod Places
+mod Queries
 mod ScriptTexts
 mod SessionLists
 mod StatementLists
+mod Tables
 mod Tests
+mod Tuples
 mod Wholes

@@ -47,6 +47,7 @@ name_part = record {
   starts = starts_name name_can;
   some = let h = name_can [] in (Say (word.Name []) ∷ [], h.1, h.2);
   comma = refl;
+  closing = refl;
 }
 
 ref_can : (n : List ℕ) → CanGoOn RefRule (Say (word.Name n) ∷ [])
@@ -58,6 +59,7 @@ ref_part = record {
   starts = starts_name ref_can;
   some = let h = ref_can [] in (Say (word.Name []) ∷ [], h.1, h.2);
   comma = refl;
+  closing = refl;
 }
 
 column_can : (n : List ℕ) → CanGoOn ColumnRuleRule (Say (word.Name n) ∷ [])
@@ -71,6 +73,7 @@ column_part = record {
   starts = starts_name column_can;
   some = let h = column_can [] in (Say (word.Name []) ∷ h.0, h.1, h.2);
   comma = refl;
+  closing = refl;
 }
 
 -- ---- expressions
@@ -93,6 +96,7 @@ set_part = record {
   starts = starts_name set_can;
   some = let h = set_can [] in (Say (word.Name []) ∷ h.0, h.1, h.2);
   comma = refl;
+  closing = refl;
 }
 
 factor_opens : (n : ℕ) (s : List Step) (x : Counted) → Factor n s x → begins begins_expression (said s) ≡ true
@@ -135,6 +139,7 @@ expression_part = record {
   starts = expression_starts;
   some = (Say (word.Text []) ∷ [], tree.literal (value.Text []), text_expression);
   comma = refl;
+  closing = refl;
 }
 
 -- ---- literals
@@ -160,6 +165,7 @@ constant_part = record {
   starts = constant_starts;
   some = (Say (word.Text []) ∷ [], value.Text [], literal.text [] refl refl);
   comma = refl;
+  closing = refl;
 }
 
 -- ---- aggregates
@@ -194,4 +200,5 @@ aggregate_part = record {
   starts = aggregate_starts;
   some = let h = count_can in (Say (word.Keyword keyword.Count) ∷ h.0, h.1, h.2);
   comma = refl;
+  closing = refl;
 }

@@ -1,5 +1,5 @@
 -- Lists of any rule, of at most 16 parts.
-use Rattle.std.proofs.Common.{◌≡◌, ℕ, suc, ◌+◌, ◌<◌, ◌≤◌, ◌^◌, Bool, true, false, List, [], ◌∷◌, ◌++◌, length, Option, Some, None, refl, sym, ap, subst, ◌∙◌, arith}
+use Rattle.std.proofs.Common.{◌≡◌, ℕ, suc, ◌+◌, ◌<◌, ◌≤◌, ◌^◌, Bool, true, false, List, [], ◌∷◌, ◌++◌, length, Option, Some, None, refl, sym, ap, subst, ◌∙◌, arith, length-append}
 use Rattle.std.proofs.lemmas.Bool.{lt-ltb, le-ltb}
 use Rattle.std.specs.Prelude.{◌||◌, if◌then◌else◌, slice_range}
 use Rattle.bf_lex.specs.declared.fault.ScriptKind.TheVariants.{TooManyColumns}
@@ -24,7 +24,7 @@ use Rattle.bf_parse.specs.Leads.{IsPart, IsSayable}
 use Rattle.bf_parse.proofs.Fitting.{mark_over, mark_stuck}
 use Rattle.bf_parse.proofs.Beginnings.{not_begun}
 use Rattle.bf_parse.proofs.Chains.{or_left}
-use Rattle.bf_parse.proofs.Moves.{Passed, others_passed, others_can, others_comma, marked_go, then_go, then_stop}
+use Rattle.bf_parse.proofs.Moves.{Can, Passed, then_can, marked_can, others_passed, others_can, others_comma, marked_go, then_go, then_stop}
 use Rattle.bf_parse.proofs.Places.{length-words}
 
 -- ---- what the words of tokens can be
@@ -73,16 +73,13 @@ module _ {A : Type 0} {v begun : Word → Bool} {G : List Step → A → Type 0}
   by_flag false n k ws e part high real h = subst (λ (z : ℕ). Fits v (Marked (Part (suc n)) G) ws (Stuck z)) e (part_stuck n ws part h)
 
   -- the 17th part of a list, where it begins or not
-  pub part_full : {n : ℕ} {behind : Cursor} (e : Stop) (flag : Bool) → IsPart v begun G → IsPlace behind → flag ≡ begins begun (words behind) → 16 ≤ n
+  pub part_full : {n : ℕ} (behind : Cursor) (e : Stop) (flag : Bool) → IsPart v begun G → IsPlace behind → flag ≡ begins begun (words behind) → 16 ≤ n
       → e ≡ (if flag then stop.Limit TooManyColumns (left behind) else stop.Syntax (left behind)) → Fits v (Marked (Part (suc n)) G) (words behind) (stopped e)
-  part_full {n = n} {behind = behind} e flag part place is high fault =
+  part_full {n = n} behind e flag part place is high fault =
       subst (λ (x : Stop). Fits v (Marked (Part (suc n)) G) (words behind) (stopped x)) (sym fault)
       (by_flag flag n (left behind) (words behind) (length-words behind.text.now behind.tokens.now) part high (place_sayable behind place) (sym is))
 
 -- ---- lists
-
-pub list_weaker : {v : Word → Bool} (t : Word) → goes_list v t ≡ false → v t ≡ false
-list_weaker t e = or_left _ _ e
 
 comma_goes : (v : Word → Bool) → v (Sign sign.Comma) ≡ false → goes_list v (Sign sign.Comma) ≡ true
 comma_goes v e = rw e refl
@@ -91,13 +88,19 @@ module _ {A : Type 0} {v begun : Word → Bool} {G : List Step → A → Type 0}
   pub list_stop : {ws : List Word} (e : Stop) → IsPart v begun G → Fits v G ws (stopped e) → Fits (goes_list v) (Listed G) ws (stopped e)
   list_stop e part f = then_stop e (others_passed 1 [] part.comma (λ t h. or_left _ _ h)) (λ a. others_can) (marked_go refl f)
 
+  pub list_can : IsPart v begun G → Can (Listed G)
+  list_can part = then_can (marked_can (record { it = part.some })) (λ a. others_can)
+
+  pub list_closing : IsPart v begun G → goes_list v (Sign sign.ClosingParenthesis) ≡ false
+  list_closing part = rw part.closing refl
+
   pub list_begin : {ws mid : List Word} {a : A} {r : Reading (List A)} → IsPart v begun G → Fits v G ws (Read a mid) → Fits (goes_list v) (Others G 2 (a ∷ [])) mid r → Fits (goes_list v) (Listed G) ws r
   list_begin part f h = then_go (others_passed 1 [] part.comma (λ t h. or_left _ _ h)) (marked_go refl f) h
 
-  pub list_full : {n : ℕ} {acc : List A} {ws : List Word} {behind : Cursor} (e : Stop) (flag : Bool) → IsPart v begun G → IsPlace behind → IsBehind (Sign sign.Comma) ws (Some (words behind))
+  pub list_full : {n : ℕ} {acc : List A} {ws : List Word} (behind : Cursor) (e : Stop) (flag : Bool) → IsPart v begun G → IsPlace behind → IsBehind (Sign sign.Comma) ws (Some (words behind))
       → flag ≡ begins begun (words behind) → 16 ≤ n → e ≡ (if flag then stop.Limit TooManyColumns (left behind) else stop.Syntax (left behind)) → Fits (goes_list v) (Others G (suc n) acc) ws (stopped e)
-  list_full {n = n} {acc = acc} e flag part place comma is high fault =
-      others_comma (comma_goes v part.comma) comma (then_stop e (others_passed (suc n) acc part.comma (λ t h. or_left _ _ h)) (λ a. others_can) (part_full e flag part place is high fault))
+  list_full {n = n} {acc = acc} behind e flag part place comma is high fault =
+      others_comma (comma_goes v part.comma) comma (then_stop e (others_passed (suc n) acc part.comma (λ t h. or_left _ _ h)) (λ a. others_can) (part_full behind e flag part place is high fault))
 
   pub list_part_stop : {n : ℕ} {acc : List A} {ws rest : List Word} (e : Stop) → IsPart v begun G → n < 16 → IsBehind (Sign sign.Comma) ws (Some rest) → Fits v G rest (stopped e) → Fits (goes_list v) (Others G (suc n) acc) ws (stopped e)
   list_part_stop {n = n} {acc = acc} e part low comma f =
@@ -107,3 +110,14 @@ module _ {A : Type 0} {v begun : Word → Bool} {G : List Step → A → Type 0}
       → Fits (goes_list v) (Others G (suc (suc n)) (acc ++ a ∷ [])) mid r → Fits (goes_list v) (Others G (suc n) acc) ws r
   list_more {n = n} {acc = acc} part low comma f h =
       others_comma (comma_goes v part.comma) comma (then_go (others_passed (suc n) acc part.comma (λ t h. or_left _ _ h)) (marked_go (part_low n low) f) h)
+
+  -- where a vector holds the parts
+  pub list_first : {items : List A} {ws mid : List Word} {a : A} {r : Reading (List A)} → IsPart v begun G → Fits v G ws (Read a mid) → items ≡ a ∷ [] → Fits (goes_list v) (Others G (suc (length items)) items) mid r → Fits (goes_list v) (Listed G) ws r
+  list_first {mid = mid} {r = r} part f e h = list_begin part f (subst (λ (z : List A). Fits (goes_list v) (Others G (suc (length z)) z) mid r) e h)
+
+  pub list_next : (acc : List A) {items : List A} {ws rest mid : List Word} {a : A} {r : Reading (List A)} → IsPart v begun G → length acc < 16 → IsBehind (Sign sign.Comma) ws (Some rest) → Fits v G rest (Read a mid) → items ≡ acc ++ a ∷ []
+      → Fits (goes_list v) (Others G (suc (length items)) items) mid r → Fits (goes_list v) (Others G (suc (length acc)) acc) ws r
+  list_next acc {mid = mid} {a = a} {r = r} part low comma f e h =
+      let count : length (acc ++ a ∷ []) ≡ suc (length acc) = omega (arith, length-append acc (a ∷ [])) in
+      let same : Fits (goes_list v) (Others G (suc (length (acc ++ a ∷ []))) (acc ++ a ∷ [])) mid r = subst (λ (z : List A). Fits (goes_list v) (Others G (suc (length z)) z) mid r) e h in
+      list_more part low comma f (subst (λ (n : ℕ). Fits (goes_list v) (Others G (suc n) (acc ++ a ∷ [])) mid r) count same)

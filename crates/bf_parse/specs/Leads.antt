@@ -1,7 +1,7 @@
 -- The keyword at the front, and what a list asks of the rule of its parts.
 use Rattle.std.specs.Prelude.{◌≡◌, ℕ, ◌≤◌, ◌^◌, Bool, true, false, List, [], ◌∷◌, Option, Some, None}
 use Rattle.bf_lex.specs.declared.keyword.Keyword.{Keyword as KeywordCase}
-use Rattle.bf_lex.specs.declared.sign.Sign.TheVariants.{Comma}
+use Rattle.bf_lex.specs.declared.sign.Sign.TheVariants.{Comma, ClosingParenthesis}
 use Rattle.bf_parse.specs.declared.cursor.Cursor.{Cursor}
 use Rattle.bf_parse.specs.Words.{Word, Keyword, Name, Number, Text, Minus, Sign}
 use Rattle.bf_parse.specs.Steps.{Step, said}
@@ -36,9 +36,10 @@ IsSayable (Minus number_behind) = Unit {0}
 IsSayable (Sign sign) = Unit {0}
 
 -- A rule of which lists are made: what begins it, which can be gone on with from each such word on, and by which words it
--- goes on. A comma is none of these.
+-- goes on. A comma or a closing parenthesis is none of these.
 pub record IsPart {A : Type 0} (goes_on begun : Word → Bool) (rule : Rule A) : Type 0 where
   pub opens : (steps : List Step) (a : A) → rule steps a → begins begun (said steps) ≡ true
   pub starts : (word : Word) → IsSayable word → begun word ≡ true → (next : List Step) × (said next ≡ word ∷ []) × CanGoOn rule next
   pub some : CanGoOn rule []
   pub comma : goes_on (Sign Comma) ≡ false
+  pub closing : goes_on (Sign ClosingParenthesis) ≡ false

@@ -7,6 +7,7 @@ pub mod Faults
 pub mod Leads
 pub mod Migrations
 pub mod Outcome
+pub mod Pieces
 pub mod Reading
 pub mod Rules
 pub mod ScriptParts

@@ -1,6 +1,7 @@
 //! From the bytes of a script to its tree.
 #![tactic(auto)]
 
+mod column;
 mod comparison;
 mod condition;
 mod cursor;

@@ -4,11 +4,12 @@ ghost use Rattle.std.specs.Prelude.{◌≡◌, ◌<◌, ◌≤◌, Bool, List, I
 ghost use Rattle.bf_lex.specs.declared.fault.ScriptKind.TheVariants.{TooManyColumns as TooManyColumnsKind};
 ghost use Rattle.bf_parse.specs.declared.error.Stop.TheVariants.{Limit as BeyondLimit, Syntax as NoSyntax};
 ghost use Rattle.bf_parse.specs.Cursors.{IsPlace, left, words};
-ghost use Rattle.bf_parse.specs.Ends.{begins};
+ghost use Rattle.bf_parse.specs.Ends.{begins, nothing};
 ghost use Rattle.bf_parse.specs.Leads.{IsPart};
 ghost use Rattle.bf_parse.specs.Outcome.{outcome};
 ghost use Rattle.bf_parse.specs.Reading.{Fits, Read};
-ghost use Rattle.bf_parse.specs.Rules.{Listed};
+ghost use Rattle.bf_parse.specs.Rules.{Listed, Return};
+ghost use Rattle.bf_parse.specs.Statements.{Enclosed};
 ghost use Rattle.bf_parse.specs.StatementEnds.{goes_list};
 ghost use Rattle.bf_parse.specs.Steps.{Step};
 ghost use Rattle.bf_parse.specs.Words.{Word};
@@ -40,8 +41,6 @@ pub(crate) trait Part: Drop {
         ensures fits { Fits goes_on rule (words cursor.entry) (outcome (λ x. Read x.0 (words x.1)) result) }
         ensures place { IfOk result (λ x. IsPlace x.1) }
         ensures shorter { IfOk result (λ x. left x.1 < left cursor.entry) };
-
-    ghost is_part: { IsPart goes_on begun rule };
 }
 
 /// Refuses the part behind this many, where a part begins or not, at a place.
@@ -61,7 +60,8 @@ pub(crate) fn room(parts: usize, begins: bool, cursor: Cursor<'_>) -> Result<(),
 
 /// The list at a place, and the place behind it.
 pub(crate) fn list<'a, P: Part>(alloc: Global, cursor: Cursor<'a>) -> Result<(Vec<P>, Cursor<'a>), Stop>
-    requires { IsPlace cursor }
+    requires part { IsPart P.goes_on P.begun P.rule }
+    requires place { IsPlace cursor }
     ensures fits { Fits (goes_list P.goes_on) (Listed P.rule) (words cursor.entry) (outcome (λ x. Read x.0.items (words x.1)) result) }
     ensures place { IfOk result (λ x. IsPlace x.1) }
     ensures shorter { IfOk result (λ x. left x.1 < left cursor.entry) }
@@ -76,5 +76,19 @@ pub(crate) fn list<'a, P: Part>(alloc: Global, cursor: Cursor<'a>) -> Result<(Ve
         parts.push(part)?;
         rest = behind;
     }
+    Ok((parts, rest))
+}
+
+/// The list between parentheses at a place, and the place behind it.
+pub(crate) fn enclosed_list<'a, P: Part>(alloc: Global, cursor: Cursor<'a>) -> Result<(Vec<P>, Cursor<'a>), Stop>
+    requires part { IsPart P.goes_on P.begun P.rule }
+    requires place { IsPlace cursor }
+    ensures fits { Fits nothing (Enclosed (Listed P.rule) (λ parts. Return parts)) (words cursor.entry) (outcome (λ x. Read x.0.items (words x.1)) result) }
+    ensures place { IfOk result (λ x. IsPlace x.1) }
+    ensures shorter { IfOk result (λ x. left x.1 < left cursor.entry) }
+{
+    let rest = cursor.expect_sign(Sign::OpeningParenthesis)?;
+    let (parts, rest) = list(alloc, rest)?;
+    let rest = rest.expect_sign(Sign::ClosingParenthesis)?;
     Ok((parts, rest))
 }

@@ -18,7 +18,7 @@ use bf_lex::{ScriptKind, Sign, content};
 use std::alloc::Global;
 
 /// Behind a minus alone this is an INT.
-const WIDEST: u64 = 1 << 63;
+pub(crate) const WIDEST: u64 = 1 << 63;
 
 /// The number, or the minus and the number, at a place, and the place behind it.
 pub(crate) fn signed<'a>(cursor: Cursor<'a>) -> Result<(i64, Cursor<'a>), Stop>

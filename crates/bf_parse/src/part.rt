@@ -5,7 +5,6 @@ ghost use Rattle.bf_parse.specs.Ends.{goes_sum, is_name, is_point, nothing};
 ghost use Rattle.bf_parse.specs.Expressions.{RefRule};
 ghost use Rattle.bf_parse.specs.StatementEnds.{begins_aggregate, begins_constant, begins_expression};
 ghost use Rattle.bf_parse.specs.Statements.{AggregateRule, ExprRule, NameRule, SetRule};
-ghost use Rattle.bf_parse.proofs.Listings.{aggregate_part, constant_part, expression_part, name_part, ref_part, set_part};
 
 use crate::cursor::Cursor;
 use crate::error::Stop;
@@ -25,8 +24,6 @@ impl Part for Name {
 
     ghost begun = { is_name };
 
-    ghost is_part = { name_part };
-
     fn begins_at(cursor: Cursor<'_>) -> bool {
         cursor.begins_name()
     }
@@ -42,8 +39,6 @@ impl Part for Ref {
     ghost goes_on = { is_point };
 
     ghost begun = { is_name };
-
-    ghost is_part = { ref_part };
 
     fn begins_at(cursor: Cursor<'_>) -> bool {
         cursor.begins_name()
@@ -61,8 +56,6 @@ impl Part for Value {
 
     ghost begun = { begins_constant };
 
-    ghost is_part = { constant_part };
-
     fn begins_at(cursor: Cursor<'_>) -> bool {
         cursor.begins_constant()
     }
@@ -78,8 +71,6 @@ impl Part for RawExpr {
     ghost goes_on = { goes_sum };
 
     ghost begun = { begins_expression };
-
-    ghost is_part = { expression_part };
 
     fn begins_at(cursor: Cursor<'_>) -> bool {
         cursor.begins_expression()
@@ -97,8 +88,6 @@ impl Part for RawAggregate {
 
     ghost begun = { begins_aggregate };
 
-    ghost is_part = { aggregate_part };
-
     fn begins_at(cursor: Cursor<'_>) -> bool {
         cursor.begins_aggregate()
     }
@@ -115,8 +104,6 @@ impl Part for (Name, RawExpr) {
     ghost goes_on = { goes_sum };
 
     ghost begun = { is_name };
-
-    ghost is_part = { set_part };
 
     fn begins_at(cursor: Cursor<'_>) -> bool {
         cursor.begins_name()

@@ -1,15 +1,15 @@
 //! Conditions that may be missing, aggregates, and SELECT.
 
 ghost use Rattle.std.specs.Prelude.{◌≡◌, ◌<◌, ◌≤◌, IfOk};
-ghost use Rattle.bf_lex.specs.declared.sign.Sign.TheVariants.{ClosingParenthesis as ClosingSign, OpeningParenthesis as OpeningSign, Star as StarSign};
 ghost use Rattle.bf_sql.specs.declared.items.Aggregate.TheVariants.{Count as CountCase};
 ghost use Rattle.bf_parse.specs.Cursors.{IsPlace, left, words};
 ghost use Rattle.bf_parse.specs.Ends.{goes_sum, nothing};
 ghost use Rattle.bf_parse.specs.Outcome.{outcome};
+ghost use Rattle.bf_parse.specs.Pieces.{StarRule};
 ghost use Rattle.bf_parse.specs.Reading.{Fits, Read};
 ghost use Rattle.bf_parse.specs.StatementEnds.{goes_list, goes_where};
 ghost use Rattle.bf_parse.specs.Rules.{Return};
-ghost use Rattle.bf_parse.specs.Statements.{AfterSign, AggregateRule, Enclosed, ExprRule, ListRule, SelectRule, WhereRule};
+ghost use Rattle.bf_parse.specs.Statements.{AggregateRule, Enclosed, ExprRule, ListRule, SelectRule, WhereRule};
 
 use crate::condition::condition;
 use crate::cursor::Cursor;
@@ -65,13 +65,14 @@ fn enclosed<'a>(alloc: Global, cursor: Cursor<'a>) -> Result<(RawExpr, Cursor<'a
 /// The place behind a star between parentheses.
 fn star<'a>(cursor: Cursor<'a>) -> Result<Cursor<'a>, Stop>
     requires { IsPlace cursor }
-    ensures fits { Fits nothing (AfterSign OpeningSign (AfterSign StarSign (AfterSign ClosingSign (Return CountCase)))) (words cursor.entry) (outcome (λ rest. Read CountCase (words rest)) result) }
+    ensures fits { Fits nothing (StarRule CountCase) (words cursor.entry) (outcome (λ rest. Read CountCase (words rest)) result) }
     ensures place { IfOk result IsPlace }
     ensures shorter { IfOk result (λ rest. left rest < left cursor.entry) }
 {
     let rest = cursor.expect_sign(Sign::OpeningParenthesis)?;
     let rest = rest.expect_sign(Sign::Star)?;
-    rest.expect_sign(Sign::ClosingParenthesis)
+    let rest = rest.expect_sign(Sign::ClosingParenthesis)?;
+    Ok(rest)
 }
 
 /// The aggregate at a place, and the place behind it.
@@ -103,4 +104,40 @@ pub(crate) fn aggregate<'a>(alloc: Global, cursor: Cursor<'a>) -> Result<(RawAgg
             _ => Err(Stop::Syntax(cursor.tokens.len())),
         },
     }
+}
+
+/// What a SELECT gives, at a place, and the place behind it.
+fn select_list<'a>(alloc: Global, cursor: Cursor<'a>) -> Result<(List, Cursor<'a>), Stop>
+    requires { IsPlace cursor }
+    ensures fits { Fits (goes_list goes_sum) ListRule (words cursor.entry) (outcome (λ x. Read x.0 (words x.1)) result) }
+    ensures place { IfOk result (λ x. IsPlace x.1) }
+    ensures shorter { IfOk result (λ x. left x.1 < left cursor.entry) }
+{
+    match cursor.sign(Sign::Star) {
+        Some(behind) => Ok((Items::All, behind)),
+        None => {
+            if cursor.begins_aggregate() {
+                let (totals, rest) = list::<RawAggregate>(alloc, cursor)?;
+                Ok((Items::Aggregates(Sequence::of(totals)), rest))
+            } else {
+                let (exprs, rest) = list::<RawExpr>(alloc, cursor)?;
+                Ok((Items::Exprs(Sequence::of(exprs)), rest))
+            }
+        }
+    }
+}
+
+/// The SELECT at a place, and the place behind it.
+pub(crate) fn select<'a>(alloc: Global, cursor: Cursor<'a>) -> Result<(Statement, Cursor<'a>), Stop>
+    requires { IsPlace cursor }
+    ensures fits { Fits goes_where SelectRule (words cursor.entry) (outcome (λ x. Read x.0 (words x.1)) result) }
+    ensures place { IfOk result (λ x. IsPlace x.1) }
+    ensures shorter { IfOk result (λ x. left x.1 < left cursor.entry) }
+{
+    let rest = cursor.expect_keyword(Keyword::Select)?;
+    let (list, rest) = select_list(alloc, rest)?;
+    let rest = rest.expect_keyword(Keyword::From)?;
+    let (table, rest) = rest.name(alloc)?;
+    let (cond, rest) = where_clause(alloc, rest)?;
+    Ok((Statement::Select { list, table, cond }, rest))
 }

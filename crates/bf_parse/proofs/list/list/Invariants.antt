@@ -9,7 +9,7 @@ abbrev pub invariant-loop-behind : goal.invariant-loop-behind
 invariant-loop-behind g l = record {
   place : IsPlace l.rest;
   shorter : left l.rest < left l.fn.cursor;
-  fits : (r : Reading (List g.P)) → Fits (goes_list g.P.Part.goes_on) (Others g.P.Part.rule (suc (length l.parts.items)) l.parts.items) (words l.rest) r → Fits (goes_list g.P.Part.goes_on) (Listed g.P.Part.rule) (words l.fn.cursor) r;
+  fits : (r : Reading (List g.row.P.Denot)) → Fits (goes_list g.P.Part.goes_on) (Others g.P.Part.rule (suc (length l.parts.items)) l.parts.items) (words l.rest) r → Fits (goes_list g.P.Part.goes_on) (Listed g.P.Part.rule) (words l.fn.cursor) r;
 }
 
 abbrev pub decreases-loop-behind : goal.decreases-loop-behind

@@ -1,0 +1,172 @@
+-- Conditions that may be missing, expressions, aggregates, and what a SELECT gives.
+use Rattle.std.proofs.Common.{◌≡◌, ℕ, Bool, true, false, List, [], ◌∷◌, ◌++◌, length, Option, Some, None, refl, sym, ap, ◌∙◌, ◌⊎◌, inl, inr}
+use Rattle.std.specs.Prelude.{◌||◌}
+use Rattle.bf_expr.specs.declared.raw.Ref.{Ref}
+use Rattle.bf_expr.specs.Trees.{Expr, Cond}
+use Rattle.bf_lex.specs.declared.keyword.Keyword.{Keyword as KeywordCase}
+use Rattle.bf_lex.specs.declared.keyword.Keyword.TheVariants as keyword
+use Rattle.bf_lex.specs.declared.sign.Sign.TheVariants as sign
+use Rattle.bf_sql.specs.declared.items.Aggregate.{Aggregate}
+use Rattle.bf_sql.specs.declared.items.Aggregate.TheVariants as aggregate
+use Rattle.bf_sql.specs.declared.items.Items.{Items}
+use Rattle.bf_sql.specs.declared.items.Items.TheVariants as items
+use Rattle.bf_parse.specs.declared.cursor.Cursor.{Cursor}
+use Rattle.bf_parse.specs.declared.error.Stop.{Stop}
+use Rattle.bf_parse.specs.Words.{Word, Keyword, Sign}
+use Rattle.bf_parse.specs.Words as word
+use Rattle.bf_parse.specs.Steps.{Step, Say, said}
+use Rattle.bf_parse.specs.Rules.{Return, After, Either, Then, Listed}
+use Rattle.bf_parse.specs.Reading.{Ends, Reading, Read, Stuck, Fits, first}
+use Rattle.bf_parse.specs.Outcome.{IsBehind, stopped}
+use Rattle.bf_parse.specs.Cursors.{words}
+use Rattle.bf_parse.specs.Ends.{begins, goes_sum, goes_disjunction, nothing}
+use Rattle.bf_parse.specs.StatementEnds.{goes_list, goes_where, goes_ordinary, begins_aggregate, begins_expression}
+use Rattle.bf_parse.specs.Leads.{IsLead, is_keyword}
+use Rattle.bf_parse.specs.Expressions.{Sum}
+use Rattle.bf_parse.specs.Conditions.{CountedCond, Disjunction}
+use Rattle.bf_parse.specs.Statements.{ExprRule, WhereRule, Enclosed, AggregateRule, ListRule}
+use Rattle.bf_parse.specs.Pieces.{StarRule}
+use Rattle.bf_parse.proofs.Beginnings.{Begun, other_not_here, other_stop}
+use Rattle.bf_parse.proofs.Chains.{or_left}
+use Rattle.bf_parse.proofs.Factors.{begins-append}
+use Rattle.bf_parse.proofs.Listings.{aggregate_part, expression_part}
+use Rattle.bf_parse.proofs.Lists.{weaker_ends}
+use Rattle.bf_parse.proofs.Maps.{Maps, map_go, map_stop, wider, any_passed, other_word, either_not_here, enclosed_go, enclosed_stop}
+use Rattle.bf_parse.proofs.Moves.{Can, NotHere, Passed, left_here, right_here, return_not_here, after_not_here, behind_go, return_fits, return_can, return_passed, then_go, then_stop, after_can}
+
+-- ---- a keyword that stands first
+
+pub lead_behind : {ws : List Word} {found k : KeywordCase} {behind : Cursor} → IsLead ws (Some (found, behind)) → found ≡ k → IsBehind (Keyword k) ws (Some (words behind))
+lead_behind {behind = behind} h e = record { it = h.it ∙ ap (λ (z : KeywordCase). Keyword z ∷ words behind) e }
+
+-- ---- values
+
+pub expr_maps : Maps (λ (x : Expr Ref × ℕ). x.0) (Sum 0) ExprRule
+expr_maps = record { to = λ s a h. (a.1, h); from = λ s b h. ((b, h.0), h.1, refl) }
+
+abbrev Conditional : List Step → Option (Cond Ref) → Type 0
+Conditional steps found = (cond : Cond Ref) × (count : ℕ) × Disjunction 0 steps (cond, count) × (found ≡ Some cond)
+
+cond_maps : Maps (λ (x : CountedCond). Some x.0) (Disjunction 0) Conditional
+cond_maps = record { to = λ s a h. (a.0, a.1, h, refl); from = λ s b h. ((h.0, h.1), h.2, h.3) }
+
+pub or_right : (a b : Bool) → (a || b) ≡ false → b ≡ false
+or_right true b e = absurd cc
+or_right false b e = e
+
+-- ---- WHERE
+
+pub where_none : {ws : List Word} → IsBehind (Keyword keyword.Where) ws None → Fits goes_where WhereRule ws (Read None ws)
+where_none h = left_here (after_not_here h) return_fits
+
+pub where_stop : {ws rest : List Word} (e : Stop) → IsBehind (Keyword keyword.Where) ws (Some rest) → Fits goes_disjunction (Disjunction 0) rest (stopped e) → Fits goes_where WhereRule ws (stopped e)
+where_stop e h f = right_here (return_not_here h refl) (behind_go h (wider (λ t p. or_left _ _ p) (map_stop e cond_maps f)))
+
+pub where_go : {ws rest mid : List Word} {c : Cond Ref} {n : ℕ} → IsBehind (Keyword keyword.Where) ws (Some rest) → Fits goes_disjunction (Disjunction 0) rest (Read (c, n) mid) → Fits goes_where WhereRule ws (Read (Some c) mid)
+where_go h f = right_here (return_not_here h refl) (behind_go h (wider (λ t p. or_left _ _ p) (map_go cond_maps f)))
+
+pub where_can : Can WhereRule
+where_can = record { it = ([], None, inl (refl, refl)) }
+
+-- ---- aggregates
+
+pub enclosed_value : {A : Type 0} {f : Expr Ref → A} {ws rest : List Word} {a : Expr Ref} → Fits nothing (Enclosed ExprRule (λ e. Return e)) ws (Read a rest) → Fits nothing (Enclosed ExprRule (λ e. Return (f e))) ws (Read (f a) rest)
+enclosed_value h = enclosed_go h return_fits
+
+pub enclosed_fault : {A : Type 0} {f : Expr Ref → A} {ws : List Word} (e : Stop) → Fits nothing (Enclosed ExprRule (λ e. Return e)) ws (stopped e) → Fits nothing (Enclosed ExprRule (λ e. Return (f e))) ws (stopped e)
+enclosed_fault e h = enclosed_stop e (λ a. return_can) h
+
+pub count_first : {ws rest : List Word} {r : Reading (Aggregate (Expr Ref))} → IsBehind (Keyword keyword.Count) ws (Some rest) → Fits nothing (StarRule aggregate.Count) rest r → Fits nothing AggregateRule ws r
+count_first h f = left_here (either_not_here (other_word h.it (λ d. cc)) (either_not_here (other_word h.it (λ d. cc)) (other_word h.it (λ d. cc)))) (behind_go h f)
+
+pub sum_first : {ws rest : List Word} {r : Reading (Aggregate (Expr Ref))} → IsBehind (Keyword keyword.Sum) ws (Some rest) → Fits nothing (Enclosed ExprRule (λ e. Return (aggregate.Sum e))) rest r → Fits nothing AggregateRule ws r
+sum_first h f = right_here (other_word h.it (λ d. cc)) (left_here (either_not_here (other_word h.it (λ d. cc)) (other_word h.it (λ d. cc))) (behind_go h f))
+
+pub min_first : {ws rest : List Word} {r : Reading (Aggregate (Expr Ref))} → IsBehind (Keyword keyword.Min) ws (Some rest) → Fits nothing (Enclosed ExprRule (λ e. Return (aggregate.Min e))) rest r → Fits nothing AggregateRule ws r
+min_first h f = right_here (other_word h.it (λ d. cc)) (right_here (other_word h.it (λ d. cc)) (left_here (other_word h.it (λ d. cc)) (behind_go h f)))
+
+pub max_first : {ws rest : List Word} {r : Reading (Aggregate (Expr Ref))} → IsBehind (Keyword keyword.Max) ws (Some rest) → Fits nothing (Enclosed ExprRule (λ e. Return (aggregate.Max e))) rest r → Fits nothing AggregateRule ws r
+max_first h f = right_here (other_word h.it (λ d. cc)) (right_here (other_word h.it (λ d. cc)) (right_here (other_word h.it (λ d. cc)) (behind_go h f)))
+
+pub aggregate_none : {ws : List Word} (k : ℕ) → length ws ≡ k → begins begins_aggregate ws ≡ false → Fits nothing AggregateRule ws (Stuck k)
+aggregate_none k e absent = other_stop k e aggregate_begun aggregate_able absent
+  where
+    aggregate_begun : Begun begins_aggregate AggregateRule
+    aggregate_begun = record { it = aggregate_part.opens }
+
+    aggregate_able : Can AggregateRule
+    aggregate_able = record { it = aggregate_part.some }
+
+pub no_aggregate_keyword : (ws : List Word) → IsLead ws None → begins begins_aggregate ws ≡ false
+no_aggregate_keyword [] h = refl
+no_aggregate_keyword (word.Keyword k ∷ ws) h = absurd (true_false h.it)
+  where
+    true_false : true ≡ false → ⊥
+    true_false e = cc
+no_aggregate_keyword (word.Name n ∷ ws) h = refl
+no_aggregate_keyword (word.Number n ∷ ws) h = refl
+no_aggregate_keyword (word.Text t ∷ ws) h = refl
+no_aggregate_keyword (word.Minus b ∷ ws) h = refl
+no_aggregate_keyword (word.Sign s ∷ ws) h = refl
+
+other_keyword : (k : KeywordCase) → (k ≡ keyword.Count → ⊥) → (k ≡ keyword.Sum → ⊥) → (k ≡ keyword.Min → ⊥) → (k ≡ keyword.Max → ⊥) → begins_aggregate (Keyword k) ≡ false
+other_keyword keyword.Count a b c d = absurd (a refl)
+other_keyword keyword.Sum a b c d = absurd (b refl)
+other_keyword keyword.Min a b c d = absurd (c refl)
+other_keyword keyword.Max a b c d = absurd (d refl)
+other_keyword other a b c d = refl
+
+pub no_aggregate : {ws : List Word} {k : KeywordCase} {behind : Cursor} → IsLead ws (Some (k, behind)) → (k ≡ keyword.Count → ⊥) → (k ≡ keyword.Sum → ⊥) → (k ≡ keyword.Min → ⊥) → (k ≡ keyword.Max → ⊥) → begins begins_aggregate ws ≡ false
+no_aggregate {k = k} h a b c d = ap (λ (z : List Word). begins begins_aggregate z) h.it ∙ other_keyword k a b c d
+
+-- ---- what a SELECT gives
+
+exprs_begun : Begun begins_expression (Then (Listed ExprRule) (λ es. Return (items.Exprs es)))
+exprs_begun = record { it = λ s b h.
+    let list = h.4 in
+    ap (λ (z : List Step). begins begins_expression (said z)) h.3 ∙ begins-append begins_expression h.0 h.1
+    (ap (λ (z : List Step). begins begins_expression (said z)) list.3 ∙ begins-append begins_expression list.0 list.1
+    (ap (λ (z : List Step). begins begins_expression (said z)) list.4.1 ∙ expression_part.opens list.4.0 list.2 list.4.2)) }
+
+totals_begun : Begun begins_aggregate (Then (Listed AggregateRule) (λ totals. Return (items.Aggregates totals)))
+totals_begun = record { it = λ s b h.
+    let list = h.4 in
+    ap (λ (z : List Step). begins begins_aggregate (said z)) h.3 ∙ begins-append begins_aggregate h.0 h.1
+    (ap (λ (z : List Step). begins begins_aggregate (said z)) list.3 ∙ begins-append begins_aggregate list.0 list.1
+    (ap (λ (z : List Step). begins begins_aggregate (said z)) list.4.1 ∙ aggregate_part.opens list.4.0 list.2 list.4.2)) }
+
+aggregate_no_expression : (ws : List Word) → begins begins_aggregate ws ≡ true → begins begins_expression ws ≡ false
+aggregate_no_expression [] e = refl
+aggregate_no_expression (word.Keyword k ∷ ws) e = refl
+aggregate_no_expression (word.Name n ∷ ws) e = absurd cc
+aggregate_no_expression (word.Number n ∷ ws) e = absurd cc
+aggregate_no_expression (word.Text t ∷ ws) e = absurd cc
+aggregate_no_expression (word.Minus b ∷ ws) e = absurd cc
+aggregate_no_expression (word.Sign s ∷ ws) e = absurd cc
+
+pub star_list : {ws rest : List Word} → IsBehind (Sign sign.Star) ws (Some rest) → Fits (goes_list goes_sum) ListRule ws (Read items.All rest)
+star_list h = left_here (either_not_here (other_not_here exprs_begun (ap (λ (z : List Word). begins begins_expression z) h.it)) (other_not_here totals_begun (ap (λ (z : List Word). begins begins_aggregate z) h.it))) (behind_go h return_fits)
+
+totals_here : {ws : List Word} {r : Reading (Items (Expr Ref))} → IsBehind (Sign sign.Star) ws None → begins begins_aggregate ws ≡ true → Fits (goes_list goes_sum) (Then (Listed AggregateRule) (λ totals. Return (items.Aggregates totals))) ws r → Fits (goes_list goes_sum) ListRule ws r
+totals_here {ws = ws} h e f = right_here (after_not_here h) (right_here (other_not_here exprs_begun (aggregate_no_expression ws e)) f)
+
+exprs_here : {ws : List Word} {r : Reading (Items (Expr Ref))} → IsBehind (Sign sign.Star) ws None → begins begins_aggregate ws ≡ false → Fits (goes_list goes_sum) (Then (Listed ExprRule) (λ es. Return (items.Exprs es))) ws r → Fits (goes_list goes_sum) ListRule ws r
+exprs_here {ws = ws} h e f = right_here (after_not_here h) (left_here (other_not_here totals_begun e) f)
+
+totals_weaker : (t : Word) → goes_list goes_sum t ≡ false → goes_list nothing t ≡ false
+totals_weaker t e = or_right (goes_sum t) _ e
+
+pub totals_go : {ws rest : List Word} {totals : List (Aggregate (Expr Ref))} → IsBehind (Sign sign.Star) ws None → begins begins_aggregate ws ≡ true → Fits (goes_list nothing) (Listed AggregateRule) ws (Read totals rest) → Fits (goes_list goes_sum) ListRule ws (Read (items.Aggregates totals) rest)
+totals_go h e f = totals_here h e (then_go (return_passed totals_weaker) f return_fits)
+
+pub totals_stop : {ws : List Word} (s : Stop) → IsBehind (Sign sign.Star) ws None → begins begins_aggregate ws ≡ true → Fits (goes_list nothing) (Listed AggregateRule) ws (stopped s) → Fits (goes_list goes_sum) ListRule ws (stopped s)
+totals_stop s h e f = totals_here h e (then_stop s (return_passed totals_weaker) (λ a. return_can) f)
+
+pub exprs_go : {ws rest : List Word} {es : List (Expr Ref)} → IsBehind (Sign sign.Star) ws None → begins begins_aggregate ws ≡ false → Fits (goes_list goes_sum) (Listed ExprRule) ws (Read es rest) → Fits (goes_list goes_sum) ListRule ws (Read (items.Exprs es) rest)
+exprs_go h e f = exprs_here h e (then_go (return_passed (λ t p. p)) f return_fits)
+
+pub exprs_stop : {ws : List Word} (s : Stop) → IsBehind (Sign sign.Star) ws None → begins begins_aggregate ws ≡ false → Fits (goes_list goes_sum) (Listed ExprRule) ws (stopped s) → Fits (goes_list goes_sum) ListRule ws (stopped s)
+exprs_stop s h e f = exprs_here h e (then_stop s (return_passed (λ t p. p)) (λ a. return_can) f)
+
+pub list_can : Can ListRule
+list_can = record { it = (Say (Sign sign.Star) ∷ [], items.All, inl ([], refl, (refl, refl))) }

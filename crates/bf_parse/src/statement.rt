@@ -1,0 +1,119 @@
+//! Statements, but for MIGRATE.
+
+ghost use Rattle.std.specs.Prelude.{◌≡◌, ◌<◌, IfOk};
+ghost use Rattle.bf_parse.specs.Cursors.{IsPlace, left, words};
+ghost use Rattle.bf_parse.specs.Ends.{nothing};
+ghost use Rattle.bf_parse.specs.Outcome.{outcome};
+ghost use Rattle.bf_parse.specs.Reading.{Fits, Read};
+ghost use Rattle.bf_parse.specs.StatementEnds.{goes_ordinary, goes_where, is_comma};
+ghost use Rattle.bf_parse.specs.Statements.{DeleteRule, InsertRule, OrdinaryRule, Several, TupleRule, UpdateRule};
+
+use crate::column::create;
+use crate::cursor::Cursor;
+use crate::error::Stop;
+use crate::list::{enclosed_list, list};
+use crate::query::{select, where_clause};
+use bf_base::{Name, Row, Sequence, Value};
+use bf_expr::RawExpr;
+use bf_lex::{Keyword, Sign};
+use bf_sql::Statement;
+use std::alloc::Global;
+
+/// The tuple at a place, and the place behind it.
+fn tuple<'a>(alloc: Global, cursor: Cursor<'a>) -> Result<(Row, Cursor<'a>), Stop>
+    requires { IsPlace cursor }
+    ensures fits { Fits nothing TupleRule (words cursor.entry) (outcome (λ x. Read x.0 (words x.1)) result) }
+    ensures place { IfOk result (λ x. IsPlace x.1) }
+    ensures shorter { IfOk result (λ x. left x.1 < left cursor.entry) }
+{
+    let (values, rest) = enclosed_list::<Value>(alloc, cursor)?;
+    Ok((Row::of(values), rest))
+}
+
+/// The tuples at a place, of any number, and the place behind them.
+fn tuples<'a>(alloc: Global, cursor: Cursor<'a>) -> Result<(Vec<Row>, Cursor<'a>), Stop>
+    requires { IsPlace cursor }
+    ensures fits { Fits is_comma (Several TupleRule) (words cursor.entry) (outcome (λ x. Read x.0.items (words x.1)) result) }
+    ensures place { IfOk result (λ x. IsPlace x.1) }
+    ensures shorter { IfOk result (λ x. left x.1 < left cursor.entry) }
+{
+    let (first, rest) = tuple(alloc, cursor)?;
+    let mut tuples = Vec::new(alloc);
+    tuples.push(first)?;
+    let mut rest = rest;
+    while let Some(behind) = rest.sign(Sign::Comma) {
+        let (next, behind) = tuple(alloc, behind)?;
+        tuples.push(next)?;
+        rest = behind;
+    }
+    Ok((tuples, rest))
+}
+
+/// The INSERT at a place, and the place behind it.
+fn insert<'a>(alloc: Global, cursor: Cursor<'a>) -> Result<(Statement, Cursor<'a>), Stop>
+    requires { IsPlace cursor }
+    ensures fits { Fits is_comma InsertRule (words cursor.entry) (outcome (λ x. Read x.0 (words x.1)) result) }
+    ensures place { IfOk result (λ x. IsPlace x.1) }
+    ensures shorter { IfOk result (λ x. left x.1 < left cursor.entry) }
+{
+    let rest = cursor.expect_keyword(Keyword::Insert)?;
+    let rest = rest.expect_keyword(Keyword::Into)?;
+    let (table, rest) = rest.name(alloc)?;
+    let rest = rest.expect_keyword(Keyword::Values)?;
+    let (tuples, rest) = tuples(alloc, rest)?;
+    let tuples = Sequence::of(tuples);
+    Ok((Statement::Insert { table, tuples }, rest))
+}
+
+/// The UPDATE at a place, and the place behind it.
+fn update<'a>(alloc: Global, cursor: Cursor<'a>) -> Result<(Statement, Cursor<'a>), Stop>
+    requires { IsPlace cursor }
+    ensures fits { Fits goes_ordinary UpdateRule (words cursor.entry) (outcome (λ x. Read x.0 (words x.1)) result) }
+    ensures place { IfOk result (λ x. IsPlace x.1) }
+    ensures shorter { IfOk result (λ x. left x.1 < left cursor.entry) }
+{
+    let rest = cursor.expect_keyword(Keyword::Update)?;
+    let (table, rest) = rest.name(alloc)?;
+    let rest = rest.expect_keyword(Keyword::Set)?;
+    let (sets, rest) = list::<(Name, RawExpr)>(alloc, rest)?;
+    let (cond, rest) = where_clause(alloc, rest)?;
+    let sets = Sequence::of(sets);
+    Ok((Statement::Update { table, sets, cond }, rest))
+}
+
+/// The DELETE at a place, and the place behind it.
+fn delete<'a>(alloc: Global, cursor: Cursor<'a>) -> Result<(Statement, Cursor<'a>), Stop>
+    requires { IsPlace cursor }
+    ensures fits { Fits goes_where DeleteRule (words cursor.entry) (outcome (λ x. Read x.0 (words x.1)) result) }
+    ensures place { IfOk result (λ x. IsPlace x.1) }
+    ensures shorter { IfOk result (λ x. left x.1 < left cursor.entry) }
+{
+    let rest = cursor.expect_keyword(Keyword::Delete)?;
+    let rest = rest.expect_keyword(Keyword::From)?;
+    let (table, rest) = rest.name(alloc)?;
+    let (cond, rest) = where_clause(alloc, rest)?;
+    Ok((Statement::Delete { table, cond }, rest))
+}
+
+/// The statement at a place, if it is no MIGRATE, and the place behind it.
+pub(crate) fn ordinary<'a>(alloc: Global, cursor: Cursor<'a>) -> Result<(Statement, Cursor<'a>), Stop>
+    requires { IsPlace cursor }
+    ensures fits { Fits goes_ordinary OrdinaryRule (words cursor.entry) (outcome (λ x. Read x.0 (words x.1)) result) }
+    ensures place { IfOk result (λ x. IsPlace x.1) }
+    ensures shorter { IfOk result (λ x. left x.1 < left cursor.entry) }
+{
+    match cursor.leading() {
+        None => Err(Stop::Syntax(cursor.tokens.len())),
+        Some((keyword, behind)) => match keyword {
+            Keyword::Create => create(alloc, cursor),
+            Keyword::Insert => insert(alloc, cursor),
+            Keyword::Select => select(alloc, cursor),
+            Keyword::Update => update(alloc, cursor),
+            Keyword::Delete => delete(alloc, cursor),
+            Keyword::Begin => Ok((Statement::Begin, behind)),
+            Keyword::Commit => Ok((Statement::Commit, behind)),
+            Keyword::Rollback => Ok((Statement::Rollback, behind)),
+            _ => Err(Stop::Syntax(cursor.tokens.len())),
+        },
+    }
+}
