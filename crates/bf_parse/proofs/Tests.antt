@@ -163,8 +163,8 @@ between_begun n a = record { it = λ s b h. ap (λ (z : List Step). begins is_be
 sign_not_between : (ws rest : List Word) (op : Compare) → ws ≡ Sign (compare_sign op) ∷ rest → begins is_between ws ≡ false
 sign_not_between ws rest op e = ap (λ (z : List Word). begins is_between z) e
 
-tested_passed : {n : ℕ} → Passed is_point is_point (Tested n)
-tested_passed {n = n} = record { it = λ a s b back h ends. pass a s b back h }
+tested_passed : (n : ℕ) → Passed is_point is_point (Tested n)
+tested_passed n = record { it = λ a s b back h ends. pass a s b back h }
   where
     pass : (a : tree.Expr Ref) (s : List Step) (b : CountedCond) (back : List Word) → Tested n a s b → Ends is_point (said s ++ back)
     pass a s b back (inl h) = subst (λ (z : List Step). Ends is_point (said z ++ back)) (sym (h.1 ∙ ap (λ (z : List Step). Limit (Node (n + 1)) ∷ z) h.2.2)) (sign_no_point h.2.0)
@@ -173,17 +173,17 @@ tested_passed {n = n} = record { it = λ a s b back h ends. pass a s b back h }
 compared_can : (n : ℕ) (a : tree.Expr Ref) → CanGoOn (Marked (Node (n + 1)) (Compared n a)) []
 compared_can n a = let k = second_can compare.Equal n a in (Limit (Node (n + 1)) ∷ Say (Sign sign.Equal) ∷ k.it.0, k.it.1, (Say (Sign sign.Equal) ∷ k.it.0, refl, (compare.Equal, k.it.0, refl, k.it.2)))
 
-tested_can : {n : ℕ} {a : tree.Expr Ref} → Can (Tested n a)
-tested_can {n = n} {a = a} = record { it = left_can (Marked (Node (n + 1)) (Compared n a)) (Marked (Node (n + 1)) (After (Keyword keyword.Between) (Ranged n a))) (compared_can n a) }
+tested_can : (n : ℕ) {a : tree.Expr Ref} → Can (Tested n a)
+tested_can n {a = a} = record { it = left_can (Marked (Node (n + 1)) (Compared n a)) (Marked (Node (n + 1)) (After (Keyword keyword.Between) (Ranged n a))) (compared_can n a) }
 
 -- ---- the exits of a test
 
-pub first_stop : {n : ℕ} {ws : List Word} (e : Stop) → Fits is_point OperandRule ws (stopped e) → Fits is_point (TestRule n) ws (stopped e)
-first_stop e f = then_stop e tested_passed (λ a. tested_can) f
+pub first_stop : (n : ℕ) {ws : List Word} (e : Stop) → Fits is_point OperandRule ws (stopped e) → Fits is_point (TestRule n) ws (stopped e)
+first_stop n e f = then_stop e (tested_passed n) (λ a. tested_can n) f
 
 -- behind the first operand, a sign or BETWEEN
-pub first_read : {n : ℕ} {ws mid : List Word} {a : tree.Expr Ref} {r : Reading CountedCond} → Fits is_point OperandRule ws (Read a mid) → Fits is_point (Tested n a) mid r → Fits is_point (TestRule n) ws r
-first_read f g = then_go tested_passed f g
+pub first_read : (n : ℕ) {ws mid : List Word} {a : tree.Expr Ref} {r : Reading CountedCond} → Fits is_point OperandRule ws (Read a mid) → Fits is_point (Tested n a) mid r → Fits is_point (TestRule n) ws r
+first_read n f g = then_go (tested_passed n) f g
 
 pub sign_deep : {n : ℕ} {ws : List Word} {a : tree.Expr Ref} {behind : Cursor} (op : Compare) (k : ℕ) → length ws ≡ k → 256 ≤ n → IsComparison ws (Some (op, behind)) → Fits is_point (Tested n a) ws (Over TooDeep k)
 sign_deep {n = n} {ws = ws} {a = a} {behind = behind} op k e high h =
@@ -214,26 +214,30 @@ between_deep {n = n} {ws = ws} {rest = rest} {a = a} k e high h = right_here (ot
 pub between_go : {n : ℕ} {ws rest : List Word} {a : tree.Expr Ref} {r : Reading CountedCond} → n < 256 → IsBehind (Keyword keyword.Between) ws (Some rest) → Fits is_point (Ranged n a) rest r → Fits is_point (Tested n a) ws r
 between_go {n = n} {ws = ws} {rest = rest} {a = a} low h f = right_here (other_not_here (compared_begun n a) (between_not_sign ws rest h.it)) (node_go low h f)
 
-pub low_stop : {n : ℕ} {ws : List Word} {a : tree.Expr Ref} (e : Stop) → Fits is_point OperandRule ws (stopped e) → Fits is_point (Ranged n a) ws (stopped e)
-low_stop e f = then_stop e (after_passed refl) (λ low. after_can (then_can operand_can (λ high. return_can))) f
+-- behind the lower operand of a BETWEEN
+abbrev pub High : ℕ → tree.Expr Ref → tree.Expr Ref → List Step → CountedCond → Type 0
+High n a low = After (Keyword keyword.And) (Then OperandRule (λ high. Return (tree.between a low high, n + 1)))
 
-pub low_read : {n : ℕ} {ws mid : List Word} {a low : tree.Expr Ref} {r : Reading CountedCond} → Fits is_point OperandRule ws (Read low mid) → Fits is_point (After (Keyword keyword.And) (Then OperandRule (λ high. Return (tree.between a low high, n + 1)))) mid r → Fits is_point (Ranged n a) ws r
-low_read f g = then_go (after_passed refl) f g
+pub low_stop : (n : ℕ) {ws : List Word} {a : tree.Expr Ref} (e : Stop) → Fits is_point OperandRule ws (stopped e) → Fits is_point (Ranged n a) ws (stopped e)
+low_stop n e f = then_stop e (after_passed refl) (λ low. after_can (then_can operand_can (λ high. return_can))) f
 
-pub and_missing : {n : ℕ} {ws : List Word} {a low : tree.Expr Ref} {e : Stop} → IsExpected (Keyword keyword.And) ws (Err e) → Fits is_point (After (Keyword keyword.And) (Then OperandRule (λ high. Return (tree.between a low high, n + 1)))) ws (stopped e)
-and_missing h = after_stop h (then_can operand_can (λ high. return_can))
+pub low_read : (n : ℕ) {ws mid : List Word} {a low : tree.Expr Ref} {r : Reading CountedCond} → Fits is_point OperandRule ws (Read low mid) → Fits is_point (High n a low) mid r → Fits is_point (Ranged n a) ws r
+low_read n f g = then_go (after_passed refl) f g
 
-pub high_stop : {n : ℕ} {ws rest : List Word} {a low : tree.Expr Ref} (e : Stop) → IsExpected (Keyword keyword.And) ws (Ok rest) → Fits is_point OperandRule rest (stopped e) → Fits is_point (After (Keyword keyword.And) (Then OperandRule (λ high. Return (tree.between a low high, n + 1)))) ws (stopped e)
-high_stop e h f = after_go h (then_stop e (return_passed (λ t p. p)) (λ high. return_can) f)
+pub and_missing : (n : ℕ) {ws : List Word} {a low : tree.Expr Ref} {e : Stop} → IsExpected (Keyword keyword.And) ws (Err e) → Fits is_point (High n a low) ws (stopped e)
+and_missing n h = after_stop h (then_can operand_can (λ high. return_can))
 
-pub high_read : {n m : ℕ} {ws rest mid : List Word} {a low high : tree.Expr Ref} → m ≡ n + 1 → IsExpected (Keyword keyword.And) ws (Ok rest) → Fits is_point OperandRule rest (Read high mid) → Fits is_point (After (Keyword keyword.And) (Then OperandRule (λ high. Return (tree.between a low high, n + 1)))) ws (Read (tree.between a low high, m) mid)
-high_read {n = n} {ws = ws} {mid = mid} {a = a} {low = low} {high = high} same h f =
-    subst (λ (k : ℕ). Fits is_point (After (Keyword keyword.And) (Then OperandRule (λ high. Return (tree.between a low high, n + 1)))) ws (Read (tree.between a low high, k) mid)) (sym same) (after_go h (then_go (return_passed (λ t p. p)) f return_fits))
+pub high_stop : (n : ℕ) {ws rest : List Word} {a low : tree.Expr Ref} (e : Stop) → IsExpected (Keyword keyword.And) ws (Ok rest) → Fits is_point OperandRule rest (stopped e) → Fits is_point (High n a low) ws (stopped e)
+high_stop n e h f = after_go h (then_stop e (return_passed (λ t p. p)) (λ high. return_can) f)
+
+pub high_read : (n : ℕ) {m : ℕ} {ws rest mid : List Word} {a low high : tree.Expr Ref} → m ≡ n + 1 → IsExpected (Keyword keyword.And) ws (Ok rest) → Fits is_point OperandRule rest (Read high mid) → Fits is_point (High n a low) ws (Read (tree.between a low high, m) mid)
+high_read n {ws = ws} {mid = mid} {a = a} {low = low} {high = high} same h f =
+    subst (λ (k : ℕ). Fits is_point (High n a low) ws (Read (tree.between a low high, k) mid)) (sym same) (after_go h (then_go (return_passed (λ t p. p)) f return_fits))
 
 -- neither a sign nor BETWEEN
-pub no_test : {n : ℕ} {ws : List Word} {a : tree.Expr Ref} (k : ℕ) → length ws ≡ k → IsComparison ws None → IsBehind (Keyword keyword.Between) ws None → Fits is_point (Tested n a) ws (Stuck k)
-no_test {n = n} {ws = ws} {a = a} k e none_there not =
-    subst (λ (z : ℕ). Fits is_point (Tested n a) ws (Stuck z)) e (record { it = stuck_here is_point (Tested n a) ws tested_can.it (λ s b back g ends same. neither s b back g same) })
+pub no_test : (n : ℕ) {ws : List Word} {a : tree.Expr Ref} (k : ℕ) → length ws ≡ k → IsComparison ws None → IsBehind (Keyword keyword.Between) ws None → Fits is_point (Tested n a) ws (Stuck k)
+no_test n {ws = ws} {a = a} k e none_there not =
+    subst (λ (z : ℕ). Fits is_point (Tested n a) ws (Stuck z)) e (record { it = stuck_here is_point (Tested n a) ws (tested_can n {a = a}).it (λ s b back g ends same. neither s b back g same) })
   where
     neither : (s : List Step) (b : CountedCond) (back : List Word) → Tested n a s b → first (said s ++ back) ≡ first ws → ⊥
     neither s b back (inl h) same = not_begun is_comparison (said s) back ws none_there.it ((compared_begun n a).it s b h) same
