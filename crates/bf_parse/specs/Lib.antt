@@ -5,6 +5,7 @@ pub mod Ends
 pub mod Expressions
 pub mod Faults
 pub mod Leads
+pub mod MigrationEnds
 pub mod Migrations
 pub mod Outcome
 pub mod Pieces

@@ -1,12 +1,14 @@
 //! From the bytes of a script to its tree.
 #![tactic(auto)]
 
+mod arm;
 mod column;
 mod comparison;
 mod condition;
 mod cursor;
 mod error;
 mod expression;
+mod item;
 mod joint;
 mod leading;
 mod list;
