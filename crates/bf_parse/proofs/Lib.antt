@@ -1,11 +1,14 @@
 mod Additions
+mod ArmParts
 mod Beginnings
 mod Chains
+mod Clears
 mod Connections
 mod Contents
 mod Factors
 mod Fitting
 mod Forms
+mod Items
 mod Joints
 mod Lexed
 mod Listings
@@ -26,6 +29,7 @@ mod ScriptTexts
 mod SessionLists
 mod StatementLists
 mod Tables
+mod TargetParts
 mod Tests
 mod Tuples
 mod Wholes
