@@ -17,6 +17,7 @@ mod Literals
 mod Maps
 mod MigrateShapes
 mod Moves
+mod Names
 mod Negations
 mod Numbered
 mod Numbers

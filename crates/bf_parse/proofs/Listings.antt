@@ -30,13 +30,13 @@ use Rattle.bf_parse.proofs.Literals.{number_said}
 
 -- ---- names, and what begins with one
 
-starts_name : {A : Type 0} {G : List Step → A → Type 0} → ((n : List ℕ) → CanGoOn G (Say (word.Name n) ∷ [])) → (w : Word) → IsSayable w → is_name w ≡ true → (next : List Step) × (said next ≡ w ∷ []) × CanGoOn G next
-starts_name can (word.Keyword k) real e = absurd cc
-starts_name can (word.Name n) real e = (Say (word.Name n) ∷ [], refl, can n)
-starts_name can (word.Number n) real e = absurd cc
-starts_name can (word.Text t) real e = absurd cc
-starts_name can (word.Minus b) real e = absurd cc
-starts_name can (word.Sign s) real e = absurd cc
+starts_name : {A : Type 0} (G : List Step → A → Type 0) → ((n : List ℕ) → CanGoOn G (Say (word.Name n) ∷ [])) → (w : Word) → IsSayable w → is_name w ≡ true → (next : List Step) × (said next ≡ w ∷ []) × CanGoOn G next
+starts_name G can (word.Keyword k) real e = absurd cc
+starts_name G can (word.Name n) real e = (Say (word.Name n) ∷ [], refl, can n)
+starts_name G can (word.Number n) real e = absurd cc
+starts_name G can (word.Text t) real e = absurd cc
+starts_name G can (word.Minus b) real e = absurd cc
+starts_name G can (word.Sign s) real e = absurd cc
 
 name_can : (n : List ℕ) → CanGoOn NameRule (Say (word.Name n) ∷ [])
 name_can n = ([], n, (n, [], refl, (refl, refl)))
@@ -44,8 +44,8 @@ name_can n = ([], n, (n, [], refl, (refl, refl)))
 pub name_part : IsPart nothing is_name NameRule
 name_part = record {
   opens = λ s b h. ap (λ (z : List Step). begins is_name (said z)) h.2;
-  starts = starts_name name_can;
-  some = let h = name_can [] in (Say (word.Name []) ∷ [], h.1, h.2);
+  starts = starts_name NameRule name_can;
+  some = let h = name_can [] in (Say (word.Name []) ∷ h.0, h.1, h.2);
   comma = refl;
   closing = refl;
 }
@@ -56,8 +56,8 @@ ref_can n = ([], ref_to None n, (n, [], refl, inl (refl, refl)))
 pub ref_part : IsPart is_point is_name RefRule
 ref_part = record {
   opens = λ s b h. ap (λ (z : List Step). begins is_name (said z)) h.2;
-  starts = starts_name ref_can;
-  some = let h = ref_can [] in (Say (word.Name []) ∷ [], h.1, h.2);
+  starts = starts_name RefRule ref_can;
+  some = let h = ref_can [] in (Say (word.Name []) ∷ h.0, h.1, h.2);
   comma = refl;
   closing = refl;
 }
@@ -70,7 +70,7 @@ column_can n =
 pub column_part : IsPart is_check is_name ColumnRuleRule
 column_part = record {
   opens = λ s b h. ap (λ (z : List Step). begins is_name (said z)) h.2;
-  starts = starts_name column_can;
+  starts = starts_name ColumnRuleRule column_can;
   some = let h = column_can [] in (Say (word.Name []) ∷ h.0, h.1, h.2);
   comma = refl;
   closing = refl;
@@ -93,7 +93,7 @@ set_can n =
 pub set_part : IsPart goes_sum is_name SetRule
 set_part = record {
   opens = λ s b h. ap (λ (z : List Step). begins is_name (said z)) h.2;
-  starts = starts_name set_can;
+  starts = starts_name SetRule set_can;
   some = let h = set_can [] in (Say (word.Name []) ∷ h.0, h.1, h.2);
   comma = refl;
   closing = refl;

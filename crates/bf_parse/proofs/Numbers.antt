@@ -3,6 +3,7 @@ use Rattle.std.proofs.Common.{◌≡◌, ℕ, ℤ, ◌+◌, ◌≤◌, ◌<◌, 
 use Rattle.bf_base.specs.declared.value.Value.{Value}
 use Rattle.bf_base.specs.declared.value.Value.TheVariants.{Int, Text}
 use Rattle.bf_lex.specs.declared.fault.ScriptKind.TheVariants.{NumberTooWide}
+use Rattle.bf_parse.specs.declared.cursor.Cursor.{Cursor}
 use Rattle.bf_parse.specs.declared.start.Front.{Front}
 use Rattle.bf_parse.specs.declared.start.Front.TheVariants as front
 use Rattle.bf_parse.specs.Words.{Word}
@@ -83,14 +84,14 @@ no_literal (word.Text t ∷ ws) e = refl
 no_literal (word.Minus b ∷ ws) e = refl
 no_literal (word.Sign s ∷ ws) e = refl
 
-absent : (ws : List Word) (found : Front) → IsFront ws found → ((n : ℕ) (rest : _) → found ≡ front.Number n rest → ⊥) → begins is_number ws ≡ false
+absent : (ws : List Word) (found : Front) → IsFront ws found → ((n : ℕ) (rest : Cursor) → found ≡ front.Number n rest → ⊥) → begins is_number ws ≡ false
 absent ws (front.Number n rest) h not = absurd (not n rest refl)
 absent ws (front.Negative n rest) h not = ap (λ (z : List Word). begins is_number z) h.it.0
 absent ws (front.Minus rest) h not = ap (λ (z : List Word). begins is_number z) h.it.0
 absent ws (front.Text bytes rest) h not = ap (λ (z : List Word). begins is_number z) h.it.3
 absent ws front.Other h not = no_literal ws h.it.0
 
-pub number_none : (ws : List Word) (k : ℕ) (found : Front) → length ws ≡ k → IsFront ws found → ((n : ℕ) (rest : _) → found ≡ front.Number n rest → ⊥) → Fits nothing NumberRule ws (Stuck k)
+pub number_none : (ws : List Word) (k : ℕ) (found : Front) → length ws ≡ k → IsFront ws found → ((n : ℕ) (rest : Cursor) → found ≡ front.Number n rest → ⊥) → Fits nothing NumberRule ws (Stuck k)
 number_none ws k found e h not = other_stop k e number_begun number_can (absent ws found h not)
 
 -- ---- signed numbers, which are all INTs

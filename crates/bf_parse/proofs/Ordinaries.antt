@@ -3,6 +3,8 @@ use Rattle.std.proofs.Common.{◌≡◌, ℕ, Bool, true, false, List, [], ◌�
 use Rattle.std.specs.Prelude.{◌||◌}
 use Rattle.bf_lex.specs.declared.keyword.Keyword.{Keyword as KeywordCase}
 use Rattle.bf_lex.specs.declared.keyword.Keyword.TheVariants as keyword
+use Rattle.bf_expr.specs.declared.raw.Ref.{Ref}
+use Rattle.bf_expr.specs.Trees.{Cond}
 use Rattle.bf_sql.specs.declared.statement.Statement.{Statement}
 use Rattle.bf_sql.specs.declared.statement.Statement.TheVariants as statement
 use Rattle.bf_parse.specs.declared.cursor.Cursor.{Cursor}
@@ -43,10 +45,10 @@ sets_weaker : (t : Word) → goes_ordinary t ≡ false → goes_list goes_sum t 
 sets_weaker t e = both_false _ _ (or_right _ _ (or_left _ _ e)) (or_right _ _ e)
 
 -- sets, and then WHERE or what follows an UPDATE
-pub sets_passed : {A B : Type 0} {f : A → Option _ → B} → Passed (goes_list goes_sum) goes_ordinary (λ a. Then WhereRule (λ cond. Return (f a cond)))
+pub sets_passed : {A B : Type 0} {f : A → Option (Cond Ref) → B} → Passed (goes_list goes_sum) goes_ordinary (λ a. Then WhereRule (λ cond. Return (f a cond)))
 sets_passed {f = f} = record { it = λ a s b back h ends. subst (λ (z : List Step). Ends (goes_list goes_sum) (said z ++ back)) (sym h.3) (by_where h.0 h.1 h.2 back h.4 h.5.0 ends) }
   where
-    by_where : (front rest : List Step) (cond : Option _) (back : List Word) → WhereRule front cond → rest ≡ [] → Ends goes_ordinary back → Ends (goes_list goes_sum) (said (front ++ rest) ++ back)
+    by_where : (front rest : List Step) (cond : Option (Cond Ref)) (back : List Word) → WhereRule front cond → rest ≡ [] → Ends goes_ordinary back → Ends (goes_list goes_sum) (said (front ++ rest) ++ back)
     by_where front rest cond back (inl h) p ends = subst (λ (z : List Step). Ends (goes_list goes_sum) (said (z ++ rest) ++ back)) (sym h.0) (subst (λ (z : List Step). Ends (goes_list goes_sum) (said z ++ back)) (sym p) (weaker_ends (goes_list goes_sum) goes_ordinary sets_weaker back ends))
     by_where front rest cond back (inr h) p ends = subst (λ (z : List Step). Ends (goes_list goes_sum) (said (z ++ rest) ++ back)) (sym h.1) refl
 
