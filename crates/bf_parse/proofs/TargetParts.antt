@@ -70,18 +70,18 @@ targets_clear n acc = record { it = by }
     by s b (no_target p q) = subst (λ (z : List Step). Ends goes_arms (said z)) (sym p) tt
     by s b (target front rest c f m p) = subst (λ (z : List Step). Ends goes_arms (said z)) (sym p) refl
 
-targets_passed : {n : ℕ} {acc : List Target} → Passed goes_arms goes_targets (λ t. Targets n (acc ++ t ∷ []))
-targets_passed {n = n} {acc = acc} = clear_passed (λ t. targets_clear n (acc ++ t ∷ [])) (λ t e. or_left _ _ e)
+targets_passed : (n : ℕ) (acc : List Target) → Passed goes_arms goes_targets (λ t. Targets n (acc ++ t ∷ []))
+targets_passed n acc = clear_passed (λ t. targets_clear n (acc ++ t ∷ [])) (λ t e. or_left _ _ e)
 
 pub targets_stop : {ws : List Word} (e : Stop) → Fits goes_arms TargetRule ws (stopped e) → Fits goes_targets TargetsRule ws (stopped e)
-targets_stop e f = then_stop e (targets_passed {n = 2} {acc = []}) (λ a. targets_can) (marked_go refl f)
+targets_stop e f = then_stop e (targets_passed 2 []) (λ a. targets_can) (marked_go refl f)
 
 pub targets_first : {items : List Target} {ws mid : List Word} {a : Target} {r : Reading (List Target)} → Fits goes_arms TargetRule ws (Read a mid) → items ≡ a ∷ [] → Fits goes_targets (Targets (length items + 1) items) mid r → Fits goes_targets TargetsRule ws r
 targets_first {mid = mid} {r = r} f e h =
-    then_go (targets_passed {n = 2} {acc = []}) (marked_go refl f) (subst (λ (z : List Target). Fits goes_targets (Targets (length z + 1) z) mid r) e h)
+    then_go (targets_passed 2 []) (marked_go refl f) (subst (λ (z : List Target). Fits goes_targets (Targets (length z + 1) z) mid r) e h)
 
 pub targets_full : {n : ℕ} {acc : List Target} {ws rest : List Word} (e : Stop) → IsBehind (Sign sign.Semicolon) ws (Some rest) → Fits goes_arms (Marked (TargetMark (n + 1)) TargetRule) rest (stopped e) → Fits goes_targets (Targets (n + 1) acc) ws (stopped e)
-targets_full {n = n} {acc = acc} e h f = targets_as (left_here (return_not_here h refl) (behind_go h (then_stop e (targets_passed {n = suc (n + 1)} {acc = acc}) (λ a. targets_can) f)))
+targets_full {n = n} {acc = acc} e h f = targets_as (left_here (return_not_here h refl) (behind_go h (then_stop e (targets_passed (suc (n + 1)) acc) (λ a. targets_can) f)))
 
 pub targets_next_stop : {n : ℕ} {acc : List Target} {ws rest : List Word} (e : Stop) → fault_at (TargetMark (n + 1)) ≡ None → IsBehind (Sign sign.Semicolon) ws (Some rest) → Fits goes_arms TargetRule rest (stopped e) → Fits goes_targets (Targets (n + 1) acc) ws (stopped e)
 targets_next_stop e low h f = targets_full e h (marked_go low f)
@@ -93,7 +93,7 @@ targets_next acc {n = n} {mid = mid} {a = a} {r = r} is low h f e g =
     let k = subst (λ (z : List Target). Fits goes_targets (Targets (length z + 1) z) mid r) e g in
     let more = subst (λ (m : ℕ). Fits goes_targets (Targets m (acc ++ a ∷ [])) mid r) count k in
     let room : fault_at (TargetMark (length acc + 1)) ≡ None = subst (λ (m : ℕ). fault_at (TargetMark (m + 1)) ≡ None) is low in
-    targets_as (left_here (return_not_here h refl) (behind_go h (then_go (targets_passed {n = suc (length acc + 1)} {acc = acc}) (marked_go room f) more)))
+    targets_as (left_here (return_not_here h refl) (behind_go h (then_go (targets_passed (suc (length acc + 1)) acc) (marked_go room f) more)))
 
 pub targets_end : {n : ℕ} {acc : List Target} {ws : List Word} → IsBehind (Sign sign.Semicolon) ws None → Fits goes_targets (Targets n acc) ws (Read acc ws)
 targets_end h = targets_as (right_here (after_not_here h) return_fits)

@@ -1,4 +1,4 @@
-use Rattle.bf_parse.proofs.Items.{begins_as}
+use Rattle.std.proofs.Common.{◌≡◌}
 use Rattle.bf_parse.proofs.item.begins.Goals as goal
 
 pub returns : goal.returns
