@@ -1,12 +1,14 @@
 -- The arms of a MIGRATE.
-use Rattle.std.proofs.Common.{◌≡◌, ℕ, suc, ◌+◌, ◌<◌, ◌≤◌, Bool, true, false, List, [], ◌∷◌, ◌++◌, length, Option, Some, None, Ok, Err, refl, sym, ap, subst, ◌∙◌, ◌⊎◌, inl, inr, arith, append_assoc, length-append}
-use Rattle.std.specs.Prelude.{if◌then◌else◌}
+use Rattle.std.proofs.Common.{◌≡◌, ℕ, suc, ◌+◌, ◌<◌, ◌≤◌, Bool, true, false, List, [], ◌∷◌, ◌++◌, length, Option, Some, None, Result, Ok, Err, refl, sym, ap, subst, ◌∙◌, ◌⊎◌, inl, inr, arith, append_assoc, length-append}
+use Rattle.std.specs.Prelude.{if◌then◌else◌, IfOk}
+use Rattle.std.specs.Result.{IsErr}
 use Rattle.bf_expr.specs.Trees.{Cond}
 use Rattle.bf_expr.specs.declared.raw.Ref.{Ref}
 use Rattle.bf_lex.specs.declared.fault.ScriptKind.TheVariants.{TooManyColumns}
 use Rattle.bf_lex.specs.declared.keyword.Keyword.TheVariants as keyword
 use Rattle.bf_lex.specs.declared.sign.Sign.TheVariants as sign
 use Rattle.bf_sql.specs.declared.migration.Arm.{Arm}
+use Rattle.bf_sql.specs.declared.migration.Item.{Item}
 use Rattle.bf_sql.specs.declared.migration.Join.{Join}
 use Rattle.bf_parse.specs.declared.cursor.Cursor.{Cursor}
 use Rattle.bf_parse.specs.declared.error.Stop.{Stop}
@@ -22,15 +24,15 @@ use Rattle.bf_parse.specs.StatementEnds.{goes_list, goes_where}
 use Rattle.bf_parse.specs.Leads.{IsPart, IsSayable}
 use Rattle.bf_parse.specs.Expressions.{RefRule, ref_to}
 use Rattle.bf_parse.specs.Statements.{WhereRule}
-use Rattle.bf_parse.specs.Migrations.{EqualityRule, Equalities, no_other, other, join_of, JoinRule, GroupRule, ArmRule, Arms, no_arm, arm}
-use Rattle.bf_parse.specs.MigrationEnds.{ArmsRule, EqualitiesRule, goes_arm, goes_arms, goes_clauses, goes_equalities, goes_group, goes_join}
+use Rattle.bf_parse.specs.Migrations.{EqualityRule, Equalities, no_other, other, join_of, ItemRule, JoinRule, GroupRule, ArmRule, Arms, no_arm, arm}
+use Rattle.bf_parse.specs.MigrationEnds.{ArmsRule, ClausesRule, EqualitiesRule, goes_arm, goes_arms, goes_clauses, goes_equalities, goes_group, goes_join}
 use Rattle.bf_parse.proofs.Fitting.{fits_by}
 use Rattle.bf_parse.proofs.Factors.{begins-append}
 use Rattle.bf_parse.proofs.Chains.{or_left}
 use Rattle.bf_parse.proofs.Clears.{Clear, clear_after, clear_either, clear_passed, clear_return, clear_then, or_right, then_assoc}
-use Rattle.bf_parse.proofs.Maps.{wider}
+use Rattle.bf_parse.proofs.Maps.{Maps, map_go, map_stop, wider}
 use Rattle.bf_parse.proofs.Listings.{ref_part}
-use Rattle.bf_parse.proofs.MigrateShapes.{ref_can, equality_can, equalities_can, arm_can, arms_can}
+use Rattle.bf_parse.proofs.MigrateShapes.{ref_can, equality_can, equalities_can, item_can, join_can, where_can, group_can, arm_can, arms_can}
 use Rattle.bf_parse.proofs.Parts.{part_full, part_low}
 use Rattle.bf_parse.proofs.Moves.{Can, Passed, after_can, after_go, after_stop, after_not_here, behind_go, left_here, right_here, marked_can, marked_go, named_go, named_stop, others_can, return_can, return_fits, return_not_here, return_passed, then_can, then_go, then_stop}
 
@@ -204,3 +206,46 @@ group_open h k = right_here (return_not_here h refl) (behind_go h (after_stop k 
 
 pub group_read : {ws rest mid : List Word} {r : Reading (List Ref)} → IsBehind (Keyword keyword.Group) ws (Some rest) → IsExpected (Keyword keyword.By) rest (Ok mid) → Fits (goes_list is_point) (Listed RefRule) mid r → Fits goes_group GroupRule ws r
 group_read h k f = right_here (return_not_here h refl) (behind_go h (after_go k (wider (λ t p. or_left _ _ p) f)))
+
+-- ---- an arm
+
+pub items_can : Can (Listed ItemRule)
+items_can = then_can (marked_can item_can) (λ a. others_can)
+
+pub clauses_can : {A : Type 0} {K : Option Join → Option (Cond Ref) → List Ref → A} → Can (Then JoinRule (λ join. Then WhereRule (λ cond. Then GroupRule (λ group. Return (K join cond group)))))
+clauses_can = then_can join_can (λ join. then_can where_can (λ cond. then_can group_can (λ group. return_can)))
+
+abbrev Found : Type 0
+Found = Option Join × Option (Cond Ref) × List Ref
+
+abbrev pub arm_of : List Item → List ℕ → Found → Arm
+arm_of items from x = record { items = items; from = from; join = x.0; cond = x.1; group = x.2 }
+
+abbrev pub ArmEnd : List Item → List ℕ → List Step → Arm → Type 0
+ArmEnd items from = Then JoinRule (λ join. Then WhereRule (λ cond. Then GroupRule (λ group. Return (arm_of items from (join, cond, group)))))
+
+clauses_map : (items : List Item) (from : List ℕ) → Maps (λ x. arm_of items from x) ClausesRule (ArmEnd items from)
+clauses_map items from = record { to = to; from = back }
+  where
+    to : (s : List Step) (x : Found) → ClausesRule s x → ArmEnd items from s (arm_of items from x)
+    to s x h =
+        let t = h.5 in
+        let u = t.5 in
+        (h.0, h.1, h.2, h.3, h.4, (t.0, t.1, t.2, t.3, t.4, (u.0, u.1, u.2, u.3, u.4, (u.5.0, ap (λ (z : Found). arm_of items from z) u.5.1))))
+
+    back : (s : List Step) (b : Arm) → ArmEnd items from s b → (x : Found) × ClausesRule s x × (b ≡ arm_of items from x)
+    back s b h =
+        let t = h.5 in
+        let u = t.5 in
+        ((h.2, t.2, u.2), (h.0, h.1, h.2, h.3, h.4, (t.0, t.1, t.2, t.3, t.4, (u.0, u.1, u.2, u.3, u.4, (u.5.0, refl)))), u.5.1)
+
+pub end_stop : (items : List Item) (from : List ℕ) {ws : List Word} (e : Stop) → Fits goes_arm ClausesRule ws (stopped e) → Fits goes_arm (ArmEnd items from) ws (stopped e)
+end_stop items from e f = map_stop e (clauses_map items from) f
+
+pub end_read : (items : List Item) (from : List ℕ) {ws rest : List Word} {x : Found} → Fits goes_arm ClausesRule ws (Read x rest) → Fits goes_arm (ArmEnd items from) ws (Read (arm_of items from x) rest)
+end_read items from f = map_go (clauses_map items from) f
+
+-- what a `?` gives back is no place
+pub not_read : {X : Type 0} (P : X → Type 0) (res : Result X Stop) → IsErr res → IfOk res P
+not_read P (Ok x) e = absurd cc
+not_read P (Err x) e = tt

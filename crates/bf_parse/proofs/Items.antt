@@ -204,6 +204,10 @@ item_starts w real e = elim (cases_Bool (begins_expression w)) [
 pub item_part : IsPart goes_item begins_item ItemRule
 item_part = record { opens = item_opens; starts = item_starts; some = item_can.it; comma = refl; closing = refl }
 
-pub begins_as : {a b : Bool} (ws : List Word) → a ≡ begins begins_expression ws → b ≡ begins begins_aggregate ws → (a || b) ≡ begins begins_item ws
-begins_as {b = b} [] p q = ap (λ (z : Bool). z || b) p ∙ q
-begins_as {b = b} (w ∷ ws) p q = ap (λ (z : Bool). z || b) p ∙ ap (λ (z : Bool). begins_expression w || z) q
+pub begins_left : (ws : List Word) → begins begins_expression ws ≡ true → true ≡ begins begins_item ws
+begins_left [] e = sym e
+begins_left (w ∷ ws) e = sym (ap (λ (z : Bool). z || begins_aggregate w) e)
+
+pub begins_right : (ws : List Word) {b : Bool} → begins begins_expression ws ≡ false → b ≡ begins begins_aggregate ws → b ≡ begins begins_item ws
+begins_right [] e q = q
+begins_right (w ∷ ws) e q = q ∙ sym (ap (λ (z : Bool). z || begins_aggregate w) e)

@@ -12,14 +12,14 @@ use Rattle.bf_parse.specs.Steps.{Step, Say, Limit, Target as TargetMark, said, f
 use Rattle.bf_parse.specs.Rules.{Return, After, Marked, Then, Either}
 use Rattle.bf_parse.specs.Reading.{CanGoOn, Ends, Reading, Read, Over, Stuck, Fits, first}
 use Rattle.bf_parse.specs.Outcome.{IsBehind, stopped}
-use Rattle.bf_parse.specs.Migrations.{TargetRule, Targets, no_target, target}
+use Rattle.bf_parse.specs.Migrations.{ArmRule, Arms, TargetRule, Targets, no_target, target, target_of}
 use Rattle.bf_parse.specs.MigrationEnds.{TargetsRule, goes_arms, goes_targets}
 use Rattle.bf_parse.proofs.Fitting.{fits_by, mark_over, mark_stuck}
 use Rattle.bf_parse.proofs.Chains.{or_left}
 use Rattle.bf_parse.proofs.Clears.{Clear, clear_passed}
 use Rattle.bf_parse.proofs.Lists as lists
-use Rattle.bf_parse.proofs.MigrateShapes.{target_can, targets_can}
-use Rattle.bf_parse.proofs.Moves.{Can, Passed, after_not_here, behind_go, left_here, right_here, marked_go, return_fits, return_not_here, then_go, then_stop}
+use Rattle.bf_parse.proofs.MigrateShapes.{arm_can, arms_can, target_can, targets_can}
+use Rattle.bf_parse.proofs.Moves.{Can, Passed, after_not_here, behind_go, left_here, right_here, marked_go, return_can, return_fits, return_not_here, then_can, then_go, then_stop}
 
 -- ---- the limit of targets
 
@@ -80,11 +80,14 @@ pub targets_first : {items : List Target} {ws mid : List Word} {a : Target} {r :
 targets_first {mid = mid} {r = r} f e h =
     then_go (targets_passed 2 []) (marked_go refl f) (subst (λ (z : List Target). Fits goes_targets (Targets (length z + 1) z) mid r) e h)
 
-pub targets_full : {n : ℕ} {acc : List Target} {ws rest : List Word} (e : Stop) → IsBehind (Sign sign.Semicolon) ws (Some rest) → Fits goes_arms (Marked (TargetMark (n + 1)) TargetRule) rest (stopped e) → Fits goes_targets (Targets (n + 1) acc) ws (stopped e)
-targets_full {n = n} {acc = acc} e h f = targets_as (left_here (return_not_here h refl) (behind_go h (then_stop e (targets_passed (suc (n + 1)) acc) (λ a. targets_can) f)))
+targets_full : (n : ℕ) {acc : List Target} {ws rest : List Word} (e : Stop) → IsBehind (Sign sign.Semicolon) ws (Some rest) → Fits goes_arms (Marked (TargetMark (n + 1)) TargetRule) rest (stopped e) → Fits goes_targets (Targets (n + 1) acc) ws (stopped e)
+targets_full n {acc = acc} e h f = targets_as (left_here (return_not_here h refl) (behind_go h (then_stop e (targets_passed (suc (n + 1)) acc) (λ a. targets_can) f)))
 
-pub targets_next_stop : {n : ℕ} {acc : List Target} {ws rest : List Word} (e : Stop) → fault_at (TargetMark (n + 1)) ≡ None → IsBehind (Sign sign.Semicolon) ws (Some rest) → Fits goes_arms TargetRule rest (stopped e) → Fits goes_targets (Targets (n + 1) acc) ws (stopped e)
-targets_next_stop e low h f = targets_full e h (marked_go low f)
+pub targets_full_at : (acc : List Target) {n : ℕ} {ws rest : List Word} (e : Stop) → n ≡ length acc → IsBehind (Sign sign.Semicolon) ws (Some rest) → Fits goes_arms (Marked (TargetMark (n + 1)) TargetRule) rest (stopped e) → Fits goes_targets (Targets (length acc + 1) acc) ws (stopped e)
+targets_full_at acc {rest = rest} e is h f = targets_full (length acc) e h (subst (λ (m : ℕ). Fits goes_arms (Marked (TargetMark (m + 1)) TargetRule) rest (stopped e)) is f)
+
+pub targets_next_stop_at : (acc : List Target) {n : ℕ} {ws rest : List Word} (e : Stop) → n ≡ length acc → fault_at (TargetMark (n + 1)) ≡ None → IsBehind (Sign sign.Semicolon) ws (Some rest) → Fits goes_arms TargetRule rest (stopped e) → Fits goes_targets (Targets (length acc + 1) acc) ws (stopped e)
+targets_next_stop_at acc e is low h f = targets_full_at acc e is h (marked_go low f)
 
 pub targets_next : (acc : List Target) {n : ℕ} {items : List Target} {ws rest mid : List Word} {a : Target} {r : Reading (List Target)} → n ≡ length acc → fault_at (TargetMark (n + 1)) ≡ None → IsBehind (Sign sign.Semicolon) ws (Some rest) → Fits goes_arms TargetRule rest (Read a mid) → items ≡ acc ++ a ∷ []
     → Fits goes_targets (Targets (length items + 1) items) mid r → Fits goes_targets (Targets (length acc + 1) acc) ws r
@@ -97,3 +100,8 @@ targets_next acc {n = n} {mid = mid} {a = a} {r = r} is low h f e g =
 
 pub targets_end : {n : ℕ} {acc : List Target} {ws : List Word} → IsBehind (Sign sign.Semicolon) ws None → Fits goes_targets (Targets n acc) ws (Read acc ws)
 targets_end h = targets_as (right_here (after_not_here h) return_fits)
+
+-- ---- the arms of a target
+
+pub arms_end_can : (name : List ℕ) → Can (Then ArmRule (λ a. Then (Arms (a ∷ [])) (λ arms. Return (target_of name arms))))
+arms_end_can name = then_can arm_can (λ a. then_can arms_can (λ arms. return_can))

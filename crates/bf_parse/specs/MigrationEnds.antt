@@ -1,12 +1,13 @@
 -- WORDS by which the parts of a MIGRATE go on, and rules of parts.
 use Rattle.std.specs.Prelude.{◌≡◌, ℕ, Bool, true, false, ◌||◌, List, [], ◌∷◌, Option, Some, None}
 use Rattle.bf_expr.specs.declared.raw.Ref.{Ref}
-use Rattle.bf_expr.specs.Trees.{Expr, column}
+use Rattle.bf_expr.specs.Trees.{Cond, Expr, column}
 use Rattle.bf_lex.specs.declared.keyword.Keyword.TheVariants.{As, Create, Group, Join, Union}
 use Rattle.bf_lex.specs.declared.sign.Sign.TheVariants.{Semicolon}
 use Rattle.bf_sql.specs.declared.migration.Arm.{Arm}
 use Rattle.bf_sql.specs.declared.migration.Item.{Item}
 use Rattle.bf_sql.specs.declared.migration.Item.TheVariants as item
+use Rattle.bf_sql.specs.declared.migration.Join.{Join as JoinTree}
 use Rattle.bf_sql.specs.declared.migration.Target.{Target}
 use Rattle.bf_parse.specs.Words.{Word, Keyword, Sign}
 use Rattle.bf_parse.specs.Steps.{Part, Target as TargetMark}
@@ -14,7 +15,8 @@ use Rattle.bf_parse.specs.Rules.{Rule, Return, Marked, Either, Then}
 use Rattle.bf_parse.specs.Ends.{goes_sum, is_point, is_and}
 use Rattle.bf_parse.specs.StatementEnds.{begins_aggregate, begins_expression, goes_list, goes_where}
 use Rattle.bf_parse.specs.Expressions.{Counted}
-use Rattle.bf_parse.specs.Migrations.{AsRule, BareRule, EqualityRule, Equalities, ArmRule, Arms, TargetRule, Targets}
+use Rattle.bf_parse.specs.Statements.{WhereRule}
+use Rattle.bf_parse.specs.Migrations.{AsRule, BareRule, EqualityRule, Equalities, JoinRule, GroupRule, ArmRule, Arms, TargetRule, Targets}
 
 abbrev pub is_as : Word → Bool
 is_as (Keyword As) = true
@@ -85,3 +87,7 @@ ArmsRule = Then ArmRule (λ a. Arms (a ∷ []))
 
 abbrev pub TargetsRule : Rule (List Target)
 TargetsRule = Then (Marked (TargetMark 1) TargetRule) (λ t. Targets 2 (t ∷ []))
+
+-- [JOIN ..] [WHERE ..] [GROUP BY ..]
+abbrev pub ClausesRule : Rule (Option JoinTree × Option (Cond Ref) × List Ref)
+ClausesRule = Then JoinRule (λ join. Then WhereRule (λ cond. Then GroupRule (λ group. Return (join, cond, group))))

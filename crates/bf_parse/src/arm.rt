@@ -3,7 +3,7 @@
 ghost use Rattle.std.specs.Prelude.{◌≡◌, ◌<◌, ◌≤◌, IfOk};
 ghost use Rattle.bf_parse.specs.Cursors.{IsPlace, left, words};
 ghost use Rattle.bf_parse.specs.Ends.{is_point};
-ghost use Rattle.bf_parse.specs.MigrationEnds.{ArmsRule, EqualitiesRule, goes_arm, goes_arms, goes_equalities, goes_group, goes_join};
+ghost use Rattle.bf_parse.specs.MigrationEnds.{ArmsRule, ClausesRule, EqualitiesRule, goes_arm, goes_arms, goes_equalities, goes_group, goes_join};
 ghost use Rattle.bf_parse.specs.Migrations.{ArmRule, EqualityRule, GroupRule, JoinRule};
 ghost use Rattle.bf_parse.specs.Outcome.{outcome};
 ghost use Rattle.bf_parse.specs.Reading.{Fits, Read};
@@ -14,7 +14,7 @@ use crate::list::{list, room};
 use crate::operand::reference;
 use crate::query::where_clause;
 use bf_base::Sequence;
-use bf_expr::Ref;
+use bf_expr::{RawCond, Ref};
 use bf_lex::{Keyword, Sign};
 use bf_sql::{Arm, Item, Join};
 use std::alloc::Global;
@@ -87,6 +87,19 @@ fn group<'a>(alloc: Global, cursor: Cursor<'a>) -> Result<(Vec<Ref>, Cursor<'a>)
     }
 }
 
+/// The JOIN, the condition and the columns of GROUP BY at a place, and the place behind them.
+fn clauses<'a>(alloc: Global, cursor: Cursor<'a>) -> Result<(Option<Join>, Option<RawCond>, Vec<Ref>, Cursor<'a>), Stop>
+    requires { IsPlace cursor }
+    ensures fits { Fits goes_arm ClausesRule (words cursor.entry) (outcome (λ x. Read (x.0, x.1, x.2.items) (words x.3)) result) }
+    ensures place { IfOk result (λ x. IsPlace x.3) }
+    ensures shorter { IfOk result (λ x. left x.3 ≤ left cursor.entry) }
+{
+    let (join, rest) = join(alloc, cursor)?;
+    let (cond, rest) = where_clause(alloc, rest)?;
+    let (group, rest) = group(alloc, rest)?;
+    Ok((join, cond, group, rest))
+}
+
 /// The arm at a place, and the place behind it.
 fn arm<'a>(alloc: Global, cursor: Cursor<'a>) -> Result<(Arm, Cursor<'a>), Stop>
     requires { IsPlace cursor }
@@ -98,9 +111,7 @@ fn arm<'a>(alloc: Global, cursor: Cursor<'a>) -> Result<(Arm, Cursor<'a>), Stop>
     let (items, rest) = list::<Item>(alloc, rest)?;
     let rest = rest.expect_keyword(Keyword::From)?;
     let (from, rest) = rest.name(alloc)?;
-    let (join, rest) = join(alloc, rest)?;
-    let (cond, rest) = where_clause(alloc, rest)?;
-    let (group, rest) = group(alloc, rest)?;
+    let (join, cond, group, rest) = clauses(alloc, rest)?;
     let items = Sequence::of(items);
     let group = Sequence::of(group);
     Ok((
