@@ -35,13 +35,13 @@ create_can =
     let c = target_can.it in
     (c.2.0, c.1, subst (λ (z : List Step). TargetRule z c.1) c.2.1 c.2)
 
-pub target_over : {n : ℕ} {ws rest : List Word} (k : ℕ) → length ws ≡ k → 8 ≤ n → IsBehind (Keyword keyword.Create) ws (Some rest) → Fits goes_arms (Marked (TargetMark (n + 1)) TargetRule) ws (Over TooManyTargets k)
-target_over {n = n} {ws = ws} {rest = rest} k e high h =
+pub target_over : (n : ℕ) {ws rest : List Word} (k : ℕ) → length ws ≡ k → 8 ≤ n → IsBehind (Keyword keyword.Create) ws (Some rest) → Fits goes_arms (Marked (TargetMark (n + 1)) TargetRule) ws (Over TooManyTargets k)
+target_over n {ws = ws} {rest = rest} k e high h =
     subst (λ (z : ℕ). Fits goes_arms (Marked (TargetMark (n + 1)) TargetRule) ws (Over TooManyTargets z)) e
     (record { it = mark_over goes_arms (TargetMark (n + 1)) TargetRule (Say (Keyword keyword.Create) ∷ []) (Keyword keyword.Create) ws rest TooManyTargets (target_high n high) h.it refl create_can })
 
-pub target_none : {n : ℕ} {ws : List Word} (k : ℕ) → length ws ≡ k → IsBehind (Keyword keyword.Create) ws None → Fits goes_arms (Marked (TargetMark (n + 1)) TargetRule) ws (Stuck k)
-target_none {n = n} {ws = ws} k e h =
+pub target_none : (n : ℕ) {ws : List Word} (k : ℕ) → length ws ≡ k → IsBehind (Keyword keyword.Create) ws None → Fits goes_arms (Marked (TargetMark (n + 1)) TargetRule) ws (Stuck k)
+target_none n {ws = ws} k e h =
     subst (λ (z : ℕ). Fits goes_arms (Marked (TargetMark (n + 1)) TargetRule) ws (Stuck z)) e
     (record { it = mark_stuck goes_arms (TargetMark (n + 1)) TargetRule ws target_can.it (λ s b back g ends same. h.it (sym same ∙ ap (λ (z : List Step). first (said z ++ back)) g.1)) })
 
