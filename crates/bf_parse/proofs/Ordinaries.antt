@@ -42,7 +42,7 @@ both_false true b p q = p
 both_false false b p q = q
 
 sets_weaker : (t : Word) → goes_ordinary t ≡ false → goes_list goes_sum t ≡ false
-sets_weaker t e = both_false _ _ (or_right _ _ (or_left _ _ e)) (or_right _ _ e)
+sets_weaker t e = both_false (goes_sum t) (is_comma t) (or_right (goes_where t) (goes_sum t) (or_left (goes_where t || goes_sum t) (is_comma t) e)) (or_right (goes_where t || goes_sum t) (is_comma t) e)
 
 -- sets, and then WHERE or what follows an UPDATE
 pub sets_passed : {A B : Type 0} {f : A → Option (Cond Ref) → B} → Passed (goes_list goes_sum) goes_ordinary (λ a. Then WhereRule (λ cond. Return (f a cond)))

@@ -70,13 +70,16 @@ where_can = record { it = ([], None, inl (refl, refl)) }
 
 -- ---- aggregates
 
+pub expr_can : Can ExprRule
+expr_can = record { it = expression_part.some }
+
 pub enclosed_value : {A : Type 0} {f : Expr Ref → A} {ws rest : List Word} {a : Expr Ref} → Fits nothing (Enclosed ExprRule (λ e. Return e)) ws (Read a rest) → Fits nothing (Enclosed ExprRule (λ e. Return (f e))) ws (Read (f a) rest)
 enclosed_value h = enclosed_go h return_fits
 
 pub enclosed_fault : {A : Type 0} {f : Expr Ref → A} {ws : List Word} (e : Stop) → Fits nothing (Enclosed ExprRule (λ e. Return e)) ws (stopped e) → Fits nothing (Enclosed ExprRule (λ e. Return (f e))) ws (stopped e)
 enclosed_fault e h = enclosed_stop e (λ a. return_can) h
 
-pub count_first : {ws rest : List Word} {r : Reading (Aggregate (Expr Ref))} → IsBehind (Keyword keyword.Count) ws (Some rest) → Fits nothing (StarRule aggregate.Count) rest r → Fits nothing AggregateRule ws r
+pub count_first : {ws rest : List Word} {r : Reading (Aggregate (Expr Ref))} → IsBehind (Keyword keyword.Count) ws (Some rest) → Fits nothing StarRule rest r → Fits nothing AggregateRule ws r
 count_first h f = left_here (either_not_here (other_word h.it (λ d. cc)) (either_not_here (other_word h.it (λ d. cc)) (other_word h.it (λ d. cc)))) (behind_go h f)
 
 pub sum_first : {ws rest : List Word} {r : Reading (Aggregate (Expr Ref))} → IsBehind (Keyword keyword.Sum) ws (Some rest) → Fits nothing (Enclosed ExprRule (λ e. Return (aggregate.Sum e))) rest r → Fits nothing AggregateRule ws r

@@ -1,5 +1,5 @@
 -- The columns of a table, behind which stands a comma and PRIMARY: behind a comma stands a column or PRIMARY.
-use Rattle.std.proofs.Common.{◌≡◌, ℕ, suc, ◌<◌, Bool, true, false, List, [], ◌∷◌, ◌++◌, Option, Some, None, Ok, Err, refl, sym, ap, subst, ◌∙◌, ◌⊎◌, inl, inr, append_assoc}
+use Rattle.std.proofs.Common.{◌≡◌, ℕ, suc, ◌<◌, Bool, true, false, List, [], ◌∷◌, ◌++◌, Option, Some, None, Ok, Err, refl, sym, ap, subst, ◌∙◌, ◌⊎◌, inl, inr, arith, length, length-append, append_assoc}
 use Rattle.bf_lex.specs.declared.keyword.Keyword.TheVariants as keyword
 use Rattle.bf_lex.specs.declared.sign.Sign.TheVariants as sign
 use Rattle.bf_sql.specs.declared.statement.ColumnRule.{ColumnRule}
@@ -17,7 +17,7 @@ use Rattle.bf_parse.specs.Pieces.{ColumnsRule}
 use Rattle.bf_parse.proofs.Moves.{Can, NotHere, Passed, left_here, right_here, after_not_here, behind_go, return_fits, then_go, then_stop, then_can, after_can, return_can, others_can, left_can, marked_can, named_can, after_go, after_stop, marked_go}
 use Rattle.bf_parse.proofs.Maps.{same_rule, other_word}
 use Rattle.bf_parse.proofs.Listings.{column_part, name_part}
-use Rattle.bf_parse.proofs.Parts.{list_can}
+use Rattle.bf_parse.proofs.Parts.{list_can, part_low}
 
 -- behind columns, from the n-th on
 abbrev pub More : ℕ → List ColumnRule → List Step → List ColumnRule → Type 0
@@ -109,36 +109,47 @@ pub choice_more : {n : ℕ} {acc : List ColumnRule} {ws mid rest : List Word} {a
     → IsExpected (Sign sign.Comma) mid (Ok rest) → Fits nothing (Choice (suc n) (acc ++ a ∷ [])) rest r → Fits nothing (Choice n acc) ws r
 choice_more {n = n} {acc = acc} h f comma k = left_here (after_not_here h) (then_go (more_passed (suc n) acc) f (more_as (after_go comma k)))
 
+-- ---- where a vector holds the columns
+
+pub columns_first : {items : List ColumnRule} {ws mid rest : List Word} {a : ColumnRule} {r : Reading (List ColumnRule)} → Fits is_check ColumnRuleRule ws (Read a mid) → IsExpected (Sign sign.Comma) mid (Ok rest) → items ≡ a ∷ []
+    → Fits nothing (Choice (suc (length items)) items) rest r → Fits nothing ColumnsRule ws r
+columns_first {rest = rest} {r = r} f comma e h = columns_begin f comma (subst (λ (z : List ColumnRule). Fits nothing (Choice (suc (length z)) z) rest r) e h)
+
+pub choice_next : (acc : List ColumnRule) {items : List ColumnRule} {ws mid rest : List Word} {a : ColumnRule} {r : Reading (List ColumnRule)} → length acc < 16 → IsBehind (Keyword keyword.Primary) ws None → Fits is_check ColumnRuleRule ws (Read a mid)
+    → IsExpected (Sign sign.Comma) mid (Ok rest) → items ≡ acc ++ a ∷ [] → Fits nothing (Choice (suc (length items)) items) rest r → Fits nothing (Choice (suc (length acc)) acc) ws r
+choice_next acc {rest = rest} {a = a} {r = r} low h f comma e k =
+    let count : length (acc ++ a ∷ []) ≡ suc (length acc) = omega (arith, length-append acc (a ∷ [])) in
+    let same : Fits nothing (Choice (suc (length (acc ++ a ∷ []))) (acc ++ a ∷ [])) rest r = subst (λ (z : List ColumnRule). Fits nothing (Choice (suc (length z)) z) rest r) e k in
+    choice_more h (marked_go (part_low (length acc) low) f) comma (subst (λ (n : ℕ). Fits nothing (Choice (suc n) (acc ++ a ∷ [])) rest r) count same)
+
 -- ---- the table behind its columns
 
-module _ {B : Type 0} {H : List ColumnRule → List Step → B → Type 0} where
-  abbrev Flat : List Step → B → Type 0
-  Flat = Then (Listed ColumnRuleRule) (λ columns. After (Sign sign.Comma) (After (Keyword keyword.Primary) (H columns)))
+abbrev Flat : {B : Type 0} → (List ColumnRule → List Step → B → Type 0) → List Step → B → Type 0
+Flat H = Then (Listed ColumnRuleRule) (λ columns. After (Sign sign.Comma) (After (Keyword keyword.Primary) (H columns)))
 
-  flat_to : (s : List Step) (b : B) → Then ColumnsRule H s b → Flat s b
-  flat_to s b h =
-      let read = h.4 in
-      let comma = read.5 in
-      let primary = comma.2 in
-      let tail : read.1 ≡ Say (Sign sign.Comma) ∷ Say (Keyword keyword.Primary) ∷ [] =
-      comma.1 ∙ ap (λ (z : List Step). Say (Sign sign.Comma) ∷ z) (primary.1 ∙ ap (λ (z : List Step). Say (Keyword keyword.Primary) ∷ z) primary.2.0) in
-      let split : s ≡ read.0 ++ Say (Sign sign.Comma) ∷ Say (Keyword keyword.Primary) ∷ h.1 =
-      h.3 ∙ ap (λ (z : List Step). z ++ h.1) (read.3 ∙ ap (λ (z : List Step). read.0 ++ z) tail) ∙ append_assoc read.0 (Say (Sign sign.Comma) ∷ Say (Keyword keyword.Primary) ∷ []) h.1 in
-      (read.0, Say (Sign sign.Comma) ∷ Say (Keyword keyword.Primary) ∷ h.1, read.2, split, read.4,
-      (Say (Keyword keyword.Primary) ∷ h.1, refl, (h.1, refl, subst (λ (x : List ColumnRule). H x h.1 b) primary.2.1 h.5)))
+flat_to : {B : Type 0} (H : List ColumnRule → List Step → B → Type 0) (s : List Step) (b : B) → Then ColumnsRule H s b → Flat H s b
+flat_to H s b h =
+    let read = h.4 in
+    let comma = read.5 in
+    let primary = comma.2 in
+    let tail : read.1 ≡ Say (Sign sign.Comma) ∷ Say (Keyword keyword.Primary) ∷ [] =
+    comma.1 ∙ ap (λ (z : List Step). Say (Sign sign.Comma) ∷ z) (primary.1 ∙ ap (λ (z : List Step). Say (Keyword keyword.Primary) ∷ z) primary.2.0) in
+    let split : s ≡ read.0 ++ Say (Sign sign.Comma) ∷ Say (Keyword keyword.Primary) ∷ h.1 =
+    h.3 ∙ ap (λ (z : List Step). z ++ h.1) (read.3 ∙ ap (λ (z : List Step). read.0 ++ z) tail) ∙ append_assoc read.0 (Say (Sign sign.Comma) ∷ Say (Keyword keyword.Primary) ∷ []) h.1 in
+    (read.0, Say (Sign sign.Comma) ∷ Say (Keyword keyword.Primary) ∷ h.1, read.2, split, read.4,
+    (Say (Keyword keyword.Primary) ∷ h.1, refl, (h.1, refl, subst (λ (x : List ColumnRule). H x h.1 b) primary.2.1 h.5)))
 
-  flat_from : (s : List Step) (b : B) → Flat s b → Then ColumnsRule H s b
-  flat_from s b h =
-      let comma = h.5 in
-      let primary = comma.2 in
-      let ending : List Step = Say (Sign sign.Comma) ∷ Say (Keyword keyword.Primary) ∷ [] in
-      let split : s ≡ (h.0 ++ Say (Sign sign.Comma) ∷ Say (Keyword keyword.Primary) ∷ []) ++ primary.0 =
-      h.3 ∙ ap (λ (z : List Step). h.0 ++ z) (comma.1 ∙ ap (λ (z : List Step). Say (Sign sign.Comma) ∷ z) primary.1) ∙ sym (append_assoc h.0 (Say (Sign sign.Comma) ∷ Say (Keyword keyword.Primary) ∷ []) primary.0) in
-      (h.0 ++ Say (Sign sign.Comma) ∷ Say (Keyword keyword.Primary) ∷ [], primary.0, h.2, split,
-      (h.0, Say (Sign sign.Comma) ∷ Say (Keyword keyword.Primary) ∷ [], h.2, refl, h.4, (Say (Keyword keyword.Primary) ∷ [], refl, ([], refl, (refl, refl)))), primary.2)
+flat_from : {B : Type 0} (H : List ColumnRule → List Step → B → Type 0) (s : List Step) (b : B) → Flat H s b → Then ColumnsRule H s b
+flat_from H s b h =
+    let comma = h.5 in
+    let primary = comma.2 in
+    let split : s ≡ (h.0 ++ Say (Sign sign.Comma) ∷ Say (Keyword keyword.Primary) ∷ []) ++ primary.0 =
+    h.3 ∙ ap (λ (z : List Step). h.0 ++ z) (comma.1 ∙ ap (λ (z : List Step). Say (Sign sign.Comma) ∷ z) primary.1) ∙ sym (append_assoc h.0 (Say (Sign sign.Comma) ∷ Say (Keyword keyword.Primary) ∷ []) primary.0) in
+    (h.0 ++ Say (Sign sign.Comma) ∷ Say (Keyword keyword.Primary) ∷ [], primary.0, h.2, split,
+    (h.0, Say (Sign sign.Comma) ∷ Say (Keyword keyword.Primary) ∷ [], h.2, refl, h.4, (Say (Keyword keyword.Primary) ∷ [], refl, ([], refl, (refl, refl)))), primary.2)
 
-  pub columns_then : {w : Word → Bool} {ws : List Word} {r : Reading B} → Fits w (Then ColumnsRule H) ws r → Fits w Flat ws r
-  columns_then f = same_rule flat_to flat_from f
+pub columns_then : {B : Type 0} {w : Word → Bool} {H : List ColumnRule → List Step → B → Type 0} {ws : List Word} {r : Reading B} → Fits w (Then ColumnsRule H) ws r → Fits w (Flat H) ws r
+columns_then {H = H} f = same_rule (flat_to H) (flat_from H) f
 
 pub columns_can : Can ColumnsRule
 columns_can = then_can (list_can column_part) (λ columns. after_can (after_can return_can))

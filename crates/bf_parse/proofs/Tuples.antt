@@ -13,15 +13,15 @@ use Rattle.bf_parse.specs.Statements.{Further, no_more, more, Several}
 use Rattle.bf_parse.proofs.Moves.{Can, left_here, right_here, after_not_here, return_not_here, return_fits, behind_go, then_go, then_stop}
 use Rattle.bf_parse.proofs.Maps.{same_rule, any_passed}
 
-module _ {A : Type 0} {G : List Step → A → Type 0} where
-  abbrev Commas : List A → List Step → List A → Type 0
-  Commas before = Either (After (Sign sign.Comma) (Then G (λ a. Further G (before ++ a ∷ [])))) (Return before)
+abbrev Commas : {A : Type 0} → (List Step → A → Type 0) → List A → List Step → List A → Type 0
+Commas G before = Either (After (Sign sign.Comma) (Then G (λ a. Further G (before ++ a ∷ [])))) (Return before)
 
-  further_to : (before : List A) (s : List Step) (b : List A) → Commas before s b → Further G before s b
+module _ {A : Type 0} {G : List Step → A → Type 0} where
+  further_to : (before : List A) (s : List Step) (b : List A) → Commas G before s b → Further G before s b
   further_to before s b (inr h) = no_more h.0 h.1
   further_to before s b (inl h) = more h.2.0 h.2.1 h.2.2 h.2.4 h.2.5 (h.1 ∙ ap (λ (z : List Step). Say (Sign sign.Comma) ∷ z) h.2.3)
 
-  further_from : (before : List A) (s : List Step) (b : List A) → Further G before s b → Commas before s b
+  further_from : (before : List A) (s : List Step) (b : List A) → Further G before s b → Commas G before s b
   further_from before s b (no_more p q) = inr (p, q)
   further_from before s b (more front back a g m p) = inl (front ++ back, p, (front, back, a, refl, g, m))
 

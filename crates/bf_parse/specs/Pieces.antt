@@ -2,6 +2,10 @@
 use Rattle.std.specs.Prelude.{ℕ, ℤ, List}
 use Rattle.bf_lex.specs.declared.keyword.Keyword.TheVariants as keyword
 use Rattle.bf_lex.specs.declared.sign.Sign.TheVariants as sign
+use Rattle.bf_expr.specs.declared.raw.Ref.{Ref}
+use Rattle.bf_expr.specs.Trees.{Expr}
+use Rattle.bf_sql.specs.declared.items.Aggregate.{Aggregate}
+use Rattle.bf_sql.specs.declared.items.Aggregate.TheVariants as aggregate
 use Rattle.bf_sql.specs.declared.statement.ColumnForm.{ColumnForm}
 use Rattle.bf_sql.specs.declared.statement.ColumnForm.TheVariants as form
 use Rattle.bf_sql.specs.declared.statement.ColumnRule.{ColumnRule}
@@ -20,6 +24,9 @@ ColumnsRule = Then (Listed ColumnRuleRule) (λ columns. AfterSign sign.Comma (Af
 abbrev pub CreateRule : Rule Statement
 CreateRule = AfterKeyword keyword.Create (Either TableRule IndexRuleRule)
 
--- ( * ), which gives this
-abbrev pub StarRule : {A : Type 0} → A → Rule A
-StarRule a = AfterSign sign.OpeningParenthesis (AfterSign sign.Star (AfterSign sign.ClosingParenthesis (Return a)))
+-- ( * ), which is the number of rows
+abbrev pub count : Aggregate (Expr Ref)
+count = aggregate.Count
+
+abbrev pub StarRule : Rule (Aggregate (Expr Ref))
+StarRule = AfterSign sign.OpeningParenthesis (AfterSign sign.Star (AfterSign sign.ClosingParenthesis (Return count)))

@@ -1,11 +1,10 @@
 //! Conditions that may be missing, aggregates, and SELECT.
 
 ghost use Rattle.std.specs.Prelude.{◌≡◌, ◌<◌, ◌≤◌, IfOk};
-ghost use Rattle.bf_sql.specs.declared.items.Aggregate.TheVariants.{Count as CountCase};
 ghost use Rattle.bf_parse.specs.Cursors.{IsPlace, left, words};
 ghost use Rattle.bf_parse.specs.Ends.{goes_sum, nothing};
 ghost use Rattle.bf_parse.specs.Outcome.{outcome};
-ghost use Rattle.bf_parse.specs.Pieces.{StarRule};
+ghost use Rattle.bf_parse.specs.Pieces.{StarRule, count};
 ghost use Rattle.bf_parse.specs.Reading.{Fits, Read};
 ghost use Rattle.bf_parse.specs.StatementEnds.{goes_list, goes_where};
 ghost use Rattle.bf_parse.specs.Rules.{Return};
@@ -65,7 +64,7 @@ fn enclosed<'a>(alloc: Global, cursor: Cursor<'a>) -> Result<(RawExpr, Cursor<'a
 /// The place behind a star between parentheses.
 fn star<'a>(cursor: Cursor<'a>) -> Result<Cursor<'a>, Stop>
     requires { IsPlace cursor }
-    ensures fits { Fits nothing (StarRule CountCase) (words cursor.entry) (outcome (λ rest. Read CountCase (words rest)) result) }
+    ensures fits { Fits nothing StarRule (words cursor.entry) (outcome (λ rest. Read count (words rest)) result) }
     ensures place { IfOk result IsPlace }
     ensures shorter { IfOk result (λ rest. left rest < left cursor.entry) }
 {

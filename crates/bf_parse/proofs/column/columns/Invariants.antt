@@ -7,12 +7,12 @@ use Rattle.bf_parse.specs.Reading.{Reading, Fits}
 use Rattle.bf_parse.proofs.Tables.{Choice}
 use Rattle.bf_parse.proofs.column.columns.Given as goal
 
-abbrev pub invariant-loop : goal.invariant-loop
-invariant-loop l = record {
+abbrev pub invariant-loop-behind : goal.invariant-loop-behind
+invariant-loop-behind l = record {
   place : IsPlace l.rest;
   shorter : left l.rest < left l.fn.cursor;
   fits : (r : Reading (List ColumnRule)) → Fits nothing (Choice (suc (length l.columns.items)) l.columns.items) (words l.rest) r → Fits nothing ColumnsRule (words l.fn.cursor) r;
 }
 
-abbrev pub decreases-loop : goal.decreases-loop
-decreases-loop l = left l.rest
+abbrev pub decreases-loop-behind : goal.decreases-loop-behind
+decreases-loop-behind l = left l.rest

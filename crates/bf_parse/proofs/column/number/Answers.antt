@@ -11,4 +11,4 @@ returns-else-number-lt-WIDEST-clause-fits c =
     number_wide c.in-Number.number _ _ _ (length-words c.args.cursor.text.now c.args.cursor.tokens.now) c.in-Number.ensures.front.it.0 (omega (arith, c.in-Number.ensures.front.it.1))
 
 pub returns-in_default-clause-fits : goal.returns-in_default-clause-fits
-returns-in_default-clause-fits c = number_none _ _ _ (length-words c.args.cursor.text.now c.args.cursor.tokens.now) c.in_default.ensures.front c.in_default.not-Number
+returns-in_default-clause-fits c = number_none _ _ _ (length-words c.args.cursor.text.now c.args.cursor.tokens.now) c.front.ensures.front c.in_default.not-Number
