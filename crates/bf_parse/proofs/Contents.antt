@@ -27,4 +27,3 @@ between_quotes front =
 
 pub content-quoted : (bytes inner : List ℕ) → bytes ≡ quoted inner → content_of bytes ≡ inner
 content-quoted bytes inner e = ap content_of e ∙ ap undoubled (between_quotes (flat_map doubled inner)) ∙ undoubled-doubled inner
-

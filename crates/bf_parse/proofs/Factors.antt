@@ -1,13 +1,10 @@
 -- What holds of factors.
-use Rattle.std.proofs.Common.{◌≡◌, ℕ, ◌+◌, pos, neg_ℤ, Bool, true, false, List, [], ◌∷◌, ◌++◌, length, Some, None, refl, sym, ap, subst, ◌∙◌, ◌⊎◌, inl, inr}
+use Rattle.std.proofs.Common.{◌≡◌, ℕ, ◌+◌, pos, neg_ℤ, Bool, true, false, List, [], ◌∷◌, ◌++◌, refl, sym, ap, subst, ◌∙◌, inl, inr}
 use Rattle.std.proofs.lemmas.List.{append-nil}
 use Rattle.bf_base.specs.declared.value.Value.{Value}
 use Rattle.bf_base.specs.declared.value.Value.TheVariants as value
-use Rattle.bf_expr.specs.declared.raw.Ref.{Ref}
 use Rattle.bf_expr.specs.Trees.{Expr, column, negated}
 use Rattle.bf_expr.specs.Trees as tree
-use Rattle.bf_lex.specs.declared.fault.ScriptKind.TheVariants.{TooDeep}
-use Rattle.bf_lex.specs.declared.sign.Sign.{Sign as SignCase}
 use Rattle.bf_lex.specs.declared.sign.Sign.TheVariants as sign
 use Rattle.bf_parse.specs.declared.start.Start.TheVariants as start
 use Rattle.bf_parse.specs.declared.cursor.Cursor.{Cursor}
@@ -15,15 +12,15 @@ use Rattle.bf_parse.specs.Words.{Word, Minus, Sign}
 use Rattle.bf_parse.specs.Words as word
 use Rattle.bf_parse.specs.Steps.{Step, Say, Limit, Node, said}
 use Rattle.bf_parse.specs.Rules.{Return, After, Marked, Then, Either}
-use Rattle.bf_parse.specs.Reading.{CanGoOn, Ends, Reading, Read, Over, Fits, first}
+use Rattle.bf_parse.specs.Reading.{Reading, Fits}
 use Rattle.bf_parse.specs.Cursors.{words}
-use Rattle.bf_parse.specs.Ends.{begins, begins_literal, is_name, is_opposite, is_parenthesis, is_point, goes_sum}
+use Rattle.bf_parse.specs.Ends.{begins, begins_literal, is_name, is_opposite, is_parenthesis, is_point}
 use Rattle.bf_parse.specs.Starts.{IsStart}
-use Rattle.bf_parse.specs.Expressions.{Counted, NumberRule, RefRule, Factor, number, negative, opposite, text, ref, parenthesis, Sum, begins_with_number}
+use Rattle.bf_parse.specs.Expressions.{Counted, RefRule, Factor, number, negative, opposite, text, ref, parenthesis, Sum, begins_with_number}
 use Rattle.bf_parse.specs.Conditions as literal
 use Rattle.bf_parse.proofs.Fitting.{fits_by}
 use Rattle.bf_parse.proofs.Literals.{number_said, Tight}
-use Rattle.bf_parse.proofs.Moves.{Can, NotHere, left_here, right_here}
+use Rattle.bf_parse.proofs.Moves.{NotHere, left_here, right_here}
 use Rattle.bf_parse.proofs.Lists as lists
 use Rattle.bf_parse.proofs.Beginnings.{Begun, other_not_here}
 use Rattle.bf_parse.proofs.Numbered.{Numbered}

@@ -88,9 +88,11 @@ minus_from flag a ws rest e s b back (other_product operator.Plus front more c g
 minus_from flag a ws rest e s b back (other_product operator.Concatenation front more c g m p) ends same = stands_not (Minus flag) (Sign sign.Bars) s back ws rest _ _ e p (λ d. cc) same
 minus_from flag a ws rest e s b back (other_product operator.Difference front more c g m p) ends same =
     let d : Some (Minus (begins_with_number (said front))) ≡ Some (Minus flag) = ap (λ (z : List Step). first (said z ++ back)) (sym p) ∙ same ∙ ap first e in
-    let is : begins_with_number (said front) ≡ flag = cc in
-    (Say (Minus flag) ∷ (front ++ more), p ∙ ap (λ (z : Bool). Limit (Node (a.1 + 1)) ∷ Say (Minus z) ∷ (front ++ more)) is,
-     (front ++ more, refl, ((front, more, c, refl, g, m), same_number front more (product_headed (a.1 + 1) front c g) ∙ is)))
+    let is : begins_with_number (said front) ≡ flag = cc in (
+      Say (Minus flag) ∷ (front ++ more),
+      p ∙ ap (λ (z : Bool). Limit (Node (a.1 + 1)) ∷ Say (Minus z) ∷ (front ++ more)) is,
+      (front ++ more, refl, ((front, more, c, refl, g, m), same_number front more (product_headed (a.1 + 1) front c g) ∙ is)),
+    )
 
 -- ---- what may stand behind a minus
 

@@ -3,6 +3,7 @@ mod ArmParts
 mod Beginnings
 mod Chains
 mod Clears
+mod Comparisons
 mod Connections
 mod Contents
 mod Factors
@@ -31,6 +32,5 @@ mod SessionLists
 mod StatementLists
 mod Tables
 mod TargetParts
-mod Tests
 mod Tuples
 mod Wholes

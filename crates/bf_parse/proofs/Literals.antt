@@ -1,5 +1,5 @@
 -- Literals at the front of words.
-use Rattle.std.proofs.Common.{◌≡◌, ℕ, ◌+◌, ◌≤◌, ◌^◌, pos, neg_ℤ, Bool, true, false, List, [], ◌∷◌, ◌++◌, length, Option, Some, None, refl, sym, ap, ◌∙◌, arith}
+use Rattle.std.proofs.Common.{◌≡◌, ℕ, ◌+◌, ◌≤◌, ◌^◌, pos, neg_ℤ, Bool, true, false, List, [], ◌∷◌, ◌++◌, length, Some, refl, sym, ap, ◌∙◌, arith}
 use Rattle.std.proofs.lemmas.List.{append-nil}
 use Rattle.std.proofs.Common.{Bor}
 use Rattle.bf_base.specs.declared.value.Value.{Value}
@@ -220,9 +220,6 @@ literal_begins s b (text t p q) = ap (λ (z : List Step). begins begins_value (s
 
 pub literal_begun : Begun begins_value LiteralRule
 literal_begun = record { it = literal_begins }
-
-pub literal_can : Can LiteralRule
-literal_can = record { it = (Say (word.Text []) ∷ [], Text [], text [] refl refl) }
 
 pub not_value : (ws : List Word) → begins begins_literal ws ≡ false → begins is_opposite ws ≡ false → begins begins_value ws ≡ false
 not_value [] p q = refl

@@ -1,5 +1,5 @@
 -- The arms of a condition without AND and OR.
-use Rattle.std.proofs.Common.{◌≡◌, ℕ, ◌+◌, ◌<◌, ◌≤◌, Bool, true, false, List, [], ◌∷◌, ◌++◌, length, Option, Some, None, Ok, Err, refl, sym, ap, subst, ◌∙◌, ◌⊎◌, inl, inr}
+use Rattle.std.proofs.Common.{◌≡◌, ℕ, ◌+◌, ◌<◌, ◌≤◌, Bool, true, false, List, [], ◌∷◌, ◌++◌, length, Some, None, Ok, Err, refl, sym, ap, subst, ◌∙◌, inl, inr}
 use Rattle.std.proofs.lemmas.List.{append-nil}
 use Rattle.bf_expr.specs.declared.raw.Ref.{Ref}
 use Rattle.bf_expr.specs.Trees as tree
@@ -10,19 +10,19 @@ use Rattle.bf_parse.specs.declared.error.Stop.{Stop}
 use Rattle.bf_parse.specs.Words.{Word, Keyword, Sign}
 use Rattle.bf_parse.specs.Steps.{Step, Say, Limit, Node, said}
 use Rattle.bf_parse.specs.Rules.{Return, After, Marked, Then, Either}
-use Rattle.bf_parse.specs.Reading.{Ends, Reading, Read, Over, Fits}
+use Rattle.bf_parse.specs.Reading.{Reading, Read, Over, Fits}
 use Rattle.bf_parse.specs.Outcome.{IsBehind, IsExpected, stopped}
 use Rattle.bf_parse.specs.Ends.{begins, is_point, goes_disjunction}
 use Rattle.bf_parse.specs.Conditions.{CountedCond, OperandRule, compare_sign, Negation, not, parenthesis, comparison, range, Disjunction}
 use Rattle.bf_parse.specs.Comparisons.{Tested, TestRule}
 use Rattle.bf_parse.proofs.Fitting.{fits_by}
 use Rattle.bf_parse.proofs.Lists as lists
-use Rattle.bf_parse.proofs.Moves.{Can, NotHere, left_here, right_here, after_go, after_stop, after_can, after_not_here, after_passed, then_can, then_go, then_stop, return_can, return_fits, return_passed}
+use Rattle.bf_parse.proofs.Moves.{NotHere, left_here, right_here, after_go, after_stop, after_can, after_not_here, after_passed, then_can, then_go, then_stop, return_can, return_fits, return_passed}
 use Rattle.bf_parse.proofs.Beginnings.{Begun, other_not_here}
 use Rattle.bf_parse.proofs.Chains.{node_go, node_deep, marked_not_here}
 use Rattle.bf_parse.proofs.Connections.{negation_can, disjunction_can}
 use Rattle.bf_parse.proofs.Factors.{begins-append, begins_behind, whole}
-use Rattle.bf_parse.proofs.Tests.{begins_operand, operand_begins}
+use Rattle.bf_parse.proofs.Comparisons.{begins_operand, operand_begins}
 
 abbrev pub NotPart : ℕ → List Step → CountedCond → Type 0
 NotPart n = Marked (Node (n + 1)) (After (Keyword keyword.Not) (Then (Negation (n + 1)) (λ x. Return (tree.opposite x.0, x.1))))
@@ -66,9 +66,22 @@ from n s x (parenthesis inner h p) =
 from n s x (comparison op a b front back o u p q) =
     inr (inr (front, Limit (Node (n + 1)) ∷ Say (Sign (compare_sign op)) ∷ back, a, p, o, inl (Say (Sign (compare_sign op)) ∷ back, refl, (op, back, refl, (back, [], b, sym (append-nil back), u, (refl, q))))))
 from n s x (range a low high one two three o u v p q) =
-    inr (inr (one, Limit (Node (n + 1)) ∷ Say (Keyword keyword.Between) ∷ (two ++ Say (Keyword keyword.And) ∷ three), a, p, o,
-      inr (Say (Keyword keyword.Between) ∷ (two ++ Say (Keyword keyword.And) ∷ three), refl, (two ++ Say (Keyword keyword.And) ∷ three, refl,
-        (two, Say (Keyword keyword.And) ∷ three, low, refl, u, (three, refl, (three, [], high, sym (append-nil three), v, (refl, q))))))))
+    inr (inr (
+      one,
+      Limit (Node (n + 1)) ∷ Say (Keyword keyword.Between) ∷ (two ++ Say (Keyword keyword.And) ∷ three),
+      a,
+      p,
+      o,
+      inr (
+        Say (Keyword keyword.Between) ∷ (two ++ Say (Keyword keyword.And) ∷ three),
+        refl,
+        (
+          two ++ Say (Keyword keyword.And) ∷ three,
+          refl,
+          (two, Say (Keyword keyword.And) ∷ three, low, refl, u, (three, refl, (three, [], high, sym (append-nil three), v, (refl, q)))),
+        ),
+      ),
+    ))
 
 negation_as : {n : ℕ} {ws : List Word} {r : Reading CountedCond} → Fits is_point (Parts n) ws r → Fits is_point (Negation n) ws r
 negation_as {n = n} {ws = ws} {r = r} f = record { it = fits_by is_point (Parts n) (Negation n) ws r f.it (to n) (λ s b back g ends same. from n s b g) }

@@ -105,8 +105,15 @@ module _ {A : Type 0} (w : Word → Bool) (G : List Step → A → Type 0) where
     split = f.split;
     place = f.place;
     inside = f.inside;
-    viable = (f.viable.0, f.viable.1, (f.viable.2, goes_numbered v f.used f.viable.0 ws behind f.viable.1 e f.rest f.split
-        (λ nothing_said. f.only spelled.0 spelled.1 [] (Number v ∷ []) spelled.2 tt (ap first (sym e ∙ f.split ∙ ap (λ (z : List Word). z ++ f.rest) nothing_said)) (append-nil (said spelled.0) ∙ spelled.3 ∙ ap (λ (z : List Word). z ++ Number v ∷ []) (sym nothing_said)))));
+    viable = (
+      f.viable.0,
+      f.viable.1,
+      (
+        f.viable.2,
+        goes_numbered v f.used f.viable.0 ws behind f.viable.1 e f.rest f.split
+            (λ nothing_said. f.only spelled.0 spelled.1 [] (Number v ∷ []) spelled.2 tt (ap first (sym e ∙ f.split ∙ ap (λ (z : List Word). z ++ f.rest) nothing_said)) (append-nil (said spelled.0) ∙ spelled.3 ∙ ap (λ (z : List Word). z ++ Number v ∷ []) (sym nothing_said))),
+      ),
+    );
     only = λ front b back more g ends same eq. f.only front b back more g.0 ends same eq;
   }
   numbered test begun v spelled ws behind (Over kind left) e f = record {

@@ -1,5 +1,5 @@
 -- The arms of a factor.
-use Rattle.std.proofs.Common.{◌≡◌, ℕ, ◌+◌, ◌<◌, ◌≤◌, Bool, true, false, List, [], ◌∷◌, length, Option, Some, None, Ok, Err, refl, sym, ap, subst, ◌∙◌}
+use Rattle.std.proofs.Common.{◌≡◌, ℕ, ◌+◌, ◌<◌, ◌≤◌, false, List, [], ◌∷◌, length, Some, Ok, Err, refl, sym, subst}
 use Rattle.bf_base.specs.declared.value.Value.{Value}
 use Rattle.bf_base.specs.declared.value.Value.TheVariants as value
 use Rattle.bf_expr.specs.declared.raw.Ref.{Ref}
@@ -11,7 +11,7 @@ use Rattle.bf_parse.specs.declared.error.Stop.{Stop}
 use Rattle.bf_parse.specs.declared.start.Start.TheVariants as start
 use Rattle.bf_parse.specs.Words.{Word, Minus, Sign}
 use Rattle.bf_parse.specs.Words as word
-use Rattle.bf_parse.specs.Steps.{Step, Say}
+use Rattle.bf_parse.specs.Steps.{Say}
 use Rattle.bf_parse.specs.Reading.{Reading, Read, Over, Fits}
 use Rattle.bf_parse.specs.Outcome.{IsBehind, IsExpected, stopped}
 use Rattle.bf_parse.specs.Cursors.{words}
@@ -19,9 +19,9 @@ use Rattle.bf_parse.specs.Ends.{nothing, is_point, goes_sum}
 use Rattle.bf_parse.specs.Starts.{IsStart}
 use Rattle.bf_parse.specs.Expressions.{Counted, RefRule, Factor, text, Sum}
 use Rattle.bf_parse.specs.Conditions.{LiteralRule}
-use Rattle.bf_parse.proofs.Moves.{Can, then_go, then_stop, then_can, return_can, return_fits, return_passed, after_passed, after_can, after_go, after_stop, marked_go}
-use Rattle.bf_parse.proofs.Chains.{node_go, node_deep, factor_can, sum_can}
-use Rattle.bf_parse.proofs.Factors.{literal_first, opposite_first, parenthesis_first, ref_first, BehindMinus, InParentheses}
+use Rattle.bf_parse.proofs.Moves.{Can, then_go, then_stop, then_can, return_can, return_fits, return_passed, after_passed, after_can, after_go, after_stop}
+use Rattle.bf_parse.proofs.Chains.{node_go, node_deep, sum_can}
+use Rattle.bf_parse.proofs.Factors.{literal_first, opposite_first, parenthesis_first, ref_first}
 use Rattle.bf_parse.proofs.Additions.{factor_headed}
 use Rattle.bf_parse.proofs.Literals.{tight}
 use Rattle.bf_parse.proofs.Numbered.{Numbered, unnumbered}

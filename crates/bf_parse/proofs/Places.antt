@@ -36,9 +36,9 @@ pub text_front : (c behind : Cursor) (t : Token) (bytes : Bor (List ℕ)) → Is
 text_front c behind t bytes next is_token is e =
     let spelled : IsSpelling token.Text (slice_range c.text.now t.at t.end) = subst (λ (k : TokenKind). IsSpelling k (slice_range c.text.now t.at t.end)) is is_token.spelled in
     let word : words c ≡ Text (spelled.0) ∷ words behind =
-        next_word c behind t next
-        ∙ ap (λ (k : TokenKind). word_of k (slice_range c.text.now t.at t.end) (begins_with_number behind.tokens.now) ∷ words behind) is
-        ∙ ap (λ (content : List ℕ). Text content ∷ words behind) (content-quoted _ spelled.0 spelled.2) in
+    next_word c behind t next
+    ∙ ap (λ (k : TokenKind). word_of k (slice_range c.text.now t.at t.end) (begins_with_number behind.tokens.now) ∷ words behind) is
+    ∙ ap (λ (content : List ℕ). Text content ∷ words behind) (content-quoted _ spelled.0 spelled.2) in
     record { it = (spelled.0, spelled.1, e ∙ spelled.2, word) }
 
 sign_no_name : (s : SignCase) (b : Bool) (name : List ℕ) → sign_word s b ≡ Name name → ⊥
@@ -54,10 +54,13 @@ kind_no_name (token.Sign s) bytes b name not e = sign_no_name s b name e
 
 pub no_name : (c behind : Cursor) (t : Token) → IsNext c (Some (t, behind)) → (t.kind ≡ token.Name → ⊥) → IsNamed (words c) (Err (stop.Syntax (left c)))
 no_name c behind t next not = record {
-  it = (sym (length-words c.text.now c.tokens.now), λ name e.
-      let d : Some (word_of t.kind (slice_range c.text.now t.at t.end) (begins_with_number behind.tokens.now)) ≡ Some (Name name) = ap first (sym (next_word c behind t next)) ∙ e in
-      let f : word_of t.kind (slice_range c.text.now t.at t.end) (begins_with_number behind.tokens.now) ≡ Name name = cc in
-      kind_no_name t.kind (slice_range c.text.now t.at t.end) (begins_with_number behind.tokens.now) name not f);
+  it = (
+    sym (length-words c.text.now c.tokens.now),
+    λ name e.
+        let d : Some (word_of t.kind (slice_range c.text.now t.at t.end) (begins_with_number behind.tokens.now)) ≡ Some (Name name) = ap first (sym (next_word c behind t next)) ∙ e in
+        let f : word_of t.kind (slice_range c.text.now t.at t.end) (begins_with_number behind.tokens.now) ≡ Name name = cc in
+        kind_no_name t.kind (slice_range c.text.now t.at t.end) (begins_with_number behind.tokens.now) name not f,
+  );
 }
 
 -- a quoted text has one content

@@ -88,7 +88,10 @@ fn group<'a>(alloc: Global, cursor: Cursor<'a>) -> Result<(Vec<Ref>, Cursor<'a>)
 }
 
 /// The JOIN, the condition and the columns of GROUP BY at a place, and the place behind them.
-fn clauses<'a>(alloc: Global, cursor: Cursor<'a>) -> Result<(Option<Join>, Option<RawCond>, Vec<Ref>, Cursor<'a>), Stop>
+fn clauses<'a>(
+    alloc: Global,
+    cursor: Cursor<'a>,
+) -> Result<(Option<Join>, Option<RawCond>, Vec<Ref>, Cursor<'a>), Stop>
     requires { IsPlace cursor }
     ensures fits { Fits goes_arm ClausesRule (words cursor.entry) (outcome (λ x. Read (x.0, x.1, x.2.items) (words x.3)) result) }
     ensures place { IfOk result (λ x. IsPlace x.3) }

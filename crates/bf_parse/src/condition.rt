@@ -40,7 +40,11 @@ fn operand<'a>(alloc: Global, cursor: Cursor<'a>) -> Result<(RawExpr, Cursor<'a>
 }
 
 /// A comparison or a BETWEEN at a place, the count behind it, and the place there.
-fn test<'a>(alloc: Global, cursor: Cursor<'a>, count: usize) -> Result<(RawCond, usize, Cursor<'a>), Stop>
+fn test<'a>(
+    alloc: Global,
+    cursor: Cursor<'a>,
+    count: usize,
+) -> Result<(RawCond, usize, Cursor<'a>), Stop>
     requires { IsPlace cursor }
     ensures fits { Fits is_point (TestRule count) (words cursor.entry) (outcome (λ x. Read (x.0, x.1) (words x.2)) result) }
     ensures place { IfOk result (λ x. IsPlace x.2) }
@@ -51,7 +55,11 @@ fn test<'a>(alloc: Global, cursor: Cursor<'a>, count: usize) -> Result<(RawCond,
         Some((op, behind)) => {
             let next = counted(count, rest)?;
             let (second, behind) = operand(alloc, behind)?;
-            Ok((RawCond::of(RawTest::Compare(op, first, second)), next, behind))
+            Ok((
+                RawCond::of(RawTest::Compare(op, first, second)),
+                next,
+                behind,
+            ))
         }
         None => match rest.keyword(Keyword::Between) {
             Some(behind) => {
@@ -59,7 +67,11 @@ fn test<'a>(alloc: Global, cursor: Cursor<'a>, count: usize) -> Result<(RawCond,
                 let (low, behind) = operand(alloc, behind)?;
                 let behind = behind.expect_keyword(Keyword::And)?;
                 let (high, behind) = operand(alloc, behind)?;
-                Ok((RawCond::of(RawTest::Between(first, low, high)), next, behind))
+                Ok((
+                    RawCond::of(RawTest::Between(first, low, high)),
+                    next,
+                    behind,
+                ))
             }
             None => Err(Stop::Syntax(rest.tokens.len())),
         },
@@ -93,7 +105,11 @@ fn either_of(alloc: Global, left: RawCond, right: RawCond) -> Result<RawCond, St
 
 /// A condition without AND and OR at a place, the count behind it, and the place there.
 #[cycle(condition)]
-fn negation<'a>(alloc: Global, cursor: Cursor<'a>, count: usize) -> Result<(RawCond, usize, Cursor<'a>), Stop>
+fn negation<'a>(
+    alloc: Global,
+    cursor: Cursor<'a>,
+    count: usize,
+) -> Result<(RawCond, usize, Cursor<'a>), Stop>
     requires { IsPlace cursor }
     ensures fits { Fits is_point (Negation count) (words cursor.entry) (outcome (λ x. Read (x.0, x.1) (words x.2)) result) }
     ensures place { IfOk result (λ x. IsPlace x.2) }
@@ -120,7 +136,11 @@ fn negation<'a>(alloc: Global, cursor: Cursor<'a>, count: usize) -> Result<(RawC
 
 /// A condition without OR at a place, the count behind it, and the place there.
 #[cycle(condition)]
-fn conjunction<'a>(alloc: Global, cursor: Cursor<'a>, count: usize) -> Result<(RawCond, usize, Cursor<'a>), Stop>
+fn conjunction<'a>(
+    alloc: Global,
+    cursor: Cursor<'a>,
+    count: usize,
+) -> Result<(RawCond, usize, Cursor<'a>), Stop>
     requires { IsPlace cursor }
     ensures fits { Fits goes_conjunction (Conjunction count) (words cursor.entry) (outcome (λ x. Read (x.0, x.1) (words x.2)) result) }
     ensures place { IfOk result (λ x. IsPlace x.2) }
@@ -142,7 +162,11 @@ fn conjunction<'a>(alloc: Global, cursor: Cursor<'a>, count: usize) -> Result<(R
 
 /// A condition at a place, the count behind it, and the place there.
 #[cycle(condition)]
-pub(crate) fn condition<'a>(alloc: Global, cursor: Cursor<'a>, count: usize) -> Result<(RawCond, usize, Cursor<'a>), Stop>
+pub(crate) fn condition<'a>(
+    alloc: Global,
+    cursor: Cursor<'a>,
+    count: usize,
+) -> Result<(RawCond, usize, Cursor<'a>), Stop>
     requires { IsPlace cursor }
     ensures fits { Fits goes_disjunction (Disjunction count) (words cursor.entry) (outcome (λ x. Read (x.0, x.1) (words x.2)) result) }
     ensures place { IfOk result (λ x. IsPlace x.2) }

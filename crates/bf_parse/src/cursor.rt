@@ -72,13 +72,7 @@ impl<'a> Cursor<'a> {
         match self.next() {
             None => None,
             Some((first, behind)) => match first.kind {
-                TokenKind::Keyword(found) => {
-                    if found == keyword {
-                        Some(behind)
-                    } else {
-                        None
-                    }
-                }
+                TokenKind::Keyword(found) => { if found == keyword { Some(behind) } else { None } }
                 _ => None,
             },
         }

@@ -68,7 +68,11 @@ fn joined(alloc: Global, by: Joint, left: RawExpr, right: RawExpr) -> Result<Raw
 
 /// A factor at a place, the count behind it, and the place there.
 #[cycle(expression)]
-fn factor<'a>(alloc: Global, cursor: Cursor<'a>, count: usize) -> Result<(RawExpr, usize, Cursor<'a>), Stop>
+fn factor<'a>(
+    alloc: Global,
+    cursor: Cursor<'a>,
+    count: usize,
+) -> Result<(RawExpr, usize, Cursor<'a>), Stop>
     requires { IsPlace cursor }
     ensures fits { Fits is_point (Factor count) (words cursor.entry) (outcome (λ x. Read (x.0, x.1) (words x.2)) result) }
     ensures place { IfOk result (λ x. IsPlace x.2) }
@@ -100,7 +104,11 @@ fn factor<'a>(alloc: Global, cursor: Cursor<'a>, count: usize) -> Result<(RawExp
 
 /// A product at a place, the count behind it, and the place there.
 #[cycle(expression)]
-fn product<'a>(alloc: Global, cursor: Cursor<'a>, count: usize) -> Result<(RawExpr, usize, Cursor<'a>), Stop>
+fn product<'a>(
+    alloc: Global,
+    cursor: Cursor<'a>,
+    count: usize,
+) -> Result<(RawExpr, usize, Cursor<'a>), Stop>
     requires { IsPlace cursor }
     ensures fits { Fits goes_product (Product count) (words cursor.entry) (outcome (λ x. Read (x.0, x.1) (words x.2)) result) }
     ensures place { IfOk result (λ x. IsPlace x.2) }
@@ -122,7 +130,11 @@ fn product<'a>(alloc: Global, cursor: Cursor<'a>, count: usize) -> Result<(RawEx
 
 /// An expression at a place, the count behind it, and the place there.
 #[cycle(expression)]
-pub(crate) fn sum<'a>(alloc: Global, cursor: Cursor<'a>, count: usize) -> Result<(RawExpr, usize, Cursor<'a>), Stop>
+pub(crate) fn sum<'a>(
+    alloc: Global,
+    cursor: Cursor<'a>,
+    count: usize,
+) -> Result<(RawExpr, usize, Cursor<'a>), Stop>
     requires { IsPlace cursor }
     ensures fits { Fits goes_sum (Sum count) (words cursor.entry) (outcome (λ x. Read (x.0, x.1) (words x.2)) result) }
     ensures place { IfOk result (λ x. IsPlace x.2) }

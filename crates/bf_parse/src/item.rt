@@ -34,7 +34,12 @@ fn bare(alloc: Global, expr: &RawExpr, count: usize) -> Result<Option<Ref>, Stop
 }
 
 /// The item that an expression is with what stands behind it, and the place behind that.
-fn behind<'a>(alloc: Global, expr: RawExpr, count: usize, cursor: Cursor<'a>) -> Result<(Item, Cursor<'a>), Stop>
+fn behind<'a>(
+    alloc: Global,
+    expr: RawExpr,
+    count: usize,
+    cursor: Cursor<'a>,
+) -> Result<(Item, Cursor<'a>), Stop>
     requires { IsPlace cursor }
     ensures fits { Fits is_as (ItemEnd (expr, count)) (words cursor.entry) (outcome (λ x. Read x.0 (words x.1)) result) }
     ensures place { IfOk result (λ x. IsPlace x.1) }

@@ -20,5 +20,7 @@ mod scripts;
 mod session;
 mod start;
 mod statement;
+#[cfg(test)]
+mod tests;
 
 pub use scripts::script;

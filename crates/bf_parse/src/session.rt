@@ -137,7 +137,11 @@ fn counted_migration(count: usize, cursor: Cursor<'_>) -> Result<usize, Stop>
 }
 
 /// The statement at a place, how many MIGRATEs have come with it, and the place behind it.
-fn statement<'a>(alloc: Global, cursor: Cursor<'a>, migrations: usize) -> Result<(Statement, usize, Cursor<'a>), Stop>
+fn statement<'a>(
+    alloc: Global,
+    cursor: Cursor<'a>,
+    migrations: usize,
+) -> Result<(Statement, usize, Cursor<'a>), Stop>
     requires { IsPlace cursor }
     ensures fits { Fits goes_ordinary (StatementRule migrations) (words cursor.entry) (outcome (λ x. Read (x.0, x.1) (words x.2)) result) }
     ensures place { IfOk result (λ x. IsPlace x.2) }
@@ -157,7 +161,11 @@ fn statement<'a>(alloc: Global, cursor: Cursor<'a>, migrations: usize) -> Result
 }
 
 /// The statements at a place, how many MIGRATEs have come with them, and the place behind them.
-fn statements<'a>(alloc: Global, cursor: Cursor<'a>, migrations: usize) -> Result<(Vec<Statement>, usize, Cursor<'a>), Stop>
+fn statements<'a>(
+    alloc: Global,
+    cursor: Cursor<'a>,
+    migrations: usize,
+) -> Result<(Vec<Statement>, usize, Cursor<'a>), Stop>
     requires { IsPlace cursor }
     ensures fits { Fits begins_statement (Statements migrations []) (words cursor.entry) (outcome (λ x. Read (x.0.items, x.1) (words x.2)) result) }
     ensures place { IfOk result (λ x. IsPlace x.2) }
@@ -177,7 +185,11 @@ fn statements<'a>(alloc: Global, cursor: Cursor<'a>, migrations: usize) -> Resul
 }
 
 /// How far a script has come behind the sessions at a place, and the place there.
-fn sessions<'a>(alloc: Global, cursor: Cursor<'a>, before: SoFar) -> Result<(SoFar, Cursor<'a>), Stop>
+fn sessions<'a>(
+    alloc: Global,
+    cursor: Cursor<'a>,
+    before: SoFar,
+) -> Result<(SoFar, Cursor<'a>), Stop>
     requires { IsPlace cursor }
     ensures fits { Fits goes_sessions (Sessions (progress_of before)) (words cursor.entry) (outcome (λ x. Read (progress_of x.0) (words x.1)) result) }
     ensures phases { IfOk result (λ x. x.0.phases ≡ before.phases) }

@@ -1,4 +1,4 @@
-use Rattle.std.proofs.Common.{◌≡◌, ℕ, ◌+◌, arith, refl, sym, rules}
+use Rattle.std.proofs.Common.{arith}
 use Rattle.bf_parse.specs.Conditions.{CountedCond}
 use Rattle.bf_parse.proofs.Connections.{conjunction_as, negations_can, negations_passed, and_deep, and_end, and_stop, and_more, disjunction_as, conjunctions_can, conjunctions_passed, or_deep, or_end, or_stop, or_more}
 use Rattle.bf_parse.proofs.Negations.{not_deep, not_stop, not_read, group_deep, group_stop, group_open, group_read, test_first}
@@ -26,7 +26,7 @@ pub negation-returns-in_err-next-in-Some-sign-clause-fits : goal.negation-return
 negation-returns-in_err-next-in-Some-sign-clause-fits t c =
     exit _ c.from_residual-in_err-next-in-Some-sign.result _ c.from_residual-in_err-next-in-Some-sign.ensures.1
     (told _ _ c.in_err-next-in-Some-sign.ensures.fault
-      (group_deep _ (length-words c.args.cursor.text.now c.args.cursor.tokens.now) c.in_err-next-in-Some-sign.ensures.deep c.in-None.ensures.found c.in-Some-sign.ensures.found))
+    (group_deep _ (length-words c.args.cursor.text.now c.args.cursor.tokens.now) c.in_err-next-in-Some-sign.ensures.deep c.in-None.ensures.found c.in-Some-sign.ensures.found))
 
 pub negation-returns-in_err-inner-in-Some-sign-clause-fits : goal.negation-returns-in_err-inner-in-Some-sign-clause-fits
 negation-returns-in_err-inner-in-Some-sign-clause-fits t c =

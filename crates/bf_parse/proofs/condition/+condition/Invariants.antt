@@ -1,4 +1,4 @@
-use Rattle.std.proofs.Common.{◌≡◌, ◌<◌, ◌+◌, ◌*◌, ℕ, List, length}
+use Rattle.std.proofs.Common.{◌<◌, ◌+◌, ◌*◌}
 use Rattle.bf_parse.specs.Cursors.{IsPlace, left, words}
 use Rattle.bf_parse.specs.Ends.{goes_conjunction, goes_disjunction}
 use Rattle.bf_parse.specs.Conditions.{CountedCond, Conjunction, Negations, Disjunction, Conjunctions}

@@ -1,5 +1,5 @@
 use Rattle.bf_parse.proofs.Moves.{exit}
-use Rattle.bf_parse.proofs.Tests.{column_stop, column_read, value_stop, value_read}
+use Rattle.bf_parse.proofs.Comparisons.{column_stop, column_read, value_stop, value_read}
 use Rattle.bf_parse.proofs.condition.operand.Goals as goal
 
 pub returns-in_err-column-in-Other-clause-fits : goal.returns-in_err-column-in-Other-clause-fits

@@ -1,4 +1,4 @@
-use Rattle.std.proofs.Common.{◌≡◌, ◌+◌, ◌≤◌, ◌<◌, ◌^◌, ℕ, pos, to_z, of_z, w64, arith, rules, sym, ◌∙◌}
+use Rattle.std.proofs.Common.{◌≡◌, ◌<◌, ◌^◌, pos, to_z, of_z, w64, arith, rules}
 use Rattle.std.proofs.lemmas.Int.{to_z_pos, to_z-of_z}
 use Rattle.bf_parse.proofs.Places.{length-words}
 use Rattle.bf_parse.proofs.Literals.{signed_number, signed_widest, signed_negative, signed_alone, signed_text, signed_else}

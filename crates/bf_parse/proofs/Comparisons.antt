@@ -1,6 +1,5 @@
 -- Comparisons and BETWEENs.
-use Rattle.std.proofs.Common.{◌≡◌, ℕ, ◌+◌, ◌<◌, ◌≤◌, Bool, true, false, List, [], ◌∷◌, ◌++◌, length, Option, Some, None, Ok, Err, refl, sym, ap, subst, ◌∙◌, ◌⊎◌, inl, inr}
-use Rattle.std.specs.Prelude.{◌||◌}
+use Rattle.std.proofs.Common.{◌≡◌, ℕ, ◌+◌, ◌<◌, ◌≤◌, Bool, true, false, List, [], ◌∷◌, ◌++◌, length, Some, None, Ok, Err, refl, sym, ap, subst, ◌∙◌, inl, inr}
 use Rattle.std.proofs.lemmas.List.{append-nil}
 use Rattle.bf_base.specs.declared.value.Value.{Value}
 use Rattle.bf_base.specs.declared.value.Value.TheVariants as value
@@ -32,9 +31,9 @@ use Rattle.bf_parse.specs.Comparisons.{IsComparison, is_comparison, Compared, Ra
 use Rattle.bf_parse.proofs.Fitting.{fits_by, after_read, mark_over, stuck_here}
 use Rattle.bf_parse.proofs.Lists.{left_can}
 use Rattle.bf_parse.proofs.Literals.{begins_value, literal_begun, not_value, number_said}
-use Rattle.bf_parse.proofs.Moves.{Can, NotHere, Passed, left_here, right_here, after_go, after_stop, after_can, after_not_here, after_passed, then_can, then_go, then_stop, return_can, return_fits, return_passed, marked_go}
+use Rattle.bf_parse.proofs.Moves.{Can, Passed, left_here, right_here, after_go, after_stop, after_can, after_passed, then_can, then_go, then_stop, return_can, return_fits, return_passed, marked_go}
 use Rattle.bf_parse.proofs.Beginnings.{Begun, other_not_here, not_begun}
-use Rattle.bf_parse.proofs.Chains.{shallow, deep, node_go, node_deep, marked_not_here}
+use Rattle.bf_parse.proofs.Chains.{shallow, deep, node_go, node_deep}
 use Rattle.bf_parse.proofs.Factors.{begins-append, literal_name, whole}
 
 -- ---- operands
