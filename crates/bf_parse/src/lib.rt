@@ -16,6 +16,8 @@ mod migrate;
 mod operand;
 mod part;
 mod query;
+#[cfg(test)]
+mod script_tests;
 mod scripts;
 mod session;
 mod start;
