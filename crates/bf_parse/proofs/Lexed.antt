@@ -137,9 +137,9 @@ front_token : (text before rest : List ℕ) (t : Token) (behind : List ℕ) → 
 front_token text before rest t behind split n =
     let whole : text ≡ before ++ (n.gap ++ (n.bytes ++ behind)) = split ∙ ap (λ (xs : List ℕ). before ++ xs) n.split in
     let bytes : slice_range text t.at t.end ≡ n.bytes =
-        ap (λ (xs : List ℕ). slice_range xs t.at t.end) whole ∙ bytes_at before n.gap n.bytes behind t.at t.end n.begins_at n.ends_at in
+    ap (λ (xs : List ℕ). slice_range xs t.at t.end) whole ∙ bytes_at before n.gap n.bytes behind t.at t.end n.begins_at n.ends_at in
     let size : length text ≡ length before + (length n.gap + (length n.bytes + length behind)) =
-        ap length whole ∙ length-append before (n.gap ++ (n.bytes ++ behind)) ∙ ap (λ (k : ℕ). length before + k) (length-append n.gap (n.bytes ++ behind) ∙ ap (λ (k : ℕ). length n.gap + k) (length-append n.bytes behind)) in
+    ap length whole ∙ length-append before (n.gap ++ (n.bytes ++ behind)) ∙ ap (λ (k : ℕ). length before + k) (length-append n.gap (n.bytes ++ behind) ∙ ap (λ (k : ℕ). length n.gap + k) (length-append n.bytes behind)) in
     let begins = n.begins_at in
     let ends = n.ends_at in record {
       begins_inside = omega arith;

@@ -5,11 +5,13 @@ pub mod Ends
 pub mod Expressions
 pub mod Faults
 pub mod Leads
+pub mod MigrationEnds
 pub mod Migrations
 pub mod Outcome
 pub mod Pieces
 pub mod Reading
 pub mod Rules
+pub mod ScriptParts
 pub mod Scripts
 pub mod Starts
 pub mod StatementEnds

@@ -1,0 +1,17 @@
+use Rattle.std.proofs.Common.{◌≡◌, ◌<◌, ℕ, suc, List, length}
+use Rattle.bf_expr.specs.declared.raw.Ref.{Ref}
+use Rattle.bf_parse.specs.Cursors.{IsPlace, left, words}
+use Rattle.bf_parse.specs.MigrationEnds.{EqualitiesRule, goes_equalities}
+use Rattle.bf_parse.specs.Migrations.{Equalities}
+use Rattle.bf_parse.specs.Reading.{Reading, Fits}
+use Rattle.bf_parse.proofs.arm.equalities.Given as goal
+
+abbrev pub invariant-equalities : goal.invariant-equalities
+invariant-equalities l = record {
+  place : IsPlace l.rest;
+  shorter : left l.rest < left l.fn.cursor;
+  fits : (r : Reading (List (Ref × Ref))) → Fits goes_equalities (Equalities (suc (length l.found.items)) l.found.items) (words l.rest) r → Fits goes_equalities EqualitiesRule (words l.fn.cursor) r;
+}
+
+abbrev pub decreases-equalities : goal.decreases-equalities
+decreases-equalities l = left l.rest

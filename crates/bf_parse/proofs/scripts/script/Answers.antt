@@ -1,0 +1,47 @@
+use Rattle.std.proofs.Common.{◌≡◌, ℕ, ◌<◌, ◌≤◌, ◌^◌, List, Ok, Err, length, inl, inr, refl, sym, ap, subst, ◌∙◌, arith}
+use Rattle.bf_lex.specs.declared.token.Token.{Token}
+use Rattle.bf_lex.specs.Lexing.{IsLexed}
+use Rattle.bf_parse.specs.Tokens.{AreTokens}
+use Rattle.bf_parse.specs.Scripts.{longest_script}
+use Rattle.bf_parse.proofs.Lexed.{few_tokens, lexed_tokens}
+use Rattle.bf_parse.proofs.ScriptTexts.{is_fault, is_long, is_over, is_script, is_stuck, no_script}
+use Rattle.bf_parse.proofs.scripts.script.Goals as goal
+
+pub whole-requires-clause-place : goal.whole-requires-clause-place
+whole-requires-clause-place c = subst (λ (ts : List Token). AreTokens c.args.text.now ts) (sym c.as_slice-tokens.ensures.value) (lexed_tokens c.args.text.now c.in_ok-found.found.items c.in_ok-found.ensures.ok)
+
+pub whole-requires-clause-few : goal.whole-requires-clause-few
+whole-requires-clause-few c = omega (arith, few_tokens c.args.text.now c.in_ok-found.found.items c.in_ok-found.ensures.ok, c.if-text.false, ap length c.as_slice-tokens.ensures.value)
+
+pub returns-in_err-found : goal.returns-in_err-found
+returns-in_err-found c = record {
+  read = no_script _ c.from_residual.result c.from_residual.ensures.0;
+  fault = λ fault e.
+      inr (omega (arith, c.if-text.false), inl (c.in_err-found.ensures.fault fault (ap (λ x. Err x) (is_fault c.from_residual.result c.in_err-found.field-0.0 fault c.from_residual.ensures.1 e))));
+}
+
+pub returns-then-text : goal.returns-then-text
+returns-then-text c = record { read = tt; fault = λ fault e. is_long c.args.text.now fault (omega (arith, c.if-text.true)) e }
+
+pub returns-in-Ok : goal.returns-in-Ok
+returns-in-Ok c =
+    let lexed : IsLexed c.args.text.now (Ok c.as_slice-tokens.result.now) = subst (λ (ts : List Token). IsLexed c.args.text.now (Ok ts)) (sym c.as_slice-tokens.ensures.value) c.in_ok-found.ensures.ok in record {
+      read = is_script c.args.text.now c.as_slice-tokens.result.now c.in-Ok.script (omega (arith, c.if-text.false)) lexed c.in-Ok.ensures;
+      fault = λ fault e. absurd cc;
+    }
+
+pub returns-in-Err-Syntax : goal.returns-in-Err-Syntax
+returns-in-Err-Syntax c =
+    let lexed : IsLexed c.args.text.now (Ok c.as_slice-tokens.result.now) = subst (λ (ts : List Token). IsLexed c.args.text.now (Ok ts)) (sym c.as_slice-tokens.ensures.value) c.in_ok-found.ensures.ok in record {
+      read = tt;
+      fault = λ fault e.
+          is_stuck c.args.text.now c.as_slice-tokens.result.now c.in-Err-Syntax.left c.place.result fault (omega (arith, c.if-text.false)) lexed c.place.ensures (rw c.in-Err-Syntax.field-0-is at c.in-Err-Syntax.ensures) e;
+    }
+
+pub returns-in-Err-Limit : goal.returns-in-Err-Limit
+returns-in-Err-Limit c =
+    let lexed : IsLexed c.args.text.now (Ok c.as_slice-tokens.result.now) = subst (λ (ts : List Token). IsLexed c.args.text.now (Ok ts)) (sym c.as_slice-tokens.ensures.value) c.in_ok-found.ensures.ok in record {
+      read = tt;
+      fault = λ fault e.
+          is_over c.args.text.now c.as_slice-tokens.result.now c.in-Err-Limit.kind c.in-Err-Limit.left c.place-in-Err-Limit.result fault (omega (arith, c.if-text.false)) lexed c.place-in-Err-Limit.ensures (rw c.in-Err-Limit.field-0-is at c.in-Err-Limit.ensures) e;
+    }

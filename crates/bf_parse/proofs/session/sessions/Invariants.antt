@@ -1,0 +1,17 @@
+use Rattle.std.proofs.Common.{◌≡◌, ◌≤◌, ℕ, List, length}
+use Rattle.bf_parse.specs.Cursors.{IsPlace, left, words}
+use Rattle.bf_parse.specs.Reading.{Reading, Fits}
+use Rattle.bf_parse.specs.ScriptParts.{goes_sessions, progress_of}
+use Rattle.bf_parse.specs.Scripts.{Progress, Sessions}
+use Rattle.bf_parse.proofs.session.sessions.Given as goal
+
+abbrev pub invariant-sessions : goal.invariant-sessions
+invariant-sessions l = record {
+  place : IsPlace l.rest;
+  shorter : left l.rest ≤ left l.fn.cursor;
+  phases : l.so_far.phases ≡ l.fn.before.phases;
+  fits : (r : Reading Progress) → Fits goes_sessions (Sessions (progress_of l.so_far)) (words l.rest) r → Fits goes_sessions (Sessions (progress_of l.fn.before)) (words l.fn.cursor) r;
+}
+
+abbrev pub decreases-sessions : goal.decreases-sessions
+decreases-sessions l = left l.rest

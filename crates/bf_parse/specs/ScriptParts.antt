@@ -1,0 +1,58 @@
+-- With what the parts of a script begin, and what private functions promise of them.
+use Rattle.std.specs.Prelude.{◌≡◌, ℕ, ◌+◌, Bool, true, false, ◌||◌, List}
+use Rattle.bf_lex.specs.declared.keyword.Keyword.TheVariants as keyword
+use Rattle.bf_sql.specs.declared.statement.Statement.{Statement}
+use Rattle.bf_sql.specs.declared.statement.Statement.TheVariants.{Migrate}
+use Rattle.bf_sql.specs.declared.script.Script.{Script}
+use Rattle.bf_parse.specs.declared.session.SoFar.{SoFar}
+use Rattle.bf_parse.specs.Words.{Word, Keyword}
+use Rattle.bf_parse.specs.Steps.{Migration}
+use Rattle.bf_parse.specs.Rules.{Rule, Return, Marked, Either, Then}
+use Rattle.bf_parse.specs.Statements.{OrdinaryRule}
+use Rattle.bf_parse.specs.Migrations.{MigrateRule}
+use Rattle.bf_parse.specs.Scripts.{Progress}
+
+abbrev pub begins_ordinary : Word → Bool
+begins_ordinary (Keyword keyword.Create) = true
+begins_ordinary (Keyword keyword.Insert) = true
+begins_ordinary (Keyword keyword.Select) = true
+begins_ordinary (Keyword keyword.Update) = true
+begins_ordinary (Keyword keyword.Delete) = true
+begins_ordinary (Keyword keyword.Begin) = true
+begins_ordinary (Keyword keyword.Commit) = true
+begins_ordinary (Keyword keyword.Rollback) = true
+begins_ordinary other = false
+
+abbrev pub begins_migrate : Word → Bool
+begins_migrate (Keyword keyword.Migrate) = true
+begins_migrate other = false
+
+abbrev pub begins_session : Word → Bool
+begins_session (Keyword keyword.Session) = true
+begins_session other = false
+
+abbrev pub begins_phase : Word → Bool
+begins_phase (Keyword keyword.Phase) = true
+begins_phase other = false
+
+abbrev pub begins_statement : Word → Bool
+begins_statement word = begins_ordinary word || begins_migrate word
+
+-- sessions and phases go on
+abbrev pub goes_sessions : Word → Bool
+goes_sessions word = begins_statement word || begins_session word
+
+abbrev pub goes_phases : Word → Bool
+goes_phases word = goes_sessions word || begins_phase word
+
+-- a statement, and how many MIGRATEs have come with it; `m` came before
+abbrev pub StatementRule : ℕ → Rule (Statement × ℕ)
+StatementRule m = Either (Then OrdinaryRule (λ s. Return (s, m))) (Marked (Migration (m + 1)) (Then MigrateRule (λ t. Return (Migrate t, m + 1))))
+
+-- how far a script has come, by what the code keeps
+abbrev pub progress_of : SoFar → Progress
+progress_of s = record { phases = s.phases; sessions = s.sessions.items; of_phase = s.of_phase; migrations = s.migrations }
+
+-- the script that phases make
+abbrev pub script_of : Progress → Script
+script_of p = record { phases = p.phases; sessions = p.sessions }

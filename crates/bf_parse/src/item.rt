@@ -1,0 +1,100 @@
+//! The items of a MIGRATE.
+
+ghost use Rattle.std.specs.Prelude.{◌≡◌, ◌<◌, ◌≤◌, IfErr, IfOk};
+ghost use Rattle.bf_parse.specs.declared.error.Stop.TheVariants.{Memory as OutOfMemory};
+ghost use Rattle.bf_parse.specs.Cursors.{IsPlace, left, words};
+ghost use Rattle.bf_parse.specs.Ends.{begins};
+ghost use Rattle.bf_parse.specs.MigrationEnds.{IsBare, ItemEnd, begins_item, goes_item, is_as};
+ghost use Rattle.bf_parse.specs.Migrations.{ItemRule};
+ghost use Rattle.bf_parse.specs.Outcome.{outcome};
+ghost use Rattle.bf_parse.specs.Reading.{Fits, Read};
+
+use crate::cursor::Cursor;
+use crate::error::Stop;
+use crate::expression::sum;
+use crate::list::Part;
+use crate::query::aggregate;
+use bf_expr::{RawExpr, RawNode, Ref};
+use bf_lex::Keyword;
+use bf_sql::Item;
+use std::alloc::Global;
+
+/// The column that an expression is, if it is nothing else and no parenthesis stood around it.
+fn bare(alloc: Global, expr: &RawExpr, count: usize) -> Result<Option<Ref>, Stop>
+    ensures memory { IfErr result (λ e. e ≡ OutOfMemory) }
+    ensures found { IfOk result (λ found. IsBare (expr.now, count) found) }
+{
+    if count > 0 {
+        return Ok(None);
+    }
+    match expr.node() {
+        RawNode::Column(column) => Ok(Some(column.copy(alloc)?)),
+        _ => Ok(None),
+    }
+}
+
+/// The item that an expression is with what stands behind it, and the place behind that.
+fn behind<'a>(
+    alloc: Global,
+    expr: RawExpr,
+    count: usize,
+    cursor: Cursor<'a>,
+) -> Result<(Item, Cursor<'a>), Stop>
+    requires { IsPlace cursor }
+    ensures fits { Fits is_as (ItemEnd (expr, count)) (words cursor.entry) (outcome (λ x. Read x.0 (words x.1)) result) }
+    ensures place { IfOk result (λ x. IsPlace x.1) }
+    ensures shorter { IfOk result (λ x. left x.1 ≤ left cursor.entry) }
+{
+    match cursor.keyword(Keyword::As) {
+        Some(rest) => {
+            let (name, rest) = rest.name(alloc)?;
+            Ok((Item::Named(expr, name), rest))
+        }
+        None => match bare(alloc, &expr, count)? {
+            Some(column) => Ok((Item::Column(column), cursor)),
+            None => Err(Stop::Syntax(cursor.tokens.len())),
+        },
+    }
+}
+
+/// The item at a place, and the place behind it.
+fn item<'a>(alloc: Global, cursor: Cursor<'a>) -> Result<(Item, Cursor<'a>), Stop>
+    requires { IsPlace cursor }
+    ensures fits { Fits goes_item ItemRule (words cursor.entry) (outcome (λ x. Read x.0 (words x.1)) result) }
+    ensures place { IfOk result (λ x. IsPlace x.1) }
+    ensures shorter { IfOk result (λ x. left x.1 < left cursor.entry) }
+{
+    if cursor.begins_aggregate() {
+        let (total, rest) = aggregate(alloc, cursor)?;
+        let rest = rest.expect_keyword(Keyword::As)?;
+        let (name, rest) = rest.name(alloc)?;
+        Ok((Item::Total(total, name), rest))
+    } else {
+        let (expr, count, rest) = sum(alloc, cursor, 0)?;
+        behind(alloc, expr, count, rest)
+    }
+}
+
+/// Whether an item begins at a place.
+fn begins(cursor: Cursor<'_>) -> bool
+    requires { IsPlace cursor }
+    ensures { result ≡ begins begins_item (words cursor.entry) }
+{
+    cursor.begins_expression() || cursor.begins_aggregate()
+}
+
+impl Part for Item {
+    ghost rule = { ItemRule };
+
+    ghost goes_on = { goes_item };
+
+    ghost begun = { begins_item };
+
+    fn begins_at(cursor: Cursor<'_>) -> bool {
+        begins(cursor)
+    }
+
+    fn read<'a>(alloc: Global, cursor: Cursor<'a>) -> Result<(Item, Cursor<'a>), Stop> {
+        item(alloc, cursor)
+    }
+}
