@@ -155,6 +155,13 @@ impl RawExpr {
         &self.node
     }
 
+    /// Its topmost node, taken out. Takes no memory.
+    pub fn into_node(self) -> RawNode
+        ensures { raw_tree result ≡ self }
+    {
+        self.node
+    }
+
     /// An equal expression, in time linear in its nodes.
     pub fn copy(&self, alloc: Global) -> Result<RawExpr, Memory>
         ensures { IfOk result (λ copy. copy ≡ self.now) }

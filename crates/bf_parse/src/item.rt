@@ -1,7 +1,6 @@
 //! The items of a MIGRATE.
 
-ghost use Rattle.std.specs.Prelude.{◌≡◌, ◌<◌, ◌≤◌, IfErr, IfOk};
-ghost use Rattle.bf_parse.specs.declared.error.Stop.TheVariants.{Memory as OutOfMemory};
+ghost use Rattle.std.specs.Prelude.{◌≡◌, ◌<◌, ◌≤◌, IfOk};
 ghost use Rattle.bf_parse.specs.Cursors.{IsPlace, left, words};
 ghost use Rattle.bf_parse.specs.Ends.{begins};
 ghost use Rattle.bf_parse.specs.MigrationEnds.{IsBare, ItemEnd, begins_item, goes_item, is_as};
@@ -20,16 +19,15 @@ use bf_sql::Item;
 use std::alloc::Global;
 
 /// The column that an expression is, if it is nothing else and no parenthesis stood around it.
-fn bare(alloc: Global, expr: &RawExpr, count: usize) -> Result<Option<Ref>, Stop>
-    ensures memory { IfErr result (λ e. e ≡ OutOfMemory) }
-    ensures found { IfOk result (λ found. IsBare (expr.now, count) found) }
+fn bare(expr: RawExpr, count: usize) -> Option<Ref>
+    ensures { IsBare (expr, count) result }
 {
     if count > 0 {
-        return Ok(None);
+        return None;
     }
-    match expr.node() {
-        RawNode::Column(column) => Ok(Some(column.copy(alloc)?)),
-        _ => Ok(None),
+    match expr.into_node() {
+        RawNode::Column(column) => Some(column),
+        _ => None,
     }
 }
 
@@ -50,7 +48,7 @@ fn behind<'a>(
             let (name, rest) = rest.name(alloc)?;
             Ok((Item::Named(expr, name), rest))
         }
-        None => match bare(alloc, &expr, count)? {
+        None => match bare(expr, count) {
             Some(column) => Ok((Item::Column(column), cursor)),
             None => Err(Stop::Syntax(cursor.tokens.len())),
         },

@@ -12,10 +12,10 @@ returns-in_err-name-in-Some-clause-fits c = exit _ c.from_residual.result _ c.fr
 pub returns-in-Some-clause-fits : goal.returns-in-Some-clause-fits
 returns-in-Some-clause-fits c = end_named c.in-Some.ensures.found c.in_ok-name-in-Some.ensures.found
 
-pub returns-in-Some-2-clause-fits : goal.returns-in-Some-2-clause-fits
-returns-in-Some-2-clause-fits c = end_bare c.in-None.ensures.found (subst (λ (z : Option Ref). IsBare (c.args.expr, c.args.count) z) c.in-Some-2.is c.in_ok-column-in-None.ensures.found)
+pub returns-in-Some-bare-clause-fits : goal.returns-in-Some-bare-clause-fits
+returns-in-Some-bare-clause-fits c = end_bare c.in-None.ensures.found (subst (λ (z : Option Ref). IsBare (c.args.expr, c.args.count) z) c.in-Some-bare.is c.bare.ensures)
 
 pub returns-clause-fits : goal.returns-clause-fits
 returns-clause-fits c =
     end_stuck _ (length-words c.args.cursor.text.now c.args.cursor.tokens.now) c.in-None.ensures.found
-    (subst (λ (z : Option Ref). IsBare (c.args.expr, c.args.count) z) c.in-None-2.is c.in_ok-column-in-None.ensures.found)
+    (subst (λ (z : Option Ref). IsBare (c.args.expr, c.args.count) z) c.in-None-bare.is c.bare.ensures)
