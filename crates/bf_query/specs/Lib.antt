@@ -1,2 +1,4 @@
 pub mod Actions
+pub mod Changes
 pub mod Merged
+pub mod Stops
