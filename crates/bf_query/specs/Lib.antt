@@ -1,2 +1,5 @@
 pub mod Actions
 pub mod Merged
+pub mod Standings
+pub mod Stops
+pub mod Sums
