@@ -4,7 +4,9 @@ ghost use Rattle.std.specs.Prelude.{◌≡◌, [], map, flat_map, IfOk, OnOk};
 ghost use Rattle.std.specs.List.{All};
 ghost use Rattle.bf_base.specs.Tables.{cell};
 ghost use Rattle.bf_expr.specs.Evaluation.{sure_value, value_of};
-ghost use Rattle.bf_sql.specs.RowObjections.{value_objections};
+ghost use Rattle.bf_sql.specs.RowObjections.{answer_objections, value_objections};
+ghost use Rattle.bf_sql.specs.Totals.{total_of};
+ghost use Rattle.bf_sql.specs.declared.items.Items.TheVariants.{Aggregates};
 ghost use Rattle.bf_query.specs.Standings.{IsCountable, advanced, end_objections, row_objections, standing, standing_after, total_cell};
 ghost use Rattle.bf_query.specs.Stops.{Objects};
 
@@ -78,8 +80,8 @@ impl<'a> Running<'a> {
     /// The total of all rows.
     fn finish(self) -> Result<Cell, Stop>
         requires { IsCountable (standing self) }
-        ensures objections { Objects result (end_objections (standing self)) }
-        ensures cell { IfOk result (λ cell. cell ≡ total_cell (standing self)) }
+        ensures objections { Objects result (end_objections (standing self.entry)) }
+        ensures cell { IfOk result (λ cell. cell ≡ total_cell (standing self.entry)) }
     {
         match self {
             Running::Count(rows) => Ok(Cell::Value(Value::Int(rows as i64))),
@@ -91,4 +93,53 @@ impl<'a> Running<'a> {
             Running::Least(_, value) | Running::Greatest(_, value) => Ok(value.map_or(Cell::Null, Cell::Value)),
         }
     }
+}
+
+/// The totals of no rows.
+fn started<'a>(alloc: Global, totals: &'a [Aggregate]) -> Result<Vec<Running<'a>>, Memory>
+    ensures { IfOk result (λ running. map standing running.items ≡ map (standing_after []) totals.now) }
+{
+    let mut running = Vec::with_capacity(alloc, totals.len())?;
+    for total in totals {
+        running.push(Running::new(total))?;
+    }
+    Ok(running)
+}
+
+/// Takes a row into each total, the first one first.
+fn advance_all(alloc: Global, running: &mut [Running<'_>], row: &Row) -> Result<(), Stop>
+    requires { All IsCountable (map standing running.old) }
+    ensures objections { Objects result (flat_map (row_objections row.now) (map standing running.old)) }
+    ensures totals { OnOk result (map standing running.new ≡ map (advanced row.now) (map standing running.old)) }
+{
+    for total in running.iter_mut() {
+        total.advance(alloc, row)?;
+    }
+    Ok(())
+}
+
+/// Ends each total, the first one first.
+fn finished(alloc: Global, running: Vec<Running<'_>>) -> Result<Sequence<Cell>, Stop>
+    requires { All IsCountable (map standing running.items) }
+    ensures objections { Objects result (flat_map end_objections (map standing running.entry.items)) }
+    ensures cells { IfOk result (λ cells. cells ≡ map total_cell (map standing running.entry.items)) }
+{
+    let mut cells = Vec::with_capacity(alloc, running.len())?;
+    for total in running {
+        cells.push(total.finish()?)?;
+    }
+    Ok(Sequence::of(cells))
+}
+
+/// The totals of some rows: the arguments are computed row by row, and the sums are judged at
+/// the end.
+pub fn totals(alloc: Global, totals: &[Aggregate], rows: &[&Row]) -> Result<Sequence<Cell>, Stop>
+    ensures objections { Objects result (answer_objections cell (Aggregates totals.now) (map (λ row. row.now) rows.now)) }
+    ensures cells { IfOk result (λ cells. cells ≡ map (total_of cell (map (λ row. row.now) rows.now)) totals.now) }
+{
+    let mut running = started(alloc, totals)?;
+    for row in rows {
+        advance_all(alloc, &mut running, row)?;
+    }
+    finished(alloc, running)
 }
