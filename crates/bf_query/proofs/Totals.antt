@@ -1,7 +1,7 @@
 -- Totals row by row are the totals of all rows.
-use Rattle.std.proofs.Common.{◌≡◌, refl, ℕ, ◌+◌, ◌<◌, ◌^◌, ℤ, pos, ◌+ℤ◌, List, [], ◌∷◌, ◌++◌, map, fold, length, zero, suc, arith, subst, sym, Some}
+use Rattle.std.proofs.Common.{◌≡◌, refl, ℕ, ◌+◌, ◌<◌, ◌^◌, ℤ, pos, ◌+ℤ◌, List, [], ◌∷◌, ◌++◌, map, fold, length, zero, suc, arith, subst, sym, ap, ◌∙◌, get_or, take, Some}
 use Rattle.std.specs.List.{reduce, flat_map, All}
-use Rattle.std.proofs.lemmas.List.{length_push, map_push}
+use Rattle.std.proofs.lemmas.List.{length_push, map_push, map_more}
 use Rattle.std.proofs.lemmas.List.Folds.{flat_map-map}
 use Rattle.bf_base.specs.declared.value.Value.{Value}
 use Rattle.bf_base.specs.Tables.{cell}
@@ -52,7 +52,7 @@ total_cell-standing_after (row ∷ rows) (Sum e) = refl
 total_cell-standing_after rows (Min e) = refl
 total_cell-standing_after rows (Max e) = refl
 
-standing_after-IsCountable : (rows : List (List Value)) → length rows + 1 < 2 ^ 64 → (t : Aggregate (Expr (ℕ))) → IsCountable (standing_after rows t)
+standing_after-IsCountable : (rows : List (List Value)) → length rows < 2 ^ 63 → (t : Aggregate (Expr (ℕ))) → IsCountable (standing_after rows t)
 standing_after-IsCountable rows few Count = few
 standing_after-IsCountable rows few (Sum e) = few
 standing_after-IsCountable rows few (Min e) = tt
@@ -74,7 +74,7 @@ All-of_map P f each (x ∷ xs) (suc k) d lt = All-of_map P f each xs k d (omega 
 
 -- totals of which some rows are known
 module _ (rows : List (List Value)) (totals : List (Aggregate (Expr (ℕ)))) (standings : List Standing) (are : standings ≡ map (standing_after rows) totals) where
-  pub all_countable : length rows + 1 < 2 ^ 64 → All IsCountable standings
+  pub all_countable : length rows < 2 ^ 63 → All IsCountable standings
   all_countable few = subst (λ (ss : List Standing). All IsCountable ss) (sym are) (All-of_map IsCountable (standing_after rows) (standing_after-IsCountable rows few) totals)
 
   pub all_advanced : (row : List Value) → map (advanced row) standings ≡ map (standing_after (rows ++ row ∷ [])) totals
@@ -88,3 +88,11 @@ module _ (rows : List (List Value)) (totals : List (Aggregate (Expr (ℕ)))) (st
 
   pub all_cells : map total_cell standings ≡ map (total_of cell rows) totals
   all_cells = rw (are, map_map total_cell (standing_after rows) totals) (map-same _ _ (total_cell-standing_after rows) totals)
+
+-- totals after one more row, which v reads of an item
+pub next_after : {X : Type 0} (v : X → List Value) (xs : List X) (i : ℕ) (x : X) → i < length xs → x ≡ get_or xs i x → (totals : List (Aggregate (Expr (ℕ)))) (before after : List Standing) →
+    before ≡ map (standing_after (map v (take i xs))) totals → after ≡ map (advanced (v x)) before → after ≡ map (standing_after (map v (take (i + 1) xs))) totals
+next_after v xs i x lt is totals before after are next =
+    let sofar = map v (take i xs) in
+    let more : map v (take (i + 1) xs) ≡ sofar ++ v x ∷ [] = map_more v xs i x lt ∙ ap (λ y. sofar ++ v y ∷ []) (sym is) in
+    rw more (next ∙ all_advanced sofar totals before are (v x))

@@ -70,9 +70,9 @@ total_cell (summed e sum (suc n)) = cells.Value (Int sum)
 total_cell (least e v) = or_null v
 total_cell (greatest e v) = or_null v
 
--- one more row can be counted
+-- fewer rows than an INT can count
 abbrev pub IsCountable : Standing → Type 0
-IsCountable (counted n) = n + 1 < 2 ^ 64
-IsCountable (summed e sum n) = n + 1 < 2 ^ 64
+IsCountable (counted n) = n < 2 ^ 63
+IsCountable (summed e sum n) = n < 2 ^ 63
 IsCountable (least e v) = Unit {0}
 IsCountable (greatest e v) = Unit {0}

@@ -79,15 +79,12 @@ impl<'a> Running<'a> {
 
     /// The total of all rows.
     fn finish(self) -> Result<Cell, Stop>
+        requires { IsCountable (standing self) }
         ensures objections { Objects result (end_objections (standing self.entry)) }
         ensures cell { IfOk result (λ cell. cell ≡ total_cell (standing self.entry)) }
     {
         match self {
-            Running::Count(rows) => match i64::try_from(rows) {
-                Ok(number) => Ok(Cell::Value(Value::Int(number))),
-                // No memory holds so many rows.
-                Err(_) => Err(Stop::Memory),
-            },
+            Running::Count(rows) => Ok(Cell::Value(Value::Int(rows as i64))),
             Running::Sum(_, sum) => match i64::try_from(sum.sum) {
                 Ok(_) if sum.count == 0 => Ok(Cell::Null),
                 Ok(number) => Ok(Cell::Value(Value::Int(number))),
@@ -123,6 +120,7 @@ fn advance_all(alloc: Global, running: &mut [Running<'_>], row: &Row) -> Result<
 
 /// Ends each total, the first one first.
 fn finished(alloc: Global, running: Vec<Running<'_>>) -> Result<Sequence<Cell>, Stop>
+    requires { All IsCountable (map standing running.items) }
     ensures objections { Objects result (flat_map end_objections (map standing running.entry.items)) }
     ensures cells { IfOk result (λ cells. cells ≡ map total_cell (map standing running.entry.items)) }
 {

@@ -8,14 +8,14 @@ pub advance-requires : goal.advance-requires
 advance-requires c =
     let z = standing c.total-item.result in
     let lt : c.loop-total.total-index < length (map standing c.args.running.now) = simp length-map (omega arith) in
-    let here = next_left standing c.loop-total.running c.args.running.now c.loop-total.total-index c.total-item.result c.loop-total-test.true c.loop-total.invariant.left z in
+    let here = next_left standing c.loop-total.running c.args.running.now c.loop-total.total-index c.total-item.result (omega arith) c.loop-total.invariant.left z in
     subst (λ (s : Standing). IsCountable s) (sym here) (c.requires c.loop-total.total-index z lt)
 
 pub returns-in_err-advance-clause-objections : goal.returns-in_err-advance-clause-objections
 returns-in_err-advance-clause-objections c =
     let x = standing (get_or c.loop-total.running c.loop-total.total-index c.total-item.result) in
     let lt : c.loop-total.total-index < length (map standing c.args.running.now) = simp length-map (omega arith) in
-    let here = next_left standing c.loop-total.running c.args.running.now c.loop-total.total-index c.total-item.result c.loop-total-test.true c.loop-total.invariant.left x in
+    let here = next_left standing c.loop-total.running c.args.running.now c.loop-total.total-index c.total-item.result (omega arith) c.loop-total.invariant.left x in
     passes_on _ _ _ (c.from_residual.ensures.1)
     (stops (map standing c.args.running.now) c.loop-total.total-index x lt here (row_objections c.args.row.now) _ c.loop-total.invariant.none c.in_err-advance.ensures.objections)
 
@@ -23,8 +23,8 @@ pub loop-total-preserved : goal.loop-total-preserved
 loop-total-preserved c =
     let x = standing (get_or c.loop-total.running c.loop-total.total-index c.total-item.result) in
     let lt : c.loop-total.total-index < length (map standing c.args.running.now) = simp length-map (omega arith) in
-    let lt_now : c.loop-total.total-index < length (map standing c.loop-total.running) = simp length-map c.loop-total-test.true in
-    let here = next_left standing c.loop-total.running c.args.running.now c.loop-total.total-index c.total-item.result c.loop-total-test.true c.loop-total.invariant.left x in
+    let lt_now : c.loop-total.total-index < length (map standing c.loop-total.running) = simp length-map (omega arith) in
+    let here = next_left standing c.loop-total.running c.args.running.now c.loop-total.total-index c.total-item.result (omega arith) c.loop-total.invariant.left x in
     record {
       taken =
           rw (map-set standing c.loop-total.running c.loop-total.total-index c.advance.new.self)
