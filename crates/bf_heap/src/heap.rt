@@ -4,7 +4,7 @@ ghost use Rattle.std.specs.Prelude.{◌≡◌, ◌+◌, ◌<◌, ◌≤◌, ◌�
 ghost use Rattle.std.specs.List.Sorted.{IsBinarySearchResult, IsSearchInRange};
 ghost use Rattle.std.specs.Option.{option_map};
 ghost use Rattle.bf_base.specs.Values.{key_cmp};
-ghost use Rattle.bf_heap.specs.Heaps.{empty_heap, row_under, has_row, with_row, without_row, spare_after};
+ghost use Rattle.bf_heap.specs.Heaps.{empty_heap, IsHeap, row_under, has_row, with_row, without_row, spare_after};
 
 use bf_base::{Key, Memory, Row};
 use std::alloc::Global;
@@ -95,7 +95,8 @@ impl Heap {
 
     /// The number of rows. Takes no memory.
     pub fn len(&self) -> u32
-        ensures { result ≡ length self.now.entries }
+        ensures count { result ≡ length self.now.entries }
+        ensures heap { IsHeap self.now }
     {
         self.entries.len() as u32
     }

@@ -29,6 +29,10 @@ table_of (action.Update table sets cond fixed) = Some table
 table_of (action.Delete table cond fixed) = Some table
 table_of other = None
 
+abbrev pub IsSelect : Action → Type 0
+IsSelect (action.Select table items cond fixed) = Unit {0}
+IsSelect other = ⊥
+
 -- what the rows have against an action, in order
 abbrev pub objections_on : List (List Value) → Action → List Refusal
 objections_on rows (action.Insert table tuples) = insert_objections table rows tuples

@@ -1,12 +1,14 @@
 -- The rows of a table as a transaction sees them: those of the heap, under what it has written.
-use Rattle.std.specs.Prelude.{◌≡◌, ℕ, Bool, List, map, filter, fold, Option, Some, None}
+use Rattle.std.specs.Prelude.{◌≡◌, ℕ, ◌+◌, ◌-◌, List, [], ◌∷◌, map, fold, drop, length, Option, Some, None, IsTrue}
 use Rattle.std.specs.List.{All}
 use Rattle.bf_base.specs.declared.value.Value.{Value}
 use Rattle.bf_base.specs.declared.table.Table.{Table}
-use Rattle.bf_base.specs.Lists.{same_name}
+use Rattle.bf_base.specs.Lists.{rises}
 use Rattle.bf_base.specs.Tables.{key_of, IsKeyWithin}
+use Rattle.bf_base.specs.Values.{key_cmp}
 use Rattle.bf_heap.specs.Heaps.{Entry, with_row, without_row}
 use Rattle.bf_txn.specs.declared.write.Write.{Write}
+use Rattle.bf_txn.specs.Writes.{writes_to}
 
 -- the entries after a write
 abbrev pub changed_by : Option (List Value) → List Value → List Entry → List Entry
@@ -15,10 +17,6 @@ changed_by None key entries = without_row entries key
 
 abbrev pub applied : List Entry → Write → List Entry
 applied entries write = changed_by write.row write.key entries
-
--- the writes to the table of a name
-abbrev pub writes_to : List ℕ → List Write → List Write
-writes_to table writes = filter (λ write. same_name write.table table) writes
 
 -- the entries of the heap with the writes to a table applied
 abbrev pub entries_under : List Entry → List Write → List ℕ → List Entry
@@ -39,3 +37,21 @@ WritesOwnKey table write = (row : List Value) → write.table ≡ table.name →
 pub record StandUnderOwnKeys (table : Table) (entries : List Entry) (writes : List Write) : Type 0 where
   pub heap : All (λ entry. HasOwnKey table entry.0 entry.1) entries
   pub workspace : All (WritesOwnKey table) writes
+
+-- the writes to one table come in the order of their keys, each once
+abbrev pub AreByKey : List Write → Type 0
+AreByKey writes = IsTrue (rises key_cmp (map (λ write. write.key) writes))
+
+-- what a pass over entries and writes has before it: the rows of the entries from a position on, under the writes
+abbrev pub rows_ahead : List Entry → ℕ → List Write → List (List Value)
+rows_ahead entries position writes = map (λ entry. entry.1) (fold applied (drop position entries) writes)
+
+-- the entries and writes that it has before it
+abbrev pub steps_ahead : List Entry → ℕ → List Write → ℕ
+steps_ahead entries position writes = (length entries - position) + length writes
+
+-- the rows of a step, which gives a row or none, before those behind it; nothing is behind the last step
+abbrev pub rows_stepped : Option (Option (List Value)) → List (List Value) → List (List Value)
+rows_stepped None behind = []
+rows_stepped (Some None) behind = behind
+rows_stepped (Some (Some row)) behind = row ∷ behind

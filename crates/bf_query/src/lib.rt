@@ -2,6 +2,10 @@
 #![tactic(auto)]
 
 pub mod answer;
+pub mod merge;
 mod running;
+pub mod select;
 pub mod stop;
 mod sum;
+
+pub use select::select;

@@ -11,7 +11,7 @@ use Rattle.bf_base.proofs.Maps.{IsGap, entry_at-found, entry_at-gap, with_entry-
 use Rattle.bf_txn.specs.declared.write.Write.{Write}
 use Rattle.bf_txn.specs.Writes.{Spot, spot_cmp, spot_of, written_at, with_write, AreWrites}
 
-spot_cmp_total : IsTotalOrder spot_cmp
+pub spot_cmp_total : IsTotalOrder spot_cmp
 spot_cmp_total = then_total (on_total (λ (spot : Spot). spot.0) name_cmp_total) (on_total (λ (spot : Spot). spot.1) key_cmp_total)
 
 -- writes with one more are sorted

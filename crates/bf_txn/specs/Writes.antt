@@ -1,11 +1,11 @@
 -- The writes of a transaction: for each key of a table that it has written, the last row or the removal.
-use Rattle.std.specs.Prelude.{ℕ, List, Option, IsTrue}
+use Rattle.std.specs.Prelude.{ℕ, List, filter, Option, IsTrue}
 use Rattle.std.specs.Option.{option_map}
 use Rattle.std.specs.declared.cmp.Ordering.{Ordering}
 use Rattle.std.specs.Ordering.{ordering_then}
 use Rattle.bf_base.specs.declared.value.Value.{Value}
 use Rattle.bf_base.specs.Values.{key_cmp}
-use Rattle.bf_base.specs.Lists.{name_cmp}
+use Rattle.bf_base.specs.Lists.{name_cmp, same_name}
 use Rattle.bf_base.specs.Maps.{is_map, entry_at, with_entry}
 use Rattle.bf_txn.specs.declared.write.Write.{Write}
 
@@ -24,6 +24,10 @@ spot_cmp a b = ordering_then (name_cmp a.0 b.0) (key_cmp a.1 b.1)
 -- has removed what was there
 abbrev pub written_at : List Write → Spot → Option (Option (List Value))
 written_at writes spot = option_map (λ w. w.row) (entry_at spot_cmp spot_of writes spot)
+
+-- the writes to the table of a name
+abbrev pub writes_to : List ℕ → List Write → List Write
+writes_to table writes = filter (λ write. same_name write.table table) writes
 
 abbrev pub with_write : List Write → Write → List Write
 with_write writes write = with_entry spot_cmp spot_of writes write

@@ -1,9 +1,9 @@
 //! The workspace of a transaction.
 
-ghost use Rattle.std.specs.Prelude.{◌≡◌, [], IfOk, OnOk, OnErr, length};
+ghost use Rattle.std.specs.Prelude.{◌≡◌, [], IfOk, OnOk, OnErr, length, map};
 ghost use Rattle.std.specs.List.Sorted.{IsBinarySearchResult, IsSearchInRange};
 ghost use Rattle.std.specs.Option.{option_map};
-ghost use Rattle.bf_txn.specs.Writes.{written_at, with_write, spot_cmp, spot_of, AreWrites};
+ghost use Rattle.bf_txn.specs.Writes.{written_at, writes_to, with_write, spot_cmp, spot_of, AreWrites};
 
 use crate::write::{Write, WriteSet};
 use bf_base::{Key, Memory, Name, Row, Sequence};
@@ -65,12 +65,26 @@ impl Workspace {
     /// What the transaction has last written to a key: `None` exactly where it has not written
     /// there, and `Some(None)` where it has removed the row. Takes no memory.
     pub fn read(&self, table: &Name, key: &Key) -> Option<Option<&Row>>
-        ensures { option_map (λ row. option_map (λ r. r.now) row) result ≡ written_at self.now (table.now, key.now) }
+        ensures row { option_map (λ row. option_map (λ r. r.now) row) result ≡ written_at self.now (table.now, key.now) }
+        ensures sorted { AreWrites self.now }
     {
         match find(&self.writes, table, key) {
             Ok(place) => Some(self.writes[place].row.as_ref()),
             Err(_) => None,
         }
+    }
+
+    /// The writes to a table, in the order of their keys. It compares about log n names, and takes
+    /// no memory.
+    pub fn of_table(&self, table: &Name) -> &[Box<Write>]
+        ensures writes { map (λ write. write.value) result.now ≡ writes_to table.now self.now }
+        ensures sorted { AreWrites self.now }
+    {
+        let writes = self.writes.as_slice();
+        let before = writes.partition_point(|write| write.table.compare(table).is_lt());
+        let from = &writes[before..];
+        let count = from.partition_point(|write| write.table.compare(table).is_le());
+        &from[..count]
     }
 
     /// Notes a write, which takes the place of an earlier one to its key. After an error the

@@ -1,0 +1,147 @@
+//! The rows of a table as a transaction sees them: those of the heap, under what it has written.
+
+ghost use Rattle.std.specs.Prelude.{◌≡◌, ◌<◌, ℕ, IfOk, OnSome, map};
+ghost use Rattle.std.specs.Option.{option_map, option_to_list};
+ghost use Rattle.bf_base.specs.Tables.{cell};
+ghost use Rattle.bf_heap.specs.Heaps.{IsHeap, row_under};
+ghost use Rattle.bf_sql.specs.Conditions.{fixed_key};
+ghost use Rattle.bf_sql.specs.Queries.{selected};
+ghost use Rattle.bf_query.specs.Merged.{AreByKey, StandUnderOwnKeys, entries_under, rows_ahead, rows_stepped, rows_under, steps_ahead};
+
+use bf_base::{Key, Memory, Name, Row, Table};
+use bf_expr::{Cond, holds};
+use bf_heap::Heap;
+use bf_txn::{Workspace, Write};
+use std::alloc::Global;
+use std::cmp::Ordering;
+
+/// The row of a table under a key, and `None` exactly where there is none. It compares about
+/// log n keys in the heap and in the workspace, and takes no memory.
+pub fn row_at<'a>(
+    heap: &'a Heap,
+    workspace: &'a Workspace,
+    table: &Name,
+    key: &Key,
+) -> Option<&'a Row>
+    ensures { option_map (λ row. row.now) result ≡ row_under (entries_under heap.now.entries workspace.now table.now) key.now }
+{
+    match workspace.read(table, key) {
+        Some(written) => written,
+        None => heap.get(key),
+    }
+}
+
+/// A pass over the rows of a heap and the writes to its table, in the order of keys.
+#[derive(Drop)]
+struct Merge<'a> {
+    heap: &'a Heap,
+    position: u32,
+    writes: &'a [Box<Write>],
+    ghost in_order: { IsHeap heap.now },
+    ghost by_key: { AreByKey (map (λ write. write.value) writes.now) },
+}
+
+impl<'a> Merge<'a> {
+    /// Goes to the next key, and gives the row that stands there, or none where it is removed;
+    /// `None` behind the last key.
+    fn advance(&mut self) -> Option<Option<&'a Row>>
+        ensures rows { rows_stepped (option_map (λ row. option_map (λ r. r.now) row) result) (rows_ahead self.new.heap.now.entries self.new.position (map (λ write. write.value) self.new.writes.now)) ≡ rows_ahead self.old.heap.now.entries self.old.position (map (λ write. write.value) self.old.writes.now) }
+        ensures nearer { OnSome result (steps_ahead self.new.heap.now.entries self.new.position (map (λ write. write.value) self.new.writes.now) < steps_ahead self.old.heap.now.entries self.old.position (map (λ write. write.value) self.old.writes.now)) }
+    {
+        match (self.heap.at(self.position), self.writes.split_first()) {
+            (None, None) => None,
+            (Some((_, row)), None) => {
+                self.position += 1;
+                Some(Some(row))
+            }
+            (None, Some((write, later))) => {
+                self.writes = later;
+                Some(write.row.as_ref())
+            }
+            (Some((key, row)), Some((write, later))) => match write.key.compare(key) {
+                Ordering::Less => {
+                    self.writes = later;
+                    Some(write.row.as_ref())
+                }
+                Ordering::Equal => {
+                    self.position += 1;
+                    self.writes = later;
+                    Some(write.row.as_ref())
+                }
+                Ordering::Greater => {
+                    self.position += 1;
+                    Some(Some(row))
+                }
+            },
+        }
+    }
+}
+
+/// The rows that satisfy a condition, in one pass over the heap and the writes to its table.
+fn scan<'a>(
+    alloc: Global,
+    heap: &'a Heap,
+    writes: &'a [Box<Write>],
+    cond: &Cond,
+) -> Result<Vec<&'a Row>, Memory>
+    requires heap { IsHeap heap.now }
+    requires writes { AreByKey (map (λ write. write.value) writes.now) }
+    ensures { IfOk result (λ rows. map (λ row. row.now) rows.items ≡ selected cell cond.now (rows_ahead heap.now.entries 0 (map (λ write. write.value) writes.now))) }
+{
+    let mut merge = Merge {
+        heap,
+        position: 0,
+        writes,
+    };
+    let mut rows = Vec::new(alloc);
+    while let Some(found) = merge.advance() {
+        let Some(row) = found else {
+            continue;
+        };
+        if holds(alloc, cond, row)? {
+            rows.push(row)?;
+        }
+    }
+    Ok(rows)
+}
+
+/// The row that is there, if it satisfies a condition.
+fn if_it_holds<'a>(
+    alloc: Global,
+    found: Option<&'a Row>,
+    cond: &Cond,
+) -> Result<Vec<&'a Row>, Memory>
+    ensures { IfOk result (λ rows. map (λ row. row.now) rows.items ≡ selected cell cond.now (option_to_list (option_map (λ row. row.now) found.entry))) }
+{
+    let mut rows = Vec::new(alloc);
+    let Some(row) = found else {
+        return Ok(rows);
+    };
+    if holds(alloc, cond, row)? {
+        rows.push(row)?;
+    }
+    Ok(rows)
+}
+
+/// The rows of a table that satisfy a condition, in key order, where they stand. A key that the
+/// condition fixes is looked up, in time logarithmic in the rows; else one pass goes over all
+/// rows of the heap and the writes to the table. Memory is taken for the references alone.
+pub fn selected_rows<'a>(
+    alloc: Global,
+    heap: &'a Heap,
+    workspace: &'a Workspace,
+    table: &Table,
+    cond: &Cond,
+    fixed: &Option<Key>,
+) -> Result<Vec<&'a Row>, Memory>
+    requires fixed { fixed.now ≡ fixed_key table.now cond.now }
+    requires keys { StandUnderOwnKeys table.now heap.now.entries workspace.now }
+    ensures { IfOk result (λ rows. map (λ row. row.now) rows.items ≡ selected cell cond.now (rows_under heap.now.entries workspace.now table.now.name)) }
+{
+    // By its contract the heap is in the order of its keys.
+    let _ = heap.len();
+    match fixed {
+        Some(key) => if_it_holds(alloc, row_at(heap, workspace, &table.name, key), cond),
+        None => scan(alloc, heap, workspace.of_table(&table.name), cond),
+    }
+}

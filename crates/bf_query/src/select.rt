@@ -1,0 +1,40 @@
+//! SELECT.
+
+ghost use Rattle.std.specs.Prelude.{◌≡◌, Some, IfOk, IfSome};
+ghost use Rattle.bf_query.specs.Actions.{IsSelect, IsWellBound, select_reply, table_of};
+ghost use Rattle.bf_query.specs.Merged.{StandUnderOwnKeys, rows_under};
+
+use crate::answer::answer;
+use crate::merge::selected_rows;
+use bf_base::Memory;
+use bf_heap::Heap;
+use bf_sql::{Action, Bound, Reply};
+use bf_txn::Workspace;
+use std::alloc::Global;
+
+/// The reply to a SELECT on the rows of its table as the transaction of the workspace sees them.
+/// A key that the condition fixes is looked up, in time logarithmic in the rows; else it is linear
+/// in the rows and in the writes to the table.
+pub fn select(
+    alloc: Global,
+    bound: &Bound,
+    heap: &Heap,
+    workspace: &Workspace,
+) -> Result<Reply, Memory>
+    requires select { IsSelect bound.now.action }
+    requires bound { IsWellBound bound.now.action }
+    requires keys { IfSome (table_of bound.now.action) (λ table. StandUnderOwnKeys table heap.now.entries workspace.now) }
+    ensures { IfSome (table_of bound.now.action) (λ table. IfOk result (λ told. select_reply (rows_under heap.now.entries workspace.now table.name) bound.now.action ≡ Some told)) }
+{
+    let Action::Select {
+        table,
+        items,
+        cond,
+        fixed,
+    } = &bound.action
+    else {
+        unreachable!();
+    };
+    let rows = selected_rows(alloc, heap, workspace, table, cond, fixed)?;
+    answer(alloc, items, &rows)
+}
