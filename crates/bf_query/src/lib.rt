@@ -4,8 +4,8 @@
 pub mod answer;
 pub mod merge;
 mod running;
-pub mod select;
+pub mod selection;
 pub mod stop;
 mod sum;
 
-pub use select::select;
+pub use selection::select;
