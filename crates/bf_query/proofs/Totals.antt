@@ -66,7 +66,6 @@ map-same : {X Y : Type 0} (f g : X → Y) → ((x : X) → f x ≡ g x) → (xs 
 map-same f g same [] = refl
 map-same f g same (x ∷ xs) = rw (same x, map-same f g same xs)
 
-
 All-of_map : {X Y : Type 0} (P : Y → Type 0) (f : X → Y) → ((x : X) → P (f x)) → (xs : List X) → All P (map f xs)
 All-of_map P f each [] k d lt = absurd (omega arith)
 All-of_map P f each (x ∷ xs) zero d lt = each x

@@ -54,7 +54,11 @@ fn values(alloc: Global, exprs: &[Expr], row: &Row) -> Result<Sequence<Cell>, St
 }
 
 /// The values of expressions on each row, row by row.
-fn all_values(alloc: Global, exprs: &[Expr], rows: &[&Row]) -> Result<Sequence<Sequence<Cell>>, Stop>
+fn all_values(
+    alloc: Global,
+    exprs: &[Expr],
+    rows: &[&Row],
+) -> Result<Sequence<Sequence<Cell>>, Stop>
     ensures objections { Objects result (answer_objections cell (Exprs exprs.now) (map (λ row. row.now) rows.now)) }
     ensures values { IfOk result (λ given. given ≡ answer_of cell (Exprs exprs.now) (map (λ row. row.now) rows.now)) }
 {
@@ -91,3 +95,6 @@ pub fn answer(alloc: Global, items: &Items, rows: &[&Row]) -> Result<Reply, Memo
         Err(Stop::Memory) => Err(Memory),
     }
 }
+
+#[cfg(test)]
+mod tests;

@@ -90,7 +90,10 @@ impl<'a> Running<'a> {
                 Ok(number) => Ok(Cell::Value(Value::Int(number))),
                 Err(_) => Err(Stop::Refused(Refusal::OutOfRange)),
             },
-            Running::Least(_, value) | Running::Greatest(_, value) => Ok(value.map_or(Cell::Null, Cell::Value)),
+            Running::Least(_, value) | Running::Greatest(_, value) => Ok(value.map_or(
+                Cell::Null,
+                Cell::Value,
+            )),
         }
     }
 }

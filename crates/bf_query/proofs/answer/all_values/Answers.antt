@@ -13,8 +13,8 @@ pub returns-in_err-values-clause-objections : goal.returns-in_err-values-clause-
 returns-in_err-values-clause-objections c =
     rw flat_map-map
     (passes_on _ _ _ (c.from_residual-in_err-values.ensures.1)
-        (stops c.args.rows.now c.loop-row.row-index c.row-item.result c.loop-row-test.true c.row-item.is
-            (λ row. flat_map (λ expr. value_objections (value_of (cell row.now) expr)) c.args.exprs.now) _ c.loop-row.invariant.none c.in_err-values.ensures.objections))
+    (stops c.args.rows.now c.loop-row.row-index c.row-item.result c.loop-row-test.true c.row-item.is
+    (λ row. flat_map (λ expr. value_objections (value_of (cell row.now) expr)) c.args.exprs.now) _ c.loop-row.invariant.none c.in_err-values.ensures.objections))
 
 pub loop-row-preserved : goal.loop-row-preserved
 loop-row-preserved c = record {

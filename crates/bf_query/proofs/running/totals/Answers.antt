@@ -27,10 +27,10 @@ returns-in_err-advance_all-clause-objections c =
     let here = all_row_objections sofar c.args.totals.now (map standing c.deref_mut.result.now) (ap (map standing) (c.deref_mut.ensures.value) ∙ c.loop-row.invariant.taken) row in
     rw flat_map-map
     (passes_on _ _ _ (c.from_residual-in_err-advance_all.ensures.1)
-        (cause_before _ _ _
-            (stops c.args.rows.now c.loop-row.row-index c.row-item.result c.loop-row-test.true c.row-item.is
-                (λ r. flat_map (argument_objections cell r.now) c.args.totals.now) _ c.loop-row.invariant.none
-                (subst (λ (os : List Refusal). IsCause os c.in_err-advance_all.field-0.0) here c.in_err-advance_all.ensures.objections))))
+    (cause_before _ _ _
+    (stops c.args.rows.now c.loop-row.row-index c.row-item.result c.loop-row-test.true c.row-item.is
+    (λ r. flat_map (argument_objections cell r.now) c.args.totals.now) _ c.loop-row.invariant.none
+    (subst (λ (os : List Refusal). IsCause os c.in_err-advance_all.field-0.0) here c.in_err-advance_all.ensures.objections))))
 
 pub loop-row-preserved : goal.loop-row-preserved
 loop-row-preserved c =
