@@ -1,9 +1,9 @@
 -- Loops that stop at the first objection.
-use Rattle.std.proofs.Common.{◌≡◌, refl, ℕ, ◌+◌, ◌<◌, ◌≤◌, List, [], ◌∷◌, ◌++◌, Option, Some, take, drop, set, map, get_or, length, take-append-drop, arith, ap, sym, ◌∙◌, subst}
+use Rattle.std.proofs.Common.{◌≡◌, refl, ℕ, ◌+◌, ◌<◌, ◌≤◌, List, [], ◌∷◌, ◌++◌, Some, take, drop, set, map, get_or, length, take-append-drop, arith, ap, sym, ◌∙◌, subst}
 use Rattle.std.specs.Prelude.{Result, Ok, Err}
 use Rattle.std.specs.List.{flat_map, slice_get}
 use Rattle.std.specs.Result.{IsErrAnd}
-use Rattle.std.proofs.lemmas.List.{take_more, take_all, drop_more, get_or-drop, take_more_set, map_more, map-set, get_or-map, drop-set-lt, drop-drop}
+use Rattle.std.proofs.lemmas.List.{take_more, take_all, drop_more, get_or-drop, take_more_set, map_more, get_or-map, drop-set-lt, drop-drop}
 use Rattle.std.proofs.lemmas.List.Concat.{flat_map-append}
 use Rattle.std.proofs.lemmas.List.Folds.{flat_map-map}
 use Rattle.bf_sql.specs.declared.reply.Refusal.{Refusal}

@@ -1,5 +1,5 @@
 -- Totals row by row are the totals of all rows.
-use Rattle.std.proofs.Common.{◌≡◌, refl, ℕ, ◌+◌, ◌<◌, ◌^◌, ℤ, pos, ◌+ℤ◌, List, [], ◌∷◌, ◌++◌, map, fold, length, zero, suc, arith, subst, sym, ap, ◌∙◌, get_or, take, Some}
+use Rattle.std.proofs.Common.{◌≡◌, refl, ℕ, ◌+◌, ◌<◌, ◌^◌, pos, ◌+ℤ◌, List, [], ◌∷◌, ◌++◌, map, fold, length, zero, suc, arith, subst, sym, ap, ◌∙◌, get_or, take, Some}
 use Rattle.std.specs.List.{reduce, flat_map, All}
 use Rattle.std.proofs.lemmas.List.{length_push, map_push, map_more}
 use Rattle.std.proofs.lemmas.List.Folds.{flat_map-map}
@@ -10,7 +10,7 @@ use Rattle.bf_expr.specs.Evaluation.{sure_value, number_of}
 use Rattle.bf_sql.specs.declared.items.Aggregate.{Aggregate}
 use Rattle.bf_sql.specs.declared.items.Aggregate.TheVariants.{Count, Sum, Min, Max}
 use Rattle.bf_sql.specs.RowObjections.{argument_objections, sum_objections}
-use Rattle.bf_sql.specs.Totals.{lesser, greater, exact_sum, values_of, total_of}
+use Rattle.bf_sql.specs.Totals.{lesser, greater, values_of, total_of}
 use Rattle.bf_query.proofs.Steps.{map_map}
 use Rattle.bf_query.specs.Standings.{Standing, standing_after, advanced, picked, row_objections, end_objections, total_cell, IsCountable}
 

@@ -1,7 +1,6 @@
-use Rattle.std.proofs.Common.{map, ◌∙◌, Bor, List, ap}
+use Rattle.std.proofs.Common.{map, ◌∙◌}
 use Rattle.std.specs.List.{flat_map}
 use Rattle.std.proofs.lemmas.List.Folds.{flat_map-map}
-use Rattle.bf_base.specs.declared.value.Value.{Value}
 use Rattle.bf_base.specs.Tables.{cell}
 use Rattle.bf_expr.specs.Evaluation.{sure_value, value_of}
 use Rattle.bf_sql.specs.RowObjections.{value_objections}

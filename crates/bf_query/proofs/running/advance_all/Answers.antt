@@ -1,4 +1,4 @@
-use Rattle.std.proofs.Common.{map, ◌∙◌, sym, ap, subst, length, ◌<◌, ◌≡◌, arith, get_or}
+use Rattle.std.proofs.Common.{map, ◌∙◌, sym, ap, subst, length, ◌<◌, arith, get_or}
 use Rattle.std.proofs.lemmas.List.{length-map, map-set}
 use Rattle.bf_query.specs.Standings.{Standing, IsCountable, advanced, row_objections, standing}
 use Rattle.bf_query.proofs.Steps.{passes_on, stops, goes_on, next_left, taken_more, left_less}

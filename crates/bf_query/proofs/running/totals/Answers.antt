@@ -1,4 +1,4 @@
-use Rattle.std.proofs.Common.{map, ◌∙◌, sym, ap, subst, length, ◌<◌, ◌+◌, ◌^◌, ◌≡◌, ◌++◌, [], ◌∷◌, List, arith, get_or, take}
+use Rattle.std.proofs.Common.{map, ◌∙◌, sym, ap, subst, length, ◌<◌, ◌^◌, ◌≡◌, List, arith, take}
 use Rattle.std.specs.List.{flat_map}
 use Rattle.std.specs.Result.{IfOk}
 use Rattle.std.proofs.lemmas.List.{length-map, length-take-le, take_all, with_items_is}
