@@ -1,22 +1,22 @@
 -- The row under a key once the writes to a table are applied.
-use Rattle.std.proofs.Common.{◌≡◌, ℕ, Bool, true, false, ◌&&◌, cond, List, [], ◌∷◌, map, filter, find, fold, Less, Equal, Greater, Some, None, option_map, unwrap_or, refl, sym, ap, ◌∙◌, inl, inr, is_lt, is_eq}
+use Rattle.std.proofs.Common.{◌≡◌, ℕ, Bool, true, false, not, ◌&&◌, cond, List, [], ◌∷◌, map, filter, find, fold, Ordering, Less, Equal, Greater, Option, Some, None, option_map, unwrap_or, refl, sym, ap, subst, ◌∙◌, inl, inr, is_lt, is_eq, arith}
 use Rattle.std.specs.Ordering.{ordering_then}
 use Rattle.std.specs.List.{list_all}
 use Rattle.std.proofs.lemmas.Bool.{and_parts, and_from, cases_Bool}
 use Rattle.bf_base.specs.declared.value.Value.{Value}
 use Rattle.bf_base.specs.Lists.{rises, name_cmp, same_name}
-use Rattle.bf_base.specs.Maps.{is_map, entry_at}
+use Rattle.bf_base.specs.Maps.{is_map, entry_at, with_entry, without_key, has_key}
 use Rattle.bf_base.specs.Values.{key_cmp, key_cmp_total}
 use Rattle.bf_base.proofs.Apart.{rises-filter}
 use Rattle.bf_base.proofs.Maps.{entry_at-with_entry, entry_at-without_key, is_map-with_entry, is_map-without_key}
 use Rattle.bf_base.proofs.Names.{same_name-tie, name_cmp_total}
-use Rattle.bf_base.proofs.Order.{less_from_test, equal_from_test, turned_less, turned_equal, rises_alike, rises_tail, rises_skip}
-use Rattle.bf_heap.specs.Heaps.{Entry, key_of_entry, row_under}
+use Rattle.bf_base.proofs.Order.{less_from_test, equal_from_test, turned, turned_less, turned_equal, rises_alike, rises_tail, rises_skip}
+use Rattle.bf_heap.specs.Heaps.{Entry, key_of_entry, row_under, with_row, without_row}
 use Rattle.bf_txn.specs.declared.write.Write.{Write}
-use Rattle.bf_txn.specs.Writes.{spot_cmp, spot_of, written_at, writes_to, AreWrites}
+use Rattle.bf_txn.specs.Writes.{Spot, spot_cmp, spot_of, written_at, writes_to, AreWrites}
 use Rattle.bf_txn.proofs.Boxes.{spot_cmp_total}
 use Rattle.bf_query.specs.Merged.{changed_by, applied, entries_under, AreByKey}
-use Rattle.bf_query.proofs.Merging.{RisesFrom, write_keys}
+use Rattle.bf_query.proofs.Merging.{RisesFrom, keys_of, write_keys}
 
 -- the row under a key after one write
 pub row_under-applied : (entries : List Entry) (w : Write) (key : List Value) → row_under (applied entries w) key ≡ cond (is_eq (key_cmp w.key key)) w.row (row_under entries key)

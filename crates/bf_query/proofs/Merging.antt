@@ -1,10 +1,11 @@
 -- One pass over entries and writes, both in the order of their keys, makes what applying the writes makes.
-use Rattle.std.proofs.Common.{◌≡◌, ℕ, zero, suc, ◌+◌, ◌<◌, true, List, [], ◌∷◌, map, fold, drop, length, Less, Equal, Greater, Option, Some, None, refl, sym, ap, subst, ◌∙◌, is_lt, arith, add-one}
+use Rattle.std.proofs.Common.{◌≡◌, ℕ, zero, suc, ◌+◌, ◌<◌, true, false, not, ◌&&◌, cond, List, [], ◌∷◌, map, filter, fold, drop, length, Ordering, Less, Equal, Greater, Option, Some, None, refl, sym, ap, subst, ◌∙◌, is_lt, arith, add-one}
 use Rattle.std.specs.List.{slice_get}
 use Rattle.std.proofs.lemmas.Option.{slice_get_within}
 use Rattle.std.proofs.lemmas.Bool.{and_parts, and_from}
 use Rattle.bf_base.specs.declared.value.Value.{Value}
 use Rattle.bf_base.specs.Lists.{rises}
+use Rattle.bf_base.specs.Maps.{with_entry, without_key, has_key}
 use Rattle.bf_base.specs.Values.{key_cmp, key_cmp_total}
 use Rattle.bf_base.proofs.Order.{less_from_test, turned, turned_less, turned_equal, rises_alike, rises_tail, rises_skip}
 use Rattle.bf_heap.specs.Heaps.{Entry, key_of_entry, with_row, without_row}

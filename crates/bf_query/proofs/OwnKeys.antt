@@ -1,21 +1,21 @@
 -- Rows stand under their own keys, in the heap and under the writes; and the one row that a fixed key leaves to select.
-use Rattle.std.proofs.Common.{◌≡◌, ℕ, suc, Bool, true, false, not, cond, List, [], ◌∷◌, filter, fold, Less, Equal, Greater, Some, None, refl, sym, ap, ◌∙◌, inl, inr, is_eq, arith}
+use Rattle.std.proofs.Common.{◌≡◌, ℕ, suc, ◌<◌, Bool, true, false, not, cond, List, [], ◌∷◌, map, filter, fold, length, Ordering, Less, Equal, Greater, Option, Some, None, option_map, refl, sym, ap, subst, ◌∙◌, inl, inr, is_lt, is_eq, arith}
 use Rattle.std.specs.List.{All, AllByRecursion}
 use Rattle.std.specs.Option.{option_to_list}
-use Rattle.std.proofs.lemmas.Bool.{and_parts, cases_Bool}
+use Rattle.std.proofs.lemmas.Bool.{and_parts, and_from, cases_Bool}
 use Rattle.std.proofs.lemmas.Cmp.{tied_itself}
 use Rattle.bf_base.specs.declared.value.Value.{Value}
 use Rattle.bf_base.specs.declared.table.Table.{Table}
-use Rattle.bf_base.specs.Lists.{same_name}
-use Rattle.bf_base.specs.Maps.{is_map, with_entry, has_key, beside}
-use Rattle.bf_base.specs.Tables.{cell}
-use Rattle.bf_base.specs.Values.{key_cmp, key_cmp_total}
+use Rattle.bf_base.specs.Lists.{rises, name_cmp, same_name}
+use Rattle.bf_base.specs.Maps.{is_map, with_entry, without_key, has_key, beside}
+use Rattle.bf_base.specs.Tables.{cell, key_of, IsKeyWithin}
+use Rattle.bf_base.specs.Values.{key_cmp, key_cmp_total, key_cmp-IsAntisymmetric}
 use Rattle.bf_base.proofs.Names.{same_name-tie}
 use Rattle.bf_base.proofs.Order.{less_from_test, equal_from_test, rises_alike, rises_skip, rises_tail}
 use Rattle.bf_base.proofs.Ties.{name_ties}
 use Rattle.bf_expr.specs.Evaluation.{holds_on}
 use Rattle.bf_expr.specs.Trees.{Cond}
-use Rattle.bf_heap.specs.Heaps.{Entry, key_of_entry, row_under}
+use Rattle.bf_heap.specs.Heaps.{Entry, key_of_entry, row_under, with_row, without_row}
 use Rattle.bf_sql.specs.Conditions.{fixed_key}
 use Rattle.bf_sql.specs.Queries.{selected}
 use Rattle.bf_txn.specs.declared.write.Write.{Write}
@@ -23,7 +23,7 @@ use Rattle.bf_txn.specs.Writes.{writes_to}
 use Rattle.bf_query.specs.Merged.{changed_by, applied, entries_under, rows_under, HasOwnKey, WritesOwnKey, StandUnderOwnKeys}
 use Rattle.bf_query.proofs.FixedKey.{key_held}
 use Rattle.bf_query.proofs.Keyed.{is_map-fold}
-use Rattle.bf_query.proofs.Merging.{RisesFrom, keys_of, rows_of}
+use Rattle.bf_query.proofs.Merging.{RisesFrom, keys_of, write_keys, rows_of}
 
 pub by_recursion : {X : Type 0} (P : X → Type 0) (xs : List X) → All P xs → AllByRecursion P xs
 by_recursion P [] all = tt

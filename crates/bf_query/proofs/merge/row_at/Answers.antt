@@ -1,4 +1,4 @@
-use Rattle.std.proofs.Common.{List, Option, unwrap_or, sym, ap, ◌∙◌}
+use Rattle.std.proofs.Common.{◌≡◌, List, Option, unwrap_or, sym, ap, ◌∙◌}
 use Rattle.bf_base.specs.declared.value.Value.{Value}
 use Rattle.bf_heap.specs.Heaps.{row_under}
 use Rattle.bf_query.proofs.Keyed.{row_under-entries_under}
