@@ -1,6 +1,10 @@
+pub mod Effects
 pub mod FixedKey
+pub mod Inserting
 pub mod Keyed
 pub mod Merging
 pub mod OwnKeys
 pub mod Steps
+pub mod Stopping
+pub mod Taken
 pub mod Totals

@@ -1,5 +1,5 @@
 -- Rows stand under their own keys, in the heap and under the writes; and the one row that a fixed key leaves to select.
-use Rattle.std.proofs.Common.{◌≡◌, ℕ, suc, ◌<◌, Bool, true, false, not, cond, List, [], ◌∷◌, map, filter, fold, length, Ordering, Less, Equal, Greater, Option, Some, None, option_map, refl, sym, ap, subst, ◌∙◌, inl, inr, is_lt, is_eq, arith}
+use Rattle.std.proofs.Common.{◌≡◌, ℕ, zero, suc, ◌<◌, Bool, true, false, not, cond, List, [], ◌∷◌, map, filter, fold, length, Ordering, Less, Equal, Greater, Option, Some, None, option_map, refl, sym, ap, subst, ◌∙◌, inl, inr, is_lt, is_eq, arith}
 use Rattle.std.specs.List.{All, AllByRecursion}
 use Rattle.std.specs.Option.{option_to_list}
 use Rattle.std.proofs.lemmas.Bool.{and_parts, and_from, cases_Bool}
@@ -36,7 +36,7 @@ filtered P test (x ∷ xs) all = elim (test x) as (λ b. AllByRecursion P (cond 
   | false ↦ filtered P test xs all.1
 ]
 
-with_one_more : (P : Entry → Type 0) (entries : List Entry) (e : Entry) → AllByRecursion P entries → P e → AllByRecursion P (with_entry key_cmp key_of_entry entries e)
+pub with_one_more : (P : Entry → Type 0) (entries : List Entry) (e : Entry) → AllByRecursion P entries → P e → AllByRecursion P (with_entry key_cmp key_of_entry entries e)
 with_one_more P [] e all here = (here, tt)
 with_one_more P (f ∷ entries) e all here = elim (key_cmp e.0 f.0) as (λ r. AllByRecursion P (beside r f entries e (with_entry key_cmp key_of_entry entries e))) [
   | Less ↦ (here, all)
@@ -74,6 +74,21 @@ own_keys table entries writes stand =
 pub weakened : {X : Type 0} (P Q : X → Type 0) → ((x : X) → P x → Q x) → (xs : List X) → AllByRecursion P xs → AllByRecursion Q xs
 weakened P Q then [] all = tt
 weakened P Q then (x ∷ xs) all = (then x all.0, weakened P Q then xs all.1)
+
+each : {X : Type 0} (P : X → Type 0) (xs : List X) → AllByRecursion P xs → All P xs
+each P [] all k d below = absurd (omega arith)
+each P (x ∷ xs) all zero d below = all.0
+each P (x ∷ xs) all (suc k) d below = each P xs all.1 k d (omega arith)
+
+rows_within : (table : Table) (entries : List Entry) → OwnKeys table entries → AllByRecursion (IsKeyWithin table) (rows_of entries)
+rows_within table [] own = tt
+rows_within table (e ∷ entries) own = (own.0.0, rows_within table entries own.1)
+
+-- each selected row has the values of its key
+pub selected_within : (table : Table) (c : Cond ℕ) (entries : List Entry) (writes : List Write) (rows : List (List Value)) → StandUnderOwnKeys table entries writes → rows ≡ selected cell c (rows_under entries writes table.name) → All (IsKeyWithin table) rows
+selected_within table c entries writes rows stand is =
+    let within = rows_within table (entries_under entries writes table.name) (own_keys table entries writes stand) in
+    subst (All (IsKeyWithin table)) (sym is) (each (IsKeyWithin table) _ (filtered (IsKeyWithin table) (λ row. holds_on (cell row) c) (rows_under entries writes table.name) within))
 
 -- a test that holds of rows under one key alone
 module _ (test : List Value → Bool) (key : List Value) where

@@ -1,7 +1,7 @@
 -- Loops that stop at the first objection.
 use Rattle.std.proofs.Common.{◌≡◌, refl, ℕ, ◌+◌, ◌<◌, ◌≤◌, List, [], ◌∷◌, ◌++◌, Some, take, drop, set, map, get_or, length, take-append-drop, arith, ap, sym, ◌∙◌, subst}
 use Rattle.std.specs.Prelude.{Result, Ok, Err}
-use Rattle.std.specs.List.{flat_map, slice_get}
+use Rattle.std.specs.List.{flat_map}
 use Rattle.std.specs.Result.{IsErrAnd}
 use Rattle.std.proofs.lemmas.List.{take_more, take_all, drop_more, get_or-drop, take_more_set, map_more, get_or-map, drop-set-lt, drop-drop}
 use Rattle.std.proofs.lemmas.List.Concat.{flat_map-append}
@@ -9,16 +9,12 @@ use Rattle.std.proofs.lemmas.List.Folds.{flat_map-map}
 use Rattle.bf_sql.specs.declared.reply.Refusal.{Refusal}
 use Rattle.bf_query.specs.declared.stop.Stop.{Stop}
 use Rattle.bf_query.specs.declared.stop.Stop.TheVariants.{Refused, Memory}
-use Rattle.bf_query.specs.Stops.{IsCause, Objects}
+use Rattle.bf_query.proofs.Stopping.{first_ahead}
+use Rattle.bf_query.specs.Stops.{first_of, IsCause, Objects}
 
 pub map_map : {X Y Z : Type 0} (f : Y → Z) (v : X → Y) (xs : List X) → map f (map v xs) ≡ map (λ x. f (v x)) xs
 map_map f v [] = refl
 map_map f v (x ∷ xs) = rw (map_map f v xs)
-
--- the first item of a list stays the first
-first_stays : {Y : Type 0} (xs ys : List Y) (y : Y) → slice_get xs 0 ≡ Some y → slice_get (xs ++ ys) 0 ≡ Some y
-first_stays [] ys y h = absurd cc
-first_stays (x ∷ xs) ys y h = h
 
 -- an error that is passed on
 pub passes_on : {B : Type 0} (result : Result B Stop) (e : Stop) (objections : List Refusal) → IsErrAnd result (λ s. s ≡ e) → IsCause objections e → Objects result objections
@@ -26,7 +22,7 @@ passes_on (Ok x) e objections same h = absurd same
 passes_on (Err s) e objections same h = subst (λ (z : Stop). IsCause objections z) (sym same) h
 
 pub cause_before : (e : Stop) (objections more : List Refusal) → IsCause objections e → IsCause (objections ++ more) e
-cause_before (Refused r) objections more h = first_stays objections more r h
+cause_before (Refused r) objections more h = first_ahead objections more r h
 cause_before Memory objections more h = tt
 
 module _ {X : Type 0} (xs : List X) (i : ℕ) (x : X) (lt : i < length xs) (is : x ≡ get_or xs i x) where
@@ -41,13 +37,13 @@ module _ {X : Type 0} (xs : List X) (i : ℕ) (x : X) (lt : i < length xs) (is :
       let there : f x ≡ f (get_or xs i x) = ap f is in
       cc
 
-  stops_at : {Y : Type 0} (f : X → List Y) (y : Y) → flat_map f (take i xs) ≡ [] → slice_get (f x) 0 ≡ Some y → slice_get (flat_map f xs) 0 ≡ Some y
+  stops_at : (f : X → List Refusal) (y : Refusal) → flat_map f (take i xs) ≡ [] → first_of (f x) ≡ Some y → first_of (flat_map f xs) ≡ Some y
   stops_at f y none here =
       let rest = flat_map f (drop (i + 1) xs) in
       let whole : xs ≡ take i xs ++ (get_or xs i x ∷ drop (i + 1) xs) = sym (take-append-drop i xs) ∙ ap (λ r. take i xs ++ r) (drop_more xs i x lt) in
       let flat : flat_map f xs ≡ flat_map f (take i xs) ++ (f (get_or xs i x) ++ rest) = ap (flat_map f) whole ∙ flat_map-append f (take i xs) _ in
       let there : f x ≡ f (get_or xs i x) = ap f is in
-      rw (flat, none, ← there) (first_stays (f x) rest y here)
+      rw (flat, none, ← there) (first_ahead (f x) rest y here)
 
   -- an error at an item is the whole loop's
   pub stops : (f : X → List Refusal) (e : Stop) → flat_map f (take i xs) ≡ [] → IsCause (f x) e → IsCause (flat_map f xs) e

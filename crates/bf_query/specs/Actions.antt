@@ -1,5 +1,5 @@
 -- What bound statements reply and write, on the rows of their table in key order. Columns are places in a row.
-use Rattle.std.specs.Prelude.{◌≡◌, ℕ, List, [], ◌∷◌, map, flat_map, fold, length, Option, Some, None, slice_index_or}
+use Rattle.std.specs.Prelude.{◌≡◌, ℕ, List, [], ◌∷◌, map, flat_map, fold, length, Option, Some, None, IfSome, option_map, unwrap_or, slice_index_or}
 use Rattle.std.specs.List.{All}
 use Rattle.bf_base.specs.declared.value.Value.{Value}
 use Rattle.bf_base.specs.declared.table.Admit.{Admit}
@@ -14,8 +14,10 @@ use Rattle.bf_sql.specs.declared.reply.Reply.TheVariants as reply
 use Rattle.bf_sql.specs.Conditions.{fixed_key}
 use Rattle.bf_sql.specs.Queries.{selected, answer_of, changed}
 use Rattle.bf_sql.specs.RowObjections.{insert_objections, answer_objections, change_objections}
+use Rattle.bf_heap.specs.Heaps.{Entry}
 use Rattle.bf_txn.specs.declared.write.Write.{Write}
 use Rattle.bf_txn.specs.Writes.{with_write}
+use Rattle.bf_query.specs.Merged.{rows_under, StandUnderOwnKeys}
 
 -- what the column at a place admits
 abbrev pub admitted_at : Table → ℕ → Admit
@@ -29,9 +31,23 @@ table_of (action.Update table sets cond fixed) = Some table
 table_of (action.Delete table cond fixed) = Some table
 table_of other = None
 
+-- the rows that an action is on, in the entries of its table's heap under the writes of a transaction
+abbrev pub rows_for : List Entry → List Write → Action → List (List Value)
+rows_for entries writes action = unwrap_or (option_map (λ table. rows_under entries writes table.name) (table_of action)) []
+
+-- and they stand under their own keys
+abbrev pub HaveOwnKeys : List Entry → List Write → Action → Type 0
+HaveOwnKeys entries writes action = IfSome (table_of action) (λ table. StandUnderOwnKeys table entries writes)
+
 abbrev pub IsSelect : Action → Type 0
 IsSelect (action.Select table items cond fixed) = Unit {0}
 IsSelect other = ⊥
+
+abbrev pub IsChange : Action → Type 0
+IsChange (action.Insert table rows) = Unit {0}
+IsChange (action.Update table sets cond fixed) = Unit {0}
+IsChange (action.Delete table cond fixed) = Unit {0}
+IsChange other = ⊥
 
 -- what the rows have against an action, in order
 abbrev pub objections_on : List (List Value) → Action → List Refusal

@@ -1,4 +1,5 @@
 pub mod Actions
+pub mod Changes
 pub mod Merged
 pub mod Standings
 pub mod Stops

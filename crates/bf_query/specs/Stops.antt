@@ -1,15 +1,26 @@
--- What stands in the way of a statement, as a step of it answers.
-use Rattle.std.specs.Prelude.{◌≡◌, List, [], Some, Result, Ok, Err, slice_get}
+-- What an action on rows gives, or why it stops.
+use Rattle.std.specs.Prelude.{◌≡◌, List, [], ◌∷◌, Option, Some, None, Result, Ok, Err}
 use Rattle.bf_sql.specs.declared.reply.Refusal.{Refusal}
 use Rattle.bf_query.specs.declared.stop.Stop.{Stop}
-use Rattle.bf_query.specs.declared.stop.Stop.TheVariants.{Refused, Memory}
+use Rattle.bf_query.specs.declared.stop.Stop.TheVariants as stop
 
--- a refusal is the first objection; nothing is the cause of want of memory
+-- the objection that is told
+abbrev pub first_of : List Refusal → Option Refusal
+first_of [] = None
+first_of (r ∷ rs) = Some r
+
+-- what is meant where nothing is objected, or the first objection; or memory ran out
+abbrev pub Settles : {A : Type 0} → Result A Stop → List Refusal → A → Type 0
+Settles (Ok found) objections meant = (objections ≡ []) × (found ≡ meant)
+Settles (Err (stop.Refused r)) objections meant = first_of objections ≡ Some r
+Settles (Err stop.Memory) objections meant = Unit {0}
+
+-- why an action stops: its first objection; or memory ran out
 abbrev pub IsCause : List Refusal → Stop → Type 0
-IsCause objections (Refused refusal) = slice_get objections 0 ≡ Some refusal
-IsCause objections Memory = Unit {0}
+IsCause objections (stop.Refused r) = first_of objections ≡ Some r
+IsCause objections stop.Memory = Unit {0}
 
--- an answer comes exactly where there is no objection, but for want of memory
-abbrev pub Objects : {X : Type 0} → Result X Stop → List Refusal → Type 0
-Objects (Ok x) objections = objections ≡ []
+-- an action ends where nothing is objected, and else stops by its cause
+abbrev pub Objects : {A : Type 0} → Result A Stop → List Refusal → Type 0
+Objects (Ok found) objections = objections ≡ []
 Objects (Err e) objections = IsCause objections e

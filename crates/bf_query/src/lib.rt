@@ -2,10 +2,15 @@
 #![tactic(auto)]
 
 pub mod answer;
+pub mod change;
+pub mod laws;
 pub mod merge;
 mod running;
 pub mod selection;
 pub mod stop;
 mod sum;
+#[cfg(test)]
+mod tests;
 
+pub use change::changes;
 pub use selection::select;

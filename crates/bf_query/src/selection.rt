@@ -1,8 +1,7 @@
 //! SELECT.
 
-ghost use Rattle.std.specs.Prelude.{◌≡◌, Some, IfOk, IfSome};
-ghost use Rattle.bf_query.specs.Actions.{IsSelect, IsWellBound, select_reply, table_of};
-ghost use Rattle.bf_query.specs.Merged.{StandUnderOwnKeys, rows_under};
+ghost use Rattle.std.specs.Prelude.{◌≡◌, Some, IfOk};
+ghost use Rattle.bf_query.specs.Actions.{HaveOwnKeys, IsSelect, IsWellBound, rows_for, select_reply};
 
 use crate::answer::answer;
 use crate::merge::selected_rows;
@@ -23,8 +22,8 @@ pub fn select(
 ) -> Result<Reply, Memory>
     requires select { IsSelect bound.now.action }
     requires bound { IsWellBound bound.now.action }
-    requires keys { IfSome (table_of bound.now.action) (λ table. StandUnderOwnKeys table heap.now.entries workspace.now) }
-    ensures { IfSome (table_of bound.now.action) (λ table. IfOk result (λ told. select_reply (rows_under heap.now.entries workspace.now table.name) bound.now.action ≡ Some told)) }
+    requires keys { HaveOwnKeys heap.now.entries workspace.now bound.now.action }
+    ensures { IfOk result (λ told. select_reply (rows_for heap.now.entries workspace.now bound.now.action) bound.now.action ≡ Some told) }
 {
     let Action::Select {
         table,

@@ -1,4 +1,4 @@
-//! Why a statement is not carried out.
+//! Why an action on rows stops.
 
 ghost use Rattle.std.specs.Prelude.{◌≡◌};
 ghost use Rattle.bf_query.specs.declared.stop.Stop.TheVariants as stop;
@@ -7,15 +7,15 @@ use bf_base::Memory;
 use bf_sql::Refusal;
 use std::alloc::{AllocError, AllocFailed};
 
-/// Why a statement is not carried out: a row stands in its way, or memory ran out.
-#[derive(Debug, Drop, PartialEq, Eq)]
+/// Why an action stops: its first objection, or want of memory.
+#[derive(Drop)]
 pub enum Stop {
     Refused(Refusal),
     Memory,
 }
 
 impl From<Memory> for Stop {
-    ghost from_gives = { λ _ s. s ≡ stop.Memory };
+    ghost from_gives = { λ _ e. e ≡ stop.Memory };
 
     fn from(_e: Memory) -> Stop {
         Stop::Memory
@@ -23,7 +23,7 @@ impl From<Memory> for Stop {
 }
 
 impl From<AllocError> for Stop {
-    ghost from_gives = { λ _ s. s ≡ stop.Memory };
+    ghost from_gives = { λ _ e. e ≡ stop.Memory };
 
     fn from(_e: AllocError) -> Stop {
         Stop::Memory
@@ -31,7 +31,7 @@ impl From<AllocError> for Stop {
 }
 
 impl<T: Drop> From<AllocFailed<T>> for Stop {
-    ghost from_gives = { λ _ s. s ≡ stop.Memory };
+    ghost from_gives = { λ _ e. e ≡ stop.Memory };
 
     fn from(_e: AllocFailed<T>) -> Stop {
         Stop::Memory

@@ -1,0 +1,76 @@
+-- A key is taken where a row or an earlier tuple has it.
+use Rattle.std.proofs.Common.{◌≡◌, ℕ, Bool, true, false, ◌||◌, cond, List, [], ◌∷◌, ◌++◌, map, fold, Ordering, Less, Equal, Greater, Option, Some, None, is_some, option_map, refl, sym, ap, ap₂, ◌∙◌, is_eq, arith}
+use Rattle.std.specs.List.{AllByRecursion, list_any}
+use Rattle.std.specs.Ordering.{ordering_then, eq_by_cmp}
+use Rattle.std.proofs.lemmas.Cmp.{tied_itself}
+use Rattle.std.proofs.lemmas.List.{map-append}
+use Rattle.std.proofs.lemmas.List.Folds.{list_any-append}
+use Rattle.bf_base.specs.declared.value.Value.{Value}
+use Rattle.bf_base.specs.declared.table.Table.{Table}
+use Rattle.bf_base.specs.Lists.{has, name_cmp, same_key}
+use Rattle.bf_base.specs.Maps.{entry_at, has_key}
+use Rattle.bf_base.specs.Tables.{key_of}
+use Rattle.bf_base.specs.Values.{key_cmp, key_cmp_total}
+use Rattle.bf_base.proofs.Maps.{entry_at-with_entry}
+use Rattle.bf_base.proofs.Names.{name_cmp_total}
+use Rattle.bf_base.proofs.Order.{is_some-look_up, symmetric}
+use Rattle.bf_heap.specs.Heaps.{Entry, key_of_entry, has_row}
+use Rattle.bf_txn.specs.declared.write.Write.{Write}
+use Rattle.bf_txn.specs.Writes.{Spot, spot_cmp, spot_of, written_at, with_write}
+use Rattle.bf_txn.proofs.Boxes.{spot_cmp_total}
+use Rattle.bf_query.specs.Actions.{write_of}
+use Rattle.bf_query.specs.Changes.{is_taken}
+use Rattle.bf_query.specs.Merged.{entries_under, rows_under, HasOwnKey, StandUnderOwnKeys}
+use Rattle.bf_query.proofs.Merging.{rows_of, keys_of}
+use Rattle.bf_query.proofs.OwnKeys.{OwnKeys, own_keys}
+
+is_some-map : {A B : Type 0} (f : A → B) (o : Option A) → is_some (option_map f o) ≡ is_some o
+is_some-map f None = refl
+is_some-map f (Some x) = refl
+
+own_keys_are : (table : Table) (entries : List Entry) → OwnKeys table entries → keys_of entries ≡ map (key_of table) (rows_of entries)
+own_keys_are table [] own = refl
+own_keys_are table (e ∷ entries) own = ap₂ (λ k ks. k ∷ ks) (sym own.0.1) (own_keys_are table entries own.1)
+
+row_has : (table : Table) (entries : List Entry) (key : List Value) → OwnKeys table entries → has_row entries key ≡ has same_key (map (key_of table) (rows_of entries)) key
+row_has table entries key own =
+    is_some-map (λ (e : Entry). e.1) (entry_at key_cmp key_of_entry entries key)
+    ∙ is_some-look_up key_cmp_total key_of_entry entries key
+    ∙ ap (λ (keys : List (List Value)). has same_key keys key) (own_keys_are table entries own)
+
+-- the note of a tuple's key
+abbrev pub note_of : Table → List Value → Write
+note_of table tuple = write_of table (key_of table tuple) None
+
+same_spot : (name : List ℕ) (a b : List Value) → is_eq (spot_cmp (name, a) (name, b)) ≡ same_key b a
+same_spot name a b = ap (λ r. is_eq (ordering_then r (key_cmp a b))) (tied_itself name_cmp_total name) ∙ symmetric key_cmp_total a b
+
+noted_has : (table : Table) (key : List Value) (before : List (List Value)) (noted : List Write)
+    → is_some (entry_at spot_cmp spot_of (fold with_write noted (map (note_of table) before)) (table.name, key)) ≡ (is_some (entry_at spot_cmp spot_of noted (table.name, key)) || has same_key (map (key_of table) before) key)
+noted_has table key [] noted = sym (or_false (is_some (entry_at spot_cmp spot_of noted (table.name, key))))
+  where
+    or_false : (b : Bool) → (b || false) ≡ b
+    or_false true = refl
+    or_false false = refl
+noted_has table key (t ∷ before) noted =
+    let now = with_write noted (note_of table t) in
+    noted_has table key before now
+    ∙ ap (λ (found : Option Write). is_some found || has same_key (map (key_of table) before) key) (entry_at-with_entry spot_cmp_total spot_of noted (note_of table t) (table.name, key))
+    ∙ ap (λ (b : Bool). is_some (cond b (Some (note_of table t)) (entry_at spot_cmp spot_of noted (table.name, key))) || has same_key (map (key_of table) before) key) (same_spot table.name (key_of table t) key)
+    ∙ either (note_of table t) (same_key key (key_of table t)) (entry_at spot_cmp spot_of noted (table.name, key)) (has same_key (map (key_of table) before) key)
+  where
+    either : (x : Write) (here : Bool) (found : Option Write) (later : Bool) → (is_some (cond here (Some x) found) || later) ≡ (is_some found || (here || later))
+    either x true None later = refl
+    either x true (Some y) later = refl
+    either x false found later = refl
+
+-- a key is taken exactly where it is a key of the rows or of the tuples whose keys are noted
+pub taken : (table : Table) (entries : List Entry) (writes noted : List Write) (before : List (List Value)) (key : List Value) → StandUnderOwnKeys table entries writes → noted ≡ fold with_write [] (map (note_of table) before)
+    → is_taken entries writes noted table.name key ≡ has same_key (map (key_of table) (rows_under entries writes table.name ++ before)) key
+taken table entries writes noted before key stand is =
+    let rows = rows_under entries writes table.name in
+    let in_rows = row_has table (entries_under entries writes table.name) key (own_keys table entries writes stand) in
+    let in_notes : is_some (written_at noted (table.name, key)) ≡ has same_key (map (key_of table) before) key =
+    is_some-map (λ (w : Write). w.row) (entry_at spot_cmp spot_of noted (table.name, key)) ∙ ap (λ (ws : List Write). is_some (entry_at spot_cmp spot_of ws (table.name, key))) is ∙ noted_has table key before [] in
+    ap₂ (λ (a b : Bool). a || b) in_rows in_notes
+    ∙ sym (ap (list_any (same_key key)) (map-append (key_of table) rows before) ∙ list_any-append (same_key key) (map (key_of table) rows) (map (key_of table) before))

@@ -1,0 +1,24 @@
+-- Parts of the contracts of changes.
+use Rattle.std.specs.Prelude.{ℕ, Bool, ◌||◌, List, Option, Some, None, is_some}
+use Rattle.bf_base.specs.declared.value.Value.{Value}
+use Rattle.bf_base.specs.declared.table.Table.{Table}
+use Rattle.bf_heap.specs.Heaps.{Entry, has_row}
+use Rattle.bf_sql.specs.declared.bound.Action.{Action}
+use Rattle.bf_sql.specs.declared.bound.Action.TheVariants as action
+use Rattle.bf_sql.specs.declared.reply.Reply.{Reply}
+use Rattle.bf_sql.specs.declared.reply.Reply.TheVariants as reply
+use Rattle.bf_txn.specs.declared.write.Write.{Write}
+use Rattle.bf_txn.specs.Writes.{written_at}
+use Rattle.bf_query.specs.Actions.{write_of}
+use Rattle.bf_query.specs.Merged.{entries_under}
+
+-- whether a row has a key, or an earlier tuple, whose keys are noted as writes
+abbrev pub is_taken : List Entry → List Write → List Write → List ℕ → List Value → Bool
+is_taken entries writes noted table key = has_row (entries_under entries writes table) key || is_some (written_at noted (table, key))
+
+-- the reply to a change of so many rows
+abbrev pub counted : Action → ℕ → Option Reply
+counted (action.Insert table tuples) count = Some (reply.Inserted count)
+counted (action.Update table sets cond fixed) count = Some (reply.Updated count)
+counted (action.Delete table cond fixed) count = Some (reply.Deleted count)
+counted other count = None

@@ -1,0 +1,282 @@
+//! INSERT, UPDATE and DELETE.
+
+ghost use Rattle.std.specs.Prelude.{◌≡◌, ◌<◌, ◌++◌, [], IfOk, OnOk, None, Some, map, flat_map, fold, length};
+ghost use Rattle.std.specs.List.{All};
+ghost use Rattle.bf_base.specs.Lists.{when};
+ghost use Rattle.bf_base.specs.Tables.{IsKeyWithin, cell, fit_of, key_of};
+ghost use Rattle.bf_expr.specs.Evaluation.{sure_value, value_of};
+ghost use Rattle.bf_sql.specs.declared.reply.Refusal.TheVariants.{DuplicateKey};
+ghost use Rattle.bf_sql.specs.Queries.{changed};
+ghost use Rattle.bf_sql.specs.RowObjections.{change_objections, fit_objections, insert_objections, unfit_objections, unfit_row_objections, value_objections};
+ghost use Rattle.bf_txn.specs.Writes.{with_write};
+ghost use Rattle.bf_query.specs.Actions.{HaveOwnKeys, IsChange, IsWellBound, admitted_at, change_reply, objections_on, rows_for, write_of, writes_of, written};
+ghost use Rattle.bf_query.specs.Changes.{counted, is_taken};
+ghost use Rattle.bf_query.specs.Merged.{StandUnderOwnKeys, rows_under};
+ghost use Rattle.bf_query.specs.Stops.{Settles, first_of};
+
+use crate::merge::{row_at, selected_rows};
+use crate::stop::Stop;
+use bf_base::{Fit, Key, Memory, Row, Sequence, Table, Value, admits, key_of};
+use bf_expr::{Expr, Fail, value};
+use bf_heap::Heap;
+use bf_sql::{Action, Bound, Refusal, Reply};
+use bf_txn::{Workspace, Write};
+use std::alloc::Global;
+
+/// The objection to a value by what its column says of it.
+fn unfitness(fit: Fit) -> Option<Refusal>
+    ensures { result ≡ first_of (fit_objections fit) }
+{
+    match fit {
+        Fit::Fits => None,
+        Fit::WrongKind => Some(Refusal::TypeMismatch),
+        Fit::OutOfRange => Some(Refusal::OutOfRange),
+        Fit::TooLong => Some(Refusal::TooLong),
+    }
+}
+
+/// The first objection of a table's columns to the values of a tuple, from the left.
+fn first_unfit(table: &Table, tuple: &Row) -> Option<Refusal>
+    ensures { result ≡ first_of (unfit_row_objections table.now tuple.now) }
+{
+    let values = tuple.as_slice();
+    for (place, column) in table.columns.as_slice().iter().enumerate() {
+        let value = values.get(place)?;
+        let unfit = unfitness(admits(column, value));
+        if unfit.is_some() {
+            return unfit;
+        }
+    }
+    None
+}
+
+/// The first objection to a tuple: of a column to its value, and then to its key, which a row has
+/// or an earlier tuple had. The keys of earlier tuples are noted as removals.
+fn tuple_objection(
+    alloc: Global,
+    table: &Table,
+    heap: &Heap,
+    workspace: &Workspace,
+    noted: &Workspace,
+    tuple: &Row,
+    key: &Key,
+) -> Result<Option<Refusal>, Memory>
+    ensures { IfOk result (λ found. found ≡ first_of (unfit_row_objections table.now tuple.now ++ when (is_taken heap.now.entries workspace.now noted.now table.now.name key.now) (DuplicateKey key.now))) }
+{
+    let unfit = first_unfit(table, tuple);
+    if unfit.is_some() {
+        return Ok(unfit);
+    }
+    let name = &table.name;
+    if row_at(heap, workspace, name, key).is_some() || noted.read(name, key).is_some() {
+        return Ok(Some(Refusal::DuplicateKey(key.copy(alloc)?)));
+    }
+    Ok(None)
+}
+
+/// The write of a row to a key of a table, or of its removal.
+fn write_to(alloc: Global, table: &Table, key: Key, row: Option<Row>) -> Result<Write, Memory>
+    ensures { IfOk result (λ write. write ≡ write_of table.now key row) }
+{
+    let table = table.name.copy(alloc)?;
+    Ok(Write { table, key, row })
+}
+
+/// The writes of an INSERT, in the order of its tuples, where nothing stands in its way.
+fn plan_insert(
+    alloc: Global,
+    heap: &Heap,
+    workspace: &Workspace,
+    table: &Table,
+    tuples: &[Row],
+) -> Result<Sequence<Write>, Stop>
+    requires tuples { All (IsKeyWithin table.now) tuples.now }
+    requires keys { StandUnderOwnKeys table.now heap.now.entries workspace.now }
+    ensures { Settles result (insert_objections table.now (rows_under heap.now.entries workspace.now table.now.name) tuples.now) (map (λ tuple. write_of table.now (key_of table.now tuple) (Some tuple)) tuples.now) }
+{
+    let mut noted = Workspace::new(alloc);
+    let mut writes = Vec::with_capacity(alloc, tuples.len())?;
+    for tuple in tuples {
+        let key = key_of(alloc, table, tuple)?;
+        if let Some(refusal) = tuple_objection(
+            alloc, table, heap, workspace, &noted, tuple, &key,
+        )? {
+            return Err(Stop::Refused(refusal));
+        }
+        noted.write(table.name.copy(alloc)?, key.copy(alloc)?, None)?;
+        writes.push(write_to(alloc, table, key, Some(tuple.copy(alloc)?))?)?;
+    }
+    Ok(Sequence::of(writes))
+}
+
+/// Whether the column at a place admits a value. A column that the table lacks admits each INT.
+fn fit_at(table: &Table, place: u8, value: &Value) -> Fit
+    ensures { result ≡ fit_of (admitted_at table.now place) value.now }
+{
+    match (table.columns.as_slice().get(place as usize), value) {
+        (Some(column), _) => admits(column, value),
+        (None, Value::Int(_)) => Fit::Fits,
+        (None, Value::Text(_)) => Fit::WrongKind,
+    }
+}
+
+/// The value that an expression has on a row.
+fn value_on(alloc: Global, expr: &Expr, row: &Row) -> Result<Value, Stop>
+    ensures { Settles result (value_objections (value_of (cell row.now) expr.now)) (sure_value (cell row.now) expr.now) }
+{
+    match value(alloc, expr, row) {
+        Ok(found) => Ok(found),
+        Err(Fail::OutOfRange) => Err(Stop::Refused(Refusal::OutOfRange)),
+        Err(Fail::TooLong) => Err(Stop::Refused(Refusal::TooLong)),
+        Err(Fail::Memory) => Err(Stop::Memory),
+    }
+}
+
+/// The value that a set gives a column of a row, if the expression has one there and the column
+/// admits it.
+fn set_value(alloc: Global, table: &Table, place: u8, expr: &Expr, row: &Row) -> Result<Value, Stop>
+    ensures { Settles result (value_objections (value_of (cell row.now) expr.now) ++ unfit_objections (admitted_at table.now place) (sure_value (cell row.now) expr.now)) (sure_value (cell row.now) expr.now) }
+{
+    let found = value_on(alloc, expr, row)?;
+    match unfitness(fit_at(table, place, &found)) {
+        Some(refusal) => Err(Stop::Refused(refusal)),
+        None => Ok(found),
+    }
+}
+
+/// A row with its sets, all from the old row.
+fn changed_row(alloc: Global, table: &Table, sets: &[(u8, Expr)], row: &Row) -> Result<Row, Stop>
+    ensures { Settles result (change_objections cell (admitted_at table.now) sets.now row.now) (changed cell (λ place. place) sets.now row.now) }
+{
+    let mut new = row.copy(alloc)?.into_vec();
+    for (place, expr) in sets {
+        let found = set_value(alloc, table, *place, expr, row)?;
+        let place = *place as usize;
+        if place < new.len() {
+            new[place] = found;
+        }
+    }
+    Ok(Row::of(new))
+}
+
+/// The writes of an UPDATE of some rows, in their order, where nothing stands in its way.
+fn plan_update(
+    alloc: Global,
+    table: &Table,
+    sets: &[(u8, Expr)],
+    rows: &[&Row],
+) -> Result<Sequence<Write>, Stop>
+    requires { All (IsKeyWithin table.now) (map (λ row. row.now) rows.now) }
+    ensures { Settles result (flat_map (change_objections cell (admitted_at table.now) sets.now) (map (λ row. row.now) rows.now)) (map (λ row. write_of table.now (key_of table.now row) (Some (changed cell (λ place. place) sets.now row))) (map (λ row. row.now) rows.now)) }
+{
+    let mut writes = Vec::with_capacity(alloc, rows.len())?;
+    for row in rows {
+        let new = changed_row(alloc, table, sets, row)?;
+        let key = key_of(alloc, table, row)?;
+        writes.push(write_to(alloc, table, key, Some(new))?)?;
+    }
+    Ok(Sequence::of(writes))
+}
+
+/// The writes of a DELETE of some rows, in their order.
+fn plan_delete(alloc: Global, table: &Table, rows: &[&Row]) -> Result<Sequence<Write>, Memory>
+    requires { All (IsKeyWithin table.now) (map (λ row. row.now) rows.now) }
+    ensures { IfOk result (λ writes. writes ≡ map (λ row. write_of table.now (key_of table.now row) None) (map (λ row. row.now) rows.now)) }
+{
+    let mut writes = Vec::with_capacity(alloc, rows.len())?;
+    for row in rows {
+        let key = key_of(alloc, table, row)?;
+        writes.push(write_to(alloc, table, key, None)?)?;
+    }
+    Ok(Sequence::of(writes))
+}
+
+/// The writes of a change where nothing stands in its way. It reads alone.
+fn plan(
+    alloc: Global,
+    heap: &Heap,
+    workspace: &Workspace,
+    action: &Action,
+) -> Result<Sequence<Write>, Stop>
+    requires change { IsChange action.now }
+    requires bound { IsWellBound action.now }
+    requires keys { HaveOwnKeys heap.now.entries workspace.now action.now }
+    ensures { Settles result (objections_on (rows_for heap.now.entries workspace.now action.now) action.now) (writes_of (rows_for heap.now.entries workspace.now action.now) action.now) }
+{
+    match action {
+        Action::Insert { table, rows } => {
+            plan_insert(alloc, heap, workspace, table, rows.as_slice())
+        }
+        Action::Update {
+            table,
+            sets,
+            cond,
+            fixed,
+        } => {
+            let rows = selected_rows(alloc, heap, workspace, table, cond, fixed)?;
+            plan_update(alloc, table, sets.as_slice(), rows.as_slice())
+        }
+        Action::Delete { table, cond, fixed } => {
+            let rows = selected_rows(alloc, heap, workspace, table, cond, fixed)?;
+            Ok(plan_delete(alloc, table, rows.as_slice())?)
+        }
+        _ => unreachable!(),
+    }
+}
+
+/// Notes writes, one after the other. After an error the workspace has some of them.
+fn note(workspace: &mut Workspace, writes: Sequence<Write>) -> Result<(), Memory>
+    ensures { OnOk result (workspace.new ≡ fold with_write workspace.old writes) }
+{
+    for write in writes.into_vec() {
+        workspace.write(write.table, write.key, write.row)?;
+    }
+    Ok(())
+}
+
+/// The reply to a change of so many rows.
+fn reply(action: &Action, count: u32) -> Reply
+    requires { IsChange action.now }
+    ensures { counted action.now count ≡ Some result }
+{
+    match action {
+        Action::Insert { .. } => Reply::Inserted(count),
+        Action::Update { .. } => Reply::Updated(count),
+        Action::Delete { .. } => Reply::Deleted(count),
+        _ => unreachable!(),
+    }
+}
+
+/// Runs an INSERT, an UPDATE or a DELETE on the rows of its table, those of the heap under what
+/// the transaction has written, and notes what it writes in the workspace. Where something stands
+/// in its way, the reply is the first refusal, and the workspace stays as it was. A statement whose
+/// condition fixes a key, and each tuple of an INSERT, costs a look-up and a write in time
+/// logarithmic in the rows; else an UPDATE or a DELETE goes over the rows once.
+///
+/// # Errors
+/// Where memory runs out, or 2 ^ 32 rows or more change. The workspace may have some of the
+/// statement's writes then.
+pub fn changes(
+    alloc: Global,
+    bound: &Bound,
+    heap: &Heap,
+    workspace: &mut Workspace,
+) -> Result<Reply, Memory>
+    requires change { IsChange bound.now.action }
+    requires bound { IsWellBound bound.now.action }
+    requires keys { HaveOwnKeys heap.now.entries workspace.old bound.now.action }
+    ensures reply { IfOk result (λ told. change_reply (rows_for heap.now.entries workspace.old bound.now.action) bound.now.action ≡ Some told) }
+    ensures workspace { OnOk result (workspace.new ≡ written (objections_on (rows_for heap.now.entries workspace.old bound.now.action) bound.now.action) workspace.old (writes_of (rows_for heap.now.entries workspace.old bound.now.action) bound.now.action)) }
+{
+    let action = &bound.action;
+    let writes = match plan(alloc, heap, workspace, action) {
+        Ok(writes) => writes,
+        Err(Stop::Refused(refusal)) => return Ok(Reply::Refused(refusal)),
+        Err(Stop::Memory) => return Err(Memory),
+    };
+    let Ok(count) = u32::try_from(writes.as_slice().len()) else {
+        return Err(Memory);
+    };
+    note(workspace, writes)?;
+    Ok(reply(action, count))
+}

@@ -1,0 +1,35 @@
+//! Laws of the definitions. Each is the contract of a function that does nothing.
+
+ghost use Rattle.std.specs.Prelude.{◌≡◌, ℕ, not, IsTrue, List, [], map, filter, fold, Option, if◌then◌else◌};
+ghost use Rattle.std.specs.List.{All};
+ghost use Rattle.bf_base.specs.declared.table.Table.{Table};
+ghost use Rattle.bf_base.specs.declared.value.Value.{Value};
+ghost use Rattle.bf_base.specs.Lists.{with_placed};
+ghost use Rattle.bf_base.specs.Maps.{is_map};
+ghost use Rattle.bf_base.specs.Tables.{IsKeyWithin, cell, key_of};
+ghost use Rattle.bf_base.specs.Values.{key_cmp};
+ghost use Rattle.bf_expr.specs.Evaluation.{holds_on};
+ghost use Rattle.bf_expr.specs.Trees.{Cond, Expr};
+ghost use Rattle.bf_heap.specs.Heaps.{Entry, key_of_entry};
+ghost use Rattle.bf_sql.specs.Queries.{changed};
+ghost use Rattle.bf_sql.specs.declared.bound.Action.TheVariants as action;
+ghost use Rattle.bf_txn.specs.declared.write.Write.{Write};
+ghost use Rattle.bf_txn.specs.Writes.{AreWrites, with_write};
+ghost use Rattle.bf_query.specs.Actions.{objections_on, writes_of};
+ghost use Rattle.bf_query.specs.Merged.{StandUnderOwnKeys, rows_under};
+
+/// The writes of an INSERT that nothing stands in the way of place its tuples among the rows of
+/// the table, in key order.
+pub fn an_insert_places_its_tuples()
+    ensures { (table : Table) (entries : List Entry) (writes : List Write) (tuples : List (List Value)) → IsTrue (is_map key_cmp key_of_entry entries) → AreWrites writes → StandUnderOwnKeys table entries writes → All (IsKeyWithin table) tuples → objections_on (rows_under entries writes table.name) (action.Insert table tuples) ≡ [] → rows_under entries (fold with_write writes (writes_of (rows_under entries writes table.name) (action.Insert table tuples))) table.name ≡ with_placed key_cmp (key_of table) (rows_under entries writes table.name) tuples }
+{}
+
+/// The writes of an UPDATE change the rows that satisfy its condition, and leave the others.
+pub fn an_update_changes_its_rows()
+    ensures { (table : Table) (entries : List Entry) (writes : List Write) (sets : List (ℕ × Expr ℕ)) (cond : Cond ℕ) (fixed : Option (List Value)) → IsTrue (is_map key_cmp key_of_entry entries) → AreWrites writes → StandUnderOwnKeys table entries writes → rows_under entries (fold with_write writes (writes_of (rows_under entries writes table.name) (action.Update table sets cond fixed))) table.name ≡ map (λ row. if holds_on (cell row) cond then changed cell (λ place. place) sets row else row) (rows_under entries writes table.name) }
+{}
+
+/// The writes of a DELETE leave the rows that do not satisfy its condition.
+pub fn a_delete_leaves_the_other_rows()
+    ensures { (table : Table) (entries : List Entry) (writes : List Write) (cond : Cond ℕ) (fixed : Option (List Value)) → IsTrue (is_map key_cmp key_of_entry entries) → AreWrites writes → StandUnderOwnKeys table entries writes → rows_under entries (fold with_write writes (writes_of (rows_under entries writes table.name) (action.Delete table cond fixed))) table.name ≡ filter (λ row. not (holds_on (cell row) cond)) (rows_under entries writes table.name) }
+{}
