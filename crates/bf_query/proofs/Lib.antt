@@ -5,5 +5,7 @@ pub mod Keeping
 pub mod Keyed
 pub mod Merging
 pub mod OwnKeys
+pub mod Steps
 pub mod Stopping
 pub mod Taken
+pub mod Totals

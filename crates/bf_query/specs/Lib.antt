@@ -1,4 +1,6 @@
 pub mod Actions
 pub mod Changes
 pub mod Merged
+pub mod Standings
 pub mod Stops
+pub mod Sums
