@@ -1,3 +1,4 @@
+pub mod Binding
 pub mod Effects
 pub mod FixedKey
 pub mod Inserting
@@ -5,6 +6,7 @@ pub mod Keeping
 pub mod Keyed
 pub mod Merging
 pub mod OwnKeys
+pub mod Renaming
 pub mod Steps
 pub mod Stopping
 pub mod Taken

@@ -1,5 +1,6 @@
 pub mod Actions
 pub mod Changes
+pub mod Meanings
 pub mod Merged
 pub mod Standings
 pub mod Stops

@@ -4,6 +4,7 @@
 pub mod answer;
 pub mod change;
 pub mod laws;
+pub mod meaning;
 pub mod merge;
 mod running;
 pub mod selection;
