@@ -33,7 +33,7 @@ use Rattle.bf_query.specs.Meanings.{IsBoundAs}
 use Rattle.bf_query.proofs.OwnKeys.{each}
 use Rattle.bf_query.proofs.Effects.{nothing_before, not_when}
 
-one_name : (a b : List ℕ) → same_name a b ≡ true → a ≡ b
+pub one_name : (a b : List ℕ) → same_name a b ≡ true → a ≡ b
 one_name a b same = (name_ties a b).0 (equal_from_test _ (sym (same_name-tie a b) ∙ same))
 
 not_false : (b : Bool) → not b ≡ false → b ≡ true

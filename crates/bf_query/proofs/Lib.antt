@@ -1,3 +1,4 @@
+pub mod AsWritten
 pub mod Binding
 pub mod Effects
 pub mod FixedKey
@@ -7,6 +8,7 @@ pub mod Keyed
 pub mod Merging
 pub mod OwnKeys
 pub mod Renaming
+pub mod RowsAsEntries
 pub mod Steps
 pub mod Stopping
 pub mod Taken
