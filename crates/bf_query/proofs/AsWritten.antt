@@ -1,5 +1,5 @@
 -- Bound statements mean what is written.
-use Rattle.std.proofs.Common.{◌≡◌, ℕ, Bool, true, false, not, cond, if◌then◌else◌, List, [], ◌∷◌, ◌++◌, map, filter, fold, length, find, Option, Some, None, refl, sym, ap, ap₂, subst, ◌∙◌, inl, inr, is_eq, arith}
+use Rattle.std.proofs.Common.{◌≡◌, ℕ, Bool, true, false, not, cond, if◌then◌else◌, List, [], ◌∷◌, ◌++◌, map, filter, fold, length, find, Option, Some, None, refl, sym, ap, ap₂, subst, ◌∙◌, inl, inr, is_eq}
 use Rattle.std.specs.Prelude.{flat_map, slice_index_or}
 use Rattle.std.proofs.Math.Path.{fun_ext}
 use Rattle.std.proofs.lemmas.Bool.{and_parts, cases_Bool}
@@ -17,7 +17,7 @@ use Rattle.bf_base.proofs.Names.{name_cmp_total, same_name-tie_back}
 use Rattle.bf_base.proofs.Order.{less_from_test, rises_skip, rises_tail}
 use Rattle.bf_expr.specs.declared.raw.Ref.{Ref}
 use Rattle.bf_expr.specs.Evaluation.{holds_on}
-use Rattle.bf_expr.specs.Trees.{Expr, Cond, cond_over}
+use Rattle.bf_expr.specs.Trees.{Expr, Cond}
 use Rattle.bf_expr.proofs.Renamed.{holds_on-cond_over}
 use Rattle.bf_heap.specs.Heaps.{Entry}
 use Rattle.bf_sql.specs.declared.bound.Action.{Action}
@@ -35,7 +35,7 @@ use Rattle.bf_sql.specs.Database.{Database, Stored, IsDatabase, stored_at, table
 use Rattle.bf_sql.specs.Meaning.{executed, effect, unless_refused}
 use Rattle.bf_sql.specs.Objections.{objections}
 use Rattle.bf_sql.specs.Queries.{selected, answer_of, changed}
-use Rattle.bf_sql.specs.RowObjections.{row_objections, answer_objections, change_objections, insert_objections}
+use Rattle.bf_sql.specs.RowObjections.{row_objections, answer_objections, insert_objections}
 use Rattle.bf_sql.specs.Scopes.{scope_of, place_of, read_in, admitted_by, unqualified}
 use Rattle.bf_txn.specs.declared.write.Write.{Write}
 use Rattle.bf_txn.specs.Writes.{with_write}
@@ -43,9 +43,8 @@ use Rattle.bf_query.specs.Actions as actions
 use Rattle.bf_query.specs.Actions.{IsChange, IsSelect, IsWellBound, admitted_at, change_reply, objections_on, table_of, write_of, writes_of, written}
 use Rattle.bf_query.specs.Meanings.{ChangeMakesWhatIsWritten, ChangeRepliesWhatIsWritten, HoldRowsOf, IsBoundAs, SelectMeansWhatIsWritten}
 use Rattle.bf_query.specs.Merged.{rows_under, entries_under}
-use Rattle.bf_query.proofs.Binding.{IsFound, as_stored, one_name, insert_found, select_found, update_found, delete_found, well_bound}
+use Rattle.bf_query.proofs.Binding.{as_stored, one_name, insert_found, select_found, update_found, delete_found, well_bound}
 use Rattle.bf_query.proofs.Effects.{rows_placed, rows_remade, remade-changed, remade-removed}
-use Rattle.bf_query.proofs.OwnKeys.{by_recursion}
 use Rattle.bf_query.proofs.Renaming.{selected-over, answer_objections-over, answer_of-over, changed-over, change_objections-over}
 
 -- the reply to a statement, and the database after it, by the objections of the rows

@@ -12,7 +12,7 @@ use Rattle.bf_base.specs.declared.table.Admit.{Admit}
 use Rattle.bf_base.specs.Lists.{when}
 use Rattle.bf_base.specs.Tables.{cell}
 use Rattle.bf_expr.specs.Trees.{Expr, Cond, expr_over, cond_over}
-use Rattle.bf_expr.specs.Evaluation.{value_of, sure_value, holds_on, is_int}
+use Rattle.bf_expr.specs.Evaluation.{value_of, sure_value, is_int}
 use Rattle.bf_expr.proofs.Renamed.{value_of-expr_over, holds_on-cond_over}
 use Rattle.bf_sql.specs.declared.items.Aggregate.{Aggregate}
 use Rattle.bf_sql.specs.declared.items.Aggregate.TheVariants.{Count, Sum, Min, Max}

@@ -1,10 +1,9 @@
 -- The rows of a database as entries, each under its own key.
-use Rattle.std.proofs.Common.{◌≡◌, ℕ, true, List, [], ◌∷◌, map, Some, refl, ap, ap₂, sym, ◌∙◌, arith}
-use Rattle.std.specs.List.{AllByRecursion, list_all}
+use Rattle.std.proofs.Common.{◌≡◌, true, List, [], ◌∷◌, map, Some, refl, ap, ◌∙◌, arith}
+use Rattle.std.specs.List.{list_all}
 use Rattle.std.proofs.lemmas.Bool.{and_parts}
 use Rattle.bf_base.specs.declared.value.Value.{Value}
 use Rattle.bf_base.specs.declared.table.Table.{Table}
-use Rattle.bf_base.specs.Maps.{is_map}
 use Rattle.bf_base.specs.Tables.{key_of}
 use Rattle.bf_base.specs.Lists.{rises}
 use Rattle.bf_base.specs.Values.{key_cmp}
@@ -13,7 +12,7 @@ use Rattle.bf_sql.specs.Database.{Database, IsDatabase, is_admitted, is_within, 
 use Rattle.bf_query.specs.Merged.{HasOwnKey}
 use Rattle.bf_query.specs.Meanings.{HoldRowsOf, entries_of}
 use Rattle.bf_query.proofs.Binding.{as_stored, key_within, rows_keyed, rows_admitted, row_within}
-use Rattle.bf_query.proofs.Merging.{keys_of, rows_of}
+use Rattle.bf_query.proofs.Merging.{rows_of}
 use Rattle.bf_query.proofs.OwnKeys.{OwnKeys, each}
 
 module _ (table : Table) where
