@@ -40,12 +40,25 @@ use Rattle.bf_sql.specs.Scopes.{scope_of, place_of, read_in, admitted_by, unqual
 use Rattle.bf_txn.specs.declared.write.Write.{Write}
 use Rattle.bf_txn.specs.Writes.{with_write}
 use Rattle.bf_query.specs.Actions as actions
-use Rattle.bf_query.specs.Actions.{IsChange, IsSelect, IsWellBound, admitted_at, change_reply, objections_on, table_of, write_of, writes_of, written}
-use Rattle.bf_query.specs.Meanings.{ChangeMakesWhatIsWritten, ChangeRepliesWhatIsWritten, HoldRowsOf, IsBoundAs, SelectMeansWhatIsWritten}
+use Rattle.bf_query.specs.Actions.{IsChange, IsSelect, IsWellBound, admitted_at, change_reply, select_reply, objections_on, table_of, write_of, writes_of, written}
+use Rattle.bf_query.specs.Meanings.{HoldRowsOf, IsBoundAs, rows_after}
 use Rattle.bf_query.specs.Merged.{rows_under, entries_under}
 use Rattle.bf_query.proofs.Binding.{as_stored, one_name, insert_found, select_found, update_found, delete_found, well_bound}
 use Rattle.bf_query.proofs.Effects.{rows_placed, rows_remade, remade-changed, remade-removed}
 use Rattle.bf_query.proofs.Renaming.{selected-over, answer_objections-over, answer_of-over, changed-over, change_objections-over}
+
+-- a bound SELECT replies what the statement means, and the statement leaves the database
+abbrev pub SelectMeansWhatIsWritten : ℕ → Database → Bool → Statement → Action → Table → Type 0
+SelectMeansWhatIsWritten commit db in_block s act table =
+    (select_reply (table_rows db table.name) act ≡ Some (executed commit db in_block s).0) × ((executed commit db in_block s).1 ≡ db)
+
+-- a bound change replies what the statement means
+abbrev pub ChangeRepliesWhatIsWritten : ℕ → Database → Bool → Statement → Action → Table → Type 0
+ChangeRepliesWhatIsWritten commit db in_block s act table = change_reply (table_rows db table.name) act ≡ Some (executed commit db in_block s).0
+
+-- and its writes make the database that the statement means
+abbrev pub ChangeMakesWhatIsWritten : ℕ → Database → Bool → Statement → Action → Table → List Entry → List Write → Type 0
+ChangeMakesWhatIsWritten commit db in_block s act table entries writes = (executed commit db in_block s).1 ≡ with_rows db table.name (rows_after db table entries writes act)
 
 -- the reply to a statement, and the database after it, by the objections of the rows
 reply_is : (rs : List Refusal) (db : Database) (told : Reply) (new : Database) → (unless_refused rs db (λ _. (told, new))).0 ≡ actions.unless_refused rs told
@@ -161,9 +174,9 @@ module _ (commit : ℕ) (db : Database) (in_block : Bool) where
         let s = statement.Select list name c in
         let same : selected cell (cond_in db name c) (table_rows db on_table.name) ≡ selected read (condition_of c) rows = ap (λ (n : List ℕ). selected cell (cond_in db name c) (table_rows db n)) named ∙ seen c in (
           ap₂ (λ (rs : List Refusal) (told : List (List Cell)). Some (actions.unless_refused rs (reply.Rows told)))
-          (ap (answer_objections cell (items_over to list)) same ∙ answer_objections-over to list (selected read (condition_of c) rows))
-          (ap (answer_of cell (items_over to list)) same ∙ answer_of-over to list (selected read (condition_of c) rows))
-          ∙ ap Some (replied s none),
+              (ap (answer_objections cell (items_over to list)) same ∙ answer_objections-over to list (selected read (condition_of c) rows))
+              (ap (answer_of cell (items_over to list)) same ∙ answer_of-over to list (selected read (condition_of c) rows))
+              ∙ ap Some (replied s none),
           ap (λ (out : Reply × Database). out.1) (admitted s none) ∙ stays (row_objections db s) db (effect commit db s).0,
         )
 

@@ -11,5 +11,5 @@ returns c = record {
   reply = reply_law;
   database = database_law;
   over_the_rows = λ commit db in_block s act table bound is on.
-  database_law commit db in_block s act table (entries_of table (table_rows db table.name)) [] bound is on (hold_rows db table bound.database (stored_table db in_block s act table bound on));
+      database_law commit db in_block s act table (entries_of table (table_rows db table.name)) [] bound is on (hold_rows db table bound.database (stored_table db in_block s act table bound on));
 }
