@@ -1,6 +1,6 @@
 -- Loops that stop at the first objection.
-use Rattle.std.proofs.Common.{◌≡◌, refl, ℕ, ◌+◌, ◌<◌, ◌≤◌, List, [], ◌∷◌, ◌++◌, Some, take, drop, set, map, get_or, length, take-append-drop, arith, ap, sym, ◌∙◌, subst}
-use Rattle.std.specs.Prelude.{Result, Ok, Err}
+use Rattle.std.proofs.Common.{◌≡◌, refl, ℕ, ◌+◌, ◌<◌, ◌≤◌, List, [], ◌∷◌, ◌++◌, Some, take, drop, set, map, get_or, length, take-append-drop, arith, ap, sym, ◌∙◌}
+use Rattle.std.specs.Prelude.{Result, Err}
 use Rattle.std.specs.List.{flat_map}
 use Rattle.std.specs.Result.{IsErrAnd}
 use Rattle.std.proofs.lemmas.List.{take_more, take_all, drop_more, get_or-drop, take_more_set, map_more, get_or-map, drop-set-lt, drop-drop}
@@ -9,21 +9,20 @@ use Rattle.std.proofs.lemmas.List.Folds.{flat_map-map}
 use Rattle.bf_sql.specs.declared.reply.Refusal.{Refusal}
 use Rattle.bf_query.specs.declared.stop.Stop.{Stop}
 use Rattle.bf_query.specs.declared.stop.Stop.TheVariants.{Refused, Memory}
-use Rattle.bf_query.proofs.Stopping.{first_ahead}
-use Rattle.bf_query.specs.Stops.{first_of, IsCause, Objects}
+use Rattle.bf_query.proofs.Stopping.{first_ahead, handed_on}
+use Rattle.bf_query.specs.Stops.{first_of, Settles}
 
 pub map_map : {X Y Z : Type 0} (f : Y → Z) (v : X → Y) (xs : List X) → map f (map v xs) ≡ map (λ x. f (v x)) xs
 map_map f v [] = refl
 map_map f v (x ∷ xs) = rw (map_map f v xs)
 
 -- an error that is passed on
-pub passes_on : {B : Type 0} (result : Result B Stop) (e : Stop) (objections : List Refusal) → IsErrAnd result (λ s. s ≡ e) → IsCause objections e → Objects result objections
-passes_on (Ok x) e objections same h = absurd same
-passes_on (Err s) e objections same h = subst (λ (z : Stop). IsCause objections z) (sym same) h
+pub passes_on : {A B : Type 0} (result : Result B Stop) (e : Stop) (objections : List Refusal) (meant : A) (whole : B) → IsErrAnd result (λ s. s ≡ e) → Settles (Err e) objections meant → Settles result objections whole
+passes_on result e objections meant whole same h = handed_on result e objections objections meant whole same h (λ r here. here)
 
-pub cause_before : (e : Stop) (objections more : List Refusal) → IsCause objections e → IsCause (objections ++ more) e
-cause_before (Refused r) objections more h = first_ahead objections more r h
-cause_before Memory objections more h = tt
+pub cause_before : {A : Type 0} (e : Stop) (objections more : List Refusal) (meant : A) → Settles (Err e) objections meant → Settles (Err e) (objections ++ more) meant
+cause_before (Refused r) objections more meant h = first_ahead objections more r h
+cause_before Memory objections more meant h = tt
 
 module _ {X : Type 0} (xs : List X) (i : ℕ) (x : X) (lt : i < length xs) (is : x ≡ get_or xs i x) where
   pub goes_on : {Y : Type 0} (f : X → List Y) → flat_map f (take i xs) ≡ [] → f x ≡ [] → flat_map f (take (i + 1) xs) ≡ []
@@ -46,9 +45,9 @@ module _ {X : Type 0} (xs : List X) (i : ℕ) (x : X) (lt : i < length xs) (is :
       rw (flat, none, ← there) (first_ahead (f x) rest y here)
 
   -- an error at an item is the whole loop's
-  pub stops : (f : X → List Refusal) (e : Stop) → flat_map f (take i xs) ≡ [] → IsCause (f x) e → IsCause (flat_map f xs) e
-  stops f (Refused r) none here = stops_at f r none here
-  stops f Memory none here = tt
+  pub stops : {A : Type 0} (f : X → List Refusal) (e : Stop) (meant : A) → flat_map f (take i xs) ≡ [] → Settles (Err e) (f x) meant → Settles (Err e) (flat_map f xs) meant
+  stops f (Refused r) meant none here = stops_at f r none here
+  stops f Memory meant none here = tt
 
 -- at the end of a loop over what v reads of the items
 module _ {X Y : Type 0} (v : X → Y) (xs : List X) (i : ℕ) (end : length xs ≤ i) where

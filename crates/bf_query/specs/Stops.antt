@@ -14,13 +14,3 @@ abbrev pub Settles : {A : Type 0} → Result A Stop → List Refusal → A → T
 Settles (Ok found) objections meant = (objections ≡ []) × (found ≡ meant)
 Settles (Err (stop.Refused r)) objections meant = first_of objections ≡ Some r
 Settles (Err stop.Memory) objections meant = Unit {0}
-
--- why an action stops: its first objection; or memory ran out
-abbrev pub IsCause : List Refusal → Stop → Type 0
-IsCause objections (stop.Refused r) = first_of objections ≡ Some r
-IsCause objections stop.Memory = Unit {0}
-
--- an action ends where nothing is objected, and else stops by its cause
-abbrev pub Objects : {A : Type 0} → Result A Stop → List Refusal → Type 0
-Objects (Ok found) objections = objections ≡ []
-Objects (Err e) objections = IsCause objections e

@@ -9,7 +9,7 @@ ghost use Rattle.bf_sql.specs.declared.items.Items.TheVariants.{All, Exprs};
 ghost use Rattle.bf_sql.specs.declared.reply.Cell.TheVariants as cells;
 ghost use Rattle.bf_sql.specs.declared.reply.Reply.TheVariants as reply;
 ghost use Rattle.bf_query.specs.Actions.{unless_refused};
-ghost use Rattle.bf_query.specs.Stops.{Objects};
+ghost use Rattle.bf_query.specs.Stops.{Settles};
 
 use crate::running::{told_value, totals};
 use crate::stop::Stop;
@@ -43,8 +43,7 @@ fn all_columns(alloc: Global, rows: &[&Row]) -> Result<Sequence<Sequence<Cell>>,
 
 /// The values of expressions on a row, the first one first.
 fn values(alloc: Global, exprs: &[Expr], row: &Row) -> Result<Sequence<Cell>, Stop>
-    ensures objections { Objects result (flat_map (λ expr. value_objections (value_of (cell row.now) expr)) exprs.now) }
-    ensures values { IfOk result (λ given. given ≡ map (λ expr. cells.Value (sure_value (cell row.now) expr)) exprs.now) }
+    ensures { Settles result (flat_map (λ expr. value_objections (value_of (cell row.now) expr)) exprs.now) (map (λ expr. cells.Value (sure_value (cell row.now) expr)) exprs.now) }
 {
     let mut cells = Vec::with_capacity(alloc, exprs.len())?;
     for expr in exprs {
@@ -59,8 +58,7 @@ fn all_values(
     exprs: &[Expr],
     rows: &[&Row],
 ) -> Result<Sequence<Sequence<Cell>>, Stop>
-    ensures objections { Objects result (answer_objections cell (Exprs exprs.now) (map (λ row. row.now) rows.now)) }
-    ensures values { IfOk result (λ given. given ≡ answer_of cell (Exprs exprs.now) (map (λ row. row.now) rows.now)) }
+    ensures { Settles result (answer_objections cell (Exprs exprs.now) (map (λ row. row.now) rows.now)) (answer_of cell (Exprs exprs.now) (map (λ row. row.now) rows.now)) }
 {
     let mut given = Vec::with_capacity(alloc, rows.len())?;
     for row in rows {
@@ -71,8 +69,7 @@ fn all_values(
 
 /// What is given of some rows.
 fn given(alloc: Global, items: &Items, rows: &[&Row]) -> Result<Sequence<Sequence<Cell>>, Stop>
-    ensures objections { Objects result (answer_objections cell items.now (map (λ row. row.now) rows.now)) }
-    ensures rows { IfOk result (λ given. given ≡ answer_of cell items.now (map (λ row. row.now) rows.now)) }
+    ensures { Settles result (answer_objections cell items.now (map (λ row. row.now) rows.now)) (answer_of cell items.now (map (λ row. row.now) rows.now)) }
 {
     match items {
         Items::All => Ok(all_columns(alloc, rows)?),

@@ -8,7 +8,7 @@ ghost use Rattle.bf_sql.specs.RowObjections.{answer_objections, value_objections
 ghost use Rattle.bf_sql.specs.Totals.{total_of};
 ghost use Rattle.bf_sql.specs.declared.items.Items.TheVariants.{Aggregates};
 ghost use Rattle.bf_query.specs.Standings.{IsCountable, advanced, end_objections, row_objections, standing, standing_after, total_cell};
-ghost use Rattle.bf_query.specs.Stops.{Objects};
+ghost use Rattle.bf_query.specs.Stops.{Settles};
 
 use crate::stop::Stop;
 use crate::sum::ExactSum;
@@ -28,8 +28,7 @@ pub enum Running<'a> {
 
 /// The value of an expression on a row, or the refusal that tells why there is none.
 pub fn told_value(alloc: Global, expr: &Expr, row: &Row) -> Result<Value, Stop>
-    ensures objections { Objects result (value_objections (value_of (cell row.now) expr.now)) }
-    ensures value { IfOk result (λ found. found ≡ sure_value (cell row.now) expr.now) }
+    ensures { Settles result (value_objections (value_of (cell row.now) expr.now)) (sure_value (cell row.now) expr.now) }
 {
     match value(alloc, expr, row) {
         Ok(found) => Ok(found),
@@ -55,7 +54,7 @@ impl<'a> Running<'a> {
     /// Takes a row in.
     fn advance(&mut self, alloc: Global, row: &Row) -> Result<(), Stop>
         requires { IsCountable (standing self.old) }
-        ensures objections { Objects result (row_objections row.now (standing self.old)) }
+        ensures objections { Settles result (row_objections row.now (standing self.old)) tt }
         ensures total { OnOk result (standing self.new ≡ advanced row.now (standing self.old)) }
     {
         match self {
@@ -80,8 +79,7 @@ impl<'a> Running<'a> {
     /// The total of all rows.
     fn finish(self) -> Result<Cell, Stop>
         requires { IsCountable (standing self) }
-        ensures objections { Objects result (end_objections (standing self.entry)) }
-        ensures cell { IfOk result (λ cell. cell ≡ total_cell (standing self.entry)) }
+        ensures { Settles result (end_objections (standing self.entry)) (total_cell (standing self.entry)) }
     {
         match self {
             Running::Count(rows) => Ok(Cell::Value(Value::Int(rows as i64))),
@@ -112,7 +110,7 @@ fn started<'a>(alloc: Global, totals: &'a [Aggregate]) -> Result<Vec<Running<'a>
 /// Takes a row into each total, the first one first.
 fn advance_all(alloc: Global, running: &mut [Running<'_>], row: &Row) -> Result<(), Stop>
     requires { All IsCountable (map standing running.old) }
-    ensures objections { Objects result (flat_map (row_objections row.now) (map standing running.old)) }
+    ensures objections { Settles result (flat_map (row_objections row.now) (map standing running.old)) tt }
     ensures totals { OnOk result (map standing running.new ≡ map (advanced row.now) (map standing running.old)) }
 {
     for total in running.iter_mut() {
@@ -124,8 +122,7 @@ fn advance_all(alloc: Global, running: &mut [Running<'_>], row: &Row) -> Result<
 /// Ends each total, the first one first.
 fn finished(alloc: Global, running: Vec<Running<'_>>) -> Result<Sequence<Cell>, Stop>
     requires { All IsCountable (map standing running.items) }
-    ensures objections { Objects result (flat_map end_objections (map standing running.entry.items)) }
-    ensures cells { IfOk result (λ cells. cells ≡ map total_cell (map standing running.entry.items)) }
+    ensures { Settles result (flat_map end_objections (map standing running.entry.items)) (map total_cell (map standing running.entry.items)) }
 {
     let mut cells = Vec::with_capacity(alloc, running.len())?;
     for total in running {
@@ -137,8 +134,7 @@ fn finished(alloc: Global, running: Vec<Running<'_>>) -> Result<Sequence<Cell>, 
 /// The totals of some rows: the arguments are computed row by row, and the sums are judged at
 /// the end.
 pub fn totals(alloc: Global, totals: &[Aggregate], rows: &[&Row]) -> Result<Sequence<Cell>, Stop>
-    ensures objections { Objects result (answer_objections cell (Aggregates totals.now) (map (λ row. row.now) rows.now)) }
-    ensures cells { IfOk result (λ cells. cells ≡ map (total_of cell (map (λ row. row.now) rows.now)) totals.now) }
+    ensures { Settles result (answer_objections cell (Aggregates totals.now) (map (λ row. row.now) rows.now)) (map (total_of cell (map (λ row. row.now) rows.now)) totals.now) }
 {
     let mut running = started(alloc, totals)?;
     for row in rows {

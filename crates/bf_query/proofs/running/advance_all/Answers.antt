@@ -16,8 +16,8 @@ returns-in_err-advance-clause-objections c =
     let x = standing (get_or c.loop-total.running c.loop-total.total-index c.total-item.result) in
     let lt : c.loop-total.total-index < length (map standing c.args.running.now) = simp length-map (omega arith) in
     let here = next_left standing c.loop-total.running c.args.running.now c.loop-total.total-index c.total-item.result (omega arith) c.loop-total.invariant.left x in
-    passes_on _ _ _ (c.from_residual.ensures.1)
-    (stops (map standing c.args.running.now) c.loop-total.total-index x lt here (row_objections c.args.row.now) _ c.loop-total.invariant.none c.in_err-advance.ensures.objections)
+    passes_on _ _ _ _ _ (c.from_residual.ensures.1)
+    (stops (map standing c.args.running.now) c.loop-total.total-index x lt here (row_objections c.args.row.now) _ _ c.loop-total.invariant.none c.in_err-advance.ensures.objections)
 
 pub loop-total-preserved : goal.loop-total-preserved
 loop-total-preserved c =
@@ -32,5 +32,5 @@ loop-total-preserved c =
       left =
           rw (map-set standing c.loop-total.running c.loop-total.total-index c.advance.new.self)
           (left_less (map standing c.loop-total.running) (map standing c.args.running.now) c.loop-total.total-index (standing c.advance.new.self) c.loop-total.invariant.left);
-      none = goes_on (map standing c.args.running.now) c.loop-total.total-index x lt here (row_objections c.args.row.now) c.loop-total.invariant.none c.in_ok-advance.ensures.objections;
+      none = goes_on (map standing c.args.running.now) c.loop-total.total-index x lt here (row_objections c.args.row.now) c.loop-total.invariant.none c.in_ok-advance.ensures.objections.0;
     }
