@@ -27,8 +27,8 @@ loop-row-preserved c = record {
 
 pub returns : goal.returns
 returns c = (
-    all_passed (λ row. row.now) c.args.rows.now c.loop-row.row-index c.loop-row-test.false
-    (λ row. flat_map (λ expr. value_objections (value_of (cell row) expr)) c.args.exprs.now) c.loop-row.invariant.none,
-    c.of.ensures ∙ all_given (λ row. row.now) c.args.rows.now c.loop-row.row-index c.loop-row-test.false
-    (λ row. map (λ expr. cells.Value (sure_value (cell row) expr)) c.args.exprs.now) c.loop-row.given.items c.loop-row.invariant.given,
+  all_passed (λ row. row.now) c.args.rows.now c.loop-row.row-index c.loop-row-test.false
+      (λ row. flat_map (λ expr. value_objections (value_of (cell row) expr)) c.args.exprs.now) c.loop-row.invariant.none,
+  c.of.ensures ∙ all_given (λ row. row.now) c.args.rows.now c.loop-row.row-index c.loop-row-test.false
+      (λ row. map (λ expr. cells.Value (sure_value (cell row) expr)) c.args.exprs.now) c.loop-row.given.items c.loop-row.invariant.given,
 )
