@@ -204,11 +204,11 @@ placed_is table tuple (e ∷ entries) own new =
     ] apart
     ∙ ap (λ (k : List Value). if is_lt (key_cmp key k) then tuple ∷ e.1 ∷ rows_of entries else e.1 ∷ placed key_cmp (key_of table) (rows_of entries) tuple) (sym own.0.1)
 
-nothing_before : {X : Type 0} (xs ys : List X) → xs ++ ys ≡ [] → (xs ≡ []) × (ys ≡ [])
+pub nothing_before : {X : Type 0} (xs ys : List X) → xs ++ ys ≡ [] → (xs ≡ []) × (ys ≡ [])
 nothing_before [] ys e = (refl, e)
 nothing_before (x ∷ xs) ys e = absurd cc
 
-not_when : {X : Type 0} (b : Bool) (x : X) → when b x ≡ [] → b ≡ false
+pub not_when : {X : Type 0} (b : Bool) (x : X) → when b x ≡ [] → b ≡ false
 not_when false x e = refl
 not_when true x e = absurd cc
 

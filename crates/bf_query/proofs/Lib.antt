@@ -1,3 +1,5 @@
+pub mod AsWritten
+pub mod Binding
 pub mod Effects
 pub mod FixedKey
 pub mod Inserting
@@ -5,5 +7,9 @@ pub mod Keeping
 pub mod Keyed
 pub mod Merging
 pub mod OwnKeys
+pub mod Renaming
+pub mod RowsAsEntries
+pub mod Steps
 pub mod Stopping
 pub mod Taken
+pub mod Totals

@@ -1,4 +1,7 @@
 pub mod Actions
 pub mod Changes
+pub mod Meanings
 pub mod Merged
+pub mod Standings
 pub mod Stops
+pub mod Sums

@@ -15,9 +15,10 @@ ghost use Rattle.bf_query.specs.Merged.{StandUnderOwnKeys, rows_under};
 ghost use Rattle.bf_query.specs.Stops.{Settles, first_of};
 
 use crate::merge::{row_at, selected_rows};
+use crate::running::told_value;
 use crate::stop::Stop;
 use bf_base::{Fit, Key, Memory, Row, Sequence, Table, Value, admits, key_of};
-use bf_expr::{Expr, Fail, value};
+use bf_expr::Expr;
 use bf_heap::Heap;
 use bf_sql::{Action, Bound, Refusal, Reply};
 use bf_txn::{Workspace, Write};
@@ -120,24 +121,12 @@ fn fit_at(table: &Table, place: u8, value: &Value) -> Fit
     }
 }
 
-/// The value that an expression has on a row.
-fn value_on(alloc: Global, expr: &Expr, row: &Row) -> Result<Value, Stop>
-    ensures { Settles result (value_objections (value_of (cell row.now) expr.now)) (sure_value (cell row.now) expr.now) }
-{
-    match value(alloc, expr, row) {
-        Ok(found) => Ok(found),
-        Err(Fail::OutOfRange) => Err(Stop::Refused(Refusal::OutOfRange)),
-        Err(Fail::TooLong) => Err(Stop::Refused(Refusal::TooLong)),
-        Err(Fail::Memory) => Err(Stop::Memory),
-    }
-}
-
 /// The value that a set gives a column of a row, if the expression has one there and the column
 /// admits it.
 fn set_value(alloc: Global, table: &Table, place: u8, expr: &Expr, row: &Row) -> Result<Value, Stop>
     ensures { Settles result (value_objections (value_of (cell row.now) expr.now) ++ unfit_objections (admitted_at table.now place) (sure_value (cell row.now) expr.now)) (sure_value (cell row.now) expr.now) }
 {
-    let found = value_on(alloc, expr, row)?;
+    let found = told_value(alloc, expr, row)?;
     match unfitness(fit_at(table, place, &found)) {
         Some(refusal) => Err(Stop::Refused(refusal)),
         None => Ok(found),

@@ -1,11 +1,17 @@
 //! SELECT, INSERT, UPDATE and DELETE on the rows of a heap under the workspace of a transaction.
 #![tactic(auto)]
 
+pub mod answer;
 pub mod change;
 pub mod laws;
+pub mod meaning;
 pub mod merge;
+mod running;
+pub mod selection;
 pub mod stop;
+mod sum;
 #[cfg(test)]
 mod tests;
 
 pub use change::changes;
+pub use selection::select;

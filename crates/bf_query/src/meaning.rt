@@ -1,0 +1,43 @@
+//! Laws that bound statements mean what is written. Each is the contract of a function that does
+//! nothing.
+
+ghost use Rattle.std.specs.Prelude.{◌≡◌, ℕ, Bool, List, [], Some};
+ghost use Rattle.bf_base.specs.declared.table.Table.{Table};
+ghost use Rattle.bf_heap.specs.Heaps.{Entry};
+ghost use Rattle.bf_sql.specs.declared.bound.Action.{Action};
+ghost use Rattle.bf_sql.specs.declared.statement.Statement.{Statement};
+ghost use Rattle.bf_sql.specs.Database.{Database, stored_at, table_rows, with_rows};
+ghost use Rattle.bf_sql.specs.Meaning.{executed};
+ghost use Rattle.bf_txn.specs.declared.write.Write.{Write};
+ghost use Rattle.bf_query.specs.Actions.{IsChange, IsSelect, IsWellBound, change_reply, select_reply, table_of};
+ghost use Rattle.bf_query.specs.Changes.{LeavesKeys};
+ghost use Rattle.bf_query.specs.Meanings.{HoldRowsOf, IsBoundAs, entries_of, rows_after};
+
+/// What a statement is bound to has a key that its condition fixes, tuples with values for the
+/// key, no set of a key column, and the table that the database has under its name.
+pub fn a_bound_action_is_well_bound()
+    ensures well_bound { (db : Database) (in_block : Bool) (s : Statement) (act : Action) → IsBoundAs db in_block s act → IsWellBound act }
+    ensures leaves_keys { (db : Database) (in_block : Bool) (s : Statement) (act : Action) → IsBoundAs db in_block s act → LeavesKeys act }
+    ensures table { (db : Database) (in_block : Bool) (s : Statement) (act : Action) (table : Table) → IsBoundAs db in_block s act → table_of act ≡ Some table → stored_at db table.name ≡ Some (record { table = table; rows = table_rows db table.name }) }
+{}
+
+/// The rows that the table of a bound statement has in the database stand under their own keys,
+/// in their order.
+pub fn rows_of_a_database_are_entries()
+    ensures { (db : Database) (in_block : Bool) (s : Statement) (act : Action) (table : Table) → IsBoundAs db in_block s act → table_of act ≡ Some table → HoldRowsOf db table (entries_of table (table_rows db table.name)) [] }
+{}
+
+/// A bound SELECT replies what the statement means, which leaves the database as it is.
+pub fn a_bound_select_means_what_is_written()
+    ensures reply { (commit : ℕ) (db : Database) (in_block : Bool) (s : Statement) (act : Action) (table : Table) → IsBoundAs db in_block s act → IsSelect act → table_of act ≡ Some table → select_reply (table_rows db table.name) act ≡ Some (executed commit db in_block s).0 }
+    ensures database { (commit : ℕ) (db : Database) (in_block : Bool) (s : Statement) (act : Action) (table : Table) → IsBoundAs db in_block s act → IsSelect act → table_of act ≡ Some table → (executed commit db in_block s).1 ≡ db }
+{}
+
+/// A bound INSERT, UPDATE or DELETE replies what the statement means, and its writes make the
+/// database that the statement means: over any entries and earlier writes that hold the rows of
+/// its table, and so over the rows alone.
+pub fn a_bound_change_means_what_is_written()
+    ensures reply { (commit : ℕ) (db : Database) (in_block : Bool) (s : Statement) (act : Action) (table : Table) → IsBoundAs db in_block s act → IsChange act → table_of act ≡ Some table → change_reply (table_rows db table.name) act ≡ Some (executed commit db in_block s).0 }
+    ensures database { (commit : ℕ) (db : Database) (in_block : Bool) (s : Statement) (act : Action) (table : Table) (entries : List Entry) (writes : List Write) → IsBoundAs db in_block s act → IsChange act → table_of act ≡ Some table → HoldRowsOf db table entries writes → (executed commit db in_block s).1 ≡ with_rows db table.name (rows_after db table entries writes act) }
+    ensures over_the_rows { (commit : ℕ) (db : Database) (in_block : Bool) (s : Statement) (act : Action) (table : Table) → IsBoundAs db in_block s act → IsChange act → table_of act ≡ Some table → (executed commit db in_block s).1 ≡ with_rows db table.name (rows_after db table (entries_of table (table_rows db table.name)) [] act) }
+{}

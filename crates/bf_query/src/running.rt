@@ -1,0 +1,144 @@
+//! Totals, row by row.
+
+ghost use Rattle.std.specs.Prelude.{◌≡◌, [], map, flat_map, IfOk, OnOk};
+ghost use Rattle.std.specs.List.{All};
+ghost use Rattle.bf_base.specs.Tables.{cell};
+ghost use Rattle.bf_expr.specs.Evaluation.{sure_value, value_of};
+ghost use Rattle.bf_sql.specs.RowObjections.{answer_objections, value_objections};
+ghost use Rattle.bf_sql.specs.Totals.{total_of};
+ghost use Rattle.bf_sql.specs.declared.items.Items.TheVariants.{Aggregates};
+ghost use Rattle.bf_query.specs.Standings.{IsCountable, advanced, end_objections, row_objections, standing, standing_after, total_cell};
+ghost use Rattle.bf_query.specs.Stops.{Settles};
+
+use crate::stop::Stop;
+use crate::sum::ExactSum;
+use bf_base::{Memory, Row, Sequence, Value};
+use bf_expr::{Expr, Fail, value};
+use bf_sql::{Aggregate, Cell, Refusal};
+use std::alloc::Global;
+
+/// A total of the rows so far.
+#[derive(Drop)]
+pub enum Running<'a> {
+    Count(usize),
+    Sum(&'a Expr, ExactSum),
+    Least(&'a Expr, Option<Value>),
+    Greatest(&'a Expr, Option<Value>),
+}
+
+/// The value of an expression on a row, or the refusal that tells why there is none.
+pub fn told_value(alloc: Global, expr: &Expr, row: &Row) -> Result<Value, Stop>
+    ensures { Settles result (value_objections (value_of (cell row.now) expr.now)) (sure_value (cell row.now) expr.now) }
+{
+    match value(alloc, expr, row) {
+        Ok(found) => Ok(found),
+        Err(Fail::OutOfRange) => Err(Stop::Refused(Refusal::OutOfRange)),
+        Err(Fail::TooLong) => Err(Stop::Refused(Refusal::TooLong)),
+        Err(Fail::Memory) => Err(Stop::Memory),
+    }
+}
+
+impl<'a> Running<'a> {
+    /// The total of no rows.
+    fn new(total: &'a Aggregate) -> Running<'a>
+        ensures { standing result ≡ standing_after [] total.now }
+    {
+        match total {
+            Aggregate::Count => Running::Count(0),
+            Aggregate::Sum(expr) => Running::Sum(expr, ExactSum::new()),
+            Aggregate::Min(expr) => Running::Least(expr, None),
+            Aggregate::Max(expr) => Running::Greatest(expr, None),
+        }
+    }
+
+    /// Takes a row in.
+    fn advance(&mut self, alloc: Global, row: &Row) -> Result<(), Stop>
+        requires { IsCountable (standing self.old) }
+        ensures objections { Settles result (row_objections row.now (standing self.old)) tt }
+        ensures total { OnOk result (standing self.new ≡ advanced row.now (standing self.old)) }
+    {
+        match self {
+            Running::Count(rows) => *rows += 1,
+            Running::Sum(expr, sum) => sum.add(&told_value(alloc, expr, row)?),
+            Running::Least(expr, least) => {
+                let value = told_value(alloc, expr, row)?;
+                if least.as_ref().is_none_or(|least| value < *least) {
+                    *least = Some(value);
+                }
+            }
+            Running::Greatest(expr, greatest) => {
+                let value = told_value(alloc, expr, row)?;
+                if greatest.as_ref().is_none_or(|greatest| *greatest < value) {
+                    *greatest = Some(value);
+                }
+            }
+        }
+        Ok(())
+    }
+
+    /// The total of all rows.
+    fn finish(self) -> Result<Cell, Stop>
+        requires { IsCountable (standing self) }
+        ensures { Settles result (end_objections (standing self.entry)) (total_cell (standing self.entry)) }
+    {
+        match self {
+            Running::Count(rows) => Ok(Cell::Value(Value::Int(rows as i64))),
+            Running::Sum(_, sum) => match i64::try_from(sum.sum) {
+                Ok(_) if sum.count == 0 => Ok(Cell::Null),
+                Ok(number) => Ok(Cell::Value(Value::Int(number))),
+                Err(_) => Err(Stop::Refused(Refusal::OutOfRange)),
+            },
+            Running::Least(_, value) | Running::Greatest(_, value) => Ok(value.map_or(
+                Cell::Null,
+                Cell::Value,
+            )),
+        }
+    }
+}
+
+/// The totals of no rows.
+fn started<'a>(alloc: Global, totals: &'a [Aggregate]) -> Result<Vec<Running<'a>>, Memory>
+    ensures { IfOk result (λ running. map standing running.items ≡ map (standing_after []) totals.now) }
+{
+    let mut running = Vec::with_capacity(alloc, totals.len())?;
+    for total in totals {
+        running.push(Running::new(total))?;
+    }
+    Ok(running)
+}
+
+/// Takes a row into each total, the first one first.
+fn advance_all(alloc: Global, running: &mut [Running<'_>], row: &Row) -> Result<(), Stop>
+    requires { All IsCountable (map standing running.old) }
+    ensures objections { Settles result (flat_map (row_objections row.now) (map standing running.old)) tt }
+    ensures totals { OnOk result (map standing running.new ≡ map (advanced row.now) (map standing running.old)) }
+{
+    for total in running.iter_mut() {
+        total.advance(alloc, row)?;
+    }
+    Ok(())
+}
+
+/// Ends each total, the first one first.
+fn finished(alloc: Global, running: Vec<Running<'_>>) -> Result<Sequence<Cell>, Stop>
+    requires { All IsCountable (map standing running.items) }
+    ensures { Settles result (flat_map end_objections (map standing running.entry.items)) (map total_cell (map standing running.entry.items)) }
+{
+    let mut cells = Vec::with_capacity(alloc, running.len())?;
+    for total in running {
+        cells.push(total.finish()?)?;
+    }
+    Ok(Sequence::of(cells))
+}
+
+/// The totals of some rows: the arguments are computed row by row, and the sums are judged at
+/// the end.
+pub fn totals(alloc: Global, totals: &[Aggregate], rows: &[&Row]) -> Result<Sequence<Cell>, Stop>
+    ensures { Settles result (answer_objections cell (Aggregates totals.now) (map (λ row. row.now) rows.now)) (map (total_of cell (map (λ row. row.now) rows.now)) totals.now) }
+{
+    let mut running = started(alloc, totals)?;
+    for row in rows {
+        advance_all(alloc, &mut running, row)?;
+    }
+    finished(alloc, running)
+}

@@ -1,0 +1,42 @@
+//! SELECT.
+
+ghost use Rattle.std.specs.Prelude.{◌≡◌, Some, IfOk};
+ghost use Rattle.bf_query.specs.Actions.{HaveOwnKeys, IsSelect, IsWellBound, rows_for, select_reply};
+
+use crate::answer::answer;
+use crate::merge::selected_rows;
+use bf_base::Memory;
+use bf_heap::Heap;
+use bf_sql::{Action, Bound, Reply};
+use bf_txn::Workspace;
+use std::alloc::Global;
+
+/// The reply to a SELECT on the rows of its table as the transaction of the workspace sees them.
+/// A key that the condition fixes is looked up, in time logarithmic in the rows; else it is linear
+/// in the rows and in the writes to the table.
+pub fn select(
+    alloc: Global,
+    bound: &Bound,
+    heap: &Heap,
+    workspace: &Workspace,
+) -> Result<Reply, Memory>
+    requires select { IsSelect bound.now.action }
+    requires bound { IsWellBound bound.now.action }
+    requires keys { HaveOwnKeys heap.now.entries workspace.now bound.now.action }
+    ensures { IfOk result (λ told. select_reply (rows_for heap.now.entries workspace.now bound.now.action) bound.now.action ≡ Some told) }
+{
+    let Action::Select {
+        table,
+        items,
+        cond,
+        fixed,
+    } = &bound.action
+    else {
+        unreachable!();
+    };
+    let rows = selected_rows(alloc, heap, workspace, table, cond, fixed)?;
+    answer(alloc, items, &rows)
+}
+
+#[cfg(test)]
+mod tests;
