@@ -1,5 +1,6 @@
 pub mod Effects
 pub mod FixedKey
+pub mod Fixtures
 pub mod Inserting
 pub mod Keeping
 pub mod Keyed
