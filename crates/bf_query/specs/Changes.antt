@@ -1,8 +1,9 @@
 -- Parts of the contracts of changes.
-use Rattle.std.specs.Prelude.{ℕ, Bool, not, ◌||◌, List, Option, Some, None, is_some, nat_eq, IsTrue}
+use Rattle.std.specs.Prelude.{◌≡◌, ℕ, Bool, not, ◌||◌, List, Option, Some, None, is_some, nat_eq, IsTrue}
 use Rattle.std.specs.List.{list_all}
 use Rattle.bf_base.specs.declared.value.Value.{Value}
 use Rattle.bf_base.specs.Lists.{has}
+use Rattle.bf_base.specs.declared.table.Table.{Table}
 use Rattle.bf_heap.specs.Heaps.{Entry, has_row}
 use Rattle.bf_sql.specs.declared.bound.Action.{Action}
 use Rattle.bf_sql.specs.declared.bound.Action.TheVariants as action
@@ -10,6 +11,7 @@ use Rattle.bf_sql.specs.declared.reply.Reply.{Reply}
 use Rattle.bf_sql.specs.declared.reply.Reply.TheVariants as reply
 use Rattle.bf_txn.specs.declared.write.Write.{Write}
 use Rattle.bf_txn.specs.Writes.{written_at}
+use Rattle.bf_query.specs.Actions.{IsChange, IsWellBound, table_of}
 use Rattle.bf_query.specs.Merged.{entries_under}
 
 -- whether a row has a key, or an earlier tuple, whose keys are noted as writes
@@ -27,3 +29,10 @@ counted other count = None
 abbrev pub LeavesKeys : Action → Type 0
 LeavesKeys (action.Update table sets cond fixed) = IsTrue (list_all (λ set. not (has nat_eq table.key set.0)) sets)
 LeavesKeys other = Unit {0}
+
+-- what a change of a table has to be, so that rows stand under their own keys after it
+pub record IsReadyOn (table : Table) (act : Action) : Type 0 where
+  pub change : IsChange act
+  pub of_table : table_of act ≡ Some table
+  pub bound : IsWellBound act
+  pub leaves : LeavesKeys act

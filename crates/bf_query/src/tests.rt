@@ -1,15 +1,14 @@
 //! Changes of a table whose key is its second column and then its first. What a test asserts comes
 //! from a helper as plain data.
 
-ghost use Rattle.std.specs.Prelude.{◌≡◌, [], ◌∷◌, IfOk, Some, length};
+ghost use Rattle.std.specs.Prelude.{◌≡◌, [], ◌∷◌, IfOk, OnOk, length, map};
 ghost use Rattle.std.specs.List.{All};
 ghost use Rattle.bf_base.specs.declared.table.Table.{Table};
 ghost use Rattle.bf_base.specs.Tables.{IsKeyWithin};
 ghost use Rattle.bf_expr.specs.declared.compare.Compare.TheVariants as compare;
 ghost use Rattle.bf_expr.specs.Trees as trees;
 ghost use Rattle.bf_sql.specs.Conditions.{fixed_key};
-ghost use Rattle.bf_query.specs.Actions.{IsChange, IsWellBound, table_of};
-ghost use Rattle.bf_query.specs.Changes.{LeavesKeys};
+ghost use Rattle.bf_query.specs.Changes.{IsReadyOn};
 ghost use Rattle.bf_query.specs.Merged.{StandUnderOwnKeys};
 
 use crate::change::changes;
@@ -47,14 +46,6 @@ enum Where {
     Number(i64),
     /// By both key columns, which fixes the key.
     Both(&'static str, i64),
-}
-
-/// A table, and its rows as a transaction sees them.
-#[derive(Drop)]
-struct Seen {
-    table: Table,
-    heap: Heap,
-    workspace: Workspace,
 }
 
 fn text(alloc: Global, letters: &str) -> Result<Value, Fail> {
@@ -164,118 +155,6 @@ fn rows_of(alloc: Global, table: &Table, lines: &[Line]) -> Result<Sequence<Row>
     Ok(Sequence::of(rows))
 }
 
-impl Seen {
-    /// Rows in the heap, and nothing written.
-    fn of(alloc: Global, lines: &[Line]) -> Result<Seen, Fail>
-        ensures { IfOk result (λ seen. (seen.table.key ≡ 1 ∷ 0 ∷ []) × StandUnderOwnKeys seen.table seen.heap.entries seen.workspace) }
-    {
-        let table = table(alloc)?;
-        let heap = heap_of(alloc, &table, lines)?;
-        Ok(Seen {
-            table,
-            heap,
-            workspace: Workspace::new(alloc),
-        })
-    }
-
-    fn run(self, alloc: Global, action: Action) -> Result<(Seen, Told), Fail>
-        requires change { IsChange action }
-        requires table { table_of action ≡ Some self.table }
-        requires bound { IsWellBound action }
-        requires leaves { LeavesKeys action }
-        requires keys { StandUnderOwnKeys self.table self.heap.entries self.workspace }
-        ensures { IfOk result (λ after. (after.0.table ≡ self.table) × StandUnderOwnKeys self.table after.0.heap.entries after.0.workspace) }
-    {
-        let Seen {
-            table,
-            heap,
-            mut workspace,
-        } = self;
-        let bound = Bound {
-            catalog: 0,
-            schema_change: false,
-            action,
-        };
-        let reply = changes(alloc, &bound, &heap, &mut workspace)?;
-        let told = reply_seen(&reply);
-        let seen = Seen {
-            table,
-            heap,
-            workspace,
-        };
-        Ok((seen, told))
-    }
-
-    fn insert(self, alloc: Global, lines: &[Line]) -> Result<(Seen, Told), Fail>
-        requires key { self.table.key ≡ 1 ∷ 0 ∷ [] }
-        requires keys { StandUnderOwnKeys self.table self.heap.entries self.workspace }
-        ensures { IfOk result (λ after. (after.0.table.key ≡ 1 ∷ 0 ∷ []) × StandUnderOwnKeys after.0.table after.0.heap.entries after.0.workspace) }
-    {
-        let action = Action::Insert {
-            table: self.table.copy(alloc)?,
-            rows: rows_of(alloc, &self.table, lines)?,
-        };
-        self.run(alloc, action)
-    }
-
-    /// Adds a number to the small number of some rows.
-    fn add(self, alloc: Global, number: i64, which: Where) -> Result<(Seen, Told), Fail>
-        requires key { self.table.key ≡ 1 ∷ 0 ∷ [] }
-        requires keys { StandUnderOwnKeys self.table self.heap.entries self.workspace }
-        ensures { IfOk result (λ after. (after.0.table.key ≡ 1 ∷ 0 ∷ []) × StandUnderOwnKeys after.0.table after.0.heap.entries after.0.workspace) }
-    {
-        let small = Box::new(alloc, Expr::of(Node::Column(2)))?;
-        let number = Box::new(alloc, Expr::of(Node::Value(Value::Int(number))))?;
-        let mut sets = Vec::new(alloc);
-        sets.push((2, Expr::of(Node::Add(small, number))))?;
-        let (cond, fixed) = bound(alloc, which)?;
-        let action = Action::Update {
-            table: self.table.copy(alloc)?,
-            sets: Sequence::of(sets),
-            cond,
-            fixed,
-        };
-        self.run(alloc, action)
-    }
-
-    fn delete(self, alloc: Global, which: Where) -> Result<(Seen, Told), Fail>
-        requires key { self.table.key ≡ 1 ∷ 0 ∷ [] }
-        requires keys { StandUnderOwnKeys self.table self.heap.entries self.workspace }
-        ensures { IfOk result (λ after. (after.0.table.key ≡ 1 ∷ 0 ∷ []) × StandUnderOwnKeys after.0.table after.0.heap.entries after.0.workspace) }
-    {
-        let (cond, fixed) = bound(alloc, which)?;
-        let action = Action::Delete {
-            table: self.table.copy(alloc)?,
-            cond,
-            fixed,
-        };
-        self.run(alloc, action)
-    }
-
-    /// Whether these are the rows that satisfy a condition, in key order.
-    fn has(&self, alloc: Global, which: Where, lines: &[Line]) -> Result<bool, Fail>
-        requires key { self.now.table.key ≡ 1 ∷ 0 ∷ [] }
-        requires keys { StandUnderOwnKeys self.now.table self.now.heap.entries self.now.workspace }
-    {
-        let Seen {
-            table,
-            heap,
-            workspace,
-        } = self;
-        let (cond, fixed) = bound(alloc, which)?;
-        let found = selected_rows(alloc, heap, workspace, table, &cond, &fixed)?;
-        if found.len() != lines.len() {
-            return Ok(false);
-        }
-        for (found, line) in found.iter().zip(lines) {
-            if !found.is_same(&row(alloc, *line)?) {
-                return Ok(false);
-            }
-        }
-        Ok(true)
-    }
-}
-
 /// A statement, and the reply that it has.
 type Step = (Statement, Told);
 
@@ -288,6 +167,125 @@ enum Statement {
 
 use Statement::{Add, Delete, Insert};
 
+fn insertion(alloc: Global, table: &Table, lines: &[Line]) -> Result<Action, Fail>
+    requires { table.now.key ≡ 1 ∷ 0 ∷ [] }
+    ensures { IfOk result (IsReadyOn table.now) }
+{
+    let rows = rows_of(alloc, table, lines)?;
+    let table = table.copy(alloc)?;
+    Ok(Action::Insert { table, rows })
+}
+
+/// Adds a number to the small number of some rows.
+fn addition(alloc: Global, table: &Table, number: i64, which: Where) -> Result<Action, Fail>
+    requires { table.now.key ≡ 1 ∷ 0 ∷ [] }
+    ensures { IfOk result (IsReadyOn table.now) }
+{
+    let sets = sets_of(alloc, number)?;
+    let (cond, fixed) = bound(alloc, which)?;
+    let table = table.copy(alloc)?;
+    Ok(Action::Update {
+        table,
+        sets,
+        cond,
+        fixed,
+    })
+}
+
+fn sets_of(alloc: Global, number: i64) -> Result<Sequence<(u8, Expr)>, Fail>
+    ensures { IfOk result (λ sets. map (λ set. set.0) sets ≡ 2 ∷ []) }
+{
+    let small = Box::new(alloc, Expr::of(Node::Column(2)))?;
+    let number = Box::new(alloc, Expr::of(Node::Value(Value::Int(number))))?;
+    let mut sets = Vec::new(alloc);
+    sets.push((2, Expr::of(Node::Add(small, number))))?;
+    Ok(Sequence::of(sets))
+}
+
+fn deletion(alloc: Global, table: &Table, which: Where) -> Result<Action, Fail>
+    requires { table.now.key ≡ 1 ∷ 0 ∷ [] }
+    ensures { IfOk result (IsReadyOn table.now) }
+{
+    let (cond, fixed) = bound(alloc, which)?;
+    let table = table.copy(alloc)?;
+    Ok(Action::Delete { table, cond, fixed })
+}
+
+fn action_of(alloc: Global, table: &Table, statement: &Statement) -> Result<Action, Fail>
+    requires { table.now.key ≡ 1 ∷ 0 ∷ [] }
+    ensures { IfOk result (IsReadyOn table.now) }
+{
+    match statement {
+        Insert(lines) => insertion(alloc, table, lines),
+        Add(number, which) => addition(alloc, table, *number, *which),
+        Delete(which) => deletion(alloc, table, *which),
+    }
+}
+
+/// The reply to a bound statement, whose writes are noted.
+fn run(
+    alloc: Global,
+    table: &Table,
+    heap: &Heap,
+    workspace: &mut Workspace,
+    bound: &Bound,
+) -> Result<Told, Fail>
+    requires ready { IsReadyOn table.now bound.now.action }
+    requires keys { StandUnderOwnKeys table.now heap.now.entries workspace.old }
+    ensures { OnOk result (StandUnderOwnKeys table.now heap.now.entries workspace.new) }
+{
+    let reply = changes(alloc, bound, heap, workspace)?;
+    Ok(reply_seen(&reply))
+}
+
+fn run_statement(
+    alloc: Global,
+    table: &Table,
+    heap: &Heap,
+    workspace: &mut Workspace,
+    statement: &Statement,
+) -> Result<Told, Fail>
+    requires key { table.now.key ≡ 1 ∷ 0 ∷ [] }
+    requires keys { StandUnderOwnKeys table.now heap.now.entries workspace.old }
+    ensures { OnOk result (StandUnderOwnKeys table.now heap.now.entries workspace.new) }
+{
+    let bound = Bound {
+        catalog: 0,
+        schema_change: false,
+        action: action_of(alloc, table, statement)?,
+    };
+    run(alloc, table, heap, workspace, &bound)
+}
+
+/// Whether these are the rows that satisfy a condition, in key order.
+fn are_selected(
+    alloc: Global,
+    table: &Table,
+    heap: &Heap,
+    workspace: &Workspace,
+    which: Where,
+    lines: &[Line],
+) -> Result<bool, Fail>
+    requires key { table.now.key ≡ 1 ∷ 0 ∷ [] }
+    requires keys { StandUnderOwnKeys table.now heap.now.entries workspace.now }
+{
+    let (cond, fixed) = bound(alloc, which)?;
+    let found = selected_rows(alloc, heap, workspace, table, &cond, &fixed)?;
+    are_lines(alloc, found.as_slice(), lines)
+}
+
+fn are_lines(alloc: Global, rows: &[&Row], lines: &[Line]) -> Result<bool, Fail> {
+    if rows.len() != lines.len() {
+        return Ok(false);
+    }
+    for (found, line) in rows.iter().zip(lines) {
+        if !found.is_same(&row(alloc, *line)?) {
+            return Ok(false);
+        }
+    }
+    Ok(true)
+}
+
 /// Runs statements on the rows of a heap, and answers the place of the first that has another
 /// reply than its own, and else whether the rows that satisfy a condition are these.
 fn outcome(
@@ -297,19 +295,17 @@ fn outcome(
     which: Where,
     left: &[Line],
 ) -> Result<(Option<usize>, bool), Fail> {
-    let mut seen = Seen::of(alloc, lines)?;
+    let table = table(alloc)?;
+    let heap = heap_of(alloc, &table, lines)?;
+    let mut workspace = Workspace::new(alloc);
     for (place, (statement, reply)) in steps.iter().enumerate() {
-        let (after, told) = match statement {
-            Insert(lines) => seen.insert(alloc, lines)?,
-            Add(number, which) => seen.add(alloc, *number, *which)?,
-            Delete(which) => seen.delete(alloc, *which)?,
-        };
-        seen = after;
+        let told = run_statement(alloc, &table, &heap, &mut workspace, statement)?;
         if told != *reply {
             return Ok((Some(place), false));
         }
     }
-    Ok((None, seen.has(alloc, which, left)?))
+    let selected = are_selected(alloc, &table, &heap, &workspace, which, left)?;
+    Ok((None, selected))
 }
 
 /// In key order: by number, then by letters, a text before the longer ones that it begins.
