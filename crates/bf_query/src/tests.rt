@@ -311,91 +311,85 @@ fn outcome(
 /// In key order: by number, then by letters, a text before the longer ones that it begins.
 const LINES: [Line; 4] = [("b", -1, 1), ("", 1, 2), ("a", 1, 9), ("ab", 1, 3)];
 
-#[test]
-fn an_update_that_fails_on_its_third_row_leaves_all(rt: HostRuntime) -> Result<(), Fail> {
-    let steps = [(Add(2, Where::All), Told::OutOfRange)];
-    let outcome = outcome(rt.alloc(), &LINES, &steps, Where::All, &LINES)?;
-    assert_eq!(rt; outcome, (None, true));
-    Ok(())
-}
+/// Statements on these rows, with their replies; and the rows that satisfy a condition then.
+const CASES: [(&str, &[Step], Where, &[Line]); 7] = [
+    (
+        "an UPDATE fails on its third row",
+        &[(Add(2, Where::All), Told::OutOfRange)],
+        Where::All,
+        &LINES,
+    ),
+    (
+        "an UPDATE changes every row from the old one",
+        &[(Add(1, Where::All), Told::Updated(4))],
+        Where::All,
+        &[("b", -1, 2), ("", 1, 3), ("a", 1, 10), ("ab", 1, 4)],
+    ),
+    (
+        "an INSERT has a key twice",
+        &[
+            (
+                Insert(&[("a", 2, 1), ("b", 2, 1), ("a", 2, 2)]),
+                Told::Duplicate(2),
+            ),
+            (Insert(&[("b", 1, 1), ("a", 1, 5)]), Told::Duplicate(1)),
+            (Insert(&[("b", 1, 1), ("aa", 1, 5)]), Told::Inserted(2)),
+        ],
+        Where::Number(1),
+        &[
+            ("", 1, 2),
+            ("a", 1, 9),
+            ("aa", 1, 5),
+            ("ab", 1, 3),
+            ("b", 1, 1),
+        ],
+    ),
+    (
+        "an INSERT tests values before the key",
+        &[
+            (Insert(&[("abcd", 2, 11)]), Told::TooLong),
+            (Insert(&[("a", 1, 11)]), Told::OutOfRange),
+            (Insert(&[("a", 1, 1), ("abcd", 2, 1)]), Told::Duplicate(1)),
+        ],
+        Where::All,
+        &LINES,
+    ),
+    (
+        "a key is removed and written again",
+        &[
+            (Delete(Where::Both("a", 1)), Told::Deleted(1)),
+            (Delete(Where::Both("a", 1)), Told::Deleted(0)),
+            (Insert(&[("a", 1, 0)]), Told::Inserted(1)),
+            (Insert(&[("a", 1, 0)]), Told::Duplicate(1)),
+            (Delete(Where::Both("ab", 1)), Told::Deleted(1)),
+        ],
+        Where::All,
+        &[("b", -1, 1), ("", 1, 2), ("a", 1, 0)],
+    ),
+    (
+        "a condition fixes the key",
+        &[
+            (Add(-9, Where::Both("a", 1)), Told::Updated(1)),
+            (Add(-1, Where::Both("a", 1)), Told::OutOfRange),
+            (Add(1, Where::Both("b", 1)), Told::Updated(0)),
+            (Delete(Where::Number(-1)), Told::Deleted(1)),
+        ],
+        Where::All,
+        &[("", 1, 2), ("a", 1, 0), ("ab", 1, 3)],
+    ),
+    (
+        "a row is found by its key after a change",
+        &[(Add(-9, Where::Both("a", 1)), Told::Updated(1))],
+        Where::Both("a", 1),
+        &[("a", 1, 0)],
+    ),
+];
 
 #[test]
-fn an_update_changes_every_row_from_the_old_one(rt: HostRuntime) -> Result<(), Fail> {
-    let steps = [(Add(1, Where::All), Told::Updated(4))];
-    let left = [("b", -1, 2), ("", 1, 3), ("a", 1, 10), ("ab", 1, 4)];
-    let outcome = outcome(rt.alloc(), &LINES, &steps, Where::All, &left)?;
-    assert_eq!(rt; outcome, (None, true));
-    Ok(())
-}
-
-#[test]
-fn an_insert_refuses_a_key_twice(rt: HostRuntime) -> Result<(), Fail> {
-    let steps = [
-        (
-            Insert(&[("a", 2, 1), ("b", 2, 1), ("a", 2, 2)]),
-            Told::Duplicate(2),
-        ),
-        (Insert(&[("b", 1, 1), ("a", 1, 5)]), Told::Duplicate(1)),
-        (Insert(&[("b", 1, 1), ("aa", 1, 5)]), Told::Inserted(2)),
-    ];
-    let left = [
-        ("", 1, 2),
-        ("a", 1, 9),
-        ("aa", 1, 5),
-        ("ab", 1, 3),
-        ("b", 1, 1),
-    ];
-    let outcome = outcome(rt.alloc(), &LINES, &steps, Where::Number(1), &left)?;
-    assert_eq!(rt; outcome, (None, true));
-    Ok(())
-}
-
-#[test]
-fn an_insert_tests_values_before_the_key(rt: HostRuntime) -> Result<(), Fail> {
-    let steps = [
-        (Insert(&[("abcd", 2, 11)]), Told::TooLong),
-        (Insert(&[("a", 1, 11)]), Told::OutOfRange),
-        (Insert(&[("a", 1, 1), ("abcd", 2, 1)]), Told::Duplicate(1)),
-    ];
-    let outcome = outcome(rt.alloc(), &LINES, &steps, Where::All, &LINES)?;
-    assert_eq!(rt; outcome, (None, true));
-    Ok(())
-}
-
-#[test]
-fn a_key_that_is_removed_is_written_again(rt: HostRuntime) -> Result<(), Fail> {
-    let steps = [
-        (Delete(Where::Both("a", 1)), Told::Deleted(1)),
-        (Delete(Where::Both("a", 1)), Told::Deleted(0)),
-        (Insert(&[("a", 1, 0)]), Told::Inserted(1)),
-        (Insert(&[("a", 1, 0)]), Told::Duplicate(1)),
-        (Delete(Where::Both("ab", 1)), Told::Deleted(1)),
-    ];
-    let left = [("b", -1, 1), ("", 1, 2), ("a", 1, 0)];
-    let outcome = outcome(rt.alloc(), &LINES, &steps, Where::All, &left)?;
-    assert_eq!(rt; outcome, (None, true));
-    Ok(())
-}
-
-#[test]
-fn a_fixed_key_is_one_row(rt: HostRuntime) -> Result<(), Fail> {
-    let steps = [
-        (Add(-9, Where::Both("a", 1)), Told::Updated(1)),
-        (Add(-1, Where::Both("a", 1)), Told::OutOfRange),
-        (Add(1, Where::Both("b", 1)), Told::Updated(0)),
-        (Delete(Where::Number(-1)), Told::Deleted(1)),
-    ];
-    let left = [("", 1, 2), ("a", 1, 0), ("ab", 1, 3)];
-    let outcome = outcome(rt.alloc(), &LINES, &steps, Where::All, &left)?;
-    assert_eq!(rt; outcome, (None, true));
-    Ok(())
-}
-
-#[test]
-fn a_fixed_key_is_looked_up(rt: HostRuntime) -> Result<(), Fail> {
-    let steps = [(Add(-9, Where::Both("a", 1)), Told::Updated(1))];
-    let left = [("a", 1, 0)];
-    let outcome = outcome(rt.alloc(), &LINES, &steps, Where::Both("a", 1), &left)?;
-    assert_eq!(rt; outcome, (None, true));
+fn statements_change_rows(rt: HostRuntime) -> Result<(), Fail> {
+    for (what, steps, which, left) in &CASES {
+        let outcome = outcome(rt.alloc(), &LINES, steps, *which, left)?;
+        assert_eq!(rt; outcome, (None, true), "where {what}");
+    }
     Ok(())
 }
