@@ -2,6 +2,7 @@ pub mod AsWritten
 pub mod Binding
 pub mod Effects
 pub mod FixedKey
+pub mod Held
 pub mod Inserting
 pub mod Keeping
 pub mod Keyed
