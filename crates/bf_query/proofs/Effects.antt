@@ -73,7 +73,7 @@ under_one_more entries writes w in_order sorted =
 abbrev pub AreTo : List ℕ → List Write → Type 0
 AreTo table writes = AllByRecursion (λ w. w.table ≡ table) writes
 
-sorted_with_all : (writes more : List Write) → AreWrites writes → AreWrites (fold with_write writes more)
+pub sorted_with_all : (writes more : List Write) → AreWrites writes → AreWrites (fold with_write writes more)
 sorted_with_all writes [] sorted = sorted
 sorted_with_all writes (w ∷ more) sorted = sorted_with_all (with_write writes w) more (is_map-with_entry spot_cmp_total spot_of writes w sorted)
 

@@ -41,7 +41,7 @@ writes_are_to rows (action.Update t sets cond fixed) table is = mapped_to table.
 writes_are_to rows (action.Delete t cond fixed) table is = mapped_to table.name _ (λ row. ap (λ (t : Table). t.name) (same_Some t table is)) (filter (λ row. holds_on (cell row) cond) rows)
 writes_are_to rows other table is = absurd cc
 
-apart_names : (a b : List ℕ) → a ≢ b → same_name b a ≡ false
+pub apart_names : (a b : List ℕ) → a ≢ b → same_name b a ≡ false
 apart_names a b apart = elim (cases_Bool (same_name b a)) [
   | inl same ↦ absurd (apart (sym ((name_ties b a).0 (equal_from_test _ (sym (same_name-tie b a) ∙ same)))))
   | inr other ↦ other

@@ -22,7 +22,7 @@ pub record IsBoundAs (db : Database) (in_block : Bool) (s : Statement) (act : Ac
   pub admitted : objections db in_block s ≡ []
   pub action : action_of db s ≡ Some act
 
--- entries under writes hold the rows that the table of an action has in a database
+-- entries under writes hold the rows that a table has in a database
 pub record HoldRowsOf (db : Database) (table : Table) (entries : List Entry) (writes : List Write) : Type 0 where
   pub entries_by_key : IsTrue (is_map key_cmp key_of_entry entries)
   pub writes_by_spot : AreWrites writes
@@ -33,8 +33,11 @@ pub record HoldRowsOf (db : Database) (table : Table) (entries : List Entry) (wr
 abbrev pub entries_of : Table → List (List Value) → List Entry
 entries_of table rows = map (λ row. (key_of table row, row)) rows
 
--- the rows of the table of an action after it, where entries under writes hold those before
-abbrev pub rows_after : Database → Table → List Entry → List Write → Action → List (List Value)
-rows_after db table entries writes act =
+-- the writes of a transaction after an action on a table, and the rows of the table under them
+abbrev pub writes_after : Database → Table → List Write → Action → List Write
+writes_after db table writes act =
     let rows = table_rows db table.name in
-    rows_under entries (written (objections_on rows act) writes (writes_of rows act)) table.name
+    written (objections_on rows act) writes (writes_of rows act)
+
+abbrev pub rows_after : Database → Table → List Entry → List Write → Action → List (List Value)
+rows_after db table entries writes act = rows_under entries (writes_after db table writes act) table.name
