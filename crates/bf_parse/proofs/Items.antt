@@ -36,31 +36,6 @@ use Rattle.bf_parse.proofs.Maps.{any_passed, either_not_here, same_rule, wider}
 use Rattle.bf_parse.proofs.MigrateShapes.{as_can, item_can}
 use Rattle.bf_parse.proofs.Moves.{Can, NotHere, Passed, after_can, after_go, after_stop, behind_go, left_can, left_here, named_can, named_go, named_stop, return_can, return_fits, return_not_here, right_here, then_can, then_go, then_stop}
 
--- ---- the column that an expression is
-
-counted_none : (x : Expr Ref) (n : ℕ) → 0 < n → IsBare (x, n) None
-counted_none x n some = record { it = λ r e. let d : n ≡ 0 = ap (λ (z : Counted). z.1) e in absurd (omega arith) }
-
-pub bare_counted : {x : Expr Ref} {n : ℕ} → 0 < n → IsBare (x, n) None
-bare_counted {x = x} {n = n} some = counted_none x n some
-
-pub bare_column : {x : Expr Ref} {n : ℕ} {r s : Ref} {node : RawNode} → n ≡ 0 → raw_tree node ≡ x → node ≡ raw.Column r → s ≡ r → IsBare (x, n) (Some s)
-bare_column {x = x} {n = n} {r = r} {s = s} {node = node} none is_tree is same =
-    let d : x ≡ column s = sym is_tree ∙ ap raw_tree is ∙ ap (λ (z : Ref). column z) (sym same) in
-    record { it = ap (λ (z : Expr Ref). (z, n)) d ∙ ap (λ (k : ℕ). (column s, k)) none }
-
-no_column : (node : RawNode) (r : Ref) → ((q : Ref) → node ≡ raw.Column q → ⊥) → raw_tree node ≡ column r → ⊥
-no_column (raw.Value v) r other e = cc
-no_column (raw.Column q) r other e = other q refl
-no_column (raw.Neg a) r other e = cc
-no_column (raw.Add a b) r other e = cc
-no_column (raw.Sub a b) r other e = cc
-no_column (raw.Mul a b) r other e = cc
-no_column (raw.Concat a b) r other e = cc
-
-pub bare_other : {x : Expr Ref} {n : ℕ} (node : RawNode) → raw_tree node ≡ x → ((q : Ref) → node ≡ raw.Column q → ⊥) → IsBare (x, n) None
-bare_other node is_tree other = record { it = λ r e. no_column node r other (is_tree ∙ ap (λ (z : Counted). z.0) e) }
-
 -- ---- what stands behind an expression
 
 as_read : {ws rest mid : List Word} {n : List ℕ} → IsBehind (Keyword keyword.As) ws (Some rest) → IsNamed rest (Ok (n, mid)) → Fits nothing AsRule ws (Read n mid)

@@ -9,13 +9,13 @@ use Rattle.bf_parse.proofs.item.behind.Goals as goal
 pub returns-in_err-name-in-Some-clause-fits : goal.returns-in_err-name-in-Some-clause-fits
 returns-in_err-name-in-Some-clause-fits c = exit _ c.from_residual.result _ c.from_residual.ensures.1 (end_named_stop c.in-Some.ensures.found c.in_err-name-in-Some.ensures.found)
 
-pub returns-in-Some-clause-fits : goal.returns-in-Some-clause-fits
-returns-in-Some-clause-fits c = end_named c.in-Some.ensures.found c.in_ok-name-in-Some.ensures.found
+pub returns-in_ok-name-in-Some-clause-fits : goal.returns-in_ok-name-in-Some-clause-fits
+returns-in_ok-name-in-Some-clause-fits c = end_named c.in-Some.ensures.found c.in_ok-name-in-Some.ensures.found
 
 pub returns-in-Some-bare-clause-fits : goal.returns-in-Some-bare-clause-fits
 returns-in-Some-bare-clause-fits c = end_bare c.in-None.ensures.found (subst (λ (z : Option Ref). IsBare (c.args.expr, c.args.count) z) c.in-Some-bare.is c.bare.ensures)
 
-pub returns-clause-fits : goal.returns-clause-fits
-returns-clause-fits c =
+pub returns-in-None-bare-clause-fits : goal.returns-in-None-bare-clause-fits
+returns-in-None-bare-clause-fits c =
     end_stuck _ (length-words c.args.cursor.text.now c.args.cursor.tokens.now) c.in-None.ensures.found
     (subst (λ (z : Option Ref). IsBare (c.args.expr, c.args.count) z) c.in-None-bare.is c.bare.ensures)
