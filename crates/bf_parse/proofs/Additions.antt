@@ -1,20 +1,18 @@
 -- Sums: products joined by operators, of which a minus tells whether a number stands behind it.
-use Rattle.std.proofs.Common.{◌≡◌, ℕ, ◌+◌, ◌<◌, ◌≤◌, ◌^◌, Bool, true, false, List, [], ◌∷◌, ◌++◌, length, Option, Some, None, refl, sym, ap, subst, ◌∙◌, ◌⊎◌, inl, inr, append_assoc}
-use Rattle.bf_expr.specs.Trees as tree
+use Rattle.std.proofs.Common.{◌≡◌, ℕ, ◌+◌, false, List, [], ◌++◌, refl, sym, ap, subst, ◌∙◌}
 use Rattle.bf_lex.specs.declared.sign.Sign.TheVariants as sign
 use Rattle.bf_parse.specs.Words.{Word, Minus, Sign}
-use Rattle.bf_parse.specs.Steps.{Step, Say, Limit, Mark, Node, said}
-use Rattle.bf_parse.specs.Rules.{Return, After, Marked, Then, Either}
-use Rattle.bf_parse.specs.Reading.{Ends, Reading, Read, Fits, first}
-use Rattle.bf_parse.specs.Outcome.{IsBehind}
-use Rattle.bf_parse.specs.Ends.{begins, goes_product, goes_sum}
+use Rattle.bf_parse.specs.Steps.{Step, Node, said}
+use Rattle.bf_parse.specs.Rules.{Then}
+use Rattle.bf_parse.specs.Reading.{Ends, Reading, Fits}
+use Rattle.bf_parse.specs.Ends.{goes_product, goes_sum}
 use Rattle.bf_parse.specs.Expressions.{Counted, Factor, RefRule, narrow, widest, number, negative, opposite, text, ref, parenthesis, Product, product, Products, no_product, other_product, Sum, sum, begins_with_number}
 use Rattle.bf_parse.specs.Expressions as operator
-use Rattle.bf_parse.proofs.Fitting.{fits_by, said-append}
+use Rattle.bf_parse.proofs.Fitting.{fits_by}
 use Rattle.bf_parse.proofs.Lists.{weaker_ends}
-use Rattle.bf_parse.proofs.Moves.{NotHere, Passed}
+use Rattle.bf_parse.proofs.Moves.{Passed}
 use Rattle.bf_parse.proofs.Chains.{product_ends}
-use Rattle.bf_parse.proofs.Numbered.{Numbered, Headed, plain, wide, marked}
+use Rattle.bf_parse.proofs.Numbered.{Headed, plain, wide, marked}
 
 pub sum_as : {n : ℕ} {ws : List Word} {r : Reading Counted} → Fits goes_sum (Then (Product n) Products) ws r → Fits goes_sum (Sum n) ws r
 sum_as {n = n} {ws = ws} {r = r} f = record { it = fits_by goes_sum (Then (Product n) Products) (Sum n) ws r f.it (λ s b h. sum h.0 h.1 h.2 h.4 h.5 h.3) (λ s b back g ends same. from s b g) }

@@ -1,5 +1,5 @@
 -- The arms of a MIGRATE.
-use Rattle.std.proofs.Common.{◌≡◌, ℕ, suc, ◌+◌, ◌<◌, ◌≤◌, Bool, true, false, List, [], ◌∷◌, ◌++◌, length, Option, Some, None, Result, Ok, Err, refl, sym, ap, subst, ◌∙◌, ◌⊎◌, inl, inr, arith, append_assoc, length-append}
+use Rattle.std.proofs.Common.{◌≡◌, ℕ, suc, ◌<◌, ◌≤◌, Bool, true, false, List, [], ◌∷◌, ◌++◌, length, Option, Some, None, Result, Ok, Err, refl, sym, ap, subst, ◌∙◌, inl, inr, arith, append_assoc, length-append}
 use Rattle.std.specs.Prelude.{if◌then◌else◌, IfOk}
 use Rattle.std.specs.Result.{IsErr}
 use Rattle.bf_expr.specs.Trees.{Cond}
@@ -14,7 +14,7 @@ use Rattle.bf_parse.specs.declared.cursor.Cursor.{Cursor}
 use Rattle.bf_parse.specs.declared.error.Stop.{Stop}
 use Rattle.bf_parse.specs.declared.error.Stop.TheVariants as stop
 use Rattle.bf_parse.specs.Words.{Word, Keyword, Name, Sign}
-use Rattle.bf_parse.specs.Steps.{Step, Say, Limit, Part, said, fault_at}
+use Rattle.bf_parse.specs.Steps.{Step, Say, Limit, Part, said}
 use Rattle.bf_parse.specs.Rules.{Return, After, Marked, Then, Either, Listed}
 use Rattle.bf_parse.specs.Reading.{CanGoOn, Ends, Reading, Read, Fits}
 use Rattle.bf_parse.specs.Outcome.{IsBehind, IsExpected, IsNamed, stopped}
@@ -25,7 +25,7 @@ use Rattle.bf_parse.specs.Leads.{IsPart, IsSayable}
 use Rattle.bf_parse.specs.Expressions.{RefRule, ref_to}
 use Rattle.bf_parse.specs.Statements.{WhereRule}
 use Rattle.bf_parse.specs.Migrations.{EqualityRule, Equalities, no_other, other, join_of, ItemRule, JoinRule, GroupRule, ArmRule, Arms, no_arm, arm}
-use Rattle.bf_parse.specs.MigrationEnds.{ArmsRule, ClausesRule, EqualitiesRule, goes_arm, goes_arms, goes_clauses, goes_equalities, goes_group, goes_join}
+use Rattle.bf_parse.specs.MigrationEnds.{ArmsRule, ClausesRule, EqualitiesRule, goes_arm, goes_arms, goes_equalities, goes_group, goes_join}
 use Rattle.bf_parse.proofs.Fitting.{fits_by}
 use Rattle.bf_parse.proofs.Factors.{begins-append}
 use Rattle.bf_parse.proofs.Chains.{or_left}

@@ -1,5 +1,5 @@
 -- Words with which a rule begins.
-use Rattle.std.proofs.Common.{◌≡◌, ℕ, Bool, true, false, List, [], ◌∷◌, ◌++◌, length, Option, Some, None, refl, sym, ap, subst, ◌∙◌}
+use Rattle.std.proofs.Common.{◌≡◌, ℕ, Bool, true, false, List, [], ◌∷◌, ◌++◌, length, sym, ap, subst, ◌∙◌}
 use Rattle.bf_parse.specs.Words.{Word}
 use Rattle.bf_parse.specs.Steps.{Step, said}
 use Rattle.bf_parse.specs.Reading.{first, Stuck, Fits}

@@ -1,24 +1,23 @@
 -- Chains of counted operators, grouped to the left.
-use Rattle.std.proofs.Common.{◌≡◌, ℕ, ◌+◌, ◌<◌, ◌≤◌, ◌^◌, pos, Bool, true, false, List, [], ◌∷◌, ◌++◌, length, Option, Some, None, refl, sym, ap, subst, ◌∙◌, ◌⊎◌, inl, inr, arith, append_assoc}
-use Rattle.std.proofs.lemmas.Bool.{lt-ltb, le-ltb, cases_lt}
+use Rattle.std.proofs.Common.{◌≡◌, ℕ, ◌+◌, ◌<◌, ◌≤◌, Bool, true, false, List, [], ◌∷◌, ◌++◌, length, Some, None, refl, sym, ap, subst, ◌∙◌, inl, inr, arith}
+use Rattle.std.proofs.lemmas.Bool.{lt-ltb, le-ltb}
 use Rattle.std.proofs.lemmas.List.{append-nil}
-use Rattle.std.specs.Prelude.{if◌then◌else◌, ◌||◌}
+use Rattle.std.specs.Prelude.{◌||◌}
 use Rattle.bf_base.specs.declared.value.Value.TheVariants as value
 use Rattle.bf_expr.specs.Trees as tree
-use Rattle.bf_lex.specs.declared.fault.ScriptKind.{ScriptKind}
 use Rattle.bf_lex.specs.declared.fault.ScriptKind.TheVariants.{TooDeep}
 use Rattle.bf_lex.specs.declared.sign.Sign.TheVariants as sign
 use Rattle.bf_parse.specs.Words.{Word, Minus, Sign}
 use Rattle.bf_parse.specs.Words as word
 use Rattle.bf_parse.specs.Steps.{Step, Say, Limit, Mark, Node, said, fault_at}
 use Rattle.bf_parse.specs.Rules.{Return, After, Marked, Then, Either}
-use Rattle.bf_parse.specs.Reading.{CanGoOn, Ends, Reading, Read, Over, Fits, first}
+use Rattle.bf_parse.specs.Reading.{Ends, Reading, Read, Over, Fits, first}
 use Rattle.bf_expr.specs.declared.raw.Ref.{Ref}
 use Rattle.bf_parse.specs.declared.error.Stop.{Stop}
 use Rattle.bf_parse.specs.Outcome.{IsBehind, stopped}
-use Rattle.bf_parse.specs.Ends.{begins, goes_product, goes_sum, is_point}
-use Rattle.bf_parse.specs.Expressions.{Counted, Factor, text, Product, product, Factors, no_factor, other_factor, Sum, sum, Products, no_product, other_product}
-use Rattle.bf_parse.proofs.Fitting.{fits_by, Passes}
+use Rattle.bf_parse.specs.Ends.{goes_product, goes_sum, is_point}
+use Rattle.bf_parse.specs.Expressions.{Counted, Factor, text, Product, product, Factors, no_factor, other_factor, Sum, sum, Products, no_product}
+use Rattle.bf_parse.proofs.Fitting.{fits_by}
 use Rattle.bf_parse.proofs.Lists.{weaker_ends}
 use Rattle.bf_parse.proofs.Moves.{Can, NotHere, Passed, left_here, right_here, return_not_here, return_fits, after_not_here, behind_go, marked_go, counted_over, then_go, then_stop}
 

@@ -1,5 +1,5 @@
 -- The content of a text token.
-use Rattle.std.proofs.Common.{◌≡◌, ◌≢◌, ℕ, ◌+◌, ◌-◌, List, [], ◌∷◌, ◌++◌, length, take, drop, flat_map, refl, sym, subst, ap, ◌∙◌, inl, inr, arith, length-append}
+use Rattle.std.proofs.Common.{◌≡◌, ◌≢◌, ℕ, ◌-◌, List, [], ◌∷◌, ◌++◌, length, take, flat_map, refl, ap, ◌∙◌, inl, inr, arith, length-append}
 use Rattle.std.specs.Prelude.{slice_range}
 use Rattle.std.proofs.Common.{eqb, false}
 use Rattle.std.proofs.lemmas.Bool.{cases_eq, ne_eqb}

@@ -1,14 +1,10 @@
 -- The items of a MIGRATE.
-use Rattle.std.proofs.Common.{◌≡◌, ℕ, ◌+◌, ◌<◌, Bool, true, false, List, [], ◌∷◌, ◌++◌, length, Option, Some, None, Ok, Err, refl, sym, ap, subst, ◌∙◌, ◌⊎◌, inl, inr, arith, append_assoc}
+use Rattle.std.proofs.Common.{◌≡◌, ℕ, Bool, true, false, List, [], ◌∷◌, ◌++◌, length, Some, None, Ok, Err, refl, sym, ap, subst, ◌∙◌, inl, inr, append_assoc}
 use Rattle.std.proofs.lemmas.Bool.{cases_Bool}
 use Rattle.std.proofs.lemmas.List.{append-nil}
 use Rattle.std.specs.Prelude.{◌||◌}
 use Rattle.bf_expr.specs.Trees.{Expr, column}
-use Rattle.bf_expr.specs.Trees as tree
 use Rattle.bf_expr.specs.declared.raw.Ref.{Ref}
-use Rattle.bf_expr.specs.declared.raw.RawNode.{RawNode}
-use Rattle.bf_expr.specs.declared.raw.RawNode.TheVariants as raw
-use Rattle.bf_expr.specs.Views.{raw_tree}
 use Rattle.bf_lex.specs.declared.keyword.Keyword.TheVariants as keyword
 use Rattle.bf_sql.specs.declared.items.Aggregate.{Aggregate}
 use Rattle.bf_sql.specs.declared.migration.Item.{Item}
@@ -16,14 +12,14 @@ use Rattle.bf_sql.specs.declared.migration.Item.TheVariants as item
 use Rattle.bf_parse.specs.declared.error.Stop.{Stop}
 use Rattle.bf_parse.specs.Words.{Word, Keyword, Name, Number, Text, Minus, Sign}
 use Rattle.bf_parse.specs.Steps.{Step, Say, said}
-use Rattle.bf_parse.specs.Rules.{Return, After, Then, Either}
+use Rattle.bf_parse.specs.Rules.{Return, Then}
 use Rattle.bf_parse.specs.Reading.{CanGoOn, Ends, Reading, Read, Stuck, Fits, first}
 use Rattle.bf_parse.specs.Outcome.{IsBehind, IsExpected, IsNamed, stopped}
 use Rattle.bf_parse.specs.Ends.{begins, goes_sum, nothing}
 use Rattle.bf_parse.specs.StatementEnds.{begins_aggregate, begins_expression}
 use Rattle.bf_parse.specs.Leads.{IsPart, IsSayable}
 use Rattle.bf_parse.specs.Expressions.{Counted, Sum}
-use Rattle.bf_parse.specs.Statements.{AggregateRule, ExprRule}
+use Rattle.bf_parse.specs.Statements.{AggregateRule}
 use Rattle.bf_parse.specs.Migrations.{AsRule, BareRule, ItemRule}
 use Rattle.bf_parse.specs.MigrationEnds.{IsBare, ItemEnd, begins_item, goes_item, is_as}
 use Rattle.bf_parse.proofs.Fitting.{stuck_here}
@@ -34,7 +30,7 @@ use Rattle.bf_parse.proofs.Clears.{Clear, clear_after, clear_either, clear_passe
 use Rattle.bf_parse.proofs.Listings.{aggregate_part, expression_part}
 use Rattle.bf_parse.proofs.Maps.{any_passed, either_not_here, same_rule, wider}
 use Rattle.bf_parse.proofs.MigrateShapes.{as_can, item_can}
-use Rattle.bf_parse.proofs.Moves.{Can, NotHere, Passed, after_can, after_go, after_stop, behind_go, left_can, left_here, named_can, named_go, named_stop, return_can, return_fits, return_not_here, right_here, then_can, then_go, then_stop}
+use Rattle.bf_parse.proofs.Moves.{Can, NotHere, Passed, after_go, after_stop, behind_go, left_can, left_here, named_can, named_go, named_stop, return_can, return_fits, return_not_here, right_here, then_can, then_go, then_stop}
 
 -- ---- what stands behind an expression
 

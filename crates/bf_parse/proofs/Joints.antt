@@ -1,5 +1,5 @@
 -- What joins the products of a sum.
-use Rattle.std.proofs.Common.{◌≡◌, ℕ, ◌+◌, ◌<◌, ◌≤◌, ◌^◌, pos, Bool, true, false, List, [], ◌∷◌, ◌++◌, length, Option, Some, None, refl, sym, ap, subst, ◌∙◌, ◌⊎◌, inl, inr, arith}
+use Rattle.std.proofs.Common.{◌≡◌, ℕ, ◌+◌, ◌<◌, ◌≤◌, ◌^◌, pos, Bool, true, false, List, [], ◌∷◌, ◌++◌, length, Some, None, refl, sym, ap, subst, ◌∙◌, inl, inr, arith}
 use Rattle.std.specs.Prelude.{slice_range}
 use Rattle.std.proofs.lemmas.Bool.{cases_lt}
 use Rattle.std.proofs.lemmas.List.{append-nil}
@@ -21,16 +21,15 @@ use Rattle.bf_parse.specs.Words as word
 use Rattle.bf_parse.specs.Steps.{Step, Say, Limit, Mark, Node, Widest, said}
 use Rattle.bf_parse.specs.Rules.{Return, After, Marked, Then}
 use Rattle.bf_parse.specs.Reading.{CanGoOn, Ends, Reading, Read, Over, Fits, first}
-use Rattle.bf_parse.specs.Outcome.{IsBehind, stopped}
+use Rattle.bf_parse.specs.Outcome.{stopped}
 use Rattle.bf_parse.specs.Cursors.{IsPlace, words}
-use Rattle.bf_parse.specs.Tokens.{IsSpelling, IsTokenOf, AreTokens, AreTokensAs}
+use Rattle.bf_parse.specs.Tokens.{IsSpelling, AreTokensAs}
 use Rattle.bf_parse.specs.Ends.{begins, goes_product, goes_sum, is_sum_operator}
 use Rattle.bf_parse.specs.Sums.{IsJoint, joint, operator_of}
 use Rattle.bf_parse.specs.Expressions.{Counted, NumberRule, narrow, widest, number, text, Factor, Product, product, no_factor, Products, no_product, other_product, SumOperator, sum_of, sum_word, is_number, begins_with_number}
 use Rattle.bf_parse.specs.Expressions as operator
 use Rattle.bf_parse.proofs.Fitting.{fits_by, fits_return, ends_not}
-use Rattle.bf_parse.proofs.Literals.{number_said}
-use Rattle.bf_parse.proofs.Moves.{Can, then_go, then_stop, return_fits}
+use Rattle.bf_parse.proofs.Moves.{Can, then_go, then_stop}
 use Rattle.bf_parse.proofs.Chains.{node_go, node_deep, products_can}
 use Rattle.bf_parse.proofs.Additions.{headed-append, product_headed, same_number, products_passed}
 use Rattle.bf_parse.proofs.Beginnings.{Begun, not_begun}

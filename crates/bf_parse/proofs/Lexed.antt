@@ -1,22 +1,22 @@
 -- The tokens that a text is lexed as are tokens, and no more than its bytes.
-use Rattle.std.proofs.Common.{◌≡◌, ℕ, suc, ◌+◌, ◌-◌, ◌<◌, ◌≤◌, ◌^◌, Bool, true, false, not, cond, leb, List, [], ◌∷◌, ◌++◌, length, map, take, drop, flat_map, Option, Some, None, Result, Ok, Err, refl, sym, ap, subst, ◌∙◌, inl, inr, arith, append_assoc, length-append}
+use Rattle.std.proofs.Common.{◌≡◌, ℕ, suc, ◌+◌, ◌-◌, ◌≤◌, ◌^◌, Bool, true, false, not, cond, leb, List, [], ◌∷◌, ◌++◌, length, take, drop, flat_map, Option, Some, None, Ok, Err, refl, sym, ap, subst, ◌∙◌, inl, inr, arith, append_assoc, length-append}
 use Rattle.std.proofs.Math.Seq.{take-append_seam, drop-append_seam}
 use Rattle.std.proofs.Math.Numerals.{one-add}
 use Rattle.std.proofs.lemmas.Bool.{and_parts, and_from, cases_eq, leb-true}
 use Rattle.std.proofs.lemmas.List.{length-map, take_all}
 use Rattle.std.proofs.lemmas.Bool.Decides.{nat_tests}
 use Rattle.std.proofs.lemmas.List.Folds.{list_all-append}
-use Rattle.std.specs.Prelude.{◌&&◌, slice_range, position, IsTrue}
+use Rattle.std.specs.Prelude.{slice_range, position}
 use Rattle.std.specs.List.{list_all, prefix_len}
 use Rattle.bf_base.specs.Names.{is_lower, is_name, is_name_byte, lower_of, folded}
-use Rattle.bf_base.specs.Texts.{IsText, is_text_byte, first_bad_of}
+use Rattle.bf_base.specs.Texts.{is_text_byte, first_bad_of}
 use Rattle.bf_lex.specs.declared.fault.ScriptKind.{ScriptKind}
 use Rattle.bf_lex.specs.declared.fault.ScriptKind.TheVariants as kind
 use Rattle.bf_lex.specs.declared.keyword.Keyword.{Keyword as KeywordCase}
 use Rattle.bf_lex.specs.declared.token.Token.{Token}
 use Rattle.bf_lex.specs.declared.token.TokenKind.{TokenKind}
 use Rattle.bf_lex.specs.declared.token.TokenKind.TheVariants as token
-use Rattle.bf_lex.specs.Bytes.{is_letter, is_word_byte, is_quote, quote}
+use Rattle.bf_lex.specs.Bytes.{is_letter, is_word_byte, quote}
 use Rattle.bf_lex.specs.Words.{keyword_of}
 use Rattle.bf_lex.specs.Lexemes.{Lexeme, Word, Digits, Quoted, Mark, StandsIn, doubled, is_word, number_from, quoted, text_token, token_of, word_token}
 use Rattle.bf_lex.specs.Lexing.{Front, IsLexed, IsNext}

@@ -1,12 +1,12 @@
 -- What holds of lists and choices of any rule.
-use Rattle.std.proofs.Common.{◌≡◌, ℕ, suc, Bool, true, false, List, [], ◌∷◌, ◌++◌, length, Option, Some, None, refl, sym, ap, subst, ◌∙◌, ◌⊎◌, inl, inr}
+use Rattle.std.proofs.Common.{◌≡◌, ℕ, suc, Bool, true, false, List, [], ◌∷◌, ◌++◌, length, Some, None, refl, sym, ap, subst, ◌∙◌, inl, inr}
 use Rattle.bf_lex.specs.declared.fault.ScriptKind.{ScriptKind}
 use Rattle.bf_lex.specs.declared.sign.Sign.TheVariants.{Comma}
 use Rattle.bf_parse.specs.Words.{Word, Sign}
 use Rattle.bf_parse.specs.Steps.{Step, Say, Limit, Mark, Part, said, fault_at}
 use Rattle.bf_parse.specs.Rules.{Return, After, Then, Marked, Either, Others, no_other, other}
-use Rattle.bf_parse.specs.Reading.{CanGoOn, first, Ends, Reading, Read, FitsRead, FitsStuck, FitsOver, FitsAs}
-use Rattle.bf_parse.proofs.Fitting.{fits_by, fits_return, after_read, ends_not, Passes, stuck_here, mark_over, mark_stuck, mark_read, after_can}
+use Rattle.bf_parse.specs.Reading.{CanGoOn, first, Ends, Reading, FitsStuck, FitsOver, FitsAs}
+use Rattle.bf_parse.proofs.Fitting.{fits_by, after_read, ends_not, Passes, mark_over, mark_stuck, mark_read, after_can}
 
 -- the rule spells nothing from here
 abbrev pub NotHere : {A : Type 0} → (Word → Bool) → (List Step → A → Type 0) → List Word → Type 0

@@ -1,9 +1,7 @@
 -- What MIGRATEs and their parts can be.
-use Rattle.std.proofs.Common.{◌≡◌, ℕ, List, [], ◌∷◌, Option, refl}
+use Rattle.std.proofs.Common.{ℕ, List, [], refl}
 use Rattle.bf_expr.specs.declared.raw.Ref.{Ref}
-use Rattle.bf_expr.specs.Trees.{Cond}
 use Rattle.bf_sql.specs.declared.migration.Arm.{Arm}
-use Rattle.bf_sql.specs.declared.migration.Item.{Item}
 use Rattle.bf_sql.specs.declared.migration.Target.{Target}
 use Rattle.bf_parse.specs.Statements.{WhereRule}
 use Rattle.bf_parse.specs.Expressions.{RefRule}

@@ -1,14 +1,14 @@
 -- The moves of a proof that a function of the parser fits its rule.
-use Rattle.std.proofs.Common.{◌≡◌, ℕ, suc, Bool, true, false, List, [], ◌∷◌, ◌++◌, length, Option, Result, Ok, Err, Some, None, refl, sym, ap, subst}
+use Rattle.std.proofs.Common.{◌≡◌, ℕ, suc, Bool, true, false, List, [], ◌∷◌, ◌++◌, length, Result, Ok, Err, Some, None, sym, subst}
 use Rattle.std.specs.Result.{IsErrAnd}
 use Rattle.bf_lex.specs.declared.fault.ScriptKind.{ScriptKind}
 use Rattle.bf_lex.specs.declared.sign.Sign.TheVariants.{Comma}
 use Rattle.bf_parse.specs.declared.error.Stop.{Stop}
 use Rattle.bf_parse.specs.declared.error.Stop.TheVariants as stop
-use Rattle.bf_parse.specs.Words.{Word, Name, Sign}
-use Rattle.bf_parse.specs.Steps.{Step, Mark, Part, said, fault_at}
+use Rattle.bf_parse.specs.Words.{Word, Sign}
+use Rattle.bf_parse.specs.Steps.{Step, Mark, fault_at}
 use Rattle.bf_parse.specs.Rules.{Return, After, Named, Then, Marked, Either, Others}
-use Rattle.bf_parse.specs.Reading.{CanGoOn, Ends, Reading, Read, Stuck, Over, Fits, first}
+use Rattle.bf_parse.specs.Reading.{CanGoOn, Reading, Read, Over, Fits}
 use Rattle.bf_parse.specs.Outcome.{stopped, outcome, IsBehind, IsExpected, IsNamed}
 use Rattle.bf_parse.proofs.Fitting as on
 use Rattle.bf_parse.proofs.Lists as lists

@@ -1,10 +1,10 @@
 -- A rule of which only what begins with a number is taken, or only what doesn't.
-use Rattle.std.proofs.Common.{◌≡◌, ℕ, ◌≤◌, ◌^◌, Bool, true, false, List, [], ◌∷◌, ◌++◌, length, Option, Some, None, refl, sym, ap, subst, ◌∙◌, append_assoc}
+use Rattle.std.proofs.Common.{◌≡◌, ℕ, Bool, true, false, List, [], ◌∷◌, ◌++◌, refl, sym, ap, subst, ◌∙◌, append_assoc}
 use Rattle.std.proofs.lemmas.List.{append-nil}
 use Rattle.std.specs.Prelude.{◌&&◌, is_none}
 use Rattle.bf_parse.specs.Words.{Word, Number}
 use Rattle.bf_parse.specs.Steps.{Step, Say, Limit, Mark, Widest, said, within, fault_at}
-use Rattle.bf_parse.specs.Reading.{CanGoOn, first, Ends, Reading, Read, Stuck, Over, Lost, FitsRead, FitsStuck, FitsOver, FitsAs}
+use Rattle.bf_parse.specs.Reading.{CanGoOn, first, Reading, Read, Stuck, Over, Lost, FitsAs}
 use Rattle.bf_parse.specs.Expressions.{is_number, begins_with_number}
 use Rattle.bf_parse.specs.Ends.{begins}
 use Rattle.bf_parse.proofs.Fitting.{said-append}

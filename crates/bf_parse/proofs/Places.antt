@@ -1,7 +1,6 @@
 -- Words that are left.
-use Rattle.std.proofs.Common.{◌≡◌, ℕ, suc, Bool, true, false, List, [], ◌∷◌, length, Some, None, Err, refl, sym, ap, subst, ◌∙◌, Bor}
+use Rattle.std.proofs.Common.{◌≡◌, ℕ, suc, Bool, List, [], ◌∷◌, length, Some, None, Err, refl, sym, ap, subst, ◌∙◌, Bor}
 use Rattle.std.specs.Prelude.{slice_range}
-use Rattle.bf_base.specs.Texts.{IsText}
 use Rattle.bf_lex.specs.Lexemes.{quoted}
 use Rattle.bf_lex.specs.declared.sign.Sign.{Sign as SignCase}
 use Rattle.bf_lex.specs.declared.sign.Sign.TheVariants as sign

@@ -1,5 +1,5 @@
 -- Statements in a row.
-use Rattle.std.proofs.Common.{◌≡◌, ℕ, ◌+◌, Bool, true, false, List, [], ◌∷◌, ◌++◌, length, Option, Some, None, Ok, Err, refl, sym, ap, subst, ◌∙◌, ◌⊎◌, inl, inr}
+use Rattle.std.proofs.Common.{◌≡◌, ℕ, ◌+◌, Bool, true, false, List, [], ◌∷◌, ◌++◌, length, Some, None, Ok, Err, refl, sym, ap, subst, ◌∙◌, inl, inr}
 use Rattle.std.proofs.lemmas.List.{append-nil}
 use Rattle.std.specs.Prelude.{◌||◌}
 use Rattle.bf_lex.specs.declared.fault.ScriptKind.{ScriptKind}
@@ -10,7 +10,7 @@ use Rattle.bf_sql.specs.declared.statement.Statement.{Statement}
 use Rattle.bf_sql.specs.declared.statement.Statement.TheVariants.{Migrate}
 use Rattle.bf_parse.specs.declared.error.Stop.{Stop}
 use Rattle.bf_parse.specs.Words.{Word, Keyword, Sign}
-use Rattle.bf_parse.specs.Steps.{Step, Say, Limit, Mark, Migration, said, fault_at}
+use Rattle.bf_parse.specs.Steps.{Step, Say, Limit, Migration, said, fault_at}
 use Rattle.bf_parse.specs.Rules.{Return, After, Marked, Then, Either}
 use Rattle.bf_parse.specs.Reading.{CanGoOn, Ends, Reading, Read, Over, Fits, first}
 use Rattle.bf_parse.specs.Outcome.{IsBehind, IsExpected, stopped}

@@ -1,7 +1,6 @@
 -- The targets of a MIGRATE.
-use Rattle.std.proofs.Common.{◌≡◌, ℕ, suc, ◌+◌, ◌<◌, ◌≤◌, Bool, true, false, List, [], ◌∷◌, ◌++◌, length, Option, Some, None, Ok, Err, refl, sym, ap, subst, ◌∙◌, ◌⊎◌, inl, inr, arith, length-append}
+use Rattle.std.proofs.Common.{◌≡◌, ℕ, suc, ◌+◌, ◌<◌, ◌≤◌, List, [], ◌∷◌, ◌++◌, length, Some, None, refl, sym, ap, subst, ◌∙◌, inl, inr, arith, length-append}
 use Rattle.std.proofs.lemmas.Bool.{lt-ltb, le-ltb}
-use Rattle.std.specs.Prelude.{if◌then◌else◌}
 use Rattle.bf_lex.specs.declared.fault.ScriptKind.TheVariants.{TooManyTargets}
 use Rattle.bf_lex.specs.declared.keyword.Keyword.TheVariants as keyword
 use Rattle.bf_lex.specs.declared.sign.Sign.TheVariants as sign
@@ -17,7 +16,6 @@ use Rattle.bf_parse.specs.MigrationEnds.{TargetsRule, goes_arms, goes_targets}
 use Rattle.bf_parse.proofs.Fitting.{fits_by, mark_over, mark_stuck}
 use Rattle.bf_parse.proofs.Chains.{or_left}
 use Rattle.bf_parse.proofs.Clears.{Clear, clear_passed}
-use Rattle.bf_parse.proofs.Lists as lists
 use Rattle.bf_parse.proofs.MigrateShapes.{arm_can, arms_can, target_can, targets_can}
 use Rattle.bf_parse.proofs.Moves.{Can, Passed, after_not_here, behind_go, left_here, right_here, marked_go, return_can, return_fits, return_not_here, then_can, then_go, then_stop}
 

@@ -1,5 +1,5 @@
 -- From the reading of a rule to what all of the words are.
-use Rattle.std.proofs.Common.{◌≡◌, ℕ, Bool, true, false, List, [], ◌∷◌, ◌++◌, length, Option, Some, None, Result, Ok, Err, refl, sym, ap, subst, ◌∙◌, ◌⊎◌, inl, inr, append_assoc}
+use Rattle.std.proofs.Common.{◌≡◌, ℕ, Bool, List, [], ◌∷◌, ◌++◌, length, Some, None, Result, Ok, Err, refl, sym, ap, subst, ◌∙◌, append_assoc}
 use Rattle.std.proofs.lemmas.List.{append-nil, append_cancel_left}
 use Rattle.bf_lex.specs.declared.fault.ScriptKind.{ScriptKind}
 use Rattle.bf_sql.specs.declared.script.Script.{Script}
@@ -11,7 +11,7 @@ use Rattle.bf_parse.specs.declared.cursor.Cursor.{Cursor}
 use Rattle.bf_parse.specs.Words.{Word, words_of}
 use Rattle.bf_parse.specs.Steps.{Step, Limit, said}
 use Rattle.bf_parse.specs.Rules.{Rule, Return, Then}
-use Rattle.bf_parse.specs.Reading.{Ends, Reading, Read, Stuck, Over, Lost, FitsRead, FitsStuck, FitsOver, Fits, first}
+use Rattle.bf_parse.specs.Reading.{Reading, Read, Stuck, FitsRead, FitsStuck, FitsOver, Fits, first}
 use Rattle.bf_parse.specs.Outcome.{outcome, stopped}
 use Rattle.bf_parse.specs.Cursors.{IsNext, words}
 use Rattle.bf_parse.specs.Faults.{Answers, CantGoOn, IsOver, IsRead, IsStuck}

@@ -1,5 +1,5 @@
 -- Comparisons and BETWEENs, which both begin with an operand.
-use Rattle.std.specs.Prelude.{◌≡◌, ℕ, ◌+◌, Bool, true, false, List, [], ◌∷◌, Option, Some, None}
+use Rattle.std.specs.Prelude.{◌≡◌, ℕ, ◌+◌, Bool, true, false, List, ◌∷◌, Option, Some, None}
 use Rattle.bf_expr.specs.Trees.{Expr, compared, between}
 use Rattle.bf_expr.specs.declared.compare.Compare.{Compare}
 use Rattle.bf_expr.specs.declared.raw.Ref.{Ref}

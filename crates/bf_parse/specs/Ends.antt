@@ -1,7 +1,6 @@
 -- WORDS by which rules go on, and with which they begin.
 use Rattle.std.specs.Prelude.{Bool, true, false, ◌||◌, List, [], ◌∷◌}
 use Rattle.bf_lex.specs.declared.keyword.Keyword.TheVariants.{And, Or}
-use Rattle.bf_lex.specs.declared.sign.Sign.{Sign as SignCase}
 use Rattle.bf_lex.specs.declared.sign.Sign.TheVariants.{Point, Star, Plus, Bars, OpeningParenthesis}
 use Rattle.bf_parse.specs.Words.{Word, Keyword, Name, Number, Text, Minus, Sign}
 

@@ -1,8 +1,8 @@
 -- WORDS by which the parts of a MIGRATE go on, and rules of parts.
-use Rattle.std.specs.Prelude.{◌≡◌, ℕ, Bool, true, false, ◌||◌, List, [], ◌∷◌, Option, Some, None}
+use Rattle.std.specs.Prelude.{◌≡◌, Bool, true, false, ◌||◌, List, [], ◌∷◌, Option, Some, None}
 use Rattle.bf_expr.specs.declared.raw.Ref.{Ref}
-use Rattle.bf_expr.specs.Trees.{Cond, Expr, column}
-use Rattle.bf_lex.specs.declared.keyword.Keyword.TheVariants.{As, Create, Group, Join, Union}
+use Rattle.bf_expr.specs.Trees.{Cond, column}
+use Rattle.bf_lex.specs.declared.keyword.Keyword.TheVariants.{As, Group, Join, Union}
 use Rattle.bf_lex.specs.declared.sign.Sign.TheVariants.{Semicolon}
 use Rattle.bf_sql.specs.declared.migration.Arm.{Arm}
 use Rattle.bf_sql.specs.declared.migration.Item.{Item}

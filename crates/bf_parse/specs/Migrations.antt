@@ -1,9 +1,9 @@
 -- MIGRATE: targets, each of one arm or several.
-use Rattle.std.specs.Prelude.{◌≡◌, ℕ, suc, ◌+◌, List, [], ◌∷◌, ◌++◌, Option, None, Some}
+use Rattle.std.specs.Prelude.{◌≡◌, ℕ, suc, List, [], ◌∷◌, ◌++◌, Option, None, Some}
 use Rattle.bf_lex.specs.declared.keyword.Keyword.TheVariants as keyword
 use Rattle.bf_lex.specs.declared.sign.Sign.TheVariants as sign
 use Rattle.bf_expr.specs.declared.raw.Ref.{Ref}
-use Rattle.bf_expr.specs.Trees.{Expr, column}
+use Rattle.bf_expr.specs.Trees.{column}
 use Rattle.bf_sql.specs.declared.migration.Item.{Item}
 use Rattle.bf_sql.specs.declared.migration.Item.TheVariants as item
 use Rattle.bf_sql.specs.declared.migration.Join.{Join}

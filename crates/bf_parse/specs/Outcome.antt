@@ -1,5 +1,5 @@
 -- What private functions promise of the words that they read.
-use Rattle.std.specs.Prelude.{◌≡◌, ℕ, List, [], ◌∷◌, length, Option, Some, None, Result, Ok, Err}
+use Rattle.std.specs.Prelude.{◌≡◌, ℕ, List, ◌∷◌, length, Option, Some, None, Result, Ok, Err}
 use Rattle.bf_parse.specs.declared.error.Stop.{Stop}
 use Rattle.bf_parse.specs.declared.error.Stop.TheVariants as stop
 use Rattle.bf_parse.specs.Words.{Word, Name}

@@ -1,7 +1,5 @@
 -- RULES: a rule of the grammar is a relation between steps and what they spell. Words to make rules of rules.
 use Rattle.std.specs.Prelude.{◌≡◌, ℕ, suc, ◌⊎◌, List, [], ◌∷◌, ◌++◌}
-use Rattle.bf_lex.specs.declared.keyword.Keyword.{Keyword as KeywordCase}
-use Rattle.bf_lex.specs.declared.sign.Sign.{Sign as SignCase}
 use Rattle.bf_lex.specs.declared.sign.Sign.TheVariants.{Comma}
 use Rattle.bf_parse.specs.Words.{Word, Name, Sign}
 use Rattle.bf_parse.specs.Steps.{Step, Say, Limit, Mark, Part}

@@ -1,8 +1,8 @@
 -- What stands at the front of an operand.
-use Rattle.std.specs.Prelude.{◌≡◌, ℕ, ◌≤◌, ◌^◌, Bool, true, false, List, [], ◌∷◌, Option, Some, None}
+use Rattle.std.specs.Prelude.{◌≡◌, ℕ, ◌≤◌, ◌^◌, true, false, List, ◌∷◌}
 use Rattle.bf_base.specs.Texts.{IsText}
 use Rattle.bf_lex.specs.Lexemes.{quoted}
-use Rattle.bf_lex.specs.declared.sign.Sign.TheVariants.{OpeningParenthesis, Plus as PlusSign, Bars}
+use Rattle.bf_lex.specs.declared.sign.Sign.TheVariants.{OpeningParenthesis}
 use Rattle.bf_parse.specs.declared.cursor.Cursor.{Cursor}
 use Rattle.bf_parse.specs.declared.start.Start.{Start}
 use Rattle.bf_parse.specs.declared.start.Start.TheVariants as start

@@ -1,4 +1,4 @@
-use Rattle.std.proofs.Common.{◌≡◌, ◌<◌, ℕ, List, length}
+use Rattle.std.proofs.Common.{◌<◌, List}
 use Rattle.bf_sql.specs.declared.migration.Arm.{Arm}
 use Rattle.bf_parse.specs.Cursors.{IsPlace, left, words}
 use Rattle.bf_parse.specs.MigrationEnds.{ArmsRule, goes_arms}

@@ -1,4 +1,3 @@
-use Rattle.std.proofs.Common.{refl}
 use Rattle.bf_parse.proofs.ArmParts.{join_open, join_read, join_stop, join_unnamed, no_join}
 use Rattle.bf_parse.proofs.Moves.{exit}
 use Rattle.bf_parse.proofs.arm.join.Goals as goal

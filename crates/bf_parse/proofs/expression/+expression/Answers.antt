@@ -1,4 +1,4 @@
-use Rattle.std.proofs.Common.{◌≡◌, ℕ, ◌+◌, arith, refl, sym, rules}
+use Rattle.std.proofs.Common.{arith}
 use Rattle.bf_parse.specs.Expressions.{Counted}
 use Rattle.bf_parse.proofs.Additions.{sum_as, products_passed}
 use Rattle.bf_parse.proofs.Chains.{product_as, factors_can, products_can, factors_passed, star_deep, star_end, star_stop, star_more}

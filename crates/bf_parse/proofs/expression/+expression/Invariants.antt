@@ -1,4 +1,4 @@
-use Rattle.std.proofs.Common.{◌≡◌, ◌<◌, ◌+◌, ◌*◌, ℕ, List, length}
+use Rattle.std.proofs.Common.{◌<◌, ◌+◌, ◌*◌}
 use Rattle.bf_parse.specs.Cursors.{IsPlace, left, words}
 use Rattle.bf_parse.specs.Ends.{goes_product, goes_sum}
 use Rattle.bf_parse.specs.Expressions.{Counted, Product, Factors, Sum, Products}

@@ -1,4 +1,4 @@
-use Rattle.std.proofs.Common.{◌≡◌, ◌∙◌, sym}
+use Rattle.std.proofs.Common.{◌∙◌, sym}
 use Rattle.bf_parse.specs.Cursors.{words}
 use Rattle.bf_parse.proofs.Items.{begins_left, begins_right}
 use Rattle.bf_parse.proofs.item.begins.Goals as goal

@@ -1,4 +1,4 @@
-use Rattle.std.proofs.Common.{◌≡◌, ◌∙◌, sym}
+use Rattle.std.proofs.Common.{◌∙◌, sym}
 use Rattle.bf_parse.proofs.Items.{sum_stop, sum_item, total_stop, total_open, total_unnamed, total_item}
 use Rattle.bf_parse.proofs.Moves.{exit}
 use Rattle.bf_parse.proofs.item.item.Goals as goal

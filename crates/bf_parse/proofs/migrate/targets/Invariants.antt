@@ -1,4 +1,4 @@
-use Rattle.std.proofs.Common.{◌≡◌, ◌<◌, ◌+◌, ℕ, List, length}
+use Rattle.std.proofs.Common.{◌<◌, ◌+◌, List, length}
 use Rattle.bf_sql.specs.declared.migration.Target.{Target}
 use Rattle.bf_parse.specs.Cursors.{IsPlace, left, words}
 use Rattle.bf_parse.specs.MigrationEnds.{TargetsRule, goes_targets}

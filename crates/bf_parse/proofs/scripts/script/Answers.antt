@@ -1,8 +1,7 @@
-use Rattle.std.proofs.Common.{◌≡◌, ℕ, ◌<◌, ◌≤◌, ◌^◌, List, Ok, Err, length, inl, inr, refl, sym, ap, subst, ◌∙◌, arith}
+use Rattle.std.proofs.Common.{List, Ok, Err, length, inl, inr, sym, ap, subst, arith}
 use Rattle.bf_lex.specs.declared.token.Token.{Token}
 use Rattle.bf_lex.specs.Lexing.{IsLexed}
 use Rattle.bf_parse.specs.Tokens.{AreTokens}
-use Rattle.bf_parse.specs.Scripts.{longest_script}
 use Rattle.bf_parse.proofs.Lexed.{few_tokens, lexed_tokens}
 use Rattle.bf_parse.proofs.ScriptTexts.{is_fault, is_long, is_over, is_script, is_stuck, no_script}
 use Rattle.bf_parse.proofs.scripts.script.Goals as goal

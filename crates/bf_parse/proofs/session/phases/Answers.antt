@@ -1,4 +1,4 @@
-use Rattle.std.proofs.Common.{◌≡◌, ℕ, ◌+◌, ◌<◌, ◌≤◌, ◌^◌, ◌∙◌, refl, sym, ap, subst, arith}
+use Rattle.std.proofs.Common.{◌≡◌, ◌+◌, ap, subst, arith}
 use Rattle.bf_parse.specs.Cursors.{words}
 use Rattle.bf_parse.specs.Reading.{Fits}
 use Rattle.bf_parse.specs.ScriptParts.{goes_phases}

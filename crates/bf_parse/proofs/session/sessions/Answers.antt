@@ -1,4 +1,4 @@
-use Rattle.std.proofs.Common.{◌≡◌, ℕ, ◌≤◌, ◌∙◌, refl, ap, arith}
+use Rattle.std.proofs.Common.{◌∙◌, refl, ap, arith}
 use Rattle.bf_parse.specs.Scripts.{Progress}
 use Rattle.bf_parse.proofs.Moves.{exit, lost, told}
 use Rattle.bf_parse.proofs.Places.{length-words}

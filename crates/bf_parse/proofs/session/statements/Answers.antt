@@ -1,4 +1,4 @@
-use Rattle.std.proofs.Common.{◌≡◌, ℕ, ◌≤◌, List, [], ◌∷◌, ◌++◌, true, refl, sym, ap, subst, ◌∙◌, arith}
+use Rattle.std.proofs.Common.{List, sym, subst, ◌∙◌, arith}
 use Rattle.bf_sql.specs.declared.statement.Statement.{Statement}
 use Rattle.bf_parse.specs.declared.error.Stop.TheVariants.{Memory}
 use Rattle.bf_parse.specs.Cursors.{words}
