@@ -286,8 +286,29 @@ fn are_lines(alloc: Global, rows: &[&Row], lines: &[Line]) -> Result<bool, Fail>
     Ok(true)
 }
 
+/// Runs statements in turn, and answers the place of the first that has another reply than its own.
+fn run_all(
+    alloc: Global,
+    table: &Table,
+    heap: &Heap,
+    workspace: &mut Workspace,
+    steps: &[Step],
+) -> Result<Option<usize>, Fail>
+    requires key { table.now.key ≡ 1 ∷ 0 ∷ [] }
+    requires keys { StandUnderOwnKeys table.now heap.now.entries workspace.old }
+    ensures { OnOk result (StandUnderOwnKeys table.now heap.now.entries workspace.new) }
+{
+    for (place, (statement, reply)) in steps.iter().enumerate() {
+        let told = run_statement(alloc, table, heap, workspace, statement)?;
+        if told != *reply {
+            return Ok(Some(place));
+        }
+    }
+    Ok(None)
+}
+
 /// Runs statements on the rows of a heap, and answers the place of the first that has another
-/// reply than its own, and else whether the rows that satisfy a condition are these.
+/// reply than its own, and whether the rows that satisfy a condition then are these.
 fn outcome(
     alloc: Global,
     lines: &[Line],
@@ -298,14 +319,9 @@ fn outcome(
     let table = table(alloc)?;
     let heap = heap_of(alloc, &table, lines)?;
     let mut workspace = Workspace::new(alloc);
-    for (place, (statement, reply)) in steps.iter().enumerate() {
-        let told = run_statement(alloc, &table, &heap, &mut workspace, statement)?;
-        if told != *reply {
-            return Ok((Some(place), false));
-        }
-    }
+    let other = run_all(alloc, &table, &heap, &mut workspace, steps)?;
     let selected = are_selected(alloc, &table, &heap, &workspace, which, left)?;
-    Ok((None, selected))
+    Ok((other, selected))
 }
 
 /// In key order: by number, then by letters, a text before the longer ones that it begins.

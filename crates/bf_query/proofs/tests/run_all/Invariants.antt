@@ -1,5 +1,5 @@
 use Rattle.bf_query.specs.Merged.{StandUnderOwnKeys}
-use Rattle.bf_query.proofs.tests.outcome.Given as goal
+use Rattle.bf_query.proofs.tests.run_all.Given as goal
 
 -- rows stand under their own keys
 abbrev pub invariant-loop-place : goal.invariant-loop-place
