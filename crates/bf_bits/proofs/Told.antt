@@ -9,7 +9,7 @@ use Rattle.bf_bits.specs.declared.rule.View.{View}
 use Rattle.bf_bits.specs.declared.answer.Look.{Look}
 use Rattle.bf_bits.specs.Positions.{Has, without, IsWithin}
 use Rattle.bf_bits.specs.Words.{lock_place, migrate_place, mask, state_in}
-use Rattle.bf_bits.specs.Steps.{next, held_after, Tells, looked, claimed, finished_one, given_back}
+use Rattle.bf_bits.specs.Steps.{next, held_after, Tells, claimed, finished_one, given_back}
 use Rattle.bf_bits.specs.Seats.{Seat, Tracker, Holds, after_step, IsSeated}
 use Rattle.bf_bits.proofs.Places.{lock_at, migrate_at, keep_at}
 

@@ -1,8 +1,6 @@
 use Rattle.std.proofs.Common.{◌≡◌, sym, ap, ◌∙◌, subst, ℕ, ◌/◌, ◌<◌, bit_or}
 use mathlib.Core.Option.{none}
 use Rattle.atomic_table.specs.Table.{step, Allows}
-use Rattle.bf_bits.specs.declared.bits.BitAnswer.{BitAnswer}
-use Rattle.bf_bits.specs.Positions.{IsWithin}
 use Rattle.bf_bits.specs.Words.{state_in}
 use Rattle.bf_bits.specs.Tracker.{Tracks}
 use Rattle.bf_bits.specs.Steps.{claimed}

@@ -1,4 +1,4 @@
-use Rattle.std.proofs.Common.{◌≡◌, ◌∙◌, sym, ap, subst, ℕ, ◌/◌, ◌<◌, bit_or}
+use Rattle.std.proofs.Common.{sym, subst, ℕ, ◌/◌, ◌<◌, bit_or}
 use mathlib.Core.Option.{none}
 use Rattle.atomic_table.specs.Seated.{TableId}
 use Rattle.atomic_table.specs.Table.{step, Allows}

@@ -1,4 +1,4 @@
-use Rattle.std.proofs.Common.{◌≡◌, ◌∙◌, sym, ap, subst, ℕ, ◌/◌, ◌<◌, bit_and}
+use Rattle.std.proofs.Common.{sym, ap, subst, ℕ, ◌/◌, ◌<◌, bit_and}
 use Rattle.std.specs.Int.{bit_not}
 use mir.Syntax.{w64}
 use mathlib.Core.Option.{none}
