@@ -1,5 +1,5 @@
 -- Lists with one more at the end, and their fronts; and lists that are kept in places.
-use Rattle.std.proofs.Common.{◌≡◌, ℕ, zero, suc, ◌<◌, ◌≤◌, ◌+◌, ◌-◌, ◌⊎◌, inl, inr, List, [], ◌∷◌, ◌++◌, length, take, map, refl, sym, ◌∙◌, ap, arith, Option, Some, None, length-append}
+use Rattle.std.proofs.Common.{◌≡◌, ℕ, zero, suc, ◌-◌, ◌⊎◌, inl, inr, List, [], ◌∷◌, ◌++◌, length, take, map, refl, sym, ◌∙◌, ap, Option, Some, None}
 use Rattle.std.specs.List.{slice_get}
 use Rattle.std.specs.Option.{option_map, option_flatten}
 use Rattle.std.proofs.lemmas.List.{take-map, length-map}
@@ -45,23 +45,23 @@ module _ {T : Type 0} where
   pub kept-snoc : (old new : SmallVec (Option T)) (v : T) → AreKept old → new.items ≡ old.items ++ Some v ∷ [] → new.capacity ≡ old.capacity → AreKept new
   kept-snoc old new v k items capacity = record {
     full = items ∙ (ap (λ xs. xs ++ Some v ∷ []) k.full ∙ (sym (map-snoc (values_in old.items) v) ∙ ap (map Some) (sym (ap values_in items ∙ values_in-snoc old.items v))));
-    room = capacity ∙ k.room
+    room = capacity ∙ k.room;
   }
     where
-    map-snoc : (vs : List T) (w : T) → map Some (vs ++ w ∷ []) ≡ map Some vs ++ Some w ∷ []
-    map-snoc [] w = refl
-    map-snoc (u ∷ vs) w = ap (λ ws. Some u ∷ ws) (map-snoc vs w)
+      map-snoc : (vs : List T) (w : T) → map Some (vs ++ w ∷ []) ≡ map Some vs ++ Some w ∷ []
+      map-snoc [] w = refl
+      map-snoc (u ∷ vs) w = ap (λ ws. Some u ∷ ws) (map-snoc vs w)
 
   pub kept-take : (old new : SmallVec (Option T)) (n : ℕ) → AreKept old → new.items ≡ take n old.items → new.capacity ≡ old.capacity → AreKept new
   kept-take old new n k items capacity = record {
     full = items ∙ (ap (take n) k.full ∙ (take-map Some n (values_in old.items) ∙ ap (map Some) (sym (ap values_in items ∙ values_in-take n old.items (values_in old.items) k.full))));
-    room = capacity ∙ k.room
+    room = capacity ∙ k.room;
   }
 
   -- what a pop takes off: the last value, and nothing where there is none
   pub popped : (xs : List (Option T)) (vs : List T) → xs ≡ map Some vs → option_flatten (slice_get xs (length xs - 1)) ≡ slice_get vs (length vs - 1)
   popped xs vs e = ap (λ n. option_flatten (slice_get xs (n - 1))) (length-values_in xs vs e) ∙ (ap option_flatten (slice_get-values_in xs vs (length vs - 1) e) ∙ flat (slice_get vs (length vs - 1)))
     where
-    flat : (o : Option T) → option_flatten (option_map Some o) ≡ o
-    flat None = refl
-    flat (Some x) = refl
+      flat : (o : Option T) → option_flatten (option_map Some o) ≡ o
+      flat None = refl
+      flat (Some x) = refl

@@ -1,5 +1,5 @@
 -- How a list is kept: in places of which each that is taken has a value.
-use Rattle.std.specs.Prelude.{ℕ, ◌≡◌, List, [], ◌∷◌, Option, Some, None, map}
+use Rattle.std.specs.Prelude.{◌≡◌, List, [], ◌∷◌, Option, Some, None, map}
 use Rattle.smallvec.specs.SmallVec.{SmallVec}
 use Rattle.bf_drive.specs.Lists.{most}
 

@@ -1,5 +1,5 @@
 -- Lists of at most 64 granules, all different, alone or each with its claim.
-use Rattle.std.specs.Prelude.{ℕ, ◌≡◌, ◌≢◌, ◌≤◌, List, Option, Some, map, length, slice_get}
+use Rattle.std.specs.Prelude.{ℕ, ◌≡◌, ◌≢◌, ◌≤◌, List, Some, map, length, slice_get}
 use Rattle.bf_base.specs.declared.granule.Granule.{Granule}
 use Rattle.bf_drive.specs.declared.claim.Claim.{Claim}
 use Rattle.bf_drive.specs.Claims.{IsOf}

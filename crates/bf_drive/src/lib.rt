@@ -4,6 +4,8 @@
 
 pub mod claim;
 pub mod skip;
+#[cfg(test)]
+mod tests;
 pub mod wip;
 
 pub use claim::Claim;

@@ -1,6 +1,6 @@
-use Rattle.std.proofs.Common.{◌≡◌, ◌<◌, length, List, [], ◌∷◌, ◌++◌, ◌∙◌, sym, ap, subst}
+use Rattle.std.proofs.Common.{◌≡◌, List, [], ◌∷◌, ◌++◌, ◌∙◌, sym, ap, subst}
 use Rattle.bf_base.specs.declared.granule.Granule.{Granule}
-use Rattle.bf_drive.specs.Lists.{IsSkip, Lacks, most}
+use Rattle.bf_drive.specs.Lists.{IsSkip}
 use Rattle.bf_drive.specs.Keeping.{values_in}
 use Rattle.bf_drive.proofs.Places.{values_in-snoc, kept-snoc}
 use Rattle.bf_drive.proofs.Rows.{skip-snoc}
