@@ -15,5 +15,5 @@ key_of (AtKey key) = key
 
 -- a claim is of a granule: of its position, or of its key
 abbrev pub IsOf : Granule → Claim → Type 0
-IsOf granule (Row claim) = granule.place ≡ AtRow claim
+IsOf granule (Row claim) = granule.place ≡ AtRow claim.at
 IsOf granule (Group claim) = claim.key ≡ key_of granule.place
