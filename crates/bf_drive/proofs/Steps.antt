@@ -9,7 +9,7 @@ use Rattle.bf_bits.specs.Positions.{times, Has, without}
 use Rattle.bf_bits.specs.Tracker.{holders, finishers}
 use Rattle.bf_bits.specs.Steps.{next}
 use Rattle.bf_bits.proofs.Counting.{times-here, times-other, times-without, times-without_other, total-set, total-at}
-use Rattle.bf_hash.specs.Tracker.{TrackerState, free, held, done, TrackerStep}
+use Rattle.bf_hash.specs.Tracker.{TrackerState, free, held, done}
 use Rattle.bf_drive.specs.Trackers.{IsTrackedAs, StepsTo}
 
 set_here : (l : List View) (i : ℕ) (v w : View) → get_elem? l i ≡ some v → get_elem? (set l i w) i ≡ some w
