@@ -1,5 +1,5 @@
 -- How often a position stands in lists, and in all views together.
-use Rattle.std.proofs.Common.{◌≡◌, ◌≢◌, get_or, ℕ, zero, suc, ◌+◌, ◌/◌, ◌<◌, ◌≤◌, Bool, true, false, eqb, List, [], take, ◌∷◌, ◌++◌, set, sym, refl, ap, ◌∙◌, arith, eq-eqb, ne_eqb, subst}
+use Rattle.std.proofs.Common.{◌≡◌, ◌≢◌, ℕ, zero, suc, ◌+◌, ◌/◌, ◌<◌, ◌≤◌, Bool, true, false, eqb, List, [], take, ◌∷◌, ◌++◌, set, sym, refl, ap, ◌∙◌, arith, eq-eqb, ne_eqb, subst}
 use Rattle.std.specs.Prelude.{if◌then◌else◌, All}
 use Rattle.std.proofs.lemmas.List.Elements.{All-head, All-tail}
 use mathlib.Core.Logic.{dite}
@@ -7,7 +7,7 @@ use mathlib.Core.Option.{some, some-injective, some-ne-none}
 use native.Mathlib.Decide.{ℕ_discrete}
 use lib.ListN.{get_elem?}
 use Rattle.bf_bits.specs.declared.rule.View.{View}
-use Rattle.bf_bits.specs.Positions.{Has, times, without, IsWithin}
+use Rattle.bf_bits.specs.Positions.{times, without, IsWithin}
 use Rattle.bf_bits.specs.declared.answer.Look.{Look}
 use Rattle.bf_bits.specs.declared.answer.Look.TheVariants.{Free, Held, Done}
 use Rattle.bf_bits.specs.Tracker.{total}

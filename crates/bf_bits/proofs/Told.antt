@@ -9,8 +9,8 @@ use Rattle.bf_bits.specs.declared.rule.View.{View}
 use Rattle.bf_bits.specs.declared.answer.Look.{Look}
 use Rattle.bf_bits.specs.Positions.{Has, without, IsWithin}
 use Rattle.bf_bits.specs.Words.{lock_place, migrate_place, mask, state_in}
-use Rattle.bf_bits.specs.Steps.{next, held_after, Tells, looked, claimed, finished_one, given_back}
-use Rattle.bf_bits.specs.Seats.{Seat, Tracker, Holds, after_step, IsSeated}
+use Rattle.bf_bits.specs.Steps.{next, held_after, Tells, claimed, finished_one, given_back}
+use Rattle.bf_bits.specs.Seats.{Claim, Seat, Tracker, Holds, after_step, IsSeated}
 use Rattle.bf_bits.proofs.Places.{lock_at, migrate_at, keep_at}
 
 abbrev pub Mine : Type 0
@@ -93,6 +93,9 @@ pub word_within : (table : TableId) (granules q : ℕ) (tracker : Tracker) → t
 word_within table granules q tracker known room low =
     let same : granules ≡ tracker.granules = ap (λ (t : Tracker). t.granules) known in
     (omega arith, omega arith)
+
+pub same_at : {a b : Claim} → a ≡ b → a.at ≡ b.at
+same_at e = ap (λ (claim : Claim). claim.at) e
 
 -- what the seat holds, as its parts have it
 pub held_inside : (table : TableId) (view : View) (seat : Seat) (at claim : ℕ) → seat_with table view ≡ seat → at ≡ claim → Holds seat claim → Has view.held at

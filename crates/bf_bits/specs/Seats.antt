@@ -18,6 +18,11 @@ pub record Seat : Type 0 where
   pub table : TableId
   pub view : View
 
+-- a claim: the table of its tracker, and its position there
+pub record Claim : Type 0 where
+  pub table : TableId
+  pub at : ℕ
+
 -- the seat holds a position, or has finished it
 abbrev pub Holds : Seat → ℕ → Type 0
 Holds seat p = Has seat.view.held p

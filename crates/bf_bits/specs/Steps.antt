@@ -25,29 +25,35 @@ pub record Tells (found p : ℕ) (v : View) : Type 0 where
   pub finished : Has v.finished p → state_in found p ≡ Done
 
 -- ---- the steps, each with its operand
-abbrev pub Seated : Type 0
-Seated = Me (Unit {0}) View
+-- a seat's view and the slots that it has taken, of which a tracker has none
+abbrev pub Own : Type 0
+Own = Me (Unit {0}) View
 
+-- a step on the word of a position, with an operand
 abbrev pub IsAt : Step (Unit {0}) → ℕ → ℕ → Type 0
 IsAt st p operand = (st.word ≡ p / 32) × (st.first ≡ operand)
 
-abbrev pub looked : Step (Unit {0}) → Seated → ℕ → Seated → Type 0
+-- a load: the lists stay, and the word says of each position in it what the seat has
+abbrev pub looked : Step (Unit {0}) → Own → ℕ → Own → Type 0
 looked st v found w =
     (w ≡ (next v.0 found v.0.held v.0.finished, v.1)) × ((p : ℕ) → st.word ≡ p / 32 → Tells found p v.0)
 
-abbrev pub claimed : Step (Unit {0}) → Seated → ℕ → Seated → Type 0
+-- the lock bit is set: the seat holds the position where it was found free, and else its lists stay
+abbrev pub claimed : Step (Unit {0}) → Own → ℕ → Own → Type 0
 claimed st v found w =
     (p : ℕ) × IsAt st p (mask (lock_place p))
     × (w ≡ (next v.0 found (held_after p (state_in found p) v.0.held) v.0.finished, v.1))
     × Tells found p v.0
 
-abbrev pub finished_one : Step (Unit {0}) → Seated → ℕ → Seated → Type 0
+-- the migrate bit is set of a position that was found held: it goes from the held list to the finished one
+abbrev pub finished_one : Step (Unit {0}) → Own → ℕ → Own → Type 0
 finished_one st v found w =
     (p : ℕ) × IsAt st p (mask (migrate_place p))
     × (w ≡ (next v.0 found (without p v.0.held) (p ∷ v.0.finished), v.1))
     × (state_in found p ≡ Held)
 
-abbrev pub given_back : Step (Unit {0}) → Seated → ℕ → Seated → Type 0
+-- the lock bit is cleared of a position that was found held: it leaves the held list
+abbrev pub given_back : Step (Unit {0}) → Own → ℕ → Own → Type 0
 given_back st v found w =
     (p : ℕ) × IsAt st p (bit_not w64 (mask (lock_place p)))
     × (w ≡ (next v.0 found (without p v.0.held) v.0.finished, v.1))

@@ -1,9 +1,13 @@
 -- Two bits for each position, 32 positions in a word: the low one is the lock bit, the high one the migrate bit.
-use Rattle.std.specs.Prelude.{ℕ, ◌≡◌, ◌+◌, ◌*◌, ◌/◌, ◌%◌, ◌^◌, ◌==◌, List, if◌then◌else◌, slice_index}
+use Rattle.std.specs.Prelude.{ℕ, ◌≡◌, ◌+◌, ◌*◌, ◌/◌, ◌%◌, ◌^◌, ◌==◌, max, List, if◌then◌else◌, slice_index}
 use Rattle.std.specs.Int.{bit_at}
 use Rattle.bf_bits.specs.declared.answer.Look.{Look}
 use Rattle.bf_bits.specs.declared.answer.Look.TheVariants.{Free, Held, Done}
 use Rattle.bf_bits.specs.Positions.{times}
+
+-- how many words that many granules take: 32 each, and at least one word
+abbrev pub word_count : ℕ → ℕ
+word_count granules = max 1 ((granules + 31) / 32)
 
 abbrev pub lock_place : ℕ → ℕ
 lock_place p = 2 * (p % 32)

@@ -3,12 +3,13 @@
 ghost use Rattle.std.specs.Prelude.{◌≡◌, ◌<◌, ◌∷◌, [], ℕ, All, IfErr, IfOk};
 ghost use Rattle.std.specs.List.Sorted.{IsStrictlyIncreasing};
 ghost use Rattle.bf_bits.specs.Positions.{Has, IsDistinct, without};
-ghost use Rattle.bf_bits.specs.Words.{state_in};
+ghost use Rattle.bf_bits.specs.Words.{state_in, word_count};
 ghost use Rattle.bf_bits.specs.Steps.{held_after};
 ghost use Rattle.bf_bits.specs.Seats.{Holds, HasFinished, first_seat, new_seat, after_step, joined};
 ghost use Rattle.bf_bits.specs.Answers.{answer_for};
 
 use crate::answer::Look;
+use crate::origin::Origin;
 use crate::rule::{Claims, Finishes, GivesBack, Law, Looks, Made, Seating, View};
 use crate::words::{gather, lock_mask, marked, migrate_mask, state_of, words_for};
 use atomic_table::{Seat, Table};
@@ -26,24 +27,25 @@ pub enum BitAnswer {
     Done,
 }
 
-/// A position that a seat holds. `claim` alone makes one.
+/// A position of one tracker, which a seat holds. `claim` alone makes one.
 #[derive(Drop)]
 pub struct BitClaim {
     at: u32,
+    origin: Origin,
 }
 
 impl Model for BitClaim {
-    ghost use Rattle.std.specs.Prelude.{ℕ};
+    ghost use Rattle.bf_bits.specs.Seats.{Claim};
 
-    ghost Value = { ℕ };
+    ghost Value = { Claim };
 
-    ghost view = { λ claim. claim.at };
+    ghost view = { λ claim. record { table = claim.origin.table; at = claim.at } };
 }
 
 impl BitClaim {
     /// The position.
     pub fn at(&self) -> u32
-        ensures { result ≡ self.now }
+        ensures { result ≡ self.now.at }
     {
         self.at
     }
@@ -89,6 +91,7 @@ impl Bits {
         requires below { All (λ at. at < granules) done.now }
         requires distinct { IsDistinct done.now }
         ensures granules { IfOk result (λ made. made.0.granules ≡ granules) }
+        ensures words { IfOk result (λ made. made.0.table.words ≡ word_count granules) }
         ensures first_seat { IfOk result (λ made. made.1 ≡ first_seat made.0.table done.now) }
     {
         let words = marked(alloc, words_for(granules), done)?;
@@ -116,7 +119,7 @@ impl Bits {
     pub fn claim(&self, seat: &mut BitSeat, at: u32) -> BitAnswer
         requires at { at < self.now.granules }
         requires own { seat.old.table ≡ self.now.table }
-        ensures answer { result ≡ answer_for at (state_in seat.new.view.found at) }
+        ensures answer { result ≡ answer_for self.now.table at (state_in seat.new.view.found at) }
         ensures step { seat.new ≡ after_step seat.old seat.new.view.found (held_after at (state_in seat.new.view.found at) seat.old.view.held) seat.old.view.finished }
         ensures held { Holds seat.old at → result ≡ BitAnswer.Busy }
         ensures finished { HasFinished seat.old at → result ≡ BitAnswer.Done }
@@ -127,9 +130,18 @@ impl Bits {
             .shared
             .fetch_or::<Claims>(&mut seat.seat, word, lock_mask(at));
         match state_of(found, at) {
-            Look::Free => BitAnswer::Claimed(BitClaim { at }),
+            Look::Free => BitAnswer::Claimed(self.grant(at)),
             Look::Held => BitAnswer::Busy,
             Look::Done => BitAnswer::Done,
+        }
+    }
+
+    fn grant(&self, at: u32) -> BitClaim
+        ensures { result ≡ record { table = self.now.table; at = at } }
+    {
+        BitClaim {
+            at,
+            origin: Origin::of(self),
         }
     }
 
@@ -147,28 +159,30 @@ impl Bits {
         state_of(found, at)
     }
 
-    /// Finishes what the seat holds, by one step. Takes no memory, and waits for nobody.
+    /// Finishes what the seat holds of this tracker, by one step. Takes no memory, and waits for nobody.
     pub fn finish(&self, seat: &mut BitSeat, claim: BitClaim)
         requires own { seat.old.table ≡ self.now.table }
-        requires held { Holds seat.old claim }
-        ensures found { state_in seat.new.view.found claim ≡ Look.Held }
-        ensures step { seat.new ≡ after_step seat.old seat.new.view.found (without claim seat.old.view.held) (claim ∷ seat.old.view.finished) }
+        requires of_this { claim.table ≡ self.now.table }
+        requires held { Holds seat.old claim.at }
+        ensures found { state_in seat.new.view.found claim.at ≡ Look.Held }
+        ensures step { seat.new ≡ after_step seat.old seat.new.view.found (without claim.at seat.old.view.held) (claim.at ∷ seat.old.view.finished) }
     {
-        let BitClaim { at } = claim;
+        let BitClaim { at, origin: _ } = claim;
         let word = (at / 32) as usize;
         self.table
             .shared
             .fetch_or::<Finishes>(&mut seat.seat, word, migrate_mask(at));
     }
 
-    /// Gives back what the seat holds, by one step. Takes no memory, and waits for nobody.
+    /// Gives back what the seat holds of this tracker, by one step. Takes no memory, and waits for nobody.
     pub fn give_back(&self, seat: &mut BitSeat, claim: BitClaim)
         requires own { seat.old.table ≡ self.now.table }
-        requires held { Holds seat.old claim }
-        ensures found { state_in seat.new.view.found claim ≡ Look.Held }
-        ensures step { seat.new ≡ after_step seat.old seat.new.view.found (without claim seat.old.view.held) seat.old.view.finished }
+        requires of_this { claim.table ≡ self.now.table }
+        requires held { Holds seat.old claim.at }
+        ensures found { state_in seat.new.view.found claim.at ≡ Look.Held }
+        ensures step { seat.new ≡ after_step seat.old seat.new.view.found (without claim.at seat.old.view.held) seat.old.view.finished }
     {
-        let BitClaim { at } = claim;
+        let BitClaim { at, origin: _ } = claim;
         let word = (at / 32) as usize;
         self.table
             .shared

@@ -4,6 +4,7 @@
 
 pub mod answer;
 pub mod bits;
+mod origin;
 mod rule;
 pub mod rules;
 #[cfg(test)]

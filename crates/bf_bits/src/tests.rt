@@ -152,6 +152,16 @@ fn what_any_seat_finished_is_done_at_the_close(rt: HostRuntime) -> Result<(), Fa
     Ok(())
 }
 
+#[test]
+fn another_seat_is_answered_busy(rt: HostRuntime) -> Result<(), Fail> {
+    let (bits, mut seat) = Bits::of_done(rt.alloc(), 40, &[])?;
+    let mut other = bits.split(&mut seat);
+    assert_eq!(rt; told(bits.claim(&mut seat, 33)), "claimed");
+    assert_eq!(rt; told(bits.claim(&mut other, 33)), "busy");
+    assert_eq!(rt; bits.look(&mut other, 33), Look::Held);
+    Ok(())
+}
+
 // Whatever the schedule, each granule is finished by one of the two threads, and by one alone.
 #[test]
 fn two_threads_finish_each_granule_once(rt: HostRuntime) -> Result<(), Fail> {

@@ -4,7 +4,7 @@ ghost use Rattle.std.specs.Prelude.{◌≡◌, ◌+◌, ◌*◌, ◌/◌, ◌<�
 ghost use Rattle.std.specs.Mem.Slots.{slots_items, slots_len, IsFull};
 ghost use Rattle.std.specs.List.Sorted.{IsStrictlyIncreasing};
 ghost use Rattle.bf_bits.specs.Positions.{Has, IsDistinct};
-ghost use Rattle.bf_bits.specs.Words.{lock_place, migrate_place, mask, lock_in, migrate_in, state_in, AreMarked};
+ghost use Rattle.bf_bits.specs.Words.{lock_place, migrate_place, mask, lock_in, migrate_in, state_in, word_count, AreMarked};
 
 use crate::answer::Look;
 use atomic_table::Closed;
@@ -52,9 +52,9 @@ pub fn state_of(word: u64, at: u32) -> Look
 
 /// How many words that many granules take: 32 granules each, and at least one word.
 pub fn words_for(granules: u32) -> usize
+    ensures count { result ≡ word_count granules }
     ensures room { granules ≤ 32 * result }
     ensures some { 0 < result }
-    ensures no_more { 32 * result < granules + 64 }
 {
     (granules as usize).div_ceil(32).max(1)
 }

@@ -1,6 +1,6 @@
 -- A tree of marks, read as a finite map, and how its keys and the taken tickets belong together after each change.
-use Rattle.std.proofs.Common.{◌≡◌, ◌≢◌, ◌⊎◌, inl, inr, ⊎_elim, ℕ, Bool, true, false, cond, List, [], ◌∷◌, ◌++◌, map, Option, Some, None, refl, sym, ap, ◌∙◌, subst, arith, eqb, take, length, get_or}
-use Rattle.std.specs.Ordering.{eq_by_cmp, is_eq}
+use Rattle.std.proofs.Common.{◌≡◌, ◌≢◌, ◌⊎◌, inl, inr, ⊎_elim, ℕ, Bool, true, false, cond, List, [], ◌∷◌, ◌++◌, map, Option, Some, None, refl, sym, ap, ◌∙◌, subst, arith, eqb}
+use Rattle.std.specs.Ordering.{eq_by_cmp}
 use Rattle.std.specs.Cmp.{eq_by_cmp_equiv}
 use Rattle.std.specs.FinMap as finite
 use Rattle.std.specs.FinMap.{find, same_map, get-from_entries, get-insert, get-remove}
@@ -21,7 +21,7 @@ use Rattle.bf_hash.specs.declared.state.HashClaim.{HashClaim}
 use Rattle.bf_hash.specs.States.{state_by, is_held_under}
 use Rattle.bf_hash.specs.Tickets.{Pool, IsTaken, IsLeastFree, TakesOne, GivesOne}
 use Rattle.bf_hash.specs.Stripes.{Cells, Marks, mark_of, state_of, all_done, after_finish, after_give_back, IsConsistent, IsLeastTicket}
-use Rattle.bf_hash.specs.Keeping.{marks_in, AreTheirs, IsSound}
+use Rattle.bf_hash.specs.Keeping.{marks_in, AreTheirs}
 
 -- ---- the tree as a finite map
 find_looks : (key : Cells) (es : List (Cells × Mark)) → find key_cmp key es ≡ lookup (is_at (key_cmp key)) es

@@ -1,7 +1,7 @@
 -- Free numbers in a heap: the top is the least, and a number that is taken has room among the free.
-use Rattle.std.proofs.Common.{◌≡◌, ◌≢◌, ℕ, zero, suc, ◌+◌, ◌-◌, ◌<◌, ◌≤◌, Bool, true, false, eqb, List, [], ◌∷◌, length, refl, sym, ap, ◌∙◌, subst, arith, eq-eqb, ne_eqb}
+use Rattle.std.proofs.Common.{◌≡◌, ◌≢◌, ℕ, zero, suc, ◌+◌, ◌-◌, ◌<◌, ◌≤◌, Bool, List, [], ◌∷◌, length, refl, sym, ap, ◌∙◌, subst, arith, eq-eqb, ne_eqb}
 use Rattle.std.specs.Prelude.{◌==◌, OnOk, Result, Ok, if◌then◌else◌, nat_lt}
-use Rattle.std.specs.List.{sum_by, AllByRecursion}
+use Rattle.std.specs.List.{sum_by}
 use Rattle.std.specs.List.Sorted.{IsPermutation}
 use Rattle.std.specs.Ordering.{nat_cmp}
 use Rattle.std.specs.BinaryHeap.{IsHeap, IsUpperBound, KeepsHeap, PopsGreatest}
@@ -13,7 +13,7 @@ use Rattle.std.proofs.lemmas.List.Sorted.{sum_by_pushed, sum_by_popped}
 use Rattle.std.proofs.lemmas.Map.Keys.{ge_from_not_lt}
 use mathlib.Core.Logic.{dite}
 use native.Mathlib.Decide.{ℕ_discrete}
-use Rattle.bf_hash.specs.Tickets.{Pool, numbers_of, times, IsTaken, IsLeastFree, TakesOne, GivesOne, IsPool}
+use Rattle.bf_hash.specs.Tickets.{numbers_of, times, IsTaken, IsLeastFree, TakesOne, GivesOne, IsPool}
 
 abbrev pub order : Reverse ℕ → Reverse ℕ → Ordering
 order x y = nat_cmp y.0 x.0

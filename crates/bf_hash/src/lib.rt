@@ -1,6 +1,7 @@
 //! A tracker of granules that are named by keys: each is free, held under a ticket, or done.
 #![tactic(auto)]
 
+pub mod rules;
 pub mod state;
 pub mod stripe;
 #[cfg(test)]

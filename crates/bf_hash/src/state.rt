@@ -8,7 +8,7 @@ use bf_base::Key;
 /// What a stripe has of a key that isn't free.
 #[derive(Clone, Copy, Debug, PartialEq, Eq)]
 pub enum Mark {
-    /// It is held by the claim that has this ticket.
+    /// It is held under this ticket, by which the stripe knows the claim again.
     Held(u64),
     /// It is done, and stays so.
     Done,
@@ -19,7 +19,7 @@ pub enum Mark {
 pub enum HashState {
     /// Nobody holds it, and it isn't done.
     Free,
-    /// It is held by the claim that has this ticket.
+    /// It is held under this ticket.
     Held(u64),
     /// It is done, and stays so.
     Done,
@@ -37,7 +37,8 @@ impl HashState {
     }
 }
 
-/// A key that is held, and the ticket under which it is. `Stripe::claim` alone makes one.
+/// A key that a stripe granted, and the ticket under which it did. `Stripe::claim` alone makes one. It does
+/// not say which stripe: at another one it acts on that one's key where this is held under the same ticket.
 #[derive(Drop)]
 pub struct HashClaim {
     pub(crate) key: Key,
@@ -64,7 +65,7 @@ impl HashClaim {
 pub enum HashAnswer {
     /// It was free, and is held by this claim from now on.
     Claimed(HashClaim),
-    /// It is held by the claim that has this ticket.
+    /// It is held under this ticket.
     Busy(u64),
     /// It is done.
     Done,

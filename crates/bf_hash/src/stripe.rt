@@ -14,8 +14,8 @@ use std::collections::BTreeMap;
 use std::marker::Model;
 
 /// The states of keys: contracts see a finite map from each key that isn't free to `Held` with a
-/// ticket or to `Done`. No two keys are held under one ticket. A key changes from `Held` only by the
-/// claim that has its ticket.
+/// ticket or to `Done`. No two keys are held under one ticket. A key changes from `Held` only by a
+/// claim of this key with this ticket.
 #[derive(Drop)]
 pub struct Stripe {
     alloc: Global,
@@ -115,7 +115,8 @@ impl Stripe {
     {
         let HashClaim { key, ticket } = claim;
         let found = state_among(&self.states, &key);
-        if !found.is_held_under(ticket) {
+        let is_own = found.is_held_under(ticket);
+        if !is_own {
             return found;
         }
         let Ok(_) = self.states.insert(key, Mark::Done) else {

@@ -19,27 +19,10 @@ fn told(alloc: Global, stripe: &mut Stripe, number: i64) -> Result<(&'static str
     }
 }
 
-// Claims a key at one stripe, and finishes the claim at another. Answers the state
-// that was found there, and `None` where the claim was not granted.
-fn claim_and_finish(
-    alloc: Global,
-    stripe: &mut Stripe,
-    at: &mut Stripe,
-    number: i64,
-) -> Result<Option<HashState>, Memory> {
+// The claim of a key, and `None` where it was not granted.
+fn claimed(alloc: Global, stripe: &mut Stripe, number: i64) -> Result<Option<HashClaim>, Memory> {
     match stripe.claim(&key(alloc, number)?)? {
-        HashAnswer::Claimed(claim) => Ok(Some(at.finish(claim))),
-        HashAnswer::Busy(_) | HashAnswer::Done => Ok(None),
-    }
-}
-
-fn claim_and_give_back(
-    alloc: Global,
-    stripe: &mut Stripe,
-    number: i64,
-) -> Result<Option<HashState>, Memory> {
-    match stripe.claim(&key(alloc, number)?)? {
-        HashAnswer::Claimed(claim) => Ok(Some(stripe.give_back(claim))),
+        HashAnswer::Claimed(claim) => Ok(Some(claim)),
         HashAnswer::Busy(_) | HashAnswer::Done => Ok(None),
     }
 }
@@ -65,12 +48,21 @@ fn a_ticket_is_used_again_after_a_give_back(rt: HostRuntime) -> Result<(), Fail>
     let alloc = rt.alloc();
     let mut stripe = Stripe::of_done(alloc, &[])?;
     assert_eq!(rt; told(alloc, &mut stripe, 10)?, ("claimed", 1));
-    assert_eq!(rt;
-        claim_and_give_back(alloc, &mut stripe, 20)?,
-        Some(HashState::Held(2))
-    );
+    let claim = claimed(alloc, &mut stripe, 20)?.ok_or("granted")?;
+    assert_eq!(rt; stripe.give_back(claim), HashState::Held(2));
     assert_eq!(rt; told(alloc, &mut stripe, 30)?, ("claimed", 2));
     assert_eq!(rt; told(alloc, &mut stripe, 20)?, ("claimed", 3));
+    Ok(())
+}
+
+#[test]
+fn a_ticket_is_used_again_after_a_finish(rt: HostRuntime) -> Result<(), Fail> {
+    let alloc = rt.alloc();
+    let mut stripe = Stripe::of_done(alloc, &[])?;
+    let claim = claimed(alloc, &mut stripe, 10)?.ok_or("granted")?;
+    assert_eq!(rt; stripe.finish(claim), HashState::Held(1));
+    assert_eq!(rt; told(alloc, &mut stripe, 10)?, ("done", 0));
+    assert_eq!(rt; told(alloc, &mut stripe, 20)?, ("claimed", 1));
     Ok(())
 }
 
@@ -82,10 +74,8 @@ fn another_ticket_changes_nothing(rt: HostRuntime) -> Result<(), Fail> {
     let mut stripe = Stripe::of_done(alloc, &[])?;
     assert_eq!(rt; told(alloc, &mut other, 1)?, ("claimed", 1));
     assert_eq!(rt; told(alloc, &mut stripe, 2)?, ("claimed", 1));
-    assert_eq!(rt;
-        claim_and_finish(alloc, &mut other, &mut stripe, 2)?,
-        Some(HashState::Held(1))
-    );
+    let claim = claimed(alloc, &mut other, 2)?.ok_or("granted")?;
+    assert_eq!(rt; stripe.finish(claim), HashState::Held(1));
     assert_eq!(rt; told(alloc, &mut stripe, 2)?, ("busy", 1));
     Ok(())
 }

@@ -1,11 +1,10 @@
 use Rattle.std.proofs.Common.{◌≡◌, sym, ap, ◌∙◌, subst, ℕ, ◌/◌, ◌<◌, bit_or}
 use mathlib.Core.Option.{none}
 use Rattle.atomic_table.specs.Table.{step, Allows}
-use Rattle.bf_bits.specs.declared.bits.BitAnswer.{BitAnswer}
-use Rattle.bf_bits.specs.Positions.{IsWithin}
 use Rattle.bf_bits.specs.Words.{state_in}
 use Rattle.bf_bits.specs.Tracker.{Tracks}
 use Rattle.bf_bits.specs.Steps.{claimed}
+use Rattle.bf_bits.specs.declared.bits.BitAnswer.TheVariants.{Claimed}
 use Rattle.bf_bits.specs.Answers.{answer_for}
 use Rattle.bf_bits.proofs.Counting.{within-claimed}
 use Rattle.bf_bits.proofs.Moves.{claims}
@@ -28,13 +27,13 @@ fetch_or-found-requires c =
 stepped : (c : goal.Joined-state_of) → (c.fetch_or-found.result ≡ c.fetch_or-found.new.seat.me.0.found) × IsClaimStep c.args.at c.args.seat.now (seat_of c.fetch_or-found.new.seat.table_id c.fetch_or-found.new.seat.me)
 stepped c = claim_step c.self.inside.table.shared.table_id.slots c.args.at c.lock_mask.result c.fetch_or-found.result _ _ c.seat.inside.seat.me c.fetch_or-found.new.seat.me c.args.seat.now c.seat.view_is c.lock_mask.ensures c.fetch_or-found.ensures.0 c.fetch_or-found.ensures.2
 
-answered : (c : goal.Joined-state_of) → c.match-state_of.result ≡ answer_for c.args.at (state_in c.fetch_or-found.new.seat.me.0.found c.args.at)
+answered : (c : goal.Joined-state_of) → c.match-state_of.result ≡ answer_for c.args.self.now.table c.args.at (state_in c.fetch_or-found.new.seat.me.0.found c.args.at)
 answered c =
-    let e = ap (answer_for c.args.at) (c.state_of.ensures ∙ ap (λ (n : ℕ). state_in n c.args.at) (stepped c).0) in
+    let e = ap (answer_for c.args.self.now.table c.args.at) (c.state_of.ensures ∙ ap (λ (n : ℕ). state_in n c.args.at) (stepped c).0) in
     elim c.match-state_of.branch [
-      | in-Free w ↦ w.result-is ∙ (ap (answer_for c.args.at) (sym w.in-Free.is) ∙ e)
-      | in-Held w ↦ w.result-is ∙ (ap (answer_for c.args.at) (sym w.in-Held.is) ∙ e)
-      | in-Done w ↦ w.result-is ∙ (ap (answer_for c.args.at) (sym w.in-Done.is) ∙ e)
+      | in-Free w ↦ w.result-is ∙ (ap Claimed w.grant.ensures ∙ (ap (answer_for c.args.self.now.table c.args.at) (sym w.in-Free.is) ∙ e))
+      | in-Held w ↦ w.result-is ∙ (ap (answer_for c.args.self.now.table c.args.at) (sym w.in-Held.is) ∙ e)
+      | in-Done w ↦ w.result-is ∙ (ap (answer_for c.args.self.now.table c.args.at) (sym w.in-Done.is) ∙ e)
     ]
 
 pub returns-clause-answer : goal.returns-clause-answer
@@ -44,10 +43,10 @@ pub returns-clause-step : goal.returns-clause-step
 returns-clause-step c = (stepped c).1.0
 
 pub returns-clause-held : goal.returns-clause-held
-returns-clause-held c has = answered c ∙ ap (answer_for c.args.at) ((stepped c).1.1.held has)
+returns-clause-held c has = answered c ∙ ap (answer_for c.args.self.now.table c.args.at) ((stepped c).1.1.held has)
 
 pub returns-clause-finished : goal.returns-clause-finished
-returns-clause-finished c has = answered c ∙ ap (answer_for c.args.at) ((stepped c).1.1.finished has)
+returns-clause-finished c has = answered c ∙ ap (answer_for c.args.self.now.table c.args.at) ((stepped c).1.1.finished has)
 
 pub invariant_of-seat : goal.invariant_of-seat
 invariant_of-seat c =

@@ -1,4 +1,4 @@
-use Rattle.std.proofs.Common.{◌≡◌, ◌∙◌, sym, ap, subst, ℕ, ◌/◌, ◌<◌, bit_or}
+use Rattle.std.proofs.Common.{sym, subst, ℕ, ◌/◌, ◌<◌, bit_or}
 use mathlib.Core.Option.{none}
 use Rattle.atomic_table.specs.Seated.{TableId}
 use Rattle.atomic_table.specs.Table.{step, Allows}
@@ -6,7 +6,7 @@ use Rattle.bf_bits.specs.Tracker.{Tracks}
 use Rattle.bf_bits.specs.Steps.{finished_one}
 use Rattle.bf_bits.proofs.Counting.{within-fewer}
 use Rattle.bf_bits.proofs.Moves.{finishes}
-use Rattle.bf_bits.proofs.Told.{finish_step, finished_at, IsFinishStep, seat_of, kept_seat, held_inside, same_table}
+use Rattle.bf_bits.proofs.Told.{finish_step, finished_at, IsFinishStep, seat_of, kept_seat, held_inside, same_at, same_table}
 use Rattle.bf_bits.proofs.bits.Bits.finish.Goals as goal
 
 pub fetch_or-requires : goal.fetch_or-requires
@@ -16,14 +16,14 @@ fetch_or-requires c =
     let seat = c.seat.inside.seat in
     let at = c.claim.inside.at in
     let own = same_table _ _ _ _ _ _ c.seat.view_is c.self.view_is c.requires.own in
-    let has = held_inside _ _ _ _ _ c.seat.view_is c.claim.view_is c.requires.held in
+    let has = held_inside _ _ _ _ _ c.seat.view_is (same_at c.claim.view_is) c.requires.held in
     let within = subst (λ (t : TableId). at / 32 < t.words) own (c.seat.invariant.within at has) in
     let P : ℕ × ℕ × ℕ → Type 0 = λ z. Allows (Tracks z.0 z.2) t.table_id.slots seat.id seat.me (at / 32) (λ n. bit_or n z.1) (finished_one (step t.table_id.slots (at / 32) z.1 0 none) seat.me) in
     (own, within, subst P (λ i. (sym kept.same_words i, sym c.migrate_mask.ensures i, sym kept.same_granules i)) (finishes t.table_id.words c.self.inside.granules t.table_id.slots seat.id seat.me at within has))
 
-stepped : (c : goal.After-fetch_or) → IsFinishStep c.args.claim c.args.seat.now (seat_of c.fetch_or.new.seat.table_id c.fetch_or.new.seat.me)
+stepped : (c : goal.After-fetch_or) → IsFinishStep c.args.claim.at c.args.seat.now (seat_of c.fetch_or.new.seat.table_id c.fetch_or.new.seat.me)
 stepped c =
-    subst (λ (at : ℕ). IsFinishStep at c.args.seat.now (seat_of c.fetch_or.new.seat.table_id c.fetch_or.new.seat.me)) c.claim.view_is
+    subst (λ (at : ℕ). IsFinishStep at c.args.seat.now (seat_of c.fetch_or.new.seat.table_id c.fetch_or.new.seat.me)) (same_at c.claim.view_is)
     (finish_step c.self.inside.table.shared.table_id.slots c.claim.inside.at c.migrate_mask.result c.fetch_or.result _ _ c.seat.inside.seat.me c.fetch_or.new.seat.me c.args.seat.now c.seat.view_is c.migrate_mask.ensures c.fetch_or.ensures.0 c.fetch_or.ensures.2)
 
 pub returns-clause-step : goal.returns-clause-step

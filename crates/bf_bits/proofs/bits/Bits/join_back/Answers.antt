@@ -1,7 +1,6 @@
-use Rattle.std.proofs.Common.{◌∙◌, sym, ap, subst}
+use Rattle.std.proofs.Common.{◌∙◌, sym, subst}
 use Rattle.atomic_table.specs.Seated.{TableId}
 use Rattle.bf_bits.specs.Positions.{IsWithin}
-use Rattle.bf_bits.specs.Seats.{Seat, joined}
 use Rattle.bf_bits.proofs.Counting.{within-both}
 use Rattle.bf_bits.proofs.Joining.{joins}
 use Rattle.bf_bits.proofs.Told.{kept_seat, same_table}

@@ -2,7 +2,7 @@ use Rattle.std.proofs.Common.{[], ◌∷◌, ◌++◌, List, take, sym, ap, subs
 use Rattle.std.proofs.lemmas.List.{take_all, take_more}
 use Rattle.std.specs.BTreeMap as tree
 use Rattle.bf_base.specs.Values.{key_cmp}
-use Rattle.bf_hash.specs.Stripes.{Cells, IsConsistent}
+use Rattle.bf_hash.specs.Stripes.{Cells}
 use Rattle.bf_hash.specs.Keeping.{AreTheirs}
 use Rattle.bf_hash.proofs.Marks.{HasDone, all_are_done, consistent, done_theirs, has_done_more}
 use Rattle.bf_hash.proofs.stripe.Stripe.of_done.Goals as goal

@@ -1,5 +1,4 @@
-use Rattle.std.proofs.Common.{◌≡◌, ◌<◌, ℕ, ap, sym, subst, arith, heap_items, heap_len, length}
-use Rattle.std.specs.BinaryHeap.{heap_capacity}
+use Rattle.std.proofs.Common.{◌≡◌, sym, subst, arith, heap_items, heap_len, length}
 use Rattle.bf_hash.specs.Tickets.{Pool, IsTaken, GivesOne, numbers_of}
 use Rattle.bf_hash.proofs.Pools.{on_ok, has_room, given_pool, gives_one}
 use Rattle.bf_hash.proofs.tickets.Tickets.give.Goals as goal

@@ -1,4 +1,4 @@
-use Rattle.std.proofs.Common.{ℕ, ap, sym, subst, heap_items}
+use Rattle.std.proofs.Common.{ℕ, sym, subst, heap_items}
 use Rattle.bf_hash.specs.Tickets.{Pool, IsPool, IsLeastFree, TakesOne, numbers_of}
 use Rattle.bf_hash.proofs.Pools.{taken_pool, least_taken, takes_one}
 use Rattle.bf_hash.proofs.tickets.Tickets.take.Goals as goal

@@ -1,0 +1,4 @@
+pub mod Claims
+pub mod Lists
+pub mod Keeping
+pub mod Trackers
