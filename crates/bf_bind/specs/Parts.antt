@@ -1,5 +1,5 @@
 -- Parts of the definitions, as the functions of this crate have them.
-use Rattle.std.specs.Prelude.{ℕ, not, List, ◌++◌, map, Option}
+use Rattle.std.specs.Prelude.{ℕ, Bool, not, ◌&&◌, List, ◌++◌, map, Option}
 use Rattle.bf_base.specs.declared.table.Column.{Column}
 use Rattle.bf_base.specs.declared.table.Kind.{Kind}
 use Rattle.bf_base.specs.declared.table.Table.{Table}
@@ -12,7 +12,7 @@ use Rattle.bf_sql.specs.Conditions.{condition_of, fixed_key}
 use Rattle.bf_sql.specs.Meaning.{admit_of}
 use Rattle.bf_sql.specs.Migrations.{twice_objections}
 use Rattle.bf_sql.specs.Objections.{column_names, rule_names, form_objections, set_objections}
-use Rattle.bf_sql.specs.Scopes.{Scope, scope_of, place_of, admitted_by, unqualified, kind_in, expr_objections, kind_objections}
+use Rattle.bf_sql.specs.Scopes.{Scope, is_qualified_by, scope_of, place_of, admitted_by, unqualified, kind_in, expr_objections, kind_objections}
 use Rattle.bf_sql.specs.declared.bound.Action.{Action}
 use Rattle.bf_sql.specs.declared.bound.Action.TheVariants as action
 use Rattle.bf_sql.specs.declared.items.Items.{Items}
@@ -25,6 +25,10 @@ use Rattle.bf_bind.specs.declared.scope.Place.{Place}
 -- the column that a ref means, and the kind of its values
 abbrev pub column_of : Scope → Ref → Place
 column_of scope ref = record { place = place_of scope ref; kind = kind_admitted (admitted_by scope ref) }
+
+-- whether a ref means a column of a table
+abbrev pub means : Table → Ref → Column → Bool
+means table ref column = same_name ref.column column.name && is_qualified_by ref.table table.name
 
 abbrev pub bound_expr : Scope → Expr Ref → BoundExpr
 bound_expr scope e = record { expr = expr_over (place_of scope) e; kind = kind_in scope e }

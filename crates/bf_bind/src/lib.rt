@@ -1,6 +1,6 @@
 //! Statements bound in a catalog: their tables and columns are looked up, and the first objection
 //! of the catalog stands in the action. Rows are not looked at.
-#![tactic(auto)]
+#![tactic(auto, unfolding(crate::specs::Stops::Stops))]
 
 pub mod binding;
 mod change;

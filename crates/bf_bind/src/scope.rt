@@ -1,13 +1,14 @@
 //! Columns of a table, by refs and by names.
 
-ghost use Rattle.std.specs.Prelude.{◌≡◌, ◌≤◌, [], ◌∷◌, ◌++◌, ◌&&◌, IfErr, IfOk, IfSome, OnErr, OnOk, is_some, length, not};
+ghost use Rattle.std.specs.Prelude.{◌≡◌, ◌≤◌, [], IfErr, IfOk, IfSome, OnOk, is_some, length, not, position, slice_range};
+ghost use Rattle.std.specs.List.{list_any};
 ghost use Rattle.bf_base.specs.Lists.{has, same_name, when};
 ghost use Rattle.bf_base.specs.Tables.{kind_admitted, same_kind};
 ghost use Rattle.bf_sql.specs.Objections.{column_names, names_objections};
 ghost use Rattle.bf_sql.specs.Meaning.{named_places};
 ghost use Rattle.bf_sql.specs.Scopes.{is_qualified_by, qualifier_objections, ref_objections, scope_of, unqualified};
 ghost use Rattle.bf_sql.specs.declared.reply.Refusal.TheVariants as refusal;
-ghost use Rattle.bf_bind.specs.Parts.{column_of, name_objections};
+ghost use Rattle.bf_bind.specs.Parts.{column_of, means, name_objections};
 ghost use Rattle.bf_bind.specs.Stops.{Stops};
 
 use crate::stop::Stop;
@@ -61,6 +62,13 @@ fn is_qualified(qualifier: &Option<Name>, table: &Name) -> bool
     }
 }
 
+/// Whether refs can be qualified by a name: it is the table's, and the table has columns.
+fn is_qualifier(table: &Table, qualifier: &Name) -> bool
+    ensures { result ≡ list_any (λ column. same_name qualifier.now column.0) (scope_of table.now) }
+{
+    !table.columns.as_slice().is_empty() && *qualifier == table.name
+}
+
 /// The qualifier of a ref, if it has one, has to be the table's name.
 fn expect_qualifier(alloc: Global, table: &Table, qualifier: &Option<Name>) -> Result<(), Stop>
     ensures ok { OnOk result (qualifier_objections (scope_of table.now) qualifier.now ≡ []) }
@@ -69,7 +77,7 @@ fn expect_qualifier(alloc: Global, table: &Table, qualifier: &Option<Name>) -> R
     match qualifier {
         None => Ok(()),
         Some(qualifier) => {
-            if !table.columns.as_slice().is_empty() && *qualifier == table.name {
+            if is_qualifier(table, qualifier) {
                 Ok(())
             } else {
                 Err(Stop::Refused(Refusal::NoTable(qualifier.copy(alloc)?)))
@@ -79,10 +87,30 @@ fn expect_qualifier(alloc: Global, table: &Table, qualifier: &Option<Name>) -> R
 }
 
 /// Whether a ref means a column of a table.
-fn is_meant(reference: &Ref, table: &Name, column: &Column) -> bool
-    ensures { result ≡ (same_name reference.now.column column.now.name && is_qualified_by reference.now.table table.now) }
+fn is_meant(reference: &Ref, table: &Table, column: &Column) -> bool
+    ensures { result ≡ means table.now reference.now column.now }
 {
-    reference.column == column.name && is_qualified(&reference.table, table)
+    reference.column == column.name && is_qualified(&reference.table, &table.name)
+}
+
+/// The place of the first column that a ref means.
+fn first_meant(table: &Table, reference: &Ref) -> Option<usize>
+    ensures { result ≡ position (means table.now reference.now) table.now.columns }
+{
+    let columns = table.columns.as_slice();
+    columns
+        .iter()
+        .position(|column| is_meant(reference, table, column))
+}
+
+/// Whether a ref means a column from a place on.
+fn is_meant_from(table: &Table, reference: &Ref, from: usize) -> bool
+    requires { from ≤ length table.now.columns }
+    ensures { result ≡ list_any (means table.now reference.now) (slice_range table.now.columns from (length table.now.columns)) }
+{
+    table.columns.as_slice()[from..]
+        .iter()
+        .any(|column| is_meant(reference, table, column))
 }
 
 /// The column that a ref means.
@@ -96,23 +124,23 @@ pub(crate) fn column(alloc: Global, table: &Table, reference: &Ref) -> Result<Pl
     ensures stopped { IfErr result (λ stop. Stops stop (ref_objections (scope_of table.now) reference.now)) }
 {
     expect_qualifier(alloc, table, &reference.table)?;
-    let columns = table.columns.as_slice();
-    let first = columns
-        .iter()
-        .position(|column| is_meant(reference, &table.name, column));
-    let Some(place) = first else {
+    let Some(place) = first_meant(table, reference) else {
         return Err(Stop::Refused(Refusal::NoColumn(reference.column.copy(alloc)?)));
     };
-    if columns[place + 1..]
-        .iter()
-        .any(|column| is_meant(reference, &table.name, column))
-    {
+    if is_meant_from(table, reference, place + 1) {
         return Err(Stop::Refused(Refusal::NameTwice(reference.column.copy(alloc)?)));
     }
     Ok(Place {
         place: place as u8,
-        kind: kind_of_column(&columns[place]),
+        kind: kind_of_column(&table.columns.as_slice()[place]),
     })
+}
+
+/// The place of the first column of a name.
+fn first_named(columns: &[Column], name: &Name) -> Option<usize>
+    ensures { result ≡ position (λ column. same_name name.now column.name) columns.now }
+{
+    columns.iter().position(|column| *name == column.name)
 }
 
 /// The first column of a name.
@@ -122,7 +150,7 @@ pub(crate) fn column_named(table: &Table, name: &Name) -> Option<Place>
     ensures place { IfSome result (λ found. found ≡ column_of (scope_of table.now) (unqualified name.now)) }
 {
     let columns = table.columns.as_slice();
-    match columns.iter().position(|column| *name == column.name) {
+    match first_named(columns, name) {
         Some(place) => Some(Place {
             place: place as u8,
             kind: kind_of_column(&columns[place]),
