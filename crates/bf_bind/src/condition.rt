@@ -1,6 +1,6 @@
 //! Conditions.
 
-ghost use Rattle.std.specs.Prelude.{◌≡◌, ◌≤◌, [], IfErr, IfOk, OnOk, length};
+ghost use Rattle.std.specs.Prelude.{◌≡◌, ◌≤◌, ◌++◌, [], IfErr, IfOk, OnOk, length};
 ghost use Rattle.bf_expr.specs.Trees.{between, compared, cond_over};
 ghost use Rattle.bf_sql.specs.Conditions.{condition_of};
 ghost use Rattle.bf_sql.specs.Scopes.{cond_objections, place_of, scope_of};
@@ -49,6 +49,7 @@ fn bind_between(alloc: Global, table: &Table, a: &RawExpr, low: &RawExpr, high: 
 ///
 /// # Errors
 /// The first objection, from the left.
+#[cycle(condition)]
 fn bind_test(alloc: Global, table: &Table, raw: &RawCond) -> Result<Cond, Stop>
     requires { length table.now.columns ≤ 16 }
     ensures ok { OnOk result (cond_objections (scope_of table.now) raw.now ≡ []) }
@@ -64,18 +65,30 @@ fn bind_test(alloc: Global, table: &Table, raw: &RawCond) -> Result<Cond, Stop>
             Ok(Cond::of(Test::Not(Box::new(alloc, inner)?)))
         }
         RawTest::And(c, d) => {
-            let left = bind_test(alloc, table, c)?;
-            let right = bind_test(alloc, table, d)?;
-            let left = Box::new(alloc, left)?;
-            Ok(Cond::of(Test::And(left, Box::new(alloc, right)?)))
+            let (left, right) = bind_sides(alloc, table, c, d)?;
+            Ok(Cond::of(Test::And(left, right)))
         }
         RawTest::Or(c, d) => {
-            let left = bind_test(alloc, table, c)?;
-            let right = bind_test(alloc, table, d)?;
-            let left = Box::new(alloc, left)?;
-            Ok(Cond::of(Test::Or(left, Box::new(alloc, right)?)))
+            let (left, right) = bind_sides(alloc, table, c, d)?;
+            Ok(Cond::of(Test::Or(left, right)))
         }
     }
+}
+
+/// The two sides of an AND or an OR.
+#[cycle(condition)]
+fn bind_sides(alloc: Global, table: &Table, c: &RawCond, d: &RawCond) -> Result<(Box<Cond>, Box<Cond>), Stop>
+    requires { length table.now.columns ≤ 16 }
+    ensures ok { OnOk result (cond_objections (scope_of table.now) c.now ++ cond_objections (scope_of table.now) d.now ≡ []) }
+    ensures left { IfOk result (λ sides. sides.0.value ≡ cond_over (place_of (scope_of table.now)) c.now) }
+    ensures right { IfOk result (λ sides. sides.1.value ≡ cond_over (place_of (scope_of table.now)) d.now) }
+    ensures stopped { IfErr result (λ stop. Stops stop (cond_objections (scope_of table.now) c.now ++ cond_objections (scope_of table.now) d.now)) }
+{
+    let left = bind_test(alloc, table, c)?;
+    let right = bind_test(alloc, table, d)?;
+    let left = Box::new(alloc, left)?;
+    let right = Box::new(alloc, right)?;
+    Ok((left, right))
 }
 
 /// The condition of a statement; where it has none, each row satisfies it.

@@ -1,0 +1,56 @@
+-- The key that a condition fixes, column by column.
+use Rattle.std.proofs.Common.{◌≡◌, ℕ, ◌+◌, ◌<◌, List, [], ◌∷◌, ◌++◌, map, length, get_or, drop, slice_get, Option, Some, None, refl, sym, ◌∙◌}
+use Rattle.std.specs.List.{cons_option, filter_map}
+use Rattle.std.specs.Option.{option_map, option_and_then}
+use Rattle.std.proofs.lemmas.List.{append_assoc, drop_more}
+use Rattle.bf_base.specs.declared.value.Value.{Value}
+use Rattle.bf_expr.specs.Trees.{Cond, both}
+use Rattle.bf_sql.specs.Conditions.{all_there, conjuncts, value_fixed}
+
+module _ {X Y : Type 0} (f : X → Option Y) where
+  filter_map-append : (xs ys : List X) → filter_map f (xs ++ ys) ≡ filter_map f xs ++ filter_map f ys
+  filter_map-append [] ys = refl
+  filter_map-append (x ∷ xs) ys = elim (f x) as (λ o. cons_option o (filter_map f (xs ++ ys)) ≡ cons_option o (filter_map f xs) ++ filter_map f ys) [
+    | None ↦ filter_map-append xs ys
+    | Some y ↦ rw (filter_map-append xs ys)
+  ]
+
+first_of_both : {Y : Type 0} (y : Y) (xs ys : List Y) → slice_get xs 0 ≡ Some y → slice_get (xs ++ ys) 0 ≡ Some y
+first_of_both y [] ys e = absurd cc
+first_of_both y (x ∷ xs) ys e = e
+
+first_of_second : {Y : Type 0} (xs ys : List Y) → slice_get xs 0 ≡ None → slice_get (xs ++ ys) 0 ≡ slice_get ys 0
+first_of_second [] ys e = refl
+first_of_second (x ∷ xs) ys e = absurd cc
+
+-- the value that a condition fixes a column to
+abbrev pub first_of : Cond ℕ → ℕ → Option Value
+first_of cond place = slice_get (filter_map (value_fixed place) (conjuncts cond)) 0
+
+pub first_of-left : (c d : Cond ℕ) (place : ℕ) (v : Value) → first_of c place ≡ Some v → first_of (both c d) place ≡ Some v
+first_of-left c d place v e = rw (filter_map-append (value_fixed place) (conjuncts c) (conjuncts d)) (first_of_both v (filter_map (value_fixed place) (conjuncts c)) (filter_map (value_fixed place) (conjuncts d)) e)
+
+pub first_of-right : (c d : Cond ℕ) (place : ℕ) → first_of c place ≡ None → first_of (both c d) place ≡ first_of d place
+first_of-right c d place e = rw (filter_map-append (value_fixed place) (conjuncts c) (conjuncts d)) (first_of_second (filter_map (value_fixed place) (conjuncts c)) (filter_map (value_fixed place) (conjuncts d)) e)
+
+-- the values so far and those that the rest of the key is fixed to, if it is
+abbrev pub with_fixed : Cond ℕ → List Value → List ℕ → Option (List Value)
+with_fixed cond values places = option_map (λ vs. values ++ vs) (all_there (map (first_of cond) places))
+
+option_map_same : {X : Type 0} (o : Option X) → o ≡ option_map (λ x. x) o
+option_map_same None = refl
+option_map_same (Some x) = refl
+
+pub with_fixed-none : (cond : Cond ℕ) (places : List ℕ) → all_there (map (first_of cond) places) ≡ with_fixed cond [] places
+with_fixed-none cond places = option_map_same _
+
+appended : (values : List Value) (v : Value) (o : Option (List Value)) → option_map (λ vs. values ++ vs) (option_map (λ vs. v ∷ vs) o) ≡ option_map (λ vs. (values ++ v ∷ []) ++ vs) o
+appended values v None = refl
+appended values v (Some vs) = rw append_assoc
+
+module _ (cond : Cond ℕ) (values : List Value) (key : List ℕ) (i place : ℕ) (in_range : i < length key) (is : place ≡ get_or key i place) where
+  pub with_fixed-some : (v : Value) → first_of cond place ≡ Some v → with_fixed cond values (drop i key) ≡ with_fixed cond (values ++ v ∷ []) (drop (i + 1) key)
+  with_fixed-some v e = rw (drop_more key i place in_range, ← is, e) (appended values v (all_there (map (first_of cond) (drop (i + 1) key))))
+
+  pub with_fixed-open : first_of cond place ≡ None → with_fixed cond values (drop i key) ≡ None
+  with_fixed-open e = rw (drop_more key i place in_range, ← is, e)
