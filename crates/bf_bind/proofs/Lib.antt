@@ -1,3 +1,4 @@
 pub mod Columns
 pub mod Keys
+pub mod Lookups
 pub mod Walks
