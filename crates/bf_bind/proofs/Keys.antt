@@ -1,11 +1,26 @@
 -- The key that a condition fixes, column by column.
-use Rattle.std.proofs.Common.{◌≡◌, ℕ, ◌+◌, ◌<◌, List, [], ◌∷◌, ◌++◌, map, length, get_or, drop, slice_get, Option, Some, None, refl, sym, ◌∙◌}
+use Rattle.std.proofs.Common.{◌≡◌, ℕ, Bool, true, false, cond, ◌+◌, ◌<◌, List, [], ◌∷◌, ◌++◌, map, length, get_or, drop, slice_get, Option, Some, None, refl, sym, ap, eqb, ◌∙◌}
 use Rattle.std.specs.List.{cons_option, filter_map}
 use Rattle.std.specs.Option.{option_map, option_and_then}
 use Rattle.std.proofs.lemmas.List.{append_assoc, drop_more}
 use Rattle.bf_base.specs.declared.value.Value.{Value}
-use Rattle.bf_expr.specs.Trees.{Cond, both}
+use Rattle.bf_expr.specs.Trees.{Expr, literal, column, Cond, both, compared}
+use Rattle.bf_expr.specs.declared.compare.Compare.TheVariants.{Equal}
 use Rattle.bf_sql.specs.Conditions.{all_there, conjuncts, value_fixed}
+use Rattle.bf_bind.specs.Parts.{first_fixed, literal_of, is_column_at}
+
+same_either_way : {X : Type 0} (b : Bool) (x : X) → cond b x x ≡ x
+same_either_way true x = refl
+same_either_way false x = refl
+
+-- an equality fixes a column to the literal that it is compared with
+pub value_fixed-equality : (place : ℕ) (a b : Expr ℕ) → value_fixed place (compared Equal a b) ≡ cond (is_column_at place a) (literal_of b) (cond (is_column_at place b) (literal_of a) None)
+value_fixed-equality place (column at) (literal v) = refl
+value_fixed-equality place (column at) (column other) = sym (ap (λ o. cond (eqb at place) None o) (same_either_way (eqb other place) None) ∙ same_either_way (eqb at place) None)
+value_fixed-equality place (column at) b = sym (same_either_way (eqb at place) None)
+value_fixed-equality place (literal v) (column at) = refl
+value_fixed-equality place a (column at) = sym (same_either_way (eqb at place) None)
+value_fixed-equality place a b = refl
 
 module _ {X Y : Type 0} (f : X → Option Y) where
   filter_map-append : (xs ys : List X) → filter_map f (xs ++ ys) ≡ filter_map f xs ++ filter_map f ys
@@ -23,34 +38,30 @@ first_of_second : {Y : Type 0} (xs ys : List Y) → slice_get xs 0 ≡ None → 
 first_of_second [] ys e = refl
 first_of_second (x ∷ xs) ys e = absurd cc
 
--- the value that a condition fixes a column to
-abbrev pub first_of : Cond ℕ → ℕ → Option Value
-first_of cond place = slice_get (filter_map (value_fixed place) (conjuncts cond)) 0
+pub first_fixed-left : (c d : Cond ℕ) (place : ℕ) (v : Value) → first_fixed c place ≡ Some v → first_fixed (both c d) place ≡ Some v
+first_fixed-left c d place v e = rw (filter_map-append (value_fixed place) (conjuncts c) (conjuncts d)) (first_of_both v (filter_map (value_fixed place) (conjuncts c)) (filter_map (value_fixed place) (conjuncts d)) e)
 
-pub first_of-left : (c d : Cond ℕ) (place : ℕ) (v : Value) → first_of c place ≡ Some v → first_of (both c d) place ≡ Some v
-first_of-left c d place v e = rw (filter_map-append (value_fixed place) (conjuncts c) (conjuncts d)) (first_of_both v (filter_map (value_fixed place) (conjuncts c)) (filter_map (value_fixed place) (conjuncts d)) e)
-
-pub first_of-right : (c d : Cond ℕ) (place : ℕ) → first_of c place ≡ None → first_of (both c d) place ≡ first_of d place
-first_of-right c d place e = rw (filter_map-append (value_fixed place) (conjuncts c) (conjuncts d)) (first_of_second (filter_map (value_fixed place) (conjuncts c)) (filter_map (value_fixed place) (conjuncts d)) e)
+pub first_fixed-right : (c d : Cond ℕ) (place : ℕ) → first_fixed c place ≡ None → first_fixed (both c d) place ≡ first_fixed d place
+first_fixed-right c d place e = rw (filter_map-append (value_fixed place) (conjuncts c) (conjuncts d)) (first_of_second (filter_map (value_fixed place) (conjuncts c)) (filter_map (value_fixed place) (conjuncts d)) e)
 
 -- the values so far and those that the rest of the key is fixed to, if it is
 abbrev pub with_fixed : Cond ℕ → List Value → List ℕ → Option (List Value)
-with_fixed cond values places = option_map (λ vs. values ++ vs) (all_there (map (first_of cond) places))
+with_fixed condition values places = option_map (λ vs. values ++ vs) (all_there (map (first_fixed condition) places))
 
 option_map_same : {X : Type 0} (o : Option X) → o ≡ option_map (λ x. x) o
 option_map_same None = refl
 option_map_same (Some x) = refl
 
-pub with_fixed-none : (cond : Cond ℕ) (places : List ℕ) → all_there (map (first_of cond) places) ≡ with_fixed cond [] places
-with_fixed-none cond places = option_map_same _
+pub with_fixed-none : (condition : Cond ℕ) (places : List ℕ) → all_there (map (first_fixed condition) places) ≡ with_fixed condition [] places
+with_fixed-none condition places = option_map_same _
 
 appended : (values : List Value) (v : Value) (o : Option (List Value)) → option_map (λ vs. values ++ vs) (option_map (λ vs. v ∷ vs) o) ≡ option_map (λ vs. (values ++ v ∷ []) ++ vs) o
 appended values v None = refl
 appended values v (Some vs) = rw append_assoc
 
-module _ (cond : Cond ℕ) (values : List Value) (key : List ℕ) (i place : ℕ) (in_range : i < length key) (is : place ≡ get_or key i place) where
-  pub with_fixed-some : (v : Value) → first_of cond place ≡ Some v → with_fixed cond values (drop i key) ≡ with_fixed cond (values ++ v ∷ []) (drop (i + 1) key)
-  with_fixed-some v e = rw (drop_more key i place in_range, ← is, e) (appended values v (all_there (map (first_of cond) (drop (i + 1) key))))
+module _ (condition : Cond ℕ) (values : List Value) (key : List ℕ) (i place : ℕ) (in_range : i < length key) (is : place ≡ get_or key i place) where
+  pub with_fixed-some : (v : Value) → first_fixed condition place ≡ Some v → with_fixed condition values (drop i key) ≡ with_fixed condition (values ++ v ∷ []) (drop (i + 1) key)
+  with_fixed-some v e = rw (drop_more key i place in_range, ← is, e) (appended values v (all_there (map (first_fixed condition) (drop (i + 1) key))))
 
-  pub with_fixed-open : first_of cond place ≡ None → with_fixed cond values (drop i key) ≡ None
+  pub with_fixed-open : first_fixed condition place ≡ None → with_fixed condition values (drop i key) ≡ None
   with_fixed-open e = rw (drop_more key i place in_range, ← is, e)

@@ -23,6 +23,10 @@ table_name table = table.name
 abbrev index_name : IndexRule → List ℕ
 index_name index = index.name
 
+-- what stands for an index past the end
+abbrev pub no_rule : IndexRule
+no_rule = record { name = []; table = []; columns = [] }
+
 find-bare : (name : List ℕ) (tables : List Table) → find (λ (s : Stored). same_name s.table.name name) (map bare_table tables) ≡ option_map bare_table (look_up name_cmp table_name tables name)
 find-bare name [] = refl
 find-bare name (t ∷ ts) = rw same_name-tie (

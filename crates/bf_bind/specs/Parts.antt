@@ -1,14 +1,16 @@
 -- Parts of the definitions, as the functions of this crate have them.
-use Rattle.std.specs.Prelude.{ℕ, Bool, not, ◌&&◌, List, ◌++◌, map, Option}
+use Rattle.std.specs.Prelude.{ℕ, Bool, false, not, ◌&&◌, ◌==◌, List, ◌++◌, map, slice_get, Option, Some, None}
+use Rattle.std.specs.List.{filter_map}
+use Rattle.bf_base.specs.declared.value.Value.{Value}
 use Rattle.bf_base.specs.declared.table.Column.{Column}
 use Rattle.bf_base.specs.declared.table.Kind.{Kind}
 use Rattle.bf_base.specs.declared.table.Table.{Table}
 use Rattle.bf_base.specs.Lists.{has, same_name, when}
 use Rattle.bf_base.specs.Tables.{kind_admitted}
-use Rattle.bf_expr.specs.Trees.{Expr, Cond, expr_over, cond_over}
+use Rattle.bf_expr.specs.Trees.{Expr, literal, column, Cond, expr_over, cond_over}
 use Rattle.bf_expr.specs.declared.raw.Ref.{Ref}
 use Rattle.bf_sql.specs.Bound.{items_over}
-use Rattle.bf_sql.specs.Conditions.{condition_of, fixed_key}
+use Rattle.bf_sql.specs.Conditions.{condition_of, conjuncts, fixed_key, value_fixed}
 use Rattle.bf_sql.specs.Meaning.{admit_of}
 use Rattle.bf_sql.specs.Migrations.{twice_objections}
 use Rattle.bf_sql.specs.Objections.{column_names, rule_names, form_objections, set_objections}
@@ -69,3 +71,15 @@ update_action table sets cond = action.Update table (map (bound_set (scope_of ta
 
 abbrev pub delete_action : Table → Option (Cond Ref) → Action
 delete_action table cond = action.Delete table (bound_cond table cond) (fixed_key table (bound_cond table cond))
+
+-- the value that the first conjunct which fixes a column fixes it to
+abbrev pub first_fixed : Cond ℕ → ℕ → Option Value
+first_fixed cond place = slice_get (filter_map (value_fixed place) (conjuncts cond)) 0
+
+abbrev pub literal_of : Expr ℕ → Option Value
+literal_of (literal v) = Some v
+literal_of e = None
+
+abbrev pub is_column_at : ℕ → Expr ℕ → Bool
+is_column_at place (column at) = at == place
+is_column_at place e = false

@@ -1,42 +1,60 @@
 //! The key that a condition fixes.
 
-ghost use Rattle.std.specs.Prelude.{◌≡◌, IfOk, option_copied, slice_get};
-ghost use Rattle.std.specs.List.{filter_map};
-ghost use Rattle.bf_sql.specs.Conditions.{conjuncts, fixed_key as fixed_key_of, value_fixed};
+ghost use Rattle.std.specs.Prelude.{◌≡◌, IfOk, option_copied};
+ghost use Rattle.bf_expr.specs.Trees.{compared};
+ghost use Rattle.bf_expr.specs.declared.compare.Compare.TheVariants as comparison;
+ghost use Rattle.bf_sql.specs.Conditions.{fixed_key as fixed_key_of, value_fixed};
+ghost use Rattle.bf_bind.specs.Parts.{first_fixed as first_fixed_of, is_column_at, literal_of};
 
 use bf_base::{Key, Memory, Table, Value};
-use bf_expr::{Compare, Cond, Node, Test};
+use bf_expr::{Compare, Cond, Expr, Node, Test};
 use std::alloc::Global;
 
-/// The value that a condition fixes a column to, if it is the column's equality with a literal.
-fn value_fixed(cond: &Cond, place: u8) -> Option<&Value>
-    ensures { option_copied result ≡ value_fixed place cond.now }
+/// The value of a literal.
+fn literal(expr: &Expr) -> Option<&Value>
+    ensures { option_copied result ≡ literal_of expr.now }
 {
-    let Test::Compare(Compare::Equal, a, b) = cond.node() else {
-        return None;
-    };
-    match (a.node(), b.node()) {
-        (Node::Column(at), Node::Value(value)) | (Node::Value(value), Node::Column(at)) => {
-            if *at == place {
-                Some(value)
-            } else {
-                None
-            }
-        }
+    match expr.node() {
+        Node::Value(value) => Some(value),
         _ => None,
+    }
+}
+
+/// Whether an expression is the column at a place.
+fn is_column_at(expr: &Expr, place: u8) -> bool
+    ensures { result ≡ is_column_at place expr.now }
+{
+    match expr.node() {
+        Node::Column(at) => *at == place,
+        _ => false,
+    }
+}
+
+/// The value that an equality fixes a column to: its one side is the column, and the other one a
+/// literal.
+fn value_fixed<'a>(left: &'a Expr, right: &'a Expr, place: u8) -> Option<&'a Value>
+    ensures { option_copied result ≡ value_fixed place (compared comparison.Equal left.now right.now) }
+{
+    if is_column_at(left, place) {
+        literal(right)
+    } else if is_column_at(right, place) {
+        literal(left)
+    } else {
+        None
     }
 }
 
 /// The value that the first conjunct which fixes a column fixes it to.
 fn first_fixed(cond: &Cond, place: u8) -> Option<&Value>
-    ensures { option_copied result ≡ slice_get (filter_map (value_fixed place) (conjuncts cond.now)) 0 }
+    ensures { option_copied result ≡ first_fixed_of cond.now place }
 {
     match cond.node() {
-        Test::And(c, d) => match first_fixed(c, place) {
+        Test::And(left, right) => match first_fixed(left, place) {
             Some(value) => Some(value),
-            None => first_fixed(d, place),
+            None => first_fixed(right, place),
         },
-        _ => value_fixed(cond, place),
+        Test::Compare(Compare::Equal, left, right) => value_fixed(left, right, place),
+        _ => None,
     }
 }
 
