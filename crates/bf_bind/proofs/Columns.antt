@@ -1,11 +1,12 @@
 -- The columns that refs and names mean.
-use Rattle.std.proofs.Common.{◌≡◌, ℕ, zero, suc, ◌+◌, ◌<◌, Bool, true, false, not, cond, ◌&&◌, ◌||◌, List, [], ◌∷◌, ◌++◌, map, filter, length, get_or, drop, slice_range, Option, Some, None, is_some, position, ltb, eqb, refl, sym, ap, ◌∙◌, inl, inr, arith, add-zero, zero-add}
+use Rattle.std.proofs.Common.{◌≡◌, ℕ, zero, suc, ◌+◌, ◌<◌, ◌≤◌, Bool, true, false, not, cond, ◌&&◌, ◌||◌, List, [], ◌∷◌, ◌++◌, map, filter, length, get_or, drop, slice_range, Option, Some, None, is_some, position, ltb, eqb, refl, sym, ap, ◌∙◌, inl, inr, arith, add-zero, zero-add}
 use borrow.Author.Tests.{tests}
 use Rattle.std.specs.List.{list_any, enumerate_from, position_from}
 use Rattle.std.proofs.lemmas.Bool.{cases_Bool}
 use Rattle.std.proofs.lemmas.Iterator.Adapters.{position_from-zero}
 use Rattle.std.proofs.lemmas.List.Quantifiers.{position-Some}
-use Rattle.std.proofs.lemmas.List.{take_rest}
+use Rattle.std.proofs.lemmas.List.{get_or_past, length-map, take_rest}
+use Rattle.bf_base.specs.Names.{is_name}
 use Rattle.bf_base.specs.declared.table.Admit.TheVariants as admits
 use Rattle.bf_base.specs.declared.table.Column.{Column}
 use Rattle.bf_base.specs.declared.table.Table.{Table}
@@ -151,3 +152,13 @@ module _ (table : Table) (name : List ℕ) where
 -- refs can be qualified by the name of a table that has columns
 pub qualifiers : (table : Table) (qualifier : List ℕ) → ((length table.columns ≡ 0) → ⊥) → list_any (λ column. same_name qualifier column.0) (scope_of table) ≡ same_name qualifier table.name
 qualifiers table qualifier some = list_any-map (λ (c : List ℕ × Column). same_name qualifier c.0) (λ (c : Column). (table.name, c)) table.columns ∙ any_constant (same_name qualifier table.name) table.columns some
+
+nameless : (name : List ℕ) → is_name name ≡ true → same_name name [] ≡ false
+nameless [] e = absurd cc
+nameless (b ∷ bs) e = refl
+
+-- past the columns, nothing has a name
+pub past_columns : (name : List ℕ) (columns : List Column) (place : ℕ) → is_name name ≡ true → length columns ≤ place → same_name name (get_or (map (λ (c : Column). c.name) columns) place []) ≡ false
+past_columns name columns place e past =
+    let beyond : length (map (λ (c : Column). c.name) columns) ≤ place = rw length-map past in
+    rw (get_or_past (map (λ (c : Column). c.name) columns) place [] beyond) (nameless name e)

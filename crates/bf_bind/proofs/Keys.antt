@@ -1,26 +1,12 @@
 -- The key that a condition fixes, column by column.
-use Rattle.std.proofs.Common.{◌≡◌, ℕ, Bool, true, false, cond, ◌+◌, ◌<◌, List, [], ◌∷◌, ◌++◌, map, length, get_or, drop, slice_get, Option, Some, None, refl, sym, ap, eqb, ◌∙◌}
+use Rattle.std.proofs.Common.{◌≡◌, ℕ, ◌+◌, ◌<◌, List, [], ◌∷◌, ◌++◌, map, length, get_or, drop, slice_get, Option, Some, None, refl}
 use Rattle.std.specs.List.{cons_option, filter_map}
 use Rattle.std.specs.Option.{option_map, option_and_then}
 use Rattle.std.proofs.lemmas.List.{append_assoc, drop_more}
 use Rattle.bf_base.specs.declared.value.Value.{Value}
-use Rattle.bf_expr.specs.Trees.{Expr, literal, column, Cond, both, compared}
-use Rattle.bf_expr.specs.declared.compare.Compare.TheVariants.{Equal}
+use Rattle.bf_expr.specs.Trees.{Cond, both}
 use Rattle.bf_sql.specs.Conditions.{all_there, conjuncts, value_fixed}
-use Rattle.bf_bind.specs.Parts.{first_fixed, literal_of, is_column_at}
-
-same_either_way : {X : Type 0} (b : Bool) (x : X) → cond b x x ≡ x
-same_either_way true x = refl
-same_either_way false x = refl
-
--- an equality fixes a column to the literal that it is compared with
-pub value_fixed-equality : (place : ℕ) (a b : Expr ℕ) → value_fixed place (compared Equal a b) ≡ cond (is_column_at place a) (literal_of b) (cond (is_column_at place b) (literal_of a) None)
-value_fixed-equality place (column at) (literal v) = refl
-value_fixed-equality place (column at) (column other) = sym (ap (λ o. cond (eqb at place) None o) (same_either_way (eqb other place) None) ∙ same_either_way (eqb at place) None)
-value_fixed-equality place (column at) b = sym (same_either_way (eqb at place) None)
-value_fixed-equality place (literal v) (column at) = refl
-value_fixed-equality place a (column at) = sym (same_either_way (eqb at place) None)
-value_fixed-equality place a b = refl
+use Rattle.bf_bind.specs.Parts.{first_fixed}
 
 module _ {X Y : Type 0} (f : X → Option Y) where
   filter_map-append : (xs ys : List X) → filter_map f (xs ++ ys) ≡ filter_map f xs ++ filter_map f ys

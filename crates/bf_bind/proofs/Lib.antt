@@ -1,4 +1,7 @@
+pub mod Actions
 pub mod Columns
+pub mod Creating
 pub mod Keys
 pub mod Lookups
+pub mod Tuples
 pub mod Walks

@@ -6,7 +6,7 @@ use Rattle.bf_base.specs.declared.table.Column.{Column}
 use Rattle.bf_base.specs.declared.table.Kind.{Kind}
 use Rattle.bf_base.specs.declared.table.Table.{Table}
 use Rattle.bf_base.specs.Lists.{has, same_name, when}
-use Rattle.bf_base.specs.Tables.{kind_admitted}
+use Rattle.bf_base.specs.Tables.{kind_admitted, kind_of, same_kind}
 use Rattle.bf_expr.specs.Trees.{Expr, literal, column, Cond, expr_over, cond_over}
 use Rattle.bf_expr.specs.declared.raw.Ref.{Ref}
 use Rattle.bf_sql.specs.Bound.{items_over}
@@ -30,7 +30,7 @@ column_of scope ref = record { place = place_of scope ref; kind = kind_admitted 
 
 -- whether a ref means a column of a table
 abbrev pub means : Table → Ref → Column → Bool
-means table ref column = same_name ref.column column.name && is_qualified_by ref.table table.name
+means table ref c = same_name ref.column c.name && is_qualified_by ref.table table.name
 
 abbrev pub bound_expr : Scope → Expr Ref → BoundExpr
 bound_expr scope e = record { expr = expr_over (place_of scope) e; kind = kind_in scope e }
@@ -49,6 +49,10 @@ rule_objections before rule = twice_objections (rule_names before) rule.name ++ 
 
 abbrev pub new_column : ColumnRule → Column
 new_column rule = record { name = rule.name; admits = admit_of rule.form }
+
+-- whether a value is of its column's kind
+abbrev pub is_of_kind : Column × Value → Bool
+is_of_kind p = same_kind (kind_of p.1) (kind_admitted p.0.admits)
 
 abbrev pub set_names : List (List ℕ × Expr Ref) → List (List ℕ)
 set_names sets = map (λ set. set.0) sets

@@ -1,19 +1,30 @@
 //! New rows, and the columns that UPDATE sets.
 
 ghost use Rattle.std.specs.Prelude.{◌≡◌, ◌≤◌, [], IfErr, IfOk, OnOk, flat_map, length, map, slice_index_or};
+ghost use Rattle.std.specs.List.{list_all, zip};
 ghost use Rattle.bf_base.specs.Lists.{has, same_name};
 ghost use Rattle.bf_sql.specs.Objections.{key_names, sets_objections, tuple_objections};
 ghost use Rattle.bf_sql.specs.Scopes.{scope_of};
-ghost use Rattle.bf_bind.specs.Parts.{bound_set, set_names, set_objections_of};
+ghost use Rattle.bf_bind.specs.Parts.{bound_set, is_of_kind, set_names, set_objections_of};
 ghost use Rattle.bf_bind.specs.Stops.{Stops};
 
 use crate::expression::bind_expression;
 use crate::scope::{column_named, expect_kind, is_same_kind, kind_of_column};
 use crate::stop::Stop;
-use bf_base::{Column, Name, Row, Sequence, Table};
+use bf_base::{Column, Name, Row, Sequence, Table, Value};
 use bf_expr::{Expr, RawExpr};
 use bf_sql::Refusal;
 use std::alloc::Global;
+
+/// Whether values are of the kinds of their columns.
+fn all_fit(columns: &[Column], values: &[Value]) -> bool
+    ensures { result ≡ list_all is_of_kind (zip columns.now values.now) }
+{
+    columns
+        .iter()
+        .zip(values)
+        .all(|(column, value)| is_same_kind(value.kind(), kind_of_column(column)))
+}
 
 /// A tuple has a value for each column of a table, of its kind.
 fn expect_tuple(table: &Table, tuple: &Row) -> Result<(), Stop>
@@ -25,11 +36,7 @@ fn expect_tuple(table: &Table, tuple: &Row) -> Result<(), Stop>
     if values.len() != columns.len() {
         return Err(Stop::Refused(Refusal::WrongCount));
     }
-    let fits = columns
-        .iter()
-        .zip(values)
-        .all(|(column, value)| is_same_kind(value.kind(), kind_of_column(column)));
-    if fits {
+    if all_fit(columns, values) {
         Ok(())
     } else {
         Err(Stop::Refused(Refusal::TypeMismatch))
@@ -55,8 +62,9 @@ pub(crate) fn bind_tuples(alloc: Global, table: &Table, tuples: &Sequence<Row>) 
 fn has_name(columns: &[Column], place: u8, name: &Name) -> bool
     ensures { result ≡ same_name name.now (slice_index_or (map (λ column. column.name) columns.now) place []) }
 {
+    let sought = name.as_bytes();
     match columns.get(place as usize) {
-        Some(column) => *name == column.name,
+        Some(column) => sought == column.name.as_bytes(),
         None => false,
     }
 }

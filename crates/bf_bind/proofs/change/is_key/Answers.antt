@@ -1,0 +1,6 @@
+use Rattle.std.proofs.Common.{rules}
+use Rattle.bf_bind.proofs.Columns.{list_any-map}
+use Rattle.bf_bind.proofs.change.is_key.Goals as goal
+
+pub returns : goal.returns
+returns c = rw list_any-map (search rules)
