@@ -1,16 +1,13 @@
 //! Statements.
 
-ghost use Rattle.std.specs.Prelude.{◌≡◌, ◌≤◌, [], ◌∷◌, ◌++◌, false, true, IfErr, IfOk, OnErr, OnOk, Some, flat_map, length};
-ghost use Rattle.bf_expr.specs.Trees.{cond_over};
-ghost use Rattle.bf_sql.specs.Bound.{action_of, bare, bound_of, changes_schema};
-ghost use Rattle.bf_sql.specs.Conditions.{condition_of};
+ghost use Rattle.std.specs.Prelude.{◌≡◌, ◌≤◌, [], ◌∷◌, Bool, false, true, IfErr, IfOk, OnErr, OnOk, Some, length};
+ghost use Rattle.bf_sql.specs.Bound.{bare, bound_of, changes_schema};
 ghost use Rattle.bf_sql.specs.Database.{IsDatabase};
-ghost use Rattle.bf_sql.specs.Objections.{items_objections, objections, sets_objections, tuple_objections};
-ghost use Rattle.bf_sql.specs.Scopes.{cond_objections, scope_of};
 ghost use Rattle.bf_sql.specs.declared.bound.Action.TheVariants as action;
 ghost use Rattle.bf_sql.specs.declared.reply.Refusal.TheVariants as refusal;
-ghost use Rattle.bf_bind.specs.Limits.{KeepsLimits, is_planned};
-ghost use Rattle.bf_bind.specs.Parts.{delete_action, select_action, update_action};
+ghost use Rattle.bf_sql.specs.declared.statement.Statement.TheVariants as statement;
+ghost use Rattle.bf_bind.specs.Actions.{action_for, objections_to};
+ghost use Rattle.bf_bind.specs.Limits.{HasNarrowTables, KeepsLimits, is_planned};
 ghost use Rattle.bf_bind.specs.Stops.{Stops};
 
 use crate::change::{bind_sets, bind_tuples};
@@ -20,9 +17,9 @@ use crate::fixed::fixed_key;
 use crate::list::bind_items;
 use crate::lookup::expect_table;
 use crate::stop::Stop;
-use bf_base::{Memory, Name, Row, Sequence, Table};
+use bf_base::{Memory, Name, Row, Sequence};
 use bf_expr::{RawCond, RawExpr};
-use bf_sql::{Action, Bound, Catalog, List, Refusal, Statement};
+use bf_sql::{Action, Bound, Catalog, ColumnRule, List, Refusal, Statement};
 use std::alloc::Global;
 
 /// CREATE and MIGRATE stand outside a block.
@@ -38,65 +35,71 @@ fn expect_alone(in_block: bool) -> Result<(), Stop>
     }
 }
 
-fn bind_select(alloc: Global, table: &Table, list: &List, cond: &Option<RawCond>) -> Result<Action, Stop>
-    requires { length table.now.columns ≤ 16 }
-    ensures ok { OnOk result (items_objections (scope_of table.now) list.now ++ cond_objections (scope_of table.now) (condition_of cond.now) ≡ []) }
-    ensures value { IfOk result (λ bound. bound ≡ select_action table.now list.now cond.now) }
-    ensures stopped { IfErr result (λ stop. Stops stop (items_objections (scope_of table.now) list.now ++ cond_objections (scope_of table.now) (condition_of cond.now))) }
+fn bind_insert(alloc: Global, catalog: &Catalog, name: &Name, tuples: &Sequence<Row>) -> Result<Action, Stop>
+    requires database { IsDatabase (bare catalog.now) }
+    requires narrow { HasNarrowTables catalog.now }
+    ensures ok { OnOk result ((in_block : Bool) → objections_to (bare catalog.now) in_block (statement.Insert name.now tuples.now) ≡ []) }
+    ensures value { IfOk result (λ bound. action_for (bare catalog.now) (statement.Insert name.now tuples.now) ≡ Some bound) }
+    ensures stopped { IfErr result (λ stop. (in_block : Bool) → Stops stop (objections_to (bare catalog.now) in_block (statement.Insert name.now tuples.now))) }
 {
-    let items = bind_items(alloc, table, list)?;
-    let cond = bind_condition(alloc, table, cond)?;
-    let fixed = fixed_key(alloc, table, &cond)?;
+    let found = expect_table(alloc, catalog, name)?;
+    let rows = bind_tuples(alloc, found, tuples)?;
+    let table = found.copy(alloc)?;
+    Ok(Action::Insert { table, rows })
+}
+
+fn bind_select(alloc: Global, catalog: &Catalog, list: &List, name: &Name, cond: &Option<RawCond>) -> Result<Action, Stop>
+    requires database { IsDatabase (bare catalog.now) }
+    requires narrow { HasNarrowTables catalog.now }
+    ensures ok { OnOk result ((in_block : Bool) → objections_to (bare catalog.now) in_block (statement.Select list.now name.now cond.now) ≡ []) }
+    ensures value { IfOk result (λ bound. action_for (bare catalog.now) (statement.Select list.now name.now cond.now) ≡ Some bound) }
+    ensures stopped { IfErr result (λ stop. (in_block : Bool) → Stops stop (objections_to (bare catalog.now) in_block (statement.Select list.now name.now cond.now))) }
+{
+    let found = expect_table(alloc, catalog, name)?;
+    let items = bind_items(alloc, found, list)?;
+    let cond = bind_condition(alloc, found, cond)?;
+    let fixed = fixed_key(alloc, found, &cond)?;
+    let table = found.copy(alloc)?;
     Ok(Action::Select {
-        table: table.copy(alloc)?,
+        table,
         items,
         cond,
         fixed,
     })
 }
 
-fn bind_update(alloc: Global, table: &Table, sets: &Sequence<(Name, RawExpr)>, cond: &Option<RawCond>) -> Result<Action, Stop>
-    requires { length table.now.columns ≤ 16 }
-    ensures ok { OnOk result (sets_objections table.now sets.now ++ cond_objections (scope_of table.now) (condition_of cond.now) ≡ []) }
-    ensures value { IfOk result (λ bound. bound ≡ update_action table.now sets.now cond.now) }
-    ensures stopped { IfErr result (λ stop. Stops stop (sets_objections table.now sets.now ++ cond_objections (scope_of table.now) (condition_of cond.now))) }
+fn bind_update(alloc: Global, catalog: &Catalog, name: &Name, sets: &Sequence<(Name, RawExpr)>, cond: &Option<RawCond>) -> Result<Action, Stop>
+    requires database { IsDatabase (bare catalog.now) }
+    requires narrow { HasNarrowTables catalog.now }
+    ensures ok { OnOk result ((in_block : Bool) → objections_to (bare catalog.now) in_block (statement.Update name.now sets.now cond.now) ≡ []) }
+    ensures value { IfOk result (λ bound. action_for (bare catalog.now) (statement.Update name.now sets.now cond.now) ≡ Some bound) }
+    ensures stopped { IfErr result (λ stop. (in_block : Bool) → Stops stop (objections_to (bare catalog.now) in_block (statement.Update name.now sets.now cond.now))) }
 {
-    let sets = bind_sets(alloc, table, sets.as_slice())?;
-    let cond = bind_condition(alloc, table, cond)?;
-    let fixed = fixed_key(alloc, table, &cond)?;
+    let found = expect_table(alloc, catalog, name)?;
+    let sets = bind_sets(alloc, found, sets.as_slice())?;
+    let cond = bind_condition(alloc, found, cond)?;
+    let fixed = fixed_key(alloc, found, &cond)?;
+    let table = found.copy(alloc)?;
     Ok(Action::Update {
-        table: table.copy(alloc)?,
+        table,
         sets,
         cond,
         fixed,
     })
 }
 
-fn bind_delete(alloc: Global, table: &Table, cond: &Option<RawCond>) -> Result<Action, Stop>
-    requires { length table.now.columns ≤ 16 }
-    ensures ok { OnOk result (cond_objections (scope_of table.now) (condition_of cond.now) ≡ []) }
-    ensures value { IfOk result (λ bound. bound ≡ delete_action table.now cond.now) }
-    ensures stopped { IfErr result (λ stop. Stops stop (cond_objections (scope_of table.now) (condition_of cond.now))) }
+fn bind_delete(alloc: Global, catalog: &Catalog, name: &Name, cond: &Option<RawCond>) -> Result<Action, Stop>
+    requires database { IsDatabase (bare catalog.now) }
+    requires narrow { HasNarrowTables catalog.now }
+    ensures ok { OnOk result ((in_block : Bool) → objections_to (bare catalog.now) in_block (statement.Delete name.now cond.now) ≡ []) }
+    ensures value { IfOk result (λ bound. action_for (bare catalog.now) (statement.Delete name.now cond.now) ≡ Some bound) }
+    ensures stopped { IfErr result (λ stop. (in_block : Bool) → Stops stop (objections_to (bare catalog.now) in_block (statement.Delete name.now cond.now))) }
 {
-    let cond = bind_condition(alloc, table, cond)?;
-    let fixed = fixed_key(alloc, table, &cond)?;
-    Ok(Action::Delete {
-        table: table.copy(alloc)?,
-        cond,
-        fixed,
-    })
-}
-
-fn bind_insert(alloc: Global, table: &Table, tuples: &Sequence<Row>) -> Result<Action, Stop>
-    ensures ok { OnOk result (flat_map (tuple_objections table.now) tuples.now ≡ []) }
-    ensures value { IfOk result (λ bound. bound ≡ action.Insert table.now tuples.now) }
-    ensures stopped { IfErr result (λ stop. Stops stop (flat_map (tuple_objections table.now) tuples.now)) }
-{
-    let rows = bind_tuples(alloc, table, tuples)?;
-    Ok(Action::Insert {
-        table: table.copy(alloc)?,
-        rows,
-    })
+    let found = expect_table(alloc, catalog, name)?;
+    let cond = bind_condition(alloc, found, cond)?;
+    let fixed = fixed_key(alloc, found, &cond)?;
+    let table = found.copy(alloc)?;
+    Ok(Action::Delete { table, cond, fixed })
 }
 
 /// BEGIN, which stands outside a block.
@@ -127,47 +130,54 @@ fn bind_end(in_block: bool, end: Action) -> Result<Action, Stop>
     }
 }
 
+fn bind_create_table(alloc: Global, catalog: &Catalog, name: &Name, rules: &Sequence<ColumnRule>, key: &Sequence<Name>, in_block: bool) -> Result<Action, Stop>
+    requires database { IsDatabase (bare catalog.now) }
+    requires narrow { HasNarrowTables catalog.now }
+    requires declared { length rules.now ≤ 16 }
+    ensures ok { OnOk result (objections_to (bare catalog.now) in_block (statement.CreateTable name.now rules.now key.now) ≡ []) }
+    ensures value { IfOk result (λ bound. action_for (bare catalog.now) (statement.CreateTable name.now rules.now key.now) ≡ Some bound) }
+    ensures stopped { IfErr result (λ stop. Stops stop (objections_to (bare catalog.now) in_block (statement.CreateTable name.now rules.now key.now))) }
+{
+    expect_alone(in_block)?;
+    let made = bind_table(alloc, catalog, name, rules.as_slice(), key.as_slice())?;
+    Ok(Action::CreateTable(made))
+}
+
+fn bind_create_index(alloc: Global, catalog: &Catalog, name: &Name, table: &Name, columns: &Sequence<Name>, in_block: bool) -> Result<Action, Stop>
+    requires database { IsDatabase (bare catalog.now) }
+    requires narrow { HasNarrowTables catalog.now }
+    ensures ok { OnOk result (objections_to (bare catalog.now) in_block (statement.CreateIndex name.now table.now columns.now) ≡ []) }
+    ensures value { IfOk result (λ bound. action_for (bare catalog.now) (statement.CreateIndex name.now table.now columns.now) ≡ Some bound) }
+    ensures stopped { IfErr result (λ stop. Stops stop (objections_to (bare catalog.now) in_block (statement.CreateIndex name.now table.now columns.now))) }
+{
+    expect_alone(in_block)?;
+    let found = expect_table(alloc, catalog, table)?;
+    let made = bind_index(alloc, catalog, name, found, columns.as_slice())?;
+    Ok(Action::CreateIndex(made))
+}
+
 /// What a statement is to do.
 fn bind_action(alloc: Global, statement: &Statement, catalog: &Catalog, in_block: bool) -> Result<Action, Stop>
     requires alone { is_planned in_block statement.now ≡ false }
     requires database { IsDatabase (bare catalog.now) }
     requires limits { KeepsLimits catalog.now statement.now }
-    ensures ok { OnOk result (objections (bare catalog.now) in_block statement.now ≡ []) }
-    ensures value { IfOk result (λ bound. action_of (bare catalog.now) statement.now ≡ Some bound) }
-    ensures stopped { IfErr result (λ stop. Stops stop (objections (bare catalog.now) in_block statement.now)) }
+    ensures ok { OnOk result (objections_to (bare catalog.now) in_block statement.now ≡ []) }
+    ensures value { IfOk result (λ bound. action_for (bare catalog.now) statement.now ≡ Some bound) }
+    ensures stopped { IfErr result (λ stop. Stops stop (objections_to (bare catalog.now) in_block statement.now)) }
 {
     match statement {
         Statement::CreateTable { name, columns, key } => {
-            expect_alone(in_block)?;
-            let made = bind_table(alloc, catalog, name, columns.as_slice(), key.as_slice())?;
-            Ok(Action::CreateTable(made))
+            bind_create_table(alloc, catalog, name, columns, key, in_block)
         }
         Statement::CreateIndex {
             name,
             table,
             columns,
-        } => {
-            expect_alone(in_block)?;
-            let found = expect_table(alloc, catalog, table)?;
-            let made = bind_index(alloc, catalog, name, found, columns.as_slice())?;
-            Ok(Action::CreateIndex(made))
-        }
-        Statement::Insert { table, tuples } => {
-            let found = expect_table(alloc, catalog, table)?;
-            bind_insert(alloc, found, tuples)
-        }
-        Statement::Select { list, table, cond } => {
-            let found = expect_table(alloc, catalog, table)?;
-            bind_select(alloc, found, list, cond)
-        }
-        Statement::Update { table, sets, cond } => {
-            let found = expect_table(alloc, catalog, table)?;
-            bind_update(alloc, found, sets, cond)
-        }
-        Statement::Delete { table, cond } => {
-            let found = expect_table(alloc, catalog, table)?;
-            bind_delete(alloc, found, cond)
-        }
+        } => bind_create_index(alloc, catalog, name, table, columns, in_block),
+        Statement::Insert { table, tuples } => bind_insert(alloc, catalog, table, tuples),
+        Statement::Select { list, table, cond } => bind_select(alloc, catalog, list, table, cond),
+        Statement::Update { table, sets, cond } => bind_update(alloc, catalog, table, sets, cond),
+        Statement::Delete { table, cond } => bind_delete(alloc, catalog, table, cond),
         Statement::Begin => bind_begin(in_block),
         Statement::Commit => bind_end(in_block, Action::Commit),
         Statement::Rollback => bind_end(in_block, Action::Rollback),
