@@ -1,4 +1,4 @@
-pub mod Actions
+pub mod Statements
 pub mod Columns
 pub mod Creating
 pub mod Keys

@@ -11,9 +11,8 @@ ghost use Rattle.bf_bind.specs.Limits.{HasNarrowTables, KeepsLimits, is_planned}
 ghost use Rattle.bf_bind.specs.Stops.{Stops};
 
 use crate::change::{bind_sets, bind_tuples};
-use crate::condition::bind_condition;
 use crate::create::{bind_index, bind_table};
-use crate::fixed::fixed_key;
+use crate::fixed::bind_selection;
 use crate::list::bind_items;
 use crate::lookup::expect_table;
 use crate::stop::Stop;
@@ -43,8 +42,8 @@ fn bind_insert(alloc: Global, catalog: &Catalog, name: &Name, tuples: &Sequence<
     ensures stopped { IfErr result (λ stop. (in_block : Bool) → Stops stop (objections_to (bare catalog.now) in_block (statement.Insert name.now tuples.now))) }
 {
     let found = expect_table(alloc, catalog, name)?;
-    let rows = bind_tuples(alloc, found, tuples)?;
     let table = found.copy(alloc)?;
+    let rows = bind_tuples(alloc, found, tuples)?;
     Ok(Action::Insert { table, rows })
 }
 
@@ -56,15 +55,14 @@ fn bind_select(alloc: Global, catalog: &Catalog, list: &List, name: &Name, cond:
     ensures stopped { IfErr result (λ stop. (in_block : Bool) → Stops stop (objections_to (bare catalog.now) in_block (statement.Select list.now name.now cond.now))) }
 {
     let found = expect_table(alloc, catalog, name)?;
-    let items = bind_items(alloc, found, list)?;
-    let cond = bind_condition(alloc, found, cond)?;
-    let fixed = fixed_key(alloc, found, &cond)?;
     let table = found.copy(alloc)?;
+    let items = bind_items(alloc, found, list)?;
+    let picked = bind_selection(alloc, found, cond)?;
     Ok(Action::Select {
         table,
         items,
-        cond,
-        fixed,
+        cond: picked.cond,
+        fixed: picked.fixed,
     })
 }
 
@@ -76,15 +74,14 @@ fn bind_update(alloc: Global, catalog: &Catalog, name: &Name, sets: &Sequence<(N
     ensures stopped { IfErr result (λ stop. (in_block : Bool) → Stops stop (objections_to (bare catalog.now) in_block (statement.Update name.now sets.now cond.now))) }
 {
     let found = expect_table(alloc, catalog, name)?;
-    let sets = bind_sets(alloc, found, sets.as_slice())?;
-    let cond = bind_condition(alloc, found, cond)?;
-    let fixed = fixed_key(alloc, found, &cond)?;
     let table = found.copy(alloc)?;
+    let bound = bind_sets(alloc, found, sets.as_slice())?;
+    let picked = bind_selection(alloc, found, cond)?;
     Ok(Action::Update {
         table,
-        sets,
-        cond,
-        fixed,
+        sets: bound,
+        cond: picked.cond,
+        fixed: picked.fixed,
     })
 }
 
@@ -96,10 +93,13 @@ fn bind_delete(alloc: Global, catalog: &Catalog, name: &Name, cond: &Option<RawC
     ensures stopped { IfErr result (λ stop. (in_block : Bool) → Stops stop (objections_to (bare catalog.now) in_block (statement.Delete name.now cond.now))) }
 {
     let found = expect_table(alloc, catalog, name)?;
-    let cond = bind_condition(alloc, found, cond)?;
-    let fixed = fixed_key(alloc, found, &cond)?;
     let table = found.copy(alloc)?;
-    Ok(Action::Delete { table, cond, fixed })
+    let picked = bind_selection(alloc, found, cond)?;
+    Ok(Action::Delete {
+        table,
+        cond: picked.cond,
+        fixed: picked.fixed,
+    })
 }
 
 /// BEGIN, which stands outside a block.

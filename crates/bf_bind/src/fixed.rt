@@ -1,13 +1,17 @@
-//! The key that a condition fixes.
+//! The rows that a condition selects, and the key that it fixes.
 
-ghost use Rattle.std.specs.Prelude.{◌≡◌, IfOk, option_copied};
-ghost use Rattle.bf_expr.specs.Trees.{compared};
+ghost use Rattle.std.specs.Prelude.{◌≡◌, ◌≤◌, [], IfErr, IfOk, OnOk, length, option_copied};
+ghost use Rattle.bf_expr.specs.Trees.{compared, cond_over};
 ghost use Rattle.bf_expr.specs.declared.compare.Compare.TheVariants as comparison;
-ghost use Rattle.bf_sql.specs.Conditions.{fixed_key as fixed_key_of, value_fixed};
+ghost use Rattle.bf_sql.specs.Conditions.{condition_of, fixed_key as fixed_key_of, value_fixed};
+ghost use Rattle.bf_sql.specs.Scopes.{cond_objections, place_of, scope_of};
+ghost use Rattle.bf_bind.specs.Stops.{Stops};
 ghost use Rattle.bf_bind.specs.Parts.{first_fixed as first_fixed_of, is_column_at, literal_of};
 
+use crate::condition::bind_condition;
+use crate::stop::Stop;
 use bf_base::{Key, Memory, Table, Value};
-use bf_expr::{Compare, Cond, Expr, Node, Test};
+use bf_expr::{Compare, Cond, Expr, Node, RawCond, Test};
 use std::alloc::Global;
 
 /// The value of a literal.
@@ -71,4 +75,24 @@ pub(crate) fn fixed_key(alloc: Global, table: &Table, cond: &Cond) -> Result<Opt
         }
     }
     Ok(Some(Key::of(values)))
+}
+
+/// The condition of a statement on a table, and the key that it fixes.
+#[derive(Drop)]
+pub(crate) struct Selection {
+    pub(crate) cond: Cond,
+    pub(crate) fixed: Option<Key>,
+}
+
+/// The selection of a statement; where it has no condition, each row satisfies it.
+pub(crate) fn bind_selection(alloc: Global, table: &Table, raw: &Option<RawCond>) -> Result<Selection, Stop>
+    requires { length table.now.columns ≤ 16 }
+    ensures ok { OnOk result (cond_objections (scope_of table.now) (condition_of raw.now) ≡ []) }
+    ensures cond { IfOk result (λ picked. picked.cond ≡ cond_over (place_of (scope_of table.now)) (condition_of raw.now)) }
+    ensures fixed { IfOk result (λ picked. picked.fixed ≡ fixed_key_of table.now picked.cond) }
+    ensures stopped { IfErr result (λ stop. Stops stop (cond_objections (scope_of table.now) (condition_of raw.now))) }
+{
+    let cond = bind_condition(alloc, table, raw)?;
+    let fixed = fixed_key(alloc, table, &cond)?;
+    Ok(Selection { cond, fixed })
 }
