@@ -85,7 +85,7 @@ module _ (db : Database) (name : List ℕ) where
     action_of-select list cond = rw table_at-stored
 
     pub action_of-update : (sets : List (List ℕ × Expr Ref)) (cond : Option (Cond Ref)) → action_of db (Update name sets cond) ≡ Some (update_action t sets cond)
-    action_of-update sets cond = rw table_at-stored
+    action_of-update sets cond = ap (λ (u : Table). Some (update_action u sets cond)) table_at-stored
 
     pub action_of-delete : (cond : Option (Cond Ref)) → action_of db (Delete name cond) ≡ Some (delete_action t cond)
     action_of-delete cond = rw table_at-stored

@@ -1,7 +1,7 @@
 //! Statements.
 
-ghost use Rattle.std.specs.Prelude.{◌≡◌, ◌≤◌, [], ◌∷◌, Bool, false, true, IfErr, IfOk, OnErr, OnOk, Some, length};
-ghost use Rattle.bf_sql.specs.Bound.{bare, bound_of, changes_schema};
+ghost use Rattle.std.specs.Prelude.{◌≡◌, ◌≤◌, [], ◌∷◌, Bool, false, true, IfErr, IfOk, OnErr, OnOk, Some, length, not, ◌&&◌};
+ghost use Rattle.bf_sql.specs.Bound.{bare, bound_of, changes_schema as changes_schema_of};
 ghost use Rattle.bf_sql.specs.Database.{IsDatabase};
 ghost use Rattle.bf_sql.specs.declared.bound.Action.TheVariants as action;
 ghost use Rattle.bf_sql.specs.declared.reply.Refusal.TheVariants as refusal;
@@ -187,12 +187,19 @@ fn bind_action(alloc: Global, statement: &Statement, catalog: &Catalog, in_block
 
 /// Whether a statement outside a block changes the schema.
 fn is_schema_change(statement: &Statement) -> bool
-    ensures { result ≡ changes_schema false statement.now }
+    ensures { result ≡ changes_schema_of false statement.now }
 {
     matches!(
         statement,
         Statement::CreateTable { .. } | Statement::CreateIndex { .. } | Statement::Migrate(_)
     )
+}
+
+/// Whether a statement changes the schema, if nothing stands in its way.
+fn changes_schema(statement: &Statement, in_block: bool) -> bool
+    ensures { result ≡ (changes_schema_of false statement.now && not in_block) }
+{
+    is_schema_change(statement) && !in_block
 }
 
 /// A statement bound in a catalog, in a block or outside: the first objection of the catalog, or
@@ -207,14 +214,18 @@ pub fn bind(alloc: Global, statement: &Statement, catalog: &Catalog, in_block: b
     requires limits { KeepsLimits catalog.now statement.now }
     ensures { IfOk result (λ bound. bound_of (bare catalog.now) in_block statement.now ≡ Some bound) }
 {
-    let action = match bind_action(alloc, statement, catalog, in_block) {
-        Ok(action) => action,
-        Err(Stop::Refused(refusal)) => Action::Refused(refusal),
-        Err(Stop::Memory) => return Err(Memory),
-    };
-    Ok(Bound {
-        catalog: catalog.number,
-        schema_change: is_schema_change(statement) && !in_block,
-        action,
-    })
+    let schema_change = changes_schema(statement, in_block);
+    match bind_action(alloc, statement, catalog, in_block) {
+        Ok(action) => Ok(Bound {
+            catalog: catalog.number,
+            schema_change,
+            action,
+        }),
+        Err(Stop::Refused(refusal)) => Ok(Bound {
+            catalog: catalog.number,
+            schema_change,
+            action: Action::Refused(refusal),
+        }),
+        Err(Stop::Memory) => Err(Memory),
+    }
 }
