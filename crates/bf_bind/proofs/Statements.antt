@@ -1,5 +1,5 @@
 -- What stands in the way of a statement on a table, and what the statement is bound to.
-use Rattle.std.proofs.Common.{◌≡◌, ℕ, Bool, true, false, not, ◌&&◌, List, [], ◌∷◌, ◌++◌, map, slice_get, IfErr, OnOk, Result, Ok, Err, Option, Some, None, refl, ap, ◌∙◌}
+use Rattle.std.proofs.Common.{◌≡◌, ℕ, Bool, true, false, not, ◌&&◌, List, [], ◌∷◌, ◌++◌, map, slice_get, IfErr, IfOk, OnOk, Result, Ok, Err, Option, Some, None, refl, ap, ◌∙◌}
 use Rattle.std.specs.List.{flat_map}
 use Rattle.std.specs.Option.{option_map}
 use Rattle.bf_base.specs.declared.table.Table.{Table}
@@ -16,6 +16,7 @@ use Rattle.bf_sql.specs.declared.bound.Action.TheVariants as action
 use Rattle.bf_sql.specs.declared.bound.Bound.{Bound}
 use Rattle.bf_sql.specs.declared.catalog.IndexRule.{IndexRule}
 use Rattle.bf_sql.specs.declared.items.Items.{Items}
+use Rattle.bf_sql.specs.declared.migration.Migrate.{Migrate as MigrateTree}
 use Rattle.bf_sql.specs.declared.reply.Refusal.{Refusal}
 use Rattle.bf_sql.specs.declared.reply.Refusal.TheVariants.{InTransaction, MustBeAlone, NoTable, NoTransaction}
 use Rattle.bf_sql.specs.declared.statement.ColumnRule.{ColumnRule}
@@ -31,7 +32,7 @@ use Rattle.bf_expr.specs.Trees.{cond_over}
 use Rattle.bf_sql.specs.Bound.{items_over}
 use Rattle.bf_sql.specs.Conditions.{fixed_key}
 use Rattle.bf_sql.specs.Scopes.{place_of}
-use Rattle.bf_bind.specs.Limits.{bare_table}
+use Rattle.bf_bind.specs.Limits.{bare_table, is_planned}
 use Rattle.bf_bind.specs.Parts.{bound_set, delete_action, select_action, update_action}
 
 module _ (db : Database) (name : List ℕ) where
@@ -259,11 +260,21 @@ module _ (db : Database) (b : Bool) (name : List ℕ) (index : List ℕ) (column
   pub index-alone_ok : b ≡ false → objections_to db false (CreateIndex index name columns) ≡ [] → objections_to db b (CreateIndex index name columns) ≡ []
   index-alone_ok e none = rw e none
 
--- what holds in a block and outside holds here
-pub at_block_ok : {T : Type 0} (r : Result T Stop) (found : Bool → List Refusal) (b : Bool) → OnOk r ((b : Bool) → found b ≡ []) → OnOk r (found b ≡ [])
-at_block_ok (Ok x) found b h = h b
-at_block_ok (Err e) found b h = h
+-- a MIGRATE that is not planned stands in a block
+pub migrate-inside : (db : Database) (b : Bool) (m : MigrateTree) → is_planned b (Migrate m) ≡ false → Stops (stops.Refused MustBeAlone) (objections_to db b (Migrate m))
+unfolding objections_to Stops
+migrate-inside db true m e = refl
+migrate-inside db false m e = absurd cc
 
-pub at_block_stops : {T : Type 0} (r : Result T Stop) (found : Bool → List Refusal) (b : Bool) → IfErr r (λ stop. (b : Bool) → Stops stop (found b)) → IfErr r (λ stop. Stops stop (found b))
-at_block_stops (Ok x) found b h = h
-at_block_stops (Err e) found b h = h b
+-- what holds of each, holds of one
+pub at_ok : {I T : Type 0} (r : Result T Stop) (found : I → List Refusal) (i : I) → OnOk r ((i : I) → found i ≡ []) → OnOk r (found i ≡ [])
+at_ok (Ok x) found i h = h i
+at_ok (Err e) found i h = h
+
+pub at_stops : {I T : Type 0} (r : Result T Stop) (found : I → List Refusal) (i : I) → IfErr r (λ stop. (i : I) → Stops stop (found i)) → IfErr r (λ stop. Stops stop (found i))
+at_stops (Ok x) found i h = h
+at_stops (Err e) found i h = h i
+
+pub at_value : {I T : Type 0} (r : Result T Stop) (made : I → Option T) (i : I) → IfOk r (λ x. (i : I) → made i ≡ Some x) → IfOk r (λ x. made i ≡ Some x)
+at_value (Ok x) made i h = h i
+at_value (Err e) made i h = h

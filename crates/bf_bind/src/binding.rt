@@ -2,8 +2,7 @@
 
 ghost use Rattle.std.specs.Prelude.{◌≡◌, ◌≤◌, [], ◌∷◌, Bool, false, true, IfErr, IfOk, OnErr, OnOk, Some, length, not, ◌&&◌};
 ghost use Rattle.bf_sql.specs.Bound.{bare, bound_of, changes_schema as changes_schema_of};
-ghost use Rattle.bf_sql.specs.Database.{IsDatabase};
-ghost use Rattle.bf_sql.specs.declared.bound.Action.TheVariants as action;
+ghost use Rattle.bf_sql.specs.Database.{Database, IsDatabase};
 ghost use Rattle.bf_sql.specs.declared.reply.Refusal.TheVariants as refusal;
 ghost use Rattle.bf_sql.specs.declared.statement.Statement.TheVariants as statement;
 ghost use Rattle.bf_bind.specs.Actions.{action_for, objections_to};
@@ -102,12 +101,11 @@ fn bind_delete(alloc: Global, catalog: &Catalog, name: &Name, cond: &Option<RawC
     })
 }
 
-/// BEGIN, which stands outside a block.
+/// BEGIN stands outside a block.
 fn bind_begin(in_block: bool) -> Result<Action, Stop>
-    ensures ok { OnOk result (in_block ≡ false) }
-    ensures value { IfOk result (λ bound. bound ≡ action.Begin) }
-    ensures inside { OnErr result (in_block ≡ true) }
-    ensures stopped { IfErr result (λ stop. Stops stop (refusal.InTransaction ∷ [])) }
+    ensures ok { OnOk result ((db : Database) → objections_to db in_block statement.Begin ≡ []) }
+    ensures value { IfOk result (λ bound. (db : Database) → action_for db statement.Begin ≡ Some bound) }
+    ensures stopped { IfErr result (λ stop. (db : Database) → Stops stop (objections_to db in_block statement.Begin)) }
 {
     if in_block {
         Err(Stop::Refused(Refusal::InTransaction))
@@ -116,15 +114,27 @@ fn bind_begin(in_block: bool) -> Result<Action, Stop>
     }
 }
 
-/// The end of a block, which stands inside it.
-fn bind_end(in_block: bool, end: Action) -> Result<Action, Stop>
-    ensures ok { OnOk result (in_block ≡ true) }
-    ensures value { IfOk result (λ bound. bound ≡ end) }
-    ensures outside { OnErr result (in_block ≡ false) }
-    ensures stopped { IfErr result (λ stop. Stops stop (refusal.NoTransaction ∷ [])) }
+/// COMMIT stands inside a block.
+fn bind_commit(in_block: bool) -> Result<Action, Stop>
+    ensures ok { OnOk result ((db : Database) → objections_to db in_block statement.Commit ≡ []) }
+    ensures value { IfOk result (λ bound. (db : Database) → action_for db statement.Commit ≡ Some bound) }
+    ensures stopped { IfErr result (λ stop. (db : Database) → Stops stop (objections_to db in_block statement.Commit)) }
 {
     if in_block {
-        Ok(end)
+        Ok(Action::Commit)
+    } else {
+        Err(Stop::Refused(Refusal::NoTransaction))
+    }
+}
+
+/// ROLLBACK stands inside a block.
+fn bind_rollback(in_block: bool) -> Result<Action, Stop>
+    ensures ok { OnOk result ((db : Database) → objections_to db in_block statement.Rollback ≡ []) }
+    ensures value { IfOk result (λ bound. (db : Database) → action_for db statement.Rollback ≡ Some bound) }
+    ensures stopped { IfErr result (λ stop. (db : Database) → Stops stop (objections_to db in_block statement.Rollback)) }
+{
+    if in_block {
+        Ok(Action::Rollback)
     } else {
         Err(Stop::Refused(Refusal::NoTransaction))
     }
@@ -179,8 +189,8 @@ fn bind_action(alloc: Global, statement: &Statement, catalog: &Catalog, in_block
         Statement::Update { table, sets, cond } => bind_update(alloc, catalog, table, sets, cond),
         Statement::Delete { table, cond } => bind_delete(alloc, catalog, table, cond),
         Statement::Begin => bind_begin(in_block),
-        Statement::Commit => bind_end(in_block, Action::Commit),
-        Statement::Rollback => bind_end(in_block, Action::Rollback),
+        Statement::Commit => bind_commit(in_block),
+        Statement::Rollback => bind_rollback(in_block),
         Statement::Migrate(_) => Err(Stop::Refused(Refusal::MustBeAlone)),
     }
 }
