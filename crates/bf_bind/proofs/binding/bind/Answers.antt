@@ -9,4 +9,4 @@ returns-in-Ok c =
 
 pub returns-in-Err-Refused : goal.returns-in-Err-Refused
 returns-in-Err-Refused c =
-    rw c.changes_schema-schema_change.ensures (bound_of-refused (bare c.args.catalog.now) c.args.in_block c.args.statement.now c.in-Err-Refused.refusal c.in-Err-Refused.ensures.stopped)
+    rw c.changes_schema-schema_change.ensures (bound_of-refused (bare c.args.catalog.now) c.args.in_block c.args.statement.now c.in-Err-Refused.refusal (rw c.in-Err-Refused.field-0-is at c.in-Err-Refused.ensures.stopped))
