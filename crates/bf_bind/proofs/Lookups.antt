@@ -30,10 +30,10 @@ no_rule = record { name = []; table = []; columns = [] }
 find-bare : (name : List ℕ) (tables : List Table) → find (λ (s : Stored). same_name s.table.name name) (map bare_table tables) ≡ option_map bare_table (look_up name_cmp table_name tables name)
 find-bare name [] = refl
 find-bare name (t ∷ ts) = rw same_name-tie (
-  elim (is_eq (name_cmp t.name name)) as (λ b. cond b (Some (bare_table t)) (find (λ (s : Stored). same_name s.table.name name) (map bare_table ts)) ≡ option_map bare_table (cond b (Some t) (look_up name_cmp table_name ts name))) [
-    | true ↦ refl
-    | false ↦ find-bare name ts
-  ])
+    elim (is_eq (name_cmp t.name name)) as (λ b. cond b (Some (bare_table t)) (find (λ (s : Stored). same_name s.table.name name) (map bare_table ts)) ≡ option_map bare_table (cond b (Some t) (look_up name_cmp table_name ts name))) [
+      | true ↦ refl
+      | false ↦ find-bare name ts
+    ])
 
 same_any : {X : Type 0} (p q : X → Bool) → ((x : X) → p x ≡ q x) → (xs : List X) → list_any p xs ≡ list_any q xs
 same_any p q same [] = refl

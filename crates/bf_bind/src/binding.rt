@@ -33,7 +33,12 @@ fn expect_alone(in_block: bool) -> Result<(), Stop>
     }
 }
 
-fn bind_insert(alloc: Global, catalog: &Catalog, name: &Name, tuples: &Sequence<Row>) -> Result<Action, Stop>
+fn bind_insert(
+    alloc: Global,
+    catalog: &Catalog,
+    name: &Name,
+    tuples: &Sequence<Row>,
+) -> Result<Action, Stop>
     requires database { IsDatabase (bare catalog.now) }
     requires narrow { HasNarrowTables catalog.now }
     ensures ok { OnOk result ((in_block : Bool) → objections_to (bare catalog.now) in_block (statement.Insert name.now tuples.now) ≡ []) }
@@ -46,7 +51,13 @@ fn bind_insert(alloc: Global, catalog: &Catalog, name: &Name, tuples: &Sequence<
     Ok(Action::Insert { table, rows })
 }
 
-fn bind_select(alloc: Global, catalog: &Catalog, list: &List, name: &Name, cond: &Option<RawCond>) -> Result<Action, Stop>
+fn bind_select(
+    alloc: Global,
+    catalog: &Catalog,
+    list: &List,
+    name: &Name,
+    cond: &Option<RawCond>,
+) -> Result<Action, Stop>
     requires database { IsDatabase (bare catalog.now) }
     requires narrow { HasNarrowTables catalog.now }
     ensures ok { OnOk result ((in_block : Bool) → objections_to (bare catalog.now) in_block (statement.Select list.now name.now cond.now) ≡ []) }
@@ -65,7 +76,13 @@ fn bind_select(alloc: Global, catalog: &Catalog, list: &List, name: &Name, cond:
     })
 }
 
-fn bind_update(alloc: Global, catalog: &Catalog, name: &Name, sets: &Sequence<(Name, RawExpr)>, cond: &Option<RawCond>) -> Result<Action, Stop>
+fn bind_update(
+    alloc: Global,
+    catalog: &Catalog,
+    name: &Name,
+    sets: &Sequence<(Name, RawExpr)>,
+    cond: &Option<RawCond>,
+) -> Result<Action, Stop>
     requires database { IsDatabase (bare catalog.now) }
     requires narrow { HasNarrowTables catalog.now }
     ensures ok { OnOk result ((in_block : Bool) → objections_to (bare catalog.now) in_block (statement.Update name.now sets.now cond.now) ≡ []) }
@@ -84,7 +101,12 @@ fn bind_update(alloc: Global, catalog: &Catalog, name: &Name, sets: &Sequence<(N
     })
 }
 
-fn bind_delete(alloc: Global, catalog: &Catalog, name: &Name, cond: &Option<RawCond>) -> Result<Action, Stop>
+fn bind_delete(
+    alloc: Global,
+    catalog: &Catalog,
+    name: &Name,
+    cond: &Option<RawCond>,
+) -> Result<Action, Stop>
     requires database { IsDatabase (bare catalog.now) }
     requires narrow { HasNarrowTables catalog.now }
     ensures ok { OnOk result ((in_block : Bool) → objections_to (bare catalog.now) in_block (statement.Delete name.now cond.now) ≡ []) }
@@ -140,7 +162,14 @@ fn bind_rollback(in_block: bool) -> Result<Action, Stop>
     }
 }
 
-fn bind_create_table(alloc: Global, catalog: &Catalog, name: &Name, rules: &Sequence<ColumnRule>, key: &Sequence<Name>, in_block: bool) -> Result<Action, Stop>
+fn bind_create_table(
+    alloc: Global,
+    catalog: &Catalog,
+    name: &Name,
+    rules: &Sequence<ColumnRule>,
+    key: &Sequence<Name>,
+    in_block: bool,
+) -> Result<Action, Stop>
     requires database { IsDatabase (bare catalog.now) }
     requires narrow { HasNarrowTables catalog.now }
     requires declared { length rules.now ≤ 16 }
@@ -153,7 +182,14 @@ fn bind_create_table(alloc: Global, catalog: &Catalog, name: &Name, rules: &Sequ
     Ok(Action::CreateTable(made))
 }
 
-fn bind_create_index(alloc: Global, catalog: &Catalog, name: &Name, table: &Name, columns: &Sequence<Name>, in_block: bool) -> Result<Action, Stop>
+fn bind_create_index(
+    alloc: Global,
+    catalog: &Catalog,
+    name: &Name,
+    table: &Name,
+    columns: &Sequence<Name>,
+    in_block: bool,
+) -> Result<Action, Stop>
     requires database { IsDatabase (bare catalog.now) }
     requires narrow { HasNarrowTables catalog.now }
     ensures ok { OnOk result (objections_to (bare catalog.now) in_block (statement.CreateIndex name.now table.now columns.now) ≡ []) }
@@ -167,7 +203,12 @@ fn bind_create_index(alloc: Global, catalog: &Catalog, name: &Name, table: &Name
 }
 
 /// What a statement is to do.
-fn bind_action(alloc: Global, statement: &Statement, catalog: &Catalog, in_block: bool) -> Result<Action, Stop>
+fn bind_action(
+    alloc: Global,
+    statement: &Statement,
+    catalog: &Catalog,
+    in_block: bool,
+) -> Result<Action, Stop>
     requires alone { is_planned in_block statement.now ≡ false }
     requires database { IsDatabase (bare catalog.now) }
     requires limits { KeepsLimits catalog.now statement.now }
@@ -218,7 +259,12 @@ fn changes_schema(statement: &Statement, in_block: bool) -> bool
 ///
 /// # Errors
 /// Memory ran out.
-pub fn bind(alloc: Global, statement: &Statement, catalog: &Catalog, in_block: bool) -> Result<Bound, Memory>
+pub fn bind(
+    alloc: Global,
+    statement: &Statement,
+    catalog: &Catalog,
+    in_block: bool,
+) -> Result<Bound, Memory>
     requires alone { is_planned in_block statement.now ≡ false }
     requires database { IsDatabase (bare catalog.now) }
     requires limits { KeepsLimits catalog.now statement.now }

@@ -20,10 +20,10 @@ use std::alloc::Global;
 fn all_fit(columns: &[Column], values: &[Value]) -> bool
     ensures { result ≡ list_all is_of_kind (zip columns.now values.now) }
 {
-    columns
-        .iter()
-        .zip(values)
-        .all(|(column, value)| is_same_kind(value.kind(), kind_of_column(column)))
+    columns.iter().zip(values).all(|(column, value)| is_same_kind(
+        value.kind(),
+        kind_of_column(column),
+    ))
 }
 
 /// A tuple has a value for each column of a table, of its kind.
@@ -47,7 +47,11 @@ fn expect_tuple(table: &Table, tuple: &Row) -> Result<(), Stop>
 ///
 /// # Errors
 /// The first objection, from the left: the count of a tuple before the kinds of its values.
-pub(crate) fn bind_tuples(alloc: Global, table: &Table, tuples: &Sequence<Row>) -> Result<Sequence<Row>, Stop>
+pub(crate) fn bind_tuples(
+    alloc: Global,
+    table: &Table,
+    tuples: &Sequence<Row>,
+) -> Result<Sequence<Row>, Stop>
     ensures ok { OnOk result (flat_map (tuple_objections table.now) tuples.now ≡ []) }
     ensures value { IfOk result (λ rows. rows ≡ tuples.now) }
     ensures stopped { IfErr result (λ stop. Stops stop (flat_map (tuple_objections table.now) tuples.now)) }
@@ -89,7 +93,12 @@ fn is_set(name: &Name, sets: &[(Name, RawExpr)]) -> bool
 }
 
 /// A column that UPDATE sets, behind those before it, and the expression that it is set to.
-fn bind_set(alloc: Global, table: &Table, before: &[(Name, RawExpr)], set: &(Name, RawExpr)) -> Result<(u8, Expr), Stop>
+fn bind_set(
+    alloc: Global,
+    table: &Table,
+    before: &[(Name, RawExpr)],
+    set: &(Name, RawExpr),
+) -> Result<(u8, Expr), Stop>
     requires { length table.now.columns ≤ 16 }
     ensures ok { OnOk result (set_objections_of table.now before.now set.now ≡ []) }
     ensures value { IfOk result (λ bound. bound ≡ bound_set (scope_of table.now) set.now) }
@@ -115,7 +124,11 @@ fn bind_set(alloc: Global, table: &Table, before: &[(Name, RawExpr)], set: &(Nam
 /// # Errors
 /// The first objection, from the left. So no more sets are looked at than the table has columns,
 /// and one more.
-pub(crate) fn bind_sets(alloc: Global, table: &Table, sets: &[(Name, RawExpr)]) -> Result<Sequence<(u8, Expr)>, Stop>
+pub(crate) fn bind_sets(
+    alloc: Global,
+    table: &Table,
+    sets: &[(Name, RawExpr)],
+) -> Result<Sequence<(u8, Expr)>, Stop>
     requires { length table.now.columns ≤ 16 }
     ensures ok { OnOk result (sets_objections table.now sets.now ≡ []) }
     ensures value { IfOk result (λ bound. bound ≡ map (bound_set (scope_of table.now)) sets.now) }

@@ -14,7 +14,13 @@ use bf_expr::{Compare, Cond, RawCond, RawExpr, RawTest, Test};
 use std::alloc::Global;
 
 /// A comparison, whose sides are of one kind.
-fn bind_comparison(alloc: Global, table: &Table, compare: Compare, a: &RawExpr, b: &RawExpr) -> Result<Cond, Stop>
+fn bind_comparison(
+    alloc: Global,
+    table: &Table,
+    compare: Compare,
+    a: &RawExpr,
+    b: &RawExpr,
+) -> Result<Cond, Stop>
     requires { length table.now.columns ≤ 16 }
     ensures ok { OnOk result (cond_objections (scope_of table.now) (compared compare a.now b.now) ≡ []) }
     ensures value { IfOk result (λ cond. cond ≡ cond_over (place_of (scope_of table.now)) (compared compare a.now b.now)) }
@@ -27,7 +33,13 @@ fn bind_comparison(alloc: Global, table: &Table, compare: Compare, a: &RawExpr, 
 }
 
 /// A BETWEEN, whose ends are of the kind of what is compared with them.
-fn bind_between(alloc: Global, table: &Table, a: &RawExpr, low: &RawExpr, high: &RawExpr) -> Result<Cond, Stop>
+fn bind_between(
+    alloc: Global,
+    table: &Table,
+    a: &RawExpr,
+    low: &RawExpr,
+    high: &RawExpr,
+) -> Result<Cond, Stop>
     requires { length table.now.columns ≤ 16 }
     ensures ok { OnOk result (cond_objections (scope_of table.now) (between a.now low.now high.now) ≡ []) }
     ensures value { IfOk result (λ cond. cond ≡ cond_over (place_of (scope_of table.now)) (between a.now low.now high.now)) }
@@ -38,11 +50,7 @@ fn bind_between(alloc: Global, table: &Table, a: &RawExpr, low: &RawExpr, high: 
     let greatest = bind_expression(alloc, table, high)?;
     expect_kind(least.kind, middle.kind)?;
     expect_kind(greatest.kind, middle.kind)?;
-    Ok(Cond::of(Test::Between(
-        middle.expr,
-        least.expr,
-        greatest.expr,
-    )))
+    Ok(Cond::of(Test::Between(middle.expr, least.expr, greatest.expr)))
 }
 
 /// A condition on the rows of a table, in time linear in its nodes.
@@ -77,7 +85,12 @@ fn bind_test(alloc: Global, table: &Table, raw: &RawCond) -> Result<Cond, Stop>
 
 /// The two sides of an AND or an OR.
 #[cycle(condition)]
-fn bind_sides(alloc: Global, table: &Table, c: &RawCond, d: &RawCond) -> Result<(Box<Cond>, Box<Cond>), Stop>
+fn bind_sides(
+    alloc: Global,
+    table: &Table,
+    c: &RawCond,
+    d: &RawCond,
+) -> Result<(Box<Cond>, Box<Cond>), Stop>
     requires { length table.now.columns ≤ 16 }
     ensures ok { OnOk result (cond_objections (scope_of table.now) c.now ++ cond_objections (scope_of table.now) d.now ≡ []) }
     ensures left { IfOk result (λ sides. sides.0.value ≡ cond_over (place_of (scope_of table.now)) c.now) }
@@ -92,7 +105,11 @@ fn bind_sides(alloc: Global, table: &Table, c: &RawCond, d: &RawCond) -> Result<
 }
 
 /// The condition of a statement; where it has none, each row satisfies it.
-pub(crate) fn bind_condition(alloc: Global, table: &Table, cond: &Option<RawCond>) -> Result<Cond, Stop>
+pub(crate) fn bind_condition(
+    alloc: Global,
+    table: &Table,
+    cond: &Option<RawCond>,
+) -> Result<Cond, Stop>
     requires { length table.now.columns ≤ 16 }
     ensures ok { OnOk result (cond_objections (scope_of table.now) (condition_of cond.now) ≡ []) }
     ensures value { IfOk result (λ bound. bound ≡ cond_over (place_of (scope_of table.now)) (condition_of cond.now)) }

@@ -78,7 +78,13 @@ fn bind_rules(alloc: Global, rules: &[ColumnRule]) -> Result<Sequence<Column>, S
 }
 
 /// The table that CREATE TABLE makes.
-pub(crate) fn bind_table(alloc: Global, catalog: &Catalog, name: &Name, rules: &[ColumnRule], key: &[Name]) -> Result<Table, Stop>
+pub(crate) fn bind_table(
+    alloc: Global,
+    catalog: &Catalog,
+    name: &Name,
+    rules: &[ColumnRule],
+    key: &[Name],
+) -> Result<Table, Stop>
     requires database { IsDatabase (bare catalog.now) }
     requires narrow { HasNarrowTables catalog.now }
     requires declared { length rules.now ≤ 16 }
@@ -100,7 +106,13 @@ pub(crate) fn bind_table(alloc: Global, catalog: &Catalog, name: &Name, rules: &
 }
 
 /// The index that CREATE INDEX makes on a table.
-pub(crate) fn bind_index(alloc: Global, catalog: &Catalog, name: &Name, table: &Table, columns: &[Name]) -> Result<IndexRule, Stop>
+pub(crate) fn bind_index(
+    alloc: Global,
+    catalog: &Catalog,
+    name: &Name,
+    table: &Table,
+    columns: &[Name],
+) -> Result<IndexRule, Stop>
     requires database { IsDatabase (bare catalog.now) }
     requires narrow { length table.now.columns ≤ 16 }
     ensures ok { OnOk result (new_index_objections (bare catalog.now) name.now table.now columns.now ≡ []) }

@@ -37,7 +37,11 @@ impl BoundExpr {
 /// # Errors
 /// The first objection, from the left; a node is judged after its parts.
 #[cycle(expression)]
-pub(crate) fn bind_expression(alloc: Global, table: &Table, raw: &RawExpr) -> Result<BoundExpr, Stop>
+pub(crate) fn bind_expression(
+    alloc: Global,
+    table: &Table,
+    raw: &RawExpr,
+) -> Result<BoundExpr, Stop>
     requires { length table.now.columns ≤ 16 }
     ensures ok { OnOk result (expr_objections (scope_of table.now) raw.now ≡ []) }
     ensures value { IfOk result (λ bound. bound ≡ bound_expr (scope_of table.now) raw.now) }
@@ -87,7 +91,13 @@ fn bind_part(alloc: Global, table: &Table, a: &RawExpr, kind: Kind) -> Result<Bo
 
 /// The two parts of a node whose parts are of a kind.
 #[cycle(expression)]
-fn bind_parts(alloc: Global, table: &Table, a: &RawExpr, b: &RawExpr, kind: Kind) -> Result<(Box<Expr>, Box<Expr>), Stop>
+fn bind_parts(
+    alloc: Global,
+    table: &Table,
+    a: &RawExpr,
+    b: &RawExpr,
+    kind: Kind,
+) -> Result<(Box<Expr>, Box<Expr>), Stop>
     requires { length table.now.columns ≤ 16 }
     ensures ok { OnOk result (parts_objections (scope_of table.now) a.now b.now kind ≡ []) }
     ensures left { IfOk result (λ parts. parts.0.value ≡ expr_over (place_of (scope_of table.now)) a.now) }

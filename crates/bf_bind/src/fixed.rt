@@ -85,7 +85,11 @@ pub(crate) struct Selection {
 }
 
 /// The selection of a statement; where it has no condition, each row satisfies it.
-pub(crate) fn bind_selection(alloc: Global, table: &Table, raw: &Option<RawCond>) -> Result<Selection, Stop>
+pub(crate) fn bind_selection(
+    alloc: Global,
+    table: &Table,
+    raw: &Option<RawCond>,
+) -> Result<Selection, Stop>
     requires { length table.now.columns ≤ 16 }
     ensures ok { OnOk result (cond_objections (scope_of table.now) (condition_of raw.now) ≡ []) }
     ensures cond { IfOk result (λ picked. picked.cond ≡ cond_over (place_of (scope_of table.now)) (condition_of raw.now)) }

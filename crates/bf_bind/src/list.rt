@@ -46,7 +46,11 @@ fn bind_total(alloc: Global, table: &Table, total: &RawAggregate) -> Result<Aggr
     }
 }
 
-fn bind_totals(alloc: Global, table: &Table, totals: &[RawAggregate]) -> Result<Sequence<Aggregate>, Stop>
+fn bind_totals(
+    alloc: Global,
+    table: &Table,
+    totals: &[RawAggregate],
+) -> Result<Sequence<Aggregate>, Stop>
     requires { length table.now.columns ≤ 16 }
     ensures ok { OnOk result (flat_map (total_objections (scope_of table.now)) totals.now ≡ []) }
     ensures value { IfOk result (λ bound. bound ≡ map (total_over (place_of (scope_of table.now))) totals.now) }
@@ -71,11 +75,7 @@ pub(crate) fn bind_items(alloc: Global, table: &Table, list: &List) -> Result<It
 {
     match list {
         Items::All => Ok(Items::All),
-        Items::Exprs(exprs) => Ok(Items::Exprs(bind_expressions(
-            alloc,
-            table,
-            exprs.as_slice(),
-        )?)),
+        Items::Exprs(exprs) => Ok(Items::Exprs(bind_expressions(alloc, table, exprs.as_slice())?)),
         Items::Aggregates(totals) => Ok(Items::Aggregates(bind_totals(
             alloc,
             table,

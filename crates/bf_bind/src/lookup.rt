@@ -48,7 +48,11 @@ pub(crate) fn table_named<'a>(catalog: &'a Catalog, name: &Name) -> Option<&'a T
 }
 
 /// The table of a name, which has to be there.
-pub(crate) fn expect_table<'a>(alloc: Global, catalog: &'a Catalog, name: &Name) -> Result<&'a Table, Stop>
+pub(crate) fn expect_table<'a>(
+    alloc: Global,
+    catalog: &'a Catalog,
+    name: &Name,
+) -> Result<&'a Table, Stop>
     requires database { IsDatabase (bare catalog.now) }
     requires narrow { HasNarrowTables catalog.now }
     ensures stored { IfOk result (λ table. stored_at (bare catalog.now) name.now ≡ Some (bare_table table.now)) }

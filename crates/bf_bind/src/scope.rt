@@ -187,7 +187,11 @@ fn place_named(alloc: Global, table: &Table, before: &[Name], name: &Name) -> Re
 /// # Errors
 /// The first name that no column has, or that stood before. So no more names are compared than
 /// the table has columns.
-pub(crate) fn places_named(alloc: Global, table: &Table, names: &[Name]) -> Result<Sequence<u8>, Stop>
+pub(crate) fn places_named(
+    alloc: Global,
+    table: &Table,
+    names: &[Name],
+) -> Result<Sequence<u8>, Stop>
     requires { length table.now.columns ≤ 16 }
     ensures ok { OnOk result (names_objections (column_names table.now) names.now ≡ []) }
     ensures places { IfOk result (λ places. places ≡ named_places table.now names.now) }

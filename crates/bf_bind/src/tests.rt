@@ -6,7 +6,10 @@ ghost use Rattle.bf_bind.specs.Limits.{HasNarrowTables, declared_columns, is_pla
 use super::*;
 use bf_base::{Admit, Column, Key, Name, Row, Sequence, Table, Text, Value};
 use bf_expr::{Compare, RawCond, RawExpr, RawNode, RawTest, Ref};
-use bf_sql::{Action, Aggregate, Catalog, ColumnForm, ColumnRule, IndexRule, Items, Migrate, RawAggregate, Refusal, Statement};
+use bf_sql::{
+    Action, Aggregate, Catalog, ColumnForm, ColumnRule, IndexRule, Items, Migrate, RawAggregate,
+    Refusal, Statement,
+};
 use std::alloc::Global;
 use std::process::Abort;
 use std::test::Fail;
@@ -96,7 +99,13 @@ fn catalog(alloc: Global) -> Result<Catalog, Fail>
 }
 
 // What a statement is refused with.
-fn tells(rt: &impl Abort, alloc: Global, statement: &Statement, in_block: bool, want: Option<Refusal>) -> Result<(), Fail>
+fn tells(
+    rt: &impl Abort,
+    alloc: Global,
+    statement: &Statement,
+    in_block: bool,
+    want: Option<Refusal>,
+) -> Result<(), Fail>
     requires alone { is_planned in_block statement.now ≡ false }
     requires declared { length (declared_columns statement.now) ≤ 16 }
 {
@@ -111,7 +120,13 @@ fn tells(rt: &impl Abort, alloc: Global, statement: &Statement, in_block: bool, 
     Ok(())
 }
 
-fn select(rt: &impl Abort, alloc: Global, expr: RawExpr, cond: Option<RawCond>, want: Option<Refusal>) -> Result<(), Fail> {
+fn select(
+    rt: &impl Abort,
+    alloc: Global,
+    expr: RawExpr,
+    cond: Option<RawCond>,
+    want: Option<Refusal>,
+) -> Result<(), Fail> {
     let statement = Statement::Select {
         list: Items::Exprs(Sequence::of(vec![in alloc; expr]?)),
         table: name(alloc, "t")?,
@@ -120,7 +135,12 @@ fn select(rt: &impl Abort, alloc: Global, expr: RawExpr, cond: Option<RawCond>, 
     tells(rt, alloc, &statement, false, want)
 }
 
-fn total(rt: &impl Abort, alloc: Global, total: RawAggregate, want: Option<Refusal>) -> Result<(), Fail> {
+fn total(
+    rt: &impl Abort,
+    alloc: Global,
+    total: RawAggregate,
+    want: Option<Refusal>,
+) -> Result<(), Fail> {
     let statement = Statement::Select {
         list: Items::Aggregates(Sequence::of(vec![in alloc; Aggregate::Count, total]?)),
         table: name(alloc, "t")?,
@@ -129,7 +149,13 @@ fn total(rt: &impl Abort, alloc: Global, total: RawAggregate, want: Option<Refus
     tells(rt, alloc, &statement, false, want)
 }
 
-fn update(rt: &impl Abort, alloc: Global, sets: Vec<(Name, RawExpr)>, cond: Option<RawCond>, want: Option<Refusal>) -> Result<(), Fail> {
+fn update(
+    rt: &impl Abort,
+    alloc: Global,
+    sets: Vec<(Name, RawExpr)>,
+    cond: Option<RawCond>,
+    want: Option<Refusal>,
+) -> Result<(), Fail> {
     let statement = Statement::Update {
         table: name(alloc, "t")?,
         sets: Sequence::of(sets),
@@ -138,7 +164,13 @@ fn update(rt: &impl Abort, alloc: Global, sets: Vec<(Name, RawExpr)>, cond: Opti
     tells(rt, alloc, &statement, true, want)
 }
 
-fn insert(rt: &impl Abort, alloc: Global, table: &str, tuples: Vec<Row>, want: Option<Refusal>) -> Result<(), Fail> {
+fn insert(
+    rt: &impl Abort,
+    alloc: Global,
+    table: &str,
+    tuples: Vec<Row>,
+    want: Option<Refusal>,
+) -> Result<(), Fail> {
     let statement = Statement::Insert {
         table: name(alloc, table)?,
         tuples: Sequence::of(tuples),
@@ -146,7 +178,15 @@ fn insert(rt: &impl Abort, alloc: Global, table: &str, tuples: Vec<Row>, want: O
     tells(rt, alloc, &statement, false, want)
 }
 
-fn create(rt: &impl Abort, alloc: Global, table: &str, first: ColumnForm, second: (&str, ColumnForm), key: &[&str], want: Option<Refusal>) -> Result<(), Fail> {
+fn create(
+    rt: &impl Abort,
+    alloc: Global,
+    table: &str,
+    first: ColumnForm,
+    second: (&str, ColumnForm),
+    key: &[&str],
+    want: Option<Refusal>,
+) -> Result<(), Fail> {
     let first = ColumnRule {
         name: name(alloc, "a")?,
         form: first,
@@ -163,7 +203,14 @@ fn create(rt: &impl Abort, alloc: Global, table: &str, first: ColumnForm, second
     tells(rt, alloc, &statement, false, want)
 }
 
-fn index(rt: &impl Abort, alloc: Global, index: &str, table: &str, columns: &[&str], want: Option<Refusal>) -> Result<(), Fail> {
+fn index(
+    rt: &impl Abort,
+    alloc: Global,
+    index: &str,
+    table: &str,
+    columns: &[&str],
+    want: Option<Refusal>,
+) -> Result<(), Fail> {
     let statement = Statement::CreateIndex {
         name: name(alloc, index)?,
         table: name(alloc, table)?,
@@ -200,42 +247,144 @@ fn blocks_are_judged_first(rt: HostRuntime) -> Result<(), Fail> {
 fn new_tables_are_judged_column_by_column(rt: HostRuntime) -> Result<(), Fail> {
     let alloc = rt.alloc();
     let want = Some(Refusal::TableExists(name(alloc, "t")?));
-    create(&rt, alloc, "t", ColumnForm::Varchar(0), ("a", ColumnForm::Int), &["x"], want)?;
+    create(
+        &rt,
+        alloc,
+        "t",
+        ColumnForm::Varchar(0),
+        ("a", ColumnForm::Int),
+        &["x"],
+        want,
+    )?;
     let want = Some(Refusal::TooLong);
-    create(&rt, alloc, "u", ColumnForm::Varchar(256), ("a", ColumnForm::Int), &["x"], want)?;
+    create(
+        &rt,
+        alloc,
+        "u",
+        ColumnForm::Varchar(256),
+        ("a", ColumnForm::Int),
+        &["x"],
+        want,
+    )?;
     let want = Some(Refusal::NameTwice(name(alloc, "a")?));
-    create(&rt, alloc, "u", ColumnForm::Int, ("a", ColumnForm::Varchar(0)), &["x"], want)?;
+    create(
+        &rt,
+        alloc,
+        "u",
+        ColumnForm::Int,
+        ("a", ColumnForm::Varchar(0)),
+        &["x"],
+        want,
+    )?;
     let form = ColumnForm::Checked(name(alloc, "b")?, 2, 1);
     let want = Some(Refusal::NoColumn(name(alloc, "b")?));
     create(&rt, alloc, "u", form, ("b", ColumnForm::Int), &["x"], want)?;
     let form = ColumnForm::Checked(name(alloc, "a")?, 2, 1);
-    create(&rt, alloc, "u", form, ("b", ColumnForm::Int), &["x"], Some(Refusal::OutOfRange))
+    create(
+        &rt,
+        alloc,
+        "u",
+        form,
+        ("b", ColumnForm::Int),
+        &["x"],
+        Some(Refusal::OutOfRange),
+    )
 }
 
 #[test]
 fn keys_and_indexes_name_columns_once(rt: HostRuntime) -> Result<(), Fail> {
     let alloc = rt.alloc();
     let want = Some(Refusal::NoColumn(name(alloc, "x")?));
-    create(&rt, alloc, "u", ColumnForm::Int, ("b", ColumnForm::Int), &["a", "x", "a"], want)?;
+    create(
+        &rt,
+        alloc,
+        "u",
+        ColumnForm::Int,
+        ("b", ColumnForm::Int),
+        &["a", "x", "a"],
+        want,
+    )?;
     let want = Some(Refusal::NameTwice(name(alloc, "a")?));
-    create(&rt, alloc, "u", ColumnForm::Int, ("b", ColumnForm::Int), &["a", "b", "a", "x"], want)?;
-    create(&rt, alloc, "u", ColumnForm::Varchar(255), ("b", ColumnForm::Varchar(1)), &["b", "a"], None)?;
-    index(&rt, alloc, "i", "u", &["x"], Some(Refusal::NoTable(name(alloc, "u")?)))?;
-    index(&rt, alloc, "i", "t", &["x", "a"], Some(Refusal::NoColumn(name(alloc, "x")?)))?;
-    index(&rt, alloc, "i", "t", &["a", "a"], Some(Refusal::NameTwice(name(alloc, "a")?)))?;
-    index(&rt, alloc, "i", "t", &["a"], Some(Refusal::IndexExists(name(alloc, "i")?)))?;
+    create(
+        &rt,
+        alloc,
+        "u",
+        ColumnForm::Int,
+        ("b", ColumnForm::Int),
+        &["a", "b", "a", "x"],
+        want,
+    )?;
+    create(
+        &rt,
+        alloc,
+        "u",
+        ColumnForm::Varchar(255),
+        ("b", ColumnForm::Varchar(1)),
+        &["b", "a"],
+        None,
+    )?;
+    index(
+        &rt,
+        alloc,
+        "i",
+        "u",
+        &["x"],
+        Some(Refusal::NoTable(name(alloc, "u")?)),
+    )?;
+    index(
+        &rt,
+        alloc,
+        "i",
+        "t",
+        &["x", "a"],
+        Some(Refusal::NoColumn(name(alloc, "x")?)),
+    )?;
+    index(
+        &rt,
+        alloc,
+        "i",
+        "t",
+        &["a", "a"],
+        Some(Refusal::NameTwice(name(alloc, "a")?)),
+    )?;
+    index(
+        &rt,
+        alloc,
+        "i",
+        "t",
+        &["a"],
+        Some(Refusal::IndexExists(name(alloc, "i")?)),
+    )?;
     index(&rt, alloc, "j", "t", &["a"], None)
 }
 
 #[test]
 fn tuples_are_judged_from_the_left(rt: HostRuntime) -> Result<(), Fail> {
     let alloc = rt.alloc();
-    insert(&rt, alloc, "u", Vec::new(alloc), Some(Refusal::NoTable(name(alloc, "u")?)))?;
+    insert(
+        &rt,
+        alloc,
+        "u",
+        Vec::new(alloc),
+        Some(Refusal::NoTable(name(alloc, "u")?)),
+    )?;
     let short = Row::of(vec![in alloc; text(alloc, "x")?]?);
     let mixed = Row::of(vec![in alloc; Value::Int(1), Value::Int(1), Value::Int(1)]?);
     let long = Row::of(vec![in alloc; Value::Int(1), text(alloc, "abcd")?, Value::Int(10)]?);
-    insert(&rt, alloc, "t", vec![in alloc; short.copy(alloc)?, mixed.copy(alloc)?]?, Some(Refusal::WrongCount))?;
-    insert(&rt, alloc, "t", vec![in alloc; mixed, short]?, Some(Refusal::TypeMismatch))?;
+    insert(
+        &rt,
+        alloc,
+        "t",
+        vec![in alloc; short.copy(alloc)?, mixed.copy(alloc)?]?,
+        Some(Refusal::WrongCount),
+    )?;
+    insert(
+        &rt,
+        alloc,
+        "t",
+        vec![in alloc; mixed, short]?,
+        Some(Refusal::TypeMismatch),
+    )?;
     insert(&rt, alloc, "t", vec![in alloc; long]?, None)
 }
 
@@ -247,14 +396,35 @@ fn expressions_are_judged_after_their_parts(rt: HostRuntime) -> Result<(), Fail>
     select(&rt, alloc, reference(alloc, "t", "x")?, Some(wrong), want)?;
     let want = Some(Refusal::NoTable(name(alloc, "u")?));
     select(&rt, alloc, reference(alloc, "u", "x")?, None, want)?;
-    let mixed = sum(alloc, reference(alloc, "", "s")?, reference(alloc, "", "x")?)?;
-    select(&rt, alloc, mixed, None, Some(Refusal::NoColumn(name(alloc, "x")?)))?;
+    let mixed = sum(
+        alloc,
+        reference(alloc, "", "s")?,
+        reference(alloc, "", "x")?,
+    )?;
+    select(
+        &rt,
+        alloc,
+        mixed,
+        None,
+        Some(Refusal::NoColumn(name(alloc, "x")?)),
+    )?;
     let inner = sum(alloc, reference(alloc, "t", "s")?, number(1))?;
     let mixed = sum(alloc, inner, reference(alloc, "", "x")?)?;
     select(&rt, alloc, mixed, None, Some(Refusal::TypeMismatch))?;
     let kinds = equal(reference(alloc, "", "n")?, words(alloc, "x")?);
-    select(&rt, alloc, number(1), Some(kinds), Some(Refusal::TypeMismatch))?;
-    total(&rt, alloc, Aggregate::Sum(reference(alloc, "", "s")?), Some(Refusal::TypeMismatch))?;
+    select(
+        &rt,
+        alloc,
+        number(1),
+        Some(kinds),
+        Some(Refusal::TypeMismatch),
+    )?;
+    total(
+        &rt,
+        alloc,
+        Aggregate::Sum(reference(alloc, "", "s")?),
+        Some(Refusal::TypeMismatch),
+    )?;
     total(&rt, alloc, Aggregate::Min(reference(alloc, "", "s")?), None)
 }
 
@@ -262,17 +432,44 @@ fn expressions_are_judged_after_their_parts(rt: HostRuntime) -> Result<(), Fail>
 fn sets_are_judged_name_first(rt: HostRuntime) -> Result<(), Fail> {
     let alloc = rt.alloc();
     let sets = vec![in alloc; (name(alloc, "x")?, reference(alloc, "", "y")?)]?;
-    update(&rt, alloc, sets, None, Some(Refusal::NoColumn(name(alloc, "x")?)))?;
+    update(
+        &rt,
+        alloc,
+        sets,
+        None,
+        Some(Refusal::NoColumn(name(alloc, "x")?)),
+    )?;
     let sets = vec![in alloc; (name(alloc, "a")?, reference(alloc, "", "y")?)]?;
-    update(&rt, alloc, sets, None, Some(Refusal::KeyColumn(name(alloc, "a")?)))?;
-    let sets = vec![in alloc; (name(alloc, "n")?, number(1)), (name(alloc, "n")?, reference(alloc, "", "y")?)]?;
-    update(&rt, alloc, sets, None, Some(Refusal::NameTwice(name(alloc, "n")?)))?;
+    update(
+        &rt,
+        alloc,
+        sets,
+        None,
+        Some(Refusal::KeyColumn(name(alloc, "a")?)),
+    )?;
+    let sets = vec![in alloc;
+        (name(alloc, "n")?, number(1)),
+        (name(alloc, "n")?, reference(alloc, "", "y")?),
+    ]?;
+    update(
+        &rt,
+        alloc,
+        sets,
+        None,
+        Some(Refusal::NameTwice(name(alloc, "n")?)),
+    )?;
     let wrong = equal(number(1), reference(alloc, "", "y")?);
     let sets = vec![in alloc; (name(alloc, "s")?, number(1))]?;
     update(&rt, alloc, sets, Some(wrong), Some(Refusal::TypeMismatch))?;
     let wrong = equal(number(1), reference(alloc, "", "y")?);
     let sets = vec![in alloc; (name(alloc, "n")?, reference(alloc, "", "a")?)]?;
-    update(&rt, alloc, sets, Some(wrong), Some(Refusal::NoColumn(name(alloc, "y")?)))
+    update(
+        &rt,
+        alloc,
+        sets,
+        Some(wrong),
+        Some(Refusal::NoColumn(name(alloc, "y")?)),
+    )
 }
 
 // The key that DELETE FROM t with a condition fixes.
