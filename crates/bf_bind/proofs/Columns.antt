@@ -1,5 +1,5 @@
 -- The columns that refs and names mean.
-use Rattle.std.proofs.Common.{◌≡◌, ℕ, zero, suc, ◌+◌, ◌<◌, ◌≤◌, Bool, true, false, not, cond, ◌&&◌, ◌||◌, List, [], ◌∷◌, ◌++◌, map, filter, length, get_or, drop, slice_range, Option, Some, None, is_some, position, ltb, eqb, refl, sym, ap, ◌∙◌, inl, inr, arith, add-zero, zero-add}
+use Rattle.std.proofs.Common.{◌≡◌, ℕ, zero, suc, ◌+◌, ◌<◌, ◌≤◌, Bool, true, false, ◌&&◌, List, [], ◌∷◌, map, filter, length, get_or, drop, slice_range, Some, None, is_some, position, ltb, eqb, refl, sym, ap, ◌∙◌, inl, inr, arith, add-zero, zero-add}
 use borrow.Author.Tests.{tests}
 use Rattle.std.specs.List.{list_any, enumerate_from, position_from}
 use Rattle.std.proofs.lemmas.Bool.{cases_Bool}

@@ -1,5 +1,5 @@
 -- The objections to a new table, whose key names its columns.
-use Rattle.std.proofs.Common.{◌≡◌, ℕ, Bool, false, List, [], ◌∷◌, ◌++◌, map, Option, Some, None, is_some, option_map}
+use Rattle.std.proofs.Common.{◌≡◌, ℕ, false, List, [], map, Option, Some, None, is_some, option_map}
 use Rattle.std.specs.Borrow.{Bor}
 use Rattle.std.specs.Option.{option_copied}
 use Rattle.std.proofs.lemmas.Simd.{map-map}

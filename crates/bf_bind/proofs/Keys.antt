@@ -1,7 +1,7 @@
 -- The key that a condition fixes, column by column.
 use Rattle.std.proofs.Common.{◌≡◌, ℕ, ◌+◌, ◌<◌, List, [], ◌∷◌, ◌++◌, map, length, get_or, drop, slice_get, Option, Some, None, refl}
 use Rattle.std.specs.List.{cons_option, filter_map}
-use Rattle.std.specs.Option.{option_map, option_and_then}
+use Rattle.std.specs.Option.{option_map}
 use Rattle.std.proofs.lemmas.List.{append_assoc, drop_more}
 use Rattle.bf_base.specs.declared.value.Value.{Value}
 use Rattle.bf_expr.specs.Trees.{Cond, both}

@@ -18,7 +18,7 @@ use Rattle.bf_sql.specs.declared.catalog.IndexRule.{IndexRule}
 use Rattle.bf_sql.specs.declared.items.Items.{Items}
 use Rattle.bf_sql.specs.declared.migration.Migrate.{Migrate as MigrateTree}
 use Rattle.bf_sql.specs.declared.reply.Refusal.{Refusal}
-use Rattle.bf_sql.specs.declared.reply.Refusal.TheVariants.{InTransaction, MustBeAlone, NoTable, NoTransaction}
+use Rattle.bf_sql.specs.declared.reply.Refusal.TheVariants.{MustBeAlone, NoTable}
 use Rattle.bf_sql.specs.declared.statement.ColumnRule.{ColumnRule}
 use Rattle.bf_sql.specs.declared.statement.Statement.{Statement}
 use Rattle.bf_sql.specs.declared.statement.Statement.TheVariants.{CreateTable, CreateIndex, Insert, Select, Update, Delete, Begin, Commit, Rollback, Migrate}

@@ -1,5 +1,5 @@
 -- Tuples, whose values are of their columns' kinds.
-use Rattle.std.proofs.Common.{◌≡◌, Bool, true, false, not, cond, List, [], ◌∷◌, ◌++◌, length, eqb, eq-eqb, slice_get, Some, refl, inl, inr}
+use Rattle.std.proofs.Common.{◌≡◌, true, false, List, [], ◌∷◌, length, eqb, eq-eqb, slice_get, Some, refl, inl, inr}
 use Rattle.std.specs.List.{flat_map, list_all, zip}
 use Rattle.std.proofs.lemmas.Bool.{cases_Bool}
 use Rattle.bf_base.specs.declared.table.Column.{Column}

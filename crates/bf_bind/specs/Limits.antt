@@ -1,11 +1,11 @@
 -- What a caller of `bind` keeps to.
-use Rattle.std.specs.Prelude.{ℕ, ◌≤◌, Bool, true, false, List, [], length, nat_le, IsTrue}
+use Rattle.std.specs.Prelude.{◌≤◌, Bool, true, false, List, [], length, nat_le, IsTrue}
 use Rattle.std.specs.List.{list_all}
 use Rattle.bf_base.specs.declared.table.Table.{Table}
 use Rattle.bf_sql.specs.declared.catalog.Catalog.{Catalog}
 use Rattle.bf_sql.specs.declared.statement.ColumnRule.{ColumnRule}
 use Rattle.bf_sql.specs.declared.statement.Statement.{Statement}
-use Rattle.bf_sql.specs.declared.statement.Statement.TheVariants.{CreateTable, CreateIndex, Insert, Select, Update, Delete, Begin, Commit, Rollback, Migrate}
+use Rattle.bf_sql.specs.declared.statement.Statement.TheVariants.{CreateTable, Migrate}
 use Rattle.bf_sql.specs.Database.{Stored}
 
 -- a MIGRATE outside a block is planned, and not bound

@@ -1,5 +1,4 @@
 use Rattle.bf_sql.specs.Bound.{bare}
-use Rattle.bf_sql.specs.declared.bound.Action.TheVariants as action
 use Rattle.bf_bind.proofs.Statements.{bound_of-refused, bound_of-unobjected}
 use Rattle.bf_bind.proofs.binding.bind.Goals as goal
 

@@ -1,4 +1,3 @@
-use Rattle.std.proofs.Common.{◌≡◌, ◌<◌, length, get_or}
 use Rattle.std.proofs.lemmas.Result.{err_from_is_err_and}
 use Rattle.bf_sql.specs.Objections.{tuple_objections}
 use Rattle.bf_bind.proofs.Walks.{pass_stops}

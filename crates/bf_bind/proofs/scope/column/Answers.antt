@@ -1,7 +1,5 @@
-use Rattle.std.proofs.Common.{◌≡◌, ◌+◌, [], ◌∷◌, Bool, true, false, List, length, position, slice_get, slice_range, Some, None, ap, sym, ◌∙◌}
+use Rattle.std.proofs.Common.{◌≡◌, ◌+◌, true, false, length, position, slice_range, None, sym}
 use Rattle.std.specs.List.{list_any}
-use Rattle.bf_sql.specs.Scopes.{ref_objections, scope_of}
-use Rattle.bf_sql.specs.declared.reply.Refusal.TheVariants as refusal
 use Rattle.bf_bind.specs.Parts.{means}
 use Rattle.bf_bind.specs.Stops.{Stops}
 use Rattle.bf_bind.proofs.Columns.{no_column, meant_once, meant_twice, column_of-at}

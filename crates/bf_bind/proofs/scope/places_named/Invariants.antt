@@ -1,4 +1,4 @@
-use Rattle.std.proofs.Common.{◌≡◌, map, take}
+use Rattle.std.proofs.Common.{◌≡◌, take}
 use Rattle.bf_sql.specs.Meaning.{named_places}
 use Rattle.bf_bind.specs.Parts.{name_objections}
 use Rattle.bf_bind.proofs.Walks.{all, left_behind}
