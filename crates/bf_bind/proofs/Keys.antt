@@ -1,8 +1,7 @@
 -- The key that a condition fixes, column by column.
-use Rattle.std.proofs.Common.{◌≡◌, ℕ, ◌+◌, ◌<◌, List, [], ◌∷◌, ◌++◌, map, length, get_or, drop, slice_get, Option, Some, None, refl}
+use Rattle.std.proofs.Common.{◌≡◌, ℕ, List, [], ◌∷◌, ◌++◌, map, slice_get, Option, Some, None, refl}
 use Rattle.std.specs.List.{cons_option, filter_map}
 use Rattle.std.specs.Option.{option_map}
-use Rattle.std.proofs.lemmas.List.{append_assoc, drop_more}
 use Rattle.bf_base.specs.declared.value.Value.{Value}
 use Rattle.bf_expr.specs.Trees.{Cond, both}
 use Rattle.bf_sql.specs.Conditions.{all_there, conjuncts, value_fixed}
@@ -33,21 +32,3 @@ first_fixed-right c d place e = rw (filter_map-append (value_fixed place) (conju
 -- the values so far and those that the rest of the key is fixed to, if it is
 abbrev pub with_fixed : Cond ℕ → List Value → List ℕ → Option (List Value)
 with_fixed condition values places = option_map (λ vs. values ++ vs) (all_there (map (first_fixed condition) places))
-
-option_map_same : {X : Type 0} (o : Option X) → o ≡ option_map (λ x. x) o
-option_map_same None = refl
-option_map_same (Some x) = refl
-
-pub with_fixed-none : (condition : Cond ℕ) (places : List ℕ) → all_there (map (first_fixed condition) places) ≡ with_fixed condition [] places
-with_fixed-none condition places = option_map_same _
-
-appended : (values : List Value) (v : Value) (o : Option (List Value)) → option_map (λ vs. values ++ vs) (option_map (λ vs. v ∷ vs) o) ≡ option_map (λ vs. (values ++ v ∷ []) ++ vs) o
-appended values v None = refl
-appended values v (Some vs) = rw append_assoc
-
-module _ (condition : Cond ℕ) (values : List Value) (key : List ℕ) (i place : ℕ) (in_range : i < length key) (is : place ≡ get_or key i place) where
-  pub with_fixed-some : (v : Value) → first_fixed condition place ≡ Some v → with_fixed condition values (drop i key) ≡ with_fixed condition (values ++ v ∷ []) (drop (i + 1) key)
-  with_fixed-some v e = rw (drop_more key i place in_range, ← is, e) (appended values v (all_there (map (first_fixed condition) (drop (i + 1) key))))
-
-  pub with_fixed-open : first_fixed condition place ≡ None → with_fixed condition values (drop i key) ≡ None
-  with_fixed-open e = rw (drop_more key i place in_range, ← is, e)

@@ -1,7 +1,7 @@
 -- The first of some objections, and walks over lists that stop at it.
-use Rattle.std.proofs.Common.{◌≡◌, ℕ, ◌+◌, ◌≤◌, ◌<◌, List, [], ◌∷◌, ◌++◌, length, get_or, take, drop, slice_get, Some, sym, ◌∙◌, subst}
+use Rattle.std.proofs.Common.{◌≡◌, ℕ, ◌+◌, ◌<◌, List, [], ◌∷◌, ◌++◌, length, get_or, take, drop, slice_get, Some, sym, ◌∙◌, subst}
 use Rattle.std.specs.List.{flat_map}
-use Rattle.std.proofs.lemmas.List.{drop_all, drop_more, take_more}
+use Rattle.std.proofs.lemmas.List.{drop_more, take_more}
 use Rattle.bf_base.specs.Lists.{with_before, with_before_from}
 use Rattle.bf_sql.specs.declared.reply.Refusal.{Refusal}
 use Rattle.bf_bind.specs.declared.stop.Stop.{Stop}
@@ -42,14 +42,6 @@ module _ {X : Type 0} (f : List X × X → List Refusal) (xs : List X) where
         let here : Stops stop (f (take i xs, x)) = rw (← same) h in
         subst (Stops stop) (sym (so_far ∙ left_more i x in_range is)) (stops_before stop (f (take i xs, x)) (left_behind (i + 1)) here)
 
-    pub walk_goes : (x : X) (before : List X) → i < length xs → x ≡ get_or xs i x → before ≡ take i xs → f (before, x) ≡ [] → all ≡ left_behind (i + 1)
-    walk_goes x before in_range is same none =
-        let here : f (take i xs, x) ≡ [] = rw (← same) none in
-        so_far ∙ rw here at (left_more i x in_range is)
-
-    pub walk_ends : length xs ≤ i → all ≡ []
-    walk_ends past = so_far ∙ rw (drop_all i xs past)
-
 module _ {X : Type 0} (f : X → List Refusal) (xs : List X) where
   abbrev pub left_from : ℕ → List Refusal
   left_from i = flat_map f (drop i xs)
@@ -61,9 +53,3 @@ module _ {X : Type 0} (f : X → List Refusal) (xs : List X) where
     pub pass_stops : (stop : Stop) (x : X) → i < length xs → x ≡ get_or xs i x → Stops stop (f x) → Stops stop (flat_map f xs)
     pass_stops stop x in_range is h =
         subst (Stops stop) (sym (so_far ∙ left_from_more i x in_range is)) (stops_before stop (f x) (left_from (i + 1)) h)
-
-    pub pass_goes : (x : X) → i < length xs → x ≡ get_or xs i x → f x ≡ [] → flat_map f xs ≡ left_from (i + 1)
-    pass_goes x in_range is none = so_far ∙ rw none at (left_from_more i x in_range is)
-
-    pub pass_ends : length xs ≤ i → flat_map f xs ≡ []
-    pass_ends past = so_far ∙ rw (drop_all i xs past)
