@@ -10,7 +10,7 @@ use Rattle.bf_base.specs.declared.value.Value.{Value}
 use Rattle.bf_base.specs.Values.{key_cmp, key_cmp_total}
 use Rattle.bf_base.specs.Maps.{is_map}
 use Rattle.bf_base.proofs.Maps.{IsGap, entry_at-found, entry_at-gap, with_entry-found, with_entry-gap, without_key-found, without_key-gap, is_map-with_entry, is_map-without_key, map-insert, map-remove, tie_in_boxes, gap_in_boxes}
-use Rattle.bf_heap.specs.Heaps.{Entry, Rows, key_of_entry, row_under, has_row, with_row, without_row, spare_after}
+use Rattle.bf_heap.specs.Heaps.{Entry, Rows, key_of_entry, row_under, has_row, with_row, without_row, spare_after, spare_without}
 use Rattle.bf_heap.specs.Room.{IsKept}
 
 -- a put of a key that is there leaves the room
@@ -20,6 +20,13 @@ left_for heap key row found = rw found refl
 -- a put of a new key takes one box of it
 taken_for : (heap : Rows) (key : List Value) (spare : ℕ) → row_under heap.entries key ≡ None → spare + 1 ≡ heap.spare → spare ≡ spare_after heap key
 taken_for heap key spare none one_less = rw none (omega arith)
+
+-- a row that is taken out leaves one more box, and a key that is not there leaves the room
+returned_for : (heap : Rows) (key row : List Value) (spare : ℕ) → row_under heap.entries key ≡ Some row → spare ≡ heap.spare + 1 → spare ≡ spare_without heap key
+returned_for heap key row spare found one_more = rw found one_more
+
+kept_for : (heap : Rows) (key : List Value) → row_under heap.entries key ≡ None → heap.spare ≡ spare_without heap key
+kept_for heap key none = rw none refl
 
 -- where a key is there or there is room, there is room for a new key
 room_for : (heap : Rows) (key : List Value) → IsTrue (has_row heap.entries key) ⊎ (0 < heap.spare) → row_under heap.entries key ≡ None → 0 < heap.spare
@@ -94,6 +101,10 @@ module _ {B : Type 0} (opened : B → Entry) (boxes : List B) (spare entries_cap
         (subst (λ entries. is_map key_cmp key_of_entry entries ≡ true) (sym (removed left is)) in_order)
         (omega (arith, length-map boxes opened, length-map left opened, ap length is, length-remove boxes place in_boxes)) entries_fit spare_fit
 
+    pub spare_returned : (box : B) (more : ℕ) → box ≡ get_or boxes place box → more ≡ spare + 1 → more ≡ spare_without heap key
+    spare_returned box more is one_more =
+        returned_for heap key (opened box).1 more (row_found box is) (one_more ∙ ap (λ (heap : Rows). heap.spare + 1) view_is)
+
   -- the search has found where the entry of the key goes
   module _ (within_shown : place ≤ length shown)
       (parted : IsNonDecreasingBy (λ b. ordering_index (key_cmp (opened b).0 key)) shown → IsPartitionPoint (λ b. key_cmp (opened b).0 key ≡ Less) (λ b. key_cmp (opened b).0 key ≡ Greater) shown place) where
@@ -132,6 +143,9 @@ module _ {B : Type 0} (opened : B → Entry) (boxes : List B) (spare entries_cap
         kept_by old _ left _ _ _ _ kept
         (subst (λ entries. is_map key_cmp key_of_entry entries ≡ true) (sym (inserted more box row is entry)) in_order)
         (omega (arith, length-map boxes opened, length-map more opened, ap length is, length-insert boxes place box within_boxes)) entries_fit spare_fit
+
+    pub spare_kept : heap.spare ≡ spare_without heap key
+    spare_kept = kept_for heap key no_row
 
     pub nothing_removed : heap.entries ≡ without_row heap.entries key
     nothing_removed = subst (λ (heap : Rows). heap.entries ≡ without_row heap.entries key) view_is (sym (without_key-gap key_cmp_total key_of_entry (map opened boxes) place key gap))

@@ -1,10 +1,10 @@
 //! A sorted list of rows under their keys.
 
-ghost use Rattle.std.specs.Prelude.{◌≡◌, ◌+◌, ◌<◌, ◌≤◌, ◌⊎◌, IsTrue, OnOk, OnErr, length, slice_get, vec_len, vec_capacity};
+ghost use Rattle.std.specs.Prelude.{◌≡◌, ◌↔◌, [], ◌+◌, ◌<◌, ◌≤◌, ◌⊎◌, IsTrue, OnOk, OnErr, length, slice_get, vec_len, vec_capacity};
 ghost use Rattle.std.specs.List.Sorted.{IsBinarySearchResult, IsSearchInRange};
 ghost use Rattle.std.specs.Option.{option_map};
 ghost use Rattle.bf_base.specs.Values.{key_cmp};
-ghost use Rattle.bf_heap.specs.Heaps.{empty_heap, row_under, has_row, with_row, without_row, spare_after};
+ghost use Rattle.bf_heap.specs.Heaps.{empty_heap, row_under, has_row, with_row, without_row, spare_after, spare_without};
 
 use bf_base::{Key, Memory, Row};
 use std::alloc::Global;
@@ -100,6 +100,13 @@ impl Heap {
         self.entries.len() as u32
     }
 
+    /// Whether there is no row. Takes no memory.
+    pub fn is_empty(&self) -> bool
+        ensures { IsTrue result ↔ (self.now.entries ≡ []) }
+    {
+        self.entries.is_empty()
+    }
+
     /// The row under a key, and `None` exactly where there is none. It compares about log n keys,
     /// and takes no memory.
     pub fn get(&self, key: &Key) -> Option<&Row>
@@ -123,14 +130,15 @@ impl Heap {
     /// Makes room for this many further rows.
     ///
     /// # Errors
-    /// Where memory runs out, or where rows and room together would reach 2 ^ 32. The heap is as
-    /// it was then.
+    /// Where there is less room and memory runs out, or rows and room together would reach 2 ^ 32.
+    /// The heap is as it was then.
     pub fn reserve(&mut self, more: u32) -> Result<(), Memory>
         ensures rows { self.new.entries ≡ self.old.entries }
         ensures room { OnOk result (more ≤ self.new.spare) }
         // Room that is there stays.
         ensures kept { self.old.spare ≤ self.new.spare }
         ensures err { OnErr result (self.new ≡ self.old) }
+        ensures scarce { OnErr result (self.old.spare < more) }
     {
         let more = more as usize;
         let there = self.spare.len();
@@ -173,7 +181,7 @@ impl Heap {
     pub fn remove(&mut self, key: &Key) -> Option<Row>
         ensures former { result ≡ row_under self.old.entries key.now }
         ensures entries { self.new.entries ≡ without_row self.old.entries key.now }
-        ensures spare { self.old.spare ≤ self.new.spare }
+        ensures spare { self.new.spare ≡ spare_without self.old key.now }
     {
         match find(&self.entries, key) {
             Ok(place) => {

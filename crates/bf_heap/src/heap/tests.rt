@@ -141,7 +141,9 @@ fn reserves_up_to_the_limit(rt: HostRuntime) -> Result<(), Fail> {
         heap.reserve(more)?;
         assert_eq!(rt; heap.spare.len(), room);
     }
+    assert!(rt; heap.is_empty());
     assert_eq!(rt; put(alloc, &mut heap, &[Number(1)], 1)?, None);
+    assert!(rt; !heap.is_empty());
     assert!(rt; heap.reserve(u32::MAX).is_err());
     assert_eq!(rt; (heap.len(), heap.spare.len()), (1, 4));
     Ok(())
