@@ -9,6 +9,8 @@ use Rattle.bf_expr.specs.declared.tree.Test.{Test}
 use Rattle.bf_expr.specs.declared.tree.Test.TheVariants as test
 use Rattle.bf_expr.specs.declared.raw.RawNode.{RawNode}
 use Rattle.bf_expr.specs.declared.raw.RawNode.TheVariants as raw
+use Rattle.bf_expr.specs.declared.raw.Operand.{Operand}
+use Rattle.bf_expr.specs.declared.raw.Operand.TheVariants as operand
 use Rattle.bf_expr.specs.declared.raw.RawTest.{RawTest}
 use Rattle.bf_expr.specs.declared.raw.RawTest.TheVariants as rawtest
 
@@ -38,10 +40,14 @@ raw_tree (raw.Sub a b) = trees.minus a.value b.value
 raw_tree (raw.Mul a b) = trees.times a.value b.value
 raw_tree (raw.Concat a b) = trees.joined a.value b.value
 
+-- an operand is a literal or a column
+abbrev pub operand_tree : Operand → Tree Ref
+operand_tree (operand.Value v) = trees.literal v
+operand_tree (operand.Column r) = trees.column r
+
 abbrev pub raw_cond : RawTest → CondTree Ref
-raw_cond rawtest.Always = trees.always
-raw_cond (rawtest.Compare op a b) = trees.compared op a b
-raw_cond (rawtest.Between a b c) = trees.between a b c
+raw_cond (rawtest.Compare op a b) = trees.compared op (operand_tree a) (operand_tree b)
+raw_cond (rawtest.Between a b c) = trees.between (operand_tree a) (operand_tree b) (operand_tree c)
 raw_cond (rawtest.Not c) = trees.opposite c.value
 raw_cond (rawtest.And c d) = trees.both c.value d.value
 raw_cond (rawtest.Or c d) = trees.either c.value d.value

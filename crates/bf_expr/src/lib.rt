@@ -11,5 +11,5 @@ pub mod tree;
 
 pub use compare::Compare;
 pub use evaluation::{Fail, holds, value};
-pub use raw::{RawCond, RawExpr, RawNode, RawTest, Ref};
+pub use raw::{Operand, RawCond, RawExpr, RawNode, RawTest, Ref};
 pub use tree::{Cond, Expr, Node, Test};

@@ -15,6 +15,7 @@ pub struct Ref {
     pub column: Name,
 }
 
+/// An expression, as its topmost node.
 #[derive(Drop)]
 #[cycle(raw_expr)]
 pub struct RawExpr {
@@ -55,6 +56,14 @@ impl Model for RawExpr {
     ghost size_decreases = { λ a h. Prim.grind (arith) };
 }
 
+/// What a condition compares.
+#[derive(Debug, Drop, PartialEq, Eq)]
+pub enum Operand {
+    Value(Value),
+    Column(Ref),
+}
+
+/// A condition, as its topmost test.
 #[derive(Drop)]
 #[cycle(raw_cond)]
 pub struct RawCond {
@@ -64,9 +73,9 @@ pub struct RawCond {
 #[derive(Drop)]
 #[cycle(raw_cond)]
 pub enum RawTest {
-    Always,
-    Compare(Compare, RawExpr, RawExpr),
-    Between(RawExpr, RawExpr, RawExpr),
+    Compare(Compare, Operand, Operand),
+    /// The first from the second to the third, both included.
+    Between(Operand, Operand, Operand),
     Not(Box<RawCond>),
     And(Box<RawCond>, Box<RawCond>),
     Or(Box<RawCond>, Box<RawCond>),
@@ -116,6 +125,18 @@ impl Ref {
 impl TryClone for Ref {
     fn try_clone(&self, alloc: Global) -> Result<Ref, Memory> {
         self.copy(alloc)
+    }
+}
+
+impl Operand {
+    /// An equal operand.
+    pub fn copy(&self, alloc: Global) -> Result<Operand, Memory>
+        ensures { IfOk result (λ copy. copy ≡ self.now) }
+    {
+        match self {
+            Operand::Value(value) => Ok(Operand::Value(value.copy(alloc)?)),
+            Operand::Column(column) => Ok(Operand::Column(column.copy(alloc)?)),
+        }
     }
 }
 
@@ -188,7 +209,6 @@ impl RawCond {
         ensures { IfOk result (λ copy. copy ≡ self.now) }
     {
         match &self.node {
-            RawTest::Always => Ok(RawCond::of(RawTest::Always)),
             RawTest::Compare(op, a, b) => Ok(RawCond::of(RawTest::Compare(
                 *op,
                 a.copy(alloc)?,

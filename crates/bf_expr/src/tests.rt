@@ -3,7 +3,7 @@
 
 use crate::compare::Compare;
 use crate::evaluation::{self, holds, value};
-use crate::raw::{RawCond, RawExpr, RawNode, RawTest, Ref};
+use crate::raw::{Operand, RawCond, RawExpr, RawNode, RawTest, Ref};
 use crate::tree::{Cond, Expr, Node, Test};
 use bf_base::{Name, Row, Text, Value};
 use std::alloc::{AllocError, Global};
@@ -466,10 +466,10 @@ fn copies_conditions(rt: HostRuntime) -> Result<(), Fail> {
     Ok(())
 }
 
-fn reference(alloc: Global) -> Result<RawExpr, Fail> {
+fn reference(alloc: Global) -> Result<Ref, Fail> {
     let table = Some(Name::of(alloc, b"orders")?);
     let column = Name::of(alloc, b"id")?;
-    Ok(RawExpr::of(RawNode::Column(Ref { table, column })))
+    Ok(Ref { table, column })
 }
 
 fn same_raw(a: &RawExpr, b: &RawExpr) -> bool {
@@ -481,18 +481,29 @@ fn same_raw(a: &RawExpr, b: &RawExpr) -> bool {
 }
 
 #[test]
-fn copies_raw_trees(rt: HostRuntime) -> Result<(), Fail> {
+fn copies_raw_expressions(rt: HostRuntime) -> Result<(), Fail> {
     let alloc = rt.alloc();
-    let column = Box::new(alloc, reference(alloc)?)?;
-    let expr = RawExpr::of(RawNode::Neg(column));
-    let copy = expr.copy(alloc)?;
-    assert!(rt; same_raw(&copy, &expr));
-    let cond = RawCond::of(RawTest::Compare(Compare::Less, copy, expr));
-    assert!(rt;
-        matches!(
-            cond.copy(alloc)?.node(),
-            RawTest::Compare(Compare::Less, _, _)
-        )
+    let column = RawExpr::of(RawNode::Column(reference(alloc)?));
+    let expr = RawExpr::of(RawNode::Neg(Box::new(alloc, column)?));
+    assert!(rt; same_raw(&expr.copy(alloc)?, &expr));
+    Ok(())
+}
+
+fn is_less(cond: &RawCond, left: &Operand, right: &Operand) -> bool {
+    match cond.node() {
+        RawTest::Compare(Compare::Less, a, b) => a == left && b == right,
+        _ => false,
+    }
+}
+
+#[test]
+fn copies_raw_conditions(rt: HostRuntime) -> Result<(), Fail> {
+    let alloc = rt.alloc();
+    let (left, right) = (
+        Operand::Column(reference(alloc)?),
+        Operand::Value(Value::Int(7)),
     );
+    let cond = RawCond::of(RawTest::Compare(Compare::Less, left.copy(alloc)?, right.copy(alloc)?));
+    assert!(rt; is_less(&cond.copy(alloc)?, &left, &right));
     Ok(())
 }

@@ -8,6 +8,7 @@ use bf_base::{Memory, TryClone, Value};
 use std::alloc::Global;
 use std::marker::Model;
 
+/// An expression, as its topmost node.
 #[derive(Drop)]
 #[cycle(expr)]
 pub struct Expr {
@@ -18,6 +19,7 @@ pub struct Expr {
 #[cycle(expr)]
 pub enum Node {
     Value(Value),
+    /// By its place in the row, counted from 0.
     Column(u8),
     Neg(Box<Expr>),
     Add(Box<Expr>, Box<Expr>),
@@ -47,6 +49,7 @@ impl Model for Expr {
     ghost size_decreases = { λ a h. Prim.grind (arith) };
 }
 
+/// A condition, as its topmost test.
 #[derive(Drop)]
 #[cycle(cond)]
 pub struct Cond {
@@ -56,8 +59,10 @@ pub struct Cond {
 #[derive(Drop)]
 #[cycle(cond)]
 pub enum Test {
+    /// True of each row.
     Always,
     Compare(Compare, Expr, Expr),
+    /// The first from the second to the third, both included.
     Between(Expr, Expr, Expr),
     Not(Box<Cond>),
     And(Box<Cond>, Box<Cond>),
