@@ -1,0 +1,13 @@
+pub mod Answering
+pub mod Creating
+pub mod Flipping
+pub mod Inserting
+pub mod Legal
+pub mod Marked
+pub mod Named
+pub mod Needing
+pub mod Places
+pub mod Placing
+pub mod Plotted
+pub mod Sweeping
+pub mod Tied

@@ -1,0 +1,5 @@
+pub mod Engine
+pub mod Marks
+pub mod Run
+pub mod Serving
+pub mod Widened
