@@ -1,0 +1,9 @@
+//! The committed tables: a catalog, and the rows of each of its tables in a heap.
+#![tactic(auto)]
+
+pub mod laws;
+pub mod store;
+#[cfg(test)]
+mod tests;
+
+pub use store::Store;

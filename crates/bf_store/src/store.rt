@@ -1,0 +1,97 @@
+//! The store.
+
+ghost use Rattle.std.specs.Prelude.{◌≡◌, [], ◌∷◌, None, OnErr, OnOk};
+ghost use Rattle.std.specs.List.{All};
+ghost use Rattle.std.specs.Option.{option_map};
+ghost use Rattle.bf_query.specs.Meanings.{entries_of};
+ghost use Rattle.bf_query.specs.Merged.{StandUnderOwnKeys};
+ghost use Rattle.bf_sql.specs.Database.{IsDatabase, empty_database, stored_at, stored_in_order, with_tables};
+ghost use Rattle.bf_sql.specs.Meaning.{next_number, with_index};
+ghost use Rattle.bf_store.specs.Stores.{catalog_of, committed};
+
+use bf_base::{Memory, Name, Table};
+use bf_heap::Heap;
+use bf_sql::{Catalog, IndexRule};
+use bf_txn::Workspace;
+use std::alloc::Global;
+use std::marker::Model;
+
+/// The committed tables. Contracts see the database that they are.
+#[derive(Drop)]
+pub struct Store {
+    catalog: Catalog,
+    /// For each table of the catalog, in its order, the rows.
+    heaps: Vec<Heap>,
+}
+
+impl Model for Store {
+    ghost use Rattle.bf_sql.specs.Database.{Database};
+
+    ghost use Rattle.bf_store.specs.Stores.{IsStore, database_of};
+
+    ghost Value = { Database };
+
+    ghost view = { λ store. database_of store.catalog store.heaps.items };
+
+    ghost invariant = { λ store. IsStore store.catalog store.heaps.items };
+}
+
+impl Store {
+    /// The store of the empty database. Takes no memory.
+    pub fn new(alloc: Global) -> Store
+        ensures { result ≡ empty_database }
+    {
+    }
+
+    /// The catalog. Takes no memory.
+    pub fn catalog(&self) -> &Catalog
+        ensures catalog { result.now ≡ catalog_of self.now }
+        ensures database { IsDatabase self.now }
+    {
+    }
+
+    /// The rows of the table of a name, each under its key, and `None` exactly where no table has
+    /// the name. It compares about log n names, and takes no memory.
+    pub fn heap(&self, table: &Name) -> Option<&Heap>
+        ensures { option_map (λ heap. heap.now.entries) result ≡ option_map (λ s. entries_of s.table s.rows) (stored_at self.now table.now) }
+    {
+    }
+
+    /// Adds a table without rows, and counts a schema change. It moves the tables behind it.
+    ///
+    /// # Errors
+    /// Where memory runs out, or 2 ^ 64 schema changes were made. The store is as it was then.
+    pub fn create_table(&mut self, alloc: Global, table: Table) -> Result<(), Memory>
+        requires fresh { stored_at self.old table.name ≡ None }
+        requires database { IsDatabase (next_number (with_tables (stored_in_order table [] ∷ []) self.old)) }
+        ensures ok { OnOk result (self.new ≡ next_number (with_tables (stored_in_order table [] ∷ []) self.old)) }
+        ensures err { OnErr result (self.new ≡ self.old) }
+    {
+    }
+
+    /// Adds an index rule, and counts a schema change. It moves the rules behind it. No index is
+    /// built.
+    ///
+    /// # Errors
+    /// Where memory runs out, or 2 ^ 64 schema changes were made. The store is as it was then.
+    pub fn create_index(&mut self, index: IndexRule) -> Result<(), Memory>
+        requires database { IsDatabase (next_number (with_index index self.old)) }
+        ensures ok { OnOk result (self.new ≡ next_number (with_index index self.old)) }
+        ensures err { OnErr result (self.new ≡ self.old) }
+    {
+    }
+
+    /// Makes what a transaction has written part of its tables, and each other table stays. A write
+    /// to a table costs a look-up by key, in time logarithmic in the table's rows, and a new or a
+    /// removed row moves 8 bytes for each row behind it.
+    ///
+    /// # Errors
+    /// Where memory runs out. The store is as it was then.
+    pub fn commit(&mut self, writes: Workspace) -> Result<(), Memory>
+        requires own_keys { All (λ s. StandUnderOwnKeys s.table (entries_of s.table s.rows) writes) self.old.tables }
+        requires database { IsDatabase (committed self.old writes) }
+        ensures ok { OnOk result (self.new ≡ committed self.old writes) }
+        ensures err { OnErr result (self.new ≡ self.old) }
+    {
+    }
+}
