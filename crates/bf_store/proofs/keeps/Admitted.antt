@@ -33,7 +33,8 @@ all_fit columns row = list_all (λ p. is_fit (fit_of p.0.admits p.1)) (zip colum
 abbrev is_counted : Table → List Value → Bool
 is_counted table row = length row == length table.columns
 
-admitted_if : (table : Table) (row : List Value) → is_counted table row ≡ true → all_fit table.columns row ≡ true → IsAdmitted table row
+admitted_if : (table : Table) (row : List Value) → is_counted table row ≡ true → all_fit table.columns row ≡ true
+    → IsAdmitted table row
 admitted_if table row counted fit = rw counted fit
 
 both_if : (b c : Bool) → cond b c false ≡ true → (b ≡ true) × (c ≡ true)
@@ -47,20 +48,25 @@ fits_where_none OutOfRange e = absurd cc
 fits_where_none TooLong e = absurd cc
 
 -- TUPLES
-all_fit_where_none : (columns : List Column) (tuple : List Value) → flat_map (λ p. unfit_objections p.0.admits p.1) (zip columns tuple) ≡ [] → all_fit columns tuple ≡ true
+all_fit_where_none : (columns : List Column) (tuple : List Value)
+    → flat_map (λ p. unfit_objections p.0.admits p.1) (zip columns tuple) ≡ [] → all_fit columns tuple ≡ true
 all_fit_where_none [] tuple none = refl
 all_fit_where_none (c ∷ columns) [] none = refl
 all_fit_where_none (c ∷ columns) (v ∷ tuple) none =
     let parts = nothing_before (unfit_objections c.admits v) (flat_map (λ p. unfit_objections p.0.admits p.1) (zip columns tuple)) none in
     and_from _ _ (fits_where_none (fit_of c.admits v) parts.0) (all_fit_where_none columns tuple parts.1)
 
-tuple_admitted : (table : Table) (tuple : List Value) → tuple_objections table tuple ≡ [] → unfit_row_objections table tuple ≡ [] → IsAdmitted table tuple
+tuple_admitted : (table : Table) (tuple : List Value) → tuple_objections table tuple ≡ []
+    → unfit_row_objections table tuple ≡ [] → IsAdmitted table tuple
 tuple_admitted table tuple none fit =
     let wrong = when (not (is_counted table tuple)) refusal.WrongCount in
     let counted = not-false _ (not_when _ _ (nothing_before wrong _ none).0) in
     admitted_if table tuple counted (all_fit_where_none table.columns tuple fit)
 
-pub tuples_admitted : (table : Table) (rows seen tuples : List (List Value)) → flat_map (tuple_objections table) tuples ≡ [] → flat_map (objections_to table rows) (with_before_from seen tuples) ≡ [] → AllByRecursion (IsAdmitted table) tuples
+pub tuples_admitted : (table : Table) (rows seen tuples : List (List Value))
+    → flat_map (tuple_objections table) tuples ≡ []
+    → flat_map (objections_to table rows) (with_before_from seen tuples) ≡ []
+    → AllByRecursion (IsAdmitted table) tuples
 tuples_admitted table rows seen [] none new = tt
 tuples_admitted table rows seen (tuple ∷ tuples) none new =
     let parts = nothing_before (tuple_objections table tuple) (flat_map (tuple_objections table) tuples) none in
@@ -70,7 +76,9 @@ tuples_admitted table rows seen (tuple ∷ tuples) none new =
 
 -- SETS
 -- a value that the column at a place admits, in that place
-all_fit-set : (v : Value) (columns : List Column) (row : List Value) (place : ℕ) → is_fit (fit_of (slice_index_or (map (λ c. c.admits) columns) place admits.Int) v) ≡ true → all_fit columns row ≡ true → all_fit columns (slice_set row place v) ≡ true
+all_fit-set : (v : Value) (columns : List Column) (row : List Value) (place : ℕ)
+    → is_fit (fit_of (slice_index_or (map (λ c. c.admits) columns) place admits.Int) v) ≡ true
+    → all_fit columns row ≡ true → all_fit columns (slice_set row place v) ≡ true
 all_fit-set v [] row place fits all = refl
 all_fit-set v (c ∷ columns) [] place fits all = refl
 all_fit-set v (c ∷ columns) (w ∷ row) zero fits all = and_from _ _ fits (and_parts (is_fit (fit_of c.admits w)) (all_fit columns row) all).1
@@ -78,14 +86,18 @@ all_fit-set v (c ∷ columns) (w ∷ row) (suc place) fits all =
     let parts = and_parts (is_fit (fit_of c.admits w)) (all_fit columns row) all in
     and_from _ _ parts.0 (all_fit-set v columns row place fits parts.1)
 
-set_admitted : (table : Table) (row : List Value) (place : ℕ) (v : Value) → is_fit (fit_of (admitted_at table place) v) ≡ true → IsAdmitted table row → IsAdmitted table (slice_set row place v)
+set_admitted : (table : Table) (row : List Value) (place : ℕ) (v : Value)
+    → is_fit (fit_of (admitted_at table place) v) ≡ true → IsAdmitted table row
+    → IsAdmitted table (slice_set row place v)
 set_admitted table row place v fits is =
     let parts = both_if (is_counted table row) (all_fit table.columns row) is in
     let counted = ap (λ n. n == length table.columns) (length-set row place v) ∙ parts.0 in
     admitted_if table (slice_set row place v) counted (all_fit-set v table.columns row place fits parts.1)
 
 module _ (table : Table) where
-  sets_admitted : (row new : List Value) (sets : List (ℕ × Expr ℕ)) → change_objections cell (admitted_at table) sets row ≡ [] → IsAdmitted table new → IsAdmitted table (fold (λ new set. slice_set new set.0 (sure_value (cell row) set.1)) new sets)
+  sets_admitted : (row new : List Value) (sets : List (ℕ × Expr ℕ))
+      → change_objections cell (admitted_at table) sets row ≡ [] → IsAdmitted table new
+      → IsAdmitted table (fold (λ new set. slice_set new set.0 (sure_value (cell row) set.1)) new sets)
   sets_admitted row new [] none is = is
   sets_admitted row new (set ∷ sets) none is =
       let v = sure_value (cell row) set.1 in
@@ -95,7 +107,8 @@ module _ (table : Table) where
       sets_admitted row (slice_set new set.0 v) sets parts.1 (set_admitted table new set.0 v fits is)
 
   -- rows with sets
-  pub changed_admitted : (sets : List (ℕ × Expr ℕ)) (rows : List (List Value)) → flat_map (change_objections cell (admitted_at table) sets) rows ≡ [] → AllByRecursion (IsAdmitted table) rows
+  pub changed_admitted : (sets : List (ℕ × Expr ℕ)) (rows : List (List Value))
+      → flat_map (change_objections cell (admitted_at table) sets) rows ≡ [] → AllByRecursion (IsAdmitted table) rows
       → AllByRecursion (λ row. IsAdmitted table (changed cell (λ place. place) sets row)) rows
   changed_admitted sets [] none all = tt
   changed_admitted sets (row ∷ rows) none all =

@@ -44,36 +44,44 @@ abbrev WritesAdmitted : Table → Write → Type 0
 WritesAdmitted table write = (row : List Value) → write.row ≡ Some row → IsAdmitted table row
 
 -- what is true of each write is true of each write of a transaction
-kept_with : (P : Write → Type 0) (writes more : List Write) → AllByRecursion P writes → AllByRecursion P more → AllByRecursion P (fold with_write writes more)
+kept_with : (P : Write → Type 0) (writes more : List Write) → AllByRecursion P writes → AllByRecursion P more
+    → AllByRecursion P (fold with_write writes more)
 kept_with P writes [] all new = all
 kept_with P writes (w ∷ more) all new = kept_with P (with_write writes w) more (with_one_more spot_cmp spot_of P writes w all new.0) new.1
 
-unless_objected : (P : Write → Type 0) (rs : List Refusal) (more : List Write) → (rs ≡ [] → AllByRecursion P more) → AllByRecursion P (written rs [] more)
+unless_objected : (P : Write → Type 0) (rs : List Refusal) (more : List Write) → (rs ≡ [] → AllByRecursion P more)
+    → AllByRecursion P (written rs [] more)
 unless_objected P [] more all = kept_with P [] more tt (all refl)
 unless_objected P (r ∷ rs) more all = tt
 
 module _ (table : Table) where
   -- rows that stand under their own keys have those keys
-  keys_of_rows : (entries : List Entry) → OwnKeys table entries → map (key_of table) (rows_of entries) ≡ map key_of_entry entries
+  keys_of_rows : (entries : List Entry) → OwnKeys table entries
+      → map (key_of table) (rows_of entries) ≡ map key_of_entry entries
   keys_of_rows [] own = refl
   keys_of_rows (e ∷ entries) own =
       ap (λ (key : List Value). key ∷ map (key_of table) (rows_of entries)) own.0.1 ∙ ap (λ (keys : List (List Value)). e.0 ∷ keys) (keys_of_rows entries own.1)
 
-  as_entries : (rows : List (List Value)) → AllByRecursion (IsAdmitted table) rows → AllByRecursion (λ e. IsAdmitted table e.1) (entries_of table rows)
+  as_entries : (rows : List (List Value)) → AllByRecursion (IsAdmitted table) rows
+      → AllByRecursion (λ e. IsAdmitted table e.1) (entries_of table rows)
   as_entries [] all = tt
   as_entries (row ∷ rows) all = (all.0, as_entries rows all.1)
 
-  as_rows : (entries : List Entry) → AllByRecursion (λ e. IsAdmitted table e.1) entries → AllByRecursion (IsAdmitted table) (rows_of entries)
+  as_rows : (entries : List Entry) → AllByRecursion (λ e. IsAdmitted table e.1) entries
+      → AllByRecursion (IsAdmitted table) (rows_of entries)
   as_rows [] all = tt
   as_rows (e ∷ entries) all = (all.0, as_rows entries all.1)
 
   -- the writes of new rows, each for a row
-  writes_admitted : (new : List Value → List Value) (rows : List (List Value)) → AllByRecursion (λ row. IsAdmitted table (new row)) rows → AllByRecursion (WritesAdmitted table) (map (λ row. write_of table (key_of table row) (Some (new row))) rows)
+  writes_admitted : (new : List Value → List Value) (rows : List (List Value))
+      → AllByRecursion (λ row. IsAdmitted table (new row)) rows
+      → AllByRecursion (WritesAdmitted table) (map (λ row. write_of table (key_of table row) (Some (new row))) rows)
   writes_admitted new [] all = tt
   writes_admitted new (row ∷ rows) all = ((λ put is. subst (IsAdmitted table) (same_Some (new row) put is) all.0), writes_admitted new rows all.1)
 
   -- the writes that remove rows
-  removals_admitted : (rows : List (List Value)) → AllByRecursion (WritesAdmitted table) (map (λ row. write_of table (key_of table row) None) rows)
+  removals_admitted : (rows : List (List Value))
+      → AllByRecursion (WritesAdmitted table) (map (λ row. write_of table (key_of table row) None) rows)
   removals_admitted [] = tt
   removals_admitted (row ∷ rows) = ((λ put is. absurd cc), removals_admitted rows)
 
@@ -103,7 +111,8 @@ module _ (commit : ℕ) (db : Database) (in_block : Bool) (s : Statement) (act :
   pub rows_admitted_before : AllByRecursion (IsAdmitted table) rows
   rows_admitted_before = each_passes (is_admitted table) rows (rows_admitted db bound.database table rows stored)
 
-  pub keeps_change : (objections_on rows act ≡ [] → AllByRecursion (WritesAdmitted table) (writes_of rows act)) → IsDatabase (executed commit db in_block s).1
+  pub keeps_change : (objections_on rows act ≡ [] → AllByRecursion (WritesAdmitted table) (writes_of rows act))
+      → IsDatabase (executed commit db in_block s).1
   keeps_change fine =
       let written = unless_objected (WritesAdmitted table) (objections_on rows act) (writes_of rows act) fine in
       let to_table = filtered (WritesAdmitted table) (λ w. same_name w.table table.name) writes written in
@@ -120,7 +129,8 @@ module _ (commit : ℕ) (db : Database) (in_block : Bool) (database : IsDatabase
   held = table_rows db table.name
 
   -- INSERT
-  pub keeps_insert : (tuples : List (List Value)) → objections db in_block (statement.Insert name tuples) ≡ [] → IsDatabase (executed commit db in_block (statement.Insert name tuples)).1
+  pub keeps_insert : (tuples : List (List Value)) → objections db in_block (statement.Insert name tuples) ≡ []
+      → IsDatabase (executed commit db in_block (statement.Insert name tuples)).1
   keeps_insert tuples none =
       let act = action.Insert table tuples in
       let bound : IsBoundAs db in_block (statement.Insert name tuples) act = record { database = database; admitted = none; action = refl } in
@@ -129,7 +139,9 @@ module _ (commit : ℕ) (db : Database) (in_block : Bool) (database : IsDatabase
       (λ new. writes_admitted table (λ tuple. tuple) tuples (tuples_admitted table held [] tuples counted new))
 
   -- UPDATE
-  pub keeps_update : (sets : List (List ℕ × Expr Ref)) (c : Option (Cond Ref)) → objections db in_block (statement.Update name sets c) ≡ [] → IsDatabase (executed commit db in_block (statement.Update name sets c)).1
+  pub keeps_update : (sets : List (List ℕ × Expr Ref)) (c : Option (Cond Ref))
+      → objections db in_block (statement.Update name sets c) ≡ []
+      → IsDatabase (executed commit db in_block (statement.Update name sets c)).1
   keeps_update sets c none =
       let s = statement.Update name sets c in
       let cond = cond_in db name c in
@@ -141,7 +153,8 @@ module _ (commit : ℕ) (db : Database) (in_block : Bool) (database : IsDatabase
       (λ fine. writes_admitted table (changed cell (λ place. place) places) (selected cell cond held) (changed_admitted table places (selected cell cond held) fine before))
 
   -- DELETE
-  pub keeps_delete : (c : Option (Cond Ref)) → objections db in_block (statement.Delete name c) ≡ [] → IsDatabase (executed commit db in_block (statement.Delete name c)).1
+  pub keeps_delete : (c : Option (Cond Ref)) → objections db in_block (statement.Delete name c) ≡ []
+      → IsDatabase (executed commit db in_block (statement.Delete name c)).1
   keeps_delete c none =
       let s = statement.Delete name c in
       let cond = cond_in db name c in

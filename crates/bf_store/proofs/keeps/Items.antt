@@ -6,7 +6,8 @@ use Rattle.std.proofs.lemmas.Option.{same_Some}
 use Rattle.bf_base.proofs.Order.{list_any-map}
 
 module _ {X : Type 0} where
-  pub list_all_if : (p q : X → Bool) → ((x : X) → p x ≡ true → q x ≡ true) → (xs : List X) → list_all p xs ≡ true → list_all q xs ≡ true
+  pub list_all_if : (p q : X → Bool) → ((x : X) → p x ≡ true → q x ≡ true) → (xs : List X) → list_all p xs ≡ true
+      → list_all q xs ≡ true
   list_all_if p q one [] all = refl
   list_all_if p q one (x ∷ xs) all = and_from _ _ (one x (and_parts _ _ all).0) (list_all_if p q one xs (and_parts _ _ all).1)
 
@@ -35,5 +36,6 @@ module _ {X : Type 0} where
   ]
 
   -- a test of a part sees no other part
-  pub list_any_alike : {Y : Type 0} (part : X → Y) (test : Y → Bool) (xs ys : List X) → map part xs ≡ map part ys → list_any (λ x. test (part x)) xs ≡ list_any (λ y. test (part y)) ys
+  pub list_any_alike : {Y : Type 0} (part : X → Y) (test : Y → Bool) (xs ys : List X) → map part xs ≡ map part ys
+      → list_any (λ x. test (part x)) xs ≡ list_any (λ y. test (part y)) ys
   list_any_alike part test xs ys same = sym (list_any-map test part xs) ∙ ap (list_any test) same ∙ list_any-map test part ys

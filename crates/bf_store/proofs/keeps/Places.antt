@@ -35,7 +35,8 @@ module _ (table_name n : List ℕ) where
         rw other (omega (arith, rest))
   ]
 
-place_within : (table : Table) (n : List ℕ) → has same_name (column_names table) n ≡ true → nat_lt (place_of (scope_of table) (unqualified n)) (length table.columns) ≡ true
+place_within : (table : Table) (n : List ℕ) → has same_name (column_names table) n ≡ true
+    → nat_lt (place_of (scope_of table) (unqualified n)) (length table.columns) ≡ true
 place_within table n there =
     let at = place_behind table.name n table.columns 0 there in
     lt-ltb (place_of (scope_of table) (unqualified n)) (length table.columns) (omega (arith, at))
@@ -43,7 +44,9 @@ place_within table n there =
 abbrev name_objections : Table → List (List ℕ) × List ℕ → List Refusal
 name_objections table p = when (not (has same_name (column_names table) p.1)) (refusal.NoColumn p.1) ++ twice_objections p.0 p.1
 
-places_within : (table : Table) (seen names : List (List ℕ)) → flat_map (name_objections table) (with_before_from seen names) ≡ [] → is_within table (named_places table names) ≡ true
+places_within : (table : Table) (seen names : List (List ℕ))
+    → flat_map (name_objections table) (with_before_from seen names) ≡ []
+    → is_within table (named_places table names) ≡ true
 places_within table seen [] none = refl
 places_within table seen (n ∷ names) none =
     let parts = nothing_before (name_objections table (seen, n)) _ none in
@@ -51,7 +54,8 @@ places_within table seen (n ∷ names) none =
     and_from _ _ (place_within table n there) (places_within table (seen ++ n ∷ []) names parts.1)
 
 -- where nothing is objected to names of columns, their places are the table's
-pub named_within : (table : Table) (names : List (List ℕ)) → names_objections (column_names table) names ≡ [] → is_within table (named_places table names) ≡ true
+pub named_within : (table : Table) (names : List (List ℕ)) → names_objections (column_names table) names ≡ []
+    → is_within table (named_places table names) ≡ true
 named_within table names none = places_within table [] names none
 
 -- a new table has columns of the names that its rules have
@@ -60,6 +64,8 @@ rule_names_are name [] = refl
 rule_names_are name (rule ∷ rules) = ap (λ (names : List (List ℕ)). rule.name ∷ names) (rule_names_are name rules)
 
 -- and a key of its own columns
-pub new_key_within : (name : List ℕ) (rules : List ColumnRule) (key : List (List ℕ)) → names_objections (rule_names rules) key ≡ [] → is_within (table_of name rules key) (table_of name rules key).key ≡ true
+pub new_key_within : (name : List ℕ) (rules : List ColumnRule) (key : List (List ℕ))
+    → names_objections (rule_names rules) key ≡ []
+    → is_within (table_of name rules key) (table_of name rules key).key ≡ true
 new_key_within name rules key none =
     named_within (keyless_table name rules) key (ap (λ (names : List (List ℕ)). names_objections names key) (rule_names_are name rules) ∙ none)

@@ -57,7 +57,9 @@ module _ (db : Database) (name : List ℕ) (rows : List (List Value)) where
   same_change i = map (λ (s : Stored). if same_name-tie s.table.name name i then record s { rows = rows } else s) db.tables
 
   -- where they are admitted and in the order of their keys, it is a database still
-  pub keeps_with_rows : (s : Stored) → IsDatabase db → stored_at db name ≡ Some s → is_keyed (record s { rows = rows }) ≡ true → are_admitted (record s { rows = rows }) ≡ true → IsDatabase (with_rows db name rows)
+  pub keeps_with_rows : (s : Stored) → IsDatabase db → stored_at db name ≡ Some s
+      → is_keyed (record s { rows = rows }) ≡ true → are_admitted (record s { rows = rows }) ≡ true
+      → IsDatabase (with_rows db name rows)
   keeps_with_rows s is at keyed admitted =
       let found = sym (stored_at-look_up db name) ∙ at in
       let change : Stored → Stored = λ s. record s { rows = rows } in

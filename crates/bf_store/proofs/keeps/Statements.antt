@@ -17,21 +17,27 @@ pub empty_is_database : IsDatabase empty_database
 empty_is_database = record { tables_by_name = refl; indexes_by_name = refl; rows_by_key = refl; rows_admitted = refl; keys_within = refl; indexes_on_tables = refl }
 
 -- a refused statement leaves the database
-unless_refused_keeps : (rs : List Refusal) (db : Database) (act : Unit {0} → Reply × Database) → IsDatabase db → (rs ≡ [] → IsDatabase (act tt).1) → IsDatabase (unless_refused rs db act).1
+unless_refused_keeps : (rs : List Refusal) (db : Database) (act : Unit {0} → Reply × Database) → IsDatabase db
+    → (rs ≡ [] → IsDatabase (act tt).1) → IsDatabase (unless_refused rs db act).1
 unless_refused_keeps [] db act is after = after refl
 unless_refused_keeps (r ∷ rs) db act is after = is
 
 -- so only one that the catalog does not refuse is to be looked at
-where_admitted : (rs more : List Refusal) (db : Database) (act : Unit {0} → Reply × Database) → IsDatabase db → (rs ≡ [] → IsDatabase (unless_refused (rs ++ more) db act).1) → IsDatabase (unless_refused (rs ++ more) db act).1
+where_admitted : (rs more : List Refusal) (db : Database) (act : Unit {0} → Reply × Database) → IsDatabase db
+    → (rs ≡ [] → IsDatabase (unless_refused (rs ++ more) db act).1)
+    → IsDatabase (unless_refused (rs ++ more) db act).1
 where_admitted [] more db act is after = after refl
 where_admitted (r ∷ rs) more db act is after = is
 
 module _ (commit : ℕ) (db : Database) where
-  by_effect : (s : Statement) → IsDatabase db → (objections db false s ≡ [] → IsDatabase (effect commit db s).1) → IsDatabase (executed commit db false s).1
+  by_effect : (s : Statement) → IsDatabase db → (objections db false s ≡ [] → IsDatabase (effect commit db s).1)
+      → IsDatabase (executed commit db false s).1
   by_effect s is after =
       unless_refused_keeps (objections db false s ++ row_objections db s) db (λ _. effect commit db s) is (λ none. after (nothing_before (objections db false s) (row_objections db s) none).0)
 
-  by_change : (s : Statement) → IsDatabase db → (objections db false s ≡ [] → IsDatabase (executed commit db false s).1) → IsDatabase (executed commit db false s).1
+  by_change : (s : Statement) → IsDatabase db
+      → (objections db false s ≡ [] → IsDatabase (executed commit db false s).1)
+      → IsDatabase (executed commit db false s).1
   by_change s is after = where_admitted (objections db false s) (row_objections db s) db (λ _. effect commit db s) is after
 
   -- a plain statement outside a block
