@@ -1,0 +1,139 @@
+//! Conditions.
+
+ghost use Rattle.std.specs.Prelude.{◌≡◌, ◌≤◌, ◌++◌, [], IfErr, IfOk, OnOk, length};
+ghost use Rattle.bf_expr.specs.Trees.{between, compared, cond_over};
+ghost use Rattle.bf_expr.specs.Views.{operand_tree};
+ghost use Rattle.bf_sql.specs.Conditions.{condition_of};
+ghost use Rattle.bf_sql.specs.Scopes.{cond_objections, expr_objections, place_of, scope_of};
+ghost use Rattle.bf_bind.specs.Parts.{bound_expr};
+ghost use Rattle.bf_bind.specs.Stops.{Stops};
+
+use crate::expression::BoundExpr;
+use crate::scope::{column, expect_kind};
+use crate::stop::Stop;
+use bf_base::Table;
+use bf_expr::{Compare, Cond, Node, Operand, RawCond, RawTest, Test};
+use std::alloc::Global;
+
+/// A literal or a column, and its kind.
+fn bind_operand(alloc: Global, table: &Table, operand: &Operand) -> Result<BoundExpr, Stop>
+    requires { length table.now.columns ≤ 16 }
+    ensures ok { OnOk result (expr_objections (scope_of table.now) (operand_tree operand.now) ≡ []) }
+    ensures value { IfOk result (λ bound. bound ≡ bound_expr (scope_of table.now) (operand_tree operand.now)) }
+    ensures stopped { IfErr result (λ stop. Stops stop (expr_objections (scope_of table.now) (operand_tree operand.now))) }
+{
+    match operand {
+        Operand::Value(value) => Ok(BoundExpr::of(Node::Value(value.copy(alloc)?), value.kind())),
+        Operand::Column(reference) => {
+            let found = column(alloc, table, reference)?;
+            Ok(BoundExpr::of(Node::Column(found.place), found.kind))
+        }
+    }
+}
+
+/// A comparison, whose sides are of one kind.
+fn bind_comparison(
+    alloc: Global,
+    table: &Table,
+    compare: Compare,
+    a: &Operand,
+    b: &Operand,
+) -> Result<Cond, Stop>
+    requires { length table.now.columns ≤ 16 }
+    ensures ok { OnOk result (cond_objections (scope_of table.now) (compared compare (operand_tree a.now) (operand_tree b.now)) ≡ []) }
+    ensures value { IfOk result (λ cond. cond ≡ cond_over (place_of (scope_of table.now)) (compared compare (operand_tree a.now) (operand_tree b.now))) }
+    ensures stopped { IfErr result (λ stop. Stops stop (cond_objections (scope_of table.now) (compared compare (operand_tree a.now) (operand_tree b.now)))) }
+{
+    let left = bind_operand(alloc, table, a)?;
+    let right = bind_operand(alloc, table, b)?;
+    expect_kind(left.kind, right.kind)?;
+    Ok(Cond::of(Test::Compare(compare, left.expr, right.expr)))
+}
+
+/// A BETWEEN, whose ends are of the kind of what is compared with them.
+fn bind_between(
+    alloc: Global,
+    table: &Table,
+    a: &Operand,
+    low: &Operand,
+    high: &Operand,
+) -> Result<Cond, Stop>
+    requires { length table.now.columns ≤ 16 }
+    ensures ok { OnOk result (cond_objections (scope_of table.now) (between (operand_tree a.now) (operand_tree low.now) (operand_tree high.now)) ≡ []) }
+    ensures value { IfOk result (λ cond. cond ≡ cond_over (place_of (scope_of table.now)) (between (operand_tree a.now) (operand_tree low.now) (operand_tree high.now))) }
+    ensures stopped { IfErr result (λ stop. Stops stop (cond_objections (scope_of table.now) (between (operand_tree a.now) (operand_tree low.now) (operand_tree high.now)))) }
+{
+    let middle = bind_operand(alloc, table, a)?;
+    let least = bind_operand(alloc, table, low)?;
+    let greatest = bind_operand(alloc, table, high)?;
+    expect_kind(least.kind, middle.kind)?;
+    expect_kind(greatest.kind, middle.kind)?;
+    Ok(Cond::of(Test::Between(middle.expr, least.expr, greatest.expr)))
+}
+
+/// A condition on the rows of a table, in time linear in its nodes.
+///
+/// # Errors
+/// The first objection, from the left.
+#[cycle(condition)]
+fn bind_test(alloc: Global, table: &Table, raw: &RawCond) -> Result<Cond, Stop>
+    requires { length table.now.columns ≤ 16 }
+    ensures ok { OnOk result (cond_objections (scope_of table.now) raw.now ≡ []) }
+    ensures value { IfOk result (λ cond. cond ≡ cond_over (place_of (scope_of table.now)) raw.now) }
+    ensures stopped { IfErr result (λ stop. Stops stop (cond_objections (scope_of table.now) raw.now)) }
+{
+    match raw.node() {
+        RawTest::Compare(compare, a, b) => bind_comparison(alloc, table, *compare, a, b),
+        RawTest::Between(a, low, high) => bind_between(alloc, table, a, low, high),
+        RawTest::Not(c) => {
+            let inner = bind_test(alloc, table, c)?;
+            Ok(Cond::of(Test::Not(Box::new(alloc, inner)?)))
+        }
+        RawTest::And(c, d) => {
+            let (left, right) = bind_sides(alloc, table, c, d)?;
+            Ok(Cond::of(Test::And(left, right)))
+        }
+        RawTest::Or(c, d) => {
+            let (left, right) = bind_sides(alloc, table, c, d)?;
+            Ok(Cond::of(Test::Or(left, right)))
+        }
+    }
+}
+
+/// The two sides of an AND or an OR.
+#[cycle(condition)]
+fn bind_sides(
+    alloc: Global,
+    table: &Table,
+    c: &RawCond,
+    d: &RawCond,
+) -> Result<(Box<Cond>, Box<Cond>), Stop>
+    requires { length table.now.columns ≤ 16 }
+    ensures ok { OnOk result (cond_objections (scope_of table.now) c.now ++ cond_objections (scope_of table.now) d.now ≡ []) }
+    ensures left { IfOk result (λ sides. sides.0.value ≡ cond_over (place_of (scope_of table.now)) c.now) }
+    ensures right { IfOk result (λ sides. sides.1.value ≡ cond_over (place_of (scope_of table.now)) d.now) }
+    ensures stopped { IfErr result (λ stop. Stops stop (cond_objections (scope_of table.now) c.now ++ cond_objections (scope_of table.now) d.now)) }
+{
+    let left = bind_test(alloc, table, c)?;
+    let right = bind_test(alloc, table, d)?;
+    let left = Box::new(alloc, left)?;
+    let right = Box::new(alloc, right)?;
+    Ok((left, right))
+}
+
+/// The condition of a statement; where it has none, each row satisfies it.
+pub(crate) fn bind_condition(
+    alloc: Global,
+    table: &Table,
+    cond: &Option<RawCond>,
+) -> Result<Cond, Stop>
+    requires { length table.now.columns ≤ 16 }
+    ensures ok { OnOk result (cond_objections (scope_of table.now) (condition_of cond.now) ≡ []) }
+    ensures value { IfOk result (λ bound. bound ≡ cond_over (place_of (scope_of table.now)) (condition_of cond.now)) }
+    ensures stopped { IfErr result (λ stop. Stops stop (cond_objections (scope_of table.now) (condition_of cond.now))) }
+{
+    match cond {
+        Some(cond) => bind_test(alloc, table, cond),
+        None => Ok(Cond::of(Test::Always)),
+    }
+}
