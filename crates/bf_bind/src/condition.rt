@@ -8,11 +8,11 @@ ghost use Rattle.bf_sql.specs.Scopes.{cond_objections, expr_objections, place_of
 ghost use Rattle.bf_bind.specs.Parts.{bound_expr};
 ghost use Rattle.bf_bind.specs.Stops.{Stops};
 
-use crate::expression::BoundExpr;
-use crate::scope::{column, expect_kind};
+use crate::expression::{BoundExpr, bind_column, bind_literal};
+use crate::scope::expect_kind;
 use crate::stop::Stop;
 use bf_base::Table;
-use bf_expr::{Compare, Cond, Node, Operand, RawCond, RawTest, Test};
+use bf_expr::{Compare, Cond, Operand, RawCond, RawTest, Test};
 use std::alloc::Global;
 
 /// A literal or a column, and its kind.
@@ -23,11 +23,8 @@ fn bind_operand(alloc: Global, table: &Table, operand: &Operand) -> Result<Bound
     ensures stopped { IfErr result (λ stop. Stops stop (expr_objections (scope_of table.now) (operand_tree operand.now))) }
 {
     match operand {
-        Operand::Value(value) => Ok(BoundExpr::of(Node::Value(value.copy(alloc)?), value.kind())),
-        Operand::Column(reference) => {
-            let found = column(alloc, table, reference)?;
-            Ok(BoundExpr::of(Node::Column(found.place), found.kind))
-        }
+        Operand::Value(value) => bind_literal(alloc, value),
+        Operand::Column(reference) => bind_column(alloc, table, reference),
     }
 }
 
