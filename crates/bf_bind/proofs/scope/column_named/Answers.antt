@@ -1,0 +1,19 @@
+use Rattle.std.proofs.Common.{◌≡◌, ap, sym, ◌∙◌, is_some, position, Some, None}
+use Rattle.bf_bind.proofs.Columns.{has_name, has-position, column_of-named}
+use Rattle.bf_bind.proofs.scope.column_named.Goals as goal
+
+pub returns-in-Some-clause-there : goal.returns-in-Some-clause-there
+returns-in-Some-clause-there c =
+    let at : position (has_name c.args.table.now c.args.name.now) c.args.table.now.columns ≡ Some c.in-Some.place = cc in
+    sym (has-position c.args.table.now c.args.name.now ∙ ap is_some at)
+
+pub returns-in-Some-clause-place : goal.returns-in-Some-clause-place
+returns-in-Some-clause-place c =
+    let at : position (has_name c.args.table.now c.args.name.now) c.args.table.now.columns ≡ Some c.in-Some.place = cc in
+    let is = column_of-named c.args.table.now c.args.name.now c.in-Some.place c.index-columns-place.result at (rw c.as_slice-columns.ensures at c.index-columns-place.is) in
+    cc
+
+pub returns-in-None-clause-there : goal.returns-in-None-clause-there
+returns-in-None-clause-there c =
+    let at : position (has_name c.args.table.now c.args.name.now) c.args.table.now.columns ≡ None = cc in
+    sym (has-position c.args.table.now c.args.name.now ∙ ap is_some at)

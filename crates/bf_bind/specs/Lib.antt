@@ -1,0 +1,4 @@
+pub mod Actions
+pub mod Limits
+pub mod Parts
+pub mod Stops

@@ -1,0 +1,122 @@
+//! Conditions.
+
+ghost use Rattle.std.specs.Prelude.{◌≡◌, ◌≤◌, ◌++◌, [], IfErr, IfOk, OnOk, length};
+ghost use Rattle.bf_expr.specs.Trees.{between, compared, cond_over};
+ghost use Rattle.bf_sql.specs.Conditions.{condition_of};
+ghost use Rattle.bf_sql.specs.Scopes.{cond_objections, place_of, scope_of};
+ghost use Rattle.bf_bind.specs.Stops.{Stops};
+
+use crate::expression::bind_expression;
+use crate::scope::expect_kind;
+use crate::stop::Stop;
+use bf_base::Table;
+use bf_expr::{Compare, Cond, RawCond, RawExpr, RawTest, Test};
+use std::alloc::Global;
+
+/// A comparison, whose sides are of one kind.
+fn bind_comparison(
+    alloc: Global,
+    table: &Table,
+    compare: Compare,
+    a: &RawExpr,
+    b: &RawExpr,
+) -> Result<Cond, Stop>
+    requires { length table.now.columns ≤ 16 }
+    ensures ok { OnOk result (cond_objections (scope_of table.now) (compared compare a.now b.now) ≡ []) }
+    ensures value { IfOk result (λ cond. cond ≡ cond_over (place_of (scope_of table.now)) (compared compare a.now b.now)) }
+    ensures stopped { IfErr result (λ stop. Stops stop (cond_objections (scope_of table.now) (compared compare a.now b.now))) }
+{
+    let left = bind_expression(alloc, table, a)?;
+    let right = bind_expression(alloc, table, b)?;
+    expect_kind(left.kind, right.kind)?;
+    Ok(Cond::of(Test::Compare(compare, left.expr, right.expr)))
+}
+
+/// A BETWEEN, whose ends are of the kind of what is compared with them.
+fn bind_between(
+    alloc: Global,
+    table: &Table,
+    a: &RawExpr,
+    low: &RawExpr,
+    high: &RawExpr,
+) -> Result<Cond, Stop>
+    requires { length table.now.columns ≤ 16 }
+    ensures ok { OnOk result (cond_objections (scope_of table.now) (between a.now low.now high.now) ≡ []) }
+    ensures value { IfOk result (λ cond. cond ≡ cond_over (place_of (scope_of table.now)) (between a.now low.now high.now)) }
+    ensures stopped { IfErr result (λ stop. Stops stop (cond_objections (scope_of table.now) (between a.now low.now high.now))) }
+{
+    let middle = bind_expression(alloc, table, a)?;
+    let least = bind_expression(alloc, table, low)?;
+    let greatest = bind_expression(alloc, table, high)?;
+    expect_kind(least.kind, middle.kind)?;
+    expect_kind(greatest.kind, middle.kind)?;
+    Ok(Cond::of(Test::Between(middle.expr, least.expr, greatest.expr)))
+}
+
+/// A condition on the rows of a table, in time linear in its nodes.
+///
+/// # Errors
+/// The first objection, from the left.
+#[cycle(condition)]
+fn bind_test(alloc: Global, table: &Table, raw: &RawCond) -> Result<Cond, Stop>
+    requires { length table.now.columns ≤ 16 }
+    ensures ok { OnOk result (cond_objections (scope_of table.now) raw.now ≡ []) }
+    ensures value { IfOk result (λ cond. cond ≡ cond_over (place_of (scope_of table.now)) raw.now) }
+    ensures stopped { IfErr result (λ stop. Stops stop (cond_objections (scope_of table.now) raw.now)) }
+{
+    match raw.node() {
+        RawTest::Always => Ok(Cond::of(Test::Always)),
+        RawTest::Compare(compare, a, b) => bind_comparison(alloc, table, *compare, a, b),
+        RawTest::Between(a, low, high) => bind_between(alloc, table, a, low, high),
+        RawTest::Not(c) => {
+            let inner = bind_test(alloc, table, c)?;
+            Ok(Cond::of(Test::Not(Box::new(alloc, inner)?)))
+        }
+        RawTest::And(c, d) => {
+            let (left, right) = bind_sides(alloc, table, c, d)?;
+            Ok(Cond::of(Test::And(left, right)))
+        }
+        RawTest::Or(c, d) => {
+            let (left, right) = bind_sides(alloc, table, c, d)?;
+            Ok(Cond::of(Test::Or(left, right)))
+        }
+    }
+}
+
+/// The two sides of an AND or an OR.
+#[cycle(condition)]
+fn bind_sides(
+    alloc: Global,
+    table: &Table,
+    c: &RawCond,
+    d: &RawCond,
+) -> Result<(Box<Cond>, Box<Cond>), Stop>
+    requires { length table.now.columns ≤ 16 }
+    ensures ok { OnOk result (cond_objections (scope_of table.now) c.now ++ cond_objections (scope_of table.now) d.now ≡ []) }
+    ensures left { IfOk result (λ sides. sides.0.value ≡ cond_over (place_of (scope_of table.now)) c.now) }
+    ensures right { IfOk result (λ sides. sides.1.value ≡ cond_over (place_of (scope_of table.now)) d.now) }
+    ensures stopped { IfErr result (λ stop. Stops stop (cond_objections (scope_of table.now) c.now ++ cond_objections (scope_of table.now) d.now)) }
+{
+    let left = bind_test(alloc, table, c)?;
+    let right = bind_test(alloc, table, d)?;
+    let left = Box::new(alloc, left)?;
+    let right = Box::new(alloc, right)?;
+    Ok((left, right))
+}
+
+/// The condition of a statement; where it has none, each row satisfies it.
+pub(crate) fn bind_condition(
+    alloc: Global,
+    table: &Table,
+    cond: &Option<RawCond>,
+) -> Result<Cond, Stop>
+    requires { length table.now.columns ≤ 16 }
+    ensures ok { OnOk result (cond_objections (scope_of table.now) (condition_of cond.now) ≡ []) }
+    ensures value { IfOk result (λ bound. bound ≡ cond_over (place_of (scope_of table.now)) (condition_of cond.now)) }
+    ensures stopped { IfErr result (λ stop. Stops stop (cond_objections (scope_of table.now) (condition_of cond.now))) }
+{
+    match cond {
+        Some(cond) => bind_test(alloc, table, cond),
+        None => Ok(Cond::of(Test::Always)),
+    }
+}

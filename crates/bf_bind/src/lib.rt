@@ -1,0 +1,18 @@
+//! Statements bound in a catalog: their tables and columns are looked up, and the first objection
+//! of the catalog stands in the action. Rows are not looked at.
+#![tactic(auto, unfolding(crate::specs::Stops::Stops))]
+
+pub mod binding;
+mod change;
+mod condition;
+mod create;
+mod expression;
+mod fixed;
+mod list;
+mod lookup;
+mod scope;
+mod stop;
+#[cfg(test)]
+mod tests;
+
+pub use binding::bind;

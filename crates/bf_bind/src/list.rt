@@ -1,0 +1,85 @@
+//! What SELECT gives.
+
+ghost use Rattle.std.specs.Prelude.{◌≡◌, ◌≤◌, [], IfErr, IfOk, OnOk, flat_map, length, map};
+ghost use Rattle.bf_expr.specs.Trees.{expr_over};
+ghost use Rattle.bf_sql.specs.Bound.{items_over, total_over};
+ghost use Rattle.bf_sql.specs.Objections.{items_objections};
+ghost use Rattle.bf_sql.specs.Scopes.{expr_objections, place_of, scope_of, total_objections};
+ghost use Rattle.bf_bind.specs.Stops.{Stops};
+
+use crate::expression::bind_expression;
+use crate::scope::expect_kind;
+use crate::stop::Stop;
+use bf_base::{Kind, Sequence, Table};
+use bf_expr::{Expr, RawExpr};
+use bf_sql::{Aggregate, Items, List, RawAggregate};
+use std::alloc::Global;
+
+fn bind_expressions(alloc: Global, table: &Table, exprs: &[RawExpr]) -> Result<Sequence<Expr>, Stop>
+    requires { length table.now.columns ≤ 16 }
+    ensures ok { OnOk result (flat_map (expr_objections (scope_of table.now)) exprs.now ≡ []) }
+    ensures value { IfOk result (λ bound. bound ≡ map (expr_over (place_of (scope_of table.now))) exprs.now) }
+    ensures stopped { IfErr result (λ stop. Stops stop (flat_map (expr_objections (scope_of table.now)) exprs.now)) }
+{
+    let mut bound = Vec::with_capacity(alloc, exprs.len())?;
+    for raw in exprs {
+        bound.push(bind_expression(alloc, table, raw)?.expr)?;
+    }
+    Ok(Sequence::of(bound))
+}
+
+fn bind_total(alloc: Global, table: &Table, total: &RawAggregate) -> Result<Aggregate, Stop>
+    requires { length table.now.columns ≤ 16 }
+    ensures ok { OnOk result (total_objections (scope_of table.now) total.now ≡ []) }
+    ensures value { IfOk result (λ bound. bound ≡ total_over (place_of (scope_of table.now)) total.now) }
+    ensures stopped { IfErr result (λ stop. Stops stop (total_objections (scope_of table.now) total.now)) }
+{
+    match total {
+        Aggregate::Count => Ok(Aggregate::Count),
+        Aggregate::Sum(raw) => {
+            let bound = bind_expression(alloc, table, raw)?;
+            expect_kind(bound.kind, Kind::Int)?;
+            Ok(Aggregate::Sum(bound.expr))
+        }
+        Aggregate::Min(raw) => Ok(Aggregate::Min(bind_expression(alloc, table, raw)?.expr)),
+        Aggregate::Max(raw) => Ok(Aggregate::Max(bind_expression(alloc, table, raw)?.expr)),
+    }
+}
+
+fn bind_totals(
+    alloc: Global,
+    table: &Table,
+    totals: &[RawAggregate],
+) -> Result<Sequence<Aggregate>, Stop>
+    requires { length table.now.columns ≤ 16 }
+    ensures ok { OnOk result (flat_map (total_objections (scope_of table.now)) totals.now ≡ []) }
+    ensures value { IfOk result (λ bound. bound ≡ map (total_over (place_of (scope_of table.now))) totals.now) }
+    ensures stopped { IfErr result (λ stop. Stops stop (flat_map (total_objections (scope_of table.now)) totals.now)) }
+{
+    let mut bound = Vec::with_capacity(alloc, totals.len())?;
+    for total in totals {
+        bound.push(bind_total(alloc, table, total)?)?;
+    }
+    Ok(Sequence::of(bound))
+}
+
+/// The items of a SELECT on a table, in time linear in their nodes.
+///
+/// # Errors
+/// The first objection, from the left.
+pub(crate) fn bind_items(alloc: Global, table: &Table, list: &List) -> Result<Items, Stop>
+    requires { length table.now.columns ≤ 16 }
+    ensures ok { OnOk result (items_objections (scope_of table.now) list.now ≡ []) }
+    ensures value { IfOk result (λ items. items ≡ items_over (place_of (scope_of table.now)) list.now) }
+    ensures stopped { IfErr result (λ stop. Stops stop (items_objections (scope_of table.now) list.now)) }
+{
+    match list {
+        Items::All => Ok(Items::All),
+        Items::Exprs(exprs) => Ok(Items::Exprs(bind_expressions(alloc, table, exprs.as_slice())?)),
+        Items::Aggregates(totals) => Ok(Items::Aggregates(bind_totals(
+            alloc,
+            table,
+            totals.as_slice(),
+        )?)),
+    }
+}
