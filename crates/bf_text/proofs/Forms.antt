@@ -134,7 +134,7 @@ forms =
     (codes "log", ended (λ ps. cause.LogFull (number_in ps) (second_in ps))) ∷
     (codes "too", ended (λ ps. cause.TooLarge (number_in ps))) ∷ []
 
-abbrev same_bytes : List ℕ → List ℕ → Bool
+abbrev pub same_bytes : List ℕ → List ℕ → Bool
 same_bytes [] [] = true
 same_bytes (a ∷ xs) (b ∷ ys) = a == b && same_bytes xs ys
 same_bytes xs ys = false
@@ -199,12 +199,9 @@ rows_put_back (reply.Rows rows) = refl
 rows_put_back other = refl
 
 -- the number of rows, if there are rows
-abbrev count_in : Reply → List Piece → ℕ
+abbrev pub count_in : Reply → List Piece → ℕ
 count_in (reply.Rows none) ps = number_in ps
 count_in other ps = 0
-
-abbrev pub rows_counted : Reply → ℕ
-rows_counted r = count_in (made (front_of r) []) (reply_line r)
 
 pub rows_counted_of : (r : Reply) → length (rows_of r) ≡ count_in (made (front_of r) []) (reply_line r)
 rows_counted_of reply.Created = refl

@@ -96,7 +96,7 @@ name_inside (b ∷ x) h =
     let parts = first_and_last (is_lower b) (nat_le (length x) 62) (list_all is_name_byte x) h in
     and_from (is_inner b) (list_all is_inner x) (lower_inside b parts.0) (name_bytes_inside x parts.1)
 
-decimal_inside : (n : ℕ) → IsTrue (is_u64 n) → IsTrue (list_all is_inner (decimal n))
+pub decimal_inside : (n : ℕ) → IsTrue (is_u64 n) → IsTrue (list_all is_inner (decimal n))
 decimal_inside n h = digits_inside (decimal n) (decimal_is_IsNumeral n (ltb-true n (2 ^ 64) h)).0.1
 
 pub name_splits : (x y : List ℕ) → IsTrue (is_name x) → IsTrue (is_name y) → Splits (λ z. z) is_end x y
