@@ -1,5 +1,5 @@
 -- What the text of a history, of an audit and of the end tells.
-use Rattle.std.proofs.Common.{◌≡◌, ℕ, ◌+◌, ◌^◌, Bool, true, false, ◌&&◌, IsTrue, List, [], ◌∷◌, ◌++◌, drop, take, get_or, flat_map, codes, Option, Some, None, refl, sym, ap, ap₂, ◌∙◌, append_assoc, append-nil, arith}
+use Rattle.std.proofs.Common.{◌≡◌, ℕ, Bool, true, false, ◌&&◌, IsTrue, List, [], ◌∷◌, ◌++◌, drop, take, get_or, codes, Option, Some, None, refl, sym, ap, ◌∙◌, append_assoc, append-nil, arith}
 use Rattle.std.specs.List.{list_all}
 use Rattle.std.specs.Fmt.{decimal}
 use Rattle.std.proofs.lemmas.List.{append_cancel_left}
@@ -86,9 +86,9 @@ table_splits x y r s p q e =
     let left = and_parts (is_name x.0) (is_u64 x.1) p in
     let right = and_parts (is_name y.0) (is_u64 y.1) q in
     let fit : (t : List ℕ × ℕ) → IsTrue (is_name t.0) → IsTrue (is_u64 t.1) → IsTrue (list_all piece_fits (table_pieces t)) =
-        λ t a b. pieces_fit (table_pieces t) (and_from (is_name t.0) true a refl) (and_from (is_u64 t.1) true b refl) in
+    λ t a b. pieces_fit (table_pieces t) (and_from (is_name t.0) true a refl) (and_from (is_u64 t.1) true b refl) in
     let line = pieces_split (table_pieces x) (table_pieces y) refl refl refl (fit x left.0 left.1) (fit y right.0 right.1) r s
-        (sym (ap (λ (z : List ℕ). z ++ r) (table_is x)) ∙ e ∙ ap (λ (z : List ℕ). z ++ s) (table_is y)) in
+    (sym (ap (λ (z : List ℕ). z ++ r) (table_is x)) ∙ e ∙ ap (λ (z : List ℕ). z ++ s) (table_is y)) in
     let a : x.0 ≡ y.0 = cc (line.0) in
     let b : x.1 ≡ y.1 = cc (line.0) in
     (λ i. (a i, b i), line.1)

@@ -2,7 +2,6 @@
 use Rattle.std.proofs.Common.{◌≡◌, ℕ, Bool, true, false, cond, not, ◌||◌, ◌==◌, IsTrue, List, [], ◌∷◌, ◌++◌, map, flat_map, codes, drop, ℤ, unsigned_abs, refl, sym, ap, subst, ◌∙◌, append_assoc, arith}
 use Rattle.std.specs.List.{list_all}
 use Rattle.std.specs.Fmt.{signed_decimal}
-use Rattle.std.proofs.lemmas.List.{append_cancel_left}
 use Rattle.std.proofs.lemmas.Bool.{and_parts, both_ways, eqb-true, eqb-false}
 use Rattle.std.proofs.lemmas.Bool.Decides.{nat_tests}
 use Rattle.bf_base.specs.declared.value.Value.{Value}
@@ -11,7 +10,7 @@ use Rattle.bf_sql.specs.declared.reply.Cell.{Cell}
 use Rattle.bf_sql.specs.declared.reply.Cell.TheVariants as cells
 use Rattle.bf_text.specs.Replies.{quoted, value_text, cell_text, listed}
 use Rattle.bf_text.specs.Numbers.{is_u64, are_u64, numbers_in_value, numbers_in_cell}
-use Rattle.bf_text.proofs.Runs.{is_inner, is_stop, is_end, Begins, Splits, Begins-append, Begins-weaker, begins_apart, end_outside, stop_ends, signed_splits, signed_begins}
+use Rattle.bf_text.proofs.Runs.{is_inner, is_stop, is_end, Begins, Splits, Begins-append, Begins-weaker, begins_apart, stop_ends, signed_splits, signed_begins}
 
 -- ---- a text between quotes
 
@@ -34,7 +33,7 @@ quoted_splits [] (c ∷ y) r s h k e = absurd (quote_ends c (c == 39) refl r (fl
 quoted_splits (b ∷ x) [] r s h k e = absurd (quote_ends b (b == 39) refl s (flat_map quoted x ++ 39 ∷ r) k (sym e ∙ append_assoc (quoted b) (flat_map quoted x) (39 ∷ r)))
 quoted_splits (b ∷ x) (c ∷ y) r s h k e =
     let regrouped : quoted b ++ (flat_map quoted x ++ 39 ∷ r) ≡ quoted c ++ (flat_map quoted y ++ 39 ∷ s) =
-        sym (append_assoc (quoted b) (flat_map quoted x) (39 ∷ r)) ∙ e ∙ append_assoc (quoted c) (flat_map quoted y) (39 ∷ s) in
+    sym (append_assoc (quoted b) (flat_map quoted x) (39 ∷ r)) ∙ e ∙ append_assoc (quoted c) (flat_map quoted y) (39 ∷ s) in
     let first = quoted_first b c (b == 39) (c == 39) refl refl (flat_map quoted x ++ 39 ∷ r) (flat_map quoted y ++ 39 ∷ s) regrouped in
     let more = quoted_splits x y r s h k first.1 in
     let whole : b ∷ x ≡ c ∷ y = cc (first.0, more.0) in
@@ -62,7 +61,7 @@ value_splits (Int y) (Text c) p q r s h k e = absurd (quote_and_number y _ s r (
 value_splits (Text b) (Int z) p q r s h k e = absurd (quote_and_number z _ r s (and_parts (is_u64 (unsigned_abs z)) true q).0 e)
 value_splits (Text b) (Text c) p q r s h k e =
     let inside : flat_map quoted b ++ 39 ∷ r ≡ flat_map quoted c ++ 39 ∷ s =
-        sym (append_assoc (flat_map quoted b) (39 ∷ []) r) ∙ ap (drop 1) e ∙ append_assoc (flat_map quoted c) (39 ∷ []) s in
+    sym (append_assoc (flat_map quoted b) (39 ∷ []) r) ∙ ap (drop 1) e ∙ append_assoc (flat_map quoted c) (39 ∷ []) s in
     let both = quoted_splits b c r s (Begins-weaker is_end unquoted end_unquoted r h) (Begins-weaker is_end unquoted end_unquoted s k) inside in
     (ap Text both.0, both.1)
 

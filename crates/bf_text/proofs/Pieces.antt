@@ -1,5 +1,5 @@
 -- Lines of words, numbers, names and keys: where the words are the same, their text tells the rest.
-use Rattle.std.proofs.Common.{◌≡◌, ℕ, Bool, true, false, ◌&&◌, IsTrue, List, [], ◌∷◌, ◌++◌, map, flat_map, refl, sym, ap, subst, ◌∙◌, append_assoc, arith}
+use Rattle.std.proofs.Common.{◌≡◌, ℕ, Bool, true, false, ◌&&◌, IsTrue, List, [], ◌∷◌, ◌++◌, map, flat_map, refl, sym, ap, ◌∙◌, append_assoc}
 use Rattle.std.specs.Prelude.{⊤}
 use Rattle.std.specs.List.{list_all}
 use Rattle.std.specs.Fmt.{decimal}
@@ -10,7 +10,7 @@ use Rattle.bf_base.specs.Names.{is_name}
 use Rattle.bf_base.specs.declared.value.Value.{Value}
 use Rattle.bf_text.specs.Replies.{values_text}
 use Rattle.bf_text.specs.Numbers.{is_u64, are_u64, numbers_in_value}
-use Rattle.bf_text.proofs.Runs.{is_stop, is_end, Begins, Splits, Begins-weaker, stop_ends, name_splits, number_splits}
+use Rattle.bf_text.proofs.Runs.{is_stop, is_end, Begins, Begins-weaker, stop_ends, name_splits, number_splits}
 use Rattle.bf_text.proofs.Items.{value_fits, values_split}
 
 pub data Piece : Type 0 where
@@ -111,7 +111,7 @@ pieces_split (p ∷ ps) (q ∷ qs) d a b f g r s e =
     let left = and_parts (piece_fits p) (list_all piece_fits ps) f in
     let right = and_parts (piece_fits q) (list_all piece_fits qs) g in
     let regrouped : piece_text p ++ (pieces_text ps ++ r) ≡ piece_text q ++ (pieces_text qs ++ s) =
-        sym (append_assoc (piece_text p) (pieces_text ps) r) ∙ e ∙ append_assoc (piece_text q) (pieces_text qs) s in
+    sym (append_assoc (piece_text p) (pieces_text ps) r) ∙ e ∙ append_assoc (piece_text q) (pieces_text qs) s in
     let first = piece_splits p q (pieces_text ps ++ r) (pieces_text qs ++ s) (cc) left.0 right.0 (end_behind p ps r a) (end_behind q qs s b) regrouped in
     let more = pieces_split ps qs (cc) (parted_behind p ps a) (parted_behind q qs b) left.1 right.1 r s first.1 in
     let whole : p ∷ ps ≡ q ∷ qs = cc (first.0, more.0) in

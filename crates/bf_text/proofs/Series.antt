@@ -45,7 +45,7 @@ module _ {X : Type 0} (text : ℕ → X → List ℕ) where
   alike_split Alike split n (x ∷ xs) [] r s a e = absurd a
   alike_split Alike split n (x ∷ xs) (y ∷ ys) r s a e =
       let regrouped : text n x ++ (texts_from text (n + 1) xs ++ r) ≡ text n y ++ (texts_from text (n + 1) ys ++ s) =
-          sym (append_assoc (text n x) (texts_from text (n + 1) xs) r) ∙ e ∙ append_assoc (text n y) (texts_from text (n + 1) ys) s in
+      sym (append_assoc (text n x) (texts_from text (n + 1) xs) r) ∙ e ∙ append_assoc (text n y) (texts_from text (n + 1) ys) s in
       let first = split n x y (texts_from text (n + 1) xs ++ r) (texts_from text (n + 1) ys ++ s) a.0 regrouped in
       let more = alike_split Alike split (n + 1) xs ys r s a.1 first.1 in
       let whole : x ∷ xs ≡ y ∷ ys = cc (first.0, more.0) in
@@ -65,7 +65,7 @@ module _ {X : Type 0} (text : ℕ → X → List ℕ) where
       let left = and_parts (test x) (list_all test xs) p in
       let right = and_parts (test y) (list_all test ys) q in
       let regrouped : text n x ++ (texts_from text (n + 1) xs ++ r) ≡ text n y ++ (texts_from text (n + 1) ys ++ s) =
-          sym (append_assoc (text n x) (texts_from text (n + 1) xs) r) ∙ e ∙ append_assoc (text n y) (texts_from text (n + 1) ys) s in
+      sym (append_assoc (text n x) (texts_from text (n + 1) xs) r) ∙ e ∙ append_assoc (text n y) (texts_from text (n + 1) ys) s in
       let first = split n x y (texts_from text (n + 1) xs ++ r) (texts_from text (n + 1) ys ++ s) left.0 right.0 regrouped in
       let more = marked_split test begins marked split (n + 1) xs ys r s left.1 right.1 h k first.1 in
       let whole : x ∷ xs ≡ y ∷ ys = cc (first.0, more.0) in

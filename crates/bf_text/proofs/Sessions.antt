@@ -1,21 +1,19 @@
 -- What the text of the sessions' replies tells.
-use Rattle.std.proofs.Common.{◌≡◌, ℕ, ◌+◌, Bool, true, ◌&&◌, IsTrue, List, [], ◌∷◌, ◌++◌, length, map, flat_map, take, codes, refl, sym, ap, ap₂, subst, ◌∙◌, append_assoc, arith}
+use Rattle.std.proofs.Common.{◌≡◌, ℕ, Bool, ◌&&◌, IsTrue, List, [], ◌∷◌, ◌++◌, length, map, flat_map, take, codes, refl, sym, ap, ap₂, ◌∙◌, append_assoc}
 use Rattle.std.specs.List.{list_all}
 use Rattle.std.proofs.lemmas.List.{append_cancel_left}
 use Rattle.std.proofs.lemmas.List.Folds.{list_all-append}
 use Rattle.std.proofs.lemmas.Bool.{and_parts, and_from}
-use Rattle.bf_base.specs.Names.{is_name}
 use Rattle.bf_sql.specs.declared.reply.Cell.{Cell}
 use Rattle.bf_sql.specs.declared.reply.Reply.{Reply}
-use Rattle.bf_text.specs.Replies.{newline, cell_text, listed, place_text, row_line, body_text, reply_text}
+use Rattle.bf_text.specs.Replies.{cell_text, listed, place_text, row_line, reply_text}
 use Rattle.bf_text.specs.Report.{texts_from, session_text}
 use Rattle.bf_text.specs.Told.{is_named}
 use Rattle.bf_text.specs.Numbers.{is_u64, are_u64, numbers_in, numbers_in_cell}
-use Rattle.bf_text.proofs.Runs.{is_stop, Begins}
 use Rattle.bf_text.proofs.Items.{cell_fits, cells_split}
-use Rattle.bf_text.proofs.Pieces.{piece_fits, pieces_text, names_of, numbers_of, shape, is_parted, pieces_split, pieces_fit}
+use Rattle.bf_text.proofs.Pieces.{piece_fits, pieces_text, numbers_of, shape, pieces_split, pieces_fit}
 use Rattle.bf_text.proofs.Forms.{reply_line, rows_of, without_rows, with_rows, front_of, front_is, made, made_of, shape_of, line_parted, names_told, numbers_told, body_is, rows_put_back, count_in, rows_counted_of}
-use Rattle.bf_text.proofs.Series.{AllAlike, AreOfOneSize, sizeless, alike_by_sizes, alike_by_length, alike_split, unnumbered}
+use Rattle.bf_text.proofs.Series.{AreOfOneSize, sizeless, alike_by_sizes, alike_by_length, alike_split, unnumbered}
 
 -- ---- rows
 
@@ -81,7 +79,7 @@ reply_splits k n x y r s p q e =
     let rows : Reply → List ℕ = λ z. flat_map (row_line k n) (rows_of z) in
     let place = place_text k n ++ codes " " in
     let regroup : (z : Reply) (u : List ℕ) → reply_text k n z ++ u ≡ place ++ (pieces_text (reply_line z) ++ (rows z ++ u)) =
-        λ z u. rw (body_is k n z) (simp append_assoc) in
+    λ z u. rw (body_is k n z) (simp append_assoc) in
     let inside = append_cancel_left place (pieces_text (reply_line x) ++ (rows x ++ r)) (pieces_text (reply_line y) ++ (rows y ++ s)) (sym (regroup x r) ∙ e ∙ regroup y s) in
     let line = line_splits x y (rows x ++ r) (rows y ++ s) p q inside in
     let more = rows_split k n (rows_of x) (rows_of y) r s line.1 (fits_from x p).1 (fits_from y q).1 line.2 in

@@ -1,5 +1,5 @@
 -- The numbers that a report tells.
-use Rattle.std.specs.Prelude.{ℕ, ◌^◌, Bool, nat_lt, List, [], ◌∷◌, ◌++◌, length, flat_map, unsigned_abs, Option, IsTrue}
+use Rattle.std.specs.Prelude.{ℕ, ◌^◌, Bool, nat_lt, List, [], ◌∷◌, length, flat_map, unsigned_abs, Option, IsTrue}
 use Rattle.std.specs.List.{list_all}
 use Rattle.bf_base.specs.declared.value.Value.{Value}
 use Rattle.bf_base.specs.declared.value.Value.TheVariants.{Int, Text}
