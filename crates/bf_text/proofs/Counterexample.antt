@@ -23,7 +23,10 @@ same_reports = refl
 
 -- what a report's bytes determine, if its numbers had no bound
 abbrev Unbounded : Type 0
-Unbounded = (script : Script) (replies others : List (List Reply)) (history another : List Entry) (audit second : Option (List (List ℕ × ℕ))) (sweep last : Sweep) → IsTold script replies audit → IsTold script others second → report_text replies history audit sweep ≡ report_text others another second last → (replies ≡ others) × (history ≡ another) × (tables_of audit ≡ tables_of second) × (sweep ≡ last)
+Unbounded = (script : Script) (replies others : List (List Reply)) (history another : List Entry)
+    (audit second : Option (List (List ℕ × ℕ))) (sweep last : Sweep) → IsTold script replies audit
+    → IsTold script others second → report_text replies history audit sweep ≡ report_text others another second last
+    → (replies ≡ others) × (history ≡ another) × (tables_of audit ≡ tables_of second) × (sweep ≡ last)
 
 abbrev one_statement : Script
 one_statement = record { phases = 1; sessions = record { phase = 1; statements = Begin ∷ [] } ∷ [] }
@@ -37,5 +40,6 @@ is_ten_to_64 other = true
 
 pub unbounded_is_false : Unbounded → ⊥
 unbounded_is_false law =
-    let same = (law one_statement (inserted (10 ^ 64)) (inserted (2 * 10 ^ 64)) [] [] None None Never Never (told _) (told _) same_reports).0 in
+    let same = (law one_statement (inserted (10 ^ 64)) (inserted (2 * 10 ^ 64)) [] [] None None Never Never (told _)
+    (told _) same_reports).0 in
     both_ways true (ap is_ten_to_64 same) refl

@@ -29,10 +29,12 @@ refusal_line refusal.NoTransaction = Words (codes "E10 no transaction") ∷ []
 refusal_line refusal.InTransaction = Words (codes "E11 in transaction") ∷ []
 refusal_line refusal.MustBeAlone = Words (codes "E12 must be alone") ∷ []
 refusal_line (refusal.NameTwice name) = Words (codes "E13 name twice ") ∷ Name name ∷ []
-refusal_line (refusal.MayFail target item) = Words (codes "E14 may fail ") ∷ Name target ∷ Words (codes " item ") ∷ Number item ∷ []
+refusal_line (refusal.MayFail target item) = Words (codes "E14 may fail ") ∷ Name target ∷ Words (codes " item ")
+    ∷ Number item ∷ []
 refusal_line (refusal.KeyNotInherited target) = Words (codes "E15 key not inherited ") ∷ Name target ∷ []
 refusal_line (refusal.SourceUnknown name) = Words (codes "E16 source unknown ") ∷ Name name ∷ []
-refusal_line (refusal.TooManyRows table rows) = Words (codes "E17 too many rows ") ∷ Name table ∷ Words (codes " ") ∷ Number rows ∷ []
+refusal_line (refusal.TooManyRows table rows) = Words (codes "E17 too many rows ") ∷ Name table ∷ Words (codes " ")
+    ∷ Number rows ∷ []
 refusal_line (refusal.UnitLimit count) = Words (codes "E18 unit limit ") ∷ Number count ∷ []
 refusal_line (refusal.IndexExists name) = Words (codes "E19 index exists ") ∷ Name name ∷ []
 
@@ -182,13 +184,15 @@ names_told (reply.Refused (refusal.NoTable name)) = refl
 names_told (reply.Ended cause.DiskFault) = refl
 names_told other = refl
 
-pub numbers_told : (r : Reply) → numbers_in r ≡ numbers_of (reply_line r) ++ flat_map (λ row. flat_map numbers_in_cell row) (rows_of r)
+pub numbers_told : (r : Reply) → numbers_in r ≡ numbers_of (reply_line r)
+    ++ flat_map (λ row. flat_map numbers_in_cell row) (rows_of r)
 numbers_told reply.Created = refl
 numbers_told (reply.Refused (refusal.DuplicateKey key)) = simp append-nil
 numbers_told (reply.Ended cause.DiskFault) = refl
 numbers_told other = refl
 
-pub body_is : (s n : ℕ) (r : Reply) → body_text s n r ≡ pieces_text (reply_line r) ++ flat_map (row_line s n) (rows_of r)
+pub body_is : (s n : ℕ) (r : Reply) → body_text s n r ≡ pieces_text (reply_line r)
+    ++ flat_map (row_line s n) (rows_of r)
 body_is s n reply.Created = refl
 body_is s n (reply.Refused (refusal.NoTable name)) = simp (append_assoc, append-nil)
 body_is s n (reply.Ended cause.DiskFault) = refl

@@ -71,7 +71,8 @@ numbers_in_sweep (Complete m moved) = m ∷ moved ∷ []
 numbers_in_sweep (Running m moved unit position) = m ∷ moved ∷ unit ∷ position ∷ []
 
 -- each number of a report has at most 64 bits
-pub record IsCounted (transcripts : List (List Reply)) (history : List Entry) (audit : Option (List (List ℕ × ℕ))) (last : Sweep) : Type 0 where
+pub record IsCounted (transcripts : List (List Reply)) (history : List Entry) (audit : Option (List (List ℕ × ℕ)))
+    (last : Sweep) : Type 0 where
   pub replies : IsTrue (list_all (λ told. list_all (λ r. are_u64 (numbers_in r)) told) transcripts)
   pub entries : IsTrue (list_all (λ e. are_u64 (numbers_in_entry e)) history)
   pub tables : IsTrue (list_all (λ table. is_u64 table.1) (tables_of audit))
