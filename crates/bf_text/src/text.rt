@@ -9,7 +9,7 @@ ghost use Rattle.std.specs.Fmt.{decimal, signed_decimal};
 ghost use Rattle.bf_text.specs.Report.{quoted, value_text, cell_text, listed, values_text, refusal_text, place_text, row_line, body_text, reply_text, session_text, texts_from, outcome_text, entry_text, sweep_text, end_text, report_text};
 
 use bf_base::{Memory, Sequence, Value};
-use bf_lazy::{Cell, Entry, History, Outcome, Refusal, Reply, Sweep, Transcripts};
+use bf_sql::{Cause, Cell, Entry, History, Outcome, Refusal, Reply, Sweep, Transcripts};
 use itoa::Buffer;
 use std::alloc::Global;
 
