@@ -1,10 +1,3 @@
 pub mod Appended
-pub mod Counterexample
-pub mod Endings
-pub mod Forms
-pub mod Items
-pub mod Pieces
-pub mod Reports
-pub mod Runs
-pub mod Series
-pub mod Sessions
+pub mod Commits
+pub mod decoding

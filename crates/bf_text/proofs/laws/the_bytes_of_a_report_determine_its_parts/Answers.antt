@@ -1,4 +1,4 @@
-use Rattle.bf_text.proofs.Reports.{parts_of_report}
+use Rattle.bf_text.proofs.decoding.Reports.{parts_of_report}
 use Rattle.bf_text.proofs.laws.the_bytes_of_a_report_determine_its_parts.Goals as goal
 
 pub returns : goal.returns

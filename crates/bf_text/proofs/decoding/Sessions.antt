@@ -10,10 +10,10 @@ use Rattle.bf_text.specs.Replies.{cell_text, listed, place_text, row_line, reply
 use Rattle.bf_text.specs.Report.{texts_from, session_text}
 use Rattle.bf_text.specs.Told.{is_named}
 use Rattle.bf_text.specs.Numbers.{is_u64, are_u64, numbers_in, numbers_in_cell}
-use Rattle.bf_text.proofs.Items.{cell_fits, cells_split}
-use Rattle.bf_text.proofs.Pieces.{piece_fits, pieces_text, numbers_of, shape, pieces_split, pieces_fit}
-use Rattle.bf_text.proofs.Forms.{reply_line, rows_of, without_rows, with_rows, front_of, front_is, made, made_of, shape_of, line_parted, names_told, numbers_told, body_is, rows_put_back, count_in, rows_counted_of}
-use Rattle.bf_text.proofs.Series.{AreOfOneSize, sizeless, alike_by_sizes, alike_by_length, alike_split, unnumbered}
+use Rattle.bf_text.proofs.decoding.Items.{cell_fits, cells_split}
+use Rattle.bf_text.proofs.decoding.Pieces.{piece_fits, pieces_text, numbers_of, shape, pieces_split, pieces_fit}
+use Rattle.bf_text.proofs.decoding.Forms.{reply_line, rows_of, without_rows, with_rows, front_of, front_is, made, made_of, shape_of, line_parted, names_told, numbers_told, body_is, rows_put_back, count_in, rows_counted_of}
+use Rattle.bf_text.proofs.decoding.Series.{AreOfOneSize, sizeless, alike_by_sizes, alike_by_length, alike_split, unnumbered}
 
 -- ---- rows
 

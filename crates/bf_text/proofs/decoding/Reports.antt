@@ -10,8 +10,8 @@ use Rattle.bf_sql.specs.declared.script.Script.{Script}
 use Rattle.bf_text.specs.Report.{texts_from, session_text, entry_text, audit_text, end_text, commits_of, report_text}
 use Rattle.bf_text.specs.Told.{IsTold, is_named, tables_of}
 use Rattle.bf_text.specs.Numbers.{IsCounted, is_u64, are_u64, numbers_in}
-use Rattle.bf_text.proofs.Sessions.{reply_fits, sessions_split}
-use Rattle.bf_text.proofs.Endings.{history_splits, audit_splits, audit_behind, end_splits}
+use Rattle.bf_text.proofs.decoding.Sessions.{reply_fits, sessions_split}
+use Rattle.bf_text.proofs.decoding.Endings.{history_splits, audit_splits, audit_behind, end_splits}
 
 -- two tests of each, as one
 both_tests : {X : Type 0} (p q : X → Bool) (xs : List X) → IsTrue (list_all p xs) → IsTrue (list_all q xs)

@@ -15,10 +15,10 @@ use Rattle.bf_text.specs.Replies.{newline, numbered}
 use Rattle.bf_text.specs.Report.{texts_from, outcome_text, entry_text, table_line, audit_text, sweep_text, end_text}
 use Rattle.bf_text.specs.Told.{tables_of}
 use Rattle.bf_text.specs.Numbers.{is_u64, are_u64, numbers_in_outcome, numbers_in_entry, numbers_in_sweep}
-use Rattle.bf_text.proofs.Runs.{is_inner, is_end, Begins, end_outside, run_splits, number_splits, decimal_inside}
-use Rattle.bf_text.proofs.Pieces.{Piece, Words, Number, Name, piece_fits, pieces_text, pieces_split, pieces_fit}
-use Rattle.bf_text.proofs.Forms.{same_bytes}
-use Rattle.bf_text.proofs.Series.{marked_split, unnumbered}
+use Rattle.bf_text.proofs.decoding.Runs.{is_inner, is_end, Begins, end_outside, run_splits, number_splits, decimal_inside}
+use Rattle.bf_text.proofs.decoding.Pieces.{Piece, Words, Number, Name, piece_fits, pieces_text, pieces_split, pieces_fit}
+use Rattle.bf_text.proofs.decoding.Forms.{same_bytes}
+use Rattle.bf_text.proofs.decoding.Series.{marked_split, unnumbered}
 
 -- ---- a history
 

@@ -10,8 +10,8 @@ use Rattle.bf_base.specs.Names.{is_name}
 use Rattle.bf_base.specs.declared.value.Value.{Value}
 use Rattle.bf_text.specs.Replies.{values_text}
 use Rattle.bf_text.specs.Numbers.{is_u64, are_u64, numbers_in_value}
-use Rattle.bf_text.proofs.Runs.{is_stop, is_end, Begins, Begins-weaker, stop_ends, name_splits, number_splits}
-use Rattle.bf_text.proofs.Items.{value_fits, values_split}
+use Rattle.bf_text.proofs.decoding.Runs.{is_stop, is_end, Begins, Begins-weaker, stop_ends, name_splits, number_splits}
+use Rattle.bf_text.proofs.decoding.Items.{value_fits, values_split}
 
 pub data Piece : Type 0 where
   Words : List ℕ → Piece

@@ -13,7 +13,7 @@ use Rattle.bf_sql.specs.declared.reply.Reply.TheVariants as reply
 use Rattle.bf_text.specs.Replies.{newline, row_line, body_text}
 use Rattle.bf_text.specs.Told.{is_named}
 use Rattle.bf_text.specs.Numbers.{numbers_in, numbers_in_cell}
-use Rattle.bf_text.proofs.Pieces.{Piece, Words, Number, Name, Key, pieces_text, shape, names_of, numbers_of, is_parted}
+use Rattle.bf_text.proofs.decoding.Pieces.{Piece, Words, Number, Name, Key, pieces_text, shape, names_of, numbers_of, is_parted}
 
 abbrev refusal_line : Refusal → List Piece
 refusal_line (refusal.NoTable name) = Words (codes "E1 no table ") ∷ Name name ∷ []

@@ -10,7 +10,7 @@ use Rattle.bf_sql.specs.declared.reply.Cell.{Cell}
 use Rattle.bf_sql.specs.declared.reply.Cell.TheVariants as cells
 use Rattle.bf_text.specs.Replies.{quoted, value_text, cell_text, listed}
 use Rattle.bf_text.specs.Numbers.{is_u64, are_u64, numbers_in_value, numbers_in_cell}
-use Rattle.bf_text.proofs.Runs.{is_inner, is_stop, is_end, Begins, Splits, Begins-append, Begins-weaker, begins_apart, stop_ends, signed_splits, signed_begins}
+use Rattle.bf_text.proofs.decoding.Runs.{is_inner, is_stop, is_end, Begins, Splits, Begins-append, Begins-weaker, begins_apart, stop_ends, signed_splits, signed_begins}
 
 -- ---- a text between quotes
 
