@@ -1,3 +1,4 @@
+pub mod Answers
 pub mod InOrder
 pub mod Narrow
 pub mod Outcome

@@ -1,7 +1,12 @@
 //! The top call.
 
-ghost use Rattle.std.specs.Prelude.{◌≡◌, ◌≤◌, IfOk, length, map};
-ghost use Rattle.bf_run.specs.Outcome.{Ends, IsAnswer, IsAnswerTo};
+ghost use Rattle.std.specs.Prelude.{◌≡◌, IfOk, IsTrue, map};
+ghost use Rattle.std.specs.Option.{option_map};
+ghost use Rattle.bf_run.specs.Answers.{FindsForm, IsAnswerTo, Tells};
+ghost use Rattle.bf_run.specs.InOrder.{phases_rise_from};
+ghost use Rattle.bf_run.specs.Narrow.{is_narrow_script};
+ghost use Rattle.bf_run.specs.Outcome.{Ends, IsAnswer, fault_text};
+ghost use Rattle.bf_run.specs.Runs.{IsRun, is_plain_script};
 
 use crate::serve::{is_plain, serve};
 use crate::status::{Status, put_fault};
@@ -19,20 +24,30 @@ use std::alloc::Global;
 pub const LONGEST_SCRIPT: u32 = 1 << 24;
 
 /// The status of a text that is no script, and what is written of its first fault.
-fn answer_fault(alloc: Global, fault: ScriptFault) -> Result<(Status, Vec<u8>), Memory> {
+fn answer_fault(alloc: Global, fault: ScriptFault) -> Result<(Status, Vec<u8>), Memory>
+    ensures status { IfOk result (λ a. a.0 ≡ Status.Script fault) }
+    ensures text { IfOk result (λ a. a.1.items ≡ fault_text fault) }
+{
     let mut text = Vec::new(alloc);
     put_fault(&mut text, fault)?;
     Ok((Status::Script(fault), text))
 }
 
 /// The report of a run of a plain script.
-fn plain_report(alloc: Global, script: &Script) -> Result<Vec<u8>, Memory> {
+fn plain_report(alloc: Global, script: &Script) -> Result<Vec<u8>, Memory>
+    requires plain { IsTrue (is_plain_script script.now) }
+    requires narrow { IsTrue (is_narrow_script script.now) }
+    requires phases { IsTrue (phases_rise_from 0 script.now.sessions) }
+    ensures { IfOk result (λ text. Tells (IsRun script.now) text.items) }
+{
     let run = serve(alloc, script)?;
     report(alloc, &run.transcripts, &run.history, None, &run.sweep)
 }
 
 /// The report of a run of a text of the form that migrates one table lazily, if it is one.
-fn form_report(alloc: Global, text: &[u8]) -> Result<Option<Vec<u8>>, Memory> {
+fn form_report(alloc: Global, text: &[u8]) -> Result<Option<Vec<u8>>, Memory>
+    ensures { IfOk result (λ found. FindsForm text.now (option_map (λ v. v.items) found)) }
+{
     let Some(form) = read_script(alloc, text)? else {
         return Ok(None);
     };
@@ -43,7 +58,6 @@ fn form_report(alloc: Global, text: &[u8]) -> Result<Option<Vec<u8>>, Memory> {
 
 /// The status of an input that was read whole, and what is written.
 fn answer_text(alloc: Global, text: &[u8]) -> Result<(Status, Vec<u8>), Memory>
-    requires { length text.now ≤ 2 ^ 24 }
     ensures { IfOk result (λ a. IsAnswerTo text.now a.0 a.1.items) }
 {
     let script = match script(alloc, text) {
