@@ -2,32 +2,47 @@
 
 ghost use Rattle.std.specs.Prelude.{◌≡◌, ◌≤◌, ◌++◌, [], IfErr, IfOk, OnOk, length};
 ghost use Rattle.bf_expr.specs.Trees.{between, compared, cond_over};
+ghost use Rattle.bf_expr.specs.Views.{operand_tree};
 ghost use Rattle.bf_sql.specs.Conditions.{condition_of};
-ghost use Rattle.bf_sql.specs.Scopes.{cond_objections, place_of, scope_of};
+ghost use Rattle.bf_sql.specs.Scopes.{cond_objections, expr_objections, place_of, scope_of};
+ghost use Rattle.bf_bind.specs.Parts.{bound_expr};
 ghost use Rattle.bf_bind.specs.Stops.{Stops};
 
-use crate::expression::bind_expression;
+use crate::expression::{BoundExpr, bind_column, bind_literal};
 use crate::scope::expect_kind;
 use crate::stop::Stop;
 use bf_base::Table;
-use bf_expr::{Compare, Cond, RawCond, RawExpr, RawTest, Test};
+use bf_expr::{Compare, Cond, Operand, RawCond, RawTest, Test};
 use std::alloc::Global;
+
+/// A literal or a column, and its kind.
+fn bind_operand(alloc: Global, table: &Table, operand: &Operand) -> Result<BoundExpr, Stop>
+    requires { length table.now.columns ≤ 16 }
+    ensures ok { OnOk result (expr_objections (scope_of table.now) (operand_tree operand.now) ≡ []) }
+    ensures value { IfOk result (λ bound. bound ≡ bound_expr (scope_of table.now) (operand_tree operand.now)) }
+    ensures stopped { IfErr result (λ stop. Stops stop (expr_objections (scope_of table.now) (operand_tree operand.now))) }
+{
+    match operand {
+        Operand::Value(value) => bind_literal(alloc, value),
+        Operand::Column(reference) => bind_column(alloc, table, reference),
+    }
+}
 
 /// A comparison, whose sides are of one kind.
 fn bind_comparison(
     alloc: Global,
     table: &Table,
     compare: Compare,
-    a: &RawExpr,
-    b: &RawExpr,
+    a: &Operand,
+    b: &Operand,
 ) -> Result<Cond, Stop>
     requires { length table.now.columns ≤ 16 }
-    ensures ok { OnOk result (cond_objections (scope_of table.now) (compared compare a.now b.now) ≡ []) }
-    ensures value { IfOk result (λ cond. cond ≡ cond_over (place_of (scope_of table.now)) (compared compare a.now b.now)) }
-    ensures stopped { IfErr result (λ stop. Stops stop (cond_objections (scope_of table.now) (compared compare a.now b.now))) }
+    ensures ok { OnOk result (cond_objections (scope_of table.now) (compared compare (operand_tree a.now) (operand_tree b.now)) ≡ []) }
+    ensures value { IfOk result (λ cond. cond ≡ cond_over (place_of (scope_of table.now)) (compared compare (operand_tree a.now) (operand_tree b.now))) }
+    ensures stopped { IfErr result (λ stop. Stops stop (cond_objections (scope_of table.now) (compared compare (operand_tree a.now) (operand_tree b.now)))) }
 {
-    let left = bind_expression(alloc, table, a)?;
-    let right = bind_expression(alloc, table, b)?;
+    let left = bind_operand(alloc, table, a)?;
+    let right = bind_operand(alloc, table, b)?;
     expect_kind(left.kind, right.kind)?;
     Ok(Cond::of(Test::Compare(compare, left.expr, right.expr)))
 }
@@ -36,18 +51,18 @@ fn bind_comparison(
 fn bind_between(
     alloc: Global,
     table: &Table,
-    a: &RawExpr,
-    low: &RawExpr,
-    high: &RawExpr,
+    a: &Operand,
+    low: &Operand,
+    high: &Operand,
 ) -> Result<Cond, Stop>
     requires { length table.now.columns ≤ 16 }
-    ensures ok { OnOk result (cond_objections (scope_of table.now) (between a.now low.now high.now) ≡ []) }
-    ensures value { IfOk result (λ cond. cond ≡ cond_over (place_of (scope_of table.now)) (between a.now low.now high.now)) }
-    ensures stopped { IfErr result (λ stop. Stops stop (cond_objections (scope_of table.now) (between a.now low.now high.now))) }
+    ensures ok { OnOk result (cond_objections (scope_of table.now) (between (operand_tree a.now) (operand_tree low.now) (operand_tree high.now)) ≡ []) }
+    ensures value { IfOk result (λ cond. cond ≡ cond_over (place_of (scope_of table.now)) (between (operand_tree a.now) (operand_tree low.now) (operand_tree high.now))) }
+    ensures stopped { IfErr result (λ stop. Stops stop (cond_objections (scope_of table.now) (between (operand_tree a.now) (operand_tree low.now) (operand_tree high.now)))) }
 {
-    let middle = bind_expression(alloc, table, a)?;
-    let least = bind_expression(alloc, table, low)?;
-    let greatest = bind_expression(alloc, table, high)?;
+    let middle = bind_operand(alloc, table, a)?;
+    let least = bind_operand(alloc, table, low)?;
+    let greatest = bind_operand(alloc, table, high)?;
     expect_kind(least.kind, middle.kind)?;
     expect_kind(greatest.kind, middle.kind)?;
     Ok(Cond::of(Test::Between(middle.expr, least.expr, greatest.expr)))
@@ -65,7 +80,6 @@ fn bind_test(alloc: Global, table: &Table, raw: &RawCond) -> Result<Cond, Stop>
     ensures stopped { IfErr result (λ stop. Stops stop (cond_objections (scope_of table.now) raw.now)) }
 {
     match raw.node() {
-        RawTest::Always => Ok(Cond::of(Test::Always)),
         RawTest::Compare(compare, a, b) => bind_comparison(alloc, table, *compare, a, b),
         RawTest::Between(a, low, high) => bind_between(alloc, table, a, low, high),
         RawTest::Not(c) => {

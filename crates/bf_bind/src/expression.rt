@@ -1,16 +1,18 @@
 //! Expressions.
 
 ghost use Rattle.std.specs.Prelude.{◌≡◌, ◌≤◌, [], ◌++◌, IfErr, IfOk, OnOk, length};
+ghost use Rattle.bf_base.specs.Tables.{kind_of};
+ghost use Rattle.bf_expr.specs.Trees as trees;
 ghost use Rattle.bf_expr.specs.Trees.{expr_over};
 ghost use Rattle.bf_expr.specs.Views.{bound_tree};
-ghost use Rattle.bf_sql.specs.Scopes.{expr_objections, kind_in, kind_objections, place_of, scope_of};
+ghost use Rattle.bf_sql.specs.Scopes.{expr_objections, kind_in, kind_objections, place_of, ref_objections, scope_of};
 ghost use Rattle.bf_bind.specs.Parts.{bound_expr, parts_objections};
 ghost use Rattle.bf_bind.specs.Stops.{Stops};
 
 use crate::scope::{column, expect_kind};
 use crate::stop::Stop;
-use bf_base::{Kind, Table};
-use bf_expr::{Expr, Node, RawExpr, RawNode};
+use bf_base::{Kind, Table, Value};
+use bf_expr::{Expr, Node, RawExpr, RawNode, Ref};
 use std::alloc::Global;
 
 /// An expression and the kind of its values.
@@ -32,6 +34,29 @@ impl BoundExpr {
     }
 }
 
+/// A literal.
+pub(crate) fn bind_literal(alloc: Global, value: &Value) -> Result<BoundExpr, Stop>
+    ensures expr { IfOk result (λ bound. bound.expr ≡ trees.literal value.now) }
+    ensures kind { IfOk result (λ bound. bound.kind ≡ kind_of value.now) }
+    ensures stopped { IfErr result (λ stop. Stops stop []) }
+{
+    Ok(BoundExpr::of(Node::Value(value.copy(alloc)?), value.kind()))
+}
+
+/// The column that a ref means.
+///
+/// # Errors
+/// The first objection to the ref.
+pub(crate) fn bind_column(alloc: Global, table: &Table, reference: &Ref) -> Result<BoundExpr, Stop>
+    requires { length table.now.columns ≤ 16 }
+    ensures ok { OnOk result (ref_objections (scope_of table.now) reference.now ≡ []) }
+    ensures value { IfOk result (λ bound. bound ≡ bound_expr (scope_of table.now) (trees.column reference.now)) }
+    ensures stopped { IfErr result (λ stop. Stops stop (ref_objections (scope_of table.now) reference.now)) }
+{
+    let found = column(alloc, table, reference)?;
+    Ok(BoundExpr::of(Node::Column(found.place), found.kind))
+}
+
 /// An expression on the rows of a table, in time linear in its nodes.
 ///
 /// # Errors
@@ -48,11 +73,8 @@ pub(crate) fn bind_expression(
     ensures stopped { IfErr result (λ stop. Stops stop (expr_objections (scope_of table.now) raw.now)) }
 {
     match raw.node() {
-        RawNode::Value(value) => Ok(BoundExpr::of(Node::Value(value.copy(alloc)?), value.kind())),
-        RawNode::Column(reference) => {
-            let found = column(alloc, table, reference)?;
-            Ok(BoundExpr::of(Node::Column(found.place), found.kind))
-        }
+        RawNode::Value(value) => bind_literal(alloc, value),
+        RawNode::Column(reference) => bind_column(alloc, table, reference),
         RawNode::Neg(a) => {
             let inner = bind_part(alloc, table, a, Kind::Int)?;
             Ok(BoundExpr::of(Node::Neg(inner), Kind::Int))

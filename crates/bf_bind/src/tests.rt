@@ -1,502 +1,754 @@
-ghost use Rattle.std.specs.Prelude.{◌≡◌, ◌≤◌, false, length, IfOk};
+//! Statements bound in a catalog of two tables. A statement and what it is bound to are plain data
+//! here. Where a statement has two faults, the one that is read first is told.
+
+ghost use Rattle.std.specs.Prelude.{◌≡◌, ◌≤◌, [], ◌∷◌, false, length, IfOk};
+ghost use Rattle.bf_base.specs.Names.{folded};
 ghost use Rattle.bf_sql.specs.Bound.{bare};
 ghost use Rattle.bf_sql.specs.Database.{IsDatabase};
 ghost use Rattle.bf_bind.specs.Limits.{HasNarrowTables, declared_columns, is_planned};
 
-use super::*;
+use crate::bind;
 use bf_base::{Admit, Column, Key, Name, Row, Sequence, Table, Text, Value};
-use bf_expr::{Compare, RawCond, RawExpr, RawNode, RawTest, Ref};
+use bf_expr::{Compare, Expr, Operand, RawCond, RawExpr, RawNode, RawTest, Ref};
 use bf_sql::{
-    Action, Aggregate, Catalog, ColumnForm, ColumnRule, IndexRule, Items, Migrate, RawAggregate,
-    Refusal, Statement,
+    Action, Aggregate, Catalog, ColumnForm, ColumnRule, IndexRule, Items, List, Migrate, Refusal,
+    Statement,
 };
 use std::alloc::Global;
-use std::process::Abort;
 use std::test::Fail;
 
-fn name(alloc: Global, text: &str) -> Result<Name, Fail> {
-    Ok(Name::of(alloc, text.as_bytes())?)
+/// A literal or a column.
+#[derive(Clone, Copy, Debug)]
+enum Part {
+    Number(i64),
+    Letters(&'static str),
+    Named(&'static str),
+    /// A column behind its qualifier.
+    Of(&'static str, &'static str),
 }
 
-fn names(alloc: Global, texts: &[&str]) -> Result<Sequence<Name>, Fail> {
+/// A part, and those that are added to it from the left.
+type Sum = (Part, &'static [Part]);
+
+#[derive(Clone, Copy, Debug)]
+enum Where {
+    All,
+    Equal(Part, Part),
+    /// Three equalities that AND joins from the left.
+    Equals([(Part, Part); 3]),
+    Between(Part, Part, Part),
+}
+
+#[derive(Clone, Copy, Debug)]
+enum Form {
+    Int,
+    Check(&'static str, i64, i64),
+    Varchar(u64),
+}
+
+#[derive(Clone, Copy, Debug)]
+enum Line {
+    /// A table of two columns, and its key.
+    Create(&'static str, [(&'static str, Form); 2], &'static [&'static str]),
+    /// An index, its table, and its columns.
+    Index(&'static str, &'static str, &'static [&'static str]),
+    Insert(&'static str, &'static [&'static [Part]]),
+    Select(&'static str, Sum, Where),
+    /// COUNT(*), and the SUM of an expression, on `t`.
+    Totals(Sum),
+    Update(&'static str, &'static [(&'static str, Sum)], Where),
+    Delete(&'static str, Where),
+    Begin,
+    Commit,
+    Rollback,
+}
+
+/// What a test sees of an action: names by their first letters, columns by the first place, rows
+/// by their count, and the number that the key is fixed to.
+#[derive(Clone, Copy, Debug, PartialEq)]
+enum Told {
+    NoTable(u8),
+    NoColumn(u8),
+    TypeMismatch,
+    OutOfRange,
+    TooLong,
+    TableExists(u8),
+    WrongCount,
+    KeyColumn(u8),
+    NoTransaction,
+    InTransaction,
+    MustBeAlone,
+    NameTwice(u8),
+    IndexExists(u8),
+    Created(u8),
+    Indexed(u8),
+    Inserts(usize),
+    Selects(Option<i64>),
+    Updates(u8, Option<i64>),
+    Deletes(Option<i64>),
+    Begins,
+    Commits,
+    RollsBack,
+    Other,
+}
+
+use Line::{Begin, Commit, Create, Delete, Index, Insert, Rollback, Select, Totals, Update};
+use Part::{Letters, Named, Number, Of};
+
+fn name(alloc: Global, letters: &[u8]) -> Result<Name, Fail>
+    ensures { IfOk result (λ name. name ≡ folded letters.now) }
+{
+    Ok(Name::of(alloc, letters)?)
+}
+
+fn names(alloc: Global, all: &[&str]) -> Result<Sequence<Name>, Fail> {
     let mut names = Vec::new(alloc);
-    for text in texts {
-        names.push(name(alloc, text)?)?;
+    for letters in all {
+        names.push(name(alloc, letters.as_bytes())?)?;
     }
     Ok(Sequence::of(names))
 }
 
-fn text(alloc: Global, text: &str) -> Result<Value, Fail> {
-    Ok(Value::Text(Text::of(alloc, text.as_bytes())?))
-}
-
-fn column(alloc: Global, text: &str, admits: Admit) -> Result<Column, Fail> {
-    let name = name(alloc, text)?;
+fn column(alloc: Global, letters: &[u8], admits: Admit) -> Result<Column, Fail> {
+    let name = name(alloc, letters)?;
     Ok(Column { name, admits })
 }
 
-fn number(number: i64) -> RawExpr {
-    RawExpr::of(RawNode::Value(Value::Int(number)))
+/// A table whose key is its first column.
+fn table(alloc: Global, letters: &[u8], columns: Vec<Column>) -> Result<Table, Fail>
+    ensures name { IfOk result (λ table. table.name ≡ folded letters.now) }
+    ensures columns { IfOk result (λ table. table.columns ≡ columns.items) }
+    ensures key { IfOk result (λ table. table.key ≡ 0 ∷ []) }
+{
+    let name = name(alloc, letters)?;
+    let mut key = Vec::new(alloc);
+    key.push(0)?;
+    Ok(Table {
+        name,
+        columns: Sequence::of(columns),
+        key: Sequence::of(key),
+    })
 }
 
-fn words(alloc: Global, bytes: &str) -> Result<RawExpr, Fail> {
-    Ok(RawExpr::of(RawNode::Value(text(alloc, bytes)?)))
+fn three_columns(alloc: Global) -> Result<Vec<Column>, Fail>
+    ensures { IfOk result (λ columns. length columns.items ≡ 3) }
+{
+    let mut columns = Vec::new(alloc);
+    columns.push(column(alloc, b"a", Admit::Int)?)?;
+    columns.push(column(alloc, b"s", Admit::Varchar(3))?)?;
+    columns.push(column(alloc, b"n", Admit::Checked(0, 9))?)?;
+    Ok(columns)
 }
 
-// `column`, or `table.column` where a table is named.
-fn reference(alloc: Global, table: &str, column: &str) -> Result<RawExpr, Fail> {
-    let column = name(alloc, column)?;
-    if table.is_empty() {
-        let reference = Ref {
-            table: None,
-            column,
-        };
-        return Ok(RawExpr::of(RawNode::Column(reference)));
-    }
-    let reference = Ref {
-        table: Some(name(alloc, table)?),
-        column,
-    };
-    Ok(RawExpr::of(RawNode::Column(reference)))
+fn one_column(alloc: Global) -> Result<Vec<Column>, Fail>
+    ensures { IfOk result (λ columns. length columns.items ≡ 1) }
+{
+    let mut columns = Vec::new(alloc);
+    columns.push(column(alloc, b"a", Admit::Int)?)?;
+    Ok(columns)
 }
 
-fn sum(alloc: Global, a: RawExpr, b: RawExpr) -> Result<RawExpr, Fail> {
-    let a = Box::new(alloc, a)?;
-    let b = Box::new(alloc, b)?;
-    Ok(RawExpr::of(RawNode::Add(a, b)))
+/// The index `i` on `t (n)`.
+fn index(alloc: Global) -> Result<IndexRule, Fail>
+    ensures table { IfOk result (λ index. index.table ≡ 116 ∷ []) }
+    ensures columns { IfOk result (λ index. index.columns ≡ 2 ∷ []) }
+{
+    let name = self::name(alloc, b"i")?;
+    let table = self::name(alloc, b"t")?;
+    let mut columns = Vec::new(alloc);
+    columns.push(2)?;
+    Ok(IndexRule {
+        name,
+        table,
+        columns: Sequence::of(columns),
+    })
 }
 
-fn equal(a: RawExpr, b: RawExpr) -> RawCond {
-    RawCond::of(RawTest::Compare(Compare::Equal, a, b))
-}
-
-// t (a INT, s VARCHAR(3), n INT CHECK (n BETWEEN 0 AND 9), PRIMARY KEY (a)), and i ON t (n).
+/// `t (a INT, s VARCHAR(3), n INT CHECK (n BETWEEN 0 AND 9), PRIMARY KEY (a))` with the index `i`
+/// on `n`, and `v (a INT, PRIMARY KEY (a))`.
 fn catalog(alloc: Global) -> Result<Catalog, Fail>
     ensures database { IfOk result (λ catalog. IsDatabase (bare catalog)) }
     ensures narrow { IfOk result (λ catalog. HasNarrowTables catalog) }
 {
-    let a = column(alloc, "a", Admit::Int)?;
-    let s = column(alloc, "s", Admit::Varchar(3))?;
-    let n = column(alloc, "n", Admit::Checked(0, 9))?;
-    let table = name(alloc, "t")?;
-    let index = name(alloc, "i")?;
-    let on = table.copy(alloc)?;
-    let t = Table {
-        name: table,
-        columns: Sequence::of(vec![in alloc; a, s, n]?),
-        key: Sequence::of(vec![in alloc; 0u8]?),
-    };
-    let i = IndexRule {
-        name: index,
-        table: on,
-        columns: Sequence::of(vec![in alloc; 2u8]?),
-    };
+    let mut tables = Vec::new(alloc);
+    tables.push(table(alloc, b"t", three_columns(alloc)?)?)?;
+    tables.push(table(alloc, b"v", one_column(alloc)?)?)?;
+    let mut indexes = Vec::new(alloc);
+    indexes.push(index(alloc)?)?;
     Ok(Catalog {
         number: 7,
-        tables: Sequence::of(vec![in alloc; t]?),
-        indexes: Sequence::of(vec![in alloc; i]?),
+        tables: Sequence::of(tables),
+        indexes: Sequence::of(indexes),
     })
 }
 
-// What a statement is refused with.
-fn tells(
-    rt: &impl Abort,
-    alloc: Global,
-    statement: &Statement,
-    in_block: bool,
-    want: Option<Refusal>,
-) -> Result<(), Fail>
-    requires alone { is_planned in_block statement.now ≡ false }
-    requires declared { length (declared_columns statement.now) ≤ 16 }
-{
-    let catalog = catalog(alloc)?;
-    let bound = bind(alloc, statement, &catalog, in_block)?;
-    assert_eq!(rt; bound.catalog, 7);
-    let refused = match bound.action {
-        Action::Refused(refusal) => Some(refusal),
-        _ => None,
+fn text(alloc: Global, letters: &str) -> Result<Value, Fail> {
+    Ok(Value::Text(Text::of(alloc, letters.as_bytes())?))
+}
+
+fn reference(alloc: Global, table: Option<&str>, column: &str) -> Result<Ref, Fail> {
+    let column = name(alloc, column.as_bytes())?;
+    let table = match table {
+        Some(table) => Some(name(alloc, table.as_bytes())?),
+        None => None,
     };
-    assert_eq!(rt; refused, want);
-    Ok(())
+    Ok(Ref { table, column })
 }
 
-fn select(
-    rt: &impl Abort,
-    alloc: Global,
-    expr: RawExpr,
-    cond: Option<RawCond>,
-    want: Option<Refusal>,
-) -> Result<(), Fail> {
-    let statement = Statement::Select {
-        list: Items::Exprs(Sequence::of(vec![in alloc; expr]?)),
-        table: name(alloc, "t")?,
-        cond,
-    };
-    tells(rt, alloc, &statement, false, want)
-}
-
-fn total(
-    rt: &impl Abort,
-    alloc: Global,
-    total: RawAggregate,
-    want: Option<Refusal>,
-) -> Result<(), Fail> {
-    let statement = Statement::Select {
-        list: Items::Aggregates(Sequence::of(vec![in alloc; Aggregate::Count, total]?)),
-        table: name(alloc, "t")?,
-        cond: None,
-    };
-    tells(rt, alloc, &statement, false, want)
-}
-
-fn update(
-    rt: &impl Abort,
-    alloc: Global,
-    sets: Vec<(Name, RawExpr)>,
-    cond: Option<RawCond>,
-    want: Option<Refusal>,
-) -> Result<(), Fail> {
-    let statement = Statement::Update {
-        table: name(alloc, "t")?,
-        sets: Sequence::of(sets),
-        cond,
-    };
-    tells(rt, alloc, &statement, true, want)
-}
-
-fn insert(
-    rt: &impl Abort,
-    alloc: Global,
-    table: &str,
-    tuples: Vec<Row>,
-    want: Option<Refusal>,
-) -> Result<(), Fail> {
-    let statement = Statement::Insert {
-        table: name(alloc, table)?,
-        tuples: Sequence::of(tuples),
-    };
-    tells(rt, alloc, &statement, false, want)
-}
-
-fn create(
-    rt: &impl Abort,
-    alloc: Global,
-    table: &str,
-    first: ColumnForm,
-    second: (&str, ColumnForm),
-    key: &[&str],
-    want: Option<Refusal>,
-) -> Result<(), Fail> {
-    let first = ColumnRule {
-        name: name(alloc, "a")?,
-        form: first,
-    };
-    let second = ColumnRule {
-        name: name(alloc, second.0)?,
-        form: second.1,
-    };
-    let statement = Statement::CreateTable {
-        name: name(alloc, table)?,
-        columns: Sequence::of(vec![in alloc; first, second]?),
-        key: names(alloc, key)?,
-    };
-    tells(rt, alloc, &statement, false, want)
-}
-
-fn index(
-    rt: &impl Abort,
-    alloc: Global,
-    index: &str,
-    table: &str,
-    columns: &[&str],
-    want: Option<Refusal>,
-) -> Result<(), Fail> {
-    let statement = Statement::CreateIndex {
-        name: name(alloc, index)?,
-        table: name(alloc, table)?,
-        columns: names(alloc, columns)?,
-    };
-    tells(rt, alloc, &statement, false, want)
-}
-
-#[test]
-fn blocks_are_judged_first(rt: HostRuntime) -> Result<(), Fail> {
-    let alloc = rt.alloc();
-    let begun = Some(Refusal::InTransaction);
-    tells(&rt, alloc, &Statement::Begin, true, begun)?;
-    tells(&rt, alloc, &Statement::Begin, false, None)?;
-    let outside = Some(Refusal::NoTransaction);
-    tells(&rt, alloc, &Statement::Commit, false, outside)?;
-    tells(&rt, alloc, &Statement::Commit, true, None)?;
-    let outside = Some(Refusal::NoTransaction);
-    tells(&rt, alloc, &Statement::Rollback, false, outside)?;
-    tells(&rt, alloc, &Statement::Rollback, true, None)?;
-    let migrate = Statement::Migrate(Migrate {
-        targets: Sequence::of(Vec::new(alloc)),
-    });
-    tells(&rt, alloc, &migrate, true, Some(Refusal::MustBeAlone))?;
-    let create = Statement::CreateIndex {
-        name: name(alloc, "i")?,
-        table: name(alloc, "u")?,
-        columns: names(alloc, &["x"])?,
-    };
-    tells(&rt, alloc, &create, true, Some(Refusal::MustBeAlone))
-}
-
-#[test]
-fn new_tables_are_judged_column_by_column(rt: HostRuntime) -> Result<(), Fail> {
-    let alloc = rt.alloc();
-    let want = Some(Refusal::TableExists(name(alloc, "t")?));
-    create(
-        &rt,
-        alloc,
-        "t",
-        ColumnForm::Varchar(0),
-        ("a", ColumnForm::Int),
-        &["x"],
-        want,
-    )?;
-    let want = Some(Refusal::TooLong);
-    create(
-        &rt,
-        alloc,
-        "u",
-        ColumnForm::Varchar(256),
-        ("a", ColumnForm::Int),
-        &["x"],
-        want,
-    )?;
-    let want = Some(Refusal::NameTwice(name(alloc, "a")?));
-    create(
-        &rt,
-        alloc,
-        "u",
-        ColumnForm::Int,
-        ("a", ColumnForm::Varchar(0)),
-        &["x"],
-        want,
-    )?;
-    let form = ColumnForm::Checked(name(alloc, "b")?, 2, 1);
-    let want = Some(Refusal::NoColumn(name(alloc, "b")?));
-    create(&rt, alloc, "u", form, ("b", ColumnForm::Int), &["x"], want)?;
-    let form = ColumnForm::Checked(name(alloc, "a")?, 2, 1);
-    create(
-        &rt,
-        alloc,
-        "u",
-        form,
-        ("b", ColumnForm::Int),
-        &["x"],
-        Some(Refusal::OutOfRange),
-    )
-}
-
-#[test]
-fn keys_and_indexes_name_columns_once(rt: HostRuntime) -> Result<(), Fail> {
-    let alloc = rt.alloc();
-    let want = Some(Refusal::NoColumn(name(alloc, "x")?));
-    create(
-        &rt,
-        alloc,
-        "u",
-        ColumnForm::Int,
-        ("b", ColumnForm::Int),
-        &["a", "x", "a"],
-        want,
-    )?;
-    let want = Some(Refusal::NameTwice(name(alloc, "a")?));
-    create(
-        &rt,
-        alloc,
-        "u",
-        ColumnForm::Int,
-        ("b", ColumnForm::Int),
-        &["a", "b", "a", "x"],
-        want,
-    )?;
-    create(
-        &rt,
-        alloc,
-        "u",
-        ColumnForm::Varchar(255),
-        ("b", ColumnForm::Varchar(1)),
-        &["b", "a"],
-        None,
-    )?;
-    index(
-        &rt,
-        alloc,
-        "i",
-        "u",
-        &["x"],
-        Some(Refusal::NoTable(name(alloc, "u")?)),
-    )?;
-    index(
-        &rt,
-        alloc,
-        "i",
-        "t",
-        &["x", "a"],
-        Some(Refusal::NoColumn(name(alloc, "x")?)),
-    )?;
-    index(
-        &rt,
-        alloc,
-        "i",
-        "t",
-        &["a", "a"],
-        Some(Refusal::NameTwice(name(alloc, "a")?)),
-    )?;
-    index(
-        &rt,
-        alloc,
-        "i",
-        "t",
-        &["a"],
-        Some(Refusal::IndexExists(name(alloc, "i")?)),
-    )?;
-    index(&rt, alloc, "j", "t", &["a"], None)
-}
-
-#[test]
-fn tuples_are_judged_from_the_left(rt: HostRuntime) -> Result<(), Fail> {
-    let alloc = rt.alloc();
-    insert(
-        &rt,
-        alloc,
-        "u",
-        Vec::new(alloc),
-        Some(Refusal::NoTable(name(alloc, "u")?)),
-    )?;
-    let short = Row::of(vec![in alloc; text(alloc, "x")?]?);
-    let mixed = Row::of(vec![in alloc; Value::Int(1), Value::Int(1), Value::Int(1)]?);
-    let long = Row::of(vec![in alloc; Value::Int(1), text(alloc, "abcd")?, Value::Int(10)]?);
-    insert(
-        &rt,
-        alloc,
-        "t",
-        vec![in alloc; short.copy(alloc)?, mixed.copy(alloc)?]?,
-        Some(Refusal::WrongCount),
-    )?;
-    insert(
-        &rt,
-        alloc,
-        "t",
-        vec![in alloc; mixed, short]?,
-        Some(Refusal::TypeMismatch),
-    )?;
-    insert(&rt, alloc, "t", vec![in alloc; long]?, None)
-}
-
-#[test]
-fn expressions_are_judged_after_their_parts(rt: HostRuntime) -> Result<(), Fail> {
-    let alloc = rt.alloc();
-    let wrong = equal(number(1), reference(alloc, "", "y")?);
-    let want = Some(Refusal::NoColumn(name(alloc, "x")?));
-    select(&rt, alloc, reference(alloc, "t", "x")?, Some(wrong), want)?;
-    let want = Some(Refusal::NoTable(name(alloc, "u")?));
-    select(&rt, alloc, reference(alloc, "u", "x")?, None, want)?;
-    let mixed = sum(
-        alloc,
-        reference(alloc, "", "s")?,
-        reference(alloc, "", "x")?,
-    )?;
-    select(
-        &rt,
-        alloc,
-        mixed,
-        None,
-        Some(Refusal::NoColumn(name(alloc, "x")?)),
-    )?;
-    let inner = sum(alloc, reference(alloc, "t", "s")?, number(1))?;
-    let mixed = sum(alloc, inner, reference(alloc, "", "x")?)?;
-    select(&rt, alloc, mixed, None, Some(Refusal::TypeMismatch))?;
-    let kinds = equal(reference(alloc, "", "n")?, words(alloc, "x")?);
-    select(
-        &rt,
-        alloc,
-        number(1),
-        Some(kinds),
-        Some(Refusal::TypeMismatch),
-    )?;
-    total(
-        &rt,
-        alloc,
-        Aggregate::Sum(reference(alloc, "", "s")?),
-        Some(Refusal::TypeMismatch),
-    )?;
-    total(&rt, alloc, Aggregate::Min(reference(alloc, "", "s")?), None)
-}
-
-#[test]
-fn sets_are_judged_name_first(rt: HostRuntime) -> Result<(), Fail> {
-    let alloc = rt.alloc();
-    let sets = vec![in alloc; (name(alloc, "x")?, reference(alloc, "", "y")?)]?;
-    update(
-        &rt,
-        alloc,
-        sets,
-        None,
-        Some(Refusal::NoColumn(name(alloc, "x")?)),
-    )?;
-    let sets = vec![in alloc; (name(alloc, "a")?, reference(alloc, "", "y")?)]?;
-    update(
-        &rt,
-        alloc,
-        sets,
-        None,
-        Some(Refusal::KeyColumn(name(alloc, "a")?)),
-    )?;
-    let sets = vec![in alloc;
-        (name(alloc, "n")?, number(1)),
-        (name(alloc, "n")?, reference(alloc, "", "y")?),
-    ]?;
-    update(
-        &rt,
-        alloc,
-        sets,
-        None,
-        Some(Refusal::NameTwice(name(alloc, "n")?)),
-    )?;
-    let wrong = equal(number(1), reference(alloc, "", "y")?);
-    let sets = vec![in alloc; (name(alloc, "s")?, number(1))]?;
-    update(&rt, alloc, sets, Some(wrong), Some(Refusal::TypeMismatch))?;
-    let wrong = equal(number(1), reference(alloc, "", "y")?);
-    let sets = vec![in alloc; (name(alloc, "n")?, reference(alloc, "", "a")?)]?;
-    update(
-        &rt,
-        alloc,
-        sets,
-        Some(wrong),
-        Some(Refusal::NoColumn(name(alloc, "y")?)),
-    )
-}
-
-// The key that DELETE FROM t with a condition fixes.
-fn fixed(alloc: Global, cond: RawCond) -> Result<Option<Key>, Fail> {
-    let catalog = catalog(alloc)?;
-    let statement = Statement::Delete {
-        table: name(alloc, "t")?,
-        cond: Some(cond),
-    };
-    let bound = bind(alloc, &statement, &catalog, false)?;
-    match bound.action {
-        Action::Delete { fixed, .. } => Ok(fixed),
-        _ => Ok(None),
+fn operand(alloc: Global, part: Part) -> Result<Operand, Fail> {
+    match part {
+        Number(number) => Ok(Operand::Value(Value::Int(number))),
+        Letters(letters) => Ok(Operand::Value(text(alloc, letters)?)),
+        Named(column) => Ok(Operand::Column(reference(alloc, None, column)?)),
+        Of(table, column) => Ok(Operand::Column(reference(alloc, Some(table), column)?)),
     }
 }
 
+fn expression(alloc: Global, part: Part) -> Result<RawExpr, Fail> {
+    match operand(alloc, part)? {
+        Operand::Value(value) => Ok(RawExpr::of(RawNode::Value(value))),
+        Operand::Column(column) => Ok(RawExpr::of(RawNode::Column(column))),
+    }
+}
+
+fn summed(alloc: Global, (first, others): Sum) -> Result<RawExpr, Fail> {
+    let mut sum = expression(alloc, first)?;
+    for part in others {
+        let added = expression(alloc, *part)?;
+        sum = RawExpr::of(RawNode::Add(Box::new(alloc, sum)?, Box::new(alloc, added)?));
+    }
+    Ok(sum)
+}
+
+fn equal(alloc: Global, (left, right): (Part, Part)) -> Result<RawCond, Fail> {
+    let left = operand(alloc, left)?;
+    let right = operand(alloc, right)?;
+    Ok(RawCond::of(RawTest::Compare(Compare::Equal, left, right)))
+}
+
+fn both(alloc: Global, left: RawCond, right: RawCond) -> Result<RawCond, Fail> {
+    let left = Box::new(alloc, left)?;
+    let right = Box::new(alloc, right)?;
+    Ok(RawCond::of(RawTest::And(left, right)))
+}
+
+fn condition(alloc: Global, which: Where) -> Result<Option<RawCond>, Fail> {
+    match which {
+        Where::All => Ok(None),
+        Where::Equal(left, right) => Ok(Some(equal(alloc, (left, right))?)),
+        Where::Equals([first, second, third]) => {
+            let front = both(alloc, equal(alloc, first)?, equal(alloc, second)?)?;
+            Ok(Some(both(alloc, front, equal(alloc, third)?)?))
+        }
+        Where::Between(middle, low, high) => {
+            let middle = operand(alloc, middle)?;
+            let low = operand(alloc, low)?;
+            let high = operand(alloc, high)?;
+            Ok(Some(RawCond::of(RawTest::Between(middle, low, high))))
+        }
+    }
+}
+
+fn rule(alloc: Global, (letters, form): (&str, Form)) -> Result<ColumnRule, Fail> {
+    let name = name(alloc, letters.as_bytes())?;
+    let form = match form {
+        Form::Int => ColumnForm::Int,
+        Form::Check(checked, low, high) => {
+            ColumnForm::Checked(self::name(alloc, checked.as_bytes())?, low, high)
+        }
+        Form::Varchar(most) => ColumnForm::Varchar(most),
+    };
+    Ok(ColumnRule { name, form })
+}
+
+fn rules(alloc: Global, columns: [(&'static str, Form); 2]) -> Result<Sequence<ColumnRule>, Fail>
+    ensures { IfOk result (λ rules. length rules ≡ 2) }
+{
+    let [first, second] = columns;
+    let mut rules = Vec::new(alloc);
+    rules.push(rule(alloc, first)?)?;
+    rules.push(rule(alloc, second)?)?;
+    Ok(Sequence::of(rules))
+}
+
+/// A tuple of literals.
+fn tuple(alloc: Global, parts: &[Part]) -> Result<Row, Fail> {
+    let mut values = Vec::new(alloc);
+    for part in parts {
+        if let Operand::Value(value) = operand(alloc, *part)? {
+            values.push(value)?;
+        }
+    }
+    Ok(Row::of(values))
+}
+
+fn tuples(alloc: Global, all: &[&[Part]]) -> Result<Sequence<Row>, Fail> {
+    let mut tuples = Vec::new(alloc);
+    for parts in all {
+        tuples.push(tuple(alloc, parts)?)?;
+    }
+    Ok(Sequence::of(tuples))
+}
+
+fn sets(alloc: Global, all: &[(&str, Sum)]) -> Result<Sequence<(Name, RawExpr)>, Fail> {
+    let mut sets = Vec::new(alloc);
+    for (column, value) in all {
+        let column = name(alloc, column.as_bytes())?;
+        sets.push((column, summed(alloc, *value)?))?;
+    }
+    Ok(Sequence::of(sets))
+}
+
+fn expressions(alloc: Global, value: Sum) -> Result<List, Fail> {
+    let mut exprs = Vec::new(alloc);
+    exprs.push(summed(alloc, value)?)?;
+    Ok(Items::Exprs(Sequence::of(exprs)))
+}
+
+fn totals(alloc: Global, value: Sum) -> Result<List, Fail> {
+    let mut totals = Vec::new(alloc);
+    totals.push(Aggregate::Count)?;
+    totals.push(Aggregate::Sum(summed(alloc, value)?))?;
+    Ok(Items::Aggregates(Sequence::of(totals)))
+}
+
+fn created(
+    alloc: Global,
+    table: &str,
+    columns: [(&'static str, Form); 2],
+    key: &[&str],
+) -> Result<Statement, Fail>
+    ensures bound { IfOk result (λ statement. is_planned false statement ≡ false) }
+    ensures declared { IfOk result (λ statement. length (declared_columns statement) ≤ 16) }
+{
+    Ok(Statement::CreateTable {
+        name: name(alloc, table.as_bytes())?,
+        columns: rules(alloc, columns)?,
+        key: names(alloc, key)?,
+    })
+}
+
+fn selected(alloc: Global, list: List, table: &str, which: Where) -> Result<Statement, Fail>
+    ensures bound { IfOk result (λ statement. is_planned false statement ≡ false) }
+    ensures declared { IfOk result (λ statement. length (declared_columns statement) ≤ 16) }
+{
+    Ok(Statement::Select {
+        list,
+        table: name(alloc, table.as_bytes())?,
+        cond: condition(alloc, which)?,
+    })
+}
+
+fn statement(alloc: Global, line: &Line) -> Result<Statement, Fail>
+    ensures bound { IfOk result (λ statement. is_planned false statement ≡ false) }
+    ensures declared { IfOk result (λ statement. length (declared_columns statement) ≤ 16) }
+{
+    match line {
+        Create(table, columns, key) => created(alloc, table, *columns, key),
+        Index(name, table, columns) => Ok(Statement::CreateIndex {
+            name: self::name(alloc, name.as_bytes())?,
+            table: self::name(alloc, table.as_bytes())?,
+            columns: names(alloc, columns)?,
+        }),
+        Insert(table, tuples) => Ok(Statement::Insert {
+            table: name(alloc, table.as_bytes())?,
+            tuples: self::tuples(alloc, tuples)?,
+        }),
+        Select(table, value, which) => {
+            selected(alloc, expressions(alloc, *value)?, table, *which)
+        }
+        Totals(value) => selected(alloc, totals(alloc, *value)?, "t", Where::All),
+        Update(table, sets, which) => Ok(Statement::Update {
+            table: name(alloc, table.as_bytes())?,
+            sets: self::sets(alloc, sets)?,
+            cond: condition(alloc, *which)?,
+        }),
+        Delete(table, which) => Ok(Statement::Delete {
+            table: name(alloc, table.as_bytes())?,
+            cond: condition(alloc, *which)?,
+        }),
+        Begin => Ok(Statement::Begin),
+        Commit => Ok(Statement::Commit),
+        Rollback => Ok(Statement::Rollback),
+    }
+}
+
+fn letter(name: &Name) -> u8 {
+    match name.as_bytes() {
+        [first, ..] => *first,
+        [] => 0,
+    }
+}
+
+fn refusal_seen(refusal: &Refusal) -> Told {
+    match refusal {
+        Refusal::NoTable(name) => Told::NoTable(letter(name)),
+        Refusal::NoColumn(name) => Told::NoColumn(letter(name)),
+        Refusal::TypeMismatch => Told::TypeMismatch,
+        Refusal::OutOfRange => Told::OutOfRange,
+        Refusal::TooLong => Told::TooLong,
+        Refusal::TableExists(name) => Told::TableExists(letter(name)),
+        Refusal::WrongCount => Told::WrongCount,
+        Refusal::KeyColumn(name) => Told::KeyColumn(letter(name)),
+        Refusal::NoTransaction => Told::NoTransaction,
+        Refusal::InTransaction => Told::InTransaction,
+        Refusal::MustBeAlone => Told::MustBeAlone,
+        Refusal::NameTwice(name) => Told::NameTwice(letter(name)),
+        Refusal::IndexExists(name) => Told::IndexExists(letter(name)),
+        _ => Told::Other,
+    }
+}
+
+/// The number that a key of one column is fixed to.
+fn number_fixed(fixed: &Option<Key>) -> Option<i64> {
+    match fixed {
+        Some(key) => match key.as_slice() {
+            [Value::Int(number)] => Some(*number),
+            _ => None,
+        },
+        None => None,
+    }
+}
+
+fn first_place(places: &[u8]) -> u8 {
+    match places {
+        [first, ..] => *first,
+        [] => u8::MAX,
+    }
+}
+
+fn first_set(sets: &[(u8, Expr)]) -> u8 {
+    match sets {
+        [first, ..] => first.0,
+        [] => u8::MAX,
+    }
+}
+
+fn action_seen(action: &Action) -> Told {
+    match action {
+        Action::Refused(refusal) => refusal_seen(refusal),
+        Action::CreateTable(table) => Told::Created(first_place(table.key.as_slice())),
+        Action::CreateIndex(index) => Told::Indexed(first_place(index.columns.as_slice())),
+        Action::Insert { rows, .. } => Told::Inserts(rows.as_slice().len()),
+        Action::Select { fixed, .. } => Told::Selects(number_fixed(fixed)),
+        Action::Update { sets, fixed, .. } => {
+            Told::Updates(first_set(sets.as_slice()), number_fixed(fixed))
+        }
+        Action::Delete { fixed, .. } => Told::Deletes(number_fixed(fixed)),
+        Action::Begin => Told::Begins,
+        Action::Commit => Told::Commits,
+        Action::Rollback => Told::RollsBack,
+    }
+}
+
+/// What a statement is bound to, in a block or outside.
+fn outcome(alloc: Global, catalog: &Catalog, line: &Line, in_block: bool) -> Result<Told, Fail>
+    requires database { IsDatabase (bare catalog.now) }
+    requires narrow { HasNarrowTables catalog.now }
+{
+    let statement = statement(alloc, line)?;
+    let bound = bind(alloc, &statement, catalog, in_block)?;
+    Ok(action_seen(&bound.action))
+}
+
+/// The place of the first statement that is bound to another action than its own.
+fn first_other(
+    alloc: Global,
+    in_block: bool,
+    cases: &[(Line, Told)],
+) -> Result<Option<usize>, Fail> {
+    let catalog = catalog(alloc)?;
+    for (place, (line, want)) in cases.iter().enumerate() {
+        if outcome(alloc, &catalog, line, in_block)? != *want {
+            return Ok(Some(place));
+        }
+    }
+    Ok(None)
+}
+
+/// In a block.
+const INSIDE: [(Line, Told); 6] = [
+    (Begin, Told::InTransaction),
+    (Commit, Told::Commits),
+    (Rollback, Told::RollsBack),
+    (
+        Create("t", [("a", Form::Int), ("a", Form::Int)], &[]),
+        Told::MustBeAlone,
+    ),
+    (Index("i", "w", &["x"]), Told::MustBeAlone),
+    (
+        Update("t", &[("n", (Named("a"), &[]))], Where::All),
+        Told::Updates(2, None),
+    ),
+];
+
+/// Outside a block.
+const BLOCKS: [(Line, Told); 3] = [
+    (Begin, Told::Begins),
+    (Commit, Told::NoTransaction),
+    (Rollback, Told::NoTransaction),
+];
+
+const TABLES: [(Line, Told); 9] = [
+    (
+        Create("t", [("a", Form::Varchar(0)), ("b", Form::Int)], &["a"]),
+        Told::TableExists(b't'),
+    ),
+    (
+        Create("w", [("a", Form::Varchar(256)), ("a", Form::Int)], &["x"]),
+        Told::TooLong,
+    ),
+    (
+        Create("w", [("a", Form::Int), ("a", Form::Varchar(0))], &["x"]),
+        Told::NameTwice(b'a'),
+    ),
+    (
+        Create(
+            "w",
+            [("a", Form::Check("b", 2, 1)), ("b", Form::Int)],
+            &["a"],
+        ),
+        Told::NoColumn(b'b'),
+    ),
+    (
+        Create(
+            "w",
+            [("a", Form::Check("a", 2, 1)), ("b", Form::Int)],
+            &["x"],
+        ),
+        Told::OutOfRange,
+    ),
+    (
+        Create("w", [("a", Form::Int), ("b", Form::Int)], &["a", "x", "a"]),
+        Told::NoColumn(b'x'),
+    ),
+    (
+        Create(
+            "w",
+            [("a", Form::Int), ("b", Form::Int)],
+            &["a", "b", "a", "x"],
+        ),
+        Told::NameTwice(b'a'),
+    ),
+    (
+        Create(
+            "w",
+            [("a", Form::Varchar(255)), ("b", Form::Check("b", 2, 2))],
+            &["b", "a"],
+        ),
+        Told::Created(1),
+    ),
+    (
+        Create("u", [("a", Form::Varchar(1)), ("b", Form::Int)], &["a"]),
+        Told::Created(0),
+    ),
+];
+
+const INDEXES: [(Line, Told); 5] = [
+    (Index("i", "w", &["x"]), Told::NoTable(b'w')),
+    (Index("i", "t", &["x", "a"]), Told::NoColumn(b'x')),
+    (Index("i", "t", &["a", "a"]), Told::NameTwice(b'a')),
+    (Index("i", "v", &["a"]), Told::IndexExists(b'i')),
+    (Index("j", "t", &["s", "a"]), Told::Indexed(1)),
+];
+
+const ROWS: [(Line, Told); 5] = [
+    (Insert("w", &[&[]]), Told::NoTable(b'w')),
+    (
+        Insert("t", &[&[Letters("x")], &[Number(1), Number(1), Number(1)]]),
+        Told::WrongCount,
+    ),
+    (
+        Insert("t", &[&[Number(1), Number(1), Number(1)], &[Letters("x")]]),
+        Told::TypeMismatch,
+    ),
+    (
+        Insert("v", &[&[Number(1)], &[Letters("x")]]),
+        Told::TypeMismatch,
+    ),
+    // Values that the columns do not admit are for the rows to refuse.
+    (
+        Insert("t", &[&[Number(1), Letters("abcd"), Number(10)]]),
+        Told::Inserts(1),
+    ),
+];
+
+const SELECTS: [(Line, Told); 12] = [
+    (
+        Select("w", (Named("x"), &[]), Where::All),
+        Told::NoTable(b'w'),
+    ),
+    (
+        Select(
+            "t",
+            (Of("t", "x"), &[]),
+            Where::Equal(Number(1), Named("y")),
+        ),
+        Told::NoColumn(b'x'),
+    ),
+    (
+        Select("t", (Of("v", "x"), &[]), Where::All),
+        Told::NoTable(b'v'),
+    ),
+    // A sum is judged after its parts.
+    (
+        Select("t", (Named("s"), &[Named("x")]), Where::All),
+        Told::NoColumn(b'x'),
+    ),
+    (
+        Select("t", (Of("t", "s"), &[Number(1), Named("x")]), Where::All),
+        Told::TypeMismatch,
+    ),
+    (
+        Select(
+            "t",
+            (Number(1), &[]),
+            Where::Equal(Named("n"), Letters("x")),
+        ),
+        Told::TypeMismatch,
+    ),
+    (
+        Select(
+            "t",
+            (Number(1), &[]),
+            Where::Between(Named("n"), Letters("x"), Named("y")),
+        ),
+        Told::NoColumn(b'y'),
+    ),
+    (
+        Select(
+            "t",
+            (Number(1), &[]),
+            Where::Between(Named("s"), Letters("x"), Number(1)),
+        ),
+        Told::TypeMismatch,
+    ),
+    (Totals((Named("s"), &[])), Told::TypeMismatch),
+    (Totals((Named("n"), &[])), Told::Selects(None)),
+    // The first conjunct that fixes the key serves.
+    (
+        Select(
+            "t",
+            (Named("s"), &[]),
+            Where::Equals([
+                (Named("n"), Number(4)),
+                (Number(5), Of("t", "a")),
+                (Named("a"), Number(6)),
+            ]),
+        ),
+        Told::Selects(Some(5)),
+    ),
+    (
+        Select(
+            "v",
+            (Named("a"), &[Number(1)]),
+            Where::Equal(Named("a"), Named("a")),
+        ),
+        Told::Selects(None),
+    ),
+];
+
+const CHANGES: [(Line, Told); 10] = [
+    (
+        Update("w", &[("x", (Named("y"), &[]))], Where::All),
+        Told::NoTable(b'w'),
+    ),
+    (
+        Update("t", &[("x", (Named("y"), &[]))], Where::All),
+        Told::NoColumn(b'x'),
+    ),
+    (
+        Update("t", &[("a", (Named("y"), &[]))], Where::All),
+        Told::KeyColumn(b'a'),
+    ),
+    (
+        Update(
+            "t",
+            &[("n", (Number(1), &[])), ("n", (Named("y"), &[]))],
+            Where::All,
+        ),
+        Told::NameTwice(b'n'),
+    ),
+    (
+        Update(
+            "t",
+            &[("s", (Number(1), &[])), ("x", (Number(1), &[]))],
+            Where::Equal(Number(1), Named("y")),
+        ),
+        Told::TypeMismatch,
+    ),
+    (
+        Update(
+            "t",
+            &[("n", (Named("a"), &[]))],
+            Where::Equal(Number(1), Named("y")),
+        ),
+        Told::NoColumn(b'y'),
+    ),
+    (
+        Update(
+            "t",
+            &[
+                ("n", (Named("a"), &[Number(1)])),
+                ("s", (Letters("abcd"), &[])),
+            ],
+            Where::Equal(Named("a"), Number(-6)),
+        ),
+        Told::Updates(2, Some(-6)),
+    ),
+    (
+        Delete("w", Where::Equal(Number(1), Named("y"))),
+        Told::NoTable(b'w'),
+    ),
+    (
+        Delete("t", Where::Equal(Of("w", "y"), Named("y"))),
+        Told::NoTable(b'w'),
+    ),
+    (
+        Delete("t", Where::Equal(Number(3), Of("t", "a"))),
+        Told::Deletes(Some(3)),
+    ),
+];
+
+/// The cases outside a block.
+const OUTSIDE: [(&str, &[(Line, Told)]); 6] = [
+    ("a block begins or ends", &BLOCKS),
+    ("a table is made", &TABLES),
+    ("an index is made", &INDEXES),
+    ("rows come", &ROWS),
+    ("rows are asked for", &SELECTS),
+    ("rows change or go", &CHANGES),
+];
+
 #[test]
-fn the_first_conjunct_that_fixes_the_key_serves(rt: HostRuntime) -> Result<(), Fail> {
-    let alloc = rt.alloc();
-    let first = equal(reference(alloc, "", "n")?, number(4));
-    let second = equal(number(5), reference(alloc, "t", "a")?);
-    let third = equal(reference(alloc, "", "a")?, number(6));
-    let both = RawCond::of(RawTest::And(Box::new(alloc, first)?, Box::new(alloc, second)?));
-    let all = RawCond::of(RawTest::And(Box::new(alloc, both)?, Box::new(alloc, third)?));
-    let key = Key::of(vec![in alloc; Value::Int(5)]?);
-    assert_eq!(rt; fixed(alloc, all)?, Some(key));
-    let open = equal(reference(alloc, "", "n")?, number(4));
-    assert_eq!(rt; fixed(alloc, open)?, None);
+fn the_first_fault_is_told(rt: HostRuntime) -> Result<(), Fail> {
+    for (what, cases) in &OUTSIDE {
+        let other = first_other(rt.alloc(), false, cases)?;
+        assert_eq!(rt; other, None, "where {what}");
+    }
+    let other = first_other(rt.alloc(), true, &INSIDE)?;
+    assert_eq!(rt; other, None, "in a block");
+    Ok(())
+}
+
+/// What the binder tells of a MIGRATE in a block, the number of the catalog, and whether the
+/// statement changes the schema.
+fn migration_inside(alloc: Global) -> Result<(Told, u64, bool), Fail> {
+    let catalog = catalog(alloc)?;
+    let statement = Statement::Migrate(Migrate {
+        targets: Sequence::of(Vec::new(alloc)),
+    });
+    let bound = bind(alloc, &statement, &catalog, true)?;
+    Ok((
+        action_seen(&bound.action),
+        bound.catalog,
+        bound.schema_change,
+    ))
+}
+
+#[test]
+fn a_migration_stands_alone(rt: HostRuntime) -> Result<(), Fail> {
+    let seen = migration_inside(rt.alloc())?;
+    assert_eq!(rt; seen, (Told::MustBeAlone, 7, false));
     Ok(())
 }

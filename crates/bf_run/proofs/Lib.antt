@@ -1,1 +1,3 @@
+pub mod Parsed
 pub mod Told
+pub mod order

@@ -19,7 +19,7 @@ use Rattle.bf_parse.specs.Rules.{Rule, Return, Either, Others, no_other, other, 
 use Rattle.bf_parse.specs.Statements.{AfterKeyword, ColumnRuleRule, TableRule, IndexRuleRule, InsertRule, SelectRule, UpdateRule, DeleteRule, OrdinaryRule}
 use Rattle.bf_parse.specs.Scripts.{Statements, no_statement, ordinary, migrate, Progress, with_session, with_phase, nothing_yet, Sessions, no_session, session, Phases, no_phase, phase, IsScriptText}
 use Rattle.bf_run.specs.InOrder.{phases_rise_from}
-use Rattle.bf_run.specs.Narrow.{widest_table, is_narrow_statement, is_narrow_script}
+use Rattle.bf_run.specs.Narrow.{is_narrow_statement, is_narrow_script}
 
 -- one more session, in a phase that is not before that of any
 rise_one_more : (low : ℕ) (ss : List Session) (s : Session) → phases_rise_from low ss ≡ true
@@ -84,22 +84,22 @@ within_split : (steps front back : List Step) → steps ≡ front ++ back → wi
 within_split steps front back e h = within_parts front back (rw e at h)
 
 -- a part within the limits is at most the sixteenth
-part_within : (n : ℕ) → is_none (fault_at (Part n)) ≡ true → n ≤ widest_table
+part_within : (n : ℕ) → is_none (fault_at (Part n)) ≡ true → n ≤ 16
 part_within n h = grind (arith, nat_tests)
 
 -- a list within the limits is no longer than a table may be wide
 others_short : {A : Type 0} (rule : Rule A) (n : ℕ) (before : List A) (steps : List Step) (all : List A)
     → Others rule n before steps all
-    → n ≡ suc (length before) → length before ≤ widest_table → within steps ≡ true → length all ≤ widest_table
+    → n ≡ suc (length before) → length before ≤ 16 → within steps ≡ true → length all ≤ 16
 others_short rule n before steps all (no_other e f) here short inside = rw f short
 others_short rule n before steps all (other front back a one more e) here short inside =
     let marked = and_parts (is_none (fault_at (Part n))) (within (front ++ back)) (rw e at inside) in
-    let low : n ≤ widest_table = part_within n marked.0 in
+    let low : n ≤ 16 = part_within n marked.0 in
     let parts = within_parts front back marked.1 in
     others_short rule (suc n) (before ++ a ∷ []) back all more (omega (arith, length-append before (a ∷ []))) (omega (arith, length-append before (a ∷ []))) parts.1
 
 listed_short : {A : Type 0} (rule : Rule A) (steps : List Step) (all : List A) → Listed rule steps all
-    → within steps ≡ true → length all ≤ widest_table
+    → within steps ≡ true → length all ≤ 16
 listed_short rule steps all h inside =
     let parts = within_split steps h.0 h.1 h.3 inside in
     others_short rule 2 (h.2 ∷ []) h.1 all h.5 refl (omega arith) parts.1

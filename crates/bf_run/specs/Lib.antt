@@ -1,5 +1,5 @@
-pub mod Engine
-pub mod Marks
+pub mod Answers
+pub mod InOrder
+pub mod Narrow
 pub mod Outcome
-pub mod Run
-pub mod Serving
+pub mod Runs

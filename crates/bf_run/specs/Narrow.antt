@@ -1,17 +1,13 @@
--- Tables that are no wider than a table may be.
-use Rattle.std.specs.Prelude.{ℕ, Bool, true, nat_le, length}
+-- Scripts within the limit on columns.
+use Rattle.std.specs.Prelude.{Bool, true, List, length, nat_le}
 use Rattle.std.specs.List.{list_all}
 use Rattle.bf_sql.specs.declared.statement.Statement.{Statement}
 use Rattle.bf_sql.specs.declared.statement.Statement.TheVariants.{CreateTable}
 use Rattle.bf_sql.specs.declared.script.Script.{Script}
 
--- the most columns of a table
-abbrev pub widest_table : ℕ
-widest_table = 16
-
--- a statement that makes no table wider than that
+-- a table that is made has at most 16 columns
 abbrev pub is_narrow_statement : Statement → Bool
-is_narrow_statement (CreateTable name rules key) = nat_le (length rules) widest_table
+is_narrow_statement (CreateTable name rules key) = nat_le (length rules) 16
 is_narrow_statement other = true
 
 abbrev pub is_narrow_script : Script → Bool

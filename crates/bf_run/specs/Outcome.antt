@@ -1,19 +1,23 @@
 -- What a call of the program answers, when, and what it writes.
-use Rattle.std.specs.Prelude.{◌≡◌, ℕ, ◌+◌, ◌<◌, ◌≤◌, ◌^◌, ◌⊎◌, Bool, true, false, List, [], ◌∷◌, ◌++◌, length, codes, Option, Some, None}
+use Rattle.std.specs.Prelude.{◌≡◌, ℕ, ◌+◌, ◌⊎◌, Bool, true, false, List, [], ◌∷◌, ◌++◌, length, codes, Option, Some, None, Ok, Err, IsTrue}
 use Rattle.std.specs.Io.KnownBytes.{Appends, Keeps, Consumes, IsAtEnd}
 use lib.Pointwise.{pointwise}
 use Rattle.bf_io.specs.Causes.{Rose}
 use Rattle.bf_io.specs.Whole.{TookPrefix}
 use Rattle.bf_base.specs.Lists.{same_name}
-use Rattle.bf_lazy.specs.declared.statement.Script.{Script}
-use Rattle.bf_lazy.specs.declared.reply.Reply.{Reply}
-use Rattle.bf_lazy.specs.declared.history.Entry.{Entry}
-use Rattle.bf_lazy.specs.declared.history.Sweep.{Sweep}
+use Rattle.bf_lex.specs.declared.fault.ScriptFault.{ScriptFault}
+use Rattle.bf_lex.specs.declared.fault.ScriptKind.{ScriptKind}
+use Rattle.bf_lex.specs.declared.fault.ScriptKind.TheVariants as kind
+use Rattle.bf_parse.specs.Scripts.{IsScriptText, longest_script}
+use Rattle.bf_sql.specs.declared.script.Script.{Script}
+use Rattle.bf_sql.specs.declared.reply.Reply.{Reply}
+use Rattle.bf_sql.specs.declared.history.Entry.{Entry}
+use Rattle.bf_sql.specs.declared.history.Sweep.{Sweep}
+use Rattle.bf_text.specs.Replies.{newline, numbered}
+use Rattle.bf_text.specs.Report.{report_text}
 use Rattle.bf_run.specs.declared.status.Status.{Status}
-use Rattle.bf_run.specs.declared.status.Status.TheVariants.{Done, Usage, ReadFault, WriteFault, Memory, NotBuilt}
-use Rattle.bf_form.specs.Grammar.{IsScriptText}
-use Rattle.bf_text.specs.Report.{report_text, newline}
-use Rattle.bf_run.specs.Run.{IsRun}
+use Rattle.bf_run.specs.declared.status.Status.TheVariants.{Done, Usage, Script as ScriptError, ReadFault, WriteFault, Memory, NotBuilt}
+use Rattle.bf_run.specs.Runs.{IsOfForm, IsRunOf, is_plain_script}
 
 -- STREAM: the bytes that a source has left, or that a sink took, where they are told, and its count of faults, each
 -- before and after a call
@@ -37,47 +41,64 @@ OfBytes None P = (bytes : List ℕ) × P bytes
 OfBytes (Some bytes) P = P bytes
 
 -- the text is the report of a run of the script that the bytes are
-pub record IsReport (left : Option (List ℕ)) (text : List ℕ) : Type 0 where
+pub record IsReport (bytes text : List ℕ) : Type 0 where
   pub script : Script
   pub transcripts : List (List Reply)
   pub history : List Entry
   pub sweep : Sweep
-  pub is_script : OfBytes left (λ bytes. IsScriptText bytes script)
-  pub is_run : IsRun script transcripts history sweep
-  pub report_written : text ≡ report_text transcripts history sweep
+  pub is_script : IsScriptText bytes (Ok script)
+  pub is_run : IsRunOf bytes script transcripts history sweep
+  pub report_written : text ≡ report_text transcripts history None sweep
 
--- the most bytes that a script has
-abbrev pub longest_script : ℕ
-longest_script = 2 ^ 24
-
--- a script of the form within the limit
+-- a script that is served: each without blocks and migrations, and those of the form that migrates one table
 abbrev pub IsServed : List ℕ → Type 0
-IsServed bytes = (length bytes ≤ longest_script) × (script : Script) × IsScriptText bytes script
+IsServed bytes = (script : Script) × IsScriptText bytes (Ok script) × (IsTrue (is_plain_script script) ⊎ IsOfForm bytes)
 
--- more bytes than a script has, or no script of the form
+-- a script that is not served yet
 abbrev pub IsNotServed : List ℕ → Type 0
-IsNotServed bytes = (longest_script < length bytes) ⊎ ((script : Script) → IsScriptText bytes script → ⊥)
+IsNotServed bytes = (script : Script) × IsScriptText bytes (Ok script) × (is_plain_script script ≡ false) × (IsOfForm bytes → ⊥)
 
 -- the source was read to its end, or until it had given one byte more than a script has
 abbrev pub IsReadThrough : Stream → Type 0
 IsReadThrough input = IsAtEnd input.bytes_after ⊎ ((read : List ℕ) × (length read ≡ longest_script + 1) × Consumes input.bytes input.bytes_after read)
 
 -- CAUSES: when a status comes, for the words and the source, before anything is written. Where the source tells its
--- bytes no two of Usage, NotBuilt and Done can come for one input, so each of them comes exactly there, but for faults
--- and want of memory
+-- bytes no two of Usage, Script, NotBuilt and Done can come for one input, so each of them comes exactly there, but for
+-- faults and want of memory
 abbrev pub Comes : List (List ℕ) → Stream → Status → Type 0
 Comes words input Usage = (is_try words ≡ false) × Keeps input.bytes input.bytes_after × IsCalm input
-Comes words input NotBuilt = (is_try words ≡ true) × IsCalm input × OfBytes input.bytes IsNotServed × IsReadThrough input
+Comes words input (ScriptError fault) =
+    (is_try words ≡ true) × IsCalm input × OfBytes input.bytes (λ bytes. IsScriptText bytes (Err fault)) × IsReadThrough input
+Comes words input NotBuilt = (is_try words ≡ true) × IsCalm input × OfBytes input.bytes IsNotServed × IsAtEnd input.bytes_after
 Comes words input Done = (is_try words ≡ true) × IsCalm input × OfBytes input.bytes IsServed × IsAtEnd input.bytes_after
 Comes words input ReadFault = (is_try words ≡ true) × Rose input.faults input.faults_after
 Comes words input WriteFault = ⊥
 Comes words input Memory = Unit {0}
 
+abbrev pub kind_text : ScriptKind → List ℕ
+kind_text kind.BadByte = codes "bad byte"
+kind_text kind.OpenString = codes "open string"
+kind_text kind.NumberTooWide = codes "number too wide"
+kind_text kind.Syntax = codes "syntax"
+kind_text kind.TextTooLong = codes "text too long"
+kind_text kind.NameTooLong = codes "name too long"
+kind_text kind.TooManyColumns = codes "too many columns"
+kind_text kind.TooManySessions = codes "too many sessions"
+kind_text kind.TooManyMigrations = codes "too many migrations"
+kind_text kind.TooManyTargets = codes "too many targets"
+kind_text kind.TooDeep = codes "too deep"
+kind_text kind.ScriptTooLong = codes "script too long"
+
+-- the first fault of a text that is no script, behind the byte where it stands
+abbrev pub fault_text : ScriptFault → List ℕ
+fault_text fault = numbered (codes "script error at ") fault.at ++ codes ": " ++ kind_text fault.kind ++ newline
+
 -- the text of a status that has one
 abbrev pub IsTextOf : Stream → Status → List ℕ → Type 0
 IsTextOf input Usage text = text ≡ codes "usage error" ++ newline
+IsTextOf input (ScriptError fault) text = text ≡ fault_text fault
 IsTextOf input NotBuilt text = text ≡ codes "not built" ++ newline
-IsTextOf input Done text = IsReport input.bytes text
+IsTextOf input Done text = OfBytes input.bytes (λ bytes. IsReport bytes text)
 IsTextOf input ReadFault text = text ≡ codes "read fault" ++ newline
 IsTextOf input WriteFault text = ⊥
 IsTextOf input Memory text = ⊥
@@ -108,6 +129,7 @@ Ends words input output WriteFault = IsCutShort words input output
 Ends words input output Memory = Keeps output.bytes output.bytes_after × IsCalm output
 Ends words input output Done = AnswersWhole words input output Done
 Ends words input output Usage = AnswersWhole words input output Usage
+Ends words input output (ScriptError fault) = AnswersWhole words input output (ScriptError fault)
 Ends words input output NotBuilt = AnswersWhole words input output NotBuilt
 Ends words input output ReadFault = AnswersWhole words input output ReadFault
 
@@ -115,12 +137,8 @@ Ends words input output ReadFault = AnswersWhole words input output ReadFault
 abbrev pub number_of_status : Status → ℕ
 number_of_status Done = 0
 number_of_status Usage = 1
+number_of_status (ScriptError fault) = 2
 number_of_status ReadFault = 3
 number_of_status WriteFault = 4
 number_of_status Memory = 7
 number_of_status NotBuilt = 9
-
--- the report of the script that a text is, or nothing where the text is no script of the form
-abbrev pub FindsReport : List ℕ → Option (List ℕ) → Type 0
-FindsReport text (Some report) = IsReport (Some text) report
-FindsReport text None = (script : Script) → IsScriptText text script → ⊥

@@ -1,7 +1,8 @@
 //! The top call: from the bytes of a script to the printed report of its run.
 #![tactic(auto)]
 
-pub mod engine;
+pub mod laws;
+pub mod lone;
 pub mod serve;
 pub mod status;
 pub mod top;

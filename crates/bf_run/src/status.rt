@@ -1,7 +1,11 @@
 //! How a call ends.
 
-ghost use Rattle.std.specs.Prelude.{◌≡◌};
-ghost use Rattle.bf_run.specs.Outcome.{number_of_status};
+ghost use Rattle.std.specs.Prelude.{◌≡◌, ◌++◌, OnOk, codes};
+ghost use Rattle.bf_run.specs.Outcome.{fault_text, kind_text, number_of_status};
+
+use bf_base::Memory;
+use bf_lex::{ScriptFault, ScriptKind};
+use itoa::Buffer;
 
 /// How a call of the program ends.
 #[derive(Clone, Copy, Debug, PartialEq, Eq)]
@@ -10,13 +14,15 @@ pub enum Status {
     Done,
     /// The words are none of the program's.
     Usage,
+    /// The input is no script, and this is its first fault.
+    Script(ScriptFault),
     /// The source failed.
     ReadFault,
     /// The sink failed.
     WriteFault,
     /// Memory ran out, and nothing is written.
     Memory,
-    /// The input is no script of the form that is served so far.
+    /// The input is a script with blocks or migrations that are not served yet.
     NotBuilt,
 }
 
@@ -28,10 +34,43 @@ impl Status {
         match self {
             Status::Done => 0,
             Status::Usage => 1,
+            Status::Script(_) => 2,
             Status::ReadFault => 3,
             Status::WriteFault => 4,
             Status::Memory => 7,
             Status::NotBuilt => 9,
         }
     }
+}
+
+/// The words for a kind of fault.
+fn words_for(kind: ScriptKind) -> &'static [u8]
+    ensures { result.now ≡ kind_text kind }
+{
+    match kind {
+        ScriptKind::BadByte => b"bad byte",
+        ScriptKind::OpenString => b"open string",
+        ScriptKind::NumberTooWide => b"number too wide",
+        ScriptKind::Syntax => b"syntax",
+        ScriptKind::TextTooLong => b"text too long",
+        ScriptKind::NameTooLong => b"name too long",
+        ScriptKind::TooManyColumns => b"too many columns",
+        ScriptKind::TooManySessions => b"too many sessions",
+        ScriptKind::TooManyMigrations => b"too many migrations",
+        ScriptKind::TooManyTargets => b"too many targets",
+        ScriptKind::TooDeep => b"too deep",
+        ScriptKind::ScriptTooLong => b"script too long",
+    }
+}
+
+/// Appends the text of a fault. After an error some front of it may stand there.
+pub(crate) fn put_fault(out: &mut Vec<u8>, fault: ScriptFault) -> Result<(), Memory>
+    ensures { OnOk result (out.new.items ≡ out.old.items ++ fault_text fault) }
+{
+    out.extend_from_slice(b"script error at ")?;
+    out.extend_from_slice(Buffer::new().format(fault.at).as_bytes())?;
+    out.extend_from_slice(b": ")?;
+    out.extend_from_slice(words_for(fault.kind))?;
+    out.extend_from_slice(b"\n")?;
+    Ok(())
 }

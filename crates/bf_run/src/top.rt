@@ -1,30 +1,77 @@
 //! The top call.
 
-ghost use Rattle.std.specs.Prelude.{◌≡◌, IfOk, map};
+ghost use Rattle.std.specs.Prelude.{◌≡◌, IfOk, IsTrue, map};
 ghost use Rattle.std.specs.Option.{option_map};
-ghost use Rattle.bf_run.specs.Outcome.{IsAnswer, Ends, FindsReport};
+ghost use Rattle.bf_run.specs.Answers.{FindsForm, IsAnswerTo, Tells};
+ghost use Rattle.bf_run.specs.InOrder.{phases_rise_from};
+ghost use Rattle.bf_run.specs.Narrow.{is_narrow_script};
+ghost use Rattle.bf_run.specs.Outcome.{Ends, IsAnswer, fault_text};
+ghost use Rattle.bf_run.specs.Runs.{IsRun, is_plain_script};
 
-use crate::serve::serve;
-use crate::status::Status;
+use crate::serve::{is_plain, serve};
+use crate::status::{Status, put_fault};
 use crate::words::are_try;
 use bf_base::Memory;
 use bf_form::read_script;
 use bf_io::{ReadError, Sink, Source, read_all, write_whole};
+use bf_lex::{ScriptError, ScriptFault, ScriptKind};
+use bf_parse::script;
+use bf_sql::Script;
 use bf_text::report;
 use std::alloc::Global;
 
 /// The most bytes of a script.
 pub const LONGEST_SCRIPT: u32 = 1 << 24;
 
-/// The report of a run of the script that a text is, if it is one of the form.
-fn find_report(alloc: Global, text: &[u8]) -> Result<Option<Vec<u8>>, Memory>
-    ensures { IfOk result (λ found. FindsReport text.now (option_map (λ v. v.items) found)) }
+/// The status of a text that is no script, and what is written of its first fault.
+fn answer_fault(alloc: Global, fault: ScriptFault) -> Result<(Status, Vec<u8>), Memory>
+    ensures status { IfOk result (λ a. a.0 ≡ Status.Script fault) }
+    ensures text { IfOk result (λ a. a.1.items ≡ fault_text fault) }
 {
-    let Some(script) = read_script(alloc, text)? else {
+    let mut text = Vec::new(alloc);
+    put_fault(&mut text, fault)?;
+    Ok((Status::Script(fault), text))
+}
+
+/// The report of a run of a plain script.
+fn plain_report(alloc: Global, script: &Script) -> Result<Vec<u8>, Memory>
+    requires plain { IsTrue (is_plain_script script.now) }
+    requires narrow { IsTrue (is_narrow_script script.now) }
+    requires phases { IsTrue (phases_rise_from 0 script.now.sessions) }
+    ensures { IfOk result (λ text. Tells (IsRun script.now) text.items) }
+{
+    let run = serve(alloc, script)?;
+    report(alloc, &run.transcripts, &run.history, None, &run.sweep)
+}
+
+/// The report of a run of a text of the form that migrates one table lazily, if it is one.
+fn form_report(alloc: Global, text: &[u8]) -> Result<Option<Vec<u8>>, Memory>
+    ensures { IfOk result (λ found. FindsForm text.now (option_map (λ v. v.items) found)) }
+{
+    let Some(form) = read_script(alloc, text)? else {
         return Ok(None);
     };
-    let run = serve(alloc, &script)?;
-    Ok(Some(report(alloc, &run.transcripts, &run.history, run.sweep)?))
+    let run = bf_move::run(alloc, &form)?;
+    let text = report(alloc, &run.transcripts, &run.history, None, &run.sweep)?;
+    Ok(Some(text))
+}
+
+/// The status of an input that was read whole, and what is written.
+fn answer_text(alloc: Global, text: &[u8]) -> Result<(Status, Vec<u8>), Memory>
+    ensures { IfOk result (λ a. IsAnswerTo text.now a.0 a.1.items) }
+{
+    let script = match script(alloc, text) {
+        Ok(script) => script,
+        Err(ScriptError::Fault(fault)) => return answer_fault(alloc, fault),
+        Err(ScriptError::Memory) => return Err(Memory),
+    };
+    if is_plain(&script) {
+        return Ok((Status::Done, plain_report(alloc, &script)?));
+    }
+    match form_report(alloc, text)? {
+        Some(report) => Ok((Status::Done, report)),
+        None => Ok((Status::NotBuilt, Vec::from_slice(alloc, b"not built\n")?)),
+    }
 }
 
 /// The status and its whole text, before a byte is written.
@@ -45,13 +92,14 @@ fn answer<I: Source>(
         return Ok((Status::Usage, Vec::from_slice(alloc, b"usage error\n")?));
     }
     match read_all(alloc, input, LONGEST_SCRIPT) {
-        Ok(bytes) => match find_report(alloc, bytes.as_slice())? {
-            Some(text) => Ok((Status::Done, text)),
-            None => Ok((Status::NotBuilt, Vec::from_slice(alloc, b"not built\n")?)),
-        },
-        Err(ReadError::TooLong) => {
-            Ok((Status::NotBuilt, Vec::from_slice(alloc, b"not built\n")?))
-        }
+        Ok(bytes) => answer_text(alloc, bytes.as_slice()),
+        Err(ReadError::TooLong) => answer_fault(
+            alloc,
+            ScriptFault {
+                at: LONGEST_SCRIPT,
+                kind: ScriptKind::ScriptTooLong,
+            },
+        ),
         Err(ReadError::Fault) => Ok((Status::ReadFault, Vec::from_slice(alloc, b"read fault\n")?)),
         Err(ReadError::Memory) => Err(Memory),
     }

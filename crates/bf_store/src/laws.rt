@@ -1,6 +1,6 @@
 //! A law of the definitions. It is the contract of a function that does nothing.
 
-ghost use Rattle.std.specs.Prelude.{ℕ, IsTrue};
+ghost use Rattle.std.specs.Prelude.{ℕ, IsTrue, false};
 ghost use Rattle.bf_sql.specs.declared.statement.Statement.{Statement};
 ghost use Rattle.bf_sql.specs.Database.{Database, IsDatabase, empty_database};
 ghost use Rattle.bf_sql.specs.Meaning.{executed};

@@ -1,1 +1,4 @@
+pub mod Numbers
+pub mod Replies
 pub mod Report
+pub mod Told

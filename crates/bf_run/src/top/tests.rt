@@ -115,38 +115,235 @@ fn migrates_a_table_in_its_own_place(rt: HostRuntime) -> Result<(), Fail> {
 }
 
 #[test]
-fn refuses_other_words_and_other_forms(rt: HostRuntime) -> Result<(), Fail> {
+fn refuses_other_words(rt: HostRuntime) -> Result<(), Fail> {
     let alloc = rt.alloc();
     let none: [&str; 0] = [];
-    let usage = b"usage error\n".as_slice();
     for words in [none.as_slice(), &["go"], &["TRY"], &["try", "try"], &[""]] {
         let (status, text) = call(alloc, words, "")?;
         assert_eq!(rt; status, Status::Usage);
-        assert_eq!(rt; text.as_slice(), usage);
+        assert_eq!(rt; text.as_slice(), b"usage error\n".as_slice());
     }
-    for script in [
-        "SELECT * FROM",
-        "BEGIN;",
-        "-- a comment",
-        "INSERT INTO t VALUES ('a');",
-        "INSERT INTO t VALUES (1), (2);",
-        "SELECT id FROM t;",
-        "SELECT * FROM t WHERE id = 1 AND id = 2;",
-        "MIGRATE (CREATE TABLE u AS SELECT n FROM t);",
-        "MIGRATE (CREATE TABLE u AS SELECT id, id FROM t);",
-        "MIGRATE (CREATE TABLE u AS SELECT id FROM v);",
-        "MIGRATE (CREATE TABLE u AS SELECT id FROM t); MIGRATE (CREATE TABLE t AS SELECT id FROM u);",
-        "\x00",
-    ] {
+    Ok(())
+}
+
+/// Scripts behind the start with blocks or with migrations that are not served yet.
+const NOT_BUILT: [&str; 9] = [
+    "BEGIN;",
+    "COMMIT;",
+    "SELECT * FROM t; ROLLBACK;",
+    "SESSION; BEGIN; COMMIT;",
+    "MIGRATE (CREATE TABLE u AS SELECT n FROM t);",
+    "MIGRATE (CREATE TABLE u AS SELECT id, id FROM t);",
+    "MIGRATE (CREATE TABLE u AS SELECT id FROM v);",
+    "MIGRATE (CREATE TABLE u AS SELECT id FROM t); MIGRATE (CREATE TABLE t AS SELECT id FROM u);",
+    "MIGRATE (CREATE TABLE u AS SELECT id FROM t); -- a comment",
+];
+
+#[test]
+fn refuses_what_is_not_built(rt: HostRuntime) -> Result<(), Fail> {
+    let alloc = rt.alloc();
+    for script in NOT_BUILT {
         let (status, text) = call(alloc, &["try"], script)?;
         assert_eq!(rt; status, Status::NotBuilt, "{script:?}");
+        assert_eq!(rt; status.number(), 9);
         assert_eq!(rt; text.as_slice(), b"not built\n".as_slice());
     }
-    let mut input = CalmSource::new(Vec::from_slice(alloc, b"PHASE; SESSION;")?);
+    Ok(())
+}
+
+/// Texts that are no scripts, and what is written of them.
+const FAULTS: [(&str, &str); 7] = [
+    (
+        "PHASE; SESSION; SELECT * FROM",
+        "script error at 29: syntax\n",
+    ),
+    (
+        "PHASE; SESSION; SELECT 'a",
+        "script error at 23: open string\n",
+    ),
+    ("\x00", "script error at 0: bad byte\n"),
+    ("SESSION;", "script error at 0: syntax\n"),
+    (
+        "PHASE; SESSION; BEGIN; MIGRATE;",
+        "script error at 30: syntax\n",
+    ),
+    (
+        "PHASE; SESSION; SELECT id FROM t WHERE id = 9223372036854775808;",
+        "script error at 44: number too wide\n",
+    ),
+    (
+        "PHASE; SESSION; INSERT INTO t VALUES (1,1,1,1,1,1,1,1,1,1,1,1,1,1,1,1,1);",
+        "script error at 70: too many columns\n",
+    ),
+];
+
+#[test]
+fn tells_the_first_fault(rt: HostRuntime) -> Result<(), Fail> {
+    let alloc = rt.alloc();
+    for (script, wanted) in FAULTS {
+        let (status, text) = call_behind(alloc, "", &["try"], script)?;
+        assert_eq!(rt; status.number(), 2, "{script:?}");
+        assert_eq!(rt; text.as_slice(), wanted.as_bytes());
+    }
+    Ok(())
+}
+
+#[test]
+fn tells_that_a_script_is_too_long(rt: HostRuntime) -> Result<(), Fail> {
+    let alloc = rt.alloc();
+    let mut input = CalmSource::new(vec![in alloc; b' '; (1 << 24) + 1]?);
     let mut output = MemorySink::new(alloc, 100, Vec::new(alloc))?;
     let status = bullfrog(alloc, &["try"], &mut input, &mut output);
-    assert_eq!(rt; status.number(), 9);
-    assert_eq!(rt; output.bytes(), b"not built\n".as_slice());
+    assert_eq!(rt; status.number(), 2);
+    let wanted = b"script error at 16777216: script too long\n".as_slice();
+    assert_eq!(rt; output.bytes(), wanted);
+    Ok(())
+}
+
+/// Whole scripts, and their whole reports.
+const REPORTS: [(&str, &str); 4] = [
+    ("", "end commits 0 migration none\n"),
+    (
+        "-- nothing\n -- and nothing",
+        "end commits 0 migration none\n",
+    ),
+    ("PHASE; PHASE; SESSION;", "end commits 0 migration none\n"),
+    (
+        "PHASE; SESSION; CREATE TABLE t (id INT, PRIMARY KEY (id)); INSERT INTO t VALUES (1); \
+PHASE; SESSION; INSERT INTO t VALUES (2); SESSION; SESSION; INSERT INTO t VALUES (2); \
+PHASE; SESSION; SELECT COUNT(*) FROM t; SELECT * FROM u;",
+        "1.1 created\n1.2 inserted 1\n2.1 inserted 1\n4.1 E4 duplicate key (2)\n5.1 rows 1\n5.1 | 2\n\
+5.2 E1 no table u\nentry 1 session 1 from 1 to 1 committed 1\nentry 2 session 1 from 2 to 2 committed 2\n\
+entry 3 session 2 from 1 to 1 committed 3\nentry 4 session 4 from 1 to 1 committed 4\n\
+entry 5 session 5 from 1 to 1 committed 5\nentry 6 session 5 from 2 to 2 committed 6\n\
+end commits 6 migration none\n",
+    ),
+];
+
+#[test]
+fn runs_sessions_in_the_order_of_the_text(rt: HostRuntime) -> Result<(), Fail> {
+    let alloc = rt.alloc();
+    for (script, wanted) in REPORTS {
+        let (status, text) = call_behind(alloc, "", &["try"], script)?;
+        assert_eq!(rt; status, Status::Done, "{script:?}");
+        assert_eq!(rt; text.as_slice(), wanted.as_bytes());
+    }
+    Ok(())
+}
+
+/// A table with an index and a row, and a table with a check and a key of two columns.
+const TABLES: &str =
+    "PHASE; SESSION; CREATE TABLE t (id INT, s VARCHAR(3), PRIMARY KEY (id)); \
+CREATE INDEX i ON t (s); INSERT INTO t VALUES (1, 'abc'); \
+CREATE TABLE w (k INT CHECK (k BETWEEN 0 AND 9), s VARCHAR(1), n INT, PRIMARY KEY (s, k)); \
+INSERT INTO w VALUES (4, '''', -7);";
+
+/// The replies to these.
+const TABLES_MADE: &str = "1.1 created\n1.2 created\n1.3 inserted 1\n1.4 created\n1.5 inserted 1\n";
+
+/// Statements on these tables, each alone, and the reply. Where two faults are in one statement,
+/// the first one in the order of the language is told.
+const REPLIES: [(&str, &str); 55] = [
+    ("CREATE TABLE t (a INT, a INT, PRIMARY KEY (b));", "E7 table exists t"),
+    ("CREATE TABLE u (a INT, a INT, PRIMARY KEY (a));", "E13 name twice a"),
+    ("CREATE TABLE u (a INT, a VARCHAR(0), PRIMARY KEY (b));", "E13 name twice a"),
+    ("CREATE TABLE u (a VARCHAR(0), a INT, PRIMARY KEY (b));", "E6 too long"),
+    ("CREATE TABLE u (a VARCHAR(256), PRIMARY KEY (b));", "E6 too long"),
+    ("CREATE TABLE u (a INT CHECK (c BETWEEN 2 AND 1), PRIMARY KEY (b));", "E2 no column c"),
+    ("CREATE TABLE u (a INT CHECK (a BETWEEN 2 AND 1), PRIMARY KEY (b));", "E5 out of range"),
+    ("CREATE TABLE u (a INT, PRIMARY KEY (b, b));", "E2 no column b"),
+    ("CREATE TABLE u (a INT, PRIMARY KEY (a, a));", "E13 name twice a"),
+    ("CREATE TABLE u (a INT, i VARCHAR(255), PRIMARY KEY (i, a));", "created"),
+    ("CREATE INDEX i ON v (x);", "E1 no table v"),
+    ("CREATE INDEX i ON t (x, x);", "E2 no column x"),
+    ("CREATE INDEX i ON t (s, s);", "E13 name twice s"),
+    ("CREATE INDEX i ON w (s);", "E19 index exists i"),
+    ("CREATE INDEX t ON t (s, id);", "created"),
+    ("INSERT INTO v VALUES (1);", "E1 no table v"),
+    ("INSERT INTO t VALUES (2);", "E8 wrong count"),
+    ("INSERT INTO t VALUES ('a'), (2, 2);", "E8 wrong count"),
+    ("INSERT INTO t VALUES (2, 2), (3);", "E3 type mismatch"),
+    ("INSERT INTO t VALUES (1, 'long');", "E6 too long"),
+    ("INSERT INTO t VALUES (2, 'b'), (2, 'c'), (3, 'long');", "E4 duplicate key (2)"),
+    ("INSERT INTO w VALUES (10, 'ab', 0);", "E5 out of range"),
+    ("INSERT INTO w VALUES (4, '''', 0);", "E4 duplicate key ('''', 4)"),
+    ("INSERT INTO t VALUES (-2, ''), (9223372036854775807, 'x');", "inserted 2"),
+    ("SELECT x + 's' FROM v;", "E1 no table v"),
+    ("SELECT x FROM t;", "E2 no column x"),
+    ("SELECT s + 1 FROM t;", "E3 type mismatch"),
+    ("SELECT y.id, x FROM t;", "E1 no table y"),
+    ("SELECT t.x FROM t WHERE y.id = 1;", "E2 no column x"),
+    ("SELECT SUM(s) FROM t WHERE x = 1;", "E3 type mismatch"),
+    ("SELECT id FROM t WHERE s = 1 AND x = 1;", "E3 type mismatch"),
+    ("SELECT id FROM t WHERE x = 1 AND s = 1;", "E2 no column x"),
+    ("SELECT id + 9223372036854775807, s || s FROM t;", "E5 out of range"),
+    ("SELECT s || s FROM t WHERE id BETWEEN 1 AND 1;", "rows 1\n1.6 | 'abcabc'"),
+    ("SELECT id + 9223372036854775807 FROM t WHERE id > 1;", "rows 0"),
+    ("SELECT -id, 2 - 3 * id FROM t;", "rows 1\n1.6 | -1, -1"),
+    ("SELECT * FROM w WHERE s = '''' AND k = 4;", "rows 1\n1.6 | 4, '''', -7"),
+    ("SELECT COUNT(*), SUM(n), MIN(s), MAX(k) FROM w;", "rows 1\n1.6 | 1, -7, '''', 4"),
+    (
+        "SELECT COUNT(*), SUM(n), MIN(s), MAX(k) FROM w WHERE NOT n < 0;",
+        "rows 1\n1.6 | 0, NULL, NULL, NULL",
+    ),
+    ("SELECT SUM(n * 9223372036854775807) FROM w;", "E5 out of range"),
+    ("UPDATE v SET x = 1;", "E1 no table v"),
+    ("UPDATE t SET x = y;", "E2 no column x"),
+    ("UPDATE t SET id = 2;", "E9 key column id"),
+    ("UPDATE t SET id = x;", "E9 key column id"),
+    ("UPDATE t SET s = 'a', s = x;", "E13 name twice s"),
+    ("UPDATE t SET s = x + 1;", "E2 no column x"),
+    ("UPDATE t SET s = 1 WHERE x = 1;", "E3 type mismatch"),
+    ("UPDATE t SET s = 'a' WHERE x = 1;", "E2 no column x"),
+    ("UPDATE t SET s = s || 'd';", "E6 too long"),
+    ("UPDATE w SET n = n * 9223372036854775807;", "E5 out of range"),
+    ("UPDATE w SET n = k + n WHERE n = -7 OR k = 5;", "updated 1"),
+    ("DELETE FROM v WHERE x = 1;", "E1 no table v"),
+    ("DELETE FROM t WHERE x = 1;", "E2 no column x"),
+    ("DELETE FROM t WHERE s = 1;", "E3 type mismatch"),
+    ("DELETE FROM t WHERE s <> 'abd';", "deleted 1"),
+];
+
+/// Whether a report begins with the replies to the statements that make the tables and with
+/// another, and then tells six commits.
+fn has_reply(report: &[u8], reply: &str) -> bool {
+    let Some(rest) = report.strip_prefix(TABLES_MADE.as_bytes()) else {
+        return false;
+    };
+    let Some(rest) = rest.strip_prefix(b"1.6 ") else {
+        return false;
+    };
+    let Some(rest) = rest.strip_prefix(reply.as_bytes()) else {
+        return false;
+    };
+    rest.starts_with(b"\nentry 1 ") && rest.ends_with(b"\nend commits 6 migration none\n")
+}
+
+#[test]
+fn replies_to_each_statement(rt: HostRuntime) -> Result<(), Fail> {
+    let alloc = rt.alloc();
+    for (statement, reply) in REPLIES {
+        let (status, text) = call_behind(alloc, TABLES, &["try"], statement)?;
+        assert_eq!(rt; status, Status::Done, "{statement:?}");
+        assert!(rt; has_reply(text.as_slice(), reply), "{statement:?}");
+    }
+    Ok(())
+}
+
+// What a statement did is there for the next one, in the next session too, and what a refused one
+// would have done is not.
+#[test]
+fn statements_follow_one_another(rt: HostRuntime) -> Result<(), Fail> {
+    let alloc = rt.alloc();
+    let script = "DELETE FROM t; INSERT INTO w VALUES (3, 'b', 0), (9, 'a', 1); \
+UPDATE w SET n = n - k WHERE s = 'a' OR n = 0; INSERT INTO t VALUES (5, 'x'), (5, 'y'); \
+SESSION; SELECT * FROM w; SELECT * FROM t;";
+    let (status, text) = call_behind(alloc, TABLES, &["try"], script)?;
+    assert_eq!(rt; status, Status::Done);
+    let replies = b"1.6 deleted 1\n1.7 inserted 2\n1.8 updated 2\n1.9 E4 duplicate key (5)\n\
+2.1 rows 3\n2.1 | 4, '''', -7\n2.1 | 9, 'a', -8\n2.1 | 3, 'b', -3\n2.2 rows 0\nentry 1 ";
+    let from = TABLES_MADE.len().min(text.len());
+    assert!(rt; text.as_slice()[from..].starts_with(replies));
     Ok(())
 }
 

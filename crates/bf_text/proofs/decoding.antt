@@ -1,0 +1,9 @@
+pub mod Counterexample
+pub mod Endings
+pub mod Forms
+pub mod Items
+pub mod Pieces
+pub mod Reports
+pub mod Runs
+pub mod Series
+pub mod Sessions

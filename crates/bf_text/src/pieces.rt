@@ -1,0 +1,138 @@
+//! What texts are made of: words, numbers, and things one behind the other.
+
+ghost use Rattle.std.specs.Prelude.{◌≡◌, ℕ, ◌++◌, List, OnOk, map, flat_map, codes};
+ghost use Rattle.std.specs.Fmt.{decimal, signed_decimal};
+ghost use Rattle.bf_text.specs.Replies.{listed, numbered};
+ghost use Rattle.bf_text.specs.Report.{texts_from};
+
+use bf_base::{Memory, Name};
+use itoa::Buffer;
+
+/// Appends words.
+pub(crate) fn put(out: &mut Vec<u8>, words: &[u8]) -> Result<(), Memory>
+    ensures { OnOk result (out.new.items ≡ out.old.items ++ words.now) }
+{
+    out.extend_from_slice(words)?;
+    Ok(())
+}
+
+pub(crate) fn put_number(out: &mut Vec<u8>, number: u64) -> Result<(), Memory>
+    ensures { OnOk result (out.new.items ≡ out.old.items ++ decimal number) }
+{
+    put(out, Buffer::new().format(number).as_bytes())
+}
+
+pub(crate) fn put_signed(out: &mut Vec<u8>, number: i64) -> Result<(), Memory>
+    ensures { OnOk result (out.new.items ≡ out.old.items ++ signed_decimal number) }
+{
+    put(out, Buffer::new().format(number).as_bytes())
+}
+
+/// Appends words before a number.
+pub(crate) fn put_numbered(out: &mut Vec<u8>, words: &[u8], number: u64) -> Result<(), Memory>
+    ensures { OnOk result (out.new.items ≡ out.old.items ++ numbered words.now number) }
+{
+    put(out, words)?;
+    put_number(out, number)
+}
+
+/// Appends words before a name.
+pub(crate) fn put_named(out: &mut Vec<u8>, words: &[u8], name: &Name) -> Result<(), Memory>
+    ensures { OnOk result (out.new.items ≡ out.old.items ++ (words.now ++ name.now)) }
+{
+    put(out, words)?;
+    put(out, name.as_bytes())
+}
+
+/// Appends words before a name, and behind it further words before a number.
+pub(crate) fn put_named_numbered(
+    out: &mut Vec<u8>,
+    words: &[u8],
+    name: &Name,
+    behind: &[u8],
+    number: u64,
+) -> Result<(), Memory>
+    ensures { OnOk result (out.new.items ≡ out.old.items ++ ((words.now ++ name.now) ++ numbered behind.now number)) }
+{
+    put_named(out, words, name)?;
+    put_numbered(out, behind, number)
+}
+
+/// What has a text at a place.
+pub(crate) trait Piece {
+    /// What the text tells beside the piece.
+    type Place: Copy;
+
+    ghost text: { Self.Place → Self → List ℕ };
+
+    /// Appends the piece's text.
+    fn put_at(&self, out: &mut Vec<u8>, place: Self::Place) -> Result<(), Memory>
+        ensures { OnOk result (out.new.items ≡ out.old.items ++ text place self.now) };
+}
+
+/// Appends the texts of pieces, with nothing between.
+pub(crate) fn put_each<T: Piece>(
+    out: &mut Vec<u8>,
+    place: T::Place,
+    pieces: &[T],
+) -> Result<(), Memory>
+    ensures { OnOk result (out.new.items ≡ out.old.items ++ flat_map (T.text place) pieces.now) }
+{
+    for piece in pieces {
+        piece.put_at(out, place)?;
+    }
+    Ok(())
+}
+
+fn put_further<T: Piece>(out: &mut Vec<u8>, place: T::Place, pieces: &[T]) -> Result<(), Memory>
+    ensures { OnOk result (out.new.items ≡ out.old.items ++ flat_map (λ y. codes ", " ++ y) (map (T.text place) pieces.now)) }
+{
+    for piece in pieces {
+        put(out, b", ")?;
+        piece.put_at(out, place)?;
+    }
+    Ok(())
+}
+
+/// Appends the texts of pieces, with a comma and a space between.
+pub(crate) fn put_listed<T: Piece>(
+    out: &mut Vec<u8>,
+    place: T::Place,
+    pieces: &[T],
+) -> Result<(), Memory>
+    ensures { OnOk result (out.new.items ≡ out.old.items ++ listed (map (T.text place) pieces.now)) }
+{
+    match pieces {
+        [] => Ok(()),
+        [first, rest @ ..] => {
+            first.put_at(out, place)?;
+            put_further(out, place, rest)
+        }
+    }
+}
+
+/// What has a text that tells its number.
+pub(crate) trait Counted {
+    /// What the text tells beside the thing and its number.
+    type Whole: Copy;
+
+    ghost text: { Self.Whole → ℕ → Self → List ℕ };
+
+    /// Appends the thing's text.
+    fn put_counted(&self, out: &mut Vec<u8>, whole: Self::Whole, number: u64) -> Result<(), Memory>
+        ensures { OnOk result (out.new.items ≡ out.old.items ++ text whole number self.now) };
+}
+
+/// Appends the texts of things, counted from 1.
+pub(crate) fn put_all_counted<T: Counted>(
+    out: &mut Vec<u8>,
+    whole: T::Whole,
+    things: &[T],
+) -> Result<(), Memory>
+    ensures { OnOk result (out.new.items ≡ out.old.items ++ texts_from (T.text whole) 1 things.now) }
+{
+    for (index, thing) in things.iter().enumerate() {
+        thing.put_counted(out, whole, index as u64 + 1)?;
+    }
+    Ok(())
+}
