@@ -1,7 +1,8 @@
 //! The committed tables: a catalog, and the rows of each of its tables in a heap.
 #![tactic(auto)]
 
-pub mod laws;
+mod changes;
+mod places;
 pub mod store;
 #[cfg(test)]
 mod tests;

@@ -1,0 +1,3 @@
+mod ByName
+mod Held
+mod Written
