@@ -1,5 +1,5 @@
 -- What a store holds: a catalog, and a heap for each of its tables.
-use Rattle.std.specs.Prelude.{◌≡◌, ℕ, List, length, map, zip}
+use Rattle.std.specs.Prelude.{◌≡◌, List, length, map, zip}
 use Rattle.std.specs.List.{All}
 use Rattle.bf_base.specs.declared.table.Table.{Table}
 use Rattle.bf_heap.specs.Heaps.{Rows}
