@@ -43,7 +43,7 @@ names_held [] heaps same = refl
 names_held (t ∷ tables) [] same = absurd (omega arith)
 names_held (t ∷ tables) (h ∷ heaps) same = ap (λ ns. t.name ∷ ns) (names_held tables heaps (omega arith))
 
-length-zipped : (tables : List Table) (heaps : List Rows) → length heaps ≡ length tables → length (zip tables heaps) ≡ length tables
+pub length-zipped : (tables : List Table) (heaps : List Rows) → length heaps ≡ length tables → length (zip tables heaps) ≡ length tables
 length-zipped [] heaps same = refl
 length-zipped (t ∷ tables) [] same = absurd (omega arith)
 length-zipped (t ∷ tables) (h ∷ heaps) same = ap suc (length-zipped tables heaps (omega arith))
@@ -54,7 +54,7 @@ in_zip tables heaps i same in_range = omega (arith, length-zipped tables heaps s
 in_held : (tables : List Table) (heaps : List Rows) (i : ℕ) → length heaps ≡ length tables → i < length tables → i < length (held tables heaps)
 in_held tables heaps i same in_range = omega (arith, length-map (zip tables heaps) stored, length-zipped tables heaps same)
 
-stored_held : (tables : List Table) (heaps : List Rows) (i : ℕ) (s : Stored) (t : Table) (h : Rows) → length heaps ≡ length tables → i < length tables → get_or (held tables heaps) i s ≡ stored (get_or tables i t, get_or heaps i h)
+pub stored_held : (tables : List Table) (heaps : List Rows) (i : ℕ) (s : Stored) (t : Table) (h : Rows) → length heaps ≡ length tables → i < length tables → get_or (held tables heaps) i s ≡ stored (get_or tables i t, get_or heaps i h)
 stored_held tables heaps i s t h same in_range =
     get_or-map stored (zip tables heaps) i (t, h) s (in_zip tables heaps i same in_range)
     ∙ ap stored (get_or-zip tables heaps i (t, h) in_range (omega arith))

@@ -1,3 +1,4 @@
 mod ByName
+mod Created
 mod Held
 mod Written

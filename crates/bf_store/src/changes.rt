@@ -1,8 +1,8 @@
 //! What a transaction has written, put into the heaps of tables.
 
-ghost use Rattle.std.specs.Prelude.{◌≡◌, ◌≤◌, ◌+◌, ◌<◌, OnOk, IfSome, cond, count_by, is_some, length, map};
+ghost use Rattle.std.specs.Prelude.{◌≡◌, ◌≤◌, ◌+◌, OnOk, count_by, is_some, length, map};
 ghost use Rattle.bf_query.specs.Merged.{applied};
-ghost use Rattle.bf_store.specs.Changes.{AreWritten, HaveRoomFor, entries_in};
+ghost use Rattle.bf_store.specs.Changes.{AreWritten, HaveRoomFor, entries_in, put_by};
 ghost use Rattle.bf_store.specs.Places.{AreByName};
 
 use crate::places::place_near;
@@ -49,9 +49,9 @@ pub fn make_room(
 
 /// Puts the row of a write into a heap, or removes the one that is there. Takes no memory.
 fn change(heap: &mut Heap, write: Write)
-    requires { IfSome write.row (λ _. 0 < heap.old.spare) }
+    requires { put_by write ≤ heap.old.spare }
     ensures entries { heap.new.entries ≡ applied heap.old.entries write }
-    ensures spare { heap.old.spare ≤ heap.new.spare + cond (is_some write.row) 1 0 }
+    ensures spare { heap.old.spare ≤ heap.new.spare + put_by write }
 {
     let Write { key, row, .. } = write;
     match row {
