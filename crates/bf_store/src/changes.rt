@@ -39,7 +39,9 @@ pub fn make_room(
         }
         if let Some(place) = place {
             let count = count_puts(writes.of_table(&write.table));
-            let count = u32::try_from(count).map_err(|_| Memory)?;
+            let Ok(count) = u32::try_from(count) else {
+                return Err(Memory);
+            };
             heaps[place].reserve(count)?;
         }
         last = place;
