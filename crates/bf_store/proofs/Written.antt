@@ -95,7 +95,7 @@ module _ (tables : List Table) (w : Write) (place : Option ℕ) (at : IsPlaceOf 
     ]
   ]
 
-  place_within : (p : ℕ) → place ≡ Some p → p < length tables
+  pub place_within : (p : ℕ) → place ≡ Some p → p < length tables
   place_within p is = subst (λ (o : Option ℕ). IfSome o (λ p. p < length tables)) is at.within
 
   -- a heap that has got room for all writes to its table
