@@ -1,1 +1,5 @@
+mod ByName
+mod Created
+mod Held
+mod Written
 pub mod keeps

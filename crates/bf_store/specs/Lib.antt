@@ -1,2 +1,4 @@
+pub mod Changes
+pub mod Places
 pub mod Plain
 pub mod Stores

@@ -9,7 +9,9 @@ ghost use Rattle.bf_sql.specs.Database.{IsDatabase, empty_database, stored_at, s
 ghost use Rattle.bf_sql.specs.Meaning.{next_number, with_index};
 ghost use Rattle.bf_store.specs.Stores.{catalog_of, committed};
 
-use bf_base::{Memory, Name, Table};
+use crate::changes::{apply, make_room};
+use crate::places::{index_place, insert_at, place_of, table_place};
+use bf_base::{Memory, Name, Sequence, Table};
 use bf_heap::Heap;
 use bf_sql::{Catalog, IndexRule};
 use bf_txn::Workspace;
@@ -19,6 +21,7 @@ use std::marker::Model;
 /// The committed tables. Contracts see the database that they are.
 #[derive(Drop)]
 pub struct Store {
+    alloc: Global,
     catalog: Catalog,
     /// For each table of the catalog, in its order, the rows.
     heaps: Vec<Heap>,
@@ -41,6 +44,15 @@ impl Store {
     pub fn new(alloc: Global) -> Store
         ensures { result ≡ empty_database }
     {
+        Store {
+            alloc,
+            catalog: Catalog {
+                number: 0,
+                tables: Sequence::of(Vec::new(alloc)),
+                indexes: Sequence::of(Vec::new(alloc)),
+            },
+            heaps: Vec::new(alloc),
+        }
     }
 
     /// The catalog. Takes no memory.
@@ -48,6 +60,7 @@ impl Store {
         ensures catalog { result.now ≡ catalog_of self.now }
         ensures database { IsDatabase self.now }
     {
+        &self.catalog
     }
 
     /// The rows of the table of a name, each under its key, and `None` exactly where no table has
@@ -55,6 +68,8 @@ impl Store {
     pub fn heap(&self, table: &Name) -> Option<&Heap>
         ensures { option_map (λ heap. heap.now.entries) result ≡ option_map (λ s. entries_of s.table s.rows) (stored_at self.now table.now) }
     {
+        let place = place_of(self.catalog.tables.as_slice(), table)?;
+        Some(&self.heaps[place])
     }
 
     /// Adds a table without rows, and counts a schema change. It moves the tables behind it.
@@ -67,6 +82,13 @@ impl Store {
         ensures ok { OnOk result (self.new ≡ next_number (with_tables (stored_in_order table [] ∷ []) self.old)) }
         ensures err { OnErr result (self.new ≡ self.old) }
     {
+        let number = self.catalog.number.checked_add(1).ok_or(Memory)?;
+        let place = table_place(self.catalog.tables.as_slice(), &table.name);
+        self.heaps.reserve(1)?;
+        insert_at(alloc, &mut self.catalog.tables, place, table)?;
+        self.heaps.insert(place, Heap::new(alloc)).unwrap();
+        self.catalog.number = number;
+        Ok(())
     }
 
     /// Adds an index rule, and counts a schema change. It moves the rules behind it. No index is
@@ -79,6 +101,11 @@ impl Store {
         ensures ok { OnOk result (self.new ≡ next_number (with_index index self.old)) }
         ensures err { OnErr result (self.new ≡ self.old) }
     {
+        let number = self.catalog.number.checked_add(1).ok_or(Memory)?;
+        let place = index_place(self.catalog.indexes.as_slice(), &index.name);
+        insert_at(self.alloc, &mut self.catalog.indexes, place, index)?;
+        self.catalog.number = number;
+        Ok(())
     }
 
     /// Makes what a transaction has written part of its tables, and each other table stays. A write
@@ -93,5 +120,9 @@ impl Store {
         ensures ok { OnOk result (self.new ≡ committed self.old writes) }
         ensures err { OnErr result (self.new ≡ self.old) }
     {
+        let tables = self.catalog.tables.as_slice();
+        make_room(tables, &mut self.heaps, &writes)?;
+        apply(tables, &mut self.heaps, writes.into_writes());
+        Ok(())
     }
 }
