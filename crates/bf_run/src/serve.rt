@@ -3,6 +3,7 @@
 ghost use Rattle.std.specs.Prelude.{◌≡◌, ◌+◌, ◌++◌, IfOk, IsTrue, OnOk, length};
 ghost use Rattle.std.specs.List.{list_all};
 ghost use Rattle.bf_bind.specs.Limits.{HasNarrowTables};
+ghost use Rattle.bf_sql.specs.Database.{empty_database};
 ghost use Rattle.bf_run.specs.InOrder.{all_entries_from, entries_from, phases_rise_from, run_from, sessions_from};
 ghost use Rattle.bf_run.specs.Narrow.{is_narrow_script, is_narrow_statement};
 ghost use Rattle.bf_run.specs.Runs.{IsRun, is_plain_script};
@@ -36,24 +37,17 @@ fn is_plain_statement(statement: &Statement) -> bool
 fn are_plain(statements: &[Statement]) -> bool
     ensures { result ≡ list_all is_plain statements.now }
 {
-    for statement in statements {
-        if !is_plain_statement(statement) {
-            return false;
-        }
-    }
-    true
+    statements
+        .iter()
+        .all(|statement| is_plain_statement(statement))
 }
 
 /// Whether no BEGIN, COMMIT, ROLLBACK or MIGRATE stands in a script.
 pub fn is_plain(script: &Script) -> bool
     ensures { result ≡ is_plain_script script.now }
 {
-    for session in script.sessions.as_slice() {
-        if !are_plain(session.statements.as_slice()) {
-            return false;
-        }
-    }
-    true
+    let mut sessions = script.sessions.as_slice().iter();
+    sessions.all(|session| are_plain(session.statements.as_slice()))
 }
 
 /// One more than a count. A count that is too high for an entry counts as want of memory.
