@@ -86,6 +86,23 @@ const SORTED: [(&str, i64, Option<i64>); 5] = [
     ("b", 2, None),
 ];
 
+/// Compares a write with one of the list.
+fn expect_write(
+    rt: &impl Abort,
+    alloc: Global,
+    write: &Write,
+    wanted: &(&str, i64, Option<i64>),
+) -> Result<(), Fail> {
+    let (table, key, row) = *wanted;
+    assert_eq!(rt; write.table.as_bytes(), table.as_bytes());
+    assert!(rt;
+        write.key == Key::of(values(alloc, key)?),
+        "at {key} in {table}"
+    );
+    assert_eq!(rt; number(write.row.as_ref()), row, "at {key} in {table}");
+    Ok(())
+}
+
 #[test]
 fn sorts_the_last_writes(rt: HostRuntime) -> Result<(), Fail> {
     let alloc = rt.alloc();
@@ -95,14 +112,15 @@ fn sorts_the_last_writes(rt: HostRuntime) -> Result<(), Fail> {
     }
     let set = workspace.write_set(alloc)?;
     assert_eq!(rt; set.writes.as_slice().len(), SORTED.len());
-    for (write, (table, key, row)) in set.writes.as_slice().iter().zip(&SORTED) {
-        assert_eq!(rt; write.table.as_bytes(), table.as_bytes());
-        assert!(rt;
-            write.key == Key::of(values(alloc, *key)?),
-            "at {key} in {table}"
-        );
-        assert_eq!(rt; number(write.row.as_ref()), *row, "at {key} in {table}");
+    for (write, wanted) in set.writes.as_slice().iter().zip(&SORTED) {
+        expect_write(&rt, alloc, write, wanted)?;
     }
     assert!(rt; set == workspace.write_set(alloc)?);
+    assert_eq!(rt; workspace.as_slice().len(), SORTED.len());
+    let writes = workspace.into_writes();
+    assert_eq!(rt; writes.len(), SORTED.len());
+    for (write, wanted) in writes.iter().zip(&SORTED) {
+        expect_write(&rt, alloc, write, wanted)?;
+    }
     Ok(())
 }

@@ -87,6 +87,22 @@ impl Workspace {
         &from[..count]
     }
 
+    /// All writes, sorted by table, then key. Takes no memory.
+    pub fn as_slice(&self) -> &[Box<Write>]
+        ensures writes { map (λ write. write.value) result.now ≡ self.now }
+        ensures sorted { AreWrites self.now }
+    {
+        self.writes.as_slice()
+    }
+
+    /// The writes themselves, sorted by table, then key. Copies nothing, and takes no memory.
+    pub fn into_writes(self) -> Vec<Box<Write>>
+        ensures writes { map (λ write. write.value) result.items ≡ self }
+        ensures sorted { AreWrites self }
+    {
+        self.writes
+    }
+
     /// Notes a write, which takes the place of an earlier one to its key. After an error the
     /// workspace is as it was.
     pub fn write(&mut self, table: Name, key: Key, row: Option<Row>) -> Result<(), Memory>
