@@ -1,4 +1,5 @@
 pub mod InOrder
+pub mod Lone
 pub mod Narrow
 pub mod Outcome
 pub mod Runs
