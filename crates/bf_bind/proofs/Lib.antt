@@ -1,7 +1,6 @@
 pub mod Statements
 pub mod Columns
 pub mod Creating
-pub mod Fixtures
 pub mod Keys
 pub mod Lookups
 pub mod Tuples

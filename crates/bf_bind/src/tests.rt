@@ -18,7 +18,7 @@ use std::alloc::Global;
 use std::test::Fail;
 
 /// A literal or a column.
-#[derive(Clone, Copy, Debug)]
+#[derive(Clone, Copy)]
 enum Part {
     Number(i64),
     Letters(&'static str),
@@ -33,7 +33,7 @@ type Sum = (Part, &'static [Part]);
 /// The sides of an equality.
 type Pair = (Part, Part);
 
-#[derive(Clone, Copy, Debug)]
+#[derive(Clone, Copy)]
 enum Where {
     All,
     Equal(Part, Part),
@@ -42,7 +42,7 @@ enum Where {
     Between(Part, Part, i64),
 }
 
-#[derive(Clone, Copy, Debug)]
+#[derive(Clone, Copy)]
 enum Form {
     Int,
     Check(&'static str, i64, i64),
@@ -52,7 +52,7 @@ enum Form {
 /// A column's name and what it is declared to admit.
 type Rule = (&'static str, Form);
 
-#[derive(Clone, Copy, Debug)]
+#[derive(Clone, Copy)]
 enum Line {
     /// A table of two columns, and its key.
     Create(&'static str, Rule, Rule, &'static [&'static str]),
