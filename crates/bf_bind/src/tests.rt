@@ -18,7 +18,7 @@ use std::alloc::Global;
 use std::test::Fail;
 
 /// A literal or a column.
-#[derive(Clone, Copy, Debug)]
+#[derive(Clone, Copy)]
 enum Part {
     Number(i64),
     Letters(&'static str),
@@ -30,26 +30,32 @@ enum Part {
 /// A part, and those that are added to it from the left.
 type Sum = (Part, &'static [Part]);
 
-#[derive(Clone, Copy, Debug)]
+/// The sides of an equality.
+type Pair = (Part, Part);
+
+#[derive(Clone, Copy)]
 enum Where {
     All,
     Equal(Part, Part),
     /// Three equalities that AND joins from the left.
-    Equals([(Part, Part); 3]),
-    Between(Part, Part, Part),
+    Equals(Pair, Pair, Pair),
+    Between(Part, Part, i64),
 }
 
-#[derive(Clone, Copy, Debug)]
+#[derive(Clone, Copy)]
 enum Form {
     Int,
     Check(&'static str, i64, i64),
     Varchar(u64),
 }
 
-#[derive(Clone, Copy, Debug)]
+/// A column's name and what it is declared to admit.
+type Rule = (&'static str, Form);
+
+#[derive(Clone, Copy)]
 enum Line {
     /// A table of two columns, and its key.
-    Create(&'static str, [(&'static str, Form); 2], &'static [&'static str]),
+    Create(&'static str, Rule, Rule, &'static [&'static str]),
     /// An index, its table, and its columns.
     Index(&'static str, &'static str, &'static [&'static str]),
     Insert(&'static str, &'static [&'static [Part]]),
@@ -220,7 +226,7 @@ fn summed(alloc: Global, (first, others): Sum) -> Result<RawExpr, Fail> {
     Ok(sum)
 }
 
-fn equal(alloc: Global, (left, right): (Part, Part)) -> Result<RawCond, Fail> {
+fn equal(alloc: Global, (left, right): Pair) -> Result<RawCond, Fail> {
     let left = operand(alloc, left)?;
     let right = operand(alloc, right)?;
     Ok(RawCond::of(RawTest::Compare(Compare::Equal, left, right)))
@@ -232,24 +238,40 @@ fn both(alloc: Global, left: RawCond, right: RawCond) -> Result<RawCond, Fail> {
     Ok(RawCond::of(RawTest::And(left, right)))
 }
 
+fn two_equal(alloc: Global, first: Pair, second: Pair) -> Result<RawCond, Fail> {
+    let left = equal(alloc, first)?;
+    let right = equal(alloc, second)?;
+    both(alloc, left, right)
+}
+
+fn three_equal(
+    alloc: Global,
+    first: Pair,
+    second: Pair,
+    third: Pair,
+) -> Result<Option<RawCond>, Fail> {
+    let left = two_equal(alloc, first, second)?;
+    let right = equal(alloc, third)?;
+    Ok(Some(both(alloc, left, right)?))
+}
+
+fn within(alloc: Global, middle: Part, low: Part, high: i64) -> Result<Option<RawCond>, Fail> {
+    let middle = operand(alloc, middle)?;
+    let low = operand(alloc, low)?;
+    let high = Operand::Value(Value::Int(high));
+    Ok(Some(RawCond::of(RawTest::Between(middle, low, high))))
+}
+
 fn condition(alloc: Global, which: Where) -> Result<Option<RawCond>, Fail> {
     match which {
         Where::All => Ok(None),
         Where::Equal(left, right) => Ok(Some(equal(alloc, (left, right))?)),
-        Where::Equals([first, second, third]) => {
-            let front = both(alloc, equal(alloc, first)?, equal(alloc, second)?)?;
-            Ok(Some(both(alloc, front, equal(alloc, third)?)?))
-        }
-        Where::Between(middle, low, high) => {
-            let middle = operand(alloc, middle)?;
-            let low = operand(alloc, low)?;
-            let high = operand(alloc, high)?;
-            Ok(Some(RawCond::of(RawTest::Between(middle, low, high))))
-        }
+        Where::Equals(first, second, third) => three_equal(alloc, first, second, third),
+        Where::Between(middle, low, high) => within(alloc, middle, low, high),
     }
 }
 
-fn rule(alloc: Global, (letters, form): (&str, Form)) -> Result<ColumnRule, Fail> {
+fn rule(alloc: Global, (letters, form): Rule) -> Result<ColumnRule, Fail> {
     let name = name(alloc, letters.as_bytes())?;
     let form = match form {
         Form::Int => ColumnForm::Int,
@@ -261,10 +283,9 @@ fn rule(alloc: Global, (letters, form): (&str, Form)) -> Result<ColumnRule, Fail
     Ok(ColumnRule { name, form })
 }
 
-fn rules(alloc: Global, columns: [(&'static str, Form); 2]) -> Result<Sequence<ColumnRule>, Fail>
+fn rules(alloc: Global, first: Rule, second: Rule) -> Result<Sequence<ColumnRule>, Fail>
     ensures { IfOk result (λ rules. length rules ≡ 2) }
 {
-    let [first, second] = columns;
     let mut rules = Vec::new(alloc);
     rules.push(rule(alloc, first)?)?;
     rules.push(rule(alloc, second)?)?;
@@ -315,7 +336,8 @@ fn totals(alloc: Global, value: Sum) -> Result<List, Fail> {
 fn created(
     alloc: Global,
     table: &str,
-    columns: [(&'static str, Form); 2],
+    first: Rule,
+    second: Rule,
     key: &[&str],
 ) -> Result<Statement, Fail>
     ensures bound { IfOk result (λ statement. is_planned false statement ≡ false) }
@@ -323,20 +345,74 @@ fn created(
 {
     Ok(Statement::CreateTable {
         name: name(alloc, table.as_bytes())?,
-        columns: rules(alloc, columns)?,
+        columns: rules(alloc, first, second)?,
         key: names(alloc, key)?,
     })
 }
 
-fn selected(alloc: Global, list: List, table: &str, which: Where) -> Result<Statement, Fail>
+fn indexed(alloc: Global, letters: &str, table: &str, columns: &[&str]) -> Result<Statement, Fail>
     ensures bound { IfOk result (λ statement. is_planned false statement ≡ false) }
     ensures declared { IfOk result (λ statement. length (declared_columns statement) ≤ 16) }
 {
+    let name = name(alloc, letters.as_bytes())?;
+    let table = self::name(alloc, table.as_bytes())?;
+    let columns = names(alloc, columns)?;
+    Ok(Statement::CreateIndex {
+        name,
+        table,
+        columns,
+    })
+}
+
+fn inserted(alloc: Global, table: &str, all: &[&[Part]]) -> Result<Statement, Fail>
+    ensures bound { IfOk result (λ statement. is_planned false statement ≡ false) }
+    ensures declared { IfOk result (λ statement. length (declared_columns statement) ≤ 16) }
+{
+    let table = name(alloc, table.as_bytes())?;
+    let tuples = tuples(alloc, all)?;
+    Ok(Statement::Insert { table, tuples })
+}
+
+fn selected(alloc: Global, table: &str, value: Sum, which: Where) -> Result<Statement, Fail>
+    ensures bound { IfOk result (λ statement. is_planned false statement ≡ false) }
+    ensures declared { IfOk result (λ statement. length (declared_columns statement) ≤ 16) }
+{
+    let table = name(alloc, table.as_bytes())?;
+    let list = expressions(alloc, value)?;
+    let cond = condition(alloc, which)?;
+    Ok(Statement::Select { list, table, cond })
+}
+
+fn totalled(alloc: Global, value: Sum) -> Result<Statement, Fail>
+    ensures bound { IfOk result (λ statement. is_planned false statement ≡ false) }
+    ensures declared { IfOk result (λ statement. length (declared_columns statement) ≤ 16) }
+{
+    let table = name(alloc, b"t")?;
+    let list = totals(alloc, value)?;
     Ok(Statement::Select {
         list,
-        table: name(alloc, table.as_bytes())?,
-        cond: condition(alloc, which)?,
+        table,
+        cond: None,
     })
+}
+
+fn updated(alloc: Global, table: &str, all: &[(&str, Sum)], which: Where) -> Result<Statement, Fail>
+    ensures bound { IfOk result (λ statement. is_planned false statement ≡ false) }
+    ensures declared { IfOk result (λ statement. length (declared_columns statement) ≤ 16) }
+{
+    let table = name(alloc, table.as_bytes())?;
+    let sets = sets(alloc, all)?;
+    let cond = condition(alloc, which)?;
+    Ok(Statement::Update { table, sets, cond })
+}
+
+fn deleted(alloc: Global, table: &str, which: Where) -> Result<Statement, Fail>
+    ensures bound { IfOk result (λ statement. is_planned false statement ≡ false) }
+    ensures declared { IfOk result (λ statement. length (declared_columns statement) ≤ 16) }
+{
+    let table = name(alloc, table.as_bytes())?;
+    let cond = condition(alloc, which)?;
+    Ok(Statement::Delete { table, cond })
 }
 
 fn statement(alloc: Global, line: &Line) -> Result<Statement, Fail>
@@ -344,29 +420,13 @@ fn statement(alloc: Global, line: &Line) -> Result<Statement, Fail>
     ensures declared { IfOk result (λ statement. length (declared_columns statement) ≤ 16) }
 {
     match line {
-        Create(table, columns, key) => created(alloc, table, *columns, key),
-        Index(name, table, columns) => Ok(Statement::CreateIndex {
-            name: self::name(alloc, name.as_bytes())?,
-            table: self::name(alloc, table.as_bytes())?,
-            columns: names(alloc, columns)?,
-        }),
-        Insert(table, tuples) => Ok(Statement::Insert {
-            table: name(alloc, table.as_bytes())?,
-            tuples: self::tuples(alloc, tuples)?,
-        }),
-        Select(table, value, which) => {
-            selected(alloc, expressions(alloc, *value)?, table, *which)
-        }
-        Totals(value) => selected(alloc, totals(alloc, *value)?, "t", Where::All),
-        Update(table, sets, which) => Ok(Statement::Update {
-            table: name(alloc, table.as_bytes())?,
-            sets: self::sets(alloc, sets)?,
-            cond: condition(alloc, *which)?,
-        }),
-        Delete(table, which) => Ok(Statement::Delete {
-            table: name(alloc, table.as_bytes())?,
-            cond: condition(alloc, *which)?,
-        }),
+        Create(table, first, second, key) => created(alloc, table, *first, *second, key),
+        Index(name, table, columns) => indexed(alloc, name, table, columns),
+        Insert(table, tuples) => inserted(alloc, table, tuples),
+        Select(table, value, which) => selected(alloc, table, *value, *which),
+        Totals(value) => totalled(alloc, *value),
+        Update(table, sets, which) => updated(alloc, table, sets, *which),
+        Delete(table, which) => deleted(alloc, table, *which),
         Begin => Ok(Statement::Begin),
         Commit => Ok(Statement::Commit),
         Rollback => Ok(Statement::Rollback),
@@ -472,7 +532,7 @@ const INSIDE: [(Line, Told); 6] = [
     (Commit, Told::Commits),
     (Rollback, Told::RollsBack),
     (
-        Create("t", [("a", Form::Int), ("a", Form::Int)], &[]),
+        Create("t", ("a", Form::Int), ("a", Form::Int), &[]),
         Told::MustBeAlone,
     ),
     (Index("i", "w", &["x"]), Told::MustBeAlone),
@@ -491,41 +551,34 @@ const BLOCKS: [(Line, Told); 3] = [
 
 const TABLES: [(Line, Told); 9] = [
     (
-        Create("t", [("a", Form::Varchar(0)), ("b", Form::Int)], &["a"]),
+        Create("t", ("a", Form::Varchar(0)), ("b", Form::Int), &["a"]),
         Told::TableExists(b't'),
     ),
     (
-        Create("w", [("a", Form::Varchar(256)), ("a", Form::Int)], &["x"]),
+        Create("w", ("a", Form::Varchar(256)), ("a", Form::Int), &["x"]),
         Told::TooLong,
     ),
     (
-        Create("w", [("a", Form::Int), ("a", Form::Varchar(0))], &["x"]),
+        Create("w", ("a", Form::Int), ("a", Form::Varchar(0)), &["x"]),
         Told::NameTwice(b'a'),
     ),
     (
-        Create(
-            "w",
-            [("a", Form::Check("b", 2, 1)), ("b", Form::Int)],
-            &["a"],
-        ),
+        Create("w", ("a", Form::Check("b", 2, 1)), ("b", Form::Int), &["a"]),
         Told::NoColumn(b'b'),
     ),
     (
-        Create(
-            "w",
-            [("a", Form::Check("a", 2, 1)), ("b", Form::Int)],
-            &["x"],
-        ),
+        Create("w", ("a", Form::Check("a", 2, 1)), ("b", Form::Int), &["x"]),
         Told::OutOfRange,
     ),
     (
-        Create("w", [("a", Form::Int), ("b", Form::Int)], &["a", "x", "a"]),
+        Create("w", ("a", Form::Int), ("b", Form::Int), &["a", "x", "a"]),
         Told::NoColumn(b'x'),
     ),
     (
         Create(
             "w",
-            [("a", Form::Int), ("b", Form::Int)],
+            ("a", Form::Int),
+            ("b", Form::Int),
             &["a", "b", "a", "x"],
         ),
         Told::NameTwice(b'a'),
@@ -533,13 +586,14 @@ const TABLES: [(Line, Told); 9] = [
     (
         Create(
             "w",
-            [("a", Form::Varchar(255)), ("b", Form::Check("b", 2, 2))],
+            ("a", Form::Varchar(255)),
+            ("b", Form::Check("b", 2, 2)),
             &["b", "a"],
         ),
         Told::Created(1),
     ),
     (
-        Create("u", [("a", Form::Varchar(1)), ("b", Form::Int)], &["a"]),
+        Create("u", ("a", Form::Varchar(1)), ("b", Form::Int), &["a"]),
         Told::Created(0),
     ),
 ];
@@ -611,15 +665,15 @@ const SELECTS: [(Line, Told); 12] = [
         Select(
             "t",
             (Number(1), &[]),
-            Where::Between(Named("n"), Letters("x"), Named("y")),
+            Where::Between(Named("x"), Named("y"), 1),
         ),
-        Told::NoColumn(b'y'),
+        Told::NoColumn(b'x'),
     ),
     (
         Select(
             "t",
             (Number(1), &[]),
-            Where::Between(Named("s"), Letters("x"), Number(1)),
+            Where::Between(Named("s"), Letters("x"), 1),
         ),
         Told::TypeMismatch,
     ),
@@ -630,11 +684,11 @@ const SELECTS: [(Line, Told); 12] = [
         Select(
             "t",
             (Named("s"), &[]),
-            Where::Equals([
+            Where::Equals(
                 (Named("n"), Number(4)),
                 (Number(5), Of("t", "a")),
                 (Named("a"), Number(6)),
-            ]),
+            ),
         ),
         Told::Selects(Some(5)),
     ),

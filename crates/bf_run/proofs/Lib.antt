@@ -2,3 +2,4 @@ pub mod Parsed
 pub mod Told
 pub mod order
 pub mod serving
+pub mod statements

@@ -1,5 +1,5 @@
 -- What a call of the program answers, when, and what it writes.
-use Rattle.std.specs.Prelude.{◌≡◌, ℕ, ◌+◌, ◌⊎◌, Bool, true, false, List, [], ◌∷◌, ◌++◌, length, codes, Option, Some, None, Ok, Err, IsTrue}
+use Rattle.std.specs.Prelude.{◌≡◌, ℕ, ◌+◌, ◌≤◌, ◌⊎◌, Bool, true, false, List, [], ◌∷◌, ◌++◌, length, codes, Option, Some, None, Ok, Err, IsTrue}
 use Rattle.std.specs.Io.KnownBytes.{Appends, Keeps, Consumes, IsAtEnd}
 use lib.Pointwise.{pointwise}
 use Rattle.bf_io.specs.Causes.{Rose}
@@ -58,13 +58,15 @@ IsServed bytes = (script : Script) × IsScriptText bytes (Ok script) × (IsTrue 
 abbrev pub IsNotServed : List ℕ → Type 0
 IsNotServed bytes = (script : Script) × IsScriptText bytes (Ok script) × (is_plain_script script ≡ false) × (IsOfForm bytes → ⊥)
 
--- the source was read to its end, or until it had given one byte more than a script has
+-- the source was read to its end, or until it had given one byte more than a script has, and no further
 abbrev pub IsReadThrough : Stream → Type 0
-IsReadThrough input = IsAtEnd input.bytes_after ⊎ ((read : List ℕ) × (length read ≡ longest_script + 1) × Consumes input.bytes input.bytes_after read)
+IsReadThrough input =
+    (read : List ℕ) × Consumes input.bytes input.bytes_after read
+    × ((IsAtEnd input.bytes_after × (length read ≤ longest_script)) ⊎ (length read ≡ longest_script + 1))
 
 -- CAUSES: when a status comes, for the words and the source, before anything is written. Where the source tells its
--- bytes no two of Usage, Script, NotBuilt and Done can come for one input, so each of them comes exactly there, but for
--- faults and want of memory
+-- bytes no two of Usage, Script with its fault, NotBuilt and Done can come for one input, since a text has one reading;
+-- so each of them comes exactly there, but for faults of the streams and want of memory
 abbrev pub Comes : List (List ℕ) → Stream → Status → Type 0
 Comes words input Usage = (is_try words ≡ false) × Keeps input.bytes input.bytes_after × IsCalm input
 Comes words input (ScriptError fault) =

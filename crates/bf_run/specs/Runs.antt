@@ -13,6 +13,7 @@ use Rattle.bf_lazy.specs.declared.statement.Script.{Script as FormScript}
 use Rattle.bf_form.specs.Grammar.{IsScriptText as IsFormText}
 use Rattle.bf_move.specs.Widened.{IsMove}
 use Rattle.bf_store.specs.Plain.{is_plain}
+use Rattle.bf_run.specs.InOrder.{entries_in_order}
 
 -- no BEGIN, COMMIT, ROLLBACK or MIGRATE stands in a script
 abbrev pub is_plain_script : Script → Bool
@@ -25,10 +26,12 @@ NoCause session group cause = ⊥
 abbrev pub none_open : ℕ → ℕ × ℕ → Bool
 none_open session group = false
 
--- RUN of a plain script: transcripts and history are legal, every statement has its reply, and there was no migration
+-- RUN of a plain script: transcripts and history are legal, every statement has its reply, the entries are those of the
+-- statements in the order of the text, and there was no migration
 pub record IsRun (script : Script) (transcripts : List (List Reply)) (history : List Entry) (sweep : Sweep) : Type 0 where
   pub history_legal : IsLegalHistory script NoCause none_open empty_database transcripts history
   pub all_answered : IsAllAnswered script transcripts
+  pub sessions_in_order : history ≡ entries_in_order script
   pub no_migration : sweep ≡ Never
 
 -- a text of the form that migrates one table lazily
