@@ -1,5 +1,5 @@
 -- Scripts within the limit on columns.
-use Rattle.std.specs.Prelude.{Bool, true, List, length, nat_le}
+use Rattle.std.specs.Prelude.{Bool, true, length, nat_le}
 use Rattle.std.specs.List.{list_all}
 use Rattle.bf_sql.specs.declared.statement.Statement.{Statement}
 use Rattle.bf_sql.specs.declared.statement.Statement.TheVariants.{CreateTable}

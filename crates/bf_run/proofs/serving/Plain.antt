@@ -1,34 +1,20 @@
 -- What holds of the statements of a plain and narrow script.
-use Rattle.std.proofs.Common.{◌≡◌, ◌≤◌, true, List, [], ◌∷◌, length, refl, arith, IsTrue}
+use Rattle.std.proofs.Common.{◌≡◌, true, List, [], ◌∷◌, refl, IsTrue}
 use Rattle.std.specs.List.{list_all}
-use Rattle.std.proofs.lemmas.Bool.{and_parts, and_from, false≢true}
-use Rattle.std.proofs.lemmas.Bool.Decides.{nat_tests}
-use Rattle.bf_bind.specs.Limits.{HasNarrowTables, KeepsLimits, declared_columns}
-use Rattle.bf_sql.specs.declared.catalog.Catalog.{Catalog}
+use Rattle.std.proofs.lemmas.Bool.{and_parts, and_from}
 use Rattle.bf_sql.specs.declared.statement.Statement.{Statement}
-use Rattle.bf_sql.specs.declared.statement.Statement.TheVariants.{CreateTable, CreateIndex, Insert, Select, Update, Delete, Begin, Commit, Rollback, Migrate}
+use Rattle.bf_sql.specs.declared.statement.Statement.TheVariants.{Begin, Commit, Rollback}
 use Rattle.bf_sql.specs.declared.script.Session.{Session}
 use Rattle.bf_sql.specs.declared.script.Script.{Script}
+use Rattle.bf_sql.specs.declared.reply.Reply.{Reply}
+use Rattle.bf_sql.specs.declared.history.Entry.{Entry}
+use Rattle.bf_sql.specs.declared.history.Sweep.TheVariants.{Never}
+use Rattle.bf_sql.specs.Database.{empty_database}
 use Rattle.bf_store.specs.Plain.{is_plain}
-use Rattle.bf_run.specs.InOrder.{IsLone, is_lone, phases_rise_from}
-use Rattle.bf_run.specs.Narrow.{is_narrow_statement}
-use Rattle.bf_run.specs.Runs.{is_plain_script}
-
--- a narrow statement declares no more columns than a table may have
-declares_few : (s : Statement) → is_narrow_statement s ≡ true → length (declared_columns s) ≤ 16
-declares_few (CreateTable name rules key) narrow = grind (arith, nat_tests)
-declares_few (CreateIndex name table columns) narrow = omega arith
-declares_few (Insert table tuples) narrow = omega arith
-declares_few (Select list table cond) narrow = omega arith
-declares_few (Update table sets cond) narrow = omega arith
-declares_few (Delete table cond) narrow = omega arith
-declares_few Begin narrow = omega arith
-declares_few Commit narrow = omega arith
-declares_few Rollback narrow = omega arith
-declares_few (Migrate migrate) narrow = omega arith
-
-pub keeps_limits : (catalog : Catalog) (s : Statement) → HasNarrowTables catalog → is_narrow_statement s ≡ true → KeepsLimits catalog s
-keeps_limits catalog s tables narrow = record { tables = tables; declared = declares_few s narrow }
+use Rattle.bf_run.specs.InOrder.{IsLone, entries_in_order, is_lone, phases_rise_from, run_in_order}
+use Rattle.bf_run.specs.Runs.{IsRun, NoCause, is_plain_script}
+use Rattle.bf_run.proofs.order.Answered.{all_answered}
+use Rattle.bf_run.proofs.order.Legal.{run_is_legal}
 
 -- a plain statement is a transaction of its own
 plain_is_lone : (s : Statement) → is_plain s ≡ true → is_lone s ≡ true
@@ -53,3 +39,15 @@ sessions_are_lone (s ∷ ss) plain =
 -- a plain script whose phases do not fall can run in its order
 pub plain_script_is_lone : (script : Script) → IsTrue (is_plain_script script) → IsTrue (phases_rise_from 0 script.sessions) → IsLone script
 plain_script_is_lone script plain rise = record { lone = sessions_are_lone script.sessions plain; phases = rise }
+
+-- what a plain script leaves that runs in its order
+pub plain_run : (script : Script) → IsTrue (is_plain_script script) → IsTrue (phases_rise_from 0 script.sessions)
+    → (transcripts : List (List Reply)) (history : List Entry) → transcripts ≡ (run_in_order empty_database script).0
+    → history ≡ entries_in_order script
+    → IsRun script transcripts history Never
+plain_run script plain rise transcripts history told entered = record {
+  history_legal = rw (told, entered) (run_is_legal script empty_database NoCause (plain_script_is_lone script plain rise));
+  all_answered = rw told (all_answered 1 empty_database script.sessions);
+  sessions_in_order = entered;
+  no_migration = refl;
+}

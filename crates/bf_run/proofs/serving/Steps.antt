@@ -1,5 +1,5 @@
 -- Where a run stands: what has been noted, and what is still to come, is all.
-use Rattle.std.proofs.Common.{◌≡◌, ℕ, suc, ◌+◌, ◌<◌, Bool, false, true, List, [], ◌∷◌, ◌++◌, length, drop, get_or, refl, sym, ap, ap₂, ◌∙◌, arith, append_assoc, length-append, add-one, drop-cons}
+use Rattle.std.proofs.Common.{◌≡◌, ℕ, suc, ◌+◌, ◌<◌, Bool, true, List, [], ◌∷◌, ◌++◌, length, drop, get_or, refl, sym, ap, ap₂, ◌∙◌, arith, append_assoc, length-append, add-one, drop-cons}
 use Rattle.std.specs.List.{list_all}
 use Rattle.std.proofs.lemmas.Bool.{and_parts}
 use Rattle.bf_bind.specs.Limits.{HasNarrowTables}
@@ -8,14 +8,13 @@ use Rattle.bf_sql.specs.declared.script.Session.{Session}
 use Rattle.bf_sql.specs.declared.reply.Reply.{Reply}
 use Rattle.bf_sql.specs.declared.history.Entry.{Entry}
 use Rattle.bf_sql.specs.Database.{Database, empty_database}
-use Rattle.bf_sql.specs.Meaning.{executed}
 use Rattle.bf_store.specs.Plain.{is_plain}
 use Rattle.bf_store.specs.Stores.{catalog_of}
-use Rattle.bf_run.specs.InOrder.{run_from, sessions_from, entry_at, entries_from, all_entries_from}
+use Rattle.bf_run.specs.InOrder.{run_from, sessions_from, entries_from, all_entries_from}
 use Rattle.bf_run.specs.Narrow.{is_narrow_statement}
 
 -- what is left begins with the item that is here
-pub item_here : {A : Type 0} (xs : List A) (i : ℕ) (x : A) → i < length xs → x ≡ get_or xs i x → drop i xs ≡ x ∷ drop (i + 1) xs
+item_here : {A : Type 0} (xs : List A) (i : ℕ) (x : A) → i < length xs → x ≡ get_or xs i x → drop i xs ≡ x ∷ drop (i + 1) xs
 item_here xs i x less here =
     drop-cons xs i x less ∙ ap₂ (λ y n. y ∷ drop n xs) (sym here) (sym (add-one i))
 
@@ -23,74 +22,14 @@ item_here xs i x less here =
 abbrev pub behind : List Reply → List Reply × Database → List Reply × Database
 behind earlier run = (earlier ++ run.0, run.1)
 
-behind_both : (xs ys : List Reply) (run : List Reply × Database) → behind xs (behind ys run) ≡ behind (xs ++ ys) run
-behind_both xs ys run = ap (λ (rs : List Reply). let told : List Reply × Database = (rs, run.1) in told) (sym (append_assoc xs ys run.0))
-
--- a run is that of its first statement and that of the others
-first_runs : (commit : ℕ) (db : Database) (s : Statement) (ss : List Statement) (reply : Reply) (next : Database)
-    → executed commit db false s ≡ (reply, next) → run_from commit db (s ∷ ss) ≡ behind (reply ∷ []) (run_from (commit + 1) next ss)
-first_runs commit db s ss reply next ran = ap (λ (p : Reply × Database). behind (p.0 ∷ []) (run_from (commit + 1) p.1 ss)) ran
-
--- statements that may run: plain ones, which make no wide table
-pub record MayRun (db : Database) (ss : List Statement) : Type 0 where
-  pub plain : list_all is_plain ss ≡ true
-  pub narrow : list_all is_narrow_statement ss ≡ true
-  pub tables : HasNarrowTables (catalog_of db)
-
 -- what the statements of a session have left, where so many of them have run
-pub record Stands (session : ℕ) (start : Database) (noted : List Entry) (all : List Statement) (place : ℕ) (db : Database) (replies : List Reply) (entries : List Entry) : Type 0 where
-  pub may_run : MayRun db (drop place all)
+pub record HasRun (session : ℕ) (start : Database) (noted : List Entry) (all : List Statement) (place : ℕ) (db : Database) (replies : List Reply) (entries : List Entry) : Type 0 where
+  pub plain : list_all is_plain (drop place all) ≡ true
+  pub narrow : list_all is_narrow_statement (drop place all) ≡ true
+  pub tables : HasNarrowTables (catalog_of db)
   pub count : length replies ≡ place
   pub told : run_from (length noted + 1) start all ≡ behind replies (run_from (length entries + 1) db (drop place all))
   pub entered : noted ++ entries_from session 1 (length noted + 1) all ≡ entries ++ entries_from session (place + 1) (length entries + 1) (drop place all)
-
-pub stands_first : (session : ℕ) (db : Database) (noted : List Entry) (all : List Statement) → list_all is_plain all ≡ true
-    → list_all is_narrow_statement all ≡ true → HasNarrowTables (catalog_of db)
-    → Stands session db noted all 0 db [] noted
-stands_first session db noted all plain narrow tables = record {
-  may_run = record { plain = plain; narrow = narrow; tables = tables };
-  count = refl;
-  told = refl;
-  entered = refl;
-}
-
--- the statement that is here may run
-pub here_may_run : (db : Database) (all : List Statement) (place : ℕ) (s : Statement) → MayRun db (drop place all)
-    → place < length all → s ≡ get_or all place s
-    → (is_plain s ≡ true) × (is_narrow_statement s ≡ true)
-here_may_run db all place s may less here =
-    let left = item_here all place s less here in
-    let plain = and_parts (is_plain s) (list_all is_plain (drop (place + 1) all)) (rw left at may.plain) in
-    let narrow = and_parts (is_narrow_statement s) (list_all is_narrow_statement (drop (place + 1) all)) (rw left at may.narrow) in
-    (plain.0, narrow.0)
-
--- one more statement has run
-pub stands_next : (session : ℕ) (start : Database) (noted : List Entry) (all : List Statement) (place : ℕ) (db : Database) (replies : List Reply) (entries : List Entry)
-    → Stands session start noted all place db replies entries
-    → (s : Statement) → place < length all → s ≡ get_or all place s
-    → (reply : Reply) (next : Database) → ((commit : ℕ) → executed commit db false s ≡ (reply, next)) → HasNarrowTables (catalog_of next)
-    → Stands session start noted all (place + 1) next (replies ++ reply ∷ []) (entries ++ entry_at session (place + 1) (length entries + 1) ∷ [])
-stands_next session start noted all place db replies entries h s less here reply next ran tables =
-    let rest = drop (place + 1) all in
-    let left : drop place all ≡ s ∷ rest = item_here all place s less here in
-    let commit = length entries + 1 in
-    let entry = entry_at session (place + 1) commit in
-    let later : commit + 1 ≡ length (entries ++ entry ∷ []) + 1 = omega (arith, length-append entries (entry ∷ [])) in
-    let plain = and_parts (is_plain s) (list_all is_plain rest) (rw left at h.may_run.plain) in
-    let narrow = and_parts (is_narrow_statement s) (list_all is_narrow_statement rest) (rw left at h.may_run.narrow) in
-    let told : behind replies (run_from commit db (drop place all)) ≡ behind (replies ++ reply ∷ []) (run_from (length (entries ++ entry ∷ []) + 1) next rest) =
-    ap (λ (ss : List Statement). behind replies (run_from commit db ss)) left
-    ∙ (ap (behind replies) (first_runs commit db s rest reply next (ran commit))
-    ∙ (behind_both replies (reply ∷ []) (run_from (commit + 1) next rest)
-    ∙ ap (λ (n : ℕ). behind (replies ++ reply ∷ []) (run_from n next rest)) later)) in
-    record {
-      may_run = record { plain = plain.1; narrow = narrow.1; tables = tables };
-      count = length-append replies (reply ∷ []) ∙ omega (arith, h.count);
-      told = h.told ∙ told;
-      entered = h.entered ∙ (ap (λ (ss : List Statement). entries ++ entries_from session (place + 1) commit ss) left
-      ∙ (ap (λ (n : ℕ). entries ++ entry ∷ entries_from session (place + 1 + 1) n rest) later
-      ∙ sym (append_assoc entries (entry ∷ []) (entries_from session (place + 1 + 1) (length (entries ++ entry ∷ []) + 1) rest))));
-    }
 
 length-entries_from : (session statement commit : ℕ) (ss : List Statement) → length (entries_from session statement commit ss) ≡ length ss
 length-entries_from session statement commit [] = refl
@@ -110,20 +49,6 @@ pub record HaveRun (all : List Session) (place : ℕ) (db : Database) (transcrip
   pub count : length transcripts ≡ place
   pub told : (sessions_from 1 empty_database all).0 ≡ transcripts ++ (sessions_from (length entries + 1) db (drop place all)).0
   pub entered : all_entries_from 1 1 all ≡ entries ++ all_entries_from (place + 1) (length entries + 1) (drop place all)
-
-pub none_have_run : (all : List Session) → list_all are_plain all ≡ true → list_all are_narrow all ≡ true → HaveRun all 0 empty_database [] []
-none_have_run all plain narrow = record { plain = plain; narrow = narrow; tables = refl; count = refl; told = refl; entered = refl }
-
--- the session that is here may run
-pub here_may : (all : List Session) (place : ℕ) (db : Database) (transcripts : List (List Reply)) (entries : List Entry)
-    → HaveRun all place db transcripts entries
-    → (s : Session) → place < length all → s ≡ get_or all place s
-    → (are_plain s ≡ true) × (are_narrow s ≡ true)
-here_may all place db transcripts entries h s less here =
-    let left = item_here all place s less here in
-    let plain = and_parts (are_plain s) (list_all are_plain (drop (place + 1) all)) (rw left at h.plain) in
-    let narrow = and_parts (are_narrow s) (list_all are_narrow (drop (place + 1) all)) (rw left at h.narrow) in
-    (plain.0, narrow.0)
 
 -- one more session has run
 pub one_more_has_run : (all : List Session) (place : ℕ) (db : Database) (transcripts : List (List Reply)) (entries : List Entry)

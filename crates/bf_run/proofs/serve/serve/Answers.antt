@@ -1,15 +1,14 @@
 -- A plain script runs in its order, which is legal.
-use Rattle.std.proofs.Common.{List, refl, sym, subst}
-use Rattle.bf_sql.specs.declared.reply.Reply.{Reply}
-use Rattle.bf_sql.specs.declared.history.Entry.{Entry}
+use Rattle.std.proofs.Common.{List, ap, ◌∙◌}
+use Rattle.bf_sql.specs.declared.script.Session.{Session}
 use Rattle.bf_sql.specs.Database.{empty_database}
-use Rattle.bf_sql.specs.History.{IsAllAnswered, IsLegalHistory}
-use Rattle.bf_run.specs.InOrder.{entries_in_order, run_in_order}
-use Rattle.bf_run.specs.Runs.{NoCause, none_open}
-use Rattle.bf_run.proofs.order.Answered.{all_answered}
-use Rattle.bf_run.proofs.order.Legal.{run_is_legal}
-use Rattle.bf_run.proofs.serving.Plain.{plain_script_is_lone}
+use Rattle.bf_run.specs.InOrder.{all_entries_from, sessions_from}
+use Rattle.bf_run.proofs.serving.Plain.{plain_run}
 use Rattle.bf_run.proofs.serve.serve.Goals as goal
 
 pub returns : goal.returns
-returns c = ?
+returns c =
+    let run = c.in_ok-transcripts.ensures in
+    plain_run c.args.script.now c.requires.plain c.requires.phases c.of.result c.of-2.result
+    (c.of.ensures ∙ (run.replies ∙ ap (λ (ss : List Session). (sessions_from 1 empty_database ss).0) c.as_slice.ensures))
+    (c.of-2.ensures ∙ (run.entries ∙ ap (all_entries_from 1 1) c.as_slice.ensures))
