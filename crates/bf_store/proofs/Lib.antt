@@ -1,4 +1,5 @@
 mod ByName
+mod Committed
 mod Created
 mod Held
 mod Written
