@@ -1,5 +1,5 @@
 -- A store with one table more.
-use Rattle.std.proofs.Common.{◌≡◌, ℕ, zero, suc, ◌+◌, ◌<◌, ◌≤◌, Bool, true, false, List, [], ◌∷◌, ◌++◌, map, length, get_or, insert, find, Option, None, is_some, refl, sym, ap, ap₂, subst, ◌∙◌, arith, is_le}
+use Rattle.std.proofs.Common.{◌≡◌, ℕ, zero, suc, ◌+◌, ◌<◌, ◌≤◌, true, false, List, [], ◌∷◌, map, length, insert, find, None, is_some, refl, sym, ap, ap₂, subst, ◌∙◌, arith, is_le}
 use Rattle.std.specs.Prelude.{zip}
 use Rattle.std.specs.List.{All}
 use Rattle.std.specs.List.Sorted.{IsPartitionPoint}

@@ -1,11 +1,11 @@
 -- The tests' store is a database, and the writes keep it one.
-use Rattle.std.proofs.Common.{◌≡◌, ℕ, ℤ, List, [], ◌∷◌, Some, None, refl, sym, ap₂, subst}
+use Rattle.std.proofs.Common.{◌≡◌, ℕ, ℤ, List, [], ◌∷◌, None, refl, sym, ap₂, subst}
 use Rattle.std.specs.Prelude.{pos, negsuc}
 use Rattle.std.specs.List.{All}
 use Rattle.std.proofs.lemmas.Option.{same_Some}
-use Rattle.bf_base.specs.declared.value.Value.{Value}
 use Rattle.bf_base.specs.declared.value.Value.TheVariants.{Int}
 use Rattle.bf_base.specs.declared.table.Table.{Table}
+use Rattle.bf_heap.specs.Heaps.{Entry}
 use Rattle.bf_sql.specs.declared.catalog.IndexRule.{IndexRule}
 use Rattle.bf_sql.specs.Database.{Database, IsDatabase, Stored, empty_database, stored_at, stored_in_order, with_tables}
 use Rattle.bf_sql.specs.Meaning.{next_number, with_index}
@@ -44,6 +44,12 @@ put_own name table k v row to some = subst (HasOwnKey (numbers name) (Int k ∷ 
 removal_own : (name table : List ℕ) (k : ℤ) → WritesOwnKey (numbers name) (removal table k)
 removal_own name table k row to some = absurd cc
 
+abbrev Own : List ℕ → Entry → Type 0
+Own name e = HasOwnKey (numbers name) e.0 e.1
+
+abbrev entry : ℤ → ℤ → Entry
+entry k v = (Int k ∷ [], Int k ∷ Int v ∷ [])
+
 abbrev Stands : List Write → Stored → Type 0
 Stands writes s = StandUnderOwnKeys s.table (entries_of s.table s.rows) writes
 
@@ -65,8 +71,8 @@ first_stands = each (Stands first_written) indexed.tables (
 pub second_stands : All (Stands second_written) (committed indexed first_written).tables
 unfolding one_table two_tables indexed first_written
 second_stands = each (Stands second_written) (committed indexed first_written).tables (
-  record { heap = each _ _ ((refl, refl), ((refl, refl), tt)); workspace = second_own (97 ∷ []) },
-  (record { heap = each _ _ ((refl, refl), tt); workspace = second_own (98 ∷ []) }, tt),
+  record { heap = each (Own (97 ∷ [])) (entry (pos 1) (pos 10) ∷ entry (pos 3) (pos 30) ∷ []) ((refl, refl), ((refl, refl), tt)); workspace = second_own (97 ∷ []) },
+  (record { heap = each (Own (98 ∷ [])) (entry (pos 2) (pos 20) ∷ []) ((refl, refl), tt); workspace = second_own (98 ∷ []) }, tt),
 )
 
 -- one step after another makes the store

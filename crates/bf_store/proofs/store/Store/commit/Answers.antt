@@ -3,11 +3,10 @@ use Rattle.std.specs.Vec.{with_items}
 use Rattle.std.proofs.lemmas.List.{with_items_is}
 use Rattle.bf_base.specs.declared.table.Table.{Table}
 use Rattle.bf_heap.specs.Heaps.{Rows}
-use Rattle.bf_sql.specs.Database.{Database}
 use Rattle.bf_txn.specs.declared.write.Write.{Write}
 use Rattle.bf_store.specs.Changes.{AreWritten, entries_in}
 use Rattle.bf_store.specs.Places.{AreByName}
-use Rattle.bf_store.specs.Stores.{IsStore, committed, database_of}
+use Rattle.bf_store.specs.Stores.{IsStore, database_of}
 use Rattle.bf_store.proofs.Committed.{on_error, store_committed, store_roomy, view_committed, view_roomy}
 use Rattle.bf_store.proofs.Held.{by_name}
 use Rattle.bf_store.proofs.store.Store.commit.Goals as goal
