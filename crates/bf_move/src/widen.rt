@@ -142,3 +142,6 @@ pub fn run(alloc: Global, script: &Script) -> Result<Move, Memory>
         sweep: wide_sweep(run.sweep),
     })
 }
+
+#[cfg(test)]
+mod tests;
