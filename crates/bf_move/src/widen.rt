@@ -2,7 +2,7 @@
 
 ghost use Rattle.std.specs.Prelude.{◌≡◌, IfOk, map};
 ghost use Rattle.bf_form.specs.Form.{IsOfForm};
-ghost use Rattle.bf_move.specs.Widened.{IsMove, widened_cell, widened_entry, widened_outcome, widened_refusal, widened_reply, widened_sweep};
+ghost use Rattle.bf_move.specs.Widened.{IsMove, widened_cell, widened_entry, widened_refusal, widened_reply, widened_sweep};
 
 use crate::serve::serve;
 use bf_base::{Memory, Sequence};
