@@ -433,8 +433,9 @@ fn statement(alloc: Global, line: &Line) -> Result<Statement, Fail>
     }
 }
 
-fn letter(name: &Name) -> u8 {
-    match name.as_bytes() {
+/// The first of some bytes, or 0.
+fn first(bytes: &[u8]) -> u8 {
+    match bytes {
         [first, ..] => *first,
         [] => 0,
     }
@@ -442,19 +443,19 @@ fn letter(name: &Name) -> u8 {
 
 fn refusal_seen(refusal: &Refusal) -> Told {
     match refusal {
-        Refusal::NoTable(name) => Told::NoTable(letter(name)),
-        Refusal::NoColumn(name) => Told::NoColumn(letter(name)),
+        Refusal::NoTable(name) => Told::NoTable(first(name.as_bytes())),
+        Refusal::NoColumn(name) => Told::NoColumn(first(name.as_bytes())),
         Refusal::TypeMismatch => Told::TypeMismatch,
         Refusal::OutOfRange => Told::OutOfRange,
         Refusal::TooLong => Told::TooLong,
-        Refusal::TableExists(name) => Told::TableExists(letter(name)),
+        Refusal::TableExists(name) => Told::TableExists(first(name.as_bytes())),
         Refusal::WrongCount => Told::WrongCount,
-        Refusal::KeyColumn(name) => Told::KeyColumn(letter(name)),
+        Refusal::KeyColumn(name) => Told::KeyColumn(first(name.as_bytes())),
         Refusal::NoTransaction => Told::NoTransaction,
         Refusal::InTransaction => Told::InTransaction,
         Refusal::MustBeAlone => Told::MustBeAlone,
-        Refusal::NameTwice(name) => Told::NameTwice(letter(name)),
-        Refusal::IndexExists(name) => Told::IndexExists(letter(name)),
+        Refusal::NameTwice(name) => Told::NameTwice(first(name.as_bytes())),
+        Refusal::IndexExists(name) => Told::IndexExists(first(name.as_bytes())),
         _ => Told::Other,
     }
 }
@@ -470,13 +471,6 @@ fn number_fixed(fixed: &Option<Key>) -> Option<i64> {
     }
 }
 
-fn first_place(places: &[u8]) -> u8 {
-    match places {
-        [first, ..] => *first,
-        [] => u8::MAX,
-    }
-}
-
 fn first_set(sets: &[(u8, Expr)]) -> u8 {
     match sets {
         [first, ..] => first.0,
@@ -487,8 +481,8 @@ fn first_set(sets: &[(u8, Expr)]) -> u8 {
 fn action_seen(action: &Action) -> Told {
     match action {
         Action::Refused(refusal) => refusal_seen(refusal),
-        Action::CreateTable(table) => Told::Created(first_place(table.key.as_slice())),
-        Action::CreateIndex(index) => Told::Indexed(first_place(index.columns.as_slice())),
+        Action::CreateTable(table) => Told::Created(first(table.key.as_slice())),
+        Action::CreateIndex(index) => Told::Indexed(first(index.columns.as_slice())),
         Action::Insert { rows, .. } => Told::Inserts(rows.as_slice().len()),
         Action::Select { fixed, .. } => Told::Selects(number_fixed(fixed)),
         Action::Update { sets, fixed, .. } => {
@@ -549,7 +543,7 @@ const BLOCKS: [(Line, Told); 3] = [
     (Rollback, Told::NoTransaction),
 ];
 
-const TABLES: [(Line, Told); 9] = [
+const TABLES: [(Line, Told); 8] = [
     (
         Create("t", ("a", Form::Varchar(0)), ("b", Form::Int), &["a"]),
         Told::TableExists(b't'),
@@ -591,10 +585,6 @@ const TABLES: [(Line, Told); 9] = [
             &["b", "a"],
         ),
         Told::Created(1),
-    ),
-    (
-        Create("u", ("a", Form::Varchar(1)), ("b", Form::Int), &["a"]),
-        Told::Created(0),
     ),
 ];
 

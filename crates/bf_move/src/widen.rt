@@ -2,7 +2,7 @@
 
 ghost use Rattle.std.specs.Prelude.{◌≡◌, IfOk, map};
 ghost use Rattle.bf_form.specs.Form.{IsOfForm};
-ghost use Rattle.bf_move.specs.Widened.{IsMove, widened_cell, widened_entry, widened_outcome, widened_refusal, widened_reply, widened_sweep};
+ghost use Rattle.bf_move.specs.Widened.{IsMove, widened_cell, widened_entry, widened_refusal, widened_reply, widened_sweep};
 
 use crate::serve::serve;
 use bf_base::{Memory, Sequence};
@@ -36,90 +36,73 @@ fn wide_refusal(refusal: Refusal) -> bf_sql::Refusal
     }
 }
 
-fn wide_row(alloc: Global, row: Sequence<Cell>) -> Result<Sequence<bf_sql::Cell>, Memory>
-    ensures { IfOk result (λ wide. wide ≡ map widened_cell row) }
-{
-    let cells = row.into_vec();
-    let mut wide = Vec::with_capacity(alloc, cells.len())?;
-    for cell in cells {
-        let Cell::Value(value) = cell;
-        wide.push(bf_sql::Cell::Value(value))?;
-    }
-    Ok(Sequence::of(wide))
+/// What has its like in the words of the whole language.
+trait Widen: Drop {
+    type Wide: Drop;
+
+    ghost widened: { Self → Self.Wide };
+
+    /// The same in those words. Nothing in it is copied.
+    fn widen(self, alloc: Global) -> Result<Self::Wide, Memory>
+        ensures { IfOk result (λ wide. wide ≡ widened self) };
 }
 
-fn wide_rows(
-    alloc: Global,
-    rows: Sequence<Sequence<Cell>>,
-) -> Result<Sequence<Sequence<bf_sql::Cell>>, Memory>
-    ensures { IfOk result (λ wide. wide ≡ map (λ row. map widened_cell row) rows) }
-{
-    let rows = rows.into_vec();
-    let mut wide = Vec::with_capacity(alloc, rows.len())?;
-    for row in rows {
-        wide.push(wide_row(alloc, row)?)?;
-    }
-    Ok(Sequence::of(wide))
-}
+impl<T: Widen> Widen for Sequence<T> {
+    type Wide = Sequence<T::Wide>;
 
-fn wide_reply(alloc: Global, reply: Reply) -> Result<bf_sql::Reply, Memory>
-    ensures { IfOk result (λ wide. wide ≡ widened_reply reply) }
-{
-    match reply {
-        Reply::Created => Ok(bf_sql::Reply::Created),
-        Reply::Inserted(rows) => Ok(bf_sql::Reply::Inserted(rows)),
-        Reply::Rows(rows) => Ok(bf_sql::Reply::Rows(wide_rows(alloc, rows)?)),
-        Reply::Migrated(targets) => Ok(bf_sql::Reply::Migrated(targets)),
-        Reply::Refused(refusal) => Ok(bf_sql::Reply::Refused(wide_refusal(refusal))),
+    ghost widened = { map T.widened };
+
+    fn widen(self, alloc: Global) -> Result<Sequence<T::Wide>, Memory> {
+        let items = self.into_vec();
+        let mut wide = Vec::with_capacity(alloc, items.len())?;
+        for item in items {
+            wide.push(item.widen(alloc)?)?;
+        }
+        Ok(Sequence::of(wide))
     }
 }
 
-fn wide_replies(alloc: Global, replies: Sequence<Reply>) -> Result<Sequence<bf_sql::Reply>, Memory>
-    ensures { IfOk result (λ wide. wide ≡ map widened_reply replies) }
-{
-    let replies = replies.into_vec();
-    let mut wide = Vec::with_capacity(alloc, replies.len())?;
-    for reply in replies {
-        wide.push(wide_reply(alloc, reply)?)?;
-    }
-    Ok(Sequence::of(wide))
-}
+impl Widen for Cell {
+    type Wide = bf_sql::Cell;
 
-fn wide_sessions(
-    alloc: Global,
-    sessions: Sequence<Sequence<Reply>>,
-) -> Result<Sequence<Sequence<bf_sql::Reply>>, Memory>
-    ensures { IfOk result (λ wide. wide ≡ map (λ session. map widened_reply session) sessions) }
-{
-    let sessions = sessions.into_vec();
-    let mut wide = Vec::with_capacity(alloc, sessions.len())?;
-    for replies in sessions {
-        wide.push(wide_replies(alloc, replies)?)?;
-    }
-    Ok(Sequence::of(wide))
-}
+    ghost widened = { widened_cell };
 
-fn wide_outcome(outcome: Outcome) -> bf_sql::Outcome
-    ensures { result ≡ widened_outcome outcome }
-{
-    match outcome {
-        Outcome::Committed(number) => bf_sql::Outcome::Committed(number),
+    fn widen(self, _alloc: Global) -> Result<bf_sql::Cell, Memory> {
+        let Cell::Value(value) = self;
+        Ok(bf_sql::Cell::Value(value))
     }
 }
 
-fn wide_entries(alloc: Global, entries: &[Entry]) -> Result<Sequence<bf_sql::Entry>, Memory>
-    ensures { IfOk result (λ wide. wide ≡ map widened_entry entries.now) }
-{
-    let mut wide = Vec::with_capacity(alloc, entries.len())?;
-    for entry in entries {
-        wide.push(bf_sql::Entry {
-            session: entry.session,
-            first: entry.first,
-            last: entry.last,
-            outcome: wide_outcome(entry.outcome),
-        })?;
+impl Widen for Reply {
+    type Wide = bf_sql::Reply;
+
+    ghost widened = { widened_reply };
+
+    fn widen(self, alloc: Global) -> Result<bf_sql::Reply, Memory> {
+        match self {
+            Reply::Created => Ok(bf_sql::Reply::Created),
+            Reply::Inserted(rows) => Ok(bf_sql::Reply::Inserted(rows)),
+            Reply::Rows(rows) => Ok(bf_sql::Reply::Rows(rows.widen(alloc)?)),
+            Reply::Migrated(targets) => Ok(bf_sql::Reply::Migrated(targets)),
+            Reply::Refused(refusal) => Ok(bf_sql::Reply::Refused(wide_refusal(refusal))),
+        }
     }
-    Ok(Sequence::of(wide))
+}
+
+impl Widen for Entry {
+    type Wide = bf_sql::Entry;
+
+    ghost widened = { widened_entry };
+
+    fn widen(self, _alloc: Global) -> Result<bf_sql::Entry, Memory> {
+        let Outcome::Committed(number) = self.outcome;
+        Ok(bf_sql::Entry {
+            session: self.session,
+            first: self.first,
+            last: self.last,
+            outcome: bf_sql::Outcome::Committed(number),
+        })
+    }
 }
 
 fn wide_sweep(sweep: Sweep) -> bf_sql::Sweep
@@ -151,11 +134,14 @@ pub fn run(alloc: Global, script: &Script) -> Result<Move, Memory>
     let run = serve(alloc, script)?;
     Ok(Move {
         transcripts: bf_sql::Transcripts {
-            sessions: wide_sessions(alloc, run.transcripts.sessions)?,
+            sessions: run.transcripts.sessions.widen(alloc)?,
         },
         history: bf_sql::History {
-            entries: wide_entries(alloc, run.history.entries.as_slice())?,
+            entries: run.history.entries.widen(alloc)?,
         },
         sweep: wide_sweep(run.sweep),
     })
 }
+
+#[cfg(test)]
+mod tests;

@@ -1,3 +1,4 @@
+pub mod Answered
 pub mod Parsed
 pub mod Told
 pub mod order

@@ -58,11 +58,11 @@ IsServed bytes = (script : Script) × IsScriptText bytes (Ok script) × (IsTrue 
 abbrev pub IsNotServed : List ℕ → Type 0
 IsNotServed bytes = (script : Script) × IsScriptText bytes (Ok script) × (is_plain_script script ≡ false) × (IsOfForm bytes → ⊥)
 
--- the source was read to its end, or until it had given one byte more than a script has, and no further
+-- the source had no more bytes than a script and was read to its end, or until it had given one byte more
 abbrev pub IsReadThrough : Stream → Type 0
 IsReadThrough input =
-    (read : List ℕ) × Consumes input.bytes input.bytes_after read
-    × ((IsAtEnd input.bytes_after × (length read ≤ longest_script)) ⊎ (length read ≡ longest_script + 1))
+    (IsAtEnd input.bytes_after × OfBytes input.bytes (λ bytes. length bytes ≤ longest_script))
+    ⊎ ((read : List ℕ) × (length read ≡ longest_script + 1) × Consumes input.bytes input.bytes_after read)
 
 -- CAUSES: when a status comes, for the words and the source, before anything is written. Where the source tells its
 -- bytes no two of Usage, Script with its fault, NotBuilt and Done can come for one input, since a text has one reading;

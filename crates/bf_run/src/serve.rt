@@ -90,7 +90,10 @@ fn run_session(
 }
 
 /// Runs sessions, one after the other, from the empty database.
-fn run_sessions(alloc: Global, sessions: &[Session]) -> Result<(Vec<Sequence<Reply>>, Vec<Entry>), Memory>
+fn run_sessions(
+    alloc: Global,
+    sessions: &[Session],
+) -> Result<(Vec<Sequence<Reply>>, Vec<Entry>), Memory>
     requires plain { IsTrue (list_all (λ s. list_all is_plain s.statements) sessions.now) }
     requires narrow { IsTrue (list_all (λ s. list_all is_narrow_statement s.statements) sessions.now) }
     ensures replies { IfOk result (λ run. run.0.items ≡ (sessions_from 1 empty_database sessions.now).0) }

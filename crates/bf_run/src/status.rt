@@ -1,11 +1,12 @@
 //! How a call ends.
 
-ghost use Rattle.std.specs.Prelude.{◌≡◌, ◌++◌, OnOk, codes};
+ghost use Rattle.std.specs.Prelude.{◌≡◌, IfOk};
 ghost use Rattle.bf_run.specs.Outcome.{fault_text, kind_text, number_of_status};
 
 use bf_base::Memory;
 use bf_lex::{ScriptFault, ScriptKind};
 use itoa::Buffer;
+use std::alloc::Global;
 
 /// How a call of the program ends.
 #[derive(Clone, Copy, Debug, PartialEq, Eq)]
@@ -63,14 +64,14 @@ fn words_for(kind: ScriptKind) -> &'static [u8]
     }
 }
 
-/// Appends the text of a fault. After an error some front of it may stand there.
-pub(crate) fn put_fault(out: &mut Vec<u8>, fault: ScriptFault) -> Result<(), Memory>
-    ensures { OnOk result (out.new.items ≡ out.old.items ++ fault_text fault) }
+/// The text of a fault.
+pub(crate) fn fault_line(alloc: Global, fault: ScriptFault) -> Result<Vec<u8>, Memory>
+    ensures { IfOk result (λ text. text.items ≡ fault_text fault) }
 {
-    out.extend_from_slice(b"script error at ")?;
-    out.extend_from_slice(Buffer::new().format(fault.at).as_bytes())?;
-    out.extend_from_slice(b": ")?;
-    out.extend_from_slice(words_for(fault.kind))?;
-    out.extend_from_slice(b"\n")?;
-    Ok(())
+    let mut text = Vec::from_slice(alloc, b"script error at ")?;
+    text.extend_from_slice(Buffer::new().format(fault.at).as_bytes())?;
+    text.extend_from_slice(b": ")?;
+    text.extend_from_slice(words_for(fault.kind))?;
+    text.extend_from_slice(b"\n")?;
+    Ok(text)
 }

@@ -9,7 +9,7 @@ ghost use Rattle.bf_run.specs.Outcome.{Ends, IsAnswer, fault_text};
 ghost use Rattle.bf_run.specs.Runs.{IsRun, is_plain_script};
 
 use crate::serve::{is_plain, serve};
-use crate::status::{Status, put_fault};
+use crate::status::{Status, fault_line};
 use crate::words::are_try;
 use bf_base::Memory;
 use bf_form::read_script;
@@ -28,9 +28,7 @@ fn answer_fault(alloc: Global, fault: ScriptFault) -> Result<(Status, Vec<u8>), 
     ensures status { IfOk result (λ a. a.0 ≡ Status.Script fault) }
     ensures text { IfOk result (λ a. a.1.items ≡ fault_text fault) }
 {
-    let mut text = Vec::new(alloc);
-    put_fault(&mut text, fault)?;
-    Ok((Status::Script(fault), text))
+    Ok((Status::Script(fault), fault_line(alloc, fault)?))
 }
 
 /// The report of a run of a plain script.

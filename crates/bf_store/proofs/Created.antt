@@ -1,5 +1,5 @@
 -- A store with one table more.
-use Rattle.std.proofs.Common.{◌≡◌, ℕ, zero, suc, ◌+◌, ◌<◌, ◌≤◌, Bool, true, false, List, [], ◌∷◌, ◌++◌, map, length, get_or, insert, find, Option, None, is_some, refl, sym, ap, ap₂, subst, ◌∙◌, arith, is_le}
+use Rattle.std.proofs.Common.{◌≡◌, ℕ, zero, suc, ◌+◌, ◌<◌, ◌≤◌, true, false, List, [], ◌∷◌, map, length, insert, find, None, is_some, refl, sym, ap, ap₂, subst, ◌∙◌, arith, is_le}
 use Rattle.std.specs.Prelude.{zip}
 use Rattle.std.specs.List.{All}
 use Rattle.std.specs.List.Sorted.{IsPartitionPoint}
@@ -54,8 +54,8 @@ behind_held : (tables : List Table) (heaps : List Rows) (name : List ℕ) (place
 behind_held tables heaps name place same within at = (
   λ j s low high. ap (λ (s : Stored). is_le (name_cmp (name_of s) name)) (stored_held tables heaps j s no_table empty_heap same (omega arith)) ∙ at.0 j no_table low high,
   λ j s low high.
-    let below : j < length tables = omega (arith, length-map (zip tables heaps) stored, length-zipped tables heaps same) in
-    ap (λ (s : Stored). is_le (name_cmp (name_of s) name)) (stored_held tables heaps j s no_table empty_heap same below) ∙ at.1 j no_table low below,
+      let below : j < length tables = omega (arith, length-map (zip tables heaps) stored, length-zipped tables heaps same) in
+      ap (λ (s : Stored). is_le (name_cmp (name_of s) name)) (stored_held tables heaps j s no_table empty_heap same below) ∙ at.1 j no_table low below,
 )
 
 module _ (catalog : Catalog) (heaps : List Rows) (store : IsStore catalog heaps) (db : Database) (is : database_of catalog heaps ≡ db) (table : Table) (place : ℕ)

@@ -91,9 +91,9 @@ module _ (catalog : Catalog) (heaps : List Rows) (store : IsStore catalog heaps)
     heap_nowhere at =
         let tables = catalog.tables in
         let apart : (i : ℕ) (s : Stored) → i < length (held tables heaps) → same_name (get_or (held tables heaps) i s).table.name name ≡ false = λ i s below.
-            let in_range : i < length tables = omega (arith, length-map (zip tables heaps) stored, length-zipped tables heaps store.one_each) in
-            let there = stored_held tables heaps i s no_table (record { entries = []; spare = 0 }) store.one_each in_range in
-            ap (λ (s : Stored). same_name s.table.name name) there ∙ other_name _ name (λ same. nothing i ((at.alone i no_table in_range).0 same))
+        let in_range : i < length tables = omega (arith, length-map (zip tables heaps) stored, length-zipped tables heaps store.one_each) in
+        let there = stored_held tables heaps i s no_table (record { entries = []; spare = 0 }) store.one_each in_range in
+        ap (λ (s : Stored). same_name s.table.name name) there ∙ other_name _ name (λ same. nothing i ((at.alone i no_table in_range).0 same))
         in
         sym (ap (λ (db : Database). option_map (λ (s : Stored). entries_of s.table s.rows) (stored_at db name)) (sym is)
         ∙ ap (option_map (λ (s : Stored). entries_of s.table s.rows)) (no_match (λ s. same_name s.table.name name) (held tables heaps) apart))

@@ -1,5 +1,7 @@
 mod ByName
+mod Committed
 mod Created
+mod Fixtures
 mod Held
 mod Written
 pub mod keeps

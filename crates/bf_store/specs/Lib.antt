@@ -1,4 +1,5 @@
 pub mod Changes
+pub mod Examples
 pub mod Places
 pub mod Plain
 pub mod Stores

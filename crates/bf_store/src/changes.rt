@@ -21,11 +21,7 @@ fn count_puts(writes: &[Box<Write>]) -> usize
 ///
 /// # Errors
 /// Where memory runs out. The heaps have their rows then, and may have more room.
-pub fn make_room(
-    tables: &[Table],
-    heaps: &mut [Heap],
-    writes: &Workspace,
-) -> Result<(), Memory>
+pub fn make_room(tables: &[Table], heaps: &mut [Heap], writes: &Workspace) -> Result<(), Memory>
     requires one_each { length heaps.old ≡ length tables.now }
     requires by_name { AreByName tables.now }
     ensures entries { entries_in heaps.new ≡ entries_in heaps.old }

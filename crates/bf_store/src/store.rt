@@ -29,7 +29,6 @@ pub struct Store {
 
 impl Model for Store {
     ghost use Rattle.bf_sql.specs.Database.{Database};
-
     ghost use Rattle.bf_store.specs.Stores.{IsStore, database_of};
 
     ghost Value = { Database };

@@ -232,8 +232,7 @@ fn runs_sessions_in_the_order_of_the_text(rt: HostRuntime) -> Result<(), Fail> {
 }
 
 /// A table with an index and a row, and a table with a check and a key of two columns.
-const TABLES: &str =
-    "PHASE; SESSION; CREATE TABLE t (id INT, s VARCHAR(3), PRIMARY KEY (id)); \
+const TABLES: &str = "PHASE; SESSION; CREATE TABLE t (id INT, s VARCHAR(3), PRIMARY KEY (id)); \
 CREATE INDEX i ON t (s); INSERT INTO t VALUES (1, 'abc'); \
 CREATE TABLE w (k INT CHECK (k BETWEEN 0 AND 9), s VARCHAR(1), n INT, PRIMARY KEY (s, k)); \
 INSERT INTO w VALUES (4, '''', -7);";
@@ -244,16 +243,46 @@ const TABLES_MADE: &str = "1.1 created\n1.2 created\n1.3 inserted 1\n1.4 created
 /// Statements on these tables, each alone, and the reply. Where two faults are in one statement,
 /// the first one in the order of the language is told.
 const REPLIES: [(&str, &str); 55] = [
-    ("CREATE TABLE t (a INT, a INT, PRIMARY KEY (b));", "E7 table exists t"),
-    ("CREATE TABLE u (a INT, a INT, PRIMARY KEY (a));", "E13 name twice a"),
-    ("CREATE TABLE u (a INT, a VARCHAR(0), PRIMARY KEY (b));", "E13 name twice a"),
-    ("CREATE TABLE u (a VARCHAR(0), a INT, PRIMARY KEY (b));", "E6 too long"),
-    ("CREATE TABLE u (a VARCHAR(256), PRIMARY KEY (b));", "E6 too long"),
-    ("CREATE TABLE u (a INT CHECK (c BETWEEN 2 AND 1), PRIMARY KEY (b));", "E2 no column c"),
-    ("CREATE TABLE u (a INT CHECK (a BETWEEN 2 AND 1), PRIMARY KEY (b));", "E5 out of range"),
-    ("CREATE TABLE u (a INT, PRIMARY KEY (b, b));", "E2 no column b"),
-    ("CREATE TABLE u (a INT, PRIMARY KEY (a, a));", "E13 name twice a"),
-    ("CREATE TABLE u (a INT, i VARCHAR(255), PRIMARY KEY (i, a));", "created"),
+    (
+        "CREATE TABLE t (a INT, a INT, PRIMARY KEY (b));",
+        "E7 table exists t",
+    ),
+    (
+        "CREATE TABLE u (a INT, a INT, PRIMARY KEY (a));",
+        "E13 name twice a",
+    ),
+    (
+        "CREATE TABLE u (a INT, a VARCHAR(0), PRIMARY KEY (b));",
+        "E13 name twice a",
+    ),
+    (
+        "CREATE TABLE u (a VARCHAR(0), a INT, PRIMARY KEY (b));",
+        "E6 too long",
+    ),
+    (
+        "CREATE TABLE u (a VARCHAR(256), PRIMARY KEY (b));",
+        "E6 too long",
+    ),
+    (
+        "CREATE TABLE u (a INT CHECK (c BETWEEN 2 AND 1), PRIMARY KEY (b));",
+        "E2 no column c",
+    ),
+    (
+        "CREATE TABLE u (a INT CHECK (a BETWEEN 2 AND 1), PRIMARY KEY (b));",
+        "E5 out of range",
+    ),
+    (
+        "CREATE TABLE u (a INT, PRIMARY KEY (b, b));",
+        "E2 no column b",
+    ),
+    (
+        "CREATE TABLE u (a INT, PRIMARY KEY (a, a));",
+        "E13 name twice a",
+    ),
+    (
+        "CREATE TABLE u (a INT, i VARCHAR(255), PRIMARY KEY (i, a));",
+        "created",
+    ),
     ("CREATE INDEX i ON v (x);", "E1 no table v"),
     ("CREATE INDEX i ON t (x, x);", "E2 no column x"),
     ("CREATE INDEX i ON t (s, s);", "E13 name twice s"),
@@ -264,29 +293,59 @@ const REPLIES: [(&str, &str); 55] = [
     ("INSERT INTO t VALUES ('a'), (2, 2);", "E8 wrong count"),
     ("INSERT INTO t VALUES (2, 2), (3);", "E3 type mismatch"),
     ("INSERT INTO t VALUES (1, 'long');", "E6 too long"),
-    ("INSERT INTO t VALUES (2, 'b'), (2, 'c'), (3, 'long');", "E4 duplicate key (2)"),
+    (
+        "INSERT INTO t VALUES (2, 'b'), (2, 'c'), (3, 'long');",
+        "E4 duplicate key (2)",
+    ),
     ("INSERT INTO w VALUES (10, 'ab', 0);", "E5 out of range"),
-    ("INSERT INTO w VALUES (4, '''', 0);", "E4 duplicate key ('''', 4)"),
-    ("INSERT INTO t VALUES (-2, ''), (9223372036854775807, 'x');", "inserted 2"),
+    (
+        "INSERT INTO w VALUES (4, '''', 0);",
+        "E4 duplicate key ('''', 4)",
+    ),
+    (
+        "INSERT INTO t VALUES (-2, ''), (9223372036854775807, 'x');",
+        "inserted 2",
+    ),
     ("SELECT x + 's' FROM v;", "E1 no table v"),
     ("SELECT x FROM t;", "E2 no column x"),
     ("SELECT s + 1 FROM t;", "E3 type mismatch"),
     ("SELECT y.id, x FROM t;", "E1 no table y"),
     ("SELECT t.x FROM t WHERE y.id = 1;", "E2 no column x"),
     ("SELECT SUM(s) FROM t WHERE x = 1;", "E3 type mismatch"),
-    ("SELECT id FROM t WHERE s = 1 AND x = 1;", "E3 type mismatch"),
+    (
+        "SELECT id FROM t WHERE s = 1 AND x = 1;",
+        "E3 type mismatch",
+    ),
     ("SELECT id FROM t WHERE x = 1 AND s = 1;", "E2 no column x"),
-    ("SELECT id + 9223372036854775807, s || s FROM t;", "E5 out of range"),
-    ("SELECT s || s FROM t WHERE id BETWEEN 1 AND 1;", "rows 1\n1.6 | 'abcabc'"),
-    ("SELECT id + 9223372036854775807 FROM t WHERE id > 1;", "rows 0"),
+    (
+        "SELECT id + 9223372036854775807, s || s FROM t;",
+        "E5 out of range",
+    ),
+    (
+        "SELECT s || s FROM t WHERE id BETWEEN 1 AND 1;",
+        "rows 1\n1.6 | 'abcabc'",
+    ),
+    (
+        "SELECT id + 9223372036854775807 FROM t WHERE id > 1;",
+        "rows 0",
+    ),
     ("SELECT -id, 2 - 3 * id FROM t;", "rows 1\n1.6 | -1, -1"),
-    ("SELECT * FROM w WHERE s = '''' AND k = 4;", "rows 1\n1.6 | 4, '''', -7"),
-    ("SELECT COUNT(*), SUM(n), MIN(s), MAX(k) FROM w;", "rows 1\n1.6 | 1, -7, '''', 4"),
+    (
+        "SELECT * FROM w WHERE s = '''' AND k = 4;",
+        "rows 1\n1.6 | 4, '''', -7",
+    ),
+    (
+        "SELECT COUNT(*), SUM(n), MIN(s), MAX(k) FROM w;",
+        "rows 1\n1.6 | 1, -7, '''', 4",
+    ),
     (
         "SELECT COUNT(*), SUM(n), MIN(s), MAX(k) FROM w WHERE NOT n < 0;",
         "rows 1\n1.6 | 0, NULL, NULL, NULL",
     ),
-    ("SELECT SUM(n * 9223372036854775807) FROM w;", "E5 out of range"),
+    (
+        "SELECT SUM(n * 9223372036854775807) FROM w;",
+        "E5 out of range",
+    ),
     ("UPDATE v SET x = 1;", "E1 no table v"),
     ("UPDATE t SET x = y;", "E2 no column x"),
     ("UPDATE t SET id = 2;", "E9 key column id"),
@@ -296,7 +355,10 @@ const REPLIES: [(&str, &str); 55] = [
     ("UPDATE t SET s = 1 WHERE x = 1;", "E3 type mismatch"),
     ("UPDATE t SET s = 'a' WHERE x = 1;", "E2 no column x"),
     ("UPDATE t SET s = s || 'd';", "E6 too long"),
-    ("UPDATE w SET n = n * 9223372036854775807;", "E5 out of range"),
+    (
+        "UPDATE w SET n = n * 9223372036854775807;",
+        "E5 out of range",
+    ),
     ("UPDATE w SET n = k + n WHERE n = -7 OR k = 5;", "updated 1"),
     ("DELETE FROM v WHERE x = 1;", "E1 no table v"),
     ("DELETE FROM t WHERE x = 1;", "E2 no column x"),
