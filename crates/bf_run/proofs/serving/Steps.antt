@@ -77,9 +77,9 @@ one_more_has_run all place db transcripts entries h s less here replies next not
       tables = tables;
       count = length-append transcripts (replies ∷ []) ∙ omega (arith, h.count);
       told = h.told ∙ (ap (λ (ss : List Session). transcripts ++ (sessions_from commit db ss).0) left
-      ∙ (ap (λ (ts : List (List Reply)). transcripts ++ ts) told ∙ sym (append_assoc transcripts (replies ∷ []) (sessions_from (length noted + 1) next rest).0)));
+          ∙ (ap (λ (ts : List (List Reply)). transcripts ++ ts) told ∙ sym (append_assoc transcripts (replies ∷ []) (sessions_from (length noted + 1) next rest).0)));
       entered = h.entered ∙ (ap (λ (ss : List Session). entries ++ all_entries_from (place + 1) commit ss) left
-      ∙ (ap (λ (n : ℕ). entries ++ (own ++ all_entries_from (place + 1 + 1) n rest)) later
-      ∙ (sym (append_assoc entries own (all_entries_from (place + 1 + 1) (length noted + 1) rest))
-      ∙ ap (λ (es : List Entry). es ++ all_entries_from (place + 1 + 1) (length noted + 1) rest) (sym entered))));
+          ∙ (ap (λ (n : ℕ). entries ++ (own ++ all_entries_from (place + 1 + 1) n rest)) later
+          ∙ (sym (append_assoc entries own (all_entries_from (place + 1 + 1) (length noted + 1) rest))
+          ∙ ap (λ (es : List Entry). es ++ all_entries_from (place + 1 + 1) (length noted + 1) rest) (sym entered))));
     }
