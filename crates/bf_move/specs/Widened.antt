@@ -61,7 +61,7 @@ widened_sweep (sweep.Complete migration moved) = wide_sweep.Complete migration m
 widened_sweep (sweep.Running migration moved unit position) = wide_sweep.Running migration moved unit position
 
 -- transcripts, history and movement of a run of the form
-pub record IsMove (script : Script) (transcripts : List (List WideReply)) (history : List WideEntry) (last : WideSweep) : Type 0 where
+pub record IsFormRun (script : Script) (transcripts : List (List WideReply)) (history : List WideEntry) (last : WideSweep) : Type 0 where
   pub replies : List (List Reply)
   pub entries : List Entry
   pub sweep : Sweep

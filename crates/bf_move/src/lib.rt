@@ -6,4 +6,4 @@ pub mod engine;
 pub mod serve;
 pub mod widen;
 
-pub use widen::{Move, run};
+pub use widen::{FormRun, run};

@@ -2,7 +2,7 @@
 
 ghost use Rattle.std.specs.Prelude.{◌≡◌, IfOk, map};
 ghost use Rattle.bf_form.specs.Form.{IsOfForm};
-ghost use Rattle.bf_move.specs.Widened.{IsMove, widened_cell, widened_entry, widened_refusal, widened_reply, widened_sweep};
+ghost use Rattle.bf_move.specs.Widened.{IsFormRun, widened_cell, widened_entry, widened_refusal, widened_reply, widened_sweep};
 
 use crate::serve::serve;
 use bf_base::{Memory, Sequence};
@@ -11,7 +11,7 @@ use std::alloc::Global;
 
 /// What a run leaves.
 #[derive(Debug, Drop)]
-pub struct Move {
+pub struct FormRun {
     pub transcripts: bf_sql::Transcripts,
     pub history: bf_sql::History,
     pub sweep: bf_sql::Sweep,
@@ -127,12 +127,12 @@ fn wide_sweep(sweep: Sweep) -> bf_sql::Sweep
 
 /// Runs a script of the form from the empty database, and tells what it leaves in the words of the
 /// whole language. It costs what [`serve`] does, and a pass over the replies.
-pub fn run(alloc: Global, script: &Script) -> Result<Move, Memory>
+pub fn run(alloc: Global, script: &Script) -> Result<FormRun, Memory>
     requires { IsOfForm script.now }
-    ensures { IfOk result (λ move. IsMove script.now move.transcripts.sessions move.history.entries move.sweep) }
+    ensures { IfOk result (λ move. IsFormRun script.now move.transcripts.sessions move.history.entries move.sweep) }
 {
     let run = serve(alloc, script)?;
-    Ok(Move {
+    Ok(FormRun {
         transcripts: bf_sql::Transcripts {
             sessions: run.transcripts.sessions.widen(alloc)?,
         },

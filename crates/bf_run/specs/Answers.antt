@@ -2,7 +2,7 @@
 use Rattle.std.specs.Prelude.{◌≡◌, ℕ, List, ◌++◌, codes, Option, Some, None, Ok, Err}
 use Rattle.bf_lazy.specs.declared.statement.Script.{Script as FormScript}
 use Rattle.bf_form.specs.Grammar.{IsScriptText as IsFormText}
-use Rattle.bf_move.specs.Widened.{IsMove}
+use Rattle.bf_move.specs.Widened.{IsFormRun}
 use Rattle.bf_parse.specs.Scripts.{IsScriptText}
 use Rattle.bf_sql.specs.declared.script.Script.{Script}
 use Rattle.bf_sql.specs.declared.reply.Reply.{Reply}
@@ -23,7 +23,7 @@ Tells Leaves text =
 
 -- the report of a run of the form that a text is, or nothing where it is not of the form
 abbrev pub FindsForm : List ℕ → Option (List ℕ) → Type 0
-FindsForm bytes (Some text) = (form : FormScript) × IsFormText bytes form × Tells (IsMove form) text
+FindsForm bytes (Some text) = (form : FormScript) × IsFormText bytes form × Tells (IsFormRun form) text
 FindsForm bytes None = IsOfForm bytes → ⊥
 
 abbrev pub IsAnswerTo : List ℕ → Status → List ℕ → Type 0

@@ -11,7 +11,7 @@ use Rattle.bf_sql.specs.Database.{empty_database}
 use Rattle.bf_sql.specs.History.{IsLegalHistory, IsAllAnswered}
 use Rattle.bf_lazy.specs.declared.statement.Script.{Script as FormScript}
 use Rattle.bf_form.specs.Grammar.{IsScriptText as IsFormText}
-use Rattle.bf_move.specs.Widened.{IsMove}
+use Rattle.bf_move.specs.Widened.{IsFormRun}
 use Rattle.bf_store.specs.Plain.{is_plain}
 use Rattle.bf_run.specs.InOrder.{entries_in_order}
 
@@ -42,4 +42,4 @@ IsOfForm bytes = (form : FormScript) × IsFormText bytes form
 abbrev pub IsRunOf : List ℕ → Script → List (List Reply) → List Entry → Sweep → Type 0
 IsRunOf bytes script transcripts history sweep =
     (IsTrue (is_plain_script script) × IsRun script transcripts history sweep)
-    ⊎ ((is_plain_script script ≡ false) × (form : FormScript) × IsFormText bytes form × IsMove form transcripts history sweep)
+    ⊎ ((is_plain_script script ≡ false) × (form : FormScript) × IsFormText bytes form × IsFormRun form transcripts history sweep)

@@ -21,7 +21,7 @@ use bf_text::report;
 use std::alloc::Global;
 
 /// The most bytes of a script.
-pub const LONGEST_SCRIPT: u32 = 1 << 24;
+const LONGEST_SCRIPT: u32 = 1 << 24;
 
 /// The status of a text that is no script, and what is written of its first fault.
 fn answer_fault(alloc: Global, fault: ScriptFault) -> Result<(Status, Vec<u8>), Memory>
@@ -106,8 +106,8 @@ fn answer<I: Source>(
 /// Runs the script that the input is over a database that is empty and is not kept, and
 /// writes its report. The words are those behind the program's name.
 ///
-/// The whole text is made before its first byte is written. The time is linear in the input
-/// and in the report, but for the search and the move of the tail of an INSERT.
+/// The whole text is made before its first byte is written. The time is linear in the input and in
+/// the report, and beside that each statement costs what it reads and writes of its table.
 pub fn bullfrog<I: Source, O: Sink>(
     alloc: Global,
     words: &[&str],

@@ -109,7 +109,8 @@ impl Store {
 
     /// Makes what a transaction has written part of its tables, and each other table stays. A write
     /// to a table costs a look-up by key, in time logarithmic in the table's rows, and a new or a
-    /// removed row moves 8 bytes for each row behind it.
+    /// removed row moves 8 bytes for each row behind it. Room is made for as many rows as are put;
+    /// what is left of it stays as room for later rows.
     ///
     /// # Errors
     /// Where memory runs out. The store is as it was then.

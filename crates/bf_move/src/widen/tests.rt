@@ -1,6 +1,6 @@
 //! A test that runs a script of the form and looks at what it leaves.
 
-use super::{Move, run};
+use super::{FormRun, run};
 use bf_base::{Name, Sequence, Value};
 use bf_form::read_script;
 use bf_sql::{Cell, Entry, History, Outcome, Refusal, Reply, Sweep, Transcripts};
@@ -48,7 +48,7 @@ fn history(alloc: Global) -> Result<History, Fail> {
 }
 
 /// What the run of a text leaves, if it is one of the form.
-fn run_of(alloc: Global, text: &str) -> Result<Option<Move>, Fail> {
+fn run_of(alloc: Global, text: &str) -> Result<Option<FormRun>, Fail> {
     match read_script(alloc, text.as_bytes())? {
         Some(script) => Ok(Some(run(alloc, &script)?)),
         None => Ok(None),
