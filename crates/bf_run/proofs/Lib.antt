@@ -1,3 +1,4 @@
 pub mod Parsed
 pub mod Told
+pub mod one
 pub mod order
