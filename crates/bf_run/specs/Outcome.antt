@@ -77,6 +77,13 @@ Comes words input ReadFault = (is_try words ≡ true) × Rose input.faults input
 Comes words input WriteFault = ⊥
 Comes words input Memory = Unit {0}
 
+-- a status that comes of the words and the bytes, and not of a fault of a stream or of want of memory
+abbrev pub IsDetermined : Status → Type 0
+IsDetermined ReadFault = ⊥
+IsDetermined WriteFault = ⊥
+IsDetermined Memory = ⊥
+IsDetermined other = Unit {0}
+
 abbrev pub kind_text : ScriptKind → List ℕ
 kind_text kind.BadByte = codes "bad byte"
 kind_text kind.OpenString = codes "open string"
