@@ -1,6 +1,6 @@
 # Each target is one command on a machine with the kit.
 
-# Runs the program on the example script (builds it first, which takes half a minute).
+# Runs the program on the example script (builds it first, which takes a minute).
 example:
 	cd crates/bullfrog && rt try -- try < ../../examples/migrate.sql
 
