@@ -6,8 +6,9 @@ usage: bench/compare.py [PROGRAM]
 PROGRAM is the built program, by default the one that `rt run` leaves. For 10,000 and for 100,000
 rows it makes a script (INSERTs in random key order, as many SELECTs and as many UPDATEs by key, a
 few scans with a condition, a few with aggregates), runs both programs on it three times in turn,
-checks that all rows agree, and prints the least time of each and the ratio. Without `sqlite3` it
-prints the times of bullfrog alone. It ends with status 1 where a run fails or rows differ.
+checks that all rows agree, and prints the least time of each and the ratio. sqlite3's table is
+WITHOUT ROWID, so that its scans give the rows in key order too. Without `sqlite3` it prints the
+times of bullfrog alone. It ends with status 1 where a run fails or rows differ.
 """
 
 import random
@@ -63,7 +64,8 @@ def compare(program, size, folder):
     script = folder / "script.sql"
     script.write_text("PHASE; SESSION;\n" + text)
     other = folder / "sqlite.sql"
-    other.write_text('.mode quote\n.separator ", "\n' + text)
+    by_key = text.replace("PRIMARY KEY (id));", "PRIMARY KEY (id)) WITHOUT ROWID;", 1)
+    other.write_text('.mode quote\n.separator ", "\n' + by_key)
     sqlite = shutil.which("sqlite3")
     times, others = [], []
     for _ in range(ROUNDS):
