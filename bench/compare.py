@@ -6,7 +6,7 @@ usage: bench/compare.py [PROGRAM]
 PROGRAM is the built program, by default the one that `rt run` leaves. For 10,000 and for 100,000
 rows it makes a script (INSERTs in random key order, as many SELECTs and as many UPDATEs by key, a
 few scans with a condition, a few with aggregates), runs both programs on it three times in turn,
-checks that all rows agree, and prints the least time of each and the ratio. sqlite3's table is
+checks that the rows of all SELECTs agree, and prints the least time of each and the ratio. sqlite3's table is
 WITHOUT ROWID, so that its scans give the rows in key order too. Without `sqlite3` it prints the
 times of bullfrog alone. It ends with status 1 where a run fails or rows differ.
 """
@@ -26,7 +26,7 @@ SCANS = 5
 
 
 def statements(size):
-    """The statements of a script over so many rows, without blanks that no reader needs."""
+    """The statements of a script over so many rows."""
     rng = random.Random(size)
     keys = rng.sample(range(10 * size), size)
     yield "CREATE TABLE t (id INT, n INT, name VARCHAR(20), PRIMARY KEY (id));"
@@ -60,6 +60,7 @@ def rows_of_report(report):
 
 
 def compare(program, size, folder):
+    """Times both programs on a script over so many rows, and prints their least times."""
     text = "\n".join(statements(size)) + "\n"
     script = folder / "script.sql"
     script.write_text("PHASE; SESSION;\n" + text)

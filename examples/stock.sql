@@ -9,6 +9,7 @@ CREATE TABLE stock (
 );
 INSERT INTO stock VALUES ('bolt', 1, 120), ('nut', 1, 80), ('bolt', 2, 15);
 UPDATE stock SET amount = amount - 20 WHERE item = 'bolt' AND place = 1;
+-- Refused, since no place is above 9.
 INSERT INTO stock VALUES ('screw', 12, 5);
 SESSION;
 SELECT * FROM stock WHERE amount < 90;

@@ -1,10 +1,9 @@
 -- What the answer to an input that was read whole is, as the parts of the top call owe it.
-use Rattle.std.specs.Prelude.{◌≡◌, ℕ, List, ◌++◌, codes, Option, Some, None, Ok, Err}
+use Rattle.std.specs.Prelude.{◌≡◌, ℕ, List, ◌++◌, codes, Option, Some, None, Err}
 use Rattle.bf_lazy.specs.declared.statement.Script.{Script as FormScript}
 use Rattle.bf_form.specs.Grammar.{IsScriptText as IsFormText}
 use Rattle.bf_move.specs.Widened.{IsFormRun}
 use Rattle.bf_parse.specs.Scripts.{IsScriptText}
-use Rattle.bf_sql.specs.declared.script.Script.{Script}
 use Rattle.bf_sql.specs.declared.reply.Reply.{Reply}
 use Rattle.bf_sql.specs.declared.history.Entry.{Entry}
 use Rattle.bf_sql.specs.declared.history.Sweep.{Sweep}
@@ -13,7 +12,7 @@ use Rattle.bf_text.specs.Report.{report_text}
 use Rattle.bf_run.specs.declared.status.Status.{Status}
 use Rattle.bf_run.specs.declared.status.Status.TheVariants.{Done, Script as ScriptError, NotBuilt}
 use Rattle.bf_run.specs.Outcome.{IsReport, IsServed, IsNotServed, fault_text}
-use Rattle.bf_run.specs.Runs.{IsRun, IsOfForm}
+use Rattle.bf_run.specs.Runs.{IsOfForm}
 
 -- the text is the report of what a run leaves
 abbrev pub Tells : (List (List Reply) → List Entry → Sweep → Type 0) → List ℕ → Type 0

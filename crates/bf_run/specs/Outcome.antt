@@ -50,11 +50,11 @@ pub record IsReport (bytes text : List ℕ) : Type 0 where
   pub is_run : IsRunOf bytes script transcripts history sweep
   pub report_written : text ≡ report_text transcripts history None sweep
 
--- a script that is served: each without blocks and migrations, and those of the form that migrates one table
+-- the text is a script that is served: a plain one, or one of the form that migrates one table
 abbrev pub IsServed : List ℕ → Type 0
 IsServed bytes = (script : Script) × IsScriptText bytes (Ok script) × (IsTrue (is_plain_script script) ⊎ IsOfForm bytes)
 
--- a script that is not served yet
+-- the text is a script that is not served yet
 abbrev pub IsNotServed : List ℕ → Type 0
 IsNotServed bytes = (script : Script) × IsScriptText bytes (Ok script) × (is_plain_script script ≡ false) × (IsOfForm bytes → ⊥)
 

@@ -38,7 +38,7 @@ pub record IsRun (script : Script) (transcripts : List (List Reply)) (history : 
 abbrev pub IsOfForm : List ℕ → Type 0
 IsOfForm bytes = (form : FormScript) × IsFormText bytes form
 
--- what is served: each plain script, and of all others those of the form
+-- RUN of a script that is served: of a plain one, or of another whose text is of the form
 abbrev pub IsRunOf : List ℕ → Script → List (List Reply) → List Entry → Sweep → Type 0
 IsRunOf bytes script transcripts history sweep =
     (IsTrue (is_plain_script script) × IsRun script transcripts history sweep)

@@ -1,6 +1,6 @@
 //! Statements on the committed tables, each as a transaction of its own.
 
-ghost use Rattle.std.specs.Prelude.{◌≡◌, [], ℕ, Bool, false, IfOk, IsTrue, OnErr, OnOk, Some};
+ghost use Rattle.std.specs.Prelude.{◌≡◌, [], ℕ, false, IfOk, IsTrue, OnErr, OnOk, Some};
 ghost use Rattle.bf_bind.specs.Limits.{HasNarrowTables, KeepsLimits};
 ghost use Rattle.bf_query.specs.Actions.{IsChange, IsSelect, change_reply, select_reply};
 ghost use Rattle.bf_query.specs.Meanings.{writes_after};
@@ -54,10 +54,11 @@ fn change(alloc: Global, store: &mut Store, bound: &Bound, table: &Table) -> Res
 }
 
 /// Runs a statement as a transaction, which commits. It costs the binding, which is linear in the
-/// statement and logarithmic in the tables, and what the statement reads and writes of its table.
+/// statement and logarithmic in the tables, and what the statement reads and writes of its table; a
+/// CREATE moves the tables or the index rules behind the new one.
 ///
 /// # Errors
-/// Where memory runs out. The store is as it was then.
+/// Where memory runs out, or 2 ^ 64 schema changes were made. The store is as it was then.
 pub fn execute(alloc: Global, store: &mut Store, statement: &Statement) -> Result<Reply, Memory>
     requires plain { IsTrue (is_plain statement.now) }
     requires limits { KeepsLimits (catalog_of store.old) statement.now }

@@ -16,7 +16,8 @@ use bf_sql::{Entry, History, Outcome, Reply, Script, Session, Statement, Sweep, 
 use bf_store::Store;
 use std::alloc::Global;
 
-/// What a run leaves.
+/// What a run leaves: for each session the replies to its statements, the transactions in the order
+/// of their ends, and how far the last migration has come.
 #[derive(Debug, Drop)]
 pub struct Run {
     pub transcripts: Transcripts,
@@ -112,6 +113,9 @@ fn run_sessions(
 
 /// Runs a plain script from the empty database: session after session, each statement as a
 /// transaction of its own. It costs what the statements do.
+///
+/// # Errors
+/// Where memory runs out, or a number of a session or statement is 2 ^ 32 or above.
 pub fn serve(alloc: Global, script: &Script) -> Result<Run, Memory>
     requires plain { IsTrue (is_plain_script script.now) }
     requires narrow { IsTrue (is_narrow_script script.now) }

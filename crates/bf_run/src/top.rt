@@ -106,8 +106,9 @@ fn answer<I: Source>(
 /// Runs the script that the input is over a database that is empty and is not kept, and
 /// writes its report. The words are those behind the program's name.
 ///
-/// The whole text is made before its first byte is written. The time is linear in the input and in
-/// the report, and beside that each statement costs what it reads and writes of its table.
+/// The whole text is made before its first byte is written, so want of memory is answered with
+/// nothing written. The time is linear in the input and in the report; beside that each statement
+/// compares about log n names, and costs what it reads and writes of its table.
 pub fn bullfrog<I: Source, O: Sink>(
     alloc: Global,
     words: &[&str],

@@ -1,3 +1,5 @@
+//! Scripts and their whole reports, through the top call.
+
 ghost use Rattle.std.specs.Prelude.{Some};
 
 use super::*;
@@ -242,7 +244,12 @@ const TABLES_MADE: &str = "1.1 created\n1.2 created\n1.3 inserted 1\n1.4 created
 
 /// Statements on these tables, each alone, and the reply. Where two faults are in one statement,
 /// the first one in the order of the language is told.
-const REPLIES: [(&str, &str); 55] = [
+const REPLIES: [(&str, &str); 57] = [
+    (
+        "CREATE TABLE t (id INT, PRIMARY KEY (id));",
+        "E7 table exists t",
+    ),
+    ("CREATE INDEX i ON t (id);", "E19 index exists i"),
     (
         "CREATE TABLE t (a INT, a INT, PRIMARY KEY (b));",
         "E7 table exists t",
