@@ -1,3 +1,6 @@
 pub mod Answers
 pub mod Images
+pub mod Tape
+pub mod TapeInside
+pub mod TapeLaws
 pub mod Told
