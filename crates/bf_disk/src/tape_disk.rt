@@ -1,6 +1,6 @@
 //! A disk in memory that keeps every call, fails as it is told, and can be crashed.
 
-ghost use Rattle.std.specs.Prelude.{◌≡◌, ◌-◌, ◌<◌, [], None, Some, true, length, IfOk, if◌then◌else◌, Ok, Err};
+ghost use Rattle.std.specs.Prelude.{◌≡◌, ◌-◌, ◌≤◌, [], None, Some, true, length, IfOk, if◌then◌else◌, Ok, Err};
 ghost use Rattle.bf_disk.specs.Tape.{file_of, MayLeave, LeftSince, faults_of, new_tape, torn_image, next_fails, at_call};
 ghost use Rattle.bf_disk.specs.TapeLaws.{as_it_reads as tape_as_it_reads, counts_now as tape_counts_now, only_now as tape_only_now};
 

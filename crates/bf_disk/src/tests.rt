@@ -38,3 +38,17 @@ fn tears_what_is_pending(rt: HostRuntime) -> Result<(), Fail> {
     assert_eq!(rt; before.bytes(), b"abcdef".as_slice());
     Ok(())
 }
+
+#[test]
+fn a_shelf_holds_what_comes_back(rt: HostRuntime) -> Result<(), Fail> {
+    let mut shelf = MemoryShelf::new(rt.alloc());
+    let mut disk = shelf.take("a")?;
+    assert_eq!(rt; disk.len()?, 0);
+    assert!(rt; shelf.disk("a").is_none());
+    disk.write_at(0, b"xy")?;
+    shelf.put_back("a", disk);
+    let held = shelf.disk("a").ok_or("the disk that came back")?;
+    assert_eq!(rt; held.bytes(), b"xy".as_slice());
+    assert!(rt; shelf.disk("b").is_none());
+    Ok(())
+}

@@ -1,0 +1,4 @@
+pub mod Append
+pub mod Errors
+pub mod Format
+pub mod Opening

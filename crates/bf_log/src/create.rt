@@ -1,0 +1,35 @@
+//! Making a log.
+
+ghost use Rattle.std.specs.Prelude.{◌≡◌, ℕ, ◌<◌, ◌≤◌, List, [], Some, Err, length, OnOk};
+ghost use Rattle.bf_io.specs.Causes.{Rose};
+ghost use Rattle.bf_io.specs.Whole.{IfTold};
+ghost use Rattle.bf_disk.specs.Images.{LeavesOnly, Only};
+ghost use Rattle.bf_log.specs.Format.{empty_log};
+
+use crate::error::CreateError;
+use bf_disk::Disk;
+
+/// The magic and a closed gate.
+const EMPTY_LOG: [u8; 9] = *b"BFROGLG1\x00";
+
+/// Makes an empty log of an empty file: one write and one sync. A file with bytes is refused, and
+/// nothing is written then. After a failed call of the device the file may hold anything.
+pub fn create_log<D: Disk>(disk: &mut D) -> Result<(), CreateError>
+    ensures made { (file : List ℕ) → D.seen disk.old ≡ Some file → OnOk result
+        ((file ≡ []) × (D.seen disk.new ≡ Some empty_log) × Only empty_log (D.may_leave disk.new)) }
+    ensures not_empty { (len : ℕ) → result ≡ Err (CreateError.NotEmpty len) → (0 < len)
+        × IfTold (D.seen disk.old) (λ file. len ≡ length file)
+        × (D.seen disk.new ≡ D.seen disk.old)
+        × LeavesOnly D.moment D.left_since disk.old disk.new (D.may_leave disk.old) }
+    ensures fault { result ≡ Err CreateError.DiskFault → Rose (D.fault_count disk.old) (D.fault_count disk.new) }
+    ensures calm { (result ≡ Err CreateError.DiskFault → ⊥) → D.fault_count disk.new ≡ D.fault_count disk.old }
+    ensures later { D.fault_count disk.old ≤ D.fault_count disk.new }
+{
+    let len = disk.len()?;
+    if len > 0 {
+        return Err(CreateError::NotEmpty(len));
+    }
+    disk.write_at(0, &EMPTY_LOG)?;
+    disk.sync()?;
+    Ok(())
+}
