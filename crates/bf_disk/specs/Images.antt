@@ -1,5 +1,5 @@
 -- The disk model: what a call does to a file, and what a crash may leave of it.
-use Rattle.std.specs.Prelude.{◌≡◌, ◌⊎◌, ℕ, ◌+◌, ◌<◌, ◌≤◌, min, max, List, ◌++◌, length, take, drop, slice_get}
+use Rattle.std.specs.Prelude.{◌≡◌, ◌⊎◌, ℕ, ◌+◌, ◌<◌, ◌≤◌, min, max, List, ◌++◌, length, take, drop, slice_index}
 
 -- a file with these bytes at an offset, in the place of what was there
 abbrev pub overwritten : List ℕ → ℕ → List ℕ → List ℕ
@@ -10,14 +10,14 @@ overwritten file at bytes = take at file ++ bytes ++ drop (at + length bytes) fi
 pub record Torn (at n : ℕ) (old new : List ℕ) : Type 0 where
   pub no_shorter : length old ≤ length new
   pub no_longer : length new ≤ max (length old) (at + n)
-  pub stays : (i : ℕ) → i < length old → (i < at) ⊎ (at + n ≤ i) → slice_get new i ≡ slice_get old i
+  pub stays : (i : ℕ) → i < length old → (i < at) ⊎ (at + n ≤ i) → slice_index new i ≡ slice_index old i
 
 -- What a crash may make of a cut to n bytes: some length between, any bytes past the old end, and each
 -- other byte as it was.
 pub record CutShort (n : ℕ) (old new : List ℕ) : Type 0 where
   pub no_shorter : min (length old) n ≤ length new
   pub no_longer : length new ≤ max (length old) n
-  pub stays : (i : ℕ) → i < length old → i < length new → slice_get new i ≡ slice_get old i
+  pub stays : (i : ℕ) → i < length old → i < length new → slice_index new i ≡ slice_index old i
 
 -- What a crash may leave after a step is what the step makes of what it might have left before: nothing else,
 -- and nothing of it is left out.

@@ -1,7 +1,9 @@
 -- A disk that keeps every call, and what follows from them.
-use Rattle.std.specs.Prelude.{◌≡◌, ℕ, ◌+◌, ◌%◌, ◌≤◌, ◌==◌, ◌||◌, ◌&&◌, nat_lt, Bool, true, false, not, if◌then◌else◌, Option, None, Some, unwrap_or, List, [], ◌∷◌, ◌++◌, length, take, drop, map, replicate, count_by, slice_get}
+use Rattle.std.specs.Prelude.{◌≡◌, ℕ, ◌+◌, ◌%◌, ◌≤◌, ◌==◌, ◌||◌, ◌&&◌, nat_lt, Bool, true, false, not, if◌then◌else◌, Option, None, Some, unwrap_or, List, [], ◌∷◌, ◌++◌, length, take, drop, map, replicate, count_by, slice_get, Result, Ok, Err}
 use Rattle.std.specs.List.{list_any}
 use Rattle.std.specs.Option.{option_map_or}
+use Rattle.bf_disk.specs.declared.error.DiskError.{DiskError}
+use Rattle.bf_disk.specs.declared.error.DiskError.TheVariants.{Fault, Memory}
 use Rattle.bf_disk.specs.Images.{overwritten, Torn, CutShort}
 use Rattle.bf_disk.specs.declared.call.Act.{Act}
 use Rattle.bf_disk.specs.declared.call.Act.TheVariants.{Look, Write, Cut, Sync}
@@ -27,6 +29,13 @@ next_fails tape =
 -- with one more call of this act, which fails or not
 abbrev pub after_act : Tape → Act → Tape
 after_act tape act = record tape { calls = tape.calls ++ record { act = act; failed = next_fails tape } ∷ [] }
+
+-- what an answer says of a tape: it fails exactly where it is told to and keeps the call, or there was no memory and
+-- it is as it was
+abbrev pub Keeps : {T : Type 0} → Act → Tape → Tape → Result T DiskError → Type 0
+Keeps act old new (Ok value) = (next_fails old ≡ false) × (new ≡ after_act old act)
+Keeps act old new (Err Fault) = (next_fails old ≡ true) × (new ≡ after_act old act)
+Keeps act old new (Err Memory) = new ≡ old
 
 -- the file after an act that did not fail
 abbrev pub file_after_act : List ℕ → Act → List ℕ

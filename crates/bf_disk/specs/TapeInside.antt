@@ -8,8 +8,8 @@ tape_of disk = record {
   start = disk.start.items;
   calls = disk.calls.items;
   failing = disk.failing.items;
-  last = disk.last
-  }
+  last = disk.last;
+}
 
 -- the bytes that stand ready are those that the calls made, and without any the file is as it was at first
 abbrev pub IsReplayed : Inside → Type 0

@@ -119,7 +119,9 @@ impl Shelf for MemoryShelf {
         if let Some(index) = self.index_of(path) {
             let slot = &mut self.slots[index];
             let lent = slot.lent.take().unwrap_or(0);
-            self.faults = self.faults.saturating_add(disk.faults().saturating_sub(lent));
+            self.faults = self
+                .faults
+                .saturating_add(disk.faults().saturating_sub(lent));
             slot.disk = Some(disk);
         }
     }

@@ -75,11 +75,7 @@ fn make_pending(certain: &mut Vec<Option<u8>>, call: &Call) -> Result<(), Memory
 
 /// The bytes of a file whose pending ones are those of `torn` in turn, from the front again where it is
 /// used up, and 0 where it is empty.
-pub(crate) fn tear(
-    alloc: Global,
-    certain: &[Option<u8>],
-    torn: &[u8],
-) -> Result<Vec<u8>, Memory>
+pub(crate) fn tear(alloc: Global, certain: &[Option<u8>], torn: &[u8]) -> Result<Vec<u8>, Memory>
     ensures { IfOk result (λ image. image.items ≡ torn_from torn.now 0 certain.now) }
 {
     let mut image = Vec::with_capacity(alloc, certain.len())?;

@@ -1,7 +1,7 @@
 //! A disk in memory that keeps every call, fails as it is told, and can be crashed.
 
-ghost use Rattle.std.specs.Prelude.{◌≡◌, ◌-◌, ◌≤◌, [], None, Some, true, length, IfOk, if◌then◌else◌, Ok, Err};
-ghost use Rattle.bf_disk.specs.Tape.{file_of, MayLeave, LeftSince, faults_of, new_tape, torn_image, next_fails, at_call};
+ghost use Rattle.std.specs.Prelude.{◌≡◌, ◌+◌, ◌-◌, ◌≤◌, [], None, Some, true, length, take, drop, IfOk, OnOk};
+ghost use Rattle.bf_disk.specs.Tape.{file_of, MayLeave, LeftSince, faults_of, Keeps, new_tape, torn_image, next_fails, at_call};
 ghost use Rattle.bf_disk.specs.TapeLaws.{as_it_reads as tape_as_it_reads, counts_now as tape_counts_now, only_now as tape_only_now};
 
 use crate::call::{Act, Call};
@@ -112,7 +112,11 @@ impl TapeDisk {
     fn keep(&mut self, act: Act) -> Result<(), DiskError> {
         let failed = self.next_fails();
         self.calls.push(Call { act, failed })?;
-        if failed { Err(DiskError::Fault) } else { Ok(()) }
+        if failed {
+            Err(DiskError::Fault)
+        } else {
+            Ok(())
+        }
     }
 
     // Keeps a call after which the file reads as `next`, unless it fails.
@@ -153,18 +157,28 @@ impl Disk for TapeDisk {
         self.calls.iter().filter(|call| call.failed).count() as u64
     }
 
-    fn len(&mut self) -> Result<u64, DiskError> {
+    fn len(&mut self) -> Result<u64, DiskError>
+        ensures kept { Keeps Act.Look self.old self.new result }
+        ensures len { IfOk result (λ len. len ≡ length (file_of self.old)) }
+    {
         self.keep(Act::Look)?;
         Ok(self.bytes().len() as u64)
     }
 
-    fn read(&mut self, at: u64, into: &mut [u8]) -> Result<(), DiskError> {
+    fn read(&mut self, at: u64, into: &mut [u8]) -> Result<(), DiskError>
+        requires { at + length into.old ≤ length (file_of self.old) }
+        ensures kept { Keeps Act.Look self.old self.new result }
+        ensures bytes { OnOk result (into.new ≡ take (length into.old) (drop at (file_of self.old))) }
+    {
         self.keep(Act::Look)?;
         copy_range(self.bytes(), at, into);
         Ok(())
     }
 
-    fn write_at(&mut self, at: u64, bytes: &[u8]) -> Result<(), DiskError> {
+    fn write_at(&mut self, at: u64, bytes: &[u8]) -> Result<(), DiskError>
+        requires { at ≤ length (file_of self.old) }
+        ensures { Keeps (Act.Write at bytes.now) self.old self.new result }
+    {
         let alloc = *self.calls.allocator();
         let mut next = self.copied(alloc)?;
         overwrite(&mut next, at, bytes)?;
@@ -172,13 +186,18 @@ impl Disk for TapeDisk {
         self.change(Act::Write(at, kept), next)
     }
 
-    fn cut(&mut self, len: u64) -> Result<(), DiskError> {
+    fn cut(&mut self, len: u64) -> Result<(), DiskError>
+        requires { len ≤ length (file_of self.old) }
+        ensures { Keeps (Act.Cut len) self.old self.new result }
+    {
         let alloc = *self.calls.allocator();
         let next = self.bytes()[..len as usize].to_vec(alloc)?;
         self.change(Act::Cut(len), next)
     }
 
-    fn sync(&mut self) -> Result<(), DiskError> {
+    fn sync(&mut self) -> Result<(), DiskError>
+        ensures { Keeps Act.Sync self.old self.new result }
+    {
         self.keep(Act::Sync)
     }
 }

@@ -42,6 +42,10 @@ BreaksBehind [] bytes = (behind : List ℕ) × (bytes ≡ open_gate ∷ behind) 
 BreaksBehind (payload ∷ payloads) bytes =
     (chain : List ℕ) × (length payload ≤ most_bytes) × (bytes ≡ entry payload ++ chain) × BreaksBehind payloads chain
 
+-- a file has the magic at its front
+abbrev pub HasMagic : List ℕ → Type 0
+HasMagic file = take (length magic) file ≡ magic
+
 -- the first byte that differs from the magic
 pub record DiffersAt (file : List ℕ) (at : ℕ) : Type 0 where
   pub within : (at < length magic) × (at < length file)

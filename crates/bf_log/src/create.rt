@@ -1,10 +1,11 @@
 //! Making a log.
 
-ghost use Rattle.std.specs.Prelude.{◌≡◌, ℕ, ◌<◌, ◌≤◌, List, [], Some, Err, length, OnOk};
-ghost use Rattle.bf_io.specs.Causes.{Rose};
+ghost use Rattle.std.specs.Prelude.{◌≡◌, ℕ, ◌<◌, List, [], Some, Err, length, OnOk};
 ghost use Rattle.bf_io.specs.Whole.{IfTold};
-ghost use Rattle.bf_disk.specs.Images.{LeavesOnly, Only};
+ghost use Rattle.bf_disk.specs.Images.{Only};
+ghost use Rattle.bf_log.specs.Errors.{CountsFaults, is_create_fault};
 ghost use Rattle.bf_log.specs.Format.{empty_log};
+ghost use Rattle.bf_log.specs.Opening.{OnlyRead};
 
 use crate::error::CreateError;
 use bf_disk::Disk;
@@ -19,11 +20,8 @@ pub fn create_log<D: Disk>(disk: &mut D) -> Result<(), CreateError>
         ((file ≡ []) × (D.seen disk.new ≡ Some empty_log) × Only empty_log (D.may_leave disk.new)) }
     ensures not_empty { (len : ℕ) → result ≡ Err (CreateError.NotEmpty len) → (0 < len)
         × IfTold (D.seen disk.old) (λ file. len ≡ length file)
-        × (D.seen disk.new ≡ D.seen disk.old)
-        × LeavesOnly D.moment D.left_since disk.old disk.new (D.may_leave disk.old) }
-    ensures fault { result ≡ Err CreateError.DiskFault → Rose (D.fault_count disk.old) (D.fault_count disk.new) }
-    ensures calm { (result ≡ Err CreateError.DiskFault → ⊥) → D.fault_count disk.new ≡ D.fault_count disk.old }
-    ensures later { D.fault_count disk.old ≤ D.fault_count disk.new }
+        × OnlyRead D.seen D.may_leave D.moment D.left_since disk.old disk.new }
+    ensures faults { CountsFaults is_create_fault result (D.fault_count disk.old) (D.fault_count disk.new) }
 {
     let len = disk.len()?;
     if len > 0 {

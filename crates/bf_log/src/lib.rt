@@ -4,6 +4,7 @@
 pub mod create;
 pub mod error;
 mod format;
+mod head;
 pub mod log;
 pub mod opening;
 #[cfg(test)]
@@ -11,5 +12,6 @@ mod tests;
 
 pub use create::create_log;
 pub use error::{AppendError, CreateError, OpenError};
+pub use head::open_log;
 pub use log::Log;
-pub use opening::{Next, Opening, open_log};
+pub use opening::{Next, Opening};

@@ -1,7 +1,6 @@
 //! A log that is open for appending.
 
 ghost use Rattle.std.specs.Prelude.{◌≡◌, ℕ, ◌<◌, ◌≤◌, ◌^◌, List, [], ◌∷◌, ◌++◌, Some, Ok, Err, length, OnOk, IfSome, IfNone};
-ghost use Rattle.bf_io.specs.Causes.{Rose};
 ghost use Rattle.bf_disk.specs.Images.{LeavesOnly};
 
 use crate::error::AppendError;
@@ -15,7 +14,7 @@ use std::alloc::{AllocError, Global};
 pub enum Standing {
     Ready,
     /// A call of the device failed, when the disk's count of faults was this.
-    Stopped(u64),
+    Halted(u64),
     /// There was no memory in a call of the device.
     Spent,
 }
@@ -35,8 +34,18 @@ pub struct Log<D: Disk> {
 }
 
 impl<D: Disk> Log<D> {
+    ghost use Rattle.bf_log.specs.Append.{Holds, Outcome, BeforeOrAfter, refusal, disk_of, end_of, count_of, standing_of, halted_of};
+    ghost use Rattle.bf_log.specs.Errors.{CountsFaults, is_append_fault};
+    ghost use Rattle.bf_log.specs.Format.{with_entry};
+
     // A log with its closed gate at an offset, and so many records before it.
     pub(crate) fn at_end(alloc: Global, disk: D, end: u64, count: u64) -> Log<D>
+        requires counted { count ≤ end }
+        requires within { (file : List ℕ) → D.seen disk ≡ Some file → end < length file }
+        ensures disk { disk_of result ≡ disk }
+        ensures end { end_of result ≡ end }
+        ensures count { count_of result ≡ count }
+        ensures ready { standing_of result ≡ Standing.Ready }
     {
         Log {
             disk,
@@ -55,6 +64,21 @@ impl<D: Disk> Log<D> {
     /// may be, and the log is halted. After `Memory` out of a call of the device either may be too, and the
     /// log is spent: it answers `Memory` from then on. Every other refusal leaves the log as it was.
     pub fn append(&mut self, payload: &[u8], largest: u32, limit: u64) -> Result<u64, AppendError>
+        requires { largest ≤ 2 ^ 30 }
+
+        // Refusals before the device is asked: spent, halted, too large, full.
+        ensures refused { IfSome (refusal (standing_of self.old) (end_of self.old) (length payload.now) largest limit)
+            (λ error. (result ≡ Err error) × (self.new ≡ self.old)) }
+        ensures outcome { IfNone (refusal (standing_of self.old) (end_of self.old) (length payload.now) largest limit)
+            (Outcome (length payload.now) self.old self.new result) }
+
+        ensures stored { (file : List ℕ) (payloads : List (List ℕ)) → Holds file payloads self.old
+            → OnOk result (Holds (with_entry file (end_of self.old) payload.now)
+            (payloads ++ payload.now ∷ []) self.new) }
+        ensures any_moment { (file : List ℕ) (payloads : List (List ℕ)) → Holds file payloads self.old
+            → LeavesOnly D.moment D.left_since (disk_of self.old) (disk_of self.new) (BeforeOrAfter payloads payload.now) }
+
+        ensures faults { CountsFaults is_append_fault result (D.fault_count (disk_of self.old)) (D.fault_count (disk_of self.new)) }
     {
         if let Some(refusal) = self.refusal(payload.len() as u64, largest, limit) {
             return Err(refusal);
@@ -67,7 +91,7 @@ impl<D: Disk> Log<D> {
                 Ok(self.count)
             }
             Err(DiskError::Fault) => {
-                self.standing = Standing::Stopped(self.disk.faults());
+                self.standing = Standing::Halted(self.disk.faults());
                 Err(AppendError::DiskFault)
             }
             Err(DiskError::Memory) => {
@@ -78,10 +102,13 @@ impl<D: Disk> Log<D> {
     }
 
     // Why a payload of so many bytes is refused before the device is asked.
-    fn refusal(&self, size: u64, largest: u32, limit: u64) -> Option<AppendError> {
+    fn refusal(&self, size: u64, largest: u32, limit: u64) -> Option<AppendError>
+        requires { size < 2 ^ 63 }
+        ensures { result ≡ refusal (standing_of self.now) (end_of self.now) size largest limit }
+    {
         match self.standing {
             Standing::Spent => return Some(AppendError::Memory),
-            Standing::Stopped(faults) => return Some(AppendError::Halted(faults)),
+            Standing::Halted(faults) => return Some(AppendError::Halted(faults)),
             Standing::Ready => {}
         }
         if size > largest as u64 {
@@ -96,21 +123,24 @@ impl<D: Disk> Log<D> {
 
     /// The disk's count of faults when an append met a fault, `None` where none did. It takes no memory.
     pub fn halted(&self) -> Option<u64>
+        ensures { result ≡ halted_of self.now }
     {
         match self.standing {
-            Standing::Stopped(faults) => Some(faults),
+            Standing::Halted(faults) => Some(faults),
             Standing::Ready | Standing::Spent => None,
         }
     }
 
     /// The disk.
     pub fn disk(&self) -> &D
+        ensures { result.now ≡ disk_of self.now }
     {
         &self.disk
     }
 
     /// The disk, given back.
     pub fn into_disk(self) -> D
+        ensures { result ≡ disk_of self }
     {
         self.disk
     }

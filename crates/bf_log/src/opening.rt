@@ -1,14 +1,12 @@
 //! Reading a log gate by gate.
 
-ghost use Rattle.std.specs.Prelude.{◌≡◌, ℕ, ◌<◌, ◌≤◌, List, [], Some, Ok, Err, length, None, IfOk, IfErr};
-ghost use Rattle.bf_io.specs.Causes.{Rose};
-ghost use Rattle.bf_disk.specs.Images.{LeavesOnly};
+ghost use Rattle.std.specs.Prelude.{◌≡◌, ℕ, ◌<◌, ◌≤◌, List, Some, length};
 
 use crate::error::OpenError;
 use crate::format::{FRAME, LENGTH_BYTES, MAGIC, MOST_BYTES, OPEN_GATE};
-use crate::log::Log;
+use crate::log::{Log, Standing};
 use bf_base::Sequence;
-use bf_disk::{Disk, DiskError};
+use bf_disk::Disk;
 use byteorder::{ByteOrder, LittleEndian};
 use std::alloc::Global;
 
@@ -49,56 +47,49 @@ pub struct Opening<D: Disk> {
     ghost told: { (file : List ℕ) → D.seen disk ≡ Some file → len ≡ length file },
 }
 
-/// Starts to read a log: syncs, so that a crash from then on leaves what is read, and reads the magic.
-/// `NotALog` tells the first byte that differs from the magic, or the length of a file that ends before
-/// its first gate. An error gives the disk back.
-pub fn open_log<D: Disk>(alloc: Global, disk: D) -> Result<Opening<D>, (D, OpenError)>
-{
-    let mut disk = disk;
-    match read_head(&mut disk) {
-        Ok(len) => Ok(Opening {
-            disk,
-            alloc,
-            len,
-            gate: MAGIC.len() as u64,
-            count: 0,
-            progress: Progress::Reading,
-        }),
-        Err(e) => Err((disk, e)),
-    }
-}
-
-// Syncs, and answers the length of a file that has the magic and a gate.
-fn read_head<D: Disk>(disk: &mut D) -> Result<u64, OpenError> {
-    disk.sync()?;
-    let len = disk.len()?;
-    let mut head = [0u8; MAGIC.len()];
-    let known = len.min(MAGIC.len() as u64) as usize;
-    disk.read(0, &mut head[..known])?;
-    match first_difference(&head[..known]) {
-        Some(at) => Err(OpenError::NotALog(at as u64)),
-        None if len <= MAGIC.len() as u64 => Err(OpenError::NotALog(len)),
-        None => Ok(len),
-    }
-}
-
-// The offset of the first byte that differs from the magic.
-fn first_difference(head: &[u8]) -> Option<usize> {
-    head.iter().zip(&MAGIC).position(|(a, b)| a != b)
-}
-
 impl<D: Disk> Opening<D> {
+    ghost use Rattle.bf_log.specs.Errors.{CountsFaults, is_open_fault};
+    ghost use Rattle.bf_log.specs.Format.{magic};
+    ghost use Rattle.bf_log.specs.Append.{Holds, end_of, standing_of, disk_of as log_disk, count_of as log_count};
+    ghost use Rattle.bf_log.specs.Opening.{HasRead, OnlyRead, ReadsNext, ProgressAfter, AnswersAgain, disk_of, gate_of, count_of, progress_of};
+
     /// The payload behind the next open gate, with that gate's offset, or `End` at a closed gate.
     ///
     /// `NotALog` tells the gate at which the chain breaks, and comes again at each later call, as `End`
     /// does. After `DiskFault` or `Memory` it stands where it stood, and may be called again. It reads
     /// each byte once, and makes room for one payload.
     pub fn next_payload(&mut self, alloc: Global) -> Result<Next, OpenError>
+        ensures next { (file : List ℕ) (payloads : List (List ℕ)) → HasRead file payloads self.old
+            → ReadsNext file payloads self.new result }
+        ensures progress { ProgressAfter self.old self.new result }
+        ensures again { AnswersAgain self.old self.new result }
+
+        ensures disk { OnlyRead D.seen D.may_leave D.moment D.left_since (disk_of self.old) (disk_of self.new) }
+        ensures faults { CountsFaults is_open_fault result (D.fault_count (disk_of self.old)) (D.fault_count (disk_of self.new)) }
     {
         match self.progress {
             Progress::Reading => self.read_gate(alloc),
             Progress::Ended => Ok(Next::End),
             Progress::Broken => Err(OpenError::NotALog(self.gate)),
+        }
+    }
+
+    // At the first gate of a file of so many bytes, behind its magic.
+    pub(crate) fn at_first_gate(alloc: Global, disk: D, len: u64) -> Opening<D>
+        requires room { length magic < len }
+        requires told { (file : List ℕ) → D.seen disk ≡ Some file → len ≡ length file }
+        ensures disk { disk_of result ≡ disk }
+        ensures gate { gate_of result ≡ length magic }
+        ensures count { count_of result ≡ 0 }
+        ensures progress { progress_of result ≡ Progress.Reading }
+    {
+        Opening {
+            disk,
+            alloc,
+            len,
+            gate: MAGIC.len() as u64,
+            count: 0,
+            progress: Progress::Reading,
         }
     }
 
@@ -136,12 +127,20 @@ impl<D: Disk> Opening<D> {
 
     /// The log, once `End` was read. It takes no memory.
     pub fn into_log(self) -> Log<D>
+        requires { progress_of self ≡ Progress.Ended }
+        ensures holds { (file : List ℕ) (payloads : List (List ℕ)) → HasRead file payloads self
+            → Holds file payloads result }
+        ensures disk { log_disk result ≡ disk_of self }
+        ensures end { end_of result ≡ gate_of self }
+        ensures count { log_count result ≡ count_of self }
+        ensures ready { standing_of result ≡ Standing.Ready }
     {
         Log::at_end(self.alloc, self.disk, self.gate, self.count)
     }
 
     /// The disk, given back.
     pub fn into_disk(self) -> D
+        ensures { result ≡ disk_of self }
     {
         self.disk
     }

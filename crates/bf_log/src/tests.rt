@@ -16,7 +16,10 @@ fn opened<R: Abort>(rt: &R, alloc: Global, disk: TapeDisk) -> Log<TapeDisk> {
         Err((_, e)) => panic!(rt; "{e}"),
     };
     for _ in 0..100 {
-        if let Next::End = opening.next_payload(alloc).expect(rt, "a payload or the end") {
+        if let Next::End = opening
+            .next_payload(alloc)
+            .expect(rt, "a payload or the end")
+        {
             return opening.into_log();
         }
     }
@@ -30,7 +33,10 @@ fn a_record_is_spelled(rt: HostRuntime) -> Result<(), Fail> {
     let mut log = opened(&rt, rt.alloc(), disk);
     assert_eq!(rt; log.append(b"\x41\x42", 1 << 30, 1 << 36)?, 1);
     let disk = log.into_disk();
-    assert_eq!(rt; disk.bytes(), b"BFROGLG1\xa5\x02\x00\x00\x00\x41\x42\x00".as_slice());
+    assert_eq!(rt;
+        disk.bytes(),
+        b"BFROGLG1\xa5\x02\x00\x00\x00\x41\x42\x00".as_slice()
+    );
     Ok(())
 }
 
@@ -40,7 +46,13 @@ fn limits_are_exact(rt: HostRuntime) -> Result<(), Fail> {
     create_log(&mut disk)?;
     let mut log = opened(&rt, rt.alloc(), disk);
     assert_eq!(rt; log.append(b"\x41\x42", 2, 20)?, 1);
-    assert_eq!(rt; log.append(b"\x41\x42", 1, 20), Err(AppendError::TooLarge(2)));
-    assert_eq!(rt; log.append(b"\x41\x42", 2, 20), Err(AppendError::LogFull(15, 7)));
+    assert_eq!(rt;
+        log.append(b"\x41\x42", 1, 20),
+        Err(AppendError::TooLarge(2))
+    );
+    assert_eq!(rt;
+        log.append(b"\x41\x42", 2, 20),
+        Err(AppendError::LogFull(15, 7))
+    );
     Ok(())
 }
