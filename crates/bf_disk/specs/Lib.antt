@@ -1,6 +1,7 @@
 pub mod Answers
 pub mod Images
 pub mod MemoryShelves
+pub mod Replay
 pub mod Shelves
 pub mod Tape
 pub mod TapeInside

@@ -1,6 +1,7 @@
 //! A shelf of tapes in memory.
 
-ghost use Rattle.std.specs.Prelude.{◌≡◌, ◌<◌, ◌+◌, ◌-◌, [], None, Some, length, min, slice_get, IfSome, IfNone, IfErr, OnOk, Option};
+ghost use Rattle.std.specs.Prelude.{◌≡◌, ℕ, [], Some, List, nat_eq, position, IfOk, IfErr, OnOk, OnErr};
+ghost use Rattle.std.specs.Cmp.Lexicographic.{pointwise};
 ghost use Rattle.std.specs.Option.{option_copied};
 ghost use Rattle.bf_disk.specs.MemoryShelves.{disk_at, taken_at};
 ghost use Rattle.bf_disk.specs.Shelves.{Puts};
@@ -73,14 +74,23 @@ impl MemoryShelf {
     }
 
     // The index of a path's place.
-    fn index_of(&self, path: &str) -> Option<usize> {
+    fn index_of(&self, path: &str) -> Option<usize>
+        ensures { result ≡ position (λ slot. pointwise nat_eq slot.path path.now) self.now.slots }
+    {
         self.slots
             .iter()
             .position(|slot| slot.path.as_slice() == path.as_bytes())
     }
 
     // The index of a path's place, which is made where there is none.
-    fn slot_for(&mut self, alloc: Global, path: &str) -> Result<usize, Memory> {
+    fn slot_for(&mut self, alloc: Global, path: &str) -> Result<usize, Memory>
+        ensures found { IfOk result (λ index.
+            position (λ slot. pointwise nat_eq slot.path path.now) self.new.slots ≡ Some index) }
+        ensures held { (p : List ℕ) → disk_at self.new p ≡ disk_at self.old p }
+        ensures taken { (p : List ℕ) → taken_at self.new p ≡ taken_at self.old p }
+        ensures faults { self.new.faults ≡ self.old.faults }
+        ensures err { OnErr result (self.new ≡ self.old) }
+    {
         if let Some(index) = self.index_of(path) {
             return Ok(index);
         }

@@ -1,7 +1,7 @@
 //! A disk in memory that keeps every call, fails as it is told, and can be crashed.
 
 ghost use Rattle.std.specs.Prelude.{◌≡◌, ◌+◌, ◌-◌, ◌≤◌, [], None, Some, true, length, take, drop, IfOk, OnOk};
-ghost use Rattle.bf_disk.specs.Tape.{file_of, MayLeave, LeftSince, faults_of, Keeps, new_tape, torn_image, next_fails, at_call};
+ghost use Rattle.bf_disk.specs.Tape.{file_of, MayLeave, LeftSince, faults_of, file_after_act, Keeps, new_tape, torn_image, next_fails, at_call};
 ghost use Rattle.bf_disk.specs.TapeLaws.{as_it_reads as tape_as_it_reads, counts_now as tape_counts_now, only_now as tape_only_now};
 
 use crate::call::{Act, Call};
@@ -77,7 +77,7 @@ impl TapeDisk {
         ensures disk { IfOk result (λ disk. disk ≡ new_tape (torn_image self.now torn.now) [] None) }
         ensures image { IfOk result (λ disk. MayLeave self.now disk.start) }
     {
-        self.crash_after(alloc, self.calls.len(), torn)
+        self.crash_after(alloc, self.calls() as usize, torn)
     }
 
     /// The disk that `crash` gives where the calls from number `call` on were never made.
@@ -92,8 +92,7 @@ impl TapeDisk {
     // The disk that a crash leaves after so many of the calls.
     fn crash_after(&self, alloc: Global, made: usize, torn: &[u8]) -> Result<TapeDisk, Memory>
         requires { made ≤ length self.now.calls }
-        ensures disk { IfOk result (λ disk. disk ≡ new_tape (torn_image (at_call self.now made) torn.now) [] None) }
-        ensures image { IfOk result (λ disk. MayLeave (at_call self.now made) disk.start) }
+        ensures { IfOk result (λ disk. disk ≡ new_tape (torn_image (at_call self.now made) torn.now) [] None) }
     {
         let certain = certain_bytes(alloc, &self.start, &self.calls[..made])?;
         let image = tear(alloc, &certain, torn)?;
@@ -104,24 +103,33 @@ impl TapeDisk {
     fn next_fails(&self) -> bool
         ensures { result ≡ next_fails self.now }
     {
-        let number = self.calls() + 1;
+        let number = self.calls.len() as u64 + 1;
         self.failing.contains(&number) || self.last.is_some_and(|last| last < number)
     }
 
     // Keeps a call that changes nothing of the file as it reads, and answers whether it failed.
-    fn keep(&mut self, act: Act) -> Result<(), DiskError> {
+    fn keep(&mut self, act: Act) -> Result<(), DiskError>
+        requires { file_after_act (file_of self.old) act ≡ file_of self.old }
+        ensures { Keeps act self.old self.new result }
+    {
         let failed = self.next_fails();
         self.calls.push(Call { act, failed })?;
         if failed {
-            Err(DiskError::Fault)
-        } else {
-            Ok(())
+            return Err(DiskError::Fault);
         }
+        Ok(())
     }
 
     // Keeps a call after which the file reads as `next`, unless it fails.
-    fn change(&mut self, act: Act, next: Vec<u8>) -> Result<(), DiskError> {
-        self.keep(act)?;
+    fn change(&mut self, act: Act, next: Vec<u8>) -> Result<(), DiskError>
+        requires { next.items ≡ file_after_act (file_of self.old) act }
+        ensures { Keeps act self.old self.new result }
+    {
+        let failed = self.next_fails();
+        self.calls.push(Call { act, failed })?;
+        if failed {
+            return Err(DiskError::Fault);
+        }
         self.changed = Some(next);
         Ok(())
     }
