@@ -1,10 +1,9 @@
 -- The places of a shelf, of which the first with a path counts.
-use Rattle.std.proofs.Common.{◌≡◌, ◌≢◌, ℕ, ◌+◌, ◌<◌, ◌≤◌, Bool, true, false, cond, nat_eq, Option, Some, None, List, [], ◌∷◌, ◌++◌, length, get_or, set, slice_get, refl, sym, ◌∙◌, ap, subst, arith}
+use Rattle.std.proofs.Common.{◌≡◌, ◌≢◌, ℕ, zero, suc, ◌+◌, ◌<◌, ◌≤◌, ⊎_elim, Bool, true, false, not, cond, nat_eq, Option, Some, None, List, [], ◌∷◌, ◌++◌, length, get_or, set, slice_get, refl, sym, ◌∙◌, ap, arith, add-zero}
 use Rattle.std.specs.Prelude.{option_and_then}
 use Rattle.std.specs.List.{find, position, position_or_len}
 use Rattle.std.specs.Cmp.Lexicographic.{pointwise, same_text}
-use Rattle.std.proofs.lemmas.Bool.{false_from_ne_true, lt-ltb, ltb-false}
-use Rattle.std.proofs.lemmas.Bool.Decides.{nat_tests}
+use Rattle.std.proofs.lemmas.Bool.{cases_lt, false_from_ne_true, lt-ltb, eq-eqb}
 use Rattle.std.proofs.lemmas.List.{length_push}
 use Rattle.std.proofs.lemmas.List.Folds.{find_at, find-set, find_past, position_or_len_push}
 use Rattle.std.proofs.lemmas.List.Sums.{position_or_len_is, prefix_len-le-length}
@@ -59,27 +58,64 @@ module _ (slots : List Slot) (path : List ℕ) (i : ℕ) (old : Slot) (at : posi
       others = λ other apart. ap (option_and_then field) (slots_stay other apart);
     }
 
+-- a part of a place that stays as it was, under each path
+field_stays : {V : Type 0} (test : Slot → Bool) (field : Slot → Option V) (slots : List Slot) (i : ℕ) (new : Slot)
+    → test new ≡ test (get_or slots i new) → field new ≡ field (get_or slots i new)
+    → option_and_then field (find test (set slots i new)) ≡ option_and_then field (find test slots)
+field_stays test field [] i new same kept = refl
+field_stays test field (first ∷ slots) zero new same kept = at (test new) (test first) same
+  where
+    at : (b c : Bool) → b ≡ c → option_and_then field (cond b (Some new) (find test slots)) ≡ option_and_then field (cond c (Some first) (find test slots))
+    at true true is = kept
+    at true false is = cc
+    at false true is = cc
+    at false false is = refl
+field_stays test field (first ∷ slots) (suc i) new same kept = at (test first)
+  where
+    at : (b : Bool) → option_and_then field (cond b (Some first) (find test (set slots i new))) ≡ option_and_then field (cond b (Some first) (find test slots))
+    at true = refl
+    at false = field_stays test field slots i new same kept
+
+pub fields_stay : {V : Type 0} (field : Slot → Option V) (slots : List Slot) (i : ℕ) (old new : Slot) → get_or slots i new ≡ old → new.path ≡ old.path → field new ≡ field old
+    → (λ (path : List ℕ). option_and_then field (slot_at (set slots i new) path)) ≡ (λ (path : List ℕ). option_and_then field (slot_at slots path))
+fields_stay field slots i old new is same kept = λ j. λ path.
+    field_stays (has_path path) field slots i new
+    (ap (λ (of : List ℕ). pointwise nat_eq of path) same ∙ ap (has_path path) (sym is))
+    (kept ∙ ap field (sym is)) j
+
 -- a place without anything, added at the end
 pub added_empty : {V : Type 0} (field : Slot → Option V) (slots : List Slot) (slot : Slot) → field slot ≡ None → (path : List ℕ)
     → option_and_then field (slot_at (slots ++ slot ∷ []) path) ≡ option_and_then field (slot_at slots path)
-added_empty {V} field [] slot empty path = at (has_path path slot)
+added_empty field [] slot empty path = at (has_path path slot)
   where
     at : (b : Bool) → option_and_then field (cond b (Some slot) None) ≡ None
     at true = empty
     at false = refl
-added_empty {V} field (first ∷ slots) slot empty path = at (has_path path first)
+added_empty field (first ∷ slots) slot empty path = at (has_path path first)
   where
     at : (b : Bool) → option_and_then field (cond b (Some first) (slot_at (slots ++ slot ∷ []) path)) ≡ option_and_then field (cond b (Some first) (slot_at slots path))
     at true = refl
     at false = added_empty field slots slot empty path
+
+pub all_as_before : {V : Type 0} (field : Slot → Option V) (slots : List Slot) (slot : Slot) → field slot ≡ None
+    → (λ (path : List ℕ). option_and_then field (slot_at (slots ++ slot ∷ []) path)) ≡ (λ (path : List ℕ). option_and_then field (slot_at slots path))
+all_as_before field slots slot empty = λ j. λ path. added_empty field slots slot empty path j
 
 -- such a place with a path that no other has is that of the path
 pub added_place : (slots : List Slot) (slot : Slot) (path : List ℕ) → position (has_path path) slots ≡ None → has_path path slot ≡ true
     → position (has_path path) (slots ++ slot ∷ []) ≡ Some (length slots)
 added_place slots slot path none has =
     let p = has_path path in
-    let most : position_or_len p slots ≤ length slots = prefix_len-le-length _ slots in
-    let none_there : position_or_len p slots ≡ length slots = grind (arith, nat_tests) in
-    let pushed = position_or_len_push p slots slot in
-    let size = length_push slots slot in
-    grind (arith, nat_tests)
+    let n = length slots in
+    let at = position_or_len p slots in
+    let most : at ≤ n = prefix_len-le-length (λ (one : Slot). not (p one)) slots in
+    let none_there : at ≡ n = ⊎_elim
+      (λ (below : at < n). let some = ap (λ (b : Bool). cond b (Some at) None) (lt-ltb at n below) in cc)
+      (λ (past : n ≤ at). omega arith)
+      (cases_lt at n) in
+    let later : position_or_len p (slots ++ slot ∷ []) ≡ n =
+    position_or_len_push p slots slot ∙ ap (λ (b : Bool). cond b (n + cond (p slot) 0 1) at) (eq-eqb at n none_there)
+    ∙ ap (λ (b : Bool). n + cond b 0 1) has ∙ add-zero n in
+    let within_more : position_or_len p (slots ++ slot ∷ []) < length (slots ++ slot ∷ []) = omega (arith, later, length_push slots slot) in
+    ap (λ (b : Bool). cond b (Some (position_or_len p (slots ++ slot ∷ []))) None) (lt-ltb _ _ within_more)
+    ∙ ap (λ (k : ℕ). Some k) later

@@ -73,21 +73,21 @@ look_images false tape = record { nothing_else = left_then false tape Look; all 
 write_images : (failed : Bool) (tape : Tape) (at : ℕ) (bytes : List ℕ) → Becomes (Torn at (length bytes)) (MayLeave tape) (MayLeave (after failed tape (Write at bytes)))
 write_images true tape at bytes = record {
   nothing_else = left_then true tape (Write at bytes);
-  all = λ image old before step. then_left true tape (Write at bytes) old (image, before, step);
+  all = λ old image before step. then_left true tape (Write at bytes) image (old, before, step);
 }
 write_images false tape at bytes = record {
   nothing_else = left_then false tape (Write at bytes);
-  all = λ image old before step. then_left false tape (Write at bytes) old (image, before, step);
+  all = λ old image before step. then_left false tape (Write at bytes) image (old, before, step);
 }
 
 cut_images : (failed : Bool) (tape : Tape) (len : ℕ) → Becomes (CutShort len) (MayLeave tape) (MayLeave (after failed tape (Cut len)))
 cut_images true tape len = record {
   nothing_else = left_then true tape (Cut len);
-  all = λ image old before step. then_left true tape (Cut len) old (image, before, step);
+  all = λ old image before step. then_left true tape (Cut len) image (old, before, step);
 }
 cut_images false tape len = record {
   nothing_else = left_then false tape (Cut len);
-  all = λ image old before step. then_left false tape (Cut len) old (image, before, step);
+  all = λ old image before step. then_left false tape (Cut len) image (old, before, step);
 }
 
 sync_fails : (tape : Tape) → SameImages (MayLeave tape) (MayLeave (after true tape Sync))

@@ -98,17 +98,17 @@ Covers certain images = (image : List ℕ) → Matches certain image → images 
 
 covers_act : (failed : Bool) (act : Act) (file : List ℕ) (certain : List (Option ℕ)) (images : List ℕ → Type 0)
     → Covers certain images → Covers (certain_after failed act file certain) (left_after failed act file images)
-covers_act true Look file certain images covers image same = covers image same
-covers_act false Look file certain images covers image same = covers image same
-covers_act true (Write at bytes) file certain images covers image same =
+covers_act true Look file certain images covers = covers
+covers_act false Look file certain images covers = covers
+covers_act true (Write at bytes) file certain images covers = λ image same.
     (filled certain image, covers (filled certain image) (matches_filled certain image), torn_filled certain at (length bytes) image same)
-covers_act false (Write at bytes) file certain images covers image same =
+covers_act false (Write at bytes) file certain images covers = λ image same.
     (filled certain image, covers (filled certain image) (matches_filled certain image), torn_filled certain at (length bytes) image same)
-covers_act true (Cut n) file certain images covers image same = (image, covers image same, cut_lost n image)
-covers_act false (Cut n) file certain images covers image same =
+covers_act true (Cut n) file certain images covers = λ image same. (image, covers image same, cut_lost n image)
+covers_act false (Cut n) file certain images covers = λ image same.
     (filled certain image, covers (filled certain image) (matches_filled certain image), cut_filled certain n image same)
-covers_act true Sync file certain images covers image same = covers image same
-covers_act false Sync file certain images covers image same = matches_certain file image same
+covers_act true Sync file certain images covers = covers
+covers_act false Sync file certain images covers = matches_certain file
 
 covers_calls : (file : List ℕ) (certain : List (Option ℕ)) (images : List ℕ → Type 0) (calls : List Call)
     → Covers certain images → Covers (certain_after_all file certain calls) (left_after_all file images calls)

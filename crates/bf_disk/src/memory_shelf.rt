@@ -1,6 +1,6 @@
 //! A shelf of tapes in memory.
 
-ghost use Rattle.std.specs.Prelude.{◌≡◌, ℕ, [], Some, List, nat_eq, position, IfOk, IfErr, OnOk, OnErr};
+ghost use Rattle.std.specs.Prelude.{◌≡◌, [], Some, nat_eq, position, IfOk, IfErr, OnOk, OnErr};
 ghost use Rattle.std.specs.Cmp.Lexicographic.{pointwise};
 ghost use Rattle.std.specs.Option.{option_copied};
 ghost use Rattle.bf_disk.specs.MemoryShelves.{disk_at, taken_at};
@@ -54,7 +54,8 @@ impl MemoryShelf {
             Ok(index) => index,
             Err(e) => return Err((disk, e)),
         };
-        self.slots[index].disk = Some(disk);
+        let slot = &mut self.slots[index];
+        slot.disk = Some(disk);
         Ok(())
     }
 
@@ -86,8 +87,8 @@ impl MemoryShelf {
     fn slot_for(&mut self, alloc: Global, path: &str) -> Result<usize, Memory>
         ensures found { IfOk result (λ index.
             position (λ slot. pointwise nat_eq slot.path path.now) self.new.slots ≡ Some index) }
-        ensures held { (p : List ℕ) → disk_at self.new p ≡ disk_at self.old p }
-        ensures taken { (p : List ℕ) → taken_at self.new p ≡ taken_at self.old p }
+        ensures held { disk_at self.new ≡ disk_at self.old }
+        ensures taken { taken_at self.new ≡ taken_at self.old }
         ensures faults { self.new.faults ≡ self.old.faults }
         ensures err { OnErr result (self.new ≡ self.old) }
     {

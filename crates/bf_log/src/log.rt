@@ -1,7 +1,11 @@
 //! A log that is open for appending.
 
-ghost use Rattle.std.specs.Prelude.{◌≡◌, ℕ, ◌<◌, ◌≤◌, ◌^◌, List, [], ◌∷◌, ◌++◌, Some, Ok, Err, length, OnOk, IfSome, IfNone};
-ghost use Rattle.bf_disk.specs.Images.{LeavesOnly};
+ghost use Rattle.std.specs.Prelude.{◌≡◌, ℕ, ◌<◌, ◌≤◌, ◌^◌, List, [], ◌∷◌, ◌++◌, Some, Ok, Err, length, IfOk, OnOk, IfSome, IfNone, ◌+◌};
+ghost use Rattle.bf_io.specs.Whole.{IfTold};
+ghost use Rattle.bf_disk.specs.Answers.{CountsFault};
+ghost use Rattle.bf_disk.specs.Images.{LeavesOnly, Only, Torn, overwritten};
+ghost use Rattle.bf_disk.specs.Told.{WhereTold};
+ghost use Rattle.bf_log.specs.Storing.{record_of, opened, IsBeingStored};
 
 use crate::error::AppendError;
 use crate::format::{CLOSED_GATE, FRAME, LENGTH_BYTES, OPEN_GATE};
@@ -147,7 +151,10 @@ impl<D: Disk> Log<D> {
 }
 
 // The length of a payload, the payload and a closed gate.
-fn spelled(alloc: Global, payload: &[u8]) -> Result<Vec<u8>, AllocError> {
+fn spelled(alloc: Global, payload: &[u8]) -> Result<Vec<u8>, AllocError>
+    requires { length payload.now ≤ 2 ^ 30 }
+    ensures { IfOk result (λ spelled. spelled.items ≡ record_of payload.now) }
+{
     let mut length = [0u8; LENGTH_BYTES];
     LittleEndian::write_u32(&mut length, payload.len() as u32);
     let mut record = Vec::with_capacity(alloc, payload.len() + FRAME as usize)?;
@@ -157,10 +164,30 @@ fn spelled(alloc: Global, payload: &[u8]) -> Result<Vec<u8>, AllocError> {
     Ok(record)
 }
 
-// Writes a record behind the closed gate, and opens that gate only when all of it is on the disk.
-fn store<D: Disk>(disk: &mut D, gate: u64, record: &[u8]) -> Result<(), DiskError> {
-    disk.write_at(gate + 1, record)?;
-    disk.sync()?;
-    disk.write_at(gate, &[OPEN_GATE])?;
+// Writes bytes behind the closed gate, and opens that gate only when all of them are on the disk.
+fn store<D: Disk>(disk: &mut D, gate: u64, bytes: &[u8]) -> Result<(), DiskError>
+    requires fits { gate + 1 < 2 ^ 64 }
+    requires within { IfTold (D.seen disk.old) (λ file. gate < length file) }
+    ensures stored { (file : List ℕ) → D.seen disk.old ≡ Some file → OnOk result
+        ((D.seen disk.new ≡ Some (opened file gate bytes.now)) × Only (opened file gate bytes.now) (D.may_leave disk.new)) }
+    ensures any_moment { (file : List ℕ) → D.seen disk.old ≡ Some file → Only file (D.may_leave disk.old)
+        → LeavesOnly D.moment D.left_since disk.old disk.new (IsBeingStored file gate bytes.now) }
+    ensures faults { CountsFault result (D.fault_count disk.old) (D.fault_count disk.new) }
+{
+    write_synced(disk, gate + 1, bytes)?;
+    write_synced(disk, gate, &[OPEN_GATE])
+}
+
+// A write and a sync.
+fn write_synced<D: Disk>(disk: &mut D, at: u64, bytes: &[u8]) -> Result<(), DiskError>
+    requires { IfTold (D.seen disk.old) (λ file. at ≤ length file) }
+    ensures written { OnOk result (WhereTold (λ old new. new ≡ overwritten old at bytes.now) (D.seen disk.old) (D.seen disk.new)) }
+    ensures durable { (file : List ℕ) → D.seen disk.old ≡ Some file → OnOk result
+        ((D.seen disk.new ≡ Some (overwritten file at bytes.now)) × Only (overwritten file at bytes.now) (D.may_leave disk.new)) }
+    ensures any_moment { (file : List ℕ) → Only file (D.may_leave disk.old)
+        → LeavesOnly D.moment D.left_since disk.old disk.new (Torn at (length bytes.now) file) }
+    ensures faults { CountsFault result (D.fault_count disk.old) (D.fault_count disk.new) }
+{
+    disk.write_at(at, bytes)?;
     disk.sync()
 }
