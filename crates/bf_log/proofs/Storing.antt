@@ -7,7 +7,9 @@ use Rattle.bf_io.specs.Whole.{IfTold}
 use Rattle.std.specs.Prelude.{OnOk}
 use Rattle.std.proofs.lemmas.Option.{same_Some}
 use Rattle.bf_disk.specs.Images.{overwritten, Torn, Only}
+use Rattle.bf_disk.specs.Answers.{OnFault}
 use Rattle.bf_disk.specs.declared.error.DiskError.{DiskError}
+use Rattle.bf_disk.specs.declared.error.DiskError.TheVariants.{Fault, Memory}
 use Rattle.bf_disk.specs.TapeLaws.{torn_done}
 use Rattle.bf_disk.specs.Told.{WhereTold}
 use Rattle.bf_log.specs.Append.{BeforeOrAfter}
@@ -85,14 +87,7 @@ module _ (payloads : List (List ℕ)) (payload file : List ℕ) (end : ℕ) (is_
       let p = parts payloads file is_log in
       more_log payloads payload (with_entry file end payload) 0 after p.fit small (λ zero_open. absurd (omega arith)) (sym stored_is ∙ all_there)
 
--- what is told of a file, once a record is written behind its gate
-pub told_after : (old new : Option (List ℕ)) (gate : ℕ) (bytes : List ℕ) → IfTold old (λ file. gate < length file)
-    → WhereTold (λ before now. now ≡ overwritten before (gate + 1) bytes) old new → IfTold new (λ file. gate ≤ length file)
-told_after None None gate bytes within is = tt
-told_after (Some old) None gate bytes within is = absurd is
-told_after None (Some new) gate bytes within is = absurd is
-told_after (Some old) (Some new) gate bytes within is = omega (arith, ap length is, (torn_done (gate + 1) bytes old).no_shorter, within)
-
+-- what is told of a file whose gate is within it
 pub told_behind : (old : Option (List ℕ)) (gate : ℕ) → IfTold old (λ file. gate < length file) → IfTold old (λ file. gate + 1 ≤ length file)
 told_behind None gate within = tt
 told_behind (Some old) gate within = omega arith
@@ -101,26 +96,83 @@ pub told_from : (old : Option (List ℕ)) (P : List ℕ → Type 0) → ((file :
 told_from None P all = tt
 told_from (Some file) P all = all file refl
 
--- what is told after a write and a sync
-told_written : (old new : Option (List ℕ)) (at : ℕ) (bytes file : List ℕ) → old ≡ Some file → WhereTold (λ before now. now ≡ overwritten before at bytes) old new
+-- what is told after a write, and after a sync that changes nothing of it
+pub told_written : (old new : Option (List ℕ)) (at : ℕ) (bytes file : List ℕ) → old ≡ Some file → WhereTold (λ before now. now ≡ overwritten before at bytes) old new
     → new ≡ Some (overwritten file at bytes)
 told_written None new at bytes file told is = cc
 told_written (Some old) None at bytes file told is = absurd is
 told_written (Some old) (Some new) at bytes file told is =
     ap (λ (now : List ℕ). Some now) (is ∙ ap (λ (before : List ℕ). overwritten before at bytes) (same_Some old file told))
 
-pub synced_written : {D : Type 0} (seen : D → Option (List ℕ)) (may_leave : D → List ℕ → Type 0) (old mid new : D) (at : ℕ) (bytes : List ℕ) (result : Result (Unit {0}) DiskError)
-    → WhereTold (λ before now. now ≡ overwritten before at bytes) (seen old) (seen mid) → seen new ≡ seen mid
-    → OnOk result (IfTold (seen mid) (λ file. Only file (may_leave new))) → (file : List ℕ) → seen old ≡ Some file
-    → OnOk result ((seen new ≡ Some (overwritten file at bytes)) × Only (overwritten file at bytes) (may_leave new))
-synced_written seen may_leave old mid new at bytes (Err error) written same durable file told = tt
-synced_written {D = D} seen may_leave old mid new at bytes (Ok value) written same durable file told =
-    let there = told_written (seen old) (seen mid) at bytes file told written in
-    (same ∙ there, subst (λ (of : Option (List ℕ)). IfTold of (λ now. Only now (may_leave new))) there durable)
+pub written_then : (old mid new : Option (List ℕ)) (at : ℕ) (bytes : List ℕ) (result : Result (Unit {0}) DiskError)
+    → WhereTold (λ before now. now ≡ overwritten before at bytes) old mid → new ≡ mid → OnOk result (WhereTold (λ before now. now ≡ overwritten before at bytes) old new)
+written_then old mid new at bytes (Err error) written same = tt
+written_then old mid new at bytes (Ok value) written same =
+    subst (λ (of : Option (List ℕ)). WhereTold (λ before now. now ≡ overwritten before at bytes) old of) (sym same) written
 
-pub written_there : {D : Type 0} (seen : D → Option (List ℕ)) (old mid new : D) (at : ℕ) (bytes : List ℕ) (result : Result (Unit {0}) DiskError)
-    → WhereTold (λ before now. now ≡ overwritten before at bytes) (seen old) (seen mid) → seen new ≡ seen mid
+pub durable_then : {D : Type 0} (may_leave : D → List ℕ → Type 0) (mid new : Option (List ℕ)) (disk : D) (result : Result (Unit {0}) DiskError)
+    → new ≡ mid → OnOk result (IfTold mid (λ file. Only file (may_leave disk))) → OnOk result (IfTold new (λ file. Only file (may_leave disk)))
+durable_then may_leave mid new disk (Err error) same durable = tt
+durable_then may_leave mid new disk (Ok value) same durable = subst (λ (of : Option (List ℕ)). IfTold of (λ file. Only file (may_leave disk))) (sym same) durable
+
+-- both writes and both syncs
+pub stored_then : (old mid new : Option (List ℕ)) (gate : ℕ) (bytes : List ℕ) (result : Result (Unit {0}) DiskError)
+    → WhereTold (λ before now. now ≡ behind_gate before gate bytes) old mid → OnOk result (WhereTold (λ before now. now ≡ overwritten before gate (open_gate ∷ [])) mid new)
+    → OnOk result (WhereTold (λ before now. now ≡ opened before gate bytes) old new)
+stored_then old mid new gate bytes (Err error) first second = tt
+stored_then None None None gate bytes (Ok value) first second = tt
+stored_then None None (Some new) gate bytes (Ok value) first second = absurd second
+stored_then None (Some mid) new gate bytes (Ok value) first second = absurd first
+stored_then (Some old) None new gate bytes (Ok value) first second = absurd first
+stored_then (Some old) (Some mid) None gate bytes (Ok value) first second = absurd second
+stored_then (Some old) (Some mid) (Some new) gate bytes (Ok value) first second =
+    second ∙ ap (λ (file : List ℕ). overwritten file gate (open_gate ∷ [])) first
+
+-- no call makes a file shorter
+abbrev pub IsAsLong : Option (List ℕ) → Option (List ℕ) → Type 0
+IsAsLong old new = WhereTold (λ before now. length before ≤ length now) old new
+
+pub long_same : (old new : Option (List ℕ)) → new ≡ old → IsAsLong old new
+long_same None new same = subst (λ (of : Option (List ℕ)). IsAsLong None of) (sym same) tt
+long_same (Some old) new same = let here : length old ≤ length old = omega arith in subst (λ (of : Option (List ℕ)). IsAsLong (Some old) of) (sym same) here
+
+pub long_then : (old mid new : Option (List ℕ)) → IsAsLong old mid → IsAsLong mid new → IsAsLong old new
+long_then None None None first second = tt
+long_then None None (Some new) first second = absurd second
+long_then None (Some mid) new first second = absurd first
+long_then (Some old) None new first second = absurd first
+long_then (Some old) (Some mid) None first second = absurd second
+long_then (Some old) (Some mid) (Some new) first second = omega arith
+
+long_torn : (old new : Option (List ℕ)) (at n : ℕ) → WhereTold (Torn at n) old new → IsAsLong old new
+long_torn None None at n torn = tt
+long_torn None (Some new) at n torn = absurd torn
+long_torn (Some old) None at n torn = absurd torn
+long_torn (Some old) (Some new) at n torn = torn.no_shorter
+
+long_written : (old new : Option (List ℕ)) (at : ℕ) (bytes : List ℕ) → WhereTold (λ before now. now ≡ overwritten before at bytes) old new → IsAsLong old new
+long_written None None at bytes written = tt
+long_written None (Some new) at bytes written = absurd written
+long_written (Some old) None at bytes written = absurd written
+long_written (Some old) (Some new) at bytes written = omega (arith, ap length written, (torn_done at bytes old).no_shorter)
+
+pub long_tried : {D : Type 0} (seen : D → Option (List ℕ)) (old new : D) (at : ℕ) (bytes : List ℕ) (result : Result (Unit {0}) DiskError)
     → OnOk result (WhereTold (λ before now. now ≡ overwritten before at bytes) (seen old) (seen new))
-written_there seen old mid new at bytes (Err error) written same = tt
-written_there seen old mid new at bytes (Ok value) written same =
-    subst (λ (of : Option (List ℕ)). WhereTold (λ before now. now ≡ overwritten before at bytes) (seen old) of) (sym same) written
+    → OnFault result (WhereTold (Torn at (length bytes)) (seen old) (seen new)) → (result ≡ Err Memory → new ≡ old) → IsAsLong (seen old) (seen new)
+long_tried seen old new at bytes (Ok value) written failed memory = long_written (seen old) (seen new) at bytes written
+long_tried seen old new at bytes (Err Fault) written failed memory = long_torn (seen old) (seen new) at (length bytes) failed
+long_tried seen old new at bytes (Err Memory) written failed memory = long_same (seen old) (seen new) (ap seen (memory refl))
+
+-- the gate stays within the file
+pub within_then : (old new : Option (List ℕ)) (gate : ℕ) → IfTold old (λ file. gate < length file) → IsAsLong old new → IfTold new (λ file. gate < length file)
+within_then None None gate within long = tt
+within_then None (Some new) gate within long = absurd long
+within_then (Some old) None gate within long = absurd long
+within_then (Some old) (Some new) gate within long = omega arith
+
+pub told_at : (old : Option (List ℕ)) (P : List ℕ → Type 0) (file : List ℕ) → IfTold old P → old ≡ Some file → P file
+told_at old P file holds told = subst (λ (of : Option (List ℕ)). IfTold of P) told holds
+
+pub told_within : (old : Option (List ℕ)) (gate : ℕ) → IfTold old (λ file. gate < length file) → IfTold old (λ file. gate ≤ length file)
+told_within None gate within = tt
+told_within (Some old) gate within = omega arith

@@ -168,8 +168,9 @@ fn spelled(alloc: Global, payload: &[u8]) -> Result<Vec<u8>, AllocError>
 fn store<D: Disk>(disk: &mut D, gate: u64, bytes: &[u8]) -> Result<(), DiskError>
     requires fits { gate + 1 < 2 ^ 64 }
     requires within { IfTold (D.seen disk.old) (λ file. gate < length file) }
-    ensures stored { (file : List ℕ) → D.seen disk.old ≡ Some file → OnOk result
-        ((D.seen disk.new ≡ Some (opened file gate bytes.now)) × Only (opened file gate bytes.now) (D.may_leave disk.new)) }
+    ensures written { OnOk result (WhereTold (λ old new. new ≡ opened old gate bytes.now) (D.seen disk.old) (D.seen disk.new)) }
+    ensures long { WhereTold (λ old new. length old ≤ length new) (D.seen disk.old) (D.seen disk.new) }
+    ensures durable { OnOk result (IfTold (D.seen disk.new) (λ file. Only file (D.may_leave disk.new))) }
     ensures any_moment { (file : List ℕ) → D.seen disk.old ≡ Some file → Only file (D.may_leave disk.old)
         → LeavesOnly D.moment D.left_since disk.old disk.new (IsBeingStored file gate bytes.now) }
     ensures faults { CountsFault result (D.fault_count disk.old) (D.fault_count disk.new) }
@@ -182,8 +183,8 @@ fn store<D: Disk>(disk: &mut D, gate: u64, bytes: &[u8]) -> Result<(), DiskError
 fn write_synced<D: Disk>(disk: &mut D, at: u64, bytes: &[u8]) -> Result<(), DiskError>
     requires { IfTold (D.seen disk.old) (λ file. at ≤ length file) }
     ensures written { OnOk result (WhereTold (λ old new. new ≡ overwritten old at bytes.now) (D.seen disk.old) (D.seen disk.new)) }
-    ensures durable { (file : List ℕ) → D.seen disk.old ≡ Some file → OnOk result
-        ((D.seen disk.new ≡ Some (overwritten file at bytes.now)) × Only (overwritten file at bytes.now) (D.may_leave disk.new)) }
+    ensures long { WhereTold (λ old new. length old ≤ length new) (D.seen disk.old) (D.seen disk.new) }
+    ensures durable { OnOk result (IfTold (D.seen disk.new) (λ file. Only file (D.may_leave disk.new))) }
     ensures any_moment { (file : List ℕ) → Only file (D.may_leave disk.old)
         → LeavesOnly D.moment D.left_since disk.old disk.new (Torn at (length bytes.now) file) }
     ensures faults { CountsFault result (D.fault_count disk.old) (D.fault_count disk.new) }
