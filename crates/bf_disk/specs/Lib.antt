@@ -1,0 +1,9 @@
+pub mod Answers
+pub mod Images
+pub mod MemoryShelves
+pub mod Replay
+pub mod Shelves
+pub mod Tape
+pub mod TapeInside
+pub mod TapeLaws
+pub mod Told
