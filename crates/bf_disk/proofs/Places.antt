@@ -58,23 +58,26 @@ module _ (slots : List Slot) (path : List ℕ) (i : ℕ) (old : Slot) (at : posi
       others = λ other apart. ap (option_and_then field) (slots_stay other apart);
     }
 
+-- the first place that passes a test, or one of those behind it
+passed_over : {V : Type 0} (field : Slot → Option V) (passes : Bool) (head : Slot) (now before : Option Slot) → option_and_then field now ≡ option_and_then field before
+    → option_and_then field (cond passes (Some head) now) ≡ option_and_then field (cond passes (Some head) before)
+passed_over field true head now before same = refl
+passed_over field false head now before same = same
+
 -- a part of a place that stays as it was, under each path
 field_stays : {V : Type 0} (test : Slot → Bool) (field : Slot → Option V) (slots : List Slot) (i : ℕ) (new : Slot)
     → test new ≡ test (get_or slots i new) → field new ≡ field (get_or slots i new)
     → option_and_then field (find test (set slots i new)) ≡ option_and_then field (find test slots)
 field_stays test field [] i new same kept = refl
-field_stays test field (first ∷ slots) zero new same kept = at (test new) (test first) same
+field_stays test field (head ∷ slots) zero new same kept = at (test new) (test head) same
   where
-    at : (b c : Bool) → b ≡ c → option_and_then field (cond b (Some new) (find test slots)) ≡ option_and_then field (cond c (Some first) (find test slots))
+    at : (b c : Bool) → b ≡ c → option_and_then field (cond b (Some new) (find test slots)) ≡ option_and_then field (cond c (Some head) (find test slots))
     at true true is = kept
     at true false is = cc
     at false true is = cc
     at false false is = refl
-field_stays test field (first ∷ slots) (suc i) new same kept = at (test first)
-  where
-    at : (b : Bool) → option_and_then field (cond b (Some first) (find test (set slots i new))) ≡ option_and_then field (cond b (Some first) (find test slots))
-    at true = refl
-    at false = field_stays test field slots i new same kept
+field_stays test field (head ∷ slots) (suc i) new same kept =
+    passed_over field (test head) head (find test (set slots i new)) (find test slots) (field_stays test field slots i new same kept)
 
 pub fields_stay : {V : Type 0} (field : Slot → Option V) (slots : List Slot) (i : ℕ) (old new : Slot) → get_or slots i new ≡ old → new.path ≡ old.path → field new ≡ field old
     → (λ (path : List ℕ). option_and_then field (slot_at (set slots i new) path)) ≡ (λ (path : List ℕ). option_and_then field (slot_at slots path))
@@ -91,11 +94,8 @@ added_empty field [] slot empty path = at (has_path path slot)
     at : (b : Bool) → option_and_then field (cond b (Some slot) None) ≡ None
     at true = empty
     at false = refl
-added_empty field (first ∷ slots) slot empty path = at (has_path path first)
-  where
-    at : (b : Bool) → option_and_then field (cond b (Some first) (slot_at (slots ++ slot ∷ []) path)) ≡ option_and_then field (cond b (Some first) (slot_at slots path))
-    at true = refl
-    at false = added_empty field slots slot empty path
+added_empty field (head ∷ slots) slot empty path =
+    passed_over field (has_path path head) head (slot_at (slots ++ slot ∷ []) path) (slot_at slots path) (added_empty field slots slot empty path)
 
 pub all_as_before : {V : Type 0} (field : Slot → Option V) (slots : List Slot) (slot : Slot) → field slot ≡ None
     → (λ (path : List ℕ). option_and_then field (slot_at (slots ++ slot ∷ []) path)) ≡ (λ (path : List ℕ). option_and_then field (slot_at slots path))

@@ -67,15 +67,13 @@ upto_other calls n k call upto here is = record {
     (cases_lt i n);
 }
 
-pub upto_next : (calls : List Call) (n k : ℕ) (call : Call) → UpToLastSync calls n k → n < length calls → call ≡ get_or calls n call
-    → UpToLastSync calls (n + 1) (if is_synced call then n + 1 else k)
-upto_next calls n k call upto below is = by_cases (is_synced call) refl
-  where
-    here : slice_get calls n ≡ Some call
-    here = slice_get_read calls (length calls) n call refl below is
-    by_cases : (synced : Bool) → is_synced call ≡ synced → UpToLastSync calls (n + 1) (if synced then n + 1 else k)
-    by_cases true now = upto_sync calls n k call here now
-    by_cases false now = upto_other calls n k call upto here now
+pub upto_then : (calls : List Call) (n k : ℕ) (call : Call) → n < length calls → call ≡ get_or calls n call → is_synced call ≡ true
+    → UpToLastSync calls (n + 1) (n + 1)
+upto_then calls n k call below is now = upto_sync calls n k call (slice_get_read calls (length calls) n call refl below is) now
+
+pub upto_else : (calls : List Call) (n k : ℕ) (call : Call) → UpToLastSync calls n k → n < length calls → call ≡ get_or calls n call → is_synced call ≡ false
+    → UpToLastSync calls (n + 1) k
+upto_else calls n k call upto below is now = upto_other calls n k call upto (slice_get_read calls (length calls) n call refl below is) now
 
 pub file_next : (file : List ℕ) (calls : List Call) (n : ℕ) (call : Call) → n < length calls → call ≡ get_or calls n call
     → file_after_all file (take (n + 1) calls) ≡ file_after (file_after_all file (take n calls)) call
