@@ -1,3 +1,4 @@
+pub mod Loans
 pub mod Places
 pub mod Replays
 pub mod TapeSteps

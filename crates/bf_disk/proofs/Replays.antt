@@ -1,5 +1,5 @@
 -- What calls do that are made again, one after another.
-use Rattle.std.proofs.Common.{◌≡◌, ◌⊎◌, inl, inr, ⊎_elim, ℕ, ◌+◌, ◌-◌, ◌<◌, ◌≤◌, Bool, true, false, not, ◌&&◌, if◌then◌else◌, Option, Some, List, [], ◌∷◌, ◌++◌, length, take, drop, map, get_or, slice_get, refl, sym, ◌∙◌, ap, subst, arith}
+use Rattle.std.proofs.Common.{◌≡◌, ⊎_elim, ℕ, ◌+◌, ◌-◌, ◌<◌, ◌≤◌, Bool, true, false, not, ◌&&◌, if◌then◌else◌, Option, Some, List, [], ◌∷◌, ◌++◌, length, take, drop, map, get_or, slice_get, refl, sym, ◌∙◌, ap, subst, arith}
 use Rattle.std.proofs.lemmas.Bool.{cases_lt}
 use Rattle.std.proofs.lemmas.List.{take_more, take-append-drop, length-drop, get_or-drop}
 use Rattle.std.proofs.lemmas.Option.{slice_get_within, slice_get_read, get_or_from_slice_get, same_Some}
@@ -59,12 +59,12 @@ upto_other calls n k call upto here is = record {
   within = omega (arith, upto.within);
   certain = upto.certain;
   none_later = λ i other from below at. ⊎_elim
-    (λ (earlier : i < n). upto.none_later i other from earlier at)
-    (λ (last : n ≤ i).
-        let now : i ≡ n = omega arith in
-        let same : call ≡ other = same_Some call other (sym here ∙ ap (slice_get calls) (sym now) ∙ at) in
-        subst (λ (one : Call). is_synced one ≡ false) same is)
-    (cases_lt i n);
+      (λ (earlier : i < n). upto.none_later i other from earlier at)
+      (λ (last : n ≤ i).
+      let now : i ≡ n = omega arith in
+      let same : call ≡ other = same_Some call other (sym here ∙ ap (slice_get calls) (sym now) ∙ at) in
+      subst (λ (one : Call). is_synced one ≡ false) same is)
+      (cases_lt i n);
 }
 
 pub upto_then : (calls : List Call) (n k : ℕ) (call : Call) → n < length calls → call ≡ get_or calls n call → is_synced call ≡ true

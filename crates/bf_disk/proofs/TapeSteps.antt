@@ -1,13 +1,12 @@
 -- What one more call does to a tape.
-use Rattle.std.proofs.Common.{◌≡◌, ◌⊎◌, inl, inr, ⊎_elim, ℕ, ◌+◌, ◌<◌, ◌≤◌, min, Bool, true, false, not, if◌then◌else◌, cond, Option, Some, Result, Ok, Err, List, [], ◌∷◌, ◌++◌, length, take, drop, refl, sym, ◌∙◌, ap, subst, arith, length-append}
-use Rattle.std.specs.Prelude.{⊤, IfOk, OnOk}
+use Rattle.std.proofs.Common.{◌≡◌, inl, inr, ⊎_elim, ℕ, ◌+◌, ◌<◌, ◌≤◌, Bool, true, false, if◌then◌else◌, cond, Result, Ok, Err, List, [], ◌∷◌, ◌++◌, length, take, refl, sym, ◌∙◌, ap, subst, arith}
+use Rattle.std.specs.Prelude.{OnOk}
 use Rattle.std.proofs.lemmas.Bool.{cases_lt}
 use Rattle.std.proofs.lemmas.List.{take-append-le, length_push}
 use Rattle.std.proofs.lemmas.List.Sums.{sum_by-append}
 use Rattle.bf_disk.specs.Answers.{CountsFault, IfTried, OnFault}
 use Rattle.bf_disk.specs.Images.{overwritten, Torn, CutShort, Becomes, SameImages, Only, Elapses}
 use Rattle.bf_disk.specs.Tape.{Tape, Keeps, next_fails, after_act, file_of, file_after, file_after_all, file_after_act, left_after, left_after_all, MayLeave, LeftSince, at_call, faults_of}
-use Rattle.bf_disk.specs.Told.{WhereTold}
 use Rattle.bf_disk.specs.declared.error.DiskError.{DiskError}
 use Rattle.bf_disk.specs.declared.error.DiskError.TheVariants.{Fault, Memory}
 use Rattle.bf_disk.specs.declared.call.Act.{Act}
@@ -110,9 +109,9 @@ elapses : (failed : Bool) (tape : Tape) (act : Act)
 elapses failed tape act = record {
   later = omega (arith, size);
   nothing_else = λ t image le left. ⊎_elim
-    (λ (past : length tape.calls < left.0). inr (subst (λ (moment : Tape). MayLeave moment image) (at_all (after failed tape act) left.0 (omega (arith, size, past))) left.3))
-    (λ (before : left.0 ≤ length tape.calls). inl (left.0, left.1, before, subst (λ (moment : Tape). MayLeave moment image) (earlier failed tape act left.0 before) left.3))
-    (cases_lt (length tape.calls) left.0);
+      (λ (past : length tape.calls < left.0). inr (subst (λ (moment : Tape). MayLeave moment image) (at_all (after failed tape act) left.0 (omega (arith, size, past))) left.3))
+      (λ (before : left.0 ≤ length tape.calls). inl (left.0, left.1, before, subst (λ (moment : Tape). MayLeave moment image) (earlier failed tape act left.0 before) left.3))
+      (cases_lt (length tape.calls) left.0);
   all = λ t image le left. (left.0, left.1, omega (arith, size, left.2), subst (λ (moment : Tape). MayLeave moment image) (sym (earlier failed tape act left.0 left.2)) left.3);
 }
   where

@@ -1,6 +1,6 @@
 -- The image that tears the pending bytes is one of those that a crash may leave.
-use Rattle.std.proofs.Common.{◌≡◌, ◌⊎◌, inl, inr, ⊎_elim, ℕ, zero, suc, ◌+◌, ◌-◌, ◌%◌, ◌<◌, ◌≤◌, min, Bool, true, false, Option, Some, None, Result, Ok, Err, unwrap_or, List, [], ◌∷◌, ◌++◌, length, take, drop, map, replicate, get_or, slice_get, refl, sym, ◌∙◌, ap, subst, arith, append_assoc, length-append}
-use Rattle.std.proofs.lemmas.List.{length-take, length-drop, length-map, length-replicate, get_or-map, get_or-take, get_or-drop, drop_more, ext_get_or}
+use Rattle.std.proofs.Common.{◌≡◌, ⊎_elim, ℕ, zero, suc, ◌+◌, ◌-◌, ◌<◌, min, Bool, true, false, Option, Some, None, Result, Ok, Err, List, [], ◌∷◌, ◌++◌, length, take, drop, map, get_or, refl, sym, ◌∙◌, ap, subst, arith, append_assoc, length-append}
+use Rattle.std.proofs.lemmas.List.{length-take, length-drop, length-map, length-replicate, get_or-map, get_or-take, drop_more, ext_get_or}
 use Rattle.bf_disk.specs.Images.{Torn, CutShort}
 use Rattle.std.specs.Prelude.{IfOk}
 use Rattle.bf_disk.specs.Replay.{settled_byte, pending_after}
@@ -77,9 +77,9 @@ torn_filled certain at n image same = record {
   stays = λ i below outside.
       let within : i < length certain = omega (arith, length-filled certain image) in
       filled_stays certain _ image same i within (⊎_elim
-        (before_range certain at n (pending n) None i within)
-        (behind_range certain at n (pending n) None i (length-replicate n None) within)
-        outside);
+      (before_range certain at n (pending n) None i within)
+      (behind_range certain at n (pending n) None i (length-replicate n None) within)
+      outside);
 }
 
 cut_filled : (certain : List (Option ℕ)) (n : ℕ) (image : List ℕ) → Matches (take n certain) image → CutShort n (filled certain image) image
@@ -148,7 +148,7 @@ torn_next torn pending None rest = refl
 
 pub tear_more : (torn image : List ℕ) (certain : List (Option ℕ)) (pending i : ℕ) (byte : Option ℕ) → i < length certain → byte ≡ get_or certain i byte
     → image ++ torn_from torn pending (drop i certain)
-        ≡ (image ++ settled_byte byte torn pending ∷ []) ++ torn_from torn (pending_after byte pending) (drop (i + 1) certain)
+    ≡ (image ++ settled_byte byte torn pending ∷ []) ++ torn_from torn (pending_after byte pending) (drop (i + 1) certain)
 tear_more torn image certain pending i byte below is =
     ap (λ (rest : List (Option ℕ)). image ++ torn_from torn pending rest) (drop_more certain i byte below ∙ ap (λ (first : Option ℕ). first ∷ drop (i + 1) certain) (sym is))
     ∙ ap (λ (rest : List ℕ). image ++ rest) (torn_next torn pending byte (drop (i + 1) certain))

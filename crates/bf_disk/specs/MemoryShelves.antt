@@ -1,5 +1,5 @@
 -- A shelf of tapes.
-use Rattle.std.specs.Prelude.{◌≡◌, ℕ, List, Option, option_and_then, find, nat_eq}
+use Rattle.std.specs.Prelude.{ℕ, List, Option, option_and_then, find, nat_eq}
 use Rattle.std.specs.Cmp.Lexicographic.{pointwise}
 use Rattle.bf_disk.specs.Tape.{Tape}
 use Rattle.bf_disk.specs.declared.slot.Slot.{Slot}

@@ -1,5 +1,5 @@
 -- What a `TapeDisk` has within, and the tape that it is seen as.
-use Rattle.std.specs.Prelude.{◌≡◌, ℕ, Option, Some, None, Vec, ⊤}
+use Rattle.std.specs.Prelude.{◌≡◌, Some, None}
 use Rattle.bf_disk.specs.Tape.{Tape, file_of}
 use Rattle.bf_disk.specs.declared.tape_disk.TapeDisk.TheInside.{Inside}
 

@@ -1,6 +1,6 @@
 //! A shelf of tapes in memory.
 
-ghost use Rattle.std.specs.Prelude.{◌≡◌, [], Some, nat_eq, position, IfOk, IfErr, OnOk, OnErr};
+ghost use Rattle.std.specs.Prelude.{◌≡◌, [], None, Some, nat_eq, position, IfOk, IfErr, OnOk, OnErr};
 ghost use Rattle.std.specs.Cmp.Lexicographic.{pointwise};
 ghost use Rattle.std.specs.Option.{option_copied};
 ghost use Rattle.bf_disk.specs.MemoryShelves.{disk_at, taken_at};
@@ -54,8 +54,7 @@ impl MemoryShelf {
             Ok(index) => index,
             Err(e) => return Err((disk, e)),
         };
-        let slot = &mut self.slots[index];
-        slot.disk = Some(disk);
+        self.slots[index].hold(disk);
         Ok(())
     }
 
@@ -63,8 +62,10 @@ impl MemoryShelf {
     pub fn disk(&self, path: &str) -> Option<&TapeDisk>
         ensures { option_copied result ≡ disk_at self.now path.now }
     {
-        let index = self.index_of(path)?;
-        self.slots[index].disk.as_ref()
+        match self.index_of(path) {
+            Some(index) => self.slots[index].disk.as_ref(),
+            None => None,
+        }
     }
 
     /// How many faults the disks met that came back, or 2^64 - 1 if it was more.
@@ -92,16 +93,30 @@ impl MemoryShelf {
         ensures faults { self.new.faults ≡ self.old.faults }
         ensures err { OnErr result (self.new ≡ self.old) }
     {
-        if let Some(index) = self.index_of(path) {
-            return Ok(index);
+        match self.index_of(path) {
+            Some(index) => Ok(index),
+            None => self.add(alloc, path),
         }
+    }
+
+    // Makes a place for a path that has none, and answers its index.
+    fn add(&mut self, alloc: Global, path: &str) -> Result<usize, Memory>
+        requires { position (λ slot. pointwise nat_eq slot.path path.now) self.old.slots ≡ None }
+        ensures found { IfOk result (λ index.
+            position (λ slot. pointwise nat_eq slot.path path.now) self.new.slots ≡ Some index) }
+        ensures held { disk_at self.new ≡ disk_at self.old }
+        ensures taken { taken_at self.new ≡ taken_at self.old }
+        ensures faults { self.new.faults ≡ self.old.faults }
+        ensures err { OnErr result (self.new ≡ self.old) }
+    {
         let path = Sequence::of(path.as_bytes().to_vec(alloc)?);
+        let index = self.slots.len();
         self.slots.push(Slot {
             path,
             disk: None,
             lent: None,
         })?;
-        Ok(self.slots.len() - 1)
+        Ok(index)
     }
 }
 
@@ -117,23 +132,16 @@ impl Shelf for MemoryShelf {
     fn take(&mut self, path: &str) -> Result<TapeDisk, DiskError> {
         let alloc = *self.slots.allocator();
         let index = self.slot_for(alloc, path)?;
-        let slot = &mut self.slots[index];
-        let disk = match slot.disk.take() {
-            Some(disk) => disk,
-            None => TapeDisk::new(alloc, Vec::new(alloc), Vec::new(alloc), None),
-        };
-        slot.lent = Some(disk.faults());
-        Ok(disk)
+        Ok(self.slots[index].lend(alloc))
     }
 
     fn put_back(&mut self, path: &str, disk: TapeDisk) {
-        if let Some(index) = self.index_of(path) {
-            let slot = &mut self.slots[index];
-            let lent = slot.lent.take().unwrap_or(0);
-            self.faults = self
-                .faults
-                .saturating_add(disk.faults().saturating_sub(lent));
-            slot.disk = Some(disk);
+        match self.index_of(path) {
+            Some(index) => {
+                let rises = self.slots[index].take_back(disk);
+                self.faults = self.faults.saturating_add(rises);
+            }
+            None => {}
         }
     }
 }

@@ -103,11 +103,7 @@ fn make_pending(certain: &mut Vec<Option<u8>>, call: &Call) -> Result<(), Memory
 }
 
 // Makes so many bytes pending from an offset on, which stands for the end where it is past it.
-fn make_range_pending(
-    certain: &mut Vec<Option<u8>>,
-    at: u64,
-    len: usize,
-) -> Result<(), Memory>
+fn make_range_pending(certain: &mut Vec<Option<u8>>, at: u64, len: usize) -> Result<(), Memory>
     requires { len < 2 ^ 63 }
     ensures { OnOk result (certain.new.items ≡
         take at certain.old.items ++ pending len ++ drop (at + len) certain.old.items) }

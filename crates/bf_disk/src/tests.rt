@@ -87,7 +87,12 @@ fn each_call_fails_where_it_is_told_to(rt: HostRuntime) -> Result<(), Fail> {
         assert_eq!(rt; disk.faults(), 1);
         assert_eq!(rt; disk.calls(), 5);
     }
-    let mut disk = TapeDisk::new(rt.alloc(), Vec::new(rt.alloc()), Vec::new(rt.alloc()), Some(3));
+    let mut disk = TapeDisk::new(
+        rt.alloc(),
+        Vec::new(rt.alloc()),
+        Vec::new(rt.alloc()),
+        Some(3),
+    );
     assert_eq!(rt; each_call(&mut disk), [false, false, false, true, true]);
     assert_eq!(rt; disk.faults(), 2);
     Ok(())
@@ -96,7 +101,12 @@ fn each_call_fails_where_it_is_told_to(rt: HostRuntime) -> Result<(), Fail> {
 #[test]
 fn a_shelf_holds_what_comes_back(rt: HostRuntime) -> Result<(), Fail> {
     let mut shelf = MemoryShelf::new(rt.alloc());
-    let empty = TapeDisk::new(rt.alloc(), b"b".to_vec(rt.alloc())?, Vec::new(rt.alloc()), Some(0));
+    let empty = TapeDisk::new(
+        rt.alloc(),
+        b"b".to_vec(rt.alloc())?,
+        Vec::new(rt.alloc()),
+        Some(0),
+    );
     assert!(rt; shelf.set("b", empty).is_ok());
     let mut first = shelf.take("a")?;
     assert_eq!(rt; first.len()?, 0);

@@ -1,7 +1,6 @@
-use Rattle.std.proofs.Common.{◌≡◌, ℕ, ◌-◌, ◌<◌, ◌≤◌, Some, List, length, take, drop, map, sym, ◌∙◌, ap, subst, arith}
+use Rattle.std.proofs.Common.{◌≡◌, ◌-◌, Some, length, take, drop, map, sym, ◌∙◌, ap, arith}
 use Rattle.std.proofs.lemmas.List.{take_rest, take_all}
 use Rattle.bf_disk.specs.Tape.{certain_after, certain_after_all, file_after_all}
-use Rattle.bf_disk.specs.declared.call.Call.{Call}
 use Rattle.bf_disk.proofs.Replays.{certain_whole, certain_next, later_pending}
 use Rattle.bf_disk.proofs.replay.certain_bytes.Goals as goal
 
