@@ -1,0 +1,4 @@
+pub mod Examples
+pub mod Chains
+pub mod Moments
+pub mod Storing

@@ -1,0 +1,5 @@
+pub mod Append
+pub mod Errors
+pub mod Format
+pub mod Opening
+pub mod Storing

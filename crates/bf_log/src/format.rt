@@ -1,0 +1,19 @@
+//! The bytes of a log: a magic, and a chain of gates with payloads between them.
+
+/// The text BFROGLG1, at the file's front.
+pub(crate) const MAGIC: [u8; 8] = *b"BFROGLG1";
+
+/// A gate with this byte is open, and one with any other is closed.
+pub(crate) const OPEN_GATE: u8 = 0xa5;
+
+/// The closed gate that is written behind a record.
+pub(crate) const CLOSED_GATE: u8 = 0;
+
+/// How many bytes a payload may have.
+pub(crate) const MOST_BYTES: u32 = 1 << 30;
+
+/// A length takes so many bytes, the lowest first.
+pub(crate) const LENGTH_BYTES: usize = 4;
+
+/// So many bytes stand between a gate and the next, beside the payload: the gate and the length.
+pub(crate) const FRAME: u64 = 5;

@@ -1,0 +1,18 @@
+//! A log of records on a disk: who was told that a record is stored finds it after every crash.
+#![tactic(auto)]
+
+pub mod create;
+pub mod error;
+mod format;
+mod head;
+pub mod laws;
+pub mod log;
+pub mod opening;
+#[cfg(test)]
+mod tests;
+
+pub use create::create_log;
+pub use error::{AppendError, CreateError, OpenError};
+pub use head::open_log;
+pub use log::Log;
+pub use opening::{Next, Opening};
