@@ -96,14 +96,14 @@ pub told_from : (old : Option (List ℕ)) (P : List ℕ → Type 0) → ((file :
 told_from None P all = tt
 told_from (Some file) P all = all file refl
 
--- what is told after a write, and after a sync that changes nothing of it
-pub told_written : (old new : Option (List ℕ)) (at : ℕ) (bytes file : List ℕ) → old ≡ Some file → WhereTold (λ before now. now ≡ overwritten before at bytes) old new
-    → new ≡ Some (overwritten file at bytes)
-told_written None new at bytes file told is = cc
-told_written (Some old) None at bytes file told is = absurd is
-told_written (Some old) (Some new) at bytes file told is =
-    ap (λ (now : List ℕ). Some now) (is ∙ ap (λ (before : List ℕ). overwritten before at bytes) (same_Some old file told))
+-- what is told of a file that a call made something of
+pub told_made : (make : List ℕ → List ℕ) (old new : Option (List ℕ)) (file : List ℕ) → old ≡ Some file → WhereTold (λ before now. now ≡ make before) old new
+    → new ≡ Some (make file)
+told_made make None new file told is = cc
+told_made make (Some old) None file told is = absurd is
+told_made make (Some old) (Some new) file told is = ap (λ (now : List ℕ). Some now) (is ∙ ap make (same_Some old file told))
 
+-- what is told after a write, and after a sync that changes nothing of it
 pub written_then : (old mid new : Option (List ℕ)) (at : ℕ) (bytes : List ℕ) (result : Result (Unit {0}) DiskError)
     → WhereTold (λ before now. now ≡ overwritten before at bytes) old mid → new ≡ mid → OnOk result (WhereTold (λ before now. now ≡ overwritten before at bytes) old new)
 written_then old mid new at bytes (Err error) written same = tt

@@ -2,7 +2,7 @@ use Rattle.std.proofs.Common.{◌+◌, inl, length}
 use Rattle.bf_disk.specs.Images.{Torn, Only}
 use Rattle.bf_log.specs.Storing.{behind_gate, IsBeingStored}
 use Rattle.bf_log.proofs.Moments.{both, weaker}
-use Rattle.bf_log.proofs.Storing.{told_behind, told_within, within_then, told_written, told_at, stored_then, long_then}
+use Rattle.bf_log.proofs.Storing.{told_behind, told_within, within_then, told_made, told_at, stored_then, long_then}
 use Rattle.bf_log.proofs.log.store.Goals as goal
 
 pub write_synced-requires : goal.write_synced-requires
@@ -29,7 +29,7 @@ returns-clause-long g c =
 
 pub returns-clause-any_moment : goal.returns-clause-any_moment
 returns-clause-any_moment g c = λ file told only.
-    let there = told_written (g.D.Disk.seen c.args.disk.now) (g.D.Disk.seen c.write_synced.new.disk) (c.args.gate + 1) c.args.bytes.now file told c.in_ok-write_synced.ensures.written in
+    let there = told_made (λ now. behind_gate now c.args.gate c.args.bytes.now) (g.D.Disk.seen c.args.disk.now) (g.D.Disk.seen c.write_synced.new.disk) file told c.in_ok-write_synced.ensures.written in
     let only_there = told_at (g.D.Disk.seen c.write_synced.new.disk) (λ now. Only now (g.D.Disk.may_leave c.write_synced.new.disk)) (behind_gate file c.args.gate c.args.bytes.now)
     c.in_ok-write_synced.ensures.durable there in
     both g.D.Disk.moment g.D.Disk.left_since c.args.disk.now c.write_synced.new.disk c.write_synced-2.new.disk (Torn (c.args.gate + 1) (length c.args.bytes.now) file) (Torn c.args.gate 1 (behind_gate file c.args.gate c.args.bytes.now))
