@@ -1,5 +1,5 @@
 -- A log while a record is appended, and once it is.
-use Rattle.std.proofs.Common.{◌≡◌, ℕ, ◌≤◌, Option, Some, None, List, [], ◌∷◌, ◌++◌, length, sym, ◌∙◌, ap, subst, arith}
+use Rattle.std.proofs.Common.{◌≡◌, ℕ, ◌≤◌, Option, Some, None, List, [], ◌∷◌, ◌++◌, length, ◌∙◌, ap, subst, arith}
 use Rattle.std.proofs.lemmas.Bool.Decides.{nat_tests}
 use Rattle.std.proofs.lemmas.List.{length_push}
 use Rattle.bf_io.specs.Whole.{IfTold}
@@ -23,14 +23,15 @@ no_larger Spent end size largest limit answer is none = cc
 no_larger (Halted faults) end size largest limit answer is none = cc
 no_larger Ready end size largest limit answer is none = grind (arith, nat_tests)
 
-module _ {D : Type 0} {g : Ghosts D} (file : List ℕ) (payloads : List (List ℕ)) (payload bytes : List ℕ) (old : Log D g) (holds : Holds file payloads old)
-    (small : length payload ≤ most_bytes) (record_is : bytes ≡ record_of payload) where
+module _ {D : Type 0} {g : Ghosts D} (file : List ℕ) (payloads : List (List ℕ)) (payload bytes : List ℕ) (old : Log D g)
+    (holds : Holds file payloads old) (small : length payload ≤ most_bytes) (record_is : bytes ≡ record_of payload) where
   -- a crash while the record is stored leaves the log from before, or with the record
   pub leaves_log : (disk : D) → LeavesOnly g.moment g.left_since old.disk disk (IsBeingStored file old.end bytes)
       → LeavesOnly g.moment g.left_since old.disk disk (BeforeOrAfter payloads payload)
   leaves_log disk leaves =
       weaker g.moment g.left_since old.disk disk (IsBeingStored file old.end bytes) (BeforeOrAfter payloads payload) leaves
-      (λ image stored. being_stored payloads payload file old.end holds.is_log holds.end small image (subst (λ (of : List ℕ). IsBeingStored file old.end of image) record_is stored))
+      (λ image stored. being_stored payloads payload file old.end holds.is_log holds.end small image
+      (subst (λ (of : List ℕ). IsBeingStored file old.end of image) record_is stored))
 
   -- a log that grew, on a disk with the record behind its gate, holds one payload more
   pub holds_more : (new : Log D g) → Grew (length payload) new.count old new

@@ -11,17 +11,22 @@ use Rattle.bf_log.proofs.log.Log.append.Goals.{After-store}
 small : (g : _) (c : After-store g) → length c.args.payload.now ≤ most_bytes
 small g c =
     let log = c.args.self.now in
-    omega (arith, c.requires, no_larger log.standing log.end (length c.args.payload.now) c.args.largest c.args.limit c.refusal.result c.refusal.ensures c.in_default.is)
+    omega (
+      arith,
+      c.requires,
+      no_larger log.standing log.end (length c.args.payload.now) c.args.largest c.args.limit c.refusal.result c.refusal.ensures c.in_default.is,
+    )
 
 -- the bytes that were to be stored are its record
 spelled : (g : _) (c : After-store g) → c.deref.result.now ≡ record_of c.args.payload.now
 spelled g c = c.deref.ensures.value ∙ c.in_ok-record.ensures
 
--- whatever the device answered
+-- whatever the device answered, a crash leaves the log from before or with the record
 leaves : (g : _) (c : After-store g) (file : List ℕ) (payloads : List (List ℕ)) → Holds {g = g.D.Disk} file payloads c.args.self.now
     → LeavesOnly g.D.Disk.moment g.D.Disk.left_since c.args.self.now.disk c.store.new.disk (BeforeOrAfter payloads c.args.payload.now)
 leaves g c file payloads holds =
-    leaves_log file payloads c.args.payload.now c.deref.result.now c.args.self.now holds (small g c) (spelled g c) c.store.new.disk (c.store.ensures.any_moment file holds.told holds.durable)
+    leaves_log file payloads c.args.payload.now c.deref.result.now c.args.self.now holds (small g c) (spelled g c) c.store.new.disk
+    (c.store.ensures.any_moment file holds.told holds.durable)
 
 pub returns-in-Ok-clause-stored : goal.returns-in-Ok-clause-stored
 returns-in-Ok-clause-stored g c = λ file payloads holds.
