@@ -1,3 +1,4 @@
+pub mod Appending
 pub mod Examples
 pub mod Chains
 pub mod Moments
