@@ -17,7 +17,8 @@ use Rattle.bf_text.specs.Replies.{newline, numbered}
 use Rattle.bf_text.specs.Report.{report_text}
 use Rattle.bf_run.specs.declared.status.Status.{Status}
 use Rattle.bf_run.specs.declared.status.Status.TheVariants.{Done, Usage, Script as ScriptError, ReadFault, WriteFault, Memory, NotBuilt}
-use Rattle.bf_run.specs.Runs.{IsOfForm, IsRunOf, is_plain_script}
+use Rattle.bf_machine.specs.InOrder.{is_plain_script}
+use Rattle.bf_run.specs.Runs.{IsOfForm, IsRunOf}
 
 -- STREAM: the bytes that a source has left, or that a sink took, where they are told, and its count of faults, each
 -- before and after a call

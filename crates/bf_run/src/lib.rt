@@ -2,8 +2,6 @@
 #![tactic(auto)]
 
 pub mod laws;
-pub mod lone;
-pub mod serve;
 pub mod status;
 pub mod top;
 pub mod words;

@@ -2,19 +2,19 @@
 
 ghost use Rattle.std.specs.Prelude.{◌≡◌, IfOk, IsTrue, map};
 ghost use Rattle.std.specs.Option.{option_map};
+ghost use Rattle.bf_machine.specs.InOrder.{IsRun, is_plain_script};
+ghost use Rattle.bf_machine.specs.Narrow.{is_narrow_script};
+ghost use Rattle.bf_machine.specs.Sessions.{phases_rise_from};
 ghost use Rattle.bf_run.specs.Answers.{FindsForm, IsAnswerTo, Tells};
-ghost use Rattle.bf_run.specs.InOrder.{phases_rise_from};
-ghost use Rattle.bf_run.specs.Narrow.{is_narrow_script};
 ghost use Rattle.bf_run.specs.Outcome.{Ends, IsAnswer, fault_text};
-ghost use Rattle.bf_run.specs.Runs.{IsRun, is_plain_script};
 
-use crate::serve::{is_plain, serve};
 use crate::status::{Status, fault_line};
 use crate::words::are_try;
 use bf_base::Memory;
 use bf_form::read_script;
 use bf_io::{ReadError, Sink, Source, read_all, write_whole};
 use bf_lex::{ScriptError, ScriptFault, ScriptKind};
+use bf_machine::{in_order, is_plain};
 use bf_parse::script;
 use bf_sql::Script;
 use bf_text::report;
@@ -38,7 +38,7 @@ fn plain_report(alloc: Global, script: &Script) -> Result<Vec<u8>, Memory>
     requires phases { IsTrue (phases_rise_from 0 script.now.sessions) }
     ensures { IfOk result (λ text. Tells (IsRun script.now) text.items) }
 {
-    let run = serve(alloc, script)?;
+    let run = in_order(alloc, script)?;
     report(alloc, &run.transcripts, &run.history, None, &run.sweep)
 }
 

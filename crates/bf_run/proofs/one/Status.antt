@@ -4,7 +4,7 @@ use Rattle.bf_lex.specs.declared.fault.ScriptFault.{ScriptFault}
 use Rattle.bf_parse.specs.Scripts.{IsScriptText}
 use Rattle.bf_run.specs.declared.status.Status.{Status}
 use Rattle.bf_run.specs.declared.status.Status.TheVariants.{Done, Usage, Script as ScriptError, ReadFault, WriteFault, Memory, NotBuilt}
-use Rattle.bf_run.specs.Runs.{is_plain_script}
+use Rattle.bf_machine.specs.InOrder.{is_plain_script}
 use Rattle.bf_run.specs.Outcome.{Stream, is_try, OfBytes, IsServed, IsNotServed, IsDetermined, Comes}
 use Rattle.bf_run.proofs.one.Reading.{one_script, one_fault, not_both}
 

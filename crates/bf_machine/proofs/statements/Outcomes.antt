@@ -1,0 +1,96 @@
+-- What a statement is bound to says what it does: it is refused, or nothing stands in its way.
+use Rattle.std.proofs.Common.{◌≡◌, ◌≢◌, ℕ, Bool, true, false, List, [], ◌∷◌, ◌++◌, Option, Some, None, option_map, refl, sym, ap, subst, ◌∙◌}
+use Rattle.bf_bind.specs.Limits.{is_planned}
+use Rattle.bf_sql.specs.declared.bound.Action.{Action}
+use Rattle.bf_sql.specs.declared.bound.Action.TheVariants as action
+use Rattle.bf_sql.specs.declared.bound.Bound.{Bound}
+use Rattle.bf_sql.specs.declared.catalog.Catalog.{Catalog}
+use Rattle.bf_sql.specs.declared.reply.Refusal.{Refusal}
+use Rattle.bf_sql.specs.declared.reply.Reply.TheVariants as reply
+use Rattle.bf_sql.specs.declared.statement.Statement.{Statement}
+use Rattle.bf_sql.specs.declared.statement.Statement.TheVariants.{CreateTable, CreateIndex, Insert, Select, Update, Delete, Begin, Commit, Rollback, Migrate}
+use Rattle.bf_sql.specs.Bound.{action_of, bare, bound_of, changes_schema, unless_objected}
+use Rattle.bf_sql.specs.Database.{Database, IsDatabase}
+use Rattle.bf_sql.specs.Meaning.{effect, executed, unless_refused}
+use Rattle.bf_sql.specs.Objections.{objections}
+use Rattle.bf_sql.specs.RowObjections.{row_objections}
+use Rattle.bf_query.specs.Meanings.{IsBoundAs}
+use Rattle.bf_store.specs.Plain.{is_plain}
+use Rattle.bf_store.specs.Stores.{catalog_of}
+use Rattle.bf_machine.proofs.statements.Bare.{same_bound}
+
+-- a plain statement is no MIGRATE
+pub not_planned : (s : Statement) → is_plain s ≡ true → is_planned false s ≡ false
+not_planned (Migrate migrate) plain = absurd cc
+not_planned other plain = refl
+
+action_alone : (n : ℕ) (b : Bool) (o : Option Action)
+    → option_map (λ (b : Bound). b.action) (option_map (λ act. record { catalog = n; schema_change = b; action = act }) o) ≡ o
+action_alone n b None = refl
+action_alone n b (Some act) = refl
+
+-- a plain statement that is bound in the catalog of a database
+pub record IsBoundIn (db : Database) (s : Statement) (bound : Bound) : Type 0 where
+  pub database : IsDatabase db
+  pub plain : is_plain s ≡ true
+  pub is : bound_of (bare (catalog_of db)) false s ≡ Some bound
+
+pub bound_in : (db : Database) (s : Statement) (bound : Bound) (catalog : Catalog) → catalog ≡ catalog_of db → IsDatabase db
+    → is_plain s ≡ true → bound_of (bare catalog) false s ≡ Some bound → IsBoundIn db s bound
+bound_in db s bound catalog same database plain is = record {
+  database = database;
+  plain = plain;
+  is = ap (λ (catalog : Catalog). bound_of (bare catalog) false s) (sym same) ∙ is;
+}
+
+-- the action that it is bound to
+action_is : (db : Database) (s : Statement) (bound : Bound) → IsBoundIn db s bound
+    → unless_objected (objections db false s) (action_of db s) ≡ Some bound.action
+action_is db s bound within =
+    sym (action_alone db.number (changes_schema false s) (unless_objected (objections db false s) (action_of db s)))
+    ∙ ap (option_map (λ (b : Bound). b.action)) (sym (same_bound db s within.plain) ∙ within.is)
+
+-- nothing that a statement is to do is a refusal
+no_refusal : (db : Database) (s : Statement) (r : Refusal) → action_of db s ≡ Some (action.Refused r) → ⊥
+no_refusal db (CreateTable name rules key) r is = cc
+no_refusal db (CreateIndex name table columns) r is = cc
+no_refusal db (Insert table tuples) r is = cc
+no_refusal db (Select list table c) r is = cc
+no_refusal db (Update table sets c) r is = cc
+no_refusal db (Delete table c) r is = cc
+no_refusal db Begin r is = cc
+no_refusal db Commit r is = cc
+no_refusal db Rollback r is = cc
+no_refusal db (Migrate migrate) r is = cc
+
+module _ (db : Database) (s : Statement) where
+  -- a refused statement leaves the database
+  refused_by : (rs : List Refusal) (r : Refusal) (commit : ℕ) → unless_objected rs (action_of db s) ≡ Some (action.Refused r)
+      → unless_refused (rs ++ row_objections db s) db (λ _. effect commit db s) ≡ (reply.Refused r, db)
+  refused_by [] r commit is = absurd (no_refusal db s r is)
+  refused_by (q ∷ rs) r commit is =
+      let same : q ≡ r = cc in
+      ap (λ (q : Refusal). (reply.Refused q, db)) same
+
+  pub refused : (bound : Bound) (r : Refusal) → IsBoundIn db s bound → bound.action ≡ action.Refused r
+      → (commit : ℕ) → executed commit db false s ≡ (reply.Refused r, db)
+  refused bound r within act commit = refused_by (objections db false s) r commit (action_is db s bound within ∙ ap Some act)
+
+  -- where it is to do something, nothing stands in its way
+  bound_by : (rs : List Refusal) (act : Action) → ((r : Refusal) → act ≢ action.Refused r)
+      → unless_objected rs (action_of db s) ≡ Some act → (rs ≡ []) × (action_of db s ≡ Some act)
+  bound_by [] act not is = (refl, is)
+  bound_by (r ∷ rs) act not is =
+      let same : act ≡ action.Refused r = cc in
+      absurd (not r same)
+
+  pub as_bound : (bound : Bound) → IsBoundIn db s bound → ((r : Refusal) → bound.action ≢ action.Refused r)
+      → IsBoundAs db false s bound.action
+  as_bound bound within not =
+      let parts = bound_by (objections db false s) bound.action not (action_is db s bound within) in
+      record { database = within.database; admitted = parts.0; action = parts.1 }
+
+  pub bound_to : (bound : Bound) (act : Action) → IsBoundIn db s bound → ((r : Refusal) → act ≢ action.Refused r)
+      → bound.action ≡ act → IsBoundAs db false s act
+  bound_to bound act within not is =
+      subst (IsBoundAs db false s) is (as_bound bound within (λ r same. not r (sym is ∙ same)))

@@ -1,0 +1,5 @@
+pub mod Actions
+pub mod InOrder
+pub mod Narrow
+pub mod Open
+pub mod Sessions

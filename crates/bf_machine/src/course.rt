@@ -1,0 +1,177 @@
+//! Sessions that run one after the other.
+
+ghost use Rattle.std.specs.Prelude.{◌≡◌, ◌++◌, ◌≤◌, IfOk, IsTrue, OnOk, length, not};
+ghost use Rattle.std.specs.List.{list_all};
+ghost use Rattle.bf_bind.specs.Limits.{HasNarrowTables};
+ghost use Rattle.bf_store.specs.Stores.{catalog_of};
+ghost use Rattle.bf_machine.specs.InOrder.{is_migrate};
+ghost use Rattle.bf_machine.specs.Narrow.{is_narrow_statement};
+ghost use Rattle.bf_machine.specs.Sessions.{at_rest, session_from};
+
+use crate::lone::execute;
+use crate::transaction::{Transaction, execute_in_block};
+use bf_base::{Memory, Sequence};
+use bf_sql::{Entry, Outcome, Refusal, Reply, Statement};
+use bf_store::Store;
+use bf_txn::Workspace;
+use std::alloc::Global;
+
+/// One more than a count. A count that is too high for an entry counts as want of memory.
+pub(crate) fn next_number(count: usize) -> Result<u32, Memory>
+    ensures { IfOk result (λ number. number ≡ count + 1) }
+{
+    match u32::try_from(count) {
+        Ok(number) => number.checked_add(1).ok_or(Memory),
+        Err(_) => Err(Memory),
+    }
+}
+
+/// A statement by its session and its number there, both counted from 1.
+#[derive(Clone, Copy)]
+struct Place {
+    session: u32,
+    statement: u32,
+}
+
+/// The committed tables, the transactions that have ended, in order, and how many of them have
+/// committed.
+#[derive(Drop)]
+pub(crate) struct Course {
+    alloc: Global,
+    store: Store,
+    entries: Vec<Entry>,
+    commits: u64,
+    ghost counted: { commits ≤ length entries.items },
+}
+
+impl Course {
+    /// The empty database, before the first transaction. Takes no memory.
+    pub(crate) fn new(alloc: Global) -> Course {
+        Course {
+            alloc,
+            store: Store::new(alloc),
+            entries: Vec::new(alloc),
+            commits: 0,
+        }
+    }
+
+    /// The transactions that have ended, in order.
+    pub(crate) fn into_entries(self) -> Sequence<Entry> {
+        Sequence::of(self.entries)
+    }
+
+    /// Notes that the transaction from a statement to the one at a place has ended.
+    fn end(&mut self, first: u32, last: Place, outcome: Outcome) -> Result<(), Memory> {
+        self.entries.push(Entry {
+            session: last.session,
+            first,
+            last: last.statement,
+            outcome,
+        })?;
+        Ok(())
+    }
+
+    /// Notes that the transaction from a statement to the one at a place has committed, and answers
+    /// the number of the commit.
+    fn commit(&mut self, first: u32, last: Place) -> Result<u64, Memory> {
+        let number = self.commits + 1;
+        self.end(first, last, Outcome::Committed(number))?;
+        self.commits = number;
+        Ok(number)
+    }
+
+    /// Runs a statement outside a block, which may begin one.
+    fn step_outside(
+        &mut self,
+        place: Place,
+        statement: &Statement,
+    ) -> Result<(Reply, Option<Transaction>), Memory> {
+        match statement {
+            Statement::Begin => {
+                let block = Transaction {
+                    first: place.statement,
+                    writes: Workspace::new(self.alloc),
+                };
+                Ok((Reply::Begun, Some(block)))
+            }
+            Statement::Commit | Statement::Rollback => {
+                Ok((Reply::Refused(Refusal::NoTransaction), None))
+            }
+            _ => {
+                let reply = execute(self.alloc, &mut self.store, statement)?;
+                self.commit(place.statement, place)?;
+                Ok((reply, None))
+            }
+        }
+    }
+
+    /// Runs a statement in a block, which may end it.
+    fn step_inside(
+        &mut self,
+        place: Place,
+        block: Transaction,
+        statement: &Statement,
+    ) -> Result<(Reply, Option<Transaction>), Memory> {
+        let mut block = block;
+        match statement {
+            Statement::Commit => {
+                self.store.commit(block.writes)?;
+                let number = self.commit(block.first, place)?;
+                Ok((Reply::Committed(number), None))
+            }
+            Statement::Rollback => {
+                self.end(block.first, place, Outcome::RolledBack)?;
+                Ok((Reply::RolledBack, None))
+            }
+            _ => {
+                let reply =
+                    execute_in_block(self.alloc, &self.store, &mut block.writes, statement)?;
+                Ok((reply, Some(block)))
+            }
+        }
+    }
+
+    /// Runs the statements of a session, one after the other. A block that is open at its end is
+    /// rolled back.
+    pub(crate) fn run_session(
+        &mut self,
+        session: u32,
+        statements: &[Statement],
+    ) -> Result<Sequence<Reply>, Memory>
+        requires plain { IsTrue
+            (list_all (λ statement. not (is_migrate statement)) statements.now) }
+        requires narrow { IsTrue (list_all is_narrow_statement statements.now) }
+        requires tables { HasNarrowTables (catalog_of self.old.store) }
+        ensures replies { IfOk result (λ replies. replies ≡ (session_from session 1
+            (at_rest self.old.commits self.old.store) statements.now).0) }
+        ensures stands { OnOk result (at_rest self.new.commits self.new.store
+            ≡ (session_from session 1 (at_rest self.old.commits self.old.store) statements.now).1) }
+        ensures entries { OnOk result (self.new.entries.items ≡ self.old.entries.items
+            ++ (session_from session 1
+            (at_rest self.old.commits self.old.store) statements.now).2) }
+        ensures tables { OnOk result (HasNarrowTables (catalog_of self.new.store)) }
+    {
+        let mut replies = Vec::with_capacity(self.alloc, statements.len())?;
+        let mut open = None;
+        for statement in statements {
+            let place = Place {
+                session,
+                statement: next_number(replies.len())?,
+            };
+            let (reply, left) = match open {
+                Some(block) => self.step_inside(place, block, statement)?,
+                None => self.step_outside(place, statement)?,
+            };
+            replies.push(reply)?;
+            open = left;
+        }
+        if let Some(block) = open {
+            let last = Place {
+                session,
+                statement: replies.len() as u32,
+            };
+            self.end(block.first, last, Outcome::RolledBack)?;
+        }
+        Ok(Sequence::of(replies))
+    }
+}

@@ -1,0 +1,77 @@
+//! The run of a script, session after session.
+
+ghost use Rattle.std.specs.Prelude.{◌≡◌, IfOk, IsTrue, not};
+ghost use Rattle.std.specs.List.{list_all};
+ghost use Rattle.bf_machine.specs.InOrder.{IsRun, is_migrate, is_plain_script};
+ghost use Rattle.bf_machine.specs.Narrow.{is_narrow_script};
+ghost use Rattle.bf_machine.specs.Sessions.{phases_rise_from};
+
+use crate::course::{Course, next_number};
+use bf_base::{Memory, Sequence};
+use bf_sql::{History, Reply, Script, Session, Statement, Sweep, Transcripts};
+use std::alloc::Global;
+
+/// What a run leaves: for each session the replies to its statements, the transactions in the order
+/// of their ends, and how far the last migration has come.
+#[derive(Debug, Drop)]
+pub struct Run {
+    pub transcripts: Transcripts,
+    pub history: History,
+    pub sweep: Sweep,
+}
+
+fn are_plain(statements: &[Statement]) -> bool
+    ensures { result ≡ list_all (λ statement. not (is_migrate statement)) statements.now }
+{
+    statements
+        .iter()
+        .all(|statement| !matches!(statement, Statement::Migrate(_)))
+}
+
+/// Whether no MIGRATE stands in a script. It costs a look at each statement.
+pub fn is_plain(script: &Script) -> bool
+    ensures { result ≡ is_plain_script script.now }
+{
+    let mut sessions = script.sessions.as_slice().iter();
+    sessions.all(|session| are_plain(session.statements.as_slice()))
+}
+
+/// Runs sessions, one after the other.
+fn run_sessions(
+    alloc: Global,
+    course: &mut Course,
+    sessions: &[Session],
+) -> Result<Vec<Sequence<Reply>>, Memory> {
+    let mut transcripts = Vec::with_capacity(alloc, sessions.len())?;
+    for session in sessions {
+        let number = next_number(transcripts.len())?;
+        transcripts.push(course.run_session(number, session.statements.as_slice())?)?;
+    }
+    Ok(transcripts)
+}
+
+/// Runs a plain script from the empty database, session after session: a block as one transaction,
+/// and each statement outside a block as one of its own. A block that its session leaves open is rolled
+/// back. It costs what the statements do.
+///
+/// # Errors
+/// Where memory runs out, or a number of a session or statement is 2 ^ 32 or above.
+pub fn in_order(alloc: Global, script: &Script) -> Result<Run, Memory>
+    requires plain { IsTrue (is_plain_script script.now) }
+    requires narrow { IsTrue (is_narrow_script script.now) }
+    requires phases { IsTrue (phases_rise_from 0 script.now.sessions) }
+    ensures { IfOk result (λ run.
+        IsRun script.now run.transcripts.sessions run.history.entries run.sweep) }
+{
+    let mut course = Course::new(alloc);
+    let transcripts = run_sessions(alloc, &mut course, script.sessions.as_slice())?;
+    Ok(Run {
+        transcripts: Transcripts {
+            sessions: Sequence::of(transcripts),
+        },
+        history: History {
+            entries: course.into_entries(),
+        },
+        sweep: Sweep::Never,
+    })
+}

@@ -1,0 +1,83 @@
+//! Statements in a transaction that is open.
+
+ghost use Rattle.std.specs.Prelude.{◌≡◌, Bool, IfOk, IsTrue, true};
+ghost use Rattle.bf_bind.specs.Limits.{KeepsLimits};
+ghost use Rattle.bf_query.specs.Meanings.{IsBoundAs};
+ghost use Rattle.bf_sql.specs.declared.statement.Statement.{Statement};
+ghost use Rattle.bf_store.specs.Stores.{catalog_of, committed};
+ghost use Rattle.bf_machine.specs.Actions.{IsOn};
+ghost use Rattle.bf_machine.specs.Open.{IsOpen, IsStep, goes_on};
+
+use bf_base::{Memory, Table};
+use bf_bind::bind;
+use bf_query::{changes, select};
+use bf_sql::{Action, Bound, Reply, Statement};
+use bf_store::Store;
+use bf_txn::Workspace;
+use std::alloc::Global;
+
+/// A transaction that is open: the statement of its session that began it, counted from 1, and what
+/// it has written so far.
+#[derive(Drop)]
+pub(crate) struct Transaction {
+    pub(crate) first: u32,
+    pub(crate) writes: Workspace,
+}
+
+/// Runs a bound SELECT, INSERT, UPDATE or DELETE on the rows that its transaction sees: the committed
+/// ones under what it has written. A change is written to the workspace alone.
+///
+/// # Errors
+/// Where memory runs out. The workspace may have some of the statement's writes then.
+pub(crate) fn run_on_table(
+    alloc: Global,
+    store: &Store,
+    writes: &mut Workspace,
+    bound: &Bound,
+    table: &Table,
+) -> Result<Reply, Memory>
+    requires open { IsOpen store.now writes.old }
+    requires on { IsOn (committed store.now writes.old) table.now bound.now.action }
+    ensures { (in_block : Bool) (s : Statement)
+        → IsBoundAs (committed store.now writes.old) in_block s bound.now.action
+        → IfOk result (IsStep store.now writes.old writes.new in_block s) }
+{
+    let Some(heap) = store.heap(&table.name) else {
+        unreachable!();
+    };
+    if let Action::Select { .. } = &bound.action {
+        return select(alloc, bound, heap, writes);
+    }
+    changes(alloc, bound, heap, writes)
+}
+
+/// Runs a statement of a block that leaves it open. BEGIN, CREATE and MIGRATE are refused there. It
+/// costs the binding, and what the statement reads and writes of its table.
+///
+/// # Errors
+/// Where memory runs out. The workspace may have some of the statement's writes then.
+pub(crate) fn execute_in_block(
+    alloc: Global,
+    store: &Store,
+    writes: &mut Workspace,
+    statement: &Statement,
+) -> Result<Reply, Memory>
+    requires goes_on { IsTrue (goes_on statement.now) }
+    requires limits { KeepsLimits (catalog_of store.now) statement.now }
+    requires open { IsOpen store.now writes.old }
+    ensures { IfOk result (IsStep store.now writes.old writes.new true statement.now) }
+{
+    let bound = bind(alloc, statement, store.catalog(), true)?;
+    match &bound.action {
+        Action::Refused(refusal) => Ok(Reply::Refused(refusal.copy(alloc)?)),
+        Action::Select { table, .. }
+        | Action::Insert { table, .. }
+        | Action::Update { table, .. }
+        | Action::Delete { table, .. } => run_on_table(alloc, store, writes, &bound, table),
+        Action::CreateTable(_)
+        | Action::CreateIndex(_)
+        | Action::Begin
+        | Action::Commit
+        | Action::Rollback => unreachable!(),
+    }
+}
