@@ -1,6 +1,6 @@
 //! Starting to read a log.
 
-ghost use Rattle.std.specs.Prelude.{◌≡◌, ℕ, ◌<◌, List, [], Some, Err, length, IfOk, IfErr, MatchResult};
+ghost use Rattle.std.specs.Prelude.{◌≡◌, ℕ, ◌<◌, ◌==◌, not, List, [], Some, Err, length, position, zip, IfOk, IfErr, MatchResult};
 ghost use Rattle.bf_disk.specs.Images.{Only};
 ghost use Rattle.bf_log.specs.Errors.{CountsFaults, RisesIf, is_open_fault};
 ghost use Rattle.bf_log.specs.Format.{HeadFault, HasMagic, magic};
@@ -48,10 +48,10 @@ fn read_head<D: Disk>(disk: &mut D) -> Result<u64, OpenError>
 {
     disk.sync()?;
     let len = disk.len()?;
-    let mut head = [0u8; MAGIC.len()];
-    let known = len.min(MAGIC.len() as u64) as usize;
-    disk.read(0, &mut head[..known])?;
-    match first_difference(&head[..known]) {
+    let mut room = [0u8; MAGIC.len()];
+    let head = &mut room[..len.min(MAGIC.len() as u64) as usize];
+    disk.read(0, head)?;
+    match first_difference(head) {
         Some(at) => Err(OpenError::NotALog(at as u64)),
         None if len <= MAGIC.len() as u64 => Err(OpenError::NotALog(len)),
         None => Ok(len),
@@ -59,6 +59,8 @@ fn read_head<D: Disk>(disk: &mut D) -> Result<u64, OpenError>
 }
 
 // The offset of the first byte that differs from the magic.
-fn first_difference(head: &[u8]) -> Option<usize> {
+fn first_difference(head: &[u8]) -> Option<usize>
+    ensures { result ≡ position (λ pair. not (pair.0 == pair.1)) (zip head.now magic) }
+{
     head.iter().zip(&MAGIC).position(|(a, b)| a != b)
 }
