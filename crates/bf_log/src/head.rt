@@ -12,9 +12,9 @@ use crate::opening::{Opening, Progress};
 use bf_disk::Disk;
 use std::alloc::Global;
 
-/// Starts to read a log: syncs, so that a crash from then on leaves what is read, and reads the magic.
-/// `NotALog` tells the first byte that differs from the magic, or the length of a file that ends before
-/// its first gate. An error gives the disk back.
+/// Starts to read a log: syncs, so that a crash from then on leaves what is read, and reads the
+/// magic. `NotALog` tells the first byte that differs from the magic, or the length of a file that
+/// ends before its first gate. An error gives the disk back.
 pub fn open_log<D: Disk>(alloc: Global, disk: D) -> Result<Opening<D>, (D, OpenError)>
     ensures opened { IfOk result (λ opening. (file : List ℕ) → D.seen disk ≡ Some file
         → HasRead file [] opening) }
@@ -42,7 +42,8 @@ fn read_head<D: Disk>(disk: &mut D) -> Result<u64, OpenError>
         × ((file : List ℕ) → D.seen disk.old ≡ Some file → (len ≡ length file) × HasMagic file)) }
     ensures not_a_log { (at : ℕ) → result ≡ Err (OpenError.NotALog at)
         → (file : List ℕ) → D.seen disk.old ≡ Some file → HeadFault file at }
-    ensures durable { (file : List ℕ) → D.seen disk.old ≡ Some file → IsSynced result → Only file (D.may_leave disk.new) }
+    ensures durable { (file : List ℕ) → D.seen disk.old ≡ Some file
+        → IsSynced result → Only file (D.may_leave disk.new) }
     ensures disk { OnlyRead D.seen D.may_leave D.moment D.left_since disk.old disk.new }
     ensures faults { CountsFaults is_open_fault result (D.fault_count disk.old) (D.fault_count disk.new) }
 {
