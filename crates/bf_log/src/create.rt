@@ -13,8 +13,9 @@ use bf_disk::Disk;
 /// The magic and a closed gate.
 const EMPTY_LOG: [u8; 9] = *b"BFROGLG1\x00";
 
-/// Makes an empty log of an empty file: one write and one sync. A file with bytes is refused, and is
-/// not written to whatever the answer. An empty file may hold anything after a failed call of the device.
+/// Makes an empty log of an empty file: one write and one sync. A file with bytes is refused, and
+/// is not written to whatever the answer. An empty file may hold anything after a failed call of
+/// the device.
 pub fn create_log<D: Disk>(disk: &mut D) -> Result<(), CreateError>
     ensures made { (file : List ℕ) → D.seen disk.old ≡ Some file → OnOk result
         ((file ≡ []) × (D.seen disk.new ≡ Some empty_log) × Only empty_log (D.may_leave disk.new)) }
