@@ -1,4 +1,5 @@
 pub mod Examples
+pub mod Gates
 pub mod Chains
 pub mod Moments
 pub mod Storing
