@@ -110,6 +110,7 @@ impl<D: Disk> Opening<D> {
             self.progress = Progress::Ended;
             return Ok(Next::End);
         }
+        // Where bytes of the length are missing there is no room, whatever it reads as.
         let size = read_length(&frame[1..]);
         if !self.has_room(size) {
             self.progress = Progress::Broken;
@@ -118,14 +119,14 @@ impl<D: Disk> Opening<D> {
         self.read_payload(alloc, size)
     }
 
-    // Whether a payload may have so many bytes, and it and a gate fit behind the gate and a length.
+    // Whether a payload may have so many bytes, and fits behind a length, with a gate behind it.
     fn has_room(&self, size: u32) -> bool
         ensures { IsTrue result ↔ (size ≤ most_bytes) × (self.now.gate + 5 + size < self.now.len) }
     {
         size <= MOST_BYTES && size as u64 + FRAME < self.len - self.gate
     }
 
-    // Reads the payload behind the open gate, which has so many bytes, and goes on to the gate behind it.
+    // Reads the payload of so many bytes behind the open gate, and goes on to the next gate.
     fn read_payload(&mut self, alloc: Global, size: u32) -> Result<Next, OpenError>
         requires reading { progress_of self.old ≡ Progress.Reading }
         requires small { size ≤ most_bytes }

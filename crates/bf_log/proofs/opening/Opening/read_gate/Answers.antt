@@ -1,5 +1,5 @@
-use Rattle.std.proofs.Common.{◌≡◌, ◌+◌, ◌<◌, drop, ◌++◌, refl, sym, ◌∙◌, arith, length-drop}
-use Rattle.bf_log.proofs.Gates.{IsFrame, zeros, frame_read, opens, closed, broken, stays}
+use Rattle.std.proofs.Common.{drop, ◌++◌, refl, sym, ◌∙◌, arith, length-drop}
+use Rattle.bf_log.proofs.Gates.{zeros, frame_read, opens, closed, broken, stays}
 use Rattle.bf_log.proofs.opening.Opening.read_gate.Goals as goal
 
 pub returns-then-frame-clause-next : goal.returns-then-frame-clause-next
