@@ -136,8 +136,10 @@ impl<D: Disk> Opening<D> {
         ensures next { (file : List ℕ) (payloads : List (List ℕ)) → HasRead file payloads self.old
             → ReadsNext file payloads self.new result }
         ensures progress { ProgressAfter self.old self.new result }
-        ensures disk { OnlyRead D.seen D.may_leave D.moment D.left_since (disk_of self.old) (disk_of self.new) }
-        ensures faults { CountsFaults is_open_fault result (D.fault_count (disk_of self.old)) (D.fault_count (disk_of self.new)) }
+        ensures disk { OnlyRead D.seen D.may_leave D.moment D.left_since
+            (disk_of self.old) (disk_of self.new) }
+        ensures faults { CountsFaults is_open_fault result
+            (D.fault_count (disk_of self.old)) (D.fault_count (disk_of self.new)) }
     {
         let mut payload = vec![in alloc; 0u8; size as usize]?;
         let gate = self.gate;

@@ -12,7 +12,7 @@ pub returns-then-not-has_room-clause-next : goal.returns-then-not-has_room-claus
 returns-then-not-has_room-clause-next g c = λ file payloads read.
     let frame = frame_read c.args.self.now file c.read.new.into c.min-known.result read.told c.min-known.ensures c.in_ok-read.ensures.bytes in
     let fault = broken file payloads c.args.self.now read (c.read.new.into ++ drop c.min-known.result zeros) c.read_length-size.result frame c.if-frame.false
-    c.read_length-size.ensures.number (λ room. let yes = c.if-not-has_room.ensures.1 room in cc) in
+    c.read_length-size.ensures.number (λ room. cc (c.if-not-has_room.ensures.1 room)) in
     (fault, stays file payloads c.args.self.now read _ c.read.ensures.seen c.read.ensures.images refl refl fault)
 
 pub read_payload-requires-clause-opened : goal.read_payload-requires-clause-opened
