@@ -2,6 +2,7 @@ pub mod Appending
 pub mod Chains
 pub mod Entries
 pub mod Examples
+pub mod Gates
 pub mod Heads
 pub mod Moments
 pub mod OneReading
