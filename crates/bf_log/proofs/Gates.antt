@@ -10,7 +10,7 @@ use Rattle.byteorder.specs.Numbers.{little_from-take}
 use Rattle.bf_io.specs.Whole.{IfTold}
 use Rattle.bf_disk.specs.declared.disk.Disk.{Ghosts}
 use Rattle.bf_disk.specs.Images.{SameImages}
-use Rattle.bf_log.specs.Format.{magic, open_gate, most_bytes, entry, front, IsLog, IsCutOff, BreaksBehind, ChainFault}
+use Rattle.bf_log.specs.Format.{magic, open_gate, most_bytes, entry, front, IsLog, HasNoEntry, BreaksBehind, ChainFault}
 use Rattle.bf_log.specs.Opening.{HasRead, Found}
 use Rattle.bf_log.specs.declared.opening.Opening.{Opening}
 use Rattle.bf_log.specs.declared.opening.Progress.TheVariants.{Reading}
@@ -25,7 +25,7 @@ fit_all (payload ∷ payloads) all =
     (All-head (λ bytes. length bytes ≤ most_bytes) payload payloads all, fit_all payloads (All-tail (λ bytes. length bytes ≤ most_bytes) payload payloads all))
 
 -- behind these payloads an open gate, and no room for what it promises
-chain_breaks : (payloads : List (List ℕ)) (behind : List ℕ) → Fit payloads → IsCutOff behind → BreaksBehind payloads (flat_map entry payloads ++ open_gate ∷ behind)
+chain_breaks : (payloads : List (List ℕ)) (behind : List ℕ) → Fit payloads → HasNoEntry behind → BreaksBehind payloads (flat_map entry payloads ++ open_gate ∷ behind)
 unfolding Fit
 chain_breaks [] behind fit cut = (behind, refl, cut)
 chain_breaks (payload ∷ payloads) behind fit cut =
@@ -77,7 +77,7 @@ opens chain frame size is long opened spelled =
 
 -- where a payload may not have so many bytes, or they and a gate do not fit, the chain is cut off behind its gate
 cut_off : (gate : ℕ) (behind frame : List ℕ) (size : ℕ) → IsFrame (gate ∷ behind) frame → size ≡ little_number 4 (take 4 (drop 1 frame))
-    → ((size ≤ most_bytes) × (5 + size < length (gate ∷ behind)) → ⊥) → IsCutOff behind
+    → ((size ≤ most_bytes) × (5 + size < length (gate ∷ behind)) → ⊥) → HasNoEntry behind
 cut_off gate behind frame size is number no_room = elim (cases_lt (length behind) 4) [
   | inl short ↦ inl short
   | inr long ↦
@@ -123,7 +123,7 @@ module _ {D : Type 0} {g : Ghosts D} (file : List ℕ) (payloads : List (List �
       let behind = drop 1 (drop old.gate file) in
       let here : drop old.gate file ≡ open_gate ∷ behind = headed (drop old.gate file) frame is ∙ ap (λ (gate : ℕ). gate ∷ behind) opened in
       let at_gate : IsFrame (open_gate ∷ behind) frame = subst (λ (chain : List ℕ). IsFrame chain frame) here is in
-      let cut : IsCutOff behind =
+      let cut : HasNoEntry behind =
       cut_off open_gate behind frame size at_gate number
       (λ room. no_room (room.0, omega (arith, room.1, ap length here, length-drop old.gate file, old.told file read.told))) in (
         flat_map entry payloads ++ open_gate ∷ behind,

@@ -1,10 +1,10 @@
 //! Starting to read a log.
 
 ghost use Rattle.std.specs.Prelude.{◌≡◌, ℕ, ◌<◌, ◌==◌, not, List, [], Some, Err, length, position, zip, IfOk, IfErr, MatchResult};
-ghost use Rattle.bf_disk.specs.Images.{Only};
+ghost use Rattle.bf_disk.specs.Images.{Only, OnlyRead};
 ghost use Rattle.bf_log.specs.Errors.{CountsFaults, RisesIf, is_open_fault};
 ghost use Rattle.bf_log.specs.Format.{HeadFault, HasMagic, magic};
-ghost use Rattle.bf_log.specs.Opening.{HasRead, IsSynced, OnlyRead, disk_of, progress_of};
+ghost use Rattle.bf_log.specs.Opening.{CameAfterSync, HasRead, count_of, disk_of, gate_of, progress_of};
 
 use crate::error::OpenError;
 use crate::format::MAGIC;
@@ -18,6 +18,8 @@ use std::alloc::Global;
 pub fn open_log<D: Disk>(alloc: Global, disk: D) -> Result<Opening<D>, (D, OpenError)>
     ensures opened { IfOk result (λ opening. (file : List ℕ) → D.seen disk ≡ Some file
         → HasRead file [] opening) }
+    ensures start { IfOk result (λ opening. (gate_of opening ≡ length magic)
+        × (count_of opening ≡ 0)) }
     ensures reading { IfOk result (λ opening. progress_of opening ≡ Progress.Reading) }
     ensures not_a_log { IfErr result (λ back. (at : ℕ) → back.1 ≡ OpenError.NotALog at
         → (file : List ℕ) → D.seen disk ≡ Some file → HeadFault file at × Only file (D.may_leave back.0)) }
@@ -43,9 +45,10 @@ fn read_head<D: Disk>(disk: &mut D) -> Result<u64, OpenError>
     ensures not_a_log { (at : ℕ) → result ≡ Err (OpenError.NotALog at)
         → (file : List ℕ) → D.seen disk.old ≡ Some file → HeadFault file at }
     ensures durable { (file : List ℕ) → D.seen disk.old ≡ Some file
-        → IsSynced result → Only file (D.may_leave disk.new) }
+        → CameAfterSync result → Only file (D.may_leave disk.new) }
     ensures disk { OnlyRead D.seen D.may_leave D.moment D.left_since disk.old disk.new }
-    ensures faults { CountsFaults is_open_fault result (D.fault_count disk.old) (D.fault_count disk.new) }
+    ensures faults { CountsFaults is_open_fault result (D.fault_count disk.old)
+        (D.fault_count disk.new) }
 {
     disk.sync()?;
     let len = disk.len()?;

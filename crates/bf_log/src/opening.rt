@@ -31,7 +31,7 @@ pub enum Next {
     End,
 }
 
-/// A log of which the payloads so far were read.
+/// A log that is being read: so many payloads so far.
 #[derive(Debug, Drop)]
 pub struct Opening<D: Disk> {
     disk: D,
@@ -52,7 +52,7 @@ impl<D: Disk> Opening<D> {
     ghost use Rattle.bf_log.specs.Errors.{CountsFaults, is_open_fault};
     ghost use Rattle.bf_log.specs.Format.{magic, most_bytes, open_gate};
     ghost use Rattle.bf_log.specs.Append.{Holds, end_of, standing_of, disk_of as log_disk, count_of as log_count};
-    ghost use Rattle.bf_log.specs.Opening.{HasRead, OnlyRead, ReadsNext, ProgressAfter, AnswersAgain, disk_of, gate_of, count_of, progress_of};
+    ghost use Rattle.bf_log.specs.Opening.{HasRead, ReadsNext, ProgressAfter, AnswersAgain, disk_of, gate_of, count_of, progress_of};
 
     /// The payload behind the next open gate, with that gate's offset, or `End` at a closed gate.
     ///
@@ -65,8 +65,10 @@ impl<D: Disk> Opening<D> {
         ensures progress { ProgressAfter self.old self.new result }
         ensures again { AnswersAgain self.old self.new result }
 
-        ensures disk { OnlyRead D.seen D.may_leave D.moment D.left_since (disk_of self.old) (disk_of self.new) }
-        ensures faults { CountsFaults is_open_fault result (D.fault_count (disk_of self.old)) (D.fault_count (disk_of self.new)) }
+        ensures disk { OnlyRead D.seen D.may_leave D.moment D.left_since (disk_of self.old)
+            (disk_of self.new) }
+        ensures faults { CountsFaults is_open_fault result (D.fault_count (disk_of self.old))
+            (D.fault_count (disk_of self.new)) }
     {
         match self.progress {
             Progress::Reading => self.read_gate(alloc),
@@ -100,8 +102,10 @@ impl<D: Disk> Opening<D> {
         ensures next { (file : List ℕ) (payloads : List (List ℕ)) → HasRead file payloads self.old
             → ReadsNext file payloads self.new result }
         ensures progress { ProgressAfter self.old self.new result }
-        ensures disk { OnlyRead D.seen D.may_leave D.moment D.left_since (disk_of self.old) (disk_of self.new) }
-        ensures faults { CountsFaults is_open_fault result (D.fault_count (disk_of self.old)) (D.fault_count (disk_of self.new)) }
+        ensures disk { OnlyRead D.seen D.may_leave D.moment D.left_since (disk_of self.old)
+            (disk_of self.new) }
+        ensures faults { CountsFaults is_open_fault result (D.fault_count (disk_of self.old))
+            (D.fault_count (disk_of self.new)) }
     {
         let mut frame = [0u8; 1 + LENGTH_BYTES];
         let known = (self.len - self.gate).min(FRAME) as usize;
