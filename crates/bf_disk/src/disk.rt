@@ -109,6 +109,10 @@ pub trait Disk {
     /// This moment is one of those since an earlier one.
     ghost counts_now: { (disk : Self) (t : ℕ) (image : List ℕ) → t ≤ moment disk → may_leave disk image → left_since disk t image };
 
+    /// What a crash since a moment might have left, one since an earlier moment might have left too.
+    ghost earlier: { (disk : Self) (t u : ℕ) (image : List ℕ) → t ≤ u → left_since disk u image
+        → left_since disk t image };
+
     /// Since this moment there is no other.
     ghost only_now: { (disk : Self) (image : List ℕ) → left_since disk (moment disk) image → may_leave disk image };
 }

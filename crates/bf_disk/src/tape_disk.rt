@@ -2,7 +2,7 @@
 
 ghost use Rattle.std.specs.Prelude.{◌≡◌, ◌+◌, ◌-◌, ◌≤◌, [], None, Some, true, length, take, drop, IfOk, OnOk};
 ghost use Rattle.bf_disk.specs.Tape.{file_of, MayLeave, LeftSince, faults_of, file_after_act, Keeps, new_tape, torn_image, next_fails, at_call};
-ghost use Rattle.bf_disk.specs.TapeLaws.{as_it_reads as tape_as_it_reads, counts_now as tape_counts_now, only_now as tape_only_now};
+ghost use Rattle.bf_disk.specs.TapeLaws.{as_it_reads as tape_as_it_reads, counts_now as tape_counts_now, earlier as tape_earlier, only_now as tape_only_now};
 
 use crate::call::{Act, Call};
 use crate::disk::Disk;
@@ -161,6 +161,8 @@ impl Disk for TapeDisk {
     ghost as_it_reads = { λ tape file _ told. tape_as_it_reads tape file told };
 
     ghost counts_now = { tape_counts_now };
+
+    ghost earlier = { tape_earlier };
 
     ghost only_now = { tape_only_now };
 

@@ -8,7 +8,7 @@ use Rattle.bf_log.specs.Append.{BeforeOrAfter}
 use Rattle.bf_log.specs.Format.{magic, open_gate, most_bytes, entry, IsChain, IsLog, front}
 
 -- none of the payloads is too large
-pub Fit : List (List ℕ) → Type 0
+unfoldable pub Fit : List (List ℕ) → Type 0
 Fit [] = Unit {0}
 Fit (payload ∷ payloads) = (length payload ≤ most_bytes) × Fit payloads
 

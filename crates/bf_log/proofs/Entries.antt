@@ -3,7 +3,7 @@ use Rattle.std.proofs.Common.{◌≡◌, ◌≢◌, ℕ, ◌+◌, ◌<◌, ◌�
 use Rattle.std.proofs.lemmas.List.{take_at, drop_at}
 use Rattle.byteorder.specs.Endian.{little_number}
 use Rattle.byteorder.specs.Numbers.{little_number-reads_back}
-use Rattle.bf_log.specs.Format.{open_gate, most_bytes, entry, IsChain, IsCutOff, BreaksBehind}
+use Rattle.bf_log.specs.Format.{open_gate, most_bytes, entry, IsChain, HasNoEntry, BreaksBehind}
 
 -- these payloads in entries, and behind the last of them bytes of this kind
 pub Entries : (List ℕ → Type 0) → List (List ℕ) → List ℕ → Type 0
@@ -17,7 +17,7 @@ IsClosed bytes = (gate : ℕ) × (behind : List ℕ) × (gate ≢ open_gate) × 
 
 -- an open gate, behind which what should be there is cut off
 abbrev pub IsBroken : List ℕ → Type 0
-IsBroken bytes = (behind : List ℕ) × (bytes ≡ open_gate ∷ behind) × IsCutOff behind
+IsBroken bytes = (behind : List ℕ) × (bytes ≡ open_gate ∷ behind) × HasNoEntry behind
 
 -- a chain is entries, and a closed gate behind them
 pub chain_entries : (payloads : List (List ℕ)) (bytes : List ℕ) → IsChain payloads bytes → Entries IsClosed payloads bytes
@@ -62,7 +62,7 @@ closed_or_broken bytes closed broken = shut_or_open bytes broken.0 closed broken
 
 -- where an entry with a byte behind it stands nothing is cut off
 not_cut_off : (payload chain behind : List ℕ) → length payload ≤ most_bytes → open_gate ∷ behind ≡ entry payload ++ chain → 0 < length chain
-    → IsCutOff behind → ⊥
+    → HasNoEntry behind → ⊥
 not_cut_off payload chain behind small is more cut =
     let size : little_number 4 behind ≡ length payload = length_there payload chain (open_gate ∷ behind) small is in
     let whole : length behind ≡ 4 + length payload + length chain = omega (arith, ap length is, length-append payload chain) in

@@ -1,9 +1,11 @@
 pub mod Appending
-pub mod Examples
 pub mod Chains
-pub mod Moments
-pub mod Storing
-pub mod Heads
 pub mod Entries
+pub mod Examples
+pub mod Gates
+pub mod Heads
+pub mod Moments
 pub mod OneReading
+pub mod Reading
 pub mod SomeReading
+pub mod Storing

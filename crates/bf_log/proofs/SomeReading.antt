@@ -5,7 +5,7 @@ use Rattle.std.proofs.lemmas.Bool.{cases_lt, cases_eq}
 use Rattle.std.proofs.lemmas.List.{length-take, length-drop}
 use Rattle.std.proofs.lemmas.List.Elements.{All-drop, All-same, All-tail}
 use Rattle.byteorder.specs.Endian.{little_bytes, little_number}
-use Rattle.bf_log.specs.Format.{magic, open_gate, most_bytes, entry, IsChain, IsCutOff, BreaksBehind, IsLog, IsNoLog, front}
+use Rattle.bf_log.specs.Format.{magic, open_gate, most_bytes, entry, IsChain, HasNoEntry, BreaksBehind, IsLog, IsNoLog, front}
 use Rattle.bf_log.proofs.Heads.{head_cases}
 
 -- a number fits a byte
@@ -57,7 +57,7 @@ entry_there behind n all is long small fits =
     }
 
 -- behind an open gate something is cut off, or an entry stands there
-cut_or_entry : (behind : List ℕ) → All IsByte behind → IsCutOff behind ⊎ BeginsWithEntry (open_gate ∷ behind)
+cut_or_entry : (behind : List ℕ) → All IsByte behind → HasNoEntry behind ⊎ BeginsWithEntry (open_gate ∷ behind)
 cut_or_entry behind all =
     let n = little_number 4 behind in
     elim (cases_lt (length behind) 4) [
