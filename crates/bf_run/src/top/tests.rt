@@ -2,6 +2,8 @@
 
 ghost use Rattle.std.specs.Prelude.{Some};
 
+mod blocks;
+
 use super::*;
 use bf_io::{CalmSource, IoError, MemorySink, MemorySource};
 use std::test::Fail;
@@ -128,12 +130,10 @@ fn refuses_other_words(rt: HostRuntime) -> Result<(), Fail> {
     Ok(())
 }
 
-/// Scripts behind the start with blocks or with migrations that are not served yet.
-const NOT_BUILT: [&str; 9] = [
-    "BEGIN;",
-    "COMMIT;",
-    "SELECT * FROM t; ROLLBACK;",
-    "SESSION; BEGIN; COMMIT;",
+/// Scripts behind the start with migrations that are not served yet.
+const NOT_BUILT: [&str; 7] = [
+    "BEGIN; MIGRATE (CREATE TABLE u AS SELECT id FROM t); COMMIT;",
+    "MIGRATE (CREATE TABLE u AS SELECT id FROM t); SESSION;",
     "MIGRATE (CREATE TABLE u AS SELECT n FROM t);",
     "MIGRATE (CREATE TABLE u AS SELECT id, id FROM t);",
     "MIGRATE (CREATE TABLE u AS SELECT id FROM v);",
