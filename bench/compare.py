@@ -5,10 +5,11 @@ usage: bench/compare.py [PROGRAM]
 
 PROGRAM is the built program, by default the one that `rt run` leaves. For 10,000 and for 100,000
 rows it makes a script (INSERTs in random key order, as many SELECTs and as many UPDATEs by key, a
-few scans with a condition, a few with aggregates), runs both programs on it three times in turn,
-checks that the rows of all SELECTs agree, and prints the least time of each and the ratio. sqlite3's table is
-WITHOUT ROWID, so that its scans give the rows in key order too. Without `sqlite3` it prints the
-times of bullfrog alone. It ends with status 1 where a run fails or rows differ.
+few scans with a condition, a few with aggregates), each statement as a transaction of its own and then
+in blocks of 100, runs both programs on it three times in turn, checks that the rows of all SELECTs
+agree, and prints the least time of each and the ratio. sqlite3's table is WITHOUT ROWID, so that its
+scans give the rows in key order too. Without `sqlite3` it prints the times of bullfrog alone. It ends
+with status 1 where a run fails or rows differ.
 """
 
 import random
@@ -23,6 +24,7 @@ PROGRAM = Path(__file__).resolve().parent.parent / "crates/bullfrog/out/bullfrog
 SIZES = [10_000, 100_000]
 ROUNDS = 3
 SCANS = 5
+BLOCK = 100
 
 
 def statements(size):
@@ -43,6 +45,13 @@ def statements(size):
     yield "SELECT * FROM t;"
 
 
+def in_blocks(lines):
+    """The lines of a script, those behind the first in blocks."""
+    yield lines[0]
+    for start in range(1, len(lines), BLOCK):
+        yield from ["BEGIN;", *lines[start : start + BLOCK], "COMMIT;"]
+
+
 def timed(words, script):
     """The output of a program on a script, and how long it took in seconds."""
     with script.open("rb") as text:
@@ -59,9 +68,9 @@ def rows_of_report(report):
     return [line.split(" | ", 1)[1] for line in report.splitlines() if " | " in line]
 
 
-def compare(program, size, folder):
-    """Times both programs on a script over so many rows, and prints their least times."""
-    text = "\n".join(statements(size)) + "\n"
+def compare(program, name, lines, folder):
+    """Times both programs on a script of these lines, and prints their least times."""
+    text = "\n".join(lines) + "\n"
     script = folder / "script.sql"
     script.write_text("PHASE; SESSION;\n" + text)
     other = folder / "sqlite.sql"
@@ -76,8 +85,8 @@ def compare(program, size, folder):
             rows, took = timed([sqlite, ":memory:"], other)
             others.append(took)
             if rows_of_report(report) != rows.splitlines():
-                sys.exit(f"{size} rows: the rows differ")
-    print(f"{size} rows: bullfrog {min(times):.3f} s", end="")
+                sys.exit(f"{name}: the rows differ")
+    print(f"{name}: bullfrog {min(times):.3f} s", end="")
     if sqlite:
         print(f", sqlite3 {min(others):.3f} s, ratio {min(times) / min(others):.2f}", end="")
     print()
@@ -89,7 +98,9 @@ def main():
         sys.exit(f"{program.name} is not built: run `rt run` in crates/bullfrog first")
     with tempfile.TemporaryDirectory() as folder:
         for size in SIZES:
-            compare(str(program), size, Path(folder))
+            lines = list(statements(size))
+            compare(str(program), f"{size} rows, each statement alone", lines, Path(folder))
+            compare(str(program), f"{size} rows, in blocks", list(in_blocks(lines)), Path(folder))
 
 
 if __name__ == "__main__":
