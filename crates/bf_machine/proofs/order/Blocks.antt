@@ -69,8 +69,8 @@ inner_run commit k n m c db first view (s ∷ body) rest inner e =
 pub run_group-append : (commit : ℕ) (view : Database) (ss ts : List Statement)
     → run_group commit true view (ss ++ ts)
     ≡ (let front = run_group commit true view ss in
-      let rest = run_group commit true front.1 ts in
-      (front.0 ++ rest.0, rest.1))
+    let rest = run_group commit true front.1 ts in
+    (front.0 ++ rest.0, rest.1))
 run_group-append commit view [] ts = refl
 run_group-append commit view (s ∷ ss) ts =
     let (answer, next) = executed commit view true s in

@@ -35,7 +35,8 @@ pub record IsGroup (text rest whole : List Statement) (committing : Bool) : Type
   pub commits_so : commits text ≡ committing
   pub group : (n last : ℕ) → last + 1 ≡ n + length text → groups_from n None whole ≡ (n, last) ∷ groups_from (last + 1) None rest
   pub run : (k n last c : ℕ) (db : Database) → last + 1 ≡ n + length text
-      → session_from k n (at_rest c db) whole ≡ with_entry committing c k n last (settled (commits_here committing c) db (outcome_here committing c) text) (λ at. session_from k (last + 1) at rest)
+      → session_from k n (at_rest c db) whole
+      ≡ with_entry committing c k n last (settled (commits_here committing c) db (outcome_here committing c) text) (λ at. session_from k (last + 1) at rest)
 
 -- statements that begin with a COMMIT or ROLLBACK outside a block: it is in no group, and refused
 pub record IsStray (s : Statement) (rest whole : List Statement) : Type 0 where
@@ -67,11 +68,11 @@ lone_is_group s rest lone = record {
   not_empty = omega arith;
   commits_so = refl;
   group = λ n last e.
-    let here : last ≡ n = omega arith in
-    rw here refl;
+      let here : last ≡ n = omega arith in
+      rw here refl;
   run = λ k n last c db e.
-    let here : last ≡ n = omega arith in
-    rw here refl;
+      let here : last ≡ n = omega arith in
+      rw here refl;
 }
 
 -- a block with its COMMIT
@@ -82,11 +83,11 @@ committed_is_group body rest inner = record {
   commits_so = last_says body Commit;
   group = λ n last e. inner_groups (n + 1) last n body (Commit ∷ rest) inner (omega (arith, length-append body (Commit ∷ [])));
   run = λ k n last c db e.
-    let ran = inner_run (c + 1) k (n + 1) last c db n db body (Commit ∷ rest) inner (omega (arith, length-append body (Commit ∷ []))) in
-    let RunsAs : List Reply × Database → Type 0 = λ r.
-    session_from k n (at_rest c db) (Begin ∷ body ++ Commit ∷ rest)
-    ≡ with_entry true c k n last (Begun ∷ r.0, r.1) (λ at. session_from k (last + 1) at rest) in
-    subst RunsAs (sym (run_group-append (c + 1) db body (Commit ∷ []))) (rw append_assoc (ap (λ (r : Run). (Begun ∷ r.0, r.1, r.2)) ran));
+      let ran = inner_run (c + 1) k (n + 1) last c db n db body (Commit ∷ rest) inner (omega (arith, length-append body (Commit ∷ []))) in
+      let RunsAs : List Reply × Database → Type 0 = λ r.
+      session_from k n (at_rest c db) (Begin ∷ body ++ Commit ∷ rest)
+      ≡ with_entry true c k n last (Begun ∷ r.0, r.1) (λ at. session_from k (last + 1) at rest) in
+      subst RunsAs (sym (run_group-append (c + 1) db body (Commit ∷ []))) (rw append_assoc (ap (λ (r : Run). (Begun ∷ r.0, r.1, r.2)) ran));
 }
 
 -- a block with its ROLLBACK
@@ -97,8 +98,8 @@ rolled_back_is_group body rest inner = record {
   commits_so = last_says body Rollback;
   group = λ n last e. inner_groups (n + 1) last n body (Rollback ∷ rest) inner (omega (arith, length-append body (Rollback ∷ [])));
   run = λ k n last c db e.
-    let ran = inner_run c k (n + 1) last c db n db body (Rollback ∷ rest) inner (omega (arith, length-append body (Rollback ∷ []))) in
-    rw (run_group-append c db body (Rollback ∷ []), append_assoc) (ap (λ (r : Run). (Begun ∷ r.0, r.1, r.2)) ran);
+      let ran = inner_run c k (n + 1) last c db n db body (Rollback ∷ rest) inner (omega (arith, length-append body (Rollback ∷ []))) in
+      rw (run_group-append c db body (Rollback ∷ []), append_assoc) (ap (λ (r : Run). (Begun ∷ r.0, r.1, r.2)) ran);
 }
 
 -- a block that the session's end cuts off

@@ -26,14 +26,15 @@ run_is_entered script start = all_entered script 1 0 start script.sessions (at_s
 pub run_is_legal : (script : Script) (start : Database) → IsTrue (phases_rise_from 0 script.sessions)
     → IsLegalHistory script NoCause none_open start (script_from start script).0 (entries_in_order script)
 run_is_legal script start rise =
-    let run = script_from start script in
+    let (transcripts, last, entries) = script_from start script in
+    let groups = flat_map (groups_at script) (range_with_len 1 (length script.sessions)) in
     let at = at_start script.sessions in
-    let entered = run_is_entered script start in
+    let Replayed : List Entry → Type 0 = λ history. map (told transcripts) history ≡ (replayed script start history).0 in
+    let NoOthers : List Entry → Type 0 = λ history. AllByRecursion (IsApart script NoCause transcripts) (apart script none_open transcripts history) in
     record {
       whole_groups = all_whole script 1 1 (length script.sessions);
-      in_order = all_precede script 1 script.sessions at rise;
-      outcomes = all_outcomes script 1 (flat_map (groups_at script) (range_with_len 1 (length script.sessions)));
-      replies = subst (λ (history : List Entry). map (told run.0) history ≡ (replayed script start history).0) entered (all_told script run.0 1 0 start script.sessions at (at_start run.0));
-      others = subst (λ (history : List Entry). AllByRecursion (IsApart script NoCause run.0) (apart script none_open run.0 history)) entered
-          (all_apart script run.0 run.2 1 0 start [] script.sessions at refl);
+      in_order = all_precede script 1 rise;
+      outcomes = all_outcomes script 1 groups;
+      replies = subst Replayed (run_is_entered script start) (all_told script transcripts 1 0 start script.sessions at (at_start transcripts));
+      others = subst NoOthers (run_is_entered script start) (all_apart script transcripts entries 1 0 start [] script.sessions at refl);
     }

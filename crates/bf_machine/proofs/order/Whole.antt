@@ -36,16 +36,19 @@ module _ (script : Script) where
   groups_entered n [] = refl
   groups_entered n (g ∷ groups) = ap (λ (gs : List Group). g ∷ gs) (groups_entered (outcome_by (commits (text_of script g)) n).1 groups)
 
+  -- their statements
   texts_entered : (n : ℕ) (groups : List Group) → map (statements_of script) (entries_from script n groups) ≡ map (text_of script) groups
   texts_entered n [] = refl
   texts_entered n (g ∷ groups) = ap (λ (texts : List (List Statement)). text_of script g ∷ texts) (texts_entered (outcome_by (commits (text_of script g)) n).1 groups)
 
+  -- and their outcomes
   outcomes_entered : (n : ℕ) (groups : List Group) → map (λ e. e.outcome) (entries_from script n groups) ≡ outcomes_from n (map (text_of script) groups)
   outcomes_entered n [] = refl
   outcomes_entered n (g ∷ groups) =
       let so = outcome_by (commits (text_of script g)) n in
       ap (λ (outcomes : List Outcome). so.0 ∷ outcomes) (outcomes_entered so.1 groups)
 
+  -- entries have the outcomes of their own statements
   pub all_outcomes : (n : ℕ) (groups : List Group)
       → map (λ e. e.outcome) (entries_from script n groups) ≡ outcomes_from n (map (statements_of script) (entries_from script n groups))
   all_outcomes n groups = outcomes_entered n groups ∙ ap (outcomes_from n) (sym (texts_entered n groups))
@@ -53,16 +56,17 @@ module _ (script : Script) where
   abbrev is_whole : Group → Bool
   is_whole g = list_any (same_group g.1) (groups_in script g.0)
 
-  whole_entered : (n : ℕ) (groups : List Group) → list_all is_whole groups ≡ true → list_all (is_whole_group script) (entries_from script n groups) ≡ true
-  whole_entered n groups h =
-      sym (list_all-map is_whole group_of (entries_from script n groups)) ∙ (ap (list_all is_whole) (groups_entered n groups) ∙ h)
-
+  -- the groups of sessions, in order, are whole
   whole_in_order : (k count : ℕ) → list_all is_whole (flat_map (groups_at script) (range_with_len k count)) ≡ true
   whole_in_order k zero = refl
   whole_in_order k (suc count) =
+      let groups = groups_in script k in
       let own : list_all is_whole (groups_at script k) ≡ true =
-      list_all-map is_whole (λ (group : ℕ × ℕ). (k, group)) (groups_in script k) ∙ each_is_there (groups_in script k) (groups_in script k) (λ g found. found) in
+      list_all-map is_whole (λ (group : ℕ × ℕ). (k, group)) groups ∙ each_is_there groups groups (λ g found. found) in
       rw list_all-append (and_from _ _ own (whole_in_order (k + 1) count))
 
+  -- so each of their entries is a whole group
   pub all_whole : (n k count : ℕ) → list_all (is_whole_group script) (entries_from script n (flat_map (groups_at script) (range_with_len k count))) ≡ true
-  all_whole n k count = whole_entered n (flat_map (groups_at script) (range_with_len k count)) (whole_in_order k count)
+  all_whole n k count =
+      let groups = flat_map (groups_at script) (range_with_len k count) in
+      sym (list_all-map is_whole group_of (entries_from script n groups)) ∙ (ap (list_all is_whole) (groups_entered n groups) ∙ whole_in_order k count)
