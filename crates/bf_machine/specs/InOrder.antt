@@ -24,10 +24,10 @@ is_plain_script script = list_all (λ s. list_all (λ statement. not (is_migrate
 
 -- the groups of a script, each as its session, its first and its last statement: session after session, in the order of
 -- the text
-abbrev pub groups_in_order : Script → List (ℕ × ℕ × ℕ)
+abbrev pub groups_in_order : Script → List (ℕ × (ℕ × ℕ))
 groups_in_order script = flat_map (λ s. map (λ group. (s, group)) (groups_in script s)) (range_with_len 1 (length script.sessions))
 
-abbrev pub entry_of : (ℕ × ℕ × ℕ) × Outcome → Entry
+abbrev pub entry_of : (ℕ × (ℕ × ℕ)) × Outcome → Entry
 entry_of ended = record { session = ended.0.0; first = ended.0.1.0; last = ended.0.1.1; outcome = ended.1 }
 
 -- HISTORY in order: an entry for each group, with the outcome that the text gives it
