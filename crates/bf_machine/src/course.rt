@@ -1,6 +1,6 @@
 //! Sessions that run one after the other.
 
-ghost use Rattle.std.specs.Prelude.{◌≡◌, ◌+◌, ◌^◌, ◌++◌, ◌<◌, ◌≤◌, [], IfOk, IsTrue, OnOk, Some, length, not};
+ghost use Rattle.std.specs.Prelude.{◌≡◌, ◌+◌, ◌^◌, ◌++◌, ◌<◌, ◌≤◌, [], IfOk, IsTrue, OnOk, length, not};
 ghost use Rattle.std.specs.List.{list_all};
 ghost use Rattle.bf_bind.specs.Limits.{HasNarrowTables};
 ghost use Rattle.bf_sql.specs.declared.history.Outcome.TheVariants.{Committed};
@@ -167,8 +167,12 @@ impl Course {
                 Ok((Reply::RolledBack, None))
             }
             _ => {
-                let reply =
-                    execute_in_block(self.alloc, &self.store, &mut block.writes, statement)?;
+                let reply = execute_in_block(
+                    self.alloc,
+                    &self.store,
+                    &mut block.writes,
+                    statement,
+                )?;
                 Ok((reply, Some(block)))
             }
         }

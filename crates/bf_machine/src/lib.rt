@@ -3,9 +3,9 @@
 #![tactic(auto)]
 
 mod course;
-pub mod scripts;
 pub mod laws;
 mod lone;
+pub mod scripts;
 mod transaction;
 
 pub use scripts::{Run, in_order, is_plain};

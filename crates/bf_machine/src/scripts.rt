@@ -63,8 +63,8 @@ fn run_sessions(
 }
 
 /// Runs a plain script from the empty database, session after session: a block as one transaction,
-/// and each statement outside a block as one of its own. A block that its session leaves open is rolled
-/// back. It costs what the statements do.
+/// and each statement outside a block as one of its own. A block that its session leaves open is
+/// rolled back. It costs what the statements do.
 ///
 /// # Errors
 /// Where memory runs out, or a number of a session or statement is 2 ^ 32 or above.

@@ -1,13 +1,11 @@
 -- Turns by the kind of their statement.
-use Rattle.std.proofs.Common.{◌≡◌, ℕ, ◌+◌, ◌≤◌, ◌++◌, true, false, not, List, [], ◌∷◌, map, length, Some, refl, sym, ap, ap₂, subst, ◌∙◌, arith, Result, Ok, Err}
+use Rattle.std.proofs.Common.{◌≡◌, ℕ, ◌+◌, ◌++◌, true, false, not, List, [], ◌∷◌, map, Some, refl, sym, ap, subst, ◌∙◌, Result, Ok, Err}
 use Rattle.std.specs.Prelude.{IfOk, OnErr}
 use Rattle.std.specs.List.{list_all}
-use Rattle.std.proofs.lemmas.Bool.Decides.{nat_tests}
 use Rattle.std.proofs.lemmas.List.{append-nil}
-use Rattle.bf_base.specs.declared.table.Table.{Table}
-use Rattle.bf_bind.specs.Limits.{HasNarrowTables, declared_columns, is_narrow}
+use Rattle.bf_bind.specs.Limits.{HasNarrowTables, is_narrow}
 use Rattle.bf_sql.specs.declared.statement.Statement.{Statement}
-use Rattle.bf_sql.specs.declared.statement.Statement.TheVariants.{CreateTable, Begin, Commit, Rollback, Migrate}
+use Rattle.bf_sql.specs.declared.statement.Statement.TheVariants.{Begin, Commit, Rollback, Migrate}
 use Rattle.bf_sql.specs.declared.reply.Reply.{Reply}
 use Rattle.bf_sql.specs.declared.reply.Reply.TheVariants.{Begun}
 use Rattle.bf_sql.specs.declared.history.Outcome.TheVariants.{Committed}
@@ -19,7 +17,6 @@ use Rattle.bf_store.specs.Stores.{catalog_of, committed, written_to}
 use Rattle.bf_store.proofs.keeps.Statements.{keeps_plain}
 use Rattle.bf_txn.specs.declared.write.Write.{Write}
 use Rattle.bf_machine.specs.InOrder.{is_migrate}
-use Rattle.bf_machine.specs.Narrow.{is_narrow_statement}
 use Rattle.bf_machine.specs.Open.{IsStep, goes_on}
 use Rattle.bf_machine.specs.Sessions.{Standing, alone, at_rest, ended, inside, outside}
 use Rattle.bf_machine.specs.Turns.{HasTaken, standing}
@@ -76,10 +73,10 @@ module _ (session n commits : ℕ) (db : Database) where
   pub begin_taken : (s : Statement) → s ≡ Begin → (writes : List Write) → writes ≡ [] → (entries : List Entry)
       → HasTaken (outside session n commits db s) Begun (standing commits db (Some (record { first = n; writes = writes }))) entries entries
   begin_taken s is writes none entries = rw (is, none) (record {
-        told = refl;
-        stands = ap (λ (seen : Database). record { db = db; commits = commits; block = Some (n, seen) }) (nothing_committed db);
-        entered = sym (append-nil entries);
-      })
+    told = refl;
+    stands = ap (λ (seen : Database). record { db = db; commits = commits; block = Some (n, seen) }) (nothing_committed db);
+    entered = sym (append-nil entries);
+  })
 
   -- a plain statement outside a block is a transaction, which commits
   pub alone_taken : (s : Statement) → is_plain s ≡ true → (answer : Reply) (new : Database)
@@ -88,10 +85,10 @@ module _ (session n commits : ℕ) (db : Database) where
       → after ≡ before ++ ended session n n (Committed (commits + 1))
       → HasTaken (outside session n commits db s) answer next before after
   alone_taken s plain answer new meant next before after stands entered = rw (outside_plain s plain) (record {
-        told = sym (ap (λ (p : Reply × Database). p.0) (meant (commits + 1)));
-        stands = stands ∙ ap (λ (p : Reply × Database). at_rest (commits + 1) p.1) (sym (meant (commits + 1)));
-        entered = entered;
-      })
+    told = sym (ap (λ (p : Reply × Database). p.0) (meant (commits + 1)));
+    stands = stands ∙ ap (λ (p : Reply × Database). at_rest (commits + 1) p.1) (sym (meant (commits + 1)));
+    entered = entered;
+  })
 
   -- a statement that leaves its block open ends no transaction
   pub inside_taken : (first : ℕ) (writes later : List Write) (s : Statement) → goes_on s ≡ true → (answer : Reply)
@@ -99,7 +96,7 @@ module _ (session n commits : ℕ) (db : Database) where
       → HasTaken (inside session n commits db first (committed db writes) s) answer
       (standing commits db (Some (record { first = first; writes = later }))) entries entries
   inside_taken first writes later s on answer step entries = rw (inside_going_on first (committed db writes) s on) (record {
-        told = sym (ap (λ (p : Reply × Database). p.0) (step.meant (commits + 1)));
-        stands = ap (λ (p : Reply × Database). record { db = db; commits = commits; block = Some (first, p.1) }) (sym (step.meant (commits + 1)));
-        entered = sym (append-nil entries);
-      })
+    told = sym (ap (λ (p : Reply × Database). p.0) (step.meant (commits + 1)));
+    stands = ap (λ (p : Reply × Database). record { db = db; commits = commits; block = Some (first, p.1) }) (sym (step.meant (commits + 1)));
+    entered = sym (append-nil entries);
+  })

@@ -32,4 +32,4 @@ returns c =
     is_run c.args.script.now c.requires.phases c.of.result c.into_entries.result
     (c.of.ensures ∙ (ran.replies ∙ ap₂ (λ (at : Standing) (ss : List Session). (sessions_from 1 at ss).0) begun.stands sessions))
     (c.into_entries.ensures ∙ (ran.entries ∙ ap₂ (λ (before later : List Entry). before ++ later) begun.entries
-        (ap₂ (λ (at : Standing) (ss : List Session). (sessions_from 1 at ss).2) begun.stands sessions)))
+    (ap₂ (λ (at : Standing) (ss : List Session). (sessions_from 1 at ss).2) begun.stands sessions)))

@@ -1,9 +1,9 @@
 -- A commit leaves the columns of the tables, and other statements of a block end no transaction.
-use Rattle.bf_machine.proofs.serving.Turns.{goes_on_otherwise, inside_taken, narrow_at, narrow_committed}
 use Rattle.std.proofs.Common.{subst, sym}
 use Rattle.bf_bind.specs.Limits.{HasNarrowTables}
 use Rattle.bf_sql.specs.Database.{Database}
 use Rattle.bf_store.specs.Stores.{catalog_of}
+use Rattle.bf_machine.proofs.serving.Turns.{goes_on_otherwise, inside_taken, narrow_at, narrow_committed}
 use Rattle.bf_machine.proofs.course.Course.step_inside.Goals as goal
 
 pub returns-in_ok-number-in-Commit-clause-tables : goal.returns-in_ok-number-in-Commit-clause-tables

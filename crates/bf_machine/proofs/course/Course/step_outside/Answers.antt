@@ -1,6 +1,4 @@
 -- BEGIN opens a block that has written nothing; a plain statement is a transaction of its own.
-use Rattle.std.proofs.Common.{◌≡◌, true}
-use Rattle.bf_store.specs.Plain.{is_plain}
 use Rattle.bf_machine.proofs.serving.Turns.{alone_taken, begin_taken, narrow_at, plain_otherwise, still_database}
 use Rattle.bf_machine.proofs.serving.Unwritten.{nothing_is_open}
 use Rattle.bf_machine.proofs.course.Course.step_outside.Goals as goal
