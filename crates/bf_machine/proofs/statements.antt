@@ -1,7 +1,10 @@
--- Statements on the committed tables, each as a transaction of its own.
+-- Statements on what a transaction sees.
 pub mod Bare
 pub mod Committing
 pub mod Creating
+pub mod InCatalog
+pub mod Named
 pub mod OnTables
 pub mod Outcomes
-pub mod Replies
+pub mod Seeing
+pub mod Steps

@@ -1,8 +1,6 @@
 -- A transaction that is open over a store, and a statement that runs in it.
 use Rattle.std.specs.Prelude.{◌≡◌, ℕ, Bool, true, false, List}
 use Rattle.std.specs.List.{All}
-use Rattle.bf_base.specs.declared.table.Table.{Table}
-use Rattle.bf_sql.specs.declared.bound.Action.{Action}
 use Rattle.bf_sql.specs.declared.statement.Statement.{Statement}
 use Rattle.bf_sql.specs.declared.statement.Statement.TheVariants.{Commit, Rollback}
 use Rattle.bf_sql.specs.declared.reply.Reply.{Reply}
@@ -12,10 +10,13 @@ use Rattle.bf_query.specs.Meanings.{entries_of}
 use Rattle.bf_query.specs.Merged.{StandUnderOwnKeys}
 use Rattle.bf_store.specs.Stores.{committed}
 use Rattle.bf_txn.specs.declared.write.Write.{Write}
+use Rattle.bf_txn.specs.Writes.{AreWrites}
 
--- what a transaction has written over the committed tables makes a database, and its rows stand under their own keys
+-- what a transaction has written over the committed tables, one write a key, makes a database, and its rows stand under
+-- their own keys
 pub record IsOpen (db : Database) (writes : List Write) : Type 0 where
   pub database : IsDatabase (committed db writes)
+  pub by_spot : AreWrites writes
   pub own_keys : All (λ s. StandUnderOwnKeys s.table (entries_of s.table s.rows) writes) db.tables
 
 -- STEP: a statement has its reply on what its transaction sees, and what the transaction sees afterwards is the database

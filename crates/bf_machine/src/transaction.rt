@@ -4,6 +4,7 @@ ghost use Rattle.std.specs.Prelude.{◌≡◌, Bool, IfOk, IsTrue, true};
 ghost use Rattle.bf_bind.specs.Limits.{KeepsLimits};
 ghost use Rattle.bf_query.specs.Meanings.{IsBoundAs};
 ghost use Rattle.bf_sql.specs.declared.statement.Statement.{Statement};
+ghost use Rattle.bf_sql.specs.Database.{IsDatabase};
 ghost use Rattle.bf_store.specs.Stores.{catalog_of, committed};
 ghost use Rattle.bf_machine.specs.Actions.{IsOn};
 ghost use Rattle.bf_machine.specs.Open.{IsOpen, IsStep, goes_on};
@@ -36,6 +37,7 @@ pub(crate) fn run_on_table(
     bound: &Bound,
     table: &Table,
 ) -> Result<Reply, Memory>
+    requires database { IsDatabase store.now }
     requires open { IsOpen store.now writes.old }
     requires on { IsOn (committed store.now writes.old) table.now bound.now.action }
     ensures { (in_block : Bool) (s : Statement)

@@ -6,7 +6,7 @@ use Rattle.std.proofs.lemmas.List.Folds.{list_all-map}
 use Rattle.std.proofs.lemmas.Simd.{map-map}
 use Rattle.bf_base.specs.declared.table.Table.{Table}
 use Rattle.bf_base.specs.Lists.{name_cmp, rises, same_name, when}
-use Rattle.bf_bind.specs.Limits.{bare_table}
+use Rattle.bf_bind.specs.Limits.{bare_table, is_planned}
 use Rattle.bf_expr.specs.Trees.{cond_over, expr_over}
 use Rattle.bf_sql.specs.declared.bound.Action.{Action}
 use Rattle.bf_sql.specs.declared.bound.Action.TheVariants as action
@@ -22,7 +22,6 @@ use Rattle.bf_sql.specs.Database.{Database, Stored, IsDatabase, is_on_table, is_
 use Rattle.bf_sql.specs.Meaning.{index_of}
 use Rattle.bf_sql.specs.Objections.{items_objections, names_objections, new_index_objections, objections, rule_names, rules_objections, sets_objections, table_objections}
 use Rattle.bf_sql.specs.Scopes.{cond_objections, place_of, scope_of, unqualified}
-use Rattle.bf_store.specs.Plain.{is_plain}
 use Rattle.bf_store.specs.Stores.{catalog_of}
 use Rattle.bf_store.proofs.keeps.Items.{list_all_if, list_any_alike}
 
@@ -36,7 +35,7 @@ abbrev without_rows : Stored → Stored
 without_rows s = bare_table s.table
 
 -- a search that goes on alike finds alike
-either_found : {X Y : Type 0} (f : X → Y) (found : Bool) (x : X) (behind : Option X) (behind_that : Option Y)
+pub either_found : {X Y : Type 0} (f : X → Y) (found : Bool) (x : X) (behind : Option X) (behind_that : Option Y)
     → behind_that ≡ option_map f behind
     → cond found (Some (f x)) behind_that ≡ option_map f (cond found (Some x) behind)
 either_found f true x behind behind_that same = refl
@@ -79,21 +78,19 @@ module _ (db : Database) where
       alike (Some s) = refl
 
   -- the catalog alone objects
-  pub same_objections : (s : Statement) → is_plain s ≡ true → objections the_bare false s ≡ objections db false s
-  same_objections (CreateTable name rules key) plain =
+  pub same_objections : (in_block : Bool) (s : Statement) → is_planned in_block s ≡ false → objections the_bare in_block s ≡ objections db in_block s
+  same_objections false (CreateTable name rules key) bound =
       ap (λ (taken : Bool). when taken (refusal.TableExists name) ++ rules_objections rules ++ names_objections (rule_names rules) key)
       (there_alike name)
-  same_objections (CreateIndex name table columns) plain = same_on_table table (λ t. new_index_objections db name t columns)
-  same_objections (Insert table tuples) plain = same_on_table table _
-  same_objections (Select list table c) plain =
+  same_objections false (CreateIndex name table columns) bound = same_on_table table (λ t. new_index_objections db name t columns)
+  same_objections false (Migrate migrate) bound = absurd cc
+  same_objections in_block (Insert table tuples) bound = same_on_table table _
+  same_objections in_block (Select list table c) bound =
       same_on_table table (λ t. items_objections (scope_of t) list ++ cond_objections (scope_of t) (condition_of c))
-  same_objections (Update table sets c) plain =
+  same_objections in_block (Update table sets c) bound =
       same_on_table table (λ t. sets_objections t sets ++ cond_objections (scope_of t) (condition_of c))
-  same_objections (Delete table c) plain = same_on_table table (λ t. cond_objections (scope_of t) (condition_of c))
-  same_objections Begin plain = absurd cc
-  same_objections Commit plain = absurd cc
-  same_objections Rollback plain = absurd cc
-  same_objections (Migrate migrate) plain = absurd cc
+  same_objections in_block (Delete table c) bound = same_on_table table (λ t. cond_objections (scope_of t) (condition_of c))
+  same_objections in_block other bound = refl
 
   -- and what a statement is to do is the same
   pub same_action : (s : Statement) → action_of the_bare s ≡ action_of db s
@@ -121,10 +118,10 @@ module _ (db : Database) where
   same_action (Migrate migrate) = refl
 
   -- so a statement is bound in the catalog as it is in the database
-  pub same_bound : (s : Statement) → is_plain s ≡ true → bound_of the_bare false s ≡ bound_of db false s
-  same_bound s plain =
-      let bound : Action → Bound = λ act. record { catalog = db.number; schema_change = changes_schema false s; action = act } in
-      ap₂ (λ (rs : List Refusal) (o : Option Action). option_map bound (unless_objected rs o)) (same_objections s plain) (same_action s)
+  pub same_bound : (in_block : Bool) (s : Statement) → is_planned in_block s ≡ false → bound_of the_bare in_block s ≡ bound_of db in_block s
+  same_bound in_block s planned =
+      let bound : Action → Bound = λ act. record { catalog = db.number; schema_change = changes_schema in_block s; action = act } in
+      ap₂ (λ (rs : List Refusal) (o : Option Action). option_map bound (unless_objected rs o)) (same_objections in_block s planned) (same_action s)
 
   -- the catalog's tables are those of the database
   tables_bare : (tables : List Stored) → map table_in (map bare_table (map table_in tables)) ≡ map table_in tables

@@ -1,166 +1,145 @@
--- The writes of a change, committed, make the database that its statement means.
-use Rattle.std.proofs.Common.{◌≡◌, ◌≢◌, ℕ, true, false, if◌then◌else◌, List, [], ◌∷◌, map, find, Option, Some, option_map, unwrap_or, refl, sym, ap, subst, ◌∙◌, inl, inr, is_eq}
-use Rattle.std.specs.List.{All, AllByRecursion, list_all}
-use Rattle.std.proofs.lemmas.Bool.{and_parts, cases_Bool}
-use Rattle.std.proofs.lemmas.Cmp.{tied_itself}
+-- The writes of a change, over what its transaction has written, make the database that its statement means.
+use Rattle.std.proofs.Common.{◌≡◌, ◌≢◌, ℕ, Bool, true, false, if◌then◌else◌, List, [], ◌∷◌, Some, refl, sym, ap, subst, ◌∙◌, inl, inr}
+use Rattle.std.specs.List.{All}
+use Rattle.std.proofs.lemmas.Bool.{cases_Bool}
 use Rattle.std.proofs.lemmas.Option.{same_Some}
+use Rattle.std.proofs.lemmas.Simd.{map-map}
 use Rattle.bf_base.specs.declared.value.Value.{Value}
 use Rattle.bf_base.specs.declared.table.Table.{Table}
-use Rattle.bf_base.specs.Lists.{name_cmp, rises, same_name}
-use Rattle.bf_base.proofs.Names.{name_cmp_total, same_name-tie}
-use Rattle.bf_base.proofs.Order.{less_from_test, rises_skip, rises_tail}
+use Rattle.bf_base.specs.Lists.{same_name}
 use Rattle.bf_base.proofs.Parts.{map_each}
-use Rattle.bf_bind.specs.Limits.{HasNarrowTables, is_narrow}
 use Rattle.bf_sql.specs.declared.bound.Action.{Action}
 use Rattle.bf_sql.specs.declared.reply.Refusal.{Refusal}
 use Rattle.bf_sql.specs.declared.statement.Statement.{Statement}
+use Rattle.bf_sql.specs.declared.statement.Statement.TheVariants.{Insert, Update, Delete, Migrate}
 use Rattle.bf_sql.specs.Database.{Database, Stored, IsDatabase, stored_at, table_rows, with_rows}
 use Rattle.bf_sql.specs.Meaning.{executed}
 use Rattle.bf_txn.specs.declared.write.Write.{Write}
+use Rattle.bf_txn.specs.Writes.{AreWrites}
 use Rattle.bf_query.specs.Actions.{IsChange, objections_on, table_of, writes_of, written}
-use Rattle.bf_query.specs.Meanings.{HoldRowsOf, IsBoundAs, entries_of, rows_after, writes_after}
-use Rattle.bf_query.specs.Merged.{StandUnderOwnKeys, rows_under}
+use Rattle.bf_query.specs.Meanings.{IsBoundAs, entries_of, rows_after, writes_after}
+use Rattle.bf_query.specs.Merged.{rows_under}
 use Rattle.bf_query.proofs.AsWritten.{database_law}
 use Rattle.bf_query.proofs.Binding.{as_stored, one_name}
+use Rattle.bf_query.proofs.Effects.{sorted_with_all}
 use Rattle.bf_query.proofs.Keeping.{other_tables_stay, others_keep, own_kept}
-use Rattle.bf_query.proofs.OwnKeys.{each, weakened}
-use Rattle.bf_query.proofs.RowsAsEntries.{hold_rows, rows_are}
-use Rattle.bf_store.proofs.keeps.Statements.{keeps_plain}
-use Rattle.bf_store.specs.Plain.{is_plain}
-use Rattle.bf_store.specs.Stores.{catalog_of, committed, written_to}
+use Rattle.bf_query.proofs.OwnKeys.{by_recursion, each, weakened}
+use Rattle.bf_store.proofs.keeps.Changes.{keeps_insert, keeps_update, keeps_delete}
+use Rattle.bf_store.specs.Stores.{committed, written_to}
 use Rattle.bf_machine.specs.Actions.{IsOn}
-use Rattle.bf_machine.proofs.statements.OnTables.{is_on}
+use Rattle.bf_machine.specs.Open.{IsOpen}
+use Rattle.bf_machine.proofs.statements.Named.{IsThere, all_there, both_hold, same_itself}
+use Rattle.bf_machine.proofs.statements.OnTables.{held, is_on, stored}
+use Rattle.bf_machine.proofs.statements.Seeing.{Stands}
 
--- each table of a database is the one of its name
-named_apart : (x : Stored) (xs ys : List Stored) → rises name_cmp (x.table.name ∷ map (λ s. s.table.name) ys) ≡ true
-    → AllByRecursion (λ s. find (λ t. same_name t.table.name s.table.name) xs ≡ Some s) ys
-    → AllByRecursion (λ s. find (λ t. same_name t.table.name s.table.name) (x ∷ xs) ≡ Some s) ys
-named_apart x xs [] h all = tt
-named_apart x xs (y ∷ ys) h all =
-    let less = less_from_test _ (and_parts _ _ h).0 in
-    let apart : same_name x.table.name y.table.name ≡ false = same_name-tie x.table.name y.table.name ∙ ap is_eq less in
-    let behind = rises_skip name_cmp_total x.table.name y.table.name (map (λ (s : Stored). s.table.name) ys) h in
-    (rw apart all.0, named_apart x xs ys behind all.1)
+-- a bound change leaves a database
+keeps_change : (commit : ℕ) (db : Database) (in_block : Bool) (s : Statement) (act : Action) → IsBoundAs db in_block s act → IsChange act
+    → IsDatabase (executed commit db in_block s).1
+keeps_change commit db in_block (Insert name tuples) act bound is = keeps_insert commit db in_block bound.database name tuples bound.admitted
+keeps_change commit db in_block (Update name sets c) act bound is = keeps_update commit db in_block bound.database name sets c bound.admitted
+keeps_change commit db in_block (Delete name c) act bound is = keeps_delete commit db in_block bound.database name c bound.admitted
+keeps_change commit db in_block (Migrate migrate) act bound is = let none = bound.action in absurd cc
+keeps_change commit db in_block other act bound is = absurd (subst IsChange (sym (same_Some _ act bound.action)) is)
 
-same_itself : (name : List ℕ) → same_name name name ≡ true
-same_itself name = same_name-tie name name ∙ ap is_eq (tied_itself name_cmp_total name)
+-- an action's writes on what an open transaction sees
+module _ (db : Database) (writes : List Write) (is : IsDatabase db) (opened : IsOpen db writes) (table : Table) (act : Action) (on : IsOn (committed db writes) table act) where
+  abbrev seen : List (List Value)
+  seen = table_rows (committed db writes) table.name
 
-found_by_name : (tables : List Stored) → rises name_cmp (map (λ s. s.table.name) tables) ≡ true
-    → AllByRecursion (λ s. find (λ t. same_name t.table.name s.table.name) tables ≡ Some s) tables
-found_by_name [] h = tt
-found_by_name (x ∷ xs) h =
-    let first : find (λ t. same_name t.table.name x.table.name) (x ∷ xs) ≡ Some x = rw (same_itself x.table.name) refl in
-    let behind = rises_tail name_cmp_total x.table.name (map (λ (s : Stored). s.table.name) xs) h in
-    (first, named_apart x xs xs h (found_by_name xs behind))
+  abbrev pub after : List Write
+  after = writes_after (committed db writes) table writes act
 
--- a commit of an action's writes
-module _ (db : Database) (table : Table) (act : Action) (on : IsOn db table act) where
-  abbrev rows : List (List Value)
-  rows = table_rows db table.name
-
-  abbrev writes : List Write
-  writes = writes_after db table [] act
-
-  -- the rows of the table after it
+  -- the rows of the table under them
   abbrev pub rows_new : List (List Value)
-  rows_new = rows_after db table (entries_of table rows) [] act
+  rows_new = rows_after (committed db writes) table (entries_of table (table_rows db table.name)) writes act
 
   abbrev with_new : Stored → Stored
   with_new s = if same_name s.table.name table.name then record s { rows = rows_new } else s
 
-  held : HoldRowsOf db table (entries_of table rows) []
-  held = hold_rows db table on.database on.stored
+  -- the writes are those from before, or those of the action are among them
+  unless : (P : List Write → Type 0) (rs : List Refusal) (more : List Write) → P writes → P (written [] writes more)
+      → P (written rs writes more)
+  unless P [] more before with_more = with_more
+  unless P (r ∷ rs) more before with_more = before
 
-  -- the writes are none, or those of the action
-  unless : (P : List Write → Type 0) (rs : List Refusal) (more : List Write) → P [] → P (written [] [] more)
-      → P (written rs [] more)
-  unless P [] more before after = after
-  unless P (r ∷ rs) more before after = before
+  -- they are one a key
+  pub by_spot : AreWrites after
+  by_spot =
+      let more = writes_of seen act in
+      unless AreWrites (objections_on seen act) more opened.by_spot (sorted_with_all writes more opened.by_spot)
 
   -- a table of the database
-  module _ (s : Stored) (there : stored_at db s.table.name ≡ Some s) where
-    rows_of_it : table_rows db s.table.name ≡ s.rows
-    rows_of_it = ap (λ (o : Option Stored). unwrap_or (option_map (λ (t : Stored). t.rows) o) []) there
-
-    before : HoldRowsOf db s.table (entries_of s.table s.rows) []
-    before =
-        subst (λ (rs : List (List Value)). HoldRowsOf db s.table (entries_of s.table rs) []) rows_of_it
-        (hold_rows db s.table on.database (there ∙ ap (λ (rs : List (List Value)). Some (as_stored s.table rs)) (sym rows_of_it)))
-
+  module _ (s : Stored) (there : IsThere db s) where
     -- that has the name of the action's table is that table
-    own : same_name s.table.name table.name ≡ true → as_stored table rows ≡ s
+    own : same_name s.table.name table.name ≡ true → as_stored table (table_rows db table.name) ≡ s
     own same =
         let named = one_name s.table.name table.name same in
-        same_Some (as_stored table rows) s (sym on.stored ∙ ap (stored_at db) (sym named) ∙ there)
+        same_Some (as_stored table (table_rows db table.name)) s (sym (stored db writes is opened table act on) ∙ ap (stored_at db) (sym named) ∙ there)
 
     apart : same_name s.table.name table.name ≡ false → s.table.name ≢ table.name
-    apart other is =
-        let itself = ap (λ (n : List ℕ). same_name n table.name) is ∙ same_itself table.name in
+    apart other same =
+        let itself = ap (λ (n : List ℕ). same_name n table.name) same ∙ same_itself table.name in
         absurd (cc itself)
 
     -- has the rows of the action
-    new_rows : written_to writes s ≡ with_new s
+    new_rows : written_to after s ≡ with_new (written_to writes s)
     new_rows = elim (cases_Bool (same_name s.table.name table.name)) [
-      | inl same ↦ rw same (subst (λ (t : Stored). written_to writes t ≡ record t { rows = rows_new }) (own same) refl)
+      | inl same ↦ rw same (subst (λ (t : Stored). written_to after t ≡ record t { rows = rows_new }) (own same) refl)
       | inr other ↦
           let entries = entries_of s.table s.rows in
-          let stay = other_tables_stay act table s.table.name rows entries [] on.of_table (apart other) in
-          let Stays : List Write → Type 0 = λ ws. rows_under entries ws s.table.name ≡ rows_under entries [] s.table.name in
-          let as_before = unless Stays (objections_on rows act) (writes_of rows act) refl stay in
-          rw other (ap (λ (rs : List (List Value)). as_stored s.table rs) (as_before ∙ rows_are s.table s.rows))
+          let stay = other_tables_stay act table s.table.name seen entries writes on.of_table (apart other) in
+          let Stays : List Write → Type 0 = λ ws. rows_under entries ws s.table.name ≡ rows_under entries writes s.table.name in
+          let as_before = unless Stays (objections_on seen act) (writes_of seen act) refl stay in
+          rw other (ap (λ (rs : List (List Value)). as_stored s.table rs) as_before)
     ]
 
     -- under their own keys
-    keys_kept : StandUnderOwnKeys s.table (entries_of s.table s.rows) writes
-    keys_kept =
-        let Stand : Stored → List Write → Type 0 = λ t ws. StandUnderOwnKeys t.table (entries_of t.table t.rows) ws in
-        let more = writes_of rows act in
-        unless (Stand s) (objections_on rows act) more before.under_own_keys
+    keys_kept : Stands writes s → Stands after s
+    keys_kept before =
+        let more = writes_of seen act in
+        unless (λ ws. Stands ws s) (objections_on seen act) more before
         (elim (cases_Bool (same_name s.table.name table.name)) [
           | inl same ↦
-              let kept = own_kept act table (entries_of table rows) [] on.of_table on.bound on.leaves held.under_own_keys in
-              let own_rows = subst (λ (rs : List (List Value)). Stand (as_stored table rows) (written [] [] (writes_of rs act))) held.rows kept in
-              subst (λ (t : Stored). Stand t (written [] [] more)) (own same) own_rows
-          | inr other ↦ others_keep act table s.table rows (entries_of s.table s.rows) [] on.of_table (apart other) before.under_own_keys
+              let hold = held db writes is opened table act on in
+              let kept = own_kept act table (entries_of table (table_rows db table.name)) writes on.of_table on.bound on.leaves hold.under_own_keys in
+              let own_rows = subst (λ (rs : List (List Value)). Stands (written [] writes (writes_of rs act)) (as_stored table (table_rows db table.name))) hold.rows kept in
+              subst (Stands (written [] writes more)) (own same) own_rows
+          | inr other ↦ others_keep act table s.table seen (entries_of s.table s.rows) writes on.of_table (apart other) before
         ])
 
-  abbrev IsThere : Stored → Type 0
-  IsThere s = stored_at db s.table.name ≡ Some s
-
-  all_there : AllByRecursion IsThere db.tables
-  all_there = found_by_name db.tables on.database.tables_by_name
+  abbrev IsThereOpen : Stored → Type 0
+  IsThereOpen s = IsThere db s × Stands writes s
 
   -- so rows stand under their own keys in all tables
-  pub all_own_keys : All (λ s. StandUnderOwnKeys s.table (entries_of s.table s.rows) writes) db.tables
+  pub all_own_keys : All (Stands after) db.tables
   all_own_keys =
-      let Stands : Stored → Type 0 = λ s. StandUnderOwnKeys s.table (entries_of s.table s.rows) writes in
-      each Stands db.tables (weakened IsThere Stands keys_kept db.tables all_there)
+      each (Stands after) db.tables
+      (weakened IsThereOpen (Stands after) (λ s both. keys_kept s both.0 both.1) db.tables
+      (both_hold (IsThere db) (Stands writes) db.tables (all_there db is) (by_recursion (Stands writes) db.tables opened.own_keys)))
 
   -- and one table has other rows
-  pub committed_rows : committed db writes ≡ with_rows db table.name rows_new
+  pub committed_rows : committed db after ≡ with_rows (committed db writes) table.name rows_new
   committed_rows =
       ap (λ (tables : List Stored). record db { tables = tables })
-      (map_each IsThere (written_to writes) with_new new_rows db.tables all_there)
+      (map_each (IsThere db) (written_to after) (λ s. with_new (written_to writes s)) new_rows db.tables (all_there db is)
+      ∙ sym (map-map with_new (written_to writes) db.tables))
 
--- the database that a bound change means
-pub committed_means : (commit : ℕ) (db : Database) (s : Statement) (act : Action) (table : Table) → IsBoundAs db false s act
-    → IsChange act → table_of act ≡ Some table → committed db (writes_after db table [] act) ≡ (executed commit db false s).1
-committed_means commit db s act table bound is on =
-    let there = is_on db s act table bound on in
-    committed_rows db table act there
-    ∙ sym (database_law commit db false s act table _ [] bound is on (hold_rows db table there.database there.stored))
+-- a bound change, on what an open transaction sees
+module _ (db : Database) (writes : List Write) (is : IsDatabase db) (opened : IsOpen db writes) (in_block : Bool) (s : Statement) (act : Action) (table : Table)
+    (bound : IsBoundAs (committed db writes) in_block s act) (change : IsChange act) (on_table : table_of act ≡ Some table) where
+  on : IsOn (committed db writes) table act
+  on = is_on (committed db writes) in_block s act table bound on_table
 
--- and that it leaves
-pub keeps_committed : (db : Database) (s : Statement) (act : Action) (table : Table) → is_plain s ≡ true
-    → IsBoundAs db false s act → IsChange act → table_of act ≡ Some table → IsDatabase (committed db (writes_after db table [] act))
-keeps_committed db s act table plain bound is on =
-    subst IsDatabase (sym (committed_means 0 db s act table bound is on)) (keeps_plain 0 db s plain bound.database)
+  -- makes the database that it means
+  pub committed_means : (commit : ℕ) → committed db (writes_after (committed db writes) table writes act) ≡ (executed commit (committed db writes) in_block s).1
+  committed_means commit =
+      committed_rows db writes is opened table act on
+      ∙ sym (database_law commit (committed db writes) in_block s act table _ writes bound change on_table (held db writes is opened table act on))
 
--- a commit makes no new columns
-pub narrow_committed : (db : Database) (writes : List Write) → HasNarrowTables (catalog_of db)
-    → HasNarrowTables (catalog_of (committed db writes))
-narrow_committed db writes all = ap (list_all is_narrow) (same_tables db.tables) ∙ all
-  where
-    same_tables : (tables : List Stored) → map (λ s. s.table) (map (written_to writes) tables) ≡ map (λ s. s.table) tables
-    same_tables [] = refl
-    same_tables (s ∷ tables) = ap (λ (ts : List Table). s.table ∷ ts) (same_tables tables)
+  -- and leaves the transaction open
+  pub stays_open : IsOpen db (writes_after (committed db writes) table writes act)
+  stays_open = record {
+    database = subst IsDatabase (sym (committed_means 0)) (keeps_change 0 (committed db writes) in_block s act bound change);
+    by_spot = by_spot db writes is opened table act on;
+    own_keys = all_own_keys db writes is opened table act on;
+  }

@@ -29,26 +29,26 @@ action_alone : (n : ℕ) (b : Bool) (o : Option Action)
 action_alone n b None = refl
 action_alone n b (Some act) = refl
 
--- a plain statement that is bound in the catalog of a database
-pub record IsBoundIn (db : Database) (s : Statement) (bound : Bound) : Type 0 where
+-- a statement that is bound in the catalog of a database
+pub record IsBoundIn (db : Database) (in_block : Bool) (s : Statement) (bound : Bound) : Type 0 where
   pub database : IsDatabase db
-  pub plain : is_plain s ≡ true
-  pub is : bound_of (bare (catalog_of db)) false s ≡ Some bound
+  pub planned : is_planned in_block s ≡ false
+  pub is : bound_of (bare (catalog_of db)) in_block s ≡ Some bound
 
-pub bound_in : (db : Database) (s : Statement) (bound : Bound) (catalog : Catalog) → catalog ≡ catalog_of db → IsDatabase db
-    → is_plain s ≡ true → bound_of (bare catalog) false s ≡ Some bound → IsBoundIn db s bound
-bound_in db s bound catalog same database plain is = record {
+pub bound_in : (db : Database) (in_block : Bool) (s : Statement) (bound : Bound) (catalog : Catalog) → catalog ≡ catalog_of db → IsDatabase db
+    → is_planned in_block s ≡ false → bound_of (bare catalog) in_block s ≡ Some bound → IsBoundIn db in_block s bound
+bound_in db in_block s bound catalog same database planned is = record {
   database = database;
-  plain = plain;
-  is = ap (λ (catalog : Catalog). bound_of (bare catalog) false s) (sym same) ∙ is;
+  planned = planned;
+  is = ap (λ (catalog : Catalog). bound_of (bare catalog) in_block s) (sym same) ∙ is;
 }
 
 -- the action that it is bound to
-action_is : (db : Database) (s : Statement) (bound : Bound) → IsBoundIn db s bound
-    → unless_objected (objections db false s) (action_of db s) ≡ Some bound.action
-action_is db s bound within =
-    sym (action_alone db.number (changes_schema false s) (unless_objected (objections db false s) (action_of db s)))
-    ∙ ap (option_map (λ (b : Bound). b.action)) (sym (same_bound db s within.plain) ∙ within.is)
+action_is : (db : Database) (in_block : Bool) (s : Statement) (bound : Bound) → IsBoundIn db in_block s bound
+    → unless_objected (objections db in_block s) (action_of db s) ≡ Some bound.action
+action_is db in_block s bound within =
+    sym (action_alone db.number (changes_schema in_block s) (unless_objected (objections db in_block s) (action_of db s)))
+    ∙ ap (option_map (λ (b : Bound). b.action)) (sym (same_bound db in_block s within.planned) ∙ within.is)
 
 -- nothing that a statement is to do is a refusal
 no_refusal : (db : Database) (s : Statement) (r : Refusal) → action_of db s ≡ Some (action.Refused r) → ⊥
@@ -63,7 +63,7 @@ no_refusal db Commit r is = cc
 no_refusal db Rollback r is = cc
 no_refusal db (Migrate migrate) r is = cc
 
-module _ (db : Database) (s : Statement) where
+module _ (db : Database) (in_block : Bool) (s : Statement) where
   -- a refused statement leaves the database
   refused_by : (rs : List Refusal) (r : Refusal) (commit : ℕ) → unless_objected rs (action_of db s) ≡ Some (action.Refused r)
       → unless_refused (rs ++ row_objections db s) db (λ _. effect commit db s) ≡ (reply.Refused r, db)
@@ -72,9 +72,9 @@ module _ (db : Database) (s : Statement) where
       let same : q ≡ r = cc in
       ap (λ (q : Refusal). (reply.Refused q, db)) same
 
-  pub refused : (bound : Bound) (r : Refusal) → IsBoundIn db s bound → bound.action ≡ action.Refused r
-      → (commit : ℕ) → executed commit db false s ≡ (reply.Refused r, db)
-  refused bound r within act commit = refused_by (objections db false s) r commit (action_is db s bound within ∙ ap Some act)
+  pub refused : (bound : Bound) (r : Refusal) → IsBoundIn db in_block s bound → bound.action ≡ action.Refused r
+      → (commit : ℕ) → executed commit db in_block s ≡ (reply.Refused r, db)
+  refused bound r within act commit = refused_by (objections db in_block s) r commit (action_is db in_block s bound within ∙ ap Some act)
 
   -- where it is to do something, nothing stands in its way
   bound_by : (rs : List Refusal) (act : Action) → ((r : Refusal) → act ≢ action.Refused r)
@@ -84,13 +84,13 @@ module _ (db : Database) (s : Statement) where
       let same : act ≡ action.Refused r = cc in
       absurd (not r same)
 
-  pub as_bound : (bound : Bound) → IsBoundIn db s bound → ((r : Refusal) → bound.action ≢ action.Refused r)
-      → IsBoundAs db false s bound.action
+  pub as_bound : (bound : Bound) → IsBoundIn db in_block s bound → ((r : Refusal) → bound.action ≢ action.Refused r)
+      → IsBoundAs db in_block s bound.action
   as_bound bound within not =
-      let parts = bound_by (objections db false s) bound.action not (action_is db s bound within) in
+      let parts = bound_by (objections db in_block s) bound.action not (action_is db in_block s bound within) in
       record { database = within.database; admitted = parts.0; action = parts.1 }
 
-  pub bound_to : (bound : Bound) (act : Action) → IsBoundIn db s bound → ((r : Refusal) → act ≢ action.Refused r)
-      → bound.action ≡ act → IsBoundAs db false s act
+  pub bound_to : (bound : Bound) (act : Action) → IsBoundIn db in_block s bound → ((r : Refusal) → act ≢ action.Refused r)
+      → bound.action ≡ act → IsBoundAs db in_block s act
   bound_to bound act within not is =
-      subst (IsBoundAs db false s) is (as_bound bound within (λ r same. not r (sym is ∙ same)))
+      subst (IsBoundAs db in_block s) is (as_bound bound within (λ r same. not r (sym is ∙ same)))
