@@ -1,8 +1,9 @@
 pub mod Places
-pub mod Lone
+pub mod Blocks
+pub mod Course
+pub mod Entries
 pub mod Whole
 pub mod Precedence
-pub mod Outcomes
 pub mod Replies
 pub mod Answered
 pub mod Legal

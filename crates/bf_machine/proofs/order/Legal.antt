@@ -1,27 +1,40 @@
 -- A run in order is legal.
-use Rattle.std.proofs.Common.{ℕ, false, List, [], refl, sym, subst}
-use Rattle.std.specs.List.{AllByRecursion}
+use Rattle.std.proofs.Common.{◌≡◌, IsTrue, List, [], map, length, refl, subst}
+use Rattle.std.specs.List.{AllByRecursion, flat_map, range_with_len}
 use Rattle.bf_sql.specs.declared.script.Script.{Script}
-use Rattle.bf_sql.specs.declared.reply.Cause.{Cause}
-use Rattle.bf_sql.specs.declared.reply.Reply.{Reply}
+use Rattle.bf_sql.specs.declared.history.Entry.{Entry}
 use Rattle.bf_sql.specs.Database.{Database}
-use Rattle.bf_sql.specs.History.{IsApart, IsLegalHistory}
-use Rattle.bf_machine.specs.InOrder.{IsLone, entries_in_order, run_in_order}
-use Rattle.bf_machine.proofs.order.Whole.{all_whole}
-use Rattle.bf_machine.proofs.order.Precedence.{all_in_order}
-use Rattle.bf_machine.proofs.order.Outcomes.{all_commit}
+use Rattle.bf_sql.specs.History.{apart, replayed, told, IsAllAnswered, IsApart, IsLegalHistory}
+use Rattle.bf_machine.specs.InOrder.{NoCause, none_open, entries_in_order}
+use Rattle.bf_machine.specs.Sessions.{at_rest, phases_rise_from, script_from}
+use Rattle.bf_machine.proofs.order.Places.{at_start}
+use Rattle.bf_machine.proofs.order.Entries.{groups_at, all_entered}
+use Rattle.bf_machine.proofs.order.Whole.{all_whole, all_outcomes}
+use Rattle.bf_machine.proofs.order.Precedence.{all_precede}
 use Rattle.bf_machine.proofs.order.Replies.{all_told}
-use Rattle.bf_machine.proofs.order.Answered.{none_apart}
+use Rattle.bf_machine.proofs.order.Answered.{all_answered, all_apart}
 
--- whichever causes are allowed, since none ends a group
-pub run_is_legal : (script : Script) (start : Database) (IsAllowed : ℕ → ℕ × ℕ → Cause → Type 0) → IsLone script
-    → IsLegalHistory script IsAllowed (λ session group. false) start (run_in_order start script).0 (entries_in_order script)
-run_is_legal script start IsAllowed alone =
-    let transcripts = (run_in_order start script).0 in
+-- every statement has its reply
+pub run_is_answered : (script : Script) (start : Database) → IsAllAnswered script (script_from start script).0
+run_is_answered script start = all_answered 1 (at_rest 0 start) script.sessions
+
+-- the entries are those of the groups, in the order of the text
+pub run_is_entered : (script : Script) (start : Database) → (script_from start script).2 ≡ entries_in_order script
+run_is_entered script start = all_entered script 1 0 start script.sessions (at_start script.sessions)
+
+-- transcripts and entries are legal
+pub run_is_legal : (script : Script) (start : Database) → IsTrue (phases_rise_from 0 script.sessions)
+    → IsLegalHistory script NoCause none_open start (script_from start script).0 (entries_in_order script)
+run_is_legal script start rise =
+    let (transcripts, last, entries) = script_from start script in
+    let groups = flat_map (groups_at script) (range_with_len 1 (length script.sessions)) in
+    let at = at_start script.sessions in
+    let Replayed : List Entry → Type 0 = λ history. map (told transcripts) history ≡ (replayed script start history).0 in
+    let NoOthers : List Entry → Type 0 = λ history. AllByRecursion (IsApart script NoCause transcripts) (apart script none_open transcripts history) in
     record {
-      whole_groups = all_whole script 1 1 [] script.sessions refl refl alone.lone;
-      in_order = all_in_order script 1 1 0 [] script.sessions [] refl refl alone.phases refl;
-      outcomes = all_commit script 1 1 [] script.sessions refl refl alone.lone;
-      replies = all_told script transcripts 0 1 [] script.sessions [] start refl refl refl refl;
-      others = subst (λ (apart : List (ℕ × ℕ × Reply)). AllByRecursion (IsApart script IsAllowed transcripts) apart) (sym (none_apart script (entries_in_order script) 1 1 start [] script.sessions refl)) tt;
+      whole_groups = all_whole script 1 1 (length script.sessions);
+      in_order = all_precede script 1 rise;
+      outcomes = all_outcomes script 1 groups;
+      replies = subst Replayed (run_is_entered script start) (all_told script transcripts 1 0 start script.sessions at (at_start transcripts));
+      others = subst NoOthers (run_is_entered script start) (all_apart script transcripts entries 1 0 start [] script.sessions at refl);
     }
