@@ -1,2 +1,4 @@
-pub mod Plain
+pub mod Sessions
 pub mod Steps
+pub mod Turns
+pub mod Unwritten

@@ -3,3 +3,4 @@ pub mod InOrder
 pub mod Narrow
 pub mod Open
 pub mod Sessions
+pub mod Turns

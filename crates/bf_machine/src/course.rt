@@ -1,12 +1,16 @@
 //! Sessions that run one after the other.
 
-ghost use Rattle.std.specs.Prelude.{◌≡◌, ◌++◌, ◌≤◌, IfOk, IsTrue, OnOk, length, not};
+ghost use Rattle.std.specs.Prelude.{◌≡◌, ◌+◌, ◌^◌, ◌++◌, ◌<◌, ◌≤◌, [], IfOk, IsTrue, OnOk, length, not};
 ghost use Rattle.std.specs.List.{list_all};
 ghost use Rattle.bf_bind.specs.Limits.{HasNarrowTables};
-ghost use Rattle.bf_store.specs.Stores.{catalog_of};
+ghost use Rattle.bf_sql.specs.declared.history.Outcome.TheVariants.{Committed};
+ghost use Rattle.bf_sql.specs.Database.{IsDatabase, empty_database};
+ghost use Rattle.bf_store.specs.Stores.{catalog_of, committed};
 ghost use Rattle.bf_machine.specs.InOrder.{is_migrate};
 ghost use Rattle.bf_machine.specs.Narrow.{is_narrow_statement};
-ghost use Rattle.bf_machine.specs.Sessions.{at_rest, session_from};
+ghost use Rattle.bf_machine.specs.Open.{IsOpen};
+ghost use Rattle.bf_machine.specs.Sessions.{at_rest, ended, inside, outside, session_from};
+ghost use Rattle.bf_machine.specs.Turns.{HasTaken, MayBeOpen, standing};
 
 use crate::lone::execute;
 use crate::transaction::{Transaction, execute_in_block};
@@ -18,7 +22,8 @@ use std::alloc::Global;
 
 /// One more than a count. A count that is too high for an entry counts as want of memory.
 pub(crate) fn next_number(count: usize) -> Result<u32, Memory>
-    ensures { IfOk result (λ number. number ≡ count + 1) }
+    ensures number { IfOk result (λ number. number ≡ count + 1) }
+    ensures fits { OnOk result (count + 1 < 2 ^ 32) }
 {
     match u32::try_from(count) {
         Ok(number) => number.checked_add(1).ok_or(Memory),
@@ -41,12 +46,16 @@ pub(crate) struct Course {
     store: Store,
     entries: Vec<Entry>,
     commits: u64,
+    ghost database: { IsDatabase store },
     ghost counted: { commits ≤ length entries.items },
 }
 
 impl Course {
     /// The empty database, before the first transaction. Takes no memory.
-    pub(crate) fn new(alloc: Global) -> Course {
+    pub(crate) fn new(alloc: Global) -> Course
+        ensures stands { at_rest result.commits result.store ≡ at_rest 0 empty_database }
+        ensures entries { result.entries.items ≡ [] }
+    {
         Course {
             alloc,
             store: Store::new(alloc),
@@ -56,12 +65,19 @@ impl Course {
     }
 
     /// The transactions that have ended, in order.
-    pub(crate) fn into_entries(self) -> Sequence<Entry> {
+    pub(crate) fn into_entries(self) -> Sequence<Entry>
+        ensures { result ≡ self.entries.items }
+    {
         Sequence::of(self.entries)
     }
 
     /// Notes that the transaction from a statement to the one at a place has ended.
-    fn end(&mut self, first: u32, last: Place, outcome: Outcome) -> Result<(), Memory> {
+    fn end(&mut self, first: u32, last: Place, outcome: Outcome) -> Result<(), Memory>
+        ensures stands { at_rest self.new.commits self.new.store
+            ≡ at_rest self.old.commits self.old.store }
+        ensures entries { OnOk result (self.new.entries.items ≡ self.old.entries.items
+            ++ ended last.session first last.statement outcome) }
+    {
         self.entries.push(Entry {
             session: last.session,
             first,
@@ -73,7 +89,13 @@ impl Course {
 
     /// Notes that the transaction from a statement to the one at a place has committed, and answers
     /// the number of the commit.
-    fn commit(&mut self, first: u32, last: Place) -> Result<u64, Memory> {
+    fn commit(&mut self, first: u32, last: Place) -> Result<u64, Memory>
+        ensures number { IfOk result (λ number. number ≡ self.old.commits + 1) }
+        ensures stands { OnOk result (at_rest self.new.commits self.new.store
+            ≡ at_rest (self.old.commits + 1) self.old.store) }
+        ensures entries { OnOk result (self.new.entries.items ≡ self.old.entries.items
+            ++ ended last.session first last.statement (Committed (self.old.commits + 1))) }
+    {
         let number = self.commits + 1;
         self.end(first, last, Outcome::Committed(number))?;
         self.commits = number;
@@ -85,7 +107,17 @@ impl Course {
         &mut self,
         place: Place,
         statement: &Statement,
-    ) -> Result<(Reply, Option<Transaction>), Memory> {
+    ) -> Result<(Reply, Option<Transaction>), Memory>
+        requires plain { IsTrue (not (is_migrate statement.now)) }
+        requires narrow { IsTrue (is_narrow_statement statement.now) }
+        requires tables { HasNarrowTables (catalog_of self.old.store) }
+        ensures taken { IfOk result (λ step. HasTaken
+            (outside place.session place.statement self.old.commits self.old.store statement.now)
+            step.0 (standing self.new.commits self.new.store step.1)
+            self.old.entries.items self.new.entries.items) }
+        ensures open { IfOk result (λ step. MayBeOpen self.new.store step.1) }
+        ensures tables { OnOk result (HasNarrowTables (catalog_of self.new.store)) }
+    {
         match statement {
             Statement::Begin => {
                 let block = Transaction {
@@ -111,7 +143,18 @@ impl Course {
         place: Place,
         block: Transaction,
         statement: &Statement,
-    ) -> Result<(Reply, Option<Transaction>), Memory> {
+    ) -> Result<(Reply, Option<Transaction>), Memory>
+        requires narrow { IsTrue (is_narrow_statement statement.now) }
+        requires tables { HasNarrowTables (catalog_of self.old.store) }
+        requires open { IsOpen self.old.store block.writes }
+        ensures taken { IfOk result (λ step. HasTaken
+            (inside place.session place.statement self.old.commits self.old.store block.first
+            (committed self.old.store block.writes) statement.now)
+            step.0 (standing self.new.commits self.new.store step.1)
+            self.old.entries.items self.new.entries.items) }
+        ensures open { IfOk result (λ step. MayBeOpen self.new.store step.1) }
+        ensures tables { OnOk result (HasNarrowTables (catalog_of self.new.store)) }
+    {
         let mut block = block;
         match statement {
             Statement::Commit => {
@@ -124,8 +167,12 @@ impl Course {
                 Ok((Reply::RolledBack, None))
             }
             _ => {
-                let reply =
-                    execute_in_block(self.alloc, &self.store, &mut block.writes, statement)?;
+                let reply = execute_in_block(
+                    self.alloc,
+                    &self.store,
+                    &mut block.writes,
+                    statement,
+                )?;
                 Ok((reply, Some(block)))
             }
         }
@@ -152,20 +199,20 @@ impl Course {
         ensures tables { OnOk result (HasNarrowTables (catalog_of self.new.store)) }
     {
         let mut replies = Vec::with_capacity(self.alloc, statements.len())?;
-        let mut open = None;
+        let mut block = None;
         for statement in statements {
             let place = Place {
                 session,
                 statement: next_number(replies.len())?,
             };
-            let (reply, left) = match open {
+            let (reply, left) = match block {
                 Some(block) => self.step_inside(place, block, statement)?,
                 None => self.step_outside(place, statement)?,
             };
             replies.push(reply)?;
-            open = left;
+            block = left;
         }
-        if let Some(block) = open {
+        if let Some(block) = block {
             let last = Place {
                 session,
                 statement: replies.len() as u32,

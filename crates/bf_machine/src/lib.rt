@@ -3,9 +3,9 @@
 #![tactic(auto)]
 
 mod course;
-pub mod in_order;
 pub mod laws;
 mod lone;
+pub mod scripts;
 mod transaction;
 
-pub use in_order::{Run, in_order, is_plain};
+pub use scripts::{Run, in_order, is_plain};

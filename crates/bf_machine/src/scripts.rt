@@ -1,10 +1,12 @@
 //! The run of a script, session after session.
 
-ghost use Rattle.std.specs.Prelude.{◌≡◌, IfOk, IsTrue, not};
+ghost use Rattle.std.specs.Prelude.{◌≡◌, ◌++◌, IfOk, IsTrue, OnOk, not};
 ghost use Rattle.std.specs.List.{list_all};
+ghost use Rattle.bf_bind.specs.Limits.{HasNarrowTables};
+ghost use Rattle.bf_store.specs.Stores.{catalog_of};
 ghost use Rattle.bf_machine.specs.InOrder.{IsRun, is_migrate, is_plain_script};
-ghost use Rattle.bf_machine.specs.Narrow.{is_narrow_script};
-ghost use Rattle.bf_machine.specs.Sessions.{phases_rise_from};
+ghost use Rattle.bf_machine.specs.Narrow.{is_narrow_script, is_narrow_statement};
+ghost use Rattle.bf_machine.specs.Sessions.{at_rest, phases_rise_from, sessions_from};
 
 use crate::course::{Course, next_number};
 use bf_base::{Memory, Sequence};
@@ -41,7 +43,17 @@ fn run_sessions(
     alloc: Global,
     course: &mut Course,
     sessions: &[Session],
-) -> Result<Vec<Sequence<Reply>>, Memory> {
+) -> Result<Vec<Sequence<Reply>>, Memory>
+    requires plain { IsTrue (list_all (λ session.
+        list_all (λ statement. not (is_migrate statement)) session.statements) sessions.now) }
+    requires narrow { IsTrue (list_all (λ session.
+        list_all is_narrow_statement session.statements) sessions.now) }
+    requires tables { HasNarrowTables (catalog_of course.old.store) }
+    ensures replies { IfOk result (λ transcripts. transcripts.items ≡ (sessions_from 1
+        (at_rest course.old.commits course.old.store) sessions.now).0) }
+    ensures entries { OnOk result (course.new.entries.items ≡ course.old.entries.items
+        ++ (sessions_from 1 (at_rest course.old.commits course.old.store) sessions.now).2) }
+{
     let mut transcripts = Vec::with_capacity(alloc, sessions.len())?;
     for session in sessions {
         let number = next_number(transcripts.len())?;
@@ -51,8 +63,8 @@ fn run_sessions(
 }
 
 /// Runs a plain script from the empty database, session after session: a block as one transaction,
-/// and each statement outside a block as one of its own. A block that its session leaves open is rolled
-/// back. It costs what the statements do.
+/// and each statement outside a block as one of its own. A block that its session leaves open is
+/// rolled back. It costs what the statements do.
 ///
 /// # Errors
 /// Where memory runs out, or a number of a session or statement is 2 ^ 32 or above.

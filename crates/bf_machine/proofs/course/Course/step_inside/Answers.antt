@@ -1,0 +1,26 @@
+-- A commit leaves the columns of the tables, and other statements of a block end no transaction.
+use Rattle.std.proofs.Common.{subst, sym}
+use Rattle.bf_bind.specs.Limits.{HasNarrowTables}
+use Rattle.bf_sql.specs.Database.{Database}
+use Rattle.bf_store.specs.Stores.{catalog_of}
+use Rattle.bf_machine.proofs.serving.Turns.{goes_on_otherwise, inside_taken, narrow_at, narrow_committed}
+use Rattle.bf_machine.proofs.course.Course.step_inside.Goals as goal
+
+pub returns-in_ok-number-in-Commit-clause-tables : goal.returns-in_ok-number-in-Commit-clause-tables
+returns-in_ok-number-in-Commit-clause-tables c =
+    narrow_at _ _ _ c.in_ok-number-in-Commit.ensures.stands
+    (subst (λ (db : Database). HasNarrowTables (catalog_of db)) (sym c.in_ok-commit-in-Commit.ensures.ok)
+    (narrow_committed c.args.self.now.store c.args.block.writes c.requires.tables))
+
+pub returns-in_ok-reply-in_default : goal.returns-in_ok-reply-in_default
+returns-in_ok-reply-in_default c =
+    let self = c.args.self.now in
+    let s = c.args.statement.now in
+    let step = c.in_ok-reply-in_default.ensures in
+    record {
+      taken = inside_taken c.args.place.session c.args.place.statement self.commits self.store c.args.block.first c.args.block.writes
+          c.execute_in_block.new.writes s (goes_on_otherwise s c.in_default.not-Commit c.in_default.not-Rollback)
+          c.in_ok-reply-in_default.reply step self.entries.items;
+      «open» = step.is_open;
+      tables = c.requires.tables;
+    }

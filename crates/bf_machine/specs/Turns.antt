@@ -1,0 +1,26 @@
+-- What a statement's turn leaves: its reply, where its session stands, and what has been noted.
+use Rattle.std.specs.Prelude.{◌≡◌, ℕ, List, ◌++◌, Option, option_map, IfSome}
+use Rattle.bf_sql.specs.declared.reply.Reply.{Reply}
+use Rattle.bf_sql.specs.declared.history.Entry.{Entry}
+use Rattle.bf_sql.specs.Database.{Database}
+use Rattle.bf_store.specs.Stores.{committed}
+use Rattle.bf_machine.specs.declared.transaction.Transaction.{Transaction}
+use Rattle.bf_machine.specs.Open.{IsOpen}
+use Rattle.bf_machine.specs.Sessions.{Standing, Turn}
+
+-- the statement that began a block, and the database that the block sees over the committed one
+abbrev pub block_on : Database → Transaction → ℕ × Database
+block_on db block = (block.first, committed db block.writes)
+
+-- where a session stands that may have a block open
+abbrev pub standing : ℕ → Database → Option Transaction → Standing
+standing commits db block = record { db = db; commits = commits; block = option_map (block_on db) block }
+
+abbrev pub MayBeOpen : Database → Option Transaction → Type 0
+MayBeOpen db block = IfSome block (λ b. IsOpen db b.writes)
+
+-- a turn has been taken: its reply told, its standing reached, and its entries added to those before
+pub record HasTaken (turn : Turn) (answer : Reply) (next : Standing) (before after : List Entry) : Type 0 where
+  pub told : answer ≡ turn.0
+  pub stands : next ≡ turn.1
+  pub entered : after ≡ before ++ turn.2
