@@ -1,4 +1,3 @@
 pub mod Sessions
 pub mod Steps
 pub mod Turns
-pub mod Unwritten

@@ -16,6 +16,7 @@ block_on db block = (block.first, committed db block.writes)
 abbrev pub standing : ℕ → Database → Option Transaction → Standing
 standing commits db block = record { db = db; commits = commits; block = option_map (block_on db) block }
 
+-- no block is open, or one that is open over the committed database
 abbrev pub MayBeOpen : Database → Option Transaction → Type 0
 MayBeOpen db block = IfSome block (λ b. IsOpen db b.writes)
 

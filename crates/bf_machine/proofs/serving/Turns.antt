@@ -1,26 +1,25 @@
 -- Turns by the kind of their statement.
-use Rattle.std.proofs.Common.{◌≡◌, ℕ, ◌+◌, ◌++◌, true, false, not, List, [], ◌∷◌, map, Some, refl, sym, ap, subst, ◌∙◌, Result, Ok, Err}
+use Rattle.std.proofs.Common.{◌≡◌, ℕ, ◌+◌, ◌++◌, true, false, not, List, [], Some, refl, sym, ap, subst, ◌∙◌, Result, Ok, Err}
 use Rattle.std.specs.Prelude.{IfOk, OnErr}
-use Rattle.std.specs.List.{list_all}
 use Rattle.std.proofs.lemmas.List.{append-nil}
-use Rattle.bf_bind.specs.Limits.{HasNarrowTables, is_narrow}
+use Rattle.bf_bind.specs.Limits.{HasNarrowTables}
 use Rattle.bf_sql.specs.declared.statement.Statement.{Statement}
 use Rattle.bf_sql.specs.declared.statement.Statement.TheVariants.{Begin, Commit, Rollback, Migrate}
 use Rattle.bf_sql.specs.declared.reply.Reply.{Reply}
 use Rattle.bf_sql.specs.declared.reply.Reply.TheVariants.{Begun}
 use Rattle.bf_sql.specs.declared.history.Outcome.TheVariants.{Committed}
 use Rattle.bf_sql.specs.declared.history.Entry.{Entry}
-use Rattle.bf_sql.specs.Database.{Database, IsDatabase, Stored}
+use Rattle.bf_sql.specs.Database.{Database, IsDatabase}
 use Rattle.bf_sql.specs.Meaning.{executed}
 use Rattle.bf_store.specs.Plain.{is_plain}
-use Rattle.bf_store.specs.Stores.{catalog_of, committed, written_to}
+use Rattle.bf_store.specs.Stores.{catalog_of, committed}
 use Rattle.bf_store.proofs.keeps.Statements.{keeps_plain}
 use Rattle.bf_txn.specs.declared.write.Write.{Write}
 use Rattle.bf_machine.specs.InOrder.{is_migrate}
 use Rattle.bf_machine.specs.Open.{IsStep, goes_on}
 use Rattle.bf_machine.specs.Sessions.{Standing, alone, at_rest, ended, inside, outside}
 use Rattle.bf_machine.specs.Turns.{HasTaken, standing}
-use Rattle.bf_machine.proofs.serving.Unwritten.{nothing_committed}
+use Rattle.bf_machine.proofs.statements.Seeing.{nothing_written}
 
 -- what is no MIGRATE and no word of a block is a transaction of its own
 pub plain_otherwise : (s : Statement) → not (is_migrate s) ≡ true → (s ≡ Begin → ⊥) → (s ≡ Commit → ⊥) → (s ≡ Rollback → ⊥)
@@ -43,15 +42,7 @@ pub still_database : {E : Type 0} (db new : Database) (s : Statement) → is_pla
 still_database db new s plain is (Ok answer) meant same = subst IsDatabase (ap (λ (p : Reply × Database). p.1) (meant 0)) (keeps_plain 0 db s plain is)
 still_database db new s plain is (Err e) meant same = rw same is
 
-same_tables : (writes : List Write) (tables : List Stored) → map (λ (s : Stored). s.table) (map (written_to writes) tables) ≡ map (λ (s : Stored). s.table) tables
-same_tables writes [] = refl
-same_tables writes (s ∷ tables) = ap (λ ts. s.table ∷ ts) (same_tables writes tables)
-
--- a commit leaves the tables' columns
-pub narrow_committed : (db : Database) (writes : List Write) → HasNarrowTables (catalog_of db) → HasNarrowTables (catalog_of (committed db writes))
-narrow_committed db writes narrow = ap (list_all is_narrow) (same_tables writes db.tables) ∙ narrow
-
--- and so it does where a standing has the committed tables
+-- a standing has the tables that it is at rest with
 pub narrow_at : (at : Standing) (commits : ℕ) (db : Database) → at ≡ at_rest commits db → HasNarrowTables (catalog_of db) → HasNarrowTables (catalog_of at.db)
 narrow_at at commits db stands narrow = rw stands narrow
 
@@ -74,7 +65,7 @@ module _ (session n commits : ℕ) (db : Database) where
       → HasTaken (outside session n commits db s) Begun (standing commits db (Some (record { first = n; writes = writes }))) entries entries
   begin_taken s is writes none entries = rw (is, none) (record {
     told = refl;
-    stands = ap (λ (seen : Database). record { db = db; commits = commits; block = Some (n, seen) }) (nothing_committed db);
+    stands = ap (λ (seen : Database). record { db = db; commits = commits; block = Some (n, seen) }) (nothing_written db);
     entered = sym (append-nil entries);
   })
 

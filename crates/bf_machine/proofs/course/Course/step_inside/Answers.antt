@@ -3,14 +3,15 @@ use Rattle.std.proofs.Common.{subst, sym}
 use Rattle.bf_bind.specs.Limits.{HasNarrowTables}
 use Rattle.bf_sql.specs.Database.{Database}
 use Rattle.bf_store.specs.Stores.{catalog_of}
-use Rattle.bf_machine.proofs.serving.Turns.{goes_on_otherwise, inside_taken, narrow_at, narrow_committed}
+use Rattle.bf_machine.proofs.serving.Turns.{goes_on_otherwise, inside_taken, narrow_at}
+use Rattle.bf_machine.proofs.statements.Seeing.{narrow_seen}
 use Rattle.bf_machine.proofs.course.Course.step_inside.Goals as goal
 
 pub returns-in_ok-number-in-Commit-clause-tables : goal.returns-in_ok-number-in-Commit-clause-tables
 returns-in_ok-number-in-Commit-clause-tables c =
     narrow_at _ _ _ c.in_ok-number-in-Commit.ensures.stands
     (subst (λ (db : Database). HasNarrowTables (catalog_of db)) (sym c.in_ok-commit-in-Commit.ensures.ok)
-    (narrow_committed c.args.self.now.store c.args.block.writes c.requires.tables))
+    (narrow_seen c.args.self.now.store c.args.block.writes c.requires.tables))
 
 pub returns-in_ok-reply-in_default : goal.returns-in_ok-reply-in_default
 returns-in_ok-reply-in_default c =

@@ -1,6 +1,6 @@
 -- BEGIN opens a block that has written nothing; a plain statement is a transaction of its own.
 use Rattle.bf_machine.proofs.serving.Turns.{alone_taken, begin_taken, narrow_at, plain_otherwise, still_database}
-use Rattle.bf_machine.proofs.serving.Unwritten.{nothing_is_open}
+use Rattle.bf_machine.proofs.statements.Seeing.{begun}
 use Rattle.bf_machine.proofs.course.Course.step_outside.Goals as goal
 
 pub invariant_of-self : goal.invariant_of-self
@@ -20,7 +20,7 @@ returns-in-Begin-clause-taken c =
     c.new.result c.new.ensures self.entries.items
 
 pub returns-in-Begin-clause-open : goal.returns-in-Begin-clause-open
-returns-in-Begin-clause-open c = rw c.new.ensures (nothing_is_open c.args.self.now.store c.args.self.now.database)
+returns-in-Begin-clause-open c = rw c.new.ensures (begun c.args.self.now.store c.args.self.now.database)
 
 pub returns-in_ok-commit-in_default : goal.returns-in_ok-commit-in_default
 returns-in_ok-commit-in_default c =
