@@ -1,0 +1,45 @@
+use super::*;
+use bf_disk::{DiskError, MemoryDisk};
+
+// One sync, the length and the head, and for each record a frame and a payload; then the closed gate.
+#[test]
+fn opening_reads_each_byte_once(rt: HostRuntime) -> Result<(), Fail> {
+    for (sizes, calls) in [
+        ([].as_slice(), 4),
+        ([0].as_slice(), 6),
+        ([300].as_slice(), 6),
+        ([2, 0, 1000].as_slice(), 10),
+        ([1, 1, 1, 1, 1, 1, 1].as_slice(), 18),
+    ] {
+        let mut log = opened(&rt, rt.alloc(), tape(rt.alloc(), b"BFROGLG1\0", None)?);
+        for size in sizes {
+            log.append(&vec![in rt.alloc(); b'x'; *size]?, 1 << 30, 1 << 36)?;
+        }
+        let disk = tape(rt.alloc(), log.disk().bytes(), None)?;
+        let again = opened(&rt, rt.alloc(), disk);
+        assert_eq!(rt; again.disk().calls(), calls, "{sizes:?}");
+    }
+    Ok(())
+}
+
+// Each record has four bytes, so that its gate stands nine behind the one before.
+#[test]
+fn many_records_come_back_in_order(rt: HostRuntime) -> Result<(), Fail> {
+    let mut disk = MemoryDisk::new(rt.alloc());
+    create_log(&mut disk)?;
+    let mut log = opened(&rt, rt.alloc(), disk);
+    for number in 1..=1000u32 {
+        let answer = log.append(&number.to_le_bytes(), 4, 1 << 36);
+        assert_eq!(rt; answer, Ok(number as u64));
+    }
+    let mut opening = open_log(rt.alloc(), log.into_disk())?;
+    for number in 1..=1000u32 {
+        let Next::Payload(gate, payload) = opening.next_payload(rt.alloc())? else {
+            panic!(rt; "ended before record {number}");
+        };
+        assert_eq!(rt; gate, 9 * number as u64 - 1);
+        assert_eq!(rt; payload.as_slice(), number.to_le_bytes().as_slice());
+    }
+    assert!(rt; matches!(opening.next_payload(rt.alloc())?, Next::End));
+    Ok(())
+}
