@@ -16,13 +16,10 @@ use std::test::Fail;
 // What a crash may put in the place of pending bytes.
 const TORN: [&[u8]; 4] = [b"", b"\0", b"\xa5", b"\xa5\x01\0\x5a"];
 
-// A file with these bytes, of which the call with this number fails, if one is given.
-fn tape(alloc: Global, bytes: &[u8], failing: Option<u64>) -> Result<TapeDisk, Memory> {
-    let mut calls = Vec::new(alloc);
-    if let Some(call) = failing {
-        calls.push(call)?;
-    }
-    Ok(TapeDisk::new(alloc, bytes.to_vec(alloc)?, calls, None))
+// A file with these bytes, of which the calls with these numbers fail.
+fn tape(alloc: Global, bytes: &[u8], failing: &[u64]) -> Result<TapeDisk, Memory> {
+    let failing = failing.to_vec(alloc)?;
+    Ok(TapeDisk::new(alloc, bytes.to_vec(alloc)?, failing, None))
 }
 
 // A log at its end.
@@ -77,8 +74,8 @@ fn read_all<R: Abort, D: Disk + Drop>(
     }
 }
 
-// A crash before a call leaves a log: of the second payloads where the first pending byte becomes an
-// open gate, and else of the first.
+// A crash before a call, or now if fewer were made, leaves a log: of the second payloads where the
+// first pending byte becomes an open gate, and else of the first.
 fn assert_left<R: Abort>(
     rt: &R,
     alloc: Global,

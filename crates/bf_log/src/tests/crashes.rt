@@ -3,7 +3,7 @@ use super::*;
 // A log with two records, on a disk that keeps each call so far: 3 of the creation, 4 of the opening
 // and 4 of each append.
 fn two_records<R: Abort>(rt: &R, alloc: Global) -> Result<TapeDisk, Fail> {
-    let mut disk = tape(alloc, b"", None)?;
+    let mut disk = tape(alloc, b"", &[])?;
     create_log(&mut disk)?;
     let mut log = opened(rt, alloc, disk);
     assert_eq!(rt; log.append(b"AB", 2, 99), Ok(1));

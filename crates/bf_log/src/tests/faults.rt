@@ -3,7 +3,7 @@ use super::*;
 #[test]
 fn creation_tells_a_fault(rt: HostRuntime) -> Result<(), Fail> {
     for (call, again) in [(1, Ok(())), (2, Ok(())), (3, Err(CreateError::NotEmpty(9)))] {
-        let mut disk = tape(rt.alloc(), b"", Some(call))?;
+        let mut disk = tape(rt.alloc(), b"", &[call])?;
         assert_eq!(rt;
             create_log(&mut disk),
             Err(CreateError::DiskFault),
@@ -19,12 +19,12 @@ fn creation_tells_a_fault(rt: HostRuntime) -> Result<(), Fail> {
 // The magic was written and its sync failed. Opening syncs first, so that the log stays.
 #[test]
 fn what_was_opened_stays(rt: HostRuntime) -> Result<(), Fail> {
-    let mut disk = tape(rt.alloc(), b"", Some(3))?;
+    let mut disk = tape(rt.alloc(), b"", &[3])?;
     assert_eq!(rt; create_log(&mut disk), Err(CreateError::DiskFault));
     let (_, lost) = read_all(&rt, rt.alloc(), disk.crash(rt.alloc(), b"\xa5")?)?;
     assert_eq!(rt; lost, Some(OpenError::NotALog(0)));
     let log = opened(&rt, rt.alloc(), disk);
-    assert_left(&rt, rt.alloc(), log.disk(), 8, b"", b"")?;
+    assert_left(&rt, rt.alloc(), log.disk(), u64::MAX, b"", b"")?;
     assert_eq!(rt; log.halted(), None);
     Ok(())
 }
@@ -32,7 +32,7 @@ fn what_was_opened_stays(rt: HostRuntime) -> Result<(), Fail> {
 #[test]
 fn opening_gives_the_disk_back(rt: HostRuntime) -> Result<(), Fail> {
     for call in 1..=3 {
-        let disk = tape(rt.alloc(), b"BFROGLG1\xa5\x02\0\0\0AB\0", Some(call))?;
+        let disk = tape(rt.alloc(), b"BFROGLG1\xa5\x02\0\0\0AB\0", &[call])?;
         let Err((disk, error)) = open_log(rt.alloc(), disk) else {
             panic!(rt; "opened in spite of a fault at call {call}");
         };
@@ -56,7 +56,7 @@ fn a_payload_is_read_again_after_a_fault(rt: HostRuntime) -> Result<(), Fail> {
         (7, b"AB|".as_slice(), b"C|".as_slice()),
         (8, b"AB|C|".as_slice(), b"".as_slice()),
     ] {
-        let disk = tape(rt.alloc(), file, Some(call))?;
+        let disk = tape(rt.alloc(), file, &[call])?;
         let mut opening = open_log(rt.alloc(), disk)?;
         let (payloads, error) = read_on(&rt, rt.alloc(), &mut opening)?;
         assert_eq!(rt; payloads.as_slice(), before, "call {call}");
@@ -94,7 +94,7 @@ fn a_fault_halts_the_log(rt: HostRuntime) -> Result<(), Fail> {
         (14, 1, b"AB|".as_slice(), b"AB|C|".as_slice()),
         (15, 1, b"AB|".as_slice(), b"AB|C|".as_slice()),
     ] {
-        let mut disk = tape(rt.alloc(), b"", Some(call))?;
+        let mut disk = tape(rt.alloc(), b"", &[call])?;
         create_log(&mut disk)?;
         let mut log = opened(&rt, rt.alloc(), disk);
         let answer = (acknowledged, Some(AppendError::DiskFault));
@@ -103,7 +103,21 @@ fn a_fault_halts_the_log(rt: HostRuntime) -> Result<(), Fail> {
         assert_eq!(rt; log.append(b"D", 2, 99), Err(AppendError::Halted(1)));
         assert_eq!(rt; log.append(b"too large", 2, 0), Err(AppendError::Halted(1)));
         assert_eq!(rt; log.disk().calls(), call);
-        assert_left(&rt, rt.alloc(), log.disk(), call + 1, closed, open)?;
+        assert_left(&rt, rt.alloc(), log.disk(), u64::MAX, closed, open)?;
     }
+    Ok(())
+}
+
+// One fault in a first creation, and one in the last sync of an append.
+#[test]
+fn a_halted_log_tells_all_faults_of_its_disk(rt: HostRuntime) -> Result<(), Fail> {
+    let mut disk = tape(rt.alloc(), b"", &[2, 13])?;
+    assert_eq!(rt; create_log(&mut disk), Err(CreateError::DiskFault));
+    assert_eq!(rt; create_log(&mut disk), Ok(()));
+    let mut log = opened(&rt, rt.alloc(), disk);
+    assert_eq!(rt; log.halted(), None);
+    assert_eq!(rt; log.append(b"AB", 2, 99), Err(AppendError::DiskFault));
+    assert_eq!(rt; log.halted(), Some(2));
+    assert_eq!(rt; log.append(b"C", 2, 99), Err(AppendError::Halted(2)));
     Ok(())
 }

@@ -2,7 +2,7 @@ use super::*;
 
 #[test]
 fn a_log_is_made_of_an_empty_file(rt: HostRuntime) -> Result<(), Fail> {
-    let mut disk = tape(rt.alloc(), b"", None)?;
+    let mut disk = tape(rt.alloc(), b"", &[])?;
     assert_eq!(rt; create_log(&mut disk), Ok(()));
     assert_eq!(rt; disk.bytes(), b"BFROGLG1\0".as_slice());
     assert_eq!(rt; disk.calls(), 3);
@@ -16,7 +16,7 @@ fn no_log_is_made_of_a_file_with_bytes(rt: HostRuntime) -> Result<(), Fail> {
         (b"BFROGLG1\0".as_slice(), 9),
         (b"twelve bytes".as_slice(), 12),
     ] {
-        let mut disk = tape(rt.alloc(), bytes, None)?;
+        let mut disk = tape(rt.alloc(), bytes, &[])?;
         assert_eq!(rt; create_log(&mut disk), Err(CreateError::NotEmpty(len)));
         assert_eq!(rt; disk.bytes(), bytes);
         assert_eq!(rt; disk.calls(), 1);
@@ -37,7 +37,7 @@ fn a_record_is_spelled(rt: HostRuntime) -> Result<(), Fail> {
             b"BFROGLG1\xa5\x10\0\0\x000123456789abcdef\0".as_slice(),
         ),
     ] {
-        let mut log = opened(&rt, rt.alloc(), tape(rt.alloc(), b"BFROGLG1\0", None)?);
+        let mut log = opened(&rt, rt.alloc(), tape(rt.alloc(), b"BFROGLG1\0", &[])?);
         let before = log.disk().calls();
         assert_eq!(rt; log.append(payload, 1 << 30, 1 << 36), Ok(1));
         let disk = log.into_disk();
@@ -50,7 +50,7 @@ fn a_record_is_spelled(rt: HostRuntime) -> Result<(), Fail> {
 
 #[test]
 fn a_length_has_its_lowest_byte_first(rt: HostRuntime) -> Result<(), Fail> {
-    let mut log = opened(&rt, rt.alloc(), tape(rt.alloc(), b"BFROGLG1\0", None)?);
+    let mut log = opened(&rt, rt.alloc(), tape(rt.alloc(), b"BFROGLG1\0", &[])?);
     let payload = vec![in rt.alloc(); b'x'; 0x0102]?;
     assert_eq!(rt; log.append(&payload, 1 << 30, 1 << 36), Ok(1));
     let disk = log.into_disk();
@@ -84,7 +84,7 @@ fn bytes_behind_the_closed_gate_stay(rt: HostRuntime) -> Result<(), Fail> {
             b"BFROGLG1\xa5\0\0\0\0\0\xa5\xa5".as_slice(),
         ),
     ] {
-        let mut log = opened(&rt, rt.alloc(), tape(rt.alloc(), before, None)?);
+        let mut log = opened(&rt, rt.alloc(), tape(rt.alloc(), before, &[])?);
         assert_eq!(rt; log.append(payload, 9, 99), Ok(1));
         let disk = log.into_disk();
         assert_eq!(rt; disk.bytes(), after);

@@ -4,14 +4,14 @@ use super::*;
 fn a_head_is_no_log_where_it_ends_or_differs(rt: HostRuntime) -> Result<(), Fail> {
     let log = *b"BFROGLG1\0";
     for at in 0..=8 {
-        let (_, error) = read_all(&rt, rt.alloc(), tape(rt.alloc(), &log[..at], None)?)?;
+        let (_, error) = read_all(&rt, rt.alloc(), tape(rt.alloc(), &log[..at], &[])?)?;
         assert_eq!(rt; error, Some(OpenError::NotALog(at as u64)), "cut at {at}");
     }
     for at in 0..8 {
         for bit in [0x01, 0x80] {
             let mut bytes = log;
             bytes[at] ^= bit;
-            let (_, error) = read_all(&rt, rt.alloc(), tape(rt.alloc(), &bytes, None)?)?;
+            let (_, error) = read_all(&rt, rt.alloc(), tape(rt.alloc(), &bytes, &[])?)?;
             assert_eq!(rt;
                 error,
                 Some(OpenError::NotALog(at as u64)),
@@ -63,7 +63,7 @@ fn a_chain_is_no_log_where_it_breaks(rt: HostRuntime) -> Result<(), Fail> {
             18,
         ),
     ] {
-        let (payloads, error) = read_all(&rt, rt.alloc(), tape(rt.alloc(), bytes, None)?)?;
+        let (payloads, error) = read_all(&rt, rt.alloc(), tape(rt.alloc(), bytes, &[])?)?;
         assert_eq!(rt; payloads.as_slice(), wanted, "{bytes:?}");
         assert_eq!(rt; error, Some(OpenError::NotALog(at)), "{bytes:?}");
     }
@@ -89,7 +89,7 @@ fn bytes_behind_a_closed_gate_mean_nothing(rt: HostRuntime) -> Result<(), Fail> 
             b"A|B|".as_slice(),
         ),
     ] {
-        let (payloads, error) = read_all(&rt, rt.alloc(), tape(rt.alloc(), bytes, None)?)?;
+        let (payloads, error) = read_all(&rt, rt.alloc(), tape(rt.alloc(), bytes, &[])?)?;
         assert_eq!(rt; payloads.as_slice(), wanted, "{bytes:?}");
         assert_eq!(rt; error, None, "{bytes:?}");
     }
@@ -108,7 +108,7 @@ fn what_ended_a_chain_ends_it_again(rt: HostRuntime) -> Result<(), Fail> {
             6,
         ),
     ] {
-        let mut opening = open_log(rt.alloc(), tape(rt.alloc(), bytes, None)?)?;
+        let mut opening = open_log(rt.alloc(), tape(rt.alloc(), bytes, &[])?)?;
         let (_, error) = read_on(&rt, rt.alloc(), &mut opening)?;
         assert_eq!(rt; error, wanted, "{bytes:?}");
         for _ in 0..2 {

@@ -2,9 +2,9 @@ use super::*;
 
 #[test]
 fn limits_are_exact(rt: HostRuntime) -> Result<(), Fail> {
-    let mut log = opened(&rt, rt.alloc(), tape(rt.alloc(), b"BFROGLG1\0", None)?);
+    let mut log = opened(&rt, rt.alloc(), tape(rt.alloc(), b"BFROGLG1\0", &[])?);
     for (payload, largest, limit, answer) in [
-        (b"AB".as_slice(), 2, 15, Err(AppendError::LogFull(8, 7))),
+        (b"AB".as_slice(), 2u8, 15, Err(AppendError::LogFull(8, 7))),
         (b"AB".as_slice(), 2, 8, Err(AppendError::LogFull(8, 7))),
         (b"AB".as_slice(), 2, 0, Err(AppendError::LogFull(8, 7))),
         (b"AB".as_slice(), 1, 15, Err(AppendError::TooLarge(2))),
@@ -17,7 +17,7 @@ fn limits_are_exact(rt: HostRuntime) -> Result<(), Fail> {
         (b"".as_slice(), 0, u64::MAX, Ok(3)),
     ] {
         assert_eq!(rt;
-            log.append(payload, largest, limit),
+            log.append(payload, u32::from(largest), limit),
             answer,
             "limit {limit}"
         );

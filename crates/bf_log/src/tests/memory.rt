@@ -43,7 +43,7 @@ impl Disk for SmallDisk {
     }
 
     fn write_at(&mut self, at: u64, bytes: &[u8]) -> Result<(), DiskError> {
-        if at + bytes.len() as u64 > self.room {
+        if at > self.room || bytes.len() as u64 > self.room - at {
             return Err(DiskError::Memory);
         }
         self.disk.write_at(at, bytes)
@@ -79,16 +79,17 @@ fn a_log_without_room_is_spent(rt: HostRuntime) -> Result<(), Fail> {
     let mut disk = small_disk(rt.alloc(), 16);
     create_log(&mut disk)?;
     let mut log = opened(&rt, rt.alloc(), disk);
-    for (payload, largest, limit) in [
-        (b"abc".as_slice(), 9, 99),
-        (b"ab".as_slice(), 9, 99),
-        (b"ab".as_slice(), 1, 0),
+    for (payload, limit) in [
+        (b"abc".as_slice(), 99),
+        (b"ab".as_slice(), 99),
+        (b"ab".as_slice(), 0),
+        (b"too large".as_slice(), 99),
     ] {
-        let answer = log.append(payload, largest, limit);
-        assert_eq!(rt; answer, Err(AppendError::Memory));
+        let answer = log.append(payload, 3, limit);
+        assert_eq!(rt; answer, Err(AppendError::Memory), "{payload:?}");
         assert_eq!(rt; log.halted(), None);
     }
     let mut log = opened(&rt, rt.alloc(), log.into_disk());
-    assert_eq!(rt; log.append(b"ab", 9, 99), Ok(1));
+    assert_eq!(rt; log.append(b"ab", 3, 99), Ok(1));
     Ok(())
 }

@@ -1,5 +1,5 @@
 use super::*;
-use bf_disk::{DiskError, MemoryDisk};
+use bf_disk::MemoryDisk;
 
 // One sync, the length and the head, and for each record a frame and a payload; then the closed gate.
 #[test]
@@ -11,11 +11,11 @@ fn opening_reads_each_byte_once(rt: HostRuntime) -> Result<(), Fail> {
         ([2, 0, 1000].as_slice(), 10),
         ([1, 1, 1, 1, 1, 1, 1].as_slice(), 18),
     ] {
-        let mut log = opened(&rt, rt.alloc(), tape(rt.alloc(), b"BFROGLG1\0", None)?);
+        let mut log = opened(&rt, rt.alloc(), tape(rt.alloc(), b"BFROGLG1\0", &[])?);
         for size in sizes {
             log.append(&vec![in rt.alloc(); b'x'; *size]?, 1 << 30, 1 << 36)?;
         }
-        let disk = tape(rt.alloc(), log.disk().bytes(), None)?;
+        let disk = tape(rt.alloc(), log.disk().bytes(), &[])?;
         let again = opened(&rt, rt.alloc(), disk);
         assert_eq!(rt; again.disk().calls(), calls, "{sizes:?}");
     }
