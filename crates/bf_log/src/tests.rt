@@ -39,7 +39,7 @@ fn opened<R: Abort, D: Disk + Drop>(rt: &R, alloc: Global, disk: D) -> Log<D> {
     panic!(rt; "more than 2000 payloads")
 }
 
-// What is read from there on: the payloads, each with a bar behind it, and the error that ended them.
+// What is read from there on: each payload with a bar behind it, and the error that ended it.
 fn read_on<R: Abort, D: Disk>(
     rt: &R,
     alloc: Global,

@@ -1,7 +1,7 @@
 use super::*;
 
-// A log with two records, on a disk that keeps each call so far: 3 of the creation, 4 of the opening
-// and 4 of each append.
+// A log with two records. Its disk keeps 15 calls: 3 of the creation, 4 of the opening, and 4 of
+// each append.
 fn two_records<R: Abort>(rt: &R, alloc: Global) -> Result<TapeDisk, Fail> {
     let mut disk = tape(alloc, b"", &[])?;
     create_log(&mut disk)?;

@@ -68,7 +68,7 @@ fn a_payload_is_read_again_after_a_fault(rt: HostRuntime) -> Result<(), Fail> {
     Ok(())
 }
 
-// Appends two records, and answers how many were acknowledged before the first error, and that error.
+// Appends two records, and answers how many were acknowledged and the error that ended it.
 fn append_two<D: Disk>(log: &mut Log<D>) -> (u64, Option<AppendError>) {
     let mut acknowledged = 0;
     for payload in [b"AB".as_slice(), b"C".as_slice()] {
@@ -80,8 +80,8 @@ fn append_two<D: Disk>(log: &mut Log<D>) -> (u64, Option<AppendError>) {
     (acknowledged, None)
 }
 
-// The appends make the calls 8 to 11 and 12 to 15. Once the write of the gate was asked for, a crash
-// leaves the record or not.
+// The appends make the calls 8 to 11 and 12 to 15. Once the write of the gate was asked for, a
+// crash leaves the record or not.
 #[test]
 fn a_fault_halts_the_log(rt: HostRuntime) -> Result<(), Fail> {
     for (call, acknowledged, closed, open) in [

@@ -1,7 +1,7 @@
 use super::*;
 use bf_disk::MemoryDisk;
 
-// One sync, the length and the head, and for each record a frame and a payload; then the closed gate.
+// A sync, the length and the head; for each record a frame and a payload; then the closed gate.
 #[test]
 fn opening_reads_each_byte_once(rt: HostRuntime) -> Result<(), Fail> {
     for (sizes, calls) in [
