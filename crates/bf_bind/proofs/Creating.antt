@@ -9,7 +9,7 @@ use Rattle.bf_sql.specs.Database.{Database, Stored, stored_at}
 use Rattle.bf_bind.specs.Limits.{bare_table}
 use Rattle.bf_sql.specs.Objections.{names_objections, new_table_objections, rule_names, rules_objections}
 use Rattle.bf_sql.specs.declared.statement.ColumnRule.{ColumnRule}
-use Rattle.bf_bind.specs.declared.stop.Stop.{Stop}
+use Rattle.bf_sql.specs.declared.stop.Stop.{Stop}
 use Rattle.bf_bind.specs.Parts.{new_column}
 use Rattle.bf_bind.specs.Stops.{Stops}
 

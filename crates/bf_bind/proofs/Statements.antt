@@ -25,8 +25,8 @@ use Rattle.bf_sql.specs.declared.statement.Statement.TheVariants.{CreateTable, C
 use Rattle.bf_sql.specs.Meaning.{index_of, table_of}
 use Rattle.bf_bind.specs.Actions.{action_for, objections_to}
 use Rattle.bf_bind.specs.Stops.{Stops}
-use Rattle.bf_bind.specs.declared.stop.Stop.{Stop}
-use Rattle.bf_bind.specs.declared.stop.Stop.TheVariants as stops
+use Rattle.bf_sql.specs.declared.stop.Stop.{Stop}
+use Rattle.bf_sql.specs.declared.stop.Stop.TheVariants as stops
 use Rattle.bf_bind.proofs.Walks.{none_of, stops_before, stops_behind}
 use Rattle.bf_expr.specs.Trees.{cond_over}
 use Rattle.bf_sql.specs.Bound.{items_over}

@@ -4,8 +4,8 @@ use Rattle.std.specs.List.{flat_map}
 use Rattle.std.proofs.lemmas.List.{drop_more, take_more}
 use Rattle.bf_base.specs.Lists.{with_before, with_before_from}
 use Rattle.bf_sql.specs.declared.reply.Refusal.{Refusal}
-use Rattle.bf_bind.specs.declared.stop.Stop.{Stop}
-use Rattle.bf_bind.specs.declared.stop.Stop.TheVariants.{Refused, Memory}
+use Rattle.bf_sql.specs.declared.stop.Stop.{Stop}
+use Rattle.bf_sql.specs.declared.stop.Stop.TheVariants.{Refused, Memory}
 use Rattle.bf_bind.specs.Stops.{Stops}
 
 first_of-append : (r : Refusal) (xs ys : List Refusal) → slice_get xs 0 ≡ Some r → slice_get (xs ++ ys) 0 ≡ Some r

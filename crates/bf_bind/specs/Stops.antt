@@ -1,8 +1,8 @@
 -- Why binding stops.
 use Rattle.std.specs.Prelude.{◌≡◌, List, Some, slice_get}
 use Rattle.bf_sql.specs.declared.reply.Refusal.{Refusal}
-use Rattle.bf_bind.specs.declared.stop.Stop.{Stop}
-use Rattle.bf_bind.specs.declared.stop.Stop.TheVariants.{Refused, Memory}
+use Rattle.bf_sql.specs.declared.stop.Stop.{Stop}
+use Rattle.bf_sql.specs.declared.stop.Stop.TheVariants.{Refused, Memory}
 
 -- binding stops at the first of some objections, or memory ran out
 unfoldable pub Stops : Stop → List Refusal → Type 0

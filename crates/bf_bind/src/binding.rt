@@ -14,10 +14,9 @@ use crate::create::{bind_index, bind_table};
 use crate::fixed::bind_selection;
 use crate::list::bind_items;
 use crate::lookup::expect_table;
-use crate::stop::Stop;
 use bf_base::{Memory, Name, Row, Sequence};
 use bf_expr::{RawCond, RawExpr};
-use bf_sql::{Action, Bound, Catalog, ColumnRule, List, Refusal, Statement};
+use bf_sql::{Action, Bound, Catalog, ColumnRule, List, Refusal, Statement, Stop};
 use std::alloc::Global;
 
 /// CREATE and MIGRATE stand outside a block.
@@ -41,9 +40,13 @@ fn bind_insert(
 ) -> Result<Action, Stop>
     requires database { IsDatabase (bare catalog.now) }
     requires narrow { HasNarrowTables catalog.now }
-    ensures ok { OnOk result ((in_block : Bool) → objections_to (bare catalog.now) in_block (statement.Insert name.now tuples.now) ≡ []) }
-    ensures value { IfOk result (λ bound. action_for (bare catalog.now) (statement.Insert name.now tuples.now) ≡ Some bound) }
-    ensures stopped { IfErr result (λ stop. (in_block : Bool) → Stops stop (objections_to (bare catalog.now) in_block (statement.Insert name.now tuples.now))) }
+    ensures ok { OnOk result ((in_block : Bool)
+        → objections_to (bare catalog.now) in_block (statement.Insert name.now tuples.now) ≡ []) }
+    ensures value { IfOk result (λ bound.
+        action_for (bare catalog.now) (statement.Insert name.now tuples.now) ≡ Some bound) }
+    ensures stopped { IfErr result (λ stop. (in_block : Bool)
+        → Stops stop (objections_to (bare catalog.now) in_block
+        (statement.Insert name.now tuples.now))) }
 {
     let found = expect_table(alloc, catalog, name)?;
     let table = found.copy(alloc)?;
@@ -60,9 +63,14 @@ fn bind_select(
 ) -> Result<Action, Stop>
     requires database { IsDatabase (bare catalog.now) }
     requires narrow { HasNarrowTables catalog.now }
-    ensures ok { OnOk result ((in_block : Bool) → objections_to (bare catalog.now) in_block (statement.Select list.now name.now cond.now) ≡ []) }
-    ensures value { IfOk result (λ bound. action_for (bare catalog.now) (statement.Select list.now name.now cond.now) ≡ Some bound) }
-    ensures stopped { IfErr result (λ stop. (in_block : Bool) → Stops stop (objections_to (bare catalog.now) in_block (statement.Select list.now name.now cond.now))) }
+    ensures ok { OnOk result ((in_block : Bool)
+        → objections_to (bare catalog.now) in_block (statement.Select list.now name.now cond.now)
+        ≡ []) }
+    ensures value { IfOk result (λ bound.
+        action_for (bare catalog.now) (statement.Select list.now name.now cond.now) ≡ Some bound) }
+    ensures stopped { IfErr result (λ stop. (in_block : Bool)
+        → Stops stop (objections_to (bare catalog.now) in_block
+        (statement.Select list.now name.now cond.now))) }
 {
     let found = expect_table(alloc, catalog, name)?;
     let table = found.copy(alloc)?;
@@ -85,9 +93,14 @@ fn bind_update(
 ) -> Result<Action, Stop>
     requires database { IsDatabase (bare catalog.now) }
     requires narrow { HasNarrowTables catalog.now }
-    ensures ok { OnOk result ((in_block : Bool) → objections_to (bare catalog.now) in_block (statement.Update name.now sets.now cond.now) ≡ []) }
-    ensures value { IfOk result (λ bound. action_for (bare catalog.now) (statement.Update name.now sets.now cond.now) ≡ Some bound) }
-    ensures stopped { IfErr result (λ stop. (in_block : Bool) → Stops stop (objections_to (bare catalog.now) in_block (statement.Update name.now sets.now cond.now))) }
+    ensures ok { OnOk result ((in_block : Bool)
+        → objections_to (bare catalog.now) in_block (statement.Update name.now sets.now cond.now)
+        ≡ []) }
+    ensures value { IfOk result (λ bound.
+        action_for (bare catalog.now) (statement.Update name.now sets.now cond.now) ≡ Some bound) }
+    ensures stopped { IfErr result (λ stop. (in_block : Bool)
+        → Stops stop (objections_to (bare catalog.now) in_block
+        (statement.Update name.now sets.now cond.now))) }
 {
     let found = expect_table(alloc, catalog, name)?;
     let table = found.copy(alloc)?;
@@ -109,9 +122,13 @@ fn bind_delete(
 ) -> Result<Action, Stop>
     requires database { IsDatabase (bare catalog.now) }
     requires narrow { HasNarrowTables catalog.now }
-    ensures ok { OnOk result ((in_block : Bool) → objections_to (bare catalog.now) in_block (statement.Delete name.now cond.now) ≡ []) }
-    ensures value { IfOk result (λ bound. action_for (bare catalog.now) (statement.Delete name.now cond.now) ≡ Some bound) }
-    ensures stopped { IfErr result (λ stop. (in_block : Bool) → Stops stop (objections_to (bare catalog.now) in_block (statement.Delete name.now cond.now))) }
+    ensures ok { OnOk result ((in_block : Bool)
+        → objections_to (bare catalog.now) in_block (statement.Delete name.now cond.now) ≡ []) }
+    ensures value { IfOk result (λ bound.
+        action_for (bare catalog.now) (statement.Delete name.now cond.now) ≡ Some bound) }
+    ensures stopped { IfErr result (λ stop. (in_block : Bool)
+        → Stops stop (objections_to (bare catalog.now) in_block
+        (statement.Delete name.now cond.now))) }
 {
     let found = expect_table(alloc, catalog, name)?;
     let table = found.copy(alloc)?;
@@ -126,8 +143,10 @@ fn bind_delete(
 /// BEGIN stands outside a block.
 fn bind_begin(in_block: bool) -> Result<Action, Stop>
     ensures ok { OnOk result ((db : Database) → objections_to db in_block statement.Begin ≡ []) }
-    ensures value { IfOk result (λ bound. (db : Database) → action_for db statement.Begin ≡ Some bound) }
-    ensures stopped { IfErr result (λ stop. (db : Database) → Stops stop (objections_to db in_block statement.Begin)) }
+    ensures value { IfOk result (λ bound. (db : Database)
+        → action_for db statement.Begin ≡ Some bound) }
+    ensures stopped { IfErr result (λ stop. (db : Database)
+        → Stops stop (objections_to db in_block statement.Begin)) }
 {
     if in_block {
         Err(Stop::Refused(Refusal::InTransaction))
@@ -139,8 +158,10 @@ fn bind_begin(in_block: bool) -> Result<Action, Stop>
 /// COMMIT stands inside a block.
 fn bind_commit(in_block: bool) -> Result<Action, Stop>
     ensures ok { OnOk result ((db : Database) → objections_to db in_block statement.Commit ≡ []) }
-    ensures value { IfOk result (λ bound. (db : Database) → action_for db statement.Commit ≡ Some bound) }
-    ensures stopped { IfErr result (λ stop. (db : Database) → Stops stop (objections_to db in_block statement.Commit)) }
+    ensures value { IfOk result (λ bound. (db : Database)
+        → action_for db statement.Commit ≡ Some bound) }
+    ensures stopped { IfErr result (λ stop. (db : Database)
+        → Stops stop (objections_to db in_block statement.Commit)) }
 {
     if in_block {
         Ok(Action::Commit)
@@ -152,8 +173,10 @@ fn bind_commit(in_block: bool) -> Result<Action, Stop>
 /// ROLLBACK stands inside a block.
 fn bind_rollback(in_block: bool) -> Result<Action, Stop>
     ensures ok { OnOk result ((db : Database) → objections_to db in_block statement.Rollback ≡ []) }
-    ensures value { IfOk result (λ bound. (db : Database) → action_for db statement.Rollback ≡ Some bound) }
-    ensures stopped { IfErr result (λ stop. (db : Database) → Stops stop (objections_to db in_block statement.Rollback)) }
+    ensures value { IfOk result (λ bound. (db : Database)
+        → action_for db statement.Rollback ≡ Some bound) }
+    ensures stopped { IfErr result (λ stop. (db : Database)
+        → Stops stop (objections_to db in_block statement.Rollback)) }
 {
     if in_block {
         Ok(Action::Rollback)
@@ -173,9 +196,14 @@ fn bind_create_table(
     requires database { IsDatabase (bare catalog.now) }
     requires narrow { HasNarrowTables catalog.now }
     requires declared { length rules.now ≤ 16 }
-    ensures ok { OnOk result (objections_to (bare catalog.now) in_block (statement.CreateTable name.now rules.now key.now) ≡ []) }
-    ensures value { IfOk result (λ bound. action_for (bare catalog.now) (statement.CreateTable name.now rules.now key.now) ≡ Some bound) }
-    ensures stopped { IfErr result (λ stop. Stops stop (objections_to (bare catalog.now) in_block (statement.CreateTable name.now rules.now key.now))) }
+    ensures ok { OnOk result (objections_to (bare catalog.now) in_block
+        (statement.CreateTable name.now rules.now key.now) ≡ []) }
+    ensures value { IfOk result (λ bound.
+        action_for (bare catalog.now) (statement.CreateTable name.now rules.now key.now)
+        ≡ Some bound) }
+    ensures stopped { IfErr result
+        (λ stop. Stops stop (objections_to (bare catalog.now) in_block
+        (statement.CreateTable name.now rules.now key.now))) }
 {
     expect_alone(in_block)?;
     let made = bind_table(alloc, catalog, name, rules.as_slice(), key.as_slice())?;
@@ -192,9 +220,14 @@ fn bind_create_index(
 ) -> Result<Action, Stop>
     requires database { IsDatabase (bare catalog.now) }
     requires narrow { HasNarrowTables catalog.now }
-    ensures ok { OnOk result (objections_to (bare catalog.now) in_block (statement.CreateIndex name.now table.now columns.now) ≡ []) }
-    ensures value { IfOk result (λ bound. action_for (bare catalog.now) (statement.CreateIndex name.now table.now columns.now) ≡ Some bound) }
-    ensures stopped { IfErr result (λ stop. Stops stop (objections_to (bare catalog.now) in_block (statement.CreateIndex name.now table.now columns.now))) }
+    ensures ok { OnOk result (objections_to (bare catalog.now) in_block
+        (statement.CreateIndex name.now table.now columns.now) ≡ []) }
+    ensures value { IfOk result (λ bound.
+        action_for (bare catalog.now) (statement.CreateIndex name.now table.now columns.now)
+        ≡ Some bound) }
+    ensures stopped { IfErr result
+        (λ stop. Stops stop (objections_to (bare catalog.now) in_block
+        (statement.CreateIndex name.now table.now columns.now))) }
 {
     expect_alone(in_block)?;
     let found = expect_table(alloc, catalog, table)?;
@@ -213,8 +246,10 @@ fn bind_action(
     requires database { IsDatabase (bare catalog.now) }
     requires limits { KeepsLimits catalog.now statement.now }
     ensures ok { OnOk result (objections_to (bare catalog.now) in_block statement.now ≡ []) }
-    ensures value { IfOk result (λ bound. action_for (bare catalog.now) statement.now ≡ Some bound) }
-    ensures stopped { IfErr result (λ stop. Stops stop (objections_to (bare catalog.now) in_block statement.now)) }
+    ensures value { IfOk result (λ bound.
+        action_for (bare catalog.now) statement.now ≡ Some bound) }
+    ensures stopped { IfErr result
+        (λ stop. Stops stop (objections_to (bare catalog.now) in_block statement.now)) }
 {
     match statement {
         Statement::CreateTable { name, columns, key } => {
@@ -268,7 +303,8 @@ pub fn bind(
     requires alone { is_planned in_block statement.now ≡ false }
     requires database { IsDatabase (bare catalog.now) }
     requires limits { KeepsLimits catalog.now statement.now }
-    ensures { IfOk result (λ bound. bound_of (bare catalog.now) in_block statement.now ≡ Some bound) }
+    ensures { IfOk result (λ bound.
+        bound_of (bare catalog.now) in_block statement.now ≡ Some bound) }
 {
     let schema_change = changes_schema(statement, in_block);
     match bind_action(alloc, statement, catalog, in_block) {

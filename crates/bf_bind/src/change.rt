@@ -10,10 +10,9 @@ ghost use Rattle.bf_bind.specs.Stops.{Stops};
 
 use crate::expression::bind_expression;
 use crate::scope::{column_named, expect_kind, is_same_kind, kind_of_column};
-use crate::stop::Stop;
 use bf_base::{Column, Name, Row, Sequence, Table, Value};
 use bf_expr::{Expr, RawExpr};
-use bf_sql::Refusal;
+use bf_sql::{Refusal, Stop};
 use std::alloc::Global;
 
 /// Whether values are of the kinds of their columns.
@@ -54,7 +53,8 @@ pub(crate) fn bind_tuples(
 ) -> Result<Sequence<Row>, Stop>
     ensures ok { OnOk result (flat_map (tuple_objections table.now) tuples.now ≡ []) }
     ensures value { IfOk result (λ rows. rows ≡ tuples.now) }
-    ensures stopped { IfErr result (λ stop. Stops stop (flat_map (tuple_objections table.now) tuples.now)) }
+    ensures stopped { IfErr result
+        (λ stop. Stops stop (flat_map (tuple_objections table.now) tuples.now)) }
 {
     for tuple in tuples.as_slice() {
         expect_tuple(table, tuple)?;
@@ -64,7 +64,8 @@ pub(crate) fn bind_tuples(
 
 /// Whether the column at a place has a name.
 fn has_name(columns: &[Column], place: u8, name: &Name) -> bool
-    ensures { result ≡ same_name name.now (slice_index_or (map (λ column. column.name) columns.now) place []) }
+    ensures { result ≡ same_name name.now
+        (slice_index_or (map (λ column. column.name) columns.now) place []) }
 {
     let sought = name.as_bytes();
     match columns.get(place as usize) {
@@ -102,7 +103,8 @@ fn bind_set(
     requires { length table.now.columns ≤ 16 }
     ensures ok { OnOk result (set_objections_of table.now before.now set.now ≡ []) }
     ensures value { IfOk result (λ bound. bound ≡ bound_set (scope_of table.now) set.now) }
-    ensures stopped { IfErr result (λ stop. Stops stop (set_objections_of table.now before.now set.now)) }
+    ensures stopped { IfErr result
+        (λ stop. Stops stop (set_objections_of table.now before.now set.now)) }
 {
     let name = &set.0;
     let Some(column) = column_named(table, name) else {

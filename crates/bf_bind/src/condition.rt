@@ -10,17 +10,20 @@ ghost use Rattle.bf_bind.specs.Stops.{Stops};
 
 use crate::expression::{BoundExpr, bind_column, bind_literal};
 use crate::scope::expect_kind;
-use crate::stop::Stop;
 use bf_base::Table;
 use bf_expr::{Compare, Cond, Operand, RawCond, RawTest, Test};
+use bf_sql::Stop;
 use std::alloc::Global;
 
 /// A literal or a column, and its kind.
 fn bind_operand(alloc: Global, table: &Table, operand: &Operand) -> Result<BoundExpr, Stop>
     requires { length table.now.columns ≤ 16 }
-    ensures ok { OnOk result (expr_objections (scope_of table.now) (operand_tree operand.now) ≡ []) }
-    ensures value { IfOk result (λ bound. bound ≡ bound_expr (scope_of table.now) (operand_tree operand.now)) }
-    ensures stopped { IfErr result (λ stop. Stops stop (expr_objections (scope_of table.now) (operand_tree operand.now))) }
+    ensures ok { OnOk result (expr_objections (scope_of table.now) (operand_tree operand.now)
+        ≡ []) }
+    ensures value { IfOk result (λ bound.
+        bound ≡ bound_expr (scope_of table.now) (operand_tree operand.now)) }
+    ensures stopped { IfErr result
+        (λ stop. Stops stop (expr_objections (scope_of table.now) (operand_tree operand.now))) }
 {
     match operand {
         Operand::Value(value) => bind_literal(alloc, value),
@@ -37,9 +40,14 @@ fn bind_comparison(
     b: &Operand,
 ) -> Result<Cond, Stop>
     requires { length table.now.columns ≤ 16 }
-    ensures ok { OnOk result (cond_objections (scope_of table.now) (compared compare (operand_tree a.now) (operand_tree b.now)) ≡ []) }
-    ensures value { IfOk result (λ cond. cond ≡ cond_over (place_of (scope_of table.now)) (compared compare (operand_tree a.now) (operand_tree b.now))) }
-    ensures stopped { IfErr result (λ stop. Stops stop (cond_objections (scope_of table.now) (compared compare (operand_tree a.now) (operand_tree b.now)))) }
+    ensures ok { OnOk result (cond_objections (scope_of table.now)
+        (compared compare (operand_tree a.now) (operand_tree b.now)) ≡ []) }
+    ensures value { IfOk result (λ cond.
+        cond ≡ cond_over (place_of (scope_of table.now))
+        (compared compare (operand_tree a.now) (operand_tree b.now))) }
+    ensures stopped { IfErr result
+        (λ stop. Stops stop (cond_objections (scope_of table.now)
+        (compared compare (operand_tree a.now) (operand_tree b.now)))) }
 {
     let left = bind_operand(alloc, table, a)?;
     let right = bind_operand(alloc, table, b)?;
@@ -56,9 +64,14 @@ fn bind_between(
     high: &Operand,
 ) -> Result<Cond, Stop>
     requires { length table.now.columns ≤ 16 }
-    ensures ok { OnOk result (cond_objections (scope_of table.now) (between (operand_tree a.now) (operand_tree low.now) (operand_tree high.now)) ≡ []) }
-    ensures value { IfOk result (λ cond. cond ≡ cond_over (place_of (scope_of table.now)) (between (operand_tree a.now) (operand_tree low.now) (operand_tree high.now))) }
-    ensures stopped { IfErr result (λ stop. Stops stop (cond_objections (scope_of table.now) (between (operand_tree a.now) (operand_tree low.now) (operand_tree high.now)))) }
+    ensures ok { OnOk result (cond_objections (scope_of table.now)
+        (between (operand_tree a.now) (operand_tree low.now) (operand_tree high.now)) ≡ []) }
+    ensures value { IfOk result (λ cond.
+        cond ≡ cond_over (place_of (scope_of table.now))
+        (between (operand_tree a.now) (operand_tree low.now) (operand_tree high.now))) }
+    ensures stopped { IfErr result
+        (λ stop. Stops stop (cond_objections (scope_of table.now)
+        (between (operand_tree a.now) (operand_tree low.now) (operand_tree high.now)))) }
 {
     let middle = bind_operand(alloc, table, a)?;
     let least = bind_operand(alloc, table, low)?;
@@ -77,7 +90,8 @@ fn bind_test(alloc: Global, table: &Table, raw: &RawCond) -> Result<Cond, Stop>
     requires { length table.now.columns ≤ 16 }
     ensures ok { OnOk result (cond_objections (scope_of table.now) raw.now ≡ []) }
     ensures value { IfOk result (λ cond. cond ≡ cond_over (place_of (scope_of table.now)) raw.now) }
-    ensures stopped { IfErr result (λ stop. Stops stop (cond_objections (scope_of table.now) raw.now)) }
+    ensures stopped { IfErr result
+        (λ stop. Stops stop (cond_objections (scope_of table.now) raw.now)) }
 {
     match raw.node() {
         RawTest::Compare(compare, a, b) => bind_comparison(alloc, table, *compare, a, b),
@@ -106,10 +120,15 @@ fn bind_sides(
     d: &RawCond,
 ) -> Result<(Box<Cond>, Box<Cond>), Stop>
     requires { length table.now.columns ≤ 16 }
-    ensures ok { OnOk result (cond_objections (scope_of table.now) c.now ++ cond_objections (scope_of table.now) d.now ≡ []) }
-    ensures left { IfOk result (λ sides. sides.0.value ≡ cond_over (place_of (scope_of table.now)) c.now) }
-    ensures right { IfOk result (λ sides. sides.1.value ≡ cond_over (place_of (scope_of table.now)) d.now) }
-    ensures stopped { IfErr result (λ stop. Stops stop (cond_objections (scope_of table.now) c.now ++ cond_objections (scope_of table.now) d.now)) }
+    ensures ok { OnOk result (cond_objections (scope_of table.now) c.now
+        ++ cond_objections (scope_of table.now) d.now ≡ []) }
+    ensures left { IfOk result (λ sides.
+        sides.0.value ≡ cond_over (place_of (scope_of table.now)) c.now) }
+    ensures right { IfOk result (λ sides.
+        sides.1.value ≡ cond_over (place_of (scope_of table.now)) d.now) }
+    ensures stopped { IfErr result
+        (λ stop. Stops stop (cond_objections (scope_of table.now) c.now
+        ++ cond_objections (scope_of table.now) d.now)) }
 {
     let left = bind_test(alloc, table, c)?;
     let right = bind_test(alloc, table, d)?;
@@ -126,8 +145,10 @@ pub(crate) fn bind_condition(
 ) -> Result<Cond, Stop>
     requires { length table.now.columns ≤ 16 }
     ensures ok { OnOk result (cond_objections (scope_of table.now) (condition_of cond.now) ≡ []) }
-    ensures value { IfOk result (λ bound. bound ≡ cond_over (place_of (scope_of table.now)) (condition_of cond.now)) }
-    ensures stopped { IfErr result (λ stop. Stops stop (cond_objections (scope_of table.now) (condition_of cond.now))) }
+    ensures value { IfOk result (λ bound.
+        bound ≡ cond_over (place_of (scope_of table.now)) (condition_of cond.now)) }
+    ensures stopped { IfErr result
+        (λ stop. Stops stop (cond_objections (scope_of table.now) (condition_of cond.now))) }
 {
     match cond {
         Some(cond) => bind_test(alloc, table, cond),

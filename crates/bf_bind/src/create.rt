@@ -12,9 +12,8 @@ ghost use Rattle.bf_bind.specs.Stops.{Stops};
 
 use crate::lookup::{has_index, table_named};
 use crate::scope::places_named;
-use crate::stop::Stop;
 use bf_base::{Admit, Column, Name, Sequence, Table};
-use bf_sql::{Catalog, ColumnForm, ColumnRule, IndexRule, Refusal};
+use bf_sql::{Catalog, ColumnForm, ColumnRule, IndexRule, Refusal, Stop};
 use std::alloc::Global;
 
 /// What a column of a name admits by its form.
@@ -88,9 +87,11 @@ pub(crate) fn bind_table(
     requires database { IsDatabase (bare catalog.now) }
     requires narrow { HasNarrowTables catalog.now }
     requires declared { length rules.now ≤ 16 }
-    ensures ok { OnOk result (new_table_objections (bare catalog.now) name.now rules.now key.now ≡ []) }
+    ensures ok { OnOk result (new_table_objections (bare catalog.now) name.now rules.now key.now
+        ≡ []) }
     ensures value { IfOk result (λ table. table ≡ table_of name.now rules.now key.now) }
-    ensures stopped { IfErr result (λ stop. Stops stop (new_table_objections (bare catalog.now) name.now rules.now key.now)) }
+    ensures stopped { IfErr result
+        (λ stop. Stops stop (new_table_objections (bare catalog.now) name.now rules.now key.now)) }
 {
     if table_named(catalog, name).is_some() {
         return Err(Stop::Refused(Refusal::TableExists(name.copy(alloc)?)));
@@ -115,9 +116,12 @@ pub(crate) fn bind_index(
 ) -> Result<IndexRule, Stop>
     requires database { IsDatabase (bare catalog.now) }
     requires narrow { length table.now.columns ≤ 16 }
-    ensures ok { OnOk result (new_index_objections (bare catalog.now) name.now table.now columns.now ≡ []) }
+    ensures ok { OnOk result (new_index_objections (bare catalog.now) name.now table.now columns.now
+        ≡ []) }
     ensures value { IfOk result (λ index. index ≡ index_of name.now table.now columns.now) }
-    ensures stopped { IfErr result (λ stop. Stops stop (new_index_objections (bare catalog.now) name.now table.now columns.now)) }
+    ensures stopped { IfErr result
+        (λ stop. Stops stop (new_index_objections
+        (bare catalog.now) name.now table.now columns.now)) }
 {
     let places = places_named(alloc, table, columns)?;
     if has_index(catalog, name) {

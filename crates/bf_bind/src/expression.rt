@@ -10,9 +10,9 @@ ghost use Rattle.bf_bind.specs.Parts.{bound_expr, parts_objections};
 ghost use Rattle.bf_bind.specs.Stops.{Stops};
 
 use crate::scope::{column, expect_kind};
-use crate::stop::Stop;
 use bf_base::{Kind, Table, Value};
 use bf_expr::{Expr, Node, RawExpr, RawNode, Ref};
+use bf_sql::Stop;
 use std::alloc::Global;
 
 /// An expression and the kind of its values.
@@ -50,8 +50,10 @@ pub(crate) fn bind_literal(alloc: Global, value: &Value) -> Result<BoundExpr, St
 pub(crate) fn bind_column(alloc: Global, table: &Table, reference: &Ref) -> Result<BoundExpr, Stop>
     requires { length table.now.columns ≤ 16 }
     ensures ok { OnOk result (ref_objections (scope_of table.now) reference.now ≡ []) }
-    ensures value { IfOk result (λ bound. bound ≡ bound_expr (scope_of table.now) (trees.column reference.now)) }
-    ensures stopped { IfErr result (λ stop. Stops stop (ref_objections (scope_of table.now) reference.now)) }
+    ensures value { IfOk result (λ bound.
+        bound ≡ bound_expr (scope_of table.now) (trees.column reference.now)) }
+    ensures stopped { IfErr result
+        (λ stop. Stops stop (ref_objections (scope_of table.now) reference.now)) }
 {
     let found = column(alloc, table, reference)?;
     Ok(BoundExpr::of(Node::Column(found.place), found.kind))
@@ -70,7 +72,8 @@ pub(crate) fn bind_expression(
     requires { length table.now.columns ≤ 16 }
     ensures ok { OnOk result (expr_objections (scope_of table.now) raw.now ≡ []) }
     ensures value { IfOk result (λ bound. bound ≡ bound_expr (scope_of table.now) raw.now) }
-    ensures stopped { IfErr result (λ stop. Stops stop (expr_objections (scope_of table.now) raw.now)) }
+    ensures stopped { IfErr result
+        (λ stop. Stops stop (expr_objections (scope_of table.now) raw.now)) }
 {
     match raw.node() {
         RawNode::Value(value) => bind_literal(alloc, value),
@@ -102,9 +105,13 @@ pub(crate) fn bind_expression(
 #[cycle(expression)]
 fn bind_part(alloc: Global, table: &Table, a: &RawExpr, kind: Kind) -> Result<Box<Expr>, Stop>
     requires { length table.now.columns ≤ 16 }
-    ensures ok { OnOk result (expr_objections (scope_of table.now) a.now ++ kind_objections (scope_of table.now) a.now kind ≡ []) }
-    ensures value { IfOk result (λ part. part.value ≡ expr_over (place_of (scope_of table.now)) a.now) }
-    ensures stopped { IfErr result (λ stop. Stops stop (expr_objections (scope_of table.now) a.now ++ kind_objections (scope_of table.now) a.now kind)) }
+    ensures ok { OnOk result (expr_objections (scope_of table.now) a.now
+        ++ kind_objections (scope_of table.now) a.now kind ≡ []) }
+    ensures value { IfOk result (λ part.
+        part.value ≡ expr_over (place_of (scope_of table.now)) a.now) }
+    ensures stopped { IfErr result
+        (λ stop. Stops stop (expr_objections (scope_of table.now) a.now
+        ++ kind_objections (scope_of table.now) a.now kind)) }
 {
     let inner = bind_expression(alloc, table, a)?;
     expect_kind(inner.kind, kind)?;
@@ -122,9 +129,12 @@ fn bind_parts(
 ) -> Result<(Box<Expr>, Box<Expr>), Stop>
     requires { length table.now.columns ≤ 16 }
     ensures ok { OnOk result (parts_objections (scope_of table.now) a.now b.now kind ≡ []) }
-    ensures left { IfOk result (λ parts. parts.0.value ≡ expr_over (place_of (scope_of table.now)) a.now) }
-    ensures right { IfOk result (λ parts. parts.1.value ≡ expr_over (place_of (scope_of table.now)) b.now) }
-    ensures stopped { IfErr result (λ stop. Stops stop (parts_objections (scope_of table.now) a.now b.now kind)) }
+    ensures left { IfOk result (λ parts.
+        parts.0.value ≡ expr_over (place_of (scope_of table.now)) a.now) }
+    ensures right { IfOk result (λ parts.
+        parts.1.value ≡ expr_over (place_of (scope_of table.now)) b.now) }
+    ensures stopped { IfErr result
+        (λ stop. Stops stop (parts_objections (scope_of table.now) a.now b.now kind)) }
 {
     let left = bind_expression(alloc, table, a)?;
     let right = bind_expression(alloc, table, b)?;

@@ -9,9 +9,9 @@ ghost use Rattle.bf_bind.specs.Stops.{Stops};
 ghost use Rattle.bf_bind.specs.Parts.{first_fixed as first_fixed_of, is_column_at, literal_of};
 
 use crate::condition::bind_condition;
-use crate::stop::Stop;
 use bf_base::{Key, Memory, Table, Value};
 use bf_expr::{Compare, Cond, Expr, Node, RawCond, Test};
+use bf_sql::Stop;
 use std::alloc::Global;
 
 /// The value of a literal.
@@ -37,7 +37,8 @@ fn is_column_at(expr: &Expr, place: u8) -> bool
 /// The value that an equality fixes a column to: its one side is the column, and the other one a
 /// literal.
 fn value_fixed<'a>(left: &'a Expr, right: &'a Expr, place: u8) -> Option<&'a Value>
-    ensures { option_copied result ≡ value_fixed place (compared comparison.Equal left.now right.now) }
+    ensures { option_copied result
+        ≡ value_fixed place (compared comparison.Equal left.now right.now) }
 {
     if is_column_at(left, place) {
         literal(right)
@@ -92,9 +93,11 @@ pub(crate) fn bind_selection(
 ) -> Result<Selection, Stop>
     requires { length table.now.columns ≤ 16 }
     ensures ok { OnOk result (cond_objections (scope_of table.now) (condition_of raw.now) ≡ []) }
-    ensures cond { IfOk result (λ picked. picked.cond ≡ cond_over (place_of (scope_of table.now)) (condition_of raw.now)) }
+    ensures cond { IfOk result (λ picked.
+        picked.cond ≡ cond_over (place_of (scope_of table.now)) (condition_of raw.now)) }
     ensures fixed { IfOk result (λ picked. picked.fixed ≡ fixed_key_of table.now picked.cond) }
-    ensures stopped { IfErr result (λ stop. Stops stop (cond_objections (scope_of table.now) (condition_of raw.now))) }
+    ensures stopped { IfErr result
+        (λ stop. Stops stop (cond_objections (scope_of table.now) (condition_of raw.now))) }
 {
     let cond = bind_condition(alloc, table, raw)?;
     let fixed = fixed_key(alloc, table, &cond)?;

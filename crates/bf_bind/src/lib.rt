@@ -11,7 +11,6 @@ mod fixed;
 mod list;
 mod lookup;
 mod scope;
-mod stop;
 #[cfg(test)]
 mod tests;
 

@@ -9,17 +9,18 @@ ghost use Rattle.bf_bind.specs.Stops.{Stops};
 
 use crate::expression::bind_expression;
 use crate::scope::expect_kind;
-use crate::stop::Stop;
 use bf_base::{Kind, Sequence, Table};
 use bf_expr::{Expr, RawExpr};
-use bf_sql::{Aggregate, Items, List, RawAggregate};
+use bf_sql::{Aggregate, Items, List, RawAggregate, Stop};
 use std::alloc::Global;
 
 fn bind_expressions(alloc: Global, table: &Table, exprs: &[RawExpr]) -> Result<Sequence<Expr>, Stop>
     requires { length table.now.columns ≤ 16 }
     ensures ok { OnOk result (flat_map (expr_objections (scope_of table.now)) exprs.now ≡ []) }
-    ensures value { IfOk result (λ bound. bound ≡ map (expr_over (place_of (scope_of table.now))) exprs.now) }
-    ensures stopped { IfErr result (λ stop. Stops stop (flat_map (expr_objections (scope_of table.now)) exprs.now)) }
+    ensures value { IfOk result (λ bound.
+        bound ≡ map (expr_over (place_of (scope_of table.now))) exprs.now) }
+    ensures stopped { IfErr result
+        (λ stop. Stops stop (flat_map (expr_objections (scope_of table.now)) exprs.now)) }
 {
     let mut bound = Vec::with_capacity(alloc, exprs.len())?;
     for raw in exprs {
@@ -31,8 +32,10 @@ fn bind_expressions(alloc: Global, table: &Table, exprs: &[RawExpr]) -> Result<S
 fn bind_total(alloc: Global, table: &Table, total: &RawAggregate) -> Result<Aggregate, Stop>
     requires { length table.now.columns ≤ 16 }
     ensures ok { OnOk result (total_objections (scope_of table.now) total.now ≡ []) }
-    ensures value { IfOk result (λ bound. bound ≡ total_over (place_of (scope_of table.now)) total.now) }
-    ensures stopped { IfErr result (λ stop. Stops stop (total_objections (scope_of table.now) total.now)) }
+    ensures value { IfOk result (λ bound.
+        bound ≡ total_over (place_of (scope_of table.now)) total.now) }
+    ensures stopped { IfErr result
+        (λ stop. Stops stop (total_objections (scope_of table.now) total.now)) }
 {
     match total {
         Aggregate::Count => Ok(Aggregate::Count),
@@ -53,8 +56,10 @@ fn bind_totals(
 ) -> Result<Sequence<Aggregate>, Stop>
     requires { length table.now.columns ≤ 16 }
     ensures ok { OnOk result (flat_map (total_objections (scope_of table.now)) totals.now ≡ []) }
-    ensures value { IfOk result (λ bound. bound ≡ map (total_over (place_of (scope_of table.now))) totals.now) }
-    ensures stopped { IfErr result (λ stop. Stops stop (flat_map (total_objections (scope_of table.now)) totals.now)) }
+    ensures value { IfOk result (λ bound.
+        bound ≡ map (total_over (place_of (scope_of table.now))) totals.now) }
+    ensures stopped { IfErr result
+        (λ stop. Stops stop (flat_map (total_objections (scope_of table.now)) totals.now)) }
 {
     let mut bound = Vec::with_capacity(alloc, totals.len())?;
     for total in totals {
@@ -70,8 +75,10 @@ fn bind_totals(
 pub(crate) fn bind_items(alloc: Global, table: &Table, list: &List) -> Result<Items, Stop>
     requires { length table.now.columns ≤ 16 }
     ensures ok { OnOk result (items_objections (scope_of table.now) list.now ≡ []) }
-    ensures value { IfOk result (λ items. items ≡ items_over (place_of (scope_of table.now)) list.now) }
-    ensures stopped { IfErr result (λ stop. Stops stop (items_objections (scope_of table.now) list.now)) }
+    ensures value { IfOk result (λ items.
+        items ≡ items_over (place_of (scope_of table.now)) list.now) }
+    ensures stopped { IfErr result
+        (λ stop. Stops stop (items_objections (scope_of table.now) list.now)) }
 {
     match list {
         Items::All => Ok(Items::All),

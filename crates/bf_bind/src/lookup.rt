@@ -11,16 +11,16 @@ ghost use Rattle.bf_sql.specs.declared.reply.Refusal.TheVariants as refusal;
 ghost use Rattle.bf_bind.specs.Limits.{HasNarrowTables, bare_table};
 ghost use Rattle.bf_bind.specs.Stops.{Stops};
 
-use crate::stop::Stop;
 use bf_base::{Name, Table};
-use bf_sql::{Catalog, IndexRule, Refusal};
+use bf_sql::{Catalog, IndexRule, Refusal, Stop};
 use std::alloc::Global;
 
 /// Where the table of a name is among tables in the order of their names, or else where it would
 /// stand. It compares about log n names.
 fn search_tables(tables: &[Table], name: &Name) -> Result<usize, usize>
     ensures bound { IsSearchInRange result (length tables.now) }
-    ensures position { IsBinarySearchResult (λ table. name_cmp table.name name.now) tables.now result }
+    ensures position { IsBinarySearchResult
+        (λ table. name_cmp table.name name.now) tables.now result }
 {
     tables.binary_search_by(|table| table.name.compare(name))
 }
@@ -28,7 +28,8 @@ fn search_tables(tables: &[Table], name: &Name) -> Result<usize, usize>
 /// Where the index of a name is, as `search_tables` tells of a table.
 fn search_indexes(indexes: &[IndexRule], name: &Name) -> Result<usize, usize>
     ensures bound { IsSearchInRange result (length indexes.now) }
-    ensures position { IsBinarySearchResult (λ index. name_cmp index.name name.now) indexes.now result }
+    ensures position { IsBinarySearchResult
+        (λ index. name_cmp index.name name.now) indexes.now result }
 {
     indexes.binary_search_by(|index| index.name.compare(name))
 }
@@ -37,7 +38,8 @@ fn search_indexes(indexes: &[IndexRule], name: &Name) -> Result<usize, usize>
 pub(crate) fn table_named<'a>(catalog: &'a Catalog, name: &Name) -> Option<&'a Table>
     requires database { IsDatabase (bare catalog.now) }
     requires narrow { HasNarrowTables catalog.now }
-    ensures stored { stored_at (bare catalog.now) name.now ≡ option_map bare_table (option_copied result) }
+    ensures stored { stored_at (bare catalog.now) name.now
+        ≡ option_map bare_table (option_copied result) }
     ensures narrow { IfSome result (λ table. length table.now.columns ≤ 16) }
 {
     let tables = catalog.tables.as_slice();
@@ -55,7 +57,8 @@ pub(crate) fn expect_table<'a>(
 ) -> Result<&'a Table, Stop>
     requires database { IsDatabase (bare catalog.now) }
     requires narrow { HasNarrowTables catalog.now }
-    ensures stored { IfOk result (λ table. stored_at (bare catalog.now) name.now ≡ Some (bare_table table.now)) }
+    ensures stored { IfOk result (λ table.
+        stored_at (bare catalog.now) name.now ≡ Some (bare_table table.now)) }
     ensures narrow { IfOk result (λ table. length table.now.columns ≤ 16) }
     ensures missing { OnErr result (stored_at (bare catalog.now) name.now ≡ None) }
     ensures stopped { IfErr result (λ stop. Stops stop (refusal.NoTable name.now ∷ [])) }

@@ -11,10 +11,9 @@ ghost use Rattle.bf_sql.specs.declared.reply.Refusal.TheVariants as refusal;
 ghost use Rattle.bf_bind.specs.Parts.{column_of, means, name_objections};
 ghost use Rattle.bf_bind.specs.Stops.{Stops};
 
-use crate::stop::Stop;
 use bf_base::{Admit, Column, Kind, Name, Sequence, Table};
 use bf_expr::Ref;
-use bf_sql::Refusal;
+use bf_sql::{Refusal, Stop};
 use std::alloc::Global;
 
 /// A column of a table: its place, counted from 0, and the kind of its values.
@@ -43,7 +42,8 @@ pub(crate) fn is_same_kind(a: Kind, b: Kind) -> bool
 /// A value of this kind stands where one of the other kind is wanted.
 pub(crate) fn expect_kind(found: Kind, wanted: Kind) -> Result<(), Stop>
     ensures ok { OnOk result (when (not (same_kind found wanted)) refusal.TypeMismatch ≡ []) }
-    ensures stopped { IfErr result (λ stop. Stops stop (when (not (same_kind found wanted)) refusal.TypeMismatch)) }
+    ensures stopped { IfErr result
+        (λ stop. Stops stop (when (not (same_kind found wanted)) refusal.TypeMismatch)) }
 {
     if is_same_kind(found, wanted) {
         Ok(())
@@ -72,7 +72,8 @@ fn is_qualifier(table: &Table, qualifier: &Name) -> bool
 /// The qualifier of a ref, if it has one, has to be the table's name.
 fn expect_qualifier(alloc: Global, table: &Table, qualifier: &Option<Name>) -> Result<(), Stop>
     ensures ok { OnOk result (qualifier_objections (scope_of table.now) qualifier.now ≡ []) }
-    ensures stopped { IfErr result (λ stop. Stops stop (qualifier_objections (scope_of table.now) qualifier.now)) }
+    ensures stopped { IfErr result
+        (λ stop. Stops stop (qualifier_objections (scope_of table.now) qualifier.now)) }
 {
     match qualifier {
         None => Ok(()),
@@ -106,7 +107,8 @@ fn first_meant(table: &Table, reference: &Ref) -> Option<usize>
 /// Whether a ref means a column from a place on.
 fn is_meant_from(table: &Table, reference: &Ref, from: usize) -> bool
     requires { from ≤ length table.now.columns }
-    ensures { result ≡ list_any (means table.now reference.now) (slice_range table.now.columns from (length table.now.columns)) }
+    ensures { result ≡ list_any (means table.now reference.now)
+        (slice_range table.now.columns from (length table.now.columns)) }
 {
     table.columns.as_slice()[from..]
         .iter()
@@ -121,7 +123,8 @@ pub(crate) fn column(alloc: Global, table: &Table, reference: &Ref) -> Result<Pl
     requires { length table.now.columns ≤ 16 }
     ensures ok { OnOk result (ref_objections (scope_of table.now) reference.now ≡ []) }
     ensures place { IfOk result (λ found. found ≡ column_of (scope_of table.now) reference.now) }
-    ensures stopped { IfErr result (λ stop. Stops stop (ref_objections (scope_of table.now) reference.now)) }
+    ensures stopped { IfErr result
+        (λ stop. Stops stop (ref_objections (scope_of table.now) reference.now)) }
 {
     expect_qualifier(alloc, table, &reference.table)?;
     let Some(place) = first_meant(table, reference) else {
@@ -147,7 +150,8 @@ fn first_named(columns: &[Column], name: &Name) -> Option<usize>
 pub(crate) fn column_named(table: &Table, name: &Name) -> Option<Place>
     requires { length table.now.columns ≤ 16 }
     ensures there { is_some result ≡ has same_name (column_names table.now) name.now }
-    ensures place { IfSome result (λ found. found ≡ column_of (scope_of table.now) (unqualified name.now)) }
+    ensures place { IfSome result
+        (λ found. found ≡ column_of (scope_of table.now) (unqualified name.now)) }
 {
     let columns = table.columns.as_slice();
     match first_named(columns, name) {
@@ -170,8 +174,10 @@ fn is_among(name: &Name, names: &[Name]) -> bool
 fn place_named(alloc: Global, table: &Table, before: &[Name], name: &Name) -> Result<u8, Stop>
     requires { length table.now.columns ≤ 16 }
     ensures ok { OnOk result (name_objections table.now before.now name.now ≡ []) }
-    ensures place { IfOk result (λ place. place ≡ (column_of (scope_of table.now) (unqualified name.now)).place) }
-    ensures stopped { IfErr result (λ stop. Stops stop (name_objections table.now before.now name.now)) }
+    ensures place { IfOk result (λ place.
+        place ≡ (column_of (scope_of table.now) (unqualified name.now)).place) }
+    ensures stopped { IfErr result
+        (λ stop. Stops stop (name_objections table.now before.now name.now)) }
 {
     let Some(found) = column_named(table, name) else {
         return Err(Stop::Refused(Refusal::NoColumn(name.copy(alloc)?)));
@@ -195,7 +201,8 @@ pub(crate) fn places_named(
     requires { length table.now.columns ≤ 16 }
     ensures ok { OnOk result (names_objections (column_names table.now) names.now ≡ []) }
     ensures places { IfOk result (λ places. places ≡ named_places table.now names.now) }
-    ensures stopped { IfErr result (λ stop. Stops stop (names_objections (column_names table.now) names.now)) }
+    ensures stopped { IfErr result
+        (λ stop. Stops stop (names_objections (column_names table.now) names.now)) }
 {
     let mut places = Vec::with_capacity(alloc, names.len())?;
     for (index, name) in names.iter().enumerate() {

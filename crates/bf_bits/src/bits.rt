@@ -120,7 +120,9 @@ impl Bits {
         requires at { at < self.now.granules }
         requires own { seat.old.table ≡ self.now.table }
         ensures answer { result ≡ answer_for self.now.table at (state_in seat.new.view.found at) }
-        ensures step { seat.new ≡ after_step seat.old seat.new.view.found (held_after at (state_in seat.new.view.found at) seat.old.view.held) seat.old.view.finished }
+        ensures step { seat.new ≡ after_step seat.old seat.new.view.found
+            (held_after at (state_in seat.new.view.found at) seat.old.view.held)
+            seat.old.view.finished }
         ensures held { Holds seat.old at → result ≡ BitAnswer.Busy }
         ensures finished { HasFinished seat.old at → result ≡ BitAnswer.Done }
     {
@@ -150,7 +152,8 @@ impl Bits {
         requires at { at < self.now.granules }
         requires own { seat.old.table ≡ self.now.table }
         ensures answer { result ≡ state_in seat.new.view.found at }
-        ensures step { seat.new ≡ after_step seat.old seat.new.view.found seat.old.view.held seat.old.view.finished }
+        ensures step { seat.new ≡ after_step seat.old seat.new.view.found seat.old.view.held
+            seat.old.view.finished }
         ensures held { Holds seat.old at → result ≡ Look.Held }
         ensures finished { HasFinished seat.old at → result ≡ Look.Done }
     {
@@ -165,7 +168,8 @@ impl Bits {
         requires of_this { claim.table ≡ self.now.table }
         requires held { Holds seat.old claim.at }
         ensures found { state_in seat.new.view.found claim.at ≡ Look.Held }
-        ensures step { seat.new ≡ after_step seat.old seat.new.view.found (without claim.at seat.old.view.held) (claim.at ∷ seat.old.view.finished) }
+        ensures step { seat.new ≡ after_step seat.old seat.new.view.found
+            (without claim.at seat.old.view.held) (claim.at ∷ seat.old.view.finished) }
     {
         let BitClaim { at, origin: _ } = claim;
         let word = (at / 32) as usize;
@@ -180,7 +184,8 @@ impl Bits {
         requires of_this { claim.table ≡ self.now.table }
         requires held { Holds seat.old claim.at }
         ensures found { state_in seat.new.view.found claim.at ≡ Look.Held }
-        ensures step { seat.new ≡ after_step seat.old seat.new.view.found (without claim.at seat.old.view.held) seat.old.view.finished }
+        ensures step { seat.new ≡ after_step seat.old seat.new.view.found
+            (without claim.at seat.old.view.held) seat.old.view.finished }
     {
         let BitClaim { at, origin: _ } = claim;
         let word = (at / 32) as usize;
@@ -221,7 +226,8 @@ impl Bits {
         requires none_held { seat.view.held ≡ [] }
         ensures rising { IfOk result (λ done. IsStrictlyIncreasing done.items) }
         ensures below { IfOk result (λ done. (at : ℕ) → Has done.items at → at < self.granules) }
-        ensures finished { IfOk result (λ done. (at : ℕ) → HasFinished seat at → Has done.items at) }
+        ensures finished { IfOk result (λ done. (at : ℕ) → HasFinished seat at
+            → Has done.items at) }
         ensures memory { IfErr result (λ back. (back.0 ≡ self) × (back.1 ≡ seat)) }
     {
         let Ok(done) = Vec::with_capacity(alloc, self.granules as usize) else {

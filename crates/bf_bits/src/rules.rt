@@ -9,5 +9,6 @@ ghost use Rattle.bf_bits.specs.Tracker.{Tracks, IsTracked};
 /// lock bit set; a held one has the lock bit alone; a finished one has the migrate bit; and none
 /// stands twice in all held and finished lists together.
 pub fn four_rules()
-    ensures { (words granules : ℕ) (state : State (Unit {0}) View) → Tracks words granules state → (at : ℕ) → IsTracked state at }
+    ensures { (words granules : ℕ) (state : State (Unit {0}) View) → Tracks words granules state
+        → (at : ℕ) → IsTracked state at }
 {}

@@ -84,7 +84,9 @@ fn mark_all(words: &mut [u64], done: &[u32])
 
 fn mark(words: &mut [u64], at: u32)
     requires { at / 32 < length words.old }
-    ensures { words.new ≡ slice_set words.old (at / 32) (bit_or (bit_or (slice_index words.old (at / 32)) (mask (lock_place at))) (mask (migrate_place at))) }
+    ensures { words.new ≡ slice_set words.old (at / 32)
+        (bit_or (bit_or (slice_index words.old (at / 32)) (mask (lock_place at)))
+        (mask (migrate_place at))) }
 {
     let place = (at / 32) as usize;
     words[place] = words[place] | lock_mask(at) | migrate_mask(at);
@@ -98,8 +100,11 @@ pub fn gather(mut done: Vec<u32>, closed: &Closed<(), Global>, granules: u32) ->
     requires empty { done.items ≡ [] }
     requires room { granules ≤ vec_capacity done }
     ensures rising { IsStrictlyIncreasing result.items }
-    ensures only { (at : ℕ) → Has result.items at → (at < granules) × (migrate_in (slice_index (slots_items closed.now.words) (at / 32)) at ≡ 1) }
-    ensures all { (at : ℕ) → at < granules → migrate_in (slice_index (slots_items closed.now.words) (at / 32)) at ≡ 1 → Has result.items at }
+    ensures only { (at : ℕ) → Has result.items at → (at < granules)
+        × (migrate_in (slice_index (slots_items closed.now.words) (at / 32)) at ≡ 1) }
+    ensures all { (at : ℕ) → at < granules
+        → migrate_in (slice_index (slots_items closed.now.words) (at / 32)) at ≡ 1
+        → Has result.items at }
 {
     for at in 0..granules {
         if is_migrated(closed.word((at / 32) as usize), at) {

@@ -1,5 +1,5 @@
 -- The disk model: what a call does to a file, and what a crash may leave of it.
-use Rattle.std.specs.Prelude.{◌≡◌, ◌⊎◌, ℕ, ◌+◌, ◌<◌, ◌≤◌, min, max, List, ◌++◌, length, take, drop, slice_index}
+use Rattle.std.specs.Prelude.{◌≡◌, ◌⊎◌, ℕ, ◌+◌, ◌<◌, ◌≤◌, min, max, List, Option, ◌++◌, length, take, drop, slice_index}
 
 -- a file with these bytes at an offset, in the place of what was there
 abbrev pub overwritten : List ℕ → ℕ → List ℕ → List ℕ
@@ -40,10 +40,18 @@ pub record Elapses (before now : ℕ) (past since : ℕ → List ℕ → Type 0)
   pub nothing_else : (t : ℕ) (image : List ℕ) → t ≤ before → since t image → past t image ⊎ may_leave image
   pub all : (t : ℕ) (image : List ℕ) → t ≤ before → past t image → since t image
 
--- Between two states of a disk a crash at any moment leaves an image with P, and what a crash since an earlier
--- moment might have left is that or what it was.
+-- Between two states of a disk a crash at any moment leaves an image with P. What a crash since an earlier moment
+-- might have left by the second state is what it might have left by the first, or what one between them might leave.
 pub record LeavesOnly {D : Type 0} (moment : D → ℕ) (left_since : D → ℕ → List ℕ → Type 0) (old new : D)
     (P : List ℕ → Type 0) : Type 0 where
   pub later : moment old ≤ moment new
   pub each : (image : List ℕ) → left_since new (moment old) image → P image
-  pub before : (t : ℕ) (image : List ℕ) → t ≤ moment old → left_since new t image → left_since old t image ⊎ P image
+  pub nothing_else : (t : ℕ) (image : List ℕ) → t ≤ moment old → left_since new t image
+      → left_since old t image ⊎ left_since new (moment old) image
+  pub all : (t : ℕ) (image : List ℕ) → t ≤ moment old → left_since old t image → left_since new t image
+
+-- a disk was read and not written: it reads the same, and a crash at any moment leaves what one could at the start
+pub record OnlyRead {D : Type 0} (seen : D → Option (List ℕ)) (may_leave : D → List ℕ → Type 0) (moment : D → ℕ)
+    (left_since : D → ℕ → List ℕ → Type 0) (old new : D) : Type 0 where
+  pub same : seen new ≡ seen old
+  pub images : LeavesOnly moment left_since old new (may_leave old)

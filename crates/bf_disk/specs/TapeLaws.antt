@@ -82,5 +82,8 @@ counts_now tape t image le left =
     let now : at_call tape (length tape.calls) ≡ tape = at_all tape (length tape.calls) (omega arith) in
     (length tape.calls, le, omega arith, subst (λ (at : Tape). MayLeave at image) (sym now) left)
 
+pub earlier : (tape : Tape) (t u : ℕ) (image : List ℕ) → t ≤ u → LeftSince tape u image → LeftSince tape t image
+earlier tape t u image le left = (left.0, omega (arith, left.1), left.2, left.3)
+
 pub only_now : (tape : Tape) (image : List ℕ) → LeftSince tape (length tape.calls) image → MayLeave tape image
 only_now tape image left = subst (λ (at : Tape). MayLeave at image) (at_all tape left.0 left.1) left.3

@@ -45,47 +45,61 @@ pub trait Disk {
         ensures len { IfOk result (λ len. IfTold (seen self.old) (λ file. len ≡ length file)) }
         ensures seen { seen self.new ≡ seen self.old }
         ensures images { SameImages (may_leave self.old) (may_leave self.new) }
-        ensures time { Elapses (moment self.old) (moment self.new) (left_since self.old) (left_since self.new) (may_leave self.new) }
+        ensures time { Elapses (moment self.old) (moment self.new) (left_since self.old)
+            (left_since self.new) (may_leave self.new) }
         ensures faults { CountsFault result (fault_count self.old) (fault_count self.new) }
         ensures memory { result ≡ Err DiskError.Memory → self.new ≡ self.old };
 
     /// Fills `into` with the bytes from an offset on. At an error it may hold anything.
     fn read(&mut self, at: u64, into: &mut [u8]) -> Result<(), DiskError>
         requires { IfTold (seen self.old) (λ file. at + length into.old ≤ length file) }
-        ensures bytes { OnOk result (IfTold (seen self.old) (λ file. into.new ≡ take (length into.old) (drop at file))) }
+        ensures bytes { OnOk result (IfTold (seen self.old)
+            (λ file. into.new ≡ take (length into.old) (drop at file))) }
         ensures seen { seen self.new ≡ seen self.old }
         ensures images { SameImages (may_leave self.old) (may_leave self.new) }
-        ensures time { Elapses (moment self.old) (moment self.new) (left_since self.old) (left_since self.new) (may_leave self.new) }
+        ensures time { Elapses (moment self.old) (moment self.new) (left_since self.old)
+            (left_since self.new) (may_leave self.new) }
         ensures faults { CountsFault result (fault_count self.old) (fault_count self.new) }
         ensures memory { result ≡ Err DiskError.Memory → self.new ≡ self.old };
 
     /// Writes over what is there, and past the end. After `Fault` a read may give a part of it.
     fn write_at(&mut self, at: u64, bytes: &[u8]) -> Result<(), DiskError>
         requires { IfTold (seen self.old) (λ file. at ≤ length file) }
-        ensures written { OnOk result (WhereTold (λ old new. new ≡ overwritten old at bytes.now) (seen self.old) (seen self.new)) }
-        ensures failed { OnFault result (WhereTold (Torn at (length bytes.now)) (seen self.old) (seen self.new)) }
-        ensures images { IfTried result (Becomes (Torn at (length bytes.now)) (may_leave self.old) (may_leave self.new)) }
-        ensures time { Elapses (moment self.old) (moment self.new) (left_since self.old) (left_since self.new) (may_leave self.new) }
+        ensures written { OnOk result
+            (WhereTold (λ old new. new ≡ overwritten old at bytes.now) (seen self.old)
+            (seen self.new)) }
+        ensures failed { OnFault result
+            (WhereTold (Torn at (length bytes.now)) (seen self.old) (seen self.new)) }
+        ensures images { IfTried result
+            (Becomes (Torn at (length bytes.now)) (may_leave self.old) (may_leave self.new)) }
+        ensures time { Elapses (moment self.old) (moment self.new) (left_since self.old)
+            (left_since self.new) (may_leave self.new) }
         ensures faults { CountsFault result (fault_count self.old) (fault_count self.new) }
         ensures memory { result ≡ Err DiskError.Memory → self.new ≡ self.old };
 
     /// Cuts the file to a length, at most its own. After `Fault` it may have any length between.
     fn cut(&mut self, len: u64) -> Result<(), DiskError>
         requires { IfTold (seen self.old) (λ file. len ≤ length file) }
-        ensures cut { OnOk result (WhereTold (λ old new. new ≡ take len old) (seen self.old) (seen self.new)) }
+        ensures cut { OnOk result (WhereTold (λ old new. new ≡ take len old) (seen self.old)
+            (seen self.new)) }
         ensures failed { OnFault result (WhereTold (CutShort len) (seen self.old) (seen self.new)) }
-        ensures images { IfTried result (Becomes (CutShort len) (may_leave self.old) (may_leave self.new)) }
-        ensures time { Elapses (moment self.old) (moment self.new) (left_since self.old) (left_since self.new) (may_leave self.new) }
+        ensures images { IfTried result
+            (Becomes (CutShort len) (may_leave self.old) (may_leave self.new)) }
+        ensures time { Elapses (moment self.old) (moment self.new) (left_since self.old)
+            (left_since self.new) (may_leave self.new) }
         ensures faults { CountsFault result (fault_count self.old) (fault_count self.new) }
         ensures memory { result ≡ Err DiskError.Memory → self.new ≡ self.old };
 
     /// After `Ok` a crash leaves what a read gives. After `Fault` all that was pending is pending still.
     fn sync(&mut self) -> Result<(), DiskError>
-        ensures durable { OnOk result (IfTold (seen self.old) (λ file. Only file (may_leave self.new))) }
+        ensures durable { OnOk result
+            (IfTold (seen self.old) (λ file. Only file (may_leave self.new))) }
         ensures seen { seen self.new ≡ seen self.old }
-        ensures nothing_else { (image : List ℕ) → may_leave self.new image → may_leave self.old image }
+        ensures nothing_else { (image : List ℕ) → may_leave self.new image
+            → may_leave self.old image }
         ensures failed { OnFault result (SameImages (may_leave self.old) (may_leave self.new)) }
-        ensures time { Elapses (moment self.old) (moment self.new) (left_since self.old) (left_since self.new) (may_leave self.new) }
+        ensures time { Elapses (moment self.old) (moment self.new) (left_since self.old)
+            (left_since self.new) (may_leave self.new) }
         ensures faults { CountsFault result (fault_count self.old) (fault_count self.new) }
         ensures memory { result ≡ Err DiskError.Memory → self.new ≡ self.old };
 
@@ -94,6 +108,10 @@ pub trait Disk {
 
     /// This moment is one of those since an earlier one.
     ghost counts_now: { (disk : Self) (t : ℕ) (image : List ℕ) → t ≤ moment disk → may_leave disk image → left_since disk t image };
+
+    /// What a crash since a moment might have left, one since an earlier moment might have left too.
+    ghost earlier: { (disk : Self) (t u : ℕ) (image : List ℕ) → t ≤ u → left_since disk u image
+        → left_since disk t image };
 
     /// Since this moment there is no other.
     ghost only_now: { (disk : Self) (image : List ℕ) → left_since disk (moment disk) image → may_leave disk image };

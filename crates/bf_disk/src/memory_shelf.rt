@@ -44,7 +44,8 @@ impl MemoryShelf {
     /// Puts a disk under a path, in the place of the one that is held there, if any. Where there is no
     /// memory it gives the disk back, and the shelf is as it was.
     pub fn set(&mut self, path: &str, disk: TapeDisk) -> Result<(), (TapeDisk, Memory)>
-        ensures held { OnOk result (Puts path.now (Some disk) (disk_at self.old) (disk_at self.new)) }
+        ensures held { OnOk result (Puts path.now (Some disk) (disk_at self.old)
+            (disk_at self.new)) }
         ensures taken { OnOk result (taken_at self.new ≡ taken_at self.old) }
         ensures faults { self.new.faults ≡ self.old.faults }
         ensures err { IfErr result (λ back. (back.0 ≡ disk) × (self.new ≡ self.old)) }

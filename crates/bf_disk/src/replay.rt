@@ -16,7 +16,8 @@ pub(crate) fn certain_bytes(
     start: &[u8],
     calls: &[Call],
 ) -> Result<Vec<Option<u8>>, Memory>
-    ensures { IfOk result (λ certain. certain.items ≡ certain_after_all start.now (map Some start.now) calls.now) }
+    ensures { IfOk result (λ certain.
+        certain.items ≡ certain_after_all start.now (map Some start.now) calls.now) }
 {
     let synced = synced_calls(calls);
     let file = file_after(alloc, start, &calls[..synced])?;

@@ -25,10 +25,13 @@ pub trait Shelf {
     /// Opens the file for reading and writing, and makes an empty one where none is.
     fn take(&mut self, path: &str) -> Result<Self::Disk, DiskError>
         requires { taken self.old path.now ≡ None }
-        ensures given { IfOk result (λ disk. GivesHeld Self.Disk.seen Self.Disk.may_leave (held self.old) path.now disk) }
-        ensures away { IfOk result (λ disk. PutsWhereTold path.now None (held self.old) (held self.new)
+        ensures given { IfOk result (λ disk.
+            GivesHeld Self.Disk.seen Self.Disk.may_leave (held self.old) path.now disk) }
+        ensures away { IfOk result (λ disk.
+            PutsWhereTold path.now None (held self.old) (held self.new)
             × Puts path.now (Some (Self.Disk.fault_count disk)) (taken self.old) (taken self.new)) }
-        ensures refused { OnErr result ((held self.new ≡ held self.old) × (taken self.new ≡ taken self.old)) }
+        ensures refused { OnErr result ((held self.new ≡ held self.old)
+            × (taken self.new ≡ taken self.old)) }
         ensures faults { CountsFault result (fault_count self.old) (fault_count self.new) }
         ensures memory { result ≡ Err DiskError.Memory → self.new ≡ self.old };
 
@@ -37,5 +40,7 @@ pub trait Shelf {
         requires { IsSome (taken self.old path.now) }
         ensures held { PutsWhereTold path.now (Some disk) (held self.old) (held self.new) }
         ensures taken { Puts path.now None (taken self.old) (taken self.new) }
-        ensures faults { fault_count self.new ≡ with_rises (fault_count self.old) (taken self.old path.now) (Self.Disk.fault_count disk) };
+        ensures faults { fault_count self.new
+            ≡ with_rises (fault_count self.old) (taken self.old path.now)
+            (Self.Disk.fault_count disk) };
 }

@@ -2,7 +2,7 @@
 
 ghost use Rattle.std.specs.Prelude.{◌≡◌, ◌+◌, ◌-◌, ◌≤◌, [], None, Some, true, length, take, drop, IfOk, OnOk};
 ghost use Rattle.bf_disk.specs.Tape.{file_of, MayLeave, LeftSince, faults_of, file_after_act, Keeps, new_tape, torn_image, next_fails, at_call};
-ghost use Rattle.bf_disk.specs.TapeLaws.{as_it_reads as tape_as_it_reads, counts_now as tape_counts_now, only_now as tape_only_now};
+ghost use Rattle.bf_disk.specs.TapeLaws.{as_it_reads as tape_as_it_reads, counts_now as tape_counts_now, earlier as tape_earlier, only_now as tape_only_now};
 
 use crate::call::{Act, Call};
 use crate::disk::Disk;
@@ -74,7 +74,8 @@ impl TapeDisk {
     /// again at its front where it is used up, and 0 where it is empty. It begins like a new one, without
     /// failing calls. It takes time linear in the bytes at the start and those of all calls.
     pub fn crash(&self, alloc: Global, torn: &[u8]) -> Result<TapeDisk, Memory>
-        ensures disk { IfOk result (λ disk. disk ≡ new_tape (torn_image self.now torn.now) [] None) }
+        ensures disk { IfOk result (λ disk.
+            disk ≡ new_tape (torn_image self.now torn.now) [] None) }
         ensures image { IfOk result (λ disk. MayLeave self.now disk.start) }
     {
         self.crash_after(alloc, self.calls() as usize, torn)
@@ -82,7 +83,8 @@ impl TapeDisk {
 
     /// The disk that `crash` gives where the calls from number `call` on were never made.
     pub fn crash_at(&self, alloc: Global, call: u64, torn: &[u8]) -> Result<TapeDisk, Memory>
-        ensures disk { IfOk result (λ disk. disk ≡ new_tape (torn_image (at_call self.now (call - 1)) torn.now) [] None) }
+        ensures disk { IfOk result (λ disk.
+            disk ≡ new_tape (torn_image (at_call self.now (call - 1)) torn.now) [] None) }
         ensures image { IfOk result (λ disk. MayLeave (at_call self.now (call - 1)) disk.start) }
     {
         let made = call.saturating_sub(1).min(self.calls()) as usize;
@@ -92,7 +94,8 @@ impl TapeDisk {
     // The disk that a crash leaves after so many of the calls.
     fn crash_after(&self, alloc: Global, made: usize, torn: &[u8]) -> Result<TapeDisk, Memory>
         requires { made ≤ length self.now.calls }
-        ensures { IfOk result (λ disk. disk ≡ new_tape (torn_image (at_call self.now made) torn.now) [] None) }
+        ensures { IfOk result (λ disk.
+            disk ≡ new_tape (torn_image (at_call self.now made) torn.now) [] None) }
     {
         let certain = certain_bytes(alloc, &self.start, &self.calls[..made])?;
         let image = tear(alloc, &certain, torn)?;
@@ -159,6 +162,8 @@ impl Disk for TapeDisk {
 
     ghost counts_now = { tape_counts_now };
 
+    ghost earlier = { tape_earlier };
+
     ghost only_now = { tape_only_now };
 
     fn faults(&self) -> u64 {
@@ -176,7 +181,8 @@ impl Disk for TapeDisk {
     fn read(&mut self, at: u64, into: &mut [u8]) -> Result<(), DiskError>
         requires { at + length into.old ≤ length (file_of self.old) }
         ensures kept { Keeps Act.Look self.old self.new result }
-        ensures bytes { OnOk result (into.new ≡ take (length into.old) (drop at (file_of self.old))) }
+        ensures bytes { OnOk result (into.new
+            ≡ take (length into.old) (drop at (file_of self.old))) }
     {
         self.keep(Act::Look)?;
         copy_range(self.bytes(), at, into);

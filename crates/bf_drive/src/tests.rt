@@ -29,7 +29,8 @@ fn claimed_row(alloc: Global, position: u32) -> Result<Option<BitClaim>, Memory>
 }
 
 fn claimed_number(alloc: Global, number: u32) -> Result<Option<HashClaim>, Memory>
-    ensures { IfOk result (λ claim. IfSome claim (λ claim. claim.key ≡ Value.Int (pos number) ∷ [])) }
+    ensures { IfOk result (λ claim.
+        IfSome claim (λ claim. claim.key ≡ Value.Int (pos number) ∷ [])) }
 {
     let mut values = Vec::new(alloc);
     values.push(Value::Int(number as i64))?;
@@ -51,7 +52,8 @@ fn push_row(wip: &mut Wip, claim: BitClaim)
 // A row's granule, by the claim that a stripe granted for its key.
 fn push_number(wip: &mut Wip, claim: HashClaim, number: u32)
     requires few { length wip.old < 64 }
-    requires different { Lacks (granules_in wip.old) (record { unit = 0; place = Place.Row number }) }
+    requires different { Lacks (granules_in wip.old)
+        (record { unit = 0; place = Place.Row number }) }
     requires key { claim.key ≡ Value.Int (pos number) ∷ [] }
 {
     wip.push(row(number), Claim::Group(claim));

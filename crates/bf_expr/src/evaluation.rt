@@ -169,7 +169,8 @@ fn value_or_zero(alloc: Global, expr: &Expr, row: &Row) -> Result<Value, Memory>
 /// How the values of two expressions compare. It copies nothing where both stand in the
 /// expressions or in the row, as in every condition that is read.
 fn order(alloc: Global, a: &Expr, b: &Expr, row: &Row) -> Result<Ordering, Memory>
-    ensures { IfOk result (λ order. order ≡ value_cmp (sure_value (cell row.now) a.now) (sure_value (cell row.now) b.now)) }
+    ensures { IfOk result (λ order.
+        order ≡ value_cmp (sure_value (cell row.now) a.now) (sure_value (cell row.now) b.now)) }
 {
     if let (Some(a), Some(b)) = (operand(a, row), operand(b, row)) {
         return Ok(a.cmp(b));

@@ -1,4 +1,4 @@
--- What is asked of a script that is run, as statements: one session that creates one table of INT columns with a key of
+-- What the form asks of a script, as statements: one session that creates one table of INT columns with a key of
 -- one column, inserts into tables and selects from them, may migrate that table once, and goes on. That its names are no
 -- keywords, and that no list is empty, the grammar says.
 use Rattle.std.specs.Prelude.{◌≡◌, ℕ, ◌≤◌, ℤ, Bool, true, not, ◌&&◌, List, [], ◌∷◌, ◌++◌, length, map, Option, None, Some, IsTrue}

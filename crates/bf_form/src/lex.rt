@@ -157,7 +157,8 @@ fn next_token(alloc: Global, bytes: &[u8]) -> Result<Option<(Token, usize)>, Lex
 /// `NoToken` where the text is no list of tokens.
 pub fn tokens(alloc: Global, text: &[u8]) -> Result<Vec<Token>, LexingError>
     ensures found { IfOk result (λ tokens. IsLexed text.now tokens.items) }
-    ensures no_token { result ≡ Err LexingError.NoToken → (others : List TokenValue) → IsLexed text.now others → ⊥ }
+    ensures no_token { result ≡ Err LexingError.NoToken → (others : List TokenValue)
+        → IsLexed text.now others → ⊥ }
 {
     let mut found = Vec::new(alloc);
     let mut rest = text;

@@ -1,4 +1,4 @@
-//! From the bytes of a script to the script, for the scripts that are served so far.
+//! From the bytes of a script to the script, for the form of scripts that migrates one table.
 #![tactic(auto)]
 
 pub mod lex;

@@ -13,10 +13,13 @@ use crate::state::{HashAnswer, HashState};
 pub fn tracker_steps()
     ensures grant { (stripe : Marks) (key : Cells) (claim : HashClaim) → IsGranted stripe key claim
         → StepsAt (tracker_of stripe) (tracker_of (after_answer stripe key (HashAnswer.Claimed claim))) key claim.ticket }
-    ensures finish { (stripe : Marks) (claim : HashClaim) → state_of stripe claim.key ≡ HashState.Held claim.ticket
+    ensures finish { (stripe : Marks) (claim : HashClaim)
+        → state_of stripe claim.key ≡ HashState.Held claim.ticket
         → StepsAt (tracker_of stripe) (tracker_of (after_finish stripe claim)) claim.key claim.ticket }
-    ensures give_back { (stripe : Marks) (claim : HashClaim) → state_of stripe claim.key ≡ HashState.Held claim.ticket
+    ensures give_back { (stripe : Marks) (claim : HashClaim)
+        → state_of stripe claim.key ≡ HashState.Held claim.ticket
         → StepsAt (tracker_of stripe) (tracker_of (after_give_back stripe claim)) claim.key claim.ticket }
-    ensures not_held { (stripe : Marks) (claim : HashClaim) → ¬ (state_of stripe claim.key ≡ HashState.Held claim.ticket)
+    ensures not_held { (stripe : Marks) (claim : HashClaim)
+        → ¬ (state_of stripe claim.key ≡ HashState.Held claim.ticket)
         → (after_finish stripe claim ≡ stripe) × (after_give_back stripe claim ≡ stripe) }
 {}

@@ -91,7 +91,8 @@ impl Stripe {
     fn grant(&mut self, key: &Key) -> Result<HashClaim, Memory>
         requires free { state_of self.old key.now ≡ HashState.Free }
         ensures granted { IfOk result (λ claim. IsGranted self.old key.now claim) }
-        ensures after { IfOk result (λ claim. self.new ≡ after_answer self.old key.now (HashAnswer.Claimed claim)) }
+        ensures after { IfOk result (λ claim.
+            self.new ≡ after_answer self.old key.now (HashAnswer.Claimed claim)) }
         ensures memory { OnErr result (self.new ≡ self.old) }
         ensures consistent { IsConsistent self.new }
     {

@@ -58,7 +58,8 @@ impl Model for Heap {
 /// It compares about log n keys, and takes no memory.
 fn find(entries: &[Box<Entry>], key: &Key) -> Result<usize, usize>
     ensures bound { IsSearchInRange result (length entries.now) }
-    ensures position { IsBinarySearchResult (λ entry. key_cmp entry.value.key key.now) entries.now result }
+    ensures position { IsBinarySearchResult
+        (λ entry. key_cmp entry.value.key key.now) entries.now result }
 {
     entries.binary_search_by(|entry| entry.key.compare(key))
 }
@@ -122,7 +123,8 @@ impl Heap {
     /// The key and the row of a position in the order of keys, counted from 0, and `None` exactly
     /// where the position is not below the number of rows. Takes no memory.
     pub fn at(&self, position: u32) -> Option<(&Key, &Row)>
-        ensures { option_map (λ entry. (entry.0.now, entry.1.now)) result ≡ slice_get self.now.entries position }
+        ensures { option_map (λ entry. (entry.0.now, entry.1.now)) result
+            ≡ slice_get self.now.entries position }
     {
         let entry = self.entries.get(position as usize)?;
         Some((&entry.key, &entry.row))

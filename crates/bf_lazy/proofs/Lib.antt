@@ -13,7 +13,7 @@ pub mod Moving
 pub mod OneMoves
 pub mod Owners
 mod Refused
-mod RowThree
+mod KeyOrder
 pub mod Same
 pub mod Served
 pub mod Serving

@@ -1,4 +1,5 @@
-//! Statements, scripts, replies and histories, and in `specs/` what they mean.
+//! The form of scripts that migrates one table: its statements, scripts, replies and histories, and
+//! in `specs/` what they mean.
 #![tactic(auto)]
 
 pub mod history;

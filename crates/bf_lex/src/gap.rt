@@ -18,7 +18,8 @@ fn line_end(text: &[u8]) -> Option<usize>
 
 // The bytes behind the line feed that ends a line, if one does.
 fn behind_line(text: &[u8]) -> Option<&[u8]>
-    ensures { MatchOption result (IsTrue (is_line text.now)) (λ behind. EndsLine text.now behind.now) }
+    ensures { MatchOption result (IsTrue (is_line text.now))
+        (λ behind. EndsLine text.now behind.now) }
 {
     let end = line_end(text)?;
     Some(&text[end + 1..])

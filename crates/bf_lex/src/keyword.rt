@@ -127,7 +127,8 @@ impl Keyword {
 
     /// The words of the keywords, by their numbers. Takes no memory.
     pub fn cases() -> Cases<39>
-        ensures { (keyword : Keyword) → word_at result (number_of keyword) ≡ Some (word_of keyword) }
+        ensures { (keyword : Keyword)
+            → word_at result (number_of keyword) ≡ Some (word_of keyword) }
     {
         of_cases(WORDS).unwrap()
     }
@@ -142,8 +143,10 @@ fn lower(byte: u8) -> u8
 // The number of a word among words in order, in whatever case its letters are.
 fn number_of_word(words: &[(u8, &str)], word: &[u8]) -> Option<u8>
     requires { IsTrue (rises name_cmp (map (λ w. w.1.now) words.now)) }
-    ensures found { IfSome result (λ number. Contains (cases_by (λ w. w.now) words.now) (number, folded word.now)) }
-    ensures none { IfNone result (has same_name (map (λ w. w.1.now) words.now) (folded word.now) ≡ false) }
+    ensures found { IfSome result
+        (λ number. Contains (cases_by (λ w. w.now) words.now) (number, folded word.now)) }
+    ensures none { IfNone result (has same_name (map (λ w. w.1.now) words.now) (folded word.now)
+        ≡ false) }
 {
     match words.binary_search_by(|(_, found)| compare(found, word)) {
         Ok(place) => Some(words[place].0),

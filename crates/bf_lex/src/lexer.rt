@@ -22,7 +22,8 @@ use std::alloc::Global;
 pub fn tokens(alloc: Global, text: &[u8]) -> Result<Vec<Token>, ScriptError>
     requires { length text.now ≤ 2 ^ 24 }
     ensures ok { IfOk result (λ tokens. IsLexed text.now (Ok tokens.items)) }
-    ensures fault { (fault : FaultValue) → result ≡ Err (ScriptError.Fault fault) → IsLexed text.now (Err fault) }
+    ensures fault { (fault : FaultValue) → result ≡ Err (ScriptError.Fault fault)
+        → IsLexed text.now (Err fault) }
 {
     let mut found = Vec::new(alloc);
     let mut rest = text;
@@ -85,5 +86,6 @@ pub fn content(alloc: Global, bytes: &[u8]) -> Result<Text, Memory>
 
 /// A law: a text has one list of tokens, or one first fault.
 pub fn one_lexing()
-    ensures { (text : List ℕ) (one other : Result (List TokenValue) FaultValue) → IsLexed text one → IsLexed text other → one ≡ other }
+    ensures { (text : List ℕ) (one other : Result (List TokenValue) FaultValue) → IsLexed text one
+        → IsLexed text other → one ≡ other }
 {}

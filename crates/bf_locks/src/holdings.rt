@@ -23,7 +23,8 @@ pub(crate) fn put(
     mode: Mode,
 ) -> Result<(), Memory>
     requires { tree.IsOrdered lock_name_cmp holders.old }
-    ensures put { OnOk result (locks_of holders.new ≡ map.insert (locks_of holders.old) (name.now, owner) mode) }
+    ensures put { OnOk result (locks_of holders.new
+        ≡ map.insert (locks_of holders.old) (name.now, owner) mode) }
     ensures memory { OnErr result (locks_of holders.new ≡ locks_of holders.old) }
     ensures ordered { tree.IsOrdered lock_name_cmp holders.new }
 {
@@ -45,7 +46,8 @@ pub(crate) fn list(
     name: &LockName,
 ) -> Result<(), Memory>
     ensures listed { OnOk result (IsListed owned.new owner name.now) }
-    ensures kept { (other : ℕ) (listed : Name) → IsListed owned.old other listed → IsListed owned.new other listed }
+    ensures kept { (other : ℕ) (listed : Name) → IsListed owned.old other listed
+        → IsListed owned.new other listed }
 {
     let name = name.copy(alloc)?;
     if let Some(names) = owned.get_mut(&owner) {
@@ -65,7 +67,8 @@ pub(crate) fn free_each(
     owner: u64,
 )
     requires ordered { tree.IsOrdered lock_name_cmp holders.old }
-    requires all { (name : Name) → IsSome (held (locks_of holders.old) name owner) → Contains names.now name }
+    requires all { (name : Name) → IsSome (held (locks_of holders.old) name owner)
+        → Contains names.now name }
     ensures freed { locks_of holders.new ≡ without_owner (locks_of holders.old) owner }
     ensures ordered { tree.IsOrdered lock_name_cmp holders.new }
 {

@@ -15,7 +15,8 @@ use std::collections::BTreeMap;
 
 /// The mode of an owner among the holders of a name, if there are some.
 pub(crate) fn mode_among(holders: Option<&BTreeMap<u64, Mode>>, owner: u64) -> Option<Mode>
-    ensures { result ≡ option_and_then (λ those. tree.get nat_cmp those owner) (option_copied holders.entry) }
+    ensures { result ≡ option_and_then (λ those. tree.get nat_cmp those owner)
+        (option_copied holders.entry) }
 {
     match holders {
         Some(holders) => holders.get(&owner).copied(),
@@ -40,7 +41,8 @@ pub(crate) fn judge(
     owner: u64,
     wanted: Mode,
 ) -> Result<LockAnswer, Memory>
-    ensures answer { IfOk result (λ answer. answer ≡ answer_for owner (conflicting_among owner wanted (option_copied holders.entry))) }
+    ensures answer { IfOk result (λ answer.
+        answer ≡ answer_for owner (conflicting_among owner wanted (option_copied holders.entry))) }
     ensures ordered { IfSome (option_copied holders.entry) (λ those. tree.IsOrdered nat_cmp those) }
 {
     let Some(holders) = holders else {

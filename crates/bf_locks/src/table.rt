@@ -68,7 +68,8 @@ impl LockTable {
     /// Logarithmic in the names that are held, and one or two passes over the holders of this one.
     pub fn ask(&mut self, owner: u64, name: &LockName, mode: Mode) -> Result<LockAnswer, Memory>
         ensures judged { IfOk result (λ answer. IsJudged self.old owner name.now mode answer) }
-        ensures after { IfOk result (λ answer. self.new ≡ after self.old owner name.now mode answer) }
+        ensures after { IfOk result (λ answer.
+            self.new ≡ after self.old owner name.now mode answer) }
         ensures memory { OnErr result (self.new ≡ self.old) }
         ensures consistent { IsConsistent self.new }
     {

@@ -1,5 +1,5 @@
 -- Chains of records, and what torn writes behind the last of them leave.
-use Rattle.std.proofs.Common.{◌≡◌, ◌≢◌, ◌⊎◌, inl, inr, ⊎_elim, ℕ, ◌+◌, ◌-◌, ◌<◌, ◌≤◌, List, [], ◌∷◌, ◌++◌, length, take, drop, get_or, refl, sym, ◌∙◌, ap, subst, arith, append_assoc, length-append, take-append-drop}
+use Rattle.std.proofs.Common.{◌≡◌, ◌≢◌, inl, inr, ⊎_elim, ℕ, ◌+◌, ◌<◌, ◌≤◌, List, [], ◌∷◌, ◌++◌, length, take, drop, get_or, refl, sym, ◌∙◌, ap, arith, append_assoc, length-append, take-append-drop}
 use Rattle.std.specs.List.{flat_map}
 use Rattle.std.proofs.lemmas.Bool.{cases_eq}
 use Rattle.std.proofs.lemmas.List.{length-take, length-drop, take_at, drop_at, drop_more, get_or-take, get_or-drop, ext_get_or}
@@ -8,7 +8,7 @@ use Rattle.bf_log.specs.Append.{BeforeOrAfter}
 use Rattle.bf_log.specs.Format.{magic, open_gate, most_bytes, entry, IsChain, IsLog, front}
 
 -- none of the payloads is too large
-pub Fit : List (List ℕ) → Type 0
+unfoldable pub Fit : List (List ℕ) → Type 0
 Fit [] = Unit {0}
 Fit (payload ∷ payloads) = (length payload ≤ most_bytes) × Fit payloads
 
@@ -40,6 +40,7 @@ chain_parts (payload ∷ payloads) chain is =
       fit = (is.1, rest.fit);
     }
 
+-- each log has its parts
 pub parts : (payloads : List (List ℕ)) (file : List ℕ) → IsLog payloads file → Parts payloads file
 parts payloads file is =
     let rest = chain_parts payloads is.0 is.2 in
@@ -58,7 +59,8 @@ chain_closed (payload ∷ payloads) gate behind fit shut =
     (flat_map entry payloads ++ gate ∷ behind, fit.0, append_assoc (entry payload) (flat_map entry payloads) (gate ∷ behind), chain_closed payloads gate behind fit.1 shut)
 
 -- behind the front a closed gate, whatever stands behind it
-pub closed_log : (payloads : List (List ℕ)) (file : List ℕ) (gate : ℕ) (behind : List ℕ) → Fit payloads → gate ≢ open_gate → file ≡ front payloads ++ gate ∷ behind → IsLog payloads file
+pub closed_log : (payloads : List (List ℕ)) (file : List ℕ) (gate : ℕ) (behind : List ℕ) → Fit payloads → gate ≢ open_gate
+    → file ≡ front payloads ++ gate ∷ behind → IsLog payloads file
 closed_log payloads file gate behind fit shut is =
     (flat_map entry payloads ++ gate ∷ behind, is ∙ append_assoc magic (flat_map entry payloads) (gate ∷ behind), chain_closed payloads gate behind fit shut)
 
@@ -66,41 +68,45 @@ chain_more : (payloads : List (List ℕ)) (payload : List ℕ) (chain : List ℕ
     → IsChain (payloads ++ payload ∷ []) (flat_map entry payloads ++ (entry payload ++ chain))
 unfolding Fit
 chain_more [] payload chain fit small is = (chain, small, refl, is)
-chain_more (first ∷ payloads) payload chain fit small is =
-    (flat_map entry payloads ++ (entry payload ++ chain), fit.0, append_assoc (entry first) (flat_map entry payloads) (entry payload ++ chain), chain_more payloads payload chain fit.1 small is)
+chain_more (first ∷ payloads) payload chain fit small is = (
+  flat_map entry payloads ++ (entry payload ++ chain),
+  fit.0,
+  append_assoc (entry first) (flat_map entry payloads) (entry payload ++ chain),
+  chain_more payloads payload chain fit.1 small is,
+)
 
 -- behind the front one more record, and a closed gate
 pub more_log : (payloads : List (List ℕ)) (payload file : List ℕ) (gate : ℕ) (behind : List ℕ) → Fit payloads → length payload ≤ most_bytes → gate ≢ open_gate
     → file ≡ front payloads ++ (entry payload ++ gate ∷ behind) → IsLog (payloads ++ payload ∷ []) file
-more_log payloads payload file gate behind fit small shut is =
-    (
-      flat_map entry payloads ++ (entry payload ++ gate ∷ behind),
-      is ∙ append_assoc magic (flat_map entry payloads) (entry payload ++ gate ∷ behind),
-      chain_more payloads payload (gate ∷ behind) fit small (gate, behind, shut, refl),
-    )
+more_log payloads payload file gate behind fit small shut is = (
+  flat_map entry payloads ++ (entry payload ++ gate ∷ behind),
+  is ∙ append_assoc magic (flat_map entry payloads) (entry payload ++ gate ∷ behind),
+  chain_more payloads payload (gate ∷ behind) fit small (gate, behind, shut, refl),
+)
 
 -- what a torn write leaves before its range and behind it
 torn_before : (at n : ℕ) (old image : List ℕ) → Torn at n old image → at ≤ length old → take at image ≡ take at old
 torn_before at n old image torn le =
     let size : length (take at image) ≡ length (take at old) = omega (arith, torn.no_shorter, length-take at image, length-take at old) in
     ext_get_or 0 (take at image) (take at old) size (λ i below.
-        let before : i < at = omega (arith, length-take at image) in
-        let within : i < length old = omega arith in
-        get_or-take at image i 0 before ∙ torn.stays i within (inl before) ∙ sym (get_or-take at old i 0 before))
+    let before : i < at = omega (arith, length-take at image) in
+    let within : i < length old = omega arith in
+    get_or-take at image i 0 before ∙ torn.stays i within (inl before) ∙ sym (get_or-take at old i 0 before))
 
 torn_behind : (at n : ℕ) (old image : List ℕ) → Torn at n old image → at + n ≤ length old → drop (at + n) image ≡ drop (at + n) old
 torn_behind at n old image torn le =
     let size : length (drop (at + n) image) ≡ length (drop (at + n) old) =
     omega (arith, torn.no_shorter, torn.no_longer, length-drop (at + n) image, length-drop (at + n) old) in
     ext_get_or 0 (drop (at + n) image) (drop (at + n) old) size (λ i below.
-        let within : at + n + i < length old = omega (arith, length-drop (at + n) old) in
-        let past : at + n ≤ at + n + i = omega arith in
-        get_or-drop (at + n) image i 0 ∙ torn.stays (at + n + i) within (inr past) ∙ sym (get_or-drop (at + n) old i 0))
+    let within : at + n + i < length old = omega (arith, length-drop (at + n) old) in
+    let past : at + n ≤ at + n + i = omega arith in
+    get_or-drop (at + n) image i 0 ∙ torn.stays (at + n + i) within (inr past) ∙ sym (get_or-drop (at + n) old i 0))
 
 module _ (before : List ℕ) (gate : ℕ) (behind : List ℕ) (at : ℕ) (size : length before ≡ at) where
   abbrev pub file : List ℕ
   file = before ++ gate ∷ behind
 
+  -- how long it is, and what there is of it up to the gate and behind it
   length-file : length file ≡ at + 1 + length behind
   length-file = omega (arith, length-append before (gate ∷ behind))
 
@@ -133,7 +139,7 @@ module _ (before : List ℕ) (gate : ℕ) (behind : List ℕ) (at : ℕ) (size :
       ∙ ap (λ (bytes : List ℕ). before ++ bytes) (drop_more image at 0 here)
       ∙ ap (λ (bytes : List ℕ). before ++ get_or image at 0 ∷ bytes) rest_stays
 
-  -- a record behind the gate, and then the gate opened
+  -- what a file is with bytes written behind the gate, and with a byte written in its place
   pub written_record : (bytes : List ℕ) → overwritten file (at + 1) bytes ≡ before ++ gate ∷ (bytes ++ drop (at + 1 + length bytes) file)
   written_record bytes =
       let after = drop (at + 1 + length bytes) file in
@@ -151,6 +157,6 @@ pub gate_leaves : (payloads : List (List ℕ)) (payload image : List ℕ) (byte 
     → (behind : List ℕ) → open_gate ∷ rest ≡ entry payload ++ 0 ∷ behind → image ≡ front payloads ++ byte ∷ rest → BeforeOrAfter payloads payload image
 gate_leaves payloads payload image byte rest fit small behind record_is is = ⊎_elim
     (λ (is_open : byte ≡ open_gate). inr (more_log payloads payload image 0 behind fit small (λ zero_open. absurd (omega arith))
-        (is ∙ ap (λ (gate : ℕ). front payloads ++ gate ∷ rest) is_open ∙ ap (λ (bytes : List ℕ). front payloads ++ bytes) record_is)))
+    (is ∙ ap (λ (gate : ℕ). front payloads ++ gate ∷ rest) is_open ∙ ap (λ (bytes : List ℕ). front payloads ++ bytes) record_is)))
     (λ (shut : byte ≢ open_gate). inl (closed_log payloads image byte rest fit shut is))
     (cases_eq byte open_gate)

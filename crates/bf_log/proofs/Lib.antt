@@ -1,4 +1,11 @@
-pub mod Examples
+pub mod Appending
 pub mod Chains
+pub mod Entries
+pub mod Examples
+pub mod Gates
+pub mod Heads
 pub mod Moments
+pub mod OneReading
+pub mod Reading
+pub mod SomeReading
 pub mod Storing

@@ -1,5 +1,5 @@
 -- What a crash leaves at each moment of a run of device calls.
-use Rattle.std.proofs.Common.{◌≡◌, ◌⊎◌, inl, inr, ⊎_elim, ℕ, ◌≤◌, List, Result, Ok, Err, refl, sym, subst, arith}
+use Rattle.std.proofs.Common.{◌≡◌, ◌⊎◌, inl, inr, ⊎_elim, ℕ, List, Result, Ok, Err, refl, sym, subst, arith}
 use Rattle.bf_disk.specs.Answers.{IfTried}
 use Rattle.bf_disk.specs.Images.{Torn, Becomes, Only, Elapses, LeavesOnly}
 use Rattle.bf_disk.specs.TapeLaws.{torn_lost}
@@ -24,9 +24,9 @@ module _ {D : Type 0} (moment : D → ℕ) (left_since : D → ℕ → List ℕ 
     later = omega (arith, first.later, second.later);
     each = λ image left. ⊎_elim (λ past. inl (first.each image past)) (λ later. inr later) (second.before (moment old) image first.later left);
     before = λ t image le left. ⊎_elim
-      (λ past. ⊎_elim (λ earlier. inl earlier) (λ here. inr (inl here)) (first.before t image le past))
-      (λ later. inr (inr later))
-      (second.before t image (omega (arith, first.later)) left);
+        (λ past. ⊎_elim (λ earlier. inl earlier) (λ here. inr (inl here)) (first.before t image le past))
+        (λ later. inr (inr later))
+        (second.before t image (omega (arith, first.later)) left);
   }
 
   pub weaker : (old new : D) (P Q : List ℕ → Type 0) → LeavesOnly moment left_since old new P → ((image : List ℕ) → P image → Q image) → LeavesOnly moment left_since old new Q

@@ -1,6 +1,5 @@
 -- The log while a record is stored, and once it is.
-use Rattle.std.proofs.Common.{◌≡◌, ◌⊎◌, inl, inr, ⊎_elim, ℕ, ◌+◌, ◌<◌, ◌≤◌, Option, Some, None, Result, Ok, Err, List, [], ◌∷◌, ◌++◌, length, take, drop, get_or, refl, sym, ◌∙◌, ap, subst, arith, append_assoc, length-append}
-use Rattle.std.specs.List.{flat_map}
+use Rattle.std.proofs.Common.{◌≡◌, inl, inr, ℕ, ◌+◌, ◌<◌, ◌≤◌, Option, Some, None, Result, Ok, Err, List, [], ◌∷◌, ◌++◌, length, take, drop, get_or, refl, sym, ◌∙◌, ap, subst, arith, append_assoc, length-append}
 use Rattle.std.proofs.lemmas.List.{take_at, length_push, flat_map_more}
 use Rattle.byteorder.specs.Endian.{little_bytes}
 use Rattle.bf_io.specs.Whole.{IfTold}
@@ -31,14 +30,17 @@ length-entry payload = omega (arith, length-append (little_bytes 4 (length paylo
 entry_is : (payload after : List ℕ) → open_gate ∷ (record_of payload ++ after) ≡ entry payload ++ 0 ∷ after
 entry_is payload after = ap (λ (bytes : List ℕ). open_gate ∷ bytes) (append_assoc (little_bytes 4 (length payload) ++ payload) (0 ∷ []) after)
 
+-- how far the front reaches with one record more
 pub front_more : (payloads : List (List ℕ)) (payload : List ℕ) → length (front (payloads ++ payload ∷ [])) ≡ length (front payloads) + length payload + 5
 front_more payloads payload =
     omega (arith, ap length (flat_map_more entry magic payloads payload), length-append (front payloads) (entry payload), length-entry payload)
 
-module _ (payloads : List (List ℕ)) (payload file : List ℕ) (end : ℕ) (is_log : IsLog payloads file) (ends : end ≡ length (front payloads)) (small : length payload ≤ most_bytes) where
+module _ (payloads : List (List ℕ)) (payload file : List ℕ) (end : ℕ)
+    (is_log : IsLog payloads file) (ends : end ≡ length (front payloads)) (small : length payload ≤ most_bytes) where
   size : length (front payloads) ≡ end
   size = sym ends
 
+  -- what stands behind the record
   after : List ℕ
   after = drop (end + 1 + length (record_of payload)) file
 
@@ -72,6 +74,7 @@ module _ (payloads : List (List ℕ)) (payload file : List ℕ) (end : ℕ) (is_
       ∙ written_gate (front payloads) p.gate (record_of payload ++ after) end size open_gate
       ∙ ap (λ (bytes : List ℕ). front payloads ++ bytes) (entry_is payload after)
 
+  -- the file with the record and the gate opened is the one with an entry more
   pub stored_is : opened file end (record_of payload) ≡ with_entry file end payload
   unfolding after
   stored_is =
@@ -82,6 +85,7 @@ module _ (payloads : List (List ℕ)) (payload file : List ℕ) (end : ℕ) (is_
       ∙ ap (λ (bytes : List ℕ). bytes ++ entry payload ++ 0 ∷ after) (sym front_is)
       ∙ ap (λ (k : ℕ). take end file ++ entry payload ++ 0 ∷ drop k file) place
 
+  -- which is a log with the payload behind the others
   pub stored_log : IsLog (payloads ++ payload ∷ []) (with_entry file end payload)
   stored_log =
       let p = parts payloads file is_log in
@@ -92,17 +96,22 @@ pub told_behind : (old : Option (List ℕ)) (gate : ℕ) → IfTold old (λ file
 told_behind None gate within = tt
 told_behind (Some old) gate within = omega arith
 
+-- what holds of each file that may be told
 pub told_from : (old : Option (List ℕ)) (P : List ℕ → Type 0) → ((file : List ℕ) → old ≡ Some file → P file) → IfTold old P
 told_from None P all = tt
 told_from (Some file) P all = all file refl
 
+-- what is told of a file that a call made something of
+pub told_made : (make : List ℕ → List ℕ) (old new : Option (List ℕ)) (file : List ℕ) → old ≡ Some file → WhereTold (λ before now. now ≡ make before) old new
+    → new ≡ Some (make file)
+told_made make None new file told is = cc
+told_made make (Some old) None file told is = absurd is
+told_made make (Some old) (Some new) file told is = ap (λ (now : List ℕ). Some now) (is ∙ ap make (same_Some old file told))
+
 -- what is told after a write, and after a sync that changes nothing of it
 pub told_written : (old new : Option (List ℕ)) (at : ℕ) (bytes file : List ℕ) → old ≡ Some file → WhereTold (λ before now. now ≡ overwritten before at bytes) old new
     → new ≡ Some (overwritten file at bytes)
-told_written None new at bytes file told is = cc
-told_written (Some old) None at bytes file told is = absurd is
-told_written (Some old) (Some new) at bytes file told is =
-    ap (λ (now : List ℕ). Some now) (is ∙ ap (λ (before : List ℕ). overwritten before at bytes) (same_Some old file told))
+told_written old new at bytes file told is = told_made (λ before. overwritten before at bytes) old new file told is
 
 pub written_then : (old mid new : Option (List ℕ)) (at : ℕ) (bytes : List ℕ) (result : Result (Unit {0}) DiskError)
     → WhereTold (λ before now. now ≡ overwritten before at bytes) old mid → new ≡ mid → OnOk result (WhereTold (λ before now. now ≡ overwritten before at bytes) old new)
@@ -110,6 +119,7 @@ written_then old mid new at bytes (Err error) written same = tt
 written_then old mid new at bytes (Ok value) written same =
     subst (λ (of : Option (List ℕ)). WhereTold (λ before now. now ≡ overwritten before at bytes) old of) (sym same) written
 
+-- what a crash leaves for certain after a sync, whatever tells it
 pub durable_then : {D : Type 0} (may_leave : D → List ℕ → Type 0) (mid new : Option (List ℕ)) (disk : D) (result : Result (Unit {0}) DiskError)
     → new ≡ mid → OnOk result (IfTold mid (λ file. Only file (may_leave disk))) → OnOk result (IfTold new (λ file. Only file (may_leave disk)))
 durable_then may_leave mid new disk (Err error) same durable = tt
@@ -132,10 +142,12 @@ stored_then (Some old) (Some mid) (Some new) gate bytes (Ok value) first second 
 abbrev pub IsAsLong : Option (List ℕ) → Option (List ℕ) → Type 0
 IsAsLong old new = WhereTold (λ before now. length before ≤ length now) old new
 
+-- a file that is told the same
 pub long_same : (old new : Option (List ℕ)) → new ≡ old → IsAsLong old new
 long_same None new same = subst (λ (of : Option (List ℕ)). IsAsLong None of) (sym same) tt
 long_same (Some old) new same = let here : length old ≤ length old = omega arith in subst (λ (of : Option (List ℕ)). IsAsLong (Some old) of) (sym same) here
 
+-- after one call and another
 pub long_then : (old mid new : Option (List ℕ)) → IsAsLong old mid → IsAsLong mid new → IsAsLong old new
 long_then None None None first second = tt
 long_then None None (Some new) first second = absurd second
@@ -156,6 +168,7 @@ long_written None (Some new) at bytes written = absurd written
 long_written (Some old) None at bytes written = absurd written
 long_written (Some old) (Some new) at bytes written = omega (arith, ap length written, (torn_done at bytes old).no_shorter)
 
+-- after a write that was tried, well or not
 pub long_tried : {D : Type 0} (seen : D → Option (List ℕ)) (old new : D) (at : ℕ) (bytes : List ℕ) (result : Result (Unit {0}) DiskError)
     → OnOk result (WhereTold (λ before now. now ≡ overwritten before at bytes) (seen old) (seen new))
     → OnFault result (WhereTold (Torn at (length bytes)) (seen old) (seen new)) → (result ≡ Err Memory → new ≡ old) → IsAsLong (seen old) (seen new)
@@ -163,16 +176,18 @@ long_tried seen old new at bytes (Ok value) written failed memory = long_written
 long_tried seen old new at bytes (Err Fault) written failed memory = long_torn (seen old) (seen new) at (length bytes) failed
 long_tried seen old new at bytes (Err Memory) written failed memory = long_same (seen old) (seen new) (ap seen (memory refl))
 
--- the gate stays within the file
+-- the gate stays within a file that is no shorter
 pub within_then : (old new : Option (List ℕ)) (gate : ℕ) → IfTold old (λ file. gate < length file) → IsAsLong old new → IfTold new (λ file. gate < length file)
 within_then None None gate within long = tt
 within_then None (Some new) gate within long = absurd long
 within_then (Some old) None gate within long = absurd long
 within_then (Some old) (Some new) gate within long = omega arith
 
+-- what holds of a file that is told
 pub told_at : (old : Option (List ℕ)) (P : List ℕ → Type 0) (file : List ℕ) → IfTold old P → old ≡ Some file → P file
 told_at old P file holds told = subst (λ (of : Option (List ℕ)). IfTold of P) told holds
 
+-- what is before the end is at most the length
 pub told_within : (old : Option (List ℕ)) (gate : ℕ) → IfTold old (λ file. gate < length file) → IfTold old (λ file. gate ≤ length file)
 told_within None gate within = tt
 told_within (Some old) gate within = omega arith

@@ -1,5 +1,5 @@
 -- A log that is open, and what an append makes of it.
-use Rattle.std.specs.Prelude.{◌≡◌, ◌⊎◌, ℕ, ◌+◌, nat_lt, if◌then◌else◌, List, length, Option, None, Some, Result, Ok, Err, [], ◌∷◌, ◌++◌}
+use Rattle.std.specs.Prelude.{◌≡◌, ◌≢◌, ◌⊎◌, ℕ, ◌+◌, nat_lt, if◌then◌else◌, List, length, Option, None, Some, Result, Ok, Err, [], ◌∷◌, ◌++◌}
 use Rattle.bf_disk.specs.declared.disk.Disk.{Ghosts}
 use Rattle.bf_disk.specs.Images.{Only}
 use Rattle.bf_log.specs.Format.{IsLog, front}
@@ -17,6 +17,10 @@ refusal Ready end size largest limit =
     if nat_lt largest size then Some (TooLarge size)
     else if nat_lt limit (end + 1 + (size + 5)) then Some (LogFull end (size + 5))
     else None
+
+-- a log of these payloads, or of these with one more behind them
+abbrev pub BeforeOrAfter : List (List ℕ) → List ℕ → List ℕ → Type 0
+BeforeOrAfter payloads payload image = IsLog payloads image ⊎ IsLog (payloads ++ payload ∷ []) image
 
 module _ {D : Type 0} {g : Ghosts D} where
   abbrev pub disk_of : Log D g → D
@@ -37,7 +41,8 @@ module _ {D : Type 0} {g : Ghosts D} where
   abbrev pub halted_of : Log D g → Option ℕ
   halted_of log = elim log.standing [ Ready ↦ None | Stopped faults ↦ Some faults | Spent ↦ None ]
 
-  -- Its disk has this file, a log of these payloads, and a crash leaves each byte of it; the log knows where it ends.
+  -- Its disk has this file, a log of these payloads, and a crash leaves each byte of it; the log knows where it ends, and
+  -- takes records.
   pub record Holds (file : List ℕ) (payloads : List (List ℕ)) (log : Log D g) : Type 0 where
     pub told : g.seen log.disk ≡ Some file
     pub durable : Only file (g.may_leave log.disk)
@@ -53,15 +58,22 @@ module _ {D : Type 0} {g : Ghosts D} where
     pub end : new.end ≡ old.end + size + 5
     pub ready : new.standing ≡ Ready
 
+  -- the log takes no more records: it is halted or spent, and has those that it had
+  pub record Stops (standing : Standing) (old new : Log D g) : Type 0 where
+    pub end : new.end ≡ old.end
+    pub count : new.count ≡ old.count
+    pub standing : new.standing ≡ standing
+
   -- what became of a log whose append of so many bytes was not refused
   abbrev pub Outcome : ℕ → Log D g → Log D g → Result ℕ AppendError → Type 0
   Outcome size old new (Ok number) = Grew size number old new
-  Outcome size old new (Err DiskFault) = new.standing ≡ Stopped (g.fault_count new.disk)
-  Outcome size old new (Err Memory) = (new ≡ old) ⊎ (new.standing ≡ Spent)
+  Outcome size old new (Err DiskFault) = Stops (Stopped (g.fault_count new.disk)) old new
+  Outcome size old new (Err Memory) = (new ≡ old) ⊎ Stops Spent old new
   Outcome size old new (Err (Halted faults)) = ⊥
   Outcome size old new (Err (TooLarge n)) = ⊥
   Outcome size old new (Err (LogFull end need)) = ⊥
 
--- a log of these payloads, or of these with one more behind them
-abbrev pub BeforeOrAfter : List (List ℕ) → List ℕ → List ℕ → Type 0
-BeforeOrAfter payloads payload image = IsLog payloads image ⊎ IsLog (payloads ++ payload ∷ []) image
+  -- a log that is halted or spent: a crash leaves these payloads, or these with the one that failed behind them
+  pub record StoppedAt (payloads : List (List ℕ)) (failed : List ℕ) (log : Log D g) : Type 0 where
+    pub stopped : log.standing ≢ Ready
+    pub images : (image : List ℕ) → g.may_leave log.disk image → BeforeOrAfter payloads failed image

@@ -1,5 +1,6 @@
 -- A log as a grammar on bytes, and the first thing that breaks it.
 use Rattle.std.specs.Prelude.{◌≡◌, ◌≢◌, ◌⊎◌, ℕ, ◌+◌, ◌^◌, ◌<◌, ◌≤◌, List, [], ◌∷◌, ◌++◌, length, take, drop, slice_get, flat_map, codes}
+use Rattle.bf_disk.specs.Images.{overwritten}
 use Rattle.byteorder.specs.Endian.{little_bytes, little_number}
 
 abbrev pub magic : List ℕ
@@ -27,18 +28,18 @@ IsChain (payload ∷ payloads) bytes =
 abbrev pub IsLog : List (List ℕ) → List ℕ → Type 0
 IsLog payloads file = (chain : List ℕ) × (file ≡ magic ++ chain) × IsChain payloads chain
 
--- what stands before the gate behind these payloads
+-- the magic and an entry for each payload: what stands before the next gate
 abbrev pub front : List (List ℕ) → List ℕ
 front payloads = magic ++ flat_map entry payloads
 
--- behind an open gate: the length, the payload or the next gate does not fit, or the length is too great
-abbrev pub IsCutOff : List ℕ → Type 0
-IsCutOff behind =
+-- no entry stands behind an open gate: the length, the payload or the next gate does not fit, or the length is too great
+abbrev pub HasNoEntry : List ℕ → Type 0
+HasNoEntry behind =
     (length behind < 4) ⊎ (most_bytes < little_number 4 behind) ⊎ (length behind < 4 + little_number 4 behind + 1)
 
 -- a chain breaks at the gate behind these payloads
 abbrev pub BreaksBehind : List (List ℕ) → List ℕ → Type 0
-BreaksBehind [] bytes = (behind : List ℕ) × (bytes ≡ open_gate ∷ behind) × IsCutOff behind
+BreaksBehind [] bytes = (behind : List ℕ) × (bytes ≡ open_gate ∷ behind) × HasNoEntry behind
 BreaksBehind (payload ∷ payloads) bytes =
     (chain : List ℕ) × (length payload ≤ most_bytes) × (bytes ≡ entry payload ++ chain) × BreaksBehind payloads chain
 
@@ -77,4 +78,4 @@ empty_log = magic ++ 0 ∷ []
 
 -- a file over which an entry and a closed gate are written at an offset; bytes behind these stay
 abbrev pub with_entry : List ℕ → ℕ → List ℕ → List ℕ
-with_entry file at payload = take at file ++ entry payload ++ 0 ∷ drop (at + length payload + 6) file
+with_entry file at payload = overwritten file at (entry payload ++ 0 ∷ [])

@@ -1,7 +1,7 @@
 -- How far a log has been read.
 use Rattle.std.specs.Prelude.{◌≡◌, ℕ, ◌<◌, ◌≤◌, List, [], ◌∷◌, ◌++◌, length, Option, Some, Result, Ok, Err, ◌+◌, All, ⊤}
 use Rattle.bf_disk.specs.declared.disk.Disk.{Ghosts}
-use Rattle.bf_disk.specs.Images.{Only, LeavesOnly}
+use Rattle.bf_disk.specs.Images.{Only}
 use Rattle.bf_log.specs.Format.{IsLog, most_bytes, front, ChainFault}
 use Rattle.bf_log.specs.declared.opening.Opening.{Opening}
 use Rattle.bf_log.specs.declared.opening.Progress.{Progress}
@@ -11,18 +11,12 @@ use Rattle.bf_log.specs.declared.opening.Next.TheVariants.{Payload, End}
 use Rattle.bf_log.specs.declared.error.OpenError.{OpenError}
 use Rattle.bf_log.specs.declared.error.OpenError.TheVariants.{NotALog, DiskFault, Memory}
 
--- a disk was read and not written: it reads the same, and a crash at any moment leaves what one could at the start
-pub record OnlyRead {D : Type 0} (seen : D → Option (List ℕ)) (may_leave : D → List ℕ → Type 0) (moment : D → ℕ)
-    (left_since : D → ℕ → List ℕ → Type 0) (old new : D) : Type 0 where
-  pub same : seen new ≡ seen old
-  pub images : LeavesOnly moment left_since old new (may_leave old)
-
--- a head was read or found to be at fault, and neither comes before the sync succeeded
-abbrev pub IsSynced : Result ℕ OpenError → Type 0
-IsSynced (Ok len) = ⊤
-IsSynced (Err (NotALog at)) = ⊤
-IsSynced (Err DiskFault) = ⊥
-IsSynced (Err Memory) = ⊥
+-- an answer that comes only after the sync succeeded: a head was read, or found to be at fault
+abbrev pub CameAfterSync : Result ℕ OpenError → Type 0
+CameAfterSync (Ok len) = ⊤
+CameAfterSync (Err (NotALog at)) = ⊤
+CameAfterSync (Err DiskFault) = ⊥
+CameAfterSync (Err Memory) = ⊥
 
 -- what was found at the gate behind these payloads, where it was read
 abbrev pub Found : Progress → List (List ℕ) → List ℕ → ℕ → Type 0
@@ -71,9 +65,11 @@ module _ {D : Type 0} {g : Ghosts D} where
 
   -- how far it is after an answer
   abbrev pub ProgressAfter : Opening D g → Opening D g → Result Next OpenError → Type 0
-  ProgressAfter old new (Ok (Payload gate payload)) = (new.progress ≡ Reading) × (new.count ≡ old.count + 1)
-  ProgressAfter old new (Ok End) = (new.progress ≡ Ended) × (new.count ≡ old.count)
-  ProgressAfter old new (Err (NotALog at)) = (new.progress ≡ Broken) × (at ≡ old.gate) × (new.gate ≡ old.gate)
+  ProgressAfter old new (Ok (Payload gate payload)) =
+      (new.progress ≡ Reading) × (gate ≡ old.gate) × (new.gate ≡ old.gate + 5 + length payload) × (new.count ≡ old.count + 1)
+  ProgressAfter old new (Ok End) = (new.progress ≡ Ended) × (new.gate ≡ old.gate) × (new.count ≡ old.count)
+  ProgressAfter old new (Err (NotALog at)) =
+      (new.progress ≡ Broken) × (at ≡ old.gate) × (new.gate ≡ old.gate) × (new.count ≡ old.count)
   ProgressAfter old new (Err DiskFault) = (new.progress ≡ old.progress) × (new.gate ≡ old.gate) × (new.count ≡ old.count)
   ProgressAfter old new (Err Memory) = (new.progress ≡ old.progress) × (new.gate ≡ old.gate) × (new.count ≡ old.count)
 

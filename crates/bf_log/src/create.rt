@@ -2,19 +2,17 @@
 
 ghost use Rattle.std.specs.Prelude.{◌≡◌, ℕ, ◌<◌, List, [], Some, Err, length, OnOk};
 ghost use Rattle.bf_io.specs.Whole.{IfTold};
-ghost use Rattle.bf_disk.specs.Images.{Only};
+ghost use Rattle.bf_disk.specs.Images.{Only, OnlyRead};
 ghost use Rattle.bf_log.specs.Errors.{CountsFaults, is_create_fault};
 ghost use Rattle.bf_log.specs.Format.{empty_log};
-ghost use Rattle.bf_log.specs.Opening.{OnlyRead};
 
 use crate::error::CreateError;
+use crate::format::EMPTY_LOG;
 use bf_disk::Disk;
 
-/// The magic and a closed gate.
-const EMPTY_LOG: [u8; 9] = *b"BFROGLG1\x00";
-
-/// Makes an empty log of an empty file: one write and one sync. A file with bytes is refused, and is
-/// not written to whatever the answer. An empty file may hold anything after a failed call of the device.
+/// Makes an empty log of an empty file: one write and one sync. A file with bytes is refused, and
+/// is not written to whatever the answer. An empty file may hold anything after a failed call of
+/// the device.
 pub fn create_log<D: Disk>(disk: &mut D) -> Result<(), CreateError>
     ensures made { (file : List ℕ) → D.seen disk.old ≡ Some file → OnOk result
         ((file ≡ []) × (D.seen disk.new ≡ Some empty_log) × Only empty_log (D.may_leave disk.new)) }
@@ -23,7 +21,8 @@ pub fn create_log<D: Disk>(disk: &mut D) -> Result<(), CreateError>
     ensures not_empty { (len : ℕ) → result ≡ Err (CreateError.NotEmpty len) → (0 < len)
         × IfTold (D.seen disk.old) (λ file. len ≡ length file)
         × OnlyRead D.seen D.may_leave D.moment D.left_since disk.old disk.new }
-    ensures faults { CountsFaults is_create_fault result (D.fault_count disk.old) (D.fault_count disk.new) }
+    ensures faults { CountsFaults is_create_fault result (D.fault_count disk.old)
+        (D.fault_count disk.new) }
 {
     let len = disk.len()?;
     if len > 0 {

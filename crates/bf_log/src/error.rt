@@ -15,10 +15,10 @@ pub enum CreateError {
     /// The file has so many bytes already.
     #[error("not empty: {0} bytes")]
     NotEmpty(u64),
-    /// The device failed. The file may hold anything.
+    /// The device failed. A file that was empty may hold anything.
     #[error("disk fault")]
     DiskFault,
-    /// A disk in memory has no room. The file may hold anything.
+    /// A disk in memory has no room. A file that was empty may hold anything.
     #[error("out of memory")]
     Memory,
 }
@@ -70,7 +70,7 @@ impl From<AllocError> for OpenError {
 /// Why a record was not appended.
 #[derive(Clone, Copy, Debug, PartialEq, Eq, Error)]
 pub enum AppendError {
-    /// An earlier append met a fault, when the disk's count of faults was this.
+    /// An earlier append met a fault, after which the disk's count of faults was this.
     #[error("halted {0}")]
     Halted(u64),
     /// The payload has so many bytes, which is more than the largest.
@@ -82,7 +82,8 @@ pub enum AppendError {
     /// The device failed. A crash leaves the record or not, and the log is halted.
     #[error("disk fault")]
     DiskFault,
-    /// There is no memory for the record, or in a disk in memory; then the log is spent.
+    /// There is no room for a copy of the record, and the log is as it was. Or a disk in memory had none in
+    /// this append or an earlier one, and the log is spent.
     #[error("out of memory")]
     Memory,
 }

@@ -3,6 +3,9 @@
 /// The text BFROGLG1, at the file's front.
 pub(crate) const MAGIC: [u8; 8] = *b"BFROGLG1";
 
+/// A log without records: the magic and a closed gate.
+pub(crate) const EMPTY_LOG: [u8; 9] = *b"BFROGLG1\x00";
+
 /// A gate with this byte is open, and one with any other is closed.
 pub(crate) const OPEN_GATE: u8 = 0xa5;
 
@@ -16,4 +19,4 @@ pub(crate) const MOST_BYTES: u32 = 1 << 30;
 pub(crate) const LENGTH_BYTES: usize = 4;
 
 /// So many bytes stand between a gate and the next, beside the payload: the gate and the length.
-pub(crate) const FRAME: u64 = 5;
+pub(crate) const FRAME: u64 = 1 + LENGTH_BYTES as u64;

@@ -9,8 +9,11 @@ ghost use Rattle.bf_log.specs.Format.{IsLog, IsNoLog};
 pub fn a_file_is_read_in_one_way()
     ensures some { (file : List ℕ) → All (λ byte. byte < 256) file
         → ((payloads : List (List ℕ)) × IsLog payloads file) ⊎ ((at : ℕ) × IsNoLog file at) }
-    ensures one_log { (file : List ℕ) (payloads others : List (List ℕ)) → IsLog payloads file → IsLog others file
+    ensures one_log { (file : List ℕ) (payloads others : List (List ℕ)) → IsLog payloads file
+        → IsLog others file
         → payloads ≡ others }
-    ensures one_fault { (file : List ℕ) (at other : ℕ) → IsNoLog file at → IsNoLog file other → at ≡ other }
-    ensures not_both { (file : List ℕ) (payloads : List (List ℕ)) (at : ℕ) → IsLog payloads file → IsNoLog file at → ⊥ }
+    ensures one_fault { (file : List ℕ) (at other : ℕ) → IsNoLog file at → IsNoLog file other
+        → at ≡ other }
+    ensures not_both { (file : List ℕ) (payloads : List (List ℕ)) (at : ℕ) → IsLog payloads file
+        → IsNoLog file at → ⊥ }
 {}

@@ -14,5 +14,5 @@ mod tests;
 pub use create::create_log;
 pub use error::{AppendError, CreateError, OpenError};
 pub use head::open_log;
-pub use log::Log;
-pub use opening::{Next, Opening};
+pub use log::{Log, Standing};
+pub use opening::{Next, Opening, Progress};

@@ -1,6 +1,6 @@
 //! A log that is open for appending.
 
-ghost use Rattle.std.specs.Prelude.{◌≡◌, ℕ, ◌<◌, ◌≤◌, ◌^◌, List, [], ◌∷◌, ◌++◌, Some, Ok, Err, length, IfOk, OnOk, IfSome, IfNone, ◌+◌};
+ghost use Rattle.std.specs.Prelude.{◌≡◌, ◌≢◌, ℕ, ◌<◌, ◌≤◌, ◌^◌, List, [], ◌∷◌, ◌++◌, Some, Ok, Err, length, IfOk, OnOk, IfSome, IfNone, ◌+◌};
 ghost use Rattle.bf_io.specs.Whole.{IfTold};
 ghost use Rattle.bf_disk.specs.Answers.{CountsFault};
 ghost use Rattle.bf_disk.specs.Images.{LeavesOnly, Only, Torn, overwritten};
@@ -16,8 +16,9 @@ use std::alloc::{AllocError, Global};
 /// Whether a log takes appends.
 #[derive(Clone, Copy, Debug, PartialEq, Eq)]
 pub enum Standing {
+    /// It takes appends.
     Ready,
-    /// A call of the device failed, when the disk's count of faults was this.
+    /// A call of the device failed, after which the disk's count of faults was this.
     Halted(u64),
     /// There was no memory in a call of the device.
     Spent,
@@ -38,7 +39,7 @@ pub struct Log<D: Disk> {
 }
 
 impl<D: Disk> Log<D> {
-    ghost use Rattle.bf_log.specs.Append.{Holds, Outcome, BeforeOrAfter, refusal, disk_of, end_of, count_of, standing_of, halted_of};
+    ghost use Rattle.bf_log.specs.Append.{Holds, Outcome, BeforeOrAfter, StoppedAt, refusal, disk_of, end_of, count_of, standing_of, halted_of};
     ghost use Rattle.bf_log.specs.Errors.{CountsFaults, is_append_fault};
     ghost use Rattle.bf_log.specs.Format.{with_entry};
 
@@ -67,22 +68,37 @@ impl<D: Disk> Log<D> {
     /// at any moment leaves the records from before, or those with the new one. After `DiskFault` either
     /// may be, and the log is halted. After `Memory` out of a call of the device either may be too, and the
     /// log is spent: it answers `Memory` from then on. Every other refusal leaves the log as it was.
+    ///
+    /// `largest` is at most 2^30 bytes. `limit` is the most bytes that the file may come to have with the
+    /// record and the gate behind it.
     pub fn append(&mut self, payload: &[u8], largest: u32, limit: u64) -> Result<u64, AppendError>
         requires { largest ≤ 2 ^ 30 }
 
         // Refusals before the device is asked: spent, halted, too large, full.
-        ensures refused { IfSome (refusal (standing_of self.old) (end_of self.old) (length payload.now) largest limit)
+        ensures refused { IfSome (refusal (standing_of self.old) (end_of self.old)
+            (length payload.now) largest limit)
             (λ error. (result ≡ Err error) × (self.new ≡ self.old)) }
-        ensures outcome { IfNone (refusal (standing_of self.old) (end_of self.old) (length payload.now) largest limit)
+        ensures outcome { IfNone (refusal (standing_of self.old) (end_of self.old)
+            (length payload.now) largest limit)
             (Outcome (length payload.now) self.old self.new result) }
 
         ensures stored { (file : List ℕ) (payloads : List (List ℕ)) → Holds file payloads self.old
             → OnOk result (Holds (with_entry file (end_of self.old) payload.now)
             (payloads ++ payload.now ∷ []) self.new) }
-        ensures any_moment { (file : List ℕ) (payloads : List (List ℕ)) → Holds file payloads self.old
+        ensures any_moment { (file : List ℕ) (payloads : List (List ℕ))
+            → Holds file payloads self.old
             → LeavesOnly D.moment D.left_since (disk_of self.old) (disk_of self.new) (BeforeOrAfter payloads payload.now) }
 
-        ensures faults { CountsFaults is_append_fault result (D.fault_count (disk_of self.old)) (D.fault_count (disk_of self.new)) }
+        // A log that has stopped: either may be, now and for ever.
+        ensures stops { (file : List ℕ) (payloads : List (List ℕ)) → Holds file payloads self.old
+            → standing_of self.new ≢ Standing.Ready → StoppedAt payloads payload.now self.new }
+        ensures stopped { (payloads : List (List ℕ)) (failed : List ℕ)
+            → StoppedAt payloads failed self.old
+            → StoppedAt payloads failed self.new
+            × LeavesOnly D.moment D.left_since (disk_of self.old) (disk_of self.new) (BeforeOrAfter payloads failed) }
+
+        ensures faults { CountsFaults is_append_fault result (D.fault_count (disk_of self.old))
+            (D.fault_count (disk_of self.new)) }
     {
         if let Some(refusal) = self.refusal(payload.len() as u64, largest, limit) {
             return Err(refusal);
@@ -157,7 +173,7 @@ fn spelled(alloc: Global, payload: &[u8]) -> Result<Vec<u8>, AllocError>
 {
     let mut length = [0u8; LENGTH_BYTES];
     LittleEndian::write_u32(&mut length, payload.len() as u32);
-    let mut record = Vec::with_capacity(alloc, payload.len() + FRAME as usize)?;
+    let mut record = Vec::with_capacity(alloc, LENGTH_BYTES + payload.len() + 1)?;
     record.extend_from_slice(&length)?;
     record.extend_from_slice(payload)?;
     record.push(CLOSED_GATE)?;
@@ -168,10 +184,15 @@ fn spelled(alloc: Global, payload: &[u8]) -> Result<Vec<u8>, AllocError>
 fn store<D: Disk>(disk: &mut D, gate: u64, bytes: &[u8]) -> Result<(), DiskError>
     requires fits { gate + 1 < 2 ^ 64 }
     requires within { IfTold (D.seen disk.old) (λ file. gate < length file) }
-    ensures written { OnOk result (WhereTold (λ old new. new ≡ opened old gate bytes.now) (D.seen disk.old) (D.seen disk.new)) }
-    ensures long { WhereTold (λ old new. length old ≤ length new) (D.seen disk.old) (D.seen disk.new) }
-    ensures durable { OnOk result (IfTold (D.seen disk.new) (λ file. Only file (D.may_leave disk.new))) }
-    ensures any_moment { (file : List ℕ) → D.seen disk.old ≡ Some file → Only file (D.may_leave disk.old)
+    ensures written { OnOk result
+        (WhereTold (λ old new. new ≡ opened old gate bytes.now) (D.seen disk.old)
+        (D.seen disk.new)) }
+    ensures long { WhereTold (λ old new. length old ≤ length new) (D.seen disk.old)
+        (D.seen disk.new) }
+    ensures durable { OnOk result
+        (IfTold (D.seen disk.new) (λ file. Only file (D.may_leave disk.new))) }
+    ensures any_moment { (file : List ℕ) → D.seen disk.old ≡ Some file
+        → Only file (D.may_leave disk.old)
         → LeavesOnly D.moment D.left_since disk.old disk.new (IsBeingStored file gate bytes.now) }
     ensures faults { CountsFault result (D.fault_count disk.old) (D.fault_count disk.new) }
 {
@@ -182,9 +203,13 @@ fn store<D: Disk>(disk: &mut D, gate: u64, bytes: &[u8]) -> Result<(), DiskError
 // A write and a sync.
 fn write_synced<D: Disk>(disk: &mut D, at: u64, bytes: &[u8]) -> Result<(), DiskError>
     requires { IfTold (D.seen disk.old) (λ file. at ≤ length file) }
-    ensures written { OnOk result (WhereTold (λ old new. new ≡ overwritten old at bytes.now) (D.seen disk.old) (D.seen disk.new)) }
-    ensures long { WhereTold (λ old new. length old ≤ length new) (D.seen disk.old) (D.seen disk.new) }
-    ensures durable { OnOk result (IfTold (D.seen disk.new) (λ file. Only file (D.may_leave disk.new))) }
+    ensures written { OnOk result
+        (WhereTold (λ old new. new ≡ overwritten old at bytes.now) (D.seen disk.old)
+        (D.seen disk.new)) }
+    ensures long { WhereTold (λ old new. length old ≤ length new) (D.seen disk.old)
+        (D.seen disk.new) }
+    ensures durable { OnOk result
+        (IfTold (D.seen disk.new) (λ file. Only file (D.may_leave disk.new))) }
     ensures any_moment { (file : List ℕ) → Only file (D.may_leave disk.old)
         → LeavesOnly D.moment D.left_since disk.old disk.new (Torn at (length bytes.now) file) }
     ensures faults { CountsFault result (D.fault_count disk.old) (D.fault_count disk.new) }

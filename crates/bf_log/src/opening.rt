@@ -1,6 +1,7 @@
 //! Reading a log gate by gate.
 
-ghost use Rattle.std.specs.Prelude.{◌≡◌, ℕ, ◌<◌, ◌≤◌, List, Some, length};
+ghost use Rattle.std.specs.Prelude.{◌≡◌, ◌↔◌, ℕ, ◌+◌, ◌<◌, ◌≤◌, IsTrue, List, ◌∷◌, Some, length, take, drop};
+ghost use Rattle.byteorder.specs.Endian.{little_bytes, little_number};
 
 use crate::error::OpenError;
 use crate::format::{FRAME, LENGTH_BYTES, MAGIC, MOST_BYTES, OPEN_GATE};
@@ -30,7 +31,7 @@ pub enum Next {
     End,
 }
 
-/// A log of which the payloads so far were read.
+/// A log that is being read: so many payloads so far.
 #[derive(Debug, Drop)]
 pub struct Opening<D: Disk> {
     disk: D,
@@ -49,9 +50,9 @@ pub struct Opening<D: Disk> {
 
 impl<D: Disk> Opening<D> {
     ghost use Rattle.bf_log.specs.Errors.{CountsFaults, is_open_fault};
-    ghost use Rattle.bf_log.specs.Format.{magic};
+    ghost use Rattle.bf_log.specs.Format.{magic, most_bytes, open_gate};
     ghost use Rattle.bf_log.specs.Append.{Holds, end_of, standing_of, disk_of as log_disk, count_of as log_count};
-    ghost use Rattle.bf_log.specs.Opening.{HasRead, OnlyRead, ReadsNext, ProgressAfter, AnswersAgain, disk_of, gate_of, count_of, progress_of};
+    ghost use Rattle.bf_log.specs.Opening.{HasRead, ReadsNext, ProgressAfter, AnswersAgain, disk_of, gate_of, count_of, progress_of};
 
     /// The payload behind the next open gate, with that gate's offset, or `End` at a closed gate.
     ///
@@ -64,8 +65,10 @@ impl<D: Disk> Opening<D> {
         ensures progress { ProgressAfter self.old self.new result }
         ensures again { AnswersAgain self.old self.new result }
 
-        ensures disk { OnlyRead D.seen D.may_leave D.moment D.left_since (disk_of self.old) (disk_of self.new) }
-        ensures faults { CountsFaults is_open_fault result (D.fault_count (disk_of self.old)) (D.fault_count (disk_of self.new)) }
+        ensures disk { OnlyRead D.seen D.may_leave D.moment D.left_since (disk_of self.old)
+            (disk_of self.new) }
+        ensures faults { CountsFaults is_open_fault result (D.fault_count (disk_of self.old))
+            (D.fault_count (disk_of self.new)) }
     {
         match self.progress {
             Progress::Reading => self.read_gate(alloc),
@@ -99,8 +102,10 @@ impl<D: Disk> Opening<D> {
         ensures next { (file : List ℕ) (payloads : List (List ℕ)) → HasRead file payloads self.old
             → ReadsNext file payloads self.new result }
         ensures progress { ProgressAfter self.old self.new result }
-        ensures disk { OnlyRead D.seen D.may_leave D.moment D.left_since (disk_of self.old) (disk_of self.new) }
-        ensures faults { CountsFaults is_open_fault result (D.fault_count (disk_of self.old)) (D.fault_count (disk_of self.new)) }
+        ensures disk { OnlyRead D.seen D.may_leave D.moment D.left_since (disk_of self.old)
+            (disk_of self.new) }
+        ensures faults { CountsFaults is_open_fault result (D.fault_count (disk_of self.old))
+            (D.fault_count (disk_of self.new)) }
     {
         let mut frame = [0u8; 1 + LENGTH_BYTES];
         let known = (self.len - self.gate).min(FRAME) as usize;
@@ -109,21 +114,37 @@ impl<D: Disk> Opening<D> {
             self.progress = Progress::Ended;
             return Ok(Next::End);
         }
-        let size = LittleEndian::read_u32(&frame[1..]);
-        if known < frame.len() || size > MOST_BYTES || !self.has_room(size) {
+        // Where bytes of the length are missing there is no room, whatever it reads as.
+        let size = read_length(&frame[1..]);
+        if !self.has_room(size) {
             self.progress = Progress::Broken;
             return Err(OpenError::NotALog(self.gate));
         }
         self.read_payload(alloc, size)
     }
 
-    // Whether a payload of so many bytes and a gate fit behind the gate and a length.
-    fn has_room(&self, size: u32) -> bool {
-        size as u64 + FRAME < self.len - self.gate
+    // Whether a payload may have so many bytes, and fits behind a length, with a gate behind it.
+    fn has_room(&self, size: u32) -> bool
+        ensures { IsTrue result ↔ (size ≤ most_bytes) × (self.now.gate + 5 + size < self.now.len) }
+    {
+        size <= MOST_BYTES && size as u64 + FRAME < self.len - self.gate
     }
 
-    // Reads the payload behind the gate, which has so many bytes, and goes on to the gate behind it.
-    fn read_payload(&mut self, alloc: Global, size: u32) -> Result<Next, OpenError> {
+    // Reads the payload of so many bytes behind the open gate, and goes on to the next gate.
+    fn read_payload(&mut self, alloc: Global, size: u32) -> Result<Next, OpenError>
+        requires reading { progress_of self.old ≡ Progress.Reading }
+        requires small { size ≤ most_bytes }
+        requires room { self.old.gate + 5 + size < self.old.len }
+        requires opened { (file : List ℕ) → D.seen (disk_of self.old) ≡ Some file
+            → take 5 (drop (gate_of self.old) file) ≡ open_gate ∷ little_bytes 4 size }
+        ensures next { (file : List ℕ) (payloads : List (List ℕ)) → HasRead file payloads self.old
+            → ReadsNext file payloads self.new result }
+        ensures progress { ProgressAfter self.old self.new result }
+        ensures disk { OnlyRead D.seen D.may_leave D.moment D.left_since
+            (disk_of self.old) (disk_of self.new) }
+        ensures faults { CountsFaults is_open_fault result
+            (D.fault_count (disk_of self.old)) (D.fault_count (disk_of self.new)) }
+    {
         let mut payload = vec![in alloc; 0u8; size as usize]?;
         let gate = self.gate;
         self.disk.read(gate + FRAME, &mut payload)?;
@@ -151,4 +172,13 @@ impl<D: Disk> Opening<D> {
     {
         self.disk
     }
+}
+
+// The length that four bytes spell.
+fn read_length(bytes: &[u8]) -> u32
+    requires { length bytes.now ≡ 4 }
+    ensures number { result ≡ little_number 4 bytes.now }
+    ensures spelled { little_bytes 4 result ≡ bytes.now }
+{
+    LittleEndian::read_u32(bytes)
 }

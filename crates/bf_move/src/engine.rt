@@ -43,7 +43,8 @@ impl Engine {
     /// The database of the table of a statement that creates one.
     pub fn create(alloc: Global, creation: &Statement) -> Result<Engine, Memory>
         requires { IsCreation creation.now }
-        ensures created { IfOk result (λ engine. executed empty_database creation.now ≡ (Reply.Created, view_of engine)) }
+        ensures created { IfOk result
+            (λ engine. executed empty_database creation.now ≡ (Reply.Created, view_of engine)) }
         ensures none { IfOk result (λ engine. engine.last ≡ None) }
     {
         Ok(Engine {
@@ -64,8 +65,10 @@ impl Engine {
     /// none. After an error the database that is seen is as it was.
     pub fn execute(&mut self, alloc: Global, statement: &Statement) -> Result<Reply, Memory>
         requires { MayRun self.old statement.now }
-        ensures replies { IfOk result (λ reply. executed (view_of self.old) statement.now ≡ (reply, view_of self.new)) }
-        ensures moves { OnOk result (self.new.last ≡ migration_by self.old.last (view_of self.old) statement.now) }
+        ensures replies { IfOk result
+            (λ reply. executed (view_of self.old) statement.now ≡ (reply, view_of self.new)) }
+        ensures moves { OnOk result (self.new.last
+            ≡ migration_by self.old.last (view_of self.old) statement.now) }
         ensures err { OnErr result (view_of self.new ≡ view_of self.old) }
     {
         self.tables.execute(alloc, statement)

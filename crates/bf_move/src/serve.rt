@@ -31,8 +31,11 @@ impl Course {
     /// Notes the reply to the next statement, which commits. After an error the course is not
     /// used any more.
     fn commit(&mut self, reply: Reply) -> Result<(), Memory>
-        ensures replies { OnOk result (self.new.replies.items ≡ self.old.replies.items ++ reply ∷ []) }
-        ensures entries { OnOk result (self.new.entries.items ≡ self.old.entries.items ++ entry_at (length self.old.entries.items + 1) ∷ []) }
+        ensures replies { OnOk result
+            (self.new.replies.items ≡ self.old.replies.items ++ reply ∷ []) }
+        ensures entries { OnOk result
+            (self.new.entries.items ≡ self.old.entries.items
+            ++ entry_at (length self.old.entries.items + 1) ∷ []) }
     {
         let number = next_number(self.entries.len())?;
         self.replies.push(reply)?;
@@ -59,9 +62,11 @@ fn next_number(count: usize) -> Result<u32, Memory>
 /// Runs the statements of a session, one after the other, from the empty database.
 fn run_all(alloc: Global, statements: &[Statement]) -> Result<(Course, Sweep), Memory>
     requires { AreOfForm statements.now }
-    ensures replies { IfOk result (λ run. run.0.replies.items ≡ replies_to empty_database statements.now) }
+    ensures replies { IfOk result
+        (λ run. run.0.replies.items ≡ replies_to empty_database statements.now) }
     ensures entries { IfOk result (λ run. run.0.entries.items ≡ entries_from 1 statements.now) }
-    ensures sweep { IfOk result (λ run. run.1 ≡ sweep_of (migration_after None empty_database statements.now)) }
+    ensures sweep { IfOk result (λ run.
+        run.1 ≡ sweep_of (migration_after None empty_database statements.now)) }
 {
     let [creation, rest @ ..] = statements else {
         unreachable!()
@@ -84,7 +89,8 @@ fn run_all(alloc: Global, statements: &[Statement]) -> Result<(Course, Sweep), M
 /// new one, and a SELECT a copy of the rows.
 pub fn serve(alloc: Global, script: &Script) -> Result<Run, Memory>
     requires { IsOfForm script.now }
-    ensures { IfOk result (λ run. IsRun script.now run.transcripts.sessions run.history.entries run.sweep) }
+    ensures { IfOk result (λ run.
+        IsRun script.now run.transcripts.sessions run.history.entries run.sweep) }
 {
     let (course, sweep) = run_all(alloc, script.sessions.as_slice()[0].statements.as_slice())?;
     let replies = Sequence::of(course.replies);

@@ -129,7 +129,8 @@ fn wide_sweep(sweep: Sweep) -> bf_sql::Sweep
 /// whole language. It costs what [`serve`] does, and a pass over the replies.
 pub fn run(alloc: Global, script: &Script) -> Result<FormRun, Memory>
     requires { IsOfForm script.now }
-    ensures { IfOk result (λ move. IsFormRun script.now move.transcripts.sessions move.history.entries move.sweep) }
+    ensures { IfOk result (λ move.
+        IsFormRun script.now move.transcripts.sessions move.history.entries move.sweep) }
 {
     let run = serve(alloc, script)?;
     Ok(FormRun {

@@ -22,7 +22,8 @@ use std::alloc::Global;
 /// The equality at a place, and the place behind it.
 fn equality<'a>(alloc: Global, cursor: Cursor<'a>) -> Result<((Ref, Ref), Cursor<'a>), Stop>
     requires { IsPlace cursor }
-    ensures fits { Fits is_point EqualityRule (words cursor.entry) (outcome (λ x. Read x.0 (words x.1)) result) }
+    ensures fits { Fits is_point EqualityRule (words cursor.entry)
+        (outcome (λ x. Read x.0 (words x.1)) result) }
     ensures place { IfOk result (λ x. IsPlace x.1) }
     ensures shorter { IfOk result (λ x. left x.1 < left cursor.entry) }
 {
@@ -35,7 +36,8 @@ fn equality<'a>(alloc: Global, cursor: Cursor<'a>) -> Result<((Ref, Ref), Cursor
 /// The equalities at a place, with AND between them, and the place behind them.
 fn equalities<'a>(alloc: Global, cursor: Cursor<'a>) -> Result<(Vec<(Ref, Ref)>, Cursor<'a>), Stop>
     requires { IsPlace cursor }
-    ensures fits { Fits goes_equalities EqualitiesRule (words cursor.entry) (outcome (λ x. Read x.0.items (words x.1)) result) }
+    ensures fits { Fits goes_equalities EqualitiesRule (words cursor.entry)
+        (outcome (λ x. Read x.0.items (words x.1)) result) }
     ensures place { IfOk result (λ x. IsPlace x.1) }
     ensures shorter { IfOk result (λ x. left x.1 < left cursor.entry) }
 {
@@ -55,7 +57,8 @@ fn equalities<'a>(alloc: Global, cursor: Cursor<'a>) -> Result<(Vec<(Ref, Ref)>,
 /// The JOIN at a place, if one stands there, and the place behind it.
 fn join<'a>(alloc: Global, cursor: Cursor<'a>) -> Result<(Option<Join>, Cursor<'a>), Stop>
     requires { IsPlace cursor }
-    ensures fits { Fits goes_join JoinRule (words cursor.entry) (outcome (λ x. Read x.0 (words x.1)) result) }
+    ensures fits { Fits goes_join JoinRule (words cursor.entry)
+        (outcome (λ x. Read x.0 (words x.1)) result) }
     ensures place { IfOk result (λ x. IsPlace x.1) }
     ensures shorter { IfOk result (λ x. left x.1 ≤ left cursor.entry) }
 {
@@ -74,7 +77,8 @@ fn join<'a>(alloc: Global, cursor: Cursor<'a>) -> Result<(Option<Join>, Cursor<'
 /// The columns of the GROUP BY at a place, none where none stands there, and the place behind it.
 fn group<'a>(alloc: Global, cursor: Cursor<'a>) -> Result<(Vec<Ref>, Cursor<'a>), Stop>
     requires { IsPlace cursor }
-    ensures fits { Fits goes_group GroupRule (words cursor.entry) (outcome (λ x. Read x.0.items (words x.1)) result) }
+    ensures fits { Fits goes_group GroupRule (words cursor.entry)
+        (outcome (λ x. Read x.0.items (words x.1)) result) }
     ensures place { IfOk result (λ x. IsPlace x.1) }
     ensures shorter { IfOk result (λ x. left x.1 ≤ left cursor.entry) }
 {
@@ -93,7 +97,8 @@ fn clauses<'a>(
     cursor: Cursor<'a>,
 ) -> Result<(Option<Join>, Option<RawCond>, Vec<Ref>, Cursor<'a>), Stop>
     requires { IsPlace cursor }
-    ensures fits { Fits goes_arm ClausesRule (words cursor.entry) (outcome (λ x. Read (x.0, x.1, x.2.items) (words x.3)) result) }
+    ensures fits { Fits goes_arm ClausesRule (words cursor.entry)
+        (outcome (λ x. Read (x.0, x.1, x.2.items) (words x.3)) result) }
     ensures place { IfOk result (λ x. IsPlace x.3) }
     ensures shorter { IfOk result (λ x. left x.3 ≤ left cursor.entry) }
 {
@@ -106,7 +111,8 @@ fn clauses<'a>(
 /// The arm at a place, and the place behind it.
 fn arm<'a>(alloc: Global, cursor: Cursor<'a>) -> Result<(Arm, Cursor<'a>), Stop>
     requires { IsPlace cursor }
-    ensures fits { Fits goes_arm ArmRule (words cursor.entry) (outcome (λ x. Read x.0 (words x.1)) result) }
+    ensures fits { Fits goes_arm ArmRule (words cursor.entry)
+        (outcome (λ x. Read x.0 (words x.1)) result) }
     ensures place { IfOk result (λ x. IsPlace x.1) }
     ensures shorter { IfOk result (λ x. left x.1 < left cursor.entry) }
 {
@@ -132,7 +138,8 @@ fn arm<'a>(alloc: Global, cursor: Cursor<'a>) -> Result<(Arm, Cursor<'a>), Stop>
 /// The arms at a place, with UNION ALL between them, and the place behind them.
 pub(crate) fn arms<'a>(alloc: Global, cursor: Cursor<'a>) -> Result<(Vec<Arm>, Cursor<'a>), Stop>
     requires { IsPlace cursor }
-    ensures fits { Fits goes_arms ArmsRule (words cursor.entry) (outcome (λ x. Read x.0.items (words x.1)) result) }
+    ensures fits { Fits goes_arms ArmsRule (words cursor.entry)
+        (outcome (λ x. Read x.0.items (words x.1)) result) }
     ensures place { IfOk result (λ x. IsPlace x.1) }
     ensures shorter { IfOk result (λ x. left x.1 < left cursor.entry) }
 {

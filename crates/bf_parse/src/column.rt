@@ -23,7 +23,8 @@ use std::alloc::Global;
 /// The number at a place, and the place behind it.
 fn number<'a>(cursor: Cursor<'a>) -> Result<(u64, Cursor<'a>), Stop>
     requires { IsPlace cursor }
-    ensures fits { Fits nothing NumberRule (words cursor.entry) (outcome (λ x. Read x.0 (words x.1)) result) }
+    ensures fits { Fits nothing NumberRule (words cursor.entry)
+        (outcome (λ x. Read x.0 (words x.1)) result) }
     ensures place { IfOk result (λ x. IsPlace x.1) }
     ensures shorter { IfOk result (λ x. left x.1 < left cursor.entry) }
 {
@@ -42,7 +43,8 @@ fn number<'a>(cursor: Cursor<'a>) -> Result<(u64, Cursor<'a>), Stop>
 /// The column and the bounds of a CHECK at a place, and the place behind them.
 fn range<'a>(alloc: Global, cursor: Cursor<'a>) -> Result<(ColumnForm, Cursor<'a>), Stop>
     requires { IsPlace cursor }
-    ensures fits { Fits nothing RangeRule (words cursor.entry) (outcome (λ x. Read x.0 (words x.1)) result) }
+    ensures fits { Fits nothing RangeRule (words cursor.entry)
+        (outcome (λ x. Read x.0 (words x.1)) result) }
     ensures place { IfOk result (λ x. IsPlace x.1) }
     ensures shorter { IfOk result (λ x. left x.1 < left cursor.entry) }
 {
@@ -57,7 +59,8 @@ fn range<'a>(alloc: Global, cursor: Cursor<'a>) -> Result<(ColumnForm, Cursor<'a
 /// The CHECK at a place, and the place behind it.
 fn check<'a>(alloc: Global, cursor: Cursor<'a>) -> Result<(ColumnForm, Cursor<'a>), Stop>
     requires { IsPlace cursor }
-    ensures fits { Fits nothing CheckRule (words cursor.entry) (outcome (λ x. Read x.0 (words x.1)) result) }
+    ensures fits { Fits nothing CheckRule (words cursor.entry)
+        (outcome (λ x. Read x.0 (words x.1)) result) }
     ensures place { IfOk result (λ x. IsPlace x.1) }
     ensures shorter { IfOk result (λ x. left x.1 < left cursor.entry) }
 {
@@ -71,7 +74,8 @@ fn check<'a>(alloc: Global, cursor: Cursor<'a>) -> Result<(ColumnForm, Cursor<'a
 /// What a column is declared to admit, at a place, and the place behind it.
 fn form<'a>(alloc: Global, cursor: Cursor<'a>) -> Result<(ColumnForm, Cursor<'a>), Stop>
     requires { IsPlace cursor }
-    ensures fits { Fits is_check FormRule (words cursor.entry) (outcome (λ x. Read x.0 (words x.1)) result) }
+    ensures fits { Fits is_check FormRule (words cursor.entry)
+        (outcome (λ x. Read x.0 (words x.1)) result) }
     ensures place { IfOk result (λ x. IsPlace x.1) }
     ensures shorter { IfOk result (λ x. left x.1 < left cursor.entry) }
 {
@@ -93,7 +97,8 @@ fn form<'a>(alloc: Global, cursor: Cursor<'a>) -> Result<(ColumnForm, Cursor<'a>
 /// The column at a place, and the place behind it.
 fn column<'a>(alloc: Global, cursor: Cursor<'a>) -> Result<(ColumnRule, Cursor<'a>), Stop>
     requires { IsPlace cursor }
-    ensures fits { Fits is_check ColumnRuleRule (words cursor.entry) (outcome (λ x. Read x.0 (words x.1)) result) }
+    ensures fits { Fits is_check ColumnRuleRule (words cursor.entry)
+        (outcome (λ x. Read x.0 (words x.1)) result) }
     ensures place { IfOk result (λ x. IsPlace x.1) }
     ensures shorter { IfOk result (λ x. left x.1 < left cursor.entry) }
 {
@@ -105,7 +110,8 @@ fn column<'a>(alloc: Global, cursor: Cursor<'a>) -> Result<(ColumnRule, Cursor<'
 /// The columns before PRIMARY at a place, and the place behind that.
 fn columns<'a>(alloc: Global, cursor: Cursor<'a>) -> Result<(Vec<ColumnRule>, Cursor<'a>), Stop>
     requires { IsPlace cursor }
-    ensures fits { Fits nothing ColumnsRule (words cursor.entry) (outcome (λ x. Read x.0.items (words x.1)) result) }
+    ensures fits { Fits nothing ColumnsRule (words cursor.entry)
+        (outcome (λ x. Read x.0.items (words x.1)) result) }
     ensures place { IfOk result (λ x. IsPlace x.1) }
     ensures shorter { IfOk result (λ x. left x.1 < left cursor.entry) }
 {
@@ -129,7 +135,8 @@ fn columns<'a>(alloc: Global, cursor: Cursor<'a>) -> Result<(Vec<ColumnRule>, Cu
 /// The table behind CREATE at a place, and the place behind it.
 fn table<'a>(alloc: Global, cursor: Cursor<'a>) -> Result<(Statement, Cursor<'a>), Stop>
     requires { IsPlace cursor }
-    ensures fits { Fits nothing TableRule (words cursor.entry) (outcome (λ x. Read x.0 (words x.1)) result) }
+    ensures fits { Fits nothing TableRule (words cursor.entry)
+        (outcome (λ x. Read x.0 (words x.1)) result) }
     ensures place { IfOk result (λ x. IsPlace x.1) }
     ensures shorter { IfOk result (λ x. left x.1 < left cursor.entry) }
 {
@@ -148,7 +155,8 @@ fn table<'a>(alloc: Global, cursor: Cursor<'a>) -> Result<(Statement, Cursor<'a>
 /// The index behind CREATE at a place, and the place behind it.
 fn index<'a>(alloc: Global, cursor: Cursor<'a>) -> Result<(Statement, Cursor<'a>), Stop>
     requires { IsPlace cursor }
-    ensures fits { Fits nothing IndexRuleRule (words cursor.entry) (outcome (λ x. Read x.0 (words x.1)) result) }
+    ensures fits { Fits nothing IndexRuleRule (words cursor.entry)
+        (outcome (λ x. Read x.0 (words x.1)) result) }
     ensures place { IfOk result (λ x. IsPlace x.1) }
     ensures shorter { IfOk result (λ x. left x.1 < left cursor.entry) }
 {
@@ -171,7 +179,8 @@ fn index<'a>(alloc: Global, cursor: Cursor<'a>) -> Result<(Statement, Cursor<'a>
 /// The CREATE at a place, and the place behind it.
 pub(crate) fn create<'a>(alloc: Global, cursor: Cursor<'a>) -> Result<(Statement, Cursor<'a>), Stop>
     requires { IsPlace cursor }
-    ensures fits { Fits nothing CreateRule (words cursor.entry) (outcome (λ x. Read x.0 (words x.1)) result) }
+    ensures fits { Fits nothing CreateRule (words cursor.entry)
+        (outcome (λ x. Read x.0 (words x.1)) result) }
     ensures place { IfOk result (λ x. IsPlace x.1) }
     ensures shorter { IfOk result (λ x. left x.1 < left cursor.entry) }
 {

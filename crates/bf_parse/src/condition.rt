@@ -24,7 +24,8 @@ use std::alloc::Global;
 /// A literal or a column at a place, and the place behind it.
 fn operand<'a>(alloc: Global, cursor: Cursor<'a>) -> Result<(Operand, Cursor<'a>), Stop>
     requires { IsPlace cursor }
-    ensures fits { Fits is_point OperandRule (words cursor.entry) (outcome (λ x. Read (operand_tree x.0) (words x.1)) result) }
+    ensures fits { Fits is_point OperandRule (words cursor.entry)
+        (outcome (λ x. Read (operand_tree x.0) (words x.1)) result) }
     ensures place { IfOk result (λ x. IsPlace x.1) }
     ensures shorter { IfOk result (λ x. left x.1 < left cursor.entry) }
 {
@@ -47,7 +48,8 @@ fn test<'a>(
     count: usize,
 ) -> Result<(RawCond, usize, Cursor<'a>), Stop>
     requires { IsPlace cursor }
-    ensures fits { Fits is_point (TestRule count) (words cursor.entry) (outcome (λ x. Read (x.0, x.1) (words x.2)) result) }
+    ensures fits { Fits is_point (TestRule count) (words cursor.entry)
+        (outcome (λ x. Read (x.0, x.1) (words x.2)) result) }
     ensures place { IfOk result (λ x. IsPlace x.2) }
     ensures shorter { IfOk result (λ x. left x.2 < left cursor.entry) }
 {
@@ -112,7 +114,8 @@ fn negation<'a>(
     count: usize,
 ) -> Result<(RawCond, usize, Cursor<'a>), Stop>
     requires { IsPlace cursor }
-    ensures fits { Fits is_point (Negation count) (words cursor.entry) (outcome (λ x. Read (x.0, x.1) (words x.2)) result) }
+    ensures fits { Fits is_point (Negation count) (words cursor.entry)
+        (outcome (λ x. Read (x.0, x.1) (words x.2)) result) }
     ensures place { IfOk result (λ x. IsPlace x.2) }
     ensures shorter { IfOk result (λ x. left x.2 < left cursor.entry) }
 {
@@ -143,7 +146,8 @@ fn conjunction<'a>(
     count: usize,
 ) -> Result<(RawCond, usize, Cursor<'a>), Stop>
     requires { IsPlace cursor }
-    ensures fits { Fits goes_conjunction (Conjunction count) (words cursor.entry) (outcome (λ x. Read (x.0, x.1) (words x.2)) result) }
+    ensures fits { Fits goes_conjunction (Conjunction count) (words cursor.entry)
+        (outcome (λ x. Read (x.0, x.1) (words x.2)) result) }
     ensures place { IfOk result (λ x. IsPlace x.2) }
     ensures shorter { IfOk result (λ x. left x.2 < left cursor.entry) }
 {
@@ -169,7 +173,8 @@ pub(crate) fn condition<'a>(
     count: usize,
 ) -> Result<(RawCond, usize, Cursor<'a>), Stop>
     requires { IsPlace cursor }
-    ensures fits { Fits goes_disjunction (Disjunction count) (words cursor.entry) (outcome (λ x. Read (x.0, x.1) (words x.2)) result) }
+    ensures fits { Fits goes_disjunction (Disjunction count) (words cursor.entry)
+        (outcome (λ x. Read (x.0, x.1) (words x.2)) result) }
     ensures place { IfOk result (λ x. IsPlace x.2) }
     ensures shorter { IfOk result (λ x. left x.2 < left cursor.entry) }
 {

@@ -74,7 +74,8 @@ fn factor<'a>(
     count: usize,
 ) -> Result<(RawExpr, usize, Cursor<'a>), Stop>
     requires { IsPlace cursor }
-    ensures fits { Fits is_point (Factor count) (words cursor.entry) (outcome (λ x. Read (x.0, x.1) (words x.2)) result) }
+    ensures fits { Fits is_point (Factor count) (words cursor.entry)
+        (outcome (λ x. Read (x.0, x.1) (words x.2)) result) }
     ensures place { IfOk result (λ x. IsPlace x.2) }
     ensures shorter { IfOk result (λ x. left x.2 < left cursor.entry) }
 {
@@ -110,7 +111,8 @@ fn product<'a>(
     count: usize,
 ) -> Result<(RawExpr, usize, Cursor<'a>), Stop>
     requires { IsPlace cursor }
-    ensures fits { Fits goes_product (Product count) (words cursor.entry) (outcome (λ x. Read (x.0, x.1) (words x.2)) result) }
+    ensures fits { Fits goes_product (Product count) (words cursor.entry)
+        (outcome (λ x. Read (x.0, x.1) (words x.2)) result) }
     ensures place { IfOk result (λ x. IsPlace x.2) }
     ensures shorter { IfOk result (λ x. left x.2 < left cursor.entry) }
 {
@@ -136,7 +138,8 @@ pub(crate) fn sum<'a>(
     count: usize,
 ) -> Result<(RawExpr, usize, Cursor<'a>), Stop>
     requires { IsPlace cursor }
-    ensures fits { Fits goes_sum (Sum count) (words cursor.entry) (outcome (λ x. Read (x.0, x.1) (words x.2)) result) }
+    ensures fits { Fits goes_sum (Sum count) (words cursor.entry)
+        (outcome (λ x. Read (x.0, x.1) (words x.2)) result) }
     ensures place { IfOk result (λ x. IsPlace x.2) }
     ensures shorter { IfOk result (λ x. left x.2 < left cursor.entry) }
 {

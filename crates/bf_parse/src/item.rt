@@ -39,7 +39,8 @@ fn behind<'a>(
     cursor: Cursor<'a>,
 ) -> Result<(Item, Cursor<'a>), Stop>
     requires { IsPlace cursor }
-    ensures fits { Fits is_as (ItemEnd (expr, count)) (words cursor.entry) (outcome (λ x. Read x.0 (words x.1)) result) }
+    ensures fits { Fits is_as (ItemEnd (expr, count)) (words cursor.entry)
+        (outcome (λ x. Read x.0 (words x.1)) result) }
     ensures place { IfOk result (λ x. IsPlace x.1) }
     ensures shorter { IfOk result (λ x. left x.1 ≤ left cursor.entry) }
 {
@@ -58,7 +59,8 @@ fn behind<'a>(
 /// The item at a place, and the place behind it.
 fn item<'a>(alloc: Global, cursor: Cursor<'a>) -> Result<(Item, Cursor<'a>), Stop>
     requires { IsPlace cursor }
-    ensures fits { Fits goes_item ItemRule (words cursor.entry) (outcome (λ x. Read x.0 (words x.1)) result) }
+    ensures fits { Fits goes_item ItemRule (words cursor.entry)
+        (outcome (λ x. Read x.0 (words x.1)) result) }
     ensures place { IfOk result (λ x. IsPlace x.1) }
     ensures shorter { IfOk result (λ x. left x.1 < left cursor.entry) }
 {

@@ -38,7 +38,8 @@ pub(crate) trait Part: Drop {
     /// The part at a place, and the place behind it.
     fn read<'a>(alloc: Global, cursor: Cursor<'a>) -> Result<(Self, Cursor<'a>), Stop>
         requires { IsPlace cursor }
-        ensures fits { Fits goes_on rule (words cursor.entry) (outcome (λ x. Read x.0 (words x.1)) result) }
+        ensures fits { Fits goes_on rule (words cursor.entry)
+            (outcome (λ x. Read x.0 (words x.1)) result) }
         ensures place { IfOk result (λ x. IsPlace x.1) }
         ensures shorter { IfOk result (λ x. left x.1 < left cursor.entry) };
 }
@@ -47,7 +48,9 @@ pub(crate) trait Part: Drop {
 pub(crate) fn room(parts: usize, begins: bool, cursor: Cursor<'_>) -> Result<(), Stop>
     ensures room { IfOk result (λ done. parts < 16) }
     ensures full { IfErr result (λ e. 16 ≤ parts) }
-    ensures fault { IfErr result (λ e. e ≡ (if begins then BeyondLimit TooManyColumnsKind (left cursor.entry) else NoSyntax (left cursor.entry))) }
+    ensures fault { IfErr result (λ e.
+        e ≡ (if begins then BeyondLimit TooManyColumnsKind (left cursor.entry) else NoSyntax
+        (left cursor.entry))) }
 {
     if parts < MOST_PARTS {
         Ok(())
@@ -65,7 +68,8 @@ pub(crate) fn list<'a, P: Part>(
 ) -> Result<(Vec<P>, Cursor<'a>), Stop>
     requires part { IsPart P.goes_on P.begun P.rule }
     requires place { IsPlace cursor }
-    ensures fits { Fits (goes_list P.goes_on) (Listed P.rule) (words cursor.entry) (outcome (λ x. Read x.0.items (words x.1)) result) }
+    ensures fits { Fits (goes_list P.goes_on) (Listed P.rule) (words cursor.entry)
+        (outcome (λ x. Read x.0.items (words x.1)) result) }
     ensures place { IfOk result (λ x. IsPlace x.1) }
     ensures shorter { IfOk result (λ x. left x.1 < left cursor.entry) }
 {
@@ -89,7 +93,8 @@ pub(crate) fn enclosed_list<'a, P: Part>(
 ) -> Result<(Vec<P>, Cursor<'a>), Stop>
     requires part { IsPart P.goes_on P.begun P.rule }
     requires place { IsPlace cursor }
-    ensures fits { Fits nothing (Enclosed (Listed P.rule) (λ parts. Return parts)) (words cursor.entry) (outcome (λ x. Read x.0.items (words x.1)) result) }
+    ensures fits { Fits nothing (Enclosed (Listed P.rule) (λ parts. Return parts))
+        (words cursor.entry) (outcome (λ x. Read x.0.items (words x.1)) result) }
     ensures place { IfOk result (λ x. IsPlace x.1) }
     ensures shorter { IfOk result (λ x. left x.1 < left cursor.entry) }
 {

@@ -24,7 +24,8 @@ const MOST_TARGETS: usize = 8;
 /// The target at a place, and the place behind it.
 fn target<'a>(alloc: Global, cursor: Cursor<'a>) -> Result<(Target, Cursor<'a>), Stop>
     requires { IsPlace cursor }
-    ensures fits { Fits goes_arms TargetRule (words cursor.entry) (outcome (λ x. Read x.0 (words x.1)) result) }
+    ensures fits { Fits goes_arms TargetRule (words cursor.entry)
+        (outcome (λ x. Read x.0 (words x.1)) result) }
     ensures place { IfOk result (λ x. IsPlace x.1) }
     ensures shorter { IfOk result (λ x. left x.1 < left cursor.entry) }
 {
@@ -41,7 +42,9 @@ fn target<'a>(alloc: Global, cursor: Cursor<'a>) -> Result<(Target, Cursor<'a>),
 fn expect_room(targets: usize, cursor: Cursor<'_>) -> Result<(), Stop>
     requires { IsPlace cursor }
     ensures room { IfOk result (λ _. fault_at (TargetMark (targets + 1)) ≡ None) }
-    ensures full { IfErr result (λ e. Fits goes_arms (Marked (TargetMark (targets + 1)) TargetRule) (words cursor.entry) (stopped e)) }
+    ensures full { IfErr result (λ e.
+        Fits goes_arms (Marked (TargetMark (targets + 1)) TargetRule) (words cursor.entry)
+        (stopped e)) }
 {
     if targets < MOST_TARGETS {
         return Ok(());
@@ -55,7 +58,8 @@ fn expect_room(targets: usize, cursor: Cursor<'_>) -> Result<(), Stop>
 /// The targets at a place, with semicolons between them, and the place behind them.
 fn targets<'a>(alloc: Global, cursor: Cursor<'a>) -> Result<(Vec<Target>, Cursor<'a>), Stop>
     requires { IsPlace cursor }
-    ensures fits { Fits goes_targets TargetsRule (words cursor.entry) (outcome (λ x. Read x.0.items (words x.1)) result) }
+    ensures fits { Fits goes_targets TargetsRule (words cursor.entry)
+        (outcome (λ x. Read x.0.items (words x.1)) result) }
     ensures place { IfOk result (λ x. IsPlace x.1) }
     ensures shorter { IfOk result (λ x. left x.1 < left cursor.entry) }
 {
@@ -75,7 +79,8 @@ fn targets<'a>(alloc: Global, cursor: Cursor<'a>) -> Result<(Vec<Target>, Cursor
 /// The MIGRATE at a place, and the place behind it.
 pub(crate) fn migrate<'a>(alloc: Global, cursor: Cursor<'a>) -> Result<(Migrate, Cursor<'a>), Stop>
     requires { IsPlace cursor }
-    ensures fits { Fits nothing MigrateRule (words cursor.entry) (outcome (λ x. Read x.0 (words x.1)) result) }
+    ensures fits { Fits nothing MigrateRule (words cursor.entry)
+        (outcome (λ x. Read x.0 (words x.1)) result) }
     ensures place { IfOk result (λ x. IsPlace x.1) }
     ensures shorter { IfOk result (λ x. left x.1 < left cursor.entry) }
 {

@@ -23,7 +23,8 @@ pub(crate) const WIDEST: u64 = 1 << 63;
 /// The number, or the minus and the number, at a place, and the place behind it.
 pub(crate) fn signed<'a>(cursor: Cursor<'a>) -> Result<(i64, Cursor<'a>), Stop>
     requires { IsPlace cursor }
-    ensures fits { Fits nothing SignedRule (words cursor.entry) (outcome (λ x. Read (IntValue x.0) (words x.1)) result) }
+    ensures fits { Fits nothing SignedRule (words cursor.entry)
+        (outcome (λ x. Read (IntValue x.0) (words x.1)) result) }
     ensures place { IfOk result (λ x. IsPlace x.1) }
     ensures shorter { IfOk result (λ x. left x.1 < left cursor.entry) }
 {
@@ -45,7 +46,8 @@ pub(crate) fn signed<'a>(cursor: Cursor<'a>) -> Result<(i64, Cursor<'a>), Stop>
 /// The literal at a place, and the place behind it.
 pub(crate) fn literal<'a>(alloc: Global, cursor: Cursor<'a>) -> Result<(Value, Cursor<'a>), Stop>
     requires { IsPlace cursor }
-    ensures fits { Fits nothing LiteralRule (words cursor.entry) (outcome (λ x. Read x.0 (words x.1)) result) }
+    ensures fits { Fits nothing LiteralRule (words cursor.entry)
+        (outcome (λ x. Read x.0 (words x.1)) result) }
     ensures place { IfOk result (λ x. IsPlace x.1) }
     ensures shorter { IfOk result (λ x. left x.1 < left cursor.entry) }
 {
@@ -72,7 +74,8 @@ fn negative(number: u64) -> i64
 /// The column at a place, and the place behind it.
 pub(crate) fn reference<'a>(alloc: Global, cursor: Cursor<'a>) -> Result<(Ref, Cursor<'a>), Stop>
     requires { IsPlace cursor }
-    ensures fits { Fits is_point RefRule (words cursor.entry) (outcome (λ x. Read x.0 (words x.1)) result) }
+    ensures fits { Fits is_point RefRule (words cursor.entry)
+        (outcome (λ x. Read x.0 (words x.1)) result) }
     ensures place { IfOk result (λ x. IsPlace x.1) }
     ensures shorter { IfOk result (λ x. left x.1 < left cursor.entry) }
 {

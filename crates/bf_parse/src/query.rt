@@ -27,7 +27,8 @@ pub(crate) fn where_clause<'a>(
     cursor: Cursor<'a>,
 ) -> Result<(Option<RawCond>, Cursor<'a>), Stop>
     requires { IsPlace cursor }
-    ensures fits { Fits goes_where WhereRule (words cursor.entry) (outcome (λ x. Read x.0 (words x.1)) result) }
+    ensures fits { Fits goes_where WhereRule (words cursor.entry)
+        (outcome (λ x. Read x.0 (words x.1)) result) }
     ensures place { IfOk result (λ x. IsPlace x.1) }
     ensures shorter { IfOk result (λ x. left x.1 ≤ left cursor.entry) }
 {
@@ -46,7 +47,8 @@ pub(crate) fn expression<'a>(
     cursor: Cursor<'a>,
 ) -> Result<(RawExpr, Cursor<'a>), Stop>
     requires { IsPlace cursor }
-    ensures fits { Fits goes_sum ExprRule (words cursor.entry) (outcome (λ x. Read x.0 (words x.1)) result) }
+    ensures fits { Fits goes_sum ExprRule (words cursor.entry)
+        (outcome (λ x. Read x.0 (words x.1)) result) }
     ensures place { IfOk result (λ x. IsPlace x.1) }
     ensures shorter { IfOk result (λ x. left x.1 < left cursor.entry) }
 {
@@ -57,7 +59,8 @@ pub(crate) fn expression<'a>(
 /// The expression between parentheses at a place, and the place behind it.
 fn enclosed<'a>(alloc: Global, cursor: Cursor<'a>) -> Result<(RawExpr, Cursor<'a>), Stop>
     requires { IsPlace cursor }
-    ensures fits { Fits nothing (Enclosed ExprRule (λ e. Return e)) (words cursor.entry) (outcome (λ x. Read x.0 (words x.1)) result) }
+    ensures fits { Fits nothing (Enclosed ExprRule (λ e. Return e)) (words cursor.entry)
+        (outcome (λ x. Read x.0 (words x.1)) result) }
     ensures place { IfOk result (λ x. IsPlace x.1) }
     ensures shorter { IfOk result (λ x. left x.1 < left cursor.entry) }
 {
@@ -70,7 +73,8 @@ fn enclosed<'a>(alloc: Global, cursor: Cursor<'a>) -> Result<(RawExpr, Cursor<'a
 /// The place behind a star between parentheses.
 fn star<'a>(cursor: Cursor<'a>) -> Result<Cursor<'a>, Stop>
     requires { IsPlace cursor }
-    ensures fits { Fits nothing StarRule (words cursor.entry) (outcome (λ rest. Read count (words rest)) result) }
+    ensures fits { Fits nothing StarRule (words cursor.entry)
+        (outcome (λ rest. Read count (words rest)) result) }
     ensures place { IfOk result IsPlace }
     ensures shorter { IfOk result (λ rest. left rest < left cursor.entry) }
 {
@@ -86,7 +90,8 @@ pub(crate) fn aggregate<'a>(
     cursor: Cursor<'a>,
 ) -> Result<(RawAggregate, Cursor<'a>), Stop>
     requires { IsPlace cursor }
-    ensures fits { Fits nothing AggregateRule (words cursor.entry) (outcome (λ x. Read x.0 (words x.1)) result) }
+    ensures fits { Fits nothing AggregateRule (words cursor.entry)
+        (outcome (λ x. Read x.0 (words x.1)) result) }
     ensures place { IfOk result (λ x. IsPlace x.1) }
     ensures shorter { IfOk result (λ x. left x.1 < left cursor.entry) }
 {
@@ -117,7 +122,8 @@ pub(crate) fn aggregate<'a>(
 /// What a SELECT gives, at a place, and the place behind it.
 fn select_list<'a>(alloc: Global, cursor: Cursor<'a>) -> Result<(List, Cursor<'a>), Stop>
     requires { IsPlace cursor }
-    ensures fits { Fits (goes_list goes_sum) ListRule (words cursor.entry) (outcome (λ x. Read x.0 (words x.1)) result) }
+    ensures fits { Fits (goes_list goes_sum) ListRule (words cursor.entry)
+        (outcome (λ x. Read x.0 (words x.1)) result) }
     ensures place { IfOk result (λ x. IsPlace x.1) }
     ensures shorter { IfOk result (λ x. left x.1 < left cursor.entry) }
 {
@@ -138,7 +144,8 @@ fn select_list<'a>(alloc: Global, cursor: Cursor<'a>) -> Result<(List, Cursor<'a
 /// The SELECT at a place, and the place behind it.
 pub(crate) fn select<'a>(alloc: Global, cursor: Cursor<'a>) -> Result<(Statement, Cursor<'a>), Stop>
     requires { IsPlace cursor }
-    ensures fits { Fits goes_where SelectRule (words cursor.entry) (outcome (λ x. Read x.0 (words x.1)) result) }
+    ensures fits { Fits goes_where SelectRule (words cursor.entry)
+        (outcome (λ x. Read x.0 (words x.1)) result) }
     ensures place { IfOk result (λ x. IsPlace x.1) }
     ensures shorter { IfOk result (λ x. left x.1 < left cursor.entry) }
 {

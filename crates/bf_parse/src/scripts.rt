@@ -26,7 +26,8 @@ const LONGEST_SCRIPT: u32 = 1 << 24;
 /// before those of the grammar.
 pub fn script(alloc: Global, text: &[u8]) -> Result<Script, ScriptError>
     ensures read { IfOk result (λ script. IsScriptText text.now (Ok script)) }
-    ensures fault { (fault : FaultValue) → result ≡ Err (ScriptError.Fault fault) → IsScriptText text.now (Err fault) }
+    ensures fault { (fault : FaultValue) → result ≡ Err (ScriptError.Fault fault)
+        → IsScriptText text.now (Err fault) }
 {
     if text.len() > LONGEST_SCRIPT as usize {
         return Err(ScriptError::Fault(ScriptFault {

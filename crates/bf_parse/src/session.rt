@@ -66,9 +66,13 @@ impl SoFar {
 
     /// Whether a session may begin at a place.
     fn expect_room(&self, cursor: Cursor<'_>) -> Result<(), Stop>
-        ensures room { IfOk result (λ _. fault_at (SessionMark (length self.now.sessions.items + 1) (self.now.of_phase + 1)) ≡ None) }
+        ensures room { IfOk result (λ _.
+            fault_at (SessionMark (length self.now.sessions.items + 1) (self.now.of_phase + 1))
+            ≡ None) }
         ensures few { IfOk result (λ _. self.now.of_phase < 16) }
-        ensures over { IfErr result (λ _. fault_at (SessionMark (length self.now.sessions.items + 1) (self.now.of_phase + 1)) ≡ Some TooMany) }
+        ensures over { IfErr result (λ _.
+            fault_at (SessionMark (length self.now.sessions.items + 1) (self.now.of_phase + 1))
+            ≡ Some TooMany) }
         ensures fault { IfErr result (λ e. e ≡ BeyondLimit TooMany (left cursor.entry)) }
     {
         if self.sessions.len() < MOST_SESSIONS && self.of_phase < MOST_OF_PHASE {
@@ -81,7 +85,8 @@ impl SoFar {
     fn with_session(self, statements: Vec<Statement>, migrations: usize) -> Result<SoFar, Stop>
         requires { self.of_phase < 16 }
         ensures memory { IfErr result (λ e. e ≡ OutOfMemory) }
-        ensures value { IfOk result (λ s. progress_of s ≡ with_session (progress_of self) (statements.items, migrations)) }
+        ensures value { IfOk result (λ s.
+            progress_of s ≡ with_session (progress_of self) (statements.items, migrations)) }
     {
         let mut sessions = self.sessions;
         sessions.push(Session {
@@ -143,7 +148,8 @@ fn statement<'a>(
     migrations: usize,
 ) -> Result<(Statement, usize, Cursor<'a>), Stop>
     requires { IsPlace cursor }
-    ensures fits { Fits goes_ordinary (StatementRule migrations) (words cursor.entry) (outcome (λ x. Read (x.0, x.1) (words x.2)) result) }
+    ensures fits { Fits goes_ordinary (StatementRule migrations) (words cursor.entry)
+        (outcome (λ x. Read (x.0, x.1) (words x.2)) result) }
     ensures place { IfOk result (λ x. IsPlace x.2) }
     ensures shorter { IfOk result (λ x. left x.2 < left cursor.entry) }
 {
@@ -167,7 +173,8 @@ fn statements<'a>(
     migrations: usize,
 ) -> Result<(Vec<Statement>, usize, Cursor<'a>), Stop>
     requires { IsPlace cursor }
-    ensures fits { Fits begins_statement (Statements migrations []) (words cursor.entry) (outcome (λ x. Read (x.0.items, x.1) (words x.2)) result) }
+    ensures fits { Fits begins_statement (Statements migrations []) (words cursor.entry)
+        (outcome (λ x. Read (x.0.items, x.1) (words x.2)) result) }
     ensures place { IfOk result (λ x. IsPlace x.2) }
     ensures shorter { IfOk result (λ x. left x.2 ≤ left cursor.entry) }
 {
@@ -191,7 +198,8 @@ fn sessions<'a>(
     before: SoFar,
 ) -> Result<(SoFar, Cursor<'a>), Stop>
     requires { IsPlace cursor }
-    ensures fits { Fits goes_sessions (Sessions (progress_of before)) (words cursor.entry) (outcome (λ x. Read (progress_of x.0) (words x.1)) result) }
+    ensures fits { Fits goes_sessions (Sessions (progress_of before)) (words cursor.entry)
+        (outcome (λ x. Read (progress_of x.0) (words x.1)) result) }
     ensures phases { IfOk result (λ x. x.0.phases ≡ before.phases) }
     ensures place { IfOk result (λ x. IsPlace x.1) }
     ensures shorter { IfOk result (λ x. left x.1 ≤ left cursor.entry) }
@@ -212,7 +220,8 @@ fn sessions<'a>(
 pub(crate) fn phases<'a>(alloc: Global, cursor: Cursor<'a>) -> Result<(SoFar, Cursor<'a>), Stop>
     requires place { IsPlace cursor }
     requires few { left cursor < 2 ^ 32 }
-    ensures fits { Fits goes_phases (Phases nothing_yet) (words cursor.entry) (outcome (λ x. Read (progress_of x.0) (words x.1)) result) }
+    ensures fits { Fits goes_phases (Phases nothing_yet) (words cursor.entry)
+        (outcome (λ x. Read (progress_of x.0) (words x.1)) result) }
     ensures place { IfOk result (λ x. IsPlace x.1) }
 {
     let mut so_far = SoFar::new(alloc);

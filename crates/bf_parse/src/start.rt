@@ -83,7 +83,8 @@ impl<'a> Cursor<'a> {
 // The literal whose minus stands before a place.
 fn negative(behind: Cursor<'_>) -> Front<'_>
     requires { IsPlace behind }
-    ensures front { IsFront (Minus (begins_with_number (words behind.entry)) ∷ words behind.entry) result }
+    ensures front { IsFront (Minus (begins_with_number (words behind.entry)) ∷ words behind.entry)
+        result }
     ensures place { BehindFront IsPlace result }
     ensures shorter { BehindFront (λ rest. left rest ≤ left behind.entry) result }
 {

@@ -22,7 +22,8 @@ use std::alloc::Global;
 /// The tuple at a place, and the place behind it.
 fn tuple<'a>(alloc: Global, cursor: Cursor<'a>) -> Result<(Row, Cursor<'a>), Stop>
     requires { IsPlace cursor }
-    ensures fits { Fits nothing TupleRule (words cursor.entry) (outcome (λ x. Read x.0 (words x.1)) result) }
+    ensures fits { Fits nothing TupleRule (words cursor.entry)
+        (outcome (λ x. Read x.0 (words x.1)) result) }
     ensures place { IfOk result (λ x. IsPlace x.1) }
     ensures shorter { IfOk result (λ x. left x.1 < left cursor.entry) }
 {
@@ -33,7 +34,8 @@ fn tuple<'a>(alloc: Global, cursor: Cursor<'a>) -> Result<(Row, Cursor<'a>), Sto
 /// The tuples at a place, of any number, and the place behind them.
 fn tuples<'a>(alloc: Global, cursor: Cursor<'a>) -> Result<(Vec<Row>, Cursor<'a>), Stop>
     requires { IsPlace cursor }
-    ensures fits { Fits is_comma (Several TupleRule) (words cursor.entry) (outcome (λ x. Read x.0.items (words x.1)) result) }
+    ensures fits { Fits is_comma (Several TupleRule) (words cursor.entry)
+        (outcome (λ x. Read x.0.items (words x.1)) result) }
     ensures place { IfOk result (λ x. IsPlace x.1) }
     ensures shorter { IfOk result (λ x. left x.1 < left cursor.entry) }
 {
@@ -52,7 +54,8 @@ fn tuples<'a>(alloc: Global, cursor: Cursor<'a>) -> Result<(Vec<Row>, Cursor<'a>
 /// The INSERT at a place, and the place behind it.
 fn insert<'a>(alloc: Global, cursor: Cursor<'a>) -> Result<(Statement, Cursor<'a>), Stop>
     requires { IsPlace cursor }
-    ensures fits { Fits is_comma InsertRule (words cursor.entry) (outcome (λ x. Read x.0 (words x.1)) result) }
+    ensures fits { Fits is_comma InsertRule (words cursor.entry)
+        (outcome (λ x. Read x.0 (words x.1)) result) }
     ensures place { IfOk result (λ x. IsPlace x.1) }
     ensures shorter { IfOk result (λ x. left x.1 < left cursor.entry) }
 {
@@ -68,7 +71,8 @@ fn insert<'a>(alloc: Global, cursor: Cursor<'a>) -> Result<(Statement, Cursor<'a
 /// The UPDATE at a place, and the place behind it.
 fn update<'a>(alloc: Global, cursor: Cursor<'a>) -> Result<(Statement, Cursor<'a>), Stop>
     requires { IsPlace cursor }
-    ensures fits { Fits goes_ordinary UpdateRule (words cursor.entry) (outcome (λ x. Read x.0 (words x.1)) result) }
+    ensures fits { Fits goes_ordinary UpdateRule (words cursor.entry)
+        (outcome (λ x. Read x.0 (words x.1)) result) }
     ensures place { IfOk result (λ x. IsPlace x.1) }
     ensures shorter { IfOk result (λ x. left x.1 < left cursor.entry) }
 {
@@ -84,7 +88,8 @@ fn update<'a>(alloc: Global, cursor: Cursor<'a>) -> Result<(Statement, Cursor<'a
 /// The DELETE at a place, and the place behind it.
 fn delete<'a>(alloc: Global, cursor: Cursor<'a>) -> Result<(Statement, Cursor<'a>), Stop>
     requires { IsPlace cursor }
-    ensures fits { Fits goes_where DeleteRule (words cursor.entry) (outcome (λ x. Read x.0 (words x.1)) result) }
+    ensures fits { Fits goes_where DeleteRule (words cursor.entry)
+        (outcome (λ x. Read x.0 (words x.1)) result) }
     ensures place { IfOk result (λ x. IsPlace x.1) }
     ensures shorter { IfOk result (λ x. left x.1 < left cursor.entry) }
 {
@@ -101,7 +106,8 @@ pub(crate) fn ordinary<'a>(
     cursor: Cursor<'a>,
 ) -> Result<(Statement, Cursor<'a>), Stop>
     requires { IsPlace cursor }
-    ensures fits { Fits goes_ordinary OrdinaryRule (words cursor.entry) (outcome (λ x. Read x.0 (words x.1)) result) }
+    ensures fits { Fits goes_ordinary OrdinaryRule (words cursor.entry)
+        (outcome (λ x. Read x.0 (words x.1)) result) }
     ensures place { IfOk result (λ x. IsPlace x.1) }
     ensures shorter { IfOk result (λ x. left x.1 < left cursor.entry) }
 {

@@ -7,8 +7,8 @@ use Rattle.std.proofs.lemmas.List.{take_more, take_all, drop_more, get_or-drop, 
 use Rattle.std.proofs.lemmas.List.Concat.{flat_map-append}
 use Rattle.std.proofs.lemmas.List.Folds.{flat_map-map}
 use Rattle.bf_sql.specs.declared.reply.Refusal.{Refusal}
-use Rattle.bf_query.specs.declared.stop.Stop.{Stop}
-use Rattle.bf_query.specs.declared.stop.Stop.TheVariants.{Refused, Memory}
+use Rattle.bf_sql.specs.declared.stop.Stop.{Stop}
+use Rattle.bf_sql.specs.declared.stop.Stop.TheVariants.{Refused, Memory}
 use Rattle.bf_query.proofs.Stopping.{first_ahead, handed_on}
 use Rattle.bf_query.specs.Stops.{first_of, Settles}
 

@@ -4,8 +4,8 @@ use Rattle.std.specs.Prelude.{flat_map, IsErrAnd}
 use Rattle.std.specs.List.{All}
 use Rattle.std.proofs.lemmas.List.{length-map, get_or-map, take_more, map-append}
 use Rattle.bf_sql.specs.declared.reply.Refusal.{Refusal}
-use Rattle.bf_query.specs.declared.stop.Stop.{Stop}
-use Rattle.bf_query.specs.declared.stop.Stop.TheVariants as stop
+use Rattle.bf_sql.specs.declared.stop.Stop.{Stop}
+use Rattle.bf_sql.specs.declared.stop.Stop.TheVariants as stop
 use Rattle.bf_query.specs.Stops.{first_of, Settles}
 
 pub none_first : (objections : List Refusal) → first_of objections ≡ None → objections ≡ []

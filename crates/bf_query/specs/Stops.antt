@@ -1,8 +1,8 @@
 -- What an action on rows gives, or why it stops.
 use Rattle.std.specs.Prelude.{◌≡◌, List, [], ◌∷◌, Option, Some, None, Result, Ok, Err}
 use Rattle.bf_sql.specs.declared.reply.Refusal.{Refusal}
-use Rattle.bf_query.specs.declared.stop.Stop.{Stop}
-use Rattle.bf_query.specs.declared.stop.Stop.TheVariants as stop
+use Rattle.bf_sql.specs.declared.stop.Stop.{Stop}
+use Rattle.bf_sql.specs.declared.stop.Stop.TheVariants as stop
 
 -- the objection that is told
 abbrev pub first_of : List Refusal → Option Refusal

@@ -12,10 +12,9 @@ ghost use Rattle.bf_query.specs.Actions.{unless_refused};
 ghost use Rattle.bf_query.specs.Stops.{Settles};
 
 use crate::running::{told_value, totals};
-use crate::stop::Stop;
 use bf_base::{Memory, Row, Sequence};
 use bf_expr::Expr;
-use bf_sql::{Cell, Items, Reply};
+use bf_sql::{Cell, Items, Reply, Stop};
 use std::alloc::Global;
 
 /// All columns of a row.
@@ -43,7 +42,9 @@ fn all_columns(alloc: Global, rows: &[&Row]) -> Result<Sequence<Sequence<Cell>>,
 
 /// The values of expressions on a row, the first one first.
 fn values(alloc: Global, exprs: &[Expr], row: &Row) -> Result<Sequence<Cell>, Stop>
-    ensures { Settles result (flat_map (λ expr. value_objections (value_of (cell row.now) expr)) exprs.now) (map (λ expr. cells.Value (sure_value (cell row.now) expr)) exprs.now) }
+    ensures { Settles result (flat_map
+        (λ expr. value_objections (value_of (cell row.now) expr)) exprs.now)
+        (map (λ expr. cells.Value (sure_value (cell row.now) expr)) exprs.now) }
 {
     let mut cells = Vec::with_capacity(alloc, exprs.len())?;
     for expr in exprs {
@@ -58,7 +59,9 @@ fn all_values(
     exprs: &[Expr],
     rows: &[&Row],
 ) -> Result<Sequence<Sequence<Cell>>, Stop>
-    ensures { Settles result (answer_objections cell (Exprs exprs.now) (map (λ row. row.now) rows.now)) (answer_of cell (Exprs exprs.now) (map (λ row. row.now) rows.now)) }
+    ensures { Settles result (answer_objections cell (Exprs exprs.now)
+        (map (λ row. row.now) rows.now))
+        (answer_of cell (Exprs exprs.now) (map (λ row. row.now) rows.now)) }
 {
     let mut given = Vec::with_capacity(alloc, rows.len())?;
     for row in rows {
@@ -69,7 +72,8 @@ fn all_values(
 
 /// What is given of some rows.
 fn given(alloc: Global, items: &Items, rows: &[&Row]) -> Result<Sequence<Sequence<Cell>>, Stop>
-    ensures { Settles result (answer_objections cell items.now (map (λ row. row.now) rows.now)) (answer_of cell items.now (map (λ row. row.now) rows.now)) }
+    ensures { Settles result (answer_objections cell items.now (map (λ row. row.now) rows.now))
+        (answer_of cell items.now (map (λ row. row.now) rows.now)) }
 {
     match items {
         Items::All => Ok(all_columns(alloc, rows)?),
@@ -84,7 +88,9 @@ fn given(alloc: Global, items: &Items, rows: &[&Row]) -> Result<Sequence<Sequenc
 /// The reply to a SELECT of these rows: what is given of them, or the first refusal. Items are
 /// computed row by row, from the left, and sums are judged after all rows. Linear in the rows.
 pub fn answer(alloc: Global, items: &Items, rows: &[&Row]) -> Result<Reply, Memory>
-    ensures { IfOk result (λ told. told ≡ unless_refused (answer_objections cell items.now (map (λ row. row.now) rows.now)) (reply.Rows (answer_of cell items.now (map (λ row. row.now) rows.now)))) }
+    ensures { IfOk result (λ told.
+        told ≡ unless_refused (answer_objections cell items.now (map (λ row. row.now) rows.now))
+        (reply.Rows (answer_of cell items.now (map (λ row. row.now) rows.now)))) }
 {
     match given(alloc, items, rows) {
         Ok(rows) => Ok(Reply::Rows(rows)),

@@ -16,11 +16,10 @@ ghost use Rattle.bf_query.specs.Stops.{Settles, first_of};
 
 use crate::merge::{row_at, selected_rows};
 use crate::running::told_value;
-use crate::stop::Stop;
 use bf_base::{Fit, Key, Memory, Row, Sequence, Table, Value, admits, key_of};
 use bf_expr::Expr;
 use bf_heap::Heap;
-use bf_sql::{Action, Bound, Refusal, Reply};
+use bf_sql::{Action, Bound, Refusal, Reply, Stop};
 use bf_txn::{Workspace, Write};
 use std::alloc::Global;
 
@@ -62,7 +61,10 @@ fn tuple_objection(
     tuple: &Row,
     key: &Key,
 ) -> Result<Option<Refusal>, Memory>
-    ensures { IfOk result (λ found. found ≡ first_of (unfit_row_objections table.now tuple.now ++ when (is_taken heap.now.entries workspace.now noted.now table.now.name key.now) (DuplicateKey key.now))) }
+    ensures { IfOk result (λ found.
+        found ≡ first_of (unfit_row_objections table.now tuple.now
+        ++ when (is_taken heap.now.entries workspace.now noted.now table.now.name key.now)
+        (DuplicateKey key.now))) }
 {
     let unfit = first_unfit(table, tuple);
     if unfit.is_some() {
@@ -93,7 +95,9 @@ fn plan_insert(
 ) -> Result<Sequence<Write>, Stop>
     requires tuples { All (IsKeyWithin table.now) tuples.now }
     requires keys { StandUnderOwnKeys table.now heap.now.entries workspace.now }
-    ensures { Settles result (insert_objections table.now (rows_under heap.now.entries workspace.now table.now.name) tuples.now) (map (λ tuple. write_of table.now (key_of table.now tuple) (Some tuple)) tuples.now) }
+    ensures { Settles result (insert_objections table.now
+        (rows_under heap.now.entries workspace.now table.now.name) tuples.now)
+        (map (λ tuple. write_of table.now (key_of table.now tuple) (Some tuple)) tuples.now) }
 {
     let mut noted = Workspace::new(alloc);
     let mut writes = Vec::with_capacity(alloc, tuples.len())?;
@@ -124,7 +128,9 @@ fn fit_at(table: &Table, place: u8, value: &Value) -> Fit
 /// The value that a set gives a column of a row, if the expression has one there and the column
 /// admits it.
 fn set_value(alloc: Global, table: &Table, place: u8, expr: &Expr, row: &Row) -> Result<Value, Stop>
-    ensures { Settles result (value_objections (value_of (cell row.now) expr.now) ++ unfit_objections (admitted_at table.now place) (sure_value (cell row.now) expr.now)) (sure_value (cell row.now) expr.now) }
+    ensures { Settles result (value_objections (value_of (cell row.now) expr.now)
+        ++ unfit_objections (admitted_at table.now place) (sure_value (cell row.now) expr.now))
+        (sure_value (cell row.now) expr.now) }
 {
     let found = told_value(alloc, expr, row)?;
     match unfitness(fit_at(table, place, &found)) {
@@ -135,7 +141,8 @@ fn set_value(alloc: Global, table: &Table, place: u8, expr: &Expr, row: &Row) ->
 
 /// A row with its sets, all from the old row.
 fn changed_row(alloc: Global, table: &Table, sets: &[(u8, Expr)], row: &Row) -> Result<Row, Stop>
-    ensures { Settles result (change_objections cell (admitted_at table.now) sets.now row.now) (changed cell (λ place. place) sets.now row.now) }
+    ensures { Settles result (change_objections cell (admitted_at table.now) sets.now row.now)
+        (changed cell (λ place. place) sets.now row.now) }
 {
     let mut new = row.copy(alloc)?.into_vec();
     for (place, expr) in sets {
@@ -156,7 +163,10 @@ fn plan_update(
     rows: &[&Row],
 ) -> Result<Sequence<Write>, Stop>
     requires { All (IsKeyWithin table.now) (map (λ row. row.now) rows.now) }
-    ensures { Settles result (flat_map (change_objections cell (admitted_at table.now) sets.now) (map (λ row. row.now) rows.now)) (map (λ row. write_of table.now (key_of table.now row) (Some (changed cell (λ place. place) sets.now row))) (map (λ row. row.now) rows.now)) }
+    ensures { Settles result (flat_map (change_objections cell (admitted_at table.now) sets.now)
+        (map (λ row. row.now) rows.now))
+        (map (λ row. write_of table.now (key_of table.now row)
+        (Some (changed cell (λ place. place) sets.now row))) (map (λ row. row.now) rows.now)) }
 {
     let mut writes = Vec::with_capacity(alloc, rows.len())?;
     for row in rows {
@@ -170,7 +180,9 @@ fn plan_update(
 /// The writes of a DELETE of some rows, in their order.
 fn plan_delete(alloc: Global, table: &Table, rows: &[&Row]) -> Result<Sequence<Write>, Memory>
     requires { All (IsKeyWithin table.now) (map (λ row. row.now) rows.now) }
-    ensures { IfOk result (λ writes. writes ≡ map (λ row. write_of table.now (key_of table.now row) None) (map (λ row. row.now) rows.now)) }
+    ensures { IfOk result (λ writes.
+        writes ≡ map (λ row. write_of table.now (key_of table.now row) None)
+        (map (λ row. row.now) rows.now)) }
 {
     let mut writes = Vec::with_capacity(alloc, rows.len())?;
     for row in rows {
@@ -190,7 +202,9 @@ fn plan(
     requires change { IsChange action.now }
     requires bound { IsWellBound action.now }
     requires keys { HaveOwnKeys heap.now.entries workspace.now action.now }
-    ensures { Settles result (objections_on (rows_for heap.now.entries workspace.now action.now) action.now) (writes_of (rows_for heap.now.entries workspace.now action.now) action.now) }
+    ensures { Settles result (objections_on
+        (rows_for heap.now.entries workspace.now action.now) action.now)
+        (writes_of (rows_for heap.now.entries workspace.now action.now) action.now) }
 {
     match action {
         Action::Insert { table, rows } => {
@@ -254,8 +268,13 @@ pub fn changes(
     requires change { IsChange bound.now.action }
     requires bound { IsWellBound bound.now.action }
     requires keys { HaveOwnKeys heap.now.entries workspace.old bound.now.action }
-    ensures reply { IfOk result (λ told. change_reply (rows_for heap.now.entries workspace.old bound.now.action) bound.now.action ≡ Some told) }
-    ensures workspace { OnOk result (workspace.new ≡ written (objections_on (rows_for heap.now.entries workspace.old bound.now.action) bound.now.action) workspace.old (writes_of (rows_for heap.now.entries workspace.old bound.now.action) bound.now.action)) }
+    ensures reply { IfOk result (λ told.
+        change_reply (rows_for heap.now.entries workspace.old bound.now.action) bound.now.action
+        ≡ Some told) }
+    ensures workspace { OnOk result
+        (workspace.new ≡ written (objections_on
+        (rows_for heap.now.entries workspace.old bound.now.action) bound.now.action) workspace.old
+        (writes_of (rows_for heap.now.entries workspace.old bound.now.action) bound.now.action)) }
 {
     let action = &bound.action;
     let writes = match plan(alloc, heap, workspace, action) {

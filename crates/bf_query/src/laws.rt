@@ -23,27 +23,56 @@ ghost use Rattle.bf_query.specs.Merged.{StandUnderOwnKeys, rows_under};
 /// The writes of an INSERT that nothing stands in the way of place its tuples among the rows of
 /// the table, in key order.
 pub fn an_insert_places_its_tuples()
-    ensures { (table : Table) (entries : List Entry) (writes : List Write) (tuples : List (List Value)) → IsTrue (is_map key_cmp key_of_entry entries) → AreWrites writes → StandUnderOwnKeys table entries writes → All (IsKeyWithin table) tuples → objections_on (rows_under entries writes table.name) (action.Insert table tuples) ≡ [] → rows_under entries (fold with_write writes (writes_of (rows_under entries writes table.name) (action.Insert table tuples))) table.name ≡ with_placed key_cmp (key_of table) (rows_under entries writes table.name) tuples }
+    ensures { (table : Table) (entries : List Entry) (writes : List Write)
+        (tuples : List (List Value)) → IsTrue (is_map key_cmp key_of_entry entries)
+        → AreWrites writes → StandUnderOwnKeys table entries writes → All (IsKeyWithin table) tuples
+        → objections_on (rows_under entries writes table.name) (action.Insert table tuples) ≡ []
+        → rows_under entries (fold with_write writes
+        (writes_of (rows_under entries writes table.name) (action.Insert table tuples))) table.name
+        ≡ with_placed key_cmp (key_of table) (rows_under entries writes table.name) tuples }
 {}
 
 /// The writes of an UPDATE change the rows that satisfy its condition, and leave the others.
 pub fn an_update_changes_its_rows()
-    ensures { (table : Table) (entries : List Entry) (writes : List Write) (sets : List (ℕ × Expr ℕ)) (cond : Cond ℕ) (fixed : Option (List Value)) → IsTrue (is_map key_cmp key_of_entry entries) → AreWrites writes → StandUnderOwnKeys table entries writes → rows_under entries (fold with_write writes (writes_of (rows_under entries writes table.name) (action.Update table sets cond fixed))) table.name ≡ map (λ row. if holds_on (cell row) cond then changed cell (λ place. place) sets row else row) (rows_under entries writes table.name) }
+    ensures { (table : Table) (entries : List Entry) (writes : List Write)
+        (sets : List (ℕ × Expr ℕ)) (cond : Cond ℕ) (fixed : Option (List Value))
+        → IsTrue (is_map key_cmp key_of_entry entries) → AreWrites writes
+        → StandUnderOwnKeys table entries writes
+        → rows_under entries (fold with_write writes
+        (writes_of (rows_under entries writes table.name) (action.Update table sets cond fixed)))
+        table.name ≡ map (λ row. if holds_on (cell row) cond then changed cell
+        (λ place. place) sets row else row) (rows_under entries writes table.name) }
 {}
 
 /// The writes of a DELETE leave the rows that do not satisfy its condition.
 pub fn a_delete_leaves_the_other_rows()
-    ensures { (table : Table) (entries : List Entry) (writes : List Write) (cond : Cond ℕ) (fixed : Option (List Value)) → IsTrue (is_map key_cmp key_of_entry entries) → AreWrites writes → StandUnderOwnKeys table entries writes → rows_under entries (fold with_write writes (writes_of (rows_under entries writes table.name) (action.Delete table cond fixed))) table.name ≡ filter (λ row. not (holds_on (cell row) cond)) (rows_under entries writes table.name) }
+    ensures { (table : Table) (entries : List Entry) (writes : List Write) (cond : Cond ℕ)
+        (fixed : Option (List Value)) → IsTrue (is_map key_cmp key_of_entry entries)
+        → AreWrites writes → StandUnderOwnKeys table entries writes
+        → rows_under entries (fold with_write writes
+        (writes_of (rows_under entries writes table.name) (action.Delete table cond fixed)))
+        table.name ≡ filter (λ row. not (holds_on (cell row) cond))
+        (rows_under entries writes table.name) }
 {}
 
 /// The writes of an action leave the rows of every table but its own.
 pub fn an_action_leaves_other_tables()
-    ensures { (act : Action) (table : Table) (other : List ℕ) (rows : List (List Value)) (entries : List Entry) (writes : List Write) → table_of act ≡ Some table → other ≢ table.name → rows_under entries (fold with_write writes (writes_of rows act)) other ≡ rows_under entries writes other }
+    ensures { (act : Action) (table : Table) (other : List ℕ) (rows : List (List Value))
+        (entries : List Entry) (writes : List Write) → table_of act ≡ Some table
+        → other ≢ table.name → rows_under entries
+        (fold with_write writes (writes_of rows act)) other ≡ rows_under entries writes other }
 {}
 
 /// After the writes of an action that sets no column of a key, rows stand under their own keys
 /// where they did before: those of its table, and those of every other.
 pub fn an_action_keeps_own_keys()
-    ensures own { (act : Action) (table : Table) (entries : List Entry) (writes : List Write) → table_of act ≡ Some table → IsWellBound act → LeavesKeys act → StandUnderOwnKeys table entries writes → StandUnderOwnKeys table entries (fold with_write writes (writes_of (rows_under entries writes table.name) act)) }
-    ensures others { (act : Action) (table : Table) (other : Table) (rows : List (List Value)) (entries : List Entry) (writes : List Write) → table_of act ≡ Some table → other.name ≢ table.name → StandUnderOwnKeys other entries writes → StandUnderOwnKeys other entries (fold with_write writes (writes_of rows act)) }
+    ensures own { (act : Action) (table : Table) (entries : List Entry) (writes : List Write)
+        → table_of act ≡ Some table → IsWellBound act → LeavesKeys act
+        → StandUnderOwnKeys table entries writes
+        → StandUnderOwnKeys table entries
+        (fold with_write writes (writes_of (rows_under entries writes table.name) act)) }
+    ensures others { (act : Action) (table : Table) (other : Table) (rows : List (List Value))
+        (entries : List Entry) (writes : List Write) → table_of act ≡ Some table
+        → other.name ≢ table.name → StandUnderOwnKeys other entries writes
+        → StandUnderOwnKeys other entries (fold with_write writes (writes_of rows act)) }
 {}

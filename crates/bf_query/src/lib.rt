@@ -8,7 +8,6 @@ pub mod meaning;
 pub mod merge;
 mod running;
 pub mod selection;
-pub mod stop;
 mod sum;
 #[cfg(test)]
 mod tests;

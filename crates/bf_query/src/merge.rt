@@ -23,7 +23,8 @@ pub fn row_at<'a>(
     table: &Name,
     key: &Key,
 ) -> Option<&'a Row>
-    ensures { option_map (λ row. row.now) result ≡ row_under (entries_under heap.now.entries workspace.now table.now) key.now }
+    ensures { option_map (λ row. row.now) result
+        ≡ row_under (entries_under heap.now.entries workspace.now table.now) key.now }
 {
     match workspace.read(table, key) {
         Some(written) => written,
@@ -45,8 +46,16 @@ impl<'a> Merge<'a> {
     /// Goes to the next key, and gives the row that stands there, or none where it is removed;
     /// `None` behind the last key.
     fn advance(&mut self) -> Option<Option<&'a Row>>
-        ensures rows { rows_stepped (option_map (λ row. option_map (λ r. r.now) row) result) (rows_ahead self.new.heap.now.entries self.new.position (map (λ write. write.value) self.new.writes.now)) ≡ rows_ahead self.old.heap.now.entries self.old.position (map (λ write. write.value) self.old.writes.now) }
-        ensures nearer { OnSome result (steps_ahead self.new.heap.now.entries self.new.position (map (λ write. write.value) self.new.writes.now) < steps_ahead self.old.heap.now.entries self.old.position (map (λ write. write.value) self.old.writes.now)) }
+        ensures rows { rows_stepped (option_map (λ row. option_map (λ r. r.now) row) result)
+            (rows_ahead self.new.heap.now.entries self.new.position
+            (map (λ write. write.value) self.new.writes.now))
+            ≡ rows_ahead self.old.heap.now.entries self.old.position
+            (map (λ write. write.value) self.old.writes.now) }
+        ensures nearer { OnSome result
+            (steps_ahead self.new.heap.now.entries self.new.position
+            (map (λ write. write.value) self.new.writes.now)
+            < steps_ahead self.old.heap.now.entries self.old.position
+            (map (λ write. write.value) self.old.writes.now)) }
     {
         match (self.heap.at(self.position), self.writes.split_first()) {
             (None, None) => None,
@@ -86,7 +95,10 @@ fn scan<'a>(
 ) -> Result<Vec<&'a Row>, Memory>
     requires heap { IsHeap heap.now }
     requires writes { AreByKey (map (λ write. write.value) writes.now) }
-    ensures { IfOk result (λ rows. map (λ row. row.now) rows.items ≡ selected cell cond.now (rows_ahead heap.now.entries 0 (map (λ write. write.value) writes.now))) }
+    ensures { IfOk result (λ rows.
+        map (λ row. row.now) rows.items
+        ≡ selected cell cond.now (rows_ahead heap.now.entries 0
+        (map (λ write. write.value) writes.now))) }
 {
     let mut merge = Merge {
         heap,
@@ -111,7 +123,9 @@ fn if_it_holds<'a>(
     found: Option<&'a Row>,
     cond: &Cond,
 ) -> Result<Vec<&'a Row>, Memory>
-    ensures { IfOk result (λ rows. map (λ row. row.now) rows.items ≡ selected cell cond.now (option_to_list (option_map (λ row. row.now) found.entry))) }
+    ensures { IfOk result (λ rows.
+        map (λ row. row.now) rows.items
+        ≡ selected cell cond.now (option_to_list (option_map (λ row. row.now) found.entry))) }
 {
     let mut rows = Vec::new(alloc);
     let Some(row) = found else {
@@ -136,7 +150,9 @@ pub fn selected_rows<'a>(
 ) -> Result<Vec<&'a Row>, Memory>
     requires fixed { fixed.now ≡ fixed_key table.now cond.now }
     requires keys { StandUnderOwnKeys table.now heap.now.entries workspace.now }
-    ensures { IfOk result (λ rows. map (λ row. row.now) rows.items ≡ selected cell cond.now (rows_under heap.now.entries workspace.now table.now.name)) }
+    ensures { IfOk result (λ rows.
+        map (λ row. row.now) rows.items
+        ≡ selected cell cond.now (rows_under heap.now.entries workspace.now table.now.name)) }
 {
     // By its contract the heap is in the order of its keys.
     let _ = heap.len();

@@ -10,11 +10,10 @@ ghost use Rattle.bf_sql.specs.declared.items.Items.TheVariants.{Aggregates};
 ghost use Rattle.bf_query.specs.Standings.{IsCountable, advanced, end_objections, row_objections, standing, standing_after, total_cell};
 ghost use Rattle.bf_query.specs.Stops.{Settles};
 
-use crate::stop::Stop;
 use crate::sum::ExactSum;
 use bf_base::{Memory, Row, Sequence, Value};
 use bf_expr::{Expr, Fail, value};
-use bf_sql::{Aggregate, Cell, Refusal};
+use bf_sql::{Aggregate, Cell, Refusal, Stop};
 use std::alloc::Global;
 
 /// A total of the rows so far.
@@ -28,7 +27,8 @@ pub enum Running<'a> {
 
 /// The value of an expression on a row, or the refusal that tells why there is none.
 pub fn told_value(alloc: Global, expr: &Expr, row: &Row) -> Result<Value, Stop>
-    ensures { Settles result (value_objections (value_of (cell row.now) expr.now)) (sure_value (cell row.now) expr.now) }
+    ensures { Settles result (value_objections (value_of (cell row.now) expr.now))
+        (sure_value (cell row.now) expr.now) }
 {
     match value(alloc, expr, row) {
         Ok(found) => Ok(found),
@@ -79,7 +79,8 @@ impl<'a> Running<'a> {
     /// The total of all rows.
     fn finish(self) -> Result<Cell, Stop>
         requires { IsCountable (standing self) }
-        ensures { Settles result (end_objections (standing self.entry)) (total_cell (standing self.entry)) }
+        ensures { Settles result (end_objections (standing self.entry))
+            (total_cell (standing self.entry)) }
     {
         match self {
             Running::Count(rows) => Ok(Cell::Value(Value::Int(rows as i64))),
@@ -98,7 +99,8 @@ impl<'a> Running<'a> {
 
 /// The totals of no rows.
 fn started<'a>(alloc: Global, totals: &'a [Aggregate]) -> Result<Vec<Running<'a>>, Memory>
-    ensures { IfOk result (λ running. map standing running.items ≡ map (standing_after []) totals.now) }
+    ensures { IfOk result (λ running.
+        map standing running.items ≡ map (standing_after []) totals.now) }
 {
     let mut running = Vec::with_capacity(alloc, totals.len())?;
     for total in totals {
@@ -110,8 +112,10 @@ fn started<'a>(alloc: Global, totals: &'a [Aggregate]) -> Result<Vec<Running<'a>
 /// Takes a row into each total, the first one first.
 fn advance_all(alloc: Global, running: &mut [Running<'_>], row: &Row) -> Result<(), Stop>
     requires { All IsCountable (map standing running.old) }
-    ensures objections { Settles result (flat_map (row_objections row.now) (map standing running.old)) tt }
-    ensures totals { OnOk result (map standing running.new ≡ map (advanced row.now) (map standing running.old)) }
+    ensures objections { Settles result
+        (flat_map (row_objections row.now) (map standing running.old)) tt }
+    ensures totals { OnOk result (map standing running.new
+        ≡ map (advanced row.now) (map standing running.old)) }
 {
     for total in running.iter_mut() {
         total.advance(alloc, row)?;
@@ -122,7 +126,8 @@ fn advance_all(alloc: Global, running: &mut [Running<'_>], row: &Row) -> Result<
 /// Ends each total, the first one first.
 fn finished(alloc: Global, running: Vec<Running<'_>>) -> Result<Sequence<Cell>, Stop>
     requires { All IsCountable (map standing running.items) }
-    ensures { Settles result (flat_map end_objections (map standing running.entry.items)) (map total_cell (map standing running.entry.items)) }
+    ensures { Settles result (flat_map end_objections (map standing running.entry.items))
+        (map total_cell (map standing running.entry.items)) }
 {
     let mut cells = Vec::with_capacity(alloc, running.len())?;
     for total in running {
@@ -134,7 +139,9 @@ fn finished(alloc: Global, running: Vec<Running<'_>>) -> Result<Sequence<Cell>, 
 /// The totals of some rows: the arguments are computed row by row, and the sums are judged at
 /// the end.
 pub fn totals(alloc: Global, totals: &[Aggregate], rows: &[&Row]) -> Result<Sequence<Cell>, Stop>
-    ensures { Settles result (answer_objections cell (Aggregates totals.now) (map (λ row. row.now) rows.now)) (map (total_of cell (map (λ row. row.now) rows.now)) totals.now) }
+    ensures { Settles result (answer_objections cell (Aggregates totals.now)
+        (map (λ row. row.now) rows.now))
+        (map (total_of cell (map (λ row. row.now) rows.now)) totals.now) }
 {
     let mut running = started(alloc, totals)?;
     for row in rows {

@@ -23,7 +23,9 @@ pub fn select(
     requires select { IsSelect bound.now.action }
     requires bound { IsWellBound bound.now.action }
     requires keys { HaveOwnKeys heap.now.entries workspace.now bound.now.action }
-    ensures { IfOk result (λ told. select_reply (rows_for heap.now.entries workspace.now bound.now.action) bound.now.action ≡ Some told) }
+    ensures { IfOk result (λ told.
+        select_reply (rows_for heap.now.entries workspace.now bound.now.action) bound.now.action
+        ≡ Some told) }
 {
     let Action::Select {
         table,

@@ -95,7 +95,8 @@ fn is_at(place: u8, value: Value) -> Cond
 
 /// A condition, and the key that it fixes.
 fn bound(alloc: Global, which: Where) -> Result<(Cond, Option<Key>), Fail>
-    ensures { IfOk result (λ bound. (table : Table) → table.key ≡ 1 ∷ 0 ∷ [] → bound.1 ≡ fixed_key table bound.0) }
+    ensures { IfOk result (λ bound. (table : Table) → table.key ≡ 1 ∷ 0 ∷ []
+        → bound.1 ≡ fixed_key table bound.0) }
 {
     match which {
         Where::All => Ok((Cond::of(Test::Always), None)),

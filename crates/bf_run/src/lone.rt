@@ -23,7 +23,8 @@ use std::alloc::Global;
 fn read(alloc: Global, store: &Store, bound: &Bound, table: &Table) -> Result<Reply, Memory>
     requires select { IsSelect bound.now.action }
     requires on { IsOn store.now table.now bound.now.action }
-    ensures { IfOk result (λ reply. select_reply (table_rows store.now table.now.name) bound.now.action ≡ Some reply) }
+    ensures { IfOk result (λ reply.
+        select_reply (table_rows store.now table.now.name) bound.now.action ≡ Some reply) }
 {
     let Some(heap) = store.heap(&table.name) else {
         unreachable!();
@@ -39,9 +40,12 @@ fn read(alloc: Global, store: &Store, bound: &Bound, table: &Table) -> Result<Re
 fn change(alloc: Global, store: &mut Store, bound: &Bound, table: &Table) -> Result<Reply, Memory>
     requires change { IsChange bound.now.action }
     requires on { IsOn store.old table.now bound.now.action }
-    requires database { IsDatabase (committed store.old (writes_after store.old table.now [] bound.now.action)) }
-    ensures reply { IfOk result (λ reply. change_reply (table_rows store.old table.now.name) bound.now.action ≡ Some reply) }
-    ensures ok { OnOk result (store.new ≡ committed store.old (writes_after store.old table.now [] bound.now.action)) }
+    requires database { IsDatabase
+        (committed store.old (writes_after store.old table.now [] bound.now.action)) }
+    ensures reply { IfOk result (λ reply.
+        change_reply (table_rows store.old table.now.name) bound.now.action ≡ Some reply) }
+    ensures ok { OnOk result (store.new
+        ≡ committed store.old (writes_after store.old table.now [] bound.now.action)) }
     ensures err { OnErr result (store.new ≡ store.old) }
 {
     let mut workspace = Workspace::new(alloc);
@@ -62,7 +66,8 @@ fn change(alloc: Global, store: &mut Store, bound: &Bound, table: &Table) -> Res
 pub fn execute(alloc: Global, store: &mut Store, statement: &Statement) -> Result<Reply, Memory>
     requires plain { IsTrue (is_plain statement.now) }
     requires limits { KeepsLimits (catalog_of store.old) statement.now }
-    ensures replies { IfOk result (λ reply. (commit : ℕ) → executed commit store.old false statement.now ≡ (reply, store.new)) }
+    ensures replies { IfOk result (λ reply. (commit : ℕ)
+        → executed commit store.old false statement.now ≡ (reply, store.new)) }
     ensures narrow { OnOk result (HasNarrowTables (catalog_of store.new)) }
     ensures err { OnErr result (store.new ≡ store.old) }
 {

@@ -72,8 +72,11 @@ fn run_session(
     requires plain { IsTrue (list_all is_plain statements.now) }
     requires narrow { IsTrue (list_all is_narrow_statement statements.now) }
     requires tables { HasNarrowTables (catalog_of store.old) }
-    ensures run { IfOk result (λ replies. run_from (length entries.old.items + 1) store.old statements.now ≡ (replies, store.new)) }
-    ensures entries { OnOk result (entries.new.items ≡ entries.old.items ++ entries_from session 1 (length entries.old.items + 1) statements.now) }
+    ensures run { IfOk result (λ replies.
+        run_from (length entries.old.items + 1) store.old statements.now ≡ (replies, store.new)) }
+    ensures entries { OnOk result
+        (entries.new.items ≡ entries.old.items
+        ++ entries_from session 1 (length entries.old.items + 1) statements.now) }
     ensures tables { OnOk result (HasNarrowTables (catalog_of store.new)) }
 {
     let mut replies = Vec::with_capacity(alloc, statements.len())?;
@@ -96,8 +99,10 @@ fn run_sessions(
     sessions: &[Session],
 ) -> Result<(Vec<Sequence<Reply>>, Vec<Entry>), Memory>
     requires plain { IsTrue (list_all (λ s. list_all is_plain s.statements) sessions.now) }
-    requires narrow { IsTrue (list_all (λ s. list_all is_narrow_statement s.statements) sessions.now) }
-    ensures replies { IfOk result (λ run. run.0.items ≡ (sessions_from 1 empty_database sessions.now).0) }
+    requires narrow { IsTrue (list_all
+        (λ s. list_all is_narrow_statement s.statements) sessions.now) }
+    ensures replies { IfOk result
+        (λ run. run.0.items ≡ (sessions_from 1 empty_database sessions.now).0) }
     ensures entries { IfOk result (λ run. run.1.items ≡ all_entries_from 1 1 sessions.now) }
 {
     let mut store = Store::new(alloc);
@@ -120,7 +125,8 @@ pub fn serve(alloc: Global, script: &Script) -> Result<Run, Memory>
     requires plain { IsTrue (is_plain_script script.now) }
     requires narrow { IsTrue (is_narrow_script script.now) }
     requires phases { IsTrue (phases_rise_from 0 script.now.sessions) }
-    ensures { IfOk result (λ run. IsRun script.now run.transcripts.sessions run.history.entries run.sweep) }
+    ensures { IfOk result (λ run.
+        IsRun script.now run.transcripts.sessions run.history.entries run.sweep) }
 {
     let (transcripts, entries) = run_sessions(alloc, script.sessions.as_slice())?;
     Ok(Run {

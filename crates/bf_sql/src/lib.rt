@@ -9,6 +9,7 @@ pub mod migration;
 pub mod reply;
 pub mod script;
 pub mod statement;
+pub mod stop;
 
 pub use bound::{Action, Bound};
 pub use catalog::{Catalog, IndexRule};
@@ -18,3 +19,4 @@ pub use migration::{Arm, Item, Join, Migrate, Target};
 pub use reply::{Cause, Cell, Refusal, Reply};
 pub use script::{Script, Session};
 pub use statement::{ColumnForm, ColumnRule, Statement};
+pub use stop::Stop;

@@ -17,7 +17,8 @@ fn count_puts(writes: &[Box<Write>]) -> usize
     writes.iter().filter(|write| write.row.is_some()).count()
 }
 
-/// Makes room in each table's heap for the rows that a transaction has put there.
+/// Makes room in each table's heap for the rows that a transaction has put there. It looks a table up
+/// once for all writes to it that follow one another.
 ///
 /// # Errors
 /// Where memory runs out. The heaps have their rows then, and may have more room.

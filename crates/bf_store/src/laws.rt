@@ -10,5 +10,6 @@ ghost use Rattle.bf_store.specs.Plain.{is_plain};
 /// refused or not.
 pub fn statements_keep_a_database()
     ensures empty { IsDatabase empty_database }
-    ensures next { (commit : ℕ) (db : Database) (s : Statement) → IsTrue (is_plain s) → IsDatabase db → IsDatabase (executed commit db false s).1 }
+    ensures next { (commit : ℕ) (db : Database) (s : Statement) → IsTrue (is_plain s)
+        → IsDatabase db → IsDatabase (executed commit db false s).1 }
 {}

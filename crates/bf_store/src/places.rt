@@ -21,7 +21,8 @@ pub fn place_of(tables: &[Table], name: &Name) -> Option<usize>
         .ok()
 }
 
-/// `place_of`, which compares one name where the table is at the place to look at first.
+/// `place_of`, which compares one name where the table is at the place to look at first, and else
+/// about log n names. Takes no memory.
 pub fn place_near(tables: &[Table], near: Option<usize>, name: &Name) -> Option<usize>
     requires { AreByName tables.now }
     ensures { IsPlaceOf tables.now name.now result }
@@ -50,7 +51,9 @@ pub fn table_place(tables: &[Table], name: &Name) -> usize
 pub fn index_place(indexes: &[IndexRule], name: &Name) -> usize
     requires { IsTrue (rises name_cmp (map (λ index. index.name) indexes.now)) }
     ensures bound { result ≤ length indexes.now }
-    ensures place { (index : Rule) → index.name ≡ name.now → placed name_cmp (λ index. index.name) indexes.now index ≡ insert indexes.now result index }
+    ensures place { (index : Rule) → index.name ≡ name.now
+        → placed name_cmp (λ index. index.name) indexes.now index
+        ≡ insert indexes.now result index }
 {
     indexes.partition_point(|index| index.name.compare(name).is_le())
 }

@@ -65,7 +65,8 @@ impl Store {
     /// The rows of the table of a name, each under its key, and `None` exactly where no table has
     /// the name. It compares about log n names, and takes no memory.
     pub fn heap(&self, table: &Name) -> Option<&Heap>
-        ensures { option_map (λ heap. heap.now.entries) result ≡ option_map (λ s. entries_of s.table s.rows) (stored_at self.now table.now) }
+        ensures { option_map (λ heap. heap.now.entries) result
+            ≡ option_map (λ s. entries_of s.table s.rows) (stored_at self.now table.now) }
     {
         let place = place_of(self.catalog.tables.as_slice(), table)?;
         Some(&self.heaps[place])
@@ -77,8 +78,10 @@ impl Store {
     /// Where memory runs out, or 2 ^ 64 schema changes were made. The store is as it was then.
     pub fn create_table(&mut self, alloc: Global, table: Table) -> Result<(), Memory>
         requires fresh { stored_at self.old table.name ≡ None }
-        requires database { IsDatabase (next_number (with_tables (stored_in_order table [] ∷ []) self.old)) }
-        ensures ok { OnOk result (self.new ≡ next_number (with_tables (stored_in_order table [] ∷ []) self.old)) }
+        requires database { IsDatabase
+            (next_number (with_tables (stored_in_order table [] ∷ []) self.old)) }
+        ensures ok { OnOk result (self.new
+            ≡ next_number (with_tables (stored_in_order table [] ∷ []) self.old)) }
         ensures err { OnErr result (self.new ≡ self.old) }
     {
         let number = self.catalog.number.checked_add(1).ok_or(Memory)?;
@@ -115,7 +118,8 @@ impl Store {
     /// # Errors
     /// Where memory runs out. The store is as it was then.
     pub fn commit(&mut self, writes: Workspace) -> Result<(), Memory>
-        requires own_keys { All (λ s. StandUnderOwnKeys s.table (entries_of s.table s.rows) writes) self.old.tables }
+        requires own_keys { All (λ s. StandUnderOwnKeys s.table (entries_of s.table s.rows) writes)
+            self.old.tables }
         requires database { IsDatabase (committed self.old writes) }
         ensures ok { OnOk result (self.new ≡ committed self.old writes) }
         ensures err { OnErr result (self.new ≡ self.old) }

@@ -16,7 +16,8 @@ use std::alloc::Global;
 use std::test::Fail;
 
 fn column(alloc: Global, name: &[u8]) -> Result<Column, Fail>
-    ensures { IfOk result (λ column. column ≡ record { name = folded name.now; admits = admits.Int }) }
+    ensures { IfOk result (λ column.
+        column ≡ record { name = folded name.now; admits = admits.Int }) }
 {
     let name = Name::of(alloc, name)?;
     let admits = Admit::Int;
@@ -65,7 +66,8 @@ fn write_row(
     number: i64,
     value: i64,
 ) -> Result<(), Fail>
-    ensures { OnOk result (writes.new ≡ with_write writes.old (put (folded table.now) number value)) }
+    ensures { OnOk result (writes.new
+        ≡ with_write writes.old (put (folded table.now) number value)) }
 {
     let mut values = Vec::new(alloc);
     values.push(Value::Int(number))?;

@@ -31,7 +31,8 @@ impl<const N: usize, W: AsStr + Copy> Model for Cases<N, W> {
 /// The table of some pairs, and `None` exactly where two of them share a number or a word.
 /// Each pair is compared with each later one.
 pub fn of_cases<const N: usize, W: AsStr + Copy>(pairs: [(u8, W); N]) -> Option<Cases<N, W>>
-    ensures { let cases = cases_by W.text pairs in result ≡ (if are_apart cases then Some cases else None) }
+    ensures { let cases = cases_by W.text pairs in result
+        ≡ (if are_apart cases then Some cases else None) }
 {
     if are_apart(&pairs) {
         Some(Cases { pairs })
@@ -101,7 +102,8 @@ fn are_apart<W: AsStr + Copy>(pairs: &[(u8, W)]) -> bool
 }
 
 fn shares_with_any<W: AsStr + Copy>(pair: &(u8, W), others: &[(u8, W)]) -> bool
-    ensures { result ≡ list_any (share (pair.now.0, W.text pair.now.1)) (cases_by W.text others.now) }
+    ensures { result ≡ list_any (share (pair.now.0, W.text pair.now.1))
+        (cases_by W.text others.now) }
 {
     for other in others {
         if shares(pair, other) {

@@ -1,4 +1,4 @@
--- What the bytes of a report determine its parts by: each name in them is a name.
+-- Reports that tell all: each statement has its reply, and each name in it is a name.
 use Rattle.std.specs.Prelude.{ℕ, Bool, true, List, [], ◌∷◌, Option, Some, None, IsTrue}
 use Rattle.std.specs.List.{list_all}
 use Rattle.bf_base.specs.Names.{is_name}

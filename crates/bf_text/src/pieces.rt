@@ -16,12 +16,14 @@ pub(crate) fn put(out: &mut Vec<u8>, words: &[u8]) -> Result<(), Memory>
     Ok(())
 }
 
+/// Appends a number in decimal digits.
 pub(crate) fn put_number(out: &mut Vec<u8>, number: u64) -> Result<(), Memory>
     ensures { OnOk result (out.new.items ≡ out.old.items ++ decimal number) }
 {
     put(out, Buffer::new().format(number).as_bytes())
 }
 
+/// Appends a number in decimal digits, a negative one behind a minus.
 pub(crate) fn put_signed(out: &mut Vec<u8>, number: i64) -> Result<(), Memory>
     ensures { OnOk result (out.new.items ≡ out.old.items ++ signed_decimal number) }
 {
@@ -52,7 +54,8 @@ pub(crate) fn put_named_numbered(
     behind: &[u8],
     number: u64,
 ) -> Result<(), Memory>
-    ensures { OnOk result (out.new.items ≡ out.old.items ++ ((words.now ++ name.now) ++ numbered behind.now number)) }
+    ensures { OnOk result (out.new.items ≡ out.old.items
+        ++ ((words.now ++ name.now) ++ numbered behind.now number)) }
 {
     put_named(out, words, name)?;
     put_numbered(out, behind, number)
@@ -84,8 +87,10 @@ pub(crate) fn put_each<T: Piece>(
     Ok(())
 }
 
+// Appends the texts of pieces, each behind a comma and a space.
 fn put_further<T: Piece>(out: &mut Vec<u8>, place: T::Place, pieces: &[T]) -> Result<(), Memory>
-    ensures { OnOk result (out.new.items ≡ out.old.items ++ flat_map (λ y. codes ", " ++ y) (map (T.text place) pieces.now)) }
+    ensures { OnOk result (out.new.items ≡ out.old.items
+        ++ flat_map (λ y. codes ", " ++ y) (map (T.text place) pieces.now)) }
 {
     for piece in pieces {
         put(out, b", ")?;
@@ -100,7 +105,8 @@ pub(crate) fn put_listed<T: Piece>(
     place: T::Place,
     pieces: &[T],
 ) -> Result<(), Memory>
-    ensures { OnOk result (out.new.items ≡ out.old.items ++ listed (map (T.text place) pieces.now)) }
+    ensures { OnOk result (out.new.items ≡ out.old.items
+        ++ listed (map (T.text place) pieces.now)) }
 {
     match pieces {
         [] => Ok(()),
@@ -129,7 +135,8 @@ pub(crate) fn put_all_counted<T: Counted>(
     whole: T::Whole,
     things: &[T],
 ) -> Result<(), Memory>
-    ensures { OnOk result (out.new.items ≡ out.old.items ++ texts_from (T.text whole) 1 things.now) }
+    ensures { OnOk result (out.new.items ≡ out.old.items
+        ++ texts_from (T.text whole) 1 things.now) }
 {
     for (index, thing) in things.iter().enumerate() {
         thing.put_counted(out, whole, index as u64 + 1)?;

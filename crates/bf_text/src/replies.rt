@@ -64,7 +64,8 @@ pub fn put_values(out: &mut Vec<u8>, values: &[Value]) -> Result<(), Memory>
 }
 
 fn put_between(out: &mut Vec<u8>, front: &[u8], values: &[Value], back: &[u8]) -> Result<(), Memory>
-    ensures { OnOk result (out.new.items ≡ out.old.items ++ (front.now ++ values_text values.now ++ back.now)) }
+    ensures { OnOk result (out.new.items ≡ out.old.items
+        ++ (front.now ++ values_text values.now ++ back.now)) }
 {
     put(out, front)?;
     put_values(out, values)?;
@@ -125,7 +126,8 @@ pub(crate) struct Place {
 }
 
 fn put_place(out: &mut Vec<u8>, place: Place) -> Result<(), Memory>
-    ensures { OnOk result (out.new.items ≡ out.old.items ++ place_text place.session place.statement) }
+    ensures { OnOk result (out.new.items ≡ out.old.items
+        ++ place_text place.session place.statement) }
 {
     put_number(out, place.session)?;
     put_numbered(out, b".", place.statement)
@@ -154,14 +156,17 @@ fn put_count(out: &mut Vec<u8>, words: &[u8], count: u64) -> Result<(), Memory>
 }
 
 fn put_rows(out: &mut Vec<u8>, place: Place, rows: &[Sequence<Cell>]) -> Result<(), Memory>
-    ensures { OnOk result (out.new.items ≡ out.old.items ++ (numbered (codes "rows ") (length rows.now) ++ newline ++ flat_map (row_line place.session place.statement) rows.now)) }
+    ensures { OnOk result (out.new.items ≡ out.old.items
+        ++ (numbered (codes "rows ") (length rows.now) ++ newline
+        ++ flat_map (row_line place.session place.statement) rows.now)) }
 {
     put_count(out, b"rows ", rows.len() as u64)?;
     put_each(out, place, rows)
 }
 
 fn put_body(out: &mut Vec<u8>, place: Place, reply: &Reply) -> Result<(), Memory>
-    ensures { OnOk result (out.new.items ≡ out.old.items ++ body_text place.session place.statement reply.now) }
+    ensures { OnOk result (out.new.items ≡ out.old.items
+        ++ body_text place.session place.statement reply.now) }
 {
     match reply {
         Reply::Created => put(out, b"created\n"),

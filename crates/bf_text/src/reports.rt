@@ -50,7 +50,8 @@ impl Piece for (Name, u32) {
 }
 
 fn put_audit(out: &mut Vec<u8>, audit: Option<&[(Name, u32)]>) -> Result<(), Memory>
-    ensures { OnOk result (out.new.items ≡ out.old.items ++ audit_text (option_copied audit.entry)) }
+    ensures { OnOk result (out.new.items ≡ out.old.items
+        ++ audit_text (option_copied audit.entry)) }
 {
     match audit {
         Some(tables) => put_each(out, (), tables),
@@ -74,7 +75,8 @@ fn put_running(
     unit: u64,
     position: u64,
 ) -> Result<(), Memory>
-    ensures { OnOk result (out.new.items ≡ out.old.items ++ sweep_text (Sweep.Running migration moved unit position)) }
+    ensures { OnOk result (out.new.items ≡ out.old.items
+        ++ sweep_text (Sweep.Running migration moved unit position)) }
 {
     put_number(out, migration)?;
     put_numbered(out, b" moved ", moved)?;
@@ -125,7 +127,9 @@ pub fn report(
     audit: Option<&[(Name, u32)]>,
     last: &Sweep,
 ) -> Result<Vec<u8>, Memory>
-    ensures { IfOk result (λ text. text.items ≡ report_text transcripts.now.sessions history.now.entries (option_copied audit.entry) last.now) }
+    ensures { IfOk result (λ text.
+        text.items ≡ report_text transcripts.now.sessions history.now.entries
+        (option_copied audit.entry) last.now) }
 {
     let entries = history.entries.as_slice();
     let mut text = Vec::new(alloc);

@@ -46,7 +46,8 @@ fn compare(write: &Write, table: &Name, key: &Key) -> Ordering
 /// about log n keys, and takes no memory.
 fn find(writes: &[Box<Write>], table: &Name, key: &Key) -> Result<usize, usize>
     ensures bound { IsSearchInRange result (length writes.now) }
-    ensures position { IsBinarySearchResult (λ write. spot_cmp (spot_of write.value) (table.now, key.now)) writes.now result }
+    ensures position { IsBinarySearchResult
+        (λ write. spot_cmp (spot_of write.value) (table.now, key.now)) writes.now result }
 {
     writes.binary_search_by(|write| compare(write, table, key))
 }
@@ -65,7 +66,8 @@ impl Workspace {
     /// What the transaction has last written to a key: `None` exactly where it has not written
     /// there, and `Some(None)` where it has removed the row. Takes no memory.
     pub fn read(&self, table: &Name, key: &Key) -> Option<Option<&Row>>
-        ensures row { option_map (λ row. option_map (λ r. r.now) row) result ≡ written_at self.now (table.now, key.now) }
+        ensures row { option_map (λ row. option_map (λ r. r.now) row) result
+            ≡ written_at self.now (table.now, key.now) }
         ensures sorted { AreWrites self.now }
     {
         match find(&self.writes, table, key) {
@@ -106,7 +108,8 @@ impl Workspace {
     /// Notes a write, which takes the place of an earlier one to its key. After an error the
     /// workspace is as it was.
     pub fn write(&mut self, table: Name, key: Key, row: Option<Row>) -> Result<(), Memory>
-        ensures ok { OnOk result (self.new ≡ with_write self.old (record { table = table; key = key; row = row })) }
+        ensures ok { OnOk result (self.new
+            ≡ with_write self.old (record { table = table; key = key; row = row })) }
         ensures err { OnErr result (self.new ≡ self.old) }
     {
         match find(&self.writes, &table, &key) {

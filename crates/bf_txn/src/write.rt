@@ -20,7 +20,7 @@ pub struct WriteSet {
 }
 
 impl Write {
-    /// An equal write.
+    /// An equal write, in time linear in its size.
     pub fn copy(&self, alloc: Global) -> Result<Write, Memory>
         ensures { IfOk result (λ copy. copy ≡ self.now) }
     {

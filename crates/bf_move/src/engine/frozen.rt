@@ -85,7 +85,8 @@ impl Frozen {
     /// Moves all rows.
     pub fn move_all(&mut self, alloc: Global, live: &mut Live) -> Result<(), Memory>
         requires { IsTied live.old self.old }
-        ensures ok { OnOk result (self.new.moved ≡ with_moves self.old.moved (range_with_len 0 (length self.old.source.rows))) }
+        ensures ok { OnOk result (self.new.moved
+            ≡ with_moves self.old.moved (range_with_len 0 (length self.old.source.rows))) }
         ensures seen { IsSeenStill live.old self.old live.new self.new }
     {
         for at in 0..self.source.len() {
@@ -103,7 +104,9 @@ impl Frozen {
         value: &Value,
     ) -> Result<(), Memory>
         requires { IsTied live.old self.old }
-        ensures ok { OnOk result (self.new.moved ≡ with_moves self.old.moved (places_where (has_value place value.now) self.old.source.rows)) }
+        ensures ok { OnOk result (self.new.moved
+            ≡ with_moves self.old.moved
+            (places_where (has_value place value.now) self.old.source.rows)) }
         ensures seen { IsSeenStill live.old self.old live.new self.new }
     {
         for at in 0..self.source.len() {
@@ -125,7 +128,9 @@ impl Frozen {
     ) -> Result<(), Memory>
         requires tied { IsTied live.old self.old }
         requires within { column < length live.old.table.columns }
-        ensures ok { OnOk result (self.new.moved ≡ with_moves self.old.moved (places_where (has_value column value.now) (images_of self.old))) }
+        ensures ok { OnOk result (self.new.moved
+            ≡ with_moves self.old.moved
+            (places_where (has_value column value.now) (images_of self.old))) }
         ensures seen { IsSeenStill live.old self.old live.new self.new }
     {
         let place = self.places[column];

@@ -59,7 +59,8 @@ fn has(row: &Row, column: usize, value: &Value) -> bool
 /// rise in that column. It compares about log n values.
 fn find(rows: &[Box<Row>], column: usize, value: &Value) -> Result<usize, usize>
     ensures bound { IsSearchInRange result (length rows.now) }
-    ensures position { IsBinarySearchResult (λ row. value_cmp (cell row.value column) value.now) rows.now result }
+    ensures position { IsBinarySearchResult
+        (λ row. value_cmp (cell row.value column) value.now) rows.now result }
 {
     rows.binary_search_by(|row| compare(row, column, value))
 }
@@ -82,7 +83,9 @@ fn cells_where(
     column: usize,
     value: &Value,
 ) -> Result<Sequence<Sequence<Cell>>, Memory>
-    ensures { IfOk result (λ copies. copies ≡ selected All (filter (has_value column value.now) (map (λ row. row.value) rows.now))) }
+    ensures { IfOk result (λ copies.
+        copies ≡ selected All (filter (has_value column value.now)
+        (map (λ row. row.value) rows.now))) }
 {
     let mut copies = Vec::new(alloc);
     for row in rows {
@@ -159,7 +162,9 @@ impl Live {
 
     /// The place of the row that has a value as its key. It compares about log n values.
     pub fn find_key(&self, value: &Value) -> Option<usize>
-        ensures found { places_where (has_value (key_column_of self.now.table) value.now) self.now.rows ≡ option_to_list result }
+        ensures found { places_where
+            (has_value (key_column_of self.now.table) value.now) self.now.rows
+            ≡ option_to_list result }
         ensures within { IfSome result (λ at. at < length self.now.rows) }
     {
         find(&self.rows, self.key_column(), value).ok()
@@ -198,7 +203,8 @@ impl Live {
     pub fn insert(&mut self, alloc: Global, row: &Row) -> Result<Reply, Memory>
         requires numbers { AreNumbers row.now }
         requires count { length row.now ≡ length self.old.table.columns }
-        ensures ok { IfOk result (λ reply. RunsTo self.old (Insert self.old.table.name (row.now ∷ [])) reply self.new) }
+        ensures ok { IfOk result (λ reply.
+            RunsTo self.old (Insert self.old.table.name (row.now ∷ [])) reply self.new) }
         ensures err { OnErr result (self.new ≡ self.old) }
         ensures table { self.new.table ≡ self.old.table }
         ensures served { IsServed self.new }
@@ -235,7 +241,8 @@ impl Live {
         column: usize,
         value: &Value,
     ) -> Result<Sequence<Sequence<Cell>>, Memory>
-        ensures { IfOk result (λ copies. copies ≡ selected All (filter (has_value column value.now) self.now.rows)) }
+        ensures { IfOk result (λ copies.
+            copies ≡ selected All (filter (has_value column value.now) self.now.rows)) }
     {
         if column != self.key_column() {
             return cells_where(alloc, &self.rows, column, value);

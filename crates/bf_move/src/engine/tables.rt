@@ -52,7 +52,9 @@ impl Tables {
     /// The new table of a statement that creates one, with no rows.
     pub fn create(alloc: Global, creation: &Statement) -> Result<Tables, Memory>
         requires { IsCreation creation.now }
-        ensures created { IfOk result (λ tables. executed empty_database creation.now ≡ (Reply.Created, one_table 1 tables.live)) }
+        ensures created { IfOk result
+            (λ tables. executed empty_database creation.now
+            ≡ (Reply.Created, one_table 1 tables.live)) }
         ensures none { IfOk result (λ tables. tables.frozen ≡ None) }
         ensures served { IfOk result (λ tables. IsServed tables.live) }
     {
@@ -77,8 +79,11 @@ impl Tables {
     pub fn execute(&mut self, alloc: Global, statement: &Statement) -> Result<Reply, Memory>
         requires tied { IsTiedIfAny self.old.live self.old.frozen }
         requires form { MayRun (state_of self.old.live self.old.frozen) statement.now }
-        ensures ok { IfOk result (λ reply. IsAnswered self.old.live self.old.frozen statement.now reply self.new.live self.new.frozen) }
-        ensures err { OnErr result (StaysSeen self.old.live self.old.frozen self.new.live self.new.frozen) }
+        ensures ok { IfOk result (λ reply.
+            IsAnswered self.old.live self.old.frozen statement.now reply self.new.live
+            self.new.frozen) }
+        ensures err { OnErr result (StaysSeen self.old.live self.old.frozen self.new.live
+            self.new.frozen) }
     {
         match statement {
             Statement::Insert { table, tuples } => self.insert(alloc, table, &tuples.as_slice()[0]),
@@ -91,7 +96,9 @@ impl Tables {
     /// Moves all rows of the old table.
     fn move_all(&mut self, alloc: Global) -> Result<(), Memory>
         requires { IsTiedIfAny self.old.live self.old.frozen }
-        ensures ok { OnOk result ((state_of self.new.live self.new.frozen).last ≡ with_moved (state_of self.old.live self.old.frozen).last (granules_where self.old.frozen (λ row. true))) }
+        ensures ok { OnOk result ((state_of self.new.live self.new.frozen).last
+            ≡ with_moved (state_of self.old.live self.old.frozen).last
+            (granules_where self.old.frozen (λ row. true))) }
         ensures seen { StaysSeen self.old.live self.old.frozen self.new.live self.new.frozen }
     {
         match &mut self.frozen {
@@ -104,7 +111,9 @@ impl Tables {
     fn move_where(&mut self, alloc: Global, column: usize, value: &Value) -> Result<(), Memory>
         requires tied { IsTiedIfAny self.old.live self.old.frozen }
         requires within { column < length self.old.live.table.columns }
-        ensures ok { OnOk result ((state_of self.new.live self.new.frozen).last ≡ with_moved (state_of self.old.live self.old.frozen).last (granules_where self.old.frozen (has_value column value.now))) }
+        ensures ok { OnOk result ((state_of self.new.live self.new.frozen).last
+            ≡ with_moved (state_of self.old.live self.old.frozen).last
+            (granules_where self.old.frozen (has_value column value.now))) }
         ensures seen { StaysSeen self.old.live self.old.frozen self.new.live self.new.frozen }
     {
         match &mut self.frozen {
@@ -117,8 +126,11 @@ impl Tables {
     fn insert(&mut self, alloc: Global, table: &Name, row: &Row) -> Result<Reply, Memory>
         requires tied { IsTiedIfAny self.old.live self.old.frozen }
         requires form { AreNumbers row.now }
-        ensures ok { IfOk result (λ reply. IsAnswered self.old.live self.old.frozen (Insert table.now (row.now ∷ [])) reply self.new.live self.new.frozen) }
-        ensures err { OnErr result (StaysSeen self.old.live self.old.frozen self.new.live self.new.frozen) }
+        ensures ok { IfOk result (λ reply.
+            IsAnswered self.old.live self.old.frozen
+            (Insert table.now (row.now ∷ [])) reply self.new.live self.new.frozen) }
+        ensures err { OnErr result (StaysSeen self.old.live self.old.frozen self.new.live
+            self.new.frozen) }
     {
         if !self.live.is_named(table) {
             return no_table(alloc, table);
@@ -140,8 +152,11 @@ impl Tables {
     ) -> Result<Reply, Memory>
         requires tied { IsTiedIfAny self.old.live self.old.frozen }
         requires form { IsPlain (Select All table.now cond.now) }
-        ensures ok { IfOk result (λ reply. IsAnswered self.old.live self.old.frozen (Select All table.now cond.now) reply self.new.live self.new.frozen) }
-        ensures err { OnErr result (StaysSeen self.old.live self.old.frozen self.new.live self.new.frozen) }
+        ensures ok { IfOk result (λ reply.
+            IsAnswered self.old.live self.old.frozen
+            (Select All table.now cond.now) reply self.new.live self.new.frozen) }
+        ensures err { OnErr result (StaysSeen self.old.live self.old.frozen self.new.live
+            self.new.frozen) }
     {
         if !self.live.is_named(table) {
             return no_table(alloc, table);
@@ -158,8 +173,11 @@ impl Tables {
     /// SELECT from the live table.
     fn select_all(&mut self, alloc: Global) -> Result<Reply, Memory>
         requires tied { IsTiedIfAny self.old.live self.old.frozen }
-        ensures ok { IfOk result (λ reply. IsAnswered self.old.live self.old.frozen (Select All self.old.live.table.name None) reply self.new.live self.new.frozen) }
-        ensures err { OnErr result (StaysSeen self.old.live self.old.frozen self.new.live self.new.frozen) }
+        ensures ok { IfOk result (λ reply.
+            IsAnswered self.old.live self.old.frozen
+            (Select All self.old.live.table.name None) reply self.new.live self.new.frozen) }
+        ensures err { OnErr result (StaysSeen self.old.live self.old.frozen self.new.live
+            self.new.frozen) }
     {
         self.move_all(alloc)?;
         Ok(Reply::Rows(self.live.select(alloc)?))
@@ -169,8 +187,12 @@ impl Tables {
     fn select_where(&mut self, alloc: Global, column: &Name, value: &Value) -> Result<Reply, Memory>
         requires tied { IsTiedIfAny self.old.live self.old.frozen }
         requires form { IsInt value.now }
-        ensures ok { IfOk result (λ reply. IsAnswered self.old.live self.old.frozen (Select All self.old.live.table.name (Some (comparison column.now value.now))) reply self.new.live self.new.frozen) }
-        ensures err { OnErr result (StaysSeen self.old.live self.old.frozen self.new.live self.new.frozen) }
+        ensures ok { IfOk result (λ reply.
+            IsAnswered self.old.live self.old.frozen
+            (Select All self.old.live.table.name (Some (comparison column.now value.now))) reply
+            self.new.live self.new.frozen) }
+        ensures err { OnErr result (StaysSeen self.old.live self.old.frozen self.new.live
+            self.new.frozen) }
     {
         match column_named(self.live.table(), column) {
             None => Ok(Reply::Refused(Refusal::NoColumn(column.copy(alloc)?))),
@@ -185,8 +207,11 @@ impl Tables {
     fn migrate(&mut self, alloc: Global, migrate: &Migrate) -> Result<Reply, Memory>
         requires tied { IsTiedIfAny self.old.live self.old.frozen }
         requires form { IsFirstMigration (state_of self.old.live self.old.frozen) migrate.now }
-        ensures ok { IfOk result (λ reply. IsAnswered self.old.live self.old.frozen (Flip migrate.now) reply self.new.live self.new.frozen) }
-        ensures err { OnErr result (StaysSeen self.old.live self.old.frozen self.new.live self.new.frozen) }
+        ensures ok { IfOk result (λ reply.
+            IsAnswered self.old.live self.old.frozen
+            (Flip migrate.now) reply self.new.live self.new.frozen) }
+        ensures err { OnErr result (StaysSeen self.old.live self.old.frozen self.new.live
+            self.new.frozen) }
     {
         let target = &migrate.targets.as_slice()[0];
         let count = self.live.len();
@@ -203,8 +228,10 @@ impl Tables {
         requires served { IsServed self.old.live }
         requires few { length self.old.live.rows ≤ most_rows }
         requires first { IsFirstTarget self.old.live target.now }
-        ensures ok { OnOk result (IsFlipped self.old.live target.now self.new.live self.new.frozen) }
-        ensures err { OnErr result ((self.new.live ≡ self.old.live) × (self.new.frozen ≡ self.old.frozen)) }
+        ensures ok { OnOk result (IsFlipped self.old.live target.now self.new.live
+            self.new.frozen) }
+        ensures err { OnErr result ((self.new.live ≡ self.old.live)
+            × (self.new.frozen ≡ self.old.frozen)) }
     {
         let places = places_of(alloc, self.live.table(), &target.arm)?;
         let key = self.live.key_column();

@@ -45,7 +45,9 @@ fn admitted(table: &Table, place: usize) -> Admit
 
 /// The columns that CREATE TABLE declares.
 fn columns_declared(alloc: Global, rules: &[ColumnRule]) -> Result<Vec<Column>, Memory>
-    ensures { IfOk result (λ columns. columns.items ≡ map (λ rule. record { name = rule.name; admits = admit_of rule.form }) rules.now) }
+    ensures { IfOk result (λ columns.
+        columns.items ≡ map (λ rule. record { name = rule.name; admits = admit_of rule.form })
+        rules.now) }
 {
     let mut columns = Vec::with_capacity(alloc, rules.len())?;
     for rule in rules {
@@ -77,7 +79,8 @@ fn place_declared(rules: &[ColumnRule], name: &Name) -> u8
 pub fn table_created(alloc: Global, creation: &Statement) -> Result<Table, Memory>
     requires { IsCreation creation.now }
     ensures served { IfOk result (λ table. IsServed (empty table)) }
-    ensures executed { IfOk result (λ table. executed empty_database creation.now ≡ (Created, one_table 1 (empty table))) }
+    ensures executed { IfOk result
+        (λ table. executed empty_database creation.now ≡ (Created, one_table 1 (empty table))) }
 {
     let Statement::CreateTable { name, columns, key } = creation else {
         unreachable!()
@@ -95,7 +98,8 @@ pub fn table_created(alloc: Global, creation: &Statement) -> Result<Table, Memor
 /// The place of each item's column in the rows of the old table.
 pub fn places_of(alloc: Global, table: &Table, arm: &Arm) -> Result<Vec<usize>, Memory>
     requires { ArePlain arm.now.items }
-    ensures { IfOk result (λ places. places.items ≡ map (λ item. place_of_ref table.now (item_ref item)) arm.now.items) }
+    ensures { IfOk result (λ places.
+        places.items ≡ map (λ item. place_of_ref table.now (item_ref item)) arm.now.items) }
 {
     let items = arm.items.as_slice();
     let mut places = Vec::with_capacity(alloc, items.len())?;

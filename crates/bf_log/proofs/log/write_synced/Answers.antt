@@ -24,7 +24,7 @@ pub returns-clause-long : goal.returns-clause-long
 returns-clause-long g c =
     long_then (g.D.Disk.seen c.args.disk.now) (g.D.Disk.seen c.write_at.new.self) (g.D.Disk.seen c.sync.new.self)
     (long_tried g.D.Disk.seen c.args.disk.now c.write_at.new.self c.args.at c.args.bytes.now c.write_at.result
-        c.write_at.ensures.written c.write_at.ensures.failed c.write_at.ensures.memory)
+    c.write_at.ensures.written c.write_at.ensures.failed c.write_at.ensures.memory)
     (long_same (g.D.Disk.seen c.write_at.new.self) (g.D.Disk.seen c.sync.new.self) c.sync.ensures.seen)
 
 pub returns-clause-durable : goal.returns-clause-durable
@@ -39,4 +39,4 @@ returns-clause-any_moment g c = λ file only.
     one_more g.D.Disk.moment g.D.Disk.left_since g.D.Disk.may_leave c.args.disk.now c.write_at.new.self c.sync.new.self (Torn c.args.at (length c.args.bytes.now) file) first
     c.sync.ensures.time
     (λ image left. tried g.D.Disk.may_leave (Torn c.args.at (length c.args.bytes.now)) c.args.disk.now c.write_at.new.self c.write_at.result
-        c.write_at.ensures.images c.write_at.ensures.memory file only (torn_lost c.args.at (length c.args.bytes.now) file) image (c.sync.ensures.nothing_else image left))
+    c.write_at.ensures.images c.write_at.ensures.memory file only (torn_lost c.args.at (length c.args.bytes.now) file) image (c.sync.ensures.nothing_else image left))

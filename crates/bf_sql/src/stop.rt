@@ -1,16 +1,16 @@
-//! Why binding stops.
+//! Why a statement stops.
 
 ghost use Rattle.std.specs.Prelude.{◌≡◌};
-ghost use Rattle.bf_bind.specs.declared.stop.Stop.TheVariants.{Memory as OutOfMemory};
+ghost use Rattle.bf_sql.specs.declared.stop.Stop.TheVariants.{Memory as OutOfMemory};
 
+use crate::reply::Refusal;
 use bf_base::Memory;
-use bf_sql::Refusal;
 use std::alloc::{AllocError, AllocFailed};
 use thiserror::Error;
 
-/// Why binding stops: at the first objection, or memory ran out.
+/// Why a statement stops before it has its effect: at the first objection, or memory ran out.
 #[derive(Debug, Drop, Error)]
-pub(crate) enum Stop {
+pub enum Stop {
     #[error("refused: {0:?}")]
     Refused(Refusal),
     #[error("out of memory")]
