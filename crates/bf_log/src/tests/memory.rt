@@ -28,6 +28,8 @@ impl Disk for SmallDisk {
 
     ghost counts_now = { λ _ _ _ _ left. left };
 
+    ghost earlier = { λ _ _ _ _ _ left. left };
+
     ghost only_now = { λ _ _ left. left };
 
     fn faults(&self) -> u64 {
