@@ -80,10 +80,11 @@ module _ (payloads : List (List ℕ)) (payload file : List ℕ) (end : ℕ)
   stored_is =
       let p = parts payloads file is_log in
       let front_is : take end file ≡ front payloads = ap (take end) p.split ∙ take_at (front payloads) (p.gate ∷ p.behind) end size in
-      let place : end + 1 + length (record_of payload) ≡ end + length payload + 6 = omega (arith, length-record payload) in
-      all_there ∙ sym (append_assoc (front payloads) (entry payload) (0 ∷ after))
-      ∙ ap (λ (bytes : List ℕ). bytes ++ entry payload ++ 0 ∷ after) (sym front_is)
-      ∙ ap (λ (k : ℕ). take end file ++ entry payload ++ 0 ∷ drop k file) place
+      let bytes = entry payload ++ 0 ∷ [] in
+      let place : end + 1 + length (record_of payload) ≡ end + length bytes = omega (arith, length-record payload, length_push (entry payload) 0, length-entry payload) in
+      all_there ∙ ap (λ (rest : List ℕ). front payloads ++ rest) (sym (append_assoc (entry payload) (0 ∷ []) after))
+      ∙ sym (append_assoc (front payloads) bytes after) ∙ ap (λ (before : List ℕ). before ++ bytes ++ after) (sym front_is)
+      ∙ ap (λ (k : ℕ). take end file ++ bytes ++ drop k file) place
 
   -- which is a log with the payload behind the others
   pub stored_log : IsLog (payloads ++ payload ∷ []) (with_entry file end payload)

@@ -2,6 +2,7 @@
 
 ghost use Rattle.std.specs.Prelude.{◌≡◌, ◌↔◌, ℕ, ◌+◌, ◌<◌, ◌≤◌, IsTrue, List, ◌∷◌, Some, length, take, drop};
 ghost use Rattle.byteorder.specs.Endian.{little_bytes, little_number};
+ghost use Rattle.bf_disk.specs.Images.{OnlyRead};
 
 use crate::error::OpenError;
 use crate::format::{FRAME, LENGTH_BYTES, MAGIC, MOST_BYTES, OPEN_GATE};

@@ -12,7 +12,7 @@ returns-in_err-write_at-clause-long g c =
 
 pub returns-in_err-write_at-clause-any_moment : goal.returns-in_err-write_at-clause-any_moment
 returns-in_err-write_at-clause-any_moment g c = λ file only.
-    write_moments g.D.Disk.moment g.D.Disk.left_since g.D.Disk.may_leave c.args.disk.now c.write_at.new.self c.args.at (length c.args.bytes.now) c.write_at.result
+    write_moments g.D.Disk.moment g.D.Disk.left_since g.D.Disk.may_leave g.met.D.Disk.counts_now c.args.disk.now c.write_at.new.self c.args.at (length c.args.bytes.now) c.write_at.result
     c.write_at.ensures.time c.write_at.ensures.images c.write_at.ensures.memory (g.met.D.Disk.only_now c.args.disk.now) file only
 
 pub returns-clause-written : goal.returns-clause-written
@@ -34,9 +34,9 @@ returns-clause-durable g c =
 pub returns-clause-any_moment : goal.returns-clause-any_moment
 returns-clause-any_moment g c = λ file only.
     let first =
-    write_moments g.D.Disk.moment g.D.Disk.left_since g.D.Disk.may_leave c.args.disk.now c.write_at.new.self c.args.at (length c.args.bytes.now) c.write_at.result
+    write_moments g.D.Disk.moment g.D.Disk.left_since g.D.Disk.may_leave g.met.D.Disk.counts_now c.args.disk.now c.write_at.new.self c.args.at (length c.args.bytes.now) c.write_at.result
     c.write_at.ensures.time c.write_at.ensures.images c.write_at.ensures.memory (g.met.D.Disk.only_now c.args.disk.now) file only in
-    one_more g.D.Disk.moment g.D.Disk.left_since g.D.Disk.may_leave c.args.disk.now c.write_at.new.self c.sync.new.self (Torn c.args.at (length c.args.bytes.now) file) first
+    one_more g.D.Disk.moment g.D.Disk.left_since g.D.Disk.may_leave g.met.D.Disk.counts_now c.args.disk.now c.write_at.new.self c.sync.new.self (Torn c.args.at (length c.args.bytes.now) file) first
     c.sync.ensures.time
     (λ image left. tried g.D.Disk.may_leave (Torn c.args.at (length c.args.bytes.now)) c.args.disk.now c.write_at.new.self c.write_at.result
     c.write_at.ensures.images c.write_at.ensures.memory file only (torn_lost c.args.at (length c.args.bytes.now) file) image (c.sync.ensures.nothing_else image left))
