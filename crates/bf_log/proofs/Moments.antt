@@ -61,13 +61,14 @@ module _ {D : Type 0} (moment : D → ℕ) (left_since : D → ℕ → List ℕ 
 
   -- one more call, after which a crash leaves no more than before it
   pub one_more : (old mid new : D) (P : List ℕ → Type 0) → LeavesOnly moment left_since old mid P
-      → Elapses (moment mid) (moment new) (left_since mid) (left_since new) (may_leave new) → ((image : List ℕ) → may_leave new image → P image)
+      → Elapses (moment mid) (moment new) (left_since mid) (left_since new) (may_leave new) → ((image : List ℕ) → may_leave new image → may_leave mid image)
       → LeavesOnly moment left_since old new P
-  one_more old mid new P first time now =
+  one_more old mid new P first time fewer =
       let later : moment old ≤ moment new = omega (arith, first.later, time.later) in
       record {
         later = later;
-        each = λ image left. ⊎_elim (first.each image) (now image) (time.nothing_else (moment old) image first.later left);
+        each = λ image left. ⊎_elim (first.each image) (λ leaves. leaves_now old mid P first image (fewer image leaves))
+            (time.nothing_else (moment old) image first.later left);
         nothing_else = λ t image le left. ⊎_elim
             (λ past. ⊎_elim (λ before. inl before) (λ here. inr (time.all (moment old) image first.later here)) (first.nothing_else t image le past))
             (λ leaves. inr (counts_now new (moment old) image later leaves))

@@ -97,11 +97,6 @@ pub told_behind : (old : Option (List ℕ)) (gate : ℕ) → IfTold old (λ file
 told_behind None gate within = tt
 told_behind (Some old) gate within = omega arith
 
--- what holds of each file that may be told
-pub told_from : (old : Option (List ℕ)) (P : List ℕ → Type 0) → ((file : List ℕ) → old ≡ Some file → P file) → IfTold old P
-told_from None P all = tt
-told_from (Some file) P all = all file refl
-
 -- what is told of a file that a call made something of
 pub told_made : (make : List ℕ → List ℕ) (old new : Option (List ℕ)) (file : List ℕ) → old ≡ Some file → WhereTold (λ before now. now ≡ make before) old new
     → new ≡ Some (make file)
