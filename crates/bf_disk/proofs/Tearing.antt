@@ -1,8 +1,8 @@
 -- The image that tears the pending bytes is one of those that a crash may leave.
 use Rattle.std.proofs.Common.{◌≡◌, ⊎_elim, ℕ, zero, suc, ◌+◌, ◌-◌, ◌<◌, min, Bool, true, false, Option, Some, None, Result, Ok, Err, List, [], ◌∷◌, ◌++◌, length, take, drop, map, get_or, refl, sym, ◌∙◌, ap, subst, arith, length-append}
+use Rattle.std.specs.Prelude.{IfOk}
 use Rattle.std.proofs.lemmas.List.{length-take, length-drop, length-map, length-replicate, get_or-map, get_or-take, ext_get_or}
 use Rattle.bf_disk.specs.Images.{Torn, CutShort}
-use Rattle.std.specs.Prelude.{IfOk}
 use Rattle.bf_disk.specs.Tape.{Tape, new_tape, MayLeave, file_after, left_after, left_after_all, pending, certain_after, certain_after_all, certain_of, torn_from, torn_image}
 use Rattle.bf_disk.specs.TapeLaws.{before_range, behind_range, cut_lost}
 use Rattle.bf_disk.specs.declared.call.Act.{Act}

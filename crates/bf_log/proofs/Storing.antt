@@ -1,10 +1,10 @@
 -- The log while a record is stored, and once it is.
 use Rattle.std.proofs.Common.{◌≡◌, inl, inr, ℕ, ◌+◌, ◌<◌, ◌≤◌, Option, Some, None, Result, Ok, Err, List, [], ◌∷◌, ◌++◌, length, take, drop, get_or, refl, sym, ◌∙◌, ap, subst, arith, append_assoc, length-append}
+use Rattle.std.specs.Prelude.{OnOk}
 use Rattle.std.proofs.lemmas.List.{take_at, length_push, flat_map_more}
+use Rattle.std.proofs.lemmas.Option.{same_Some}
 use Rattle.byteorder.specs.Endian.{little_bytes}
 use Rattle.bf_io.specs.Whole.{IfTold}
-use Rattle.std.specs.Prelude.{OnOk}
-use Rattle.std.proofs.lemmas.Option.{same_Some}
 use Rattle.bf_disk.specs.Images.{overwritten, Torn, Only}
 use Rattle.bf_disk.specs.Answers.{OnFault}
 use Rattle.bf_disk.specs.declared.error.DiskError.{DiskError}
