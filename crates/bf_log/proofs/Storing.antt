@@ -16,13 +16,16 @@ use Rattle.bf_log.specs.Format.{magic, open_gate, most_bytes, entry, IsLog, fron
 use Rattle.bf_log.specs.Storing.{record_of, behind_gate, opened, IsBeingStored}
 use Rattle.bf_log.proofs.Chains.{parts, more_log, closed_log, torn_record, torn_gate, written_record, written_gate, gate_leaves}
 
+-- a length takes four bytes
 length-little : (n : ℕ) → length (little_bytes 4 n) ≡ 4
 length-little n = refl
 
+-- a record takes five bytes more than its payload
 pub length-record : (payload : List ℕ) → length (record_of payload) ≡ length payload + 5
 length-record payload =
     omega (arith, length_push (little_bytes 4 (length payload) ++ payload) 0, length-append (little_bytes 4 (length payload)) payload, length-little (length payload))
 
+-- and so does an entry
 length-entry : (payload : List ℕ) → length (entry payload) ≡ length payload + 5
 length-entry payload = omega (arith, length-append (little_bytes 4 (length payload)) payload, length-little (length payload))
 
@@ -37,6 +40,7 @@ front_more payloads payload =
 
 module _ (payloads : List (List ℕ)) (payload file : List ℕ) (end : ℕ)
     (is_log : IsLog payloads file) (ends : end ≡ length (front payloads)) (small : length payload ≤ most_bytes) where
+  -- the front reaches to the closed gate
   size : length (front payloads) ≡ end
   size = sym ends
 
@@ -104,11 +108,12 @@ told_made make None new file told is = cc
 told_made make (Some old) None file told is = absurd is
 told_made make (Some old) (Some new) file told is = ap (λ (now : List ℕ). Some now) (is ∙ ap make (same_Some old file told))
 
--- what is told after a write, and after a sync that changes nothing of it
+-- what is told after a write
 pub told_written : (old new : Option (List ℕ)) (at : ℕ) (bytes file : List ℕ) → old ≡ Some file → WhereTold (λ before now. now ≡ overwritten before at bytes) old new
     → new ≡ Some (overwritten file at bytes)
 told_written old new at bytes file told is = told_made (λ before. overwritten before at bytes) old new file told is
 
+-- and after a sync too, that changes nothing of it
 pub written_then : (old mid new : Option (List ℕ)) (at : ℕ) (bytes : List ℕ) (result : Result (Unit {0}) DiskError)
     → WhereTold (λ before now. now ≡ overwritten before at bytes) old mid → new ≡ mid → OnOk result (WhereTold (λ before now. now ≡ overwritten before at bytes) old new)
 written_then old mid new at bytes (Err error) written same = tt
@@ -152,12 +157,14 @@ long_then (Some old) None new first second = absurd first
 long_then (Some old) (Some mid) None first second = absurd second
 long_then (Some old) (Some mid) (Some new) first second = omega arith
 
+-- after a write that failed
 long_torn : (old new : Option (List ℕ)) (at n : ℕ) → WhereTold (Torn at n) old new → IsAsLong old new
 long_torn None None at n torn = tt
 long_torn None (Some new) at n torn = absurd torn
 long_torn (Some old) None at n torn = absurd torn
 long_torn (Some old) (Some new) at n torn = torn.no_shorter
 
+-- after a write that was done
 long_written : (old new : Option (List ℕ)) (at : ℕ) (bytes : List ℕ) → WhereTold (λ before now. now ≡ overwritten before at bytes) old new → IsAsLong old new
 long_written None None at bytes written = tt
 long_written None (Some new) at bytes written = absurd written
