@@ -1,9 +1,8 @@
 -- The image that tears the pending bytes is one of those that a crash may leave.
-use Rattle.std.proofs.Common.{◌≡◌, ⊎_elim, ℕ, zero, suc, ◌+◌, ◌-◌, ◌<◌, min, Bool, true, false, Option, Some, None, Result, Ok, Err, List, [], ◌∷◌, ◌++◌, length, take, drop, map, get_or, refl, sym, ◌∙◌, ap, subst, arith, append_assoc, length-append}
-use Rattle.std.proofs.lemmas.List.{length-take, length-drop, length-map, length-replicate, get_or-map, get_or-take, drop_more, ext_get_or}
-use Rattle.bf_disk.specs.Images.{Torn, CutShort}
+use Rattle.std.proofs.Common.{◌≡◌, ⊎_elim, ℕ, zero, suc, ◌+◌, ◌-◌, ◌<◌, min, Bool, true, false, Option, Some, None, Result, Ok, Err, List, [], ◌∷◌, ◌++◌, length, take, drop, map, get_or, refl, sym, ◌∙◌, ap, subst, arith, length-append}
 use Rattle.std.specs.Prelude.{IfOk}
-use Rattle.bf_disk.specs.Replay.{settled_byte, pending_after}
+use Rattle.std.proofs.lemmas.List.{length-take, length-drop, length-map, length-replicate, get_or-map, get_or-take, ext_get_or}
+use Rattle.bf_disk.specs.Images.{Torn, CutShort}
 use Rattle.bf_disk.specs.Tape.{Tape, new_tape, MayLeave, file_after, left_after, left_after_all, pending, certain_after, certain_after_all, certain_of, torn_from, torn_image}
 use Rattle.bf_disk.specs.TapeLaws.{before_range, behind_range, cut_lost}
 use Rattle.bf_disk.specs.declared.call.Act.{Act}
@@ -139,17 +138,3 @@ pub crash_left : {E : Type 0} (tape : Tape) (torn : List ℕ) (result : Result T
     → IfOk result (λ disk. MayLeave tape disk.start)
 crash_left tape torn (Ok disk) is = subst (λ (left : Tape). MayLeave tape left.start) (sym is) (torn_left tape torn)
 crash_left tape torn (Err error) is = tt
-
--- one more byte of the image
-torn_next : (torn : List ℕ) (pending : ℕ) (byte : Option ℕ) (rest : List (Option ℕ))
-    → torn_from torn pending (byte ∷ rest) ≡ settled_byte byte torn pending ∷ torn_from torn (pending_after byte pending) rest
-torn_next torn pending (Some byte) rest = refl
-torn_next torn pending None rest = refl
-
-pub tear_more : (torn image : List ℕ) (certain : List (Option ℕ)) (pending i : ℕ) (byte : Option ℕ) → i < length certain → byte ≡ get_or certain i byte
-    → image ++ torn_from torn pending (drop i certain)
-    ≡ (image ++ settled_byte byte torn pending ∷ []) ++ torn_from torn (pending_after byte pending) (drop (i + 1) certain)
-tear_more torn image certain pending i byte below is =
-    ap (λ (rest : List (Option ℕ)). image ++ torn_from torn pending rest) (drop_more certain i byte below ∙ ap (λ (first : Option ℕ). first ∷ drop (i + 1) certain) (sym is))
-    ∙ ap (λ (rest : List ℕ). image ++ rest) (torn_next torn pending byte (drop (i + 1) certain))
-    ∙ sym (append_assoc image (settled_byte byte torn pending ∷ []) (torn_from torn (pending_after byte pending) (drop (i + 1) certain)))

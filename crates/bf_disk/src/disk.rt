@@ -90,7 +90,8 @@ pub trait Disk {
         ensures faults { CountsFault result (fault_count self.old) (fault_count self.new) }
         ensures memory { result ≡ Err DiskError.Memory → self.new ≡ self.old };
 
-    /// After `Ok` a crash leaves what a read gives. After `Fault` all that was pending is pending still.
+    /// After `Ok` a crash leaves what a read gives. After `Fault` all that was pending is pending
+    /// still.
     fn sync(&mut self) -> Result<(), DiskError>
         ensures durable { OnOk result
             (IfTold (seen self.old) (λ file. Only file (may_leave self.new))) }
@@ -104,15 +105,19 @@ pub trait Disk {
         ensures memory { result ≡ Err DiskError.Memory → self.new ≡ self.old };
 
     /// The file as it reads is one of those that a crash now may leave.
-    ghost as_it_reads: { (disk : Self) (file : List ℕ) → IsTrue tells_images → seen disk ≡ Some file → may_leave disk file };
+    ghost as_it_reads: { (disk : Self) (file : List ℕ) → IsTrue tells_images
+        → seen disk ≡ Some file → may_leave disk file };
 
     /// This moment is one of those since an earlier one.
-    ghost counts_now: { (disk : Self) (t : ℕ) (image : List ℕ) → t ≤ moment disk → may_leave disk image → left_since disk t image };
+    ghost counts_now: { (disk : Self) (t : ℕ) (image : List ℕ) → t ≤ moment disk
+        → may_leave disk image → left_since disk t image };
 
-    /// What a crash since a moment might have left, one since an earlier moment might have left too.
+    /// What a crash since a moment might have left, one since an earlier moment might have left
+    /// too.
     ghost earlier: { (disk : Self) (t u : ℕ) (image : List ℕ) → t ≤ u → left_since disk u image
         → left_since disk t image };
 
     /// Since this moment there is no other.
-    ghost only_now: { (disk : Self) (image : List ℕ) → left_since disk (moment disk) image → may_leave disk image };
+    ghost only_now: { (disk : Self) (image : List ℕ) → left_since disk (moment disk) image
+        → may_leave disk image };
 }

@@ -1,6 +1,6 @@
 //! Where disks are kept by path.
 
-ghost use Rattle.std.specs.Prelude.{◌≡◌, ℕ, ◌≤◌, None, Some, Err, Option, List, IsSome, IfOk, OnErr};
+ghost use Rattle.std.specs.Prelude.{◌≡◌, ℕ, None, Some, Err, Option, IsSome, IfOk, OnErr};
 ghost use Rattle.bf_disk.specs.Answers.{CountsFault};
 ghost use Rattle.bf_disk.specs.Shelves.{ByPath, GivesHeld, Puts, PutsWhereTold, with_rises};
 
@@ -9,7 +9,8 @@ use crate::error::DiskError;
 
 /// Disks by path, where it tells them, and a count of faults.
 ///
-/// A disk that was taken is the caller's until it is put back; until then its path is not taken again.
+/// A disk that was taken is the caller's until it is put back; until then its path is not taken
+/// again.
 pub trait Shelf {
     type Disk: Disk;
 

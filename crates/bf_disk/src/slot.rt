@@ -19,8 +19,11 @@ pub struct Slot {
 impl Slot {
     // Holds a disk in the place of the one that is held, if any.
     pub(crate) fn hold(&mut self, disk: TapeDisk)
-        ensures { self.new ≡ record { path = self.old.path; disk = Some disk;
-            lent = self.old.lent } }
+        ensures { self.new ≡ record {
+          path = self.old.path;
+          disk = Some disk;
+          lent = self.old.lent;
+        } }
     {
         self.disk = Some(disk);
     }
@@ -28,8 +31,11 @@ impl Slot {
     // Gives the disk away, or an empty one where none is held.
     pub(crate) fn lend(&mut self, alloc: Global) -> TapeDisk
         ensures disk { result ≡ unwrap_or self.old.disk (new_tape [] [] None) }
-        ensures slot { self.new ≡ record { path = self.old.path; disk = None; lent = Some
-            (faults_of result) } }
+        ensures slot { self.new ≡ record {
+          path = self.old.path;
+          disk = None;
+          lent = Some (faults_of result);
+        } }
     {
         let disk = match self.disk.take() {
             Some(disk) => disk,

@@ -15,7 +15,7 @@ Entries End (payload ∷ payloads) bytes =
 abbrev pub IsClosed : List ℕ → Type 0
 IsClosed bytes = (gate : ℕ) × (behind : List ℕ) × (gate ≢ open_gate) × (bytes ≡ gate ∷ behind)
 
--- an open gate, behind which what should be there is cut off
+-- an open gate with no entry behind it
 abbrev pub IsBroken : List ℕ → Type 0
 IsBroken bytes = (behind : List ℕ) × (bytes ≡ open_gate ∷ behind) × HasNoEntry behind
 
@@ -60,13 +60,13 @@ shut_or_open bytes behind closed is_open = closed.2 (ap (λ (all : List ℕ). ge
 pub closed_or_broken : (bytes : List ℕ) → IsClosed bytes → IsBroken bytes → ⊥
 closed_or_broken bytes closed broken = shut_or_open bytes broken.0 closed broken.1
 
--- where an entry with a byte behind it stands nothing is cut off
-not_cut_off : (payload chain behind : List ℕ) → length payload ≤ most_bytes → open_gate ∷ behind ≡ entry payload ++ chain → 0 < length chain
+-- where an entry with a byte behind it stands none is missing
+none_missing : (payload chain behind : List ℕ) → length payload ≤ most_bytes → open_gate ∷ behind ≡ entry payload ++ chain → 0 < length chain
     → HasNoEntry behind → ⊥
-not_cut_off payload chain behind small is more cut =
+none_missing payload chain behind small is more none =
     let size : little_number 4 behind ≡ length payload = length_there payload chain (open_gate ∷ behind) small is in
     let whole : length behind ≡ 4 + length payload + length chain = omega (arith, ap length is, length-append payload chain) in
-    elim cut [ inl short ↦ omega arith | inr further ↦ elim further [ inl great ↦ omega arith | inr short ↦ omega arith ] ]
+    elim none [ inl short ↦ omega arith | inr further ↦ elim further [ inl great ↦ omega arith | inr short ↦ omega arith ] ]
 
 -- a closed gate ends entries
 pub closed_ends : EndsEntries IsClosed
@@ -79,7 +79,7 @@ closed_ends = record {
 pub broken_ends : EndsEntries IsBroken
 broken_ends = record {
   is_there = λ bytes is. omega (arith, ap length is.1);
-  no_entry = λ payload chain bytes is small entry_is more. not_cut_off payload chain is.0 small (sym is.1 ∙ entry_is) more is.2;
+  no_entry = λ payload chain bytes is small entry_is more. none_missing payload chain is.0 small (sym is.1 ∙ entry_is) more is.2;
 }
 
 -- entries and what ends them are some bytes

@@ -1,7 +1,7 @@
 -- Worked examples of the format and of the limits.
-use Rattle.std.proofs.Common.{◌≡◌, ◌≢◌, ℕ, ◌+◌, List, [], ◌∷◌, ◌++◌, length, take, Some, None, refl, inl, inr, lit<, lit≤, rules}
-use Rattle.bf_log.specs.Format.{magic, empty_log, with_entry, IsLog, IsNoLog, HeadFault, ChainFault, DiffersAt, EndsAt}
+use Rattle.std.proofs.Common.{◌≡◌, ℕ, List, [], ◌∷◌, ◌++◌, take, Some, None, refl, inl, inr, lit<, lit≤, rules}
 use Rattle.bf_log.specs.Append.{refusal}
+use Rattle.bf_log.specs.Format.{magic, empty_log, with_entry, IsLog, IsNoLog}
 use Rattle.bf_log.specs.declared.error.AppendError.TheVariants.{TooLarge, LogFull, Halted, Memory}
 use Rattle.bf_log.specs.declared.log.Standing.TheVariants.{Ready, Halted as Stopped, Spent}
 

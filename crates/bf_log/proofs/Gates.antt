@@ -27,9 +27,9 @@ fit_all (payload ∷ payloads) all =
 -- behind these payloads an open gate, and no room for what it promises
 chain_breaks : (payloads : List (List ℕ)) (behind : List ℕ) → Fit payloads → HasNoEntry behind → BreaksBehind payloads (flat_map entry payloads ++ open_gate ∷ behind)
 unfolding Fit
-chain_breaks [] behind fit cut = (behind, refl, cut)
-chain_breaks (payload ∷ payloads) behind fit cut =
-    (flat_map entry payloads ++ open_gate ∷ behind, fit.0, append_assoc (entry payload) (flat_map entry payloads) (open_gate ∷ behind), chain_breaks payloads behind fit.1 cut)
+chain_breaks [] behind fit none = (behind, refl, none)
+chain_breaks (payload ∷ payloads) behind fit none =
+    (flat_map entry payloads ++ open_gate ∷ behind, fit.0, append_assoc (entry payload) (flat_map entry payloads) (open_gate ∷ behind), chain_breaks payloads behind fit.1 none)
 
 -- What a read shows of a chain: its gate and the length behind that, with zeros in the place of what is missing.
 pub record IsFrame (chain frame : List ℕ) : Type 0 where
@@ -75,10 +75,10 @@ opens chain frame size is long opened spelled =
     let four : take 4 (drop 1 frame) ≡ drop 1 frame = take_all 4 (drop 1 frame) (omega (arith, length-drop 1 frame)) in
     sym (is.whole long) ∙ drop_more frame 0 0 (omega arith) ∙ ap (λ (gate : ℕ). gate ∷ drop 1 frame) opened ∙ ap (λ (bytes : List ℕ). open_gate ∷ bytes) (sym four ∙ sym spelled)
 
--- where a payload may not have so many bytes, or they and a gate do not fit, the chain is cut off behind its gate
-cut_off : (gate : ℕ) (behind frame : List ℕ) (size : ℕ) → IsFrame (gate ∷ behind) frame → size ≡ little_number 4 (take 4 (drop 1 frame))
+-- where a payload may not have so many bytes, or they and a gate do not fit, no entry stands behind the gate
+has_no_entry : (gate : ℕ) (behind frame : List ℕ) (size : ℕ) → IsFrame (gate ∷ behind) frame → size ≡ little_number 4 (take 4 (drop 1 frame))
     → ((size ≤ most_bytes) × (5 + size < length (gate ∷ behind)) → ⊥) → HasNoEntry behind
-cut_off gate behind frame size is number no_room = elim (cases_lt (length behind) 4) [
+has_no_entry gate behind frame size is number no_room = elim (cases_lt (length behind) 4) [
   | inl short ↦ inl short
   | inr long ↦
       let whole : frame ≡ gate ∷ take 4 behind = is.whole (omega arith) in
@@ -123,12 +123,12 @@ module _ {D : Type 0} {g : Ghosts D} (file : List ℕ) (payloads : List (List �
       let behind = drop 1 (drop old.gate file) in
       let here : drop old.gate file ≡ open_gate ∷ behind = headed (drop old.gate file) frame is ∙ ap (λ (gate : ℕ). gate ∷ behind) opened in
       let at_gate : IsFrame (open_gate ∷ behind) frame = subst (λ (chain : List ℕ). IsFrame chain frame) here is in
-      let cut : HasNoEntry behind =
-      cut_off open_gate behind frame size at_gate number
+      let none : HasNoEntry behind =
+      has_no_entry open_gate behind frame size at_gate number
       (λ room. no_room (room.0, omega (arith, room.1, ap length here, length-drop old.gate file, old.told file read.told))) in (
         flat_map entry payloads ++ open_gate ∷ behind,
         split ∙ ap (λ (chain : List ℕ). front payloads ++ chain) here ∙ append_assoc magic (flat_map entry payloads) (open_gate ∷ behind),
-        chain_breaks payloads behind (fit_all payloads read.fit) cut,
+        chain_breaks payloads behind (fit_all payloads read.fit) none,
         read.gate,
       )
 

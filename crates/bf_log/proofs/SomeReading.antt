@@ -56,9 +56,9 @@ entry_there behind n all is long small fits =
       all = All-drop IsByte n (drop 4 behind) (All-drop IsByte 4 behind all);
     }
 
--- behind an open gate something is cut off, or an entry stands there
-cut_or_entry : (behind : List ℕ) → All IsByte behind → HasNoEntry behind ⊎ BeginsWithEntry (open_gate ∷ behind)
-cut_or_entry behind all =
+-- behind an open gate no entry stands, or one does
+none_or_entry : (behind : List ℕ) → All IsByte behind → HasNoEntry behind ⊎ BeginsWithEntry (open_gate ∷ behind)
+none_or_entry behind all =
     let n = little_number 4 behind in
     elim (cases_lt (length behind) 4) [
       | inl short ↦ inl (inl short)
@@ -85,8 +85,8 @@ chain_or_broken : (fuel : ℕ) (bytes : List ℕ) → length bytes ≤ fuel → 
 chain_or_broken fuel [] few there all = absurd (omega arith)
 chain_or_broken zero (gate ∷ behind) few there all = absurd (omega arith)
 chain_or_broken (suc fuel) (gate ∷ behind) few there all = elim (cases_eq gate open_gate) [
-  | inl is_open ↦ elim (cut_or_entry behind (All-tail IsByte gate behind all)) [
-    | inl cut ↦ ([], inr (behind, ap (λ (byte : ℕ). byte ∷ behind) is_open, cut))
+  | inl is_open ↦ elim (none_or_entry behind (All-tail IsByte gate behind all)) [
+    | inl none ↦ ([], inr (behind, ap (λ (byte : ℕ). byte ∷ behind) is_open, none))
     | inr begins ↦
         let shorter : length begins.chain ≤ fuel = omega (arith, ap length begins.split, length-append begins.payload begins.chain) in
         subst (λ (byte : ℕ). IsRead (byte ∷ behind)) (sym is_open)

@@ -1,10 +1,10 @@
 -- The log while a record is stored, and once it is.
 use Rattle.std.proofs.Common.{◌≡◌, inl, inr, ℕ, ◌+◌, ◌<◌, ◌≤◌, Option, Some, None, Result, Ok, Err, List, [], ◌∷◌, ◌++◌, length, take, drop, get_or, refl, sym, ◌∙◌, ap, subst, arith, append_assoc, length-append}
+use Rattle.std.specs.Prelude.{OnOk}
 use Rattle.std.proofs.lemmas.List.{take_at, length_push, flat_map_more}
+use Rattle.std.proofs.lemmas.Option.{same_Some}
 use Rattle.byteorder.specs.Endian.{little_bytes}
 use Rattle.bf_io.specs.Whole.{IfTold}
-use Rattle.std.specs.Prelude.{OnOk}
-use Rattle.std.proofs.lemmas.Option.{same_Some}
 use Rattle.bf_disk.specs.Images.{overwritten, Torn, Only}
 use Rattle.bf_disk.specs.Answers.{OnFault}
 use Rattle.bf_disk.specs.declared.error.DiskError.{DiskError}
@@ -16,13 +16,16 @@ use Rattle.bf_log.specs.Format.{magic, open_gate, most_bytes, entry, IsLog, fron
 use Rattle.bf_log.specs.Storing.{record_of, behind_gate, opened, IsBeingStored}
 use Rattle.bf_log.proofs.Chains.{parts, more_log, closed_log, torn_record, torn_gate, written_record, written_gate, gate_leaves}
 
+-- a length takes four bytes
 length-little : (n : ℕ) → length (little_bytes 4 n) ≡ 4
 length-little n = refl
 
+-- a record takes five bytes more than its payload
 pub length-record : (payload : List ℕ) → length (record_of payload) ≡ length payload + 5
 length-record payload =
     omega (arith, length_push (little_bytes 4 (length payload) ++ payload) 0, length-append (little_bytes 4 (length payload)) payload, length-little (length payload))
 
+-- and so does an entry
 length-entry : (payload : List ℕ) → length (entry payload) ≡ length payload + 5
 length-entry payload = omega (arith, length-append (little_bytes 4 (length payload)) payload, length-little (length payload))
 
@@ -37,6 +40,7 @@ front_more payloads payload =
 
 module _ (payloads : List (List ℕ)) (payload file : List ℕ) (end : ℕ)
     (is_log : IsLog payloads file) (ends : end ≡ length (front payloads)) (small : length payload ≤ most_bytes) where
+  -- the front reaches to the closed gate
   size : length (front payloads) ≡ end
   size = sym ends
 
@@ -80,10 +84,11 @@ module _ (payloads : List (List ℕ)) (payload file : List ℕ) (end : ℕ)
   stored_is =
       let p = parts payloads file is_log in
       let front_is : take end file ≡ front payloads = ap (take end) p.split ∙ take_at (front payloads) (p.gate ∷ p.behind) end size in
-      let place : end + 1 + length (record_of payload) ≡ end + length payload + 6 = omega (arith, length-record payload) in
-      all_there ∙ sym (append_assoc (front payloads) (entry payload) (0 ∷ after))
-      ∙ ap (λ (bytes : List ℕ). bytes ++ entry payload ++ 0 ∷ after) (sym front_is)
-      ∙ ap (λ (k : ℕ). take end file ++ entry payload ++ 0 ∷ drop k file) place
+      let bytes = entry payload ++ 0 ∷ [] in
+      let place : end + 1 + length (record_of payload) ≡ end + length bytes = omega (arith, length-record payload, length_push (entry payload) 0, length-entry payload) in
+      all_there ∙ ap (λ (rest : List ℕ). front payloads ++ rest) (sym (append_assoc (entry payload) (0 ∷ []) after))
+      ∙ sym (append_assoc (front payloads) bytes after) ∙ ap (λ (before : List ℕ). before ++ bytes ++ after) (sym front_is)
+      ∙ ap (λ (k : ℕ). take end file ++ bytes ++ drop k file) place
 
   -- which is a log with the payload behind the others
   pub stored_log : IsLog (payloads ++ payload ∷ []) (with_entry file end payload)
@@ -96,11 +101,6 @@ pub told_behind : (old : Option (List ℕ)) (gate : ℕ) → IfTold old (λ file
 told_behind None gate within = tt
 told_behind (Some old) gate within = omega arith
 
--- what holds of each file that may be told
-pub told_from : (old : Option (List ℕ)) (P : List ℕ → Type 0) → ((file : List ℕ) → old ≡ Some file → P file) → IfTold old P
-told_from None P all = tt
-told_from (Some file) P all = all file refl
-
 -- what is told of a file that a call made something of
 pub told_made : (make : List ℕ → List ℕ) (old new : Option (List ℕ)) (file : List ℕ) → old ≡ Some file → WhereTold (λ before now. now ≡ make before) old new
     → new ≡ Some (make file)
@@ -108,11 +108,12 @@ told_made make None new file told is = cc
 told_made make (Some old) None file told is = absurd is
 told_made make (Some old) (Some new) file told is = ap (λ (now : List ℕ). Some now) (is ∙ ap make (same_Some old file told))
 
--- what is told after a write, and after a sync that changes nothing of it
+-- what is told after a write
 pub told_written : (old new : Option (List ℕ)) (at : ℕ) (bytes file : List ℕ) → old ≡ Some file → WhereTold (λ before now. now ≡ overwritten before at bytes) old new
     → new ≡ Some (overwritten file at bytes)
 told_written old new at bytes file told is = told_made (λ before. overwritten before at bytes) old new file told is
 
+-- and after a sync too, that changes nothing of it
 pub written_then : (old mid new : Option (List ℕ)) (at : ℕ) (bytes : List ℕ) (result : Result (Unit {0}) DiskError)
     → WhereTold (λ before now. now ≡ overwritten before at bytes) old mid → new ≡ mid → OnOk result (WhereTold (λ before now. now ≡ overwritten before at bytes) old new)
 written_then old mid new at bytes (Err error) written same = tt
@@ -156,12 +157,14 @@ long_then (Some old) None new first second = absurd first
 long_then (Some old) (Some mid) None first second = absurd second
 long_then (Some old) (Some mid) (Some new) first second = omega arith
 
+-- after a write that failed
 long_torn : (old new : Option (List ℕ)) (at n : ℕ) → WhereTold (Torn at n) old new → IsAsLong old new
 long_torn None None at n torn = tt
 long_torn None (Some new) at n torn = absurd torn
 long_torn (Some old) None at n torn = absurd torn
 long_torn (Some old) (Some new) at n torn = torn.no_shorter
 
+-- after a write that was done
 long_written : (old new : Option (List ℕ)) (at : ℕ) (bytes : List ℕ) → WhereTold (λ before now. now ≡ overwritten before at bytes) old new → IsAsLong old new
 long_written None None at bytes written = tt
 long_written None (Some new) at bytes written = absurd written

@@ -59,10 +59,10 @@ module _ {D : Type 0} {g : Ghosts D} where
     pub ready : new.standing ≡ Ready
 
   -- the log takes no more records: it is halted or spent, and has those that it had
-  pub record Stops (standing : Standing) (old new : Log D g) : Type 0 where
+  pub record Stops (becomes : Standing) (old new : Log D g) : Type 0 where
     pub end : new.end ≡ old.end
     pub count : new.count ≡ old.count
-    pub standing : new.standing ≡ standing
+    pub standing : new.standing ≡ becomes
 
   -- what became of a log whose append of so many bytes was not refused
   abbrev pub Outcome : ℕ → Log D g → Log D g → Result ℕ AppendError → Type 0

@@ -1,5 +1,5 @@
 -- A log as a grammar on bytes, and the first thing that breaks it.
-use Rattle.std.specs.Prelude.{◌≡◌, ◌≢◌, ◌⊎◌, ℕ, ◌+◌, ◌^◌, ◌<◌, ◌≤◌, List, [], ◌∷◌, ◌++◌, length, take, drop, slice_get, flat_map, codes}
+use Rattle.std.specs.Prelude.{◌≡◌, ◌≢◌, ◌⊎◌, ℕ, ◌+◌, ◌^◌, ◌<◌, ◌≤◌, List, [], ◌∷◌, ◌++◌, length, take, slice_get, flat_map, codes}
 use Rattle.bf_disk.specs.Images.{overwritten}
 use Rattle.byteorder.specs.Endian.{little_bytes, little_number}
 

@@ -1,5 +1,5 @@
 -- How far a log has been read.
-use Rattle.std.specs.Prelude.{◌≡◌, ℕ, ◌<◌, ◌≤◌, List, [], ◌∷◌, ◌++◌, length, Option, Some, Result, Ok, Err, ◌+◌, All, ⊤}
+use Rattle.std.specs.Prelude.{◌≡◌, ℕ, ◌<◌, ◌≤◌, List, [], ◌∷◌, ◌++◌, length, Some, Result, Ok, Err, ◌+◌, All, ⊤}
 use Rattle.bf_disk.specs.declared.disk.Disk.{Ghosts}
 use Rattle.bf_disk.specs.Images.{Only}
 use Rattle.bf_log.specs.Format.{IsLog, most_bytes, front, ChainFault}

@@ -76,14 +76,15 @@ pub enum AppendError {
     /// The payload has so many bytes, which is more than the largest.
     #[error("too large {0}")]
     TooLarge(u64),
-    /// The closed gate stands at the first number, and the record needs as many bytes as the second.
+    /// The closed gate stands at the first number, and an entry for the record takes as many bytes
+    /// as the second.
     #[error("log full {0} {1}")]
     LogFull(u64, u64),
     /// The device failed. A crash leaves the record or not, and the log is halted.
     #[error("disk fault")]
     DiskFault,
-    /// There is no room for a copy of the record, and the log is as it was. Or a disk in memory had none in
-    /// this append or an earlier one, and the log is spent.
+    /// There is no room for a copy of the record, and the log is as it was. Or a disk in memory had
+    /// none in this append or an earlier one, and the log is spent.
     #[error("out of memory")]
     Memory,
 }

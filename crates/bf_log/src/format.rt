@@ -12,11 +12,11 @@ pub(crate) const OPEN_GATE: u8 = 0xa5;
 /// The closed gate that is written behind a record.
 pub(crate) const CLOSED_GATE: u8 = 0;
 
-/// How many bytes a payload may have.
+/// A payload has at most so many bytes.
 pub(crate) const MOST_BYTES: u32 = 1 << 30;
 
 /// A length takes so many bytes, the lowest first.
 pub(crate) const LENGTH_BYTES: usize = 4;
 
-/// So many bytes stand between a gate and the next, beside the payload: the gate and the length.
+/// So many bytes stand before a payload: its gate and its length.
 pub(crate) const FRAME: u64 = 1 + LENGTH_BYTES as u64;

@@ -22,7 +22,8 @@ pub fn open_log<D: Disk>(alloc: Global, disk: D) -> Result<Opening<D>, (D, OpenE
         × (count_of opening ≡ 0)) }
     ensures reading { IfOk result (λ opening. progress_of opening ≡ Progress.Reading) }
     ensures not_a_log { IfErr result (λ back. (at : ℕ) → back.1 ≡ OpenError.NotALog at
-        → (file : List ℕ) → D.seen disk ≡ Some file → HeadFault file at × Only file (D.may_leave back.0)) }
+        → (file : List ℕ) → D.seen disk ≡ Some file
+        → HeadFault file at × Only file (D.may_leave back.0)) }
 
     ensures disk { MatchResult result
         (λ opening. OnlyRead D.seen D.may_leave D.moment D.left_since disk (disk_of opening))

@@ -3,9 +3,9 @@
 ghost use Rattle.std.specs.Prelude.{◌≡◌, ◌⊎◌, ℕ, ◌<◌, List, All};
 ghost use Rattle.bf_log.specs.Format.{IsLog, IsNoLog};
 
-/// Every file is a log of some payloads, or there is a first thing in it that breaks the format. It is
-/// not both, not a log of other payloads too, and no other thing is the first. So what opening a log
-/// answers is told by the bytes alone.
+/// Every file is a log of some payloads, or there is a first thing in it that breaks the format. It
+/// is not both, not a log of other payloads too, and no other thing is the first. So the bytes alone
+/// tell what is read from a file, or where it breaks.
 pub fn a_file_is_read_in_one_way()
     ensures some { (file : List ℕ) → All (λ byte. byte < 256) file
         → ((payloads : List (List ℕ)) × IsLog payloads file) ⊎ ((at : ℕ) × IsNoLog file at) }

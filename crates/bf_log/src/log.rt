@@ -29,7 +29,7 @@ pub enum Standing {
 pub struct Log<D: Disk> {
     disk: D,
     alloc: Global,
-    /// The offset of the closed gate.
+    /// The offset of the closed gate. Once an append has failed on the device it may be open.
     end: u64,
     /// How many records it has.
     count: u64,
@@ -63,14 +63,15 @@ impl<D: Disk> Log<D> {
 
     /// Appends a record, and answers its number in the log. After `Ok` every crash leaves it.
     ///
-    /// It copies the payload once and makes four calls of the device: length, payload and a closed gate
-    /// are written behind the closed gate and synced, and then that gate is opened and synced. So a crash
-    /// at any moment leaves the records from before, or those with the new one. After `DiskFault` either
-    /// may be, and the log is halted. After `Memory` out of a call of the device either may be too, and the
-    /// log is spent: it answers `Memory` from then on. Every other refusal leaves the log as it was.
+    /// It copies the payload once and makes four calls of the device: length, payload and a closed
+    /// gate are written behind the closed gate and synced, and then that gate is opened and synced.
+    /// So a crash at any moment leaves the records from before, or those with the new one. After
+    /// `DiskFault` either may be, and the log is halted: it answers `Halted` from then on. After
+    /// `Memory` out of a call of the device either may be too, and the log is spent: it answers
+    /// `Memory` from then on. Every other refusal leaves the log as it was.
     ///
-    /// `largest` is at most 2^30 bytes. `limit` is the most bytes that the file may come to have with the
-    /// record and the gate behind it.
+    /// `largest` is at most 2^30 bytes. `limit` is the most bytes that the log may come to take, up
+    /// to and with the gate behind the record. What the file has behind that gate does not count.
     pub fn append(&mut self, payload: &[u8], largest: u32, limit: u64) -> Result<u64, AppendError>
         requires { largest ≤ 2 ^ 30 }
 
@@ -87,15 +88,17 @@ impl<D: Disk> Log<D> {
             (payloads ++ payload.now ∷ []) self.new) }
         ensures any_moment { (file : List ℕ) (payloads : List (List ℕ))
             → Holds file payloads self.old
-            → LeavesOnly D.moment D.left_since (disk_of self.old) (disk_of self.new) (BeforeOrAfter payloads payload.now) }
+            → LeavesOnly D.moment D.left_since (disk_of self.old) (disk_of self.new)
+            (BeforeOrAfter payloads payload.now) }
 
-        // A log that has stopped: either may be, now and for ever.
+        // A log that has stopped: a crash leaves either, then and after each later append.
         ensures stops { (file : List ℕ) (payloads : List (List ℕ)) → Holds file payloads self.old
             → standing_of self.new ≢ Standing.Ready → StoppedAt payloads payload.now self.new }
         ensures stopped { (payloads : List (List ℕ)) (failed : List ℕ)
             → StoppedAt payloads failed self.old
             → StoppedAt payloads failed self.new
-            × LeavesOnly D.moment D.left_since (disk_of self.old) (disk_of self.new) (BeforeOrAfter payloads failed) }
+            × LeavesOnly D.moment D.left_since (disk_of self.old) (disk_of self.new)
+            (BeforeOrAfter payloads failed) }
 
         ensures faults { CountsFaults is_append_fault result (D.fault_count (disk_of self.old))
             (D.fault_count (disk_of self.new)) }
@@ -141,7 +144,8 @@ impl<D: Disk> Log<D> {
         None
     }
 
-    /// The disk's count of faults when an append met a fault, `None` where none did. It takes no memory.
+    /// The disk's count of faults after an append met a fault, `None` where none did. It takes no
+    /// memory.
     pub fn halted(&self) -> Option<u64>
         ensures { result ≡ halted_of self.now }
     {

@@ -2,6 +2,7 @@
 
 ghost use Rattle.std.specs.Prelude.{◌≡◌, ◌↔◌, ℕ, ◌+◌, ◌<◌, ◌≤◌, IsTrue, List, ◌∷◌, Some, length, take, drop};
 ghost use Rattle.byteorder.specs.Endian.{little_bytes, little_number};
+ghost use Rattle.bf_disk.specs.Images.{OnlyRead};
 
 use crate::error::OpenError;
 use crate::format::{FRAME, LENGTH_BYTES, MAGIC, MOST_BYTES, OPEN_GATE};
@@ -31,14 +32,14 @@ pub enum Next {
     End,
 }
 
-/// A log that is being read: so many payloads so far.
+/// A log that is being read, at a gate behind the payloads so far.
 #[derive(Debug, Drop)]
 pub struct Opening<D: Disk> {
     disk: D,
     alloc: Global,
     /// The length of the file.
     len: u64,
-    /// The offset of the gate that is next.
+    /// The offset of the gate at which it stands.
     gate: u64,
     /// How many payloads were read.
     count: u64,
@@ -56,9 +57,9 @@ impl<D: Disk> Opening<D> {
 
     /// The payload behind the next open gate, with that gate's offset, or `End` at a closed gate.
     ///
-    /// `NotALog` tells the gate at which the chain breaks, and comes again at each later call, as `End`
-    /// does. After `DiskFault` or `Memory` it stands where it stood, and may be called again. It reads
-    /// each byte once, and makes room for one payload.
+    /// `NotALog` tells the gate at which the chain breaks, and comes again at each later call, as
+    /// `End` does. After `DiskFault` or `Memory` it stands where it stood, and may be called again.
+    /// A call reads no byte twice, and makes room for one payload.
     pub fn next_payload(&mut self, alloc: Global) -> Result<Next, OpenError>
         ensures next { (file : List ℕ) (payloads : List (List ℕ)) → HasRead file payloads self.old
             → ReadsNext file payloads self.new result }

@@ -1,21 +1,34 @@
+mod crashes;
+mod faults;
+mod format;
+mod hostile;
+mod limits;
+mod memory;
+mod records;
+
 use crate::*;
-use bf_disk::TapeDisk;
+use bf_base::Memory;
+use bf_disk::{Disk, TapeDisk};
 use std::alloc::Global;
 use std::process::Abort;
 use std::test::Fail;
 
-// An empty file.
-fn new_disk(alloc: Global) -> TapeDisk {
-    TapeDisk::new(alloc, Vec::new(alloc), Vec::new(alloc), None)
+// What a crash may put in the place of pending bytes.
+const TORN: [&[u8]; 4] = [b"", b"\0", b"\xa5", b"\xa5\x01\0\x5a"];
+
+// A file with these bytes, of which the calls with these numbers fail.
+fn tape(alloc: Global, bytes: &[u8], failing: &[u64]) -> Result<TapeDisk, Memory> {
+    let failing = failing.to_vec(alloc)?;
+    Ok(TapeDisk::new(alloc, bytes.to_vec(alloc)?, failing, None))
 }
 
-// Reads a log to its end.
-fn opened<R: Abort>(rt: &R, alloc: Global, disk: TapeDisk) -> Log<TapeDisk> {
+// A log at its end.
+fn opened<R: Abort, D: Disk + Drop>(rt: &R, alloc: Global, disk: D) -> Log<D> {
     let mut opening = match open_log(alloc, disk) {
         Ok(opening) => opening,
         Err((_, e)) => panic!(rt; "{e}"),
     };
-    for _ in 0..100 {
+    for _ in 0..2000 {
         if let Next::End = opening
             .next_payload(alloc)
             .expect(rt, "a payload or the end")
@@ -23,36 +36,63 @@ fn opened<R: Abort>(rt: &R, alloc: Global, disk: TapeDisk) -> Log<TapeDisk> {
             return opening.into_log();
         }
     }
+    panic!(rt; "more than 2000 payloads")
+}
+
+// What is read from there on: each payload with a bar behind it, and the error that ended it.
+fn read_on<R: Abort, D: Disk>(
+    rt: &R,
+    alloc: Global,
+    opening: &mut Opening<D>,
+) -> Result<(Vec<u8>, Option<OpenError>), Memory> {
+    let mut payloads = Vec::new(alloc);
+    for _ in 0..100 {
+        match opening.next_payload(alloc) {
+            Ok(Next::Payload(_, payload)) => {
+                payloads.extend_from_slice(payload.as_slice())?;
+                payloads.push(b'|')?;
+            }
+            Ok(Next::End) => return Ok((payloads, None)),
+            Err(e) => return Ok((payloads, Some(e))),
+        }
+    }
     panic!(rt; "more than 100 payloads")
 }
 
-#[test]
-fn a_record_is_spelled(rt: HostRuntime) -> Result<(), Fail> {
-    let mut disk = new_disk(rt.alloc());
-    create_log(&mut disk)?;
-    let mut log = opened(&rt, rt.alloc(), disk);
-    assert_eq!(rt; log.append(b"\x41\x42", 1 << 30, 1 << 36)?, 1);
-    let disk = log.into_disk();
-    assert_eq!(rt;
-        disk.bytes(),
-        b"BFROGLG1\xa5\x02\x00\x00\x00\x41\x42\x00".as_slice()
-    );
-    Ok(())
+// The same of a whole file.
+fn read_all<R: Abort, D: Disk + Drop>(
+    rt: &R,
+    alloc: Global,
+    disk: D,
+) -> Result<(Vec<u8>, Option<OpenError>), Memory> {
+    match open_log(alloc, disk) {
+        Ok(opening) => {
+            let mut opening = opening;
+            read_on(rt, alloc, &mut opening)
+        }
+        Err((_, e)) => Ok((Vec::new(alloc), Some(e))),
+    }
 }
 
-#[test]
-fn limits_are_exact(rt: HostRuntime) -> Result<(), Fail> {
-    let mut disk = new_disk(rt.alloc());
-    create_log(&mut disk)?;
-    let mut log = opened(&rt, rt.alloc(), disk);
-    assert_eq!(rt; log.append(b"\x41\x42", 2, 20)?, 1);
-    assert_eq!(rt;
-        log.append(b"\x41\x42", 1, 20),
-        Err(AppendError::TooLarge(2))
-    );
-    assert_eq!(rt;
-        log.append(b"\x41\x42", 2, 20),
-        Err(AppendError::LogFull(15, 7))
-    );
+// A crash before a call, or now if fewer were made, leaves a log: of the second payloads where the
+// first pending byte becomes an open gate, and else of the first.
+fn assert_left<R: Abort>(
+    rt: &R,
+    alloc: Global,
+    disk: &TapeDisk,
+    call: u64,
+    closed: &[u8],
+    open: &[u8],
+) -> Result<(), Fail> {
+    for torn in TORN {
+        let (payloads, error) = read_all(rt, alloc, disk.crash_at(alloc, call, torn)?)?;
+        let wanted = if torn.first() == Some(&0xa5) {
+            open
+        } else {
+            closed
+        };
+        assert_eq!(rt; payloads.as_slice(), wanted, "call {call}, torn {torn:?}");
+        assert_eq!(rt; error, None, "call {call}, torn {torn:?}");
+    }
     Ok(())
 }

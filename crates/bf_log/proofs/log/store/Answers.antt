@@ -38,6 +38,6 @@ returns-clause-any_moment g c = λ file told only.
     let with_record = behind_gate file c.args.gate c.args.bytes.now in
     let there = told_written (seen c.args.disk.now) (seen mid) (c.args.gate + 1) c.args.bytes.now file told c.in_ok-write_synced.ensures.written in
     let only_there = told_at (seen mid) (λ now. Only now (g.D.Disk.may_leave mid)) with_record c.in_ok-write_synced.ensures.durable there in
-    both g.D.Disk.moment g.D.Disk.left_since c.args.disk.now mid c.write_synced-2.new.disk
+    both g.D.Disk.moment g.D.Disk.left_since g.met.D.Disk.earlier c.args.disk.now mid c.write_synced-2.new.disk
     (Torn (c.args.gate + 1) (length c.args.bytes.now) file) (Torn c.args.gate 1 with_record)
     (c.write_synced.ensures.any_moment file only) (c.write_synced-2.ensures.any_moment with_record only_there)

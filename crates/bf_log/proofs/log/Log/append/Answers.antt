@@ -4,6 +4,7 @@ use Rattle.bf_log.specs.Append.{Holds, BeforeOrAfter}
 use Rattle.bf_log.specs.Format.{most_bytes}
 use Rattle.bf_log.specs.Storing.{record_of}
 use Rattle.bf_log.proofs.Appending.{no_larger, leaves_log, holds_more}
+use Rattle.bf_log.proofs.Moments.{leaves_now}
 use Rattle.bf_log.proofs.log.Log.append.Goals as goal
 use Rattle.bf_log.proofs.log.Log.append.Goals.{After-store}
 
@@ -28,6 +29,13 @@ leaves g c file payloads holds =
     leaves_log file payloads c.args.payload.now c.deref.result.now c.args.self.now holds (small g c) (spelled g c) c.store.new.disk
     (c.store.ensures.any_moment file holds.told holds.durable)
 
+-- so it does from then on
+leaves_then : (g : _) (c : After-store g) (file : List ℕ) (payloads : List (List ℕ)) → Holds {g = g.D.Disk} file payloads c.args.self.now
+    → (image : List ℕ) → g.D.Disk.may_leave c.store.new.disk image → BeforeOrAfter payloads c.args.payload.now image
+leaves_then g c file payloads holds =
+    leaves_now g.D.Disk.moment g.D.Disk.left_since g.D.Disk.may_leave g.met.D.Disk.counts_now c.args.self.now.disk c.store.new.disk
+    (BeforeOrAfter payloads c.args.payload.now) (leaves g c file payloads holds)
+
 pub returns-in-Ok-clause-stored : goal.returns-in-Ok-clause-stored
 returns-in-Ok-clause-stored g c = λ file payloads holds.
     let before = (goal.at.returns-in-Ok-clause-stored g c).After-store in
@@ -41,5 +49,13 @@ returns-in-Ok-clause-any_moment g c = leaves g (goal.at.returns-in-Ok-clause-any
 pub returns-in-Err-Fault-clause-any_moment : goal.returns-in-Err-Fault-clause-any_moment
 returns-in-Err-Fault-clause-any_moment g c = leaves g (goal.at.returns-in-Err-Fault-clause-any_moment g c).After-store
 
+pub returns-in-Err-Fault-clause-stops : goal.returns-in-Err-Fault-clause-stops
+returns-in-Err-Fault-clause-stops g c = λ file payloads holds stopped.
+    record { stopped = stopped; images = leaves_then g (goal.at.returns-in-Err-Fault-clause-stops g c).After-store file payloads holds }
+
 pub returns-clause-any_moment : goal.returns-clause-any_moment
 returns-clause-any_moment g c = leaves g (goal.at.returns-clause-any_moment g c).After-store
+
+pub returns-clause-stops : goal.returns-clause-stops
+returns-clause-stops g c = λ file payloads holds stopped.
+    record { stopped = stopped; images = leaves_then g (goal.at.returns-clause-stops g c).After-store file payloads holds }
