@@ -8,7 +8,7 @@ use Rattle.bf_base.specs.declared.memory.Memory.{Memory}
 use Rattle.bf_text.specs.Puts.{Puts}
 use Rattle.bf_text.specs.Replies.{listed}
 use Rattle.bf_text.specs.Report.{texts_from}
-use Rattle.bf_text.proofs.Putting.{both, puts_no_more, puts_behind}
+use Rattle.bf_text.proofs.Putting.{puts_no_more, puts_behind}
 
 -- the texts before a place, the text at it and those behind it are all
 each_split : {X : Type 0} (f : X → List ℕ) (xs : List X) (i : ℕ) (x : X) → i < length xs → x ≡ get_or xs i x
@@ -54,22 +54,17 @@ counted_split f n [] (suc i) = refl
 counted_split f n (x ∷ xs) (suc i) = let rest = counted_split f (n + 1) xs i in grind (arith, rest, append_assoc)
 
 -- the counted texts up to a place and the one at it are those up to the next place
-counted_next : {X : Type 0} (f : ℕ → X → List ℕ) (n : ℕ) (xs : List X) (i : ℕ) (x : X) → i < length xs → x ≡ get_or xs i x
+pub counted_next : {X : Type 0} (f : ℕ → X → List ℕ) (n : ℕ) (xs : List X) (i : ℕ) (x : X) → i < length xs → x ≡ get_or xs i x
     → texts_from f n (take (i + 1) xs) ≡ texts_from f n (take i xs) ++ f (i + n) x
 counted_next f n (y ∷ xs) zero x below at = rw (at, zero-add n) (append-nil (f n y))
 counted_next f n (y ∷ xs) (suc i) x below at = let next = counted_next f (n + 1) xs i x (omega arith) at in grind (arith, next, append_assoc)
 counted_next f n [] i x below at = absurd (omega arith)
 
-module _ {X : Type 0} (f : ℕ → X → List ℕ) (n : ℕ) (xs : List X) (i : ℕ) (x : X) (old between new : List ℕ)
-    (below : i < length xs) (at : x ≡ get_or xs i x) (before : between ≡ old ++ texts_from f n (take i xs)) where
-  -- one more counted text stands
-  pub more_counted : new ≡ between ++ f (i + n) x → new ≡ old ++ texts_from f n (take (i + 1) xs)
-  more_counted text =
-      rw (counted_next f n xs i x below at) (both (texts_from f n (take i xs)) (f (i + n) x) old between new before text)
-
-  -- memory runs out in the counted text at a place
-  pub cut_counted : (result : Result (Unit {0}) Memory) → IsErr result → Puts result (f (i + n) x) between new → Puts result (texts_from f n xs) old new
-  cut_counted result fails ends =
-      rw (counted_split f n xs (i + 1), counted_next f n xs i x below at)
-      (puts_no_more result (texts_from f n (take i xs) ++ f (i + n) x) (texts_from f (i + 1 + n) (drop (i + 1) xs)) old new fails
-      (puts_behind result (texts_from f n (take i xs)) (f (i + n) x) old between new before ends))
+-- memory runs out in the counted text at a place
+pub cut_counted : {X : Type 0} (f : ℕ → X → List ℕ) (n : ℕ) (xs : List X) (i : ℕ) (x : X) (result : Result (Unit {0}) Memory) (old between new : List ℕ)
+    → i < length xs → x ≡ get_or xs i x → IsErr result → between ≡ old ++ texts_from f n (take i xs)
+    → Puts result (f (i + n) x) between new → Puts result (texts_from f n xs) old new
+cut_counted f n xs i x result old between new below at fails before ends =
+    rw (counted_split f n xs (i + 1), counted_next f n xs i x below at)
+    (puts_no_more result (texts_from f n (take i xs) ++ f (i + n) x) (texts_from f (i + 1 + n) (drop (i + 1) xs)) old new fails
+    (puts_behind result (texts_from f n (take i xs)) (f (i + n) x) old between new before ends))

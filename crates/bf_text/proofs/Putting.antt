@@ -28,7 +28,7 @@ pub puts_first : (result : Result (Unit {0}) Memory) (text more old new : List �
 puts_first result text more old new fails ends = puts_no_more result text more old new fails (puts_front result text old new fails ends)
 
 -- both of two texts stand
-pub both : (text more old between new : List ℕ) → between ≡ old ++ text → new ≡ between ++ more → new ≡ old ++ (text ++ more)
+both : (text more old between new : List ℕ) → between ≡ old ++ text → new ≡ between ++ more → new ≡ old ++ (text ++ more)
 both text more old between new first second = second ∙ ap (λ put. put ++ more) first ∙ append_assoc old text more
 
 -- a text is put behind another
