@@ -1,3 +1,4 @@
-pub mod Appended
 pub mod Commits
+pub mod Loops
+pub mod Putting
 pub mod decoding

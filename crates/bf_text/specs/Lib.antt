@@ -1,4 +1,5 @@
 pub mod Numbers
+pub mod Puts
 pub mod Replies
 pub mod Report
 pub mod Told

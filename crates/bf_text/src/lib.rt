@@ -1,7 +1,7 @@
 //! The exact texts of replies, refusals and reports.
 //!
-//! What puts something appends its text to a vector of bytes. After an `Err` some front of that
-//! text may stand behind what stood there before.
+//! What puts something appends its text to a vector of bytes. After an `Err` a front of that text
+//! stands behind what stood there before, and all that stood there is as it was.
 #![tactic(auto)]
 
 pub mod laws;

@@ -1,7 +1,8 @@
 //! What texts are made of: words, numbers, and things one behind the other.
 
-ghost use Rattle.std.specs.Prelude.{◌≡◌, ℕ, ◌++◌, List, OnOk, map, flat_map, codes};
+ghost use Rattle.std.specs.Prelude.{ℕ, ◌++◌, List, map, flat_map, codes};
 ghost use Rattle.std.specs.Fmt.{decimal, signed_decimal};
+ghost use Rattle.bf_text.specs.Puts.{Puts};
 ghost use Rattle.bf_text.specs.Replies.{listed, numbered};
 ghost use Rattle.bf_text.specs.Report.{texts_from};
 
@@ -10,7 +11,7 @@ use itoa::Buffer;
 
 /// Appends words.
 pub(crate) fn put(out: &mut Vec<u8>, words: &[u8]) -> Result<(), Memory>
-    ensures { OnOk result (out.new.items ≡ out.old.items ++ words.now) }
+    ensures { Puts result words.now out.old.items out.new.items }
 {
     out.extend_from_slice(words)?;
     Ok(())
@@ -18,35 +19,38 @@ pub(crate) fn put(out: &mut Vec<u8>, words: &[u8]) -> Result<(), Memory>
 
 /// Appends a number in decimal digits.
 pub(crate) fn put_number(out: &mut Vec<u8>, number: u64) -> Result<(), Memory>
-    ensures { OnOk result (out.new.items ≡ out.old.items ++ decimal number) }
+    ensures { Puts result (decimal number) out.old.items out.new.items }
 {
     put(out, Buffer::new().format(number).as_bytes())
 }
 
 /// Appends a number in decimal digits, a negative one behind a minus.
 pub(crate) fn put_signed(out: &mut Vec<u8>, number: i64) -> Result<(), Memory>
-    ensures { OnOk result (out.new.items ≡ out.old.items ++ signed_decimal number) }
+    ensures { Puts result (signed_decimal number) out.old.items out.new.items }
 {
     put(out, Buffer::new().format(number).as_bytes())
 }
 
 /// Appends words before a number.
+#[tactic(auto, using(crate::proofs::Putting::putting))]
 pub(crate) fn put_numbered(out: &mut Vec<u8>, words: &[u8], number: u64) -> Result<(), Memory>
-    ensures { OnOk result (out.new.items ≡ out.old.items ++ numbered words.now number) }
+    ensures { Puts result (numbered words.now number) out.old.items out.new.items }
 {
     put(out, words)?;
     put_number(out, number)
 }
 
 /// Appends words before a name.
+#[tactic(auto, using(crate::proofs::Putting::putting))]
 pub(crate) fn put_named(out: &mut Vec<u8>, words: &[u8], name: &Name) -> Result<(), Memory>
-    ensures { OnOk result (out.new.items ≡ out.old.items ++ (words.now ++ name.now)) }
+    ensures { Puts result (words.now ++ name.now) out.old.items out.new.items }
 {
     put(out, words)?;
     put(out, name.as_bytes())
 }
 
 /// Appends words before a name, and behind it further words before a number.
+#[tactic(auto, using(crate::proofs::Putting::putting))]
 pub(crate) fn put_named_numbered(
     out: &mut Vec<u8>,
     words: &[u8],
@@ -54,8 +58,8 @@ pub(crate) fn put_named_numbered(
     behind: &[u8],
     number: u64,
 ) -> Result<(), Memory>
-    ensures { OnOk result (out.new.items ≡ out.old.items
-        ++ ((words.now ++ name.now) ++ numbered behind.now number)) }
+    ensures { Puts result ((words.now ++ name.now) ++ numbered behind.now number)
+        out.old.items out.new.items }
 {
     put_named(out, words, name)?;
     put_numbered(out, behind, number)
@@ -70,7 +74,7 @@ pub(crate) trait Piece {
 
     /// Appends the piece's text.
     fn put_at(&self, out: &mut Vec<u8>, place: Self::Place) -> Result<(), Memory>
-        ensures { OnOk result (out.new.items ≡ out.old.items ++ text place self.now) };
+        ensures { Puts result (text place self.now) out.old.items out.new.items };
 }
 
 /// Appends the texts of pieces, with nothing between.
@@ -79,7 +83,7 @@ pub(crate) fn put_each<T: Piece>(
     place: T::Place,
     pieces: &[T],
 ) -> Result<(), Memory>
-    ensures { OnOk result (out.new.items ≡ out.old.items ++ flat_map (T.text place) pieces.now) }
+    ensures { Puts result (flat_map (T.text place) pieces.now) out.old.items out.new.items }
 {
     for piece in pieces {
         piece.put_at(out, place)?;
@@ -89,8 +93,8 @@ pub(crate) fn put_each<T: Piece>(
 
 // Appends the texts of pieces, each behind a comma and a space.
 fn put_further<T: Piece>(out: &mut Vec<u8>, place: T::Place, pieces: &[T]) -> Result<(), Memory>
-    ensures { OnOk result (out.new.items ≡ out.old.items
-        ++ flat_map (λ y. codes ", " ++ y) (map (T.text place) pieces.now)) }
+    ensures { Puts result (flat_map (λ y. codes ", " ++ y) (map (T.text place) pieces.now))
+        out.old.items out.new.items }
 {
     for piece in pieces {
         put(out, b", ")?;
@@ -100,13 +104,13 @@ fn put_further<T: Piece>(out: &mut Vec<u8>, place: T::Place, pieces: &[T]) -> Re
 }
 
 /// Appends the texts of pieces, with a comma and a space between.
+#[tactic(auto, using(crate::proofs::Putting::putting))]
 pub(crate) fn put_listed<T: Piece>(
     out: &mut Vec<u8>,
     place: T::Place,
     pieces: &[T],
 ) -> Result<(), Memory>
-    ensures { OnOk result (out.new.items ≡ out.old.items
-        ++ listed (map (T.text place) pieces.now)) }
+    ensures { Puts result (listed (map (T.text place) pieces.now)) out.old.items out.new.items }
 {
     match pieces {
         [] => Ok(()),
@@ -126,7 +130,7 @@ pub(crate) trait Counted {
 
     /// Appends the thing's text.
     fn put_counted(&self, out: &mut Vec<u8>, whole: Self::Whole, number: u64) -> Result<(), Memory>
-        ensures { OnOk result (out.new.items ≡ out.old.items ++ text whole number self.now) };
+        ensures { Puts result (text whole number self.now) out.old.items out.new.items };
 }
 
 /// Appends the texts of things, counted from 1.
@@ -135,8 +139,7 @@ pub(crate) fn put_all_counted<T: Counted>(
     whole: T::Whole,
     things: &[T],
 ) -> Result<(), Memory>
-    ensures { OnOk result (out.new.items ≡ out.old.items
-        ++ texts_from (T.text whole) 1 things.now) }
+    ensures { Puts result (texts_from (T.text whole) 1 things.now) out.old.items out.new.items }
 {
     for (index, thing) in things.iter().enumerate() {
         thing.put_counted(out, whole, index as u64 + 1)?;

@@ -1,6 +1,7 @@
 //! The texts of values, refusals, causes and replies.
 
-ghost use Rattle.std.specs.Prelude.{◌≡◌, ◌++◌, OnOk, length, flat_map, codes};
+ghost use Rattle.std.specs.Prelude.{◌++◌, length, flat_map, codes};
+ghost use Rattle.bf_text.specs.Puts.{Puts};
 ghost use Rattle.bf_text.specs.Replies.{newline, numbered, quoted, value_text, cell_text, values_text, refusal_text, cause_text, place_text, row_line, body_text, reply_text};
 ghost use Rattle.bf_text.specs.Report.{session_text};
 
@@ -58,14 +59,14 @@ impl Piece for Cell {
 
 /// Appends values, with a comma and a space between.
 pub fn put_values(out: &mut Vec<u8>, values: &[Value]) -> Result<(), Memory>
-    ensures ok { OnOk result (out.new.items ≡ out.old.items ++ values_text values.now) }
+    ensures puts { Puts result (values_text values.now) out.old.items out.new.items }
 {
     put_listed(out, (), values)
 }
 
 fn put_between(out: &mut Vec<u8>, front: &[u8], values: &[Value], back: &[u8]) -> Result<(), Memory>
-    ensures { OnOk result (out.new.items ≡ out.old.items
-        ++ (front.now ++ values_text values.now ++ back.now)) }
+    ensures { Puts result (front.now ++ values_text values.now ++ back.now)
+        out.old.items out.new.items }
 {
     put(out, front)?;
     put_values(out, values)?;
@@ -74,7 +75,7 @@ fn put_between(out: &mut Vec<u8>, front: &[u8], values: &[Value], back: &[u8]) -
 
 /// Appends a refusal's text.
 pub fn put_refusal(out: &mut Vec<u8>, refusal: &Refusal) -> Result<(), Memory>
-    ensures ok { OnOk result (out.new.items ≡ out.old.items ++ refusal_text refusal.now) }
+    ensures puts { Puts result (refusal_text refusal.now) out.old.items out.new.items }
 {
     match refusal {
         Refusal::NoTable(name) => put_named(out, b"E1 no table ", name),
@@ -104,7 +105,7 @@ pub fn put_refusal(out: &mut Vec<u8>, refusal: &Refusal) -> Result<(), Memory>
 }
 
 fn put_cause(out: &mut Vec<u8>, cause: Cause) -> Result<(), Memory>
-    ensures { OnOk result (out.new.items ≡ out.old.items ++ cause_text cause) }
+    ensures { Puts result (cause_text cause) out.old.items out.new.items }
 {
     match cause {
         Cause::Died(holder) => put_numbered(out, b"died older ", holder),
@@ -126,8 +127,7 @@ pub(crate) struct Place {
 }
 
 fn put_place(out: &mut Vec<u8>, place: Place) -> Result<(), Memory>
-    ensures { OnOk result (out.new.items ≡ out.old.items
-        ++ place_text place.session place.statement) }
+    ensures { Puts result (place_text place.session place.statement) out.old.items out.new.items }
 {
     put_number(out, place.session)?;
     put_numbered(out, b".", place.statement)
@@ -148,25 +148,26 @@ impl Piece for Sequence<Cell> {
 }
 
 /// Appends words before a number, and the end of the line.
+#[tactic(auto, using(crate::proofs::Putting::putting))]
 fn put_count(out: &mut Vec<u8>, words: &[u8], count: u64) -> Result<(), Memory>
-    ensures { OnOk result (out.new.items ≡ out.old.items ++ (numbered words.now count ++ newline)) }
+    ensures { Puts result (numbered words.now count ++ newline) out.old.items out.new.items }
 {
     put_numbered(out, words, count)?;
     put(out, b"\n")
 }
 
 fn put_rows(out: &mut Vec<u8>, place: Place, rows: &[Sequence<Cell>]) -> Result<(), Memory>
-    ensures { OnOk result (out.new.items ≡ out.old.items
-        ++ (numbered (codes "rows ") (length rows.now) ++ newline
-        ++ flat_map (row_line place.session place.statement) rows.now)) }
+    ensures { Puts result (numbered (codes "rows ") (length rows.now) ++ newline
+        ++ flat_map (row_line place.session place.statement) rows.now) out.old.items out.new.items }
 {
     put_count(out, b"rows ", rows.len() as u64)?;
     put_each(out, place, rows)
 }
 
+#[tactic(auto, using(crate::proofs::Putting::putting))]
 fn put_body(out: &mut Vec<u8>, place: Place, reply: &Reply) -> Result<(), Memory>
-    ensures { OnOk result (out.new.items ≡ out.old.items
-        ++ body_text place.session place.statement reply.now) }
+    ensures { Puts result (body_text place.session place.statement reply.now)
+        out.old.items out.new.items }
 {
     match reply {
         Reply::Created => put(out, b"created\n"),

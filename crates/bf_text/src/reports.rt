@@ -1,7 +1,9 @@
 //! The text of a report.
 
-ghost use Rattle.std.specs.Prelude.{◌≡◌, ◌++◌, OnOk, IfOk};
+ghost use Rattle.std.specs.Prelude.{◌≡◌, ◌++◌, IfOk, codes};
 ghost use Rattle.std.specs.Option.{option_copied};
+ghost use Rattle.bf_text.specs.Puts.{Puts};
+ghost use Rattle.bf_text.specs.Replies.{numbered};
 ghost use Rattle.bf_text.specs.Report.{texts_from, session_text, outcome_text, entry_text, table_line, audit_text, commits_of, sweep_text, end_text, report_text};
 
 use crate::pieces::{
@@ -12,12 +14,25 @@ use bf_sql::{Entry, History, Outcome, Sweep, Transcripts};
 use std::alloc::Global;
 
 fn put_outcome(out: &mut Vec<u8>, outcome: Outcome) -> Result<(), Memory>
-    ensures { OnOk result (out.new.items ≡ out.old.items ++ outcome_text outcome) }
+    ensures { Puts result (outcome_text outcome) out.old.items out.new.items }
 {
     match outcome {
         Outcome::Committed(number) => put_numbered(out, b"committed ", number),
         Outcome::RolledBack => put(out, b"rolled back"),
     }
+}
+
+/// Appends a transaction's number, its session and its first and last statement.
+fn put_span(out: &mut Vec<u8>, number: u64, entry: &Entry) -> Result<(), Memory>
+    ensures { Puts result (numbered (codes "entry ") number
+        ++ numbered (codes " session ") entry.now.session
+        ++ numbered (codes " from ") entry.now.first ++ numbered (codes " to ") entry.now.last)
+        out.old.items out.new.items }
+{
+    put_numbered(out, b"entry ", number)?;
+    put_numbered(out, b" session ", u64::from(entry.session))?;
+    put_numbered(out, b" from ", u64::from(entry.first))?;
+    put_numbered(out, b" to ", u64::from(entry.last))
 }
 
 /// A transaction, by its number in the history.
@@ -27,10 +42,7 @@ impl Counted for Entry {
     ghost text = { λ _. entry_text };
 
     fn put_counted(&self, out: &mut Vec<u8>, _whole: (), number: u64) -> Result<(), Memory> {
-        put_numbered(out, b"entry ", number)?;
-        put_numbered(out, b" session ", u64::from(self.session))?;
-        put_numbered(out, b" from ", u64::from(self.first))?;
-        put_numbered(out, b" to ", u64::from(self.last))?;
+        put_span(out, number, self)?;
         put(out, b" ")?;
         put_outcome(out, self.outcome)?;
         put(out, b"\n")
@@ -50,8 +62,7 @@ impl Piece for (Name, u32) {
 }
 
 fn put_audit(out: &mut Vec<u8>, audit: Option<&[(Name, u32)]>) -> Result<(), Memory>
-    ensures { OnOk result (out.new.items ≡ out.old.items
-        ++ audit_text (option_copied audit.entry)) }
+    ensures { Puts result (audit_text (option_copied audit.entry)) out.old.items out.new.items }
 {
     match audit {
         Some(tables) => put_each(out, (), tables),
@@ -75,8 +86,8 @@ fn put_running(
     unit: u64,
     position: u64,
 ) -> Result<(), Memory>
-    ensures { OnOk result (out.new.items ≡ out.old.items
-        ++ sweep_text (Sweep.Running migration moved unit position)) }
+    ensures { Puts result (sweep_text (Sweep.Running migration moved unit position))
+        out.old.items out.new.items }
 {
     put_number(out, migration)?;
     put_numbered(out, b" moved ", moved)?;
@@ -85,7 +96,7 @@ fn put_running(
 }
 
 fn put_sweep(out: &mut Vec<u8>, sweep: Sweep) -> Result<(), Memory>
-    ensures { OnOk result (out.new.items ≡ out.old.items ++ sweep_text sweep) }
+    ensures { Puts result (sweep_text sweep) out.old.items out.new.items }
 {
     match sweep {
         Sweep::Never => put(out, b"none"),
@@ -109,7 +120,7 @@ fn put_sweep(out: &mut Vec<u8>, sweep: Sweep) -> Result<(), Memory>
 }
 
 fn put_end(out: &mut Vec<u8>, commits: u64, sweep: Sweep) -> Result<(), Memory>
-    ensures { OnOk result (out.new.items ≡ out.old.items ++ end_text commits sweep) }
+    ensures { Puts result (end_text commits sweep) out.old.items out.new.items }
 {
     put_numbered(out, b"end commits ", commits)?;
     put(out, b" migration ")?;
