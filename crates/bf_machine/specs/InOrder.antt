@@ -27,8 +27,11 @@ is_plain_script script = list_all (λ s. list_all (λ statement. not (is_migrate
 abbrev pub groups_in_order : Script → List (ℕ × (ℕ × ℕ))
 groups_in_order script = flat_map (λ s. map (λ group. (s, group)) (groups_in script s)) (range_with_len 1 (length script.sessions))
 
+-- the entry of a group, given as its session with its first and its last statement, and of an outcome
 abbrev pub entry_of : (ℕ × (ℕ × ℕ)) × Outcome → Entry
-entry_of ended = record { session = ended.0.0; first = ended.0.1.0; last = ended.0.1.1; outcome = ended.1 }
+entry_of ended =
+    let group = ended.0 in
+    record { session = group.0; first = group.1.0; last = group.1.1; outcome = ended.1 }
 
 -- HISTORY in order: an entry for each group, with the outcome that the text gives it
 abbrev pub entries_in_order : Script → List Entry
@@ -48,5 +51,5 @@ none_open session group = false
 pub record IsRun (script : Script) (transcripts : List (List Reply)) (history : List Entry) (sweep : Sweep) : Type 0 where
   pub history_legal : IsLegalHistory script NoCause none_open empty_database transcripts history
   pub all_answered : IsAllAnswered script transcripts
-  pub sessions_in_order : history ≡ entries_in_order script
+  pub entries_are_in_order : history ≡ entries_in_order script
   pub no_migration : sweep ≡ Never

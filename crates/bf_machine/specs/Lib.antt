@@ -1,6 +1,6 @@
 pub mod Actions
 pub mod InOrder
-pub mod Narrow
 pub mod Open
+pub mod Runnable
 pub mod Sessions
 pub mod Turns

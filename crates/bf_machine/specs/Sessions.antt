@@ -1,5 +1,5 @@
 -- How the statements of sessions follow one another, each group as a transaction: what the loops of a run owe.
-use Rattle.std.specs.Prelude.{ℕ, ◌+◌, ◌-◌, Bool, true, false, ◌&&◌, nat_le, List, [], ◌∷◌, ◌++◌, Option, Some, None}
+use Rattle.std.specs.Prelude.{ℕ, ◌+◌, ◌-◌, true, false, List, [], ◌∷◌, ◌++◌, Option, Some, None}
 use Rattle.bf_sql.specs.declared.statement.Statement.{Statement}
 use Rattle.bf_sql.specs.declared.statement.Statement.TheVariants.{Begin, Commit, Rollback}
 use Rattle.bf_sql.specs.declared.script.Session.{Session}
@@ -78,8 +78,3 @@ sessions_from number at (s ∷ ss) =
 -- the sessions of a script from a database on
 abbrev pub script_from : Database → Script → List (List Reply) × Standing × List Entry
 script_from start script = sessions_from 1 (at_rest 0 start) script.sessions
-
--- no session stands in an earlier phase than the one before it
-abbrev pub phases_rise_from : ℕ → List Session → Bool
-phases_rise_from phase [] = true
-phases_rise_from phase (s ∷ ss) = nat_le phase s.phase && phases_rise_from s.phase ss

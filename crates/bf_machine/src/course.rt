@@ -7,7 +7,7 @@ ghost use Rattle.bf_sql.specs.declared.history.Outcome.TheVariants.{Committed};
 ghost use Rattle.bf_sql.specs.Database.{IsDatabase, empty_database};
 ghost use Rattle.bf_store.specs.Stores.{catalog_of, committed};
 ghost use Rattle.bf_machine.specs.InOrder.{is_migrate};
-ghost use Rattle.bf_machine.specs.Narrow.{is_narrow_statement};
+ghost use Rattle.bf_machine.specs.Runnable.{is_narrow_statement};
 ghost use Rattle.bf_machine.specs.Open.{IsOpen};
 ghost use Rattle.bf_machine.specs.Sessions.{at_rest, ended, inside, outside, session_from};
 ghost use Rattle.bf_machine.specs.Turns.{HasTaken, MayBeOpen, standing};
@@ -39,7 +39,7 @@ struct Place {
 }
 
 /// The committed tables, the transactions that have ended, in order, and how many of them have
-/// committed.
+/// committed. After an error it is not used again: tables may have changed that no entry tells of.
 #[derive(Drop)]
 pub(crate) struct Course {
     alloc: Global,
@@ -137,7 +137,8 @@ impl Course {
         }
     }
 
-    /// Runs a statement in a block, which may end it.
+    /// Runs a statement in a block, which may end it. COMMIT costs what the block has written; the others
+    /// what the statement does.
     fn step_inside(
         &mut self,
         place: Place,

@@ -5,11 +5,13 @@ ghost use Rattle.bf_sql.specs.declared.script.Script.{Script};
 ghost use Rattle.bf_sql.specs.Database.{Database};
 ghost use Rattle.bf_sql.specs.History.{IsAllAnswered, IsLegalHistory};
 ghost use Rattle.bf_machine.specs.InOrder.{NoCause, entries_in_order, none_open};
-ghost use Rattle.bf_machine.specs.Sessions.{phases_rise_from, script_from};
+ghost use Rattle.bf_machine.specs.Runnable.{phases_rise_from};
+ghost use Rattle.bf_machine.specs.Sessions.{script_from};
 
 /// Sessions that run in the order of their script, each group of statements as a transaction, have legal
 /// transcripts and a legal history, in which no group is ended by a cause and none is open, and every
-/// statement has its reply. It holds of scripts with a MIGRATE too.
+/// statement has its reply. Legality asks that no session stands in an earlier phase than the one before
+/// it, as in every script that is read. It holds of scripts with a MIGRATE too.
 pub fn a_run_in_order_is_legal()
     ensures legal { (script : Script) (start : Database)
         → IsTrue (phases_rise_from 0 script.sessions)

@@ -5,7 +5,7 @@
 mod course;
 pub mod laws;
 mod lone;
-pub mod scripts;
+mod scripts;
 mod transaction;
 
 pub use scripts::{Run, in_order, is_plain};

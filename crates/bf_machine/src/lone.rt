@@ -3,7 +3,7 @@
 ghost use Rattle.std.specs.Prelude.{◌≡◌, ℕ, false, IfOk, IsTrue, OnErr, OnOk};
 ghost use Rattle.bf_bind.specs.Limits.{HasNarrowTables, KeepsLimits};
 ghost use Rattle.bf_sql.specs.Meaning.{executed};
-ghost use Rattle.bf_store.specs.Plain.{is_plain};
+ghost use Rattle.bf_store.specs.Alone.{is_alone};
 ghost use Rattle.bf_store.specs.Stores.{catalog_of};
 
 use crate::transaction::run_on_table;
@@ -19,13 +19,14 @@ use std::alloc::Global;
 /// CREATE moves the tables or the index rules behind the new one.
 ///
 /// # Errors
-/// Where memory runs out, or 2 ^ 64 schema changes were made. The store is as it was then.
+/// Where memory runs out, 2 ^ 32 rows or more change, or 2 ^ 64 schema changes were made. The store is as
+/// it was then.
 pub(crate) fn execute(
     alloc: Global,
     store: &mut Store,
     statement: &Statement,
 ) -> Result<Reply, Memory>
-    requires plain { IsTrue (is_plain statement.now) }
+    requires plain { IsTrue (is_alone statement.now) }
     requires limits { KeepsLimits (catalog_of store.old) statement.now }
     ensures replies { IfOk result (λ reply. (commit : ℕ)
         → executed commit store.old false statement.now ≡ (reply, store.new)) }

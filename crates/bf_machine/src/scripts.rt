@@ -5,8 +5,8 @@ ghost use Rattle.std.specs.List.{list_all};
 ghost use Rattle.bf_bind.specs.Limits.{HasNarrowTables};
 ghost use Rattle.bf_store.specs.Stores.{catalog_of};
 ghost use Rattle.bf_machine.specs.InOrder.{IsRun, is_migrate, is_plain_script};
-ghost use Rattle.bf_machine.specs.Narrow.{is_narrow_script, is_narrow_statement};
-ghost use Rattle.bf_machine.specs.Sessions.{at_rest, phases_rise_from, sessions_from};
+ghost use Rattle.bf_machine.specs.Runnable.{is_narrow_script, is_narrow_statement, phases_rise_from};
+ghost use Rattle.bf_machine.specs.Sessions.{at_rest, sessions_from};
 
 use crate::course::{Course, next_number};
 use bf_base::{Memory, Sequence};
@@ -64,7 +64,8 @@ fn run_sessions(
 
 /// Runs a plain script from the empty database, session after session: a block as one transaction,
 /// and each statement outside a block as one of its own. A block that its session leaves open is
-/// rolled back. It costs what the statements do.
+/// rolled back. It costs what the statements do; in a block each write to a new key moves 8 bytes for
+/// each of the block's writes behind it.
 ///
 /// # Errors
 /// Where memory runs out, or a number of a session or statement is 2 ^ 32 or above.

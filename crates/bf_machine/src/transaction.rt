@@ -26,10 +26,13 @@ pub(crate) struct Transaction {
 }
 
 /// Runs a bound SELECT, INSERT, UPDATE or DELETE on the rows that its transaction sees: the committed
-/// ones under what it has written. A change is written to the workspace alone.
+/// ones under what it has written. A change is written to the workspace alone. It costs what the
+/// statement reads and writes of its table; a write to a new key moves 8 bytes for each write of its
+/// transaction behind it.
 ///
 /// # Errors
-/// Where memory runs out. The workspace may have some of the statement's writes then.
+/// Where memory runs out, or 2 ^ 32 rows or more change. The workspace may have some of the statement's
+/// writes then.
 pub(crate) fn run_on_table(
     alloc: Global,
     store: &Store,
@@ -54,10 +57,11 @@ pub(crate) fn run_on_table(
 }
 
 /// Runs a statement of a block that leaves it open. BEGIN, CREATE and MIGRATE are refused there. It
-/// costs the binding, and what the statement reads and writes of its table.
+/// costs the binding, and what [`run_on_table`] does.
 ///
 /// # Errors
-/// Where memory runs out. The workspace may have some of the statement's writes then.
+/// Where memory runs out, or 2 ^ 32 rows or more change. The workspace may have some of the statement's
+/// writes then.
 pub(crate) fn execute_in_block(
     alloc: Global,
     store: &Store,

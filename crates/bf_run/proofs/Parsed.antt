@@ -18,8 +18,7 @@ use Rattle.bf_parse.specs.Steps.{Step, Say, Limit, Part, Migration, Session as S
 use Rattle.bf_parse.specs.Rules.{Rule, Return, Either, Others, no_other, other, Listed}
 use Rattle.bf_parse.specs.Statements.{AfterKeyword, ColumnRuleRule, TableRule, IndexRuleRule, InsertRule, SelectRule, UpdateRule, DeleteRule, OrdinaryRule}
 use Rattle.bf_parse.specs.Scripts.{Statements, no_statement, ordinary, migrate, Progress, with_session, with_phase, nothing_yet, Sessions, no_session, session, Phases, no_phase, phase, IsScriptText}
-use Rattle.bf_machine.specs.Sessions.{phases_rise_from}
-use Rattle.bf_machine.specs.Narrow.{is_narrow_statement, is_narrow_script}
+use Rattle.bf_machine.specs.Runnable.{is_narrow_statement, is_narrow_script, phases_rise_from}
 
 -- one more session, in a phase that is not before that of any
 rise_one_more : (low : ℕ) (ss : List Session) (s : Session) → phases_rise_from low ss ≡ true

@@ -3,8 +3,7 @@
 ghost use Rattle.std.specs.Prelude.{◌≡◌, IfOk, IsTrue, map};
 ghost use Rattle.std.specs.Option.{option_map};
 ghost use Rattle.bf_machine.specs.InOrder.{IsRun, is_plain_script};
-ghost use Rattle.bf_machine.specs.Narrow.{is_narrow_script};
-ghost use Rattle.bf_machine.specs.Sessions.{phases_rise_from};
+ghost use Rattle.bf_machine.specs.Runnable.{is_narrow_script, phases_rise_from};
 ghost use Rattle.bf_run.specs.Answers.{FindsForm, IsAnswerTo, Tells};
 ghost use Rattle.bf_run.specs.Outcome.{Ends, IsAnswer, fault_text};
 

@@ -1,5 +1,5 @@
+pub mod Alone
 pub mod Changes
 pub mod Examples
 pub mod Places
-pub mod Plain
 pub mod Stores

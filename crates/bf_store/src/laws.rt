@@ -4,12 +4,12 @@ ghost use Rattle.std.specs.Prelude.{ℕ, IsTrue, false};
 ghost use Rattle.bf_sql.specs.declared.statement.Statement.{Statement};
 ghost use Rattle.bf_sql.specs.Database.{Database, IsDatabase, empty_database};
 ghost use Rattle.bf_sql.specs.Meaning.{executed};
-ghost use Rattle.bf_store.specs.Plain.{is_plain};
+ghost use Rattle.bf_store.specs.Alone.{is_alone};
 
-/// The empty database is one, and a plain statement outside a block leaves a database a database,
-/// refused or not.
+/// The empty database is one, and a statement that is a transaction of its own and no MIGRATE leaves a
+/// database a database, refused or not.
 pub fn statements_keep_a_database()
     ensures empty { IsDatabase empty_database }
-    ensures next { (commit : ℕ) (db : Database) (s : Statement) → IsTrue (is_plain s)
+    ensures next { (commit : ℕ) (db : Database) (s : Statement) → IsTrue (is_alone s)
         → IsDatabase db → IsDatabase (executed commit db false s).1 }
 {}

@@ -6,7 +6,8 @@ use Rattle.bf_sql.specs.declared.history.Entry.{Entry}
 use Rattle.bf_sql.specs.Database.{Database}
 use Rattle.bf_sql.specs.History.{apart, replayed, told, IsAllAnswered, IsApart, IsLegalHistory}
 use Rattle.bf_machine.specs.InOrder.{NoCause, none_open, entries_in_order}
-use Rattle.bf_machine.specs.Sessions.{at_rest, phases_rise_from, script_from}
+use Rattle.bf_machine.specs.Runnable.{phases_rise_from}
+use Rattle.bf_machine.specs.Sessions.{at_rest, script_from}
 use Rattle.bf_machine.proofs.order.Places.{at_start}
 use Rattle.bf_machine.proofs.order.Entries.{groups_at, all_entered}
 use Rattle.bf_machine.proofs.order.Whole.{all_whole, all_outcomes}

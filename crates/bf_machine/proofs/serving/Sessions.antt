@@ -11,7 +11,7 @@ use Rattle.bf_sql.specs.Database.{Database}
 use Rattle.bf_store.specs.Stores.{catalog_of, committed}
 use Rattle.bf_machine.specs.declared.transaction.Transaction.{Transaction}
 use Rattle.bf_machine.specs.InOrder.{is_migrate}
-use Rattle.bf_machine.specs.Narrow.{is_narrow_statement}
+use Rattle.bf_machine.specs.Runnable.{is_narrow_statement}
 use Rattle.bf_machine.specs.Sessions.{Standing, Turn, at_rest, inside, outside, session_from, sessions_from, stepped}
 use Rattle.bf_machine.specs.Turns.{HasTaken, MayBeOpen, standing}
 use Rattle.bf_machine.proofs.serving.Steps.{behind, item_here, turn_first}

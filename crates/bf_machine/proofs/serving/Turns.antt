@@ -11,7 +11,7 @@ use Rattle.bf_sql.specs.declared.history.Outcome.TheVariants.{Committed}
 use Rattle.bf_sql.specs.declared.history.Entry.{Entry}
 use Rattle.bf_sql.specs.Database.{Database, IsDatabase}
 use Rattle.bf_sql.specs.Meaning.{executed}
-use Rattle.bf_store.specs.Plain.{is_plain}
+use Rattle.bf_store.specs.Alone.{is_alone}
 use Rattle.bf_store.specs.Stores.{catalog_of, committed}
 use Rattle.bf_store.proofs.keeps.Statements.{keeps_plain}
 use Rattle.bf_txn.specs.declared.write.Write.{Write}
@@ -23,7 +23,7 @@ use Rattle.bf_machine.proofs.statements.Seeing.{nothing_written}
 
 -- what is no MIGRATE and no word of a block is a transaction of its own
 pub plain_otherwise : (s : Statement) → not (is_migrate s) ≡ true → (s ≡ Begin → ⊥) → (s ≡ Commit → ⊥) → (s ≡ Rollback → ⊥)
-    → is_plain s ≡ true
+    → is_alone s ≡ true
 plain_otherwise Begin still begin commit rollback = absurd (begin refl)
 plain_otherwise Commit still begin commit rollback = absurd (commit refl)
 plain_otherwise Rollback still begin commit rollback = absurd (rollback refl)
@@ -37,7 +37,7 @@ goes_on_otherwise Rollback commit rollback = absurd (rollback refl)
 goes_on_otherwise s commit rollback = refl
 
 -- a plain statement leaves a database, also where it gives up
-pub still_database : {E : Type 0} (db new : Database) (s : Statement) → is_plain s ≡ true → IsDatabase db → (result : Result Reply E)
+pub still_database : {E : Type 0} (db new : Database) (s : Statement) → is_alone s ≡ true → IsDatabase db → (result : Result Reply E)
     → IfOk result (λ reply. (commit : ℕ) → executed commit db false s ≡ (reply, new)) → OnErr result (new ≡ db) → IsDatabase new
 still_database db new s plain is (Ok answer) meant same = subst IsDatabase (ap (λ (p : Reply × Database). p.1) (meant 0)) (keeps_plain 0 db s plain is)
 still_database db new s plain is (Err e) meant same = rw same is
@@ -47,7 +47,7 @@ pub narrow_at : (at : Standing) (commits : ℕ) (db : Database) → at ≡ at_re
 narrow_at at commits db stands narrow = rw stands narrow
 
 module _ (session n commits : ℕ) (db : Database) where
-  outside_plain : (s : Statement) → is_plain s ≡ true → outside session n commits db s ≡ alone session n commits db s
+  outside_plain : (s : Statement) → is_alone s ≡ true → outside session n commits db s ≡ alone session n commits db s
   outside_plain Begin plain = absurd cc
   outside_plain Commit plain = absurd cc
   outside_plain Rollback plain = absurd cc
@@ -70,7 +70,7 @@ module _ (session n commits : ℕ) (db : Database) where
   })
 
   -- a plain statement outside a block is a transaction, which commits
-  pub alone_taken : (s : Statement) → is_plain s ≡ true → (answer : Reply) (new : Database)
+  pub alone_taken : (s : Statement) → is_alone s ≡ true → (answer : Reply) (new : Database)
       → ((commit : ℕ) → executed commit db false s ≡ (answer, new))
       → (next : Standing) (before after : List Entry) → next ≡ at_rest (commits + 1) new
       → after ≡ before ++ ended session n n (Committed (commits + 1))

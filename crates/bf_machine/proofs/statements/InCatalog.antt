@@ -14,7 +14,7 @@ use Rattle.bf_sql.specs.Database.{Database, IsDatabase}
 use Rattle.bf_sql.specs.Meaning.{executed}
 use Rattle.bf_query.specs.Actions.{table_of}
 use Rattle.bf_query.specs.Meanings.{IsBoundAs}
-use Rattle.bf_store.specs.Plain.{is_plain}
+use Rattle.bf_store.specs.Alone.{is_alone}
 use Rattle.bf_store.specs.Stores.{catalog_of, committed}
 use Rattle.bf_txn.specs.declared.write.Write.{Write}
 use Rattle.bf_machine.specs.Actions.{IsOn}
@@ -42,7 +42,7 @@ module _ (db : Database) (writes : List Write) (opened : IsOpen db writes) (in_b
   on_its_table table on = is_on (committed db writes) in_block s bound.action table (bound_on table on) on
 
 -- a plain statement outside a block
-module _ (db : Database) (database : IsDatabase db) (s : Statement) (plain : is_plain s ≡ true)
+module _ (db : Database) (database : IsDatabase db) (s : Statement) (plain : is_alone s ≡ true)
     (catalog : Catalog) (same : catalog ≡ catalog_of db) (bound : Bound) (is : bound_of (bare catalog) false s ≡ Some bound) where
   alone : IsBoundIn db false s bound
   alone = bound_in db false s bound catalog same database (not_planned s plain) is

@@ -15,12 +15,12 @@ use Rattle.bf_sql.specs.Meaning.{effect, executed, unless_refused}
 use Rattle.bf_sql.specs.Objections.{objections}
 use Rattle.bf_sql.specs.RowObjections.{row_objections}
 use Rattle.bf_query.specs.Meanings.{IsBoundAs}
-use Rattle.bf_store.specs.Plain.{is_plain}
+use Rattle.bf_store.specs.Alone.{is_alone}
 use Rattle.bf_store.specs.Stores.{catalog_of}
 use Rattle.bf_machine.proofs.statements.Bare.{same_bound}
 
 -- a plain statement is no MIGRATE
-pub not_planned : (s : Statement) → is_plain s ≡ true → is_planned false s ≡ false
+pub not_planned : (s : Statement) → is_alone s ≡ true → is_planned false s ≡ false
 not_planned (Migrate migrate) plain = absurd cc
 not_planned other plain = refl
 

@@ -9,7 +9,7 @@ use Rattle.bf_sql.specs.Meaning.{effect, executed, unless_refused}
 use Rattle.bf_sql.specs.Objections.{objections}
 use Rattle.bf_sql.specs.RowObjections.{row_objections}
 use Rattle.bf_query.proofs.Effects.{nothing_before}
-use Rattle.bf_store.specs.Plain.{is_plain}
+use Rattle.bf_store.specs.Alone.{is_alone}
 use Rattle.bf_store.proofs.keeps.Changes.{keeps_insert, keeps_update, keeps_delete}
 use Rattle.bf_store.proofs.keeps.New.{keeps_create_table, keeps_create_index}
 
@@ -41,7 +41,7 @@ module _ (commit : ℕ) (db : Database) where
   by_change s is after = where_admitted (objections db false s) (row_objections db s) db (λ _. effect commit db s) is after
 
   -- a plain statement outside a block
-  pub keeps_plain : (s : Statement) → is_plain s ≡ true → IsDatabase db → IsDatabase (executed commit db false s).1
+  pub keeps_plain : (s : Statement) → is_alone s ≡ true → IsDatabase db → IsDatabase (executed commit db false s).1
   keeps_plain (CreateTable name rules key) plain is = by_effect (CreateTable name rules key) is (keeps_create_table db name rules key is)
   keeps_plain (CreateIndex name table columns) plain is = by_effect (CreateIndex name table columns) is (keeps_create_index db name table columns is)
   keeps_plain (Insert table tuples) plain is = by_change (Insert table tuples) is (keeps_insert commit db false is table tuples)

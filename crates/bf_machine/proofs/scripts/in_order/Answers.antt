@@ -7,7 +7,8 @@ use Rattle.bf_sql.specs.declared.history.Entry.{Entry}
 use Rattle.bf_sql.specs.declared.history.Sweep.TheVariants.{Never}
 use Rattle.bf_sql.specs.Database.{empty_database}
 use Rattle.bf_machine.specs.InOrder.{IsRun}
-use Rattle.bf_machine.specs.Sessions.{Standing, phases_rise_from, script_from, sessions_from}
+use Rattle.bf_machine.specs.Runnable.{phases_rise_from}
+use Rattle.bf_machine.specs.Sessions.{Standing, script_from, sessions_from}
 use Rattle.bf_machine.proofs.order.Legal.{run_is_answered, run_is_entered, run_is_legal}
 use Rattle.bf_machine.proofs.scripts.in_order.Goals as goal
 
@@ -20,7 +21,7 @@ is_run script rise transcripts history told noted =
     record {
       history_legal = rw (told, entered) (run_is_legal script empty_database rise);
       all_answered = rw told (run_is_answered script empty_database);
-      sessions_in_order = entered;
+      entries_are_in_order = entered;
       no_migration = refl;
     }
 

@@ -4,9 +4,9 @@ use Rattle.bf_sql.specs.declared.statement.Statement.{Statement}
 use Rattle.bf_sql.specs.declared.statement.Statement.TheVariants.{Begin, Commit, Rollback, Migrate}
 
 -- neither a word of a block nor a MIGRATE
-abbrev pub is_plain : Statement → Bool
-is_plain Begin = false
-is_plain Commit = false
-is_plain Rollback = false
-is_plain (Migrate migrate) = false
-is_plain other = true
+abbrev pub is_alone : Statement → Bool
+is_alone Begin = false
+is_alone Commit = false
+is_alone Rollback = false
+is_alone (Migrate migrate) = false
+is_alone other = true
