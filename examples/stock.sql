@@ -1,4 +1,4 @@
--- Plain statements, by two sessions: each statement is a transaction of its own.
+-- Statements outside blocks, by two sessions: each is a transaction of its own.
 PHASE;
 SESSION;
 CREATE TABLE stock (

@@ -1,4 +1,4 @@
--- A transfer between two accounts in one block, and one that is rolled back.
+-- A transfer between two accounts in one block, and a removal that is rolled back.
 PHASE;
 SESSION;
 CREATE TABLE account (id INT, balance INT, PRIMARY KEY (id));
