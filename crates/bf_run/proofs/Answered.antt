@@ -1,5 +1,5 @@
 -- The answer to the bytes that were read is the answer to the source that gave them.
-use Rattle.std.proofs.Common.{◌≡◌, ℕ, ◌≤◌, true, List, length, inl, Ok, Err}
+use Rattle.std.proofs.Common.{◌≡◌, ℕ, ◌≤◌, true, List, length, inl, Err}
 use Rattle.std.specs.Io.KnownBytes.{IsAtEnd}
 use Rattle.bf_io.specs.Whole.{IfTold}
 use Rattle.bf_parse.specs.Scripts.{IsScriptText, longest_script}
