@@ -21,7 +21,7 @@ use Rattle.bf_machine.specs.Actions.{IsOn}
 use Rattle.bf_machine.specs.Open.{IsOpen, IsStep}
 use Rattle.bf_machine.proofs.statements.Creating.{Creates, CreatesIndex, creates, creates_index}
 use Rattle.bf_machine.proofs.statements.OnTables.{is_on, no_refusal}
-use Rattle.bf_machine.proofs.statements.Outcomes.{IsBoundIn, as_bound, bound_in, bound_to, not_planned, refused}
+use Rattle.bf_machine.proofs.statements.Outcomes.{IsBoundIn, as_bound, bound_in, bound_to, not_planned, refused, refused_writes}
 use Rattle.bf_machine.proofs.statements.Seeing.{begun, same_catalog}
 
 module _ (db : Database) (writes : List Write) (opened : IsOpen db writes) (in_block : Bool) (s : Statement) (planned : is_planned in_block s ≡ false)
@@ -32,7 +32,11 @@ module _ (db : Database) (writes : List Write) (opened : IsOpen db writes) (in_b
 
   -- a refusal is a step that writes nothing
   pub refused_step : (r : Refusal) → bound.action ≡ action.Refused r → IsStep db writes writes in_block s (reply.Refused r)
-  refused_step r act = record { meant = refused (committed db writes) in_block s bound r within act; is_open = opened }
+  refused_step r act = record {
+    meant = refused (committed db writes) in_block s bound r within act;
+    writes = refused_writes (committed db writes) in_block s bound r within act writes;
+    is_open = opened;
+  }
 
   -- an action on a table is bound on what the transaction sees of it
   pub bound_on : (table : Table) → table_of bound.action ≡ Some table → IsBoundAs (committed db writes) in_block s bound.action

@@ -1,5 +1,7 @@
 -- What a statement is bound to says what it does: it is refused, or nothing stands in its way.
-use Rattle.std.proofs.Common.{◌≡◌, ◌≢◌, ℕ, Bool, true, false, List, [], ◌∷◌, ◌++◌, Option, Some, None, option_map, refl, sym, ap, subst, ◌∙◌}
+use Rattle.std.proofs.Common.{◌≡◌, ◌≢◌, ℕ, Bool, true, false, List, [], ◌∷◌, ◌++◌, Option, Some, None, option_map, unwrap_or, refl, sym, ap, ap₂, subst, ◌∙◌}
+use Rattle.std.specs.Prelude.{option_and_then}
+use Rattle.bf_base.specs.declared.table.Table.{Table}
 use Rattle.bf_bind.specs.Limits.{is_planned}
 use Rattle.bf_sql.specs.declared.bound.Action.{Action}
 use Rattle.bf_sql.specs.declared.bound.Action.TheVariants as action
@@ -14,9 +16,12 @@ use Rattle.bf_sql.specs.Database.{Database, IsDatabase}
 use Rattle.bf_sql.specs.Meaning.{effect, executed, unless_refused}
 use Rattle.bf_sql.specs.Objections.{objections}
 use Rattle.bf_sql.specs.RowObjections.{row_objections}
-use Rattle.bf_query.specs.Meanings.{IsBoundAs}
+use Rattle.bf_query.specs.Actions.{table_of}
+use Rattle.bf_query.specs.Meanings.{IsBoundAs, writes_after}
 use Rattle.bf_store.specs.Alone.{is_alone}
 use Rattle.bf_store.specs.Stores.{catalog_of}
+use Rattle.bf_txn.specs.declared.write.Write.{Write}
+use Rattle.bf_machine.specs.Open.{writes_behind}
 use Rattle.bf_machine.proofs.statements.Bare.{same_bound}
 
 -- a plain statement is no MIGRATE
@@ -89,6 +94,25 @@ module _ (db : Database) (in_block : Bool) (s : Statement) where
   as_bound bound within not =
       let parts = bound_by (objections db in_block s) bound.action not (action_is db in_block s bound within) in
       record { database = within.database; admitted = parts.0; action = parts.1 }
+
+  -- the writes behind a statement, by the action that it is bound to
+  abbrev written_by : List Write → Option Action → List Write
+  written_by before act =
+      unwrap_or (option_and_then (λ (b : Bound). option_map (λ (t : Table). writes_after db t before b.action) (table_of b.action))
+      (option_map (λ (a : Action). record { catalog = db.number; schema_change = changes_schema in_block s; action = a }) act)) before
+
+  -- a refused statement writes nothing
+  pub refused_writes : (bound : Bound) (r : Refusal) → IsBoundIn db in_block s bound → bound.action ≡ action.Refused r
+      → (before : List Write) → before ≡ writes_behind db before in_block s
+  refused_writes bound r within act before =
+      sym (ap (written_by before) (action_is db in_block s bound within ∙ ap Some act))
+
+  -- any other writes what its action does on its table
+  pub writes_of_action : (act : Action) (table : Table) → IsBoundAs db in_block s act → table_of act ≡ Some table
+      → (before : List Write) → writes_behind db before in_block s ≡ writes_after db table before act
+  writes_of_action act table bound on before =
+      ap₂ (λ (rs : List Refusal) (o : Option Action). written_by before (unless_objected rs o)) bound.admitted bound.action
+      ∙ ap (λ (o : Option Table). unwrap_or (option_map (λ (t : Table). writes_after db t before act) o) before) on
 
   pub bound_to : (bound : Bound) (act : Action) → IsBoundIn db in_block s bound → ((r : Refusal) → act ≢ action.Refused r)
       → bound.action ≡ act → IsBoundAs db in_block s act

@@ -1,11 +1,13 @@
 -- What a statement replies and writes in an open transaction is a step of it.
-use Rattle.std.proofs.Common.{◌≡◌, ℕ, Bool, false, List, [], Some, option_map, Result, Ok, Err, sym, ap, ap₂, subst, ◌∙◌}
+use Rattle.std.proofs.Common.{◌≡◌, ℕ, Bool, false, List, [], ◌∷◌, Some, option_map, Result, Ok, Err, refl, sym, ap, ap₂, subst, ◌∙◌}
 use Rattle.std.specs.Prelude.{IfOk, OnOk}
 use Rattle.std.proofs.lemmas.Option.{same_Some}
 use Rattle.bf_base.specs.declared.value.Value.{Value}
 use Rattle.bf_base.specs.declared.table.Table.{Table}
 use Rattle.bf_heap.specs.Heaps.{Entry}
 use Rattle.bf_sql.specs.declared.bound.Action.{Action}
+use Rattle.bf_sql.specs.declared.bound.Action.TheVariants as action
+use Rattle.bf_sql.specs.declared.reply.Refusal.{Refusal}
 use Rattle.bf_sql.specs.declared.reply.Reply.{Reply}
 use Rattle.bf_sql.specs.declared.statement.Statement.{Statement}
 use Rattle.bf_sql.specs.Database.{Database, IsDatabase, stored_at, table_rows}
@@ -18,7 +20,18 @@ use Rattle.bf_txn.specs.declared.write.Write.{Write}
 use Rattle.bf_machine.specs.Open.{IsOpen, IsStep}
 use Rattle.bf_machine.proofs.statements.Committing.{committed_means, stays_open}
 use Rattle.bf_machine.proofs.statements.OnTables.{is_on, rows_there, writes_there}
+use Rattle.bf_machine.proofs.statements.Outcomes.{writes_of_action}
 use Rattle.bf_machine.proofs.statements.Seeing.{nothing_written}
+
+-- a SELECT writes nothing
+no_writes : (writes : List Write) (rows : List (List Value)) (act : Action) → IsSelect act
+    → written (objections_on rows act) writes (writes_of rows act) ≡ writes
+no_writes writes rows (action.Select t items c fixed) select = unwritten (objections_on rows (action.Select t items c fixed))
+  where
+    unwritten : (rs : List Refusal) → written rs writes [] ≡ writes
+    unwritten [] = refl
+    unwritten (r ∷ rs) = refl
+no_writes writes rows other select = absurd select
 
 -- a statement that is bound in what an open transaction sees, on the entries of its table's heap
 module _ (db : Database) (writes : List Write) (is : IsDatabase db) (opened : IsOpen db writes) (in_block : Bool) (s : Statement) (act : Action) (table : Table)
@@ -35,6 +48,9 @@ module _ (db : Database) (writes : List Write) (is : IsDatabase db) (opened : Is
         let law = select_law commit (committed db writes) in_block s act table bound select on_table in
         let same = sym law.0 ∙ ap (λ (rs : List (List Value)). select_reply rs act) (sym rows) ∙ told in
         ap₂ (λ (r : Reply) (d : Database). (r, d)) (same_Some _ _ same) law.1;
+    writes =
+        sym (writes_of_action (committed db writes) in_block s act table bound on_table writes
+        ∙ no_writes writes (table_rows (committed db writes) table.name) act select);
     is_open = opened;
   }
 
@@ -46,6 +62,7 @@ module _ (db : Database) (writes : List Write) (is : IsDatabase db) (opened : Is
         let same = sym law ∙ ap (λ (rs : List (List Value)). change_reply rs act) (sym rows) ∙ told in
         ap₂ (λ (r : Reply) (d : Database). (r, d)) (same_Some _ _ same)
         (sym (committed_means db writes is opened in_block s act table bound change on_table commit));
+    writes = sym (writes_of_action (committed db writes) in_block s act table bound on_table writes);
     is_open = stays_open db writes is opened in_block s act table bound change on_table;
   }
 
