@@ -12,10 +12,10 @@ use Rattle.bf_base.specs.declared.table.Column.{Column}
 use Rattle.bf_base.specs.declared.table.Table.{Table}
 use Rattle.bf_base.specs.Lists.{same_name, has}
 use Rattle.bf_base.specs.Tables.{kind_admitted}
-use Rattle.bf_expr.specs.declared.raw.Ref.{Ref}
+use Rattle.bf_tree.specs.declared.raw.Ref.{Ref}
 use Rattle.bf_sql.specs.Objections.{column_names}
 use Rattle.bf_sql.specs.Scopes.{scope_of, is_qualified_by, places_of, unqualified, qualifier_objections, ref_objections}
-use Rattle.bf_sql.specs.declared.reply.Refusal.TheVariants as refusal
+use Rattle.bf_tree.specs.declared.reply.Refusal.TheVariants as refusal
 use Rattle.bf_bind.specs.Parts.{column_of, means}
 
 -- whether an item passes is told by the first that does

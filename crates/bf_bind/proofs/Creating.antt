@@ -6,10 +6,10 @@ use Rattle.std.proofs.lemmas.Simd.{map-map}
 use Rattle.bf_base.specs.declared.table.Column.{Column}
 use Rattle.bf_base.specs.declared.table.Table.{Table}
 use Rattle.bf_sql.specs.Database.{Database, Stored, stored_at}
-use Rattle.bf_bind.specs.Limits.{bare_table}
+use Rattle.bf_bind.specs.Limits.{table_without_rows}
 use Rattle.bf_sql.specs.Objections.{names_objections, new_table_objections, rule_names, rules_objections}
-use Rattle.bf_sql.specs.declared.statement.ColumnRule.{ColumnRule}
-use Rattle.bf_sql.specs.declared.stop.Stop.{Stop}
+use Rattle.bf_tree.specs.declared.statement.ColumnRule.{ColumnRule}
+use Rattle.bf_tree.specs.declared.statement_error.StatementError.{StatementError}
 use Rattle.bf_bind.specs.Parts.{new_column}
 use Rattle.bf_bind.specs.Stops.{Stops}
 
@@ -24,10 +24,10 @@ module _ (db : Database) (name : List ℕ) (rules : List ColumnRule) (key : List
     pub new_table-unobjected : names_objections (names columns) key ≡ [] → new_table_objections db name rules key ≡ []
     new_table-unobjected none = rw (free, allowed, ← names-new rules columns e, none)
 
-    pub new_table-stops : (stop : Stop) → Stops stop (names_objections (names columns) key) → Stops stop (new_table_objections db name rules key)
+    pub new_table-stops : (stop : StatementError) → Stops stop (names_objections (names columns) key) → Stops stop (new_table_objections db name rules key)
     new_table-stops stop h = rw (free, allowed, ← names-new rules columns e) h
 
 -- no table was found under a name
-pub free_name : (o : Option (Bor Table)) (found : Option Stored) → found ≡ option_map bare_table (option_copied o) → false ≡ is_some o → is_some found ≡ false
+pub free_name : (o : Option (Bor Table)) (found : Option Stored) → found ≡ option_map table_without_rows (option_copied o) → false ≡ is_some o → is_some found ≡ false
 free_name None found e free = rw e
 free_name (Some table) found e free = absurd cc

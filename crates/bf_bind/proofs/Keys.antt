@@ -3,7 +3,7 @@ use Rattle.std.proofs.Common.{◌≡◌, ℕ, List, [], ◌∷◌, ◌++◌, map
 use Rattle.std.specs.List.{cons_option, filter_map}
 use Rattle.std.specs.Option.{option_map}
 use Rattle.bf_base.specs.declared.value.Value.{Value}
-use Rattle.bf_expr.specs.Trees.{Cond, both}
+use Rattle.bf_tree.specs.Trees.{Cond, both}
 use Rattle.bf_sql.specs.Conditions.{all_there, conjuncts, value_fixed}
 use Rattle.bf_bind.specs.Parts.{first_fixed}
 

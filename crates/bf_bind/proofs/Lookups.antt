@@ -11,11 +11,12 @@ use Rattle.bf_base.specs.declared.table.Table.{Table}
 use Rattle.bf_base.specs.Lists.{has, name_cmp, rises, same_name}
 use Rattle.bf_base.proofs.Names.{name_cmp_total, same_name-tie}
 use Rattle.bf_base.proofs.Order.{has-at, has-none, list_any-map, look_up, look_up-at, look_up-none, searchable_from_rises}
-use Rattle.bf_sql.specs.declared.catalog.Catalog.{Catalog}
-use Rattle.bf_sql.specs.declared.catalog.IndexRule.{IndexRule}
-use Rattle.bf_sql.specs.Bound.{bare}
+use Rattle.bf_tree.specs.declared.catalog.Catalog.{Catalog}
+use Rattle.bf_tree.specs.declared.catalog.IndexRule.{IndexRule}
+use Rattle.bf_sql.specs.Bound.{without_rows}
 use Rattle.bf_sql.specs.Database.{IsDatabase, Stored, stored_at}
-use Rattle.bf_bind.specs.Limits.{HasNarrowTables, bare_table, is_narrow}
+use Rattle.bf_tree.specs.Limits.{HasNarrowTables, is_narrow}
+use Rattle.bf_bind.specs.Limits.{table_without_rows}
 
 abbrev table_name : Table → List ℕ
 table_name table = table.name
@@ -27,30 +28,30 @@ index_name index = index.name
 abbrev pub no_rule : IndexRule
 no_rule = record { name = []; table = []; columns = [] }
 
-find-bare : (name : List ℕ) (tables : List Table) → find (λ (s : Stored). same_name s.table.name name) (map bare_table tables) ≡ option_map bare_table (look_up name_cmp table_name tables name)
-find-bare name [] = refl
-find-bare name (t ∷ ts) = rw same_name-tie (
-    elim (is_eq (name_cmp t.name name)) as (λ b. cond b (Some (bare_table t)) (find (λ (s : Stored). same_name s.table.name name) (map bare_table ts)) ≡ option_map bare_table (cond b (Some t) (look_up name_cmp table_name ts name))) [
+find-without_rows : (name : List ℕ) (tables : List Table) → find (λ (s : Stored). same_name s.table.name name) (map table_without_rows tables) ≡ option_map table_without_rows (look_up name_cmp table_name tables name)
+find-without_rows name [] = refl
+find-without_rows name (t ∷ ts) = rw same_name-tie (
+    elim (is_eq (name_cmp t.name name)) as (λ b. cond b (Some (table_without_rows t)) (find (λ (s : Stored). same_name s.table.name name) (map table_without_rows ts)) ≡ option_map table_without_rows (cond b (Some t) (look_up name_cmp table_name ts name))) [
       | true ↦ refl
-      | false ↦ find-bare name ts
+      | false ↦ find-without_rows name ts
     ])
 
 same_any : {X : Type 0} (p q : X → Bool) → ((x : X) → p x ≡ q x) → (xs : List X) → list_any p xs ≡ list_any q xs
 same_any p q same [] = refl
 same_any p q same (x ∷ xs) = rw (same x, same_any p q same xs)
 
-module _ (catalog : Catalog) (database : IsDatabase (bare catalog)) (name : List ℕ) where
+module _ (catalog : Catalog) (database : IsDatabase (without_rows catalog)) (name : List ℕ) where
   tables_rise : rises name_cmp (map table_name catalog.tables) ≡ true
   tables_rise = rw map-map at database.tables_by_name
 
-  pub stored_at-found : (i : ℕ) (table : Table) → i < length catalog.tables → HoldsAt (λ (t : Table). name_cmp t.name name ≡ Equal) catalog.tables i → table ≡ get_or catalog.tables i table → stored_at (bare catalog) name ≡ Some (bare_table table)
+  pub stored_at-found : (i : ℕ) (table : Table) → i < length catalog.tables → HoldsAt (λ (t : Table). name_cmp t.name name ≡ Equal) catalog.tables i → table ≡ get_or catalog.tables i table → stored_at (without_rows catalog) name ≡ Some (table_without_rows table)
   stored_at-found i table in_range ties is =
-      find-bare name catalog.tables ∙ ap (option_map bare_table) (look_up-at name_cmp_total table_name catalog.tables i name table tables_rise in_range (ties table)) ∙ ap (λ (t : Table). Some (bare_table t)) (sym is)
+      find-without_rows name catalog.tables ∙ ap (option_map table_without_rows) (look_up-at name_cmp_total table_name catalog.tables i name table tables_rise in_range (ties table)) ∙ ap (λ (t : Table). Some (table_without_rows t)) (sym is)
 
-  pub stored_at-gap : (i : ℕ) → (IsNonDecreasingBy (λ (t : Table). ordering_index (name_cmp t.name name)) catalog.tables → IsPartitionPoint (λ (t : Table). name_cmp t.name name ≡ Less) (λ (t : Table). name_cmp t.name name ≡ Greater) catalog.tables i) → stored_at (bare catalog) name ≡ None
+  pub stored_at-gap : (i : ℕ) → (IsNonDecreasingBy (λ (t : Table). ordering_index (name_cmp t.name name)) catalog.tables → IsPartitionPoint (λ (t : Table). name_cmp t.name name ≡ Less) (λ (t : Table). name_cmp t.name name ≡ Greater) catalog.tables i) → stored_at (without_rows catalog) name ≡ None
   stored_at-gap i at =
       let gap = at (searchable_from_rises name_cmp_total table_name catalog.tables name tables_rise) in
-      find-bare name catalog.tables ∙ ap (option_map bare_table) (look_up-none name_cmp_total table_name catalog.tables i name gap)
+      find-without_rows name catalog.tables ∙ ap (option_map table_without_rows) (look_up-none name_cmp_total table_name catalog.tables i name gap)
 
   any_index : list_any (λ (index : IndexRule). same_name name index.name) catalog.indexes ≡ has (eq_by_cmp name_cmp) (map index_name catalog.indexes) name
   any_index = same_any _ _ (λ (index : IndexRule). same_name-tie name index.name) catalog.indexes ∙ sym (list_any-map (eq_by_cmp name_cmp name) index_name catalog.indexes)

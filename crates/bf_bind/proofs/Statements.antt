@@ -4,35 +4,35 @@ use Rattle.std.specs.List.{flat_map}
 use Rattle.std.specs.Option.{option_map}
 use Rattle.bf_base.specs.declared.table.Table.{Table}
 use Rattle.bf_base.specs.declared.value.Value.{Value}
-use Rattle.bf_expr.specs.declared.raw.Ref.{Ref}
-use Rattle.bf_expr.specs.Trees.{Expr, Cond}
+use Rattle.bf_tree.specs.declared.raw.Ref.{Ref}
+use Rattle.bf_tree.specs.Trees.{Expr, Cond}
 use Rattle.bf_sql.specs.Bound.{action_of, bound_of, changes_schema, unless_objected}
 use Rattle.bf_sql.specs.Conditions.{condition_of}
 use Rattle.bf_sql.specs.Database.{Database, stored_at, table_at}
 use Rattle.bf_sql.specs.Objections.{items_objections, objections, new_index_objections, new_table_objections, sets_objections, tuple_objections}
 use Rattle.bf_sql.specs.Scopes.{cond_objections, scope_of}
-use Rattle.bf_sql.specs.declared.bound.Action.{Action}
-use Rattle.bf_sql.specs.declared.bound.Action.TheVariants as action
-use Rattle.bf_sql.specs.declared.bound.Bound.{Bound}
-use Rattle.bf_sql.specs.declared.catalog.IndexRule.{IndexRule}
-use Rattle.bf_sql.specs.declared.items.Items.{Items}
-use Rattle.bf_sql.specs.declared.migration.Migrate.{Migrate as MigrateTree}
-use Rattle.bf_sql.specs.declared.reply.Refusal.{Refusal}
-use Rattle.bf_sql.specs.declared.reply.Refusal.TheVariants.{MustBeAlone, NoTable}
-use Rattle.bf_sql.specs.declared.statement.ColumnRule.{ColumnRule}
-use Rattle.bf_sql.specs.declared.statement.Statement.{Statement}
-use Rattle.bf_sql.specs.declared.statement.Statement.TheVariants.{CreateTable, CreateIndex, Insert, Select, Update, Delete, Begin, Commit, Rollback, Migrate}
-use Rattle.bf_sql.specs.Meaning.{index_of, table_of}
+use Rattle.bf_tree.specs.declared.bound.Action.{Action}
+use Rattle.bf_tree.specs.declared.bound.Action.TheVariants as action
+use Rattle.bf_tree.specs.declared.bound.Bound.{Bound}
+use Rattle.bf_tree.specs.declared.catalog.IndexRule.{IndexRule}
+use Rattle.bf_tree.specs.declared.items.Items.{Items}
+use Rattle.bf_tree.specs.declared.migration.Migrate.{Migrate as MigrateTree}
+use Rattle.bf_tree.specs.declared.reply.Refusal.{Refusal}
+use Rattle.bf_tree.specs.declared.reply.Refusal.TheVariants.{MustBeAlone, NoTable}
+use Rattle.bf_tree.specs.declared.statement.ColumnRule.{ColumnRule}
+use Rattle.bf_tree.specs.declared.statement.Statement.{Statement}
+use Rattle.bf_tree.specs.declared.statement.Statement.TheVariants.{CreateTable, CreateIndex, Insert, Select, Update, Delete, Begin, Commit, Rollback, Migrate}
+use Rattle.bf_sql.specs.Meaning.{index_of, created_table}
 use Rattle.bf_bind.specs.Actions.{action_for, objections_to}
 use Rattle.bf_bind.specs.Stops.{Stops}
-use Rattle.bf_sql.specs.declared.stop.Stop.{Stop}
-use Rattle.bf_sql.specs.declared.stop.Stop.TheVariants as stops
+use Rattle.bf_tree.specs.declared.statement_error.StatementError.{StatementError}
+use Rattle.bf_tree.specs.declared.statement_error.StatementError.TheVariants as stops
 use Rattle.bf_bind.proofs.Walks.{none_of, stops_before, stops_behind}
-use Rattle.bf_expr.specs.Trees.{cond_over}
+use Rattle.bf_tree.specs.Trees.{cond_over}
 use Rattle.bf_sql.specs.Bound.{items_over}
 use Rattle.bf_sql.specs.Conditions.{fixed_key}
 use Rattle.bf_sql.specs.Scopes.{place_of}
-use Rattle.bf_bind.specs.Limits.{bare_table, is_planned}
+use Rattle.bf_bind.specs.Limits.{table_without_rows, is_planned}
 use Rattle.bf_bind.specs.Parts.{bound_set, delete_action, select_action, update_action}
 
 module _ (db : Database) (name : List ℕ) where
@@ -56,7 +56,7 @@ module _ (db : Database) (name : List ℕ) where
     pub no_table-index : (index : List ℕ) (columns : List (List ℕ)) → objections db false (CreateIndex index name columns) ≡ NoTable name ∷ []
     no_table-index index columns = rw e
 
-  module _ (t : Table) (e : stored_at db name ≡ Some (bare_table t)) where
+  module _ (t : Table) (e : stored_at db name ≡ Some (table_without_rows t)) where
     pub table_at-stored : table_at db name ≡ t
     table_at-stored = rw e
 
@@ -95,13 +95,13 @@ module _ (db : Database) (name : List ℕ) where
     action_of-index index columns = rw table_at-stored
 
 -- memory ran out
-pub stops_memory : (stop : Stop) (found : List Refusal) → stop ≡ stops.Memory → Stops stop found
+pub stops_memory : (stop : StatementError) (found : List Refusal) → stop ≡ stops.Memory → Stops stop found
 unfolding Stops
 stops_memory stop found e = rw e tt
 
 -- the objections and the action of each statement, by its parts
 module _ (db : Database) (name : List ℕ) where
-  module _ (e : stored_at db name ≡ None) (stop : Stop) (h : Stops stop (NoTable name ∷ [])) where
+  module _ (e : stored_at db name ≡ None) (stop : StatementError) (h : Stops stop (NoTable name ∷ [])) where
     pub insert-no_table : (tuples : List (List Value)) (b : Bool) → Stops stop (objections_to db b (Insert name tuples))
     unfolding objections_to
     insert-no_table tuples b = rw (no_table-insert db name e b tuples) h
@@ -122,8 +122,8 @@ module _ (db : Database) (name : List ℕ) where
     unfolding objections_to
     index-no_table index columns = rw (no_table-index db name e index columns) h
 
-  module _ (t : Table) (e : stored_at db name ≡ Some (bare_table t)) where
-    pub insert-stops : (tuples : List (List Value)) (stop : Stop) → Stops stop (flat_map (tuple_objections t) tuples) → (b : Bool) → Stops stop (objections_to db b (Insert name tuples))
+  module _ (t : Table) (e : stored_at db name ≡ Some (table_without_rows t)) where
+    pub insert-stops : (tuples : List (List Value)) (stop : StatementError) → Stops stop (flat_map (tuple_objections t) tuples) → (b : Bool) → Stops stop (objections_to db b (Insert name tuples))
     unfolding objections_to
     insert-stops tuples stop h b = rw (objections-insert db name t e b tuples) h
 
@@ -140,11 +140,11 @@ module _ (db : Database) (name : List ℕ) where
       bound_to_places = cond_over (place_of (scope_of t)) (condition_of cond)
 
       module _ (list : Items (Expr Ref)) where
-        pub select-stops_at_items : (stop : Stop) → Stops stop (items_objections (scope_of t) list) → (b : Bool) → Stops stop (objections_to db b (Select list name cond))
+        pub select-stops_at_items : (stop : StatementError) → Stops stop (items_objections (scope_of t) list) → (b : Bool) → Stops stop (objections_to db b (Select list name cond))
         unfolding objections_to
         select-stops_at_items stop h b = rw (objections-select db name t e b list cond) (stops_before stop _ _ h)
 
-        pub select-stops_at_condition : items_objections (scope_of t) list ≡ [] → (stop : Stop) → Stops stop (cond_objections (scope_of t) (condition_of cond)) → (b : Bool) → Stops stop (objections_to db b (Select list name cond))
+        pub select-stops_at_condition : items_objections (scope_of t) list ≡ [] → (stop : StatementError) → Stops stop (cond_objections (scope_of t) (condition_of cond)) → (b : Bool) → Stops stop (objections_to db b (Select list name cond))
         unfolding objections_to
         select-stops_at_condition none stop h b = rw (objections-select db name t e b list cond) (stops_behind stop _ _ none h)
 
@@ -157,11 +157,11 @@ module _ (db : Database) (name : List ℕ) where
         select-action table items places key p q r s = rw (s, p, q, r) (action_of-select db name t e list cond)
 
       module _ (sets : List (List ℕ × Expr Ref)) where
-        pub update-stops_at_sets : (stop : Stop) → Stops stop (sets_objections t sets) → (b : Bool) → Stops stop (objections_to db b (Update name sets cond))
+        pub update-stops_at_sets : (stop : StatementError) → Stops stop (sets_objections t sets) → (b : Bool) → Stops stop (objections_to db b (Update name sets cond))
         unfolding objections_to
         update-stops_at_sets stop h b = rw (objections-update db name t e b sets cond) (stops_before stop _ _ h)
 
-        pub update-stops_at_condition : sets_objections t sets ≡ [] → (stop : Stop) → Stops stop (cond_objections (scope_of t) (condition_of cond)) → (b : Bool) → Stops stop (objections_to db b (Update name sets cond))
+        pub update-stops_at_condition : sets_objections t sets ≡ [] → (stop : StatementError) → Stops stop (cond_objections (scope_of t) (condition_of cond)) → (b : Bool) → Stops stop (objections_to db b (Update name sets cond))
         unfolding objections_to
         update-stops_at_condition none stop h b = rw (objections-update db name t e b sets cond) (stops_behind stop _ _ none h)
 
@@ -173,7 +173,7 @@ module _ (db : Database) (name : List ℕ) where
         unfolding action_for
         update-action table bound places key p q r s = rw (s, p, q, r) (action_of-update db name t e sets cond)
 
-      pub delete-stops : (stop : Stop) → Stops stop (cond_objections (scope_of t) (condition_of cond)) → (b : Bool) → Stops stop (objections_to db b (Delete name cond))
+      pub delete-stops : (stop : StatementError) → Stops stop (cond_objections (scope_of t) (condition_of cond)) → (b : Bool) → Stops stop (objections_to db b (Delete name cond))
       unfolding objections_to
       delete-stops stop h b = rw (objections-delete db name t e b cond) h
 
@@ -186,7 +186,7 @@ module _ (db : Database) (name : List ℕ) where
       delete-action table places key p r s = rw (s, p, r) (action_of-delete db name t e cond)
 
     module _ (index : List ℕ) (columns : List (List ℕ)) where
-      pub index-stops : (stop : Stop) → Stops stop (new_index_objections db index t columns) → Stops stop (objections_to db false (CreateIndex index name columns))
+      pub index-stops : (stop : StatementError) → Stops stop (new_index_objections db index t columns) → Stops stop (objections_to db false (CreateIndex index name columns))
       unfolding objections_to
       index-stops stop h = rw (objections-index db name t e index columns) h
 
@@ -233,11 +233,11 @@ module _ (db : Database) (b : Bool) (s : Statement) where
 
 -- CREATE, which stands alone
 module _ (db : Database) (b : Bool) (name : List ℕ) (rules : List ColumnRule) (key : List (List ℕ)) where
-  pub table-inside : b ≡ true → (stop : Stop) → Stops stop (MustBeAlone ∷ []) → Stops stop (objections_to db b (CreateTable name rules key))
+  pub table-inside : b ≡ true → (stop : StatementError) → Stops stop (MustBeAlone ∷ []) → Stops stop (objections_to db b (CreateTable name rules key))
   unfolding objections_to
   table-inside e stop h = rw e h
 
-  pub table-stops : b ≡ false → (stop : Stop) → Stops stop (new_table_objections db name rules key) → Stops stop (objections_to db b (CreateTable name rules key))
+  pub table-stops : b ≡ false → (stop : StatementError) → Stops stop (new_table_objections db name rules key) → Stops stop (objections_to db b (CreateTable name rules key))
   unfolding objections_to
   table-stops e stop h = rw e h
 
@@ -245,16 +245,16 @@ module _ (db : Database) (b : Bool) (name : List ℕ) (rules : List ColumnRule) 
   unfolding objections_to
   table-ok e none = rw e none
 
-  pub table-action : (made : Table) → made ≡ table_of name rules key → action_for db (CreateTable name rules key) ≡ Some (action.CreateTable made)
+  pub table-action : (made : Table) → made ≡ created_table name rules key → action_for db (CreateTable name rules key) ≡ Some (action.CreateTable made)
   unfolding action_for
   table-action made p = rw p
 
 module _ (db : Database) (b : Bool) (name : List ℕ) (index : List ℕ) (columns : List (List ℕ)) where
-  pub index-inside : b ≡ true → (stop : Stop) → Stops stop (MustBeAlone ∷ []) → Stops stop (objections_to db b (CreateIndex index name columns))
+  pub index-inside : b ≡ true → (stop : StatementError) → Stops stop (MustBeAlone ∷ []) → Stops stop (objections_to db b (CreateIndex index name columns))
   unfolding objections_to
   index-inside e stop h = rw e h
 
-  pub index-alone : b ≡ false → (stop : Stop) → Stops stop (objections_to db false (CreateIndex index name columns)) → Stops stop (objections_to db b (CreateIndex index name columns))
+  pub index-alone : b ≡ false → (stop : StatementError) → Stops stop (objections_to db false (CreateIndex index name columns)) → Stops stop (objections_to db b (CreateIndex index name columns))
   index-alone e stop h = rw e h
 
   pub index-alone_ok : b ≡ false → objections_to db false (CreateIndex index name columns) ≡ [] → objections_to db b (CreateIndex index name columns) ≡ []
@@ -267,14 +267,14 @@ migrate-inside db true m e = refl
 migrate-inside db false m e = absurd cc
 
 -- what holds of each, holds of one
-pub at_ok : {I T : Type 0} (r : Result T Stop) (found : I → List Refusal) (i : I) → OnOk r ((i : I) → found i ≡ []) → OnOk r (found i ≡ [])
+pub at_ok : {I T : Type 0} (r : Result T StatementError) (found : I → List Refusal) (i : I) → OnOk r ((i : I) → found i ≡ []) → OnOk r (found i ≡ [])
 at_ok (Ok x) found i h = h i
 at_ok (Err e) found i h = h
 
-pub at_stops : {I T : Type 0} (r : Result T Stop) (found : I → List Refusal) (i : I) → IfErr r (λ stop. (i : I) → Stops stop (found i)) → IfErr r (λ stop. Stops stop (found i))
+pub at_stops : {I T : Type 0} (r : Result T StatementError) (found : I → List Refusal) (i : I) → IfErr r (λ stop. (i : I) → Stops stop (found i)) → IfErr r (λ stop. Stops stop (found i))
 at_stops (Ok x) found i h = h
 at_stops (Err e) found i h = h i
 
-pub at_value : {I T : Type 0} (r : Result T Stop) (made : I → Option T) (i : I) → IfOk r (λ x. (i : I) → made i ≡ Some x) → IfOk r (λ x. made i ≡ Some x)
+pub at_value : {I T : Type 0} (r : Result T StatementError) (made : I → Option T) (i : I) → IfOk r (λ x. (i : I) → made i ≡ Some x) → IfOk r (λ x. made i ≡ Some x)
 at_value (Ok x) made i h = h i
 at_value (Err e) made i h = h

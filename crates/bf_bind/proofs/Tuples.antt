@@ -7,8 +7,8 @@ use Rattle.bf_base.specs.declared.value.Value.{Value}
 use Rattle.bf_base.specs.declared.table.Table.{Table}
 use Rattle.bf_sql.specs.Objections.{literal_objections, tuple_objections}
 use Rattle.bf_bind.specs.Parts.{is_of_kind}
-use Rattle.bf_sql.specs.declared.reply.Refusal.{Refusal}
-use Rattle.bf_sql.specs.declared.reply.Refusal.TheVariants.{TypeMismatch}
+use Rattle.bf_tree.specs.declared.reply.Refusal.{Refusal}
+use Rattle.bf_tree.specs.declared.reply.Refusal.TheVariants.{TypeMismatch}
 
 abbrev pub kinds_objections : List (Column × Value) → List Refusal
 kinds_objections ps = flat_map (λ p. literal_objections p.0 p.1) ps

@@ -3,9 +3,9 @@ use Rattle.std.specs.Prelude.{Bool, List, Option}
 use Rattle.bf_sql.specs.Bound.{action_of}
 use Rattle.bf_sql.specs.Database.{Database}
 use Rattle.bf_sql.specs.Objections.{objections}
-use Rattle.bf_sql.specs.declared.bound.Action.{Action}
-use Rattle.bf_sql.specs.declared.reply.Refusal.{Refusal}
-use Rattle.bf_sql.specs.declared.statement.Statement.{Statement}
+use Rattle.bf_tree.specs.declared.bound.Action.{Action}
+use Rattle.bf_tree.specs.declared.reply.Refusal.{Refusal}
+use Rattle.bf_tree.specs.declared.statement.Statement.{Statement}
 
 -- what the catalog has against a statement, in a block or outside
 unfoldable pub objections_to : Database → Bool → Statement → List Refusal

@@ -7,25 +7,25 @@ use Rattle.bf_base.specs.declared.table.Kind.{Kind}
 use Rattle.bf_base.specs.declared.table.Table.{Table}
 use Rattle.bf_base.specs.Lists.{has, same_name, when}
 use Rattle.bf_base.specs.Tables.{kind_admitted, kind_of, same_kind}
-use Rattle.bf_expr.specs.Trees.{Expr, literal, column, Cond, expr_over, cond_over}
-use Rattle.bf_expr.specs.declared.raw.Ref.{Ref}
+use Rattle.bf_tree.specs.Trees.{Expr, literal, column, Cond, expr_over, cond_over}
+use Rattle.bf_tree.specs.declared.raw.Ref.{Ref}
 use Rattle.bf_sql.specs.Bound.{items_over}
 use Rattle.bf_sql.specs.Conditions.{condition_of, conjuncts, fixed_key, value_fixed}
 use Rattle.bf_sql.specs.Meaning.{admit_of}
-use Rattle.bf_sql.specs.Migrations.{twice_objections}
+use Rattle.bf_sql.specs.Scopes.{twice_objections}
 use Rattle.bf_sql.specs.Objections.{column_names, rule_names, form_objections, set_objections}
 use Rattle.bf_sql.specs.Scopes.{Scope, is_qualified_by, scope_of, place_of, admitted_by, unqualified, kind_in, expr_objections, kind_objections}
-use Rattle.bf_sql.specs.declared.bound.Action.{Action}
-use Rattle.bf_sql.specs.declared.bound.Action.TheVariants as action
-use Rattle.bf_sql.specs.declared.items.Items.{Items}
-use Rattle.bf_sql.specs.declared.reply.Refusal.{Refusal}
-use Rattle.bf_sql.specs.declared.reply.Refusal.TheVariants.{NoColumn}
-use Rattle.bf_sql.specs.declared.statement.ColumnRule.{ColumnRule}
+use Rattle.bf_tree.specs.declared.bound.Action.{Action}
+use Rattle.bf_tree.specs.declared.bound.Action.TheVariants as action
+use Rattle.bf_tree.specs.declared.items.Items.{Items}
+use Rattle.bf_tree.specs.declared.reply.Refusal.{Refusal}
+use Rattle.bf_tree.specs.declared.reply.Refusal.TheVariants.{NoColumn}
+use Rattle.bf_tree.specs.declared.statement.ColumnRule.{ColumnRule}
 use Rattle.bf_bind.specs.declared.expression.BoundExpr.{BoundExpr}
-use Rattle.bf_bind.specs.declared.scope.Place.{Place}
+use Rattle.bf_bind.specs.declared.scope.ColumnPlace.{ColumnPlace}
 
 -- the column that a ref means, and the kind of its values
-abbrev pub column_of : Scope → Ref → Place
+abbrev pub column_of : Scope → Ref → ColumnPlace
 column_of scope ref = record { place = place_of scope ref; kind = kind_admitted (admitted_by scope ref) }
 
 -- whether a ref means a column of a table

@@ -1,10 +1,10 @@
 -- Why binding stops.
 use Rattle.std.specs.Prelude.{◌≡◌, List, Some, slice_get}
-use Rattle.bf_sql.specs.declared.reply.Refusal.{Refusal}
-use Rattle.bf_sql.specs.declared.stop.Stop.{Stop}
-use Rattle.bf_sql.specs.declared.stop.Stop.TheVariants.{Refused, Memory}
+use Rattle.bf_tree.specs.declared.reply.Refusal.{Refusal}
+use Rattle.bf_tree.specs.declared.statement_error.StatementError.{StatementError}
+use Rattle.bf_tree.specs.declared.statement_error.StatementError.TheVariants.{Refused, Memory}
 
 -- binding stops at the first of some objections, or memory ran out
-unfoldable pub Stops : Stop → List Refusal → Type 0
+unfoldable pub Stops : StatementError → List Refusal → Type 0
 Stops (Refused r) objections = slice_get objections 0 ≡ Some r
 Stops Memory objections = Unit {0}

@@ -1,32 +1,33 @@
 //! Statements.
 
 ghost use Rattle.std.specs.Prelude.{◌≡◌, ◌≤◌, [], ◌∷◌, Bool, false, true, IfErr, IfOk, OnErr, OnOk, Some, length, not, ◌&&◌};
-ghost use Rattle.bf_sql.specs.Bound.{bare, bound_of, changes_schema as changes_schema_of};
+ghost use Rattle.bf_base.specs.Limits.{most_columns};
+ghost use Rattle.bf_sql.specs.Bound.{without_rows, bound_of, changes_schema as changes_schema_of};
 ghost use Rattle.bf_sql.specs.Database.{Database, IsDatabase};
-ghost use Rattle.bf_sql.specs.declared.reply.Refusal.TheVariants as refusal;
-ghost use Rattle.bf_sql.specs.declared.statement.Statement.TheVariants as statement;
+ghost use Rattle.bf_tree.specs.declared.reply.Refusal.TheVariants as refusal;
+ghost use Rattle.bf_tree.specs.declared.statement.Statement.TheVariants as statement;
 ghost use Rattle.bf_bind.specs.Actions.{action_for, objections_to};
-ghost use Rattle.bf_bind.specs.Limits.{HasNarrowTables, KeepsLimits, is_planned};
+ghost use Rattle.bf_tree.specs.Limits.{HasNarrowTables, KeepsLimits};
+ghost use Rattle.bf_bind.specs.Limits.{is_planned};
 ghost use Rattle.bf_bind.specs.Stops.{Stops};
 
-use crate::change::{bind_sets, bind_tuples};
+use crate::tuples_and_sets::{bind_sets, bind_tuples};
 use crate::create::{bind_index, bind_table};
 use crate::fixed::bind_selection;
 use crate::list::bind_items;
 use crate::lookup::expect_table;
 use bf_base::{Memory, Name, Row, Sequence};
-use bf_expr::{RawCond, RawExpr};
-use bf_sql::{Action, Bound, Catalog, ColumnRule, List, Refusal, Statement, Stop};
+use bf_tree::{Action, Bound, Catalog, ColumnRule, List, RawCond, RawExpr, Refusal, Statement, StatementError};
 use std::alloc::Global;
 
 /// CREATE and MIGRATE stand outside a block.
-fn expect_alone(in_block: bool) -> Result<(), Stop>
+fn expect_alone(in_block: bool) -> Result<(), StatementError>
     ensures ok { OnOk result (in_block ≡ false) }
     ensures inside { OnErr result (in_block ≡ true) }
     ensures stopped { IfErr result (λ stop. Stops stop (refusal.MustBeAlone ∷ [])) }
 {
     if in_block {
-        Err(Stop::Refused(Refusal::MustBeAlone))
+        Err(StatementError::Refused(Refusal::MustBeAlone))
     } else {
         Ok(())
     }
@@ -37,15 +38,15 @@ fn bind_insert(
     catalog: &Catalog,
     name: &Name,
     tuples: &Sequence<Row>,
-) -> Result<Action, Stop>
-    requires database { IsDatabase (bare catalog.now) }
+) -> Result<Action, StatementError>
+    requires database { IsDatabase (without_rows catalog.now) }
     requires narrow { HasNarrowTables catalog.now }
     ensures ok { OnOk result ((in_block : Bool)
-        → objections_to (bare catalog.now) in_block (statement.Insert name.now tuples.now) ≡ []) }
+        → objections_to (without_rows catalog.now) in_block (statement.Insert name.now tuples.now) ≡ []) }
     ensures value { IfOk result (λ bound.
-        action_for (bare catalog.now) (statement.Insert name.now tuples.now) ≡ Some bound) }
+        action_for (without_rows catalog.now) (statement.Insert name.now tuples.now) ≡ Some bound) }
     ensures stopped { IfErr result (λ stop. (in_block : Bool)
-        → Stops stop (objections_to (bare catalog.now) in_block
+        → Stops stop (objections_to (without_rows catalog.now) in_block
         (statement.Insert name.now tuples.now))) }
 {
     let found = expect_table(alloc, catalog, name)?;
@@ -60,16 +61,16 @@ fn bind_select(
     list: &List,
     name: &Name,
     cond: &Option<RawCond>,
-) -> Result<Action, Stop>
-    requires database { IsDatabase (bare catalog.now) }
+) -> Result<Action, StatementError>
+    requires database { IsDatabase (without_rows catalog.now) }
     requires narrow { HasNarrowTables catalog.now }
     ensures ok { OnOk result ((in_block : Bool)
-        → objections_to (bare catalog.now) in_block (statement.Select list.now name.now cond.now)
+        → objections_to (without_rows catalog.now) in_block (statement.Select list.now name.now cond.now)
         ≡ []) }
     ensures value { IfOk result (λ bound.
-        action_for (bare catalog.now) (statement.Select list.now name.now cond.now) ≡ Some bound) }
+        action_for (without_rows catalog.now) (statement.Select list.now name.now cond.now) ≡ Some bound) }
     ensures stopped { IfErr result (λ stop. (in_block : Bool)
-        → Stops stop (objections_to (bare catalog.now) in_block
+        → Stops stop (objections_to (without_rows catalog.now) in_block
         (statement.Select list.now name.now cond.now))) }
 {
     let found = expect_table(alloc, catalog, name)?;
@@ -90,16 +91,16 @@ fn bind_update(
     name: &Name,
     sets: &Sequence<(Name, RawExpr)>,
     cond: &Option<RawCond>,
-) -> Result<Action, Stop>
-    requires database { IsDatabase (bare catalog.now) }
+) -> Result<Action, StatementError>
+    requires database { IsDatabase (without_rows catalog.now) }
     requires narrow { HasNarrowTables catalog.now }
     ensures ok { OnOk result ((in_block : Bool)
-        → objections_to (bare catalog.now) in_block (statement.Update name.now sets.now cond.now)
+        → objections_to (without_rows catalog.now) in_block (statement.Update name.now sets.now cond.now)
         ≡ []) }
     ensures value { IfOk result (λ bound.
-        action_for (bare catalog.now) (statement.Update name.now sets.now cond.now) ≡ Some bound) }
+        action_for (without_rows catalog.now) (statement.Update name.now sets.now cond.now) ≡ Some bound) }
     ensures stopped { IfErr result (λ stop. (in_block : Bool)
-        → Stops stop (objections_to (bare catalog.now) in_block
+        → Stops stop (objections_to (without_rows catalog.now) in_block
         (statement.Update name.now sets.now cond.now))) }
 {
     let found = expect_table(alloc, catalog, name)?;
@@ -119,15 +120,15 @@ fn bind_delete(
     catalog: &Catalog,
     name: &Name,
     cond: &Option<RawCond>,
-) -> Result<Action, Stop>
-    requires database { IsDatabase (bare catalog.now) }
+) -> Result<Action, StatementError>
+    requires database { IsDatabase (without_rows catalog.now) }
     requires narrow { HasNarrowTables catalog.now }
     ensures ok { OnOk result ((in_block : Bool)
-        → objections_to (bare catalog.now) in_block (statement.Delete name.now cond.now) ≡ []) }
+        → objections_to (without_rows catalog.now) in_block (statement.Delete name.now cond.now) ≡ []) }
     ensures value { IfOk result (λ bound.
-        action_for (bare catalog.now) (statement.Delete name.now cond.now) ≡ Some bound) }
+        action_for (without_rows catalog.now) (statement.Delete name.now cond.now) ≡ Some bound) }
     ensures stopped { IfErr result (λ stop. (in_block : Bool)
-        → Stops stop (objections_to (bare catalog.now) in_block
+        → Stops stop (objections_to (without_rows catalog.now) in_block
         (statement.Delete name.now cond.now))) }
 {
     let found = expect_table(alloc, catalog, name)?;
@@ -141,7 +142,7 @@ fn bind_delete(
 }
 
 /// BEGIN stands outside a block.
-fn bind_begin(in_block: bool) -> Result<Action, Stop>
+fn bind_begin(in_block: bool) -> Result<Action, StatementError>
     ensures ok { OnOk result ((db : Database) → objections_to db in_block statement.Begin ≡ []) }
     ensures value { IfOk result (λ bound. (db : Database)
         → action_for db statement.Begin ≡ Some bound) }
@@ -149,14 +150,14 @@ fn bind_begin(in_block: bool) -> Result<Action, Stop>
         → Stops stop (objections_to db in_block statement.Begin)) }
 {
     if in_block {
-        Err(Stop::Refused(Refusal::InTransaction))
+        Err(StatementError::Refused(Refusal::InTransaction))
     } else {
         Ok(Action::Begin)
     }
 }
 
 /// COMMIT stands inside a block.
-fn bind_commit(in_block: bool) -> Result<Action, Stop>
+fn bind_commit(in_block: bool) -> Result<Action, StatementError>
     ensures ok { OnOk result ((db : Database) → objections_to db in_block statement.Commit ≡ []) }
     ensures value { IfOk result (λ bound. (db : Database)
         → action_for db statement.Commit ≡ Some bound) }
@@ -166,12 +167,12 @@ fn bind_commit(in_block: bool) -> Result<Action, Stop>
     if in_block {
         Ok(Action::Commit)
     } else {
-        Err(Stop::Refused(Refusal::NoTransaction))
+        Err(StatementError::Refused(Refusal::NoTransaction))
     }
 }
 
 /// ROLLBACK stands inside a block.
-fn bind_rollback(in_block: bool) -> Result<Action, Stop>
+fn bind_rollback(in_block: bool) -> Result<Action, StatementError>
     ensures ok { OnOk result ((db : Database) → objections_to db in_block statement.Rollback ≡ []) }
     ensures value { IfOk result (λ bound. (db : Database)
         → action_for db statement.Rollback ≡ Some bound) }
@@ -181,7 +182,7 @@ fn bind_rollback(in_block: bool) -> Result<Action, Stop>
     if in_block {
         Ok(Action::Rollback)
     } else {
-        Err(Stop::Refused(Refusal::NoTransaction))
+        Err(StatementError::Refused(Refusal::NoTransaction))
     }
 }
 
@@ -192,17 +193,17 @@ fn bind_create_table(
     rules: &Sequence<ColumnRule>,
     key: &Sequence<Name>,
     in_block: bool,
-) -> Result<Action, Stop>
-    requires database { IsDatabase (bare catalog.now) }
+) -> Result<Action, StatementError>
+    requires database { IsDatabase (without_rows catalog.now) }
     requires narrow { HasNarrowTables catalog.now }
-    requires declared { length rules.now ≤ 16 }
-    ensures ok { OnOk result (objections_to (bare catalog.now) in_block
+    requires declared { length rules.now ≤ most_columns }
+    ensures ok { OnOk result (objections_to (without_rows catalog.now) in_block
         (statement.CreateTable name.now rules.now key.now) ≡ []) }
     ensures value { IfOk result (λ bound.
-        action_for (bare catalog.now) (statement.CreateTable name.now rules.now key.now)
+        action_for (without_rows catalog.now) (statement.CreateTable name.now rules.now key.now)
         ≡ Some bound) }
     ensures stopped { IfErr result
-        (λ stop. Stops stop (objections_to (bare catalog.now) in_block
+        (λ stop. Stops stop (objections_to (without_rows catalog.now) in_block
         (statement.CreateTable name.now rules.now key.now))) }
 {
     expect_alone(in_block)?;
@@ -217,16 +218,16 @@ fn bind_create_index(
     table: &Name,
     columns: &Sequence<Name>,
     in_block: bool,
-) -> Result<Action, Stop>
-    requires database { IsDatabase (bare catalog.now) }
+) -> Result<Action, StatementError>
+    requires database { IsDatabase (without_rows catalog.now) }
     requires narrow { HasNarrowTables catalog.now }
-    ensures ok { OnOk result (objections_to (bare catalog.now) in_block
+    ensures ok { OnOk result (objections_to (without_rows catalog.now) in_block
         (statement.CreateIndex name.now table.now columns.now) ≡ []) }
     ensures value { IfOk result (λ bound.
-        action_for (bare catalog.now) (statement.CreateIndex name.now table.now columns.now)
+        action_for (without_rows catalog.now) (statement.CreateIndex name.now table.now columns.now)
         ≡ Some bound) }
     ensures stopped { IfErr result
-        (λ stop. Stops stop (objections_to (bare catalog.now) in_block
+        (λ stop. Stops stop (objections_to (without_rows catalog.now) in_block
         (statement.CreateIndex name.now table.now columns.now))) }
 {
     expect_alone(in_block)?;
@@ -241,15 +242,15 @@ fn bind_action(
     statement: &Statement,
     catalog: &Catalog,
     in_block: bool,
-) -> Result<Action, Stop>
+) -> Result<Action, StatementError>
     requires alone { is_planned in_block statement.now ≡ false }
-    requires database { IsDatabase (bare catalog.now) }
+    requires database { IsDatabase (without_rows catalog.now) }
     requires limits { KeepsLimits catalog.now statement.now }
-    ensures ok { OnOk result (objections_to (bare catalog.now) in_block statement.now ≡ []) }
+    ensures ok { OnOk result (objections_to (without_rows catalog.now) in_block statement.now ≡ []) }
     ensures value { IfOk result (λ bound.
-        action_for (bare catalog.now) statement.now ≡ Some bound) }
+        action_for (without_rows catalog.now) statement.now ≡ Some bound) }
     ensures stopped { IfErr result
-        (λ stop. Stops stop (objections_to (bare catalog.now) in_block statement.now)) }
+        (λ stop. Stops stop (objections_to (without_rows catalog.now) in_block statement.now)) }
 {
     match statement {
         Statement::CreateTable { name, columns, key } => {
@@ -267,7 +268,7 @@ fn bind_action(
         Statement::Begin => bind_begin(in_block),
         Statement::Commit => bind_commit(in_block),
         Statement::Rollback => bind_rollback(in_block),
-        Statement::Migrate(_) => Err(Stop::Refused(Refusal::MustBeAlone)),
+        Statement::Migrate(_) => Err(StatementError::Refused(Refusal::MustBeAlone)),
     }
 }
 
@@ -301,10 +302,10 @@ pub fn bind(
     in_block: bool,
 ) -> Result<Bound, Memory>
     requires alone { is_planned in_block statement.now ≡ false }
-    requires database { IsDatabase (bare catalog.now) }
+    requires database { IsDatabase (without_rows catalog.now) }
     requires limits { KeepsLimits catalog.now statement.now }
     ensures { IfOk result (λ bound.
-        bound_of (bare catalog.now) in_block statement.now ≡ Some bound) }
+        bound_of (without_rows catalog.now) in_block statement.now ≡ Some bound) }
 {
     let schema_change = changes_schema(statement, in_block);
     match bind_action(alloc, statement, catalog, in_block) {
@@ -313,11 +314,11 @@ pub fn bind(
             schema_change,
             action,
         }),
-        Err(Stop::Refused(refusal)) => Ok(Bound {
+        Err(StatementError::Refused(refusal)) => Ok(Bound {
             catalog: catalog.number,
             schema_change,
             action: Action::Refused(refusal),
         }),
-        Err(Stop::Memory) => Err(Memory),
+        Err(StatementError::Memory) => Err(Memory),
     }
 }

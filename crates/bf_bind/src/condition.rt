@@ -1,8 +1,9 @@
 //! Conditions.
 
 ghost use Rattle.std.specs.Prelude.{◌≡◌, ◌≤◌, ◌++◌, [], IfErr, IfOk, OnOk, length};
-ghost use Rattle.bf_expr.specs.Trees.{between, compared, cond_over};
-ghost use Rattle.bf_expr.specs.Views.{operand_tree};
+ghost use Rattle.bf_base.specs.Limits.{most_columns};
+ghost use Rattle.bf_tree.specs.Trees.{between, compared, cond_over};
+ghost use Rattle.bf_tree.specs.Views.{operand_tree};
 ghost use Rattle.bf_sql.specs.Conditions.{condition_of};
 ghost use Rattle.bf_sql.specs.Scopes.{cond_objections, expr_objections, place_of, scope_of};
 ghost use Rattle.bf_bind.specs.Parts.{bound_expr};
@@ -11,13 +12,12 @@ ghost use Rattle.bf_bind.specs.Stops.{Stops};
 use crate::expression::{BoundExpr, bind_column, bind_literal};
 use crate::scope::expect_kind;
 use bf_base::Table;
-use bf_expr::{Compare, Cond, Operand, RawCond, RawTest, Test};
-use bf_sql::Stop;
+use bf_tree::{Compare, Cond, Operand, RawCond, RawTest, StatementError, Test};
 use std::alloc::Global;
 
 /// A literal or a column, and its kind.
-fn bind_operand(alloc: Global, table: &Table, operand: &Operand) -> Result<BoundExpr, Stop>
-    requires { length table.now.columns ≤ 16 }
+fn bind_operand(alloc: Global, table: &Table, operand: &Operand) -> Result<BoundExpr, StatementError>
+    requires { length table.now.columns ≤ most_columns }
     ensures ok { OnOk result (expr_objections (scope_of table.now) (operand_tree operand.now)
         ≡ []) }
     ensures value { IfOk result (λ bound.
@@ -38,8 +38,8 @@ fn bind_comparison(
     compare: Compare,
     a: &Operand,
     b: &Operand,
-) -> Result<Cond, Stop>
-    requires { length table.now.columns ≤ 16 }
+) -> Result<Cond, StatementError>
+    requires { length table.now.columns ≤ most_columns }
     ensures ok { OnOk result (cond_objections (scope_of table.now)
         (compared compare (operand_tree a.now) (operand_tree b.now)) ≡ []) }
     ensures value { IfOk result (λ cond.
@@ -62,8 +62,8 @@ fn bind_between(
     a: &Operand,
     low: &Operand,
     high: &Operand,
-) -> Result<Cond, Stop>
-    requires { length table.now.columns ≤ 16 }
+) -> Result<Cond, StatementError>
+    requires { length table.now.columns ≤ most_columns }
     ensures ok { OnOk result (cond_objections (scope_of table.now)
         (between (operand_tree a.now) (operand_tree low.now) (operand_tree high.now)) ≡ []) }
     ensures value { IfOk result (λ cond.
@@ -86,8 +86,8 @@ fn bind_between(
 /// # Errors
 /// The first objection, from the left.
 #[cycle(condition)]
-fn bind_test(alloc: Global, table: &Table, raw: &RawCond) -> Result<Cond, Stop>
-    requires { length table.now.columns ≤ 16 }
+fn bind_test(alloc: Global, table: &Table, raw: &RawCond) -> Result<Cond, StatementError>
+    requires { length table.now.columns ≤ most_columns }
     ensures ok { OnOk result (cond_objections (scope_of table.now) raw.now ≡ []) }
     ensures value { IfOk result (λ cond. cond ≡ cond_over (place_of (scope_of table.now)) raw.now) }
     ensures stopped { IfErr result
@@ -118,8 +118,8 @@ fn bind_sides(
     table: &Table,
     c: &RawCond,
     d: &RawCond,
-) -> Result<(Box<Cond>, Box<Cond>), Stop>
-    requires { length table.now.columns ≤ 16 }
+) -> Result<(Box<Cond>, Box<Cond>), StatementError>
+    requires { length table.now.columns ≤ most_columns }
     ensures ok { OnOk result (cond_objections (scope_of table.now) c.now
         ++ cond_objections (scope_of table.now) d.now ≡ []) }
     ensures left { IfOk result (λ sides.
@@ -142,8 +142,8 @@ pub(crate) fn bind_condition(
     alloc: Global,
     table: &Table,
     cond: &Option<RawCond>,
-) -> Result<Cond, Stop>
-    requires { length table.now.columns ≤ 16 }
+) -> Result<Cond, StatementError>
+    requires { length table.now.columns ≤ most_columns }
     ensures ok { OnOk result (cond_objections (scope_of table.now) (condition_of cond.now) ≡ []) }
     ensures value { IfOk result (λ bound.
         bound ≡ cond_over (place_of (scope_of table.now)) (condition_of cond.now)) }

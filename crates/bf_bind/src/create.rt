@@ -1,23 +1,24 @@
 //! New tables and indexes.
 
 ghost use Rattle.std.specs.Prelude.{◌≡◌, ◌≤◌, [], ◌++◌, IfErr, IfOk, OnOk, length, map};
+ghost use Rattle.bf_base.specs.Limits.{most_columns};
 ghost use Rattle.bf_base.specs.Lists.{has, same_name};
-ghost use Rattle.bf_sql.specs.Bound.{bare};
+ghost use Rattle.bf_sql.specs.Bound.{without_rows};
 ghost use Rattle.bf_sql.specs.Database.{IsDatabase};
-ghost use Rattle.bf_sql.specs.Meaning.{admit_of, index_of, table_of};
+ghost use Rattle.bf_sql.specs.Meaning.{admit_of, index_of, created_table};
 ghost use Rattle.bf_sql.specs.Objections.{form_objections, new_index_objections, new_table_objections, rule_names, rules_objections};
-ghost use Rattle.bf_bind.specs.Limits.{HasNarrowTables};
+ghost use Rattle.bf_tree.specs.Limits.{HasNarrowTables};
 ghost use Rattle.bf_bind.specs.Parts.{new_column, rule_objections};
 ghost use Rattle.bf_bind.specs.Stops.{Stops};
 
 use crate::lookup::{has_index, table_named};
 use crate::scope::places_named;
 use bf_base::{Admit, Column, Name, Sequence, Table};
-use bf_sql::{Catalog, ColumnForm, ColumnRule, IndexRule, Refusal, Stop};
+use bf_tree::{Catalog, ColumnForm, ColumnRule, IndexRule, Refusal, StatementError};
 use std::alloc::Global;
 
 /// What a column of a name admits by its form.
-fn admitted(alloc: Global, name: &Name, form: &ColumnForm) -> Result<Admit, Stop>
+fn admitted(alloc: Global, name: &Name, form: &ColumnForm) -> Result<Admit, StatementError>
     ensures ok { OnOk result (form_objections name.now form.now ≡ []) }
     ensures value { IfOk result (λ admit. admit ≡ admit_of form.now) }
     ensures stopped { IfErr result (λ stop. Stops stop (form_objections name.now form.now)) }
@@ -26,10 +27,10 @@ fn admitted(alloc: Global, name: &Name, form: &ColumnForm) -> Result<Admit, Stop
         ColumnForm::Int => Ok(Admit::Int),
         ColumnForm::Checked(checked, low, high) => {
             if *name != *checked {
-                return Err(Stop::Refused(Refusal::NoColumn(checked.copy(alloc)?)));
+                return Err(StatementError::Refused(Refusal::NoColumn(checked.copy(alloc)?)));
             }
             if *high < *low {
-                return Err(Stop::Refused(Refusal::OutOfRange));
+                return Err(StatementError::Refused(Refusal::OutOfRange));
             }
             Ok(Admit::Checked(*low, *high))
         }
@@ -37,7 +38,7 @@ fn admitted(alloc: Global, name: &Name, form: &ColumnForm) -> Result<Admit, Stop
             if 1 <= *most && *most <= 255 {
                 Ok(Admit::Varchar(*most as u8))
             } else {
-                Err(Stop::Refused(Refusal::TooLong))
+                Err(StatementError::Refused(Refusal::TooLong))
             }
         }
     }
@@ -51,20 +52,20 @@ fn is_declared(name: &Name, rules: &[ColumnRule]) -> bool
 }
 
 /// A column of a new table, behind those before it.
-fn bind_rule(alloc: Global, before: &[ColumnRule], rule: &ColumnRule) -> Result<Column, Stop>
+fn bind_rule(alloc: Global, before: &[ColumnRule], rule: &ColumnRule) -> Result<Column, StatementError>
     ensures ok { OnOk result (rule_objections before.now rule.now ≡ []) }
     ensures value { IfOk result (λ column. column ≡ new_column rule.now) }
     ensures stopped { IfErr result (λ stop. Stops stop (rule_objections before.now rule.now)) }
 {
     if is_declared(&rule.name, before) {
-        return Err(Stop::Refused(Refusal::NameTwice(rule.name.copy(alloc)?)));
+        return Err(StatementError::Refused(Refusal::NameTwice(rule.name.copy(alloc)?)));
     }
     let admits = admitted(alloc, &rule.name, &rule.form)?;
     let name = rule.name.copy(alloc)?;
     Ok(Column { name, admits })
 }
 
-fn bind_rules(alloc: Global, rules: &[ColumnRule]) -> Result<Sequence<Column>, Stop>
+fn bind_rules(alloc: Global, rules: &[ColumnRule]) -> Result<Sequence<Column>, StatementError>
     ensures ok { OnOk result (rules_objections rules.now ≡ []) }
     ensures value { IfOk result (λ columns. columns ≡ map new_column rules.now) }
     ensures stopped { IfErr result (λ stop. Stops stop (rules_objections rules.now)) }
@@ -83,18 +84,18 @@ pub(crate) fn bind_table(
     name: &Name,
     rules: &[ColumnRule],
     key: &[Name],
-) -> Result<Table, Stop>
-    requires database { IsDatabase (bare catalog.now) }
+) -> Result<Table, StatementError>
+    requires database { IsDatabase (without_rows catalog.now) }
     requires narrow { HasNarrowTables catalog.now }
-    requires declared { length rules.now ≤ 16 }
-    ensures ok { OnOk result (new_table_objections (bare catalog.now) name.now rules.now key.now
+    requires declared { length rules.now ≤ most_columns }
+    ensures ok { OnOk result (new_table_objections (without_rows catalog.now) name.now rules.now key.now
         ≡ []) }
-    ensures value { IfOk result (λ table. table ≡ table_of name.now rules.now key.now) }
+    ensures value { IfOk result (λ table. table ≡ created_table name.now rules.now key.now) }
     ensures stopped { IfErr result
-        (λ stop. Stops stop (new_table_objections (bare catalog.now) name.now rules.now key.now)) }
+        (λ stop. Stops stop (new_table_objections (without_rows catalog.now) name.now rules.now key.now)) }
 {
     if table_named(catalog, name).is_some() {
-        return Err(Stop::Refused(Refusal::TableExists(name.copy(alloc)?)));
+        return Err(StatementError::Refused(Refusal::TableExists(name.copy(alloc)?)));
     }
     let columns = bind_rules(alloc, rules)?;
     let mut table = Table {
@@ -113,19 +114,19 @@ pub(crate) fn bind_index(
     name: &Name,
     table: &Table,
     columns: &[Name],
-) -> Result<IndexRule, Stop>
-    requires database { IsDatabase (bare catalog.now) }
-    requires narrow { length table.now.columns ≤ 16 }
-    ensures ok { OnOk result (new_index_objections (bare catalog.now) name.now table.now columns.now
+) -> Result<IndexRule, StatementError>
+    requires database { IsDatabase (without_rows catalog.now) }
+    requires narrow { length table.now.columns ≤ most_columns }
+    ensures ok { OnOk result (new_index_objections (without_rows catalog.now) name.now table.now columns.now
         ≡ []) }
     ensures value { IfOk result (λ index. index ≡ index_of name.now table.now columns.now) }
     ensures stopped { IfErr result
         (λ stop. Stops stop (new_index_objections
-        (bare catalog.now) name.now table.now columns.now)) }
+        (without_rows catalog.now) name.now table.now columns.now)) }
 {
     let places = places_named(alloc, table, columns)?;
     if has_index(catalog, name) {
-        return Err(Stop::Refused(Refusal::IndexExists(name.copy(alloc)?)));
+        return Err(StatementError::Refused(Refusal::IndexExists(name.copy(alloc)?)));
     }
     let name = name.copy(alloc)?;
     let on = table.name.copy(alloc)?;

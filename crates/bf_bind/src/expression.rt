@@ -1,18 +1,18 @@
 //! Expressions.
 
 ghost use Rattle.std.specs.Prelude.{◌≡◌, ◌≤◌, [], ◌++◌, IfErr, IfOk, OnOk, length};
+ghost use Rattle.bf_base.specs.Limits.{most_columns};
 ghost use Rattle.bf_base.specs.Tables.{kind_of};
-ghost use Rattle.bf_expr.specs.Trees as trees;
-ghost use Rattle.bf_expr.specs.Trees.{expr_over};
-ghost use Rattle.bf_expr.specs.Views.{bound_tree};
+ghost use Rattle.bf_tree.specs.Trees as trees;
+ghost use Rattle.bf_tree.specs.Trees.{expr_over};
+ghost use Rattle.bf_tree.specs.Views.{bound_tree};
 ghost use Rattle.bf_sql.specs.Scopes.{expr_objections, kind_in, kind_objections, place_of, ref_objections, scope_of};
 ghost use Rattle.bf_bind.specs.Parts.{bound_expr, parts_objections};
 ghost use Rattle.bf_bind.specs.Stops.{Stops};
 
 use crate::scope::{column, expect_kind};
 use bf_base::{Kind, Table, Value};
-use bf_expr::{Expr, Node, RawExpr, RawNode, Ref};
-use bf_sql::Stop;
+use bf_tree::{Expr, Node, RawExpr, RawNode, Ref, StatementError};
 use std::alloc::Global;
 
 /// An expression and the kind of its values.
@@ -35,7 +35,7 @@ impl BoundExpr {
 }
 
 /// A literal.
-pub(crate) fn bind_literal(alloc: Global, value: &Value) -> Result<BoundExpr, Stop>
+pub(crate) fn bind_literal(alloc: Global, value: &Value) -> Result<BoundExpr, StatementError>
     ensures expr { IfOk result (λ bound. bound.expr ≡ trees.literal value.now) }
     ensures kind { IfOk result (λ bound. bound.kind ≡ kind_of value.now) }
     ensures stopped { IfErr result (λ stop. Stops stop []) }
@@ -47,8 +47,8 @@ pub(crate) fn bind_literal(alloc: Global, value: &Value) -> Result<BoundExpr, St
 ///
 /// # Errors
 /// The first objection to the ref.
-pub(crate) fn bind_column(alloc: Global, table: &Table, reference: &Ref) -> Result<BoundExpr, Stop>
-    requires { length table.now.columns ≤ 16 }
+pub(crate) fn bind_column(alloc: Global, table: &Table, reference: &Ref) -> Result<BoundExpr, StatementError>
+    requires { length table.now.columns ≤ most_columns }
     ensures ok { OnOk result (ref_objections (scope_of table.now) reference.now ≡ []) }
     ensures value { IfOk result (λ bound.
         bound ≡ bound_expr (scope_of table.now) (trees.column reference.now)) }
@@ -68,8 +68,8 @@ pub(crate) fn bind_expression(
     alloc: Global,
     table: &Table,
     raw: &RawExpr,
-) -> Result<BoundExpr, Stop>
-    requires { length table.now.columns ≤ 16 }
+) -> Result<BoundExpr, StatementError>
+    requires { length table.now.columns ≤ most_columns }
     ensures ok { OnOk result (expr_objections (scope_of table.now) raw.now ≡ []) }
     ensures value { IfOk result (λ bound. bound ≡ bound_expr (scope_of table.now) raw.now) }
     ensures stopped { IfErr result
@@ -103,8 +103,8 @@ pub(crate) fn bind_expression(
 
 /// The part of a node whose parts are of a kind.
 #[cycle(expression)]
-fn bind_part(alloc: Global, table: &Table, a: &RawExpr, kind: Kind) -> Result<Box<Expr>, Stop>
-    requires { length table.now.columns ≤ 16 }
+fn bind_part(alloc: Global, table: &Table, a: &RawExpr, kind: Kind) -> Result<Box<Expr>, StatementError>
+    requires { length table.now.columns ≤ most_columns }
     ensures ok { OnOk result (expr_objections (scope_of table.now) a.now
         ++ kind_objections (scope_of table.now) a.now kind ≡ []) }
     ensures value { IfOk result (λ part.
@@ -126,8 +126,8 @@ fn bind_parts(
     a: &RawExpr,
     b: &RawExpr,
     kind: Kind,
-) -> Result<(Box<Expr>, Box<Expr>), Stop>
-    requires { length table.now.columns ≤ 16 }
+) -> Result<(Box<Expr>, Box<Expr>), StatementError>
+    requires { length table.now.columns ≤ most_columns }
     ensures ok { OnOk result (parts_objections (scope_of table.now) a.now b.now kind ≡ []) }
     ensures left { IfOk result (λ parts.
         parts.0.value ≡ expr_over (place_of (scope_of table.now)) a.now) }

@@ -1,8 +1,9 @@
 //! The rows that a condition selects, and the key that it fixes.
 
 ghost use Rattle.std.specs.Prelude.{◌≡◌, ◌≤◌, [], IfErr, IfOk, OnOk, length, option_copied};
-ghost use Rattle.bf_expr.specs.Trees.{compared, cond_over};
-ghost use Rattle.bf_expr.specs.declared.compare.Compare.TheVariants as comparison;
+ghost use Rattle.bf_base.specs.Limits.{most_columns};
+ghost use Rattle.bf_tree.specs.Trees.{compared, cond_over};
+ghost use Rattle.bf_tree.specs.declared.compare.Compare.TheVariants as comparison;
 ghost use Rattle.bf_sql.specs.Conditions.{condition_of, fixed_key as fixed_key_of, value_fixed};
 ghost use Rattle.bf_sql.specs.Scopes.{cond_objections, place_of, scope_of};
 ghost use Rattle.bf_bind.specs.Stops.{Stops};
@@ -10,8 +11,7 @@ ghost use Rattle.bf_bind.specs.Parts.{first_fixed as first_fixed_of, is_column_a
 
 use crate::condition::bind_condition;
 use bf_base::{Key, Memory, Table, Value};
-use bf_expr::{Compare, Cond, Expr, Node, RawCond, Test};
-use bf_sql::Stop;
+use bf_tree::{Compare, Cond, Expr, Node, RawCond, StatementError, Test};
 use std::alloc::Global;
 
 /// The value of a literal.
@@ -90,8 +90,8 @@ pub(crate) fn bind_selection(
     alloc: Global,
     table: &Table,
     raw: &Option<RawCond>,
-) -> Result<Selection, Stop>
-    requires { length table.now.columns ≤ 16 }
+) -> Result<Selection, StatementError>
+    requires { length table.now.columns ≤ most_columns }
     ensures ok { OnOk result (cond_objections (scope_of table.now) (condition_of raw.now) ≡ []) }
     ensures cond { IfOk result (λ picked.
         picked.cond ≡ cond_over (place_of (scope_of table.now)) (condition_of raw.now)) }

@@ -3,7 +3,7 @@
 #![tactic(auto, unfolding(crate::specs::Stops::Stops))]
 
 pub mod binding;
-mod change;
+mod tuples_and_sets;
 mod condition;
 mod create;
 mod expression;

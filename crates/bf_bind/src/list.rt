@@ -1,7 +1,8 @@
 //! What SELECT gives.
 
 ghost use Rattle.std.specs.Prelude.{◌≡◌, ◌≤◌, [], IfErr, IfOk, OnOk, flat_map, length, map};
-ghost use Rattle.bf_expr.specs.Trees.{expr_over};
+ghost use Rattle.bf_base.specs.Limits.{most_columns};
+ghost use Rattle.bf_tree.specs.Trees.{expr_over};
 ghost use Rattle.bf_sql.specs.Bound.{items_over, total_over};
 ghost use Rattle.bf_sql.specs.Objections.{items_objections};
 ghost use Rattle.bf_sql.specs.Scopes.{expr_objections, place_of, scope_of, total_objections};
@@ -10,12 +11,11 @@ ghost use Rattle.bf_bind.specs.Stops.{Stops};
 use crate::expression::bind_expression;
 use crate::scope::expect_kind;
 use bf_base::{Kind, Sequence, Table};
-use bf_expr::{Expr, RawExpr};
-use bf_sql::{Aggregate, Items, List, RawAggregate, Stop};
+use bf_tree::{Aggregate, Expr, Items, List, RawAggregate, RawExpr, StatementError};
 use std::alloc::Global;
 
-fn bind_expressions(alloc: Global, table: &Table, exprs: &[RawExpr]) -> Result<Sequence<Expr>, Stop>
-    requires { length table.now.columns ≤ 16 }
+fn bind_expressions(alloc: Global, table: &Table, exprs: &[RawExpr]) -> Result<Sequence<Expr>, StatementError>
+    requires { length table.now.columns ≤ most_columns }
     ensures ok { OnOk result (flat_map (expr_objections (scope_of table.now)) exprs.now ≡ []) }
     ensures value { IfOk result (λ bound.
         bound ≡ map (expr_over (place_of (scope_of table.now))) exprs.now) }
@@ -29,8 +29,8 @@ fn bind_expressions(alloc: Global, table: &Table, exprs: &[RawExpr]) -> Result<S
     Ok(Sequence::of(bound))
 }
 
-fn bind_total(alloc: Global, table: &Table, total: &RawAggregate) -> Result<Aggregate, Stop>
-    requires { length table.now.columns ≤ 16 }
+fn bind_total(alloc: Global, table: &Table, total: &RawAggregate) -> Result<Aggregate, StatementError>
+    requires { length table.now.columns ≤ most_columns }
     ensures ok { OnOk result (total_objections (scope_of table.now) total.now ≡ []) }
     ensures value { IfOk result (λ bound.
         bound ≡ total_over (place_of (scope_of table.now)) total.now) }
@@ -53,8 +53,8 @@ fn bind_totals(
     alloc: Global,
     table: &Table,
     totals: &[RawAggregate],
-) -> Result<Sequence<Aggregate>, Stop>
-    requires { length table.now.columns ≤ 16 }
+) -> Result<Sequence<Aggregate>, StatementError>
+    requires { length table.now.columns ≤ most_columns }
     ensures ok { OnOk result (flat_map (total_objections (scope_of table.now)) totals.now ≡ []) }
     ensures value { IfOk result (λ bound.
         bound ≡ map (total_over (place_of (scope_of table.now))) totals.now) }
@@ -72,8 +72,8 @@ fn bind_totals(
 ///
 /// # Errors
 /// The first objection, from the left.
-pub(crate) fn bind_items(alloc: Global, table: &Table, list: &List) -> Result<Items, Stop>
-    requires { length table.now.columns ≤ 16 }
+pub(crate) fn bind_items(alloc: Global, table: &Table, list: &List) -> Result<Items, StatementError>
+    requires { length table.now.columns ≤ most_columns }
     ensures ok { OnOk result (items_objections (scope_of table.now) list.now ≡ []) }
     ensures value { IfOk result (λ items.
         items ≡ items_over (place_of (scope_of table.now)) list.now) }

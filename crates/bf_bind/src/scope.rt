@@ -2,23 +2,23 @@
 
 ghost use Rattle.std.specs.Prelude.{◌≡◌, ◌≤◌, [], IfErr, IfOk, IfSome, OnOk, is_some, length, not, position, slice_range};
 ghost use Rattle.std.specs.List.{list_any};
+ghost use Rattle.bf_base.specs.Limits.{most_columns};
 ghost use Rattle.bf_base.specs.Lists.{has, same_name, when};
 ghost use Rattle.bf_base.specs.Tables.{kind_admitted, same_kind};
 ghost use Rattle.bf_sql.specs.Objections.{column_names, names_objections};
 ghost use Rattle.bf_sql.specs.Meaning.{named_places};
 ghost use Rattle.bf_sql.specs.Scopes.{is_qualified_by, qualifier_objections, ref_objections, scope_of, unqualified};
-ghost use Rattle.bf_sql.specs.declared.reply.Refusal.TheVariants as refusal;
+ghost use Rattle.bf_tree.specs.declared.reply.Refusal.TheVariants as refusal;
 ghost use Rattle.bf_bind.specs.Parts.{column_of, means, name_objections};
 ghost use Rattle.bf_bind.specs.Stops.{Stops};
 
 use bf_base::{Admit, Column, Kind, Name, Sequence, Table};
-use bf_expr::Ref;
-use bf_sql::{Refusal, Stop};
+use bf_tree::{Ref, Refusal, StatementError};
 use std::alloc::Global;
 
 /// A column of a table: its place, counted from 0, and the kind of its values.
 #[derive(Clone, Copy)]
-pub(crate) struct Place {
+pub(crate) struct ColumnPlace {
     pub(crate) place: u8,
     pub(crate) kind: Kind,
 }
@@ -40,7 +40,7 @@ pub(crate) fn is_same_kind(a: Kind, b: Kind) -> bool
 }
 
 /// A value of this kind stands where one of the other kind is wanted.
-pub(crate) fn expect_kind(found: Kind, wanted: Kind) -> Result<(), Stop>
+pub(crate) fn expect_kind(found: Kind, wanted: Kind) -> Result<(), StatementError>
     ensures ok { OnOk result (when (not (same_kind found wanted)) refusal.TypeMismatch ≡ []) }
     ensures stopped { IfErr result
         (λ stop. Stops stop (when (not (same_kind found wanted)) refusal.TypeMismatch)) }
@@ -48,7 +48,7 @@ pub(crate) fn expect_kind(found: Kind, wanted: Kind) -> Result<(), Stop>
     if is_same_kind(found, wanted) {
         Ok(())
     } else {
-        Err(Stop::Refused(Refusal::TypeMismatch))
+        Err(StatementError::Refused(Refusal::TypeMismatch))
     }
 }
 
@@ -70,7 +70,7 @@ fn is_qualifier(table: &Table, qualifier: &Name) -> bool
 }
 
 /// The qualifier of a ref, if it has one, has to be the table's name.
-fn expect_qualifier(alloc: Global, table: &Table, qualifier: &Option<Name>) -> Result<(), Stop>
+fn expect_qualifier(alloc: Global, table: &Table, qualifier: &Option<Name>) -> Result<(), StatementError>
     ensures ok { OnOk result (qualifier_objections (scope_of table.now) qualifier.now ≡ []) }
     ensures stopped { IfErr result
         (λ stop. Stops stop (qualifier_objections (scope_of table.now) qualifier.now)) }
@@ -81,7 +81,7 @@ fn expect_qualifier(alloc: Global, table: &Table, qualifier: &Option<Name>) -> R
             if is_qualifier(table, qualifier) {
                 Ok(())
             } else {
-                Err(Stop::Refused(Refusal::NoTable(qualifier.copy(alloc)?)))
+                Err(StatementError::Refused(Refusal::NoTable(qualifier.copy(alloc)?)))
             }
         }
     }
@@ -119,8 +119,8 @@ fn is_meant_from(table: &Table, reference: &Ref, from: usize) -> bool
 ///
 /// # Errors
 /// The qualifier is not the table's name, or no column or more than one has the name.
-pub(crate) fn column(alloc: Global, table: &Table, reference: &Ref) -> Result<Place, Stop>
-    requires { length table.now.columns ≤ 16 }
+pub(crate) fn column(alloc: Global, table: &Table, reference: &Ref) -> Result<ColumnPlace, StatementError>
+    requires { length table.now.columns ≤ most_columns }
     ensures ok { OnOk result (ref_objections (scope_of table.now) reference.now ≡ []) }
     ensures place { IfOk result (λ found. found ≡ column_of (scope_of table.now) reference.now) }
     ensures stopped { IfErr result
@@ -128,12 +128,12 @@ pub(crate) fn column(alloc: Global, table: &Table, reference: &Ref) -> Result<Pl
 {
     expect_qualifier(alloc, table, &reference.table)?;
     let Some(place) = first_meant(table, reference) else {
-        return Err(Stop::Refused(Refusal::NoColumn(reference.column.copy(alloc)?)));
+        return Err(StatementError::Refused(Refusal::NoColumn(reference.column.copy(alloc)?)));
     };
     if is_meant_from(table, reference, place + 1) {
-        return Err(Stop::Refused(Refusal::NameTwice(reference.column.copy(alloc)?)));
+        return Err(StatementError::Refused(Refusal::NameTwice(reference.column.copy(alloc)?)));
     }
-    Ok(Place {
+    Ok(ColumnPlace {
         place: place as u8,
         kind: kind_of_column(&table.columns.as_slice()[place]),
     })
@@ -147,15 +147,15 @@ fn first_named(columns: &[Column], name: &Name) -> Option<usize>
 }
 
 /// The first column of a name.
-pub(crate) fn column_named(table: &Table, name: &Name) -> Option<Place>
-    requires { length table.now.columns ≤ 16 }
+pub(crate) fn column_named(table: &Table, name: &Name) -> Option<ColumnPlace>
+    requires { length table.now.columns ≤ most_columns }
     ensures there { is_some result ≡ has same_name (column_names table.now) name.now }
     ensures place { IfSome result
         (λ found. found ≡ column_of (scope_of table.now) (unqualified name.now)) }
 {
     let columns = table.columns.as_slice();
     match first_named(columns, name) {
-        Some(place) => Some(Place {
+        Some(place) => Some(ColumnPlace {
             place: place as u8,
             kind: kind_of_column(&columns[place]),
         }),
@@ -171,8 +171,8 @@ fn is_among(name: &Name, names: &[Name]) -> bool
 }
 
 /// The place of a column by its name, which may not be one of those before.
-fn place_named(alloc: Global, table: &Table, before: &[Name], name: &Name) -> Result<u8, Stop>
-    requires { length table.now.columns ≤ 16 }
+fn place_named(alloc: Global, table: &Table, before: &[Name], name: &Name) -> Result<u8, StatementError>
+    requires { length table.now.columns ≤ most_columns }
     ensures ok { OnOk result (name_objections table.now before.now name.now ≡ []) }
     ensures place { IfOk result (λ place.
         place ≡ (column_of (scope_of table.now) (unqualified name.now)).place) }
@@ -180,10 +180,10 @@ fn place_named(alloc: Global, table: &Table, before: &[Name], name: &Name) -> Re
         (λ stop. Stops stop (name_objections table.now before.now name.now)) }
 {
     let Some(found) = column_named(table, name) else {
-        return Err(Stop::Refused(Refusal::NoColumn(name.copy(alloc)?)));
+        return Err(StatementError::Refused(Refusal::NoColumn(name.copy(alloc)?)));
     };
     if is_among(name, before) {
-        return Err(Stop::Refused(Refusal::NameTwice(name.copy(alloc)?)));
+        return Err(StatementError::Refused(Refusal::NameTwice(name.copy(alloc)?)));
     }
     Ok(found.place)
 }
@@ -197,8 +197,8 @@ pub(crate) fn places_named(
     alloc: Global,
     table: &Table,
     names: &[Name],
-) -> Result<Sequence<u8>, Stop>
-    requires { length table.now.columns ≤ 16 }
+) -> Result<Sequence<u8>, StatementError>
+    requires { length table.now.columns ≤ most_columns }
     ensures ok { OnOk result (names_objections (column_names table.now) names.now ≡ []) }
     ensures places { IfOk result (λ places. places ≡ named_places table.now names.now) }
     ensures stopped { IfErr result

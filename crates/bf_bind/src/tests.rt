@@ -3,17 +3,14 @@
 
 ghost use Rattle.std.specs.Prelude.{◌≡◌, ◌≤◌, [], ◌∷◌, false, length, IfOk};
 ghost use Rattle.bf_base.specs.Names.{folded};
-ghost use Rattle.bf_sql.specs.Bound.{bare};
+ghost use Rattle.bf_sql.specs.Bound.{without_rows};
 ghost use Rattle.bf_sql.specs.Database.{IsDatabase};
-ghost use Rattle.bf_bind.specs.Limits.{HasNarrowTables, declared_columns, is_planned};
+ghost use Rattle.bf_tree.specs.Limits.{HasNarrowTables, declared_columns};
+ghost use Rattle.bf_bind.specs.Limits.{is_planned};
 
 use crate::bind;
 use bf_base::{Admit, Column, Key, Name, Row, Sequence, Table, Text, Value};
-use bf_expr::{Compare, Expr, Operand, RawCond, RawExpr, RawNode, RawTest, Ref};
-use bf_sql::{
-    Action, Aggregate, Catalog, ColumnForm, ColumnRule, IndexRule, Items, List, Migrate, Refusal,
-    Statement,
-};
+use bf_tree::{Action, Aggregate, Catalog, ColumnForm, ColumnRule, Compare, Expr, IndexRule, Items, List, Migrate, Operand, RawCond, RawExpr, RawNode, RawTest, Ref, Refusal, Statement};
 use std::alloc::Global;
 use std::test::Fail;
 
@@ -173,7 +170,7 @@ fn index(alloc: Global) -> Result<IndexRule, Fail>
 /// `t (a INT, s VARCHAR(3), n INT CHECK (n BETWEEN 0 AND 9), PRIMARY KEY (a))` with the index `i`
 /// on `n`, and `v (a INT, PRIMARY KEY (a))`.
 fn catalog(alloc: Global) -> Result<Catalog, Fail>
-    ensures database { IfOk result (λ catalog. IsDatabase (bare catalog)) }
+    ensures database { IfOk result (λ catalog. IsDatabase (without_rows catalog)) }
     ensures narrow { IfOk result (λ catalog. HasNarrowTables catalog) }
 {
     let mut tables = Vec::new(alloc);
@@ -497,7 +494,7 @@ fn action_seen(action: &Action) -> Told {
 
 /// What a statement is bound to, in a block or outside.
 fn outcome(alloc: Global, catalog: &Catalog, line: &Line, in_block: bool) -> Result<Told, Fail>
-    requires database { IsDatabase (bare catalog.now) }
+    requires database { IsDatabase (without_rows catalog.now) }
     requires narrow { HasNarrowTables catalog.now }
 {
     let statement = statement(alloc, line)?;

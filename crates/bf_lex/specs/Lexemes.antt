@@ -1,6 +1,7 @@
 -- LEXEMES: words, runs of digits, quoted texts and signs, whatever their size; and the tokens that they are.
 use Rattle.std.specs.Prelude.{◌≡◌, ℕ, ◌+◌, ◌-◌, ◌*◌, ◌^◌, Bool, false, ◌&&◌, ◌||◌, ◌==◌, nat_le, if◌then◌else◌, List, [], ◌∷◌, ◌++◌, flat_map, length, Option, Some, None, Result, Ok, Err, IsTrue}
 use Rattle.std.specs.List.{list_all}
+use Rattle.bf_base.specs.Limits.{longest_text, longest_name, int_end}
 use Rattle.bf_base.specs.Lists.{same_name, has}
 use Rattle.bf_base.specs.Names.{is_digit, folded}
 use Rattle.bf_base.specs.Texts.{first_bad_of}
@@ -74,7 +75,7 @@ Misfit = ScriptKind × ℕ
 
 abbrev pub word_token : Option KeywordCase → ℕ → Result TokenKind Misfit
 word_token (Some keyword) length = Ok (token.Keyword keyword)
-word_token None length = if nat_le length 63 then Ok token.Name else Err (kind.NameTooLong, 0)
+word_token None length = if nat_le length longest_name then Ok token.Name else Err (kind.NameTooLong, 0)
 
 abbrev pub text_token : Option ℕ → Result TokenKind Misfit
 text_token (Some bad) = Err (kind.BadByte, bad)
@@ -83,6 +84,6 @@ text_token None = Ok token.Text
 -- TOKEN: what a lexeme is, within the limits of tokens; else the fault, and its place from the lexeme's first byte
 abbrev pub token_of : Lexeme → List ℕ → Result TokenKind Misfit
 token_of Word bytes = word_token (keyword_of (folded bytes)) (length bytes)
-token_of Digits bytes = if nat_le (number_from 0 bytes) (2 ^ 63) then Ok (token.Number (number_from 0 bytes)) else Err (kind.NumberTooWide, 0)
-token_of (Quoted content) bytes = if nat_le (length content) 255 then text_token (first_bad_of bytes) else Err (kind.TextTooLong, 0)
+token_of Digits bytes = if nat_le (number_from 0 bytes) int_end then Ok (token.Number (number_from 0 bytes)) else Err (kind.NumberTooWide, 0)
+token_of (Quoted content) bytes = if nat_le (length content) longest_text then text_token (first_bad_of bytes) else Err (kind.TextTooLong, 0)
 token_of (Mark sign) bytes = Ok (token.Sign sign)

@@ -1,4 +1,5 @@
 pub mod Bytes
+pub mod Faults
 pub mod Lexemes
 pub mod Lexing
 pub mod Reading

@@ -1,6 +1,7 @@
 //! Why a text is no script.
 
 ghost use Rattle.std.specs.Prelude.{◌≡◌};
+ghost use Rattle.bf_lex.specs.Faults.{kind_text};
 ghost use Rattle.bf_lex.specs.declared.fault.ScriptError.TheVariants.{Fault, Memory as OutOfMemory};
 
 use bf_base::Memory;
@@ -34,6 +35,28 @@ pub enum ScriptKind {
     TooDeep,
     /// More than 16,777,216 bytes.
     ScriptTooLong,
+}
+
+impl ScriptKind {
+    /// The words that tell of it.
+    pub fn words(self) -> &'static [u8]
+        ensures { result.now ≡ kind_text self }
+    {
+        match self {
+            ScriptKind::BadByte => b"bad byte",
+            ScriptKind::OpenString => b"open string",
+            ScriptKind::NumberTooWide => b"number too wide",
+            ScriptKind::Syntax => b"syntax",
+            ScriptKind::TextTooLong => b"text too long",
+            ScriptKind::NameTooLong => b"name too long",
+            ScriptKind::TooManyColumns => b"too many columns",
+            ScriptKind::TooManySessions => b"too many sessions",
+            ScriptKind::TooManyMigrations => b"too many migrations",
+            ScriptKind::TooManyTargets => b"too many targets",
+            ScriptKind::TooDeep => b"too deep",
+            ScriptKind::ScriptTooLong => b"script too long",
+        }
+    }
 }
 
 /// The first fault of a text, and the byte where it stands, counted from 0.

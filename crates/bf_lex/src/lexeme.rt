@@ -11,12 +11,7 @@ use crate::fault::ScriptKind;
 use crate::keyword::Keyword;
 use crate::sign::Sign;
 use crate::token::TokenKind;
-
-/// The most bytes of a name.
-const LONGEST_NAME: usize = 63;
-
-/// The most bytes of a text.
-pub const LONGEST_TEXT: usize = 255;
+use bf_base::{LONGEST_NAME, LONGEST_TEXT};
 
 const LARGEST_NUMBER: u64 = 1 << 63;
 

@@ -2,6 +2,7 @@
 
 ghost use Rattle.std.specs.Prelude.{◌≡◌, ◌+◌, ◌≤◌, ◌^◌, ℕ, List, Ok, Err, length, IfOk, Result};
 ghost use Rattle.bf_base.specs.Texts.{IsText};
+ghost use Rattle.bf_base.specs.Limits.{longest_script};
 ghost use Rattle.bf_lex.specs.declared.fault.ScriptFault.{ScriptFault as FaultValue};
 ghost use Rattle.bf_lex.specs.declared.token.Token.{Token as TokenValue};
 ghost use Rattle.bf_lex.specs.Lexemes.{quoted};
@@ -10,9 +11,9 @@ ghost use Rattle.bf_lex.specs.Reading.{IsNextRead};
 
 use crate::fault::{ScriptError, ScriptFault};
 use crate::gap::behind_gap;
-use crate::lexeme::{LONGEST_TEXT, token_at};
+use crate::lexeme::token_at;
 use crate::token::Token;
-use bf_base::{Memory, Text, TextError};
+use bf_base::{LONGEST_TEXT, Memory, Text, TextError};
 use std::alloc::Global;
 
 /// The tokens of a text of at most 16,777,216 bytes, in time linear in its bytes.
@@ -20,7 +21,7 @@ use std::alloc::Global;
 /// # Errors
 /// The first fault from the left.
 pub fn tokens(alloc: Global, text: &[u8]) -> Result<Vec<Token>, ScriptError>
-    requires { length text.now ≤ 2 ^ 24 }
+    requires { length text.now ≤ longest_script }
     ensures ok { IfOk result (λ tokens. IsLexed text.now (Ok tokens.items)) }
     ensures fault { (fault : FaultValue) → result ≡ Err (ScriptError.Fault fault)
         → IsLexed text.now (Err fault) }
@@ -39,7 +40,7 @@ pub fn tokens(alloc: Global, text: &[u8]) -> Result<Vec<Token>, ScriptError>
 // The token behind the gap at the front of the bytes at a place, and the bytes behind it; `None`
 // where only a last gap is left.
 fn next_token(bytes: &[u8], place: u32) -> Result<Option<(Token, &[u8])>, ScriptFault>
-    requires { place + length bytes.now ≤ 2 ^ 24 }
+    requires { place + length bytes.now ≤ longest_script }
     ensures { IsNextRead place bytes.now (λ found. (found.0, found.1.now)) result }
 {
     let Some(front) = behind_gap(bytes) else {

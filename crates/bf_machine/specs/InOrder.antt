@@ -1,26 +1,27 @@
 -- A run on one thread, session after session.
 use Rattle.std.specs.Prelude.{◌≡◌, ℕ, Bool, true, false, not, List, length, map, flat_map, zip}
 use Rattle.std.specs.List.{list_all, range_with_len}
-use Rattle.bf_sql.specs.declared.statement.Statement.{Statement}
-use Rattle.bf_sql.specs.declared.statement.Statement.TheVariants.{Migrate}
-use Rattle.bf_sql.specs.declared.script.Script.{Script}
-use Rattle.bf_sql.specs.declared.reply.Cause.{Cause}
-use Rattle.bf_sql.specs.declared.reply.Reply.{Reply}
-use Rattle.bf_sql.specs.declared.history.Outcome.{Outcome}
-use Rattle.bf_sql.specs.declared.history.Entry.{Entry}
-use Rattle.bf_sql.specs.declared.history.Sweep.{Sweep}
-use Rattle.bf_sql.specs.declared.history.Sweep.TheVariants.{Never}
+use Rattle.bf_tree.specs.declared.statement.Statement.{Statement}
+use Rattle.bf_tree.specs.declared.statement.Statement.TheVariants.{Migrate}
+use Rattle.bf_tree.specs.declared.script.Script.{Script}
+use Rattle.bf_tree.specs.declared.reply.Cause.{Cause}
+use Rattle.bf_tree.specs.declared.reply.Reply.{Reply}
+use Rattle.bf_tree.specs.declared.history.Outcome.{Outcome}
+use Rattle.bf_tree.specs.declared.history.Entry.{Entry}
+use Rattle.bf_tree.specs.declared.history.Sweep.{Sweep}
+use Rattle.bf_tree.specs.declared.history.Sweep.TheVariants.{Never}
 use Rattle.bf_sql.specs.Database.{empty_database}
 use Rattle.bf_sql.specs.Groups.{groups_in, statements_in, outcomes_from}
-use Rattle.bf_sql.specs.History.{IsLegalHistory, IsAllAnswered}
+use Rattle.bf_tree.specs.Answered.{IsAllAnswered}
+use Rattle.bf_sql.specs.History.{IsLegalHistory}
 
 abbrev pub is_migrate : Statement → Bool
 is_migrate (Migrate migrate) = true
 is_migrate other = false
 
 -- no MIGRATE stands in a script
-abbrev pub is_plain_script : Script → Bool
-is_plain_script script = list_all (λ s. list_all (λ statement. not (is_migrate statement)) s.statements) script.sessions
+abbrev pub migrates_nothing : Script → Bool
+migrates_nothing script = list_all (λ s. list_all (λ statement. not (is_migrate statement)) s.statements) script.sessions
 
 -- the groups of a script, each as its session, its first and its last statement: session after session, in the order of
 -- the text
@@ -48,7 +49,7 @@ none_open session group = false
 
 -- RUN of a plain script from the empty database: transcripts and history are legal, every statement has its reply, the
 -- entries are those of the groups in the order of the text, and there was no migration
-pub record IsRun (script : Script) (transcripts : List (List Reply)) (history : List Entry) (sweep : Sweep) : Type 0 where
+pub record IsRunInOrder (script : Script) (transcripts : List (List Reply)) (history : List Entry) (sweep : Sweep) : Type 0 where
   pub history_legal : IsLegalHistory script NoCause none_open empty_database transcripts history
   pub all_answered : IsAllAnswered script transcripts
   pub entries_are_in_order : history ≡ entries_in_order script

@@ -1,16 +1,16 @@
--- A transaction that is open over a store, and a statement that runs in it.
+-- A transaction that is open over a live tables, and a statement that runs in it.
 use Rattle.std.specs.Prelude.{◌≡◌, ℕ, Bool, true, false, List, option_and_then, option_map, unwrap_or}
 use Rattle.std.specs.List.{All}
-use Rattle.bf_sql.specs.declared.statement.Statement.{Statement}
-use Rattle.bf_sql.specs.declared.statement.Statement.TheVariants.{Commit, Rollback}
-use Rattle.bf_sql.specs.declared.reply.Reply.{Reply}
+use Rattle.bf_tree.specs.declared.statement.Statement.{Statement}
+use Rattle.bf_tree.specs.declared.statement.Statement.TheVariants.{Commit, Rollback}
+use Rattle.bf_tree.specs.declared.reply.Reply.{Reply}
 use Rattle.bf_sql.specs.Bound.{bound_of}
 use Rattle.bf_sql.specs.Database.{Database, IsDatabase}
 use Rattle.bf_sql.specs.Meaning.{executed}
-use Rattle.bf_query.specs.Actions.{table_of}
+use Rattle.bf_query.specs.Actions.{action_table}
 use Rattle.bf_query.specs.Meanings.{entries_of, writes_after}
 use Rattle.bf_query.specs.Merged.{StandUnderOwnKeys}
-use Rattle.bf_store.specs.Stores.{committed}
+use Rattle.bf_live.specs.Live.{committed}
 use Rattle.bf_txn.specs.declared.write.Write.{Write}
 use Rattle.bf_txn.specs.Writes.{AreWrites}
 
@@ -24,7 +24,7 @@ pub record IsOpen (db : Database) (writes : List Write) : Type 0 where
 -- the writes behind a statement: those before it, and where it is bound to a change that the rows don't refuse, its own
 abbrev pub writes_behind : Database → List Write → Bool → Statement → List Write
 writes_behind seen before in_block s =
-    unwrap_or (option_and_then (λ bound. option_map (λ table. writes_after seen table before bound.action) (table_of bound.action))
+    unwrap_or (option_and_then (λ bound. option_map (λ table. writes_after seen table before bound.action) (action_table bound.action))
     (bound_of seen in_block s)) before
 
 -- STEP: a statement has its reply on what its transaction sees, and what the transaction sees afterwards is the database

@@ -1,9 +1,9 @@
 -- What a statement's turn leaves: its reply, where its session stands, and what has been noted.
 use Rattle.std.specs.Prelude.{◌≡◌, ℕ, List, ◌++◌, Option, option_map, IfSome}
-use Rattle.bf_sql.specs.declared.reply.Reply.{Reply}
-use Rattle.bf_sql.specs.declared.history.Entry.{Entry}
+use Rattle.bf_tree.specs.declared.reply.Reply.{Reply}
+use Rattle.bf_tree.specs.declared.history.Entry.{Entry}
 use Rattle.bf_sql.specs.Database.{Database}
-use Rattle.bf_store.specs.Stores.{committed}
+use Rattle.bf_live.specs.Live.{committed}
 use Rattle.bf_machine.specs.declared.transaction.Transaction.{Transaction}
 use Rattle.bf_machine.specs.Open.{IsOpen}
 use Rattle.bf_machine.specs.Sessions.{Standing, Turn}

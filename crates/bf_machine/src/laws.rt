@@ -1,9 +1,10 @@
 //! A law of the definitions. It is the contract of a function that does nothing.
 
 ghost use Rattle.std.specs.Prelude.{◌≡◌, IsTrue};
-ghost use Rattle.bf_sql.specs.declared.script.Script.{Script};
+ghost use Rattle.bf_tree.specs.declared.script.Script.{Script};
 ghost use Rattle.bf_sql.specs.Database.{Database};
-ghost use Rattle.bf_sql.specs.History.{IsAllAnswered, IsLegalHistory};
+ghost use Rattle.bf_tree.specs.Answered.{IsAllAnswered};
+ghost use Rattle.bf_sql.specs.History.{IsLegalHistory};
 ghost use Rattle.bf_machine.specs.InOrder.{NoCause, entries_in_order, none_open};
 ghost use Rattle.bf_machine.specs.Runnable.{phases_rise_from};
 ghost use Rattle.bf_machine.specs.Sessions.{script_from};

@@ -2,10 +2,10 @@
 //! another, and the history of what has ended.
 #![tactic(auto)]
 
-mod course;
+mod run_so_far;
 pub mod laws;
-mod lone;
+mod autocommit;
 mod scripts;
 mod transaction;
 
-pub use scripts::{Run, in_order, is_plain};
+pub use scripts::{Run, in_order, migrates_nothing};

@@ -2,15 +2,15 @@
 
 ghost use Rattle.std.specs.Prelude.{◌≡◌, ◌++◌, IfOk, IsTrue, OnOk, not};
 ghost use Rattle.std.specs.List.{list_all};
-ghost use Rattle.bf_bind.specs.Limits.{HasNarrowTables};
-ghost use Rattle.bf_store.specs.Stores.{catalog_of};
-ghost use Rattle.bf_machine.specs.InOrder.{IsRun, is_migrate, is_plain_script};
-ghost use Rattle.bf_machine.specs.Runnable.{is_narrow_script, is_narrow_statement, phases_rise_from};
+ghost use Rattle.bf_tree.specs.Limits.{HasNarrowTables, is_narrow_script, is_narrow_statement};
+ghost use Rattle.bf_live.specs.Live.{catalog_of};
+ghost use Rattle.bf_machine.specs.InOrder.{IsRunInOrder, is_migrate, migrates_nothing};
+ghost use Rattle.bf_machine.specs.Runnable.{phases_rise_from};
 ghost use Rattle.bf_machine.specs.Sessions.{at_rest, sessions_from};
 
-use crate::course::{Course, next_number};
-use bf_base::{Memory, Sequence};
-use bf_sql::{History, Reply, Script, Session, Statement, Sweep, Transcripts};
+use crate::run_so_far::RunSoFar;
+use bf_base::{Memory, Sequence, next_number};
+use bf_tree::{History, Reply, Script, Session, Statement, Sweep, Transcripts};
 use std::alloc::Global;
 
 /// What a run leaves: for each session the replies to its statements, the transactions in the order
@@ -31,8 +31,8 @@ fn are_plain(statements: &[Statement]) -> bool
 }
 
 /// Whether no MIGRATE stands in a script. It costs a look at each statement.
-pub fn is_plain(script: &Script) -> bool
-    ensures { result ≡ is_plain_script script.now }
+pub fn migrates_nothing(script: &Script) -> bool
+    ensures { result ≡ migrates_nothing script.now }
 {
     let mut sessions = script.sessions.as_slice().iter();
     sessions.all(|session| are_plain(session.statements.as_slice()))
@@ -41,18 +41,18 @@ pub fn is_plain(script: &Script) -> bool
 /// Runs sessions, one after the other.
 fn run_sessions(
     alloc: Global,
-    course: &mut Course,
+    course: &mut RunSoFar,
     sessions: &[Session],
 ) -> Result<Vec<Sequence<Reply>>, Memory>
     requires plain { IsTrue (list_all (λ session.
         list_all (λ statement. not (is_migrate statement)) session.statements) sessions.now) }
     requires narrow { IsTrue (list_all (λ session.
         list_all is_narrow_statement session.statements) sessions.now) }
-    requires tables { HasNarrowTables (catalog_of course.old.store) }
+    requires tables { HasNarrowTables (catalog_of course.old.live) }
     ensures replies { IfOk result (λ transcripts. transcripts.items ≡ (sessions_from 1
-        (at_rest course.old.commits course.old.store) sessions.now).0) }
+        (at_rest course.old.commits course.old.live) sessions.now).0) }
     ensures entries { OnOk result (course.new.entries.items ≡ course.old.entries.items
-        ++ (sessions_from 1 (at_rest course.old.commits course.old.store) sessions.now).2) }
+        ++ (sessions_from 1 (at_rest course.old.commits course.old.live) sessions.now).2) }
 {
     let mut transcripts = Vec::with_capacity(alloc, sessions.len())?;
     for session in sessions {
@@ -70,13 +70,13 @@ fn run_sessions(
 /// # Errors
 /// Where memory runs out, or a number of a session or statement is 2 ^ 32 or above.
 pub fn in_order(alloc: Global, script: &Script) -> Result<Run, Memory>
-    requires plain { IsTrue (is_plain_script script.now) }
+    requires plain { IsTrue (migrates_nothing script.now) }
     requires narrow { IsTrue (is_narrow_script script.now) }
     requires phases { IsTrue (phases_rise_from 0 script.now.sessions) }
     ensures { IfOk result (λ run.
-        IsRun script.now run.transcripts.sessions run.history.entries run.sweep) }
+        IsRunInOrder script.now run.transcripts.sessions run.history.entries run.sweep) }
 {
-    let mut course = Course::new(alloc);
+    let mut course = RunSoFar::new(alloc);
     let transcripts = run_sessions(alloc, &mut course, script.sessions.as_slice())?;
     Ok(Run {
         transcripts: Transcripts {

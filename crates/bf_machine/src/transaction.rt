@@ -1,19 +1,19 @@
 //! Statements in a transaction that is open.
 
 ghost use Rattle.std.specs.Prelude.{◌≡◌, Bool, IfOk, IsTrue, true};
-ghost use Rattle.bf_bind.specs.Limits.{KeepsLimits};
+ghost use Rattle.bf_tree.specs.Limits.{KeepsLimits};
 ghost use Rattle.bf_query.specs.Meanings.{IsBoundAs};
-ghost use Rattle.bf_sql.specs.declared.statement.Statement.{Statement};
+ghost use Rattle.bf_tree.specs.declared.statement.Statement.{Statement};
 ghost use Rattle.bf_sql.specs.Database.{IsDatabase};
-ghost use Rattle.bf_store.specs.Stores.{catalog_of, committed};
+ghost use Rattle.bf_live.specs.Live.{catalog_of, committed};
 ghost use Rattle.bf_machine.specs.Actions.{IsOn};
 ghost use Rattle.bf_machine.specs.Open.{IsOpen, IsStep, goes_on};
 
 use bf_base::{Memory, Table};
 use bf_bind::bind;
 use bf_query::{changes, select};
-use bf_sql::{Action, Bound, Reply, Statement};
-use bf_store::Store;
+use bf_tree::{Action, Bound, Reply, Statement};
+use bf_live::LiveTables;
 use bf_txn::Workspace;
 use std::alloc::Global;
 
@@ -35,19 +35,19 @@ pub(crate) struct Transaction {
 /// writes then.
 pub(crate) fn run_on_table(
     alloc: Global,
-    store: &Store,
+    live: &LiveTables,
     writes: &mut Workspace,
     bound: &Bound,
     table: &Table,
 ) -> Result<Reply, Memory>
-    requires database { IsDatabase store.now }
-    requires open { IsOpen store.now writes.old }
-    requires on { IsOn (committed store.now writes.old) table.now bound.now.action }
+    requires database { IsDatabase live.now }
+    requires open { IsOpen live.now writes.old }
+    requires on { IsOn (committed live.now writes.old) table.now bound.now.action }
     ensures { (in_block : Bool) (s : Statement)
-        → IsBoundAs (committed store.now writes.old) in_block s bound.now.action
-        → IfOk result (IsStep store.now writes.old writes.new in_block s) }
+        → IsBoundAs (committed live.now writes.old) in_block s bound.now.action
+        → IfOk result (IsStep live.now writes.old writes.new in_block s) }
 {
-    let Some(heap) = store.heap(&table.name) else {
+    let Some(heap) = live.heap(&table.name) else {
         unreachable!();
     };
     if let Action::Select { .. } = &bound.action {
@@ -64,22 +64,22 @@ pub(crate) fn run_on_table(
 /// writes then.
 pub(crate) fn execute_in_block(
     alloc: Global,
-    store: &Store,
+    live: &LiveTables,
     writes: &mut Workspace,
     statement: &Statement,
 ) -> Result<Reply, Memory>
     requires goes_on { IsTrue (goes_on statement.now) }
-    requires limits { KeepsLimits (catalog_of store.now) statement.now }
-    requires open { IsOpen store.now writes.old }
-    ensures { IfOk result (IsStep store.now writes.old writes.new true statement.now) }
+    requires limits { KeepsLimits (catalog_of live.now) statement.now }
+    requires open { IsOpen live.now writes.old }
+    ensures { IfOk result (IsStep live.now writes.old writes.new true statement.now) }
 {
-    let bound = bind(alloc, statement, store.catalog(), true)?;
+    let bound = bind(alloc, statement, live.catalog(), true)?;
     match &bound.action {
         Action::Refused(refusal) => Ok(Reply::Refused(refusal.copy(alloc)?)),
         Action::Select { table, .. }
         | Action::Insert { table, .. }
         | Action::Update { table, .. }
-        | Action::Delete { table, .. } => run_on_table(alloc, store, writes, &bound, table),
+        | Action::Delete { table, .. } => run_on_table(alloc, live, writes, &bound, table),
         Action::CreateTable(_)
         | Action::CreateIndex(_)
         | Action::Begin

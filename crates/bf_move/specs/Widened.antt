@@ -12,17 +12,17 @@ use Rattle.bf_lazy.specs.declared.history.Outcome.TheVariants as outcome
 use Rattle.bf_lazy.specs.declared.history.Entry.{Entry}
 use Rattle.bf_lazy.specs.declared.history.Sweep.{Sweep}
 use Rattle.bf_lazy.specs.declared.history.Sweep.TheVariants as sweep
-use Rattle.bf_sql.specs.declared.reply.Refusal.{Refusal as WideRefusal}
-use Rattle.bf_sql.specs.declared.reply.Refusal.TheVariants as wide_refusal
-use Rattle.bf_sql.specs.declared.reply.Cell.{Cell as WideCell}
-use Rattle.bf_sql.specs.declared.reply.Cell.TheVariants as wide_cell
-use Rattle.bf_sql.specs.declared.reply.Reply.{Reply as WideReply}
-use Rattle.bf_sql.specs.declared.reply.Reply.TheVariants as wide_reply
-use Rattle.bf_sql.specs.declared.history.Outcome.{Outcome as WideOutcome}
-use Rattle.bf_sql.specs.declared.history.Outcome.TheVariants as wide_outcome
-use Rattle.bf_sql.specs.declared.history.Entry.{Entry as WideEntry}
-use Rattle.bf_sql.specs.declared.history.Sweep.{Sweep as WideSweep}
-use Rattle.bf_sql.specs.declared.history.Sweep.TheVariants as wide_sweep
+use Rattle.bf_tree.specs.declared.reply.Refusal.{Refusal as WideRefusal}
+use Rattle.bf_tree.specs.declared.reply.Refusal.TheVariants as wide_refusal
+use Rattle.bf_tree.specs.declared.reply.Cell.{Cell as WideCell}
+use Rattle.bf_tree.specs.declared.reply.Cell.TheVariants as wide_cell
+use Rattle.bf_tree.specs.declared.reply.Reply.{Reply as WideReply}
+use Rattle.bf_tree.specs.declared.reply.Reply.TheVariants as wide_reply
+use Rattle.bf_tree.specs.declared.history.Outcome.{Outcome as WideOutcome}
+use Rattle.bf_tree.specs.declared.history.Outcome.TheVariants as wide_outcome
+use Rattle.bf_tree.specs.declared.history.Entry.{Entry as WideEntry}
+use Rattle.bf_tree.specs.declared.history.Sweep.{Sweep as WideSweep}
+use Rattle.bf_tree.specs.declared.history.Sweep.TheVariants as wide_sweep
 use Rattle.bf_move.specs.Run.{IsRun}
 
 abbrev pub widened_refusal : Refusal → WideRefusal

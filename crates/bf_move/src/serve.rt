@@ -8,7 +8,7 @@ ghost use Rattle.bf_move.specs.Run.{IsRun};
 ghost use Rattle.bf_move.specs.Serving.{entry_at, replies_to, entries_from, AreOfForm};
 
 use crate::engine::Engine;
-use bf_base::{Memory, Sequence};
+use bf_base::{Memory, Sequence, next_number};
 use bf_lazy::{Entry, History, Outcome, Reply, Script, Statement, Sweep, Transcripts};
 use std::alloc::Global;
 
@@ -46,16 +46,6 @@ impl Course {
             outcome: Outcome::Committed(u64::from(number)),
         })?;
         Ok(())
-    }
-}
-
-/// One more than a count. A count that is too high for an entry counts as want of memory.
-fn next_number(count: usize) -> Result<u32, Memory>
-    ensures { IfOk result (λ number. number ≡ count + 1) }
-{
-    match u32::try_from(count) {
-        Ok(number) => number.checked_add(1).ok_or(Memory),
-        Err(_) => Err(Memory),
     }
 }
 

@@ -12,27 +12,27 @@ use std::alloc::Global;
 /// What a run leaves.
 #[derive(Debug, Drop)]
 pub struct FormRun {
-    pub transcripts: bf_sql::Transcripts,
-    pub history: bf_sql::History,
-    pub sweep: bf_sql::Sweep,
+    pub transcripts: bf_tree::Transcripts,
+    pub history: bf_tree::History,
+    pub sweep: bf_tree::Sweep,
 }
 
-fn wide_refusal(refusal: Refusal) -> bf_sql::Refusal
+fn wide_refusal(refusal: Refusal) -> bf_tree::Refusal
     ensures { result ≡ widened_refusal refusal }
 {
     match refusal {
-        Refusal::NoTable(name) => bf_sql::Refusal::NoTable(name),
-        Refusal::NoColumn(name) => bf_sql::Refusal::NoColumn(name),
-        Refusal::TypeMismatch => bf_sql::Refusal::TypeMismatch,
-        Refusal::DuplicateKey(key) => bf_sql::Refusal::DuplicateKey(key),
-        Refusal::OutOfRange => bf_sql::Refusal::OutOfRange,
-        Refusal::TooLong => bf_sql::Refusal::TooLong,
-        Refusal::TableExists(name) => bf_sql::Refusal::TableExists(name),
-        Refusal::WrongCount => bf_sql::Refusal::WrongCount,
-        Refusal::NameTwice(name) => bf_sql::Refusal::NameTwice(name),
-        Refusal::KeyNotInherited(target) => bf_sql::Refusal::KeyNotInherited(target),
-        Refusal::SourceUnknown(name) => bf_sql::Refusal::SourceUnknown(name),
-        Refusal::TooManyRows(table, rows) => bf_sql::Refusal::TooManyRows(table, rows),
+        Refusal::NoTable(name) => bf_tree::Refusal::NoTable(name),
+        Refusal::NoColumn(name) => bf_tree::Refusal::NoColumn(name),
+        Refusal::TypeMismatch => bf_tree::Refusal::TypeMismatch,
+        Refusal::DuplicateKey(key) => bf_tree::Refusal::DuplicateKey(key),
+        Refusal::OutOfRange => bf_tree::Refusal::OutOfRange,
+        Refusal::TooLong => bf_tree::Refusal::TooLong,
+        Refusal::TableExists(name) => bf_tree::Refusal::TableExists(name),
+        Refusal::WrongCount => bf_tree::Refusal::WrongCount,
+        Refusal::NameTwice(name) => bf_tree::Refusal::NameTwice(name),
+        Refusal::KeyNotInherited(target) => bf_tree::Refusal::KeyNotInherited(target),
+        Refusal::SourceUnknown(name) => bf_tree::Refusal::SourceUnknown(name),
+        Refusal::TooManyRows(table, rows) => bf_tree::Refusal::TooManyRows(table, rows),
     }
 }
 
@@ -63,60 +63,60 @@ impl<T: Widen> Widen for Sequence<T> {
 }
 
 impl Widen for Cell {
-    type Wide = bf_sql::Cell;
+    type Wide = bf_tree::Cell;
 
     ghost widened = { widened_cell };
 
-    fn widen(self, _alloc: Global) -> Result<bf_sql::Cell, Memory> {
+    fn widen(self, _alloc: Global) -> Result<bf_tree::Cell, Memory> {
         let Cell::Value(value) = self;
-        Ok(bf_sql::Cell::Value(value))
+        Ok(bf_tree::Cell::Value(value))
     }
 }
 
 impl Widen for Reply {
-    type Wide = bf_sql::Reply;
+    type Wide = bf_tree::Reply;
 
     ghost widened = { widened_reply };
 
-    fn widen(self, alloc: Global) -> Result<bf_sql::Reply, Memory> {
+    fn widen(self, alloc: Global) -> Result<bf_tree::Reply, Memory> {
         match self {
-            Reply::Created => Ok(bf_sql::Reply::Created),
-            Reply::Inserted(rows) => Ok(bf_sql::Reply::Inserted(rows)),
-            Reply::Rows(rows) => Ok(bf_sql::Reply::Rows(rows.widen(alloc)?)),
-            Reply::Migrated(targets) => Ok(bf_sql::Reply::Migrated(targets)),
-            Reply::Refused(refusal) => Ok(bf_sql::Reply::Refused(wide_refusal(refusal))),
+            Reply::Created => Ok(bf_tree::Reply::Created),
+            Reply::Inserted(rows) => Ok(bf_tree::Reply::Inserted(rows)),
+            Reply::Rows(rows) => Ok(bf_tree::Reply::Rows(rows.widen(alloc)?)),
+            Reply::Migrated(targets) => Ok(bf_tree::Reply::Migrated(targets)),
+            Reply::Refused(refusal) => Ok(bf_tree::Reply::Refused(wide_refusal(refusal))),
         }
     }
 }
 
 impl Widen for Entry {
-    type Wide = bf_sql::Entry;
+    type Wide = bf_tree::Entry;
 
     ghost widened = { widened_entry };
 
-    fn widen(self, _alloc: Global) -> Result<bf_sql::Entry, Memory> {
+    fn widen(self, _alloc: Global) -> Result<bf_tree::Entry, Memory> {
         let Outcome::Committed(number) = self.outcome;
-        Ok(bf_sql::Entry {
+        Ok(bf_tree::Entry {
             session: self.session,
             first: self.first,
             last: self.last,
-            outcome: bf_sql::Outcome::Committed(number),
+            outcome: bf_tree::Outcome::Committed(number),
         })
     }
 }
 
-fn wide_sweep(sweep: Sweep) -> bf_sql::Sweep
+fn wide_sweep(sweep: Sweep) -> bf_tree::Sweep
     ensures { result ≡ widened_sweep sweep }
 {
     match sweep {
-        Sweep::Never => bf_sql::Sweep::Never,
-        Sweep::Complete { migration, moved } => bf_sql::Sweep::Complete { migration, moved },
+        Sweep::Never => bf_tree::Sweep::Never,
+        Sweep::Complete { migration, moved } => bf_tree::Sweep::Complete { migration, moved },
         Sweep::Running {
             migration,
             moved,
             unit,
             position,
-        } => bf_sql::Sweep::Running {
+        } => bf_tree::Sweep::Running {
             migration,
             moved,
             unit,
@@ -134,10 +134,10 @@ pub fn run(alloc: Global, script: &Script) -> Result<FormRun, Memory>
 {
     let run = serve(alloc, script)?;
     Ok(FormRun {
-        transcripts: bf_sql::Transcripts {
+        transcripts: bf_tree::Transcripts {
             sessions: run.transcripts.sessions.widen(alloc)?,
         },
-        history: bf_sql::History {
+        history: bf_tree::History {
             entries: run.history.entries.widen(alloc)?,
         },
         sweep: wide_sweep(run.sweep),

@@ -2,14 +2,14 @@
 use Rattle.std.proofs.Common.{◌≡◌, ℕ, suc, ◌<◌, ◌≤◌, Bool, true, false, List, [], ◌∷◌, ◌++◌, length, Option, Some, None, Result, Ok, Err, refl, sym, ap, subst, ◌∙◌, inl, inr, arith, append_assoc, length-append}
 use Rattle.std.specs.Prelude.{if◌then◌else◌, IfOk}
 use Rattle.std.specs.Result.{IsErr}
-use Rattle.bf_expr.specs.Trees.{Cond}
-use Rattle.bf_expr.specs.declared.raw.Ref.{Ref}
+use Rattle.bf_tree.specs.Trees.{Cond}
+use Rattle.bf_tree.specs.declared.raw.Ref.{Ref}
 use Rattle.bf_lex.specs.declared.fault.ScriptKind.TheVariants.{TooManyColumns}
 use Rattle.bf_lex.specs.declared.keyword.Keyword.TheVariants as keyword
 use Rattle.bf_lex.specs.declared.sign.Sign.TheVariants as sign
-use Rattle.bf_sql.specs.declared.migration.Arm.{Arm}
-use Rattle.bf_sql.specs.declared.migration.Item.{Item}
-use Rattle.bf_sql.specs.declared.migration.Join.{Join}
+use Rattle.bf_tree.specs.declared.migration.Arm.{Arm}
+use Rattle.bf_tree.specs.declared.migration.Item.{Item}
+use Rattle.bf_tree.specs.declared.migration.Join.{Join}
 use Rattle.bf_parse.specs.declared.cursor.Cursor.{Cursor}
 use Rattle.bf_parse.specs.declared.error.Stop.{Stop}
 use Rattle.bf_parse.specs.declared.error.Stop.TheVariants as stop

@@ -1,8 +1,8 @@
 -- What columns are declared to admit.
 use Rattle.std.proofs.Common.{List, Some, None, refl}
 use Rattle.bf_lex.specs.declared.keyword.Keyword.TheVariants as keyword
-use Rattle.bf_sql.specs.declared.statement.ColumnForm.{ColumnForm}
-use Rattle.bf_sql.specs.declared.statement.ColumnForm.TheVariants as form
+use Rattle.bf_tree.specs.declared.statement.ColumnForm.{ColumnForm}
+use Rattle.bf_tree.specs.declared.statement.ColumnForm.TheVariants as form
 use Rattle.bf_parse.specs.Words.{Word, Keyword}
 use Rattle.bf_parse.specs.Rules.{Return, After, Listed}
 use Rattle.bf_parse.specs.Reading.{Reading, Read, Fits}

@@ -3,12 +3,12 @@ use Rattle.std.proofs.Common.{◌≡◌, ℕ, Bool, true, false, List, [], ◌�
 use Rattle.std.proofs.lemmas.Bool.{cases_Bool}
 use Rattle.std.proofs.lemmas.List.{append-nil}
 use Rattle.std.specs.Prelude.{◌||◌}
-use Rattle.bf_expr.specs.Trees.{Expr, column}
-use Rattle.bf_expr.specs.declared.raw.Ref.{Ref}
+use Rattle.bf_tree.specs.Trees.{Expr, column}
+use Rattle.bf_tree.specs.declared.raw.Ref.{Ref}
 use Rattle.bf_lex.specs.declared.keyword.Keyword.TheVariants as keyword
-use Rattle.bf_sql.specs.declared.items.Aggregate.{Aggregate}
-use Rattle.bf_sql.specs.declared.migration.Item.{Item}
-use Rattle.bf_sql.specs.declared.migration.Item.TheVariants as item
+use Rattle.bf_tree.specs.declared.items.Aggregate.{Aggregate}
+use Rattle.bf_tree.specs.declared.migration.Item.{Item}
+use Rattle.bf_tree.specs.declared.migration.Item.TheVariants as item
 use Rattle.bf_parse.specs.declared.error.Stop.{Stop}
 use Rattle.bf_parse.specs.Words.{Word, Keyword, Name, Number, Text, Minus, Sign}
 use Rattle.bf_parse.specs.Steps.{Step, Say, said}

@@ -4,14 +4,14 @@ use Rattle.std.proofs.lemmas.Bool.{cases_lt}
 use Rattle.std.proofs.lemmas.List.{append-nil}
 use Rattle.bf_base.specs.declared.value.Value.{Value}
 use Rattle.bf_base.specs.declared.value.Value.TheVariants as value
-use Rattle.bf_expr.specs.declared.raw.Ref.{Ref}
-use Rattle.bf_expr.specs.Trees.{Expr}
-use Rattle.bf_expr.specs.Trees as tree
+use Rattle.bf_tree.specs.declared.raw.Ref.{Ref}
+use Rattle.bf_tree.specs.Trees.{Expr}
+use Rattle.bf_tree.specs.Trees as tree
 use Rattle.bf_lex.specs.declared.keyword.Keyword.TheVariants as keyword
 use Rattle.bf_lex.specs.declared.sign.Sign.TheVariants as sign
-use Rattle.bf_sql.specs.declared.items.Aggregate.{Aggregate}
-use Rattle.bf_sql.specs.declared.items.Aggregate.TheVariants as aggregate
-use Rattle.bf_sql.specs.declared.statement.ColumnForm.TheVariants as form
+use Rattle.bf_tree.specs.declared.items.Aggregate.{Aggregate}
+use Rattle.bf_tree.specs.declared.items.Aggregate.TheVariants as aggregate
+use Rattle.bf_tree.specs.declared.statement.ColumnForm.TheVariants as form
 use Rattle.bf_parse.specs.Words.{Word}
 use Rattle.bf_parse.specs.Words as word
 use Rattle.bf_parse.specs.Steps.{Step, Say, Limit, Node, Widest, said}

@@ -1,8 +1,8 @@
 -- What MIGRATEs and their parts can be.
 use Rattle.std.proofs.Common.{ℕ, List, [], refl}
-use Rattle.bf_expr.specs.declared.raw.Ref.{Ref}
-use Rattle.bf_sql.specs.declared.migration.Arm.{Arm}
-use Rattle.bf_sql.specs.declared.migration.Target.{Target}
+use Rattle.bf_tree.specs.declared.raw.Ref.{Ref}
+use Rattle.bf_tree.specs.declared.migration.Arm.{Arm}
+use Rattle.bf_tree.specs.declared.migration.Target.{Target}
 use Rattle.bf_parse.specs.Statements.{WhereRule}
 use Rattle.bf_parse.specs.Expressions.{RefRule}
 use Rattle.bf_parse.specs.Migrations.{AsRule, EqualityRule, Equalities, no_other, ItemRule, JoinRule, GroupRule, ArmRule, Arms, no_arm, TargetRule, Targets, no_target, MigrateRule}

@@ -1,8 +1,8 @@
 -- The arms of a condition without AND and OR.
 use Rattle.std.proofs.Common.{◌≡◌, ℕ, ◌+◌, ◌<◌, ◌≤◌, Bool, true, false, List, [], ◌∷◌, ◌++◌, length, Some, None, Ok, Err, refl, sym, ap, subst, ◌∙◌, inl, inr}
 use Rattle.std.proofs.lemmas.List.{append-nil}
-use Rattle.bf_expr.specs.declared.raw.Ref.{Ref}
-use Rattle.bf_expr.specs.Trees as tree
+use Rattle.bf_tree.specs.declared.raw.Ref.{Ref}
+use Rattle.bf_tree.specs.Trees as tree
 use Rattle.bf_lex.specs.declared.fault.ScriptKind.TheVariants.{TooDeep}
 use Rattle.bf_lex.specs.declared.keyword.Keyword.TheVariants as keyword
 use Rattle.bf_lex.specs.declared.sign.Sign.TheVariants as sign

@@ -3,10 +3,10 @@ use Rattle.std.proofs.Common.{◌≡◌, ℕ, Bool, true, false, List, [], ◌�
 use Rattle.std.specs.Prelude.{◌||◌}
 use Rattle.bf_lex.specs.declared.keyword.Keyword.{Keyword as KeywordCase}
 use Rattle.bf_lex.specs.declared.keyword.Keyword.TheVariants as keyword
-use Rattle.bf_expr.specs.declared.raw.Ref.{Ref}
-use Rattle.bf_expr.specs.Trees.{Cond}
-use Rattle.bf_sql.specs.declared.statement.Statement.{Statement}
-use Rattle.bf_sql.specs.declared.statement.Statement.TheVariants as statement
+use Rattle.bf_tree.specs.declared.raw.Ref.{Ref}
+use Rattle.bf_tree.specs.Trees.{Cond}
+use Rattle.bf_tree.specs.declared.statement.Statement.{Statement}
+use Rattle.bf_tree.specs.declared.statement.Statement.TheVariants as statement
 use Rattle.bf_parse.specs.declared.cursor.Cursor.{Cursor}
 use Rattle.bf_parse.specs.Words.{Word, Keyword}
 use Rattle.bf_parse.specs.Words as word

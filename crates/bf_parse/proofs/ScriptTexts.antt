@@ -9,11 +9,12 @@ use Rattle.bf_lex.specs.declared.fault.ScriptKind.{ScriptKind}
 use Rattle.bf_lex.specs.declared.fault.ScriptKind.TheVariants as kind
 use Rattle.bf_lex.specs.declared.token.Token.{Token}
 use Rattle.bf_lex.specs.Lexing.{IsLexed}
-use Rattle.bf_sql.specs.declared.script.Script.{Script}
+use Rattle.bf_tree.specs.declared.script.Script.{Script}
 use Rattle.bf_parse.specs.Words.{words_of}
 use Rattle.bf_parse.specs.Reading.{Read, Stuck, Over}
 use Rattle.bf_parse.specs.Faults.{Answers}
-use Rattle.bf_parse.specs.Scripts.{IsScriptText, ScriptRule, longest_script, place_of}
+use Rattle.bf_base.specs.Limits.{longest_script}
+use Rattle.bf_parse.specs.Scripts.{IsScriptText, ScriptRule, place_of}
 use Rattle.std.specs.Prelude.{length, []}
 
 abbrev fault_at_place : ℕ → ScriptKind → ScriptFault

@@ -2,8 +2,8 @@
 use Rattle.std.proofs.Common.{◌≡◌, ℕ, suc, ◌<◌, Bool, List, [], ◌∷◌, ◌++◌, Some, None, Ok, Err, refl, sym, ap, subst, ◌∙◌, inl, inr, arith, length, length-append, append_assoc}
 use Rattle.bf_lex.specs.declared.keyword.Keyword.TheVariants as keyword
 use Rattle.bf_lex.specs.declared.sign.Sign.TheVariants as sign
-use Rattle.bf_sql.specs.declared.statement.ColumnRule.{ColumnRule}
-use Rattle.bf_sql.specs.declared.statement.Statement.TheVariants as statement
+use Rattle.bf_tree.specs.declared.statement.ColumnRule.{ColumnRule}
+use Rattle.bf_tree.specs.declared.statement.Statement.TheVariants as statement
 use Rattle.bf_parse.specs.declared.error.Stop.{Stop}
 use Rattle.bf_parse.specs.Words.{Word, Keyword, Name, Sign}
 use Rattle.bf_parse.specs.Steps.{Step, Say, Limit, Part, said}

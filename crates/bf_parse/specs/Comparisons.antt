@@ -1,8 +1,8 @@
 -- Comparisons and BETWEENs, which both begin with an operand.
 use Rattle.std.specs.Prelude.{◌≡◌, ℕ, ◌+◌, Bool, true, false, List, ◌∷◌, Option, Some, None}
-use Rattle.bf_expr.specs.Trees.{Expr, compared, between}
-use Rattle.bf_expr.specs.declared.compare.Compare.{Compare}
-use Rattle.bf_expr.specs.declared.raw.Ref.{Ref}
+use Rattle.bf_tree.specs.Trees.{Expr, compared, between}
+use Rattle.bf_tree.specs.declared.compare.Compare.{Compare}
+use Rattle.bf_tree.specs.declared.raw.Ref.{Ref}
 use Rattle.bf_lex.specs.declared.keyword.Keyword.TheVariants.{And, Between}
 use Rattle.bf_lex.specs.declared.sign.Sign.TheVariants.{Equal, Unequal, Less, LessEqual, Greater, GreaterEqual}
 use Rattle.bf_parse.specs.declared.cursor.Cursor.{Cursor}

@@ -6,10 +6,10 @@ use Rattle.bf_base.specs.declared.value.Value.TheVariants.{Int, Text}
 use Rattle.bf_lex.specs.declared.keyword.Keyword.TheVariants as keyword
 use Rattle.bf_lex.specs.declared.sign.Sign.{Sign as SignCase}
 use Rattle.bf_lex.specs.declared.sign.Sign.TheVariants as sign
-use Rattle.bf_expr.specs.declared.compare.Compare.{Compare}
-use Rattle.bf_expr.specs.declared.compare.Compare.TheVariants as compare
-use Rattle.bf_expr.specs.declared.raw.Ref.{Ref}
-use Rattle.bf_expr.specs.Trees.{Expr, literal, column, Cond, compared, between, opposite, both, either}
+use Rattle.bf_tree.specs.declared.compare.Compare.{Compare}
+use Rattle.bf_tree.specs.declared.compare.Compare.TheVariants as compare
+use Rattle.bf_tree.specs.declared.raw.Ref.{Ref}
+use Rattle.bf_tree.specs.Trees.{Expr, literal, column, Cond, compared, between, opposite, both, either}
 use Rattle.bf_parse.specs.Words as word
 use Rattle.bf_parse.specs.Steps.{Step, Say, Limit, Node}
 use Rattle.bf_parse.specs.Expressions.{NumberRule, RefRule}

@@ -1,14 +1,14 @@
 -- WORDS by which the parts of a MIGRATE go on, and rules of parts.
 use Rattle.std.specs.Prelude.{◌≡◌, Bool, true, false, ◌||◌, List, [], ◌∷◌, Option, Some, None}
-use Rattle.bf_expr.specs.declared.raw.Ref.{Ref}
-use Rattle.bf_expr.specs.Trees.{Cond, column}
+use Rattle.bf_tree.specs.declared.raw.Ref.{Ref}
+use Rattle.bf_tree.specs.Trees.{Cond, column}
 use Rattle.bf_lex.specs.declared.keyword.Keyword.TheVariants.{As, Group, Join, Union}
 use Rattle.bf_lex.specs.declared.sign.Sign.TheVariants.{Semicolon}
-use Rattle.bf_sql.specs.declared.migration.Arm.{Arm}
-use Rattle.bf_sql.specs.declared.migration.Item.{Item}
-use Rattle.bf_sql.specs.declared.migration.Item.TheVariants as item
-use Rattle.bf_sql.specs.declared.migration.Join.{Join as JoinTree}
-use Rattle.bf_sql.specs.declared.migration.Target.{Target}
+use Rattle.bf_tree.specs.declared.migration.Arm.{Arm}
+use Rattle.bf_tree.specs.declared.migration.Item.{Item}
+use Rattle.bf_tree.specs.declared.migration.Item.TheVariants as item
+use Rattle.bf_tree.specs.declared.migration.Join.{Join as JoinTree}
+use Rattle.bf_tree.specs.declared.migration.Target.{Target}
 use Rattle.bf_parse.specs.Words.{Word, Keyword, Sign}
 use Rattle.bf_parse.specs.Steps.{Part, Target as TargetMark}
 use Rattle.bf_parse.specs.Rules.{Rule, Return, Marked, Either, Then}

@@ -2,14 +2,14 @@
 use Rattle.std.specs.Prelude.{◌≡◌, ℕ, suc, List, [], ◌∷◌, ◌++◌, Option, None, Some}
 use Rattle.bf_lex.specs.declared.keyword.Keyword.TheVariants as keyword
 use Rattle.bf_lex.specs.declared.sign.Sign.TheVariants as sign
-use Rattle.bf_expr.specs.declared.raw.Ref.{Ref}
-use Rattle.bf_expr.specs.Trees.{column}
-use Rattle.bf_sql.specs.declared.migration.Item.{Item}
-use Rattle.bf_sql.specs.declared.migration.Item.TheVariants as item
-use Rattle.bf_sql.specs.declared.migration.Join.{Join}
-use Rattle.bf_sql.specs.declared.migration.Arm.{Arm}
-use Rattle.bf_sql.specs.declared.migration.Target.{Target}
-use Rattle.bf_sql.specs.declared.migration.Migrate.{Migrate}
+use Rattle.bf_tree.specs.declared.raw.Ref.{Ref}
+use Rattle.bf_tree.specs.Trees.{column}
+use Rattle.bf_tree.specs.declared.migration.Item.{Item}
+use Rattle.bf_tree.specs.declared.migration.Item.TheVariants as item
+use Rattle.bf_tree.specs.declared.migration.Join.{Join}
+use Rattle.bf_tree.specs.declared.migration.Arm.{Arm}
+use Rattle.bf_tree.specs.declared.migration.Target.{Target}
+use Rattle.bf_tree.specs.declared.migration.Migrate.{Migrate}
 use Rattle.bf_parse.specs.Words as word
 use Rattle.bf_parse.specs.Steps.{Step, Say, Limit, Part, Target as TargetMark}
 use Rattle.bf_parse.specs.Rules.{Rule, Return, Named, Marked, Either, Then, Listed}

@@ -2,14 +2,14 @@
 use Rattle.std.specs.Prelude.{List}
 use Rattle.bf_lex.specs.declared.keyword.Keyword.TheVariants as keyword
 use Rattle.bf_lex.specs.declared.sign.Sign.TheVariants as sign
-use Rattle.bf_expr.specs.declared.raw.Ref.{Ref}
-use Rattle.bf_expr.specs.Trees.{Expr}
-use Rattle.bf_sql.specs.declared.items.Aggregate.{Aggregate}
-use Rattle.bf_sql.specs.declared.items.Aggregate.TheVariants as aggregate
-use Rattle.bf_sql.specs.declared.statement.ColumnForm.{ColumnForm}
-use Rattle.bf_sql.specs.declared.statement.ColumnForm.TheVariants as form
-use Rattle.bf_sql.specs.declared.statement.ColumnRule.{ColumnRule}
-use Rattle.bf_sql.specs.declared.statement.Statement.{Statement}
+use Rattle.bf_tree.specs.declared.raw.Ref.{Ref}
+use Rattle.bf_tree.specs.Trees.{Expr}
+use Rattle.bf_tree.specs.declared.items.Aggregate.{Aggregate}
+use Rattle.bf_tree.specs.declared.items.Aggregate.TheVariants as aggregate
+use Rattle.bf_tree.specs.declared.statement.ColumnForm.{ColumnForm}
+use Rattle.bf_tree.specs.declared.statement.ColumnForm.TheVariants as form
+use Rattle.bf_tree.specs.declared.statement.ColumnRule.{ColumnRule}
+use Rattle.bf_tree.specs.declared.statement.Statement.{Statement}
 use Rattle.bf_parse.specs.Rules.{Rule, Return, Named, Either, Then, Listed}
 use Rattle.bf_parse.specs.Statements.{AfterKeyword, AfterSign, IntRule, ColumnRuleRule, TableRule, IndexRuleRule}
 

@@ -1,9 +1,9 @@
 -- With what the parts of a script begin, and what private functions promise of them.
 use Rattle.std.specs.Prelude.{ℕ, ◌+◌, Bool, true, false, ◌||◌}
 use Rattle.bf_lex.specs.declared.keyword.Keyword.TheVariants as keyword
-use Rattle.bf_sql.specs.declared.statement.Statement.{Statement}
-use Rattle.bf_sql.specs.declared.statement.Statement.TheVariants.{Migrate}
-use Rattle.bf_sql.specs.declared.script.Script.{Script}
+use Rattle.bf_tree.specs.declared.statement.Statement.{Statement}
+use Rattle.bf_tree.specs.declared.statement.Statement.TheVariants.{Migrate}
+use Rattle.bf_tree.specs.declared.script.Script.{Script}
 use Rattle.bf_parse.specs.declared.session.SoFar.{SoFar}
 use Rattle.bf_parse.specs.Words.{Word, Keyword}
 use Rattle.bf_parse.specs.Steps.{Migration}

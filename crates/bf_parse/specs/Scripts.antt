@@ -1,16 +1,17 @@
 -- SCRIPTS: phases of sessions of statements; and what a text is: a script, or its first fault.
 use Rattle.std.specs.Prelude.{◌≡◌, ℕ, ◌+◌, ◌-◌, ◌<◌, ◌≤◌, ◌^◌, ◌⊎◌, List, [], ◌∷◌, ◌++◌, length, drop, Result, Ok, Err}
+use Rattle.bf_base.specs.Limits.{longest_script}
 use Rattle.bf_lex.specs.declared.keyword.Keyword.TheVariants as keyword
 use Rattle.bf_lex.specs.declared.sign.Sign.TheVariants as sign
 use Rattle.bf_lex.specs.declared.fault.ScriptKind.TheVariants as kind
 use Rattle.bf_lex.specs.declared.fault.ScriptFault.{ScriptFault}
 use Rattle.bf_lex.specs.declared.token.Token.{Token}
 use Rattle.bf_lex.specs.Lexing.{IsLexed}
-use Rattle.bf_sql.specs.declared.statement.Statement.{Statement}
-use Rattle.bf_sql.specs.declared.statement.Statement.TheVariants.{Migrate}
-use Rattle.bf_sql.specs.declared.migration.Migrate.{Migrate as MigrateTree}
-use Rattle.bf_sql.specs.declared.script.Session.{Session}
-use Rattle.bf_sql.specs.declared.script.Script.{Script}
+use Rattle.bf_tree.specs.declared.statement.Statement.{Statement}
+use Rattle.bf_tree.specs.declared.statement.Statement.TheVariants.{Migrate}
+use Rattle.bf_tree.specs.declared.migration.Migrate.{Migrate as MigrateTree}
+use Rattle.bf_tree.specs.declared.script.Session.{Session}
+use Rattle.bf_tree.specs.declared.script.Script.{Script}
 use Rattle.bf_parse.specs.Words as word
 use Rattle.bf_parse.specs.Words.{words_of}
 use Rattle.bf_parse.specs.Steps.{Step, Say, Limit, Migration, Session as SessionMark}
@@ -64,10 +65,6 @@ nothing_yet = record { phases = 0; sessions = []; of_phase = 0; migrations = 0 }
 -- SCRIPT
 abbrev pub ScriptRule : List Step → Script → Type 0
 ScriptRule steps script = (p : Progress) × Phases nothing_yet steps p × (script ≡ record { phases = p.phases; sessions = p.sessions })
-
--- the most bytes of a script
-abbrev pub longest_script : ℕ
-longest_script = 2 ^ 24
 
 abbrev pub place_behind : ℕ → List Token → ℕ
 place_behind length [] = length

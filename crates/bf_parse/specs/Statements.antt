@@ -6,17 +6,17 @@ use Rattle.bf_lex.specs.declared.keyword.Keyword.{Keyword as KeywordCase}
 use Rattle.bf_lex.specs.declared.keyword.Keyword.TheVariants as keyword
 use Rattle.bf_lex.specs.declared.sign.Sign.{Sign as SignCase}
 use Rattle.bf_lex.specs.declared.sign.Sign.TheVariants as sign
-use Rattle.bf_expr.specs.declared.raw.Ref.{Ref}
-use Rattle.bf_expr.specs.Trees.{Expr, Cond}
-use Rattle.bf_sql.specs.declared.items.Aggregate.{Aggregate}
-use Rattle.bf_sql.specs.declared.items.Aggregate.TheVariants as aggregate
-use Rattle.bf_sql.specs.declared.items.Items.{Items}
-use Rattle.bf_sql.specs.declared.items.Items.TheVariants as items
-use Rattle.bf_sql.specs.declared.statement.ColumnForm.{ColumnForm}
-use Rattle.bf_sql.specs.declared.statement.ColumnForm.TheVariants as form
-use Rattle.bf_sql.specs.declared.statement.ColumnRule.{ColumnRule}
-use Rattle.bf_sql.specs.declared.statement.Statement.{Statement}
-use Rattle.bf_sql.specs.declared.statement.Statement.TheVariants as statement
+use Rattle.bf_tree.specs.declared.raw.Ref.{Ref}
+use Rattle.bf_tree.specs.Trees.{Expr, Cond}
+use Rattle.bf_tree.specs.declared.items.Aggregate.{Aggregate}
+use Rattle.bf_tree.specs.declared.items.Aggregate.TheVariants as aggregate
+use Rattle.bf_tree.specs.declared.items.Items.{Items}
+use Rattle.bf_tree.specs.declared.items.Items.TheVariants as items
+use Rattle.bf_tree.specs.declared.statement.ColumnForm.{ColumnForm}
+use Rattle.bf_tree.specs.declared.statement.ColumnForm.TheVariants as form
+use Rattle.bf_tree.specs.declared.statement.ColumnRule.{ColumnRule}
+use Rattle.bf_tree.specs.declared.statement.Statement.{Statement}
+use Rattle.bf_tree.specs.declared.statement.Statement.TheVariants as statement
 use Rattle.bf_parse.specs.Words as word
 use Rattle.bf_parse.specs.Steps.{Step, Say}
 use Rattle.bf_parse.specs.Rules.{Rule, Return, Named, After, Either, Then, Listed}

@@ -1,7 +1,7 @@
 -- What joins the products of a sum.
 use Rattle.std.specs.Prelude.{◌≡◌, false, List, ◌∷◌, Option, Some, None}
-use Rattle.bf_expr.specs.Trees.{Expr}
-use Rattle.bf_expr.specs.declared.raw.Ref.{Ref}
+use Rattle.bf_tree.specs.Trees.{Expr}
+use Rattle.bf_tree.specs.declared.raw.Ref.{Ref}
 use Rattle.bf_lex.specs.declared.sign.Sign.TheVariants.{Plus, Bars}
 use Rattle.bf_parse.specs.declared.cursor.Cursor.{Cursor}
 use Rattle.bf_parse.specs.declared.joint.Joint.{Joint}

@@ -14,9 +14,8 @@ use crate::list::{list, room};
 use crate::operand::reference;
 use crate::query::where_clause;
 use bf_base::Sequence;
-use bf_expr::{RawCond, Ref};
+use bf_tree::{Arm, Item, Join, RawCond, Ref};
 use bf_lex::{Keyword, Sign};
-use bf_sql::{Arm, Item, Join};
 use std::alloc::Global;
 
 /// The equality at a place, and the place behind it.

@@ -17,7 +17,7 @@ use crate::operand::{WIDEST, signed};
 use crate::start::Front;
 use bf_base::{Name, Sequence};
 use bf_lex::{Keyword, ScriptKind, Sign};
-use bf_sql::{ColumnForm, ColumnRule, Statement};
+use bf_tree::{ColumnForm, ColumnRule, Statement};
 use std::alloc::Global;
 
 /// The number at a place, and the place behind it.

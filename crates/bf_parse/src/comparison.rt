@@ -5,7 +5,7 @@ ghost use Rattle.bf_parse.specs.Comparisons.{IsComparison};
 ghost use Rattle.bf_parse.specs.Cursors.{IsPlace, left, words};
 
 use crate::cursor::Cursor;
-use bf_expr::Compare;
+use bf_tree::Compare;
 use bf_lex::{Sign, TokenKind};
 
 /// The comparison whose sign stands first, and the place behind it.

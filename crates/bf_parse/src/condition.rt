@@ -1,8 +1,8 @@
 //! Conditions. Comparisons, BETWEENs, NOTs, ANDs, ORs and opening parentheses are counted.
 
 ghost use Rattle.std.specs.Prelude.{◌≡◌, ◌<◌, IfErr, IfOk};
-ghost use Rattle.bf_expr.specs.Trees.{both, either, opposite as opposite_tree};
-ghost use Rattle.bf_expr.specs.Views.{operand_tree};
+ghost use Rattle.bf_tree.specs.Trees.{both, either, opposite as opposite_tree};
+ghost use Rattle.bf_tree.specs.Views.{operand_tree};
 ghost use Rattle.bf_parse.specs.declared.error.Stop.TheVariants.{Memory as OutOfMemory};
 ghost use Rattle.bf_parse.specs.Comparisons.{TestRule};
 ghost use Rattle.bf_parse.specs.Conditions.{Conjunction, Disjunction, Negation, OperandRule};
@@ -17,7 +17,7 @@ use crate::error::Stop;
 use crate::expression::counted;
 use crate::operand::{literal, reference};
 use crate::start::Start;
-use bf_expr::{Operand, RawCond, RawTest};
+use bf_tree::{Operand, RawCond, RawTest};
 use bf_lex::{Keyword, Sign};
 use std::alloc::Global;
 

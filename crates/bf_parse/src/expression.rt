@@ -1,7 +1,7 @@
 //! Expressions. Operators and opening parentheses are counted.
 
 ghost use Rattle.std.specs.Prelude.{◌≡◌, ◌+◌, ◌<◌, ◌≤◌, IfErr, IfOk, IfSome};
-ghost use Rattle.bf_expr.specs.Trees.{negated, times};
+ghost use Rattle.bf_tree.specs.Trees.{negated, times};
 ghost use Rattle.bf_lex.specs.declared.fault.ScriptKind.TheVariants.{TooDeep as TooDeepKind};
 ghost use Rattle.bf_parse.specs.declared.error.Stop.TheVariants.{Limit as BeyondLimit, Memory as OutOfMemory};
 ghost use Rattle.bf_parse.specs.Cursors.{IsPlace, left, words};
@@ -16,7 +16,7 @@ use crate::error::Stop;
 use crate::joint::{Joint, next_joint};
 use crate::operand::{literal, reference};
 use crate::start::Start;
-use bf_expr::{RawExpr, RawNode};
+use bf_tree::{RawExpr, RawNode};
 use bf_lex::{ScriptKind, Sign};
 use std::alloc::Global;
 

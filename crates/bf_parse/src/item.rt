@@ -13,9 +13,8 @@ use crate::error::Stop;
 use crate::expression::sum;
 use crate::list::Part;
 use crate::query::aggregate;
-use bf_expr::{RawExpr, RawNode, Ref};
+use bf_tree::{Item, RawExpr, RawNode, Ref};
 use bf_lex::Keyword;
-use bf_sql::Item;
 use std::alloc::Global;
 
 /// The column that an expression is, if it is nothing else and no parenthesis stood around it.

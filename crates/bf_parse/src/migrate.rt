@@ -15,7 +15,7 @@ use crate::cursor::Cursor;
 use crate::error::Stop;
 use bf_base::Sequence;
 use bf_lex::{Keyword, ScriptKind, Sign};
-use bf_sql::{Migrate, Target};
+use bf_tree::{Migrate, Target};
 use std::alloc::Global;
 
 /// The most targets of a MIGRATE.

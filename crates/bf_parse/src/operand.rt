@@ -13,7 +13,7 @@ use crate::cursor::Cursor;
 use crate::error::Stop;
 use crate::start::Front;
 use bf_base::Value;
-use bf_expr::Ref;
+use bf_tree::Ref;
 use bf_lex::{ScriptKind, Sign, content};
 use std::alloc::Global;
 

@@ -12,9 +12,8 @@ use crate::list::Part;
 use crate::operand::{literal, reference};
 use crate::query::{aggregate, expression};
 use bf_base::{Name, Value};
-use bf_expr::{RawExpr, Ref};
+use bf_tree::{RawAggregate, RawExpr, Ref};
 use bf_lex::Sign;
-use bf_sql::RawAggregate;
 use std::alloc::Global;
 
 impl Part for Name {

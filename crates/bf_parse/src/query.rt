@@ -16,9 +16,8 @@ use crate::error::Stop;
 use crate::expression::sum;
 use crate::list::list;
 use bf_base::Sequence;
-use bf_expr::{RawCond, RawExpr};
+use bf_tree::{Items, List, RawAggregate, RawCond, RawExpr, Statement};
 use bf_lex::{Keyword, Sign};
-use bf_sql::{Items, List, RawAggregate, Statement};
 use std::alloc::Global;
 
 /// The condition behind WHERE, where that stands first, and the place behind it.

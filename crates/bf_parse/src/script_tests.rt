@@ -2,7 +2,7 @@
 
 use crate::script;
 use bf_lex::{ScriptError, ScriptKind};
-use bf_sql::Statement;
+use bf_tree::Statement;
 use std::alloc::{AllocError, Global};
 use std::test::Fail;
 

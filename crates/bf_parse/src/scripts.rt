@@ -1,6 +1,7 @@
 //! From the bytes of a script to its tree.
 
 ghost use Rattle.std.specs.Prelude.{◌≡◌, ◌<◌, ◌≤◌, ◌^◌, ◌⊎◌, [], Err, IfOk, Ok, length};
+ghost use Rattle.bf_base.specs.Limits.{longest_script};
 ghost use Rattle.bf_lex.specs.declared.fault.ScriptFault.{ScriptFault as FaultValue};
 ghost use Rattle.bf_parse.specs.Cursors.{IsPlace, left, words};
 ghost use Rattle.bf_parse.specs.Faults.{Answers};
@@ -11,13 +12,10 @@ ghost use Rattle.bf_parse.specs.Scripts.{IsScriptText, ScriptRule, place_of};
 use crate::cursor::Cursor;
 use crate::error::Stop;
 use crate::session::phases;
-use bf_base::Sequence;
+use bf_base::{LONGEST_SCRIPT, Sequence};
 use bf_lex::{ScriptError, ScriptFault, ScriptKind, Token, tokens};
-use bf_sql::Script;
+use bf_tree::Script;
 use std::alloc::Global;
-
-/// The most bytes of a script.
-const LONGEST_SCRIPT: u32 = 1 << 24;
 
 /// The script that a text is, in time linear in its bytes.
 ///
@@ -69,7 +67,7 @@ fn whole(alloc: Global, cursor: Cursor<'_>) -> Result<Script, Stop>
 
 /// The byte at which so many tokens are left.
 fn place(text: &[u8], tokens: &[Token], left: usize) -> u32
-    requires { length text.now ≤ 2 ^ 24 }
+    requires { length text.now ≤ longest_script }
     ensures { result ≡ place_of text.now tokens.now left }
 {
     match &tokens[tokens.len().saturating_sub(left)..] {

@@ -18,7 +18,7 @@ use crate::migrate::migrate;
 use crate::statement::ordinary;
 use bf_base::Sequence;
 use bf_lex::{Keyword, ScriptKind, Sign, TokenKind};
-use bf_sql::{Session, Statement};
+use bf_tree::{Session, Statement};
 use std::alloc::Global;
 
 /// The most sessions of a script.

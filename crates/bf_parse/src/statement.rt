@@ -14,9 +14,8 @@ use crate::error::Stop;
 use crate::list::{enclosed_list, list};
 use crate::query::{select, where_clause};
 use bf_base::{Name, Row, Sequence, Value};
-use bf_expr::RawExpr;
+use bf_tree::{RawExpr, Statement};
 use bf_lex::{Keyword, Sign};
-use bf_sql::Statement;
 use std::alloc::Global;
 
 /// The tuple at a place, and the place behind it.

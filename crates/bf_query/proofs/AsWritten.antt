@@ -15,20 +15,20 @@ use Rattle.bf_base.specs.Tables.{cell, key_of}
 use Rattle.bf_base.specs.Values.{key_cmp}
 use Rattle.bf_base.proofs.Names.{name_cmp_total, same_name-tie_back}
 use Rattle.bf_base.proofs.Order.{less_from_test, rises_skip, rises_tail}
-use Rattle.bf_expr.specs.declared.raw.Ref.{Ref}
-use Rattle.bf_expr.specs.Evaluation.{holds_on}
-use Rattle.bf_expr.specs.Trees.{Expr, Cond}
-use Rattle.bf_expr.proofs.Renamed.{holds_on-cond_over}
+use Rattle.bf_tree.specs.declared.raw.Ref.{Ref}
+use Rattle.bf_tree.specs.Evaluation.{holds_on}
+use Rattle.bf_tree.specs.Trees.{Expr, Cond}
+use Rattle.bf_tree.proofs.Renamed.{holds_on-cond_over}
 use Rattle.bf_heap.specs.Heaps.{Entry}
-use Rattle.bf_sql.specs.declared.bound.Action.{Action}
-use Rattle.bf_sql.specs.declared.bound.Action.TheVariants as action
-use Rattle.bf_sql.specs.declared.items.Items.{Items}
-use Rattle.bf_sql.specs.declared.reply.Cell.{Cell}
-use Rattle.bf_sql.specs.declared.reply.Refusal.{Refusal}
-use Rattle.bf_sql.specs.declared.reply.Reply.{Reply}
-use Rattle.bf_sql.specs.declared.reply.Reply.TheVariants as reply
-use Rattle.bf_sql.specs.declared.statement.Statement.{Statement}
-use Rattle.bf_sql.specs.declared.statement.Statement.TheVariants as statement
+use Rattle.bf_tree.specs.declared.bound.Action.{Action}
+use Rattle.bf_tree.specs.declared.bound.Action.TheVariants as action
+use Rattle.bf_tree.specs.declared.items.Items.{Items}
+use Rattle.bf_tree.specs.declared.reply.Cell.{Cell}
+use Rattle.bf_tree.specs.declared.reply.Refusal.{Refusal}
+use Rattle.bf_tree.specs.declared.reply.Reply.{Reply}
+use Rattle.bf_tree.specs.declared.reply.Reply.TheVariants as reply
+use Rattle.bf_tree.specs.declared.statement.Statement.{Statement}
+use Rattle.bf_tree.specs.declared.statement.Statement.TheVariants as statement
 use Rattle.bf_sql.specs.Bound.{place_in, cond_in, set_in, items_over}
 use Rattle.bf_sql.specs.Conditions.{condition_of, fixed_key}
 use Rattle.bf_sql.specs.Database.{Database, Stored, IsDatabase, stored_at, table_at, table_rows, with_rows}
@@ -40,7 +40,7 @@ use Rattle.bf_sql.specs.Scopes.{scope_of, place_of, read_in, admitted_by, unqual
 use Rattle.bf_txn.specs.declared.write.Write.{Write}
 use Rattle.bf_txn.specs.Writes.{with_write}
 use Rattle.bf_query.specs.Actions as actions
-use Rattle.bf_query.specs.Actions.{IsChange, IsSelect, IsWellBound, admitted_at, change_reply, select_reply, objections_on, table_of, write_of, writes_of, written}
+use Rattle.bf_query.specs.Actions.{IsChange, IsSelect, IsWellBound, admitted_at, change_reply, select_reply, objections_on, action_table, write_of, writes_of, written}
 use Rattle.bf_query.specs.Meanings.{HoldRowsOf, IsBoundAs, rows_after}
 use Rattle.bf_query.specs.Merged.{rows_under, entries_under}
 use Rattle.bf_query.proofs.Binding.{as_stored, one_name, insert_found, select_found, update_found, delete_found, well_bound}
@@ -125,10 +125,10 @@ module _ (table : Table) (rows : List (List Value)) (db : Database) (entries : L
       ∙ remade-removed table (λ row. holds_on (cell row) c) (entries_under entries writes table.name))
 
 -- what holds of an action that a statement is bound to, and of its table
-at_its_table : (P : Action → Table → Type 0) (a act : Action) (t table : Table) → Some a ≡ Some act → table_of a ≡ Some t → table_of act ≡ Some table → P a t → P act table
+at_its_table : (P : Action → Table → Type 0) (a act : Action) (t table : Table) → Some a ≡ Some act → action_table a ≡ Some t → action_table act ≡ Some table → P a t → P act table
 at_its_table P a act t table is of on p =
     let same : a ≡ act = same_Some a act is in
-    subst (λ (b : Action). P b table) same (subst (P a) (same_Some t table (sym of ∙ ap table_of same ∙ on)) p)
+    subst (λ (b : Action). P b table) same (subst (P a) (same_Some t table (sym of ∙ ap action_table same ∙ on)) p)
 
 module _ (commit : ℕ) (db : Database) (in_block : Bool) where
   -- a statement that the catalog does not refuse
@@ -250,14 +250,14 @@ module _ (commit : ℕ) (db : Database) (in_block : Bool) where
           makes (statement.Delete name c) (delete_of c) (reply.Deleted (length (selected read (condition_of c) rows))) (filter (λ row. not (holds_on (read row) (condition_of c))) rows) none refl refl
           (λ _. deleted on_table rows db entries writes hold held (cond_in db name c) (fixed_by c) ∙ same)
 
-  pub select_law : (s : Statement) (act : Action) (table : Table) → IsBoundAs db in_block s act → IsSelect act → table_of act ≡ Some table → SelectMeansWhatIsWritten commit db in_block s act table
+  pub select_law : (s : Statement) (act : Action) (table : Table) → IsBoundAs db in_block s act → IsSelect act → action_table act ≡ Some table → SelectMeansWhatIsWritten commit db in_block s act table
   select_law (statement.Select list name c) act table bound is on =
       let there = select_found db in_block name list c bound.admitted in
       at_its_table (SelectMeansWhatIsWritten commit db in_block (statement.Select list name c)) (select_of name list c) act (table_at db name) table bound.action refl on (select_means name list c bound.admitted there.named)
   select_law (statement.Migrate migrate) act table bound is on = absurd cc
   select_law other act table bound is on = absurd (subst IsSelect (sym (same_Some _ act bound.action)) is)
 
-  pub reply_law : (s : Statement) (act : Action) (table : Table) → IsBoundAs db in_block s act → IsChange act → table_of act ≡ Some table → ChangeRepliesWhatIsWritten commit db in_block s act table
+  pub reply_law : (s : Statement) (act : Action) (table : Table) → IsBoundAs db in_block s act → IsChange act → action_table act ≡ Some table → ChangeRepliesWhatIsWritten commit db in_block s act table
   reply_law (statement.Insert name tuples) act table bound is on =
       let there = insert_found db in_block name tuples bound.admitted in
       at_its_table (ChangeRepliesWhatIsWritten commit db in_block (statement.Insert name tuples)) (action.Insert (table_at db name) tuples) act (table_at db name) table bound.action refl on (insert_replies name tuples bound.admitted there.named)
@@ -270,7 +270,7 @@ module _ (commit : ℕ) (db : Database) (in_block : Bool) where
   reply_law (statement.Migrate migrate) act table bound is on = absurd cc
   reply_law other act table bound is on = absurd (subst IsChange (sym (same_Some _ act bound.action)) is)
 
-  pub database_law : (s : Statement) (act : Action) (table : Table) (entries : List Entry) (writes : List Write) → IsBoundAs db in_block s act → IsChange act → table_of act ≡ Some table → HoldRowsOf db table entries writes
+  pub database_law : (s : Statement) (act : Action) (table : Table) (entries : List Entry) (writes : List Write) → IsBoundAs db in_block s act → IsChange act → action_table act ≡ Some table → HoldRowsOf db table entries writes
       → ChangeMakesWhatIsWritten commit db in_block s act table entries writes
   database_law (statement.Insert name tuples) act table entries writes bound is on hold =
       let s = statement.Insert name tuples in

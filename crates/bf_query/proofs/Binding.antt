@@ -14,20 +14,20 @@ use Rattle.bf_base.specs.Tables.{IsKeyWithin}
 use Rattle.bf_base.proofs.Names.{same_name-tie}
 use Rattle.bf_base.proofs.Order.{equal_from_test}
 use Rattle.bf_base.proofs.Ties.{name_ties}
-use Rattle.bf_expr.specs.declared.raw.Ref.{Ref}
-use Rattle.bf_expr.specs.Trees.{Expr, Cond}
-use Rattle.bf_sql.specs.declared.bound.Action.{Action}
-use Rattle.bf_sql.specs.declared.items.Items.{Items}
-use Rattle.bf_sql.specs.declared.reply.Refusal.{Refusal}
-use Rattle.bf_sql.specs.declared.reply.Refusal.TheVariants as refusal
-use Rattle.bf_sql.specs.declared.statement.Statement.{Statement}
-use Rattle.bf_sql.specs.declared.statement.Statement.TheVariants as statement
+use Rattle.bf_tree.specs.declared.raw.Ref.{Ref}
+use Rattle.bf_tree.specs.Trees.{Expr, Cond}
+use Rattle.bf_tree.specs.declared.bound.Action.{Action}
+use Rattle.bf_tree.specs.declared.items.Items.{Items}
+use Rattle.bf_tree.specs.declared.reply.Refusal.{Refusal}
+use Rattle.bf_tree.specs.declared.reply.Refusal.TheVariants as refusal
+use Rattle.bf_tree.specs.declared.statement.Statement.{Statement}
+use Rattle.bf_tree.specs.declared.statement.Statement.TheVariants as statement
 use Rattle.bf_sql.specs.Bound.{set_in, action_of}
 use Rattle.bf_sql.specs.Conditions.{condition_of}
 use Rattle.bf_sql.specs.Database.{Database, Stored, IsDatabase, is_admitted, is_keyed, is_within, no_table, stored_at, table_at, table_rows}
 use Rattle.bf_sql.specs.Objections.{objections, table_objections, column_names, key_names, items_objections, sets_objections, set_objections, tuple_objections}
 use Rattle.bf_sql.specs.Scopes.{scope_of, place_of, unqualified, is_qualified_by, cond_objections}
-use Rattle.bf_query.specs.Actions.{IsWellBound, table_of}
+use Rattle.bf_query.specs.Actions.{IsWellBound, action_table}
 use Rattle.bf_query.specs.Changes.{LeavesKeys}
 use Rattle.bf_query.specs.Meanings.{IsBoundAs}
 use Rattle.bf_query.proofs.OwnKeys.{each}
@@ -236,10 +236,10 @@ module _ (db : Database) (in_block : Bool) where
   leaves_keys (statement.Migrate migrate) act bound = absurd cc
   leaves_keys other act bound = subst LeavesKeys (same_Some _ act bound.action) tt
 
-  pub stored_table : (s : Statement) (act : Action) (table : Table) → IsBoundAs db in_block s act → table_of act ≡ Some table → stored_at db table.name ≡ Some (as_stored table (table_rows db table.name))
-  stored_table s act table bound on = table_is s bound.admitted table (ap (λ (o : Option Action). option_and_then table_of o) bound.action ∙ on)
+  pub stored_table : (s : Statement) (act : Action) (table : Table) → IsBoundAs db in_block s act → action_table act ≡ Some table → stored_at db table.name ≡ Some (as_stored table (table_rows db table.name))
+  stored_table s act table bound on = table_is s bound.admitted table (ap (λ (o : Option Action). option_and_then action_table o) bound.action ∙ on)
     where
-      table_is : (s : Statement) → objections db in_block s ≡ [] → (table : Table) → option_and_then table_of (action_of db s) ≡ Some table → stored_at db table.name ≡ Some (as_stored table (table_rows db table.name))
+      table_is : (s : Statement) → objections db in_block s ≡ [] → (table : Table) → option_and_then action_table (action_of db s) ≡ Some table → stored_at db table.name ≡ Some (as_stored table (table_rows db table.name))
       table_is (statement.Insert name tuples) none table on =
           subst (λ (t : Table). stored_at db t.name ≡ Some (as_stored t (table_rows db t.name))) (same_Some _ table on) (by_own_name db name _ (insert_found db in_block name tuples none))
       table_is (statement.Select list name c) none table on =

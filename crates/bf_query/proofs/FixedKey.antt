@@ -10,9 +10,9 @@ use Rattle.bf_base.specs.declared.table.Table.{Table}
 use Rattle.bf_base.specs.Tables.{cell, cells, key_of}
 use Rattle.bf_base.specs.Values.{value_cmp, value_cmp-IsAntisymmetric}
 use Rattle.bf_base.proofs.Order.{equal_from_test}
-use Rattle.bf_expr.specs.declared.compare.Compare.TheVariants as compare
-use Rattle.bf_expr.specs.Trees.{literal, column, Cond, always, compared, between, opposite, both, either}
-use Rattle.bf_expr.specs.Evaluation.{holds_on}
+use Rattle.bf_tree.specs.declared.compare.Compare.TheVariants as compare
+use Rattle.bf_tree.specs.Trees.{literal, column, Cond, always, compared, between, opposite, both, either}
+use Rattle.bf_tree.specs.Evaluation.{holds_on}
 use Rattle.bf_sql.specs.Conditions.{conjuncts, value_fixed, all_there, fixed_key}
 
 same_place : (m n : ℕ) → m == n ≡ true → m ≡ n

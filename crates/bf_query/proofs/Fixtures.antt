@@ -7,14 +7,14 @@ use Rattle.bf_base.specs.declared.table.Table.{Table}
 use Rattle.bf_base.specs.Lists.{has}
 use Rattle.bf_base.specs.Tables.{IsKeyWithin, key_of}
 use Rattle.bf_base.specs.Values.{key_cmp}
-use Rattle.bf_expr.specs.Trees.{Expr, Cond}
+use Rattle.bf_tree.specs.Trees.{Expr, Cond}
 use Rattle.bf_heap.specs.Heaps.{Entry, key_of_entry, with_row}
 use Rattle.bf_sql.specs.Conditions.{fixed_key}
-use Rattle.bf_sql.specs.declared.bound.Action.{Action}
-use Rattle.bf_sql.specs.declared.bound.Action.TheVariants as action
-use Rattle.bf_sql.specs.declared.reply.Refusal.{Refusal}
+use Rattle.bf_tree.specs.declared.bound.Action.{Action}
+use Rattle.bf_tree.specs.declared.bound.Action.TheVariants as action
+use Rattle.bf_tree.specs.declared.reply.Refusal.{Refusal}
 use Rattle.bf_txn.specs.declared.write.Write.{Write}
-use Rattle.bf_query.specs.Actions.{IsWellBound, table_of, rows_for, objections_on, writes_of, written}
+use Rattle.bf_query.specs.Actions.{IsWellBound, action_table, rows_for, objections_on, writes_of, written}
 use Rattle.bf_query.specs.Changes.{IsReadyOn, LeavesKeys}
 use Rattle.bf_query.specs.Merged.{rows_under, HasOwnKey, StandUnderOwnKeys}
 use Rattle.bf_query.proofs.Keeping.{own_kept}
@@ -37,7 +37,7 @@ all_more P (y ∷ xs) x all here zero d below = all zero d (omega arith)
 all_more P (y ∷ xs) x all here (suc k) d below = all_more P xs x (λ k d below. all (suc k) d (omega arith)) here k d (omega arith)
 
 -- after a change rows stand under their own keys
-pub stands_after : (act : Action) (table : Table) (entries : List Entry) (old new : List Write) → table_of act ≡ Some table → IsWellBound act → LeavesKeys act → StandUnderOwnKeys table entries old
+pub stands_after : (act : Action) (table : Table) (entries : List Entry) (old new : List Write) → action_table act ≡ Some table → IsWellBound act → LeavesKeys act → StandUnderOwnKeys table entries old
     → new ≡ written (objections_on (rows_for entries old act) act) old (writes_of (rows_for entries old act) act) → StandUnderOwnKeys table entries new
 stands_after act table entries old new is bound leaves stand after =
     subst (StandUnderOwnKeys table entries) (sym after) (elim (objections_on (rows_for entries old act) act) as (λ objections. StandUnderOwnKeys table entries (written objections old (writes_of (rows_for entries old act) act))) [

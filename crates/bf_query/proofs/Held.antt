@@ -6,14 +6,14 @@ use Rattle.bf_base.specs.declared.value.Value.{Value}
 use Rattle.bf_base.specs.declared.table.Table.{Table}
 use Rattle.bf_base.specs.Lists.{same_name}
 use Rattle.bf_heap.specs.Heaps.{Entry}
-use Rattle.bf_sql.specs.declared.bound.Action.{Action}
-use Rattle.bf_sql.specs.declared.reply.Refusal.{Refusal}
-use Rattle.bf_sql.specs.declared.statement.Statement.{Statement}
+use Rattle.bf_tree.specs.declared.bound.Action.{Action}
+use Rattle.bf_tree.specs.declared.reply.Refusal.{Refusal}
+use Rattle.bf_tree.specs.declared.statement.Statement.{Statement}
 use Rattle.bf_sql.specs.Database.{Database, Stored, stored_at, table_rows, with_rows}
 use Rattle.bf_sql.specs.Meaning.{executed}
 use Rattle.bf_txn.specs.declared.write.Write.{Write}
 use Rattle.bf_txn.specs.Writes.{AreWrites}
-use Rattle.bf_query.specs.Actions.{IsChange, objections_on, table_of, writes_of, written}
+use Rattle.bf_query.specs.Actions.{IsChange, objections_on, action_table, writes_of, written}
 use Rattle.bf_query.specs.Meanings.{HoldRowsOf, IsBoundAs, entries_of, rows_after, writes_after}
 use Rattle.bf_query.specs.Merged.{StandUnderOwnKeys, rows_under}
 use Rattle.bf_query.proofs.AsWritten.{database_law}
@@ -60,7 +60,7 @@ after_some : (P : List Write → Type 0) (rs : List Refusal) (writes more : List
 after_some P [] writes more before after = after
 after_some P (r ∷ rs) writes more before after = before
 
-module _ (commit : ℕ) (db : Database) (in_block : Bool) (s : Statement) (act : Action) (table : Table) (bound : IsBoundAs db in_block s act) (is : IsChange act) (on : table_of act ≡ Some table) where
+module _ (commit : ℕ) (db : Database) (in_block : Bool) (s : Statement) (act : Action) (table : Table) (bound : IsBoundAs db in_block s act) (is : IsChange act) (on : action_table act ≡ Some table) where
   abbrev rows : List (List Value)
   rows = table_rows db table.name
 

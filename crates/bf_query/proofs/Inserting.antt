@@ -8,14 +8,14 @@ use Rattle.bf_base.specs.declared.table.Table.{Table}
 use Rattle.bf_base.specs.Lists.{with_before_from, when}
 use Rattle.bf_base.specs.Tables.{key_of}
 use Rattle.bf_heap.specs.Heaps.{Entry}
-use Rattle.bf_sql.specs.declared.reply.Refusal.{Refusal}
-use Rattle.bf_sql.specs.declared.reply.Refusal.TheVariants.{DuplicateKey}
+use Rattle.bf_tree.specs.declared.reply.Refusal.{Refusal}
+use Rattle.bf_tree.specs.declared.reply.Refusal.TheVariants.{DuplicateKey}
 use Rattle.bf_sql.specs.RowObjections.{unfit_row_objections, taken_key_objections}
 use Rattle.bf_txn.specs.declared.write.Write.{Write}
 use Rattle.bf_txn.specs.Writes.{with_write}
 use Rattle.bf_query.specs.Changes.{is_taken}
 use Rattle.bf_query.specs.Merged.{rows_under, StandUnderOwnKeys}
-use Rattle.bf_query.specs.Stops.{first_of}
+use Rattle.bf_tree.specs.Settling.{first_of}
 use Rattle.bf_query.proofs.Stopping.{behind_item, none_first, first_ahead}
 use Rattle.bf_query.proofs.Taken.{note_of, taken}
 

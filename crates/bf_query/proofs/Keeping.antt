@@ -14,15 +14,15 @@ use Rattle.bf_base.specs.Tables.{cell, cells, key_of, IsKeyWithin}
 use Rattle.bf_base.proofs.Names.{same_name-tie}
 use Rattle.bf_base.proofs.Order.{equal_from_test}
 use Rattle.bf_base.proofs.Ties.{name_ties}
-use Rattle.bf_expr.specs.Evaluation.{holds_on, sure_value}
-use Rattle.bf_expr.specs.Trees.{Expr}
+use Rattle.bf_tree.specs.Evaluation.{holds_on, sure_value}
+use Rattle.bf_tree.specs.Trees.{Expr}
 use Rattle.bf_heap.specs.Heaps.{Entry}
-use Rattle.bf_sql.specs.declared.bound.Action.{Action}
-use Rattle.bf_sql.specs.declared.bound.Action.TheVariants as action
+use Rattle.bf_tree.specs.declared.bound.Action.{Action}
+use Rattle.bf_tree.specs.declared.bound.Action.TheVariants as action
 use Rattle.bf_sql.specs.Queries.{changed}
 use Rattle.bf_txn.specs.declared.write.Write.{Write}
 use Rattle.bf_txn.specs.Writes.{spot_cmp, spot_of, with_write}
-use Rattle.bf_query.specs.Actions.{IsWellBound, table_of, write_of, writes_of}
+use Rattle.bf_query.specs.Actions.{IsWellBound, action_table, write_of, writes_of}
 use Rattle.bf_query.specs.Changes.{LeavesKeys}
 use Rattle.bf_query.specs.Merged.{entries_under, rows_under, HasOwnKey, WritesOwnKey, StandUnderOwnKeys}
 use Rattle.bf_query.proofs.Effects.{AreTo, others_stay}
@@ -34,7 +34,7 @@ module _ (name : List ℕ) (f : List Value → Write) (to : (row : List Value) �
   mapped_to (row ∷ rows) = (to row, mapped_to rows)
 
 -- the writes of an action are to its table
-pub writes_are_to : (rows : List (List Value)) (act : Action) (table : Table) → table_of act ≡ Some table → AreTo table.name (writes_of rows act)
+pub writes_are_to : (rows : List (List Value)) (act : Action) (table : Table) → action_table act ≡ Some table → AreTo table.name (writes_of rows act)
 writes_are_to rows (action.Insert t tuples) table is = mapped_to table.name _ (λ tuple. ap (λ (t : Table). t.name) (same_Some t table is)) tuples
 writes_are_to rows (action.Select t items cond fixed) table is = tt
 writes_are_to rows (action.Update t sets cond fixed) table is = mapped_to table.name _ (λ row. ap (λ (t : Table). t.name) (same_Some t table is)) (filter (λ row. holds_on (cell row) cond) rows)
@@ -47,7 +47,7 @@ apart_names a b apart = elim (cases_Bool (same_name b a)) [
   | inr other ↦ other
 ]
 
-pub other_tables_stay : (act : Action) (table : Table) (other : List ℕ) (rows : List (List Value)) (entries : List Entry) (writes : List Write) → table_of act ≡ Some table → other ≢ table.name
+pub other_tables_stay : (act : Action) (table : Table) (other : List ℕ) (rows : List (List Value)) (entries : List Entry) (writes : List Write) → action_table act ≡ Some table → other ≢ table.name
     → rows_under entries (fold with_write writes (writes_of rows act)) other ≡ rows_under entries writes other
 other_tables_stay act table other rows entries writes is apart = others_stay entries writes (writes_of rows act) table.name other (writes_are_to rows act table is) (apart_names other table.name apart)
 
@@ -67,7 +67,7 @@ of_other : (table : Table) (name : List ℕ) (writes : List Write) → AreTo nam
 of_other table name [] to apart = tt
 of_other table name (w ∷ writes) to apart = ((λ row is some. absurd (apart (sym is ∙ to.0))), of_other table name writes to.1 apart)
 
-pub others_keep : (act : Action) (table other : Table) (rows : List (List Value)) (entries : List Entry) (writes : List Write) → table_of act ≡ Some table → other.name ≢ table.name → StandUnderOwnKeys other entries writes
+pub others_keep : (act : Action) (table other : Table) (rows : List (List Value)) (entries : List Entry) (writes : List Write) → action_table act ≡ Some table → other.name ≢ table.name → StandUnderOwnKeys other entries writes
     → StandUnderOwnKeys other entries (fold with_write writes (writes_of rows act))
 others_keep act table other rows entries writes is apart stand = stand_with other entries writes (writes_of rows act) stand (of_other other table.name (writes_of rows act) (writes_are_to rows act table is) apart)
 
@@ -119,7 +119,7 @@ module _ (table : Table) (f : List Value → Write) (P : List Value → Type 0) 
   mapped_own (row ∷ rows) all = (own row all.0, mapped_own rows all.1)
 
 -- each write of an action puts a row under its own key
-own_writes : (rows : List (List Value)) (act : Action) (table : Table) → table_of act ≡ Some table → AllByRecursion (IsKeyWithin table) rows → IsWellBound act → LeavesKeys act → AllByRecursion (WritesOwnKey table) (writes_of rows act)
+own_writes : (rows : List (List Value)) (act : Action) (table : Table) → action_table act ≡ Some table → AllByRecursion (IsKeyWithin table) rows → IsWellBound act → LeavesKeys act → AllByRecursion (WritesOwnKey table) (writes_of rows act)
 own_writes rows (action.Insert t tuples) table is within bound leaves =
     subst (λ u. AllByRecursion (WritesOwnKey u) (map (λ tuple. write_of t (key_of t tuple) (Some tuple)) tuples)) (same_Some t table is)
     (mapped_own t (λ tuple. write_of t (key_of t tuple) (Some tuple)) (IsKeyWithin t) (λ tuple in_key row same some. subst (HasOwnKey t (key_of t tuple)) (same_Some tuple row some) (in_key, refl)) tuples (by_recursion (IsKeyWithin t) tuples bound))
@@ -135,7 +135,7 @@ own_writes rows (action.Delete t cond fixed) table is within bound leaves =
     (filtered (IsKeyWithin table) (λ row. holds_on (cell row) cond) rows within)
 own_writes rows other table is within bound leaves = absurd cc
 
-pub own_kept : (act : Action) (table : Table) (entries : List Entry) (writes : List Write) → table_of act ≡ Some table → IsWellBound act → LeavesKeys act → StandUnderOwnKeys table entries writes
+pub own_kept : (act : Action) (table : Table) (entries : List Entry) (writes : List Write) → action_table act ≡ Some table → IsWellBound act → LeavesKeys act → StandUnderOwnKeys table entries writes
     → StandUnderOwnKeys table entries (fold with_write writes (writes_of (rows_under entries writes table.name) act))
 own_kept act table entries writes is bound leaves stand =
     let within = rows_within table (entries_under entries writes table.name) (own_keys table entries writes stand) in

@@ -13,8 +13,8 @@ use Rattle.bf_base.specs.Values.{key_cmp, key_cmp_total}
 use Rattle.bf_base.proofs.Names.{same_name-tie}
 use Rattle.bf_base.proofs.Order.{less_from_test, equal_from_test, rises_alike, rises_skip, rises_tail}
 use Rattle.bf_base.proofs.Ties.{name_ties}
-use Rattle.bf_expr.specs.Evaluation.{holds_on}
-use Rattle.bf_expr.specs.Trees.{Cond}
+use Rattle.bf_tree.specs.Evaluation.{holds_on}
+use Rattle.bf_tree.specs.Trees.{Cond}
 use Rattle.bf_heap.specs.Heaps.{Entry, key_of_entry, row_under}
 use Rattle.bf_sql.specs.Conditions.{fixed_key}
 use Rattle.bf_sql.specs.Queries.{selected}

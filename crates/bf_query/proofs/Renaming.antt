@@ -11,16 +11,16 @@ use Rattle.bf_base.specs.declared.value.Value.TheVariants.{Int}
 use Rattle.bf_base.specs.declared.table.Admit.{Admit}
 use Rattle.bf_base.specs.Lists.{when}
 use Rattle.bf_base.specs.Tables.{cell}
-use Rattle.bf_expr.specs.Trees.{Expr, Cond, expr_over, cond_over}
-use Rattle.bf_expr.specs.Evaluation.{value_of, sure_value, is_int}
-use Rattle.bf_expr.proofs.Renamed.{value_of-expr_over, holds_on-cond_over}
-use Rattle.bf_sql.specs.declared.items.Aggregate.{Aggregate}
-use Rattle.bf_sql.specs.declared.items.Aggregate.TheVariants.{Count, Sum, Min, Max}
-use Rattle.bf_sql.specs.declared.items.Items.{Items}
-use Rattle.bf_sql.specs.declared.items.Items.TheVariants.{All, Exprs, Aggregates}
-use Rattle.bf_sql.specs.declared.reply.Cell.TheVariants as cells
-use Rattle.bf_sql.specs.declared.reply.Refusal.{Refusal}
-use Rattle.bf_sql.specs.declared.reply.Refusal.TheVariants.{OutOfRange}
+use Rattle.bf_tree.specs.Trees.{Expr, Cond, expr_over, cond_over}
+use Rattle.bf_tree.specs.Evaluation.{value_of, sure_value, is_int}
+use Rattle.bf_tree.proofs.Renamed.{value_of-expr_over, holds_on-cond_over}
+use Rattle.bf_tree.specs.declared.items.Aggregate.{Aggregate}
+use Rattle.bf_tree.specs.declared.items.Aggregate.TheVariants.{Count, Sum, Min, Max}
+use Rattle.bf_tree.specs.declared.items.Items.{Items}
+use Rattle.bf_tree.specs.declared.items.Items.TheVariants.{All, Exprs, Aggregates}
+use Rattle.bf_tree.specs.declared.reply.Cell.TheVariants as cells
+use Rattle.bf_tree.specs.declared.reply.Refusal.{Refusal}
+use Rattle.bf_tree.specs.declared.reply.Refusal.TheVariants.{OutOfRange}
 use Rattle.bf_sql.specs.Bound.{total_over, items_over}
 use Rattle.bf_sql.specs.Queries.{selected, answer_of, changed}
 use Rattle.bf_sql.specs.RowObjections.{value_objections, unfit_objections, argument_objections, sum_objections, answer_objections, change_objections}

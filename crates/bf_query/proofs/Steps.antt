@@ -6,21 +6,21 @@ use Rattle.std.specs.Result.{IsErrAnd}
 use Rattle.std.proofs.lemmas.List.{take_more, take_all, drop_more, get_or-drop, take_more_set, map_more, get_or-map, drop-set-lt, drop-drop}
 use Rattle.std.proofs.lemmas.List.Concat.{flat_map-append}
 use Rattle.std.proofs.lemmas.List.Folds.{flat_map-map}
-use Rattle.bf_sql.specs.declared.reply.Refusal.{Refusal}
-use Rattle.bf_sql.specs.declared.stop.Stop.{Stop}
-use Rattle.bf_sql.specs.declared.stop.Stop.TheVariants.{Refused, Memory}
+use Rattle.bf_tree.specs.declared.reply.Refusal.{Refusal}
+use Rattle.bf_tree.specs.declared.statement_error.StatementError.{StatementError}
+use Rattle.bf_tree.specs.declared.statement_error.StatementError.TheVariants.{Refused, Memory}
 use Rattle.bf_query.proofs.Stopping.{first_ahead, handed_on}
-use Rattle.bf_query.specs.Stops.{first_of, Settles}
+use Rattle.bf_tree.specs.Settling.{first_of, Settles}
 
 pub map_map : {X Y Z : Type 0} (f : Y → Z) (v : X → Y) (xs : List X) → map f (map v xs) ≡ map (λ x. f (v x)) xs
 map_map f v [] = refl
 map_map f v (x ∷ xs) = rw (map_map f v xs)
 
 -- an error that is passed on
-pub passes_on : {A B : Type 0} (result : Result B Stop) (e : Stop) (objections : List Refusal) (meant : A) (whole : B) → IsErrAnd result (λ s. s ≡ e) → Settles (Err e) objections meant → Settles result objections whole
+pub passes_on : {A B : Type 0} (result : Result B StatementError) (e : StatementError) (objections : List Refusal) (meant : A) (whole : B) → IsErrAnd result (λ s. s ≡ e) → Settles (Err e) objections meant → Settles result objections whole
 passes_on result e objections meant whole same h = handed_on result e objections objections meant whole same h (λ r here. here)
 
-pub cause_before : {A : Type 0} (e : Stop) (objections more : List Refusal) (meant : A) → Settles (Err e) objections meant → Settles (Err e) (objections ++ more) meant
+pub cause_before : {A : Type 0} (e : StatementError) (objections more : List Refusal) (meant : A) → Settles (Err e) objections meant → Settles (Err e) (objections ++ more) meant
 cause_before (Refused r) objections more meant h = first_ahead objections more r h
 cause_before Memory objections more meant h = tt
 
@@ -45,7 +45,7 @@ module _ {X : Type 0} (xs : List X) (i : ℕ) (x : X) (lt : i < length xs) (is :
       rw (flat, none, ← there) (first_ahead (f x) rest y here)
 
   -- an error at an item is the whole loop's
-  pub stops : {A : Type 0} (f : X → List Refusal) (e : Stop) (meant : A) → flat_map f (take i xs) ≡ [] → Settles (Err e) (f x) meant → Settles (Err e) (flat_map f xs) meant
+  pub stops : {A : Type 0} (f : X → List Refusal) (e : StatementError) (meant : A) → flat_map f (take i xs) ≡ [] → Settles (Err e) (f x) meant → Settles (Err e) (flat_map f xs) meant
   stops f (Refused r) meant none here = stops_at f r none here
   stops f Memory meant none here = tt
 

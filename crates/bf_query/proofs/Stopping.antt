@@ -3,10 +3,10 @@ use Rattle.std.proofs.Common.{◌≡◌, ℕ, ◌+◌, ◌<◌, List, [], ◌∷
 use Rattle.std.specs.Prelude.{flat_map, IsErrAnd}
 use Rattle.std.specs.List.{All}
 use Rattle.std.proofs.lemmas.List.{length-map, get_or-map, take_more, map-append}
-use Rattle.bf_sql.specs.declared.reply.Refusal.{Refusal}
-use Rattle.bf_sql.specs.declared.stop.Stop.{Stop}
-use Rattle.bf_sql.specs.declared.stop.Stop.TheVariants as stop
-use Rattle.bf_query.specs.Stops.{first_of, Settles}
+use Rattle.bf_tree.specs.declared.reply.Refusal.{Refusal}
+use Rattle.bf_tree.specs.declared.statement_error.StatementError.{StatementError}
+use Rattle.bf_tree.specs.declared.statement_error.StatementError.TheVariants as stop
+use Rattle.bf_tree.specs.Settling.{first_of, Settles}
 
 pub none_first : (objections : List Refusal) → first_of objections ≡ None → objections ≡ []
 none_first [] e = refl
@@ -17,14 +17,14 @@ first_ahead [] later r e = absurd cc
 first_ahead (s ∷ rs) later r e = e
 
 -- what stops a step stops the whole
-pub stops : {A B : Type 0} (e : Stop) (objections all : List Refusal) (meant : A) (whole : B) → Settles (Err e) objections meant → ((r : Refusal) → first_of objections ≡ Some r → first_of all ≡ Some r) → Settles (Err e) all whole
+pub stops : {A B : Type 0} (e : StatementError) (objections all : List Refusal) (meant : A) (whole : B) → Settles (Err e) objections meant → ((r : Refusal) → first_of objections ≡ Some r → first_of all ≡ Some r) → Settles (Err e) all whole
 stops (stop.Refused r) objections all meant whole here then = then r here
 stops stop.Memory objections all meant whole here then = tt
 
 -- and it is handed on as it is
-pub handed_on : {A B : Type 0} (result : Result B Stop) (e : Stop) (objections all : List Refusal) (meant : A) (whole : B) → IsErrAnd result (λ given. given ≡ e) → Settles (Err e) objections meant → ((r : Refusal) → first_of objections ≡ Some r → first_of all ≡ Some r) → Settles result all whole
+pub handed_on : {A B : Type 0} (result : Result B StatementError) (e : StatementError) (objections all : List Refusal) (meant : A) (whole : B) → IsErrAnd result (λ given. given ≡ e) → Settles (Err e) objections meant → ((r : Refusal) → first_of objections ≡ Some r → first_of all ≡ Some r) → Settles result all whole
 handed_on (Ok found) e objections all meant whole given here then = absurd given
-handed_on (Err given) e objections all meant whole same here then = subst (λ (s : Stop). Settles (Err s) all whole) (sym same) (stops e objections all meant whole here then)
+handed_on (Err given) e objections all meant whole same here then = subst (λ (s : StatementError). Settles (Err s) all whole) (sym same) (stops e objections all meant whole here then)
 
 module _ {X B : Type 0} (now : B → X) (items : List B) (i : ℕ) (item : B) (in_range : i < length items) (is : item ≡ get_or items i item) where
   pub behind_item : drop i items ≡ item ∷ drop (i + 1) items

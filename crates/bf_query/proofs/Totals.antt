@@ -5,10 +5,10 @@ use Rattle.std.proofs.lemmas.List.{length_push, map_push, map_more}
 use Rattle.std.proofs.lemmas.List.Folds.{flat_map-map}
 use Rattle.bf_base.specs.declared.value.Value.{Value}
 use Rattle.bf_base.specs.Tables.{cell}
-use Rattle.bf_expr.specs.Trees.{Expr}
-use Rattle.bf_expr.specs.Evaluation.{sure_value, number_of}
-use Rattle.bf_sql.specs.declared.items.Aggregate.{Aggregate}
-use Rattle.bf_sql.specs.declared.items.Aggregate.TheVariants.{Count, Sum, Min, Max}
+use Rattle.bf_tree.specs.Trees.{Expr}
+use Rattle.bf_tree.specs.Evaluation.{sure_value, number_of}
+use Rattle.bf_tree.specs.declared.items.Aggregate.{Aggregate}
+use Rattle.bf_tree.specs.declared.items.Aggregate.TheVariants.{Count, Sum, Min, Max}
 use Rattle.bf_sql.specs.RowObjections.{argument_objections, sum_objections}
 use Rattle.bf_sql.specs.Totals.{lesser, greater, values_of, total_of}
 use Rattle.bf_query.proofs.Steps.{map_map}

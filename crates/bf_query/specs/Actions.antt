@@ -6,11 +6,11 @@ use Rattle.bf_base.specs.declared.table.Admit.{Admit}
 use Rattle.bf_base.specs.declared.table.Admit.TheVariants as admits
 use Rattle.bf_base.specs.declared.table.Table.{Table}
 use Rattle.bf_base.specs.Tables.{cell, key_of, IsKeyWithin}
-use Rattle.bf_sql.specs.declared.bound.Action.{Action}
-use Rattle.bf_sql.specs.declared.bound.Action.TheVariants as action
-use Rattle.bf_sql.specs.declared.reply.Refusal.{Refusal}
-use Rattle.bf_sql.specs.declared.reply.Reply.{Reply}
-use Rattle.bf_sql.specs.declared.reply.Reply.TheVariants as reply
+use Rattle.bf_tree.specs.declared.bound.Action.{Action}
+use Rattle.bf_tree.specs.declared.bound.Action.TheVariants as action
+use Rattle.bf_tree.specs.declared.reply.Refusal.{Refusal}
+use Rattle.bf_tree.specs.declared.reply.Reply.{Reply}
+use Rattle.bf_tree.specs.declared.reply.Reply.TheVariants as reply
 use Rattle.bf_sql.specs.Conditions.{fixed_key}
 use Rattle.bf_sql.specs.Queries.{selected, answer_of, changed}
 use Rattle.bf_sql.specs.RowObjections.{insert_objections, answer_objections, change_objections}
@@ -24,20 +24,20 @@ abbrev pub admitted_at : Table → ℕ → Admit
 admitted_at table place = slice_index_or (map (λ column. column.admits) table.columns) place admits.Int
 
 -- the table that an action is on; none for an action that no rows are asked for
-abbrev pub table_of : Action → Option Table
-table_of (action.Insert table rows) = Some table
-table_of (action.Select table items cond fixed) = Some table
-table_of (action.Update table sets cond fixed) = Some table
-table_of (action.Delete table cond fixed) = Some table
-table_of other = None
+abbrev pub action_table : Action → Option Table
+action_table (action.Insert table rows) = Some table
+action_table (action.Select table items cond fixed) = Some table
+action_table (action.Update table sets cond fixed) = Some table
+action_table (action.Delete table cond fixed) = Some table
+action_table other = None
 
 -- the rows that an action is on, in the entries of its table's heap under the writes of a transaction
 abbrev pub rows_for : List Entry → List Write → Action → List (List Value)
-rows_for entries writes action = unwrap_or (option_map (λ table. rows_under entries writes table.name) (table_of action)) []
+rows_for entries writes action = unwrap_or (option_map (λ table. rows_under entries writes table.name) (action_table action)) []
 
 -- and they stand under their own keys
 abbrev pub HaveOwnKeys : List Entry → List Write → Action → Type 0
-HaveOwnKeys entries writes action = IfSome (table_of action) (λ table. StandUnderOwnKeys table entries writes)
+HaveOwnKeys entries writes action = IfSome (action_table action) (λ table. StandUnderOwnKeys table entries writes)
 
 abbrev pub IsSelect : Action → Type 0
 IsSelect (action.Select table items cond fixed) = Unit {0}

@@ -5,13 +5,13 @@ use Rattle.bf_base.specs.declared.value.Value.{Value}
 use Rattle.bf_base.specs.Lists.{has}
 use Rattle.bf_base.specs.declared.table.Table.{Table}
 use Rattle.bf_heap.specs.Heaps.{Entry, has_row}
-use Rattle.bf_sql.specs.declared.bound.Action.{Action}
-use Rattle.bf_sql.specs.declared.bound.Action.TheVariants as action
-use Rattle.bf_sql.specs.declared.reply.Reply.{Reply}
-use Rattle.bf_sql.specs.declared.reply.Reply.TheVariants as reply
+use Rattle.bf_tree.specs.declared.bound.Action.{Action}
+use Rattle.bf_tree.specs.declared.bound.Action.TheVariants as action
+use Rattle.bf_tree.specs.declared.reply.Reply.{Reply}
+use Rattle.bf_tree.specs.declared.reply.Reply.TheVariants as reply
 use Rattle.bf_txn.specs.declared.write.Write.{Write}
 use Rattle.bf_txn.specs.Writes.{written_at}
-use Rattle.bf_query.specs.Actions.{IsChange, IsWellBound, table_of}
+use Rattle.bf_query.specs.Actions.{IsChange, IsWellBound, action_table}
 use Rattle.bf_query.specs.Merged.{entries_under}
 
 -- whether a row has a key, or an earlier tuple, whose keys are noted as writes
@@ -33,6 +33,6 @@ LeavesKeys other = Unit {0}
 -- what a change of a table has to be, so that rows stand under their own keys after it
 pub record IsReadyOn (table : Table) (act : Action) : Type 0 where
   pub change : IsChange act
-  pub of_table : table_of act ≡ Some table
+  pub of_table : action_table act ≡ Some table
   pub bound : IsWellBound act
   pub leaves : LeavesKeys act

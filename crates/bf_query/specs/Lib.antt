@@ -3,5 +3,4 @@ pub mod Changes
 pub mod Meanings
 pub mod Merged
 pub mod Standings
-pub mod Stops
 pub mod Sums

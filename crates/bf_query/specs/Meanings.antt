@@ -6,8 +6,8 @@ use Rattle.bf_base.specs.Maps.{is_map}
 use Rattle.bf_base.specs.Tables.{key_of}
 use Rattle.bf_base.specs.Values.{key_cmp}
 use Rattle.bf_heap.specs.Heaps.{Entry, key_of_entry}
-use Rattle.bf_sql.specs.declared.bound.Action.{Action}
-use Rattle.bf_sql.specs.declared.statement.Statement.{Statement}
+use Rattle.bf_tree.specs.declared.bound.Action.{Action}
+use Rattle.bf_tree.specs.declared.statement.Statement.{Statement}
 use Rattle.bf_sql.specs.Bound.{action_of}
 use Rattle.bf_sql.specs.Database.{Database, IsDatabase, table_rows}
 use Rattle.bf_sql.specs.Objections.{objections}

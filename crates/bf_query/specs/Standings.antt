@@ -5,14 +5,14 @@ use Rattle.bf_base.specs.declared.value.Value.{Value}
 use Rattle.bf_base.specs.declared.value.Value.TheVariants.{Int}
 use Rattle.bf_base.specs.Lists.{when}
 use Rattle.bf_base.specs.Tables.{cell}
-use Rattle.bf_expr.specs.Trees.{Expr}
-use Rattle.bf_expr.specs.Evaluation.{value_of, sure_value, number_of, is_int}
-use Rattle.bf_sql.specs.declared.items.Aggregate.{Aggregate}
-use Rattle.bf_sql.specs.declared.items.Aggregate.TheVariants as total
-use Rattle.bf_sql.specs.declared.reply.Cell.{Cell}
-use Rattle.bf_sql.specs.declared.reply.Cell.TheVariants as cells
-use Rattle.bf_sql.specs.declared.reply.Refusal.{Refusal}
-use Rattle.bf_sql.specs.declared.reply.Refusal.TheVariants.{OutOfRange}
+use Rattle.bf_tree.specs.Trees.{Expr}
+use Rattle.bf_tree.specs.Evaluation.{value_of, sure_value, number_of, is_int}
+use Rattle.bf_tree.specs.declared.items.Aggregate.{Aggregate}
+use Rattle.bf_tree.specs.declared.items.Aggregate.TheVariants as total
+use Rattle.bf_tree.specs.declared.reply.Cell.{Cell}
+use Rattle.bf_tree.specs.declared.reply.Cell.TheVariants as cells
+use Rattle.bf_tree.specs.declared.reply.Refusal.{Refusal}
+use Rattle.bf_tree.specs.declared.reply.Refusal.TheVariants.{OutOfRange}
 use Rattle.bf_sql.specs.RowObjections.{value_objections}
 use Rattle.bf_sql.specs.Totals.{lesser, greater, or_null, exact_sum, values_of}
 use Rattle.bf_query.specs.declared.running.Running.{Running}

@@ -2,19 +2,18 @@
 
 ghost use Rattle.std.specs.Prelude.{◌≡◌, map, flat_map, IfOk};
 ghost use Rattle.bf_base.specs.Tables.{cell};
-ghost use Rattle.bf_expr.specs.Evaluation.{sure_value, value_of};
+ghost use Rattle.bf_tree.specs.Evaluation.{sure_value, value_of};
 ghost use Rattle.bf_sql.specs.Queries.{answer_of};
 ghost use Rattle.bf_sql.specs.RowObjections.{answer_objections, value_objections};
-ghost use Rattle.bf_sql.specs.declared.items.Items.TheVariants.{All, Exprs};
-ghost use Rattle.bf_sql.specs.declared.reply.Cell.TheVariants as cells;
-ghost use Rattle.bf_sql.specs.declared.reply.Reply.TheVariants as reply;
+ghost use Rattle.bf_tree.specs.declared.items.Items.TheVariants.{All, Exprs};
+ghost use Rattle.bf_tree.specs.declared.reply.Cell.TheVariants as cells;
+ghost use Rattle.bf_tree.specs.declared.reply.Reply.TheVariants as reply;
 ghost use Rattle.bf_query.specs.Actions.{unless_refused};
-ghost use Rattle.bf_query.specs.Stops.{Settles};
+ghost use Rattle.bf_tree.specs.Settling.{Settles};
 
-use crate::running::{told_value, totals};
+use crate::running::{value_or_refusal, totals};
 use bf_base::{Memory, Row, Sequence};
-use bf_expr::Expr;
-use bf_sql::{Cell, Items, Reply, Stop};
+use bf_tree::{Cell, Expr, Items, Reply, StatementError};
 use std::alloc::Global;
 
 /// All columns of a row.
@@ -41,14 +40,14 @@ fn all_columns(alloc: Global, rows: &[&Row]) -> Result<Sequence<Sequence<Cell>>,
 }
 
 /// The values of expressions on a row, the first one first.
-fn values(alloc: Global, exprs: &[Expr], row: &Row) -> Result<Sequence<Cell>, Stop>
+fn values(alloc: Global, exprs: &[Expr], row: &Row) -> Result<Sequence<Cell>, StatementError>
     ensures { Settles result (flat_map
         (λ expr. value_objections (value_of (cell row.now) expr)) exprs.now)
         (map (λ expr. cells.Value (sure_value (cell row.now) expr)) exprs.now) }
 {
     let mut cells = Vec::with_capacity(alloc, exprs.len())?;
     for expr in exprs {
-        cells.push(Cell::Value(told_value(alloc, expr, row)?))?;
+        cells.push(Cell::Value(value_or_refusal(alloc, expr, row)?))?;
     }
     Ok(Sequence::of(cells))
 }
@@ -58,7 +57,7 @@ fn all_values(
     alloc: Global,
     exprs: &[Expr],
     rows: &[&Row],
-) -> Result<Sequence<Sequence<Cell>>, Stop>
+) -> Result<Sequence<Sequence<Cell>>, StatementError>
     ensures { Settles result (answer_objections cell (Exprs exprs.now)
         (map (λ row. row.now) rows.now))
         (answer_of cell (Exprs exprs.now) (map (λ row. row.now) rows.now)) }
@@ -71,7 +70,7 @@ fn all_values(
 }
 
 /// What is given of some rows.
-fn given(alloc: Global, items: &Items, rows: &[&Row]) -> Result<Sequence<Sequence<Cell>>, Stop>
+fn given(alloc: Global, items: &Items, rows: &[&Row]) -> Result<Sequence<Sequence<Cell>>, StatementError>
     ensures { Settles result (answer_objections cell items.now (map (λ row. row.now) rows.now))
         (answer_of cell items.now (map (λ row. row.now) rows.now)) }
 {
@@ -94,8 +93,8 @@ pub fn answer(alloc: Global, items: &Items, rows: &[&Row]) -> Result<Reply, Memo
 {
     match given(alloc, items, rows) {
         Ok(rows) => Ok(Reply::Rows(rows)),
-        Err(Stop::Refused(refusal)) => Ok(Reply::Refused(refusal)),
-        Err(Stop::Memory) => Err(Memory),
+        Err(StatementError::Refused(refusal)) => Ok(Reply::Refused(refusal)),
+        Err(StatementError::Memory) => Err(Memory),
     }
 }
 

@@ -4,22 +4,21 @@ ghost use Rattle.std.specs.Prelude.{◌≡◌, ◌<◌, ◌++◌, [], IfOk, OnOk
 ghost use Rattle.std.specs.List.{All};
 ghost use Rattle.bf_base.specs.Lists.{when};
 ghost use Rattle.bf_base.specs.Tables.{IsKeyWithin, cell, fit_of, key_of};
-ghost use Rattle.bf_expr.specs.Evaluation.{sure_value, value_of};
-ghost use Rattle.bf_sql.specs.declared.reply.Refusal.TheVariants.{DuplicateKey};
+ghost use Rattle.bf_tree.specs.Evaluation.{sure_value, value_of};
+ghost use Rattle.bf_tree.specs.declared.reply.Refusal.TheVariants.{DuplicateKey};
 ghost use Rattle.bf_sql.specs.Queries.{changed};
 ghost use Rattle.bf_sql.specs.RowObjections.{change_objections, fit_objections, insert_objections, unfit_objections, unfit_row_objections, value_objections};
 ghost use Rattle.bf_txn.specs.Writes.{with_write};
 ghost use Rattle.bf_query.specs.Actions.{HaveOwnKeys, IsChange, IsWellBound, admitted_at, change_reply, objections_on, rows_for, write_of, writes_of, written};
 ghost use Rattle.bf_query.specs.Changes.{counted, is_taken};
 ghost use Rattle.bf_query.specs.Merged.{StandUnderOwnKeys, rows_under};
-ghost use Rattle.bf_query.specs.Stops.{Settles, first_of};
+ghost use Rattle.bf_tree.specs.Settling.{Settles, first_of};
 
 use crate::merge::{row_at, selected_rows};
-use crate::running::told_value;
+use crate::running::value_or_refusal;
 use bf_base::{Fit, Key, Memory, Row, Sequence, Table, Value, admits, key_of};
-use bf_expr::Expr;
+use bf_tree::{Action, Bound, Expr, Refusal, Reply, StatementError};
 use bf_heap::Heap;
-use bf_sql::{Action, Bound, Refusal, Reply, Stop};
 use bf_txn::{Workspace, Write};
 use std::alloc::Global;
 
@@ -92,7 +91,7 @@ fn plan_insert(
     workspace: &Workspace,
     table: &Table,
     tuples: &[Row],
-) -> Result<Sequence<Write>, Stop>
+) -> Result<Sequence<Write>, StatementError>
     requires tuples { All (IsKeyWithin table.now) tuples.now }
     requires keys { StandUnderOwnKeys table.now heap.now.entries workspace.now }
     ensures { Settles result (insert_objections table.now
@@ -106,7 +105,7 @@ fn plan_insert(
         if let Some(refusal) = tuple_objection(
             alloc, table, heap, workspace, &noted, tuple, &key,
         )? {
-            return Err(Stop::Refused(refusal));
+            return Err(StatementError::Refused(refusal));
         }
         noted.write(table.name.copy(alloc)?, key.copy(alloc)?, None)?;
         writes.push(write_to(alloc, table, key, Some(tuple.copy(alloc)?))?)?;
@@ -127,20 +126,20 @@ fn fit_at(table: &Table, place: u8, value: &Value) -> Fit
 
 /// The value that a set gives a column of a row, if the expression has one there and the column
 /// admits it.
-fn set_value(alloc: Global, table: &Table, place: u8, expr: &Expr, row: &Row) -> Result<Value, Stop>
+fn set_value(alloc: Global, table: &Table, place: u8, expr: &Expr, row: &Row) -> Result<Value, StatementError>
     ensures { Settles result (value_objections (value_of (cell row.now) expr.now)
         ++ unfit_objections (admitted_at table.now place) (sure_value (cell row.now) expr.now))
         (sure_value (cell row.now) expr.now) }
 {
-    let found = told_value(alloc, expr, row)?;
+    let found = value_or_refusal(alloc, expr, row)?;
     match unfitness(fit_at(table, place, &found)) {
-        Some(refusal) => Err(Stop::Refused(refusal)),
+        Some(refusal) => Err(StatementError::Refused(refusal)),
         None => Ok(found),
     }
 }
 
 /// A row with its sets, all from the old row.
-fn changed_row(alloc: Global, table: &Table, sets: &[(u8, Expr)], row: &Row) -> Result<Row, Stop>
+fn changed_row(alloc: Global, table: &Table, sets: &[(u8, Expr)], row: &Row) -> Result<Row, StatementError>
     ensures { Settles result (change_objections cell (admitted_at table.now) sets.now row.now)
         (changed cell (λ place. place) sets.now row.now) }
 {
@@ -161,7 +160,7 @@ fn plan_update(
     table: &Table,
     sets: &[(u8, Expr)],
     rows: &[&Row],
-) -> Result<Sequence<Write>, Stop>
+) -> Result<Sequence<Write>, StatementError>
     requires { All (IsKeyWithin table.now) (map (λ row. row.now) rows.now) }
     ensures { Settles result (flat_map (change_objections cell (admitted_at table.now) sets.now)
         (map (λ row. row.now) rows.now))
@@ -198,7 +197,7 @@ fn plan(
     heap: &Heap,
     workspace: &Workspace,
     action: &Action,
-) -> Result<Sequence<Write>, Stop>
+) -> Result<Sequence<Write>, StatementError>
     requires change { IsChange action.now }
     requires bound { IsWellBound action.now }
     requires keys { HaveOwnKeys heap.now.entries workspace.now action.now }
@@ -279,8 +278,8 @@ pub fn changes(
     let action = &bound.action;
     let writes = match plan(alloc, heap, workspace, action) {
         Ok(writes) => writes,
-        Err(Stop::Refused(refusal)) => return Ok(Reply::Refused(refusal)),
-        Err(Stop::Memory) => return Err(Memory),
+        Err(StatementError::Refused(refusal)) => return Ok(Reply::Refused(refusal)),
+        Err(StatementError::Memory) => return Err(Memory),
     };
     let Ok(count) = u32::try_from(writes.as_slice().len()) else {
         return Err(Memory);

@@ -8,15 +8,15 @@ ghost use Rattle.bf_base.specs.Lists.{with_placed};
 ghost use Rattle.bf_base.specs.Maps.{is_map};
 ghost use Rattle.bf_base.specs.Tables.{IsKeyWithin, cell, key_of};
 ghost use Rattle.bf_base.specs.Values.{key_cmp};
-ghost use Rattle.bf_expr.specs.Evaluation.{holds_on};
-ghost use Rattle.bf_expr.specs.Trees.{Cond, Expr};
+ghost use Rattle.bf_tree.specs.Evaluation.{holds_on};
+ghost use Rattle.bf_tree.specs.Trees.{Cond, Expr};
 ghost use Rattle.bf_heap.specs.Heaps.{Entry, key_of_entry};
 ghost use Rattle.bf_sql.specs.Queries.{changed};
-ghost use Rattle.bf_sql.specs.declared.bound.Action.{Action};
-ghost use Rattle.bf_sql.specs.declared.bound.Action.TheVariants as action;
+ghost use Rattle.bf_tree.specs.declared.bound.Action.{Action};
+ghost use Rattle.bf_tree.specs.declared.bound.Action.TheVariants as action;
 ghost use Rattle.bf_txn.specs.declared.write.Write.{Write};
 ghost use Rattle.bf_txn.specs.Writes.{AreWrites, with_write};
-ghost use Rattle.bf_query.specs.Actions.{IsWellBound, objections_on, table_of, writes_of};
+ghost use Rattle.bf_query.specs.Actions.{IsWellBound, objections_on, action_table, writes_of};
 ghost use Rattle.bf_query.specs.Changes.{LeavesKeys};
 ghost use Rattle.bf_query.specs.Merged.{StandUnderOwnKeys, rows_under};
 
@@ -58,7 +58,7 @@ pub fn a_delete_leaves_the_other_rows()
 /// The writes of an action leave the rows of every table but its own.
 pub fn an_action_leaves_other_tables()
     ensures { (act : Action) (table : Table) (other : List ℕ) (rows : List (List Value))
-        (entries : List Entry) (writes : List Write) → table_of act ≡ Some table
+        (entries : List Entry) (writes : List Write) → action_table act ≡ Some table
         → other ≢ table.name → rows_under entries
         (fold with_write writes (writes_of rows act)) other ≡ rows_under entries writes other }
 {}
@@ -67,12 +67,12 @@ pub fn an_action_leaves_other_tables()
 /// where they did before: those of its table, and those of every other.
 pub fn an_action_keeps_own_keys()
     ensures own { (act : Action) (table : Table) (entries : List Entry) (writes : List Write)
-        → table_of act ≡ Some table → IsWellBound act → LeavesKeys act
+        → action_table act ≡ Some table → IsWellBound act → LeavesKeys act
         → StandUnderOwnKeys table entries writes
         → StandUnderOwnKeys table entries
         (fold with_write writes (writes_of (rows_under entries writes table.name) act)) }
     ensures others { (act : Action) (table : Table) (other : Table) (rows : List (List Value))
-        (entries : List Entry) (writes : List Write) → table_of act ≡ Some table
+        (entries : List Entry) (writes : List Write) → action_table act ≡ Some table
         → other.name ≢ table.name → StandUnderOwnKeys other entries writes
         → StandUnderOwnKeys other entries (fold with_write writes (writes_of rows act)) }
 {}

@@ -3,17 +3,16 @@
 ghost use Rattle.std.specs.Prelude.{◌≡◌, [], map, flat_map, IfOk, OnOk};
 ghost use Rattle.std.specs.List.{All};
 ghost use Rattle.bf_base.specs.Tables.{cell};
-ghost use Rattle.bf_expr.specs.Evaluation.{sure_value, value_of};
+ghost use Rattle.bf_tree.specs.Evaluation.{sure_value, value_of};
 ghost use Rattle.bf_sql.specs.RowObjections.{answer_objections, value_objections};
 ghost use Rattle.bf_sql.specs.Totals.{total_of};
-ghost use Rattle.bf_sql.specs.declared.items.Items.TheVariants.{Aggregates};
+ghost use Rattle.bf_tree.specs.declared.items.Items.TheVariants.{Aggregates};
 ghost use Rattle.bf_query.specs.Standings.{IsCountable, advanced, end_objections, row_objections, standing, standing_after, total_cell};
-ghost use Rattle.bf_query.specs.Stops.{Settles};
+ghost use Rattle.bf_tree.specs.Settling.{Settles};
 
 use crate::sum::ExactSum;
 use bf_base::{Memory, Row, Sequence, Value};
-use bf_expr::{Expr, Fail, value};
-use bf_sql::{Aggregate, Cell, Refusal, Stop};
+use bf_tree::{Aggregate, Cell, Expr, Fail, Refusal, StatementError, value};
 use std::alloc::Global;
 
 /// A total of the rows so far.
@@ -26,15 +25,15 @@ pub enum Running<'a> {
 }
 
 /// The value of an expression on a row, or the refusal that tells why there is none.
-pub fn told_value(alloc: Global, expr: &Expr, row: &Row) -> Result<Value, Stop>
+pub fn value_or_refusal(alloc: Global, expr: &Expr, row: &Row) -> Result<Value, StatementError>
     ensures { Settles result (value_objections (value_of (cell row.now) expr.now))
         (sure_value (cell row.now) expr.now) }
 {
     match value(alloc, expr, row) {
         Ok(found) => Ok(found),
-        Err(Fail::OutOfRange) => Err(Stop::Refused(Refusal::OutOfRange)),
-        Err(Fail::TooLong) => Err(Stop::Refused(Refusal::TooLong)),
-        Err(Fail::Memory) => Err(Stop::Memory),
+        Err(Fail::OutOfRange) => Err(StatementError::Refused(Refusal::OutOfRange)),
+        Err(Fail::TooLong) => Err(StatementError::Refused(Refusal::TooLong)),
+        Err(Fail::Memory) => Err(StatementError::Memory),
     }
 }
 
@@ -52,22 +51,22 @@ impl<'a> Running<'a> {
     }
 
     /// Takes a row in.
-    fn advance(&mut self, alloc: Global, row: &Row) -> Result<(), Stop>
+    fn advance(&mut self, alloc: Global, row: &Row) -> Result<(), StatementError>
         requires { IsCountable (standing self.old) }
         ensures objections { Settles result (row_objections row.now (standing self.old)) tt }
         ensures total { OnOk result (standing self.new ≡ advanced row.now (standing self.old)) }
     {
         match self {
             Running::Count(rows) => *rows += 1,
-            Running::Sum(expr, sum) => sum.add(&told_value(alloc, expr, row)?),
+            Running::Sum(expr, sum) => sum.add(&value_or_refusal(alloc, expr, row)?),
             Running::Least(expr, least) => {
-                let value = told_value(alloc, expr, row)?;
+                let value = value_or_refusal(alloc, expr, row)?;
                 if least.as_ref().is_none_or(|least| value < *least) {
                     *least = Some(value);
                 }
             }
             Running::Greatest(expr, greatest) => {
-                let value = told_value(alloc, expr, row)?;
+                let value = value_or_refusal(alloc, expr, row)?;
                 if greatest.as_ref().is_none_or(|greatest| *greatest < value) {
                     *greatest = Some(value);
                 }
@@ -77,7 +76,7 @@ impl<'a> Running<'a> {
     }
 
     /// The total of all rows.
-    fn finish(self) -> Result<Cell, Stop>
+    fn finish(self) -> Result<Cell, StatementError>
         requires { IsCountable (standing self) }
         ensures { Settles result (end_objections (standing self.entry))
             (total_cell (standing self.entry)) }
@@ -87,7 +86,7 @@ impl<'a> Running<'a> {
             Running::Sum(_, sum) => match i64::try_from(sum.sum) {
                 Ok(_) if sum.count == 0 => Ok(Cell::Null),
                 Ok(number) => Ok(Cell::Value(Value::Int(number))),
-                Err(_) => Err(Stop::Refused(Refusal::OutOfRange)),
+                Err(_) => Err(StatementError::Refused(Refusal::OutOfRange)),
             },
             Running::Least(_, value) | Running::Greatest(_, value) => Ok(value.map_or(
                 Cell::Null,
@@ -110,7 +109,7 @@ fn started<'a>(alloc: Global, totals: &'a [Aggregate]) -> Result<Vec<Running<'a>
 }
 
 /// Takes a row into each total, the first one first.
-fn advance_all(alloc: Global, running: &mut [Running<'_>], row: &Row) -> Result<(), Stop>
+fn advance_all(alloc: Global, running: &mut [Running<'_>], row: &Row) -> Result<(), StatementError>
     requires { All IsCountable (map standing running.old) }
     ensures objections { Settles result
         (flat_map (row_objections row.now) (map standing running.old)) tt }
@@ -124,7 +123,7 @@ fn advance_all(alloc: Global, running: &mut [Running<'_>], row: &Row) -> Result<
 }
 
 /// Ends each total, the first one first.
-fn finished(alloc: Global, running: Vec<Running<'_>>) -> Result<Sequence<Cell>, Stop>
+fn finished(alloc: Global, running: Vec<Running<'_>>) -> Result<Sequence<Cell>, StatementError>
     requires { All IsCountable (map standing running.items) }
     ensures { Settles result (flat_map end_objections (map standing running.entry.items))
         (map total_cell (map standing running.entry.items)) }
@@ -138,7 +137,7 @@ fn finished(alloc: Global, running: Vec<Running<'_>>) -> Result<Sequence<Cell>, 
 
 /// The totals of some rows: the arguments are computed row by row, and the sums are judged at
 /// the end.
-pub fn totals(alloc: Global, totals: &[Aggregate], rows: &[&Row]) -> Result<Sequence<Cell>, Stop>
+pub fn totals(alloc: Global, totals: &[Aggregate], rows: &[&Row]) -> Result<Sequence<Cell>, StatementError>
     ensures { Settles result (answer_objections cell (Aggregates totals.now)
         (map (λ row. row.now) rows.now))
         (map (total_of cell (map (λ row. row.now) rows.now)) totals.now) }

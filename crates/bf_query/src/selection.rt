@@ -7,7 +7,7 @@ use crate::answer::answer;
 use crate::merge::selected_rows;
 use bf_base::Memory;
 use bf_heap::Heap;
-use bf_sql::{Action, Bound, Reply};
+use bf_tree::{Action, Bound, Reply};
 use bf_txn::Workspace;
 use std::alloc::Global;
 

@@ -1,7 +1,7 @@
 //! Exact sums of numbers.
 
 ghost use Rattle.std.specs.Prelude.{◌≡◌, ℕ, ◌+◌, ◌<◌, ◌+ℤ◌, pos};
-ghost use Rattle.bf_expr.specs.Evaluation.{number_of};
+ghost use Rattle.bf_tree.specs.Evaluation.{number_of};
 ghost use Rattle.bf_query.specs.Sums.{IsSumOf};
 
 use bf_base::Value;

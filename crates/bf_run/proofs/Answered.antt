@@ -2,7 +2,8 @@
 use Rattle.std.proofs.Common.{◌≡◌, ℕ, ◌≤◌, true, List, length, inl, Err}
 use Rattle.std.specs.Io.KnownBytes.{IsAtEnd}
 use Rattle.bf_io.specs.Whole.{IfTold}
-use Rattle.bf_parse.specs.Scripts.{IsScriptText, longest_script}
+use Rattle.bf_base.specs.Limits.{longest_script}
+use Rattle.bf_parse.specs.Scripts.{IsScriptText}
 use Rattle.bf_run.specs.declared.status.Status.{Status}
 use Rattle.bf_run.specs.declared.status.Status.TheVariants.{Done, Usage, Script as ScriptError, ReadFault, WriteFault, Memory, NotBuilt}
 use Rattle.bf_run.specs.Answers.{IsAnswerTo}

@@ -7,18 +7,19 @@ use Rattle.std.proofs.lemmas.Bool.Decides.{nat_tests}
 use Rattle.std.proofs.lemmas.List.Folds.{list_all-append}
 use Rattle.bf_lex.specs.declared.keyword.Keyword.TheVariants as keyword
 use Rattle.bf_lex.specs.declared.sign.Sign.TheVariants as sign
-use Rattle.bf_sql.specs.declared.statement.Statement.{Statement}
-use Rattle.bf_sql.specs.declared.statement.Statement.TheVariants as statement
-use Rattle.bf_sql.specs.declared.statement.Statement.TheVariants.{Migrate}
-use Rattle.bf_sql.specs.declared.script.Session.{Session}
-use Rattle.bf_sql.specs.declared.script.Script.{Script}
+use Rattle.bf_tree.specs.declared.statement.Statement.{Statement}
+use Rattle.bf_tree.specs.declared.statement.Statement.TheVariants as statement
+use Rattle.bf_tree.specs.declared.statement.Statement.TheVariants.{Migrate}
+use Rattle.bf_tree.specs.declared.script.Session.{Session}
+use Rattle.bf_tree.specs.declared.script.Script.{Script}
 use Rattle.bf_parse.specs.Words as word
 use Rattle.bf_parse.specs.Words.{Word}
 use Rattle.bf_parse.specs.Steps.{Step, Say, Limit, Part, Migration, Session as SessionMark, fault_at, within}
 use Rattle.bf_parse.specs.Rules.{Rule, Return, Either, Others, no_other, other, Listed}
 use Rattle.bf_parse.specs.Statements.{AfterKeyword, ColumnRuleRule, TableRule, IndexRuleRule, InsertRule, SelectRule, UpdateRule, DeleteRule, OrdinaryRule}
 use Rattle.bf_parse.specs.Scripts.{Statements, no_statement, ordinary, migrate, Progress, with_session, with_phase, nothing_yet, Sessions, no_session, session, Phases, no_phase, phase, IsScriptText}
-use Rattle.bf_machine.specs.Runnable.{is_narrow_statement, is_narrow_script, phases_rise_from}
+use Rattle.bf_tree.specs.Limits.{is_narrow_statement, is_narrow_script}
+use Rattle.bf_machine.specs.Runnable.{phases_rise_from}
 
 -- one more session, in a phase that is not before that of any
 rise_one_more : (low : ℕ) (ss : List Session) (s : Session) → phases_rise_from low ss ≡ true

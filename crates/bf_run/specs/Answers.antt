@@ -4,9 +4,9 @@ use Rattle.bf_lazy.specs.declared.statement.Script.{Script as FormScript}
 use Rattle.bf_form.specs.Grammar.{IsScriptText as IsFormText}
 use Rattle.bf_move.specs.Widened.{IsFormRun}
 use Rattle.bf_parse.specs.Scripts.{IsScriptText}
-use Rattle.bf_sql.specs.declared.reply.Reply.{Reply}
-use Rattle.bf_sql.specs.declared.history.Entry.{Entry}
-use Rattle.bf_sql.specs.declared.history.Sweep.{Sweep}
+use Rattle.bf_tree.specs.declared.reply.Reply.{Reply}
+use Rattle.bf_tree.specs.declared.history.Entry.{Entry}
+use Rattle.bf_tree.specs.declared.history.Sweep.{Sweep}
 use Rattle.bf_text.specs.Replies.{newline}
 use Rattle.bf_text.specs.Report.{report_text}
 use Rattle.bf_run.specs.declared.status.Status.{Status}

@@ -6,18 +6,18 @@ use Rattle.bf_io.specs.Causes.{Rose}
 use Rattle.bf_io.specs.Whole.{TookPrefix}
 use Rattle.bf_base.specs.Lists.{same_name}
 use Rattle.bf_lex.specs.declared.fault.ScriptFault.{ScriptFault}
-use Rattle.bf_lex.specs.declared.fault.ScriptKind.{ScriptKind}
-use Rattle.bf_lex.specs.declared.fault.ScriptKind.TheVariants as kind
-use Rattle.bf_parse.specs.Scripts.{IsScriptText, longest_script}
-use Rattle.bf_sql.specs.declared.script.Script.{Script}
-use Rattle.bf_sql.specs.declared.reply.Reply.{Reply}
-use Rattle.bf_sql.specs.declared.history.Entry.{Entry}
-use Rattle.bf_sql.specs.declared.history.Sweep.{Sweep}
+use Rattle.bf_lex.specs.Faults.{kind_text}
+use Rattle.bf_base.specs.Limits.{longest_script}
+use Rattle.bf_parse.specs.Scripts.{IsScriptText}
+use Rattle.bf_tree.specs.declared.script.Script.{Script}
+use Rattle.bf_tree.specs.declared.reply.Reply.{Reply}
+use Rattle.bf_tree.specs.declared.history.Entry.{Entry}
+use Rattle.bf_tree.specs.declared.history.Sweep.{Sweep}
 use Rattle.bf_text.specs.Replies.{newline, numbered}
 use Rattle.bf_text.specs.Report.{report_text}
 use Rattle.bf_run.specs.declared.status.Status.{Status}
 use Rattle.bf_run.specs.declared.status.Status.TheVariants.{Done, Usage, Script as ScriptError, ReadFault, WriteFault, Memory, NotBuilt}
-use Rattle.bf_machine.specs.InOrder.{is_plain_script}
+use Rattle.bf_machine.specs.InOrder.{migrates_nothing}
 use Rattle.bf_run.specs.Runs.{IsOfForm, IsRunOf}
 
 -- STREAM: the bytes that a source has left, or that a sink took, where they are told, and its count of faults, each
@@ -53,11 +53,11 @@ pub record IsReport (bytes text : List ℕ) : Type 0 where
 
 -- the text is a script that is served: a plain one, or one of the form that migrates one table
 abbrev pub IsServed : List ℕ → Type 0
-IsServed bytes = (script : Script) × IsScriptText bytes (Ok script) × (IsTrue (is_plain_script script) ⊎ IsOfForm bytes)
+IsServed bytes = (script : Script) × IsScriptText bytes (Ok script) × (IsTrue (migrates_nothing script) ⊎ IsOfForm bytes)
 
 -- the text is a script that is not served yet
 abbrev pub IsNotServed : List ℕ → Type 0
-IsNotServed bytes = (script : Script) × IsScriptText bytes (Ok script) × (is_plain_script script ≡ false) × (IsOfForm bytes → ⊥)
+IsNotServed bytes = (script : Script) × IsScriptText bytes (Ok script) × (migrates_nothing script ≡ false) × (IsOfForm bytes → ⊥)
 
 -- the source had no more bytes than a script and was read to its end, or until it had given one byte more
 abbrev pub IsReadThrough : Stream → Type 0
@@ -84,20 +84,6 @@ IsDetermined ReadFault = ⊥
 IsDetermined WriteFault = ⊥
 IsDetermined Memory = ⊥
 IsDetermined other = Unit {0}
-
-abbrev pub kind_text : ScriptKind → List ℕ
-kind_text kind.BadByte = codes "bad byte"
-kind_text kind.OpenString = codes "open string"
-kind_text kind.NumberTooWide = codes "number too wide"
-kind_text kind.Syntax = codes "syntax"
-kind_text kind.TextTooLong = codes "text too long"
-kind_text kind.NameTooLong = codes "name too long"
-kind_text kind.TooManyColumns = codes "too many columns"
-kind_text kind.TooManySessions = codes "too many sessions"
-kind_text kind.TooManyMigrations = codes "too many migrations"
-kind_text kind.TooManyTargets = codes "too many targets"
-kind_text kind.TooDeep = codes "too deep"
-kind_text kind.ScriptTooLong = codes "script too long"
 
 -- the first fault of a text that is no script, behind the byte where it stands
 abbrev pub fault_text : ScriptFault → List ℕ

@@ -3,7 +3,7 @@
 ghost use Rattle.std.specs.Prelude.{◌≡◌, ℕ, List, Result, Some};
 ghost use Rattle.bf_lex.specs.declared.fault.ScriptFault.{ScriptFault};
 ghost use Rattle.bf_parse.specs.Scripts.{IsScriptText};
-ghost use Rattle.bf_sql.specs.declared.script.Script.{Script};
+ghost use Rattle.bf_tree.specs.declared.script.Script.{Script};
 ghost use Rattle.bf_run.specs.declared.status.Status.{Status};
 ghost use Rattle.bf_run.specs.Outcome.{Comes, IsDetermined, Stream};
 

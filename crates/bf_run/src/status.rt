@@ -1,10 +1,10 @@
 //! How a call ends.
 
 ghost use Rattle.std.specs.Prelude.{◌≡◌, IfOk};
-ghost use Rattle.bf_run.specs.Outcome.{fault_text, kind_text, number_of_status};
+ghost use Rattle.bf_run.specs.Outcome.{fault_text, number_of_status};
 
 use bf_base::Memory;
-use bf_lex::{ScriptFault, ScriptKind};
+use bf_lex::ScriptFault;
 use itoa::Buffer;
 use std::alloc::Global;
 
@@ -44,26 +44,6 @@ impl Status {
     }
 }
 
-/// The words for a kind of fault.
-fn words_for(kind: ScriptKind) -> &'static [u8]
-    ensures { result.now ≡ kind_text kind }
-{
-    match kind {
-        ScriptKind::BadByte => b"bad byte",
-        ScriptKind::OpenString => b"open string",
-        ScriptKind::NumberTooWide => b"number too wide",
-        ScriptKind::Syntax => b"syntax",
-        ScriptKind::TextTooLong => b"text too long",
-        ScriptKind::NameTooLong => b"name too long",
-        ScriptKind::TooManyColumns => b"too many columns",
-        ScriptKind::TooManySessions => b"too many sessions",
-        ScriptKind::TooManyMigrations => b"too many migrations",
-        ScriptKind::TooManyTargets => b"too many targets",
-        ScriptKind::TooDeep => b"too deep",
-        ScriptKind::ScriptTooLong => b"script too long",
-    }
-}
-
 /// The text of a fault.
 pub(crate) fn fault_line(alloc: Global, fault: ScriptFault) -> Result<Vec<u8>, Memory>
     ensures { IfOk result (λ text. text.items ≡ fault_text fault) }
@@ -71,7 +51,7 @@ pub(crate) fn fault_line(alloc: Global, fault: ScriptFault) -> Result<Vec<u8>, M
     let mut text = Vec::from_slice(alloc, b"script error at ")?;
     text.extend_from_slice(Buffer::new().format(fault.at).as_bytes())?;
     text.extend_from_slice(b": ")?;
-    text.extend_from_slice(words_for(fault.kind))?;
+    text.extend_from_slice(fault.kind.words())?;
     text.extend_from_slice(b"\n")?;
     Ok(text)
 }

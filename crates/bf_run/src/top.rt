@@ -2,25 +2,23 @@
 
 ghost use Rattle.std.specs.Prelude.{◌≡◌, IfOk, IsTrue, map};
 ghost use Rattle.std.specs.Option.{option_map};
-ghost use Rattle.bf_machine.specs.InOrder.{IsRun, is_plain_script};
-ghost use Rattle.bf_machine.specs.Runnable.{is_narrow_script, phases_rise_from};
+ghost use Rattle.bf_machine.specs.InOrder.{IsRunInOrder, migrates_nothing};
+ghost use Rattle.bf_tree.specs.Limits.{is_narrow_script};
+ghost use Rattle.bf_machine.specs.Runnable.{phases_rise_from};
 ghost use Rattle.bf_run.specs.Answers.{FindsForm, IsAnswerTo, Tells};
 ghost use Rattle.bf_run.specs.Outcome.{Ends, IsAnswer, fault_text};
 
 use crate::status::{Status, fault_line};
 use crate::words::are_try;
-use bf_base::Memory;
+use bf_base::{LONGEST_SCRIPT, Memory};
 use bf_form::read_script;
 use bf_io::{ReadError, Sink, Source, read_all, write_whole};
 use bf_lex::{ScriptError, ScriptFault, ScriptKind};
-use bf_machine::{in_order, is_plain};
+use bf_machine::{in_order, migrates_nothing};
 use bf_parse::script;
-use bf_sql::Script;
+use bf_tree::Script;
 use bf_text::report;
 use std::alloc::Global;
-
-/// The most bytes of a script.
-const LONGEST_SCRIPT: u32 = 1 << 24;
 
 /// The status of a text that is no script, and what is written of its first fault.
 fn answer_fault(alloc: Global, fault: ScriptFault) -> Result<(Status, Vec<u8>), Memory>
@@ -32,10 +30,10 @@ fn answer_fault(alloc: Global, fault: ScriptFault) -> Result<(Status, Vec<u8>), 
 
 /// The report of a run of a plain script.
 fn plain_report(alloc: Global, script: &Script) -> Result<Vec<u8>, Memory>
-    requires plain { IsTrue (is_plain_script script.now) }
+    requires plain { IsTrue (migrates_nothing script.now) }
     requires narrow { IsTrue (is_narrow_script script.now) }
     requires phases { IsTrue (phases_rise_from 0 script.now.sessions) }
-    ensures { IfOk result (λ text. Tells (IsRun script.now) text.items) }
+    ensures { IfOk result (λ text. Tells (IsRunInOrder script.now) text.items) }
 {
     let run = in_order(alloc, script)?;
     report(alloc, &run.transcripts, &run.history, None, &run.sweep)
@@ -62,7 +60,7 @@ fn answer_text(alloc: Global, text: &[u8]) -> Result<(Status, Vec<u8>), Memory>
         Err(ScriptError::Fault(fault)) => return answer_fault(alloc, fault),
         Err(ScriptError::Memory) => return Err(Memory),
     };
-    if is_plain(&script) {
+    if migrates_nothing(&script) {
         return Ok((Status::Done, plain_report(alloc, &script)?));
     }
     match form_report(alloc, text)? {

@@ -1,16 +1,16 @@
 -- A new table of totals has a row for each group.
 use Rattle.std.specs.Prelude.{◌≡◌, pos, List, [], ◌∷◌, Some, None, codes, refl}
 use Rattle.bf_base.specs.declared.table.Admit.TheVariants as admits
-use Rattle.bf_expr.specs.declared.compare.Compare.TheVariants as compare
-use Rattle.bf_expr.specs.Trees.{literal, column, compared, both}
-use Rattle.bf_sql.specs.declared.items.Aggregate.TheVariants as total
-use Rattle.bf_sql.specs.declared.items.Items.TheVariants as items
-use Rattle.bf_sql.specs.declared.migration.Item.TheVariants as item
-use Rattle.bf_sql.specs.declared.statement.ColumnForm.TheVariants as form
-use Rattle.bf_sql.specs.declared.statement.Statement.TheVariants as statement
-use Rattle.bf_sql.specs.declared.reply.Reply.TheVariants as reply
-use Rattle.bf_sql.specs.declared.script.Script.{Script}
-use Rattle.bf_sql.specs.declared.history.Entry.{Entry}
+use Rattle.bf_tree.specs.declared.compare.Compare.TheVariants as compare
+use Rattle.bf_tree.specs.Trees.{literal, column, compared, both}
+use Rattle.bf_tree.specs.declared.items.Aggregate.TheVariants as total
+use Rattle.bf_tree.specs.declared.items.Items.TheVariants as items
+use Rattle.bf_tree.specs.declared.migration.Item.TheVariants as item
+use Rattle.bf_tree.specs.declared.statement.ColumnForm.TheVariants as form
+use Rattle.bf_tree.specs.declared.statement.Statement.TheVariants as statement
+use Rattle.bf_tree.specs.declared.reply.Reply.TheVariants as reply
+use Rattle.bf_tree.specs.declared.script.Script.{Script}
+use Rattle.bf_tree.specs.declared.history.Entry.{Entry}
 use Rattle.bf_sql.specs.Database.{Database, IsDatabase, empty_database}
 use Rattle.bf_sql.specs.Scopes.{unqualified}
 use Rattle.bf_sql.specs.History.{replayed}

@@ -1,16 +1,16 @@
 -- What the catalog has against a MIGRATE with JOIN and GROUP BY, in the order of reading.
 use Rattle.std.specs.Prelude.{◌≡◌, List, [], ◌∷◌, Some, None, codes, refl}
 use Rattle.bf_base.specs.declared.table.Admit.TheVariants as admits
-use Rattle.bf_expr.specs.declared.raw.Ref.{Ref}
-use Rattle.bf_expr.specs.Trees.{literal, column}
-use Rattle.bf_sql.specs.declared.items.Aggregate.TheVariants as total
-use Rattle.bf_sql.specs.declared.migration.Item.{Item}
-use Rattle.bf_sql.specs.declared.migration.Item.TheVariants as item
-use Rattle.bf_sql.specs.declared.reply.Refusal.{Refusal}
-use Rattle.bf_sql.specs.declared.reply.Refusal.TheVariants as refusal
+use Rattle.bf_tree.specs.declared.raw.Ref.{Ref}
+use Rattle.bf_tree.specs.Trees.{literal, column}
+use Rattle.bf_tree.specs.declared.items.Aggregate.TheVariants as total
+use Rattle.bf_tree.specs.declared.migration.Item.{Item}
+use Rattle.bf_tree.specs.declared.migration.Item.TheVariants as item
+use Rattle.bf_tree.specs.declared.reply.Refusal.{Refusal}
+use Rattle.bf_tree.specs.declared.reply.Refusal.TheVariants as refusal
 use Rattle.bf_sql.specs.Database.{Database}
 use Rattle.bf_sql.specs.Scopes.{unqualified}
-use Rattle.bf_sql.specs.Migrations.{migrate_objections}
+use Rattle.bf_sql.specs.migrations.MigrationObjections.{migrate_objections}
 use Rattle.bf_sql.proofs.Spelling.{one, number, qualified, join, arm, target, migration, table, column_of, stored, database}
 
 -- CREATE TABLE a (id INT, n INT, s VARCHAR(5), PRIMARY KEY (id)) and CREATE TABLE b (id INT, m INT, PRIMARY KEY (id))

@@ -3,20 +3,20 @@ use Rattle.std.specs.Prelude.{◌≡◌, false, [], ◌∷◌, map, Some, None, 
 use Rattle.bf_base.specs.declared.value.Value.TheVariants.{Text}
 use Rattle.bf_base.specs.declared.table.Admit.TheVariants as admits
 use Rattle.bf_base.specs.declared.granule.Place.TheVariants.{Row}
-use Rattle.bf_expr.specs.declared.compare.Compare.TheVariants as compare
-use Rattle.bf_expr.specs.Trees.{literal, column, compared}
-use Rattle.bf_sql.specs.declared.items.Items.TheVariants as items
-use Rattle.bf_sql.specs.declared.migration.Item.TheVariants as item
-use Rattle.bf_sql.specs.declared.migration.Target.{Target}
-use Rattle.bf_sql.specs.declared.statement.Statement.TheVariants as statement
-use Rattle.bf_sql.specs.declared.migration.Migrate.{Migrate}
+use Rattle.bf_tree.specs.declared.compare.Compare.TheVariants as compare
+use Rattle.bf_tree.specs.Trees.{literal, column, compared}
+use Rattle.bf_tree.specs.declared.items.Items.TheVariants as items
+use Rattle.bf_tree.specs.declared.migration.Item.TheVariants as item
+use Rattle.bf_tree.specs.declared.migration.Target.{Target}
+use Rattle.bf_tree.specs.declared.statement.Statement.TheVariants as statement
+use Rattle.bf_tree.specs.declared.migration.Migrate.{Migrate}
 use Rattle.bf_sql.specs.Database.{Database}
 use Rattle.bf_sql.specs.Scopes.{unqualified}
-use Rattle.bf_sql.specs.Migrations.{migrate_objections}
-use Rattle.bf_sql.specs.Images.{image_of, flipped}
-use Rattle.bf_sql.specs.Granules.{granule, granules_of, part_of, owner_of}
-use Rattle.bf_sql.specs.Need.{needed_by}
-use Rattle.bf_sql.specs.Lazy.{view_of, flipped_lazily}
+use Rattle.bf_sql.specs.migrations.MigrationObjections.{migrate_objections}
+use Rattle.bf_sql.specs.migrations.Images.{image_of, flipped}
+use Rattle.bf_sql.specs.migrations.Granules.{granule, granules_of, part_of, owner_of}
+use Rattle.bf_sql.specs.migrations.Need.{needed_by}
+use Rattle.bf_sql.specs.migrations.Lazy.{view_of, flipped_lazily}
 use Rattle.bf_sql.proofs.Spelling.{one, number, qualified, join, arm, target, migration, table, column_of, stored, database, by_name, at_rest}
 
 -- CREATE TABLE custs (cid INT, name VARCHAR(9), PRIMARY KEY (cid)), with Ann and Bob;

@@ -2,22 +2,23 @@
 use Rattle.std.specs.Prelude.{◌≡◌, ℕ, false, List, [], ◌∷◌, None, codes, refl}
 use mathlib.Core.Logic.{inl, inr}
 use Rattle.bf_base.specs.declared.table.Admit.TheVariants as admits
-use Rattle.bf_expr.specs.Trees.{column}
-use Rattle.bf_sql.specs.declared.items.Aggregate.TheVariants as total
-use Rattle.bf_sql.specs.declared.items.Items.TheVariants as items
-use Rattle.bf_sql.specs.declared.statement.ColumnForm.TheVariants as form
-use Rattle.bf_sql.specs.declared.statement.Statement.TheVariants as statement
-use Rattle.bf_sql.specs.declared.reply.Cell.TheVariants as cell
-use Rattle.bf_sql.specs.declared.reply.Refusal.TheVariants as refusal
-use Rattle.bf_sql.specs.declared.reply.Reply.TheVariants as reply
-use Rattle.bf_sql.specs.declared.history.Outcome.TheVariants as outcome
-use Rattle.bf_sql.specs.declared.script.Script.{Script}
-use Rattle.bf_sql.specs.declared.reply.Cause.{Cause}
-use Rattle.bf_sql.specs.declared.reply.Reply.{Reply}
-use Rattle.bf_sql.specs.declared.history.Entry.{Entry}
+use Rattle.bf_tree.specs.Trees.{column}
+use Rattle.bf_tree.specs.declared.items.Aggregate.TheVariants as total
+use Rattle.bf_tree.specs.declared.items.Items.TheVariants as items
+use Rattle.bf_tree.specs.declared.statement.ColumnForm.TheVariants as form
+use Rattle.bf_tree.specs.declared.statement.Statement.TheVariants as statement
+use Rattle.bf_tree.specs.declared.reply.Cell.TheVariants as cell
+use Rattle.bf_tree.specs.declared.reply.Refusal.TheVariants as refusal
+use Rattle.bf_tree.specs.declared.reply.Reply.TheVariants as reply
+use Rattle.bf_tree.specs.declared.history.Outcome.TheVariants as outcome
+use Rattle.bf_tree.specs.declared.script.Script.{Script}
+use Rattle.bf_tree.specs.declared.reply.Cause.{Cause}
+use Rattle.bf_tree.specs.declared.reply.Reply.{Reply}
+use Rattle.bf_tree.specs.declared.history.Entry.{Entry}
 use Rattle.bf_sql.specs.Database.{Database, IsDatabase, empty_database}
 use Rattle.bf_sql.specs.Scopes.{unqualified}
-use Rattle.bf_sql.specs.History.{replayed, IsApart, IsLegalHistory, IsAllAnswered}
+use Rattle.bf_tree.specs.Answered.{IsAllAnswered}
+use Rattle.bf_sql.specs.History.{replayed, IsApart, IsLegalHistory}
 use Rattle.bf_sql.proofs.Spelling.{one, number, given, rule, in_one_phase, entry, alone, table, column_of, stored, database}
 
 -- SESSION; CREATE TABLE t (id INT, n INT, PRIMARY KEY (id));

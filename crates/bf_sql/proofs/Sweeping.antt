@@ -2,12 +2,12 @@
 use Rattle.std.specs.Prelude.{◌≡◌, ◌++◌, List, [], ◌∷◌, Option, Some, None, refl}
 use Rattle.bf_base.specs.declared.granule.Granule.{Granule}
 use Rattle.bf_base.specs.declared.granule.Place.TheVariants.{Row, Group}
-use Rattle.bf_sql.specs.declared.migration.Migrate.{Migrate}
-use Rattle.bf_sql.specs.declared.history.Sweep.TheVariants.{Never, Complete, Running}
+use Rattle.bf_tree.specs.declared.migration.Migrate.{Migrate}
+use Rattle.bf_tree.specs.declared.history.Sweep.TheVariants.{Never, Complete, Running}
 use Rattle.bf_sql.specs.Database.{Database}
-use Rattle.bf_sql.specs.Granules.{granule}
-use Rattle.bf_sql.specs.Images.{flipped}
-use Rattle.bf_sql.specs.Lazy.{Migration, LazyState, moved, flipped_lazily, view_of, sweep_of}
+use Rattle.bf_sql.specs.migrations.Granules.{granule}
+use Rattle.bf_sql.specs.migrations.Images.{flipped}
+use Rattle.bf_sql.specs.migrations.Lazy.{Migration, LazyState, moved, flipped_lazily, view_of, sweep_of}
 use Rattle.bf_sql.proofs.Spelling.{one, number, at_rest, moved_by}
 use Rattle.bf_sql.proofs.SplitTableMoves as split
 use Rattle.bf_sql.proofs.GroupedTotalsMoves as grouped

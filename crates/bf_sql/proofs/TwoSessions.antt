@@ -3,21 +3,22 @@ use Rattle.std.specs.Prelude.{◌≡◌, ℕ, Bool, false, List, [], ◌∷◌, 
 use Rattle.std.proofs.Common.{ap, sym, subst}
 use mathlib.Core.Logic.{inl, inr}
 use Rattle.bf_base.specs.declared.table.Admit.TheVariants as admits
-use Rattle.bf_expr.specs.declared.compare.Compare.TheVariants as compare
-use Rattle.bf_expr.specs.Trees.{literal, column, plus, compared}
-use Rattle.bf_sql.specs.declared.statement.ColumnForm.TheVariants as form
-use Rattle.bf_sql.specs.declared.statement.Statement.{Statement}
-use Rattle.bf_sql.specs.declared.statement.Statement.TheVariants as statement
-use Rattle.bf_sql.specs.declared.reply.Cause.{Cause}
-use Rattle.bf_sql.specs.declared.reply.Cause.TheVariants.{Died}
-use Rattle.bf_sql.specs.declared.reply.Reply.{Reply}
-use Rattle.bf_sql.specs.declared.reply.Reply.TheVariants as reply
-use Rattle.bf_sql.specs.declared.history.Outcome.TheVariants.{Committed}
-use Rattle.bf_sql.specs.declared.script.Script.{Script}
-use Rattle.bf_sql.specs.declared.history.Entry.{Entry}
+use Rattle.bf_tree.specs.declared.compare.Compare.TheVariants as compare
+use Rattle.bf_tree.specs.Trees.{literal, column, plus, compared}
+use Rattle.bf_tree.specs.declared.statement.ColumnForm.TheVariants as form
+use Rattle.bf_tree.specs.declared.statement.Statement.{Statement}
+use Rattle.bf_tree.specs.declared.statement.Statement.TheVariants as statement
+use Rattle.bf_tree.specs.declared.reply.Cause.{Cause}
+use Rattle.bf_tree.specs.declared.reply.Cause.TheVariants.{Died}
+use Rattle.bf_tree.specs.declared.reply.Reply.{Reply}
+use Rattle.bf_tree.specs.declared.reply.Reply.TheVariants as reply
+use Rattle.bf_tree.specs.declared.history.Outcome.TheVariants.{Committed}
+use Rattle.bf_tree.specs.declared.script.Script.{Script}
+use Rattle.bf_tree.specs.declared.history.Entry.{Entry}
 use Rattle.bf_sql.specs.Database.{Database, empty_database}
 use Rattle.bf_sql.specs.Scopes.{unqualified}
-use Rattle.bf_sql.specs.History.{replayed, IsEndedBy, IsApart, IsLegalHistory, IsAllAnswered}
+use Rattle.bf_tree.specs.Answered.{IsAllAnswered}
+use Rattle.bf_sql.specs.History.{replayed, IsEndedBy, IsApart, IsLegalHistory}
 use Rattle.bf_sql.proofs.Spelling.{one, number, rule, session, entry, alone, table, column_of, stored, database}
 
 -- BEGIN;

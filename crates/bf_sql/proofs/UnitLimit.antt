@@ -1,12 +1,12 @@
 -- At most four tables give their rows one by one in a MIGRATE.
 use Rattle.std.specs.Prelude.{◌≡◌, ℕ, false, List, [], ◌∷◌, map, None, codes, refl}
 use Rattle.bf_base.specs.declared.table.Admit.TheVariants as admits
-use Rattle.bf_sql.specs.declared.migration.Item.TheVariants as item
-use Rattle.bf_sql.specs.declared.migration.Target.{Target}
-use Rattle.bf_sql.specs.declared.statement.Statement.{Statement}
-use Rattle.bf_sql.specs.declared.statement.Statement.TheVariants.{Migrate}
-use Rattle.bf_sql.specs.declared.reply.Refusal.TheVariants.{UnitLimit}
-use Rattle.bf_sql.specs.declared.reply.Reply.TheVariants.{Refused, Migrated}
+use Rattle.bf_tree.specs.declared.migration.Item.TheVariants as item
+use Rattle.bf_tree.specs.declared.migration.Target.{Target}
+use Rattle.bf_tree.specs.declared.statement.Statement.{Statement}
+use Rattle.bf_tree.specs.declared.statement.Statement.TheVariants.{Migrate}
+use Rattle.bf_tree.specs.declared.reply.Refusal.TheVariants.{UnitLimit}
+use Rattle.bf_tree.specs.declared.reply.Reply.TheVariants.{Refused, Migrated}
 use Rattle.bf_sql.specs.Database.{Database, Stored}
 use Rattle.bf_sql.specs.Scopes.{unqualified}
 use Rattle.bf_sql.specs.Meaning.{executed}

@@ -1,27 +1,27 @@
 -- What a statement is bound to in a catalog: its table, and places in a row for refs.
 use Rattle.std.specs.Prelude.{ℕ, Bool, false, not, List, [], ◌∷◌, map, Option, Some, None, option_map}
-use Rattle.bf_expr.specs.Trees.{Expr, Cond, expr_over, cond_over}
-use Rattle.bf_expr.specs.declared.raw.Ref.{Ref}
-use Rattle.bf_sql.specs.declared.items.Aggregate.{Aggregate}
-use Rattle.bf_sql.specs.declared.items.Aggregate.TheVariants.{Count, Sum, Min, Max}
-use Rattle.bf_sql.specs.declared.items.Items.{Items}
-use Rattle.bf_sql.specs.declared.items.Items.TheVariants.{All, Exprs, Aggregates}
-use Rattle.bf_sql.specs.declared.bound.Action.{Action}
-use Rattle.bf_sql.specs.declared.bound.Action.TheVariants as action
-use Rattle.bf_sql.specs.declared.bound.Bound.{Bound}
-use Rattle.bf_sql.specs.declared.catalog.Catalog.{Catalog}
-use Rattle.bf_sql.specs.declared.statement.Statement.{Statement}
-use Rattle.bf_sql.specs.declared.statement.Statement.TheVariants.{CreateTable, CreateIndex, Insert, Select, Update, Delete, Begin, Commit, Rollback, Migrate}
-use Rattle.bf_sql.specs.declared.reply.Refusal.{Refusal}
+use Rattle.bf_tree.specs.Trees.{Expr, Cond, expr_over, cond_over}
+use Rattle.bf_tree.specs.declared.raw.Ref.{Ref}
+use Rattle.bf_tree.specs.declared.items.Aggregate.{Aggregate}
+use Rattle.bf_tree.specs.declared.items.Aggregate.TheVariants.{Count, Sum, Min, Max}
+use Rattle.bf_tree.specs.declared.items.Items.{Items}
+use Rattle.bf_tree.specs.declared.items.Items.TheVariants.{All, Exprs, Aggregates}
+use Rattle.bf_tree.specs.declared.bound.Action.{Action}
+use Rattle.bf_tree.specs.declared.bound.Action.TheVariants as action
+use Rattle.bf_tree.specs.declared.bound.Bound.{Bound}
+use Rattle.bf_tree.specs.declared.catalog.Catalog.{Catalog}
+use Rattle.bf_tree.specs.declared.statement.Statement.{Statement}
+use Rattle.bf_tree.specs.declared.statement.Statement.TheVariants.{CreateTable, CreateIndex, Insert, Select, Update, Delete, Begin, Commit, Rollback, Migrate}
+use Rattle.bf_tree.specs.declared.reply.Refusal.{Refusal}
 use Rattle.bf_sql.specs.Database.{Database, table_at}
 use Rattle.bf_sql.specs.Conditions.{condition_of, fixed_key}
 use Rattle.bf_sql.specs.Scopes.{scope_of, place_of, unqualified}
 use Rattle.bf_sql.specs.Objections.{objections}
-use Rattle.bf_sql.specs.Meaning.{table_of, index_of}
+use Rattle.bf_sql.specs.Meaning.{created_table, index_of}
 
 -- the database of a catalog, without rows
-abbrev pub bare : Catalog → Database
-bare catalog = record { number = catalog.number; tables = map (λ table. record { table = table; rows = [] }) catalog.tables; indexes = catalog.indexes }
+abbrev pub without_rows : Catalog → Database
+without_rows catalog = record { number = catalog.number; tables = map (λ table. record { table = table; rows = [] }) catalog.tables; indexes = catalog.indexes }
 
 module _ {R S : Type 0} (to : R → S) where
   -- the same total, and the same items, over other columns
@@ -49,7 +49,7 @@ module _ (db : Database) (table : List ℕ) where
 
 -- a statement that nothing stands in the way of; a MIGRATE is planned, and not bound
 abbrev pub action_of : Database → Statement → Option Action
-action_of db (CreateTable name rules key) = Some (action.CreateTable (table_of name rules key))
+action_of db (CreateTable name rules key) = Some (action.CreateTable (created_table name rules key))
 action_of db (CreateIndex name table columns) = Some (action.CreateIndex (index_of name (table_at db table) columns))
 action_of db (Insert table tuples) = Some (action.Insert (table_at db table) tuples)
 action_of db (Select list table cond) =
@@ -83,7 +83,7 @@ changes_schema in_block Commit = false
 changes_schema in_block Rollback = false
 changes_schema in_block (Migrate migrate) = not in_block
 
--- BOUND: the first objection of the catalog, or else the action. A statement is bound in `bare` of a catalog, since
+-- BOUND: the first objection of the catalog, or else the action. A statement is bound in `without_rows` of a catalog, since
 -- nothing here reads rows; none is the bound of a MIGRATE outside a block that the catalog does not refuse
 abbrev pub bound_of : Database → Bool → Statement → Option Bound
 bound_of db in_block s =

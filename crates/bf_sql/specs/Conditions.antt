@@ -3,9 +3,9 @@ use Rattle.std.specs.Prelude.{ℕ, ◌==◌, if◌then◌else◌, List, [], ◌�
 use Rattle.std.specs.List.{filter_map}
 use Rattle.bf_base.specs.declared.value.Value.{Value}
 use Rattle.bf_base.specs.declared.table.Table.{Table}
-use Rattle.bf_expr.specs.declared.raw.Ref.{Ref}
-use Rattle.bf_expr.specs.declared.compare.Compare.TheVariants.{Equal}
-use Rattle.bf_expr.specs.Trees.{literal, column, Cond, always, compared, both}
+use Rattle.bf_tree.specs.declared.raw.Ref.{Ref}
+use Rattle.bf_tree.specs.declared.compare.Compare.TheVariants.{Equal}
+use Rattle.bf_tree.specs.Trees.{literal, column, Cond, always, compared, both}
 
 -- without a condition, each row satisfies it
 abbrev pub condition_of : Option (Cond Ref) → Cond Ref

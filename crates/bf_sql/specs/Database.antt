@@ -14,7 +14,7 @@ use Rattle.bf_base.specs.declared.table.Table.{Table}
 use Rattle.bf_base.specs.Values.{key_cmp}
 use Rattle.bf_base.specs.Lists.{same_name, name_cmp, rises, in_order}
 use Rattle.bf_base.specs.Tables.{fit_of, key_of}
-use Rattle.bf_sql.specs.declared.catalog.IndexRule.{IndexRule}
+use Rattle.bf_tree.specs.declared.catalog.IndexRule.{IndexRule}
 
 -- a table and all its rows, in the order of their keys
 pub record Stored : Type 0 where

@@ -2,15 +2,15 @@
 use Rattle.std.specs.Prelude.{◌≡◌, ℕ, ◌+◌, ◌⊎◌, Bool, true, false, not, ◌&&◌, ◌||◌, ◌==◌, nat_lt, nat_le, List, [], ◌∷◌, length, map, flat_map, filter, find, Some, slice_index_or, IsTrue}
 use Rattle.std.specs.List.{AllByRecursion, list_any, list_all, enumerate_from}
 use Rattle.bf_base.specs.Lists.{part, with_before}
-use Rattle.bf_sql.specs.declared.statement.Statement.{Statement}
-use Rattle.bf_sql.specs.declared.script.Script.{Script}
-use Rattle.bf_sql.specs.declared.reply.Cause.{Cause}
-use Rattle.bf_sql.specs.declared.reply.Refusal.TheVariants.{NoTransaction}
-use Rattle.bf_sql.specs.declared.reply.Reply.{Reply}
-use Rattle.bf_sql.specs.declared.reply.Reply.TheVariants.{Refused, Ended}
-use Rattle.bf_sql.specs.declared.history.Outcome.{Outcome}
-use Rattle.bf_sql.specs.declared.history.Outcome.TheVariants.{Committed, RolledBack}
-use Rattle.bf_sql.specs.declared.history.Entry.{Entry}
+use Rattle.bf_tree.specs.declared.statement.Statement.{Statement}
+use Rattle.bf_tree.specs.declared.script.Script.{Script}
+use Rattle.bf_tree.specs.declared.reply.Cause.{Cause}
+use Rattle.bf_tree.specs.declared.reply.Refusal.TheVariants.{NoTransaction}
+use Rattle.bf_tree.specs.declared.reply.Reply.{Reply}
+use Rattle.bf_tree.specs.declared.reply.Reply.TheVariants.{Refused, Ended}
+use Rattle.bf_tree.specs.declared.history.Outcome.{Outcome}
+use Rattle.bf_tree.specs.declared.history.Outcome.TheVariants.{Committed, RolledBack}
+use Rattle.bf_tree.specs.declared.history.Entry.{Entry}
 use Rattle.bf_sql.specs.Database.{Database}
 use Rattle.bf_sql.specs.Meaning.{executed}
 use Rattle.bf_sql.specs.Groups.{session_at, groups_in, statements_in, statements_of, has_statement, is_stray, outcomes_from}
@@ -97,7 +97,3 @@ module _ (script : Script) where
       pub outcomes : map (λ e. e.outcome) history ≡ outcomes_from 1 (map (statements_of script) history)
       pub replies : map (told transcripts) history ≡ (replayed script start history).0
       pub others : AllByRecursion (IsApart transcripts) (apart is_open transcripts history)
-
--- at the end of a run every statement has its reply
-abbrev pub IsAllAnswered : Script → List (List Reply) → Type 0
-IsAllAnswered script transcripts = map (λ t. length t) transcripts ≡ map (λ s. length s.statements) script.sessions

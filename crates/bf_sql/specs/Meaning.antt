@@ -6,23 +6,23 @@ use Rattle.bf_base.specs.declared.table.Table.{Table}
 use Rattle.bf_base.specs.Values.{key_cmp}
 use Rattle.bf_base.specs.Lists.{name_cmp, placed, with_placed}
 use Rattle.bf_base.specs.Tables.{key_of}
-use Rattle.bf_expr.specs.Evaluation.{holds_on}
-use Rattle.bf_sql.specs.declared.catalog.IndexRule.{IndexRule}
-use Rattle.bf_sql.specs.declared.statement.ColumnForm.{ColumnForm}
-use Rattle.bf_sql.specs.declared.statement.ColumnForm.TheVariants as form
-use Rattle.bf_sql.specs.declared.statement.ColumnRule.{ColumnRule}
-use Rattle.bf_sql.specs.declared.statement.Statement.{Statement}
-use Rattle.bf_sql.specs.declared.statement.Statement.TheVariants.{CreateTable, CreateIndex, Insert, Select, Update, Delete, Begin, Commit, Rollback, Migrate}
-use Rattle.bf_sql.specs.declared.reply.Refusal.{Refusal}
-use Rattle.bf_sql.specs.declared.reply.Reply.{Reply}
-use Rattle.bf_sql.specs.declared.reply.Reply.TheVariants as reply
+use Rattle.bf_tree.specs.Evaluation.{holds_on}
+use Rattle.bf_tree.specs.declared.catalog.IndexRule.{IndexRule}
+use Rattle.bf_tree.specs.declared.statement.ColumnForm.{ColumnForm}
+use Rattle.bf_tree.specs.declared.statement.ColumnForm.TheVariants as form
+use Rattle.bf_tree.specs.declared.statement.ColumnRule.{ColumnRule}
+use Rattle.bf_tree.specs.declared.statement.Statement.{Statement}
+use Rattle.bf_tree.specs.declared.statement.Statement.TheVariants.{CreateTable, CreateIndex, Insert, Select, Update, Delete, Begin, Commit, Rollback, Migrate}
+use Rattle.bf_tree.specs.declared.reply.Refusal.{Refusal}
+use Rattle.bf_tree.specs.declared.reply.Reply.{Reply}
+use Rattle.bf_tree.specs.declared.reply.Reply.TheVariants as reply
 use Rattle.bf_sql.specs.Database.{Database, table_at, table_rows, stored_in_order, with_rows, with_tables}
 use Rattle.bf_sql.specs.Conditions.{condition_of}
 use Rattle.bf_sql.specs.Scopes.{scope_of, place_of, read_in, unqualified}
 use Rattle.bf_sql.specs.Objections.{objections}
 use Rattle.bf_sql.specs.Queries.{selected, answer_of, changed}
 use Rattle.bf_sql.specs.RowObjections.{row_objections}
-use Rattle.bf_sql.specs.Images.{flipped}
+use Rattle.bf_sql.specs.migrations.Images.{flipped}
 
 abbrev pub admit_of : ColumnForm → Admit
 admit_of form.Int = admits.Int
@@ -37,8 +37,8 @@ abbrev pub keyless_table : List ℕ → List ColumnRule → Table
 keyless_table name rules = record { name = name; columns = map (λ rule. record { name = rule.name; admits = admit_of rule.form }) rules; key = [] }
 
 -- the table that CREATE TABLE makes
-abbrev pub table_of : List ℕ → List ColumnRule → List (List ℕ) → Table
-table_of name rules key =
+abbrev pub created_table : List ℕ → List ColumnRule → List (List ℕ) → Table
+created_table name rules key =
     let table = keyless_table name rules in
     record table { key = named_places table key }
 
@@ -55,7 +55,7 @@ next_number db = record db { number = db.number + 1 }
 -- the reply to a statement that nothing stands in the way of, and the database after it. `commit` is the number of the
 -- commit that it may end
 abbrev pub effect : ℕ → Database → Statement → Reply × Database
-effect commit db (CreateTable name rules key) = (reply.Created, next_number (with_tables (stored_in_order (table_of name rules key) [] ∷ []) db))
+effect commit db (CreateTable name rules key) = (reply.Created, next_number (with_tables (stored_in_order (created_table name rules key) [] ∷ []) db))
 effect commit db (CreateIndex name table columns) = (reply.Created, next_number (with_index (index_of name (table_at db table) columns) db))
 effect commit db (Insert table tuples) =
     (reply.Inserted (length tuples), with_rows db table (with_placed key_cmp (key_of (table_at db table)) (table_rows db table) tuples))

@@ -4,23 +4,24 @@ use Rattle.std.specs.List.{list_any}
 use Rattle.bf_base.specs.declared.value.Value.{Value}
 use Rattle.bf_base.specs.declared.table.Column.{Column}
 use Rattle.bf_base.specs.declared.table.Table.{Table}
+use Rattle.bf_base.specs.Limits.{longest_text}
 use Rattle.bf_base.specs.Lists.{same_name, has, with_before, when}
 use Rattle.bf_base.specs.Tables.{kind_of, kind_admitted, same_kind}
-use Rattle.bf_expr.specs.declared.raw.Ref.{Ref}
-use Rattle.bf_expr.specs.Trees.{Expr}
-use Rattle.bf_sql.specs.declared.items.Items.{Items}
-use Rattle.bf_sql.specs.declared.items.Items.TheVariants.{All, Exprs, Aggregates}
-use Rattle.bf_sql.specs.declared.statement.ColumnForm.{ColumnForm}
-use Rattle.bf_sql.specs.declared.statement.ColumnForm.TheVariants as form
-use Rattle.bf_sql.specs.declared.statement.ColumnRule.{ColumnRule}
-use Rattle.bf_sql.specs.declared.statement.Statement.{Statement}
-use Rattle.bf_sql.specs.declared.statement.Statement.TheVariants.{CreateTable, CreateIndex, Insert, Select, Update, Delete, Begin, Commit, Rollback, Migrate}
-use Rattle.bf_sql.specs.declared.reply.Refusal.{Refusal}
-use Rattle.bf_sql.specs.declared.reply.Refusal.TheVariants as refusal
+use Rattle.bf_tree.specs.declared.raw.Ref.{Ref}
+use Rattle.bf_tree.specs.Trees.{Expr}
+use Rattle.bf_tree.specs.declared.items.Items.{Items}
+use Rattle.bf_tree.specs.declared.items.Items.TheVariants.{All, Exprs, Aggregates}
+use Rattle.bf_tree.specs.declared.statement.ColumnForm.{ColumnForm}
+use Rattle.bf_tree.specs.declared.statement.ColumnForm.TheVariants as form
+use Rattle.bf_tree.specs.declared.statement.ColumnRule.{ColumnRule}
+use Rattle.bf_tree.specs.declared.statement.Statement.{Statement}
+use Rattle.bf_tree.specs.declared.statement.Statement.TheVariants.{CreateTable, CreateIndex, Insert, Select, Update, Delete, Begin, Commit, Rollback, Migrate}
+use Rattle.bf_tree.specs.declared.reply.Refusal.{Refusal}
+use Rattle.bf_tree.specs.declared.reply.Refusal.TheVariants as refusal
 use Rattle.bf_sql.specs.Database.{Database, Stored, stored_at}
 use Rattle.bf_sql.specs.Conditions.{condition_of}
-use Rattle.bf_sql.specs.Scopes.{Scope, scope_of, admitted_by, unqualified, kind_objections, expr_objections, cond_objections, total_objections}
-use Rattle.bf_sql.specs.Migrations.{twice_objections, migrate_objections}
+use Rattle.bf_sql.specs.Scopes.{Scope, scope_of, admitted_by, unqualified, twice_objections, kind_objections, expr_objections, cond_objections, total_objections}
+use Rattle.bf_sql.specs.migrations.MigrationObjections.{migrate_objections}
 
 -- the objections to a statement on the table of a name, where there is one
 abbrev pub table_objections : Option Stored → List ℕ → (Table → List Refusal) → List Refusal
@@ -40,7 +41,7 @@ names_objections columns names = flat_map (λ p. when (not (has same_name column
 abbrev pub form_objections : List ℕ → ColumnForm → List Refusal
 form_objections name form.Int = []
 form_objections name (form.Checked checked low high) = when (not (same_name name checked)) (refusal.NoColumn checked) ++ when (int_lt high low) refusal.OutOfRange
-form_objections name (form.Varchar most) = when (not (nat_le 1 most && nat_le most 255)) refusal.TooLong
+form_objections name (form.Varchar most) = when (not (nat_le 1 most && nat_le most longest_text)) refusal.TooLong
 
 -- columns: names that stood before, and forms
 abbrev pub rules_objections : List ColumnRule → List Refusal

@@ -1,12 +1,12 @@
 -- What statements make of a table's rows, which stand in key order. `read` gives a row's columns.
 use Rattle.std.specs.Prelude.{ℕ, List, [], ◌∷◌, map, filter, fold, slice_set}
 use Rattle.bf_base.specs.declared.value.Value.{Value}
-use Rattle.bf_expr.specs.Trees.{Expr, Cond}
-use Rattle.bf_expr.specs.Evaluation.{sure_value, holds_on}
-use Rattle.bf_sql.specs.declared.items.Items.{Items}
-use Rattle.bf_sql.specs.declared.items.Items.TheVariants.{All, Exprs, Aggregates}
-use Rattle.bf_sql.specs.declared.reply.Cell.{Cell}
-use Rattle.bf_sql.specs.declared.reply.Cell.TheVariants as cells
+use Rattle.bf_tree.specs.Trees.{Expr, Cond}
+use Rattle.bf_tree.specs.Evaluation.{sure_value, holds_on}
+use Rattle.bf_tree.specs.declared.items.Items.{Items}
+use Rattle.bf_tree.specs.declared.items.Items.TheVariants.{All, Exprs, Aggregates}
+use Rattle.bf_tree.specs.declared.reply.Cell.{Cell}
+use Rattle.bf_tree.specs.declared.reply.Cell.TheVariants as cells
 use Rattle.bf_sql.specs.Totals.{total_of}
 
 module _ {R : Type 0} (read : List Value → R → Value) where

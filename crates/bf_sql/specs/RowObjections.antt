@@ -7,24 +7,24 @@ use Rattle.bf_base.specs.declared.table.Fit.TheVariants as fit
 use Rattle.bf_base.specs.declared.table.Table.{Table}
 use Rattle.bf_base.specs.Lists.{same_key, has, with_before, when}
 use Rattle.bf_base.specs.Tables.{fit_of, key_of}
-use Rattle.bf_expr.specs.declared.evaluation.Fail.{Fail}
-use Rattle.bf_expr.specs.declared.evaluation.Fail.TheVariants as fail
-use Rattle.bf_expr.specs.Trees.{Expr}
-use Rattle.bf_expr.specs.Evaluation.{value_of, sure_value, is_int}
-use Rattle.bf_sql.specs.declared.items.Aggregate.{Aggregate}
-use Rattle.bf_sql.specs.declared.items.Aggregate.TheVariants.{Count, Sum, Min, Max}
-use Rattle.bf_sql.specs.declared.items.Items.{Items}
-use Rattle.bf_sql.specs.declared.items.Items.TheVariants.{All, Exprs, Aggregates}
-use Rattle.bf_sql.specs.declared.statement.Statement.{Statement}
-use Rattle.bf_sql.specs.declared.statement.Statement.TheVariants.{Insert, Select, Update, Migrate}
-use Rattle.bf_sql.specs.declared.reply.Refusal.{Refusal}
-use Rattle.bf_sql.specs.declared.reply.Refusal.TheVariants.{TypeMismatch, OutOfRange, TooLong, DuplicateKey, TooManyRows}
+use Rattle.bf_tree.specs.declared.evaluation.Fail.{Fail}
+use Rattle.bf_tree.specs.declared.evaluation.Fail.TheVariants as fail
+use Rattle.bf_tree.specs.Trees.{Expr}
+use Rattle.bf_tree.specs.Evaluation.{value_of, sure_value, is_int}
+use Rattle.bf_tree.specs.declared.items.Aggregate.{Aggregate}
+use Rattle.bf_tree.specs.declared.items.Aggregate.TheVariants.{Count, Sum, Min, Max}
+use Rattle.bf_tree.specs.declared.items.Items.{Items}
+use Rattle.bf_tree.specs.declared.items.Items.TheVariants.{All, Exprs, Aggregates}
+use Rattle.bf_tree.specs.declared.statement.Statement.{Statement}
+use Rattle.bf_tree.specs.declared.statement.Statement.TheVariants.{Insert, Select, Update, Migrate}
+use Rattle.bf_tree.specs.declared.reply.Refusal.{Refusal}
+use Rattle.bf_tree.specs.declared.reply.Refusal.TheVariants.{TypeMismatch, OutOfRange, TooLong, DuplicateKey, TooManyRows}
 use Rattle.bf_sql.specs.Database.{Database, table_at, table_rows}
 use Rattle.bf_sql.specs.Conditions.{condition_of}
 use Rattle.bf_sql.specs.Scopes.{scope_of, read_in, admitted_by, unqualified}
 use Rattle.bf_sql.specs.Totals.{values_of, exact_sum}
 use Rattle.bf_sql.specs.Queries.{selected}
-use Rattle.bf_sql.specs.Migrations.{sources_of}
+use Rattle.bf_sql.specs.migrations.MigrationObjections.{sources_of}
 
 -- an expression that has no value
 abbrev pub value_objections : Result Value Fail → List Refusal

@@ -8,14 +8,14 @@ use Rattle.bf_base.specs.declared.table.Admit.TheVariants as admits
 use Rattle.bf_base.specs.declared.table.Column.{Column}
 use Rattle.bf_base.specs.declared.table.Table.{Table}
 use Rattle.bf_base.specs.declared.value.Value.{Value}
-use Rattle.bf_base.specs.Lists.{same_name, when}
+use Rattle.bf_base.specs.Lists.{same_name, has, when}
 use Rattle.bf_base.specs.Tables.{kind_of, kind_admitted, same_kind, cell}
-use Rattle.bf_expr.specs.declared.raw.Ref.{Ref}
-use Rattle.bf_expr.specs.Trees.{Expr, literal, column, negated, plus, minus, times, joined, Cond, always, compared, between, opposite, both, either}
-use Rattle.bf_sql.specs.declared.items.Aggregate.{Aggregate}
-use Rattle.bf_sql.specs.declared.items.Aggregate.TheVariants.{Count, Sum, Min, Max}
-use Rattle.bf_sql.specs.declared.reply.Refusal.{Refusal}
-use Rattle.bf_sql.specs.declared.reply.Refusal.TheVariants.{NoTable, NoColumn, NameTwice, TypeMismatch}
+use Rattle.bf_tree.specs.declared.raw.Ref.{Ref}
+use Rattle.bf_tree.specs.Trees.{Expr, literal, column, negated, plus, minus, times, joined, Cond, always, compared, between, opposite, both, either}
+use Rattle.bf_tree.specs.declared.items.Aggregate.{Aggregate}
+use Rattle.bf_tree.specs.declared.items.Aggregate.TheVariants.{Count, Sum, Min, Max}
+use Rattle.bf_tree.specs.declared.reply.Refusal.{Refusal}
+use Rattle.bf_tree.specs.declared.reply.Refusal.TheVariants.{NoTable, NoColumn, NameTwice, TypeMismatch}
 
 -- the columns that refs are looked up in, each with its table's name
 abbrev pub Scope : Type 0
@@ -31,6 +31,10 @@ is_qualified_by (Some qualifier) table = same_name qualifier table
 -- the ref that is a column's name alone
 abbrev pub unqualified : List ℕ → Ref
 unqualified name = record { table = None; column = name }
+
+-- a name that stood before in its list
+abbrev pub twice_objections : List (List ℕ) → List ℕ → List Refusal
+twice_objections before name = when (has same_name before name) (NameTwice name)
 
 module _ (scope : Scope) where
   -- the places of the columns that a ref can mean

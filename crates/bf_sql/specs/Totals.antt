@@ -5,12 +5,12 @@ use Rattle.std.specs.Ordering.{is_lt}
 use Rattle.bf_base.specs.declared.value.Value.{Value}
 use Rattle.bf_base.specs.declared.value.Value.TheVariants.{Int}
 use Rattle.bf_base.specs.Values.{value_cmp}
-use Rattle.bf_expr.specs.Trees.{Expr}
-use Rattle.bf_expr.specs.Evaluation.{sure_value, number_of}
-use Rattle.bf_sql.specs.declared.items.Aggregate.{Aggregate}
-use Rattle.bf_sql.specs.declared.items.Aggregate.TheVariants.{Count, Sum, Min, Max}
-use Rattle.bf_sql.specs.declared.reply.Cell.{Cell}
-use Rattle.bf_sql.specs.declared.reply.Cell.TheVariants as cells
+use Rattle.bf_tree.specs.Trees.{Expr}
+use Rattle.bf_tree.specs.Evaluation.{sure_value, number_of}
+use Rattle.bf_tree.specs.declared.items.Aggregate.{Aggregate}
+use Rattle.bf_tree.specs.declared.items.Aggregate.TheVariants.{Count, Sum, Min, Max}
+use Rattle.bf_tree.specs.declared.reply.Cell.{Cell}
+use Rattle.bf_tree.specs.declared.reply.Cell.TheVariants as cells
 
 abbrev pub lesser : Value → Value → Value
 lesser a b = if is_lt (value_cmp b a) then b else a

@@ -1,8 +1,8 @@
 -- The commits of a history are its committed entries.
 use Rattle.std.proofs.Common.{◌≡◌, Bool, true, false, List, [], ◌∷◌, length, filter, refl, ◌+◌, arith}
-use Rattle.bf_sql.specs.declared.history.Outcome.{Outcome}
-use Rattle.bf_sql.specs.declared.history.Outcome.TheVariants.{Committed, RolledBack}
-use Rattle.bf_sql.specs.declared.history.Entry.{Entry}
+use Rattle.bf_tree.specs.declared.history.Outcome.{Outcome}
+use Rattle.bf_tree.specs.declared.history.Outcome.TheVariants.{Committed, RolledBack}
+use Rattle.bf_tree.specs.declared.history.Entry.{Entry}
 use Rattle.bf_text.specs.Report.{commit_of, commits_of}
 
 abbrev pub is_commit : Outcome → Bool

@@ -3,14 +3,14 @@ use Rattle.std.specs.Prelude.{ℕ, ◌==◌, if◌then◌else◌, List, [], ◌�
 use Rattle.std.specs.Fmt.{decimal, signed_decimal}
 use Rattle.bf_base.specs.declared.value.Value.{Value}
 use Rattle.bf_base.specs.declared.value.Value.TheVariants.{Int, Text}
-use Rattle.bf_sql.specs.declared.reply.Refusal.{Refusal}
-use Rattle.bf_sql.specs.declared.reply.Refusal.TheVariants as refusal
-use Rattle.bf_sql.specs.declared.reply.Cell.{Cell}
-use Rattle.bf_sql.specs.declared.reply.Cell.TheVariants as cells
-use Rattle.bf_sql.specs.declared.reply.Cause.{Cause}
-use Rattle.bf_sql.specs.declared.reply.Cause.TheVariants as cause
-use Rattle.bf_sql.specs.declared.reply.Reply.{Reply}
-use Rattle.bf_sql.specs.declared.reply.Reply.TheVariants as reply
+use Rattle.bf_tree.specs.declared.reply.Refusal.{Refusal}
+use Rattle.bf_tree.specs.declared.reply.Refusal.TheVariants as refusal
+use Rattle.bf_tree.specs.declared.reply.Cell.{Cell}
+use Rattle.bf_tree.specs.declared.reply.Cell.TheVariants as cells
+use Rattle.bf_tree.specs.declared.reply.Cause.{Cause}
+use Rattle.bf_tree.specs.declared.reply.Cause.TheVariants as cause
+use Rattle.bf_tree.specs.declared.reply.Reply.{Reply}
+use Rattle.bf_tree.specs.declared.reply.Reply.TheVariants as reply
 
 abbrev pub newline : List ℕ
 newline = 10 ∷ []

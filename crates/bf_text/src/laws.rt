@@ -1,10 +1,10 @@
 //! A law of the definitions. It is the contract of a function that does nothing.
 
 ghost use Rattle.std.specs.Prelude.{◌≡◌, ℕ, List, Option};
-ghost use Rattle.bf_sql.specs.declared.history.Entry.{Entry};
-ghost use Rattle.bf_sql.specs.declared.history.Sweep.{Sweep};
-ghost use Rattle.bf_sql.specs.declared.reply.Reply.{Reply};
-ghost use Rattle.bf_sql.specs.declared.script.Script.{Script};
+ghost use Rattle.bf_tree.specs.declared.history.Entry.{Entry};
+ghost use Rattle.bf_tree.specs.declared.history.Sweep.{Sweep};
+ghost use Rattle.bf_tree.specs.declared.reply.Reply.{Reply};
+ghost use Rattle.bf_tree.specs.declared.script.Script.{Script};
 ghost use Rattle.bf_text.specs.Numbers.{IsCounted};
 ghost use Rattle.bf_text.specs.Report.{report_text};
 ghost use Rattle.bf_text.specs.Told.{IsTold, tables_of};

@@ -10,7 +10,7 @@ use crate::pieces::{
     put_number, put_numbered, put_signed,
 };
 use bf_base::{Memory, Sequence, Value};
-use bf_sql::{Cause, Cell, Refusal, Reply};
+use bf_tree::{Cause, Cell, Refusal, Reply};
 
 /// A byte of a text, between its quotes.
 impl Piece for u8 {

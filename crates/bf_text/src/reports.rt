@@ -10,7 +10,7 @@ use crate::pieces::{
     Counted, Piece, put, put_all_counted, put_each, put_named_numbered, put_number, put_numbered,
 };
 use bf_base::{Memory, Name};
-use bf_sql::{Entry, History, Outcome, Sweep, Transcripts};
+use bf_tree::{Entry, History, Outcome, Sweep, Transcripts};
 use std::alloc::Global;
 
 fn put_outcome(out: &mut Vec<u8>, outcome: Outcome) -> Result<(), Memory>

@@ -2,7 +2,7 @@
 
 use crate::{put_refusal, put_values, report};
 use bf_base::{Key, Memory, Name, NameError, Sequence, Text, TextError, Value};
-use bf_sql::{Cause, Cell, Entry, History, Outcome, Refusal, Reply, Sweep, Transcripts};
+use bf_tree::{Cause, Cell, Entry, History, Outcome, Refusal, Reply, Sweep, Transcripts};
 use std::alloc::Global;
 use std::test::Fail;
 

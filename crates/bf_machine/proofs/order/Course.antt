@@ -2,12 +2,12 @@
 use Rattle.std.proofs.Common.{◌≡◌, ℕ, ◌+◌, ◌-◌, ◌≤◌, Bool, true, false, List, [], ◌∷◌, ◌++◌, length, refl, sym, ap, subst, arith, append_assoc, length-append, None}
 use Rattle.std.proofs.lemmas.Bool.{false≢true}
 use Rattle.std.proofs.lemmas.List.Folds.{list_any-append}
-use Rattle.bf_sql.specs.declared.statement.Statement.{Statement}
-use Rattle.bf_sql.specs.declared.statement.Statement.TheVariants.{Begin, Commit, Rollback}
-use Rattle.bf_sql.specs.declared.reply.Refusal.TheVariants.{NoTransaction}
-use Rattle.bf_sql.specs.declared.reply.Reply.{Reply}
-use Rattle.bf_sql.specs.declared.reply.Reply.TheVariants.{Begun, Refused}
-use Rattle.bf_sql.specs.declared.history.Outcome.{Outcome}
+use Rattle.bf_tree.specs.declared.statement.Statement.{Statement}
+use Rattle.bf_tree.specs.declared.statement.Statement.TheVariants.{Begin, Commit, Rollback}
+use Rattle.bf_tree.specs.declared.reply.Refusal.TheVariants.{NoTransaction}
+use Rattle.bf_tree.specs.declared.reply.Reply.{Reply}
+use Rattle.bf_tree.specs.declared.reply.Reply.TheVariants.{Begun, Refused}
+use Rattle.bf_tree.specs.declared.history.Outcome.{Outcome}
 use Rattle.bf_sql.specs.Database.{Database}
 use Rattle.bf_sql.specs.Groups.{groups_from, commits, ends_block, outcome_by}
 use Rattle.bf_sql.specs.History.{settled, commits_with}
@@ -60,10 +60,10 @@ is_lone Rollback = false
 is_lone other = true
 
 lone_is_group : (s : Statement) (rest : List Statement) → is_lone s ≡ true → IsGroup (s ∷ []) rest (s ∷ rest) true
-lone_is_group Begin rest lone = absurd (false≢true lone)
-lone_is_group Commit rest lone = absurd (false≢true lone)
-lone_is_group Rollback rest lone = absurd (false≢true lone)
-lone_is_group s rest lone = record {
+lone_is_group Begin rest autocommit = absurd (false≢true autocommit)
+lone_is_group Commit rest autocommit = absurd (false≢true autocommit)
+lone_is_group Rollback rest autocommit = absurd (false≢true autocommit)
+lone_is_group s rest autocommit = record {
   split = refl;
   not_empty = omega arith;
   commits_so = refl;
@@ -144,15 +144,15 @@ module _ (P : List Statement → Type 0) (nothing : P [])
     λ body inner. group (Begin ∷ body ++ Rollback ∷ []) ss (Begin ∷ body ++ Rollback ∷ ss) false (rolled_back_is_group body ss inner) later.0,
   )
 
-  lone : (s : Statement) (ss : List Statement) → is_lone s ≡ true → ends_block s ≡ false → P ss × InBlock ss → P (s ∷ ss) × InBlock (s ∷ ss)
-  lone s ss is_alone goes_on later = (group (s ∷ []) ss (s ∷ ss) true (lone_is_group s ss is_alone) later.0, one_more_in_block s ss goes_on later.1)
+  autocommit : (s : Statement) (ss : List Statement) → is_lone s ≡ true → ends_block s ≡ false → P ss × InBlock ss → P (s ∷ ss) × InBlock (s ∷ ss)
+  autocommit s ss is_autocommit goes_on later = (group (s ∷ []) ss (s ∷ ss) true (lone_is_group s ss is_autocommit) later.0, one_more_in_block s ss goes_on later.1)
 
   outside_and_in_block : (ss : List Statement) → P ss × InBlock ss
   outside_and_in_block [] = (nothing, λ body inner. group (Begin ∷ body) [] (Begin ∷ body ++ []) false (open_is_group body inner) nothing)
   outside_and_in_block (Begin ∷ ss) = begun ss (outside_and_in_block ss)
   outside_and_in_block (Commit ∷ ss) = committed ss (outside_and_in_block ss)
   outside_and_in_block (Rollback ∷ ss) = rolled_back ss (outside_and_in_block ss)
-  outside_and_in_block (s ∷ ss) = lone s ss refl refl (outside_and_in_block ss)
+  outside_and_in_block (s ∷ ss) = autocommit s ss refl refl (outside_and_in_block ss)
 
   pub by_groups : (ss : List Statement) → P ss
   by_groups ss = (outside_and_in_block ss).0

@@ -1,10 +1,11 @@
 -- A run in order is legal.
 use Rattle.std.proofs.Common.{◌≡◌, IsTrue, List, [], map, length, refl, subst}
 use Rattle.std.specs.List.{AllByRecursion, flat_map, range_with_len}
-use Rattle.bf_sql.specs.declared.script.Script.{Script}
-use Rattle.bf_sql.specs.declared.history.Entry.{Entry}
+use Rattle.bf_tree.specs.declared.script.Script.{Script}
+use Rattle.bf_tree.specs.declared.history.Entry.{Entry}
 use Rattle.bf_sql.specs.Database.{Database}
-use Rattle.bf_sql.specs.History.{apart, replayed, told, IsAllAnswered, IsApart, IsLegalHistory}
+use Rattle.bf_tree.specs.Answered.{IsAllAnswered}
+use Rattle.bf_sql.specs.History.{apart, replayed, told, IsApart, IsLegalHistory}
 use Rattle.bf_machine.specs.InOrder.{NoCause, none_open, entries_in_order}
 use Rattle.bf_machine.specs.Runnable.{phases_rise_from}
 use Rattle.bf_machine.specs.Sessions.{at_rest, script_from}

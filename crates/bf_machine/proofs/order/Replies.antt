@@ -1,13 +1,13 @@
 -- The transcripts tell the entries what their replay gives.
 use Rattle.std.proofs.Common.{◌≡◌, ℕ, ◌+◌, ◌-◌, Bool, true, false, List, [], ◌∷◌, ◌++◌, length, map, refl, ap, arith}
 use Rattle.std.specs.List.{slice_index_or}
-use Rattle.bf_sql.specs.declared.statement.Statement.{Statement}
-use Rattle.bf_sql.specs.declared.script.Session.{Session}
-use Rattle.bf_sql.specs.declared.script.Script.{Script}
-use Rattle.bf_sql.specs.declared.reply.Reply.{Reply}
-use Rattle.bf_sql.specs.declared.reply.Reply.TheVariants.{Refused}
-use Rattle.bf_sql.specs.declared.reply.Refusal.TheVariants.{NoTransaction}
-use Rattle.bf_sql.specs.declared.history.Entry.{Entry}
+use Rattle.bf_tree.specs.declared.statement.Statement.{Statement}
+use Rattle.bf_tree.specs.declared.script.Session.{Session}
+use Rattle.bf_tree.specs.declared.script.Script.{Script}
+use Rattle.bf_tree.specs.declared.reply.Reply.{Reply}
+use Rattle.bf_tree.specs.declared.reply.Reply.TheVariants.{Refused}
+use Rattle.bf_tree.specs.declared.reply.Refusal.TheVariants.{NoTransaction}
+use Rattle.bf_tree.specs.declared.history.Entry.{Entry}
 use Rattle.bf_sql.specs.Database.{Database}
 use Rattle.bf_sql.specs.Groups.{session_at, statements_of}
 use Rattle.bf_sql.specs.History.{replayed_behind, told, settled}

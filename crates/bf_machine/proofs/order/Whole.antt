@@ -4,10 +4,10 @@ use Rattle.std.specs.List.{list_any, list_all, flat_map, range_with_len}
 use Rattle.std.proofs.lemmas.Bool.{and_from, or_left, or_right}
 use Rattle.std.proofs.lemmas.Bool.Decides.{nat_tests}
 use Rattle.std.proofs.lemmas.List.Folds.{list_all-append, list_all-map}
-use Rattle.bf_sql.specs.declared.script.Script.{Script}
-use Rattle.bf_sql.specs.declared.history.Entry.{Entry}
-use Rattle.bf_sql.specs.declared.history.Outcome.{Outcome}
-use Rattle.bf_sql.specs.declared.statement.Statement.{Statement}
+use Rattle.bf_tree.specs.declared.script.Script.{Script}
+use Rattle.bf_tree.specs.declared.history.Entry.{Entry}
+use Rattle.bf_tree.specs.declared.history.Outcome.{Outcome}
+use Rattle.bf_tree.specs.declared.statement.Statement.{Statement}
 use Rattle.bf_sql.specs.Groups.{groups_in, statements_of, commits, outcomes_from, outcome_by}
 use Rattle.bf_sql.specs.History.{is_whole_group}
 use Rattle.bf_machine.proofs.order.Entries.{Group, text_of, entries_from, groups_at}

@@ -2,16 +2,15 @@
 use Rattle.std.proofs.Common.{◌≡◌, ℕ, ◌+◌, ◌^◌, ◌<◌, Bool, true, not, List, [], ◌∷◌, ◌++◌, length, drop, get_or, Option, Some, None, ap, ◌∙◌, arith, length-append}
 use Rattle.std.specs.List.{list_all}
 use Rattle.std.proofs.lemmas.Bool.{and_parts}
-use Rattle.bf_bind.specs.Limits.{HasNarrowTables}
-use Rattle.bf_sql.specs.declared.statement.Statement.{Statement}
-use Rattle.bf_sql.specs.declared.script.Session.{Session}
-use Rattle.bf_sql.specs.declared.reply.Reply.{Reply}
-use Rattle.bf_sql.specs.declared.history.Entry.{Entry}
+use Rattle.bf_tree.specs.Limits.{HasNarrowTables, is_narrow_statement}
+use Rattle.bf_tree.specs.declared.statement.Statement.{Statement}
+use Rattle.bf_tree.specs.declared.script.Session.{Session}
+use Rattle.bf_tree.specs.declared.reply.Reply.{Reply}
+use Rattle.bf_tree.specs.declared.history.Entry.{Entry}
 use Rattle.bf_sql.specs.Database.{Database}
-use Rattle.bf_store.specs.Stores.{catalog_of, committed}
+use Rattle.bf_live.specs.Live.{catalog_of, committed}
 use Rattle.bf_machine.specs.declared.transaction.Transaction.{Transaction}
 use Rattle.bf_machine.specs.InOrder.{is_migrate}
-use Rattle.bf_machine.specs.Runnable.{is_narrow_statement}
 use Rattle.bf_machine.specs.Sessions.{Standing, Turn, at_rest, inside, outside, session_from, sessions_from, stepped}
 use Rattle.bf_machine.specs.Turns.{HasTaken, MayBeOpen, standing}
 use Rattle.bf_machine.proofs.serving.Steps.{behind, item_here, turn_first}

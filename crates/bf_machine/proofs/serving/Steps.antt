@@ -1,6 +1,6 @@
 -- Runs of turns: what has been noted, and what is still to come, is all.
 use Rattle.std.proofs.Common.{◌≡◌, ℕ, ◌+◌, ◌<◌, List, [], ◌∷◌, ◌++◌, length, drop, get_or, sym, ap₂, ◌∙◌, append_assoc, add-one, drop-cons}
-use Rattle.bf_sql.specs.declared.history.Entry.{Entry}
+use Rattle.bf_tree.specs.declared.history.Entry.{Entry}
 use Rattle.bf_machine.specs.Sessions.{Standing}
 
 -- what is left begins with the item that is here

@@ -2,18 +2,18 @@
 use Rattle.std.proofs.Common.{◌≡◌, ℕ, ◌+◌, ◌++◌, true, false, not, List, [], Some, refl, sym, ap, subst, ◌∙◌, Result, Ok, Err}
 use Rattle.std.specs.Prelude.{IfOk, OnErr}
 use Rattle.std.proofs.lemmas.List.{append-nil}
-use Rattle.bf_bind.specs.Limits.{HasNarrowTables}
-use Rattle.bf_sql.specs.declared.statement.Statement.{Statement}
-use Rattle.bf_sql.specs.declared.statement.Statement.TheVariants.{Begin, Commit, Rollback, Migrate}
-use Rattle.bf_sql.specs.declared.reply.Reply.{Reply}
-use Rattle.bf_sql.specs.declared.reply.Reply.TheVariants.{Begun}
-use Rattle.bf_sql.specs.declared.history.Outcome.TheVariants.{Committed}
-use Rattle.bf_sql.specs.declared.history.Entry.{Entry}
+use Rattle.bf_tree.specs.Limits.{HasNarrowTables}
+use Rattle.bf_tree.specs.declared.statement.Statement.{Statement}
+use Rattle.bf_tree.specs.declared.statement.Statement.TheVariants.{Begin, Commit, Rollback, Migrate}
+use Rattle.bf_tree.specs.declared.reply.Reply.{Reply}
+use Rattle.bf_tree.specs.declared.reply.Reply.TheVariants.{Begun}
+use Rattle.bf_tree.specs.declared.history.Outcome.TheVariants.{Committed}
+use Rattle.bf_tree.specs.declared.history.Entry.{Entry}
 use Rattle.bf_sql.specs.Database.{Database, IsDatabase}
 use Rattle.bf_sql.specs.Meaning.{executed}
-use Rattle.bf_store.specs.Alone.{is_alone}
-use Rattle.bf_store.specs.Stores.{catalog_of, committed}
-use Rattle.bf_store.proofs.keeps.Statements.{keeps_plain}
+use Rattle.bf_live.specs.Autocommit.{is_autocommit}
+use Rattle.bf_live.specs.Live.{catalog_of, committed}
+use Rattle.bf_live.proofs.keeps.Statements.{keeps_plain}
 use Rattle.bf_txn.specs.declared.write.Write.{Write}
 use Rattle.bf_machine.specs.InOrder.{is_migrate}
 use Rattle.bf_machine.specs.Open.{IsStep, goes_on}
@@ -23,7 +23,7 @@ use Rattle.bf_machine.proofs.statements.Seeing.{nothing_written}
 
 -- what is no MIGRATE and no word of a block is a transaction of its own
 pub plain_otherwise : (s : Statement) → not (is_migrate s) ≡ true → (s ≡ Begin → ⊥) → (s ≡ Commit → ⊥) → (s ≡ Rollback → ⊥)
-    → is_alone s ≡ true
+    → is_autocommit s ≡ true
 plain_otherwise Begin still begin commit rollback = absurd (begin refl)
 plain_otherwise Commit still begin commit rollback = absurd (commit refl)
 plain_otherwise Rollback still begin commit rollback = absurd (rollback refl)
@@ -37,7 +37,7 @@ goes_on_otherwise Rollback commit rollback = absurd (rollback refl)
 goes_on_otherwise s commit rollback = refl
 
 -- a plain statement leaves a database, also where it gives up
-pub still_database : {E : Type 0} (db new : Database) (s : Statement) → is_alone s ≡ true → IsDatabase db → (result : Result Reply E)
+pub still_database : {E : Type 0} (db new : Database) (s : Statement) → is_autocommit s ≡ true → IsDatabase db → (result : Result Reply E)
     → IfOk result (λ reply. (commit : ℕ) → executed commit db false s ≡ (reply, new)) → OnErr result (new ≡ db) → IsDatabase new
 still_database db new s plain is (Ok answer) meant same = subst IsDatabase (ap (λ (p : Reply × Database). p.1) (meant 0)) (keeps_plain 0 db s plain is)
 still_database db new s plain is (Err e) meant same = rw same is
@@ -47,7 +47,7 @@ pub narrow_at : (at : Standing) (commits : ℕ) (db : Database) → at ≡ at_re
 narrow_at at commits db stands narrow = rw stands narrow
 
 module _ (session n commits : ℕ) (db : Database) where
-  outside_plain : (s : Statement) → is_alone s ≡ true → outside session n commits db s ≡ alone session n commits db s
+  outside_plain : (s : Statement) → is_autocommit s ≡ true → outside session n commits db s ≡ alone session n commits db s
   outside_plain Begin plain = absurd cc
   outside_plain Commit plain = absurd cc
   outside_plain Rollback plain = absurd cc
@@ -70,7 +70,7 @@ module _ (session n commits : ℕ) (db : Database) where
   })
 
   -- a plain statement outside a block is a transaction, which commits
-  pub alone_taken : (s : Statement) → is_alone s ≡ true → (answer : Reply) (new : Database)
+  pub alone_taken : (s : Statement) → is_autocommit s ≡ true → (answer : Reply) (new : Database)
       → ((commit : ℕ) → executed commit db false s ≡ (answer, new))
       → (next : Standing) (before after : List Entry) → next ≡ at_rest (commits + 1) new
       → after ≡ before ++ ended session n n (Committed (commits + 1))

@@ -6,24 +6,24 @@ use Rattle.std.proofs.lemmas.List.Folds.{list_all-map}
 use Rattle.std.proofs.lemmas.Simd.{map-map}
 use Rattle.bf_base.specs.declared.table.Table.{Table}
 use Rattle.bf_base.specs.Lists.{name_cmp, rises, same_name, when}
-use Rattle.bf_bind.specs.Limits.{bare_table, is_planned}
-use Rattle.bf_expr.specs.Trees.{cond_over, expr_over}
-use Rattle.bf_sql.specs.declared.bound.Action.{Action}
-use Rattle.bf_sql.specs.declared.bound.Action.TheVariants as action
-use Rattle.bf_sql.specs.declared.bound.Bound.{Bound}
-use Rattle.bf_sql.specs.declared.catalog.IndexRule.{IndexRule}
-use Rattle.bf_sql.specs.declared.reply.Refusal.{Refusal}
-use Rattle.bf_sql.specs.declared.reply.Refusal.TheVariants as refusal
-use Rattle.bf_sql.specs.declared.statement.Statement.{Statement}
-use Rattle.bf_sql.specs.declared.statement.Statement.TheVariants.{CreateTable, CreateIndex, Insert, Select, Update, Delete, Begin, Commit, Rollback, Migrate}
-use Rattle.bf_sql.specs.Bound.{action_of, bare, bound_of, changes_schema, items_over, unless_objected}
+use Rattle.bf_bind.specs.Limits.{table_without_rows, is_planned}
+use Rattle.bf_tree.specs.Trees.{cond_over, expr_over}
+use Rattle.bf_tree.specs.declared.bound.Action.{Action}
+use Rattle.bf_tree.specs.declared.bound.Action.TheVariants as action
+use Rattle.bf_tree.specs.declared.bound.Bound.{Bound}
+use Rattle.bf_tree.specs.declared.catalog.IndexRule.{IndexRule}
+use Rattle.bf_tree.specs.declared.reply.Refusal.{Refusal}
+use Rattle.bf_tree.specs.declared.reply.Refusal.TheVariants as refusal
+use Rattle.bf_tree.specs.declared.statement.Statement.{Statement}
+use Rattle.bf_tree.specs.declared.statement.Statement.TheVariants.{CreateTable, CreateIndex, Insert, Select, Update, Delete, Begin, Commit, Rollback, Migrate}
+use Rattle.bf_sql.specs.Bound.{action_of, without_rows, bound_of, changes_schema, items_over, unless_objected}
 use Rattle.bf_sql.specs.Conditions.{condition_of, fixed_key}
 use Rattle.bf_sql.specs.Database.{Database, Stored, IsDatabase, is_on_table, is_within, no_table, stored_at, table_at}
 use Rattle.bf_sql.specs.Meaning.{index_of}
 use Rattle.bf_sql.specs.Objections.{items_objections, names_objections, new_index_objections, objections, rule_names, rules_objections, sets_objections, table_objections}
 use Rattle.bf_sql.specs.Scopes.{cond_objections, place_of, scope_of, unqualified}
-use Rattle.bf_store.specs.Stores.{catalog_of}
-use Rattle.bf_store.proofs.keeps.Items.{list_all_if, list_any_alike}
+use Rattle.bf_live.specs.Live.{catalog_of}
+use Rattle.bf_live.proofs.keeps.Items.{list_all_if, list_any_alike}
 
 abbrev table_in : Stored → Table
 table_in s = s.table
@@ -32,7 +32,7 @@ abbrev table_or_none : Option Stored → Table
 table_or_none o = unwrap_or (option_map table_in o) no_table
 
 abbrev without_rows : Stored → Stored
-without_rows s = bare_table s.table
+without_rows s = table_without_rows s.table
 
 -- a search that goes on alike finds alike
 pub either_found : {X Y : Type 0} (f : X → Y) (found : Bool) (x : X) (behind : Option X) (behind_that : Option Y)
@@ -42,14 +42,14 @@ either_found f true x behind behind_that same = refl
 either_found f false x behind behind_that same = same
 
 found_bare : (name : List ℕ) (tables : List Stored)
-    → find (λ s. same_name s.table.name name) (map bare_table (map table_in tables))
+    → find (λ s. same_name s.table.name name) (map table_without_rows (map table_in tables))
     ≡ option_map without_rows (find (λ s. same_name s.table.name name) tables)
 found_bare name [] = refl
 found_bare name (s ∷ tables) = either_found without_rows (same_name s.table.name name) s _ _ (found_bare name tables)
 
 module _ (db : Database) where
   abbrev the_bare : Database
-  the_bare = bare (catalog_of db)
+  the_bare = without_rows (catalog_of db)
 
   stored_bare : (name : List ℕ) → stored_at the_bare name ≡ option_map without_rows (stored_at db name)
   stored_bare name = found_bare name db.tables
@@ -124,7 +124,7 @@ module _ (db : Database) where
       ap₂ (λ (rs : List Refusal) (o : Option Action). option_map bound (unless_objected rs o)) (same_objections in_block s planned) (same_action s)
 
   -- the catalog's tables are those of the database
-  tables_bare : (tables : List Stored) → map table_in (map bare_table (map table_in tables)) ≡ map table_in tables
+  tables_bare : (tables : List Stored) → map table_in (map table_without_rows (map table_in tables)) ≡ map table_in tables
   tables_bare [] = refl
   tables_bare (s ∷ tables) = ap (λ (ts : List Table). s.table ∷ ts) (tables_bare tables)
 
@@ -133,8 +133,8 @@ module _ (db : Database) where
       sym (list_all-map test table_in the_bare.tables) ∙ ap (list_all test) (tables_bare db.tables)
       ∙ list_all-map test table_in db.tables
 
-  each_empty : (test : Stored → Bool) → ((t : Table) → test (bare_table t) ≡ true) → (tables : List Table)
-      → list_all test (map bare_table tables) ≡ true
+  each_empty : (test : Stored → Bool) → ((t : Table) → test (table_without_rows t) ≡ true) → (tables : List Table)
+      → list_all test (map table_without_rows tables) ≡ true
   each_empty test passes [] = refl
   each_empty test passes (t ∷ tables) = and_from _ _ (passes t) (each_empty test passes tables)
 

@@ -8,15 +8,15 @@ use Rattle.bf_base.specs.declared.value.Value.{Value}
 use Rattle.bf_base.specs.declared.table.Table.{Table}
 use Rattle.bf_base.specs.Lists.{same_name}
 use Rattle.bf_base.proofs.Parts.{map_each}
-use Rattle.bf_sql.specs.declared.bound.Action.{Action}
-use Rattle.bf_sql.specs.declared.reply.Refusal.{Refusal}
-use Rattle.bf_sql.specs.declared.statement.Statement.{Statement}
-use Rattle.bf_sql.specs.declared.statement.Statement.TheVariants.{Insert, Update, Delete, Migrate}
+use Rattle.bf_tree.specs.declared.bound.Action.{Action}
+use Rattle.bf_tree.specs.declared.reply.Refusal.{Refusal}
+use Rattle.bf_tree.specs.declared.statement.Statement.{Statement}
+use Rattle.bf_tree.specs.declared.statement.Statement.TheVariants.{Insert, Update, Delete, Migrate}
 use Rattle.bf_sql.specs.Database.{Database, Stored, IsDatabase, stored_at, table_rows, with_rows}
 use Rattle.bf_sql.specs.Meaning.{executed}
 use Rattle.bf_txn.specs.declared.write.Write.{Write}
 use Rattle.bf_txn.specs.Writes.{AreWrites}
-use Rattle.bf_query.specs.Actions.{IsChange, objections_on, table_of, writes_of, written}
+use Rattle.bf_query.specs.Actions.{IsChange, objections_on, action_table, writes_of, written}
 use Rattle.bf_query.specs.Meanings.{IsBoundAs, entries_of, rows_after, writes_after}
 use Rattle.bf_query.specs.Merged.{rows_under}
 use Rattle.bf_query.proofs.AsWritten.{database_law}
@@ -24,8 +24,8 @@ use Rattle.bf_query.proofs.Binding.{as_stored, one_name}
 use Rattle.bf_query.proofs.Effects.{sorted_with_all}
 use Rattle.bf_query.proofs.Keeping.{other_tables_stay, others_keep, own_kept}
 use Rattle.bf_query.proofs.OwnKeys.{by_recursion, each, weakened}
-use Rattle.bf_store.proofs.keeps.Changes.{keeps_insert, keeps_update, keeps_delete}
-use Rattle.bf_store.specs.Stores.{committed, written_to}
+use Rattle.bf_live.proofs.keeps.Changes.{keeps_insert, keeps_update, keeps_delete}
+use Rattle.bf_live.specs.Live.{committed, written_to}
 use Rattle.bf_machine.specs.Actions.{IsOn}
 use Rattle.bf_machine.specs.Open.{IsOpen}
 use Rattle.bf_machine.proofs.statements.Named.{IsThere, all_there, both_hold, same_itself}
@@ -126,7 +126,7 @@ module _ (db : Database) (writes : List Write) (is : IsDatabase db) (opened : Is
 
 -- a bound change, on what an open transaction sees
 module _ (db : Database) (writes : List Write) (is : IsDatabase db) (opened : IsOpen db writes) (in_block : Bool) (s : Statement) (act : Action) (table : Table)
-    (bound : IsBoundAs (committed db writes) in_block s act) (change : IsChange act) (on_table : table_of act ≡ Some table) where
+    (bound : IsBoundAs (committed db writes) in_block s act) (change : IsChange act) (on_table : action_table act ≡ Some table) where
   on : IsOn (committed db writes) table act
   on = is_on (committed db writes) in_block s act table bound on_table
 

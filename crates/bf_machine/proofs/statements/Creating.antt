@@ -7,22 +7,22 @@ use Rattle.bf_base.specs.declared.table.Table.{Table}
 use Rattle.bf_base.specs.Lists.{when}
 use Rattle.bf_base.proofs.Names.{name_cmp_total}
 use Rattle.bf_base.proofs.Order.{list_all-with_placed, none_from_test}
-use Rattle.bf_bind.specs.Limits.{HasNarrowTables, declared_columns, is_narrow}
-use Rattle.bf_sql.specs.declared.bound.Action.TheVariants as action
-use Rattle.bf_sql.specs.declared.catalog.IndexRule.{IndexRule}
-use Rattle.bf_sql.specs.declared.reply.Refusal.{Refusal}
-use Rattle.bf_sql.specs.declared.reply.Refusal.TheVariants as refusal
-use Rattle.bf_sql.specs.declared.reply.Reply.TheVariants as reply
-use Rattle.bf_sql.specs.declared.statement.ColumnRule.{ColumnRule}
-use Rattle.bf_sql.specs.declared.statement.Statement.{Statement}
-use Rattle.bf_sql.specs.declared.statement.Statement.TheVariants.{CreateTable, CreateIndex, Insert, Select, Update, Delete, Begin, Commit, Rollback, Migrate}
+use Rattle.bf_tree.specs.Limits.{HasNarrowTables, declared_columns, is_narrow}
+use Rattle.bf_tree.specs.declared.bound.Action.TheVariants as action
+use Rattle.bf_tree.specs.declared.catalog.IndexRule.{IndexRule}
+use Rattle.bf_tree.specs.declared.reply.Refusal.{Refusal}
+use Rattle.bf_tree.specs.declared.reply.Refusal.TheVariants as refusal
+use Rattle.bf_tree.specs.declared.reply.Reply.TheVariants as reply
+use Rattle.bf_tree.specs.declared.statement.ColumnRule.{ColumnRule}
+use Rattle.bf_tree.specs.declared.statement.Statement.{Statement}
+use Rattle.bf_tree.specs.declared.statement.Statement.TheVariants.{CreateTable, CreateIndex, Insert, Select, Update, Delete, Begin, Commit, Rollback, Migrate}
 use Rattle.bf_sql.specs.Database.{Database, Stored, IsDatabase, stored_at, stored_in_order, table_at, with_tables}
-use Rattle.bf_sql.specs.Meaning.{effect, executed, index_of, next_number, table_of, unless_refused, with_index}
+use Rattle.bf_sql.specs.Meaning.{effect, executed, index_of, next_number, created_table, unless_refused, with_index}
 use Rattle.bf_sql.specs.Objections.{names_objections, objections, rule_names, rules_objections}
 use Rattle.bf_query.specs.Meanings.{IsBoundAs}
 use Rattle.bf_query.proofs.Effects.{nothing_before, not_when}
-use Rattle.bf_store.specs.Stores.{catalog_of}
-use Rattle.bf_store.proofs.keeps.New.{keeps_create_table, keeps_create_index}
+use Rattle.bf_live.specs.Live.{catalog_of}
+use Rattle.bf_live.proofs.keeps.New.{keeps_create_table, keeps_create_index}
 
 abbrev pub with_new_table : Table → Database → Database
 with_new_table table db = next_number (with_tables (stored_in_order table [] ∷ []) db)
@@ -47,7 +47,7 @@ module _ (db : Database) where
 
   new_table : (name : List ℕ) (rules : List ColumnRule) (key : List (List ℕ)) → IsDatabase db
       → objections db false (CreateTable name rules key) ≡ []
-      → Creates db (CreateTable name rules key) (table_of name rules key)
+      → Creates db (CreateTable name rules key) (created_table name rules key)
   new_table name rules key is none =
       let taken = when (is_some (stored_at db name)) (refusal.TableExists name) in
       let parts = nothing_before (taken ++ rules_objections rules) (names_objections (rule_names rules) key) none in
@@ -63,7 +63,7 @@ module _ (db : Database) where
   pub creates : (s : Statement) (table : Table) → IsBoundAs db false s (action.CreateTable table) → Creates db s table
   creates (CreateTable name rules key) table bound =
       let is = bound.action in
-      let same : table_of name rules key ≡ table = cc in
+      let same : created_table name rules key ≡ table = cc in
       subst (Creates db (CreateTable name rules key)) same (new_table name rules key bound.database bound.admitted)
   creates (CreateIndex name on columns) table bound = let is = bound.action in absurd cc
   creates (Insert name tuples) table bound = let is = bound.action in absurd cc

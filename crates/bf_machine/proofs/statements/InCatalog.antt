@@ -2,20 +2,20 @@
 use Rattle.std.proofs.Common.{◌≡◌, ℕ, Bool, true, false, List, [], Some, sym, subst, ◌∙◌}
 use Rattle.bf_bind.specs.Limits.{is_planned}
 use Rattle.bf_base.specs.declared.table.Table.{Table}
-use Rattle.bf_sql.specs.declared.bound.Action.TheVariants as action
-use Rattle.bf_sql.specs.declared.bound.Bound.{Bound}
-use Rattle.bf_sql.specs.declared.catalog.Catalog.{Catalog}
-use Rattle.bf_sql.specs.declared.catalog.IndexRule.{IndexRule}
-use Rattle.bf_sql.specs.declared.reply.Refusal.{Refusal}
-use Rattle.bf_sql.specs.declared.reply.Reply.TheVariants as reply
-use Rattle.bf_sql.specs.declared.statement.Statement.{Statement}
-use Rattle.bf_sql.specs.Bound.{bare, bound_of}
+use Rattle.bf_tree.specs.declared.bound.Action.TheVariants as action
+use Rattle.bf_tree.specs.declared.bound.Bound.{Bound}
+use Rattle.bf_tree.specs.declared.catalog.Catalog.{Catalog}
+use Rattle.bf_tree.specs.declared.catalog.IndexRule.{IndexRule}
+use Rattle.bf_tree.specs.declared.reply.Refusal.{Refusal}
+use Rattle.bf_tree.specs.declared.reply.Reply.TheVariants as reply
+use Rattle.bf_tree.specs.declared.statement.Statement.{Statement}
+use Rattle.bf_sql.specs.Bound.{without_rows, bound_of}
 use Rattle.bf_sql.specs.Database.{Database, IsDatabase}
 use Rattle.bf_sql.specs.Meaning.{executed}
-use Rattle.bf_query.specs.Actions.{table_of}
+use Rattle.bf_query.specs.Actions.{action_table}
 use Rattle.bf_query.specs.Meanings.{IsBoundAs}
-use Rattle.bf_store.specs.Alone.{is_alone}
-use Rattle.bf_store.specs.Stores.{catalog_of, committed}
+use Rattle.bf_live.specs.Autocommit.{is_autocommit}
+use Rattle.bf_live.specs.Live.{catalog_of, committed}
 use Rattle.bf_txn.specs.declared.write.Write.{Write}
 use Rattle.bf_machine.specs.Actions.{IsOn}
 use Rattle.bf_machine.specs.Open.{IsOpen, IsStep}
@@ -25,7 +25,7 @@ use Rattle.bf_machine.proofs.statements.Outcomes.{IsBoundIn, as_bound, bound_in,
 use Rattle.bf_machine.proofs.statements.Seeing.{begun, same_catalog}
 
 module _ (db : Database) (writes : List Write) (opened : IsOpen db writes) (in_block : Bool) (s : Statement) (planned : is_planned in_block s ≡ false)
-    (catalog : Catalog) (same : catalog ≡ catalog_of db) (bound : Bound) (is : bound_of (bare catalog) in_block s ≡ Some bound) where
+    (catalog : Catalog) (same : catalog ≡ catalog_of db) (bound : Bound) (is : bound_of (without_rows catalog) in_block s ≡ Some bound) where
   -- it is bound in what the transaction sees
   within : IsBoundIn (committed db writes) in_block s bound
   within = bound_in (committed db writes) in_block s bound catalog (same ∙ sym (same_catalog db writes)) opened.database planned is
@@ -39,15 +39,15 @@ module _ (db : Database) (writes : List Write) (opened : IsOpen db writes) (in_b
   }
 
   -- an action on a table is bound on what the transaction sees of it
-  pub bound_on : (table : Table) → table_of bound.action ≡ Some table → IsBoundAs (committed db writes) in_block s bound.action
+  pub bound_on : (table : Table) → action_table bound.action ≡ Some table → IsBoundAs (committed db writes) in_block s bound.action
   bound_on table on = as_bound (committed db writes) in_block s bound within (no_refusal bound.action table on)
 
-  pub on_its_table : (table : Table) → table_of bound.action ≡ Some table → IsOn (committed db writes) table bound.action
+  pub on_its_table : (table : Table) → action_table bound.action ≡ Some table → IsOn (committed db writes) table bound.action
   on_its_table table on = is_on (committed db writes) in_block s bound.action table (bound_on table on) on
 
 -- a plain statement outside a block
-module _ (db : Database) (database : IsDatabase db) (s : Statement) (plain : is_alone s ≡ true)
-    (catalog : Catalog) (same : catalog ≡ catalog_of db) (bound : Bound) (is : bound_of (bare catalog) false s ≡ Some bound) where
+module _ (db : Database) (database : IsDatabase db) (s : Statement) (plain : is_autocommit s ≡ true)
+    (catalog : Catalog) (same : catalog ≡ catalog_of db) (bound : Bound) (is : bound_of (without_rows catalog) false s ≡ Some bound) where
   alone : IsBoundIn db false s bound
   alone = bound_in db false s bound catalog same database (not_planned s plain) is
 
@@ -65,8 +65,8 @@ module _ (db : Database) (database : IsDatabase db) (s : Statement) (plain : is_
     pub opened_first : IsOpen db writes
     opened_first = subst (IsOpen db) (sym none) (begun db database)
 
-    pub bound_first : (table : Table) → table_of bound.action ≡ Some table → IsBoundAs (committed db writes) false s bound.action
+    pub bound_first : (table : Table) → action_table bound.action ≡ Some table → IsBoundAs (committed db writes) false s bound.action
     bound_first = bound_on db writes opened_first false s (not_planned s plain) catalog same bound is
 
-    pub on_first : (table : Table) → table_of bound.action ≡ Some table → IsOn (committed db writes) table bound.action
+    pub on_first : (table : Table) → action_table bound.action ≡ Some table → IsOn (committed db writes) table bound.action
     on_first = on_its_table db writes opened_first false s (not_planned s plain) catalog same bound is

@@ -4,22 +4,22 @@ use Rattle.std.specs.Prelude.{IfSome}
 use Rattle.std.proofs.lemmas.Option.{same_Some}
 use Rattle.bf_base.specs.declared.value.Value.{Value}
 use Rattle.bf_base.specs.declared.table.Table.{Table}
-use Rattle.bf_expr.specs.Trees.{Cond, Expr}
+use Rattle.bf_tree.specs.Trees.{Cond, Expr}
 use Rattle.bf_heap.specs.Heaps.{Entry}
-use Rattle.bf_sql.specs.declared.bound.Action.{Action}
-use Rattle.bf_sql.specs.declared.bound.Action.TheVariants as action
-use Rattle.bf_sql.specs.declared.items.Items.{Items}
-use Rattle.bf_sql.specs.declared.reply.Refusal.{Refusal}
-use Rattle.bf_sql.specs.declared.statement.Statement.{Statement}
+use Rattle.bf_tree.specs.declared.bound.Action.{Action}
+use Rattle.bf_tree.specs.declared.bound.Action.TheVariants as action
+use Rattle.bf_tree.specs.declared.items.Items.{Items}
+use Rattle.bf_tree.specs.declared.reply.Refusal.{Refusal}
+use Rattle.bf_tree.specs.declared.statement.Statement.{Statement}
 use Rattle.bf_sql.specs.Database.{Database, Stored, IsDatabase, stored_at, table_rows}
 use Rattle.bf_txn.specs.declared.write.Write.{Write}
-use Rattle.bf_query.specs.Actions.{HaveOwnKeys, IsChange, objections_on, rows_for, table_of, writes_of, written}
+use Rattle.bf_query.specs.Actions.{HaveOwnKeys, IsChange, objections_on, rows_for, action_table, writes_of, written}
 use Rattle.bf_query.specs.Meanings.{HoldRowsOf, IsBoundAs, entries_of, writes_after}
 use Rattle.bf_query.specs.Merged.{StandUnderOwnKeys, rows_under}
 use Rattle.bf_query.proofs.Binding.{as_stored, leaves_keys, stored_table, well_bound}
 use Rattle.bf_query.proofs.OwnKeys.{by_recursion}
 use Rattle.bf_query.proofs.RowsAsEntries.{hold_rows}
-use Rattle.bf_store.specs.Stores.{committed, written_to}
+use Rattle.bf_live.specs.Live.{committed, written_to}
 use Rattle.bf_machine.specs.Actions.{IsOn}
 use Rattle.bf_machine.specs.Open.{IsOpen}
 use Rattle.bf_machine.proofs.statements.Named.{found_among}
@@ -27,7 +27,7 @@ use Rattle.bf_machine.proofs.statements.Seeing.{Stands, seen_at}
 
 -- what a statement is bound to is well bound on its table
 pub is_on : (db : Database) (in_block : Bool) (s : Statement) (act : Action) (table : Table) → IsBoundAs db in_block s act
-    → table_of act ≡ Some table → IsOn db table act
+    → action_table act ≡ Some table → IsOn db table act
 is_on db in_block s act table bound on = record {
   database = bound.database;
   stored = stored_table db in_block s act table bound on;
@@ -37,7 +37,7 @@ is_on db in_block s act table bound on = record {
 }
 
 -- an action on a table is a SELECT or a change, and no refusal
-pub is_change : (act : Action) (table : Table) → table_of act ≡ Some table
+pub is_change : (act : Action) (table : Table) → action_table act ≡ Some table
     → ((t : Table) (items : Items (Expr ℕ)) (c : Cond ℕ) (fixed : Option (List Value)) → act ≡ action.Select t items c fixed → ⊥) → IsChange act
 is_change (action.Insert t tuples) table on no_select = tt
 is_change (action.Select t items c fixed) table on no_select = absurd (no_select t items c fixed refl)
@@ -45,9 +45,9 @@ is_change (action.Update t sets c fixed) table on no_select = tt
 is_change (action.Delete t c fixed) table on no_select = tt
 is_change other table on no_select = absurd cc
 
-pub no_refusal : (act : Action) (table : Table) → table_of act ≡ Some table → (r : Refusal) → act ≢ action.Refused r
+pub no_refusal : (act : Action) (table : Table) → action_table act ≡ Some table → (r : Refusal) → act ≢ action.Refused r
 no_refusal act table on r same =
-    let none = ap table_of (sym same) ∙ on in
+    let none = ap action_table (sym same) ∙ on in
     absurd cc
 
 pub of_table : (act : Action) (table : Table)
@@ -55,11 +55,11 @@ pub of_table : (act : Action) (table : Table)
     ⊎ (((tuples : List (List Value)) × (act ≡ action.Insert table tuples))
     ⊎ (((sets : List (ℕ × Expr ℕ)) × (c : Cond ℕ) × (fixed : Option (List Value)) × (act ≡ action.Update table sets c fixed))
     ⊎ ((c : Cond ℕ) × (fixed : Option (List Value)) × (act ≡ action.Delete table c fixed))))
-    → table_of act ≡ Some table
-of_table act table (inl (items, c, fixed, is)) = ap table_of is
-of_table act table (inr (inl (tuples, is))) = ap table_of is
-of_table act table (inr (inr (inl (sets, c, fixed, is)))) = ap table_of is
-of_table act table (inr (inr (inr (c, fixed, is)))) = ap table_of is
+    → action_table act ≡ Some table
+of_table act table (inl (items, c, fixed, is)) = ap action_table is
+of_table act table (inr (inl (tuples, is))) = ap action_table is
+of_table act table (inr (inr (inl (sets, c, fixed, is)))) = ap action_table is
+of_table act table (inr (inr (inr (c, fixed, is)))) = ap action_table is
 
 -- a table that is found under writes is found without them
 without_writes : (writes : List Write) (table : Table) (rows : List (List Value)) (o : Option Stored)

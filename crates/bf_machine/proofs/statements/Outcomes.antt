@@ -3,29 +3,29 @@ use Rattle.std.proofs.Common.{◌≡◌, ◌≢◌, ℕ, Bool, true, false, List
 use Rattle.std.specs.Prelude.{option_and_then}
 use Rattle.bf_base.specs.declared.table.Table.{Table}
 use Rattle.bf_bind.specs.Limits.{is_planned}
-use Rattle.bf_sql.specs.declared.bound.Action.{Action}
-use Rattle.bf_sql.specs.declared.bound.Action.TheVariants as action
-use Rattle.bf_sql.specs.declared.bound.Bound.{Bound}
-use Rattle.bf_sql.specs.declared.catalog.Catalog.{Catalog}
-use Rattle.bf_sql.specs.declared.reply.Refusal.{Refusal}
-use Rattle.bf_sql.specs.declared.reply.Reply.TheVariants as reply
-use Rattle.bf_sql.specs.declared.statement.Statement.{Statement}
-use Rattle.bf_sql.specs.declared.statement.Statement.TheVariants.{CreateTable, CreateIndex, Insert, Select, Update, Delete, Begin, Commit, Rollback, Migrate}
-use Rattle.bf_sql.specs.Bound.{action_of, bare, bound_of, changes_schema, unless_objected}
+use Rattle.bf_tree.specs.declared.bound.Action.{Action}
+use Rattle.bf_tree.specs.declared.bound.Action.TheVariants as action
+use Rattle.bf_tree.specs.declared.bound.Bound.{Bound}
+use Rattle.bf_tree.specs.declared.catalog.Catalog.{Catalog}
+use Rattle.bf_tree.specs.declared.reply.Refusal.{Refusal}
+use Rattle.bf_tree.specs.declared.reply.Reply.TheVariants as reply
+use Rattle.bf_tree.specs.declared.statement.Statement.{Statement}
+use Rattle.bf_tree.specs.declared.statement.Statement.TheVariants.{CreateTable, CreateIndex, Insert, Select, Update, Delete, Begin, Commit, Rollback, Migrate}
+use Rattle.bf_sql.specs.Bound.{action_of, without_rows, bound_of, changes_schema, unless_objected}
 use Rattle.bf_sql.specs.Database.{Database, IsDatabase}
 use Rattle.bf_sql.specs.Meaning.{effect, executed, unless_refused}
 use Rattle.bf_sql.specs.Objections.{objections}
 use Rattle.bf_sql.specs.RowObjections.{row_objections}
-use Rattle.bf_query.specs.Actions.{table_of}
+use Rattle.bf_query.specs.Actions.{action_table}
 use Rattle.bf_query.specs.Meanings.{IsBoundAs, writes_after}
-use Rattle.bf_store.specs.Alone.{is_alone}
-use Rattle.bf_store.specs.Stores.{catalog_of}
+use Rattle.bf_live.specs.Autocommit.{is_autocommit}
+use Rattle.bf_live.specs.Live.{catalog_of}
 use Rattle.bf_txn.specs.declared.write.Write.{Write}
 use Rattle.bf_machine.specs.Open.{writes_behind}
 use Rattle.bf_machine.proofs.statements.Bare.{same_bound}
 
 -- a plain statement is no MIGRATE
-pub not_planned : (s : Statement) → is_alone s ≡ true → is_planned false s ≡ false
+pub not_planned : (s : Statement) → is_autocommit s ≡ true → is_planned false s ≡ false
 not_planned (Migrate migrate) plain = absurd cc
 not_planned other plain = refl
 
@@ -38,14 +38,14 @@ action_alone n b (Some act) = refl
 pub record IsBoundIn (db : Database) (in_block : Bool) (s : Statement) (bound : Bound) : Type 0 where
   pub database : IsDatabase db
   pub planned : is_planned in_block s ≡ false
-  pub is : bound_of (bare (catalog_of db)) in_block s ≡ Some bound
+  pub is : bound_of (without_rows (catalog_of db)) in_block s ≡ Some bound
 
 pub bound_in : (db : Database) (in_block : Bool) (s : Statement) (bound : Bound) (catalog : Catalog) → catalog ≡ catalog_of db → IsDatabase db
-    → is_planned in_block s ≡ false → bound_of (bare catalog) in_block s ≡ Some bound → IsBoundIn db in_block s bound
+    → is_planned in_block s ≡ false → bound_of (without_rows catalog) in_block s ≡ Some bound → IsBoundIn db in_block s bound
 bound_in db in_block s bound catalog same database planned is = record {
   database = database;
   planned = planned;
-  is = ap (λ (catalog : Catalog). bound_of (bare catalog) in_block s) (sym same) ∙ is;
+  is = ap (λ (catalog : Catalog). bound_of (without_rows catalog) in_block s) (sym same) ∙ is;
 }
 
 -- the action that it is bound to
@@ -98,7 +98,7 @@ module _ (db : Database) (in_block : Bool) (s : Statement) where
   -- the writes behind a statement, by the action that it is bound to
   abbrev written_by : List Write → Option Action → List Write
   written_by before act =
-      unwrap_or (option_and_then (λ (b : Bound). option_map (λ (t : Table). writes_after db t before b.action) (table_of b.action))
+      unwrap_or (option_and_then (λ (b : Bound). option_map (λ (t : Table). writes_after db t before b.action) (action_table b.action))
       (option_map (λ (a : Action). record { catalog = db.number; schema_change = changes_schema in_block s; action = a }) act)) before
 
   -- a refused statement writes nothing
@@ -108,7 +108,7 @@ module _ (db : Database) (in_block : Bool) (s : Statement) where
       sym (ap (written_by before) (action_is db in_block s bound within ∙ ap Some act))
 
   -- any other writes what its action does on its table
-  pub writes_of_action : (act : Action) (table : Table) → IsBoundAs db in_block s act → table_of act ≡ Some table
+  pub writes_of_action : (act : Action) (table : Table) → IsBoundAs db in_block s act → action_table act ≡ Some table
       → (before : List Write) → writes_behind db before in_block s ≡ writes_after db table before act
   writes_of_action act table bound on before =
       ap₂ (λ (rs : List Refusal) (o : Option Action). written_by before (unless_objected rs o)) bound.admitted bound.action

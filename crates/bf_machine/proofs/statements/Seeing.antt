@@ -3,15 +3,15 @@ use Rattle.std.proofs.Common.{◌≡◌, ℕ, List, [], ◌∷◌, map, Some, op
 use Rattle.bf_base.specs.declared.value.Value.{Value}
 use Rattle.bf_base.specs.declared.table.Table.{Table}
 use Rattle.bf_base.specs.Lists.{same_name}
-use Rattle.bf_bind.specs.Limits.{HasNarrowTables}
+use Rattle.bf_tree.specs.Limits.{HasNarrowTables}
 use Rattle.bf_query.specs.Meanings.{entries_of}
 use Rattle.bf_query.specs.Merged.{StandUnderOwnKeys}
 use Rattle.bf_query.proofs.Binding.{as_stored}
 use Rattle.bf_query.proofs.OwnKeys.{each, weakened}
 use Rattle.bf_query.proofs.RowsAsEntries.{hold_rows, rows_are}
-use Rattle.bf_sql.specs.declared.catalog.Catalog.{Catalog}
+use Rattle.bf_tree.specs.declared.catalog.Catalog.{Catalog}
 use Rattle.bf_sql.specs.Database.{Database, Stored, IsDatabase, stored_at}
-use Rattle.bf_store.specs.Stores.{catalog_of, committed, written_to}
+use Rattle.bf_live.specs.Live.{catalog_of, committed, written_to}
 use Rattle.bf_txn.specs.declared.write.Write.{Write}
 use Rattle.bf_machine.specs.Open.{IsOpen}
 use Rattle.bf_machine.proofs.statements.Bare.{either_found}

@@ -5,17 +5,17 @@ use Rattle.std.proofs.lemmas.Option.{same_Some}
 use Rattle.bf_base.specs.declared.value.Value.{Value}
 use Rattle.bf_base.specs.declared.table.Table.{Table}
 use Rattle.bf_heap.specs.Heaps.{Entry}
-use Rattle.bf_sql.specs.declared.bound.Action.{Action}
-use Rattle.bf_sql.specs.declared.bound.Action.TheVariants as action
-use Rattle.bf_sql.specs.declared.reply.Refusal.{Refusal}
-use Rattle.bf_sql.specs.declared.reply.Reply.{Reply}
-use Rattle.bf_sql.specs.declared.statement.Statement.{Statement}
+use Rattle.bf_tree.specs.declared.bound.Action.{Action}
+use Rattle.bf_tree.specs.declared.bound.Action.TheVariants as action
+use Rattle.bf_tree.specs.declared.reply.Refusal.{Refusal}
+use Rattle.bf_tree.specs.declared.reply.Reply.{Reply}
+use Rattle.bf_tree.specs.declared.statement.Statement.{Statement}
 use Rattle.bf_sql.specs.Database.{Database, IsDatabase, stored_at, table_rows}
 use Rattle.bf_sql.specs.Meaning.{executed}
-use Rattle.bf_query.specs.Actions.{IsChange, IsSelect, change_reply, objections_on, rows_for, select_reply, table_of, writes_of, written}
+use Rattle.bf_query.specs.Actions.{IsChange, IsSelect, change_reply, objections_on, rows_for, select_reply, action_table, writes_of, written}
 use Rattle.bf_query.specs.Meanings.{IsBoundAs, entries_of, writes_after}
 use Rattle.bf_query.proofs.AsWritten.{reply_law, select_law}
-use Rattle.bf_store.specs.Stores.{committed}
+use Rattle.bf_live.specs.Live.{committed}
 use Rattle.bf_txn.specs.declared.write.Write.{Write}
 use Rattle.bf_machine.specs.Open.{IsOpen, IsStep}
 use Rattle.bf_machine.proofs.statements.Committing.{committed_means, stays_open}
@@ -35,7 +35,7 @@ no_writes writes rows other select = absurd select
 
 -- a statement that is bound in what an open transaction sees, on the entries of its table's heap
 module _ (db : Database) (writes : List Write) (is : IsDatabase db) (opened : IsOpen db writes) (in_block : Bool) (s : Statement) (act : Action) (table : Table)
-    (bound : IsBoundAs (committed db writes) in_block s act) (on_table : table_of act ≡ Some table)
+    (bound : IsBoundAs (committed db writes) in_block s act) (on_table : action_table act ≡ Some table)
     (entries : List Entry) (found : Some entries ≡ option_map (λ s. entries_of s.table s.rows) (stored_at db table.name)) where
   rows : rows_for entries writes act ≡ table_rows (committed db writes) table.name
   rows = rows_there db writes is opened table act (is_on (committed db writes) in_block s act table bound on_table) entries found

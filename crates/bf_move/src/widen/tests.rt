@@ -3,7 +3,7 @@
 use super::{FormRun, run};
 use bf_base::{Name, Sequence, Value};
 use bf_form::read_script;
-use bf_sql::{Cell, Entry, History, Outcome, Refusal, Reply, Sweep, Transcripts};
+use bf_tree::{Cell, Entry, History, Outcome, Refusal, Reply, Sweep, Transcripts};
 use std::alloc::Global;
 use std::test::Fail;
 

@@ -2,8 +2,7 @@
 
 use super::*;
 use bf_base::{Text, Value};
-use bf_expr::Node;
-use bf_sql::{Aggregate, Refusal};
+use bf_tree::{Aggregate, Node, Refusal};
 use std::process::Abort;
 use std::test::Fail;
 

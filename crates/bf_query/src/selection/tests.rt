@@ -6,8 +6,7 @@ ghost use Rattle.bf_query.specs.Merged.{StandUnderOwnKeys};
 
 use super::*;
 use bf_base::{Admit, Column, Name, Row, Sequence, Table, Value, key_of};
-use bf_expr::{Cond, Test};
-use bf_sql::{Aggregate, Cell, Items};
+use bf_tree::{Aggregate, Cell, Cond, Items, Test};
 use std::test::Fail;
 
 /// A table of one INT column, which is its key.

@@ -4,7 +4,7 @@ use Rattle.bf_lex.specs.declared.fault.ScriptFault.{ScriptFault}
 use Rattle.bf_parse.specs.Scripts.{IsScriptText}
 use Rattle.bf_run.specs.declared.status.Status.{Status}
 use Rattle.bf_run.specs.declared.status.Status.TheVariants.{Done, Usage, Script as ScriptError, ReadFault, WriteFault, Memory, NotBuilt}
-use Rattle.bf_machine.specs.InOrder.{is_plain_script}
+use Rattle.bf_machine.specs.InOrder.{migrates_nothing}
 use Rattle.bf_run.specs.Outcome.{Stream, is_try, OfBytes, IsServed, IsNotServed, IsDetermined, Comes}
 use Rattle.bf_run.proofs.one.Reading.{one_script, one_fault, not_both}
 
@@ -28,7 +28,7 @@ module _ (words : List (List ℕ)) (bytes : List ℕ) (input : Stream) (told : i
       let q = of_told IsNotServed k in
       let same : p.0 ≡ q.0 = one_script bytes p.0 q.0 p.1 q.1 in
       elim p.2 [
-        | inl plain ↦ true_is_not_false (sym plain ∙ ap is_plain_script same ∙ q.2)
+        | inl plain ↦ true_is_not_false (sym plain ∙ ap migrates_nothing same ∙ q.2)
         | inr form ↦ q.3 form
       ]
 

@@ -6,11 +6,11 @@ use Rattle.std.proofs.lemmas.List.{append_cancel_left}
 use Rattle.std.proofs.lemmas.List.Folds.{list_all-append}
 use Rattle.std.proofs.lemmas.Bool.{and_parts, and_from}
 use Rattle.bf_base.specs.Names.{is_name}
-use Rattle.bf_sql.specs.declared.history.Outcome.{Outcome}
-use Rattle.bf_sql.specs.declared.history.Outcome.TheVariants.{Committed, RolledBack}
-use Rattle.bf_sql.specs.declared.history.Entry.{Entry}
-use Rattle.bf_sql.specs.declared.history.Sweep.{Sweep}
-use Rattle.bf_sql.specs.declared.history.Sweep.TheVariants.{Never, Complete, Running}
+use Rattle.bf_tree.specs.declared.history.Outcome.{Outcome}
+use Rattle.bf_tree.specs.declared.history.Outcome.TheVariants.{Committed, RolledBack}
+use Rattle.bf_tree.specs.declared.history.Entry.{Entry}
+use Rattle.bf_tree.specs.declared.history.Sweep.{Sweep}
+use Rattle.bf_tree.specs.declared.history.Sweep.TheVariants.{Never, Complete, Running}
 use Rattle.bf_text.specs.Replies.{newline, numbered}
 use Rattle.bf_text.specs.Report.{texts_from, outcome_text, entry_text, table_line, audit_text, sweep_text, end_text}
 use Rattle.bf_text.specs.Told.{tables_of}

@@ -3,13 +3,13 @@ use Rattle.std.proofs.Common.{◌≡◌, ℕ, ◌==◌, Bool, true, false, ◌&&
 use Rattle.std.specs.List.{list_all}
 use Rattle.bf_base.specs.Names.{is_name}
 use Rattle.bf_base.specs.declared.value.Value.{Value}
-use Rattle.bf_sql.specs.declared.reply.Refusal.{Refusal}
-use Rattle.bf_sql.specs.declared.reply.Refusal.TheVariants as refusal
-use Rattle.bf_sql.specs.declared.reply.Cell.{Cell}
-use Rattle.bf_sql.specs.declared.reply.Cause.{Cause}
-use Rattle.bf_sql.specs.declared.reply.Cause.TheVariants as cause
-use Rattle.bf_sql.specs.declared.reply.Reply.{Reply}
-use Rattle.bf_sql.specs.declared.reply.Reply.TheVariants as reply
+use Rattle.bf_tree.specs.declared.reply.Refusal.{Refusal}
+use Rattle.bf_tree.specs.declared.reply.Refusal.TheVariants as refusal
+use Rattle.bf_tree.specs.declared.reply.Cell.{Cell}
+use Rattle.bf_tree.specs.declared.reply.Cause.{Cause}
+use Rattle.bf_tree.specs.declared.reply.Cause.TheVariants as cause
+use Rattle.bf_tree.specs.declared.reply.Reply.{Reply}
+use Rattle.bf_tree.specs.declared.reply.Reply.TheVariants as reply
 use Rattle.bf_text.specs.Replies.{newline, row_line, body_text}
 use Rattle.bf_text.specs.Told.{is_named}
 use Rattle.bf_text.specs.Numbers.{numbers_in, numbers_in_cell}

@@ -6,8 +6,8 @@ use Rattle.std.proofs.lemmas.Bool.{and_parts, both_ways, eqb-true, eqb-false}
 use Rattle.std.proofs.lemmas.Bool.Decides.{nat_tests}
 use Rattle.bf_base.specs.declared.value.Value.{Value}
 use Rattle.bf_base.specs.declared.value.Value.TheVariants.{Int, Text}
-use Rattle.bf_sql.specs.declared.reply.Cell.{Cell}
-use Rattle.bf_sql.specs.declared.reply.Cell.TheVariants as cells
+use Rattle.bf_tree.specs.declared.reply.Cell.{Cell}
+use Rattle.bf_tree.specs.declared.reply.Cell.TheVariants as cells
 use Rattle.bf_text.specs.Replies.{quoted, value_text, cell_text, listed}
 use Rattle.bf_text.specs.Numbers.{is_u64, are_u64, numbers_in_value, numbers_in_cell}
 use Rattle.bf_text.proofs.decoding.Runs.{is_inner, is_stop, is_end, Begins, Splits, Begins-append, Begins-weaker, begins_apart, stop_ends, signed_splits, signed_begins}

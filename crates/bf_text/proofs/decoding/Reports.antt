@@ -3,10 +3,10 @@ use Rattle.std.proofs.Common.{◌≡◌, ℕ, Bool, ◌&&◌, IsTrue, List, [], 
 use Rattle.std.specs.List.{list_all}
 use Rattle.std.proofs.lemmas.Bool.{and_parts, and_from}
 use Rattle.bf_base.specs.Names.{is_name}
-use Rattle.bf_sql.specs.declared.history.Entry.{Entry}
-use Rattle.bf_sql.specs.declared.history.Sweep.{Sweep}
-use Rattle.bf_sql.specs.declared.reply.Reply.{Reply}
-use Rattle.bf_sql.specs.declared.script.Script.{Script}
+use Rattle.bf_tree.specs.declared.history.Entry.{Entry}
+use Rattle.bf_tree.specs.declared.history.Sweep.{Sweep}
+use Rattle.bf_tree.specs.declared.reply.Reply.{Reply}
+use Rattle.bf_tree.specs.declared.script.Script.{Script}
 use Rattle.bf_text.specs.Report.{texts_from, session_text, entry_text, audit_text, end_text, commits_of, report_text}
 use Rattle.bf_text.specs.Told.{IsTold, is_named, tables_of}
 use Rattle.bf_text.specs.Numbers.{IsCounted, is_u64, are_u64, numbers_in}

@@ -4,8 +4,8 @@ use Rattle.std.specs.List.{list_all}
 use Rattle.std.proofs.lemmas.List.{append_cancel_left}
 use Rattle.std.proofs.lemmas.List.Folds.{list_all-append}
 use Rattle.std.proofs.lemmas.Bool.{and_parts, and_from}
-use Rattle.bf_sql.specs.declared.reply.Cell.{Cell}
-use Rattle.bf_sql.specs.declared.reply.Reply.{Reply}
+use Rattle.bf_tree.specs.declared.reply.Cell.{Cell}
+use Rattle.bf_tree.specs.declared.reply.Reply.{Reply}
 use Rattle.bf_text.specs.Replies.{cell_text, listed, place_text, row_line, reply_text}
 use Rattle.bf_text.specs.Report.{texts_from, session_text}
 use Rattle.bf_text.specs.Told.{is_named}

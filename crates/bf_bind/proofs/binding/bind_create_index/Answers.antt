@@ -1,25 +1,25 @@
 use Rattle.std.proofs.lemmas.Result.{err_from_is_err_and}
-use Rattle.bf_sql.specs.Bound.{bare}
+use Rattle.bf_sql.specs.Bound.{without_rows}
 use Rattle.bf_bind.proofs.Statements.{index-action, index-alone, index-alone_ok, index-inside, index-no_table, index-ok, index-stops}
 use Rattle.bf_bind.proofs.binding.bind_create_index.Goals as goal
 
 pub returns-in_err-expect_alone-clause-stopped : goal.returns-in_err-expect_alone-clause-stopped
 returns-in_err-expect_alone-clause-stopped c =
     let p = err_from_is_err_and c.from_residual.result c.from_residual.ensures.1 in
-    rw (p.1, p.2) (index-inside (bare c.args.catalog.now) c.args.in_block c.args.table.now c.args.name.now c.args.columns.now c.in_err-expect_alone.ensures.inside c.in_err-expect_alone.field-0.0 c.in_err-expect_alone.ensures.stopped)
+    rw (p.1, p.2) (index-inside (without_rows c.args.catalog.now) c.args.in_block c.args.table.now c.args.name.now c.args.columns.now c.in_err-expect_alone.ensures.inside c.in_err-expect_alone.field-0.0 c.in_err-expect_alone.ensures.stopped)
 
 pub returns-in_err-found-clause-stopped : goal.returns-in_err-found-clause-stopped
 returns-in_err-found-clause-stopped c =
     let p = err_from_is_err_and c.from_residual-in_err-found.result c.from_residual-in_err-found.ensures.1 in
-    rw (p.1, p.2) (index-alone (bare c.args.catalog.now) c.args.in_block c.args.table.now c.args.name.now c.args.columns.now c.in_ok-expect_alone.ensures.ok c.in_err-found.field-0.0 (index-no_table (bare c.args.catalog.now) c.args.table.now c.in_err-found.ensures.missing c.in_err-found.field-0.0 c.in_err-found.ensures.stopped c.args.name.now c.args.columns.now))
+    rw (p.1, p.2) (index-alone (without_rows c.args.catalog.now) c.args.in_block c.args.table.now c.args.name.now c.args.columns.now c.in_ok-expect_alone.ensures.ok c.in_err-found.field-0.0 (index-no_table (without_rows c.args.catalog.now) c.args.table.now c.in_err-found.ensures.missing c.in_err-found.field-0.0 c.in_err-found.ensures.stopped c.args.name.now c.args.columns.now))
 
 pub returns-in_err-made-clause-stopped : goal.returns-in_err-made-clause-stopped
 returns-in_err-made-clause-stopped c =
     let p = err_from_is_err_and c.from_residual-in_err-made.result c.from_residual-in_err-made.ensures.1 in
-    rw (p.1, p.2) (index-alone (bare c.args.catalog.now) c.args.in_block c.args.table.now c.args.name.now c.args.columns.now c.in_ok-expect_alone.ensures.ok c.in_err-made.field-0.0 (index-stops (bare c.args.catalog.now) c.args.table.now c.in_ok-found.found.now c.in_ok-found.ensures.stored c.args.name.now c.args.columns.now c.in_err-made.field-0.0 (rw c.as_slice.ensures at c.in_err-made.ensures.stopped)))
+    rw (p.1, p.2) (index-alone (without_rows c.args.catalog.now) c.args.in_block c.args.table.now c.args.name.now c.args.columns.now c.in_ok-expect_alone.ensures.ok c.in_err-made.field-0.0 (index-stops (without_rows c.args.catalog.now) c.args.table.now c.in_ok-found.found.now c.in_ok-found.ensures.stored c.args.name.now c.args.columns.now c.in_err-made.field-0.0 (rw c.as_slice.ensures at c.in_err-made.ensures.stopped)))
 
 pub returns-clause-ok : goal.returns-clause-ok
-returns-clause-ok c = index-alone_ok (bare c.args.catalog.now) c.args.in_block c.args.table.now c.args.name.now c.args.columns.now c.in_ok-expect_alone.ensures.ok (index-ok (bare c.args.catalog.now) c.args.table.now c.in_ok-found.found.now c.in_ok-found.ensures.stored c.args.name.now c.args.columns.now (rw c.as_slice.ensures at c.in_ok-made.ensures.ok))
+returns-clause-ok c = index-alone_ok (without_rows c.args.catalog.now) c.args.in_block c.args.table.now c.args.name.now c.args.columns.now c.in_ok-expect_alone.ensures.ok (index-ok (without_rows c.args.catalog.now) c.args.table.now c.in_ok-found.found.now c.in_ok-found.ensures.stored c.args.name.now c.args.columns.now (rw c.as_slice.ensures at c.in_ok-made.ensures.ok))
 
 pub returns-clause-value : goal.returns-clause-value
-returns-clause-value c = index-action (bare c.args.catalog.now) c.args.table.now c.in_ok-found.found.now c.in_ok-found.ensures.stored c.args.name.now c.args.columns.now c.in_ok-made.made (rw c.as_slice.ensures at c.in_ok-made.ensures.value)
+returns-clause-value c = index-action (without_rows c.args.catalog.now) c.args.table.now c.in_ok-found.found.now c.in_ok-found.ensures.stored c.args.name.now c.args.columns.now c.in_ok-made.made (rw c.as_slice.ensures at c.in_ok-made.ensures.value)

@@ -1,5 +1,5 @@
 use Rattle.std.proofs.Common.{◌+◌, ◌*◌}
-use Rattle.bf_expr.specs.Trees.{tests}
+use Rattle.bf_tree.specs.Trees.{tests}
 use Rattle.bf_bind.proofs.condition.+condition.Given as goal
 
 abbrev pub decreases-bind_test : goal.decreases-bind_test

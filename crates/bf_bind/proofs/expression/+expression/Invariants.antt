@@ -1,5 +1,5 @@
 use Rattle.std.proofs.Common.{◌+◌, ◌*◌}
-use Rattle.bf_expr.specs.Trees.{nodes}
+use Rattle.bf_tree.specs.Trees.{nodes}
 use Rattle.bf_bind.proofs.expression.+expression.Given as goal
 
 abbrev pub decreases-bind_expression : goal.decreases-bind_expression

@@ -1,5 +1,5 @@
 use Rattle.std.proofs.Common.{◌≡◌, ℕ, None, Some, ap, sym, ◌∙◌}
-use Rattle.bf_expr.specs.Trees.{Cond, both}
+use Rattle.bf_tree.specs.Trees.{Cond, both}
 use Rattle.bf_bind.specs.Parts.{first_fixed}
 use Rattle.bf_bind.proofs.Keys.{first_fixed-left, first_fixed-right}
 use Rattle.bf_bind.proofs.fixed.+first_fixed.Goals as goal

@@ -1,6 +1,6 @@
 use Rattle.std.proofs.Common.{◌≡◌, map, take}
 use Rattle.std.specs.List.{flat_map}
-use Rattle.bf_expr.specs.Trees.{expr_over}
+use Rattle.bf_tree.specs.Trees.{expr_over}
 use Rattle.bf_sql.specs.Scopes.{expr_objections, place_of, scope_of}
 use Rattle.bf_bind.proofs.Walks.{left_from}
 use Rattle.bf_bind.proofs.list.bind_expressions.Given as goal

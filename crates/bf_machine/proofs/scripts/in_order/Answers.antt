@@ -1,12 +1,12 @@
 -- A script runs in its order, which is legal.
 use Rattle.std.proofs.Common.{◌≡◌, List, ◌++◌, IsTrue, refl, ap₂, ◌∙◌}
-use Rattle.bf_sql.specs.declared.script.Script.{Script}
-use Rattle.bf_sql.specs.declared.script.Session.{Session}
-use Rattle.bf_sql.specs.declared.reply.Reply.{Reply}
-use Rattle.bf_sql.specs.declared.history.Entry.{Entry}
-use Rattle.bf_sql.specs.declared.history.Sweep.TheVariants.{Never}
+use Rattle.bf_tree.specs.declared.script.Script.{Script}
+use Rattle.bf_tree.specs.declared.script.Session.{Session}
+use Rattle.bf_tree.specs.declared.reply.Reply.{Reply}
+use Rattle.bf_tree.specs.declared.history.Entry.{Entry}
+use Rattle.bf_tree.specs.declared.history.Sweep.TheVariants.{Never}
 use Rattle.bf_sql.specs.Database.{empty_database}
-use Rattle.bf_machine.specs.InOrder.{IsRun}
+use Rattle.bf_machine.specs.InOrder.{IsRunInOrder}
 use Rattle.bf_machine.specs.Runnable.{phases_rise_from}
 use Rattle.bf_machine.specs.Sessions.{Standing, script_from, sessions_from}
 use Rattle.bf_machine.proofs.order.Legal.{run_is_answered, run_is_entered, run_is_legal}
@@ -15,7 +15,7 @@ use Rattle.bf_machine.proofs.scripts.in_order.Goals as goal
 -- what the run of a script's sessions tells and notes is what a plain run leaves
 is_run : (script : Script) → IsTrue (phases_rise_from 0 script.sessions) → (transcripts : List (List Reply)) (history : List Entry)
     → transcripts ≡ (script_from empty_database script).0 → history ≡ (script_from empty_database script).2
-    → IsRun script transcripts history Never
+    → IsRunInOrder script transcripts history Never
 is_run script rise transcripts history told noted =
     let entered = noted ∙ run_is_entered script empty_database in
     record {

@@ -4,5 +4,5 @@ use Rattle.bf_machine.proofs.scripts.run_sessions.Given as goal
 
 abbrev pub invariant-loop-session : goal.invariant-loop-session
 invariant-loop-session l =
-    HaveRun (at_rest l.fn.course.commits l.fn.course.store) l.fn.course.entries.items l.sessions l.session-index
-    l.course.commits l.course.store l.transcripts.items l.course.entries.items
+    HaveRun (at_rest l.fn.run_so_far.commits l.fn.run_so_far.live) l.fn.run_so_far.entries.items l.sessions l.session-index
+    l.run_so_far.commits l.run_so_far.live l.transcripts.items l.run_so_far.entries.items

@@ -6,18 +6,18 @@ use Rattle.bf_machine.proofs.transaction.run_on_table.Goals as goal
 
 pub unreachable-requires : goal.unreachable-requires
 unreachable-requires c =
-    has_heap c.args.store.now c.args.writes.now c.requires.database c.requires.«open» c.args.table.now c.args.bound.now.action c.requires.on
+    has_heap c.args.live.now c.args.writes.now c.requires.database c.requires.«open» c.args.table.now c.args.bound.now.action c.requires.on
     c.in_default.ensures
 
 pub select-requires-clause-keys : goal.select-requires-clause-keys
 select-requires-clause-keys c =
-    own_keys_there c.args.store.now c.args.writes.now c.requires.database c.requires.«open» c.args.table.now c.args.bound.now.action c.requires.on
+    own_keys_there c.args.live.now c.args.writes.now c.requires.database c.requires.«open» c.args.table.now c.args.bound.now.action c.requires.on
     _ c.in-Some.ensures
 
 pub returns-in-Select : goal.returns-in-Select
 returns-in-Select c = λ in_block s bound.
     let act = c.args.bound.now.action in
-    select_steps c.args.store.now c.args.writes.now c.requires.database c.requires.«open» in_block s act c.args.table.now bound c.requires.on.of_table
+    select_steps c.args.live.now c.args.writes.now c.requires.database c.requires.«open» in_block s act c.args.table.now bound c.requires.on.of_table
     _ c.in-Some.ensures (subst IsSelect (sym c.in-Select.is) tt) c.select.result c.select.ensures
 
 pub changes-requires : goal.changes-requires
@@ -25,12 +25,12 @@ changes-requires c =
     let act = c.args.bound.now.action in record {
       change = is_change act c.args.table.now c.requires.on.of_table c.in_default-action.not-Select;
       bound = c.requires.on.bound;
-      keys = own_keys_there c.args.store.now c.args.writes.now c.requires.database c.requires.«open» c.args.table.now act c.requires.on _ c.in-Some.ensures;
+      keys = own_keys_there c.args.live.now c.args.writes.now c.requires.database c.requires.«open» c.args.table.now act c.requires.on _ c.in-Some.ensures;
     }
 
 pub returns : goal.returns
 returns c = λ in_block s bound.
     let act = c.args.bound.now.action in
     let change = is_change act c.args.table.now c.requires.on.of_table c.in_default-action.not-Select in
-    change_steps c.args.store.now c.args.writes.now c.requires.database c.requires.«open» in_block s act c.args.table.now bound c.requires.on.of_table
+    change_steps c.args.live.now c.args.writes.now c.requires.database c.requires.«open» in_block s act c.args.table.now bound c.requires.on.of_table
     _ c.in-Some.ensures change c.changes.result c.changes.new.workspace c.changes.ensures.reply c.changes.ensures.workspace

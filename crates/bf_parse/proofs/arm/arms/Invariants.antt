@@ -1,5 +1,5 @@
 use Rattle.std.proofs.Common.{◌<◌, List}
-use Rattle.bf_sql.specs.declared.migration.Arm.{Arm}
+use Rattle.bf_tree.specs.declared.migration.Arm.{Arm}
 use Rattle.bf_parse.specs.Cursors.{IsPlace, left, words}
 use Rattle.bf_parse.specs.MigrationEnds.{ArmsRule, goes_arms}
 use Rattle.bf_parse.specs.Migrations.{Arms}

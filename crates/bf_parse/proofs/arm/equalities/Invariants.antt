@@ -1,5 +1,5 @@
 use Rattle.std.proofs.Common.{◌<◌, suc, List, length}
-use Rattle.bf_expr.specs.declared.raw.Ref.{Ref}
+use Rattle.bf_tree.specs.declared.raw.Ref.{Ref}
 use Rattle.bf_parse.specs.Cursors.{IsPlace, left, words}
 use Rattle.bf_parse.specs.MigrationEnds.{EqualitiesRule, goes_equalities}
 use Rattle.bf_parse.specs.Migrations.{Equalities}

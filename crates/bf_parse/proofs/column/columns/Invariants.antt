@@ -1,5 +1,5 @@
 use Rattle.std.proofs.Common.{◌<◌, suc, List, length}
-use Rattle.bf_sql.specs.declared.statement.ColumnRule.{ColumnRule}
+use Rattle.bf_tree.specs.declared.statement.ColumnRule.{ColumnRule}
 use Rattle.bf_parse.specs.Cursors.{IsPlace, left, words}
 use Rattle.bf_parse.specs.Ends.{nothing}
 use Rattle.bf_parse.specs.Pieces.{ColumnsRule}

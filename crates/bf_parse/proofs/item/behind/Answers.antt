@@ -1,5 +1,5 @@
 use Rattle.std.proofs.Common.{Option, subst}
-use Rattle.bf_expr.specs.declared.raw.Ref.{Ref}
+use Rattle.bf_tree.specs.declared.raw.Ref.{Ref}
 use Rattle.bf_parse.specs.MigrationEnds.{IsBare}
 use Rattle.bf_parse.proofs.Items.{end_named_stop, end_named, end_bare, end_stuck}
 use Rattle.bf_parse.proofs.Moves.{exit}

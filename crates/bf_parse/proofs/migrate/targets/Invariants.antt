@@ -1,5 +1,5 @@
 use Rattle.std.proofs.Common.{◌<◌, ◌+◌, List, length}
-use Rattle.bf_sql.specs.declared.migration.Target.{Target}
+use Rattle.bf_tree.specs.declared.migration.Target.{Target}
 use Rattle.bf_parse.specs.Cursors.{IsPlace, left, words}
 use Rattle.bf_parse.specs.MigrationEnds.{TargetsRule, goes_targets}
 use Rattle.bf_parse.specs.Migrations.{Targets}

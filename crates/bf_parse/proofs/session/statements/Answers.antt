@@ -1,5 +1,5 @@
 use Rattle.std.proofs.Common.{List, sym, subst, ◌∙◌, arith}
-use Rattle.bf_sql.specs.declared.statement.Statement.{Statement}
+use Rattle.bf_tree.specs.declared.statement.Statement.{Statement}
 use Rattle.bf_parse.specs.declared.error.Stop.TheVariants.{Memory}
 use Rattle.bf_parse.specs.Cursors.{words}
 use Rattle.bf_parse.specs.Reading.{Fits}

@@ -1,5 +1,5 @@
 use Rattle.std.proofs.Common.{◌≤◌, ℕ, List, []}
-use Rattle.bf_sql.specs.declared.statement.Statement.{Statement}
+use Rattle.bf_tree.specs.declared.statement.Statement.{Statement}
 use Rattle.bf_parse.specs.Cursors.{IsPlace, left, words}
 use Rattle.bf_parse.specs.Reading.{Reading, Fits}
 use Rattle.bf_parse.specs.ScriptParts.{begins_statement}

@@ -1,5 +1,5 @@
 use Rattle.std.proofs.Common.{◌≡◌, map, take}
-use Rattle.bf_sql.specs.declared.reply.Cell.TheVariants as cells
+use Rattle.bf_tree.specs.declared.reply.Cell.TheVariants as cells
 use Rattle.bf_query.proofs.answer.all_columns.Given as goal
 
 abbrev pub invariant-loop-row : goal.invariant-loop-row

@@ -1,5 +1,5 @@
 use Rattle.std.proofs.Common.{ℕ}
-use Rattle.bf_expr.specs.Trees.{Expr}
+use Rattle.bf_tree.specs.Trees.{Expr}
 use Rattle.bf_query.proofs.Stopping.{handed_on, stops_at_item}
 use Rattle.bf_query.proofs.change.changed_row.Goals as goal
 

@@ -1,7 +1,7 @@
 use Rattle.std.proofs.Common.{◌≡◌, drop, fold}
 use Rattle.std.specs.Prelude.{slice_set}
 use Rattle.bf_base.specs.Tables.{cell}
-use Rattle.bf_expr.specs.Evaluation.{sure_value}
+use Rattle.bf_tree.specs.Evaluation.{sure_value}
 use Rattle.bf_sql.specs.Queries.{changed}
 use Rattle.bf_sql.specs.RowObjections.{change_objections}
 use Rattle.bf_query.specs.Actions.{admitted_at}

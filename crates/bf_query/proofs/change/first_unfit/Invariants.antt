@@ -1,7 +1,7 @@
 use Rattle.std.proofs.Common.{◌≡◌, drop}
 use Rattle.std.specs.Prelude.{flat_map, zip}
 use Rattle.bf_sql.specs.RowObjections.{unfit_objections, unfit_row_objections}
-use Rattle.bf_query.specs.Stops.{first_of}
+use Rattle.bf_tree.specs.Settling.{first_of}
 use Rattle.bf_query.proofs.change.first_unfit.Given as goal
 
 -- the first objection is to a value from here on

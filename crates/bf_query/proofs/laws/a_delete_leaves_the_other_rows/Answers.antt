@@ -1,6 +1,6 @@
 use Rattle.std.proofs.Common.{◌∙◌, None}
 use Rattle.bf_base.specs.Tables.{cell}
-use Rattle.bf_expr.specs.Evaluation.{holds_on}
+use Rattle.bf_tree.specs.Evaluation.{holds_on}
 use Rattle.bf_query.specs.Merged.{entries_under}
 use Rattle.bf_query.proofs.Effects.{rows_remade, remade-removed}
 use Rattle.bf_query.proofs.laws.a_delete_leaves_the_other_rows.Goals as goal

@@ -1,6 +1,6 @@
 use Rattle.std.proofs.Common.{◌∙◌, Some}
 use Rattle.bf_base.specs.Tables.{cell}
-use Rattle.bf_expr.specs.Evaluation.{holds_on}
+use Rattle.bf_tree.specs.Evaluation.{holds_on}
 use Rattle.bf_sql.specs.Queries.{changed}
 use Rattle.bf_query.specs.Merged.{entries_under}
 use Rattle.bf_query.proofs.Effects.{rows_remade, remade-changed}

@@ -3,11 +3,11 @@ use Rattle.std.specs.List.{flat_map}
 use Rattle.std.proofs.lemmas.List.{length-map, length-take-le, take_all, with_items_is}
 use Rattle.std.proofs.lemmas.List.Folds.{flat_map-map}
 use Rattle.bf_base.specs.Tables.{cell}
-use Rattle.bf_sql.specs.declared.reply.Cell.{Cell}
-use Rattle.bf_sql.specs.declared.reply.Refusal.{Refusal}
+use Rattle.bf_tree.specs.declared.reply.Cell.{Cell}
+use Rattle.bf_tree.specs.declared.reply.Refusal.{Refusal}
 use Rattle.bf_sql.specs.RowObjections.{argument_objections, sum_objections}
 use Rattle.bf_query.specs.Standings.{standing, standing_after, total_cell}
-use Rattle.bf_query.specs.Stops.{Settles}
+use Rattle.bf_tree.specs.Settling.{Settles}
 use Rattle.bf_query.proofs.Steps.{passes_on, stops, goes_on, all_passed, cause_before}
 use Rattle.bf_query.proofs.Totals.{all_countable, next_after, all_row_objections, all_end_objections, all_cells}
 use Rattle.bf_query.proofs.running.totals.Goals as goal

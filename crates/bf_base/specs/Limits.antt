@@ -1,0 +1,22 @@
+-- The limits of the language on what stands in texts and tables.
+use Rattle.std.specs.Prelude.{ℕ, ◌^◌}
+
+-- the most bytes of a text value
+abbrev pub longest_text : ℕ
+longest_text = 255
+
+-- the most bytes of a name
+abbrev pub longest_name : ℕ
+longest_name = 63
+
+-- the most bytes of a script
+abbrev pub longest_script : ℕ
+longest_script = 2 ^ 24
+
+-- the most columns of a table
+abbrev pub most_columns : ℕ
+most_columns = 16
+
+-- the end of the INTs: they go from its negative to the number below it
+abbrev pub int_end : ℕ
+int_end = 2 ^ 63

@@ -1,5 +1,0 @@
-use Rattle.bf_expr.proofs.Renamed.{holds_on-cond_over}
-use Rattle.bf_expr.proofs.laws.a_condition_over_other_columns.Goals as goal
-
-pub returns : goal.returns
-returns g c = holds_on-cond_over

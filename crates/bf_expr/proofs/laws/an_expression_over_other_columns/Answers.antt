@@ -1,5 +1,0 @@
-use Rattle.bf_expr.proofs.Renamed.{value_of-expr_over}
-use Rattle.bf_expr.proofs.laws.an_expression_over_other_columns.Goals as goal
-
-pub returns : goal.returns
-returns g c = value_of-expr_over

@@ -1,0 +1,15 @@
+use Rattle.std.proofs.Common.{◌≡◌, List, ℕ, true, false, rules, is_le, subst, sym}
+use Rattle.std.specs.List.Sorted.{IsPartitionPoint}
+use Rattle.std.proofs.lemmas.List.Sorted.{IsPartitionPoint-from_clause}
+use Rattle.bf_base.specs.Lists.{name_cmp}
+use Rattle.bf_tree.specs.declared.catalog.IndexRule.{IndexRule}
+use Rattle.bf_live.proofs.ByName.{not_behind_first, placed_behind}
+use Rattle.bf_live.proofs.places.index_place.Goals as goal
+
+pub returns-clause-place : goal.returns-clause-place
+returns-clause-place c index is =
+    let name_of = λ (rule : IndexRule). rule.name in
+    let behind = IsPartitionPoint-from_clause (λ rule. is_le (name_cmp (name_of rule) c.args.name.now)) c.args.indexes.now c.partition_point.result c.partition_point.ensures.partitioned
+    (not_behind_first name_of c.args.indexes.now c.args.name.now c.requires) (λ a r f called. (search rules, search rules)) in
+    placed_behind name_of c.args.indexes.now c.partition_point.result index
+    (subst (λ (name : List ℕ). IsPartitionPoint (λ rule. is_le (name_cmp (name_of rule) name) ≡ true) (λ rule. is_le (name_cmp (name_of rule) name) ≡ false) c.args.indexes.now c.partition_point.result) (sym is) behind)

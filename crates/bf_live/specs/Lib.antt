@@ -1,0 +1,5 @@
+pub mod Autocommit
+pub mod Commits
+pub mod Examples
+pub mod Places
+pub mod Live

@@ -1,0 +1,11 @@
+//! The committed tables: a catalog, and the rows of each of its tables in a heap.
+#![tactic(auto)]
+
+mod commit;
+pub mod laws;
+mod places;
+pub mod live_tables;
+#[cfg(test)]
+mod tests;
+
+pub use live_tables::LiveTables;

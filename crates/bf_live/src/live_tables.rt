@@ -1,0 +1,132 @@
+//! The live tables.
+
+ghost use Rattle.std.specs.Prelude.{◌≡◌, [], ◌∷◌, None, OnErr, OnOk};
+ghost use Rattle.std.specs.List.{All};
+ghost use Rattle.std.specs.Option.{option_map};
+ghost use Rattle.bf_query.specs.Meanings.{entries_of};
+ghost use Rattle.bf_query.specs.Merged.{StandUnderOwnKeys};
+ghost use Rattle.bf_sql.specs.Database.{IsDatabase, empty_database, stored_at, stored_in_order, with_tables};
+ghost use Rattle.bf_sql.specs.Meaning.{next_number, with_index};
+ghost use Rattle.bf_live.specs.Live.{catalog_of, committed};
+
+use crate::commit::{apply, make_room};
+use crate::places::{index_place, place_of, table_place};
+use bf_base::{Memory, Name, Sequence, Table};
+use bf_heap::Heap;
+use bf_tree::{Catalog, IndexRule};
+use bf_txn::Workspace;
+use std::alloc::Global;
+use std::marker::Model;
+
+/// The committed tables. Contracts see the database that they are.
+#[derive(Drop)]
+pub struct LiveTables {
+    alloc: Global,
+    catalog: Catalog,
+    /// For each table of the catalog, in its order, the rows.
+    heaps: Vec<Heap>,
+}
+
+impl Model for LiveTables {
+    ghost use Rattle.bf_sql.specs.Database.{Database};
+    ghost use Rattle.bf_live.specs.Live.{AreLiveTables, database_of};
+
+    ghost Value = { Database };
+
+    ghost view = { λ live. database_of live.catalog live.heaps.items };
+
+    ghost invariant = { λ live. AreLiveTables live.catalog live.heaps.items };
+}
+
+impl LiveTables {
+    /// The live tables of the empty database. Takes no memory.
+    pub fn new(alloc: Global) -> LiveTables
+        ensures { result ≡ empty_database }
+    {
+        LiveTables {
+            alloc,
+            catalog: Catalog {
+                number: 0,
+                tables: Sequence::of(Vec::new(alloc)),
+                indexes: Sequence::of(Vec::new(alloc)),
+            },
+            heaps: Vec::new(alloc),
+        }
+    }
+
+    /// The catalog. Takes no memory.
+    pub fn catalog(&self) -> &Catalog
+        ensures catalog { result.now ≡ catalog_of self.now }
+        ensures database { IsDatabase self.now }
+    {
+        &self.catalog
+    }
+
+    /// The rows of the table of a name, each under its key, and `None` exactly where no table has
+    /// the name. It compares about log n names, and takes no memory.
+    pub fn heap(&self, table: &Name) -> Option<&Heap>
+        ensures { option_map (λ heap. heap.now.entries) result
+            ≡ option_map (λ s. entries_of s.table s.rows) (stored_at self.now table.now) }
+    {
+        let place = place_of(self.catalog.tables.as_slice(), table)?;
+        Some(&self.heaps[place])
+    }
+
+    /// Adds a table without rows, and counts a schema change. It moves the tables behind it.
+    ///
+    /// # Errors
+    /// Where memory runs out, or 2 ^ 64 schema changes were made. The live tables is as it was then.
+    pub fn create_table(&mut self, table: Table) -> Result<(), Memory>
+        requires fresh { stored_at self.old table.name ≡ None }
+        requires database { IsDatabase
+            (next_number (with_tables (stored_in_order table [] ∷ []) self.old)) }
+        ensures ok { OnOk result (self.new
+            ≡ next_number (with_tables (stored_in_order table [] ∷ []) self.old)) }
+        ensures err { OnErr result (self.new ≡ self.old) }
+    {
+        let number = self.catalog.number.checked_add(1).ok_or(Memory)?;
+        let place = table_place(self.catalog.tables.as_slice(), &table.name);
+        self.heaps.reserve(1)?;
+        self.catalog.tables.insert(place, table)?;
+        self.heaps.insert(place, Heap::new(self.alloc)).unwrap();
+        self.catalog.number = number;
+        Ok(())
+    }
+
+    /// Adds an index rule, and counts a schema change. It moves the rules behind it. No index is
+    /// built.
+    ///
+    /// # Errors
+    /// Where memory runs out, or 2 ^ 64 schema changes were made. The live tables is as it was then.
+    pub fn create_index(&mut self, index: IndexRule) -> Result<(), Memory>
+        requires database { IsDatabase (next_number (with_index index self.old)) }
+        ensures ok { OnOk result (self.new ≡ next_number (with_index index self.old)) }
+        ensures err { OnErr result (self.new ≡ self.old) }
+    {
+        let number = self.catalog.number.checked_add(1).ok_or(Memory)?;
+        let place = index_place(self.catalog.indexes.as_slice(), &index.name);
+        self.catalog.indexes.insert(place, index)?;
+        self.catalog.number = number;
+        Ok(())
+    }
+
+    /// Makes what a transaction has written part of its tables, and each other table stays. A write
+    /// to a table costs a look-up by key, in time logarithmic in the table's rows, and a new or a
+    /// removed row moves 8 bytes for each row behind it. Room is made for as many rows as are put;
+    /// what is left of it stays as room for later rows.
+    ///
+    /// # Errors
+    /// Where memory runs out. The live tables is as it was then.
+    pub fn commit(&mut self, writes: Workspace) -> Result<(), Memory>
+        requires own_keys { All (λ s. StandUnderOwnKeys s.table (entries_of s.table s.rows) writes)
+            self.old.tables }
+        requires database { IsDatabase (committed self.old writes) }
+        ensures ok { OnOk result (self.new ≡ committed self.old writes) }
+        ensures err { OnErr result (self.new ≡ self.old) }
+    {
+        let tables = self.catalog.tables.as_slice();
+        make_room(tables, &mut self.heaps, &writes)?;
+        apply(tables, &mut self.heaps, writes.into_writes());
+        Ok(())
+    }
+}

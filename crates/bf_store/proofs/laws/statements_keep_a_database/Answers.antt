@@ -1,5 +1,0 @@
-use Rattle.bf_store.proofs.keeps.Statements.{empty_is_database, keeps_plain}
-use Rattle.bf_store.proofs.laws.statements_keep_a_database.Goals as goal
-
-pub returns : goal.returns
-returns c = record { empty = empty_is_database; next = keeps_plain }

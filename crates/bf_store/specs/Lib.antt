@@ -1,5 +1,0 @@
-pub mod Alone
-pub mod Changes
-pub mod Examples
-pub mod Places
-pub mod Stores

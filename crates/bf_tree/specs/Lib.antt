@@ -1,0 +1,7 @@
+pub mod Answered
+pub mod Codes
+pub mod Evaluation
+pub mod Limits
+pub mod Settling
+pub mod Trees
+pub mod Views
