@@ -1,85 +1,198 @@
-//! A sorted list of rows under their keys.
+//! Pages of rows under their keys.
 
-ghost use Rattle.std.specs.Prelude.{◌≡◌, ◌↔◌, [], ◌+◌, ◌<◌, ◌≤◌, ◌⊎◌, IsTrue, OnOk, OnErr, length, slice_get, vec_len, vec_capacity};
-ghost use Rattle.std.specs.List.Sorted.{IsBinarySearchResult, IsSearchInRange};
+ghost use Rattle.std.specs.Prelude.{◌≡◌, ◌↔◌, [], ◌+◌, ◌*◌, ◌<◌, ◌≤◌, ◌⊎◌, IsTrue, OnOk, OnErr, length, slice_get, slice_index_or, ◌-◌, vec_len, vec_capacity};
+ghost use Rattle.std.specs.List.{list_all};
 ghost use Rattle.std.specs.Option.{option_map};
-ghost use Rattle.bf_base.specs.Values.{key_cmp};
-ghost use Rattle.bf_heap.specs.Heaps.{empty_heap, IsHeap, row_under, has_row, with_row, without_row, spare_after, spare_without};
+ghost use Rattle.bf_heap.specs.Heaps.{Entry, empty_heap, IsHeap, row_under, has_row, with_row, without_row, spare_after};
+ghost use Rattle.bf_heap.specs.Pages.{IsPageOf, IsPutNew, IsTakenOut, page_at, is_empty_page, first_page};
 
+use crate::page::{FULL, HALF, Page};
 use bf_base::{Key, Memory, Row};
 use std::alloc::Global;
 use std::marker::Model;
-use std::mem;
-
-/// A key and the row that stands under it.
-#[derive(Drop)]
-struct Entry {
-    key: Key,
-    row: Row,
-}
-
-impl Entry {
-    /// What a box of the room holds. Takes no memory.
-    fn vacant(alloc: Global) -> Entry {
-        Entry {
-            key: Key::of(Vec::new(alloc)),
-            row: Row::of(Vec::new(alloc)),
-        }
-    }
-}
 
 /// Rows under their keys: a finite map, with room for further rows. Rows and room together are
 /// below 2 ^ 32. Contracts see the rows in the order of their keys, and the room.
 ///
-/// It is a sorted list: a look-up compares about log n keys, and a put of a new key and a
-/// removal move 8 bytes for each entry behind. Entries stand in boxes, and `reserve` makes the
-/// boxes of later ones.
+/// The rows stand in pages of 1 to 64, in the order of the keys. A look-up compares about log n
+/// keys. A put of a new key moves at most 64 rows, and where its page is full and so is split, the
+/// places of the pages behind; a removal does so where a page loses its last row. `reserve` makes
+/// the pages of later rows, and a page that has lost its last row is kept for them.
 #[derive(Drop)]
 pub struct Heap {
     alloc: Global,
-    entries: Vec<Box<Entry>>,
-    // The boxes that are made and not used. Each of the two lists could take all boxes.
-    spare: Vec<Box<Entry>>,
+    // Pages with rows.
+    pages: Vec<Page>,
+    // Pages without rows. Each of the two lists could take all pages.
+    spares: Vec<Page>,
+    // The number of rows.
+    count: usize,
+    // The number of further rows for which there is room.
+    spare: usize,
+    // The sum over all pages of the rows above half a page. A put brings it up by one at most, and a
+    // split down by 32. So half a page for each spare one is enough for this sum and the room.
+    over: usize,
 }
 
 impl Model for Heap {
     ghost use Rattle.std.specs.Prelude.{vec_capacity};
     ghost use Rattle.bf_heap.specs.Heaps.{Rows};
-    ghost use Rattle.bf_heap.specs.Room.{rows_in, IsKept};
+    ghost use Rattle.bf_heap.specs.Pages.{rows_of, IsPaged};
 
     ghost Value = { Rows };
 
-    ghost view = { λ heap. rows_in heap.entries.items heap.spare.items };
+    ghost view = { λ heap. record { entries = rows_of heap.pages.items; spare = heap.spare } };
 
-    ghost invariant = { λ heap. IsKept (rows_in heap.entries.items heap.spare.items) (vec_capacity heap.entries) (vec_capacity heap.spare) };
+    ghost invariant = { λ heap. IsPaged heap.pages.items heap.spares.items heap.count heap.spare
+        heap.over (vec_capacity heap.pages) (vec_capacity heap.spares) };
 }
 
-/// Where the entry of a key is, or else where it goes, among entries in the order of their keys.
-/// It compares about log n keys, and takes no memory.
-fn find(entries: &[Box<Entry>], key: &Key) -> Result<usize, usize>
-    ensures bound { IsSearchInRange result (length entries.now) }
-    ensures position { IsBinarySearchResult
-        (λ entry. key_cmp entry.value.key key.now) entries.now result }
+/// The place of the last page that does not begin behind a key, or else of the first page. It
+/// compares about log n keys, and takes no memory.
+fn page_of(pages: &[Page], key: &Key) -> usize
+    requires { 0 < length pages.now }
+    ensures { IsPageOf pages.now key.now result }
 {
-    entries.binary_search_by(|entry| entry.key.compare(key))
+    let mut low = 0;
+    let mut high = pages.len();
+    while high - low > 1 {
+        let middle = low + (high - low) / 2;
+        if pages[middle].begins_behind(key) {
+            high = middle;
+        } else {
+            low = middle;
+        }
+    }
+    low
 }
 
-/// Adds boxes to the room. After an error the room is as it was.
-fn add_boxes(alloc: Global, spare: &mut Vec<Box<Entry>>, count: usize) -> Result<(), Memory>
-    requires { vec_len spare.old + count ≤ vec_capacity spare.old }
-    ensures ok { OnOk result (vec_len spare.new ≡ vec_len spare.old + count) }
-    ensures err { OnErr result (vec_len spare.new ≡ vec_len spare.old) }
-    ensures capacity { vec_capacity spare.old ≤ vec_capacity spare.new }
+/// Adds pages to the spare ones until there are this many.
+///
+/// # Errors
+/// Where memory runs out. There may be more pages then than before.
+fn add_pages(alloc: Global, spares: &mut Vec<Page>, wanted: usize) -> Result<(), Memory>
+    requires room { wanted ≤ vec_capacity spares.old }
+    requires less { vec_len spares.old ≤ wanted }
+    requires unused { IsTrue (list_all is_empty_page spares.old.items) }
+    ensures ok { OnOk result (vec_len spares.new ≡ wanted) }
+    ensures within { (vec_len spares.old ≤ vec_len spares.new) × (vec_len spares.new ≤ wanted) }
+    ensures unused { IsTrue (list_all is_empty_page spares.new.items) }
+    ensures capacity { vec_capacity spares.old ≤ vec_capacity spares.new }
 {
-    let before = spare.len();
-    for _ in 0..count {
-        let Ok(entry) = Box::new(alloc, Entry::vacant(alloc)) else {
-            spare.truncate(before);
-            return Err(Memory);
-        };
-        spare.push(entry).unwrap();
+    for _ in spares.len()..wanted {
+        let page = Page::new(alloc)?;
+        spares.push(page).unwrap();
     }
     Ok(())
+}
+
+/// Puts a key and a row in a place of a page. A full page is split into two of 32 rows first, for
+/// which it takes a spare page, and the places of the pages behind move by one. Takes no memory.
+fn put_new(
+    pages: &mut Vec<Page>,
+    spares: &mut Vec<Page>,
+    here: usize,
+    place: usize,
+    key: Key,
+    row: Row,
+)
+    requires here { here < length pages.old.items }
+    requires place { place ≤ length (page_at pages.old.items here) }
+    requires spare { length (page_at pages.old.items here) ≡ 64 → 0 < length spares.old.items }
+    requires unused { IsTrue (list_all is_empty_page spares.old.items) }
+    requires capacity { length pages.old.items + length spares.old.items ≤ vec_capacity pages.old }
+    ensures entry { IsPutNew pages.old.items spares.old.items here place (key, row)
+        pages.new.items spares.new.items }
+    ensures capacity { (vec_capacity pages.old ≤ vec_capacity pages.new)
+        × (vec_capacity spares.new ≡ vec_capacity spares.old) }
+{
+    let page = &mut pages[here];
+    if page.len() < FULL {
+        page.insert(place, key, row);
+        return;
+    }
+    let mut upper = spares.pop().unwrap();
+    page.split(&mut upper);
+    if place <= HALF {
+        page.insert(place, key, row);
+    } else {
+        upper.insert(place - HALF, key, row);
+    }
+    pages.insert(here + 1, upper).unwrap();
+}
+
+/// The rows above half a page once a page of so many rows has one more, and is split first where it
+/// is full.
+fn over_with(over: usize, rows: usize) -> usize
+    requires full { rows ≡ 64 → 31 ≤ over }
+    requires small { over < 4294967296 }
+    ensures split { rows ≡ 64 → result + 31 ≡ over }
+    ensures more { 32 ≤ rows → rows < 64 → result ≡ over + 1 }
+    ensures same { rows < 32 → result ≡ over }
+{
+    if rows == FULL {
+        over - (HALF - 1)
+    } else if rows >= HALF {
+        over + 1
+    } else {
+        over
+    }
+}
+
+/// The rows above half a page once a page of so many rows has one less.
+fn over_without(over: usize, rows: usize) -> usize
+    requires { 32 < rows → 0 < over }
+    ensures { result + (rows - 32) ≡ over + (rows - 33) }
+{
+    if rows > HALF { over - 1 } else { over }
+}
+
+/// The rows that spare pages have to hold besides while there is no page yet: the first row takes a
+/// whole page.
+fn first_room(pages: &[Page]) -> usize
+    ensures { result ≡ first_page pages.now }
+{
+    match pages {
+        [] => HALF,
+        [_, ..] => 0,
+    }
+}
+
+/// The room with one more row where the spare pages are enough for it, and else as it is.
+fn raised(spares: usize, needed: usize, spare: usize) -> usize
+    requires small { (needed < 8589934592) × (spare < 4294967296) }
+    ensures within { (spare ≤ result) × (result ≤ spare + 1) }
+    ensures room { spare < result → spares < result → result + needed ≤ 32 * spares }
+{
+    let more = spare + 1;
+    if more <= spares || (more + needed).div_ceil(HALF) <= spares {
+        more
+    } else {
+        spare
+    }
+}
+
+/// Takes a row out of a page, which becomes a spare one where that was its last row. Takes no
+/// memory.
+fn take_out(pages: &mut Vec<Page>, spares: &mut Vec<Page>, here: usize, place: usize) -> Row
+    requires here { here < length pages.old.items }
+    requires place { place < length (page_at pages.old.items here) }
+    requires capacity { length pages.old.items + length spares.old.items ≤ vec_capacity spares.old }
+    ensures former { (d : Entry)
+        → result ≡ (slice_index_or (page_at pages.old.items here) place d).1 }
+    ensures rows { IsTakenOut pages.old.items spares.old.items here place
+        pages.new.items spares.new.items }
+    ensures capacity { (vec_capacity pages.new ≡ vec_capacity pages.old)
+        × (vec_capacity spares.old ≤ vec_capacity spares.new) }
+{
+    let page = &mut pages[here];
+    let rows = page.len();
+    let former = page.remove(place);
+    if rows == 1 {
+        let page = pages.remove(here);
+        spares.push(page).unwrap();
+    }
+    former
 }
 
 impl Heap {
@@ -89,8 +202,11 @@ impl Heap {
     {
         Heap {
             alloc,
-            entries: Vec::new(alloc),
-            spare: Vec::new(alloc),
+            pages: Vec::new(alloc),
+            spares: Vec::new(alloc),
+            count: 0,
+            spare: 0,
+            over: 0,
         }
     }
 
@@ -99,14 +215,14 @@ impl Heap {
         ensures count { result ≡ length self.now.entries }
         ensures heap { IsHeap self.now }
     {
-        self.entries.len() as u32
+        self.count as u32
     }
 
     /// Whether there is no row. Takes no memory.
     pub fn is_empty(&self) -> bool
         ensures { IsTrue result ↔ (self.now.entries ≡ []) }
     {
-        self.entries.is_empty()
+        self.count == 0
     }
 
     /// The row under a key, and `None` exactly where there is none. It compares about log n keys,
@@ -114,27 +230,47 @@ impl Heap {
     pub fn get(&self, key: &Key) -> Option<&Row>
         ensures { option_map (λ row. row.now) result ≡ row_under self.now.entries key.now }
     {
-        match find(&self.entries, key) {
-            Ok(place) => Some(&self.entries[place].row),
+        if self.pages.is_empty() {
+            return None;
+        }
+        let page = &self.pages[page_of(&self.pages, key)];
+        match page.find(key) {
+            Ok(place) => Some(page.at(place).1),
             Err(_) => None,
         }
     }
 
     /// The key and the row of a position in the order of keys, counted from 0, and `None` exactly
-    /// where the position is not below the number of rows. Takes no memory.
+    /// where the position is not below the number of rows. It goes over the counts of the pages
+    /// before, and takes no memory.
     pub fn at(&self, position: u32) -> Option<(&Key, &Row)>
         ensures { option_map (λ entry. (entry.0.now, entry.1.now)) result
             ≡ slice_get self.now.entries position }
     {
-        let entry = self.entries.get(position as usize)?;
-        Some((&entry.key, &entry.row))
+        let mut left = position as usize;
+        for page in &self.pages {
+            let count = page.len();
+            if left < count {
+                return Some(page.at(left));
+            }
+            left -= count;
+        }
+        None
     }
 
-    /// Makes room for this many further rows.
+    /// The number of pages with rows. Takes no memory.
+    pub fn pages(&self) -> u32
+        ensures most { result ≤ length self.now.entries }
+        ensures fewest { length self.now.entries ≤ 64 * result }
+    {
+        self.pages.len() as u32
+    }
+
+    /// Makes room for this many further rows. Room for one takes one page at most.
     ///
     /// # Errors
     /// Where there is less room and memory runs out, or rows and room together would reach 2 ^ 32.
-    /// The heap is as it was then.
+    /// The rows and the room are as they were then.
     pub fn reserve(&mut self, more: u32) -> Result<(), Memory>
         ensures rows { self.new.entries ≡ self.old.entries }
         ensures room { OnOk result (more ≤ self.new.spare) }
@@ -144,17 +280,22 @@ impl Heap {
         ensures scarce { OnErr result (self.old.spare < more) }
     {
         let more = more as usize;
-        let there = self.spare.len();
-        if more <= there {
+        if more <= self.spare {
             return Ok(());
         }
-        let all = self.entries.len() + more;
-        if all > u32::MAX as usize {
+        if self.count + more > u32::MAX as usize {
             return Err(Memory);
         }
-        self.entries.reserve(more)?;
-        self.spare.reserve(all - there)?;
-        add_boxes(self.alloc, &mut self.spare, more - there)
+        let first = if self.pages.is_empty() { HALF } else { 0 };
+        let wanted = more.min((more + self.over + first).div_ceil(HALF));
+        let there = self.spares.len();
+        if there < wanted {
+            self.pages.reserve(wanted)?;
+            self.spares.reserve(self.pages.len() + (wanted - there))?;
+            add_pages(self.alloc, &mut self.spares, wanted)?;
+        }
+        self.spare = more;
+        Ok(())
     }
 
     /// Puts a row under a key, and answers the row that stood there. The key is there, or there is
@@ -165,15 +306,27 @@ impl Heap {
         ensures entries { self.new.entries ≡ with_row self.old.entries key row }
         ensures spare { self.new.spare ≡ spare_after self.old key }
     {
-        match find(&self.entries, &key) {
+        if self.pages.is_empty() {
+            let mut page = self.spares.pop().unwrap();
+            page.insert(0, key, row);
+            self.pages.push(page).unwrap();
+            self.count += 1;
+            self.spare -= 1;
+            return None;
+        }
+        let here = page_of(&self.pages, &key);
+        let page = &self.pages[here];
+        let rows = page.len();
+        match page.find(&key) {
             Ok(place) => {
-                let former = mem::replace(&mut *self.entries[place], Entry { key, row });
-                Some(former.row)
+                let page = &mut self.pages[here];
+                Some(page.replace(place, key, row))
             }
             Err(place) => {
-                let mut entry = self.spare.pop().unwrap();
-                *entry = Entry { key, row };
-                self.entries.insert(place, entry).unwrap();
+                put_new(&mut self.pages, &mut self.spares, here, place, key, row);
+                self.over = over_with(self.over, rows);
+                self.count += 1;
+                self.spare -= 1;
                 None
             }
         }
@@ -184,19 +337,24 @@ impl Heap {
     pub fn remove(&mut self, key: &Key) -> Option<Row>
         ensures former { result ≡ row_under self.old.entries key.now }
         ensures entries { self.new.entries ≡ without_row self.old.entries key.now }
-        ensures spare { self.new.spare ≡ spare_without self.old key.now }
+        ensures spare { self.old.spare ≤ self.new.spare }
     {
-        match find(&self.entries, key) {
+        if self.pages.is_empty() {
+            return None;
+        }
+        let here = page_of(&self.pages, key);
+        let page = &self.pages[here];
+        let rows = page.len();
+        match page.find(key) {
             Ok(place) => {
-                let mut entry = self.entries.remove(place);
-                let former = mem::replace(&mut *entry, Entry::vacant(self.alloc));
-                self.spare.push(entry).unwrap();
-                Some(former.row)
+                let former = take_out(&mut self.pages, &mut self.spares, here, place);
+                self.over = over_without(self.over, rows);
+                self.count -= 1;
+                let first = first_room(&self.pages);
+                self.spare = raised(self.spares.len(), self.over + first, self.spare);
+                Some(former)
             }
             Err(_) => None,
         }
     }
 }
-
-#[cfg(test)]
-mod tests;

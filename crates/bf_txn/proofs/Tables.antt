@@ -10,8 +10,8 @@ use Rattle.bf_base.proofs.Names.{name_cmp_total, same_name-tie}
 use Rattle.bf_base.proofs.Order.{less_from_rises, turned_less, turned_equal}
 use Rattle.bf_base.proofs.Parts.{filter-filter}
 use Rattle.bf_txn.specs.declared.write.Write.{Write}
-use Rattle.bf_txn.specs.Writes.{Spot, spot_cmp, spot_of, writes_to, AreWrites}
-use Rattle.bf_txn.proofs.Boxes.{spot_cmp_total}
+use Rattle.bf_txn.specs.Writes.{TableKey, table_key_cmp, table_key_of, writes_to, AreWrites}
+use Rattle.bf_txn.proofs.Boxes.{table_key_cmp_total}
 
 module _ {X : Type 0} (p : X → Bool) where
   pub take_passing : (xs : List X) (i : ℕ) → IsPartitionPoint (λ y. p y ≡ true) (λ y. p y ≡ false) xs i → take i xs ≡ filter p xs
@@ -57,7 +57,7 @@ same_between a b = between (name_cmp a b) ∙ sym (same_name-tie a b)
     between Greater = refl
 
 -- the tables of sorted writes don't fall
-not_behind : (a b : Spot) → spot_cmp a b ≡ Less → is_lt (name_cmp b.0 a.0) ≡ false
+not_behind : (a b : TableKey) → table_key_cmp a b ≡ Less → is_lt (name_cmp b.0 a.0) ≡ false
 not_behind a b less = elim (name_cmp a.0 b.0) as (λ r. name_cmp a.0 b.0 ≡ r → ordering_then r (key_cmp a.1 b.1) ≡ Less → is_lt (name_cmp b.0 a.0) ≡ false) [
   | Less ↦ λ e l. ap is_lt (turned_less name_cmp_total a.0 b.0 e)
   | Equal ↦ λ e l. ap is_lt (turned_equal name_cmp_total a.0 b.0 e)
@@ -90,9 +90,9 @@ module _ {B : Type 0} (opened : B → Write) (boxes : List B) (sorted : AreWrite
 
   rises_by_table : IsNonDecreasingBy (λ b. ordering_index (name_cmp (opened b).table table)) boxes
   rises_by_table =
-      let spots : rises spot_cmp (map (λ b. spot_of (opened b)) boxes) ≡ true = ap (rises spot_cmp) (sym (map-map spot_of opened boxes)) ∙ sorted in
+      let table_keys : rises table_key_cmp (map (λ b. table_key_of (opened b)) boxes) ≡ true = ap (rises table_key_cmp) (sym (map-map table_key_of opened boxes)) ∙ sorted in
       searchable_from_sorted name_cmp_total (λ b. (opened b).table) boxes table
-      (λ i d low high. not_behind (spot_of (opened (get_or boxes i d))) (spot_of (opened (get_or boxes (i + 1) d))) (less_from_rises spot_cmp_total (λ b. spot_of (opened b)) boxes i (i + 1) d spots (omega arith) high))
+      (λ i d low high. not_behind (table_key_of (opened (get_or boxes i d))) (table_key_of (opened (get_or boxes (i + 1) d))) (less_from_rises table_key_cmp_total (λ b. table_key_of (opened b)) boxes i (i + 1) d table_keys (omega arith) high))
 
   pub before_parted : IsPartitionedBy before boxes
   before_parted i j d within in_range = lt_below _ _ (rises_by_table i j d within in_range)

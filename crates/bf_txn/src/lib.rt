@@ -1,8 +1,6 @@
 //! What a transaction has written so far.
 #![tactic(auto)]
 
-#[cfg(test)]
-mod tests;
 pub mod workspace;
 pub mod write;
 

@@ -3,7 +3,7 @@
 ghost use Rattle.std.specs.Prelude.{◌≡◌, [], IfOk, OnOk, OnErr, length, map};
 ghost use Rattle.std.specs.List.Sorted.{IsBinarySearchResult, IsSearchInRange};
 ghost use Rattle.std.specs.Option.{option_map};
-ghost use Rattle.bf_txn.specs.Writes.{written_at, writes_to, with_write, spot_cmp, spot_of, AreWrites};
+ghost use Rattle.bf_txn.specs.Writes.{written_at, writes_to, with_write, table_key_cmp, table_key_of, AreWrites};
 
 use crate::write::{Write, WriteSet};
 use bf_base::{Key, Memory, Name, Row, Sequence};
@@ -34,7 +34,7 @@ impl Model for Workspace {
 
 /// How a write compares with a key of a table: by table, then key.
 fn compare(write: &Write, table: &Name, key: &Key) -> Ordering
-    ensures { result ≡ spot_cmp (spot_of write.now) (table.now, key.now) }
+    ensures { result ≡ table_key_cmp (table_key_of write.now) (table.now, key.now) }
 {
     write
         .table
@@ -47,7 +47,7 @@ fn compare(write: &Write, table: &Name, key: &Key) -> Ordering
 fn find(writes: &[Box<Write>], table: &Name, key: &Key) -> Result<usize, usize>
     ensures bound { IsSearchInRange result (length writes.now) }
     ensures position { IsBinarySearchResult
-        (λ write. spot_cmp (spot_of write.value) (table.now, key.now)) writes.now result }
+        (λ write. table_key_cmp (table_key_of write.value) (table.now, key.now)) writes.now result }
 {
     writes.binary_search_by(|write| compare(write, table, key))
 }

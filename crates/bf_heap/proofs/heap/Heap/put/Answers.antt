@@ -1,61 +1,48 @@
-use Rattle.std.proofs.Common.{◌≡◌, refl, sym, ap, ◌∙◌, Some, [], ◌∷◌, ◌++◌, length, arith, insert}
-use Rattle.std.proofs.lemmas.List.{length_push}
-use Rattle.std.specs.Global.{Box}
-use Rattle.std.specs.Box.{with_value}
-use Rattle.bf_heap.specs.declared.heap.Entry.{Entry as InBox}
-use Rattle.bf_heap.specs.Room.{entry_in}
-use Rattle.bf_heap.proofs.Boxes.{row_found, no_row, spare_left, spare_taken, room_there, entries_replaced, entries_inserted, kept_replaced, kept_inserted}
+use Rattle.std.proofs.Common.{[], List, set, get_or, Some, sym, ap, ◌∙◌, arith}
+use Rattle.bf_heap.specs.Heaps.{Entry}
+use Rattle.bf_heap.proofs.Counts.{over_within}
+use Rattle.bf_heap.proofs.Puts.{row_found, spare_left, entries_replaced, kept_replaced, no_row, room_there, page_there, spare_taken, entries_put, kept_put, now_page, over_now}
 use Rattle.bf_heap.proofs.heap.Heap.put.Goals as goal
 
--- the key's entry is replaced in its box
+-- the key's entry is replaced
+pub invariant_of-self-in-Ok : goal.invariant_of-self-in-Ok
+invariant_of-self-in-Ok c =
+    kept_replaced c.self.inside.pages.items c.self.inside.spares.items c.self.inside.count c.self.inside.spare c.self.inside.over _ _ c.self.invariant c.args.self.now c.self.view_is c.deref.result.now c.deref.ensures.value c.args.key c.page_of-here.result c.page_of-here.ensures c.index-page.result.now c.index-page.ensures c.in-Ok.place c.in-Ok.ensures.bound c.in-Ok.ensures.position c.args.row c.replace.new.self (c.replace.ensures.rows ∙ ap (λ (p : List Entry). set p c.in-Ok.place (c.args.key, c.args.row)) (now_page c.self.inside.pages.items c.self.inside.spares.items c.self.inside.count c.self.inside.spare c.self.inside.over _ _ c.self.invariant c.args.self.now c.self.view_is c.deref.result.now c.deref.ensures.value c.args.key c.page_of-here.result c.page_of-here.ensures c.index-page.result.now c.index-page.ensures c.index_mut-page.result.now c.index_mut-page.ensures.value))
+
 pub returns-in-Ok-clause-former : goal.returns-in-Ok-clause-former
 returns-in-Ok-clause-former c =
-    ap (λ (entry : InBox). Some entry.row) (c.replace-former.ensures.value ∙ c.deref_mut.ensures.value)
-    ∙ sym (row_found entry_in c.self.inside.entries.items _ _ _ c.args.self.now c.self.invariant c.self.view_is c.deref.result.now c.deref.ensures.value c.args.key c.in-Ok.place c.in-Ok.ensures.bound c.in-Ok.ensures.position
-    c.index_mut.result.now c.index_mut.ensures.value)
+    let d : Entry = ([], []) in
+    ap Some (c.replace.ensures.former d ∙ ap (λ (p : List Entry). (get_or p c.in-Ok.place d).1) (now_page c.self.inside.pages.items c.self.inside.spares.items c.self.inside.count c.self.inside.spare c.self.inside.over _ _ c.self.invariant c.args.self.now c.self.view_is c.deref.result.now c.deref.ensures.value c.args.key c.page_of-here.result c.page_of-here.ensures c.index-page.result.now c.index-page.ensures c.index_mut-page.result.now c.index_mut-page.ensures.value))
+    ∙ sym (row_found c.self.inside.pages.items c.self.inside.spares.items c.self.inside.count c.self.inside.spare c.self.inside.over _ _ c.self.invariant c.args.self.now c.self.view_is c.deref.result.now c.deref.ensures.value c.args.key c.page_of-here.result c.page_of-here.ensures c.index-page.result.now c.index-page.ensures c.in-Ok.place c.in-Ok.ensures.bound c.in-Ok.ensures.position d)
 
 pub returns-in-Ok-clause-entries : goal.returns-in-Ok-clause-entries
 returns-in-Ok-clause-entries c =
-    entries_replaced entry_in c.self.inside.entries.items _ _ _ c.args.self.now c.self.invariant c.self.view_is c.deref.result.now c.deref.ensures.value c.args.key c.in-Ok.place c.in-Ok.ensures.bound c.in-Ok.ensures.position
-    (with_value c.index_mut.result.now c.replace-former.new.dest) c.args.row (ap (λ (entry : InBox). (entry.key, entry.row)) c.replace-former.ensures.after)
+    entries_replaced c.self.inside.pages.items c.self.inside.spares.items c.self.inside.count c.self.inside.spare c.self.inside.over _ _ c.self.invariant c.args.self.now c.self.view_is c.deref.result.now c.deref.ensures.value c.args.key c.page_of-here.result c.page_of-here.ensures c.index-page.result.now c.index-page.ensures c.in-Ok.place c.in-Ok.ensures.bound c.in-Ok.ensures.position c.args.row c.replace.new.self (c.replace.ensures.rows ∙ ap (λ (p : List Entry). set p c.in-Ok.place (c.args.key, c.args.row)) (now_page c.self.inside.pages.items c.self.inside.spares.items c.self.inside.count c.self.inside.spare c.self.inside.over _ _ c.self.invariant c.args.self.now c.self.view_is c.deref.result.now c.deref.ensures.value c.args.key c.page_of-here.result c.page_of-here.ensures c.index-page.result.now c.index-page.ensures c.index_mut-page.result.now c.index_mut-page.ensures.value))
 
 pub returns-in-Ok-clause-spare : goal.returns-in-Ok-clause-spare
-returns-in-Ok-clause-spare c =
-    spare_left entry_in c.self.inside.entries.items _ _ _ c.args.self.now c.self.invariant c.self.view_is c.deref.result.now c.deref.ensures.value c.args.key c.in-Ok.place c.in-Ok.ensures.bound c.in-Ok.ensures.position
-    c.index_mut.result.now c.index_mut.ensures.value
+returns-in-Ok-clause-spare c = spare_left c.self.inside.pages.items c.self.inside.spares.items c.self.inside.count c.self.inside.spare c.self.inside.over _ _ c.self.invariant c.args.self.now c.self.view_is c.deref.result.now c.deref.ensures.value c.args.key c.page_of-here.result c.page_of-here.ensures c.index-page.result.now c.index-page.ensures c.in-Ok.place c.in-Ok.ensures.bound c.in-Ok.ensures.position
 
-pub invariant_of-self : goal.invariant_of-self
-invariant_of-self c =
-    kept_replaced entry_in c.self.inside.entries.items _ _ _ c.args.self.now c.self.invariant c.self.view_is c.deref.result.now c.deref.ensures.value c.args.key c.in-Ok.place c.in-Ok.ensures.bound c.in-Ok.ensures.position
-    (with_value c.index_mut.result.now c.replace-former.new.dest) c.args.row (ap (λ (entry : InBox). (entry.key, entry.row)) c.replace-former.ensures.after)
+-- a new key's entry is put
+pub put_new-requires-clause-spare : goal.put_new-requires-clause-spare
+put_new-requires-clause-spare c = page_there c.self.inside.pages.items c.self.inside.spares.items c.self.inside.count c.self.inside.spare c.self.inside.over _ _ c.self.invariant c.args.self.now c.self.view_is c.deref.result.now c.deref.ensures.value c.args.key c.page_of-here.result c.page_of-here.ensures c.index-page.result.now c.index-page.ensures c.in-Err.place c.in-Err.ensures.bound c.in-Err.ensures.position c.requires
 
--- a new key's entry goes to its place in a box of the room
-pub returns-in-Err-clause-former : goal.returns-in-Err-clause-former
-returns-in-Err-clause-former c =
-    sym (no_row entry_in c.self.inside.entries.items _ _ _ c.args.self.now c.self.invariant c.self.view_is c.deref.result.now c.deref.ensures.value c.args.key c.in-Err.place c.in-Err.ensures.bound c.in-Err.ensures.position)
+pub over_with-self-inside-requires-clause-small : goal.over_with-self-inside-requires-clause-small
+over_with-self-inside-requires-clause-small c = omega (arith, over_within c.self.inside.pages.items, c.self.invariant.over_is, c.self.invariant.rows.within)
 
-pub unwrap-entry-requires : goal.unwrap-entry-requires
-unwrap-entry-requires c =
-    let room = room_there entry_in c.self.inside.entries.items _ _ _ c.args.self.now c.self.invariant c.self.view_is c.deref.result.now c.deref.ensures.value c.args.key c.in-Err.place c.in-Err.ensures.bound c.in-Err.ensures.position c.requires in
-    c.pop.ensures.variant.1 (omega (arith, room, c.self.inside.spare.ok.0))
-
-pub returns-in-Err-clause-entries : goal.returns-in-Err-clause-entries
-returns-in-Err-clause-entries c =
-    let box : Box InBox = with_value c.unwrap-entry.result (record { key = c.args.key; row = c.args.row }) in
-    let inserted : c.insert.new.self.items ≡ insert c.self.inside.entries.items c.in-Err.place box = rw c.unwrap.ensures at c.insert.ensures.items in
-    entries_inserted entry_in c.self.inside.entries.items _ _ _ c.args.self.now c.self.invariant c.self.view_is c.deref.result.now c.deref.ensures.value c.args.key c.in-Err.place c.in-Err.ensures.bound c.in-Err.ensures.position
-    c.insert.new.self.items box c.args.row inserted refl
-
-pub returns-in-Err-clause-spare : goal.returns-in-Err-clause-spare
-returns-in-Err-clause-spare c =
-    let popped : c.self.inside.spare.items ≡ c.pop.new.self.items ++ c.unwrap-entry.result ∷ [] = rw c.unwrap-entry.ensures at c.pop.ensures.items in
-    spare_taken entry_in c.self.inside.entries.items _ _ _ c.args.self.now c.self.invariant c.self.view_is c.deref.result.now c.deref.ensures.value c.args.key c.in-Err.place c.in-Err.ensures.bound c.in-Err.ensures.position
-    (length c.pop.new.self.items) (sym (ap length popped ∙ length_push _ _))
+pub overflow_sub-self-in-Err : goal.overflow_sub-self-in-Err
+overflow_sub-self-in-Err c = omega (arith, room_there c.self.inside.pages.items c.self.inside.spares.items c.self.inside.count c.self.inside.spare c.self.inside.over _ _ c.self.invariant c.args.self.now c.self.view_is c.deref.result.now c.deref.ensures.value c.args.key c.page_of-here.result c.page_of-here.ensures c.index-page.result.now c.index-page.ensures c.in-Err.place c.in-Err.ensures.bound c.in-Err.ensures.position c.requires)
 
 pub invariant_of-self-in-Err : goal.invariant_of-self-in-Err
 invariant_of-self-in-Err c =
-    let popped : c.self.inside.spare.items ≡ c.pop.new.self.items ++ c.unwrap-entry.result ∷ [] = rw c.unwrap-entry.ensures at c.pop.ensures.items in
-    let box : Box InBox = with_value c.unwrap-entry.result (record { key = c.args.key; row = c.args.row }) in
-    let inserted : c.insert.new.self.items ≡ insert c.self.inside.entries.items c.in-Err.place box = rw c.unwrap.ensures at c.insert.ensures.items in
-    kept_inserted entry_in c.self.inside.entries.items _ _ _ c.args.self.now c.self.invariant c.self.view_is c.deref.result.now c.deref.ensures.value c.args.key c.in-Err.place c.in-Err.ensures.bound c.in-Err.ensures.position
-    c.insert.new.self.items box c.args.row (length c.pop.new.self.items) _ _ inserted refl (sym (ap length popped ∙ length_push _ _)) c.insert.ensures.capacity (omega (arith, c.pop.ensures.capacity))
+    kept_put c.self.inside.pages.items c.self.inside.spares.items c.self.inside.count c.self.inside.spare c.self.inside.over _ _ c.self.invariant c.args.self.now c.self.view_is c.deref.result.now c.deref.ensures.value c.args.key c.page_of-here.result c.page_of-here.ensures c.index-page.result.now c.index-page.ensures c.in-Err.place c.in-Err.ensures.bound c.in-Err.ensures.position c.args.row c.put_new.new.pages.items c.put_new.new.spares.items c.put_new.ensures.entry c.requires (omega (arith, c.len-rows.ensures.within)) _ _ _
+    (over_now c.self.inside.pages.items c.self.inside.spares.items c.self.inside.count c.self.inside.spare c.self.inside.over _ _ c.self.invariant c.args.self.now c.self.view_is c.deref.result.now c.deref.ensures.value c.args.key c.page_of-here.result c.page_of-here.ensures c.index-page.result.now c.index-page.ensures c.in-Err.place c.in-Err.ensures.bound c.in-Err.ensures.position c.args.row c.put_new.new.pages.items c.put_new.new.spares.items c.put_new.ensures.entry c.len-rows.result c.over_with-self-inside.result c.len-rows.ensures.count c.len-rows.ensures.within c.over_with-self-inside.ensures.split c.over_with-self-inside.ensures.more c.over_with-self-inside.ensures.same)
+    c.put_new.ensures.capacity.0 c.put_new.ensures.capacity.1
+
+pub returns-in-Err-clause-former : goal.returns-in-Err-clause-former
+returns-in-Err-clause-former c = sym (no_row c.self.inside.pages.items c.self.inside.spares.items c.self.inside.count c.self.inside.spare c.self.inside.over _ _ c.self.invariant c.args.self.now c.self.view_is c.deref.result.now c.deref.ensures.value c.args.key c.page_of-here.result c.page_of-here.ensures c.index-page.result.now c.index-page.ensures c.in-Err.place c.in-Err.ensures.bound c.in-Err.ensures.position)
+
+pub returns-in-Err-clause-entries : goal.returns-in-Err-clause-entries
+returns-in-Err-clause-entries c = entries_put c.self.inside.pages.items c.self.inside.spares.items c.self.inside.count c.self.inside.spare c.self.inside.over _ _ c.self.invariant c.args.self.now c.self.view_is c.deref.result.now c.deref.ensures.value c.args.key c.page_of-here.result c.page_of-here.ensures c.index-page.result.now c.index-page.ensures c.in-Err.place c.in-Err.ensures.bound c.in-Err.ensures.position c.args.row c.put_new.new.pages.items c.put_new.new.spares.items c.put_new.ensures.entry
+
+pub returns-in-Err-clause-spare : goal.returns-in-Err-clause-spare
+returns-in-Err-clause-spare c = spare_taken c.self.inside.pages.items c.self.inside.spares.items c.self.inside.count c.self.inside.spare c.self.inside.over _ _ c.self.invariant c.args.self.now c.self.view_is c.deref.result.now c.deref.ensures.value c.args.key c.page_of-here.result c.page_of-here.ensures c.index-page.result.now c.index-page.ensures c.in-Err.place c.in-Err.ensures.bound c.in-Err.ensures.position

@@ -1,43 +1,34 @@
-use Rattle.std.proofs.Common.{sym, ap, ◌∙◌, Some, length, arith}
-use Rattle.std.proofs.lemmas.List.{length_push}
-use Rattle.bf_heap.specs.declared.heap.Entry.{Entry as InBox}
-use Rattle.bf_heap.specs.Room.{entry_in}
-use Rattle.bf_heap.proofs.Boxes.{row_found, no_row, entries_removed, kept_removed, nothing_removed, spare_returned, spare_kept}
+use Rattle.std.proofs.Common.{[], Some, sym, ap, ◌∙◌, arith}
+use Rattle.bf_heap.specs.Heaps.{Entry, Rows}
+use Rattle.bf_heap.specs.Pages.{first_page}
+use Rattle.bf_heap.proofs.Counts.{over_within}
+use Rattle.bf_heap.proofs.Takes.{first_most}
+use Rattle.bf_heap.proofs.Puts.{row_found, some_row, kept_taken, entries_taken, no_row, nothing_taken}
 use Rattle.bf_heap.proofs.heap.Heap.remove.Goals as goal
 
--- the key's entry leaves its box, which goes into the room
-pub returns-in-Ok-clause-former : goal.returns-in-Ok-clause-former
-returns-in-Ok-clause-former c =
-    ap (λ (entry : InBox). Some entry.row) (c.replace-former.ensures.value ∙ c.deref_mut.ensures.value)
-    ∙ sym (row_found entry_in c.self.inside.entries.items _ _ _ c.args.self.now c.self.invariant c.self.view_is c.deref.result.now c.deref.ensures.value c.args.key.now c.in-Ok.place c.in-Ok.ensures.bound c.in-Ok.ensures.position
-    c.remove-entry.result c.remove-entry.ensures.value)
+pub overflow_sub-self : goal.overflow_sub-self
+overflow_sub-self c = some_row c.self.inside.pages.items c.self.inside.spares.items c.self.inside.count c.self.inside.spare c.self.inside.over _ _ c.self.invariant c.args.self.now c.self.view_is c.deref.result.now c.deref.ensures.value c.args.key.now c.page_of-here.result c.page_of-here.ensures c.index-page.result.now c.index-page.ensures c.in-Ok.place c.in-Ok.ensures.bound c.in-Ok.ensures.position c.take_out-former.new.pages.items c.take_out-former.new.spares.items c.take_out-former.ensures.rows
 
-pub returns-in-Ok-clause-entries : goal.returns-in-Ok-clause-entries
-returns-in-Ok-clause-entries c =
-    entries_removed entry_in c.self.inside.entries.items _ _ _ c.args.self.now c.self.invariant c.self.view_is c.deref.result.now c.deref.ensures.value c.args.key.now c.in-Ok.place c.in-Ok.ensures.bound c.in-Ok.ensures.position
-    c.remove-entry.new.self.items c.remove-entry.ensures.items
-
-pub returns-in-Ok-clause-spare : goal.returns-in-Ok-clause-spare
-returns-in-Ok-clause-spare c =
-    let pushed = rw c.unwrap.ensures at c.push.ensures.items in
-    spare_returned entry_in c.self.inside.entries.items _ _ _ c.args.self.now c.self.invariant c.self.view_is c.deref.result.now c.deref.ensures.value c.args.key.now c.in-Ok.place c.in-Ok.ensures.bound c.in-Ok.ensures.position
-    c.remove-entry.result (length c.push.new.self.items) c.remove-entry.ensures.value (ap length pushed ∙ length_push _ _)
+pub raised-self-inside-requires : goal.raised-self-inside-requires
+raised-self-inside-requires c = record { small = (omega (arith, c.over_without-self-inside.ensures, over_within c.self.inside.pages.items, c.self.invariant.over_is, c.self.invariant.rows.within, c.first_room-first.ensures, first_most c.deref-in-Ok.result.now), omega (arith, c.self.invariant.rows.within)) }
 
 pub invariant_of-self : goal.invariant_of-self
 invariant_of-self c =
-    let pushed = rw c.unwrap.ensures at c.push.ensures.items in
-    kept_removed entry_in c.self.inside.entries.items _ _ _ c.args.self.now c.self.invariant c.self.view_is c.deref.result.now c.deref.ensures.value c.args.key.now c.in-Ok.place c.in-Ok.ensures.bound c.in-Ok.ensures.position
-    c.remove-entry.new.self.items (length c.push.new.self.items) _ _ c.remove-entry.ensures.items (ap length pushed ∙ length_push _ _) (omega (arith, c.remove-entry.ensures.capacity)) c.push.ensures.capacity
+    kept_taken c.self.inside.pages.items c.self.inside.spares.items c.self.inside.count c.self.inside.spare c.self.inside.over _ _ c.self.invariant c.args.self.now c.self.view_is c.deref.result.now c.deref.ensures.value c.args.key.now c.page_of-here.result c.page_of-here.ensures c.index-page.result.now c.index-page.ensures c.in-Ok.place c.in-Ok.ensures.bound c.in-Ok.ensures.position c.take_out-former.new.pages.items c.take_out-former.new.spares.items c.take_out-former.ensures.rows c.len-rows.result c.over_without-self-inside.result c.first_room-first.result c.raised-self-inside.result _ _ c.len-rows.ensures.count c.over_without-self-inside.ensures (c.first_room-first.ensures ∙ ap first_page c.deref-in-Ok.ensures.value) c.raised-self-inside.ensures.within.0 c.raised-self-inside.ensures.within.1 (λ a b. omega (arith, c.raised-self-inside.ensures.room a (omega (arith, b, c.len.ensures, c.take_out-former.new.spares.ok.0)), c.len.ensures, c.take_out-former.new.spares.ok.0)) c.take_out-former.ensures.capacity.0 c.take_out-former.ensures.capacity.1
 
--- the key is not there
+pub returns-in-Ok-clause-former : goal.returns-in-Ok-clause-former
+returns-in-Ok-clause-former c =
+    let d : Entry = ([], []) in
+    ap Some (c.take_out-former.ensures.former d) ∙ sym (row_found c.self.inside.pages.items c.self.inside.spares.items c.self.inside.count c.self.inside.spare c.self.inside.over _ _ c.self.invariant c.args.self.now c.self.view_is c.deref.result.now c.deref.ensures.value c.args.key.now c.page_of-here.result c.page_of-here.ensures c.index-page.result.now c.index-page.ensures c.in-Ok.place c.in-Ok.ensures.bound c.in-Ok.ensures.position d)
+
+pub returns-in-Ok-clause-entries : goal.returns-in-Ok-clause-entries
+returns-in-Ok-clause-entries c = entries_taken c.self.inside.pages.items c.self.inside.spares.items c.self.inside.count c.self.inside.spare c.self.inside.over _ _ c.self.invariant c.args.self.now c.self.view_is c.deref.result.now c.deref.ensures.value c.args.key.now c.page_of-here.result c.page_of-here.ensures c.index-page.result.now c.index-page.ensures c.in-Ok.place c.in-Ok.ensures.bound c.in-Ok.ensures.position c.take_out-former.new.pages.items c.take_out-former.new.spares.items c.take_out-former.ensures.rows
+
+pub returns-in-Ok-clause-spare : goal.returns-in-Ok-clause-spare
+returns-in-Ok-clause-spare c = omega (arith, ap (λ (h : Rows). h.spare) c.self.view_is, c.raised-self-inside.ensures.within.0)
+
 pub returns-in-Err-clause-former : goal.returns-in-Err-clause-former
-returns-in-Err-clause-former c =
-    sym (no_row entry_in c.self.inside.entries.items _ _ _ c.args.self.now c.self.invariant c.self.view_is c.deref.result.now c.deref.ensures.value c.args.key.now c.in-Err.field-0 c.in-Err.ensures.bound c.in-Err.ensures.position)
+returns-in-Err-clause-former c = sym (no_row c.self.inside.pages.items c.self.inside.spares.items c.self.inside.count c.self.inside.spare c.self.inside.over _ _ c.self.invariant c.args.self.now c.self.view_is c.deref.result.now c.deref.ensures.value c.args.key.now c.page_of-here.result c.page_of-here.ensures c.index-page.result.now c.index-page.ensures c.in-Err.field-0 c.in-Err.ensures.bound c.in-Err.ensures.position)
 
 pub returns-in-Err-clause-entries : goal.returns-in-Err-clause-entries
-returns-in-Err-clause-entries c =
-    nothing_removed entry_in c.self.inside.entries.items _ _ _ c.args.self.now c.self.invariant c.self.view_is c.deref.result.now c.deref.ensures.value c.args.key.now c.in-Err.field-0 c.in-Err.ensures.bound c.in-Err.ensures.position
-
-pub returns-in-Err-clause-spare : goal.returns-in-Err-clause-spare
-returns-in-Err-clause-spare c =
-    spare_kept entry_in c.self.inside.entries.items _ _ _ c.args.self.now c.self.invariant c.self.view_is c.deref.result.now c.deref.ensures.value c.args.key.now c.in-Err.field-0 c.in-Err.ensures.bound c.in-Err.ensures.position
+returns-in-Err-clause-entries c = nothing_taken c.self.inside.pages.items c.self.inside.spares.items c.self.inside.count c.self.inside.spare c.self.inside.over _ _ c.self.invariant c.args.self.now c.self.view_is c.deref.result.now c.deref.ensures.value c.args.key.now c.page_of-here.result c.page_of-here.ensures c.index-page.result.now c.index-page.ensures c.in-Err.field-0 c.in-Err.ensures.bound c.in-Err.ensures.position

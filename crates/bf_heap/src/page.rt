@@ -1,0 +1,139 @@
+//! Pages of rows.
+
+ghost use Rattle.std.specs.Prelude.{◌≡◌, [], ◌≤◌, ◌<◌, List, length, take, drop, reverse, vec_capacity, IfOk, slice_index_or, slice_set};
+ghost use Rattle.std.specs.List.{insert, remove};
+ghost use Rattle.std.specs.List.Sorted.{IsBinarySearchResult, IsSearchInRange};
+ghost use Rattle.bf_base.specs.Values.{key_cmp};
+ghost use Rattle.bf_heap.specs.Heaps.{Entry};
+ghost use Rattle.bf_heap.specs.Pages.{begins_behind};
+
+use bf_base::{Key, Memory, Row};
+use std::alloc::Global;
+use std::cmp::Ordering;
+use std::marker::Model;
+use std::mem;
+
+/// The most rows of a page.
+pub const FULL: usize = 64;
+
+/// The rows of each half of a full page that is split.
+pub const HALF: usize = 32;
+
+/// At most 64 rows under their keys, and the memory for 64.
+#[derive(Drop)]
+pub struct Page {
+    rows: Vec<(Key, Row)>,
+}
+
+impl Model for Page {
+    ghost use Rattle.std.specs.Prelude.{◌≤◌, List, length, vec_capacity};
+    ghost use Rattle.bf_heap.specs.Heaps.{Entry};
+
+    ghost Value = { List Entry };
+
+    ghost view = { λ page. page.rows.items };
+
+    ghost invariant = { λ page. (length page.rows.items ≤ 64) × (64 ≤ vec_capacity page.rows) };
+}
+
+/// Moves the rows behind the first half to another list, the last one first. Takes no memory.
+fn move_half(from: &mut Vec<(Key, Row)>, to: &mut Vec<(Key, Row)>)
+    requires full { length from.old.items ≡ 64 }
+    requires empty { to.old.items ≡ [] }
+    requires room { 64 ≤ vec_capacity to.old }
+    ensures from { from.new.items ≡ take 32 from.old.items }
+    ensures to { to.new.items ≡ reverse (drop 32 from.old.items) }
+    ensures kept { (vec_capacity from.new ≡ vec_capacity from.old)
+        × (vec_capacity to.old ≤ vec_capacity to.new) }
+{
+    for _ in 0..HALF {
+        let entry = from.pop().unwrap();
+        to.push(entry).unwrap();
+    }
+}
+
+impl Page {
+    /// A page without rows, and the memory for 64.
+    pub fn new(alloc: Global) -> Result<Page, Memory>
+        ensures { IfOk result (λ page. page ≡ []) }
+    {
+        let rows = Vec::with_capacity(alloc, FULL)?;
+        Ok(Page { rows })
+    }
+
+    /// The number of rows. Takes no memory.
+    pub fn len(&self) -> usize
+        ensures count { result ≡ length self.now }
+        ensures within { length self.now ≤ 64 }
+    {
+        self.rows.len()
+    }
+
+    /// Whether the first key is greater than a key. Takes no memory.
+    pub fn begins_behind(&self, key: &Key) -> bool
+        ensures { result ≡ begins_behind key.now self.now }
+    {
+        match self.rows.as_slice() {
+            [] => false,
+            [first, ..] => first.0.compare(key) == Ordering::Greater,
+        }
+    }
+
+    /// Where the row of a key is, or else where it goes, among rows in the order of their keys. It
+    /// compares at most seven keys, and takes no memory.
+    pub fn find(&self, key: &Key) -> Result<usize, usize>
+        ensures bound { IsSearchInRange result (length self.now) }
+        ensures position { IsBinarySearchResult (λ entry. key_cmp entry.0 key.now) self.now result }
+    {
+        self.rows.binary_search_by(|entry| entry.0.compare(key))
+    }
+
+    /// The key and the row at a place. Takes no memory.
+    pub fn at(&self, place: usize) -> (&Key, &Row)
+        requires { place < length self.now }
+        ensures { (d : Entry) → (result.0.now, result.1.now) ≡ slice_index_or self.now place d }
+    {
+        let entry = &self.rows[place];
+        (&entry.0, &entry.1)
+    }
+
+    /// Puts a key and a row in a place. It moves the rows behind, and takes no memory.
+    pub fn insert(&mut self, place: usize, key: Key, row: Row)
+        requires bound { place ≤ length self.old }
+        requires room { length self.old < 64 }
+        ensures { self.new ≡ insert self.old place (key, row) }
+    {
+        self.rows.insert(place, (key, row)).unwrap();
+    }
+
+    /// Puts a key and a row in the place of others, and answers the row that stood there. Takes no
+    /// memory.
+    pub fn replace(&mut self, place: usize, key: Key, row: Row) -> Row
+        requires { place < length self.old }
+        ensures former { (d : Entry) → result ≡ (slice_index_or self.old place d).1 }
+        ensures rows { self.new ≡ slice_set self.old place (key, row) }
+    {
+        let former = mem::replace(&mut self.rows[place], (key, row));
+        former.1
+    }
+
+    /// Takes the row at a place out, and answers it. It moves the rows behind, and takes no memory.
+    pub fn remove(&mut self, place: usize) -> Row
+        requires { place < length self.old }
+        ensures former { (d : Entry) → result ≡ (slice_index_or self.old place d).1 }
+        ensures rows { self.new ≡ remove self.old place }
+    {
+        self.rows.remove(place).1
+    }
+
+    /// Moves the upper half of a full page to one without rows. Takes no memory.
+    pub fn split(&mut self, upper: &mut Page)
+        requires full { length self.old ≡ 64 }
+        requires empty { upper.old ≡ [] }
+        ensures lower { self.new ≡ take 32 self.old }
+        ensures upper { upper.new ≡ drop 32 self.old }
+    {
+        move_half(&mut self.rows, &mut upper.rows);
+        upper.rows.reverse();
+    }
+}
