@@ -18,7 +18,7 @@ use Rattle.bf_txn.specs.Writes.{AreWrites}
 -- their own keys
 pub record IsOpen (db : Database) (writes : List Write) : Type 0 where
   pub database : IsDatabase (committed db writes)
-  pub by_spot : AreWrites writes
+  pub by_table_key : AreWrites writes
   pub own_keys : All (λ s. StandUnderOwnKeys s.table (entries_of s.table s.rows) writes) db.tables
 
 -- the writes behind a statement: those before it, and where it is bound to a change that the rows don't refuse, its own

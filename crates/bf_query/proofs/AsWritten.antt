@@ -108,20 +108,20 @@ module _ (table : Table) (rows : List (List Value)) (db : Database) (entries : L
   inserted : (tuples : List (List Value)) → IsWellBound (action.Insert table tuples) → insert_objections table rows tuples ≡ []
       → rows_under entries (fold with_write writes (writes_of rows (action.Insert table tuples))) table.name ≡ with_placed key_cmp (key_of table) rows tuples
   inserted tuples within none =
-      rows_placed table entries writes tuples hold.entries_by_key hold.writes_by_spot hold.under_own_keys within (ap (λ (rs : List (List Value)). insert_objections table rs tuples) held ∙ none)
+      rows_placed table entries writes tuples hold.entries_by_key hold.writes_by_table_key hold.under_own_keys within (ap (λ (rs : List (List Value)). insert_objections table rs tuples) held ∙ none)
       ∙ ap (λ (rs : List (List Value)). with_placed key_cmp (key_of table) rs tuples) held
 
   updated : (sets : List (ℕ × Expr ℕ)) (c : Cond ℕ) (fixed : Option (List Value)) → rows_under entries (fold with_write writes (writes_of rows (action.Update table sets c fixed))) table.name
       ≡ map (λ row. if holds_on (cell row) c then changed cell (λ place. place) sets row else row) rows
   updated sets c fixed =
       subst (λ (rs : List (List Value)). rows_under entries (fold with_write writes (writes_of rs (action.Update table sets c fixed))) table.name ≡ map (λ row. if holds_on (cell row) c then changed cell (λ place. place) sets row else row) rs) held
-      (rows_remade table (λ row. holds_on (cell row) c) (λ row. Some (changed cell (λ place. place) sets row)) entries writes hold.entries_by_key hold.writes_by_spot hold.under_own_keys
+      (rows_remade table (λ row. holds_on (cell row) c) (λ row. Some (changed cell (λ place. place) sets row)) entries writes hold.entries_by_key hold.writes_by_table_key hold.under_own_keys
       ∙ remade-changed table (λ row. holds_on (cell row) c) (changed cell (λ place. place) sets) (entries_under entries writes table.name))
 
   deleted : (c : Cond ℕ) (fixed : Option (List Value)) → rows_under entries (fold with_write writes (writes_of rows (action.Delete table c fixed))) table.name ≡ filter (λ row. not (holds_on (cell row) c)) rows
   deleted c fixed =
       subst (λ (rs : List (List Value)). rows_under entries (fold with_write writes (writes_of rs (action.Delete table c fixed))) table.name ≡ filter (λ row. not (holds_on (cell row) c)) rs) held
-      (rows_remade table (λ row. holds_on (cell row) c) (λ row. None) entries writes hold.entries_by_key hold.writes_by_spot hold.under_own_keys
+      (rows_remade table (λ row. holds_on (cell row) c) (λ row. None) entries writes hold.entries_by_key hold.writes_by_table_key hold.under_own_keys
       ∙ remade-removed table (λ row. holds_on (cell row) c) (entries_under entries writes table.name))
 
 -- what holds of an action that a statement is bound to, and of its table

@@ -20,8 +20,8 @@ use Rattle.bf_base.proofs.Ties.{name_ties}
 use Rattle.bf_heap.specs.Heaps.{Entry, key_of_entry, row_under, with_row}
 use Rattle.bf_sql.specs.RowObjections.{insert_objections, unfit_row_objections}
 use Rattle.bf_txn.specs.declared.write.Write.{Write}
-use Rattle.bf_txn.specs.Writes.{Spot, spot_cmp, spot_of, written_at, writes_to, with_write, AreWrites}
-use Rattle.bf_txn.proofs.Boxes.{spot_cmp_total}
+use Rattle.bf_txn.specs.Writes.{TableKey, table_key_cmp, table_key_of, written_at, writes_to, with_write, AreWrites}
+use Rattle.bf_txn.proofs.Boxes.{table_key_cmp_total}
 use Rattle.bf_query.specs.Actions.{write_of}
 use Rattle.bf_query.specs.Merged.{changed_by, applied, entries_under, rows_under, HasOwnKey, StandUnderOwnKeys}
 use Rattle.bf_query.proofs.Keyed.{row_under-applied, row_under-entries_under, is_map-fold}
@@ -44,17 +44,17 @@ same_entries a b in_a in_b same =
     same_from_look_ups key_cmp_total key_of_entry a b in_a in_b (λ key. entry_from_row a key ∙ ap (option_map (λ (row : List Value). (key, row))) (same key) ∙ sym (entry_from_row b key))
 
 -- what is written at a place after a write
-written_at-with_write : (writes : List Write) (w : Write) (spot : Spot) → written_at (with_write writes w) spot ≡ cond (is_eq (spot_cmp (spot_of w) spot)) (Some w.row) (written_at writes spot)
+written_at-with_write : (writes : List Write) (w : Write) (spot : TableKey) → written_at (with_write writes w) spot ≡ cond (is_eq (table_key_cmp (table_key_of w) spot)) (Some w.row) (written_at writes spot)
 written_at-with_write writes w spot =
-    ap (option_map (λ (w : Write). w.row)) (entry_at-with_entry spot_cmp_total spot_of writes w spot)
-    ∙ elim (is_eq (spot_cmp (spot_of w) spot)) as (λ b. option_map (λ (w : Write). w.row) (cond b (Some w) (entry_at spot_cmp spot_of writes spot)) ≡ cond b (Some w.row) (written_at writes spot)) [ true ↦ refl | false ↦ refl ]
+    ap (option_map (λ (w : Write). w.row)) (entry_at-with_entry table_key_cmp_total table_key_of writes w spot)
+    ∙ elim (is_eq (table_key_cmp (table_key_of w) spot)) as (λ b. option_map (λ (w : Write). w.row) (cond b (Some w) (entry_at table_key_cmp table_key_of writes spot)) ≡ cond b (Some w.row) (written_at writes spot)) [ true ↦ refl | false ↦ refl ]
 
 -- the entries under one more write to their table
 under_one_more : (entries : List Entry) (writes : List Write) (w : Write) → is_map key_cmp key_of_entry entries ≡ true → AreWrites writes
     → entries_under entries (with_write writes w) w.table ≡ applied (entries_under entries writes w.table) w
 under_one_more entries writes w in_order sorted =
     let under = entries_under entries writes w.table in
-    let sorted' : AreWrites (with_write writes w) = is_map-with_entry spot_cmp_total spot_of writes w sorted in
+    let sorted' : AreWrites (with_write writes w) = is_map-with_entry table_key_cmp_total table_key_of writes w sorted in
     same_entries (entries_under entries (with_write writes w) w.table) (applied under w)
     (is_map-fold (writes_to w.table (with_write writes w)) entries in_order)
     (is_map-fold (w ∷ []) under (is_map-fold (writes_to w.table writes) entries in_order))
@@ -75,7 +75,7 @@ AreTo table writes = AllByRecursion (λ w. w.table ≡ table) writes
 
 pub sorted_with_all : (writes more : List Write) → AreWrites writes → AreWrites (fold with_write writes more)
 sorted_with_all writes [] sorted = sorted
-sorted_with_all writes (w ∷ more) sorted = sorted_with_all (with_write writes w) more (is_map-with_entry spot_cmp_total spot_of writes w sorted)
+sorted_with_all writes (w ∷ more) sorted = sorted_with_all (with_write writes w) more (is_map-with_entry table_key_cmp_total table_key_of writes w sorted)
 
 -- and under several
 under_more : (entries : List Entry) (writes more : List Write) (table : List ℕ) → is_map key_cmp key_of_entry entries ≡ true → AreWrites writes → AreTo table more
@@ -84,14 +84,14 @@ under_more entries writes [] table in_order sorted to = refl
 under_more entries writes (w ∷ more) table in_order sorted to =
     let step : entries_under entries (with_write writes w) table ≡ applied (entries_under entries writes table) w =
     subst (λ name. entries_under entries (with_write writes w) name ≡ applied (entries_under entries writes name) w) to.0 (under_one_more entries writes w in_order sorted) in
-    under_more entries (with_write writes w) more table in_order (is_map-with_entry spot_cmp_total spot_of writes w sorted) to.1
+    under_more entries (with_write writes w) more table in_order (is_map-with_entry table_key_cmp_total table_key_of writes w sorted) to.1
     ∙ ap (λ (now : List Entry). fold applied now more) step
 
 -- a table that is not written to has its writes
 not_written : (writes : List Write) (w : Write) (table : List ℕ) → same_name w.table table ≡ false → writes_to table (with_write writes w) ≡ writes_to table writes
 not_written [] w table other = rw other refl
 not_written (v ∷ writes) w table other =
-    elim (spot_cmp (spot_of w) (spot_of v)) as (λ r. spot_cmp (spot_of w) (spot_of v) ≡ r → writes_to table (beside r v writes w (with_write writes w)) ≡ writes_to table (v ∷ writes)) [
+    elim (table_key_cmp (table_key_of w) (table_key_of v)) as (λ r. table_key_cmp (table_key_of w) (table_key_of v) ≡ r → writes_to table (beside r v writes w (with_write writes w)) ≡ writes_to table (v ∷ writes)) [
       | Less ↦ λ e. rw other refl
       | Equal ↦ λ e.
           let same : w.table ≡ v.table = (name_ties w.table v.table).0 (first_tied (name_cmp w.table v.table) (key_cmp w.key v.key) e) in

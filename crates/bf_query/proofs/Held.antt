@@ -77,7 +77,7 @@ module _ (commit : ℕ) (db : Database) (in_block : Bool) (s : Statement) (act :
       let kept = own_kept act table entries writes on (well_bound db in_block s act bound) (leaves_keys db in_block s act bound) hold.under_own_keys in
       record {
         entries_by_key = hold.entries_by_key;
-        writes_by_spot = sorted writes hold.writes_by_spot;
+        writes_by_table_key = sorted writes hold.writes_by_table_key;
         under_own_keys =
             after_some (StandUnderOwnKeys table entries) (objections_on rows act) writes (writes_of rows act) hold.under_own_keys
             (subst (λ (rs : List (List Value)). StandUnderOwnKeys table entries (written [] writes (writes_of rs act))) hold.rows kept);
@@ -92,7 +92,7 @@ module _ (commit : ℕ) (db : Database) (in_block : Bool) (s : Statement) (act :
       let as_before = after_some (λ (ws : List Write). rows_under entries ws other.name ≡ rows_under entries writes other.name) (objections_on rows act) writes (writes_of rows act) refl stay in
       record {
         entries_by_key = hold.entries_by_key;
-        writes_by_spot = sorted writes hold.writes_by_spot;
+        writes_by_table_key = sorted writes hold.writes_by_table_key;
         under_own_keys =
             after_some (StandUnderOwnKeys other entries) (objections_on rows act) writes (writes_of rows act) hold.under_own_keys
             (others_keep act table other rows entries writes on apart hold.under_own_keys);

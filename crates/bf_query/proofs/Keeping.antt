@@ -21,7 +21,7 @@ use Rattle.bf_tree.specs.declared.bound.Action.{Action}
 use Rattle.bf_tree.specs.declared.bound.Action.TheVariants as action
 use Rattle.bf_sql.specs.Queries.{changed}
 use Rattle.bf_txn.specs.declared.write.Write.{Write}
-use Rattle.bf_txn.specs.Writes.{spot_cmp, spot_of, with_write}
+use Rattle.bf_txn.specs.Writes.{table_key_cmp, table_key_of, with_write}
 use Rattle.bf_query.specs.Actions.{IsWellBound, action_table, write_of, writes_of}
 use Rattle.bf_query.specs.Changes.{LeavesKeys}
 use Rattle.bf_query.specs.Merged.{entries_under, rows_under, HasOwnKey, WritesOwnKey, StandUnderOwnKeys}
@@ -54,7 +54,7 @@ other_tables_stay act table other rows entries writes is apart = others_stay ent
 -- what is true of writes stays true with more writes of which it is true
 kept_with : (P : Write → Type 0) (writes more : List Write) → AllByRecursion P writes → AllByRecursion P more → AllByRecursion P (fold with_write writes more)
 kept_with P writes [] all new = all
-kept_with P writes (w ∷ more) all new = kept_with P (with_write writes w) more (with_one_more spot_cmp spot_of P writes w all new.0) new.1
+kept_with P writes (w ∷ more) all new = kept_with P (with_write writes w) more (with_one_more table_key_cmp table_key_of P writes w all new.0) new.1
 
 stand_with : (table : Table) (entries : List Entry) (writes more : List Write) → StandUnderOwnKeys table entries writes → AllByRecursion (WritesOwnKey table) more → StandUnderOwnKeys table entries (fold with_write writes more)
 stand_with table entries writes more stand new = record {

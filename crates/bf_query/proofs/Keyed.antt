@@ -13,8 +13,8 @@ use Rattle.bf_base.proofs.Names.{same_name-tie, name_cmp_total}
 use Rattle.bf_base.proofs.Order.{less_from_test, equal_from_test, turned_less, turned_equal, rises_alike, rises_tail, rises_skip}
 use Rattle.bf_heap.specs.Heaps.{Entry, key_of_entry, row_under}
 use Rattle.bf_txn.specs.declared.write.Write.{Write}
-use Rattle.bf_txn.specs.Writes.{spot_cmp, spot_of, written_at, writes_to, AreWrites}
-use Rattle.bf_txn.proofs.Boxes.{spot_cmp_total}
+use Rattle.bf_txn.specs.Writes.{table_key_cmp, table_key_of, written_at, writes_to, AreWrites}
+use Rattle.bf_txn.proofs.Boxes.{table_key_cmp_total}
 use Rattle.bf_query.specs.Merged.{changed_by, applied, entries_under, AreByKey}
 use Rattle.bf_query.proofs.Merging.{RisesFrom, write_keys}
 
@@ -54,12 +54,12 @@ row_under-fold (w ∷ writes) entries key h =
     ]
 
 -- a write to a key of a table is among the writes to that table
-found_among : (table : List ℕ) (key : List Value) (writes : List Write) → find (λ w. is_eq (spot_cmp (spot_of w) (table, key))) writes ≡ find (λ w. is_eq (key_cmp w.key key)) (writes_to table writes)
+found_among : (table : List ℕ) (key : List Value) (writes : List Write) → find (λ w. is_eq (table_key_cmp (table_key_of w) (table, key))) writes ≡ find (λ w. is_eq (key_cmp w.key key)) (writes_to table writes)
 found_among table key [] = refl
 found_among table key (w ∷ writes) =
     let same = same_name-tie w.table table in
     let rest = found_among table key writes in
-    rw same (elim (name_cmp w.table table) as (λ r. cond (is_eq (ordering_then r (key_cmp w.key key))) (Some w) (find (λ w. is_eq (spot_cmp (spot_of w) (table, key))) writes)
+    rw same (elim (name_cmp w.table table) as (λ r. cond (is_eq (ordering_then r (key_cmp w.key key))) (Some w) (find (λ w. is_eq (table_key_cmp (table_key_of w) (table, key))) writes)
     ≡ find (λ w. is_eq (key_cmp w.key key)) (cond (is_eq r) (w ∷ writes_to table writes) (writes_to table writes))) [
       | Less ↦ rest
       | Equal ↦ ap (λ found. cond (is_eq (key_cmp w.key key)) (Some w) found) rest
@@ -67,7 +67,7 @@ found_among table key (w ∷ writes) =
     ])
 
 -- sorted writes to one table are in the order of their keys
-by_key_if_same : (table : List ℕ) (writes : List Write) → list_all (λ w. same_name w.table table) writes ≡ true → rises spot_cmp (map spot_of writes) ≡ true → rises key_cmp (write_keys writes) ≡ true
+by_key_if_same : (table : List ℕ) (writes : List Write) → list_all (λ w. same_name w.table table) writes ≡ true → rises table_key_cmp (map table_key_of writes) ≡ true → rises key_cmp (write_keys writes) ≡ true
 by_key_if_same table [] all h = refl
 by_key_if_same table (w ∷ []) all h = refl
 by_key_if_same table (w ∷ v ∷ writes) all h =
@@ -89,7 +89,7 @@ all_pass test (x ∷ xs) = elim (cases_Bool (test x)) [
 
 pub by_key : (writes : List Write) (table : List ℕ) → AreWrites writes → AreByKey (writes_to table writes)
 by_key writes table sorted =
-    by_key_if_same table (writes_to table writes) (all_pass (λ w. same_name w.table table) writes) (rises-filter spot_cmp_total spot_of (λ w. same_name w.table table) writes sorted)
+    by_key_if_same table (writes_to table writes) (all_pass (λ w. same_name w.table table) writes) (rises-filter table_key_cmp_total table_key_of (λ w. same_name w.table table) writes sorted)
 
 -- the row under a key: what is written there, and else the heap's
 pub row_under-entries_under : (entries : List Entry) (writes : List Write) (table : List ℕ) (key : List Value) → AreWrites writes

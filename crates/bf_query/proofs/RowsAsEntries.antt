@@ -35,7 +35,7 @@ hold_rows db table database stored =
     let rows = table_rows db table.name in
     record {
       entries_by_key = ap (rises key_cmp) (keys_are table rows) ∙ rows_keyed db database table rows stored;
-      writes_by_spot = refl;
+      writes_by_table_key = refl;
       under_own_keys = record {
         heap = each (λ (e : Entry). HasOwnKey table e.0 e.1) (entries_of table rows) (own table (key_within db database table rows stored) rows (rows_admitted db database table rows stored));
         workspace = λ k d below. absurd (omega arith);

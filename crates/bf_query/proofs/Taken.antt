@@ -16,8 +16,8 @@ use Rattle.bf_base.proofs.Names.{name_cmp_total}
 use Rattle.bf_base.proofs.Order.{is_some-look_up, symmetric}
 use Rattle.bf_heap.specs.Heaps.{Entry, key_of_entry, has_row}
 use Rattle.bf_txn.specs.declared.write.Write.{Write}
-use Rattle.bf_txn.specs.Writes.{spot_cmp, spot_of, written_at, with_write}
-use Rattle.bf_txn.proofs.Boxes.{spot_cmp_total}
+use Rattle.bf_txn.specs.Writes.{table_key_cmp, table_key_of, written_at, with_write}
+use Rattle.bf_txn.proofs.Boxes.{table_key_cmp_total}
 use Rattle.bf_query.specs.Actions.{write_of}
 use Rattle.bf_query.specs.Changes.{is_taken}
 use Rattle.bf_query.specs.Merged.{entries_under, rows_under, StandUnderOwnKeys}
@@ -42,12 +42,12 @@ row_has table entries key own =
 abbrev pub note_of : Table → List Value → Write
 note_of table tuple = write_of table (key_of table tuple) None
 
-same_spot : (name : List ℕ) (a b : List Value) → is_eq (spot_cmp (name, a) (name, b)) ≡ same_key b a
-same_spot name a b = ap (λ r. is_eq (ordering_then r (key_cmp a b))) (tied_itself name_cmp_total name) ∙ symmetric key_cmp_total a b
+same_table_key : (name : List ℕ) (a b : List Value) → is_eq (table_key_cmp (name, a) (name, b)) ≡ same_key b a
+same_table_key name a b = ap (λ r. is_eq (ordering_then r (key_cmp a b))) (tied_itself name_cmp_total name) ∙ symmetric key_cmp_total a b
 
 noted_has : (table : Table) (key : List Value) (before : List (List Value)) (noted : List Write)
-    → is_some (entry_at spot_cmp spot_of (fold with_write noted (map (note_of table) before)) (table.name, key)) ≡ (is_some (entry_at spot_cmp spot_of noted (table.name, key)) || has same_key (map (key_of table) before) key)
-noted_has table key [] noted = sym (or_false (is_some (entry_at spot_cmp spot_of noted (table.name, key))))
+    → is_some (entry_at table_key_cmp table_key_of (fold with_write noted (map (note_of table) before)) (table.name, key)) ≡ (is_some (entry_at table_key_cmp table_key_of noted (table.name, key)) || has same_key (map (key_of table) before) key)
+noted_has table key [] noted = sym (or_false (is_some (entry_at table_key_cmp table_key_of noted (table.name, key))))
   where
     or_false : (b : Bool) → (b || false) ≡ b
     or_false true = refl
@@ -55,9 +55,9 @@ noted_has table key [] noted = sym (or_false (is_some (entry_at spot_cmp spot_of
 noted_has table key (t ∷ before) noted =
     let now = with_write noted (note_of table t) in
     noted_has table key before now
-    ∙ ap (λ (found : Option Write). is_some found || has same_key (map (key_of table) before) key) (entry_at-with_entry spot_cmp_total spot_of noted (note_of table t) (table.name, key))
-    ∙ ap (λ (b : Bool). is_some (cond b (Some (note_of table t)) (entry_at spot_cmp spot_of noted (table.name, key))) || has same_key (map (key_of table) before) key) (same_spot table.name (key_of table t) key)
-    ∙ either (note_of table t) (same_key key (key_of table t)) (entry_at spot_cmp spot_of noted (table.name, key)) (has same_key (map (key_of table) before) key)
+    ∙ ap (λ (found : Option Write). is_some found || has same_key (map (key_of table) before) key) (entry_at-with_entry table_key_cmp_total table_key_of noted (note_of table t) (table.name, key))
+    ∙ ap (λ (b : Bool). is_some (cond b (Some (note_of table t)) (entry_at table_key_cmp table_key_of noted (table.name, key))) || has same_key (map (key_of table) before) key) (same_table_key table.name (key_of table t) key)
+    ∙ either (note_of table t) (same_key key (key_of table t)) (entry_at table_key_cmp table_key_of noted (table.name, key)) (has same_key (map (key_of table) before) key)
   where
     either : (x : Write) (here : Bool) (found : Option Write) (later : Bool) → (is_some (cond here (Some x) found) || later) ≡ (is_some found || (here || later))
     either x true None later = refl
@@ -71,6 +71,6 @@ taken table entries writes noted before key stand is =
     let rows = rows_under entries writes table.name in
     let in_rows = row_has table (entries_under entries writes table.name) key (own_keys table entries writes stand) in
     let in_notes : is_some (written_at noted (table.name, key)) ≡ has same_key (map (key_of table) before) key =
-    is_some-map (λ (w : Write). w.row) (entry_at spot_cmp spot_of noted (table.name, key)) ∙ ap (λ (ws : List Write). is_some (entry_at spot_cmp spot_of ws (table.name, key))) is ∙ noted_has table key before [] in
+    is_some-map (λ (w : Write). w.row) (entry_at table_key_cmp table_key_of noted (table.name, key)) ∙ ap (λ (ws : List Write). is_some (entry_at table_key_cmp table_key_of ws (table.name, key))) is ∙ noted_has table key before [] in
     ap₂ (λ (a b : Bool). a || b) in_rows in_notes
     ∙ sym (ap (list_any (same_key key)) (map-append (key_of table) rows before) ∙ list_any-append (same_key key) (map (key_of table) rows) (map (key_of table) before))

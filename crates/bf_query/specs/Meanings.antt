@@ -25,7 +25,7 @@ pub record IsBoundAs (db : Database) (in_block : Bool) (s : Statement) (act : Ac
 -- entries under writes hold the rows that a table has in a database
 pub record HoldRowsOf (db : Database) (table : Table) (entries : List Entry) (writes : List Write) : Type 0 where
   pub entries_by_key : IsTrue (is_map key_cmp key_of_entry entries)
-  pub writes_by_spot : AreWrites writes
+  pub writes_by_table_key : AreWrites writes
   pub under_own_keys : StandUnderOwnKeys table entries writes
   pub rows : rows_under entries writes table.name ≡ table_rows db table.name
 

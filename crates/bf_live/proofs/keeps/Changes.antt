@@ -24,7 +24,7 @@ use Rattle.bf_sql.specs.Meaning.{executed}
 use Rattle.bf_sql.specs.Objections.{objections}
 use Rattle.bf_sql.specs.Queries.{changed, selected}
 use Rattle.bf_txn.specs.declared.write.Write.{Write}
-use Rattle.bf_txn.specs.Writes.{spot_cmp, spot_of, with_write, writes_to}
+use Rattle.bf_txn.specs.Writes.{table_key_cmp, table_key_of, with_write, writes_to}
 use Rattle.bf_query.specs.Actions.{IsChange, objections_on, action_table, write_of, writes_of, written}
 use Rattle.bf_query.specs.Meanings.{HoldRowsOf, IsBoundAs, entries_of, rows_after, writes_after}
 use Rattle.bf_query.specs.Merged.{entries_under}
@@ -47,7 +47,7 @@ WritesAdmitted table write = (row : List Value) → write.row ≡ Some row → I
 kept_with : (P : Write → Type 0) (writes more : List Write) → AllByRecursion P writes → AllByRecursion P more
     → AllByRecursion P (fold with_write writes more)
 kept_with P writes [] all new = all
-kept_with P writes (w ∷ more) all new = kept_with P (with_write writes w) more (with_one_more spot_cmp spot_of P writes w all new.0) new.1
+kept_with P writes (w ∷ more) all new = kept_with P (with_write writes w) more (with_one_more table_key_cmp table_key_of P writes w all new.0) new.1
 
 unless_objected : (P : Write → Type 0) (rs : List Refusal) (more : List Write) → (rs ≡ [] → AllByRecursion P more)
     → AllByRecursion P (written rs [] more)

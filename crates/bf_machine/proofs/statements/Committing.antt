@@ -63,10 +63,10 @@ module _ (db : Database) (writes : List Write) (is : IsDatabase db) (opened : Is
   unless P (r ∷ rs) more before with_more = before
 
   -- they are one a key
-  pub by_spot : AreWrites after
-  by_spot =
+  pub by_table_key : AreWrites after
+  by_table_key =
       let more = writes_of seen act in
-      unless AreWrites (objections_on seen act) more opened.by_spot (sorted_with_all writes more opened.by_spot)
+      unless AreWrites (objections_on seen act) more opened.by_table_key (sorted_with_all writes more opened.by_table_key)
 
   -- a table of the database
   module _ (s : Stored) (there : IsThere db s) where
@@ -140,6 +140,6 @@ module _ (db : Database) (writes : List Write) (is : IsDatabase db) (opened : Is
   pub stays_open : IsOpen db (writes_after (committed db writes) table writes act)
   stays_open = record {
     database = subst IsDatabase (sym (committed_means 0)) (keeps_change 0 (committed db writes) in_block s act bound change);
-    by_spot = by_spot db writes is opened table act on;
+    by_table_key = by_table_key db writes is opened table act on;
     own_keys = all_own_keys db writes is opened table act on;
   }

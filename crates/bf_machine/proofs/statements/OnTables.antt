@@ -85,7 +85,7 @@ module _ (db : Database) (writes : List Write) (is : IsDatabase db) (opened : Is
       let found = seen_at db writes table.name ∙ ap (option_map (written_to writes)) stored in
       record {
         entries_by_key = as_committed.entries_by_key;
-        writes_by_spot = opened.by_spot;
+        writes_by_table_key = opened.by_table_key;
         under_own_keys = found_among (Stands writes) db.tables (as_stored table rows) (by_recursion (Stands writes) db.tables opened.own_keys) table.name stored;
         rows = sym (ap (λ (o : Option Stored). unwrap_or (option_map (λ (s : Stored). s.rows) o) []) found);
       }

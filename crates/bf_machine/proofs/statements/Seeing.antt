@@ -61,6 +61,6 @@ stands db is s there =
 pub begun : (db : Database) → IsDatabase db → IsOpen db []
 begun db is = record {
   database = subst IsDatabase (sym (nothing_written db)) is;
-  by_spot = refl;
+  by_table_key = refl;
   own_keys = each (Stands []) db.tables (weakened (IsThere db) (Stands []) (stands db is) db.tables (all_there db is));
 }
