@@ -1,5 +1,7 @@
 //! The workspace of a transaction.
 
+mod write_all;
+
 ghost use Rattle.std.specs.Prelude.{◌≡◌, [], IfOk, OnOk, OnErr, length, map};
 ghost use Rattle.std.specs.List.Sorted.{IsBinarySearchResult, IsSearchInRange};
 ghost use Rattle.std.specs.Option.{option_map};

@@ -6,7 +6,7 @@ use Rattle.bf_txn.specs.declared.write.Write.{Write}
 use Rattle.bf_live.specs.Commits.{AreWritten, HaveRoomFor, put_by}
 use Rattle.bf_live.specs.Places.{IsPlaceOf}
 use Rattle.bf_live.proofs.Written.{changed, passed, place_within, room_for, room_left, room_stays}
-use Rattle.bf_live.proofs.changes.apply.Goals as goal
+use Rattle.bf_live.proofs.commit.apply.Goals as goal
 
 pub change-requires : goal.change-requires
 change-requires c =

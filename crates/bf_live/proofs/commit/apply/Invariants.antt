@@ -1,7 +1,7 @@
 use Rattle.std.proofs.Common.{◌≡◌, ◌++◌, map}
 use Rattle.std.specs.Vec.Iter.{into_iter_items}
 use Rattle.bf_live.specs.Commits.{AreWritten, HaveRoomFor}
-use Rattle.bf_live.proofs.changes.apply.Given as goal
+use Rattle.bf_live.proofs.commit.apply.Given as goal
 
 abbrev pub invariant-loop-write : goal.invariant-loop-write
 invariant-loop-write l = record {

@@ -7,8 +7,8 @@ use Rattle.bf_txn.specs.declared.write.Write.{Write}
 use Rattle.bf_txn.specs.Writes.{writes_to}
 use Rattle.bf_live.specs.Commits.{HasRoom, HaveRoomSoFar, entries_in, puts}
 use Rattle.bf_live.proofs.Written.{all_have_room, next_first, puts_in_boxes, room_made, room_passed, room_step, room_there, same_option}
-use Rattle.bf_live.proofs.changes.make_room.Goals.{in-Some+in-Ok+in_ok-reserve, in_default}
-use Rattle.bf_live.proofs.changes.make_room.Goals as goal
+use Rattle.bf_live.proofs.commit.make_room.Goals.{in-Some+in-Ok+in_ok-reserve, in_default}
+use Rattle.bf_live.proofs.commit.make_room.Goals as goal
 
 -- a table that was the last has its room already
 pub loop-write-preserved-then-eq : goal.loop-write-preserved-then-eq

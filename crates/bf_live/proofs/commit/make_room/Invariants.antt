@@ -2,7 +2,7 @@ use Rattle.std.proofs.Common.{◌≡◌, IfSome, get_or, length, map, take}
 use Rattle.bf_base.specs.declared.table.Table.{Table}
 use Rattle.bf_heap.specs.Heaps.{Rows}
 use Rattle.bf_live.specs.Commits.{HasRoom, HaveRoomSoFar, entries_in}
-use Rattle.bf_live.proofs.changes.make_room.Given as goal
+use Rattle.bf_live.proofs.commit.make_room.Given as goal
 
 abbrev pub invariant-loop-write : goal.invariant-loop-write
 invariant-loop-write l = record {
