@@ -66,6 +66,3 @@ pub fn one_reading()
     ensures { (text : List ℕ) (script other : ScriptValue) →
         IsScriptText text script → IsScriptText text other → script ≡ other }
 {}
-
-#[cfg(test)]
-mod tests;

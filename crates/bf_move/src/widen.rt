@@ -143,6 +143,3 @@ pub fn run(alloc: Global, script: &Script) -> Result<FormRun, Memory>
         sweep: wide_sweep(run.sweep),
     })
 }
-
-#[cfg(test)]
-mod tests;

@@ -134,6 +134,3 @@ pub fn bullfrog<I: Source, O: Sink>(
         Err(_) => Status::WriteFault,
     }
 }
-
-#[cfg(test)]
-mod tests;

@@ -3,11 +3,14 @@ mod Block
 mod FilteredGroups
 mod GroupedTotals
 pub mod GroupedTotalsMoves
+mod Grouping
+mod InsertOrder
 mod JoinedPairs
 pub mod JoinedPairsMoves
 mod JoinedRefusals
 mod JoinedRows
 mod KeyOrder
+mod LeastAndGreatest
 mod MayFail
 mod MayFailMoves
 mod OpenBlock
@@ -23,4 +26,5 @@ mod TaggedArms
 mod TaggedArmsMoves
 mod TwoDrivers
 mod TwoSessions
+mod TwoSets
 mod UnitLimit

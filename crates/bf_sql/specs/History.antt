@@ -1,5 +1,5 @@
 -- The replay of a history, and legal histories.
-use Rattle.std.specs.Prelude.{◌≡◌, ℕ, ◌+◌, ◌⊎◌, Bool, true, false, not, ◌&&◌, ◌||◌, ◌==◌, nat_lt, nat_le, List, [], ◌∷◌, length, map, flat_map, filter, find, Some, slice_index_or, IsTrue}
+use Rattle.std.specs.Prelude.{◌≡◌, ℕ, ◌+◌, ◌⊎◌, Bool, true, false, not, ◌&&◌, ◌||◌, ◌==◌, nat_lt, nat_le, List, [], ◌∷◌, map, flat_map, filter, find, Some, slice_index_or, IsTrue}
 use Rattle.std.specs.List.{AllByRecursion, list_any, list_all, enumerate_from}
 use Rattle.bf_base.specs.Lists.{part, with_before}
 use Rattle.bf_tree.specs.declared.statement.Statement.{Statement}

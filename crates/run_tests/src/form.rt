@@ -1,5 +1,7 @@
-use super::read_script;
+//! Texts of the form that migrates one table lazily, and texts that are not of it.
+
 use bf_base::{Name, Row, Sequence, Value};
+use bf_form::read_script;
 use bf_lazy::{
     Arm, ColumnForm, ColumnRule, Compare, Item, Migrate, Operand, RawCond, Ref, Script, Session,
     Statement, Target,

@@ -1,8 +1,8 @@
 //! A test that runs a script of the form and looks at what it leaves.
 
-use super::{FormRun, run};
 use bf_base::{Name, Sequence, Value};
 use bf_form::read_script;
+use bf_move::{FormRun, run};
 use bf_tree::{Cell, Entry, History, Outcome, Refusal, Reply, Sweep, Transcripts};
 use std::alloc::Global;
 use std::test::Fail;

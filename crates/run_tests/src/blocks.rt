@@ -1,6 +1,7 @@
 //! Scripts with blocks, and their whole reports.
 
-use super::*;
+use crate::call::{TWO_COLUMNS, reports};
+use std::test::Fail;
 
 /// Statements behind a table with two columns.
 const BLOCKS: [(&str, &str); 6] = [
@@ -64,10 +65,8 @@ end commits 5 migration none\n",
 #[test]
 fn a_block_is_one_transaction(rt: HostRuntime) -> Result<(), Fail> {
     let alloc = rt.alloc();
-    for (script, wanted) in BLOCKS {
-        let (status, text) = call_behind(alloc, TWO_COLUMNS, &["try"], script)?;
-        assert_eq!(rt; status, Status::Done, "{script:?}");
-        assert_eq!(rt; text.as_slice(), wanted.as_bytes(), "{script:?}");
+    for (script, report) in BLOCKS {
+        assert!(rt; reports(alloc, &[TWO_COLUMNS, script], report)?, "{script:?}");
     }
     Ok(())
 }
