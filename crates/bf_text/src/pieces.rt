@@ -1,4 +1,6 @@
 //! What texts are made of: words, numbers, and things one behind the other.
+//!
+//! After an `Err` of a piece a front of its text stands behind what stood there before.
 
 ghost use Rattle.std.specs.Prelude.{ℕ, ◌++◌, List, map, flat_map, codes};
 ghost use Rattle.std.specs.Fmt.{decimal, signed_decimal};
@@ -18,7 +20,7 @@ pub(crate) fn put(out: &mut Vec<u8>, words: &[u8]) -> Result<(), Memory>
 }
 
 /// Appends a number in decimal digits.
-pub(crate) fn put_number(out: &mut Vec<u8>, number: u64) -> Result<(), Memory>
+pub(crate) fn put_decimal(out: &mut Vec<u8>, number: u64) -> Result<(), Memory>
     ensures { Puts result (decimal number) out.old.items out.new.items }
 {
     put(out, Buffer::new().format(number).as_bytes())
@@ -37,7 +39,7 @@ pub(crate) fn put_numbered(out: &mut Vec<u8>, words: &[u8], number: u64) -> Resu
     ensures { Puts result (numbered words.now number) out.old.items out.new.items }
 {
     put(out, words)?;
-    put_number(out, number)
+    put_decimal(out, number)
 }
 
 /// Appends words before a name.

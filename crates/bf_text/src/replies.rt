@@ -6,8 +6,8 @@ ghost use Rattle.bf_text.specs.Replies.{newline, numbered, quoted, value_text, c
 ghost use Rattle.bf_text.specs.Report.{session_text};
 
 use crate::pieces::{
-    Counted, Piece, put, put_all_counted, put_each, put_listed, put_named, put_named_numbered,
-    put_number, put_numbered, put_signed,
+    Counted, Piece, put, put_all_counted, put_decimal, put_each, put_listed, put_named,
+    put_named_numbered, put_numbered, put_signed,
 };
 use bf_base::{Memory, Sequence, Value};
 use bf_tree::{Cause, Cell, Refusal, Reply};
@@ -57,25 +57,18 @@ impl Piece for Cell {
     }
 }
 
-/// Appends values, with a comma and a space between.
-pub fn put_values(out: &mut Vec<u8>, values: &[Value]) -> Result<(), Memory>
-    ensures puts { Puts result (values_text values.now) out.old.items out.new.items }
-{
-    put_listed(out, (), values)
-}
-
 fn put_between(out: &mut Vec<u8>, front: &[u8], values: &[Value], back: &[u8]) -> Result<(), Memory>
     ensures { Puts result (front.now ++ values_text values.now ++ back.now)
         out.old.items out.new.items }
 {
     put(out, front)?;
-    put_values(out, values)?;
+    put_listed(out, (), values)?;
     put(out, back)
 }
 
 /// Appends a refusal's text.
-pub fn put_refusal(out: &mut Vec<u8>, refusal: &Refusal) -> Result<(), Memory>
-    ensures puts { Puts result (refusal_text refusal.now) out.old.items out.new.items }
+pub(crate) fn put_refusal_text(out: &mut Vec<u8>, refusal: &Refusal) -> Result<(), Memory>
+    ensures { Puts result (refusal_text refusal.now) out.old.items out.new.items }
 {
     match refusal {
         Refusal::NoTable(name) => put_named(out, b"E1 no table ", name),
@@ -129,7 +122,7 @@ pub(crate) struct Place {
 fn put_place(out: &mut Vec<u8>, place: Place) -> Result<(), Memory>
     ensures { Puts result (place_text place.session place.statement) out.old.items out.new.items }
 {
-    put_number(out, place.session)?;
+    put_decimal(out, place.session)?;
     put_numbered(out, b".", place.statement)
 }
 
@@ -180,7 +173,7 @@ fn put_body(out: &mut Vec<u8>, place: Place, reply: &Reply) -> Result<(), Memory
         Reply::Committed(number) => put_count(out, b"committed ", *number),
         Reply::RolledBack => put(out, b"rolled back\n"),
         Reply::Refused(refusal) => {
-            put_refusal(out, refusal)?;
+            put_refusal_text(out, refusal)?;
             put(out, b"\n")
         }
         Reply::Ended(cause) => {

@@ -7,7 +7,7 @@ ghost use Rattle.bf_text.specs.Replies.{numbered};
 ghost use Rattle.bf_text.specs.Report.{texts_from, session_text, outcome_text, entry_text, table_line, audit_text, commits_of, sweep_text, end_text, report_text};
 
 use crate::pieces::{
-    Counted, Piece, put, put_all_counted, put_each, put_named_numbered, put_number, put_numbered,
+    Counted, Piece, put, put_all_counted, put_decimal, put_each, put_named_numbered, put_numbered,
 };
 use bf_base::{Memory, Name};
 use bf_tree::{Entry, History, Outcome, Sweep, Transcripts};
@@ -89,7 +89,7 @@ fn put_running(
     ensures { Puts result (sweep_text (Sweep.Running migration moved unit position))
         out.old.items out.new.items }
 {
-    put_number(out, migration)?;
+    put_decimal(out, migration)?;
     put_numbered(out, b" moved ", moved)?;
     put_numbered(out, b" next unit ", unit)?;
     put_numbered(out, b" position ", position)
@@ -101,7 +101,7 @@ fn put_sweep(out: &mut Vec<u8>, sweep: Sweep) -> Result<(), Memory>
     match sweep {
         Sweep::Never => put(out, b"none"),
         Sweep::Complete { migration, moved } => {
-            put_number(out, u64::from(migration))?;
+            put_decimal(out, u64::from(migration))?;
             put_numbered(out, b" complete ", u64::from(moved))
         }
         Sweep::Running {

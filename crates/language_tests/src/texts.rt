@@ -1,7 +1,7 @@
 //! The exact texts, by the tables of replies and refusals.
 
-use crate::{put_refusal, put_values, report};
 use bf_base::{Key, Memory, Name, NameError, Sequence, Text, TextError, Value};
+use bf_text::{put_number, put_refusal, put_values, report};
 use bf_tree::{Cause, Cell, Entry, History, Outcome, Refusal, Reply, Sweep, Transcripts};
 use std::alloc::Global;
 use std::test::Fail;
@@ -31,6 +31,15 @@ fn entry(session: u32, first: u32, last: u32, outcome: Outcome) -> Entry {
 fn no_history(alloc: Global) -> History {
     let entries = Sequence::of(Vec::new(alloc));
     History { entries }
+}
+
+#[test]
+fn prints_numbers(rt: HostRuntime) -> Result<(), Fail> {
+    let mut out = Vec::from_slice(rt.alloc(), b"at ")?;
+    put_number(&mut out, 0)?;
+    put_number(&mut out, u64::MAX)?;
+    assert_eq!(rt; out.as_slice(), b"at 018446744073709551615".as_slice());
+    Ok(())
 }
 
 #[test]
