@@ -5,3 +5,4 @@ pub mod Joining
 pub mod Ends
 pub mod Told
 pub mod Gathering
+pub mod AsTracker

@@ -4,3 +4,5 @@ pub mod Tracker
 pub mod Steps
 pub mod Seats
 pub mod Answers
+pub mod Closing
+pub mod AsTracker

@@ -7,6 +7,7 @@ ghost use Rattle.bf_bits.specs.Words.{state_in, word_count};
 ghost use Rattle.bf_bits.specs.Steps.{held_after};
 ghost use Rattle.bf_bits.specs.Seats.{Holds, HasFinished, first_seat, new_seat, after_step, joined};
 ghost use Rattle.bf_bits.specs.Answers.{answer_for};
+ghost use Rattle.bf_bits.specs.Closing.{ClosesAs};
 
 use crate::answer::Look;
 use crate::origin::Origin;
@@ -228,6 +229,8 @@ impl Bits {
         ensures below { IfOk result (λ done. (at : ℕ) → Has done.items at → at < self.granules) }
         ensures finished { IfOk result (λ done. (at : ℕ) → HasFinished seat at
             → Has done.items at) }
+        // Exactly those that are finished in a state that satisfies the rule and has the seat's view.
+        ensures told { IfOk result (λ done. ClosesAs self seat done.items) }
         ensures memory { IfErr result (λ back. (back.0 ≡ self) × (back.1 ≡ seat)) }
     {
         let Ok(done) = Vec::with_capacity(alloc, self.granules as usize) else {

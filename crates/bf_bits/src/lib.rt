@@ -7,8 +7,6 @@ pub mod bits;
 mod origin;
 mod rule;
 pub mod rules;
-#[cfg(test)]
-mod tests;
 mod words;
 
 pub use answer::Look;

@@ -1,4 +1,3 @@
 pub mod Claims
 pub mod Lists
 pub mod Keeping
-pub mod Trackers

@@ -3,10 +3,7 @@
 #![tactic(auto)]
 
 pub mod claim;
-pub mod rules;
 pub mod skip;
-#[cfg(test)]
-mod tests;
 pub mod wip;
 
 pub use claim::Claim;

@@ -16,7 +16,8 @@ use Rattle.bf_hash.specs.declared.state.HashClaim.{HashClaim}
 use Rattle.bf_hash.specs.declared.state.HashAnswer.TheVariants.{Claimed}
 use Rattle.bf_hash.specs.States.{state_by, is_held_under}
 use Rattle.bf_hash.specs.Stripes.{Cells, Marks, IsGranted, mark_of, state_of, after_answer, after_finish, after_give_back}
-use Rattle.bf_hash.specs.Tracker.{TrackerState, free, held, done, TrackerStep, StepsAt, tracked_as, tracker_of}
+use Rattle.bf_base.specs.Trackers.{TrackerState, free, held, done, TrackerStep, StepsAt}
+use Rattle.bf_hash.specs.AsTracker.{tracked_as, tracker_of}
 
 -- ---- one key of a map, and the others, after a change
 apart : (q key : Cells) → q ≢ key → eq_by_cmp key_cmp q key ≡ false

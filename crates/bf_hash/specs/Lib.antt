@@ -2,4 +2,4 @@ pub mod States
 pub mod Tickets
 pub mod Stripes
 pub mod Keeping
-pub mod Tracker
+pub mod AsTracker

@@ -4,8 +4,6 @@
 pub mod rules;
 pub mod state;
 pub mod stripe;
-#[cfg(test)]
-mod tests;
 mod tickets;
 
 pub use state::{HashAnswer, HashClaim, HashState, Mark};

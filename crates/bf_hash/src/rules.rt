@@ -3,7 +3,8 @@
 ghost use Rattle.std.specs.Prelude.{◌≡◌};
 ghost use Rattle.bf_hash.specs.declared.state.HashClaim.{HashClaim};
 ghost use Rattle.bf_hash.specs.Stripes.{Cells, Marks, IsGranted, state_of, after_answer, after_finish, after_give_back};
-ghost use Rattle.bf_hash.specs.Tracker.{StepsAt, tracker_of};
+ghost use Rattle.bf_base.specs.Trackers.{StepsAt};
+ghost use Rattle.bf_hash.specs.AsTracker.{tracker_of};
 
 use crate::state::{HashAnswer, HashState};
 

@@ -2,9 +2,10 @@
 use Rattle.std.proofs.Common.{◌≡◌, ◌≢◌, ℕ, zero, suc, ◌+◌, ◌<◌, ◌≤◌, List, ◌∷◌, length, drop, get_or, Option, Some, None, IsSome, Contains, refl, sym, ap, subst, ◌∙◌, inl, inr, arith, drop-cons, length-drop}
 use Rattle.std.proofs.lemmas.Bool.{cases_eq, false≢true}
 use Rattle.std.specs.FinMap as map
+use Rattle.bf_locks.specs.declared.mode.Mode.{Mode}
 use Rattle.bf_locks.specs.declared.name.LockName.{LockName}
 use Rattle.bf_locks.specs.Locks.{Locks, held, without_owner}
-use Rattle.bf_locks.proofs.Held.{same_locks, remove_cases, held_removed, held_without_own, held_without_other}
+use Rattle.bf_locks.proofs.Held.{same_locks, insert_cases, remove_cases, held_removed, held_without_own, held_without_other}
 
 -- an owner that freed one name holds the others as before, and that one no more
 pub removed_others : (locks : Locks) (name : LockName) (owner : ℕ) (at : LockName) (by : ℕ) → by ≢ owner → held (map.remove locks (name, owner)) at by ≡ held locks at by
@@ -39,6 +40,20 @@ left_later locks names i name owner within is left at some =
 not_some : {A : Type 0} (o : Option A) → ¬ IsSome o → o ≡ None
 not_some None no_value = refl
 not_some (Some x) no_value = absurd (no_value refl)
+
+-- a grant that is taken back leaves what was held before
+pub given_up : (locks : Locks) (name : LockName) (owner : ℕ) (mode : Mode) → ¬ IsSome (held locks name owner) → map.remove (map.insert locks (name, owner) mode) (name, owner) ≡ locks
+given_up locks name owner mode first =
+    let back = map.remove (map.insert locks (name, owner) mode) (name, owner) in
+    let here : (at : LockName) (by : ℕ) → at ≡ name → by ≡ owner → held back at by ≡ held locks at by =
+    λ at by n o. (λ i. held back (n i) (o i)) ∙ held_removed (map.insert locks (name, owner) mode) name owner ∙ sym (not_some _ first) ∙ (λ i. held locks (sym n i) (sym o i)) in
+    same_locks back locks (λ at by. elim (insert_cases locks name owner mode at by) [
+      | inl new ↦ here at by new.0 new.1
+      | inr kept ↦ elim (remove_cases (map.insert locks (name, owner) mode) name owner at by) [
+        | inl gone ↦ here at by gone.0 gone.1
+        | inr left ↦ left ∙ kept
+      ]
+    ])
 
 -- where no name is left, all that the owner held is freed
 pub all_freed : (old new : Locks) (owner : ℕ)

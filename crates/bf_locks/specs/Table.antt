@@ -1,5 +1,7 @@
 -- How a lock table is kept: the holders of each name, and the names of each owner.
-use Rattle.std.specs.Prelude.{ℕ, map, flat_map, IsSome, Contains, IsSomeAnd}
+use Rattle.std.specs.Prelude.{ℕ, ◌≢◌, ◌↔◌, List, [], map, flat_map, IsSome, Contains}
+use Rattle.std.specs.List.{AllPairs}
+use Rattle.std.specs.Option.{option_map_or}
 use Rattle.std.specs.Global.{Vec}
 use Rattle.std.specs.FinMap.{from_entries}
 use Rattle.std.specs.BTreeMap as tree
@@ -18,12 +20,17 @@ Holders = BTreeMap LockName (BTreeMap ℕ Mode)
 abbrev pub locks_of : Holders → Locks
 locks_of holders = from_entries (flat_map (λ entry. map (λ holder. ((entry.0, holder.0), holder.1)) entry.1.entries) holders.entries)
 
--- the owner's list has the name
-abbrev pub IsListed : BTreeMap ℕ (Vec LockName) → ℕ → LockName → Type 0
-IsListed owned owner name = IsSomeAnd (tree.get nat_cmp owned owner) (λ names. Contains names.items name)
+-- the names on an owner's list
+abbrev pub names_of : BTreeMap ℕ (Vec LockName) → ℕ → List LockName
+names_of owned owner = option_map_or (λ names. names.items) (tree.get nat_cmp owned owner) []
 
--- the holders are in the names' order and conflict nowhere, and each owner's list has each name that it holds
+-- no name stands there twice
+abbrev pub AreDifferent : List LockName → Type 0
+AreDifferent names = AllPairs (λ one other. one ≢ other) names
+
+-- the holders are in the names' order and conflict nowhere, and each owner's list has each name that it holds, once, and no others
 pub record IsSound (holders : Holders) (owned : BTreeMap ℕ (Vec LockName)) : Type 0 where
   pub ordered : tree.IsOrdered lock_name_cmp holders
   pub consistent : IsConsistent (locks_of holders)
-  pub listed : (name : LockName) (owner : ℕ) → IsSome (held (locks_of holders) name owner) → IsListed owned owner name
+  pub listed : (owner : ℕ) (name : LockName) → Contains (names_of owned owner) name ↔ IsSome (held (locks_of holders) name owner)
+  pub once : (owner : ℕ) → AreDifferent (names_of owned owner)

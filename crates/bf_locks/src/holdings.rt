@@ -1,12 +1,12 @@
 //! The lists in which a lock table keeps what is held.
 
-ghost use Rattle.std.specs.Prelude.{◌≡◌, OnOk, OnErr, ℕ, IsSome, Contains};
+ghost use Rattle.std.specs.Prelude.{◌≡◌, ◌≢◌, [], ◌∷◌, ◌++◌, OnOk, OnErr, ℕ, IsSome, Contains};
 ghost use Rattle.std.specs.FinMap as map;
 ghost use Rattle.std.specs.BTreeMap as tree;
 ghost use Rattle.bf_locks.specs.declared.name.LockName.{LockName as Name};
 ghost use Rattle.bf_locks.specs.LockNames.{lock_name_cmp};
 ghost use Rattle.bf_locks.specs.Locks.{held, without_owner};
-ghost use Rattle.bf_locks.specs.Table.{locks_of, IsListed};
+ghost use Rattle.bf_locks.specs.Table.{locks_of, names_of};
 
 use crate::mode::Mode;
 use crate::name::LockName;
@@ -38,16 +38,18 @@ pub(crate) fn put(
     Ok(())
 }
 
-/// Adds a name to an owner's list.
+/// Adds a name at the end of an owner's list.
 pub(crate) fn list(
     alloc: Global,
     owned: &mut BTreeMap<u64, Vec<LockName>>,
     owner: u64,
     name: &LockName,
 ) -> Result<(), Memory>
-    ensures listed { OnOk result (IsListed owned.new owner name.now) }
-    ensures kept { (other : ℕ) (listed : Name) → IsListed owned.old other listed
-        → IsListed owned.new other listed }
+    ensures listed { OnOk result
+        (names_of owned.new owner ≡ names_of owned.old owner ++ name.now ∷ []) }
+    ensures memory { OnErr result (names_of owned.new owner ≡ names_of owned.old owner) }
+    ensures others { (other : ℕ) → other ≢ owner
+        → names_of owned.new other ≡ names_of owned.old other }
 {
     let name = name.copy(alloc)?;
     if let Some(names) = owned.get_mut(&owner) {
@@ -77,8 +79,8 @@ pub(crate) fn free_each(
     }
 }
 
-// Takes an owner from the holders of a name, and the name away where nobody holds it then.
-fn free(holders: &mut BTreeMap<LockName, BTreeMap<u64, Mode>>, name: &LockName, owner: u64)
+/// Takes an owner from the holders of a name, and the name away where nobody holds it then.
+pub(crate) fn free(holders: &mut BTreeMap<LockName, BTreeMap<u64, Mode>>, name: &LockName, owner: u64)
     requires { tree.IsOrdered lock_name_cmp holders.old }
     ensures freed { locks_of holders.new ≡ map.remove (locks_of holders.old) (name.now, owner) }
     ensures ordered { tree.IsOrdered lock_name_cmp holders.new }

@@ -12,6 +12,3 @@ pub use answer::{LockAnswer, no_cycle_of_waits};
 pub use mode::{Mode, compatible, join};
 pub use name::LockName;
 pub use table::LockTable;
-
-#[cfg(test)]
-mod tests;

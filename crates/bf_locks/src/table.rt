@@ -1,11 +1,12 @@
 //! The lock table.
 
-ghost use Rattle.std.specs.Prelude.{◌≡◌, false, IfOk, OnOk, OnErr, IsSome};
+ghost use Rattle.std.specs.Prelude.{◌≡◌, not, IfOk, OnOk, OnErr};
+ghost use Rattle.std.specs.Option.{is_some};
 ghost use Rattle.std.specs.FinMap as map;
 ghost use Rattle.bf_locks.specs.Locks.{held, IsConsistent, IsJudged, after, without_owner};
 
 use crate::answer::LockAnswer;
-use crate::holdings::{free_each, list, put};
+use crate::holdings::{free, free_each, list, put};
 use crate::judgement::{joined, judge, mode_among};
 use crate::mode::Mode;
 use crate::name::LockName;
@@ -23,7 +24,7 @@ pub struct LockTable {
     alloc: Global,
     // The modes of each name's holders, by owner.
     holders: BTreeMap<LockName, BTreeMap<u64, Mode>>,
-    // The names that each owner holds.
+    // The names that each owner holds, each once.
     owned: BTreeMap<u64, Vec<LockName>>,
 }
 
@@ -107,17 +108,22 @@ impl LockTable {
         mode_among(self.holders.get(name), owner)
     }
 
-    // Lets an owner hold a name in a mode, in place of the one in which it held it before. The
-    // name comes on the owner's list first, where it is new there.
+    // Lets an owner hold a name in a mode, in place of the one in which it held it before. Where it
+    // held it in none, the name comes on the owner's list too.
     fn grant(&mut self, owner: u64, name: &LockName, mode: Mode, is_new: bool) -> Result<(), Memory>
         requires consistent { IsConsistent (map.insert self.old (name.now, owner) mode) }
-        requires listed { is_new ≡ false → IsSome (held self.old name.now owner) }
+        requires new { is_some (held self.old name.now owner) ≡ not is_new }
         ensures granted { OnOk result (self.new ≡ map.insert self.old (name.now, owner) mode) }
         ensures memory { OnErr result (self.new ≡ self.old) }
     {
-        if is_new {
-            list(self.alloc, &mut self.owned, owner, name)?;
+        put(self.alloc, &mut self.holders, name, owner, mode)?;
+        if !is_new {
+            return Ok(());
         }
-        put(self.alloc, &mut self.holders, name, owner, mode)
+        let Err(memory) = list(self.alloc, &mut self.owned, owner, name) else {
+            return Ok(());
+        };
+        free(&mut self.holders, name, owner);
+        Err(memory)
     }
 }

@@ -5,6 +5,3 @@ pub mod cases;
 mod numbers;
 
 pub use cases::{Cases, of_cases};
-
-#[cfg(test)]
-mod tests;

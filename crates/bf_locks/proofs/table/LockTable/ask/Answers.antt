@@ -12,13 +12,12 @@ grant-requires-clause-consistent c =
     (option_copied c.get-holders.result) c.get-holders.ensures.value c.mode_among-before.result c.mode_among-before.ensures c.joined-wanted.result c.joined-wanted.ensures
     c.judge.ensures.ordered (sym c.in-Granted.is ∙ c.in_ok-refused.ensures.answer) c.self.invariant.consistent
 
--- an owner that held the name has it on its list
-pub grant-requires-clause-listed : goal.grant-requires-clause-listed
-grant-requires-clause-listed c = λ was.
+-- the name is new to an owner that did not hold it
+pub grant-requires-clause-new : goal.grant-requires-clause-new
+grant-requires-clause-new c =
     ap is_some (sym (before_held c.self.inside.holders c.args.self.now c.self.view_is c.self.invariant.ordered c.args.owner c.args.name.now c.args.mode
     (option_copied c.get-holders.result) c.get-holders.ensures.value c.mode_among-before.result c.mode_among-before.ensures c.joined-wanted.result c.joined-wanted.ensures))
     ∙ c.is_none.ensures
-    ∙ ap not was
 
 pub returns-in_ok-grant-in-Granted-clause-judged : goal.returns-in_ok-grant-in-Granted-clause-judged
 returns-in_ok-grant-in-Granted-clause-judged c =

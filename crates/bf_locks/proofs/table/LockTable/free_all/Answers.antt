@@ -1,18 +1,28 @@
-use Rattle.std.proofs.Common.{IsSomeAnd, Contains, sym, ap, subst, ◌∙◌}
-use Rattle.std.specs.Cmp.{unsigned_tied}
-use Rattle.std.proofs.lemmas.Bool.{ne_eqb}
+use Rattle.std.proofs.Common.{None, Contains, refl, inl, inr, sym, ap, subst, ◌∙◌}
+use Rattle.std.proofs.lemmas.Bool.{cases_eq}
 use Rattle.bf_locks.specs.Locks.{held, IsConsistent}
-use Rattle.bf_locks.specs.Table.{locks_of}
+use Rattle.bf_locks.specs.Table.{locks_of, names_of}
 use Rattle.bf_locks.proofs.Held.{consistent_without}
 use Rattle.bf_locks.proofs.Freed.{all_freed}
-use Rattle.bf_locks.proofs.Sound.{sound_freed}
+use Rattle.bf_locks.proofs.Sound.{none_among, names_in, lists_without, sound_kept, sound_freed}
 use Rattle.bf_locks.proofs.table.LockTable.free_all.Goals as goal
 
 pub invariant_of-self : goal.invariant_of-self
 invariant_of-self c =
+    let lists = lists_without c.self.inside.owned c.remove.new.self c.args.owner c.remove.ensures.updates.0 in
     sound_freed c.self.inside.holders c.free_each.new.holders c.self.inside.owned c.remove.new.self c.self.invariant c.free_each.ensures.ordered c.args.owner
-    (λ by apart. c.remove.ensures.updates.2 by (unsigned_tied c.args.owner by ∙ ne_eqb c.args.owner by (λ e. apart (sym e))))
-    c.free_each.ensures.freed
+    lists.0 lists.1 c.free_each.ensures.freed
+
+-- an owner with no list still has none
+pub invariant_of-self-in_default : goal.invariant_of-self-in_default
+invariant_of-self-in_default c =
+    let lists = lists_without c.self.inside.owned c.remove.new.self c.args.owner c.remove.ensures.updates.0 in
+    sound_kept c.self.inside.holders c.self.inside.holders c.self.inside.owned c.remove.new.self c.self.invariant c.self.invariant.ordered
+    (λ by. elim (cases_eq by c.args.owner) [
+      | inl same ↦ ap (names_of c.remove.new.self) same ∙ lists.0 ∙ sym (names_in c.self.inside.owned c.args.owner None (sym c.in_default.ensures.value)) ∙ ap (names_of c.self.inside.owned) (sym same)
+      | inr apart ↦ lists.1 by apart
+    ])
+    (λ at by. refl) c.self.invariant.consistent
 
 pub returns-in-Some-clause-consistent : goal.returns-in-Some-clause-consistent
 returns-in-Some-clause-consistent c =
@@ -23,4 +33,4 @@ pub returns-in_default-clause-freed : goal.returns-in_default-clause-freed
 returns-in_default-clause-freed c =
     all_freed c.args.self.now (locks_of c.self.inside.holders) c.args.owner
     (λ at by apart. ap (λ m. held m at by) c.self.view_is)
-    (λ at some. subst (λ o. IsSomeAnd o (λ names. Contains names.items at)) (sym c.in_default.ensures.value) (c.self.invariant.listed at c.args.owner some))
+    (λ at some. none_among at (subst (λ names. Contains names at) (names_in c.self.inside.owned c.args.owner None (sym c.in_default.ensures.value)) ((c.self.invariant.listed c.args.owner at).1 some)))

@@ -5,7 +5,7 @@ use mathlib.Core.Option.{some}
 use Rattle.bf_bits.specs.declared.rule.View.{View}
 use Rattle.bf_bits.specs.Positions.{Has}
 use Rattle.bf_bits.specs.Tracker.{holders, finishers}
-use Rattle.bf_hash.specs.Tracker.{TrackerState, free, held, done, TrackerStep}
+use Rattle.bf_base.specs.Trackers.{TrackerState, free, held, done, TrackerStep}
 
 abbrev pub IsTrackedAs : List View → ℕ → TrackerState → Type 0
 IsTrackedAs views p free = (holders p views ≡ 0) × (finishers p views ≡ 0)

@@ -1,5 +1,6 @@
-use super::*;
-use bf_base::{Key, Name, NameError, Value};
+use crate::fixtures::key;
+use bf_base::{Name, NameError};
+use bf_locks::{LockAnswer, LockName, LockTable, Mode, compatible, join};
 use std::alloc::{AllocError, Global};
 use std::process::Abort;
 use std::test::Fail;
@@ -15,9 +16,7 @@ fn whole(alloc: Global) -> Result<LockName, NameError> {
 }
 
 fn row(alloc: Global, number: i64) -> Result<LockName, Fail> {
-    let mut values = Vec::new(alloc);
-    values.push(Value::Int(number))?;
-    Ok(LockName::One(name(alloc)?, Key::of(values)))
+    Ok(LockName::One(name(alloc)?, key(alloc, number)?))
 }
 
 // The answer as text, so that it can be compared.

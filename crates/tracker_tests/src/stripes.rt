@@ -1,13 +1,8 @@
-use super::*;
-use bf_base::{Key, Memory, Value};
+use crate::fixtures::{claimed, key};
+use bf_base::Memory;
+use bf_hash::{HashAnswer, HashState, Stripe};
 use std::alloc::Global;
 use std::test::*;
-
-fn key(alloc: Global, number: i64) -> Result<Key, Memory> {
-    let mut values = Vec::new(alloc);
-    values.push(Value::Int(number))?;
-    Ok(Key::of(values))
-}
 
 // What a claim of a key is answered, and the ticket under which it is held. The claim is let go, and the
 // key stays held.
@@ -16,14 +11,6 @@ fn told(alloc: Global, stripe: &mut Stripe, number: i64) -> Result<(&'static str
         HashAnswer::Claimed(claim) => Ok(("claimed", claim.ticket())),
         HashAnswer::Busy(ticket) => Ok(("busy", ticket)),
         HashAnswer::Done => Ok(("done", 0)),
-    }
-}
-
-// The claim of a key, and `None` where it was not granted.
-fn claimed(alloc: Global, stripe: &mut Stripe, number: i64) -> Result<Option<HashClaim>, Memory> {
-    match stripe.claim(&key(alloc, number)?)? {
-        HashAnswer::Claimed(claim) => Ok(Some(claim)),
-        HashAnswer::Busy(_) | HashAnswer::Done => Ok(None),
     }
 }
 

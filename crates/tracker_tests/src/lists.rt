@@ -1,10 +1,11 @@
 ghost use Rattle.std.specs.Prelude.{◌≡◌, ◌<◌, [], ◌∷◌, pos, length, IfOk, IfSome};
 ghost use Rattle.bf_drive.specs.Lists.{Lacks, granules_in};
 
-use super::*;
-use bf_base::{Granule, Key, Memory, Place, Value};
+use crate::fixtures::claimed;
+use bf_base::{Granule, Memory, Place, Value};
 use bf_bits::{BitAnswer, BitClaim, Bits};
-use bf_hash::{HashAnswer, HashClaim, Stripe};
+use bf_drive::{Claim, Skip, Wip};
+use bf_hash::{HashClaim, Stripe};
 use std::alloc::Global;
 use std::test::*;
 
@@ -32,13 +33,8 @@ fn claimed_number(alloc: Global, number: u32) -> Result<Option<HashClaim>, Memor
     ensures { IfOk result (λ claim.
         IfSome claim (λ claim. claim.key ≡ Value.Int (pos number) ∷ [])) }
 {
-    let mut values = Vec::new(alloc);
-    values.push(Value::Int(number as i64))?;
     let mut stripe = Stripe::of_done(alloc, &[])?;
-    match stripe.claim(&Key::of(values))? {
-        HashAnswer::Claimed(claim) => Ok(Some(claim)),
-        HashAnswer::Busy(_) | HashAnswer::Done => Ok(None),
-    }
+    claimed(alloc, &mut stripe, number as i64)
 }
 
 fn push_row(wip: &mut Wip, claim: BitClaim)

@@ -1,4 +1,4 @@
-use super::*;
+use bf_tables::{Cases, case_of_number, number_of_case, of_cases};
 use std::test::Fail;
 
 fn sides() -> Option<Cases<3>> {

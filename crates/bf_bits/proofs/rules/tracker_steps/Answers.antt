@@ -1,5 +1,5 @@
-use Rattle.bf_drive.proofs.Steps as steps
-use Rattle.bf_drive.proofs.rules.tracker_steps.Goals as goal
+use Rattle.bf_bits.proofs.AsTracker as steps
+use Rattle.bf_bits.proofs.rules.tracker_steps.Goals as goal
 
 pub returns-clause-claim : goal.returns-clause-claim
 returns-clause-claim c views seat p found view at is = steps.claim views seat p found view at is

@@ -1,7 +1,7 @@
 ghost use Rattle.std.specs.Prelude.{◌≡◌, ◌<◌, ◌≤◌, []};
 
-use super::*;
 use bf_base::Memory;
+use bf_bits::{BitAnswer, BitSeat, Bits, Look};
 use std::alloc::Global;
 use std::process::Abort;
 use std::test::*;

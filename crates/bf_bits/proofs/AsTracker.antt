@@ -9,8 +9,8 @@ use Rattle.bf_bits.specs.Positions.{times, Has, without}
 use Rattle.bf_bits.specs.Tracker.{holders, finishers}
 use Rattle.bf_bits.specs.Steps.{next}
 use Rattle.bf_bits.proofs.Counting.{times-here, times-other, times-without, times-without_other, total-set, total-at}
-use Rattle.bf_hash.specs.Tracker.{TrackerState, free, held, done}
-use Rattle.bf_drive.specs.Trackers.{IsTrackedAs, StepsTo}
+use Rattle.bf_base.specs.Trackers.{TrackerState, free, held, done}
+use Rattle.bf_bits.specs.AsTracker.{IsTrackedAs, StepsTo}
 
 set_here : (l : List View) (i : ℕ) (v w : View) → get_elem? l i ≡ some v → get_elem? (set l i w) i ≡ some w
 set_here [] i v w e = absurd (some-ne-none v (sym e))
