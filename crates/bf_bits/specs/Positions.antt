@@ -1,5 +1,13 @@
--- Lists of positions, in which order plays no part.
+-- Positions in words, and lists of positions, in which order plays no part.
 use Rattle.std.specs.Prelude.{ℕ, ◌+◌, ◌/◌, ◌<◌, ◌≤◌, ◌==◌, List, [], ◌∷◌, if◌then◌else◌}
+
+-- how many granules a word has
+abbrev pub granules_per_word : ℕ
+granules_per_word = 32
+
+-- in which word a position lies
+abbrev pub word_of : ℕ → ℕ
+word_of p = p / granules_per_word
 
 -- how often a position stands in a list
 abbrev pub times : ℕ → List ℕ → ℕ
@@ -20,4 +28,4 @@ without p (x ∷ xs) = if p == x then xs else x ∷ without p xs
 
 -- the positions lie in so many words
 abbrev pub IsWithin : ℕ → List ℕ → Type 0
-IsWithin words xs = (p : ℕ) → Has xs p → p / 32 < words
+IsWithin words xs = (p : ℕ) → Has xs p → word_of p < words

@@ -4,7 +4,7 @@ use Rattle.atomic_table.specs.Table.{Me}
 use Rattle.atomic_table.specs.Seated.{TableId}
 use Rattle.bf_bits.specs.declared.rule.View.{View}
 use Rattle.bf_bits.specs.declared.rule.Made.{Made}
-use Rattle.bf_bits.specs.Positions.{Has, IsWithin}
+use Rattle.bf_bits.specs.Positions.{granules_per_word, Has, IsWithin}
 use Rattle.bf_bits.specs.Tracker.{nobody, beginner, both_of}
 use Rattle.bf_bits.specs.Steps.{next}
 
@@ -46,7 +46,7 @@ joined seat other = record seat { view = both_of seat.view other.view }
 
 -- ---- what a tracker and a seat keep
 pub record IsMade (table : TableId) (made : Made) (granules : ℕ) : Type 0 where
-  pub room : granules ≤ 32 * table.words
+  pub room : granules ≤ granules_per_word * table.words
   pub some : 0 < table.words
   pub no_slots : table.slots ≡ 0
   pub same_words : made.words ≡ table.words

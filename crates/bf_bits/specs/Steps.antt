@@ -1,12 +1,12 @@
 -- What the steps on a word tell the seat that makes them. A step found a word, and leaves the seat with a view.
-use Rattle.std.specs.Prelude.{ℕ, ◌≡◌, ◌+◌, ◌/◌, List, ◌∷◌}
+use Rattle.std.specs.Prelude.{ℕ, ◌≡◌, ◌+◌, List, ◌∷◌}
 use Rattle.std.specs.Int.{bit_not}
 use mir.Syntax.{w64}
 use Rattle.atomic_table.specs.Table.{Me, Step}
 use Rattle.bf_bits.specs.declared.answer.Look.{Look}
 use Rattle.bf_bits.specs.declared.answer.Look.TheVariants.{Free, Held, Done}
 use Rattle.bf_bits.specs.declared.rule.View.{View}
-use Rattle.bf_bits.specs.Positions.{Has, without}
+use Rattle.bf_bits.specs.Positions.{word_of, Has, without}
 use Rattle.bf_bits.specs.Words.{lock_place, migrate_place, mask, state_in}
 
 -- the view after one more step, which found a word and leaves these lists
@@ -31,12 +31,12 @@ Own = Me (Unit {0}) View
 
 -- a step on the word of a position, with an operand
 abbrev pub IsAt : Step (Unit {0}) → ℕ → ℕ → Type 0
-IsAt st p operand = (st.word ≡ p / 32) × (st.first ≡ operand)
+IsAt st p operand = (st.word ≡ word_of p) × (st.first ≡ operand)
 
 -- a load: the lists stay, and the word says of each position in it what the seat has
 abbrev pub looked : Step (Unit {0}) → Own → ℕ → Own → Type 0
 looked st v found w =
-    (w ≡ (next v.0 found v.0.held v.0.finished, v.1)) × ((p : ℕ) → st.word ≡ p / 32 → Tells found p v.0)
+    (w ≡ (next v.0 found v.0.held v.0.finished, v.1)) × ((p : ℕ) → st.word ≡ word_of p → Tells found p v.0)
 
 -- the lock bit is set: the seat holds the position where it was found free, and else its lists stay
 abbrev pub claimed : Step (Unit {0}) → Own → ℕ → Own → Type 0

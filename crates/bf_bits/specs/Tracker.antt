@@ -1,8 +1,8 @@
 -- The rule of a tracker: what holds of its words and of all seats' views between any two steps.
-use Rattle.std.specs.Prelude.{ℕ, ◌≡◌, ◌+◌, ◌/◌, ◌<◌, ◌≤◌, List, [], ◌∷◌, ◌++◌, slice_index, length}
+use Rattle.std.specs.Prelude.{ℕ, ◌≡◌, ◌+◌, ◌<◌, ◌≤◌, List, [], ◌∷◌, ◌++◌, slice_index, length}
 use Rattle.atomic_table.specs.Table.{State}
 use Rattle.bf_bits.specs.declared.rule.View.{View}
-use Rattle.bf_bits.specs.Positions.{times}
+use Rattle.bf_bits.specs.Positions.{word_of, times}
 use Rattle.bf_bits.specs.Words.{lock_in, migrate_in}
 
 -- ---- views
@@ -34,7 +34,7 @@ pub record Orderly (lock migrate held finished : ℕ) : Type 0 where
   pub migrated : migrate ≡ finished
 
 abbrev pub Keeps : List ℕ → List View → Type 0
-Keeps words views = (p : ℕ) → Orderly (lock_in (slice_index words (p / 32)) p) (migrate_in (slice_index words (p / 32)) p) (holders p views) (finishers p views)
+Keeps words views = (p : ℕ) → Orderly (lock_in (slice_index words (word_of p)) p) (migrate_in (slice_index words (word_of p)) p) (holders p views) (finishers p views)
 
 -- so many words, each position is in order, and what stands in a list is below the number of granules
 abbrev pub Tracks : ℕ → ℕ → State (Unit {0}) View → Type 0
@@ -49,4 +49,4 @@ pub record AreFour (lock migrate held finished : ℕ) : Type 0 where
   pub stands_once : held + finished ≤ 1
 
 abbrev pub IsTracked : State (Unit {0}) View → ℕ → Type 0
-IsTracked s p = AreFour (lock_in (slice_index s.words (p / 32)) p) (migrate_in (slice_index s.words (p / 32)) p) (holders p s.views) (finishers p s.views)
+IsTracked s p = AreFour (lock_in (slice_index s.words (word_of p)) p) (migrate_in (slice_index s.words (word_of p)) p) (holders p s.views) (finishers p s.views)

@@ -12,7 +12,9 @@ ghost use Rattle.bf_bits.specs.Closing.{ClosesAs};
 use crate::answer::Look;
 use crate::origin::Origin;
 use crate::rule::{Claims, Finishes, GivesBack, Law, Looks, Made, Seating, View};
-use crate::words::{gather, lock_mask, marked, migrate_mask, state_of, words_for};
+use crate::words::{
+    GRANULES_PER_WORD, gather, lock_mask, marked, migrate_mask, state_of, words_for,
+};
 use atomic_table::{Seat, Table};
 use bf_base::Memory;
 use std::alloc::Global;
@@ -52,7 +54,8 @@ impl BitClaim {
     }
 }
 
-/// The words of a tracker. Threads share it by `&`, each with a seat of its own.
+/// The words of a tracker. Threads share it by `&`, each with a seat of its own. Each call but
+/// `of_done` and `close` takes constant time.
 #[derive(Drop)]
 pub struct Bits {
     table: Table<(), View, Made, Law, Global>,
@@ -87,7 +90,7 @@ impl Model for BitSeat {
 
 impl Bits {
     /// A tracker of this many granules, of which these positions are done and none is held, and its
-    /// first seat. Two bits for each granule, and at least one word.
+    /// first seat. Two bits for each granule, and at least one word. Linear in the number of granules.
     pub fn of_done(alloc: Global, granules: u32, done: &[u32]) -> Result<(Bits, BitSeat), Memory>
         requires below { All (λ at. at < granules) done.now }
         requires distinct { IsDistinct done.now }
@@ -127,7 +130,7 @@ impl Bits {
         ensures held { Holds seat.old at → result ≡ BitAnswer.Busy }
         ensures finished { HasFinished seat.old at → result ≡ BitAnswer.Done }
     {
-        let word = (at / 32) as usize;
+        let word = (at / GRANULES_PER_WORD) as usize;
         let found = self
             .table
             .shared
@@ -158,12 +161,13 @@ impl Bits {
         ensures held { Holds seat.old at → result ≡ Look.Held }
         ensures finished { HasFinished seat.old at → result ≡ Look.Done }
     {
-        let word = (at / 32) as usize;
+        let word = (at / GRANULES_PER_WORD) as usize;
         let found = self.table.shared.load::<Looks>(&mut seat.seat, word);
         state_of(found, at)
     }
 
-    /// Finishes what the seat holds of this tracker, by one step. Takes no memory, and waits for nobody.
+    /// Finishes what the seat holds of this tracker, by one step. Takes no memory, and waits for
+    /// nobody.
     pub fn finish(&self, seat: &mut BitSeat, claim: BitClaim)
         requires own { seat.old.table ≡ self.now.table }
         requires of_this { claim.table ≡ self.now.table }
@@ -173,13 +177,14 @@ impl Bits {
             (without claim.at seat.old.view.held) (claim.at ∷ seat.old.view.finished) }
     {
         let BitClaim { at, origin: _ } = claim;
-        let word = (at / 32) as usize;
+        let word = (at / GRANULES_PER_WORD) as usize;
         self.table
             .shared
             .fetch_or::<Finishes>(&mut seat.seat, word, migrate_mask(at));
     }
 
-    /// Gives back what the seat holds of this tracker, by one step. Takes no memory, and waits for nobody.
+    /// Gives back what the seat holds of this tracker, by one step. Takes no memory, and waits for
+    /// nobody.
     pub fn give_back(&self, seat: &mut BitSeat, claim: BitClaim)
         requires own { seat.old.table ≡ self.now.table }
         requires of_this { claim.table ≡ self.now.table }
@@ -189,7 +194,7 @@ impl Bits {
             (without claim.at seat.old.view.held) seat.old.view.finished }
     {
         let BitClaim { at, origin: _ } = claim;
-        let word = (at / 32) as usize;
+        let word = (at / GRANULES_PER_WORD) as usize;
         self.table
             .shared
             .fetch_and::<GivesBack>(&mut seat.seat, word, !lock_mask(at));

@@ -27,14 +27,14 @@ pub fn tracker_steps()
     ensures claim { (views : List View) (seat p found : ℕ) (view : View)
         → get_elem? views seat ≡ some view → IsTrackedAs views p free
         → StepsTo views (slice_set views seat (next view found (p ∷ view.held) view.finished))
-            p seat free (held seat) }
+        p seat free (held seat) }
     ensures finish { (views : List View) (seat p found : ℕ) (view : View)
         → get_elem? views seat ≡ some view → Has view.held p
         → StepsTo views (slice_set views seat
-            (next view found (without p view.held) (p ∷ view.finished))) p seat (held seat) done }
+        (next view found (without p view.held) (p ∷ view.finished))) p seat (held seat) done }
     ensures give_back { (views : List View) (seat p found : ℕ) (view : View)
         → get_elem? views seat ≡ some view → Has view.held p
         → holders p views + finishers p views ≤ 1
         → StepsTo views (slice_set views seat
-            (next view found (without p view.held) view.finished)) p seat (held seat) free }
+        (next view found (without p view.held) view.finished)) p seat (held seat) free }
 {}

@@ -3,7 +3,7 @@ use Rattle.std.proofs.Common.{ℕ, ◌<◌, ◌≤◌, inl, inr, List, [], ◌�
 use Rattle.std.proofs.lemmas.List.{take-map, length-take, map-append}
 use Rattle.bf_base.specs.declared.granule.Granule.{Granule}
 use Rattle.bf_drive.specs.Claims.{IsOf}
-use Rattle.bf_drive.specs.Lists.{Entry, IsSkip, IsWip, AreDifferent, Lacks, granules_in, most}
+use Rattle.bf_drive.specs.Lists.{Entry, IsSkip, IsWip, AreDifferent, Lacks, granules_in, most_granules}
 use Rattle.bf_drive.proofs.Places.{slice_get-snoc, slice_get-take}
 
 different-snoc : (xs : List Granule) (x : Granule) → AreDifferent xs → Lacks xs x → AreDifferent (xs ++ x ∷ [])
@@ -16,13 +16,13 @@ different-snoc xs x differ lacks i j g p q =
 different-take : (n : ℕ) (xs : List Granule) → AreDifferent xs → AreDifferent (take n xs)
 different-take n xs differ i j g p q = differ i j g (slice_get-take n xs i g p) (slice_get-take n xs j g q)
 
-few-snoc : {T : Type 0} (xs : List T) (x : T) → length xs < most → length (xs ++ x ∷ []) ≤ most
+few-snoc : {T : Type 0} (xs : List T) (x : T) → length xs < most_granules → length (xs ++ x ∷ []) ≤ most_granules
 few-snoc xs x few = omega (arith, length-append xs (x ∷ []))
 
-pub skip-snoc : (xs : List Granule) (x : Granule) → IsSkip xs → length xs < most → Lacks xs x → IsSkip (xs ++ x ∷ [])
+pub skip-snoc : (xs : List Granule) (x : Granule) → IsSkip xs → length xs < most_granules → Lacks xs x → IsSkip (xs ++ x ∷ [])
 skip-snoc xs x old few lacks = record { few = few-snoc xs x few; different = different-snoc xs x old.different lacks }
 
-pub wip-snoc : (xs : List Entry) (x : Entry) → IsWip xs → length xs < most → Lacks (granules_in xs) x.0 → IsOf x.0 x.1 → IsWip (xs ++ x ∷ [])
+pub wip-snoc : (xs : List Entry) (x : Entry) → IsWip xs → length xs < most_granules → Lacks (granules_in xs) x.0 → IsOf x.0 x.1 → IsWip (xs ++ x ∷ [])
 wip-snoc xs x old few lacks own = record {
   few = few-snoc xs x few;
   different = subst AreDifferent (sym (map-append (λ (e : Entry). e.0) xs (x ∷ []))) (different-snoc (granules_in xs) x.0 old.different lacks);

@@ -1,7 +1,7 @@
 -- How a list is kept: in places of which each that is taken has a value.
 use Rattle.std.specs.Prelude.{◌≡◌, List, [], ◌∷◌, Option, Some, None, map}
 use Rattle.smallvec.specs.SmallVec.{SmallVec}
-use Rattle.bf_drive.specs.Lists.{most}
+use Rattle.bf_drive.specs.Lists.{most_granules}
 
 module _ {T : Type 0} where
   -- the values in places
@@ -13,4 +13,4 @@ module _ {T : Type 0} where
   -- no place that is taken is without a value, and there are as many places as a list may have values
   pub record AreKept (places : SmallVec (Option T)) : Type 0 where
     pub full : places.items ≡ map Some (values_in places.items)
-    pub room : places.capacity ≡ most
+    pub room : places.capacity ≡ most_granules

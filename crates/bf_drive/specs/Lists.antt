@@ -1,12 +1,12 @@
--- Lists of at most 64 granules, all different, alone or each with its claim.
+-- Lists of at most `most_granules` granules, all different, alone or each with its claim.
 use Rattle.std.specs.Prelude.{ℕ, ◌≡◌, ◌≢◌, ◌≤◌, List, Some, map, length, slice_get}
 use Rattle.bf_base.specs.declared.granule.Granule.{Granule}
 use Rattle.bf_drive.specs.declared.claim.Claim.{Claim}
 use Rattle.bf_drive.specs.Claims.{IsOf}
 
 -- how many granules a list holds at most
-abbrev pub most : ℕ
-most = 64
+abbrev pub most_granules : ℕ
+most_granules = 64
 
 -- a granule stands nowhere in a list
 abbrev pub Lacks : List Granule → Granule → Type 0
@@ -25,10 +25,10 @@ granules_in entries = map (λ entry. entry.0) entries
 
 -- ---- what is true of each list
 pub record IsSkip (granules : List Granule) : Type 0 where
-  pub few : length granules ≤ most
+  pub few : length granules ≤ most_granules
   pub different : AreDifferent granules
 
 pub record IsWip (entries : List Entry) : Type 0 where
-  pub few : length entries ≤ most
+  pub few : length entries ≤ most_granules
   pub different : AreDifferent (granules_in entries)
   pub theirs : (i : ℕ) (entry : Entry) → slice_get entries i ≡ Some entry → IsOf entry.0 entry.1

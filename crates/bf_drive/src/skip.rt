@@ -2,18 +2,19 @@
 
 ghost use Rattle.std.specs.Prelude.{◌≡◌, ◌<◌, [], ◌∷◌, ◌++◌, length, slice_get};
 ghost use Rattle.std.specs.Option.{option_copied};
-ghost use Rattle.bf_drive.specs.Lists.{IsSkip, Lacks, most};
+ghost use Rattle.bf_drive.specs.Lists.{IsSkip, Lacks, most_granules};
 
+use crate::PLACES;
 use bf_base::Granule;
 use smallvec::SmallVec;
 use std::alloc::Global;
 use std::marker::Model;
 
-/// Granules that were busy or done, in the order in which they were pushed: at most 64, all different. The
-/// places stand in the value itself.
+/// Granules that were busy or done, in the order in which they were pushed: at most `PLACES`, all
+/// different. The places stand in the value itself, and each call takes constant time.
 #[derive(Drop)]
 pub struct Skip {
-    granules: SmallVec<Option<Granule>, 64>,
+    granules: SmallVec<Option<Granule>, PLACES>,
 }
 
 impl Model for Skip {
@@ -39,7 +40,7 @@ impl Skip {
         }
     }
 
-    /// How many granules there are, at most 64.
+    /// How many granules there are, at most `PLACES`.
     pub fn len(&self) -> u32
         ensures len { result ≡ length self.now }
         ensures sound { IsSkip self.now }
@@ -59,7 +60,7 @@ impl Skip {
 
     /// Appends a granule. It takes no memory.
     pub fn push(&mut self, granule: Granule)
-        requires few { length self.old < most }
+        requires few { length self.old < most_granules }
         requires different { Lacks self.old granule }
         ensures pushed { self.new ≡ self.old ++ granule ∷ [] }
         ensures sound { IsSkip self.new }

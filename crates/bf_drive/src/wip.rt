@@ -3,18 +3,20 @@
 ghost use Rattle.std.specs.Prelude.{◌≡◌, ◌-◌, ◌<◌, [], ◌∷◌, ◌++◌, length, take, slice_get};
 ghost use Rattle.std.specs.Option.{option_copied};
 ghost use Rattle.bf_drive.specs.Claims.{IsOf};
-ghost use Rattle.bf_drive.specs.Lists.{IsWip, Lacks, granules_in, most};
+ghost use Rattle.bf_drive.specs.Lists.{IsWip, Lacks, granules_in, most_granules};
 
+use crate::PLACES;
 use crate::claim::Claim;
 use bf_base::Granule;
 use smallvec::SmallVec;
 use std::alloc::Global;
 use std::marker::Model;
 
-/// Granules with their claims, in the order in which they were pushed: at most 64, all different, and each
-/// claim is of the granule beside it. The places stand in the value itself. It can't be let go but by `end`.
+/// Granules with their claims, in the order in which they were pushed: at most `PLACES`, all
+/// different, and each claim is of the granule beside it. The places stand in the value itself, and
+/// each call takes constant time. It can't be let go but by `end`.
 pub struct Wip {
-    entries: SmallVec<Option<(Granule, Claim)>, 64>,
+    entries: SmallVec<Option<(Granule, Claim)>, PLACES>,
 }
 
 impl Model for Wip {
@@ -39,7 +41,7 @@ impl Wip {
         }
     }
 
-    /// How many granules there are, at most 64.
+    /// How many granules there are, at most `PLACES`.
     pub fn len(&self) -> u32
         ensures len { result ≡ length self.now }
         ensures sound { IsWip self.now }
@@ -68,7 +70,7 @@ impl Wip {
 
     /// Appends a granule and its claim. It takes no memory.
     pub fn push(&mut self, granule: Granule, claim: Claim)
-        requires few { length self.old < most }
+        requires few { length self.old < most_granules }
         requires different { Lacks (granules_in self.old) granule }
         requires own { IsOf granule claim }
         ensures pushed { self.new ≡ self.old ++ (granule, claim) ∷ [] }
@@ -77,7 +79,8 @@ impl Wip {
         self.entries.push_reserved(Some((granule, claim)));
     }
 
-    /// Takes off the last granule with its claim; `None` exactly where the list is empty. It takes no memory.
+    /// Takes off the last granule with its claim; `None` exactly where the list is empty. It takes no
+    /// memory.
     pub fn pop(&mut self) -> Option<(Granule, Claim)>
         ensures last { result ≡ slice_get self.old (length self.old - 1) }
         ensures rest { self.new ≡ take (length self.old - 1) self.old }

@@ -37,8 +37,9 @@ impl HashState {
     }
 }
 
-/// A key that a stripe granted, and the ticket under which it did. `Stripe::claim` alone makes one. It does
-/// not say which stripe: at another one it acts on that one's key where this is held under the same ticket.
+/// A key that a stripe granted, and the ticket under which it did. `Stripe::claim` alone makes one.
+/// It does not say which stripe: at another one it acts on that one's key where this is held under
+/// the same ticket.
 #[derive(Drop)]
 pub struct HashClaim {
     pub(crate) key: Key,

@@ -52,7 +52,8 @@ fn state_among(states: &BTreeMap<Key, Mark>, key: &Key) -> HashState
 }
 
 impl Stripe {
-    /// A stripe in which these keys are done, and all others free.
+    /// A stripe in which these keys are done, and all others free. It copies each key, in time
+    /// logarithmic in the keys before it.
     pub fn of_done(alloc: Global, done: &[Key]) -> Result<Stripe, Memory>
         ensures all { IfOk result (λ stripe. stripe ≡ all_done done.now) }
         ensures consistent { IfOk result (λ stripe. IsConsistent stripe) }

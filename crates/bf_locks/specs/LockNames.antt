@@ -16,20 +16,20 @@ rank_of (Whole table) = 1
 rank_of (One table key) = 2
 
 -- the bytes of the table's name (the catalog has none)
-abbrev pub table_of : LockName → List ℕ
-table_of Catalog = []
-table_of (Whole table) = table
-table_of (One table key) = table
+abbrev pub locked_table : LockName → List ℕ
+locked_table Catalog = []
+locked_table (Whole table) = table
+locked_table (One table key) = table
 
 -- the values of the key (only a single key has some)
-abbrev pub key_of : LockName → List Value
-key_of Catalog = []
-key_of (Whole table) = []
-key_of (One table key) = key
+abbrev pub locked_key : LockName → List Value
+locked_key Catalog = []
+locked_key (Whole table) = []
+locked_key (One table key) = key
 
 -- by rank, then by table, then by key
 abbrev pub lock_name_cmp : LockName → LockName → Ordering
-lock_name_cmp = then_cmp (on rank_of nat_cmp) (then_cmp (on table_of (slice_cmp nat_cmp)) (on key_of key_cmp))
+lock_name_cmp = then_cmp (on rank_of nat_cmp) (then_cmp (on locked_table (slice_cmp nat_cmp)) (on locked_key key_cmp))
 
 pub lock_name_cmp_total : IsTotalOrder lock_name_cmp
-lock_name_cmp_total = then_total (on_total rank_of nat_cmp_total) (then_total (on_total table_of nat_list_cmp_total) (on_total key_of key_cmp_total))
+lock_name_cmp_total = then_total (on_total rank_of nat_cmp_total) (then_total (on_total locked_table nat_list_cmp_total) (on_total locked_key key_cmp_total))

@@ -80,7 +80,11 @@ pub(crate) fn free_each(
 }
 
 /// Takes an owner from the holders of a name, and the name away where nobody holds it then.
-pub(crate) fn free(holders: &mut BTreeMap<LockName, BTreeMap<u64, Mode>>, name: &LockName, owner: u64)
+pub(crate) fn free(
+    holders: &mut BTreeMap<LockName, BTreeMap<u64, Mode>>,
+    name: &LockName,
+    owner: u64,
+)
     requires { tree.IsOrdered lock_name_cmp holders.old }
     ensures freed { locks_of holders.new ≡ map.remove (locks_of holders.old) (name.now, owner) }
     ensures ordered { tree.IsOrdered lock_name_cmp holders.new }

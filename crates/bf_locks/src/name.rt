@@ -23,7 +23,7 @@ pub enum LockName {
 }
 
 impl LockName {
-    /// An equal name.
+    /// An equal name. Linear in the bytes of the table's name and of the key.
     pub fn copy(&self, alloc: Global) -> Result<LockName, Memory>
         ensures { IfOk result (λ name. name ≡ self.now) }
     {

@@ -19,6 +19,7 @@ use std::marker::Model;
 ///
 /// Owners are start numbers, and a smaller number is older. Contracts see a finite map from pairs
 /// of a name and an owner to modes. No two owners hold one name in modes that are not compatible.
+/// Its memory is linear in the names that are held: an owner's list has each of its names once.
 #[derive(Drop)]
 pub struct LockTable {
     alloc: Global,

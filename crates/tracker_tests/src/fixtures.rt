@@ -16,11 +16,7 @@ pub fn key(alloc: Global, number: i64) -> Result<Key, Memory>
 }
 
 /// The claim of a number's key, and `None` where it was not granted.
-pub fn claimed(
-    alloc: Global,
-    stripe: &mut Stripe,
-    number: i64,
-) -> Result<Option<HashClaim>, Memory>
+pub fn claimed(alloc: Global, stripe: &mut Stripe, number: i64) -> Result<Option<HashClaim>, Memory>
     ensures { IfOk result (λ claim. IfSome claim (λ claim. claim.key ≡ Value.Int number ∷ [])) }
 {
     match stripe.claim(&key(alloc, number)?)? {

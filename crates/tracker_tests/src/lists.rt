@@ -1,5 +1,5 @@
 ghost use Rattle.std.specs.Prelude.{◌≡◌, ◌<◌, [], ◌∷◌, pos, length, IfOk, IfSome};
-ghost use Rattle.bf_drive.specs.Lists.{Lacks, granules_in};
+ghost use Rattle.bf_drive.specs.Lists.{Lacks, granules_in, most_granules};
 
 use crate::fixtures::claimed;
 use bf_base::{Granule, Memory, Place, Value};
@@ -47,7 +47,7 @@ fn push_row(wip: &mut Wip, claim: BitClaim)
 
 // A row's granule, by the claim that a stripe granted for its key.
 fn push_number(wip: &mut Wip, claim: HashClaim, number: u32)
-    requires few { length wip.old < 64 }
+    requires few { length wip.old < most_granules }
     requires different { Lacks (granules_in wip.old)
         (record { unit = 0; place = Place.Row number }) }
     requires key { claim.key ≡ Value.Int (pos number) ∷ [] }

@@ -4,8 +4,8 @@ use bf_hash::{HashAnswer, HashState, Stripe};
 use std::alloc::Global;
 use std::test::*;
 
-// What a claim of a key is answered, and the ticket under which it is held. The claim is let go, and the
-// key stays held.
+// What a claim of a key is answered, and the ticket under which it is held. The claim is let go,
+// and the key stays held.
 fn told(alloc: Global, stripe: &mut Stripe, number: i64) -> Result<(&'static str, u64), Memory> {
     match stripe.claim(&key(alloc, number)?)? {
         HashAnswer::Claimed(claim) => Ok(("claimed", claim.ticket())),
