@@ -1,4 +1,5 @@
 pub mod Loans
+pub mod Moments
 pub mod Places
 pub mod Replays
 pub mod TapeSteps

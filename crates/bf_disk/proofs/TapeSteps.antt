@@ -41,6 +41,11 @@ pub replayed_done : (file : List ℕ) (old new : List Call) (act : Act) (failed 
 replayed_done file old new act failed more is =
     ap (file_after_all file) more ∙ file_pushed file old (record { act = act; failed = failed }) ∙ done_call (file_after_all file old) failed act is
 
+pub replayed_then : (start before after : List ℕ) (old new : List Call) (call : Call) → file_after_all start old ≡ before → new ≡ old ++ call ∷ []
+    → after ≡ file_after before call → file_after_all start new ≡ after
+replayed_then start before after old new call was more is =
+    ap (file_after_all start) more ∙ file_pushed start old call ∙ ap (λ (file : List ℕ). file_after file call) was ∙ sym is
+
 left_pushed : (file : List ℕ) (images : List ℕ → Type 0) (calls : List Call) (call : Call) (image : List ℕ)
     → left_after_all file images (calls ++ call ∷ []) image
     → left_after call.failed call.act (file_after_all file calls) (left_after_all file images calls) image

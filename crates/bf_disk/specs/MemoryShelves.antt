@@ -1,7 +1,7 @@
 -- A shelf of tapes.
-use Rattle.std.specs.Prelude.{ℕ, List, Option, option_and_then, find, nat_eq}
+use Rattle.std.specs.Prelude.{ℕ, List, Option, [], None, option_and_then, unwrap_or, find, nat_eq}
 use Rattle.std.specs.Cmp.Lexicographic.{pointwise}
-use Rattle.bf_disk.specs.Tape.{Tape}
+use Rattle.bf_disk.specs.Tape.{Tape, new_tape}
 use Rattle.bf_disk.specs.declared.slot.Slot.{Slot}
 
 -- its places, and the faults of the disks that came back
@@ -20,3 +20,7 @@ disk_at shelf path = option_and_then (λ slot. slot.disk) (slot_at shelf.slots p
 -- where the disk of a path is taken, the count of faults that it had
 abbrev pub taken_at : Places → List ℕ → Option ℕ
 taken_at shelf path = option_and_then (λ slot. slot.lent) (slot_at shelf.slots path)
+
+-- what `take` gives: the disk that is held under the path, or an empty one of which no call fails
+abbrev pub held_or_empty : Places → List ℕ → Tape
+held_or_empty shelf path = unwrap_or (disk_at shelf path) (new_tape [] [] None)

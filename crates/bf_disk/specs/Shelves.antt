@@ -1,5 +1,5 @@
 -- What a shelf holds, and what it lent.
-use Rattle.std.specs.Prelude.{◌≡◌, ◌≢◌, ℕ, ◌+◌, ◌-◌, min, List, [], Option, None, Some, ⊤}
+use Rattle.std.specs.Prelude.{◌≡◌, ◌≢◌, ℕ, ◌+◌, ◌-◌, min, nat_lt, if◌then◌else◌, List, [], Option, None, Some, ⊤}
 use Rattle.bf_io.specs.Causes.{last_count}
 use Rattle.bf_io.specs.Whole.{IfTold}
 use Rattle.bf_disk.specs.Images.{Only}
@@ -30,7 +30,12 @@ abbrev pub GivesHeld : {V : Type 0} → (V → Option (List ℕ)) → (V → Lis
 GivesHeld seen may_leave None path disk = ⊤
 GivesHeld seen may_leave (Some held) path disk = IsHeldOrEmpty seen may_leave (held path) disk
 
+-- how far a disk's count of faults rose since it was lent; a count that stands at its last value tells of no more, so
+-- that it may have been any number
+abbrev pub rises_since : ℕ → ℕ → ℕ
+rises_since lent now = if nat_lt now last_count then now - lent else last_count
+
 -- a count of faults with the faults of a disk since it was lent
 abbrev pub with_rises : ℕ → Option ℕ → ℕ → ℕ
 with_rises count None now = count
-with_rises count (Some lent) now = min (count + (now - lent)) last_count
+with_rises count (Some lent) now = min (count + rises_since lent now) last_count

@@ -1,6 +1,7 @@
 //! One file as an engine sees it: what a read gives, and what a crash may leave.
 
 ghost use Rattle.std.specs.Prelude.{◌≡◌, ℕ, ◌+◌, ◌≤◌, Bool, IsTrue, List, Option, Some, Err, length, take, drop, IfOk, OnOk};
+ghost use Rattle.bf_io.specs.Causes.{last_count};
 ghost use Rattle.bf_io.specs.Whole.{IfTold};
 ghost use Rattle.bf_disk.specs.Answers.{CountsFault, IfTried, OnFault};
 ghost use Rattle.bf_disk.specs.Images.{overwritten, Torn, CutShort, Becomes, SameImages, Only, Elapses};
@@ -33,7 +34,7 @@ pub trait Disk {
     /// What a crash at some moment from that one on might have left, within a call or between two.
     ghost left_since: { Self → ℕ → List ℕ → Type 0 };
 
-    /// How many calls have failed. It does not fall, and stands still at 2^64 - 1.
+    /// How many calls have failed. It does not fall, and stands still at its last value, 2^64 - 1.
     ghost fault_count: { Self → ℕ };
 
     /// How many calls have failed, or 2^64 - 1 if it was more.
@@ -48,6 +49,7 @@ pub trait Disk {
         ensures time { Elapses (moment self.old) (moment self.new) (left_since self.old)
             (left_since self.new) (may_leave self.new) }
         ensures faults { CountsFault result (fault_count self.old) (fault_count self.new) }
+        ensures counted { fault_count self.new ≤ last_count }
         ensures memory { result ≡ Err DiskError.Memory → self.new ≡ self.old };
 
     /// Fills `into` with the bytes from an offset on. At an error it may hold anything.
@@ -60,6 +62,7 @@ pub trait Disk {
         ensures time { Elapses (moment self.old) (moment self.new) (left_since self.old)
             (left_since self.new) (may_leave self.new) }
         ensures faults { CountsFault result (fault_count self.old) (fault_count self.new) }
+        ensures counted { fault_count self.new ≤ last_count }
         ensures memory { result ≡ Err DiskError.Memory → self.new ≡ self.old };
 
     /// Writes over what is there, and past the end. After `Fault` a read may give a part of it.
@@ -75,6 +78,7 @@ pub trait Disk {
         ensures time { Elapses (moment self.old) (moment self.new) (left_since self.old)
             (left_since self.new) (may_leave self.new) }
         ensures faults { CountsFault result (fault_count self.old) (fault_count self.new) }
+        ensures counted { fault_count self.new ≤ last_count }
         ensures memory { result ≡ Err DiskError.Memory → self.new ≡ self.old };
 
     /// Cuts the file to a length, at most its own. After `Fault` it may have any length between.
@@ -88,6 +92,7 @@ pub trait Disk {
         ensures time { Elapses (moment self.old) (moment self.new) (left_since self.old)
             (left_since self.new) (may_leave self.new) }
         ensures faults { CountsFault result (fault_count self.old) (fault_count self.new) }
+        ensures counted { fault_count self.new ≤ last_count }
         ensures memory { result ≡ Err DiskError.Memory → self.new ≡ self.old };
 
     /// After `Ok` a crash leaves what a read gives. After `Fault` all that was pending is pending
@@ -102,6 +107,7 @@ pub trait Disk {
         ensures time { Elapses (moment self.old) (moment self.new) (left_since self.old)
             (left_since self.new) (may_leave self.new) }
         ensures faults { CountsFault result (fault_count self.old) (fault_count self.new) }
+        ensures counted { fault_count self.new ≤ last_count }
         ensures memory { result ≡ Err DiskError.Memory → self.new ≡ self.old };
 
     /// The file as it reads is one of those that a crash now may leave.

@@ -5,14 +5,13 @@ pub mod call;
 pub mod disk;
 pub mod error;
 mod file;
+pub mod laws;
 pub mod memory_disk;
 pub mod memory_shelf;
 mod replay;
 pub mod shelf;
 pub mod slot;
 pub mod tape_disk;
-#[cfg(test)]
-mod tests;
 
 pub use call::{Act, Call};
 pub use disk::Disk;

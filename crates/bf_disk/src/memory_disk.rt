@@ -1,7 +1,8 @@
 //! A disk in memory that never fails.
 
-ghost use Rattle.std.specs.Prelude.{◌≡◌, [], Some, false};
+ghost use Rattle.std.specs.Prelude.{◌≡◌, ◌+◌, ◌≤◌, [], Some, Ok, Err, false, length, take, drop, OnOk, OnErr};
 ghost use Rattle.std.proofs.lemmas.Bool.{false≢true};
+ghost use Rattle.bf_disk.specs.Images.{overwritten};
 
 use crate::disk::Disk;
 use crate::error::DiskError;
@@ -66,25 +67,46 @@ impl Disk for MemoryDisk {
         0
     }
 
-    fn len(&mut self) -> Result<u64, DiskError> {
+    /// It takes no memory, as each call but a write.
+    fn len(&mut self) -> Result<u64, DiskError>
+        ensures answer { result ≡ Ok (length self.old) }
+        ensures same { self.new ≡ self.old }
+    {
         Ok(self.bytes.len() as u64)
     }
 
-    fn read(&mut self, at: u64, into: &mut [u8]) -> Result<(), DiskError> {
+    fn read(&mut self, at: u64, into: &mut [u8]) -> Result<(), DiskError>
+        requires { at + length into.old ≤ length self.old }
+        ensures answer { result ≡ Ok tt }
+        ensures bytes { into.new ≡ take (length into.old) (drop at self.old) }
+        ensures same { self.new ≡ self.old }
+    {
         copy_range(&self.bytes, at, into);
         Ok(())
     }
 
-    fn write_at(&mut self, at: u64, bytes: &[u8]) -> Result<(), DiskError> {
+    fn write_at(&mut self, at: u64, bytes: &[u8]) -> Result<(), DiskError>
+        requires { at ≤ length self.old }
+        ensures ok { OnOk result (self.new ≡ overwritten self.old at bytes.now) }
+        ensures answer { OnErr result (result ≡ Err DiskError.Memory) }
+        ensures err { OnErr result (self.new ≡ self.old) }
+    {
         Ok(overwrite(&mut self.bytes, at, bytes)?)
     }
 
-    fn cut(&mut self, len: u64) -> Result<(), DiskError> {
+    fn cut(&mut self, len: u64) -> Result<(), DiskError>
+        requires { len ≤ length self.old }
+        ensures answer { result ≡ Ok tt }
+        ensures cut { self.new ≡ take len self.old }
+    {
         self.bytes.truncate(len as usize);
         Ok(())
     }
 
-    fn sync(&mut self) -> Result<(), DiskError> {
+    fn sync(&mut self) -> Result<(), DiskError>
+        ensures answer { result ≡ Ok tt }
+        ensures same { self.new ≡ self.old }
+    {
         Ok(())
     }
 }

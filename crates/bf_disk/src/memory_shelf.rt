@@ -1,10 +1,12 @@
 //! A shelf of tapes in memory.
 
-ghost use Rattle.std.specs.Prelude.{◌≡◌, [], None, Some, nat_eq, position, IfOk, IfErr, OnOk, OnErr};
+ghost use Rattle.std.specs.Prelude.{◌≡◌, ◌≤◌, [], None, Some, Err, nat_eq, position, IfOk, IfErr, OnOk, OnErr};
 ghost use Rattle.std.specs.Cmp.Lexicographic.{pointwise};
 ghost use Rattle.std.specs.Option.{option_copied};
-ghost use Rattle.bf_disk.specs.MemoryShelves.{disk_at, taken_at};
+ghost use Rattle.bf_io.specs.Causes.{last_count};
+ghost use Rattle.bf_disk.specs.MemoryShelves.{disk_at, taken_at, held_or_empty};
 ghost use Rattle.bf_disk.specs.Shelves.{Puts};
+ghost use Rattle.bf_disk.specs.Tape.{faults_of};
 
 use crate::disk::Disk;
 use crate::error::DiskError;
@@ -23,11 +25,15 @@ pub struct MemoryShelf {
 }
 
 impl Model for MemoryShelf {
+    ghost use Rattle.std.specs.Prelude.{◌≤◌};
+    ghost use Rattle.bf_io.specs.Causes.{last_count};
     ghost use Rattle.bf_disk.specs.MemoryShelves.{Places};
 
     ghost Value = { Places };
 
     ghost view = { λ shelf. record { slots = shelf.slots.items; faults = shelf.faults } };
+
+    ghost invariant = { λ shelf. shelf.faults ≤ last_count };
 }
 
 impl MemoryShelf {
@@ -130,7 +136,19 @@ impl Shelf for MemoryShelf {
 
     ghost fault_count = { λ shelf. shelf.faults };
 
-    fn take(&mut self, path: &str) -> Result<TapeDisk, DiskError> {
+    /// The disk that is held under the path, or an empty tape of which no call fails. It answers
+    /// `Memory` alone, and then the shelf is as it was.
+    fn take(&mut self, path: &str) -> Result<TapeDisk, DiskError>
+        requires { taken_at self.old path.now ≡ None }
+        ensures disk { IfOk result (λ disk. disk ≡ held_or_empty self.old path.now) }
+        ensures held { OnOk result (Puts path.now None (disk_at self.old) (disk_at self.new)) }
+        ensures taken { IfOk result (λ disk.
+            Puts path.now (Some (faults_of disk)) (taken_at self.old) (taken_at self.new)) }
+        ensures faults { self.new.faults ≡ self.old.faults }
+        ensures answer { OnErr result (result ≡ Err DiskError.Memory) }
+        ensures err { OnErr result (self.new ≡ self.old) }
+        ensures counted { self.new.faults ≤ last_count }
+    {
         let alloc = *self.slots.allocator();
         let index = self.slot_for(alloc, path)?;
         Ok(self.slots[index].lend(alloc))

@@ -1,6 +1,6 @@
 //! What a crash leaves after calls that a tape kept.
 
-ghost use Rattle.std.specs.Prelude.{◌≡◌, false, ◌+◌, ◌%◌, ◌^◌, ◌<◌, ◌++◌, length, take, drop, map, slice_get, unwrap_or, IfOk, OnOk, List, ℕ};
+ghost use Rattle.std.specs.Prelude.{◌≡◌, false, ◌+◌, ◌%◌, ◌^◌, ◌<◌, ◌++◌, length, take, drop, map, slice_get, unwrap_or, IfOk, OnOk, OnErr, List, ℕ};
 ghost use Rattle.bf_disk.specs.Replay.{is_synced, UpToLastSync, settled_byte, pending_after};
 ghost use Rattle.bf_disk.specs.Tape.{certain_after, certain_after_all, file_after, file_after_all, pending, torn_from};
 
@@ -60,9 +60,11 @@ fn file_after(alloc: Global, start: &[u8], calls: &[Call]) -> Result<Vec<u8>, Me
     Ok(file)
 }
 
-// Does to the file what a call did. An offset past the end stands for the end.
-fn redo(file: &mut Vec<u8>, call: &Call) -> Result<(), Memory>
-    ensures { OnOk result (file.new.items ≡ file_after file.old.items call.now) }
+/// Does to the file what a call did. An offset past the end stands for the end. It takes time linear
+/// in the bytes of the call; without memory the file is as it was.
+pub(crate) fn redo(file: &mut Vec<u8>, call: &Call) -> Result<(), Memory>
+    ensures ok { OnOk result (file.new.items ≡ file_after file.old.items call.now) }
+    ensures err { OnErr result (file.new.items ≡ file.old.items) }
 {
     if call.failed {
         return Ok(());

@@ -1,6 +1,7 @@
 //! A place of a shelf in memory.
 
-ghost use Rattle.std.specs.Prelude.{◌≡◌, ◌-◌, [], None, Some, unwrap_or};
+ghost use Rattle.std.specs.Prelude.{◌≡◌, [], None, Some, unwrap_or};
+ghost use Rattle.bf_disk.specs.Shelves.{rises_since};
 ghost use Rattle.bf_disk.specs.Tape.{faults_of, new_tape};
 
 use crate::disk::Disk;
@@ -45,14 +46,25 @@ impl Slot {
         disk
     }
 
-    // Takes a disk back, and answers how many faults it met since it was given away.
+    // Takes a disk back, and answers how many faults it met since it was given away, or 2^64 - 1
+    // where its count does not tell.
     pub(crate) fn take_back(&mut self, disk: TapeDisk) -> u64
-        ensures rises { result ≡ faults_of disk - unwrap_or self.old.lent 0 }
+        ensures rises { result ≡ rises_since (unwrap_or self.old.lent 0) (faults_of disk) }
         ensures slot { self.new ≡ record { path = self.old.path; disk = Some disk; lent = None } }
     {
         let lent = self.lent.take().unwrap_or(0);
-        let rises = disk.faults().saturating_sub(lent);
+        let rises = rises_since(lent, disk.faults());
         self.disk = Some(disk);
         rises
     }
+}
+
+// How far a count of faults rose. One that stands at its last value does not tell.
+fn rises_since(lent: u64, now: u64) -> u64
+    ensures { result ≡ rises_since lent now }
+{
+    if now == u64::MAX {
+        return u64::MAX;
+    }
+    now.saturating_sub(lent)
 }

@@ -1,14 +1,15 @@
 //! A disk in memory that keeps every call, fails as it is told, and can be crashed.
 
-ghost use Rattle.std.specs.Prelude.{◌≡◌, ◌+◌, ◌-◌, ◌≤◌, [], None, Some, true, length, take, drop, IfOk, OnOk};
-ghost use Rattle.bf_disk.specs.Tape.{file_of, MayLeave, LeftSince, faults_of, file_after_act, Keeps, new_tape, torn_image, next_fails, at_call};
+ghost use Rattle.std.specs.Prelude.{◌≡◌, ◌+◌, ◌-◌, ◌≤◌, [], ◌∷◌, ◌++◌, None, Some, true, length, take, drop, IfOk, OnOk, OnErr};
+ghost use Rattle.bf_io.specs.Causes.{last_count};
+ghost use Rattle.bf_disk.specs.Tape.{file_of, MayLeave, LeftSince, faults_of, file_after, file_after_act, Keeps, new_tape, torn_image, next_fails, at_call};
 ghost use Rattle.bf_disk.specs.TapeLaws.{as_it_reads as tape_as_it_reads, counts_now as tape_counts_now, earlier as tape_earlier, only_now as tape_only_now};
 
 use crate::call::{Act, Call};
 use crate::disk::Disk;
 use crate::error::DiskError;
-use crate::file::{copy_range, overwrite};
-use crate::replay::{certain_bytes, tear};
+use crate::file::copy_range;
+use crate::replay::{certain_bytes, redo, tear};
 use bf_base::{Memory, Sequence};
 use std::alloc::Global;
 use std::marker::Model;
@@ -113,7 +114,8 @@ impl TapeDisk {
     // Keeps a call that changes nothing of the file as it reads, and answers whether it failed.
     fn keep(&mut self, act: Act) -> Result<(), DiskError>
         requires { file_after_act (file_of self.old) act ≡ file_of self.old }
-        ensures { Keeps act self.old self.new result }
+        ensures kept { Keeps act self.old self.new result }
+        ensures counted { faults_of self.new ≤ last_count }
     {
         let failed = self.next_fails();
         self.calls.push(Call { act, failed })?;
@@ -123,26 +125,38 @@ impl TapeDisk {
         Ok(())
     }
 
-    // Keeps a call after which the file reads as `next`, unless it fails.
-    fn change(&mut self, act: Act, next: Vec<u8>) -> Result<(), DiskError>
-        requires { next.items ≡ file_after_act (file_of self.old) act }
-        ensures { Keeps act self.old self.new result }
+    // Keeps a call, and does to the file what it asks for, unless it fails. The first one makes a
+    // copy of the file at the start.
+    fn change(&mut self, act: Act) -> Result<(), DiskError>
+        ensures kept { Keeps act self.old self.new result }
+        ensures counted { faults_of self.new ≤ last_count }
     {
         let failed = self.next_fails();
-        self.calls.push(Call { act, failed })?;
+        let mut file = match self.changed.take() {
+            Some(file) => file,
+            None => self.start.to_vec(*self.calls.allocator())?,
+        };
+        let kept = keep_call(&mut self.calls, &mut file, Call { act, failed });
+        self.changed = Some(file);
+        kept?;
         if failed {
             return Err(DiskError::Fault);
         }
-        self.changed = Some(next);
         Ok(())
     }
+}
 
-    // A copy of the file as it reads.
-    fn copied(&self, alloc: Global) -> Result<Vec<u8>, Memory>
-        ensures { IfOk result (λ bytes. bytes.items ≡ file_of self.now) }
-    {
-        Ok(self.bytes().to_vec(alloc)?)
-    }
+// Keeps a call and does to the file what it did. Without memory both are as they were.
+fn keep_call(calls: &mut Vec<Call>, file: &mut Vec<u8>, call: Call) -> Result<(), Memory>
+    ensures calls { OnOk result (calls.new.items ≡ calls.old.items ++ call ∷ []) }
+    ensures file { OnOk result (file.new.items ≡ file_after file.old.items call) }
+    ensures err { OnErr result ((calls.new.items ≡ calls.old.items)
+        × (file.new.items ≡ file.old.items)) }
+{
+    calls.reserve(1)?;
+    redo(file, &call)?;
+    calls.push(call).unwrap();
+    Ok(())
 }
 
 impl Disk for TapeDisk {
@@ -173,6 +187,7 @@ impl Disk for TapeDisk {
     fn len(&mut self) -> Result<u64, DiskError>
         ensures kept { Keeps Act.Look self.old self.new result }
         ensures len { IfOk result (λ len. len ≡ length (file_of self.old)) }
+        ensures counted { faults_of self.new ≤ last_count }
     {
         self.keep(Act::Look)?;
         Ok(self.bytes().len() as u64)
@@ -183,34 +198,35 @@ impl Disk for TapeDisk {
         ensures kept { Keeps Act.Look self.old self.new result }
         ensures bytes { OnOk result (into.new
             ≡ take (length into.old) (drop at (file_of self.old))) }
+        ensures counted { faults_of self.new ≤ last_count }
     {
         self.keep(Act::Look)?;
         copy_range(self.bytes(), at, into);
         Ok(())
     }
 
+    /// It takes time and memory linear in the bytes. The first write or cut also copies the file,
+    /// as it was at the start.
     fn write_at(&mut self, at: u64, bytes: &[u8]) -> Result<(), DiskError>
         requires { at ≤ length (file_of self.old) }
-        ensures { Keeps (Act.Write at bytes.now) self.old self.new result }
+        ensures kept { Keeps (Act.Write at bytes.now) self.old self.new result }
+        ensures counted { faults_of self.new ≤ last_count }
     {
-        let alloc = *self.calls.allocator();
-        let mut next = self.copied(alloc)?;
-        overwrite(&mut next, at, bytes)?;
-        let kept = Sequence::of(bytes.to_vec(alloc)?);
-        self.change(Act::Write(at, kept), next)
+        let kept = Sequence::of(bytes.to_vec(*self.calls.allocator())?);
+        self.change(Act::Write(at, kept))
     }
 
     fn cut(&mut self, len: u64) -> Result<(), DiskError>
         requires { len ≤ length (file_of self.old) }
-        ensures { Keeps (Act.Cut len) self.old self.new result }
+        ensures kept { Keeps (Act.Cut len) self.old self.new result }
+        ensures counted { faults_of self.new ≤ last_count }
     {
-        let alloc = *self.calls.allocator();
-        let next = self.bytes()[..len as usize].to_vec(alloc)?;
-        self.change(Act::Cut(len), next)
+        self.change(Act::Cut(len))
     }
 
     fn sync(&mut self) -> Result<(), DiskError>
-        ensures { Keeps Act.Sync self.old self.new result }
+        ensures kept { Keeps Act.Sync self.old self.new result }
+        ensures counted { faults_of self.new ≤ last_count }
     {
         self.keep(Act::Sync)
     }

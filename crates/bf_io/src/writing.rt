@@ -24,6 +24,3 @@ pub fn write_whole<S: Sink>(sink: &mut S, text: &[u8]) -> Result<(), IoError>
     }
     Ok(())
 }
-
-#[cfg(test)]
-mod tests;

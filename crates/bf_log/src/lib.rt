@@ -8,8 +8,6 @@ mod head;
 pub mod laws;
 pub mod log;
 pub mod opening;
-#[cfg(test)]
-mod tests;
 
 pub use create::create_log;
 pub use error::{AppendError, CreateError, OpenError};

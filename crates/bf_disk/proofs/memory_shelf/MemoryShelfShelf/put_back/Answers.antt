@@ -1,7 +1,7 @@
 use Rattle.std.proofs.Common.{◌≡◌, ℕ, Option, Some, None, List, set, unwrap_or, sym, ◌∙◌, ap, subst, arith}
 use Rattle.std.specs.Prelude.{option_and_then, position, IsSome}
 use Rattle.bf_disk.specs.MemoryShelves.{Places, disk_at, taken_at}
-use Rattle.bf_disk.specs.Shelves.{Puts}
+use Rattle.bf_disk.specs.Shelves.{Puts, rises_since}
 use Rattle.bf_disk.specs.Tape.{Tape, faults_of}
 use Rattle.bf_disk.specs.declared.slot.Slot.{Slot}
 use Rattle.bf_disk.proofs.Places.{has_path, puts, slot_here, none_here}
@@ -41,9 +41,10 @@ returns-in-Some-clause-faults c =
     sym (ap (λ (shelf : Places). taken_at shelf path) c.self.view_is)
     ∙ ap (option_and_then (λ (slot : Slot). slot.lent)) (slot_here items path c.in-Some.index c.index_mut.result.now there)
     ∙ ap (λ (slot : Slot). slot.lent) (sym c.index_mut.ensures.value) in
-    let since = ap (λ (was : Option ℕ). unwrap_or was 0) lent in
+    let since : rises_since (unwrap_or (taken_at c.args.self.now path) 0) (faults_of c.args.disk) ≡ c.take_back-rises.result =
+    ap (λ (was : Option ℕ). rises_since (unwrap_or was 0) (faults_of c.args.disk)) lent ∙ sym c.take_back-rises.ensures.rises in
     let count = ap (λ (shelf : Places). shelf.faults) c.self.view_is in
-    omega (arith, c.saturating_add-self-inside.ensures, c.take_back-rises.ensures.rises, since, count, rises_of c.args.self.now.faults (taken_at c.args.self.now path) (faults_of c.args.disk) c.requires)
+    omega (arith, c.saturating_add-self-inside.ensures, since, count, rises_of c.args.self.now.faults (taken_at c.args.self.now path) (faults_of c.args.disk) c.requires)
 
 pub returns-in-None-clause-held : goal.returns-in-None-clause-held
 returns-in-None-clause-held c =

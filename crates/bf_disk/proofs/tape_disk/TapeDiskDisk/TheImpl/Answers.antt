@@ -11,6 +11,7 @@ len-tells c = record {
   time = kept_time Look c.args.self.now c.new.self.now c.result c.ensures.kept;
   faults = kept_faults Look c.args.self.now c.new.self.now c.result c.ensures.kept;
   memory = kept_memory Look c.args.self.now c.new.self.now c.result c.ensures.kept;
+  counted = c.ensures.counted;
 }
 
 pub read-tells : goal.read-tells
@@ -21,35 +22,39 @@ read-tells c = record {
   time = kept_time Look c.args.self.now c.new.self.now c.result c.ensures.kept;
   faults = kept_faults Look c.args.self.now c.new.self.now c.result c.ensures.kept;
   memory = kept_memory Look c.args.self.now c.new.self.now c.result c.ensures.kept;
+  counted = c.ensures.counted;
 }
 
 pub write_at-tells : goal.write_at-tells
 write_at-tells c = record {
-  written = write_done c.args.self.now c.new.self.now c.args.at c.args.bytes.now c.result c.ensures;
-  failed = write_lost c.args.self.now c.new.self.now c.args.at c.args.bytes.now c.result c.ensures;
-  images = write_left c.args.self.now c.new.self.now c.args.at c.args.bytes.now c.result c.ensures;
-  time = kept_time (Write c.args.at c.args.bytes.now) c.args.self.now c.new.self.now c.result c.ensures;
-  faults = kept_faults (Write c.args.at c.args.bytes.now) c.args.self.now c.new.self.now c.result c.ensures;
-  memory = kept_memory (Write c.args.at c.args.bytes.now) c.args.self.now c.new.self.now c.result c.ensures;
+  written = write_done c.args.self.now c.new.self.now c.args.at c.args.bytes.now c.result c.ensures.kept;
+  failed = write_lost c.args.self.now c.new.self.now c.args.at c.args.bytes.now c.result c.ensures.kept;
+  images = write_left c.args.self.now c.new.self.now c.args.at c.args.bytes.now c.result c.ensures.kept;
+  time = kept_time (Write c.args.at c.args.bytes.now) c.args.self.now c.new.self.now c.result c.ensures.kept;
+  faults = kept_faults (Write c.args.at c.args.bytes.now) c.args.self.now c.new.self.now c.result c.ensures.kept;
+  memory = kept_memory (Write c.args.at c.args.bytes.now) c.args.self.now c.new.self.now c.result c.ensures.kept;
+  counted = c.ensures.counted;
 }
 
 pub cut-tells : goal.cut-tells
 cut-tells c = record {
-  cut = cut_made c.args.self.now c.new.self.now c.args.len c.result c.ensures;
-  failed = cut_failed c.args.self.now c.new.self.now c.args.len c.result c.ensures;
-  images = cut_left c.args.self.now c.new.self.now c.args.len c.result c.ensures;
-  time = kept_time (Cut c.args.len) c.args.self.now c.new.self.now c.result c.ensures;
-  faults = kept_faults (Cut c.args.len) c.args.self.now c.new.self.now c.result c.ensures;
-  memory = kept_memory (Cut c.args.len) c.args.self.now c.new.self.now c.result c.ensures;
+  cut = cut_made c.args.self.now c.new.self.now c.args.len c.result c.ensures.kept;
+  failed = cut_failed c.args.self.now c.new.self.now c.args.len c.result c.ensures.kept;
+  images = cut_left c.args.self.now c.new.self.now c.args.len c.result c.ensures.kept;
+  time = kept_time (Cut c.args.len) c.args.self.now c.new.self.now c.result c.ensures.kept;
+  faults = kept_faults (Cut c.args.len) c.args.self.now c.new.self.now c.result c.ensures.kept;
+  memory = kept_memory (Cut c.args.len) c.args.self.now c.new.self.now c.result c.ensures.kept;
+  counted = c.ensures.counted;
 }
 
 pub sync-tells : goal.sync-tells
 sync-tells c = record {
-  durable = sync_durable c.args.self.now c.new.self.now c.result c.ensures;
-  seen = ap (λ (file : List ℕ). Some file) (sync_seen c.args.self.now c.new.self.now c.result c.ensures);
-  nothing_else = sync_nothing_else c.args.self.now c.new.self.now c.result c.ensures;
-  failed = sync_failed c.args.self.now c.new.self.now c.result c.ensures;
-  time = kept_time Sync c.args.self.now c.new.self.now c.result c.ensures;
-  faults = kept_faults Sync c.args.self.now c.new.self.now c.result c.ensures;
-  memory = kept_memory Sync c.args.self.now c.new.self.now c.result c.ensures;
+  durable = sync_durable c.args.self.now c.new.self.now c.result c.ensures.kept;
+  seen = ap (λ (file : List ℕ). Some file) (sync_seen c.args.self.now c.new.self.now c.result c.ensures.kept);
+  nothing_else = sync_nothing_else c.args.self.now c.new.self.now c.result c.ensures.kept;
+  failed = sync_failed c.args.self.now c.new.self.now c.result c.ensures.kept;
+  time = kept_time Sync c.args.self.now c.new.self.now c.result c.ensures.kept;
+  faults = kept_faults Sync c.args.self.now c.new.self.now c.result c.ensures.kept;
+  memory = kept_memory Sync c.args.self.now c.new.self.now c.result c.ensures.kept;
+  counted = c.ensures.counted;
 }

@@ -1,3 +1,5 @@
+//! The log: its bytes, its limits, hostile files, and a fault or a crash at each call.
+
 mod crashes;
 mod faults;
 mod format;
@@ -6,21 +8,16 @@ mod limits;
 mod memory;
 mod records;
 
-use crate::*;
+use crate::fixtures::tape;
 use bf_base::Memory;
 use bf_disk::{Disk, TapeDisk};
+use bf_log::{AppendError, CreateError, Log, Next, OpenError, Opening, create_log, open_log};
 use std::alloc::Global;
 use std::process::Abort;
 use std::test::Fail;
 
 // What a crash may put in the place of pending bytes.
 const TORN: [&[u8]; 4] = [b"", b"\0", b"\xa5", b"\xa5\x01\0\x5a"];
-
-// A file with these bytes, of which the calls with these numbers fail.
-fn tape(alloc: Global, bytes: &[u8], failing: &[u64]) -> Result<TapeDisk, Memory> {
-    let failing = failing.to_vec(alloc)?;
-    Ok(TapeDisk::new(alloc, bytes.to_vec(alloc)?, failing, None))
-}
 
 // A log at its end.
 fn opened<R: Abort, D: Disk + Drop>(rt: &R, alloc: Global, disk: D) -> Log<D> {

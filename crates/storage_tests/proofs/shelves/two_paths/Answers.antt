@@ -1,6 +1,6 @@
 use Rattle.std.proofs.Common.{ℕ, Option, List, ◌∙◌, ap}
 use Rattle.bf_disk.specs.MemoryShelves.{Places, taken_at}
-use Rattle.bf_disk.proofs.tests.two_paths.Goals as goal
+use Rattle.storage_tests.proofs.shelves.two_paths.Goals as goal
 
 pub returns-in-Ok-set : goal.returns-in-Ok-set
 returns-in-Ok-set c = λ path.

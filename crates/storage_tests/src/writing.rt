@@ -2,10 +2,7 @@
 
 ghost use Rattle.std.specs.Prelude.{Some};
 
-use crate::error::IoError;
-use crate::memory_sink::MemorySink;
-use crate::sink::Sink;
-use crate::writing::write_whole;
+use bf_io::{IoError, MemorySink, Sink, write_whole};
 use std::test::Fail;
 
 /// Takes one byte at a time.

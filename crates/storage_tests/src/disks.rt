@@ -1,23 +1,16 @@
-ghost use Rattle.std.specs.Prelude.{◌≡◌, ℕ, None, List, IfOk};
-ghost use Rattle.bf_disk.specs.MemoryShelves.{taken_at};
+//! Disks in memory: what they read, which calls fail, and what a crash leaves.
 
-use crate::*;
+use crate::fixtures::tape;
 use bf_base::Memory;
+use bf_disk::{Disk, DiskError, MemoryDisk, TapeDisk};
 use std::alloc::Global;
 use std::test::Fail;
 
 // The file `abcdef`, over which `XYZ` was written at 4 and not synced.
 fn half_written(alloc: Global) -> Result<TapeDisk, DiskError> {
-    let mut disk = TapeDisk::new(alloc, b"abcdef".to_vec(alloc)?, Vec::new(alloc), None);
+    let mut disk = tape(alloc, b"abcdef", &[])?;
     disk.write_at(4, b"XYZ")?;
     Ok(disk)
-}
-
-// An empty file of which one call fails, counted from 1.
-fn failing_at(alloc: Global, call: u64) -> Result<TapeDisk, Memory> {
-    let mut failing = Vec::new(alloc);
-    failing.push(call)?;
-    Ok(TapeDisk::new(alloc, Vec::new(alloc), failing, None))
 }
 
 // Every call in turn at the front of a file, and whether it failed.
@@ -85,7 +78,7 @@ fn each_call_fails_where_it_is_told_to(rt: HostRuntime) -> Result<(), Fail> {
         (4, [false, false, false, true, false]),
         (5, [false, false, false, false, true]),
     ] {
-        let mut disk = failing_at(rt.alloc(), call)?;
+        let mut disk = tape(rt.alloc(), b"", &[call])?;
         assert_eq!(rt; each_call(&mut disk), fails, "call {call}");
         assert_eq!(rt; disk.faults(), 1);
         assert_eq!(rt; disk.calls(), 5);
@@ -98,48 +91,5 @@ fn each_call_fails_where_it_is_told_to(rt: HostRuntime) -> Result<(), Fail> {
     );
     assert_eq!(rt; each_call(&mut disk), [false, false, false, true, true]);
     assert_eq!(rt; disk.faults(), 2);
-    Ok(())
-}
-
-// A shelf with an empty disk under `a`, and one under `b` of which each call fails.
-fn two_paths(alloc: Global) -> Result<MemoryShelf, Memory>
-    ensures { IfOk result (λ shelf. (path : List ℕ) → taken_at shelf path ≡ None) }
-{
-    let mut shelf = MemoryShelf::new(alloc);
-    let calm = TapeDisk::new(alloc, Vec::new(alloc), Vec::new(alloc), None);
-    match shelf.set("a", calm) {
-        Ok(()) => {}
-        Err((_, e)) => return Err(e),
-    }
-    let failing = TapeDisk::new(alloc, Vec::new(alloc), Vec::new(alloc), Some(0));
-    match shelf.set("b", failing) {
-        Ok(()) => Ok(shelf),
-        Err((_, e)) => Err(e),
-    }
-}
-
-#[test]
-fn a_shelf_holds_what_comes_back(rt: HostRuntime) -> Result<(), Fail> {
-    let mut shelf = MemoryShelf::new(rt.alloc());
-    let mut disk = shelf.take("a")?;
-    assert_eq!(rt; disk.len()?, 0);
-    assert!(rt; shelf.disk("a").is_none());
-    disk.write_at(0, b"xy")?;
-    shelf.put_back("a", disk);
-    let held = shelf.disk("a").ok_or("the disk that came back")?;
-    assert_eq!(rt; held.bytes(), b"xy".as_slice());
-    assert!(rt; shelf.disk("b").is_none());
-    Ok(())
-}
-
-#[test]
-fn a_shelf_counts_the_faults_of_a_loan(rt: HostRuntime) -> Result<(), Fail> {
-    let mut shelf = two_paths(rt.alloc())?;
-    let mut disk = shelf.take("b")?;
-    assert_eq!(rt; disk.len().err(), Some(DiskError::Fault));
-    assert_eq!(rt; shelf.faults(), 0);
-    shelf.put_back("b", disk);
-    assert_eq!(rt; shelf.faults(), 1);
-    assert!(rt; shelf.disk("a").is_some());
     Ok(())
 }
