@@ -7,13 +7,13 @@ use Rattle.bf_disk.specs.declared.disk.Disk.{Ghosts}
 use Rattle.bf_disk.specs.Images.{Only, LeavesOnly}
 use Rattle.bf_disk.specs.Told.{WhereTold}
 use Rattle.bf_log.specs.Append.{Holds, Grew, BeforeOrAfter, refusal}
-use Rattle.bf_log.specs.Format.{most_bytes, with_entry}
+use Rattle.bf_log.specs.Format.{longest_payload, with_entry}
 use Rattle.bf_log.specs.Storing.{record_of, opened, IsBeingStored}
 use Rattle.bf_log.specs.declared.error.AppendError.{AppendError}
 use Rattle.bf_log.specs.declared.log.Log.{Log}
 use Rattle.bf_log.specs.declared.log.Standing.{Standing}
 use Rattle.bf_log.specs.declared.log.Standing.TheVariants.{Ready, Halted, Spent}
-use Rattle.bf_log.proofs.Moments.{weaker}
+use Rattle.bf_disk.proofs.Moments.{weaker}
 use Rattle.bf_log.proofs.Storing.{being_stored, stored_is, stored_log, front_more, told_made, told_at}
 
 -- a payload that is not refused is no larger than the largest
@@ -24,7 +24,7 @@ no_larger (Halted faults) end size largest limit answer is none = cc
 no_larger Ready end size largest limit answer is none = grind (arith, nat_tests)
 
 module _ {D : Type 0} {g : Ghosts D} (file : List ℕ) (payloads : List (List ℕ)) (payload bytes : List ℕ) (old : Log D g)
-    (holds : Holds file payloads old) (small : length payload ≤ most_bytes) (record_is : bytes ≡ record_of payload) where
+    (holds : Holds file payloads old) (small : length payload ≤ longest_payload) (record_is : bytes ≡ record_of payload) where
   -- a crash while the record is stored leaves the log from before, or with the record
   pub leaves_log : (disk : D) → LeavesOnly g.moment g.left_since old.disk disk (IsBeingStored file old.end bytes)
       → LeavesOnly g.moment g.left_since old.disk disk (BeforeOrAfter payloads payload)

@@ -5,12 +5,12 @@ use Rattle.std.proofs.lemmas.Bool.{cases_eq}
 use Rattle.std.proofs.lemmas.List.{length-take, length-drop, take_at, drop_at, drop_more, get_or-take, get_or-drop, ext_get_or}
 use Rattle.bf_disk.specs.Images.{overwritten, Torn}
 use Rattle.bf_log.specs.Append.{BeforeOrAfter}
-use Rattle.bf_log.specs.Format.{magic, open_gate, most_bytes, entry, IsChain, IsLog, front}
+use Rattle.bf_log.specs.Format.{magic, open_gate, longest_payload, entry, IsChain, IsLog, front}
 
 -- none of the payloads is too large
 unfoldable pub Fit : List (List ℕ) → Type 0
 Fit [] = Unit {0}
-Fit (payload ∷ payloads) = (length payload ≤ most_bytes) × Fit payloads
+Fit (payload ∷ payloads) = (length payload ≤ longest_payload) × Fit payloads
 
 -- a log in two parts, with its closed gate between them
 pub record Parts (payloads : List (List ℕ)) (file : List ℕ) : Type 0 where
@@ -64,7 +64,7 @@ pub closed_log : (payloads : List (List ℕ)) (file : List ℕ) (gate : ℕ) (be
 closed_log payloads file gate behind fit shut is =
     (flat_map entry payloads ++ gate ∷ behind, is ∙ append_assoc magic (flat_map entry payloads) (gate ∷ behind), chain_closed payloads gate behind fit shut)
 
-chain_more : (payloads : List (List ℕ)) (payload : List ℕ) (chain : List ℕ) → Fit payloads → length payload ≤ most_bytes → IsChain [] chain
+chain_more : (payloads : List (List ℕ)) (payload : List ℕ) (chain : List ℕ) → Fit payloads → length payload ≤ longest_payload → IsChain [] chain
     → IsChain (payloads ++ payload ∷ []) (flat_map entry payloads ++ (entry payload ++ chain))
 unfolding Fit
 chain_more [] payload chain fit small is = (chain, small, refl, is)
@@ -76,7 +76,7 @@ chain_more (first ∷ payloads) payload chain fit small is = (
 )
 
 -- behind the front one more record, and a closed gate
-pub more_log : (payloads : List (List ℕ)) (payload file : List ℕ) (gate : ℕ) (behind : List ℕ) → Fit payloads → length payload ≤ most_bytes → gate ≢ open_gate
+pub more_log : (payloads : List (List ℕ)) (payload file : List ℕ) (gate : ℕ) (behind : List ℕ) → Fit payloads → length payload ≤ longest_payload → gate ≢ open_gate
     → file ≡ front payloads ++ (entry payload ++ gate ∷ behind) → IsLog (payloads ++ payload ∷ []) file
 more_log payloads payload file gate behind fit small shut is = (
   flat_map entry payloads ++ (entry payload ++ gate ∷ behind),
@@ -153,7 +153,7 @@ module _ (before : List ℕ) (gate : ℕ) (behind : List ℕ) (at : ℕ) (size :
       ∙ ap (λ (rest : List ℕ). before ++ byte ∷ rest) past_gate
 
 -- a gate with any byte before a record and a closed gate: the log without the record or with it
-pub gate_leaves : (payloads : List (List ℕ)) (payload image : List ℕ) (byte : ℕ) (rest : List ℕ) → Fit payloads → length payload ≤ most_bytes
+pub gate_leaves : (payloads : List (List ℕ)) (payload image : List ℕ) (byte : ℕ) (rest : List ℕ) → Fit payloads → length payload ≤ longest_payload
     → (behind : List ℕ) → open_gate ∷ rest ≡ entry payload ++ 0 ∷ behind → image ≡ front payloads ++ byte ∷ rest → BeforeOrAfter payloads payload image
 gate_leaves payloads payload image byte rest fit small behind record_is is = ⊎_elim
     (λ (is_open : byte ≡ open_gate). inr (more_log payloads payload image 0 behind fit small (λ zero_open. absurd (omega arith))

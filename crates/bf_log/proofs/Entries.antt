@@ -3,13 +3,13 @@ use Rattle.std.proofs.Common.{◌≡◌, ◌≢◌, ℕ, ◌+◌, ◌<◌, ◌�
 use Rattle.std.proofs.lemmas.List.{take_at, drop_at}
 use Rattle.byteorder.specs.Endian.{little_number}
 use Rattle.byteorder.specs.Numbers.{little_number-reads_back}
-use Rattle.bf_log.specs.Format.{open_gate, most_bytes, entry, IsChain, HasNoEntry, BreaksBehind}
+use Rattle.bf_log.specs.Format.{open_gate, longest_payload, entry, IsChain, HasNoEntry, BreaksBehind}
 
 -- these payloads in entries, and behind the last of them bytes of this kind
 pub Entries : (List ℕ → Type 0) → List (List ℕ) → List ℕ → Type 0
 Entries End [] bytes = End bytes
 Entries End (payload ∷ payloads) bytes =
-    (chain : List ℕ) × (length payload ≤ most_bytes) × (bytes ≡ entry payload ++ chain) × Entries End payloads chain
+    (chain : List ℕ) × (length payload ≤ longest_payload) × (bytes ≡ entry payload ++ chain) × Entries End payloads chain
 
 -- a closed gate, with anything behind it
 abbrev pub IsClosed : List ℕ → Type 0
@@ -32,12 +32,12 @@ broken_entries [] bytes is = is
 broken_entries (payload ∷ payloads) bytes is = (is.0, is.1, is.2, broken_entries payloads is.0 is.3)
 
 -- the number that stands behind the gate of an entry is the length of its payload
-length_there : (payload chain bytes : List ℕ) → length payload ≤ most_bytes → bytes ≡ entry payload ++ chain → little_number 4 (drop 1 bytes) ≡ length payload
+length_there : (payload chain bytes : List ℕ) → length payload ≤ longest_payload → bytes ≡ entry payload ++ chain → little_number 4 (drop 1 bytes) ≡ length payload
 length_there payload chain bytes small is =
     ap (λ (all : List ℕ). little_number 4 (drop 1 all)) is ∙ little_number-reads_back 4 (length payload) (payload ++ chain) (omega arith)
 
 -- an entry tells its payload and what is behind it
-one_entry : (payload other chain rest : List ℕ) → length payload ≤ most_bytes → length other ≤ most_bytes → entry payload ++ chain ≡ entry other ++ rest
+one_entry : (payload other chain rest : List ℕ) → length payload ≤ longest_payload → length other ≤ longest_payload → entry payload ++ chain ≡ entry other ++ rest
     → (payload ≡ other) × (chain ≡ rest)
 one_entry payload other chain rest small small_too same =
     let n = length payload in
@@ -50,7 +50,7 @@ one_entry payload other chain rest small small_too same =
 -- bytes that can end entries: there are some, and they begin with no entry that has a byte behind it
 pub record EndsEntries (End : List ℕ → Type 0) : Type 0 where
   pub is_there : (bytes : List ℕ) → End bytes → 0 < length bytes
-  pub no_entry : (payload chain bytes : List ℕ) → End bytes → length payload ≤ most_bytes → bytes ≡ entry payload ++ chain → 0 < length chain → ⊥
+  pub no_entry : (payload chain bytes : List ℕ) → End bytes → length payload ≤ longest_payload → bytes ≡ entry payload ++ chain → 0 < length chain → ⊥
 
 -- a closed gate is not open
 shut_or_open : (bytes behind : List ℕ) → IsClosed bytes → bytes ≡ open_gate ∷ behind → ⊥
@@ -61,7 +61,7 @@ pub closed_or_broken : (bytes : List ℕ) → IsClosed bytes → IsBroken bytes 
 closed_or_broken bytes closed broken = shut_or_open bytes broken.0 closed broken.1
 
 -- where an entry with a byte behind it stands none is missing
-none_missing : (payload chain behind : List ℕ) → length payload ≤ most_bytes → open_gate ∷ behind ≡ entry payload ++ chain → 0 < length chain
+none_missing : (payload chain behind : List ℕ) → length payload ≤ longest_payload → open_gate ∷ behind ≡ entry payload ++ chain → 0 < length chain
     → HasNoEntry behind → ⊥
 none_missing payload chain behind small is more none =
     let size : little_number 4 behind ≡ length payload = length_there payload chain (open_gate ∷ behind) small is in

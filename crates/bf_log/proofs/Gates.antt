@@ -10,7 +10,7 @@ use Rattle.byteorder.specs.Numbers.{little_from-take}
 use Rattle.bf_io.specs.Whole.{IfTold}
 use Rattle.bf_disk.specs.declared.disk.Disk.{Ghosts}
 use Rattle.bf_disk.specs.Images.{SameImages}
-use Rattle.bf_log.specs.Format.{magic, open_gate, most_bytes, entry, front, IsLog, HasNoEntry, BreaksBehind, ChainFault}
+use Rattle.bf_log.specs.Format.{magic, open_gate, longest_payload, entry, front, IsLog, HasNoEntry, BreaksBehind, ChainFault}
 use Rattle.bf_log.specs.Opening.{HasRead, Found}
 use Rattle.bf_log.specs.declared.opening.Opening.{Opening}
 use Rattle.bf_log.specs.declared.opening.Progress.TheVariants.{Reading}
@@ -18,11 +18,11 @@ use Rattle.bf_log.proofs.Chains.{Fit, closed_log}
 use Rattle.bf_log.proofs.Storing.{front_more, told_at}
 
 -- none of the payloads is too large, by recursion
-fit_all : (payloads : List (List ℕ)) → All (λ payload. length payload ≤ most_bytes) payloads → Fit payloads
+fit_all : (payloads : List (List ℕ)) → All (λ payload. length payload ≤ longest_payload) payloads → Fit payloads
 unfolding Fit
 fit_all [] all = tt
 fit_all (payload ∷ payloads) all =
-    (All-head (λ bytes. length bytes ≤ most_bytes) payload payloads all, fit_all payloads (All-tail (λ bytes. length bytes ≤ most_bytes) payload payloads all))
+    (All-head (λ bytes. length bytes ≤ longest_payload) payload payloads all, fit_all payloads (All-tail (λ bytes. length bytes ≤ longest_payload) payload payloads all))
 
 -- behind these payloads an open gate, and no room for what it promises
 chain_breaks : (payloads : List (List ℕ)) (behind : List ℕ) → Fit payloads → HasNoEntry behind → BreaksBehind payloads (flat_map entry payloads ++ open_gate ∷ behind)
@@ -77,15 +77,15 @@ opens chain frame size is long opened spelled =
 
 -- where a payload may not have so many bytes, or they and a gate do not fit, no entry stands behind the gate
 has_no_entry : (gate : ℕ) (behind frame : List ℕ) (size : ℕ) → IsFrame (gate ∷ behind) frame → size ≡ little_number 4 (take 4 (drop 1 frame))
-    → ((size ≤ most_bytes) × (5 + size < length (gate ∷ behind)) → ⊥) → HasNoEntry behind
+    → ((size ≤ longest_payload) × (5 + size < length (gate ∷ behind)) → ⊥) → HasNoEntry behind
 has_no_entry gate behind frame size is number no_room = elim (cases_lt (length behind) 4) [
   | inl short ↦ inl short
   | inr long ↦
       let whole : frame ≡ gate ∷ take 4 behind = is.whole (omega arith) in
       let same : size ≡ little_number 4 behind = number ∙ ap (λ (bytes : List ℕ). little_number 4 (take 4 (drop 1 bytes))) whole
       ∙ little_from-take 0 4 4 (take 4 behind) (omega arith) ∙ little_from-take 0 4 4 behind (omega arith) in
-      elim (cases_lt most_bytes size) [
-        | inl great ↦ inr (inl (subst (λ (n : ℕ). most_bytes < n) same great))
+      elim (cases_lt longest_payload size) [
+        | inl great ↦ inr (inl (subst (λ (n : ℕ). longest_payload < n) same great))
         | inr small ↦ elim (cases_lt (length behind) (4 + size + 1)) [
           | inl ends ↦ inr (inr (subst (λ (n : ℕ). length behind < 4 + n + 1) same ends))
           | inr room ↦ absurd (no_room (small, omega arith))
@@ -118,7 +118,7 @@ module _ {D : Type 0} {g : Ghosts D} (file : List ℕ) (payloads : List (List �
 
   -- an open gate with no room for what it promises breaks the chain
   pub broken : (frame : List ℕ) (size : ℕ) → IsFrame (drop old.gate file) frame → get_or frame 0 0 ≡ open_gate → size ≡ little_number 4 (take 4 (drop 1 frame))
-      → ((size ≤ most_bytes) × (old.gate + 5 + size < old.len) → ⊥) → ChainFault payloads file old.gate
+      → ((size ≤ longest_payload) × (old.gate + 5 + size < old.len) → ⊥) → ChainFault payloads file old.gate
   broken frame size is opened number no_room =
       let behind = drop 1 (drop old.gate file) in
       let here : drop old.gate file ≡ open_gate ∷ behind = headed (drop old.gate file) frame is ∙ ap (λ (gate : ℕ). gate ∷ behind) opened in
@@ -149,7 +149,7 @@ module _ {D : Type 0} {g : Ghosts D} (file : List ℕ) (payloads : List (List �
 
     -- after a read of a payload it stands behind one payload more
     pub goes_on : (payload : List ℕ) (size : ℕ) → take 5 (drop old.gate file) ≡ open_gate ∷ little_bytes 4 size
-        → payload ≡ take size (drop (old.gate + 5) file) → length payload ≡ size → size ≤ most_bytes → old.gate + 5 + size < old.len
+        → payload ≡ take size (drop (old.gate + 5) file) → length payload ≡ size → size ≤ longest_payload → old.gate + 5 + size < old.len
         → new.gate ≡ old.gate + 5 + size → new.count ≡ old.count + 1 → new.progress ≡ Reading
         → HasRead file (payloads ++ payload ∷ []) new
     goes_on payload size opened is long small room gate count reading =
@@ -163,7 +163,7 @@ module _ {D : Type 0} {g : Ghosts D} (file : List ℕ) (payloads : List (List �
               ∙ ap (λ (bytes : List ℕ). bytes ++ rest) (flat_map_more entry magic payloads payload);
           gate = omega (arith, gate, read.gate, long, front_more payloads payload);
           is_there = omega (arith, gate, room, old.told file read.told);
-          fit = All-push (λ bytes. length bytes ≤ most_bytes) payloads payload read.fit (omega (arith, long, small));
+          fit = All-push (λ bytes. length bytes ≤ longest_payload) payloads payload read.fit (omega (arith, long, small));
           count = omega (arith, count, read.count, length-append payloads (payload ∷ []));
           found = subst (λ progress. Found progress (payloads ++ payload ∷ []) file new.gate) (sym reading) tt;
         }

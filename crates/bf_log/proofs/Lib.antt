@@ -4,7 +4,6 @@ pub mod Entries
 pub mod Examples
 pub mod Gates
 pub mod Heads
-pub mod Moments
 pub mod OneReading
 pub mod Reading
 pub mod SomeReading

@@ -5,7 +5,7 @@ use Rattle.std.proofs.lemmas.Bool.{cases_lt, cases_eq}
 use Rattle.std.proofs.lemmas.List.{length-take, length-drop}
 use Rattle.std.proofs.lemmas.List.Elements.{All-drop, All-same, All-tail}
 use Rattle.byteorder.specs.Endian.{little_bytes, little_number}
-use Rattle.bf_log.specs.Format.{magic, open_gate, most_bytes, entry, IsChain, HasNoEntry, BreaksBehind, IsLog, IsNoLog, front}
+use Rattle.bf_log.specs.Format.{magic, open_gate, longest_payload, entry, IsChain, HasNoEntry, BreaksBehind, IsLog, IsNoLog, front}
 use Rattle.bf_log.proofs.Heads.{head_cases}
 
 -- a number fits a byte
@@ -32,13 +32,13 @@ bytes_back fewer all long = absurd (omega arith)
 record BeginsWithEntry (bytes : List ℕ) : Type 0 where
   pub payload : List ℕ
   pub chain : List ℕ
-  pub small : length payload ≤ most_bytes
+  pub small : length payload ≤ longest_payload
   pub split : bytes ≡ entry payload ++ chain
   pub more : 0 < length chain
   pub all : All IsByte chain
 
 -- behind an open gate a length that is not too great, so many bytes and one more are an entry with a byte behind it
-entry_there : (behind : List ℕ) (n : ℕ) → All IsByte behind → n ≡ little_number 4 behind → 4 ≤ length behind → n ≤ most_bytes
+entry_there : (behind : List ℕ) (n : ℕ) → All IsByte behind → n ≡ little_number 4 behind → 4 ≤ length behind → n ≤ longest_payload
     → 4 + n + 1 ≤ length behind → BeginsWithEntry (open_gate ∷ behind)
 entry_there behind n all is long small fits =
     let payload = take n (drop 4 behind) in
@@ -62,7 +62,7 @@ none_or_entry behind all =
     let n = little_number 4 behind in
     elim (cases_lt (length behind) 4) [
       | inl short ↦ inl (inl short)
-      | inr long ↦ elim (cases_lt most_bytes n) [
+      | inr long ↦ elim (cases_lt longest_payload n) [
         | inl great ↦ inl (inr (inl great))
         | inr small ↦ elim (cases_lt (length behind) (4 + n + 1)) [
           | inl short ↦ inl (inr (inr short))

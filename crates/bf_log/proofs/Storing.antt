@@ -12,7 +12,7 @@ use Rattle.bf_disk.specs.declared.error.DiskError.TheVariants.{Fault, Memory}
 use Rattle.bf_disk.specs.TapeLaws.{torn_done}
 use Rattle.bf_disk.specs.Told.{WhereTold}
 use Rattle.bf_log.specs.Append.{BeforeOrAfter}
-use Rattle.bf_log.specs.Format.{magic, open_gate, most_bytes, entry, IsLog, front, with_entry}
+use Rattle.bf_log.specs.Format.{magic, open_gate, longest_payload, entry, IsLog, front, with_entry}
 use Rattle.bf_log.specs.Storing.{record_of, behind_gate, opened, IsBeingStored}
 use Rattle.bf_log.proofs.Chains.{parts, more_log, closed_log, torn_record, torn_gate, written_record, written_gate, gate_leaves}
 
@@ -39,7 +39,7 @@ front_more payloads payload =
     omega (arith, ap length (flat_map_more entry magic payloads payload), length-append (front payloads) (entry payload), length-entry payload)
 
 module _ (payloads : List (List ℕ)) (payload file : List ℕ) (end : ℕ)
-    (is_log : IsLog payloads file) (ends : end ≡ length (front payloads)) (small : length payload ≤ most_bytes) where
+    (is_log : IsLog payloads file) (ends : end ≡ length (front payloads)) (small : length payload ≤ longest_payload) where
   -- the front reaches to the closed gate
   size : length (front payloads) ≡ end
   size = sym ends

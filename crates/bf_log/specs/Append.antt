@@ -2,7 +2,7 @@
 use Rattle.std.specs.Prelude.{◌≡◌, ◌≢◌, ◌⊎◌, ℕ, ◌+◌, nat_lt, if◌then◌else◌, List, length, Option, None, Some, Result, Ok, Err, [], ◌∷◌, ◌++◌}
 use Rattle.bf_disk.specs.declared.disk.Disk.{Ghosts}
 use Rattle.bf_disk.specs.Images.{Only}
-use Rattle.bf_log.specs.Format.{IsLog, front}
+use Rattle.bf_log.specs.Format.{IsLog, frame, front}
 use Rattle.bf_log.specs.declared.error.AppendError.{AppendError}
 use Rattle.bf_log.specs.declared.error.AppendError.TheVariants.{Halted, TooLarge, LogFull, DiskFault, Memory}
 use Rattle.bf_log.specs.declared.log.Log.{Log}
@@ -15,7 +15,7 @@ refusal Spent end size largest limit = Some Memory
 refusal (Stopped faults) end size largest limit = Some (Halted faults)
 refusal Ready end size largest limit =
     if nat_lt largest size then Some (TooLarge size)
-    else if nat_lt limit (end + 1 + (size + 5)) then Some (LogFull end (size + 5))
+    else if nat_lt limit (end + 1 + (size + frame)) then Some (LogFull end (size + frame))
     else None
 
 -- a log of these payloads, or of these with one more behind them
@@ -55,7 +55,7 @@ module _ {D : Type 0} {g : Ghosts D} where
   pub record Grew (size number : ℕ) (old new : Log D g) : Type 0 where
     pub next : number ≡ old.count + 1
     pub count : new.count ≡ number
-    pub end : new.end ≡ old.end + size + 5
+    pub end : new.end ≡ old.end + size + frame
     pub ready : new.standing ≡ Ready
 
   -- the log takes no more records: it is halted or spent, and has those that it had

@@ -11,18 +11,26 @@ abbrev pub open_gate : ℕ
 open_gate = 0xa5
 
 -- how many bytes a payload may have
-abbrev pub most_bytes : ℕ
-most_bytes = 2 ^ 30
+abbrev pub longest_payload : ℕ
+longest_payload = 2 ^ 30
 
--- an open gate, the length of the payload in four bytes with the lowest first, and the payload
+-- how many bytes a length takes, the lowest first
+abbrev pub length_bytes : ℕ
+length_bytes = 4
+
+-- how many bytes stand before a payload: its gate and its length
+abbrev pub frame : ℕ
+frame = 1 + length_bytes
+
+-- an open gate, the length of the payload and the payload
 abbrev pub entry : List ℕ → List ℕ
-entry payload = open_gate ∷ little_bytes 4 (length payload) ++ payload
+entry payload = open_gate ∷ little_bytes length_bytes (length payload) ++ payload
 
 -- A chain of these payloads: a closed gate with anything behind it, or an open gate, a length, a payload and a chain.
 abbrev pub IsChain : List (List ℕ) → List ℕ → Type 0
 IsChain [] bytes = (gate : ℕ) × (behind : List ℕ) × (gate ≢ open_gate) × (bytes ≡ gate ∷ behind)
 IsChain (payload ∷ payloads) bytes =
-    (chain : List ℕ) × (length payload ≤ most_bytes) × (bytes ≡ entry payload ++ chain) × IsChain payloads chain
+    (chain : List ℕ) × (length payload ≤ longest_payload) × (bytes ≡ entry payload ++ chain) × IsChain payloads chain
 
 -- a file is a log of these payloads
 abbrev pub IsLog : List (List ℕ) → List ℕ → Type 0
@@ -35,13 +43,14 @@ front payloads = magic ++ flat_map entry payloads
 -- no entry stands behind an open gate: the length, the payload or the next gate does not fit, or the length is too great
 abbrev pub HasNoEntry : List ℕ → Type 0
 HasNoEntry behind =
-    (length behind < 4) ⊎ (most_bytes < little_number 4 behind) ⊎ (length behind < 4 + little_number 4 behind + 1)
+    (length behind < length_bytes) ⊎ (longest_payload < little_number length_bytes behind)
+    ⊎ (length behind < length_bytes + little_number length_bytes behind + 1)
 
 -- a chain breaks at the gate behind these payloads
 abbrev pub BreaksBehind : List (List ℕ) → List ℕ → Type 0
 BreaksBehind [] bytes = (behind : List ℕ) × (bytes ≡ open_gate ∷ behind) × HasNoEntry behind
 BreaksBehind (payload ∷ payloads) bytes =
-    (chain : List ℕ) × (length payload ≤ most_bytes) × (bytes ≡ entry payload ++ chain) × BreaksBehind payloads chain
+    (chain : List ℕ) × (length payload ≤ longest_payload) × (bytes ≡ entry payload ++ chain) × BreaksBehind payloads chain
 
 -- a file has the magic at its front
 abbrev pub HasMagic : List ℕ → Type 0

@@ -2,7 +2,7 @@
 use Rattle.std.specs.Prelude.{◌≡◌, ℕ, ◌<◌, ◌≤◌, List, [], ◌∷◌, ◌++◌, length, Some, Result, Ok, Err, ◌+◌, All, ⊤}
 use Rattle.bf_disk.specs.declared.disk.Disk.{Ghosts}
 use Rattle.bf_disk.specs.Images.{Only}
-use Rattle.bf_log.specs.Format.{IsLog, most_bytes, front, ChainFault}
+use Rattle.bf_log.specs.Format.{IsLog, longest_payload, frame, front, ChainFault}
 use Rattle.bf_log.specs.declared.opening.Opening.{Opening}
 use Rattle.bf_log.specs.declared.opening.Progress.{Progress}
 use Rattle.bf_log.specs.declared.opening.Progress.TheVariants.{Reading, Ended, Broken}
@@ -47,7 +47,7 @@ module _ {D : Type 0} {g : Ghosts D} where
     pub spelled : file ≡ front payloads ++ chain
     pub gate : opening.gate ≡ length (front payloads)
     pub is_there : opening.gate < length file
-    pub fit : All (λ payload. length payload ≤ most_bytes) payloads
+    pub fit : All (λ payload. length payload ≤ longest_payload) payloads
     pub count : opening.count ≡ length payloads
     pub found : Found opening.progress payloads file opening.gate
 
@@ -66,7 +66,7 @@ module _ {D : Type 0} {g : Ghosts D} where
   -- how far it is after an answer
   abbrev pub ProgressAfter : Opening D g → Opening D g → Result Next OpenError → Type 0
   ProgressAfter old new (Ok (Payload gate payload)) =
-      (new.progress ≡ Reading) × (gate ≡ old.gate) × (new.gate ≡ old.gate + 5 + length payload) × (new.count ≡ old.count + 1)
+      (new.progress ≡ Reading) × (gate ≡ old.gate) × (new.gate ≡ old.gate + frame + length payload) × (new.count ≡ old.count + 1)
   ProgressAfter old new (Ok End) = (new.progress ≡ Ended) × (new.gate ≡ old.gate) × (new.count ≡ old.count)
   ProgressAfter old new (Err (NotALog at)) =
       (new.progress ≡ Broken) × (at ≡ old.gate) × (new.gate ≡ old.gate) × (new.count ≡ old.count)

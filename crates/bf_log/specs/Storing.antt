@@ -2,11 +2,11 @@
 use Rattle.std.specs.Prelude.{◌⊎◌, ℕ, ◌+◌, List, [], ◌∷◌, ◌++◌, length}
 use Rattle.byteorder.specs.Endian.{little_bytes}
 use Rattle.bf_disk.specs.Images.{overwritten, Torn}
-use Rattle.bf_log.specs.Format.{open_gate}
+use Rattle.bf_log.specs.Format.{length_bytes, open_gate}
 
 -- what is written behind the closed gate: the length of the payload, the payload, and a closed gate
 abbrev pub record_of : List ℕ → List ℕ
-record_of payload = little_bytes 4 (length payload) ++ payload ++ 0 ∷ []
+record_of payload = little_bytes length_bytes (length payload) ++ payload ++ 0 ∷ []
 
 -- with a record behind the gate
 abbrev pub behind_gate : List ℕ → ℕ → List ℕ → List ℕ

@@ -13,7 +13,7 @@ pub(crate) const OPEN_GATE: u8 = 0xa5;
 pub(crate) const CLOSED_GATE: u8 = 0;
 
 /// A payload has at most so many bytes.
-pub(crate) const MOST_BYTES: u32 = 1 << 30;
+pub(crate) const LONGEST_PAYLOAD: u32 = 1 << 30;
 
 /// A length takes so many bytes, the lowest first.
 pub(crate) const LENGTH_BYTES: usize = 4;

@@ -5,6 +5,7 @@ ghost use Rattle.bf_io.specs.Whole.{IfTold};
 ghost use Rattle.bf_disk.specs.Answers.{CountsFault};
 ghost use Rattle.bf_disk.specs.Images.{LeavesOnly, Only, Torn, overwritten};
 ghost use Rattle.bf_disk.specs.Told.{WhereTold};
+ghost use Rattle.bf_log.specs.Format.{longest_payload};
 ghost use Rattle.bf_log.specs.Storing.{record_of, opened, IsBeingStored};
 
 use crate::error::AppendError;
@@ -73,7 +74,7 @@ impl<D: Disk> Log<D> {
     /// `largest` is at most 2^30 bytes. `limit` is the most bytes that the log may come to take, up
     /// to and with the gate behind the record. What the file has behind that gate does not count.
     pub fn append(&mut self, payload: &[u8], largest: u32, limit: u64) -> Result<u64, AppendError>
-        requires { largest ≤ 2 ^ 30 }
+        requires { largest ≤ longest_payload }
 
         // Refusals before the device is asked: spent, halted, too large, full.
         ensures refused { IfSome (refusal (standing_of self.old) (end_of self.old)
@@ -124,9 +125,13 @@ impl<D: Disk> Log<D> {
         }
     }
 
-    // Why a payload of so many bytes is refused before the device is asked.
-    fn refusal(&self, size: u64, largest: u32, limit: u64) -> Option<AppendError>
-        requires { size < 2 ^ 63 }
+    /// Why an append of a payload of so many bytes is refused before the device is asked, and `None`
+    /// where the device is asked. The first reason is told of spent, halted, too large and full.
+    ///
+    /// `append` answers it with the same `largest` and `limit`, and leaves the log as it was. So one
+    /// who has to change other things first, and can't take them back, can ask before. It takes no
+    /// memory and asks nothing of the device.
+    pub fn refusal(&self, size: u64, largest: u32, limit: u64) -> Option<AppendError>
         ensures { result ≡ refusal (standing_of self.now) (end_of self.now) size largest limit }
     {
         match self.standing {
@@ -172,7 +177,7 @@ impl<D: Disk> Log<D> {
 
 // The length of a payload, the payload and a closed gate.
 fn spelled(alloc: Global, payload: &[u8]) -> Result<Vec<u8>, AllocError>
-    requires { length payload.now ≤ 2 ^ 30 }
+    requires { length payload.now ≤ longest_payload }
     ensures { IfOk result (λ spelled. spelled.items ≡ record_of payload.now) }
 {
     let mut length = [0u8; LENGTH_BYTES];

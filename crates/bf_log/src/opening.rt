@@ -3,9 +3,10 @@
 ghost use Rattle.std.specs.Prelude.{◌≡◌, ◌↔◌, ℕ, ◌+◌, ◌<◌, ◌≤◌, IsTrue, List, ◌∷◌, Some, length, take, drop};
 ghost use Rattle.byteorder.specs.Endian.{little_bytes, little_number};
 ghost use Rattle.bf_disk.specs.Images.{OnlyRead};
+ghost use Rattle.bf_log.specs.Format.{length_bytes};
 
 use crate::error::OpenError;
-use crate::format::{FRAME, LENGTH_BYTES, MAGIC, MOST_BYTES, OPEN_GATE};
+use crate::format::{FRAME, LENGTH_BYTES, LONGEST_PAYLOAD, MAGIC, OPEN_GATE};
 use crate::log::{Log, Standing};
 use bf_base::Sequence;
 use bf_disk::Disk;
@@ -51,7 +52,7 @@ pub struct Opening<D: Disk> {
 
 impl<D: Disk> Opening<D> {
     ghost use Rattle.bf_log.specs.Errors.{CountsFaults, is_open_fault};
-    ghost use Rattle.bf_log.specs.Format.{magic, most_bytes, open_gate};
+    ghost use Rattle.bf_log.specs.Format.{frame, longest_payload, magic, open_gate};
     ghost use Rattle.bf_log.specs.Append.{Holds, end_of, standing_of, disk_of as log_disk, count_of as log_count};
     ghost use Rattle.bf_log.specs.Opening.{HasRead, ReadsNext, ProgressAfter, AnswersAgain, disk_of, gate_of, count_of, progress_of};
 
@@ -126,18 +127,20 @@ impl<D: Disk> Opening<D> {
 
     // Whether a payload may have so many bytes, and fits behind a length, with a gate behind it.
     fn has_room(&self, size: u32) -> bool
-        ensures { IsTrue result ↔ (size ≤ most_bytes) × (self.now.gate + 5 + size < self.now.len) }
+        ensures { IsTrue result
+            ↔ (size ≤ longest_payload) × (self.now.gate + frame + size < self.now.len) }
     {
-        size <= MOST_BYTES && size as u64 + FRAME < self.len - self.gate
+        size <= LONGEST_PAYLOAD && size as u64 + FRAME < self.len - self.gate
     }
 
     // Reads the payload of so many bytes behind the open gate, and goes on to the next gate.
     fn read_payload(&mut self, alloc: Global, size: u32) -> Result<Next, OpenError>
         requires reading { progress_of self.old ≡ Progress.Reading }
-        requires small { size ≤ most_bytes }
-        requires room { self.old.gate + 5 + size < self.old.len }
+        requires small { size ≤ longest_payload }
+        requires room { self.old.gate + frame + size < self.old.len }
         requires opened { (file : List ℕ) → D.seen (disk_of self.old) ≡ Some file
-            → take 5 (drop (gate_of self.old) file) ≡ open_gate ∷ little_bytes 4 size }
+            → take frame (drop (gate_of self.old) file)
+            ≡ open_gate ∷ little_bytes length_bytes size }
         ensures next { (file : List ℕ) (payloads : List (List ℕ)) → HasRead file payloads self.old
             → ReadsNext file payloads self.new result }
         ensures progress { ProgressAfter self.old self.new result }
@@ -177,9 +180,9 @@ impl<D: Disk> Opening<D> {
 
 // The length that four bytes spell.
 fn read_length(bytes: &[u8]) -> u32
-    requires { length bytes.now ≡ 4 }
-    ensures number { result ≡ little_number 4 bytes.now }
-    ensures spelled { little_bytes 4 result ≡ bytes.now }
+    requires { length bytes.now ≡ length_bytes }
+    ensures number { result ≡ little_number length_bytes bytes.now }
+    ensures spelled { little_bytes length_bytes result ≡ bytes.now }
 {
     LittleEndian::read_u32(bytes)
 }

@@ -16,6 +16,8 @@ fn limits_are_exact(rt: HostRuntime) -> Result<(), Fail> {
         (b"".as_slice(), 0, 21, Ok(2)),
         (b"".as_slice(), 0, u64::MAX, Ok(3)),
     ] {
+        let refusal = log.refusal(payload.len() as u64, u32::from(largest), limit);
+        assert_eq!(rt; refusal, answer.err(), "limit {limit}");
         assert_eq!(rt;
             log.append(payload, u32::from(largest), limit),
             answer,

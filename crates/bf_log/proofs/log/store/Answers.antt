@@ -1,7 +1,7 @@
 use Rattle.std.proofs.Common.{◌+◌, inl, length}
 use Rattle.bf_disk.specs.Images.{Torn, Only}
 use Rattle.bf_log.specs.Storing.{behind_gate, IsBeingStored}
-use Rattle.bf_log.proofs.Moments.{both, weaker}
+use Rattle.bf_disk.proofs.Moments.{both, weaker}
 use Rattle.bf_log.proofs.Storing.{told_behind, told_within, within_then, told_written, told_at, stored_then, long_then}
 use Rattle.bf_log.proofs.log.store.Goals as goal
 

@@ -1,6 +1,6 @@
 use Rattle.std.proofs.Common.{List, ℕ, length}
 use Rattle.bf_disk.specs.Images.{LeavesOnly, Only, Torn}
-use Rattle.bf_log.proofs.Moments.{write_moments, one_more}
+use Rattle.bf_disk.proofs.Moments.{write_moments, one_more}
 use Rattle.bf_log.proofs.Storing.{IsAsLong, written_then, durable_then, long_tried, long_same, long_then}
 use Rattle.bf_log.proofs.log.write_synced.Goals as goal
 use Rattle.bf_log.proofs.log.write_synced.Goals.{After-write_at}

@@ -1,15 +1,15 @@
 use Rattle.std.proofs.Common.{◌≡◌, ℕ, ◌≤◌, List, length, refl, ◌∙◌, arith}
 use Rattle.bf_disk.specs.Images.{LeavesOnly}
 use Rattle.bf_log.specs.Append.{Holds, BeforeOrAfter}
-use Rattle.bf_log.specs.Format.{most_bytes}
+use Rattle.bf_log.specs.Format.{longest_payload}
 use Rattle.bf_log.specs.Storing.{record_of}
 use Rattle.bf_log.proofs.Appending.{no_larger, leaves_log, holds_more}
-use Rattle.bf_log.proofs.Moments.{leaves_now}
+use Rattle.bf_disk.proofs.Moments.{leaves_now}
 use Rattle.bf_log.proofs.log.Log.append.Goals as goal
 use Rattle.bf_log.proofs.log.Log.append.Goals.{After-store}
 
 -- the payload is not too large
-small : (g : _) (c : After-store g) → length c.args.payload.now ≤ most_bytes
+small : (g : _) (c : After-store g) → length c.args.payload.now ≤ longest_payload
 small g c =
     let log = c.args.self.now in
     omega (
