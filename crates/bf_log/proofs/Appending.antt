@@ -27,9 +27,9 @@ module _ {D : Type 0} {g : Ghosts D} (file : List ℕ) (payloads : List (List �
     (holds : Holds file payloads old) (small : length payload ≤ longest_payload) (record_is : bytes ≡ record_of payload) where
   -- a crash while the record is stored leaves the log from before, or with the record
   pub leaves_log : (disk : D) → LeavesOnly g.moment g.left_since old.disk disk (IsBeingStored file old.end bytes)
-      → LeavesOnly g.moment g.left_since old.disk disk (BeforeOrAfter payloads payload)
+      → LeavesOnly g.moment g.left_since old.disk disk (BeforeOrAfter payloads (payloads ++ payload ∷ []))
   leaves_log disk leaves =
-      weaker g.moment g.left_since old.disk disk (IsBeingStored file old.end bytes) (BeforeOrAfter payloads payload) leaves
+      weaker g.moment g.left_since old.disk disk (IsBeingStored file old.end bytes) (BeforeOrAfter payloads (payloads ++ payload ∷ [])) leaves
       (λ image stored. being_stored payloads payload file old.end holds.is_log holds.end small image
       (subst (λ (of : List ℕ). IsBeingStored file old.end of image) record_is stored))
 

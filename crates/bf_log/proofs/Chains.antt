@@ -154,7 +154,7 @@ module _ (before : List ℕ) (gate : ℕ) (behind : List ℕ) (at : ℕ) (size :
 
 -- a gate with any byte before a record and a closed gate: the log without the record or with it
 pub gate_leaves : (payloads : List (List ℕ)) (payload image : List ℕ) (byte : ℕ) (rest : List ℕ) → Fit payloads → length payload ≤ longest_payload
-    → (behind : List ℕ) → open_gate ∷ rest ≡ entry payload ++ 0 ∷ behind → image ≡ front payloads ++ byte ∷ rest → BeforeOrAfter payloads payload image
+    → (behind : List ℕ) → open_gate ∷ rest ≡ entry payload ++ 0 ∷ behind → image ≡ front payloads ++ byte ∷ rest → BeforeOrAfter payloads (payloads ++ payload ∷ []) image
 gate_leaves payloads payload image byte rest fit small behind record_is is = ⊎_elim
     (λ (is_open : byte ≡ open_gate). inr (more_log payloads payload image 0 behind fit small (λ zero_open. absurd (omega arith))
     (is ∙ ap (λ (gate : ℕ). front payloads ++ gate ∷ rest) is_open ∙ ap (λ (bytes : List ℕ). front payloads ++ bytes) record_is)))

@@ -58,7 +58,7 @@ module _ (payloads : List (List ℕ)) (payload file : List ℕ) (end : ℕ)
       ∙ ap (λ (old : List ℕ). front payloads ++ p.gate ∷ (record_of payload ++ drop (end + 1 + length (record_of payload)) old)) (sym p.split)
 
   -- a crash on the way leaves the log from before, or with the record
-  pub being_stored : (image : List ℕ) → IsBeingStored file end (record_of payload) image → BeforeOrAfter payloads payload image
+  pub being_stored : (image : List ℕ) → IsBeingStored file end (record_of payload) image → BeforeOrAfter payloads (payloads ++ payload ∷ []) image
   being_stored image (inl torn) =
       let p = parts payloads file is_log in
       let n = length (record_of payload) in

@@ -1,5 +1,5 @@
 -- A log that is open, and what an append makes of it.
-use Rattle.std.specs.Prelude.{◌≡◌, ◌≢◌, ◌⊎◌, ℕ, ◌+◌, nat_lt, if◌then◌else◌, List, length, Option, None, Some, Result, Ok, Err, [], ◌∷◌, ◌++◌}
+use Rattle.std.specs.Prelude.{◌≡◌, ◌≢◌, ◌⊎◌, ℕ, ◌+◌, nat_lt, if◌then◌else◌, List, length, Option, None, Some, Result, Ok, Err}
 use Rattle.bf_disk.specs.declared.disk.Disk.{Ghosts}
 use Rattle.bf_disk.specs.Images.{Only}
 use Rattle.bf_log.specs.Format.{IsLog, frame, front}
@@ -18,9 +18,9 @@ refusal Ready end size largest limit =
     else if nat_lt limit (end + 1 + (size + frame)) then Some (LogFull end (size + frame))
     else None
 
--- a log of these payloads, or of these with one more behind them
-abbrev pub BeforeOrAfter : List (List ℕ) → List ℕ → List ℕ → Type 0
-BeforeOrAfter payloads payload image = IsLog payloads image ⊎ IsLog (payloads ++ payload ∷ []) image
+-- a log of the payloads from before a change, or of those from after it
+abbrev pub BeforeOrAfter : List (List ℕ) → List (List ℕ) → List ℕ → Type 0
+BeforeOrAfter before after image = IsLog before image ⊎ IsLog after image
 
 module _ {D : Type 0} {g : Ghosts D} where
   abbrev pub disk_of : Log D g → D
@@ -73,7 +73,7 @@ module _ {D : Type 0} {g : Ghosts D} where
   Outcome size old new (Err (TooLarge n)) = ⊥
   Outcome size old new (Err (LogFull end need)) = ⊥
 
-  -- a log that is halted or spent: a crash leaves these payloads, or these with the one that failed behind them
-  pub record StoppedAt (payloads : List (List ℕ)) (failed : List ℕ) (log : Log D g) : Type 0 where
+  -- a log that is halted or spent: a crash leaves the payloads from before the change that failed, or those from after it
+  pub record StoppedAt (before after : List (List ℕ)) (log : Log D g) : Type 0 where
     pub stopped : log.standing ≢ Ready
-    pub images : (image : List ℕ) → g.may_leave log.disk image → BeforeOrAfter payloads failed image
+    pub images : (image : List ℕ) → g.may_leave log.disk image → BeforeOrAfter before after image

@@ -90,16 +90,17 @@ impl<D: Disk> Log<D> {
         ensures any_moment { (file : List ℕ) (payloads : List (List ℕ))
             → Holds file payloads self.old
             → LeavesOnly D.moment D.left_since (disk_of self.old) (disk_of self.new)
-            (BeforeOrAfter payloads payload.now) }
+            (BeforeOrAfter payloads (payloads ++ payload.now ∷ [])) }
 
         // A log that has stopped: a crash leaves either, then and after each later append.
         ensures stops { (file : List ℕ) (payloads : List (List ℕ)) → Holds file payloads self.old
-            → standing_of self.new ≢ Standing.Ready → StoppedAt payloads payload.now self.new }
-        ensures stopped { (payloads : List (List ℕ)) (failed : List ℕ)
-            → StoppedAt payloads failed self.old
-            → StoppedAt payloads failed self.new
+            → standing_of self.new ≢ Standing.Ready
+            → StoppedAt payloads (payloads ++ payload.now ∷ []) self.new }
+        ensures stopped { (before after : List (List ℕ))
+            → StoppedAt before after self.old
+            → StoppedAt before after self.new
             × LeavesOnly D.moment D.left_since (disk_of self.old) (disk_of self.new)
-            (BeforeOrAfter payloads failed) }
+            (BeforeOrAfter before after) }
 
         ensures faults { CountsFaults is_append_fault result (D.fault_count (disk_of self.old))
             (D.fault_count (disk_of self.new)) }

@@ -1,4 +1,4 @@
-use Rattle.std.proofs.Common.{◌≡◌, ℕ, ◌≤◌, List, length, refl, ◌∙◌, arith}
+use Rattle.std.proofs.Common.{◌≡◌, ℕ, ◌≤◌, List, [], ◌∷◌, ◌++◌, length, refl, ◌∙◌, arith}
 use Rattle.bf_disk.specs.Images.{LeavesOnly}
 use Rattle.bf_log.specs.Append.{Holds, BeforeOrAfter}
 use Rattle.bf_log.specs.Format.{longest_payload}
@@ -24,17 +24,17 @@ spelled g c = c.deref.ensures.value ∙ c.in_ok-record.ensures
 
 -- whatever the device answered, a crash leaves the log from before or with the record
 leaves : (g : _) (c : After-store g) (file : List ℕ) (payloads : List (List ℕ)) → Holds {g = g.D.Disk} file payloads c.args.self.now
-    → LeavesOnly g.D.Disk.moment g.D.Disk.left_since c.args.self.now.disk c.store.new.disk (BeforeOrAfter payloads c.args.payload.now)
+    → LeavesOnly g.D.Disk.moment g.D.Disk.left_since c.args.self.now.disk c.store.new.disk (BeforeOrAfter payloads (payloads ++ c.args.payload.now ∷ []))
 leaves g c file payloads holds =
     leaves_log file payloads c.args.payload.now c.deref.result.now c.args.self.now holds (small g c) (spelled g c) c.store.new.disk
     (c.store.ensures.any_moment file holds.told holds.durable)
 
 -- so it does from then on
 leaves_then : (g : _) (c : After-store g) (file : List ℕ) (payloads : List (List ℕ)) → Holds {g = g.D.Disk} file payloads c.args.self.now
-    → (image : List ℕ) → g.D.Disk.may_leave c.store.new.disk image → BeforeOrAfter payloads c.args.payload.now image
+    → (image : List ℕ) → g.D.Disk.may_leave c.store.new.disk image → BeforeOrAfter payloads (payloads ++ c.args.payload.now ∷ []) image
 leaves_then g c file payloads holds =
     leaves_now g.D.Disk.moment g.D.Disk.left_since g.D.Disk.may_leave g.met.D.Disk.counts_now c.args.self.now.disk c.store.new.disk
-    (BeforeOrAfter payloads c.args.payload.now) (leaves g c file payloads holds)
+    (BeforeOrAfter payloads (payloads ++ c.args.payload.now ∷ [])) (leaves g c file payloads holds)
 
 pub returns-in-Ok-clause-stored : goal.returns-in-Ok-clause-stored
 returns-in-Ok-clause-stored g c = λ file payloads holds.
