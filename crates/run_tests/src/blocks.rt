@@ -66,7 +66,10 @@ end commits 5 migration none\n",
 fn a_block_is_one_transaction(rt: HostRuntime) -> Result<(), Fail> {
     let alloc = rt.alloc();
     for (script, report) in BLOCKS {
-        assert!(rt; reports(alloc, &[TWO_COLUMNS, script], report)?, "{script:?}");
+        assert!(rt;
+            reports(alloc, &[TWO_COLUMNS, script], report)?,
+            "{script:?}"
+        );
     }
     Ok(())
 }

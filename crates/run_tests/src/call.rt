@@ -3,6 +3,7 @@
 use bf_base::Memory;
 use bf_io::{CalmSource, MemorySink};
 use bf_run::{Status, bullfrog};
+use std::alloc::Global;
 use std::test::Fail;
 
 /// The start of a script of one session.

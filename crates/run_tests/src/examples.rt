@@ -93,10 +93,35 @@ fn three_texts_are_as_long_as_a_text_may_be(rt: HostRuntime) -> Result<(), Fail>
     let start =
         "PHASE; SESSION; CREATE TABLE t (id INT, PRIMARY KEY (id)); INSERT INTO t VALUES (1); SELECT '";
     let made = "1.1 created\n1.2 inserted 1\n1.3 ";
-    let script = [start, FIFTY, FIFTY, FIFTY, FIFTY, FIFTY, "xxx' || 'b' || 'c' FROM t;"];
-    let replies = [made, "rows 1\n1.3 | '", FIFTY, FIFTY, FIFTY, FIFTY, FIFTY, "xxxbc'\n"];
+    let script = [
+        start,
+        FIFTY,
+        FIFTY,
+        FIFTY,
+        FIFTY,
+        FIFTY,
+        "xxx' || 'b' || 'c' FROM t;",
+    ];
+    let replies = [
+        made,
+        "rows 1\n1.3 | '",
+        FIFTY,
+        FIFTY,
+        FIFTY,
+        FIFTY,
+        FIFTY,
+        "xxxbc'\n",
+    ];
     assert!(rt; reports_alone(alloc, &script, &replies, 3, "none")?);
-    let script = [start, FIFTY, FIFTY, FIFTY, FIFTY, FIFTY, "xxxx' || 'b' || 'c' FROM t;"];
+    let script = [
+        start,
+        FIFTY,
+        FIFTY,
+        FIFTY,
+        FIFTY,
+        FIFTY,
+        "xxxx' || 'b' || 'c' FROM t;",
+    ];
     assert!(rt; reports_alone(alloc, &script, &[made, "E6 too long\n"], 3, "none")?);
     Ok(())
 }
