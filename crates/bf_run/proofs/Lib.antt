@@ -1,4 +1,3 @@
 pub mod Answered
 pub mod Parsed
-pub mod Told
 pub mod one

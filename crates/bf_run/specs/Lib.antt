@@ -1,3 +1,3 @@
-pub mod Answers
 pub mod Outcome
 pub mod Runs
+pub mod Top

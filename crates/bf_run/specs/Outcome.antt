@@ -3,7 +3,7 @@ use Rattle.std.specs.Prelude.{◌≡◌, ℕ, ◌+◌, ◌≤◌, ◌⊎◌, Boo
 use Rattle.std.specs.Io.KnownBytes.{Appends, Keeps, Consumes, IsAtEnd}
 use lib.Pointwise.{pointwise}
 use Rattle.bf_io.specs.Causes.{Rose}
-use Rattle.bf_io.specs.Whole.{TookPrefix}
+use Rattle.bf_io.specs.Whole.{IfTold, TookPrefix}
 use Rattle.bf_base.specs.Lists.{same_name}
 use Rattle.bf_lex.specs.declared.fault.ScriptFault.{ScriptFault}
 use Rattle.bf_lex.specs.Faults.{kind_text}
@@ -36,11 +36,6 @@ IsCalm stream = stream.faults_after ≡ stream.faults
 abbrev pub is_try : List (List ℕ) → Bool
 is_try words = pointwise same_name words (codes "try" ∷ [])
 
--- what holds of the bytes of a source: of those that it tells, or of some
-abbrev pub OfBytes : Option (List ℕ) → (List ℕ → Type 0) → Type 0
-OfBytes None P = (bytes : List ℕ) × P bytes
-OfBytes (Some bytes) P = P bytes
-
 -- the text is the report of a run of the script that the bytes are
 pub record IsReport (bytes text : List ℕ) : Type 0 where
   pub script : Script
@@ -60,23 +55,23 @@ abbrev pub IsNotServed : List ℕ → Type 0
 IsNotServed bytes = (script : Script) × IsScriptText bytes (Ok script) × (migrates_nothing script ≡ false) × (IsOfForm bytes → ⊥)
 
 -- the source had no more bytes than a script and was read to its end, or until it had given one byte more
-abbrev pub IsReadThrough : Stream → Type 0
-IsReadThrough input =
-    (IsAtEnd input.bytes_after × OfBytes input.bytes (λ bytes. length bytes ≤ longest_script))
+abbrev pub IsReadThrough : Stream → List ℕ → Type 0
+IsReadThrough input bytes =
+    (IsAtEnd input.bytes_after × (length bytes ≤ longest_script))
     ⊎ ((read : List ℕ) × (length read ≡ longest_script + 1) × Consumes input.bytes input.bytes_after read)
 
--- CAUSES: when a status comes, for the words and the source, before anything is written. Where the source tells its
--- bytes no two of Usage, Script with its fault, NotBuilt and Done can come for one input, since a text has one reading;
--- so each of them comes exactly there, but for faults of the streams and want of memory
-abbrev pub Comes : List (List ℕ) → Stream → Status → Type 0
-Comes words input Usage = (is_try words ≡ false) × Keeps input.bytes input.bytes_after × IsCalm input
-Comes words input (ScriptError fault) =
-    (is_try words ≡ true) × IsCalm input × OfBytes input.bytes (λ bytes. IsScriptText bytes (Err fault)) × IsReadThrough input
-Comes words input NotBuilt = (is_try words ≡ true) × IsCalm input × OfBytes input.bytes IsNotServed × IsAtEnd input.bytes_after
-Comes words input Done = (is_try words ≡ true) × IsCalm input × OfBytes input.bytes IsServed × IsAtEnd input.bytes_after
-Comes words input ReadFault = (is_try words ≡ true) × Rose input.faults input.faults_after
-Comes words input WriteFault = ⊥
-Comes words input Memory = Unit {0}
+-- CAUSES: when a status comes, for the words, the source and its bytes, before anything is written. No two of Usage,
+-- Script with its fault, NotBuilt and Done can come for the same bytes, since a text has one reading; so where the source
+-- tells its bytes each of them comes exactly there, but for faults of the streams and want of memory
+abbrev pub Comes : List (List ℕ) → Stream → List ℕ → Status → Type 0
+Comes words input bytes Usage = (is_try words ≡ false) × Keeps input.bytes input.bytes_after × IsCalm input
+Comes words input bytes (ScriptError fault) =
+    (is_try words ≡ true) × IsCalm input × IsScriptText bytes (Err fault) × IsReadThrough input bytes
+Comes words input bytes NotBuilt = (is_try words ≡ true) × IsCalm input × IsNotServed bytes × IsAtEnd input.bytes_after
+Comes words input bytes Done = (is_try words ≡ true) × IsCalm input × IsServed bytes × IsAtEnd input.bytes_after
+Comes words input bytes ReadFault = (is_try words ≡ true) × Rose input.faults input.faults_after
+Comes words input bytes WriteFault = ⊥
+Comes words input bytes Memory = Unit {0}
 
 -- a status that comes of the words and the bytes, and not of a fault of a stream or of want of memory
 abbrev pub IsDetermined : Status → Type 0
@@ -89,20 +84,22 @@ IsDetermined other = Unit {0}
 abbrev pub fault_text : ScriptFault → List ℕ
 fault_text fault = numbered (codes "script error at ") fault.at ++ codes ": " ++ kind_text fault.kind ++ newline
 
--- the text of a status that has one
-abbrev pub IsTextOf : Stream → Status → List ℕ → Type 0
-IsTextOf input Usage text = text ≡ codes "usage error" ++ newline
-IsTextOf input (ScriptError fault) text = text ≡ fault_text fault
-IsTextOf input NotBuilt text = text ≡ codes "not built" ++ newline
-IsTextOf input Done text = OfBytes input.bytes (λ bytes. IsReport bytes text)
-IsTextOf input ReadFault text = text ≡ codes "read fault" ++ newline
-IsTextOf input WriteFault text = ⊥
-IsTextOf input Memory text = ⊥
+-- the text of a status that has one, for the bytes of the source
+abbrev pub IsTextOf : List ℕ → Status → List ℕ → Type 0
+IsTextOf bytes Usage text = text ≡ codes "usage error" ++ newline
+IsTextOf bytes (ScriptError fault) text = text ≡ fault_text fault
+IsTextOf bytes NotBuilt text = text ≡ codes "not built" ++ newline
+IsTextOf bytes Done text = IsReport bytes text
+IsTextOf bytes ReadFault text = text ≡ codes "read fault" ++ newline
+IsTextOf bytes WriteFault text = ⊥
+IsTextOf bytes Memory text = ⊥
 
--- a status that comes, with its text
+-- a status that comes, with its text, both of the same bytes: of those that the source tells, or of some
 pub record IsAnswer (words : List (List ℕ)) (input : Stream) (status : Status) (text : List ℕ) : Type 0 where
-  pub causes : Comes words input status
-  pub is_text : IsTextOf input status text
+  pub bytes : List ℕ
+  pub are_told : IfTold input.bytes (λ told. bytes ≡ told)
+  pub causes : Comes words input bytes status
+  pub is_text : IsTextOf bytes status text
 
 -- the sink took the whole text of an answer, and no write failed
 pub record AnswersWhole (words : List (List ℕ)) (input output : Stream) (status : Status) : Type 0 where

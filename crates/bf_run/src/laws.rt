@@ -1,6 +1,6 @@
 //! Laws of the definitions. Each is the contract of a function that does nothing.
 
-ghost use Rattle.std.specs.Prelude.{◌≡◌, ℕ, List, Result, Some};
+ghost use Rattle.std.specs.Prelude.{◌≡◌, ℕ, List, Result};
 ghost use Rattle.bf_lex.specs.declared.fault.ScriptFault.{ScriptFault};
 ghost use Rattle.bf_parse.specs.Scripts.{IsScriptText};
 ghost use Rattle.bf_tree.specs.declared.script.Script.{Script};
@@ -13,10 +13,9 @@ pub fn a_text_has_one_reading()
         → IsScriptText text other → one ≡ other }
 {}
 
-/// For the words and for one input whose bytes the source tells, one status can come, but for faults of the source and
-/// want of memory.
+/// For the words and for one input of these bytes one status can come, but for faults of the source and want of memory.
 pub fn one_status_comes()
-    ensures { (words : List (List ℕ)) (bytes : List ℕ) (input : Stream) (one other : Status)
-        → input.bytes ≡ Some bytes → IsDetermined one → IsDetermined other → Comes words input one
-        → Comes words input other → one ≡ other }
+    ensures { (words : List (List ℕ)) (input : Stream) (bytes : List ℕ) (one other : Status)
+        → IsDetermined one → IsDetermined other → Comes words input bytes one
+        → Comes words input bytes other → one ≡ other }
 {}

@@ -5,7 +5,7 @@ ghost use Rattle.bf_run.specs.Outcome.{fault_text, number_of_status};
 
 use bf_base::Memory;
 use bf_lex::ScriptFault;
-use itoa::Buffer;
+use bf_text::put_number;
 use std::alloc::Global;
 
 /// How a call of the program ends.
@@ -23,7 +23,7 @@ pub enum Status {
     WriteFault,
     /// Memory ran out, and nothing is written.
     Memory,
-    /// The input is a script with blocks or migrations that are not served yet.
+    /// The input is a script with a MIGRATE, and is not of the one form that migrates a table.
     NotBuilt,
 }
 
@@ -49,7 +49,7 @@ pub(crate) fn fault_line(alloc: Global, fault: ScriptFault) -> Result<Vec<u8>, M
     ensures { IfOk result (λ text. text.items ≡ fault_text fault) }
 {
     let mut text = Vec::from_slice(alloc, b"script error at ")?;
-    text.extend_from_slice(Buffer::new().format(fault.at).as_bytes())?;
+    put_number(&mut text, u64::from(fault.at))?;
     text.extend_from_slice(b": ")?;
     text.extend_from_slice(fault.kind.words())?;
     text.extend_from_slice(b"\n")?;

@@ -5,8 +5,8 @@ ghost use Rattle.std.specs.Option.{option_map};
 ghost use Rattle.bf_machine.specs.InOrder.{IsRunInOrder, migrates_nothing};
 ghost use Rattle.bf_tree.specs.Limits.{is_narrow_script};
 ghost use Rattle.bf_machine.specs.Runnable.{phases_rise_from};
-ghost use Rattle.bf_run.specs.Answers.{FindsForm, IsAnswerTo, Tells};
 ghost use Rattle.bf_run.specs.Outcome.{Ends, IsAnswer, fault_text};
+ghost use Rattle.bf_run.specs.Top.{FindsForm, IsAnswerTo, Tells};
 
 use crate::status::{Status, fault_line};
 use crate::words::are_try;
@@ -16,8 +16,8 @@ use bf_io::{ReadError, Sink, Source, read_all, write_whole};
 use bf_lex::{ScriptError, ScriptFault, ScriptKind};
 use bf_machine::{in_order, migrates_nothing};
 use bf_parse::script;
-use bf_tree::Script;
 use bf_text::report;
+use bf_tree::Script;
 use std::alloc::Global;
 
 /// The status of a text that is no script, and what is written of its first fault.

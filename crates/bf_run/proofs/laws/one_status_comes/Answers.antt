@@ -2,4 +2,4 @@ use Rattle.bf_run.proofs.one.Status.{one_status}
 use Rattle.bf_run.proofs.laws.one_status_comes.Goals as goal
 
 pub returns : goal.returns
-returns c = λ words bytes input one other told. one_status words bytes input told one other
+returns c = one_status

@@ -1,4 +1,4 @@
--- What the answer to an input that was read whole is, as the parts of the top call owe it.
+-- What the parts of the top call owe: the report of a run, and the answer to an input that was read whole.
 use Rattle.std.specs.Prelude.{◌≡◌, ℕ, List, ◌++◌, codes, Option, Some, None, Err}
 use Rattle.bf_lazy.specs.declared.statement.Script.{Script as FormScript}
 use Rattle.bf_form.specs.Grammar.{IsScriptText as IsFormText}
