@@ -5,7 +5,7 @@ use Rattle.bf_parse.specs.Words.{Word, Minus, Sign}
 use Rattle.bf_parse.specs.Steps.{Step, Node, said}
 use Rattle.bf_parse.specs.Rules.{Then}
 use Rattle.bf_parse.specs.Reading.{Ends, Reading, Fits}
-use Rattle.bf_parse.specs.Ends.{goes_product, goes_sum}
+use Rattle.bf_parse.specs.Ends.{follow_product, follow_sum}
 use Rattle.bf_parse.specs.Expressions.{Counted, Factor, RefRule, narrow, widest, number, negative, opposite, text, ref, parenthesis, Product, product, Products, no_product, other_product, Sum, sum, begins_with_number}
 use Rattle.bf_parse.specs.Expressions as operator
 use Rattle.bf_parse.proofs.Fitting.{fits_by}
@@ -14,8 +14,8 @@ use Rattle.bf_parse.proofs.Moves.{Passed}
 use Rattle.bf_parse.proofs.Chains.{product_ends}
 use Rattle.bf_parse.proofs.Numbered.{Headed, plain, wide, marked}
 
-pub sum_as : {n : ℕ} {ws : List Word} {r : Reading Counted} → Fits goes_sum (Then (Product n) Products) ws r → Fits goes_sum (Sum n) ws r
-sum_as {n = n} {ws = ws} {r = r} f = record { it = fits_by goes_sum (Then (Product n) Products) (Sum n) ws r f.it (λ s b h. sum h.0 h.1 h.2 h.4 h.5 h.3) (λ s b back g ends same. from s b g) }
+pub sum_as : {n : ℕ} {ws : List Word} {r : Reading Counted} → Fits follow_sum (Then (Product n) Products) ws r → Fits follow_sum (Sum n) ws r
+sum_as {n = n} {ws = ws} {r = r} f = record { it = fits_by follow_sum (Then (Product n) Products) (Sum n) ws r f.it (λ s b h. sum h.0 h.1 h.2 h.4 h.5 h.3) (λ s b back g ends same. from s b g) }
   where
     from : (s : List Step) (b : Counted) → Sum n s b → Then (Product n) Products s b
     from s b (sum front rest a g m p) = (front, rest, a, p, g, m)
@@ -47,11 +47,11 @@ same_number s t (marked m w rest n p) = ap (λ (z : List Step). begins_with_numb
 
 -- ---- what may follow
 
-products_pass : (a : Counted) (s : List Step) (b : Counted) (back : List Word) → Products a s b → Ends goes_sum back → Ends goes_product (said s ++ back)
-products_pass a s b back (no_product p q) ends = subst (λ (z : List Step). Ends goes_product (said z ++ back)) (sym p) (weaker_ends goes_product goes_sum product_ends back ends)
-products_pass a s b back (other_product operator.Plus front rest c g m p) ends = subst (λ (z : List Step). Ends goes_product (said z ++ back)) (sym p) refl
-products_pass a s b back (other_product operator.Difference front rest c g m p) ends = subst (λ (z : List Step). Ends goes_product (said z ++ back)) (sym p) refl
-products_pass a s b back (other_product operator.Concatenation front rest c g m p) ends = subst (λ (z : List Step). Ends goes_product (said z ++ back)) (sym p) refl
+products_pass : (a : Counted) (s : List Step) (b : Counted) (back : List Word) → Products a s b → Ends follow_sum back → Ends follow_product (said s ++ back)
+products_pass a s b back (no_product p q) ends = subst (λ (z : List Step). Ends follow_product (said z ++ back)) (sym p) (weaker_ends follow_product follow_sum product_ends back ends)
+products_pass a s b back (other_product operator.Plus front rest c g m p) ends = subst (λ (z : List Step). Ends follow_product (said z ++ back)) (sym p) refl
+products_pass a s b back (other_product operator.Difference front rest c g m p) ends = subst (λ (z : List Step). Ends follow_product (said z ++ back)) (sym p) refl
+products_pass a s b back (other_product operator.Concatenation front rest c g m p) ends = subst (λ (z : List Step). Ends follow_product (said z ++ back)) (sym p) refl
 
-pub products_passed : {f : Counted → Counted} → Passed goes_product goes_sum (λ b. Products (f b))
+pub products_passed : {f : Counted → Counted} → Passed follow_product follow_sum (λ b. Products (f b))
 products_passed {f = f} = record { it = λ a s b back h ends. products_pass (f a) s b back h ends }

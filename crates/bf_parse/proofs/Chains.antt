@@ -13,9 +13,9 @@ use Rattle.bf_parse.specs.Steps.{Step, Say, Limit, Mark, Node, said, fault_at}
 use Rattle.bf_parse.specs.Rules.{Return, After, Marked, Then, Either}
 use Rattle.bf_parse.specs.Reading.{Ends, Reading, Read, Over, Fits, first}
 use Rattle.bf_tree.specs.declared.raw.Ref.{Ref}
-use Rattle.bf_parse.specs.declared.error.Stop.{Stop}
+use Rattle.bf_parse.specs.declared.error.ReadStop.{ReadStop}
 use Rattle.bf_parse.specs.Outcome.{IsBehind, stopped}
-use Rattle.bf_parse.specs.Ends.{goes_product, goes_sum, is_point}
+use Rattle.bf_parse.specs.Ends.{follow_product, follow_sum, is_point}
 use Rattle.bf_parse.specs.Expressions.{Counted, Factor, text, Product, product, Factors, no_factor, other_factor, Sum, sum, Products, no_product}
 use Rattle.bf_parse.proofs.Fitting.{fits_by}
 use Rattle.bf_parse.proofs.Lists.{weaker_ends}
@@ -58,8 +58,8 @@ sum_can {n = n} = let p = product_can {n = n} in record { it = (p.it.0, p.it.1, 
 
 -- ---- products
 
-pub product_as : {n : ℕ} {ws : List Word} {r : Reading Counted} → Fits goes_product (Then (Factor n) Factors) ws r → Fits goes_product (Product n) ws r
-product_as {n = n} {ws = ws} {r = r} f = record { it = fits_by goes_product (Then (Factor n) Factors) (Product n) ws r f.it (λ s b h. product h.0 h.1 h.2 h.4 h.5 h.3) (λ s b back g ends same. from s b g) }
+pub product_as : {n : ℕ} {ws : List Word} {r : Reading Counted} → Fits follow_product (Then (Factor n) Factors) ws r → Fits follow_product (Product n) ws r
+product_as {n = n} {ws = ws} {r = r} f = record { it = fits_by follow_product (Then (Factor n) Factors) (Product n) ws r f.it (λ s b h. product h.0 h.1 h.2 h.4 h.5 h.3) (λ s b back g ends same. from s b g) }
   where
     from : (s : List Step) (b : Counted) → Product n s b → Then (Factor n) Factors s b
     from s b (product front rest a g m p) = (front, rest, a, p, g, m)
@@ -70,8 +70,8 @@ BehindStar a = Then (Factor (a.1 + 1)) (λ b. Factors (tree.times a.0 b.0, b.1))
 abbrev pub Starred : Counted → List Step → Counted → Type 0
 Starred a = Marked (Node (a.1 + 1)) (After (Sign sign.Star) (BehindStar a))
 
-factors_as : {a : Counted} {ws : List Word} {r : Reading Counted} → Fits goes_product (Either (Starred a) (Return a)) ws r → Fits goes_product (Factors a) ws r
-factors_as {a = a} {ws = ws} {r = r} f = record { it = fits_by goes_product (Either (Starred a) (Return a)) (Factors a) ws r f.it to (λ s b back g ends same. from s b g) }
+factors_as : {a : Counted} {ws : List Word} {r : Reading Counted} → Fits follow_product (Either (Starred a) (Return a)) ws r → Fits follow_product (Factors a) ws r
+factors_as {a = a} {ws = ws} {r = r} f = record { it = fits_by follow_product (Either (Starred a) (Return a)) (Factors a) ws r f.it to (λ s b back g ends same. from s b g) }
   where
     to : (s : List Step) (b : Counted) → Either (Starred a) (Return a) s b → Factors a s b
     to s b (inr h) = no_factor h.0 h.1
@@ -83,16 +83,16 @@ factors_as {a = a} {ws = ws} {r = r} f = record { it = fits_by goes_product (Eit
     from s b (no_factor p q) = inr (p, q)
     from s b (other_factor front rest c g m p) = inl (Say (Sign sign.Star) ∷ (front ++ rest), p, (front ++ rest, refl, (front, rest, c, refl, g, m)))
 
-pub star_go : {a : Counted} {ws rest : List Word} {r : Reading Counted} → a.1 < 256 → IsBehind (Sign sign.Star) ws (Some rest) → Fits goes_product (BehindStar a) rest r → Fits goes_product (Factors a) ws r
+pub star_go : {a : Counted} {ws rest : List Word} {r : Reading Counted} → a.1 < 256 → IsBehind (Sign sign.Star) ws (Some rest) → Fits follow_product (BehindStar a) rest r → Fits follow_product (Factors a) ws r
 star_go low h f = factors_as (left_here (return_not_here h refl) (node_go low h f))
 
-pub star_deep : {a : Counted} {ws rest : List Word} (k : ℕ) → length ws ≡ k → 256 ≤ a.1 → IsBehind (Sign sign.Star) ws (Some rest) → Fits goes_product (Factors a) ws (Over TooDeep k)
+pub star_deep : {a : Counted} {ws rest : List Word} (k : ℕ) → length ws ≡ k → 256 ≤ a.1 → IsBehind (Sign sign.Star) ws (Some rest) → Fits follow_product (Factors a) ws (Over TooDeep k)
 star_deep {a = a} k e high h = factors_as (left_here (return_not_here h refl) (node_deep k e high h (behind_can a)))
   where
     behind_can : (a : Counted) → Can (BehindStar a)
     behind_can a = record { it = (Say (word.Text []) ∷ [], (tree.times a.0 (tree.literal (value.Text [])), a.1 + 1), (Say (word.Text []) ∷ [], [], (tree.literal (value.Text []), a.1 + 1), refl, text [] refl refl, no_factor refl refl)) }
 
-pub star_end : {a : Counted} {ws : List Word} → IsBehind (Sign sign.Star) ws None → Fits goes_product (Factors a) ws (Read a ws)
+pub star_end : {a : Counted} {ws : List Word} → IsBehind (Sign sign.Star) ws None → Fits follow_product (Factors a) ws (Read a ws)
 star_end h = factors_as (right_here (marked_not_here (after_not_here h)) return_fits)
 
 -- ---- what may follow
@@ -101,25 +101,25 @@ pub or_left : (a b : Bool) → (a || b) ≡ false → a ≡ false
 or_left true b e = absurd cc
 or_left false b e = refl
 
-pub factor_ends : (t : Word) → goes_product t ≡ false → is_point t ≡ false
+pub factor_ends : (t : Word) → follow_product t ≡ false → is_point t ≡ false
 factor_ends t e = or_left _ _ e
 
-pub product_ends : (t : Word) → goes_sum t ≡ false → goes_product t ≡ false
+pub product_ends : (t : Word) → follow_sum t ≡ false → follow_product t ≡ false
 product_ends t e = or_left _ _ e
 
-factors_pass : (a : Counted) (s : List Step) (b : Counted) (back : List Word) → Factors a s b → Ends goes_product back → Ends is_point (said s ++ back)
-factors_pass a s b back (no_factor p q) ends = subst (λ (z : List Step). Ends is_point (said z ++ back)) (sym p) (weaker_ends is_point goes_product factor_ends back ends)
+factors_pass : (a : Counted) (s : List Step) (b : Counted) (back : List Word) → Factors a s b → Ends follow_product back → Ends is_point (said s ++ back)
+factors_pass a s b back (no_factor p q) ends = subst (λ (z : List Step). Ends is_point (said z ++ back)) (sym p) (weaker_ends is_point follow_product factor_ends back ends)
 factors_pass a s b back (other_factor front rest c g m p) ends = subst (λ (z : List Step). Ends is_point (said z ++ back)) (sym p) refl
 
-pub factors_passed : {f : Counted → Counted} → Passed is_point goes_product (λ b. Factors (f b))
+pub factors_passed : {f : Counted → Counted} → Passed is_point follow_product (λ b. Factors (f b))
 factors_passed {f = f} = record { it = λ a s b back h ends. factors_pass (f a) s b back h ends }
 
 -- ---- a loop's step, where the count behind the star is known by an equation
 
-pub star_stop : {a : Counted} {m : ℕ} {ws rest : List Word} (e : Stop) → m ≡ a.1 + 1 → a.1 < 256 → IsBehind (Sign sign.Star) ws (Some rest) → Fits is_point (Factor m) rest (stopped e) → Fits goes_product (Factors a) ws (stopped e)
+pub star_stop : {a : Counted} {m : ℕ} {ws rest : List Word} (e : ReadStop) → m ≡ a.1 + 1 → a.1 < 256 → IsBehind (Sign sign.Star) ws (Some rest) → Fits is_point (Factor m) rest (stopped e) → Fits follow_product (Factors a) ws (stopped e)
 star_stop {a = a} {m = m} {ws = ws} {rest = rest} e same low h f = star_go low h (then_stop e (factors_passed {f = λ (b : Counted). (tree.times a.0 b.0, b.1)}) (λ b. factors_can) (subst (λ (k : ℕ). Fits is_point (Factor k) rest (stopped e)) same f))
 
 pub star_more : {a : Counted} {m k : ℕ} {ws rest mid : List Word} {b t : tree.Expr Ref} {r : Reading Counted} → m ≡ a.1 + 1 → a.1 < 256 → IsBehind (Sign sign.Star) ws (Some rest) → Fits is_point (Factor m) rest (Read (b, k) mid) → t ≡ tree.times a.0 b
-    → Fits goes_product (Factors (t, k)) mid r → Fits goes_product (Factors a) ws r
+    → Fits follow_product (Factors (t, k)) mid r → Fits follow_product (Factors a) ws r
 star_more {a = a} {k = k} {rest = rest} {mid = mid} {b = b} {r = r} same low h f value g =
-    star_go low h (then_go (factors_passed {f = λ (b : Counted). (tree.times a.0 b.0, b.1)}) (subst (λ (n : ℕ). Fits is_point (Factor n) rest (Read (b, k) mid)) same f) (subst (λ (x : tree.Expr Ref). Fits goes_product (Factors (x, k)) mid r) value g))
+    star_go low h (then_go (factors_passed {f = λ (b : Counted). (tree.times a.0 b.0, b.1)}) (subst (λ (n : ℕ). Fits is_point (Factor n) rest (Read (b, k) mid)) same f) (subst (λ (x : tree.Expr Ref). Fits follow_product (Factors (x, k)) mid r) value g))

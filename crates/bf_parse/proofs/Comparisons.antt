@@ -12,7 +12,7 @@ use Rattle.bf_lex.specs.declared.keyword.Keyword.TheVariants as keyword
 use Rattle.bf_lex.specs.declared.sign.Sign.{Sign as SignCase}
 use Rattle.bf_lex.specs.declared.sign.Sign.TheVariants as sign
 use Rattle.bf_parse.specs.declared.cursor.Cursor.{Cursor}
-use Rattle.bf_parse.specs.declared.error.Stop.{Stop}
+use Rattle.bf_parse.specs.declared.error.ReadStop.{ReadStop}
 use Rattle.bf_parse.specs.declared.start.Start.{Start}
 use Rattle.bf_parse.specs.declared.start.Start.TheVariants as start
 use Rattle.bf_parse.specs.Words.{Word, Keyword, Sign, Minus}
@@ -67,13 +67,13 @@ no_name ws (start.Opposite rest) h not = ap (λ (z : List Word). begins is_name 
 no_name ws (start.Parenthesis rest) h not = ap (λ (z : List Word). begins is_name z) h.it
 no_name ws start.Other h not = absurd (not refl)
 
-pub value_stop : {ws : List Word} {s : Start} (e : Stop) → IsStart ws s → (s ≡ start.Other → ⊥) → Fits nothing LiteralRule ws (stopped e) → Fits is_point OperandRule ws (stopped e)
+pub value_stop : {ws : List Word} {s : Start} (e : ReadStop) → IsStart ws s → (s ≡ start.Other → ⊥) → Fits nothing LiteralRule ws (stopped e) → Fits is_point OperandRule ws (stopped e)
 value_stop {ws = ws} {s = s} e h not f = operand_as (left_here (other_not_here ref_side_begun (no_name ws s h not)) (then_stop e (return_passed (λ t p. refl)) (λ v. return_can) f))
 
 pub value_read : {ws rest : List Word} {s : Start} {v : Value} → IsStart ws s → (s ≡ start.Other → ⊥) → Fits nothing LiteralRule ws (Read v rest) → Fits is_point OperandRule ws (Read (tree.literal v) rest)
 value_read {ws = ws} {s = s} h not f = operand_as (left_here (other_not_here ref_side_begun (no_name ws s h not)) (then_go (return_passed (λ t p. refl)) f return_fits))
 
-pub column_stop : {ws : List Word} (e : Stop) → IsStart ws start.Other → Fits is_point RefRule ws (stopped e) → Fits is_point OperandRule ws (stopped e)
+pub column_stop : {ws : List Word} (e : ReadStop) → IsStart ws start.Other → Fits is_point RefRule ws (stopped e) → Fits is_point OperandRule ws (stopped e)
 column_stop {ws = ws} e h f = operand_as (right_here (other_not_here literal_side_begun (not_value ws h.it.0 h.it.1)) (then_stop e (return_passed (λ t p. p)) (λ v. return_can) f))
 
 pub column_read : {ws rest : List Word} {v : Ref} → IsStart ws start.Other → Fits is_point RefRule ws (Read v rest) → Fits is_point OperandRule ws (Read (tree.column v) rest)
@@ -177,7 +177,7 @@ tested_can n {a = a} = record { it = left_can (Marked (Node (n + 1)) (Compared n
 
 -- ---- the exits of a test
 
-pub first_stop : (n : ℕ) {ws : List Word} (e : Stop) → Fits is_point OperandRule ws (stopped e) → Fits is_point (TestRule n) ws (stopped e)
+pub first_stop : (n : ℕ) {ws : List Word} (e : ReadStop) → Fits is_point OperandRule ws (stopped e) → Fits is_point (TestRule n) ws (stopped e)
 first_stop n e f = then_stop e (tested_passed n) (λ a. tested_can n) f
 
 -- behind the first operand, a sign or BETWEEN
@@ -194,7 +194,7 @@ pub sign_go : {n : ℕ} {ws : List Word} {a : tree.Expr Ref} {behind : Cursor} {
 sign_go {n = n} {ws = ws} {a = a} {behind = behind} {r = r} op low h f =
     left_here (other_not_here (between_begun n a) (sign_not_between ws (words behind) op h.it)) (marked_go (shallow n low) (compared_by op n a ws (words behind) r h.it f))
 
-pub sign_stop : {n : ℕ} {ws : List Word} {a : tree.Expr Ref} {behind : Cursor} (op : Compare) (e : Stop) → n < 256 → IsComparison ws (Some (op, behind)) → Fits is_point OperandRule (words behind) (stopped e) → Fits is_point (Tested n a) ws (stopped e)
+pub sign_stop : {n : ℕ} {ws : List Word} {a : tree.Expr Ref} {behind : Cursor} (op : Compare) (e : ReadStop) → n < 256 → IsComparison ws (Some (op, behind)) → Fits is_point OperandRule (words behind) (stopped e) → Fits is_point (Tested n a) ws (stopped e)
 sign_stop op e low h f = sign_go op low h (then_stop e (return_passed (λ t p. p)) (λ b. return_can) f)
 
 pub sign_read : {n m : ℕ} {ws rest : List Word} {a b : tree.Expr Ref} {behind : Cursor} (op : Compare) → m ≡ n + 1 → n < 256 → IsComparison ws (Some (op, behind)) → Fits is_point OperandRule (words behind) (Read b rest) → Fits is_point (Tested n a) ws (Read (tree.compared op a b, m) rest)
@@ -217,16 +217,16 @@ between_go {n = n} {ws = ws} {rest = rest} {a = a} low h f = right_here (other_n
 abbrev pub High : ℕ → tree.Expr Ref → tree.Expr Ref → List Step → CountedCond → Type 0
 High n a low = After (Keyword keyword.And) (Then OperandRule (λ high. Return (tree.between a low high, n + 1)))
 
-pub low_stop : (n : ℕ) {ws : List Word} {a : tree.Expr Ref} (e : Stop) → Fits is_point OperandRule ws (stopped e) → Fits is_point (Ranged n a) ws (stopped e)
+pub low_stop : (n : ℕ) {ws : List Word} {a : tree.Expr Ref} (e : ReadStop) → Fits is_point OperandRule ws (stopped e) → Fits is_point (Ranged n a) ws (stopped e)
 low_stop n e f = then_stop e (after_passed refl) (λ low. after_can (then_can operand_can (λ high. return_can))) f
 
 pub low_read : (n : ℕ) {ws mid : List Word} {a low : tree.Expr Ref} {r : Reading CountedCond} → Fits is_point OperandRule ws (Read low mid) → Fits is_point (High n a low) mid r → Fits is_point (Ranged n a) ws r
 low_read n f g = then_go (after_passed refl) f g
 
-pub and_missing : (n : ℕ) {ws : List Word} {a low : tree.Expr Ref} {e : Stop} → IsExpected (Keyword keyword.And) ws (Err e) → Fits is_point (High n a low) ws (stopped e)
+pub and_missing : (n : ℕ) {ws : List Word} {a low : tree.Expr Ref} {e : ReadStop} → IsExpected (Keyword keyword.And) ws (Err e) → Fits is_point (High n a low) ws (stopped e)
 and_missing n h = after_stop h (then_can operand_can (λ high. return_can))
 
-pub high_stop : (n : ℕ) {ws rest : List Word} {a low : tree.Expr Ref} (e : Stop) → IsExpected (Keyword keyword.And) ws (Ok rest) → Fits is_point OperandRule rest (stopped e) → Fits is_point (High n a low) ws (stopped e)
+pub high_stop : (n : ℕ) {ws rest : List Word} {a low : tree.Expr Ref} (e : ReadStop) → IsExpected (Keyword keyword.And) ws (Ok rest) → Fits is_point OperandRule rest (stopped e) → Fits is_point (High n a low) ws (stopped e)
 high_stop n e h f = after_go h (then_stop e (return_passed (λ t p. p)) (λ high. return_can) f)
 
 pub high_read : (n : ℕ) {m : ℕ} {ws rest mid : List Word} {a low high : tree.Expr Ref} → m ≡ n + 1 → IsExpected (Keyword keyword.And) ws (Ok rest) → Fits is_point OperandRule rest (Read high mid) → Fits is_point (High n a low) ws (Read (tree.between a low high, m) mid)

@@ -8,14 +8,14 @@ use Rattle.bf_tree.specs.Trees as tree
 use Rattle.bf_lex.specs.declared.fault.ScriptKind.TheVariants.{TooDeep}
 use Rattle.bf_lex.specs.declared.keyword.Keyword.TheVariants as keyword
 use Rattle.bf_lex.specs.declared.sign.Sign.TheVariants as sign
-use Rattle.bf_parse.specs.declared.error.Stop.{Stop}
+use Rattle.bf_parse.specs.declared.error.ReadStop.{ReadStop}
 use Rattle.bf_parse.specs.Words.{Word, Keyword, Sign}
 use Rattle.bf_parse.specs.Words as word
 use Rattle.bf_parse.specs.Steps.{Step, Say, Limit, Node, said}
 use Rattle.bf_parse.specs.Rules.{Return, After, Marked, Then, Either}
 use Rattle.bf_parse.specs.Reading.{Ends, Reading, Read, Over, Fits}
 use Rattle.bf_parse.specs.Outcome.{IsBehind, stopped}
-use Rattle.bf_parse.specs.Ends.{is_point, goes_conjunction, goes_disjunction}
+use Rattle.bf_parse.specs.Ends.{is_point, follow_conjunction, follow_disjunction}
 use Rattle.bf_parse.specs.Conditions.{CountedCond, OperandRule, Negation, comparison, Conjunction, conjunction, Negations, no_negation, other_negation, Disjunction, disjunction, Conjunctions, no_conjunction, other_conjunction}
 use Rattle.bf_parse.specs.Conditions as cond
 use Rattle.bf_parse.proofs.Fitting.{fits_by}
@@ -47,30 +47,30 @@ disjunction_can {n = n} = let p = conjunction_can {n = n} in record { it = (p.it
 
 -- ---- what may follow
 
-negation_ends : (t : Word) → goes_conjunction t ≡ false → is_point t ≡ false
+negation_ends : (t : Word) → follow_conjunction t ≡ false → is_point t ≡ false
 negation_ends t e = or_left _ _ e
 
-conjunction_ends : (t : Word) → goes_disjunction t ≡ false → goes_conjunction t ≡ false
+conjunction_ends : (t : Word) → follow_disjunction t ≡ false → follow_conjunction t ≡ false
 conjunction_ends t e = or_left _ _ e
 
-negations_pass : (c : CountedCond) (s : List Step) (b : CountedCond) (back : List Word) → Negations c s b → Ends goes_conjunction back → Ends is_point (said s ++ back)
-negations_pass c s b back (no_negation p q) ends = subst (λ (z : List Step). Ends is_point (said z ++ back)) (sym p) (weaker_ends is_point goes_conjunction negation_ends back ends)
+negations_pass : (c : CountedCond) (s : List Step) (b : CountedCond) (back : List Word) → Negations c s b → Ends follow_conjunction back → Ends is_point (said s ++ back)
+negations_pass c s b back (no_negation p q) ends = subst (λ (z : List Step). Ends is_point (said z ++ back)) (sym p) (weaker_ends is_point follow_conjunction negation_ends back ends)
 negations_pass c s b back (other_negation front rest d g m p) ends = subst (λ (z : List Step). Ends is_point (said z ++ back)) (sym p) refl
 
-pub negations_passed : {f : CountedCond → CountedCond} → Passed is_point goes_conjunction (λ b. Negations (f b))
+pub negations_passed : {f : CountedCond → CountedCond} → Passed is_point follow_conjunction (λ b. Negations (f b))
 negations_passed {f = f} = record { it = λ a s b back h ends. negations_pass (f a) s b back h ends }
 
-conjunctions_pass : (c : CountedCond) (s : List Step) (b : CountedCond) (back : List Word) → Conjunctions c s b → Ends goes_disjunction back → Ends goes_conjunction (said s ++ back)
-conjunctions_pass c s b back (no_conjunction p q) ends = subst (λ (z : List Step). Ends goes_conjunction (said z ++ back)) (sym p) (weaker_ends goes_conjunction goes_disjunction conjunction_ends back ends)
-conjunctions_pass c s b back (other_conjunction front rest d g m p) ends = subst (λ (z : List Step). Ends goes_conjunction (said z ++ back)) (sym p) refl
+conjunctions_pass : (c : CountedCond) (s : List Step) (b : CountedCond) (back : List Word) → Conjunctions c s b → Ends follow_disjunction back → Ends follow_conjunction (said s ++ back)
+conjunctions_pass c s b back (no_conjunction p q) ends = subst (λ (z : List Step). Ends follow_conjunction (said z ++ back)) (sym p) (weaker_ends follow_conjunction follow_disjunction conjunction_ends back ends)
+conjunctions_pass c s b back (other_conjunction front rest d g m p) ends = subst (λ (z : List Step). Ends follow_conjunction (said z ++ back)) (sym p) refl
 
-pub conjunctions_passed : {f : CountedCond → CountedCond} → Passed goes_conjunction goes_disjunction (λ b. Conjunctions (f b))
+pub conjunctions_passed : {f : CountedCond → CountedCond} → Passed follow_conjunction follow_disjunction (λ b. Conjunctions (f b))
 conjunctions_passed {f = f} = record { it = λ a s b back h ends. conjunctions_pass (f a) s b back h ends }
 
 -- ---- AND
 
-pub conjunction_as : {n : ℕ} {ws : List Word} {r : Reading CountedCond} → Fits goes_conjunction (Then (Negation n) Negations) ws r → Fits goes_conjunction (Conjunction n) ws r
-conjunction_as {n = n} {ws = ws} {r = r} f = record { it = fits_by goes_conjunction (Then (Negation n) Negations) (Conjunction n) ws r f.it (λ s b h. conjunction h.0 h.1 h.2 h.4 h.5 h.3) (λ s b back g ends same. from s b g) }
+pub conjunction_as : {n : ℕ} {ws : List Word} {r : Reading CountedCond} → Fits follow_conjunction (Then (Negation n) Negations) ws r → Fits follow_conjunction (Conjunction n) ws r
+conjunction_as {n = n} {ws = ws} {r = r} f = record { it = fits_by follow_conjunction (Then (Negation n) Negations) (Conjunction n) ws r f.it (λ s b h. conjunction h.0 h.1 h.2 h.4 h.5 h.3) (λ s b back g ends same. from s b g) }
   where
     from : (s : List Step) (b : CountedCond) → Conjunction n s b → Then (Negation n) Negations s b
     from s b (conjunction front rest c g m p) = (front, rest, c, p, g, m)
@@ -81,8 +81,8 @@ BehindAnd c = Then (Negation (c.1 + 1)) (λ d. Negations (tree.both c.0 d.0, d.1
 abbrev Anded : CountedCond → List Step → CountedCond → Type 0
 Anded c = Marked (Node (c.1 + 1)) (After (Keyword keyword.And) (BehindAnd c))
 
-negations_as : {c : CountedCond} {ws : List Word} {r : Reading CountedCond} → Fits goes_conjunction (Either (Anded c) (Return c)) ws r → Fits goes_conjunction (Negations c) ws r
-negations_as {c = c} {ws = ws} {r = r} f = record { it = fits_by goes_conjunction (Either (Anded c) (Return c)) (Negations c) ws r f.it to (λ s b back g ends same. from s b g) }
+negations_as : {c : CountedCond} {ws : List Word} {r : Reading CountedCond} → Fits follow_conjunction (Either (Anded c) (Return c)) ws r → Fits follow_conjunction (Negations c) ws r
+negations_as {c = c} {ws = ws} {r = r} f = record { it = fits_by follow_conjunction (Either (Anded c) (Return c)) (Negations c) ws r f.it to (λ s b back g ends same. from s b g) }
   where
     to : (s : List Step) (b : CountedCond) → Either (Anded c) (Return c) s b → Negations c s b
     to s b (inr h) = no_negation h.0 h.1
@@ -94,30 +94,30 @@ negations_as {c = c} {ws = ws} {r = r} f = record { it = fits_by goes_conjunctio
     from s b (no_negation p q) = inr (p, q)
     from s b (other_negation front rest d g m p) = inl (Say (Keyword keyword.And) ∷ (front ++ rest), p, (front ++ rest, refl, (front, rest, d, refl, g, m)))
 
-and_go : {c : CountedCond} {ws rest : List Word} {r : Reading CountedCond} → c.1 < 256 → IsBehind (Keyword keyword.And) ws (Some rest) → Fits goes_conjunction (BehindAnd c) rest r → Fits goes_conjunction (Negations c) ws r
+and_go : {c : CountedCond} {ws rest : List Word} {r : Reading CountedCond} → c.1 < 256 → IsBehind (Keyword keyword.And) ws (Some rest) → Fits follow_conjunction (BehindAnd c) rest r → Fits follow_conjunction (Negations c) ws r
 and_go low h f = negations_as (left_here (return_not_here h refl) (node_go low h f))
 
-pub and_deep : {c : CountedCond} {ws rest : List Word} (k : ℕ) → length ws ≡ k → 256 ≤ c.1 → IsBehind (Keyword keyword.And) ws (Some rest) → Fits goes_conjunction (Negations c) ws (Over TooDeep k)
+pub and_deep : {c : CountedCond} {ws rest : List Word} (k : ℕ) → length ws ≡ k → 256 ≤ c.1 → IsBehind (Keyword keyword.And) ws (Some rest) → Fits follow_conjunction (Negations c) ws (Over TooDeep k)
 and_deep {c = c} k e high h = negations_as (left_here (return_not_here h refl) (node_deep k e high h (then_can (negation_can {n = c.1 + 1}) (λ d. negations_can))))
 
-pub and_end : {c : CountedCond} {ws : List Word} → IsBehind (Keyword keyword.And) ws None → Fits goes_conjunction (Negations c) ws (Read c ws)
+pub and_end : {c : CountedCond} {ws : List Word} → IsBehind (Keyword keyword.And) ws None → Fits follow_conjunction (Negations c) ws (Read c ws)
 and_end h = negations_as (right_here (marked_not_here (after_not_here h)) return_fits)
 
-pub and_stop : {c : CountedCond} {m : ℕ} {ws rest : List Word} (e : Stop) → m ≡ c.1 + 1 → c.1 < 256 → IsBehind (Keyword keyword.And) ws (Some rest) → Fits is_point (Negation m) rest (stopped e) → Fits goes_conjunction (Negations c) ws (stopped e)
+pub and_stop : {c : CountedCond} {m : ℕ} {ws rest : List Word} (e : ReadStop) → m ≡ c.1 + 1 → c.1 < 256 → IsBehind (Keyword keyword.And) ws (Some rest) → Fits is_point (Negation m) rest (stopped e) → Fits follow_conjunction (Negations c) ws (stopped e)
 and_stop {c = c} {rest = rest} e same low h f =
     and_go low h (then_stop e (negations_passed {f = λ (d : CountedCond). (tree.both c.0 d.0, d.1)}) (λ d. negations_can) (subst (λ (k : ℕ). Fits is_point (Negation k) rest (stopped e)) same f))
 
 pub and_more : {c : CountedCond} {m k : ℕ} {ws rest mid : List Word} {d t : tree.Cond Ref} {r : Reading CountedCond} → m ≡ c.1 + 1 → c.1 < 256 → IsBehind (Keyword keyword.And) ws (Some rest) → Fits is_point (Negation m) rest (Read (d, k) mid) → t ≡ tree.both c.0 d
-    → Fits goes_conjunction (Negations (t, k)) mid r → Fits goes_conjunction (Negations c) ws r
+    → Fits follow_conjunction (Negations (t, k)) mid r → Fits follow_conjunction (Negations c) ws r
 and_more {c = c} {k = k} {rest = rest} {mid = mid} {d = d} {r = r} same low h f value g =
     and_go low h
     (then_go (negations_passed {f = λ (x : CountedCond). (tree.both c.0 x.0, x.1)}) (subst (λ (n : ℕ). Fits is_point (Negation n) rest (Read (d, k) mid)) same f)
-    (subst (λ (x : tree.Cond Ref). Fits goes_conjunction (Negations (x, k)) mid r) value g))
+    (subst (λ (x : tree.Cond Ref). Fits follow_conjunction (Negations (x, k)) mid r) value g))
 
 -- ---- OR
 
-pub disjunction_as : {n : ℕ} {ws : List Word} {r : Reading CountedCond} → Fits goes_disjunction (Then (Conjunction n) Conjunctions) ws r → Fits goes_disjunction (Disjunction n) ws r
-disjunction_as {n = n} {ws = ws} {r = r} f = record { it = fits_by goes_disjunction (Then (Conjunction n) Conjunctions) (Disjunction n) ws r f.it (λ s b h. disjunction h.0 h.1 h.2 h.4 h.5 h.3) (λ s b back g ends same. from s b g) }
+pub disjunction_as : {n : ℕ} {ws : List Word} {r : Reading CountedCond} → Fits follow_disjunction (Then (Conjunction n) Conjunctions) ws r → Fits follow_disjunction (Disjunction n) ws r
+disjunction_as {n = n} {ws = ws} {r = r} f = record { it = fits_by follow_disjunction (Then (Conjunction n) Conjunctions) (Disjunction n) ws r f.it (λ s b h. disjunction h.0 h.1 h.2 h.4 h.5 h.3) (λ s b back g ends same. from s b g) }
   where
     from : (s : List Step) (b : CountedCond) → Disjunction n s b → Then (Conjunction n) Conjunctions s b
     from s b (disjunction front rest c g m p) = (front, rest, c, p, g, m)
@@ -128,8 +128,8 @@ BehindOr c = Then (Conjunction (c.1 + 1)) (λ d. Conjunctions (tree.either c.0 d
 abbrev Ored : CountedCond → List Step → CountedCond → Type 0
 Ored c = Marked (Node (c.1 + 1)) (After (Keyword keyword.Or) (BehindOr c))
 
-conjunctions_as : {c : CountedCond} {ws : List Word} {r : Reading CountedCond} → Fits goes_disjunction (Either (Ored c) (Return c)) ws r → Fits goes_disjunction (Conjunctions c) ws r
-conjunctions_as {c = c} {ws = ws} {r = r} f = record { it = fits_by goes_disjunction (Either (Ored c) (Return c)) (Conjunctions c) ws r f.it to (λ s b back g ends same. from s b g) }
+conjunctions_as : {c : CountedCond} {ws : List Word} {r : Reading CountedCond} → Fits follow_disjunction (Either (Ored c) (Return c)) ws r → Fits follow_disjunction (Conjunctions c) ws r
+conjunctions_as {c = c} {ws = ws} {r = r} f = record { it = fits_by follow_disjunction (Either (Ored c) (Return c)) (Conjunctions c) ws r f.it to (λ s b back g ends same. from s b g) }
   where
     to : (s : List Step) (b : CountedCond) → Either (Ored c) (Return c) s b → Conjunctions c s b
     to s b (inr h) = no_conjunction h.0 h.1
@@ -141,22 +141,22 @@ conjunctions_as {c = c} {ws = ws} {r = r} f = record { it = fits_by goes_disjunc
     from s b (no_conjunction p q) = inr (p, q)
     from s b (other_conjunction front rest d g m p) = inl (Say (Keyword keyword.Or) ∷ (front ++ rest), p, (front ++ rest, refl, (front, rest, d, refl, g, m)))
 
-or_go : {c : CountedCond} {ws rest : List Word} {r : Reading CountedCond} → c.1 < 256 → IsBehind (Keyword keyword.Or) ws (Some rest) → Fits goes_disjunction (BehindOr c) rest r → Fits goes_disjunction (Conjunctions c) ws r
+or_go : {c : CountedCond} {ws rest : List Word} {r : Reading CountedCond} → c.1 < 256 → IsBehind (Keyword keyword.Or) ws (Some rest) → Fits follow_disjunction (BehindOr c) rest r → Fits follow_disjunction (Conjunctions c) ws r
 or_go low h f = conjunctions_as (left_here (return_not_here h refl) (node_go low h f))
 
-pub or_deep : {c : CountedCond} {ws rest : List Word} (k : ℕ) → length ws ≡ k → 256 ≤ c.1 → IsBehind (Keyword keyword.Or) ws (Some rest) → Fits goes_disjunction (Conjunctions c) ws (Over TooDeep k)
+pub or_deep : {c : CountedCond} {ws rest : List Word} (k : ℕ) → length ws ≡ k → 256 ≤ c.1 → IsBehind (Keyword keyword.Or) ws (Some rest) → Fits follow_disjunction (Conjunctions c) ws (Over TooDeep k)
 or_deep {c = c} k e high h = conjunctions_as (left_here (return_not_here h refl) (node_deep k e high h (then_can (conjunction_can {n = c.1 + 1}) (λ d. conjunctions_can))))
 
-pub or_end : {c : CountedCond} {ws : List Word} → IsBehind (Keyword keyword.Or) ws None → Fits goes_disjunction (Conjunctions c) ws (Read c ws)
+pub or_end : {c : CountedCond} {ws : List Word} → IsBehind (Keyword keyword.Or) ws None → Fits follow_disjunction (Conjunctions c) ws (Read c ws)
 or_end h = conjunctions_as (right_here (marked_not_here (after_not_here h)) return_fits)
 
-pub or_stop : {c : CountedCond} {m : ℕ} {ws rest : List Word} (e : Stop) → m ≡ c.1 + 1 → c.1 < 256 → IsBehind (Keyword keyword.Or) ws (Some rest) → Fits goes_conjunction (Conjunction m) rest (stopped e) → Fits goes_disjunction (Conjunctions c) ws (stopped e)
+pub or_stop : {c : CountedCond} {m : ℕ} {ws rest : List Word} (e : ReadStop) → m ≡ c.1 + 1 → c.1 < 256 → IsBehind (Keyword keyword.Or) ws (Some rest) → Fits follow_conjunction (Conjunction m) rest (stopped e) → Fits follow_disjunction (Conjunctions c) ws (stopped e)
 or_stop {c = c} {rest = rest} e same low h f =
-    or_go low h (then_stop e (conjunctions_passed {f = λ (d : CountedCond). (tree.either c.0 d.0, d.1)}) (λ d. conjunctions_can) (subst (λ (k : ℕ). Fits goes_conjunction (Conjunction k) rest (stopped e)) same f))
+    or_go low h (then_stop e (conjunctions_passed {f = λ (d : CountedCond). (tree.either c.0 d.0, d.1)}) (λ d. conjunctions_can) (subst (λ (k : ℕ). Fits follow_conjunction (Conjunction k) rest (stopped e)) same f))
 
-pub or_more : {c : CountedCond} {m k : ℕ} {ws rest mid : List Word} {d t : tree.Cond Ref} {r : Reading CountedCond} → m ≡ c.1 + 1 → c.1 < 256 → IsBehind (Keyword keyword.Or) ws (Some rest) → Fits goes_conjunction (Conjunction m) rest (Read (d, k) mid) → t ≡ tree.either c.0 d
-    → Fits goes_disjunction (Conjunctions (t, k)) mid r → Fits goes_disjunction (Conjunctions c) ws r
+pub or_more : {c : CountedCond} {m k : ℕ} {ws rest mid : List Word} {d t : tree.Cond Ref} {r : Reading CountedCond} → m ≡ c.1 + 1 → c.1 < 256 → IsBehind (Keyword keyword.Or) ws (Some rest) → Fits follow_conjunction (Conjunction m) rest (Read (d, k) mid) → t ≡ tree.either c.0 d
+    → Fits follow_disjunction (Conjunctions (t, k)) mid r → Fits follow_disjunction (Conjunctions c) ws r
 or_more {c = c} {k = k} {rest = rest} {mid = mid} {d = d} {r = r} same low h f value g =
     or_go low h
-    (then_go (conjunctions_passed {f = λ (x : CountedCond). (tree.either c.0 x.0, x.1)}) (subst (λ (n : ℕ). Fits goes_conjunction (Conjunction n) rest (Read (d, k) mid)) same f)
-    (subst (λ (x : tree.Cond Ref). Fits goes_disjunction (Conjunctions (x, k)) mid r) value g))
+    (then_go (conjunctions_passed {f = λ (x : CountedCond). (tree.either c.0 x.0, x.1)}) (subst (λ (n : ℕ). Fits follow_conjunction (Conjunction n) rest (Read (d, k) mid)) same f)
+    (subst (λ (x : tree.Cond Ref). Fits follow_disjunction (Conjunctions (x, k)) mid r) value g))

@@ -14,7 +14,7 @@ use Rattle.bf_parse.specs.Steps.{Step, Say, Limit, Node, said}
 use Rattle.bf_parse.specs.Rules.{Return, After, Marked, Then, Either}
 use Rattle.bf_parse.specs.Reading.{Reading, Fits}
 use Rattle.bf_parse.specs.Cursors.{words}
-use Rattle.bf_parse.specs.Ends.{begins, begins_literal, is_name, is_opposite, is_parenthesis, is_point}
+use Rattle.bf_parse.specs.Ends.{begins, first_literal, is_name, is_opposite, is_parenthesis, is_point}
 use Rattle.bf_parse.specs.Starts.{IsStart}
 use Rattle.bf_parse.specs.Expressions.{Counted, RefRule, Factor, number, negative, opposite, text, ref, parenthesis, Sum, begins_with_number}
 use Rattle.bf_parse.specs.Conditions as literal
@@ -53,10 +53,10 @@ Parts n = Either (LiteralPart n) (Either (Counteds n) (RefPart n))
 pub whole : (s front back : List Step) → s ≡ front ++ back → back ≡ [] → s ≡ front
 whole s front back split p = split ∙ ap (λ (z : List Step). front ++ z) p ∙ append-nil front
 
-from_literal : (n : ℕ) (s : List Step) (v : Value) (x : Counted) → literal.LiteralRule s v → begins begins_literal (said s) ≡ true → x ≡ (tree.literal v, n) → Factor n s x
+from_literal : (n : ℕ) (s : List Step) (v : Value) (x : Counted) → literal.LiteralRule s v → begins first_literal (said s) ≡ true → x ≡ (tree.literal v, n) → Factor n s x
 from_literal n s v x (literal.signed (literal.number u h e)) is q = number u h (q ∙ ap (λ (z : Value). (tree.literal z, n)) e)
 from_literal n s v x (literal.signed (literal.negative u flag k p e)) is q =
-    let behind : flag ≡ true = ap (λ (z : List Step). begins begins_literal (said z)) (sym p) ∙ is in
+    let behind : flag ≡ true = ap (λ (z : List Step). begins first_literal (said z)) (sym p) ∙ is in
     negative u k (p ∙ ap (λ (f : Bool). Say (Minus f) ∷ Say (word.Number u) ∷ []) behind) (q ∙ ap (λ (z : Value). (tree.literal z, n)) e)
 from_literal n s v x (literal.text t p e) is q = text t p (q ∙ ap (λ (z : Value). (tree.literal z, n)) e)
 
@@ -80,9 +80,9 @@ to n s x (inr (inl (inr h))) =
     (h.1 ∙ ap (λ (z : List Step). Limit (Node (n + 1)) ∷ z) (h.2.1 ∙ ap (λ (z : List Step). Say (Sign sign.OpeningParenthesis) ∷ z) (t.3 ∙ ap (λ (z : List Step). t.0 ++ z) e)))
 
 from : (n : ℕ) (s : List Step) (x : Counted) → Factor n s x → Parts n s x
-from n s x (number v h q) = inl (s, [], value.Int (pos v), sym (append-nil s), (literal.signed (literal.number v h refl), ap (λ (z : List Word). begins begins_literal z) (number_said s v h)), (refl, q))
-from n s x (negative v k p q) = inl (s, [], value.Int (neg_ℤ (pos v)), sym (append-nil s), (literal.signed (literal.negative v true k p refl), ap (λ (z : List Step). begins begins_literal (said z)) p), (refl, q))
-from n s x (text t p q) = inl (s, [], value.Text t, sym (append-nil s), (literal.text t p refl, ap (λ (z : List Step). begins begins_literal (said z)) p), (refl, q))
+from n s x (number v h q) = inl (s, [], value.Int (pos v), sym (append-nil s), (literal.signed (literal.number v h refl), ap (λ (z : List Word). begins first_literal z) (number_said s v h)), (refl, q))
+from n s x (negative v k p q) = inl (s, [], value.Int (neg_ℤ (pos v)), sym (append-nil s), (literal.signed (literal.negative v true k p refl), ap (λ (z : List Step). begins first_literal (said z)) p), (refl, q))
+from n s x (text t p q) = inl (s, [], value.Text t, sym (append-nil s), (literal.text t p refl, ap (λ (z : List Step). begins first_literal (said z)) p), (refl, q))
 from n s x (ref r h q) = inr (inr (s, [], r, sym (append-nil s), h, (refl, q)))
 from n s x (opposite a m front f unnumbered p q) = inr (inl (inl (Say (Minus false) ∷ front, p, (front, refl, (front, [], (a, m), sym (append-nil front), (f, unnumbered), (refl, q))))))
 from n s x (parenthesis inner h p) =
@@ -98,8 +98,8 @@ begins-append test [] t e = absurd cc
 begins-append test (Say w ∷ s) t e = e
 begins-append test (Limit m ∷ s) t e = begins-append test s t e
 
-literal_part_begun : (n : ℕ) → Begun begins_literal (LiteralPart n)
-literal_part_begun n = record { it = λ s b h. ap (λ (z : List Step). begins begins_literal (said z)) h.3 ∙ begins-append begins_literal h.0 h.1 h.4.1 }
+literal_part_begun : (n : ℕ) → Begun first_literal (LiteralPart n)
+literal_part_begun n = record { it = λ s b h. ap (λ (z : List Step). begins first_literal (said z)) h.3 ∙ begins-append first_literal h.0 h.1 h.4.1 }
 
 ref_part_begun : (n : ℕ) → Begun is_name (RefPart n)
 ref_part_begun n = record { it = λ s b h. ap (λ (z : List Step). begins is_name (said z)) h.3 ∙ begins-append is_name h.0 h.1 (ap (λ (z : List Step). begins is_name (said z)) h.4.2) }
@@ -114,7 +114,7 @@ either_not : {w : Word → Bool} {G H : List Step → Counted → Type 0} {ws : 
 either_not {w = w} {G = G} {H = H} {ws = ws} p q = record { it = lists.either_not_here w G H ws p.it q.it }
 
 -- a literal is neither a name, a minus alone nor a parenthesis
-literal_opposite : (ws : List Word) → begins begins_literal ws ≡ true → begins is_opposite ws ≡ false
+literal_opposite : (ws : List Word) → begins first_literal ws ≡ true → begins is_opposite ws ≡ false
 literal_opposite [] e = refl
 literal_opposite (word.Keyword k ∷ ws) e = refl
 literal_opposite (word.Name k ∷ ws) e = refl
@@ -124,7 +124,7 @@ literal_opposite (word.Minus true ∷ ws) e = refl
 literal_opposite (word.Minus false ∷ ws) e = absurd cc
 literal_opposite (word.Sign k ∷ ws) e = refl
 
-literal_parenthesis : (ws : List Word) → begins begins_literal ws ≡ true → begins is_parenthesis ws ≡ false
+literal_parenthesis : (ws : List Word) → begins first_literal ws ≡ true → begins is_parenthesis ws ≡ false
 literal_parenthesis [] e = refl
 literal_parenthesis (word.Keyword k ∷ ws) e = refl
 literal_parenthesis (word.Name k ∷ ws) e = refl
@@ -133,7 +133,7 @@ literal_parenthesis (word.Text k ∷ ws) e = refl
 literal_parenthesis (word.Minus k ∷ ws) e = refl
 literal_parenthesis (word.Sign k ∷ ws) e = absurd cc
 
-pub literal_name : (ws : List Word) → begins begins_literal ws ≡ true → begins is_name ws ≡ false
+pub literal_name : (ws : List Word) → begins first_literal ws ≡ true → begins is_name ws ≡ false
 literal_name [] e = refl
 literal_name (word.Keyword k ∷ ws) e = refl
 literal_name (word.Name k ∷ ws) e = absurd cc
@@ -154,12 +154,12 @@ literal_first {n = n} {ws = ws} h f =
 pub opposite_first : {n : ℕ} {ws : List Word} {behind : Cursor} {r : Reading Counted} → IsStart ws (start.Opposite behind) → Fits is_point (OppositePart n) ws r → Fits is_point (Factor n) ws r
 opposite_first {n = n} {ws = ws} {behind = behind} h f =
     let absent = λ (test : Word → Bool) (e : test (Minus false) ≡ false). begins_behind test ws (words behind) (Minus false) h.it.0 e in
-    factor_as (right_here (other_not_here (literal_part_begun n) (absent begins_literal refl)) (left_here (other_not_here (ref_part_begun n) (absent is_name refl)) (left_here (other_not_here (parenthesis_begun n) (absent is_parenthesis refl)) f)))
+    factor_as (right_here (other_not_here (literal_part_begun n) (absent first_literal refl)) (left_here (other_not_here (ref_part_begun n) (absent is_name refl)) (left_here (other_not_here (parenthesis_begun n) (absent is_parenthesis refl)) f)))
 
 pub parenthesis_first : {n : ℕ} {ws : List Word} {behind : Cursor} {r : Reading Counted} → IsStart ws (start.Parenthesis behind) → Fits is_point (ParenthesisPart n) ws r → Fits is_point (Factor n) ws r
 parenthesis_first {n = n} {ws = ws} {behind = behind} h f =
     let absent = λ (test : Word → Bool) (e : test (Sign sign.OpeningParenthesis) ≡ false). begins_behind test ws (words behind) (Sign sign.OpeningParenthesis) h.it e in
-    factor_as (right_here (other_not_here (literal_part_begun n) (absent begins_literal refl)) (left_here (other_not_here (ref_part_begun n) (absent is_name refl)) (right_here (other_not_here (opposite_begun n) (absent is_opposite refl)) f)))
+    factor_as (right_here (other_not_here (literal_part_begun n) (absent first_literal refl)) (left_here (other_not_here (ref_part_begun n) (absent is_name refl)) (right_here (other_not_here (opposite_begun n) (absent is_opposite refl)) f)))
 
 pub ref_first : {n : ℕ} {ws : List Word} {r : Reading Counted} → IsStart ws start.Other → Fits is_point (RefPart n) ws r → Fits is_point (Factor n) ws r
 ref_first {n = n} h f =

@@ -3,8 +3,8 @@ use Rattle.std.proofs.Common.{◌≡◌, ℕ, Bool, true, false, List, [], ◌�
 use Rattle.std.proofs.lemmas.List.{append_cancel_left}
 use Rattle.std.specs.Prelude.{◌&&◌, is_none}
 use Rattle.bf_lex.specs.declared.fault.ScriptKind.{ScriptKind}
-use Rattle.bf_parse.specs.declared.error.Stop.{Stop}
-use Rattle.bf_parse.specs.declared.error.Stop.TheVariants as stop
+use Rattle.bf_parse.specs.declared.error.ReadStop.{ReadStop}
+use Rattle.bf_parse.specs.declared.error.ReadStop.TheVariants as stop
 use Rattle.bf_parse.specs.Words.{Word, Name}
 use Rattle.bf_parse.specs.Steps.{Step, Say, Limit, Mark, said, within, fault_at}
 use Rattle.bf_parse.specs.Rules.{Return, After, Named, Then, Marked}
@@ -263,13 +263,13 @@ named_stuck w G ws some not = stuck_here w (Named G) ws (named_can G some)
 
 -- ---- what a `?` passes on
 
-pub then_err : {A B : Type 0} (v w : Word → Bool) (G : List Step → A → Type 0) (H : A → List Step → B → Type 0) (ws : List Word) (e : Stop)
+pub then_err : {A B : Type 0} (v w : Word → Bool) (G : List Step → A → Type 0) (H : A → List Step → B → Type 0) (ws : List Word) (e : ReadStop)
     → Passes v w H → ((a : A) → CanGoOn (H a) []) → FitsAs v G ws (stopped e) → FitsAs w (Then G H) ws (stopped e)
 then_err v w G H ws (stop.Syntax left) pass some h = then_stuck v w G H ws left pass some h
 then_err v w G H ws (stop.Limit kind left) pass some h = then_over v w G H ws kind left pass some h
 then_err v w G H ws stop.Memory pass some h = tt
 
-pub after_err : {B : Type 0} (w : Word → Bool) (t : Word) (G : List Step → B → Type 0) (ws : List Word) (e : Stop)
+pub after_err : {B : Type 0} (w : Word → Bool) (t : Word) (G : List Step → B → Type 0) (ws : List Word) (e : ReadStop)
     → CanGoOn G [] → HasWord t ws (Err e) → FitsAs w (After t G) ws (stopped e)
 after_err w t G ws (stop.Syntax left) some h = subst (λ (n : ℕ). FitsStuck w (After t G) ws n) (sym h.0) (after_stuck w t G ws some h.1)
 after_err w t G ws (stop.Limit kind left) some h = absurd h
@@ -350,7 +350,7 @@ pub mark_stuck : {A : Type 0} (w : Word → Bool) (m : Mark) (G : List Step → 
 mark_stuck w m G ws some not = stuck_here w (Marked m G) ws (mark_can m G some)
     (λ front b back g ends e. not g.0 b back g.2 ends (ap (λ (z : List Step). first (said z ++ back)) (sym g.1) ∙ e))
 
-pub named_err : {B : Type 0} (w : Word → Bool) (G : List ℕ → List Step → B → Type 0) (ws : List Word) (e : Stop)
+pub named_err : {B : Type 0} (w : Word → Bool) (G : List ℕ → List Step → B → Type 0) (ws : List Word) (e : ReadStop)
     → CanGoOn (G []) [] → HasName ws (Err e) → FitsAs w (Named G) ws (stopped e)
 named_err w G ws (stop.Syntax left) some h = subst (λ (n : ℕ). FitsStuck w (Named G) ws n) (sym h.0) (named_stuck w G ws some h.1)
 named_err w G ws (stop.Limit kind left) some h = absurd h

@@ -9,19 +9,19 @@ use Rattle.bf_lex.specs.declared.keyword.Keyword.TheVariants as keyword
 use Rattle.bf_tree.specs.declared.items.Aggregate.{Aggregate}
 use Rattle.bf_tree.specs.declared.migration.Item.{Item}
 use Rattle.bf_tree.specs.declared.migration.Item.TheVariants as item
-use Rattle.bf_parse.specs.declared.error.Stop.{Stop}
+use Rattle.bf_parse.specs.declared.error.ReadStop.{ReadStop}
 use Rattle.bf_parse.specs.Words.{Word, Keyword, Name, Number, Text, Minus, Sign}
 use Rattle.bf_parse.specs.Steps.{Step, Say, said}
 use Rattle.bf_parse.specs.Rules.{Return, Then}
 use Rattle.bf_parse.specs.Reading.{CanGoOn, Ends, Reading, Read, Stuck, Fits, first}
 use Rattle.bf_parse.specs.Outcome.{IsBehind, IsExpected, IsNamed, stopped}
-use Rattle.bf_parse.specs.Ends.{begins, goes_sum, nothing}
-use Rattle.bf_parse.specs.StatementEnds.{begins_aggregate, begins_expression}
+use Rattle.bf_parse.specs.Ends.{begins, follow_sum, nothing}
+use Rattle.bf_parse.specs.StatementEnds.{first_aggregate, first_expression}
 use Rattle.bf_parse.specs.Leads.{IsPart, IsSayable}
 use Rattle.bf_parse.specs.Expressions.{Counted, Sum}
 use Rattle.bf_parse.specs.Statements.{AggregateRule}
 use Rattle.bf_parse.specs.Migrations.{AsRule, BareRule, ItemRule}
-use Rattle.bf_parse.specs.MigrationEnds.{IsBare, ItemEnd, begins_item, goes_item, is_as}
+use Rattle.bf_parse.specs.MigrationEnds.{IsBare, ItemEnd, first_item, follow_item, is_as}
 use Rattle.bf_parse.proofs.Fitting.{stuck_here}
 use Rattle.bf_parse.proofs.Factors.{begins-append}
 use Rattle.bf_parse.proofs.Beginnings.{Begun, other_not_here}
@@ -37,7 +37,7 @@ use Rattle.bf_parse.proofs.Moves.{Can, NotHere, Passed, after_go, after_stop, be
 as_read : {ws rest mid : List Word} {n : List ℕ} → IsBehind (Keyword keyword.As) ws (Some rest) → IsNamed rest (Ok (n, mid)) → Fits nothing AsRule ws (Read n mid)
 as_read h k = behind_go h (named_go k return_fits)
 
-as_stop : {ws rest : List Word} {e : Stop} → IsBehind (Keyword keyword.As) ws (Some rest) → IsNamed rest (Err e) → Fits nothing AsRule ws (stopped e)
+as_stop : {ws rest : List Word} {e : ReadStop} → IsBehind (Keyword keyword.As) ws (Some rest) → IsNamed rest (Err e) → Fits nothing AsRule ws (stopped e)
 as_stop h k = behind_go h (named_stop k (λ n. return_can))
 
 bare_not_here : (x : Counted) {ws rest : List Word} → IsBehind (Keyword keyword.As) ws (Some rest) → NotHere is_as (BareRule x) ws
@@ -52,7 +52,7 @@ NamedEnd x = λ name. Return (item.Named x.0 name)
 pub end_can : (x : Counted) → Can (ItemEnd x)
 end_can x = left_can (then_can as_can (λ n. return_can))
 
-pub end_named_stop : {x : Counted} {ws rest : List Word} {e : Stop} → IsBehind (Keyword keyword.As) ws (Some rest) → IsNamed rest (Err e) → Fits is_as (ItemEnd x) ws (stopped e)
+pub end_named_stop : {x : Counted} {ws rest : List Word} {e : ReadStop} → IsBehind (Keyword keyword.As) ws (Some rest) → IsNamed rest (Err e) → Fits is_as (ItemEnd x) ws (stopped e)
 end_named_stop {x = x} {e = e} h k = left_here (bare_not_here x h) (then_stop e any_passed (λ n. return_can) (as_stop h k))
 
 pub end_named : {x : Counted} {ws rest mid : List Word} {n : List ℕ} → IsBehind (Keyword keyword.As) ws (Some rest) → IsNamed rest (Ok (n, mid)) → Fits is_as (ItemEnd x) ws (Read (item.Named x.0 n) mid)
@@ -79,22 +79,22 @@ end_stuck {x = x} {ws = ws} k e h is_none =
 abbrev TotalItem : List Step → Item → Type 0
 TotalItem = Then AggregateRule (λ total. Then AsRule (λ name. Return (item.Total total name)))
 
-bare_clear : (x : Counted) → Clear goes_sum (BareRule x)
-bare_clear x = record { it = λ s b g. subst (λ (z : List Step). Ends goes_sum (said z)) (sym g.2.0) tt }
+bare_clear : (x : Counted) → Clear follow_sum (BareRule x)
+bare_clear x = record { it = λ s b g. subst (λ (z : List Step). Ends follow_sum (said z)) (sym g.2.0) tt }
 
-end_clear : (x : Counted) → Clear goes_sum (ItemEnd x)
+end_clear : (x : Counted) → Clear follow_sum (ItemEnd x)
 end_clear x = clear_either (clear_then (clear_after refl) (λ n. clear_return)) (bare_clear x)
 
-item_passed : Passed goes_sum goes_item (λ x. ItemEnd x)
+item_passed : Passed follow_sum follow_item (λ x. ItemEnd x)
 item_passed = clear_passed end_clear (λ t e. or_left _ _ e)
 
-total_begun : Begun begins_aggregate TotalItem
-total_begun = record { it = λ s b h. ap (λ (z : List Step). begins begins_aggregate (said z)) h.3 ∙ begins-append begins_aggregate h.0 h.1 (aggregate_part.opens h.0 h.2 h.4) }
+total_begun : Begun first_aggregate TotalItem
+total_begun = record { it = λ s b h. ap (λ (z : List Step). begins first_aggregate (said z)) h.3 ∙ begins-append first_aggregate h.0 h.1 (aggregate_part.opens h.0 h.2 h.4) }
 
-sum_begun : Begun begins_expression (Then (Sum 0) (λ x. ItemEnd x))
-sum_begun = record { it = λ s b h. ap (λ (z : List Step). begins begins_expression (said z)) h.3 ∙ begins-append begins_expression h.0 h.1 (expression_part.opens h.0 h.2.0 (h.2.1, h.4)) }
+sum_begun : Begun first_expression (Then (Sum 0) (λ x. ItemEnd x))
+sum_begun = record { it = λ s b h. ap (λ (z : List Step). begins first_expression (said z)) h.3 ∙ begins-append first_expression h.0 h.1 (expression_part.opens h.0 h.2.0 (h.2.1, h.4)) }
 
-no_expression : (ws : List Word) → begins begins_aggregate ws ≡ true → begins begins_expression ws ≡ false
+no_expression : (ws : List Word) → begins first_aggregate ws ≡ true → begins first_expression ws ≡ false
 no_expression [] e = refl
 no_expression (Keyword k ∷ ws) e = refl
 no_expression (Name n ∷ ws) e = absurd cc
@@ -103,37 +103,37 @@ no_expression (Text t ∷ ws) e = absurd cc
 no_expression (Minus b ∷ ws) e = absurd cc
 no_expression (Sign s ∷ ws) e = absurd cc
 
-item_sum : {ws : List Word} {r : Reading Item} → begins begins_aggregate ws ≡ false → Fits goes_item (Then (Sum 0) (λ x. ItemEnd x)) ws r → Fits goes_item ItemRule ws r
+item_sum : {ws : List Word} {r : Reading Item} → begins first_aggregate ws ≡ false → Fits follow_item (Then (Sum 0) (λ x. ItemEnd x)) ws r → Fits follow_item ItemRule ws r
 item_sum absent f = left_here (other_not_here total_begun absent) f
 
-item_total : {ws : List Word} {r : Reading Item} → begins begins_aggregate ws ≡ true → Fits goes_item TotalItem ws r → Fits goes_item ItemRule ws r
+item_total : {ws : List Word} {r : Reading Item} → begins first_aggregate ws ≡ true → Fits follow_item TotalItem ws r → Fits follow_item ItemRule ws r
 item_total {ws = ws} here f = right_here (other_not_here sum_begun (no_expression ws here)) f
 
-pub sum_stop : {ws : List Word} (e : Stop) → begins begins_aggregate ws ≡ false → Fits goes_sum (Sum 0) ws (stopped e) → Fits goes_item ItemRule ws (stopped e)
+pub sum_stop : {ws : List Word} (e : ReadStop) → begins first_aggregate ws ≡ false → Fits follow_sum (Sum 0) ws (stopped e) → Fits follow_item ItemRule ws (stopped e)
 sum_stop e absent f = item_sum absent (then_stop e item_passed end_can f)
 
-pub sum_item : {ws mid : List Word} {x : Counted} {r : Reading Item} → begins begins_aggregate ws ≡ false → Fits goes_sum (Sum 0) ws (Read x mid) → Fits is_as (ItemEnd x) mid r → Fits goes_item ItemRule ws r
+pub sum_item : {ws mid : List Word} {x : Counted} {r : Reading Item} → begins first_aggregate ws ≡ false → Fits follow_sum (Sum 0) ws (Read x mid) → Fits is_as (ItemEnd x) mid r → Fits follow_item ItemRule ws r
 sum_item absent f g = item_sum absent (then_go item_passed f (wider (λ t e. or_right _ _ e) g))
 
 total_end_can : (total : Aggregate (Expr Ref)) → Can (Then AsRule (λ name. Return (item.Total total name)))
 total_end_can total = then_can as_can (λ n. return_can)
 
-pub total_stop : {ws : List Word} (e : Stop) → begins begins_aggregate ws ≡ true → Fits nothing AggregateRule ws (stopped e) → Fits goes_item ItemRule ws (stopped e)
+pub total_stop : {ws : List Word} (e : ReadStop) → begins first_aggregate ws ≡ true → Fits nothing AggregateRule ws (stopped e) → Fits follow_item ItemRule ws (stopped e)
 total_stop e here f = item_total here (then_stop e any_passed total_end_can f)
 
-expected_as : {ws : List Word} {e : Stop} → IsExpected (Keyword keyword.As) ws (Err e) → Fits nothing AsRule ws (stopped e)
+expected_as : {ws : List Word} {e : ReadStop} → IsExpected (Keyword keyword.As) ws (Err e) → Fits nothing AsRule ws (stopped e)
 expected_as h = after_stop h (named_can (λ n. return_can))
 
-pub total_open : {ws mid : List Word} {total : Aggregate (Expr Ref)} {e : Stop} → begins begins_aggregate ws ≡ true → Fits nothing AggregateRule ws (Read total mid) → IsExpected (Keyword keyword.As) mid (Err e) → Fits goes_item ItemRule ws (stopped e)
+pub total_open : {ws mid : List Word} {total : Aggregate (Expr Ref)} {e : ReadStop} → begins first_aggregate ws ≡ true → Fits nothing AggregateRule ws (Read total mid) → IsExpected (Keyword keyword.As) mid (Err e) → Fits follow_item ItemRule ws (stopped e)
 total_open here f h = item_total here (then_go any_passed f (then_stop _ any_passed (λ n. return_can) (expected_as h)))
 
-pub total_unnamed : {ws mid rest : List Word} {total : Aggregate (Expr Ref)} {e : Stop} → begins begins_aggregate ws ≡ true → Fits nothing AggregateRule ws (Read total mid) → IsExpected (Keyword keyword.As) mid (Ok rest) → IsNamed rest (Err e)
-    → Fits goes_item ItemRule ws (stopped e)
+pub total_unnamed : {ws mid rest : List Word} {total : Aggregate (Expr Ref)} {e : ReadStop} → begins first_aggregate ws ≡ true → Fits nothing AggregateRule ws (Read total mid) → IsExpected (Keyword keyword.As) mid (Ok rest) → IsNamed rest (Err e)
+    → Fits follow_item ItemRule ws (stopped e)
 total_unnamed here f h k = item_total here (then_go any_passed f (then_stop _ any_passed (λ n. return_can) (after_go h (named_stop k (λ n. return_can)))))
 
-pub total_item : {ws mid rest last : List Word} {total : Aggregate (Expr Ref)} {n : List ℕ} → begins begins_aggregate ws ≡ true → Fits nothing AggregateRule ws (Read total mid) → IsExpected (Keyword keyword.As) mid (Ok rest) → IsNamed rest (Ok (n, last))
-    → Fits goes_item ItemRule ws (Read (item.Total total n) last)
-total_item here f h k = item_total here (then_go any_passed f (then_go (any_passed {w = goes_item}) (after_go h (named_go k return_fits)) return_fits))
+pub total_item : {ws mid rest last : List Word} {total : Aggregate (Expr Ref)} {n : List ℕ} → begins first_aggregate ws ≡ true → Fits nothing AggregateRule ws (Read total mid) → IsExpected (Keyword keyword.As) mid (Ok rest) → IsNamed rest (Ok (n, last))
+    → Fits follow_item ItemRule ws (Read (item.Total total n) last)
+total_item here f h k = item_total here (then_go any_passed f (then_go (any_passed {w = follow_item}) (after_go h (named_go k return_fits)) return_fits))
 
 -- ---- a part of a list
 
@@ -145,9 +145,9 @@ or_true : (b : Bool) → (b || true) ≡ true
 or_true true = refl
 or_true false = refl
 
-item_opens : (s : List Step) (i : Item) → ItemRule s i → begins begins_item (said s) ≡ true
-item_opens s i (inl h) = begins_either begins_expression begins_aggregate (said s) (ap (λ (z : Bool). z || begins begins_aggregate (said s)) (sum_begun.it s i h))
-item_opens s i (inr h) = begins_either begins_expression begins_aggregate (said s) (ap (λ (z : Bool). begins begins_expression (said s) || z) (total_begun.it s i h) ∙ or_true (begins begins_expression (said s)))
+item_opens : (s : List Step) (i : Item) → ItemRule s i → begins first_item (said s) ≡ true
+item_opens s i (inl h) = begins_either first_expression first_aggregate (said s) (ap (λ (z : Bool). z || begins first_aggregate (said s)) (sum_begun.it s i h))
+item_opens s i (inr h) = begins_either first_expression first_aggregate (said s) (ap (λ (z : Bool). begins first_expression (said s) || z) (total_begun.it s i h) ∙ or_true (begins first_expression (said s)))
 
 as_steps : List Step
 as_steps = Say (Keyword keyword.As) ∷ Say (Name []) ∷ []
@@ -156,29 +156,29 @@ as_spelled : AsRule as_steps []
 unfolding as_steps
 as_spelled = (Say (Name []) ∷ [], refl, ([], [], refl, (refl, refl)))
 
-sum_starts : (w : Word) → IsSayable w → begins_expression w ≡ true → (next : List Step) × (said next ≡ w ∷ []) × CanGoOn ItemRule next
+sum_starts : (w : Word) → IsSayable w → first_expression w ≡ true → (next : List Step) × (said next ≡ w ∷ []) × CanGoOn ItemRule next
 sum_starts w real e =
     let h = expression_part.starts w real e in
     (h.0, h.1, (h.2.0 ++ as_steps, item.Named h.2.1 [], inl (h.0 ++ h.2.0, as_steps, (h.2.1, h.2.2.0), sym (append_assoc h.0 h.2.0 as_steps), h.2.2.1, inl (as_steps, [], [], sym (append-nil as_steps), as_spelled, (refl, refl)))))
 
-total_starts : (w : Word) → IsSayable w → begins_aggregate w ≡ true → (next : List Step) × (said next ≡ w ∷ []) × CanGoOn ItemRule next
+total_starts : (w : Word) → IsSayable w → first_aggregate w ≡ true → (next : List Step) × (said next ≡ w ∷ []) × CanGoOn ItemRule next
 total_starts w real e =
     let h = aggregate_part.starts w real e in
     (h.0, h.1, (h.2.0 ++ as_steps, item.Total h.2.1 [], inr (h.0 ++ h.2.0, as_steps, h.2.1, sym (append_assoc h.0 h.2.0 as_steps), h.2.2, (as_steps, [], [], sym (append-nil as_steps), as_spelled, (refl, refl)))))
 
-item_starts : (w : Word) → IsSayable w → begins_item w ≡ true → (next : List Step) × (said next ≡ w ∷ []) × CanGoOn ItemRule next
-item_starts w real e = elim (cases_Bool (begins_expression w)) [
+item_starts : (w : Word) → IsSayable w → first_item w ≡ true → (next : List Step) × (said next ≡ w ∷ []) × CanGoOn ItemRule next
+item_starts w real e = elim (cases_Bool (first_expression w)) [
   | inl here ↦ sum_starts w real here
-  | inr absent ↦ total_starts w real (sym (ap (λ (z : Bool). z || begins_aggregate w) absent) ∙ e)
+  | inr absent ↦ total_starts w real (sym (ap (λ (z : Bool). z || first_aggregate w) absent) ∙ e)
 ]
 
-pub item_part : IsPart goes_item begins_item ItemRule
+pub item_part : IsPart follow_item first_item ItemRule
 item_part = record { opens = item_opens; starts = item_starts; some = item_can.it; comma = refl; closing = refl }
 
-pub begins_left : (ws : List Word) → begins begins_expression ws ≡ true → true ≡ begins begins_item ws
+pub begins_left : (ws : List Word) → begins first_expression ws ≡ true → true ≡ begins first_item ws
 begins_left [] e = sym e
-begins_left (w ∷ ws) e = sym (ap (λ (z : Bool). z || begins_aggregate w) e)
+begins_left (w ∷ ws) e = sym (ap (λ (z : Bool). z || first_aggregate w) e)
 
-pub begins_right : (ws : List Word) {b : Bool} → begins begins_expression ws ≡ false → b ≡ begins begins_aggregate ws → b ≡ begins begins_item ws
+pub begins_right : (ws : List Word) {b : Bool} → begins first_expression ws ≡ false → b ≡ begins first_aggregate ws → b ≡ begins first_item ws
 begins_right [] e q = q
-begins_right (w ∷ ws) e q = q ∙ sym (ap (λ (z : Bool). z || begins_aggregate w) e)
+begins_right (w ∷ ws) e q = q ∙ sym (ap (λ (z : Bool). z || first_aggregate w) e)

@@ -13,9 +13,9 @@ use Rattle.bf_lex.specs.declared.token.Token.{Token}
 use Rattle.bf_lex.specs.declared.token.TokenKind.{TokenKind}
 use Rattle.bf_lex.specs.declared.token.TokenKind.TheVariants as token
 use Rattle.bf_parse.specs.declared.cursor.Cursor.{Cursor}
-use Rattle.bf_parse.specs.declared.error.Stop.{Stop}
-use Rattle.bf_parse.specs.declared.joint.Joint.{Joint}
-use Rattle.bf_parse.specs.declared.joint.Joint.TheVariants as by
+use Rattle.bf_parse.specs.declared.error.ReadStop.{ReadStop}
+use Rattle.bf_parse.specs.declared.sum_operator.SumOperator.{SumOperator}
+use Rattle.bf_parse.specs.declared.sum_operator.SumOperator.TheVariants as by
 use Rattle.bf_parse.specs.Words.{Word, Minus, Sign, sign_word, word_of, words_of}
 use Rattle.bf_parse.specs.Words as word
 use Rattle.bf_parse.specs.Steps.{Step, Say, Limit, Mark, Node, Widest, said}
@@ -24,8 +24,8 @@ use Rattle.bf_parse.specs.Reading.{CanGoOn, Ends, Reading, Read, Over, Fits, fir
 use Rattle.bf_parse.specs.Outcome.{stopped}
 use Rattle.bf_parse.specs.Cursors.{IsPlace, words}
 use Rattle.bf_parse.specs.Tokens.{IsSpelling, AreTokensAs}
-use Rattle.bf_parse.specs.Ends.{begins, goes_product, goes_sum, is_sum_operator}
-use Rattle.bf_parse.specs.Sums.{IsJoint, joint, operator_of}
+use Rattle.bf_parse.specs.Ends.{begins, follow_product, follow_sum, is_sum_operator}
+use Rattle.bf_parse.specs.Sums.{IsNextOperator, joint, operator_of}
 use Rattle.bf_parse.specs.Expressions.{Counted, NumberRule, narrow, widest, number, text, Factor, Product, product, no_factor, Products, no_product, other_product, SumOperator, sum_of, sum_word, is_number, begins_with_number}
 use Rattle.bf_parse.specs.Expressions as operator
 use Rattle.bf_parse.proofs.Fitting.{fits_by, fits_return, ends_not}
@@ -50,8 +50,8 @@ stands_not t u s back ws rest m more e p not same =
     let d : Some u ≡ Some t = ap (λ (z : List Step). first (said z ++ back)) (sym p) ∙ same ∙ ap first e in
     absurd (not cc)
 
-ended_not : {A : Type 0} (t : Word) (s : List Step) (back ws rest : List Word) → ws ≡ t ∷ rest → goes_sum t ≡ true → s ≡ [] → Ends goes_sum back → first (said s ++ back) ≡ first ws → A
-ended_not t s back ws rest e goes p ends same = absurd (ends_not goes_sum t back ends goes (ap (λ (z : List Step). first (said z ++ back)) (sym p) ∙ same ∙ ap first e))
+ended_not : {A : Type 0} (t : Word) (s : List Step) (back ws rest : List Word) → ws ≡ t ∷ rest → follow_sum t ≡ true → s ≡ [] → Ends follow_sum back → first (said s ++ back) ≡ first ws → A
+ended_not t s back ws rest e goes p ends same = absurd (ends_not follow_sum t back ends goes (ap (λ (z : List Step). first (said z ++ back)) (sym p) ∙ same ∙ ap first e))
 
 -- ---- the two operators of one word
 
@@ -60,13 +60,13 @@ added_to t o a is s b h =
     let k = h.2.2 in
     other_product o k.0 k.1 k.2 k.4 k.5 (h.1 ∙ ap (λ (z : List Step). Limit (Node (a.1 + 1)) ∷ z) (h.2.1 ∙ ap (λ (z : List Step). Say t ∷ z) k.3 ∙ ap (λ (z : Word). Say z ∷ (k.0 ++ k.1)) (is k.0)))
 
-plus_from : (a : Counted) (ws rest : List Word) → ws ≡ Sign sign.Plus ∷ rest → (s : List Step) (b : Counted) (back : List Word) → Products a s b → Ends goes_sum back → first (said s ++ back) ≡ first ws → Added (Sign sign.Plus) operator.Plus a s b
+plus_from : (a : Counted) (ws rest : List Word) → ws ≡ Sign sign.Plus ∷ rest → (s : List Step) (b : Counted) (back : List Word) → Products a s b → Ends follow_sum back → first (said s ++ back) ≡ first ws → Added (Sign sign.Plus) operator.Plus a s b
 plus_from a ws rest e s b back (no_product p q) ends same = ended_not (Sign sign.Plus) s back ws rest e refl p ends same
 plus_from a ws rest e s b back (other_product operator.Plus front more c g m p) ends same = (Say (Sign sign.Plus) ∷ (front ++ more), p, (front ++ more, refl, (front, more, c, refl, g, m)))
 plus_from a ws rest e s b back (other_product operator.Difference front more c g m p) ends same = stands_not (Sign sign.Plus) _ s back ws rest _ _ e p (λ d. cc) same
 plus_from a ws rest e s b back (other_product operator.Concatenation front more c g m p) ends same = stands_not (Sign sign.Plus) (Sign sign.Bars) s back ws rest _ _ e p (λ d. cc) same
 
-bars_from : (a : Counted) (ws rest : List Word) → ws ≡ Sign sign.Bars ∷ rest → (s : List Step) (b : Counted) (back : List Word) → Products a s b → Ends goes_sum back → first (said s ++ back) ≡ first ws → Added (Sign sign.Bars) operator.Concatenation a s b
+bars_from : (a : Counted) (ws rest : List Word) → ws ≡ Sign sign.Bars ∷ rest → (s : List Step) (b : Counted) (back : List Word) → Products a s b → Ends follow_sum back → first (said s ++ back) ≡ first ws → Added (Sign sign.Bars) operator.Concatenation a s b
 bars_from a ws rest e s b back (no_product p q) ends same = ended_not (Sign sign.Bars) s back ws rest e refl p ends same
 bars_from a ws rest e s b back (other_product operator.Plus front more c g m p) ends same = stands_not (Sign sign.Bars) (Sign sign.Plus) s back ws rest _ _ e p (λ d. cc) same
 bars_from a ws rest e s b back (other_product operator.Difference front more c g m p) ends same = stands_not (Sign sign.Bars) _ s back ws rest _ _ e p (λ d. cc) same
@@ -81,7 +81,7 @@ minus_to flag a s b h =
     other_product operator.Difference k.0 k.1 k.2 k.4 k.5
     (h.1 ∙ ap (λ (z : List Step). Limit (Node (a.1 + 1)) ∷ z) (h.2.1 ∙ ap (λ (z : List Step). Say (Minus flag) ∷ z) k.3 ∙ ap (λ (z : Bool). Say (Minus z) ∷ (k.0 ++ k.1)) (sym same)))
 
-minus_from : (flag : Bool) (a : Counted) (ws rest : List Word) → ws ≡ Minus flag ∷ rest → (s : List Step) (b : Counted) (back : List Word) → Products a s b → Ends goes_sum back → first (said s ++ back) ≡ first ws → Subtracted flag a s b
+minus_from : (flag : Bool) (a : Counted) (ws rest : List Word) → ws ≡ Minus flag ∷ rest → (s : List Step) (b : Counted) (back : List Word) → Products a s b → Ends follow_sum back → first (said s ++ back) ≡ first ws → Subtracted flag a s b
 minus_from flag a ws rest e s b back (no_product p q) ends same = ended_not (Minus flag) s back ws rest e refl p ends same
 minus_from flag a ws rest e s b back (other_product operator.Plus front more c g m p) ends same = stands_not (Minus flag) (Sign sign.Plus) s back ws rest _ _ e p (λ d. cc) same
 minus_from flag a ws rest e s b back (other_product operator.Concatenation front more c g m p) ends same = stands_not (Minus flag) (Sign sign.Bars) s back ws rest _ _ e p (λ d. cc) same
@@ -140,11 +140,11 @@ number_first content (t ∷ ts) h e =
     let k = kind_number t.kind (slice_range content t.at t.end) flag h.0.spelled e in
     (k.0, words_of content ts, ap (λ (w : Word). w ∷ words_of content ts) k.1, k.2)
 
-numbered_behind : (flag : Bool) (a : Counted) (behind : Cursor) (r : Reading Counted) → IsPlace behind → begins_with_number (words behind) ≡ flag → Fits goes_sum (Behind operator.Difference a) (words behind) r → Fits goes_sum (Numbered flag (Behind operator.Difference a)) (words behind) r
-numbered_behind false a behind r place e f = let k = behind_text operator.Difference a in record { it = unnumbered goes_sum (Behind operator.Difference a) (behind_headed operator.Difference a) (k.0, k.1, (k.2, refl)) (words behind) r e f.it }
+numbered_behind : (flag : Bool) (a : Counted) (behind : Cursor) (r : Reading Counted) → IsPlace behind → begins_with_number (words behind) ≡ flag → Fits follow_sum (Behind operator.Difference a) (words behind) r → Fits follow_sum (Numbered flag (Behind operator.Difference a)) (words behind) r
+numbered_behind false a behind r place e f = let k = behind_text operator.Difference a in record { it = unnumbered follow_sum (Behind operator.Difference a) (behind_headed operator.Difference a) (k.0, k.1, (k.2, refl)) (words behind) r e f.it }
 numbered_behind true a behind r place e f =
     let k = number_first behind.text.now behind.tokens.now place.it e in
-    record { it = numbered goes_sum (Behind operator.Difference a) (λ w. true) (behind_begun operator.Difference a) k.0 (behind_number operator.Difference a k.0 k.3) (words behind) k.1 r k.2 f.it }
+    record { it = numbered follow_sum (Behind operator.Difference a) (λ w. true) (behind_begun operator.Difference a) k.0 (behind_number operator.Difference a k.0 k.3) (words behind) k.1 r k.2 f.it }
 
 numbered_can : (flag : Bool) (a : Counted) → Can (Numbered flag (Behind operator.Difference a))
 numbered_can false a = let k = behind_text operator.Difference a in record { it = (k.0, k.1, (k.2, refl)) }
@@ -152,35 +152,35 @@ numbered_can true a = let k = behind_number operator.Difference a 0 (omega arith
 
 -- ---- a loop's step
 
-pub joint_go : {a : Counted} {ws : List Word} {behind : Cursor} {r : Reading Counted} (by : Joint) → a.1 < 256 → IsPlace behind → IsJoint ws (Some (by, behind)) → Fits goes_sum (Behind (operator_of by) a) (words behind) r → Fits goes_sum (Products a) ws r
-joint_go {a = a} {ws = ws} {behind = behind} {r = r} by.Plus low place h f =
-    record { it = fits_by goes_sum (Added (Sign sign.Plus) operator.Plus a) (Products a) ws r (node_go low (record { it = h.it }) f).it (added_to (Sign sign.Plus) operator.Plus a (λ z. refl)) (plus_from a ws (words behind) h.it) }
-joint_go {a = a} {ws = ws} {behind = behind} {r = r} by.Concatenation low place h f =
-    record { it = fits_by goes_sum (Added (Sign sign.Bars) operator.Concatenation a) (Products a) ws r (node_go low (record { it = h.it }) f).it (added_to (Sign sign.Bars) operator.Concatenation a (λ z. refl)) (bars_from a ws (words behind) h.it) }
-joint_go {a = a} {ws = ws} {behind = behind} {r = r} by.Difference low place h f =
+pub operator_go : {a : Counted} {ws : List Word} {behind : Cursor} {r : Reading Counted} (by : SumOperator) → a.1 < 256 → IsPlace behind → IsNextOperator ws (Some (by, behind)) → Fits follow_sum (Behind by a) (words behind) r → Fits follow_sum (Products a) ws r
+operator_go {a = a} {ws = ws} {behind = behind} {r = r} by.Plus low place h f =
+    record { it = fits_by follow_sum (Added (Sign sign.Plus) operator.Plus a) (Products a) ws r (node_go low (record { it = h.it }) f).it (added_to (Sign sign.Plus) operator.Plus a (λ z. refl)) (plus_from a ws (words behind) h.it) }
+operator_go {a = a} {ws = ws} {behind = behind} {r = r} by.Concatenation low place h f =
+    record { it = fits_by follow_sum (Added (Sign sign.Bars) operator.Concatenation a) (Products a) ws r (node_go low (record { it = h.it }) f).it (added_to (Sign sign.Bars) operator.Concatenation a (λ z. refl)) (bars_from a ws (words behind) h.it) }
+operator_go {a = a} {ws = ws} {behind = behind} {r = r} by.Difference low place h f =
     let flag = begins_with_number (words behind) in
-    record { it = fits_by goes_sum (Subtracted flag a) (Products a) ws r (node_go low (record { it = h.it }) (numbered_behind flag a behind r place refl f)).it (minus_to flag a) (minus_from flag a ws (words behind) h.it) }
+    record { it = fits_by follow_sum (Subtracted flag a) (Products a) ws r (node_go low (record { it = h.it }) (numbered_behind flag a behind r place refl f)).it (minus_to flag a) (minus_from flag a ws (words behind) h.it) }
 
-pub joint_deep : {a : Counted} {ws : List Word} {behind : Cursor} (k : ℕ) (by : Joint) → length ws ≡ k → 256 ≤ a.1 → IsJoint ws (Some (by, behind)) → Fits goes_sum (Products a) ws (Over TooDeep k)
-joint_deep {a = a} {ws = ws} {behind = behind} k by.Plus e high h =
-    record { it = fits_by goes_sum (Added (Sign sign.Plus) operator.Plus a) (Products a) ws (Over TooDeep k) (node_deep k e high (record { it = h.it }) (record { it = behind_text operator.Plus a })).it (added_to (Sign sign.Plus) operator.Plus a (λ z. refl)) (plus_from a ws (words behind) h.it) }
-joint_deep {a = a} {ws = ws} {behind = behind} k by.Concatenation e high h =
-    record { it = fits_by goes_sum (Added (Sign sign.Bars) operator.Concatenation a) (Products a) ws (Over TooDeep k) (node_deep k e high (record { it = h.it }) (record { it = behind_text operator.Concatenation a })).it (added_to (Sign sign.Bars) operator.Concatenation a (λ z. refl)) (bars_from a ws (words behind) h.it) }
-joint_deep {a = a} {ws = ws} {behind = behind} k by.Difference e high h =
+pub operator_deep : {a : Counted} {ws : List Word} {behind : Cursor} (k : ℕ) (by : SumOperator) → length ws ≡ k → 256 ≤ a.1 → IsNextOperator ws (Some (by, behind)) → Fits follow_sum (Products a) ws (Over TooDeep k)
+operator_deep {a = a} {ws = ws} {behind = behind} k by.Plus e high h =
+    record { it = fits_by follow_sum (Added (Sign sign.Plus) operator.Plus a) (Products a) ws (Over TooDeep k) (node_deep k e high (record { it = h.it }) (record { it = behind_text operator.Plus a })).it (added_to (Sign sign.Plus) operator.Plus a (λ z. refl)) (plus_from a ws (words behind) h.it) }
+operator_deep {a = a} {ws = ws} {behind = behind} k by.Concatenation e high h =
+    record { it = fits_by follow_sum (Added (Sign sign.Bars) operator.Concatenation a) (Products a) ws (Over TooDeep k) (node_deep k e high (record { it = h.it }) (record { it = behind_text operator.Concatenation a })).it (added_to (Sign sign.Bars) operator.Concatenation a (λ z. refl)) (bars_from a ws (words behind) h.it) }
+operator_deep {a = a} {ws = ws} {behind = behind} k by.Difference e high h =
     let flag = begins_with_number (words behind) in
-    record { it = fits_by goes_sum (Subtracted flag a) (Products a) ws (Over TooDeep k) (node_deep k e high (record { it = h.it }) (numbered_can flag a)).it (minus_to flag a) (minus_from flag a ws (words behind) h.it) }
+    record { it = fits_by follow_sum (Subtracted flag a) (Products a) ws (Over TooDeep k) (node_deep k e high (record { it = h.it }) (numbered_can flag a)).it (minus_to flag a) (minus_from flag a ws (words behind) h.it) }
 
-pub joint_stop : {a : Counted} {m : ℕ} {ws : List Word} {behind : Cursor} (e : Stop) (by : Joint) → m ≡ a.1 + 1 → a.1 < 256 → IsPlace behind → IsJoint ws (Some (by, behind)) → Fits goes_product (Product m) (words behind) (stopped e) → Fits goes_sum (Products a) ws (stopped e)
-joint_stop {a = a} {behind = behind} e by same low place h f =
-    joint_go by low place h (then_stop e (products_passed {f = λ (b : Counted). (sum_of (operator_of by) a.0 b.0, b.1)}) (λ b. products_can) (subst (λ (k : ℕ). Fits goes_product (Product k) (words behind) (stopped e)) same f))
+pub operator_stop : {a : Counted} {m : ℕ} {ws : List Word} {behind : Cursor} (e : ReadStop) (by : SumOperator) → m ≡ a.1 + 1 → a.1 < 256 → IsPlace behind → IsNextOperator ws (Some (by, behind)) → Fits follow_product (Product m) (words behind) (stopped e) → Fits follow_sum (Products a) ws (stopped e)
+operator_stop {a = a} {behind = behind} e by same low place h f =
+    operator_go by low place h (then_stop e (products_passed {f = λ (b : Counted). (sum_of by a.0 b.0, b.1)}) (λ b. products_can) (subst (λ (k : ℕ). Fits follow_product (Product k) (words behind) (stopped e)) same f))
 
-pub joint_more : {a : Counted} {m k : ℕ} {ws mid : List Word} {behind : Cursor} {b t : tree.Expr Ref} {r : Reading Counted} (by : Joint) → m ≡ a.1 + 1 → a.1 < 256 → IsPlace behind → IsJoint ws (Some (by, behind)) → Fits goes_product (Product m) (words behind) (Read (b, k) mid)
-    → t ≡ joint by a.0 b → Fits goes_sum (Products (t, k)) mid r → Fits goes_sum (Products a) ws r
-joint_more {a = a} {k = k} {mid = mid} {behind = behind} {b = b} {r = r} by same low place h f value g =
-    joint_go by low place h (then_go (products_passed {f = λ (b : Counted). (sum_of (operator_of by) a.0 b.0, b.1)}) (subst (λ (n : ℕ). Fits goes_product (Product n) (words behind) (Read (b, k) mid)) same f) (subst (λ (x : tree.Expr Ref). Fits goes_sum (Products (x, k)) mid r) value g))
+pub operator_more : {a : Counted} {m k : ℕ} {ws mid : List Word} {behind : Cursor} {b t : tree.Expr Ref} {r : Reading Counted} (by : SumOperator) → m ≡ a.1 + 1 → a.1 < 256 → IsPlace behind → IsNextOperator ws (Some (by, behind)) → Fits follow_product (Product m) (words behind) (Read (b, k) mid)
+    → t ≡ sum_of by a.0 b → Fits follow_sum (Products (t, k)) mid r → Fits follow_sum (Products a) ws r
+operator_more {a = a} {k = k} {mid = mid} {behind = behind} {b = b} {r = r} by same low place h f value g =
+    operator_go by low place h (then_go (products_passed {f = λ (b : Counted). (sum_of by a.0 b.0, b.1)}) (subst (λ (n : ℕ). Fits follow_product (Product n) (words behind) (Read (b, k) mid)) same f) (subst (λ (x : tree.Expr Ref). Fits follow_sum (Products (x, k)) mid r) value g))
 
-pub joint_end : {a : Counted} {ws : List Word} → IsJoint ws None → Fits goes_sum (Products a) ws (Read a ws)
-joint_end {a = a} {ws = ws} h = record { it = fits_by goes_sum (Return a) (Products a) ws (Read a ws) (fits_return goes_sum a ws) (λ s b k. no_product k.0 k.1) (λ s b back g ends same. from s b back g same) }
+pub operator_end : {a : Counted} {ws : List Word} → IsNextOperator ws None → Fits follow_sum (Products a) ws (Read a ws)
+operator_end {a = a} {ws = ws} h = record { it = fits_by follow_sum (Return a) (Products a) ws (Read a ws) (fits_return follow_sum a ws) (λ s b k. no_product k.0 k.1) (λ s b back g ends same. from s b back g same) }
   where
     operator_stands : (o : SumOperator) (front : List Step) → is_sum_operator (sum_word o front) ≡ true
     operator_stands operator.Plus front = refl

@@ -10,7 +10,7 @@ mod Factors
 mod Fitting
 mod Forms
 mod Items
-mod Joints
+mod SumOperators
 mod Lexed
 mod Listings
 mod Lists

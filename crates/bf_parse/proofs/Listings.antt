@@ -17,8 +17,8 @@ use Rattle.bf_parse.specs.Words as word
 use Rattle.bf_parse.specs.Steps.{Step, Say, Limit, Node, Widest, said}
 use Rattle.bf_parse.specs.Rules.{Return}
 use Rattle.bf_parse.specs.Reading.{CanGoOn}
-use Rattle.bf_parse.specs.Ends.{begins, goes_sum, is_name, is_point, nothing}
-use Rattle.bf_parse.specs.StatementEnds.{is_check, begins_constant, begins_expression, begins_aggregate}
+use Rattle.bf_parse.specs.Ends.{begins, follow_sum, is_name, is_point, nothing}
+use Rattle.bf_parse.specs.StatementEnds.{is_check, first_constant, first_expression, first_aggregate}
 use Rattle.bf_parse.specs.Leads.{IsPart, IsSayable}
 use Rattle.bf_parse.specs.Expressions.{Counted, RefRule, NumberRule, narrow, widest, ref_to, Factor, number, negative, opposite, text, ref, parenthesis, Product, product, no_factor, Sum, sum, no_product}
 use Rattle.bf_parse.specs.Conditions.{SignedRule, LiteralRule}
@@ -89,7 +89,7 @@ set_can n =
     let rest : List Step = Say (word.Sign sign.Equal) ∷ Say (word.Text []) ∷ [] in
     (rest, (n, tree.literal (value.Text [])), (n, rest, refl, (behind, refl, (behind, [], tree.literal (value.Text []), refl, text_expression, (refl, refl)))))
 
-pub set_part : IsPart goes_sum is_name SetRule
+pub set_part : IsPart follow_sum is_name SetRule
 set_part = record {
   opens = λ s b h. ap (λ (z : List Step). begins is_name (said z)) h.2;
   starts = starts_name SetRule set_can;
@@ -98,19 +98,19 @@ set_part = record {
   closing = refl;
 }
 
-factor_opens : (n : ℕ) (s : List Step) (x : Counted) → Factor n s x → begins begins_expression (said s) ≡ true
-factor_opens n s x (number v h q) = ap (λ (z : List Word). begins begins_expression z) (number_said s v h)
-factor_opens n s x (negative v k p q) = ap (λ (z : List Step). begins begins_expression (said z)) p
-factor_opens n s x (opposite a m front f unnumbered p q) = ap (λ (z : List Step). begins begins_expression (said z)) p
-factor_opens n s x (text t p q) = ap (λ (z : List Step). begins begins_expression (said z)) p
-factor_opens n s x (ref r h q) = ap (λ (z : List Step). begins begins_expression (said z)) h.2
-factor_opens n s x (parenthesis inner h p) = ap (λ (z : List Step). begins begins_expression (said z)) p
+factor_opens : (n : ℕ) (s : List Step) (x : Counted) → Factor n s x → begins first_expression (said s) ≡ true
+factor_opens n s x (number v h q) = ap (λ (z : List Word). begins first_expression z) (number_said s v h)
+factor_opens n s x (negative v k p q) = ap (λ (z : List Step). begins first_expression (said z)) p
+factor_opens n s x (opposite a m front f unnumbered p q) = ap (λ (z : List Step). begins first_expression (said z)) p
+factor_opens n s x (text t p q) = ap (λ (z : List Step). begins first_expression (said z)) p
+factor_opens n s x (ref r h q) = ap (λ (z : List Step). begins first_expression (said z)) h.2
+factor_opens n s x (parenthesis inner h p) = ap (λ (z : List Step). begins first_expression (said z)) p
 
-product_opens : (n : ℕ) (s : List Step) (x : Counted) → Product n s x → begins begins_expression (said s) ≡ true
-product_opens n s x (product front back a f m p) = ap (λ (z : List Step). begins begins_expression (said z)) p ∙ begins-append begins_expression front back (factor_opens n front a f)
+product_opens : (n : ℕ) (s : List Step) (x : Counted) → Product n s x → begins first_expression (said s) ≡ true
+product_opens n s x (product front back a f m p) = ap (λ (z : List Step). begins first_expression (said z)) p ∙ begins-append first_expression front back (factor_opens n front a f)
 
-sum_opens : (n : ℕ) (s : List Step) (x : Counted) → Sum n s x → begins begins_expression (said s) ≡ true
-sum_opens n s x (sum front back a f m p) = ap (λ (z : List Step). begins begins_expression (said z)) p ∙ begins-append begins_expression front back (product_opens n front a f)
+sum_opens : (n : ℕ) (s : List Step) (x : Counted) → Sum n s x → begins first_expression (said s) ≡ true
+sum_opens n s x (sum front back a f m p) = ap (λ (z : List Step). begins first_expression (said z)) p ∙ begins-append first_expression front back (product_opens n front a f)
 
 number_starts : (v : ℕ) → v ≤ 2 ^ 63 → (next : List Step) × (said next ≡ word.Number v ∷ []) × NumberRule next v
 number_starts v real = elim (cases_lt v (2 ^ 63)) [
@@ -118,7 +118,7 @@ number_starts v real = elim (cases_lt v (2 ^ 63)) [
   | inr high ↦ (Limit Widest ∷ Say (word.Number v) ∷ [], refl, widest (omega arith) refl)
 ]
 
-expression_starts : (w : Word) → IsSayable w → begins_expression w ≡ true → (next : List Step) × (said next ≡ w ∷ []) × CanGoOn ExprRule next
+expression_starts : (w : Word) → IsSayable w → first_expression w ≡ true → (next : List Step) × (said next ≡ w ∷ []) × CanGoOn ExprRule next
 expression_starts (word.Keyword k) real e = absurd cc
 expression_starts (word.Name n) real e = (Say (word.Name n) ∷ [], refl, ([], tree.column (ref_to None n), (0, sum_of_factor (ref (ref_to None n) (n, [], refl, inl (refl, refl)) refl))))
 expression_starts (word.Number v) real e =
@@ -132,7 +132,7 @@ expression_starts (word.Sign sign.OpeningParenthesis) real e =
     (Limit (Node 1) ∷ Say (word.Sign sign.OpeningParenthesis) ∷ [], refl, (Say (word.Text []) ∷ Say (word.Sign sign.ClosingParenthesis) ∷ [], tree.literal (value.Text []), (1, sum_of_factor (parenthesis (Say (word.Text []) ∷ []) (sum_of_factor (text [] refl refl)) refl))))
 expression_starts (word.Sign other) real e = absurd cc
 
-pub expression_part : IsPart goes_sum begins_expression ExprRule
+pub expression_part : IsPart follow_sum first_expression ExprRule
 expression_part = record {
   opens = λ s b h. sum_opens 0 s (b, h.0) h.1;
   starts = expression_starts;
@@ -143,12 +143,12 @@ expression_part = record {
 
 -- ---- literals
 
-constant_opens : (s : List Step) (b : Value) → LiteralRule s b → begins begins_constant (said s) ≡ true
-constant_opens s b (literal.signed (literal.number v h q)) = ap (λ (z : List Word). begins begins_constant z) (number_said s v h)
-constant_opens s b (literal.signed (literal.negative v flag k p q)) = ap (λ (z : List Step). begins begins_constant (said z)) p
-constant_opens s b (literal.text t p q) = ap (λ (z : List Step). begins begins_constant (said z)) p
+constant_opens : (s : List Step) (b : Value) → LiteralRule s b → begins first_constant (said s) ≡ true
+constant_opens s b (literal.signed (literal.number v h q)) = ap (λ (z : List Word). begins first_constant z) (number_said s v h)
+constant_opens s b (literal.signed (literal.negative v flag k p q)) = ap (λ (z : List Step). begins first_constant (said z)) p
+constant_opens s b (literal.text t p q) = ap (λ (z : List Step). begins first_constant (said z)) p
 
-constant_starts : (w : Word) → IsSayable w → begins_constant w ≡ true → (next : List Step) × (said next ≡ w ∷ []) × CanGoOn LiteralRule next
+constant_starts : (w : Word) → IsSayable w → first_constant w ≡ true → (next : List Step) × (said next ≡ w ∷ []) × CanGoOn LiteralRule next
 constant_starts (word.Keyword k) real e = absurd cc
 constant_starts (word.Name n) real e = absurd cc
 constant_starts (word.Number v) real e =
@@ -158,7 +158,7 @@ constant_starts (word.Text t) real e = (Say (word.Text t) ∷ [], refl, ([], val
 constant_starts (word.Minus flag) real e = (Say (word.Minus flag) ∷ [], refl, (Say (word.Number 0) ∷ [], _, literal.signed (literal.negative 0 flag (omega arith) refl refl)))
 constant_starts (word.Sign s) real e = absurd cc
 
-pub constant_part : IsPart nothing begins_constant LiteralRule
+pub constant_part : IsPart nothing first_constant LiteralRule
 constant_part = record {
   opens = constant_opens;
   starts = constant_starts;
@@ -169,11 +169,11 @@ constant_part = record {
 
 -- ---- aggregates
 
-aggregate_opens : (s : List Step) (b : Aggregate (Expr Ref)) → AggregateRule s b → begins begins_aggregate (said s) ≡ true
-aggregate_opens s b (inl h) = ap (λ (z : List Step). begins begins_aggregate (said z)) h.1
-aggregate_opens s b (inr (inl h)) = ap (λ (z : List Step). begins begins_aggregate (said z)) h.1
-aggregate_opens s b (inr (inr (inl h))) = ap (λ (z : List Step). begins begins_aggregate (said z)) h.1
-aggregate_opens s b (inr (inr (inr h))) = ap (λ (z : List Step). begins begins_aggregate (said z)) h.1
+aggregate_opens : (s : List Step) (b : Aggregate (Expr Ref)) → AggregateRule s b → begins first_aggregate (said s) ≡ true
+aggregate_opens s b (inl h) = ap (λ (z : List Step). begins first_aggregate (said z)) h.1
+aggregate_opens s b (inr (inl h)) = ap (λ (z : List Step). begins first_aggregate (said z)) h.1
+aggregate_opens s b (inr (inr (inl h))) = ap (λ (z : List Step). begins first_aggregate (said z)) h.1
+aggregate_opens s b (inr (inr (inr h))) = ap (λ (z : List Step). begins first_aggregate (said z)) h.1
 
 enclosed_can : (make : Expr Ref → Aggregate (Expr Ref)) → Enclosed ExprRule (λ e. Return (make e)) (Say (word.Sign sign.OpeningParenthesis) ∷ Say (word.Text []) ∷ Say (word.Sign sign.ClosingParenthesis) ∷ []) (make (tree.literal (value.Text [])))
 enclosed_can make =
@@ -186,14 +186,14 @@ count_can =
     let rest : List Step = Say (word.Sign sign.OpeningParenthesis) ∷ Say (word.Sign sign.Star) ∷ Say (word.Sign sign.ClosingParenthesis) ∷ [] in
     (rest, aggregate.Count, inl (rest, refl, (behind, refl, (last, refl, ([], refl, (refl, refl))))))
 
-aggregate_starts : (w : Word) → IsSayable w → begins_aggregate w ≡ true → (next : List Step) × (said next ≡ w ∷ []) × CanGoOn AggregateRule next
+aggregate_starts : (w : Word) → IsSayable w → first_aggregate w ≡ true → (next : List Step) × (said next ≡ w ∷ []) × CanGoOn AggregateRule next
 aggregate_starts (word.Keyword keyword.Count) real e = (Say (word.Keyword keyword.Count) ∷ [], refl, count_can)
 aggregate_starts (word.Keyword keyword.Sum) real e = (Say (word.Keyword keyword.Sum) ∷ [], refl, (_, aggregate.Sum (tree.literal (value.Text [])), inr (inl (_, refl, enclosed_can (λ x. aggregate.Sum x)))))
 aggregate_starts (word.Keyword keyword.Min) real e = (Say (word.Keyword keyword.Min) ∷ [], refl, (_, aggregate.Min (tree.literal (value.Text [])), inr (inr (inl (_, refl, enclosed_can (λ x. aggregate.Min x))))))
 aggregate_starts (word.Keyword keyword.Max) real e = (Say (word.Keyword keyword.Max) ∷ [], refl, (_, aggregate.Max (tree.literal (value.Text [])), inr (inr (inr (_, refl, enclosed_can (λ x. aggregate.Max x))))))
 aggregate_starts other real e = absurd cc
 
-pub aggregate_part : IsPart nothing begins_aggregate AggregateRule
+pub aggregate_part : IsPart nothing first_aggregate AggregateRule
 aggregate_part = record {
   opens = aggregate_opens;
   starts = aggregate_starts;

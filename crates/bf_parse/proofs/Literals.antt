@@ -12,7 +12,7 @@ use Rattle.bf_parse.specs.Words as word
 use Rattle.bf_parse.specs.Words.{Word}
 use Rattle.bf_parse.specs.Steps.{Step, Say, Limit, Mark, Widest, said}
 use Rattle.bf_parse.specs.Reading.{CanGoOn, first, Reading, Read, Over, Stuck, Lost, FitsAs, Fits}
-use Rattle.bf_parse.specs.Ends.{begins, nothing, begins_literal, is_opposite}
+use Rattle.bf_parse.specs.Ends.{begins, nothing, first_literal, is_opposite}
 use Rattle.bf_parse.specs.Starts.{IsFront}
 use Rattle.bf_parse.specs.Expressions.{NumberRule, narrow, widest, begins_with_number}
 use Rattle.bf_parse.specs.Conditions.{SignedRule, number, negative, LiteralRule, signed, text}
@@ -148,7 +148,7 @@ signed_begun = record { it = signed_begins }
 signed_stop : (ws : List Word) (k : ℕ) → length ws ≡ k → begins begins_signed ws ≡ false → Fits nothing SignedRule ws (Stuck k)
 signed_stop ws k e absent = other_stop k e signed_begun signed_can absent
 
-not_signed : (ws : List Word) → begins begins_literal ws ≡ false → begins is_opposite ws ≡ false → begins begins_signed ws ≡ false
+not_signed : (ws : List Word) → begins first_literal ws ≡ false → begins is_opposite ws ≡ false → begins begins_signed ws ≡ false
 not_signed [] p q = refl
 not_signed (word.Keyword k ∷ ws) p q = refl
 not_signed (word.Name k ∷ ws) p q = refl
@@ -161,7 +161,7 @@ not_signed (word.Sign k ∷ ws) p q = refl
 pub signed_text : (t : List ℕ) (ws rest : List Word) (k : ℕ) → length ws ≡ k → ws ≡ word.Text t ∷ rest → Fits nothing SignedRule ws (Stuck k)
 signed_text t ws rest k e there = signed_stop ws k e (ap (λ (z : List Word). begins begins_signed z) there)
 
-pub signed_else : (ws : List Word) (k : ℕ) → length ws ≡ k → begins begins_literal ws ≡ false → begins is_opposite ws ≡ false → Fits nothing SignedRule ws (Stuck k)
+pub signed_else : (ws : List Word) (k : ℕ) → length ws ≡ k → begins first_literal ws ≡ false → begins is_opposite ws ≡ false → Fits nothing SignedRule ws (Stuck k)
 signed_else ws k e no_literal no_minus = signed_stop ws k e (not_signed ws no_literal no_minus)
 
 -- ---- literals
@@ -194,7 +194,7 @@ no_text ws (front.Number n rest) h not t e = let d : Some (word.Number n) ≡ So
 no_text ws (front.Negative n rest) h not t e = let d : Some (word.Minus true) ≡ Some (word.Text t) = ap first (sym h.it.0) ∙ e in cc
 no_text ws (front.Minus rest) h not t e = let d : Some (word.Minus false) ≡ Some (word.Text t) = ap first (sym h.it.0) ∙ e in cc
 no_text ws (front.Text bytes rest) h not t e = not bytes rest refl
-no_text ws front.Other h not t e = let d : true ≡ false = sym (begins_first begins_literal ws (word.Text t) (sym e)) ∙ h.it.0 in cc
+no_text ws front.Other h not t e = let d : true ≡ false = sym (begins_first first_literal ws (word.Text t) (sym e)) ∙ h.it.0 in cc
 
 -- where no text stands, a literal is a number
 pub literal_signed : {ws : List Word} {f : Front} {r : Reading Value} → IsFront ws f → ((bytes : Bor (List ℕ)) (rest : Cursor) → f ≡ front.Text bytes rest → ⊥) → Fits nothing SignedRule ws r → Fits nothing LiteralRule ws r
@@ -221,7 +221,7 @@ literal_begins s b (text t p q) = ap (λ (z : List Step). begins begins_value (s
 pub literal_begun : Begun begins_value LiteralRule
 literal_begun = record { it = literal_begins }
 
-pub not_value : (ws : List Word) → begins begins_literal ws ≡ false → begins is_opposite ws ≡ false → begins begins_value ws ≡ false
+pub not_value : (ws : List Word) → begins first_literal ws ≡ false → begins is_opposite ws ≡ false → begins begins_value ws ≡ false
 not_value [] p q = refl
 not_value (word.Keyword k ∷ ws) p q = refl
 not_value (word.Name k ∷ ws) p q = refl
@@ -234,20 +234,20 @@ not_value (word.Sign k ∷ ws) p q = refl
 -- ---- literals whose minus has its number behind it, as expressions have them
 
 abbrev pub Tight : List Step → Value → Type 0
-Tight s v = LiteralRule s v × (begins begins_literal (said s) ≡ true)
+Tight s v = LiteralRule s v × (begins first_literal (said s) ≡ true)
 
-tight_first : (s : List Step) (b : Value) (back ws : List Word) → LiteralRule s b → first (said s ++ back) ≡ first ws → begins begins_literal ws ≡ true → begins begins_literal (said s) ≡ true
-tight_first s b back ws (signed (number v h q)) same is = ap (λ (z : List Word). begins begins_literal z) (number_said s v h)
+tight_first : (s : List Step) (b : Value) (back ws : List Word) → LiteralRule s b → first (said s ++ back) ≡ first ws → begins first_literal ws ≡ true → begins first_literal (said s) ≡ true
+tight_first s b back ws (signed (number v h q)) same is = ap (λ (z : List Word). begins first_literal z) (number_said s v h)
 tight_first s b back ws (signed (negative v flag k p q)) same is =
-    ap (λ (z : List Step). begins begins_literal (said z)) p ∙ sym (begins_first begins_literal ws (word.Minus flag) (ap (λ (z : List Step). first (said z ++ back)) (sym p) ∙ same)) ∙ is
-tight_first s b back ws (text t p q) same is = ap (λ (z : List Step). begins begins_literal (said z)) p
+    ap (λ (z : List Step). begins first_literal (said z)) p ∙ sym (begins_first first_literal ws (word.Minus flag) (ap (λ (z : List Step). first (said z ++ back)) (sym p) ∙ same)) ∙ is
+tight_first s b back ws (text t p q) same is = ap (λ (z : List Step). begins first_literal (said z)) p
 
-behind_limit : (m : Mark) (s : List Step) (b : Value) → LiteralRule (Limit m ∷ s) b → begins begins_literal (said s) ≡ true
-behind_limit m s b (signed (number v h q)) = ap (λ (z : List Word). begins begins_literal z) (number_said (Limit m ∷ s) v h)
+behind_limit : (m : Mark) (s : List Step) (b : Value) → LiteralRule (Limit m ∷ s) b → begins first_literal (said s) ≡ true
+behind_limit m s b (signed (number v h q)) = ap (λ (z : List Word). begins first_literal z) (number_said (Limit m ∷ s) v h)
 behind_limit m s b (signed (negative v flag k p q)) = absurd cc
 behind_limit m s b (text t p q) = absurd cc
 
-tight_can : (used : List Step) (ws rest : List Word) → ws ≡ said used ++ rest → begins begins_literal ws ≡ true → CanGoOn LiteralRule used → CanGoOn Tight used
+tight_can : (used : List Step) (ws rest : List Word) → ws ≡ said used ++ rest → begins first_literal ws ≡ true → CanGoOn LiteralRule used → CanGoOn Tight used
 tight_can [] ws rest e is can = (Say (word.Text []) ∷ [], Text [], (text [] refl refl, refl))
 tight_can (Say w ∷ used) ws rest e is can = (can.0, can.1, (can.2, tight_first (Say w ∷ (used ++ can.0)) can.1 [] ws can.2 (ap first (sym e)) is))
 tight_can (Limit m ∷ used) ws rest e is can = (can.0, can.1, (can.2, behind_limit m (used ++ can.0) can.1 can.2))
@@ -257,7 +257,7 @@ first_over used m next v rest more ws split here =
     ap first (append-nil (said ((used ++ Limit m ∷ next) ++ more)) ∙ said-append (used ++ Limit m ∷ next) more ∙ ap (λ (z : List Word). z ++ said more) (said-append used (Limit m ∷ next) ∙ ap (λ (z : List Word). said used ++ z) here))
     ∙ first_token (said used) v (said more) rest ∙ ap first (sym split)
 
-tight_as : (ws : List Word) (r : Reading Value) → begins begins_literal ws ≡ true → FitsAs nothing LiteralRule ws r → FitsAs nothing Tight ws r
+tight_as : (ws : List Word) (r : Reading Value) → begins first_literal ws ≡ true → FitsAs nothing LiteralRule ws r → FitsAs nothing Tight ws r
 tight_as ws (Read a rest) is f = record {
   used = f.used;
   split = f.split;
@@ -290,5 +290,5 @@ tight_as ws (Over kind left) is f = record {
 }
 tight_as ws Lost is f = tt
 
-pub tight : {ws : List Word} {r : Reading Value} → begins begins_literal ws ≡ true → Fits nothing LiteralRule ws r → Fits nothing Tight ws r
+pub tight : {ws : List Word} {r : Reading Value} → begins first_literal ws ≡ true → Fits nothing LiteralRule ws r → Fits nothing Tight ws r
 tight {ws = ws} {r = r} is f = record { it = tight_as ws r is f.it }

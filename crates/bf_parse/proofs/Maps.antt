@@ -1,7 +1,7 @@
 -- Readings of a rule whose values are made of those of another, and of rules that spell the same.
 use Rattle.std.proofs.Common.{◌≡◌, Bool, false, List, [], ◌∷◌, ◌++◌, Some, refl, sym, ap, subst, ◌∙◌, append_assoc}
-use Rattle.bf_parse.specs.declared.error.Stop.{Stop}
-use Rattle.bf_parse.specs.declared.error.Stop.TheVariants as stop
+use Rattle.bf_parse.specs.declared.error.ReadStop.{ReadStop}
+use Rattle.bf_parse.specs.declared.error.ReadStop.TheVariants as stop
 use Rattle.bf_lex.specs.declared.sign.Sign.TheVariants as sign
 use Rattle.bf_parse.specs.Words.{Word, Sign}
 use Rattle.bf_parse.specs.Steps.{Step, Say, said}
@@ -34,7 +34,7 @@ map_read w f G H ws a rest m h = record {
       (o.0, k.2 ∙ ap f o.1);
 }
 
-map_stuck : {A B : Type 0} (w : Word → Bool) (f : A → B) (G : List Step → A → Type 0) (H : List Step → B → Type 0) (ws : List Word) (e : Stop) → Maps f G H → FitsAs w G ws (stopped e) → FitsAs w H ws (stopped e)
+map_stuck : {A B : Type 0} (w : Word → Bool) (f : A → B) (G : List Step → A → Type 0) (H : List Step → B → Type 0) (ws : List Word) (e : ReadStop) → Maps f G H → FitsAs w G ws (stopped e) → FitsAs w H ws (stopped e)
 map_stuck w f G H ws (stop.Syntax left) m h = record {
   used = h.used;
   rest = h.rest;
@@ -63,7 +63,7 @@ map_stuck w f G H ws stop.Memory m h = tt
 pub map_go : {A B : Type 0} {w : Word → Bool} {f : A → B} {G : List Step → A → Type 0} {H : List Step → B → Type 0} {ws rest : List Word} {a : A} → Maps f G H → Fits w G ws (Read a rest) → Fits w H ws (Read (f a) rest)
 map_go {w = w} {f = f} {G = G} {H = H} {ws = ws} {rest = rest} {a = a} m h = record { it = map_read w f G H ws a rest m h.it }
 
-pub map_stop : {A B : Type 0} {w : Word → Bool} {f : A → B} {G : List Step → A → Type 0} {H : List Step → B → Type 0} {ws : List Word} (e : Stop) → Maps f G H → Fits w G ws (stopped e) → Fits w H ws (stopped e)
+pub map_stop : {A B : Type 0} {w : Word → Bool} {f : A → B} {G : List Step → A → Type 0} {H : List Step → B → Type 0} {ws : List Word} (e : ReadStop) → Maps f G H → Fits w G ws (stopped e) → Fits w H ws (stopped e)
 map_stop {w = w} {f = f} {G = G} {H = H} {ws = ws} e m h = record { it = map_stuck w f G H ws e m h.it }
 
 -- ---- rules that spell the same
@@ -149,5 +149,5 @@ enclosed_from G H s b h =
 pub enclosed_go : {A B : Type 0} {w : Word → Bool} {G : List Step → A → Type 0} {H : A → List Step → B → Type 0} {ws mid : List Word} {a : A} {r : Reading B} → Fits nothing (Enclosed G (λ x. Return x)) ws (Read a mid) → Fits w (H a) mid r → Fits w (Enclosed G H) ws r
 enclosed_go {G = G} {H = H} f h = same_rule (enclosed_to G H) (enclosed_from G H) (then_go any_passed f h)
 
-pub enclosed_stop : {A B : Type 0} {w : Word → Bool} {G : List Step → A → Type 0} {H : A → List Step → B → Type 0} {ws : List Word} (e : Stop) → ((a : A) → Can (H a)) → Fits nothing (Enclosed G (λ x. Return x)) ws (stopped e) → Fits w (Enclosed G H) ws (stopped e)
+pub enclosed_stop : {A B : Type 0} {w : Word → Bool} {G : List Step → A → Type 0} {H : A → List Step → B → Type 0} {ws : List Word} (e : ReadStop) → ((a : A) → Can (H a)) → Fits nothing (Enclosed G (λ x. Return x)) ws (stopped e) → Fits w (Enclosed G H) ws (stopped e)
 enclosed_stop {G = G} {H = H} e can f = same_rule (enclosed_to G H) (enclosed_from G H) (then_stop e any_passed can f)

@@ -3,8 +3,8 @@ use Rattle.std.proofs.Common.{◌≡◌, ℕ, suc, Bool, true, false, List, [], 
 use Rattle.std.specs.Result.{IsErrAnd}
 use Rattle.bf_lex.specs.declared.fault.ScriptKind.{ScriptKind}
 use Rattle.bf_lex.specs.declared.sign.Sign.TheVariants.{Comma}
-use Rattle.bf_parse.specs.declared.error.Stop.{Stop}
-use Rattle.bf_parse.specs.declared.error.Stop.TheVariants as stop
+use Rattle.bf_parse.specs.declared.error.ReadStop.{ReadStop}
+use Rattle.bf_parse.specs.declared.error.ReadStop.TheVariants as stop
 use Rattle.bf_parse.specs.Words.{Word, Sign}
 use Rattle.bf_parse.specs.Steps.{Step, Mark, fault_at}
 use Rattle.bf_parse.specs.Rules.{Return, After, Named, Then, Marked, Either, Others}
@@ -61,10 +61,10 @@ return_fits {w = w} {x = x} {ws = ws} = record { it = on.fits_return w x ws }
 pub then_go : {A B : Type 0} {v w : Word → Bool} {G : List Step → A → Type 0} {H : A → List Step → B → Type 0} {ws mid : List Word} {a : A} {r : Reading B} → Passed v w H → Fits v G ws (Read a mid) → Fits w (H a) mid r → Fits w (Then G H) ws r
 then_go {v = v} {w = w} {G = G} {H = H} {ws = ws} {mid = mid} {a = a} {r = r} p f h = record { it = on.then_right v w G H ws mid a r p.it f.it h.it }
 
-pub then_stop : {A B : Type 0} {v w : Word → Bool} {G : List Step → A → Type 0} {H : A → List Step → B → Type 0} {ws : List Word} (e : Stop) → Passed v w H → ((a : A) → Can (H a)) → Fits v G ws (stopped e) → Fits w (Then G H) ws (stopped e)
+pub then_stop : {A B : Type 0} {v w : Word → Bool} {G : List Step → A → Type 0} {H : A → List Step → B → Type 0} {ws : List Word} (e : ReadStop) → Passed v w H → ((a : A) → Can (H a)) → Fits v G ws (stopped e) → Fits w (Then G H) ws (stopped e)
 then_stop {v = v} {w = w} {G = G} {H = H} {ws = ws} e p can f = record { it = on.then_err v w G H ws e p.it (λ a. (can a).it) f.it }
 
-pub lost : {A : Type 0} {w : Word → Bool} {G : List Step → A → Type 0} {ws : List Word} (e : Stop) → e ≡ stop.Memory → Fits w G ws (stopped e)
+pub lost : {A : Type 0} {w : Word → Bool} {G : List Step → A → Type 0} {ws : List Word} (e : ReadStop) → e ≡ stop.Memory → Fits w G ws (stopped e)
 lost e h = rw h (record { it = tt })
 
 -- ---- words
@@ -72,7 +72,7 @@ lost e h = rw h (record { it = tt })
 pub after_go : {A : Type 0} {w : Word → Bool} {t : Word} {G : List Step → A → Type 0} {ws rest : List Word} {r : Reading A} → IsExpected t ws (Ok rest) → Fits w G rest r → Fits w (After t G) ws r
 after_go e f = record { it = on.after_read _ _ _ _ _ _ e.it f.it }
 
-pub after_stop : {A : Type 0} {w : Word → Bool} {t : Word} {G : List Step → A → Type 0} {ws : List Word} {e : Stop} → IsExpected t ws (Err e) → Can G → Fits w (After t G) ws (stopped e)
+pub after_stop : {A : Type 0} {w : Word → Bool} {t : Word} {G : List Step → A → Type 0} {ws : List Word} {e : ReadStop} → IsExpected t ws (Err e) → Can G → Fits w (After t G) ws (stopped e)
 after_stop {w = w} {t = t} {G = G} {ws = ws} {e = e} h can = record { it = on.after_err w t G ws e can.it h.it }
 
 pub behind_go : {A : Type 0} {w : Word → Bool} {t : Word} {G : List Step → A → Type 0} {ws rest : List Word} {r : Reading A} → IsBehind t ws (Some rest) → Fits w G rest r → Fits w (After t G) ws r
@@ -81,7 +81,7 @@ behind_go e f = record { it = on.after_read _ _ _ _ _ _ e.it f.it }
 pub named_go : {A : Type 0} {w : Word → Bool} {n : List ℕ} {G : List ℕ → List Step → A → Type 0} {ws rest : List Word} {r : Reading A} → IsNamed ws (Ok (n, rest)) → Fits w (G n) rest r → Fits w (Named G) ws r
 named_go {w = w} {n = n} {G = G} {ws = ws} {rest = rest} {r = r} e f = record { it = on.named_read w n G ws rest r e.it f.it }
 
-pub named_stop : {A : Type 0} {w : Word → Bool} {G : List ℕ → List Step → A → Type 0} {ws : List Word} {e : Stop} → IsNamed ws (Err e) → ((n : List ℕ) → Can (G n)) → Fits w (Named G) ws (stopped e)
+pub named_stop : {A : Type 0} {w : Word → Bool} {G : List ℕ → List Step → A → Type 0} {ws : List Word} {e : ReadStop} → IsNamed ws (Err e) → ((n : List ℕ) → Can (G n)) → Fits w (Named G) ws (stopped e)
 named_stop {w = w} {G = G} {ws = ws} {e = e} h can = record { it = on.named_err w G ws e (can []).it h.it }
 
 -- ---- choices
@@ -117,10 +117,10 @@ others_end {w = w} {G = G} {n = n} {acc = acc} {ws = ws} h =
     record { it = lists.others_as w G n acc ws (Read acc ws) (lists.right_here w (After (Sign Comma) (lists.CommaOthers G n acc)) (Return acc) ws (Read acc ws) (lists.after_not_here w (Sign Comma) (lists.CommaOthers G n acc) ws h.it) (on.fits_return w acc ws)) }
 
 -- what a `?` passes on
-pub exit : {X A : Type 0} {w : Word → Bool} {G : List Step → A → Type 0} {ws : List Word} (view : X → Reading A) (res : Result X Stop) (e : Stop) → IsErrAnd res (λ x. x ≡ e) → Fits w G ws (stopped e) → Fits w G ws (outcome view res)
+pub exit : {X A : Type 0} {w : Word → Bool} {G : List Step → A → Type 0} {ws : List Word} (view : X → Reading A) (res : Result X ReadStop) (e : ReadStop) → IsErrAnd res (λ x. x ≡ e) → Fits w G ws (stopped e) → Fits w G ws (outcome view res)
 exit view (Ok x) e h f = absurd h
 exit view (Err x) e h f = rw h f
 
 -- why it stopped, as a call told
-pub told : {A : Type 0} {w : Word → Bool} {G : List Step → A → Type 0} {ws : List Word} (e d : Stop) → e ≡ d → Fits w G ws (stopped d) → Fits w G ws (stopped e)
-told {w = w} {G = G} {ws = ws} e d same f = subst (λ (x : Stop). Fits w G ws (stopped x)) (sym same) f
+pub told : {A : Type 0} {w : Word → Bool} {G : List Step → A → Type 0} {ws : List Word} (e d : ReadStop) → e ≡ d → Fits w G ws (stopped d) → Fits w G ws (stopped e)
+told {w = w} {G = G} {ws = ws} e d same f = subst (λ (x : ReadStop). Fits w G ws (stopped x)) (sym same) f

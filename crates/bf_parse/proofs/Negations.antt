@@ -6,13 +6,13 @@ use Rattle.bf_tree.specs.Trees as tree
 use Rattle.bf_lex.specs.declared.fault.ScriptKind.TheVariants.{TooDeep}
 use Rattle.bf_lex.specs.declared.keyword.Keyword.TheVariants as keyword
 use Rattle.bf_lex.specs.declared.sign.Sign.TheVariants as sign
-use Rattle.bf_parse.specs.declared.error.Stop.{Stop}
+use Rattle.bf_parse.specs.declared.error.ReadStop.{ReadStop}
 use Rattle.bf_parse.specs.Words.{Word, Keyword, Sign}
 use Rattle.bf_parse.specs.Steps.{Step, Say, Limit, Node, said}
 use Rattle.bf_parse.specs.Rules.{Return, After, Marked, Then, Either}
 use Rattle.bf_parse.specs.Reading.{Reading, Read, Over, Fits}
 use Rattle.bf_parse.specs.Outcome.{IsBehind, IsExpected, stopped}
-use Rattle.bf_parse.specs.Ends.{begins, is_point, goes_disjunction}
+use Rattle.bf_parse.specs.Ends.{begins, is_point, follow_disjunction}
 use Rattle.bf_parse.specs.Conditions.{CountedCond, OperandRule, compare_sign, Negation, not, parenthesis, comparison, range, Disjunction}
 use Rattle.bf_parse.specs.Comparisons.{Tested, TestRule}
 use Rattle.bf_parse.proofs.Fitting.{fits_by}
@@ -120,7 +120,7 @@ test_first k h f = negation_as (right_here (marked_not_here (after_not_here k)) 
 pub not_deep : {n : ℕ} {ws rest : List Word} (k : ℕ) → length ws ≡ k → 256 ≤ n → IsBehind (Keyword keyword.Not) ws (Some rest) → Fits is_point (Negation n) ws (Over TooDeep k)
 not_deep {n = n} k e high h = not_first h (node_deep k e high h (then_can (negation_can {n = n + 1}) (λ x. return_can)))
 
-pub not_stop : {n m : ℕ} {ws rest : List Word} (e : Stop) → m ≡ n + 1 → n < 256 → IsBehind (Keyword keyword.Not) ws (Some rest) → Fits is_point (Negation m) rest (stopped e) → Fits is_point (Negation n) ws (stopped e)
+pub not_stop : {n m : ℕ} {ws rest : List Word} (e : ReadStop) → m ≡ n + 1 → n < 256 → IsBehind (Keyword keyword.Not) ws (Some rest) → Fits is_point (Negation m) rest (stopped e) → Fits is_point (Negation n) ws (stopped e)
 not_stop {rest = rest} e same low h f = not_first h (node_go low h (then_stop e (return_passed (λ t p. p)) (λ x. return_can) (subst (λ (k : ℕ). Fits is_point (Negation k) rest (stopped e)) same f)))
 
 pub not_read : {n m k : ℕ} {ws rest mid : List Word} {a b : tree.Cond Ref} → m ≡ n + 1 → n < 256 → IsBehind (Keyword keyword.Not) ws (Some rest) → Fits is_point (Negation m) rest (Read (a, k) mid) → b ≡ tree.opposite a → Fits is_point (Negation n) ws (Read (b, k) mid)
@@ -133,16 +133,16 @@ not_read {n = n} {k = k} {ws = ws} {rest = rest} {mid = mid} {a = a} same low h 
 pub group_deep : {n : ℕ} {ws rest : List Word} (k : ℕ) → length ws ≡ k → 256 ≤ n → IsBehind (Keyword keyword.Not) ws None → IsBehind (Sign sign.OpeningParenthesis) ws (Some rest) → Fits is_point (Negation n) ws (Over TooDeep k)
 group_deep {n = n} k e high no_not h = group_first no_not h (node_deep k e high h (then_can (disjunction_can {n = n + 1}) (λ x. after_can return_can)))
 
-inside : (n : ℕ) {m : ℕ} {ws : List Word} {r : Reading CountedCond} → m ≡ n + 1 → Fits goes_disjunction (Disjunction m) ws r → Fits goes_disjunction (Disjunction (n + 1)) ws r
-inside n {ws = ws} {r = r} same f = subst (λ (k : ℕ). Fits goes_disjunction (Disjunction k) ws r) same f
+inside : (n : ℕ) {m : ℕ} {ws : List Word} {r : Reading CountedCond} → m ≡ n + 1 → Fits follow_disjunction (Disjunction m) ws r → Fits follow_disjunction (Disjunction (n + 1)) ws r
+inside n {ws = ws} {r = r} same f = subst (λ (k : ℕ). Fits follow_disjunction (Disjunction k) ws r) same f
 
-pub group_stop : {n m : ℕ} {ws rest : List Word} (e : Stop) → m ≡ n + 1 → n < 256 → IsBehind (Keyword keyword.Not) ws None → IsBehind (Sign sign.OpeningParenthesis) ws (Some rest) → Fits goes_disjunction (Disjunction m) rest (stopped e) → Fits is_point (Negation n) ws (stopped e)
+pub group_stop : {n m : ℕ} {ws rest : List Word} (e : ReadStop) → m ≡ n + 1 → n < 256 → IsBehind (Keyword keyword.Not) ws None → IsBehind (Sign sign.OpeningParenthesis) ws (Some rest) → Fits follow_disjunction (Disjunction m) rest (stopped e) → Fits is_point (Negation n) ws (stopped e)
 group_stop e same low no_not h f = group_first no_not h (node_go low h (then_stop e (after_passed refl) (λ x. after_can return_can) (inside _ same f)))
 
-pub group_open : {n m : ℕ} {ws rest mid : List Word} {x : CountedCond} {e : Stop} → m ≡ n + 1 → n < 256 → IsBehind (Keyword keyword.Not) ws None → IsBehind (Sign sign.OpeningParenthesis) ws (Some rest) → Fits goes_disjunction (Disjunction m) rest (Read x mid)
+pub group_open : {n m : ℕ} {ws rest mid : List Word} {x : CountedCond} {e : ReadStop} → m ≡ n + 1 → n < 256 → IsBehind (Keyword keyword.Not) ws None → IsBehind (Sign sign.OpeningParenthesis) ws (Some rest) → Fits follow_disjunction (Disjunction m) rest (Read x mid)
     → IsExpected (Sign sign.ClosingParenthesis) mid (Err e) → Fits is_point (Negation n) ws (stopped e)
 group_open same low no_not h f closing = group_first no_not h (node_go low h (then_go (after_passed refl) (inside _ same f) (after_stop closing return_can)))
 
-pub group_read : {n m : ℕ} {ws rest mid last : List Word} {x : CountedCond} → m ≡ n + 1 → n < 256 → IsBehind (Keyword keyword.Not) ws None → IsBehind (Sign sign.OpeningParenthesis) ws (Some rest) → Fits goes_disjunction (Disjunction m) rest (Read x mid)
+pub group_read : {n m : ℕ} {ws rest mid last : List Word} {x : CountedCond} → m ≡ n + 1 → n < 256 → IsBehind (Keyword keyword.Not) ws None → IsBehind (Sign sign.OpeningParenthesis) ws (Some rest) → Fits follow_disjunction (Disjunction m) rest (Read x mid)
     → IsExpected (Sign sign.ClosingParenthesis) mid (Ok last) → Fits is_point (Negation n) ws (Read x last)
 group_read same low no_not h f closing = group_first no_not h (node_go low h (then_go (after_passed refl) (inside _ same f) (after_go closing return_fits)))

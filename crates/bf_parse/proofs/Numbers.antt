@@ -10,7 +10,7 @@ use Rattle.bf_parse.specs.Words.{Word}
 use Rattle.bf_parse.specs.Words as word
 use Rattle.bf_parse.specs.Steps.{Step, Say, Limit, Widest, said}
 use Rattle.bf_parse.specs.Reading.{Read, Over, Stuck, Fits}
-use Rattle.bf_parse.specs.Ends.{begins, nothing, begins_literal}
+use Rattle.bf_parse.specs.Ends.{begins, nothing, first_literal}
 use Rattle.bf_parse.specs.Starts.{IsFront}
 use Rattle.bf_parse.specs.Expressions.{NumberRule, narrow, widest, is_number}
 use Rattle.bf_parse.specs.Conditions.{SignedRule, number, negative}
@@ -74,7 +74,7 @@ number_begun = record { it = λ s b h. ap (λ (z : List Word). begins is_number 
 pub number_can : Can NumberRule
 number_can = record { it = (Say (word.Number 0) ∷ [], 0, narrow (omega arith) refl) }
 
-no_literal : (ws : List Word) → begins begins_literal ws ≡ false → begins is_number ws ≡ false
+no_literal : (ws : List Word) → begins first_literal ws ≡ false → begins is_number ws ≡ false
 no_literal [] e = refl
 no_literal (word.Keyword k ∷ ws) e = refl
 no_literal (word.Name n ∷ ws) e = refl

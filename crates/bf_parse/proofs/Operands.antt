@@ -7,7 +7,7 @@ use Rattle.bf_tree.specs.Trees as tree
 use Rattle.bf_lex.specs.declared.fault.ScriptKind.TheVariants.{TooDeep}
 use Rattle.bf_lex.specs.declared.sign.Sign.TheVariants as sign
 use Rattle.bf_parse.specs.declared.cursor.Cursor.{Cursor}
-use Rattle.bf_parse.specs.declared.error.Stop.{Stop}
+use Rattle.bf_parse.specs.declared.error.ReadStop.{ReadStop}
 use Rattle.bf_parse.specs.declared.start.Start.TheVariants as start
 use Rattle.bf_parse.specs.Words.{Word, Minus, Sign}
 use Rattle.bf_parse.specs.Words as word
@@ -15,7 +15,7 @@ use Rattle.bf_parse.specs.Steps.{Say}
 use Rattle.bf_parse.specs.Reading.{Reading, Read, Over, Fits}
 use Rattle.bf_parse.specs.Outcome.{IsBehind, IsExpected, stopped}
 use Rattle.bf_parse.specs.Cursors.{words}
-use Rattle.bf_parse.specs.Ends.{nothing, is_point, goes_sum}
+use Rattle.bf_parse.specs.Ends.{nothing, is_point, follow_sum}
 use Rattle.bf_parse.specs.Starts.{IsStart}
 use Rattle.bf_parse.specs.Expressions.{Counted, RefRule, Factor, text, Sum}
 use Rattle.bf_parse.specs.Conditions.{LiteralRule}
@@ -26,13 +26,13 @@ use Rattle.bf_parse.proofs.Additions.{factor_headed}
 use Rattle.bf_parse.proofs.Literals.{tight}
 use Rattle.bf_parse.proofs.Numbered.{Numbered, unnumbered}
 
-pub literal_stop : {n : ℕ} {ws : List Word} (e : Stop) → IsStart ws start.Literal → Fits nothing LiteralRule ws (stopped e) → Fits is_point (Factor n) ws (stopped e)
+pub literal_stop : {n : ℕ} {ws : List Word} (e : ReadStop) → IsStart ws start.Literal → Fits nothing LiteralRule ws (stopped e) → Fits is_point (Factor n) ws (stopped e)
 literal_stop e h f = literal_first h (then_stop e (return_passed (λ t p. refl)) (λ v. return_can) (tight h.it f))
 
 pub literal_read : {n : ℕ} {ws rest : List Word} {v : Value} → IsStart ws start.Literal → Fits nothing LiteralRule ws (Read v rest) → Fits is_point (Factor n) ws (Read (tree.literal v, n) rest)
 literal_read h f = literal_first h (then_go (return_passed (λ t p. refl)) (tight h.it f) return_fits)
 
-pub ref_stop : {n : ℕ} {ws : List Word} (e : Stop) → IsStart ws start.Other → Fits is_point RefRule ws (stopped e) → Fits is_point (Factor n) ws (stopped e)
+pub ref_stop : {n : ℕ} {ws : List Word} (e : ReadStop) → IsStart ws start.Other → Fits is_point RefRule ws (stopped e) → Fits is_point (Factor n) ws (stopped e)
 ref_stop e h f = ref_first h (then_stop e (return_passed (λ t p. p)) (λ v. return_can) f)
 
 pub ref_read : {n : ℕ} {ws rest : List Word} {v : Ref} → IsStart ws start.Other → Fits is_point RefRule ws (Read v rest) → Fits is_point (Factor n) ws (Read (tree.column v, n) rest)
@@ -56,7 +56,7 @@ parenthesis_stands h = record { it = h.it }
 pub opposite_deep : {n : ℕ} {ws : List Word} {behind : Cursor} (k : ℕ) → length ws ≡ k → 256 ≤ n → IsStart ws (start.Opposite behind) → Fits is_point (Factor n) ws (Over TooDeep k)
 opposite_deep {n = n} k e high h = opposite_first h (node_deep k e high (minus_stands h) (then_can (unnumbered_can {n = n + 1}) (λ x. return_can)))
 
-pub opposite_stop : {n m : ℕ} {ws : List Word} {behind : Cursor} (e : Stop) → m ≡ n + 1 → n < 256 → IsStart ws (start.Opposite behind) → Fits is_point (Factor m) (words behind) (stopped e) → Fits is_point (Factor n) ws (stopped e)
+pub opposite_stop : {n m : ℕ} {ws : List Word} {behind : Cursor} (e : ReadStop) → m ≡ n + 1 → n < 256 → IsStart ws (start.Opposite behind) → Fits is_point (Factor m) (words behind) (stopped e) → Fits is_point (Factor n) ws (stopped e)
 opposite_stop e same low h f = opposite_first h (node_go low (minus_stands h) (then_stop e (return_passed (λ t p. p)) (λ x. return_can) (behind_minus _ same h f)))
 
 pub opposite_read : {n m k : ℕ} {ws rest : List Word} {behind : Cursor} {a b : tree.Expr Ref} → m ≡ n + 1 → n < 256 → IsStart ws (start.Opposite behind) → Fits is_point (Factor m) (words behind) (Read (a, k) rest) → b ≡ tree.negated a → Fits is_point (Factor n) ws (Read (b, k) rest)
@@ -66,16 +66,16 @@ opposite_read {n = n} {k = k} {ws = ws} {rest = rest} same low h f value =
 pub parenthesis_deep : {n : ℕ} {ws : List Word} {behind : Cursor} (k : ℕ) → length ws ≡ k → 256 ≤ n → IsStart ws (start.Parenthesis behind) → Fits is_point (Factor n) ws (Over TooDeep k)
 parenthesis_deep {n = n} k e high h = parenthesis_first h (node_deep k e high (parenthesis_stands h) (then_can (sum_can {n = n + 1}) (λ x. after_can return_can)))
 
-inside : (n : ℕ) {m : ℕ} {ws : List Word} {r : Reading Counted} → m ≡ n + 1 → Fits goes_sum (Sum m) ws r → Fits goes_sum (Sum (n + 1)) ws r
-inside n {ws = ws} {r = r} same f = subst (λ (k : ℕ). Fits goes_sum (Sum k) ws r) same f
+inside : (n : ℕ) {m : ℕ} {ws : List Word} {r : Reading Counted} → m ≡ n + 1 → Fits follow_sum (Sum m) ws r → Fits follow_sum (Sum (n + 1)) ws r
+inside n {ws = ws} {r = r} same f = subst (λ (k : ℕ). Fits follow_sum (Sum k) ws r) same f
 
-pub parenthesis_stop : {n m : ℕ} {ws : List Word} {behind : Cursor} (e : Stop) → m ≡ n + 1 → n < 256 → IsStart ws (start.Parenthesis behind) → Fits goes_sum (Sum m) (words behind) (stopped e) → Fits is_point (Factor n) ws (stopped e)
+pub parenthesis_stop : {n m : ℕ} {ws : List Word} {behind : Cursor} (e : ReadStop) → m ≡ n + 1 → n < 256 → IsStart ws (start.Parenthesis behind) → Fits follow_sum (Sum m) (words behind) (stopped e) → Fits is_point (Factor n) ws (stopped e)
 parenthesis_stop e same low h f = parenthesis_first h (node_go low (parenthesis_stands h) (then_stop e (after_passed refl) (λ x. after_can return_can) (inside _ same f)))
 
-pub parenthesis_open : {n m : ℕ} {ws mid : List Word} {behind : Cursor} {x : Counted} {e : Stop} → m ≡ n + 1 → n < 256 → IsStart ws (start.Parenthesis behind) → Fits goes_sum (Sum m) (words behind) (Read x mid) → IsExpected (Sign sign.ClosingParenthesis) mid (Err e)
+pub parenthesis_open : {n m : ℕ} {ws mid : List Word} {behind : Cursor} {x : Counted} {e : ReadStop} → m ≡ n + 1 → n < 256 → IsStart ws (start.Parenthesis behind) → Fits follow_sum (Sum m) (words behind) (Read x mid) → IsExpected (Sign sign.ClosingParenthesis) mid (Err e)
     → Fits is_point (Factor n) ws (stopped e)
 parenthesis_open same low h f closing = parenthesis_first h (node_go low (parenthesis_stands h) (then_go (after_passed refl) (inside _ same f) (after_stop closing return_can)))
 
-pub parenthesis_read : {n m : ℕ} {ws mid rest : List Word} {behind : Cursor} {x : Counted} → m ≡ n + 1 → n < 256 → IsStart ws (start.Parenthesis behind) → Fits goes_sum (Sum m) (words behind) (Read x mid) → IsExpected (Sign sign.ClosingParenthesis) mid (Ok rest)
+pub parenthesis_read : {n m : ℕ} {ws mid rest : List Word} {behind : Cursor} {x : Counted} → m ≡ n + 1 → n < 256 → IsStart ws (start.Parenthesis behind) → Fits follow_sum (Sum m) (words behind) (Read x mid) → IsExpected (Sign sign.ClosingParenthesis) mid (Ok rest)
     → Fits is_point (Factor n) ws (Read x rest)
 parenthesis_read same low h f closing = parenthesis_first h (node_go low (parenthesis_stands h) (then_go (after_passed refl) (inside _ same f) (after_go closing return_fits)))

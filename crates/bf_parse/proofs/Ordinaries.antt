@@ -14,9 +14,9 @@ use Rattle.bf_parse.specs.Steps.{Step, Say, said}
 use Rattle.bf_parse.specs.Rules.{Return, Then, Listed}
 use Rattle.bf_parse.specs.Reading.{Ends, Reading, Read, Stuck, Fits}
 use Rattle.bf_parse.specs.Outcome.{IsBehind}
-use Rattle.bf_parse.specs.Ends.{begins, goes_sum, nothing}
-use Rattle.bf_parse.specs.StatementEnds.{goes_list, goes_where, goes_ordinary, is_comma}
-use Rattle.bf_parse.specs.Leads.{IsLead}
+use Rattle.bf_parse.specs.Ends.{begins, follow_sum, nothing}
+use Rattle.bf_parse.specs.StatementEnds.{follow_list, follow_where, follow_ordinary, is_comma}
+use Rattle.bf_parse.specs.Leads.{IsFirstKeyword}
 use Rattle.bf_parse.specs.Statements.{WhereRule, SetRule, InsertRule, SelectRule, UpdateRule, DeleteRule, OrdinaryRule}
 use Rattle.bf_parse.specs.Pieces.{CreateRule}
 use Rattle.bf_parse.proofs.Beginnings.{Begun, other_stop}
@@ -30,56 +30,56 @@ use Rattle.bf_parse.proofs.Queries.{or_right}
 
 -- ---- what may follow
 
-pub where_weaker : (t : Word) → goes_ordinary t ≡ false → goes_where t ≡ false
+pub where_weaker : (t : Word) → follow_ordinary t ≡ false → follow_where t ≡ false
 where_weaker t e = or_left _ _ (or_left _ _ e)
 
-pub comma_weaker : (t : Word) → goes_ordinary t ≡ false → is_comma t ≡ false
+pub comma_weaker : (t : Word) → follow_ordinary t ≡ false → is_comma t ≡ false
 comma_weaker t e = or_right _ _ e
 
 both_false : (a b : Bool) → a ≡ false → b ≡ false → (a || b) ≡ false
 both_false true b p q = p
 both_false false b p q = q
 
-sets_weaker : (t : Word) → goes_ordinary t ≡ false → goes_list goes_sum t ≡ false
-sets_weaker t e = both_false (goes_sum t) (is_comma t) (or_right (goes_where t) (goes_sum t) (or_left (goes_where t || goes_sum t) (is_comma t) e)) (or_right (goes_where t || goes_sum t) (is_comma t) e)
+sets_weaker : (t : Word) → follow_ordinary t ≡ false → follow_list follow_sum t ≡ false
+sets_weaker t e = both_false (follow_sum t) (is_comma t) (or_right (follow_where t) (follow_sum t) (or_left (follow_where t || follow_sum t) (is_comma t) e)) (or_right (follow_where t || follow_sum t) (is_comma t) e)
 
 -- sets, and then WHERE or what follows an UPDATE
-pub sets_passed : {A B : Type 0} {f : A → Option (Cond Ref) → B} → Passed (goes_list goes_sum) goes_ordinary (λ a. Then WhereRule (λ cond. Return (f a cond)))
-sets_passed {f = f} = record { it = λ a s b back h ends. subst (λ (z : List Step). Ends (goes_list goes_sum) (said z ++ back)) (sym h.3) (by_where h.0 h.1 h.2 back h.4 h.5.0 ends) }
+pub sets_passed : {A B : Type 0} {f : A → Option (Cond Ref) → B} → Passed (follow_list follow_sum) follow_ordinary (λ a. Then WhereRule (λ cond. Return (f a cond)))
+sets_passed {f = f} = record { it = λ a s b back h ends. subst (λ (z : List Step). Ends (follow_list follow_sum) (said z ++ back)) (sym h.3) (by_where h.0 h.1 h.2 back h.4 h.5.0 ends) }
   where
-    by_where : (front rest : List Step) (cond : Option (Cond Ref)) (back : List Word) → WhereRule front cond → rest ≡ [] → Ends goes_ordinary back → Ends (goes_list goes_sum) (said (front ++ rest) ++ back)
-    by_where front rest cond back (inl h) p ends = subst (λ (z : List Step). Ends (goes_list goes_sum) (said (z ++ rest) ++ back)) (sym h.0) (subst (λ (z : List Step). Ends (goes_list goes_sum) (said z ++ back)) (sym p) (weaker_ends (goes_list goes_sum) goes_ordinary sets_weaker back ends))
-    by_where front rest cond back (inr h) p ends = subst (λ (z : List Step). Ends (goes_list goes_sum) (said (z ++ rest) ++ back)) (sym h.1) refl
+    by_where : (front rest : List Step) (cond : Option (Cond Ref)) (back : List Word) → WhereRule front cond → rest ≡ [] → Ends follow_ordinary back → Ends (follow_list follow_sum) (said (front ++ rest) ++ back)
+    by_where front rest cond back (inl h) p ends = subst (λ (z : List Step). Ends (follow_list follow_sum) (said (z ++ rest) ++ back)) (sym h.0) (subst (λ (z : List Step). Ends (follow_list follow_sum) (said z ++ back)) (sym p) (weaker_ends (follow_list follow_sum) follow_ordinary sets_weaker back ends))
+    by_where front rest cond back (inr h) p ends = subst (λ (z : List Step). Ends (follow_list follow_sum) (said (z ++ rest) ++ back)) (sym h.1) refl
 
 pub sets_can : Can (Listed SetRule)
 sets_can = list_can set_part
 
 -- ---- which statement stands
 
-pub create_first : {ws rest : List Word} {r : Reading Statement} → IsBehind (Keyword keyword.Create) ws (Some rest) → Fits nothing CreateRule ws r → Fits goes_ordinary OrdinaryRule ws r
+pub create_first : {ws rest : List Word} {r : Reading Statement} → IsBehind (Keyword keyword.Create) ws (Some rest) → Fits nothing CreateRule ws r → Fits follow_ordinary OrdinaryRule ws r
 create_first h f = left_here
     (either_not_here (other_word h.it (λ d. cc)) (either_not_here (other_word h.it (λ d. cc)) (either_not_here (other_word h.it (λ d. cc)) (either_not_here (other_word h.it (λ d. cc)) (either_not_here (other_word h.it (λ d. cc)) (either_not_here (other_word h.it (λ d. cc)) (other_word h.it (λ d. cc))))))))
     (wider (λ t e. refl) f)
 
-pub insert_first : {ws rest : List Word} {r : Reading Statement} → IsBehind (Keyword keyword.Insert) ws (Some rest) → Fits is_comma InsertRule ws r → Fits goes_ordinary OrdinaryRule ws r
+pub insert_first : {ws rest : List Word} {r : Reading Statement} → IsBehind (Keyword keyword.Insert) ws (Some rest) → Fits is_comma InsertRule ws r → Fits follow_ordinary OrdinaryRule ws r
 insert_first h f = right_here (other_word h.it (λ d. cc)) (left_here (either_not_here (other_word h.it (λ d. cc)) (either_not_here (other_word h.it (λ d. cc)) (either_not_here (other_word h.it (λ d. cc)) (either_not_here (other_word h.it (λ d. cc)) (either_not_here (other_word h.it (λ d. cc)) (other_word h.it (λ d. cc))))))) (wider comma_weaker f))
 
-pub select_first : {ws rest : List Word} {r : Reading Statement} → IsBehind (Keyword keyword.Select) ws (Some rest) → Fits goes_where SelectRule ws r → Fits goes_ordinary OrdinaryRule ws r
+pub select_first : {ws rest : List Word} {r : Reading Statement} → IsBehind (Keyword keyword.Select) ws (Some rest) → Fits follow_where SelectRule ws r → Fits follow_ordinary OrdinaryRule ws r
 select_first h f = right_here (other_word h.it (λ d. cc)) (right_here (other_word h.it (λ d. cc)) (left_here (either_not_here (other_word h.it (λ d. cc)) (either_not_here (other_word h.it (λ d. cc)) (either_not_here (other_word h.it (λ d. cc)) (either_not_here (other_word h.it (λ d. cc)) (other_word h.it (λ d. cc)))))) (wider where_weaker f)))
 
-pub update_first : {ws rest : List Word} {r : Reading Statement} → IsBehind (Keyword keyword.Update) ws (Some rest) → Fits goes_ordinary UpdateRule ws r → Fits goes_ordinary OrdinaryRule ws r
+pub update_first : {ws rest : List Word} {r : Reading Statement} → IsBehind (Keyword keyword.Update) ws (Some rest) → Fits follow_ordinary UpdateRule ws r → Fits follow_ordinary OrdinaryRule ws r
 update_first h f = right_here (other_word h.it (λ d. cc)) (right_here (other_word h.it (λ d. cc)) (right_here (other_word h.it (λ d. cc)) (left_here (either_not_here (other_word h.it (λ d. cc)) (either_not_here (other_word h.it (λ d. cc)) (either_not_here (other_word h.it (λ d. cc)) (other_word h.it (λ d. cc))))) f)))
 
-pub delete_first : {ws rest : List Word} {r : Reading Statement} → IsBehind (Keyword keyword.Delete) ws (Some rest) → Fits goes_where DeleteRule ws r → Fits goes_ordinary OrdinaryRule ws r
+pub delete_first : {ws rest : List Word} {r : Reading Statement} → IsBehind (Keyword keyword.Delete) ws (Some rest) → Fits follow_where DeleteRule ws r → Fits follow_ordinary OrdinaryRule ws r
 delete_first h f = right_here (other_word h.it (λ d. cc)) (right_here (other_word h.it (λ d. cc)) (right_here (other_word h.it (λ d. cc)) (right_here (other_word h.it (λ d. cc)) (left_here (either_not_here (other_word h.it (λ d. cc)) (either_not_here (other_word h.it (λ d. cc)) (other_word h.it (λ d. cc)))) (wider where_weaker f)))))
 
-pub begin_first : {ws rest : List Word} → IsBehind (Keyword keyword.Begin) ws (Some rest) → Fits goes_ordinary OrdinaryRule ws (Read statement.Begin rest)
+pub begin_first : {ws rest : List Word} → IsBehind (Keyword keyword.Begin) ws (Some rest) → Fits follow_ordinary OrdinaryRule ws (Read statement.Begin rest)
 begin_first h = right_here (other_word h.it (λ d. cc)) (right_here (other_word h.it (λ d. cc)) (right_here (other_word h.it (λ d. cc)) (right_here (other_word h.it (λ d. cc)) (right_here (other_word h.it (λ d. cc)) (left_here (either_not_here (other_word h.it (λ d. cc)) (other_word h.it (λ d. cc))) (behind_go h return_fits))))))
 
-pub commit_first : {ws rest : List Word} → IsBehind (Keyword keyword.Commit) ws (Some rest) → Fits goes_ordinary OrdinaryRule ws (Read statement.Commit rest)
+pub commit_first : {ws rest : List Word} → IsBehind (Keyword keyword.Commit) ws (Some rest) → Fits follow_ordinary OrdinaryRule ws (Read statement.Commit rest)
 commit_first h = right_here (other_word h.it (λ d. cc)) (right_here (other_word h.it (λ d. cc)) (right_here (other_word h.it (λ d. cc)) (right_here (other_word h.it (λ d. cc)) (right_here (other_word h.it (λ d. cc)) (right_here (other_word h.it (λ d. cc)) (left_here (other_word h.it (λ d. cc)) (behind_go h return_fits)))))))
 
-pub rollback_first : {ws rest : List Word} → IsBehind (Keyword keyword.Rollback) ws (Some rest) → Fits goes_ordinary OrdinaryRule ws (Read statement.Rollback rest)
+pub rollback_first : {ws rest : List Word} → IsBehind (Keyword keyword.Rollback) ws (Some rest) → Fits follow_ordinary OrdinaryRule ws (Read statement.Rollback rest)
 rollback_first h = right_here (other_word h.it (λ d. cc)) (right_here (other_word h.it (λ d. cc)) (right_here (other_word h.it (λ d. cc)) (right_here (other_word h.it (λ d. cc)) (right_here (other_word h.it (λ d. cc)) (right_here (other_word h.it (λ d. cc)) (right_here (other_word h.it (λ d. cc)) (behind_go h return_fits)))))))
 
 -- ---- where none does
@@ -108,13 +108,13 @@ ordinary_opens s b (inr (inr (inr (inr (inr (inr (inr h))))))) = ap (λ (z : Lis
 pub ordinary_can : Can OrdinaryRule
 ordinary_can = record { it = (Say (Keyword keyword.Begin) ∷ [], statement.Begin, inr (inr (inr (inr (inr (inl ([], refl, (refl, refl)))))))) }
 
-ordinary_none : {ws : List Word} (k : ℕ) → length ws ≡ k → begins is_verb ws ≡ false → Fits goes_ordinary OrdinaryRule ws (Stuck k)
+ordinary_none : {ws : List Word} (k : ℕ) → length ws ≡ k → begins is_verb ws ≡ false → Fits follow_ordinary OrdinaryRule ws (Stuck k)
 ordinary_none k e absent = other_stop k e begun ordinary_can absent
   where
     begun : Begun is_verb OrdinaryRule
     begun = record { it = ordinary_opens }
 
-no_keyword : (ws : List Word) → IsLead ws None → begins is_verb ws ≡ false
+no_keyword : (ws : List Word) → IsFirstKeyword ws None → begins is_verb ws ≡ false
 no_keyword [] h = refl
 no_keyword (word.Keyword k ∷ ws) h = absurd (not h.it)
   where
@@ -126,7 +126,7 @@ no_keyword (word.Text t ∷ ws) h = refl
 no_keyword (word.Minus b ∷ ws) h = refl
 no_keyword (word.Sign s ∷ ws) h = refl
 
-pub no_statement : {ws : List Word} (k : ℕ) → length ws ≡ k → IsLead ws None → Fits goes_ordinary OrdinaryRule ws (Stuck k)
+pub no_statement : {ws : List Word} (k : ℕ) → length ws ≡ k → IsFirstKeyword ws None → Fits follow_ordinary OrdinaryRule ws (Stuck k)
 no_statement {ws = ws} k e h = ordinary_none k e (no_keyword ws h)
 
 -- a keyword with which no statement but MIGRATE begins
@@ -151,5 +151,5 @@ other_verb keyword.Commit h = absurd (h.commit refl)
 other_verb keyword.Rollback h = absurd (h.rollback refl)
 other_verb other h = refl
 
-pub other_statement : {ws : List Word} {found : KeywordCase} {behind : Cursor} (k : ℕ) → length ws ≡ k → IsLead ws (Some (found, behind)) → IsOther found → Fits goes_ordinary OrdinaryRule ws (Stuck k)
+pub other_statement : {ws : List Word} {found : KeywordCase} {behind : Cursor} (k : ℕ) → length ws ≡ k → IsFirstKeyword ws (Some (found, behind)) → IsOther found → Fits follow_ordinary OrdinaryRule ws (Stuck k)
 other_statement {found = found} k e h not = ordinary_none k e (ap (λ (z : List Word). begins is_verb z) h.it ∙ other_verb found not)

@@ -8,7 +8,7 @@ use Rattle.bf_lex.specs.declared.token.Token.{Token}
 use Rattle.bf_lex.specs.declared.token.TokenKind.{TokenKind}
 use Rattle.bf_lex.specs.declared.token.TokenKind.TheVariants as token
 use Rattle.bf_parse.specs.declared.cursor.Cursor.{Cursor}
-use Rattle.bf_parse.specs.declared.error.Stop.TheVariants as stop
+use Rattle.bf_parse.specs.declared.error.ReadStop.TheVariants as stop
 use Rattle.bf_parse.specs.declared.start.Front.TheVariants as front
 use Rattle.bf_parse.specs.Words.{Word, Name, Text, sign_word, word_of, words_of, begins_with_number}
 use Rattle.bf_parse.specs.Cursors.{IsNext, words, left}

@@ -11,7 +11,7 @@ use Rattle.bf_tree.specs.declared.items.Aggregate.TheVariants as aggregate
 use Rattle.bf_tree.specs.declared.items.Items.{Items}
 use Rattle.bf_tree.specs.declared.items.Items.TheVariants as items
 use Rattle.bf_parse.specs.declared.cursor.Cursor.{Cursor}
-use Rattle.bf_parse.specs.declared.error.Stop.{Stop}
+use Rattle.bf_parse.specs.declared.error.ReadStop.{ReadStop}
 use Rattle.bf_parse.specs.Words.{Word, Keyword, Sign}
 use Rattle.bf_parse.specs.Words as word
 use Rattle.bf_parse.specs.Steps.{Step, Say, said}
@@ -19,9 +19,9 @@ use Rattle.bf_parse.specs.Rules.{Return, Then, Listed}
 use Rattle.bf_parse.specs.Reading.{Reading, Read, Stuck, Fits}
 use Rattle.bf_parse.specs.Outcome.{IsBehind, stopped}
 use Rattle.bf_parse.specs.Cursors.{words}
-use Rattle.bf_parse.specs.Ends.{begins, goes_sum, goes_disjunction, nothing}
-use Rattle.bf_parse.specs.StatementEnds.{goes_list, goes_where, begins_aggregate, begins_expression}
-use Rattle.bf_parse.specs.Leads.{IsLead}
+use Rattle.bf_parse.specs.Ends.{begins, follow_sum, follow_disjunction, nothing}
+use Rattle.bf_parse.specs.StatementEnds.{follow_list, follow_where, first_aggregate, first_expression}
+use Rattle.bf_parse.specs.Leads.{IsFirstKeyword}
 use Rattle.bf_parse.specs.Expressions.{Sum}
 use Rattle.bf_parse.specs.Conditions.{CountedCond, Disjunction}
 use Rattle.bf_parse.specs.Statements.{ExprRule, WhereRule, Enclosed, AggregateRule, ListRule}
@@ -35,8 +35,8 @@ use Rattle.bf_parse.proofs.Moves.{Can, left_here, right_here, return_not_here, a
 
 -- ---- a keyword that stands first
 
-pub lead_behind : {ws : List Word} {found k : KeywordCase} {behind : Cursor} → IsLead ws (Some (found, behind)) → found ≡ k → IsBehind (Keyword k) ws (Some (words behind))
-lead_behind {behind = behind} h e = record { it = h.it ∙ ap (λ (z : KeywordCase). Keyword z ∷ words behind) e }
+pub keyword_behind : {ws : List Word} {found k : KeywordCase} {behind : Cursor} → IsFirstKeyword ws (Some (found, behind)) → found ≡ k → IsBehind (Keyword k) ws (Some (words behind))
+keyword_behind {behind = behind} h e = record { it = h.it ∙ ap (λ (z : KeywordCase). Keyword z ∷ words behind) e }
 
 -- ---- values
 
@@ -55,13 +55,13 @@ or_right false b e = e
 
 -- ---- WHERE
 
-pub where_none : {ws : List Word} → IsBehind (Keyword keyword.Where) ws None → Fits goes_where WhereRule ws (Read None ws)
+pub where_none : {ws : List Word} → IsBehind (Keyword keyword.Where) ws None → Fits follow_where WhereRule ws (Read None ws)
 where_none h = left_here (after_not_here h) return_fits
 
-pub where_stop : {ws rest : List Word} (e : Stop) → IsBehind (Keyword keyword.Where) ws (Some rest) → Fits goes_disjunction (Disjunction 0) rest (stopped e) → Fits goes_where WhereRule ws (stopped e)
+pub where_stop : {ws rest : List Word} (e : ReadStop) → IsBehind (Keyword keyword.Where) ws (Some rest) → Fits follow_disjunction (Disjunction 0) rest (stopped e) → Fits follow_where WhereRule ws (stopped e)
 where_stop e h f = right_here (return_not_here h refl) (behind_go h (wider (λ t p. or_left _ _ p) (map_stop e cond_maps f)))
 
-pub where_go : {ws rest mid : List Word} {c : Cond Ref} {n : ℕ} → IsBehind (Keyword keyword.Where) ws (Some rest) → Fits goes_disjunction (Disjunction 0) rest (Read (c, n) mid) → Fits goes_where WhereRule ws (Read (Some c) mid)
+pub where_go : {ws rest mid : List Word} {c : Cond Ref} {n : ℕ} → IsBehind (Keyword keyword.Where) ws (Some rest) → Fits follow_disjunction (Disjunction 0) rest (Read (c, n) mid) → Fits follow_where WhereRule ws (Read (Some c) mid)
 where_go h f = right_here (return_not_here h refl) (behind_go h (wider (λ t p. or_left _ _ p) (map_go cond_maps f)))
 
 pub where_can : Can WhereRule
@@ -75,7 +75,7 @@ expr_can = record { it = expression_part.some }
 pub enclosed_value : {A : Type 0} {f : Expr Ref → A} {ws rest : List Word} {a : Expr Ref} → Fits nothing (Enclosed ExprRule (λ e. Return e)) ws (Read a rest) → Fits nothing (Enclosed ExprRule (λ e. Return (f e))) ws (Read (f a) rest)
 enclosed_value h = enclosed_go h return_fits
 
-pub enclosed_fault : {A : Type 0} {f : Expr Ref → A} {ws : List Word} (e : Stop) → Fits nothing (Enclosed ExprRule (λ e. Return e)) ws (stopped e) → Fits nothing (Enclosed ExprRule (λ e. Return (f e))) ws (stopped e)
+pub enclosed_fault : {A : Type 0} {f : Expr Ref → A} {ws : List Word} (e : ReadStop) → Fits nothing (Enclosed ExprRule (λ e. Return e)) ws (stopped e) → Fits nothing (Enclosed ExprRule (λ e. Return (f e))) ws (stopped e)
 enclosed_fault e h = enclosed_stop e (λ a. return_can) h
 
 pub count_first : {ws rest : List Word} {r : Reading (Aggregate (Expr Ref))} → IsBehind (Keyword keyword.Count) ws (Some rest) → Fits nothing StarRule rest r → Fits nothing AggregateRule ws r
@@ -90,16 +90,16 @@ min_first h f = right_here (other_word h.it (λ d. cc)) (right_here (other_word 
 pub max_first : {ws rest : List Word} {r : Reading (Aggregate (Expr Ref))} → IsBehind (Keyword keyword.Max) ws (Some rest) → Fits nothing (Enclosed ExprRule (λ e. Return (aggregate.Max e))) rest r → Fits nothing AggregateRule ws r
 max_first h f = right_here (other_word h.it (λ d. cc)) (right_here (other_word h.it (λ d. cc)) (right_here (other_word h.it (λ d. cc)) (behind_go h f)))
 
-pub aggregate_none : {ws : List Word} (k : ℕ) → length ws ≡ k → begins begins_aggregate ws ≡ false → Fits nothing AggregateRule ws (Stuck k)
+pub aggregate_none : {ws : List Word} (k : ℕ) → length ws ≡ k → begins first_aggregate ws ≡ false → Fits nothing AggregateRule ws (Stuck k)
 aggregate_none k e absent = other_stop k e aggregate_begun aggregate_able absent
   where
-    aggregate_begun : Begun begins_aggregate AggregateRule
+    aggregate_begun : Begun first_aggregate AggregateRule
     aggregate_begun = record { it = aggregate_part.opens }
 
     aggregate_able : Can AggregateRule
     aggregate_able = record { it = aggregate_part.some }
 
-pub no_aggregate_keyword : (ws : List Word) → IsLead ws None → begins begins_aggregate ws ≡ false
+pub no_aggregate_keyword : (ws : List Word) → IsFirstKeyword ws None → begins first_aggregate ws ≡ false
 no_aggregate_keyword [] h = refl
 no_aggregate_keyword (word.Keyword k ∷ ws) h = absurd (true_false h.it)
   where
@@ -111,37 +111,37 @@ no_aggregate_keyword (word.Text t ∷ ws) h = refl
 no_aggregate_keyword (word.Minus b ∷ ws) h = refl
 no_aggregate_keyword (word.Sign s ∷ ws) h = refl
 
-other_keyword : (k : KeywordCase) → (k ≡ keyword.Count → ⊥) → (k ≡ keyword.Sum → ⊥) → (k ≡ keyword.Min → ⊥) → (k ≡ keyword.Max → ⊥) → begins_aggregate (Keyword k) ≡ false
+other_keyword : (k : KeywordCase) → (k ≡ keyword.Count → ⊥) → (k ≡ keyword.Sum → ⊥) → (k ≡ keyword.Min → ⊥) → (k ≡ keyword.Max → ⊥) → first_aggregate (Keyword k) ≡ false
 other_keyword keyword.Count a b c d = absurd (a refl)
 other_keyword keyword.Sum a b c d = absurd (b refl)
 other_keyword keyword.Min a b c d = absurd (c refl)
 other_keyword keyword.Max a b c d = absurd (d refl)
 other_keyword other a b c d = refl
 
-pub no_aggregate : {ws : List Word} {k : KeywordCase} {behind : Cursor} → IsLead ws (Some (k, behind)) → (k ≡ keyword.Count → ⊥) → (k ≡ keyword.Sum → ⊥) → (k ≡ keyword.Min → ⊥) → (k ≡ keyword.Max → ⊥) → begins begins_aggregate ws ≡ false
-no_aggregate {k = k} h a b c d = ap (λ (z : List Word). begins begins_aggregate z) h.it ∙ other_keyword k a b c d
+pub no_aggregate : {ws : List Word} {k : KeywordCase} {behind : Cursor} → IsFirstKeyword ws (Some (k, behind)) → (k ≡ keyword.Count → ⊥) → (k ≡ keyword.Sum → ⊥) → (k ≡ keyword.Min → ⊥) → (k ≡ keyword.Max → ⊥) → begins first_aggregate ws ≡ false
+no_aggregate {k = k} h a b c d = ap (λ (z : List Word). begins first_aggregate z) h.it ∙ other_keyword k a b c d
 
 -- ---- what a SELECT gives
 
-exprs_begun : Begun begins_expression (Then (Listed ExprRule) (λ es. Return (items.Exprs es)))
+exprs_begun : Begun first_expression (Then (Listed ExprRule) (λ es. Return (items.Exprs es)))
 exprs_begun = record {
   it = λ s b h.
       let list = h.4 in
-      ap (λ (z : List Step). begins begins_expression (said z)) h.3 ∙ begins-append begins_expression h.0 h.1
-      (ap (λ (z : List Step). begins begins_expression (said z)) list.3 ∙ begins-append begins_expression list.0 list.1
-      (ap (λ (z : List Step). begins begins_expression (said z)) list.4.1 ∙ expression_part.opens list.4.0 list.2 list.4.2));
+      ap (λ (z : List Step). begins first_expression (said z)) h.3 ∙ begins-append first_expression h.0 h.1
+      (ap (λ (z : List Step). begins first_expression (said z)) list.3 ∙ begins-append first_expression list.0 list.1
+      (ap (λ (z : List Step). begins first_expression (said z)) list.4.1 ∙ expression_part.opens list.4.0 list.2 list.4.2));
 }
 
-totals_begun : Begun begins_aggregate (Then (Listed AggregateRule) (λ totals. Return (items.Aggregates totals)))
+totals_begun : Begun first_aggregate (Then (Listed AggregateRule) (λ totals. Return (items.Aggregates totals)))
 totals_begun = record {
   it = λ s b h.
       let list = h.4 in
-      ap (λ (z : List Step). begins begins_aggregate (said z)) h.3 ∙ begins-append begins_aggregate h.0 h.1
-      (ap (λ (z : List Step). begins begins_aggregate (said z)) list.3 ∙ begins-append begins_aggregate list.0 list.1
-      (ap (λ (z : List Step). begins begins_aggregate (said z)) list.4.1 ∙ aggregate_part.opens list.4.0 list.2 list.4.2));
+      ap (λ (z : List Step). begins first_aggregate (said z)) h.3 ∙ begins-append first_aggregate h.0 h.1
+      (ap (λ (z : List Step). begins first_aggregate (said z)) list.3 ∙ begins-append first_aggregate list.0 list.1
+      (ap (λ (z : List Step). begins first_aggregate (said z)) list.4.1 ∙ aggregate_part.opens list.4.0 list.2 list.4.2));
 }
 
-aggregate_no_expression : (ws : List Word) → begins begins_aggregate ws ≡ true → begins begins_expression ws ≡ false
+aggregate_no_expression : (ws : List Word) → begins first_aggregate ws ≡ true → begins first_expression ws ≡ false
 aggregate_no_expression [] e = refl
 aggregate_no_expression (word.Keyword k ∷ ws) e = refl
 aggregate_no_expression (word.Name n ∷ ws) e = absurd cc
@@ -150,28 +150,28 @@ aggregate_no_expression (word.Text t ∷ ws) e = absurd cc
 aggregate_no_expression (word.Minus b ∷ ws) e = absurd cc
 aggregate_no_expression (word.Sign s ∷ ws) e = absurd cc
 
-pub star_list : {ws rest : List Word} → IsBehind (Sign sign.Star) ws (Some rest) → Fits (goes_list goes_sum) ListRule ws (Read items.All rest)
-star_list h = left_here (either_not_here (other_not_here exprs_begun (ap (λ (z : List Word). begins begins_expression z) h.it)) (other_not_here totals_begun (ap (λ (z : List Word). begins begins_aggregate z) h.it))) (behind_go h return_fits)
+pub star_list : {ws rest : List Word} → IsBehind (Sign sign.Star) ws (Some rest) → Fits (follow_list follow_sum) ListRule ws (Read items.All rest)
+star_list h = left_here (either_not_here (other_not_here exprs_begun (ap (λ (z : List Word). begins first_expression z) h.it)) (other_not_here totals_begun (ap (λ (z : List Word). begins first_aggregate z) h.it))) (behind_go h return_fits)
 
-totals_here : {ws : List Word} {r : Reading (Items (Expr Ref))} → IsBehind (Sign sign.Star) ws None → begins begins_aggregate ws ≡ true → Fits (goes_list goes_sum) (Then (Listed AggregateRule) (λ totals. Return (items.Aggregates totals))) ws r → Fits (goes_list goes_sum) ListRule ws r
+totals_here : {ws : List Word} {r : Reading (Items (Expr Ref))} → IsBehind (Sign sign.Star) ws None → begins first_aggregate ws ≡ true → Fits (follow_list follow_sum) (Then (Listed AggregateRule) (λ totals. Return (items.Aggregates totals))) ws r → Fits (follow_list follow_sum) ListRule ws r
 totals_here {ws = ws} h e f = right_here (after_not_here h) (right_here (other_not_here exprs_begun (aggregate_no_expression ws e)) f)
 
-exprs_here : {ws : List Word} {r : Reading (Items (Expr Ref))} → IsBehind (Sign sign.Star) ws None → begins begins_aggregate ws ≡ false → Fits (goes_list goes_sum) (Then (Listed ExprRule) (λ es. Return (items.Exprs es))) ws r → Fits (goes_list goes_sum) ListRule ws r
+exprs_here : {ws : List Word} {r : Reading (Items (Expr Ref))} → IsBehind (Sign sign.Star) ws None → begins first_aggregate ws ≡ false → Fits (follow_list follow_sum) (Then (Listed ExprRule) (λ es. Return (items.Exprs es))) ws r → Fits (follow_list follow_sum) ListRule ws r
 exprs_here {ws = ws} h e f = right_here (after_not_here h) (left_here (other_not_here totals_begun e) f)
 
-totals_weaker : (t : Word) → goes_list goes_sum t ≡ false → goes_list nothing t ≡ false
-totals_weaker t e = or_right (goes_sum t) _ e
+totals_weaker : (t : Word) → follow_list follow_sum t ≡ false → follow_list nothing t ≡ false
+totals_weaker t e = or_right (follow_sum t) _ e
 
-pub totals_go : {ws rest : List Word} {totals : List (Aggregate (Expr Ref))} → IsBehind (Sign sign.Star) ws None → begins begins_aggregate ws ≡ true → Fits (goes_list nothing) (Listed AggregateRule) ws (Read totals rest) → Fits (goes_list goes_sum) ListRule ws (Read (items.Aggregates totals) rest)
+pub totals_go : {ws rest : List Word} {totals : List (Aggregate (Expr Ref))} → IsBehind (Sign sign.Star) ws None → begins first_aggregate ws ≡ true → Fits (follow_list nothing) (Listed AggregateRule) ws (Read totals rest) → Fits (follow_list follow_sum) ListRule ws (Read (items.Aggregates totals) rest)
 totals_go h e f = totals_here h e (then_go (return_passed totals_weaker) f return_fits)
 
-pub totals_stop : {ws : List Word} (s : Stop) → IsBehind (Sign sign.Star) ws None → begins begins_aggregate ws ≡ true → Fits (goes_list nothing) (Listed AggregateRule) ws (stopped s) → Fits (goes_list goes_sum) ListRule ws (stopped s)
+pub totals_stop : {ws : List Word} (s : ReadStop) → IsBehind (Sign sign.Star) ws None → begins first_aggregate ws ≡ true → Fits (follow_list nothing) (Listed AggregateRule) ws (stopped s) → Fits (follow_list follow_sum) ListRule ws (stopped s)
 totals_stop s h e f = totals_here h e (then_stop s (return_passed totals_weaker) (λ a. return_can) f)
 
-pub exprs_go : {ws rest : List Word} {es : List (Expr Ref)} → IsBehind (Sign sign.Star) ws None → begins begins_aggregate ws ≡ false → Fits (goes_list goes_sum) (Listed ExprRule) ws (Read es rest) → Fits (goes_list goes_sum) ListRule ws (Read (items.Exprs es) rest)
+pub exprs_go : {ws rest : List Word} {es : List (Expr Ref)} → IsBehind (Sign sign.Star) ws None → begins first_aggregate ws ≡ false → Fits (follow_list follow_sum) (Listed ExprRule) ws (Read es rest) → Fits (follow_list follow_sum) ListRule ws (Read (items.Exprs es) rest)
 exprs_go h e f = exprs_here h e (then_go (return_passed (λ t p. p)) f return_fits)
 
-pub exprs_stop : {ws : List Word} (s : Stop) → IsBehind (Sign sign.Star) ws None → begins begins_aggregate ws ≡ false → Fits (goes_list goes_sum) (Listed ExprRule) ws (stopped s) → Fits (goes_list goes_sum) ListRule ws (stopped s)
+pub exprs_stop : {ws : List Word} (s : ReadStop) → IsBehind (Sign sign.Star) ws None → begins first_aggregate ws ≡ false → Fits (follow_list follow_sum) (Listed ExprRule) ws (stopped s) → Fits (follow_list follow_sum) ListRule ws (stopped s)
 exprs_stop s h e f = exprs_here h e (then_stop s (return_passed (λ t p. p)) (λ a. return_can) f)
 
 pub list_can : Can ListRule

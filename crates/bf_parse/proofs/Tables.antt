@@ -4,7 +4,7 @@ use Rattle.bf_lex.specs.declared.keyword.Keyword.TheVariants as keyword
 use Rattle.bf_lex.specs.declared.sign.Sign.TheVariants as sign
 use Rattle.bf_tree.specs.declared.statement.ColumnRule.{ColumnRule}
 use Rattle.bf_tree.specs.declared.statement.Statement.TheVariants as statement
-use Rattle.bf_parse.specs.declared.error.Stop.{Stop}
+use Rattle.bf_parse.specs.declared.error.ReadStop.{ReadStop}
 use Rattle.bf_parse.specs.Words.{Word, Keyword, Name, Sign}
 use Rattle.bf_parse.specs.Steps.{Step, Say, Limit, Part, said}
 use Rattle.bf_parse.specs.Rules.{Return, After, Marked, Either, Then, Listed, Others, no_other, other}
@@ -75,10 +75,10 @@ columns_from s b h =
     let list = h.4 in
     (list.0, list.1 ++ h.1, list.2, h.3 ∙ ap (λ (z : List Step). z ++ h.1) list.3 ∙ append_assoc list.0 list.1 h.1, list.4, (list.1, h.1, h.2, refl, list.5, h.5))
 
-pub columns_stop : {ws : List Word} (e : Stop) → Fits is_check ColumnRuleRule ws (stopped e) → Fits nothing ColumnsRule ws (stopped e)
+pub columns_stop : {ws : List Word} (e : ReadStop) → Fits is_check ColumnRuleRule ws (stopped e) → Fits nothing ColumnsRule ws (stopped e)
 columns_stop e f = same_rule columns_to columns_from (then_stop e (more_passed 2 []) (λ a. more_can) (marked_go refl f))
 
-pub columns_open : {ws mid : List Word} {a : ColumnRule} {e : Stop} → Fits is_check ColumnRuleRule ws (Read a mid) → IsExpected (Sign sign.Comma) mid (Err e) → Fits nothing ColumnsRule ws (stopped e)
+pub columns_open : {ws mid : List Word} {a : ColumnRule} {e : ReadStop} → Fits is_check ColumnRuleRule ws (Read a mid) → IsExpected (Sign sign.Comma) mid (Err e) → Fits nothing ColumnsRule ws (stopped e)
 columns_open f comma = same_rule columns_to columns_from (then_go (more_passed 2 []) (marked_go refl f) (more_as (after_stop comma choice_can)))
 
 pub columns_begin : {ws mid rest : List Word} {a : ColumnRule} {r : Reading (List ColumnRule)} → Fits is_check ColumnRuleRule ws (Read a mid) → IsExpected (Sign sign.Comma) mid (Ok rest) → Fits nothing (Choice 2 (a ∷ [])) rest r
@@ -100,10 +100,10 @@ column_not_here n acc ws rest e = record {
 pub choice_end : {n : ℕ} {acc : List ColumnRule} {ws rest : List Word} → IsBehind (Keyword keyword.Primary) ws (Some rest) → Fits nothing (Choice n acc) ws (Read acc rest)
 choice_end {n = n} {acc = acc} {ws = ws} {rest = rest} h = right_here (column_not_here n acc ws rest h.it) (behind_go h return_fits)
 
-pub choice_stop : {n : ℕ} {acc : List ColumnRule} {ws : List Word} (e : Stop) → IsBehind (Keyword keyword.Primary) ws None → Fits is_check (Marked (Part n) ColumnRuleRule) ws (stopped e) → Fits nothing (Choice n acc) ws (stopped e)
+pub choice_stop : {n : ℕ} {acc : List ColumnRule} {ws : List Word} (e : ReadStop) → IsBehind (Keyword keyword.Primary) ws None → Fits is_check (Marked (Part n) ColumnRuleRule) ws (stopped e) → Fits nothing (Choice n acc) ws (stopped e)
 choice_stop {n = n} {acc = acc} e h f = left_here (after_not_here h) (then_stop e (more_passed (suc n) acc) (λ a. more_can) f)
 
-pub choice_open : {n : ℕ} {acc : List ColumnRule} {ws mid : List Word} {a : ColumnRule} {e : Stop} → IsBehind (Keyword keyword.Primary) ws None → Fits is_check (Marked (Part n) ColumnRuleRule) ws (Read a mid)
+pub choice_open : {n : ℕ} {acc : List ColumnRule} {ws mid : List Word} {a : ColumnRule} {e : ReadStop} → IsBehind (Keyword keyword.Primary) ws None → Fits is_check (Marked (Part n) ColumnRuleRule) ws (Read a mid)
     → IsExpected (Sign sign.Comma) mid (Err e) → Fits nothing (Choice n acc) ws (stopped e)
 choice_open {n = n} {acc = acc} h f comma = left_here (after_not_here h) (then_go (more_passed (suc n) acc) f (more_as (after_stop comma choice_can)))
 

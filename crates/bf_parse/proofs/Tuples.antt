@@ -1,7 +1,7 @@
 -- Lists of any number of parts.
 use Rattle.std.proofs.Common.{◌≡◌, List, [], ◌∷◌, ◌++◌, Some, None, refl, ap, subst, ◌∙◌, inl, inr}
 use Rattle.bf_lex.specs.declared.sign.Sign.TheVariants as sign
-use Rattle.bf_parse.specs.declared.error.Stop.{Stop}
+use Rattle.bf_parse.specs.declared.error.ReadStop.{ReadStop}
 use Rattle.bf_parse.specs.Words.{Word, Sign}
 use Rattle.bf_parse.specs.Steps.{Step, Say}
 use Rattle.bf_parse.specs.Rules.{Return, After, Either, Then}
@@ -28,13 +28,13 @@ module _ {A : Type 0} {G : List Step → A → Type 0} where
   pub further_can : {before : List A} → Can (Further G before)
   further_can {before = before} = record { it = ([], before, no_more refl refl) }
 
-  pub several_stop : {ws : List Word} (e : Stop) → Fits nothing G ws (stopped e) → Fits is_comma (Several G) ws (stopped e)
+  pub several_stop : {ws : List Word} (e : ReadStop) → Fits nothing G ws (stopped e) → Fits is_comma (Several G) ws (stopped e)
   several_stop e f = then_stop e any_passed (λ a. further_can) f
 
   pub several_begin : {ws mid : List Word} {a : A} {r : Reading (List A)} → Fits nothing G ws (Read a mid) → Fits is_comma (Further G (a ∷ [])) mid r → Fits is_comma (Several G) ws r
   several_begin f h = then_go any_passed f h
 
-  pub further_stop : {before : List A} {ws rest : List Word} (e : Stop) → IsBehind (Sign sign.Comma) ws (Some rest) → Fits nothing G rest (stopped e) → Fits is_comma (Further G before) ws (stopped e)
+  pub further_stop : {before : List A} {ws rest : List Word} (e : ReadStop) → IsBehind (Sign sign.Comma) ws (Some rest) → Fits nothing G rest (stopped e) → Fits is_comma (Further G before) ws (stopped e)
   further_stop {before = before} e comma f = same_rule (further_to before) (further_from before) (left_here (return_not_here comma refl) (behind_go comma (then_stop e any_passed (λ a. further_can) f)))
 
   pub further_more : {before : List A} {ws rest mid : List Word} {a : A} {r : Reading (List A)} → IsBehind (Sign sign.Comma) ws (Some rest) → Fits nothing G rest (Read a mid) → Fits is_comma (Further G (before ++ a ∷ [])) mid r

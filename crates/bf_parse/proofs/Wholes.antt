@@ -3,8 +3,8 @@ use Rattle.std.proofs.Common.{◌≡◌, ℕ, Bool, List, [], ◌∷◌, ◌++�
 use Rattle.std.proofs.lemmas.List.{append-nil, append_cancel_left}
 use Rattle.bf_lex.specs.declared.fault.ScriptKind.{ScriptKind}
 use Rattle.bf_tree.specs.declared.script.Script.{Script}
-use Rattle.bf_parse.specs.declared.error.Stop.{Stop}
-use Rattle.bf_parse.specs.declared.error.Stop.TheVariants as stop
+use Rattle.bf_parse.specs.declared.error.ReadStop.{ReadStop}
+use Rattle.bf_parse.specs.declared.error.ReadStop.TheVariants as stop
 use Rattle.std.specs.Result.{IsErrAnd}
 use Rattle.bf_lex.specs.declared.token.Token.{Token}
 use Rattle.bf_parse.specs.declared.cursor.Cursor.{Cursor}
@@ -16,7 +16,7 @@ use Rattle.bf_parse.specs.Outcome.{outcome, stopped}
 use Rattle.bf_parse.specs.Cursors.{IsNext, words}
 use Rattle.bf_parse.specs.Faults.{Answers, CantGoOn, IsOver, IsRead, IsStuck}
 use Rattle.bf_parse.specs.Scripts.{Progress, Phases, ScriptRule, nothing_yet}
-use Rattle.bf_parse.specs.ScriptParts.{goes_phases, script_of}
+use Rattle.bf_parse.specs.ScriptParts.{follow_phases, script_of}
 use Rattle.bf_parse.proofs.Fitting.{fits_by}
 use Rattle.bf_parse.proofs.Factors.{whole}
 use Rattle.bf_parse.proofs.Places.{next_word}
@@ -91,8 +91,8 @@ module _ {A : Type 0} (w : Word → Bool) (G : List Step → A → Type 0) where
 
 -- ---- scripts
 
-script_as : {ws : List Word} {r : Reading Script} → Fits goes_phases (Then (Phases nothing_yet) (λ p. Return (script_of p))) ws r → Fits goes_phases ScriptRule ws r
-script_as {ws = ws} {r = r} f = record { it = fits_by goes_phases (Then (Phases nothing_yet) (λ p. Return (script_of p))) ScriptRule ws r f.it to (λ s b back g ends same. from s b g) }
+script_as : {ws : List Word} {r : Reading Script} → Fits follow_phases (Then (Phases nothing_yet) (λ p. Return (script_of p))) ws r → Fits follow_phases ScriptRule ws r
+script_as {ws = ws} {r = r} f = record { it = fits_by follow_phases (Then (Phases nothing_yet) (λ p. Return (script_of p))) ScriptRule ws r f.it to (λ s b back g ends same. from s b g) }
   where
     to : (s : List Step) (b : Script) → Then (Phases nothing_yet) (λ p. Return (script_of p)) s b → ScriptRule s b
     to s b h = (h.2, subst (λ (z : List Step). Phases nothing_yet z h.2) (sym (whole s h.0 h.1 h.3 h.5.0)) h.4, h.5.1)
@@ -100,26 +100,26 @@ script_as {ws = ws} {r = r} f = record { it = fits_by goes_phases (Then (Phases 
     from : (s : List Step) (b : Script) → ScriptRule s b → Then (Phases nothing_yet) (λ p. Return (script_of p)) s b
     from s b h = (s, [], h.0, sym (append-nil s), h.1, (refl, h.2))
 
-stop_told : (ws : List Word) (e : Stop) → Fits goes_phases ScriptRule ws (stopped e) → Answers ScriptRule ws (stopped e)
-stop_told ws (stop.Syntax left) f = whole_stuck goes_phases ScriptRule ws left f.it
-stop_told ws (stop.Limit kind left) f = whole_over goes_phases ScriptRule ws kind left f.it
+stop_told : (ws : List Word) (e : ReadStop) → Fits follow_phases ScriptRule ws (stopped e) → Answers ScriptRule ws (stopped e)
+stop_told ws (stop.Syntax left) f = whole_stuck follow_phases ScriptRule ws left f.it
+stop_told ws (stop.Limit kind left) f = whole_over follow_phases ScriptRule ws kind left f.it
 stop_told ws stop.Memory f = tt
 
-pub script_stop : (ws : List Word) (e : Stop) → Fits goes_phases (Phases nothing_yet) ws (stopped e) → Answers ScriptRule ws (stopped e)
+pub script_stop : (ws : List Word) (e : ReadStop) → Fits follow_phases (Phases nothing_yet) ws (stopped e) → Answers ScriptRule ws (stopped e)
 script_stop ws e f = stop_told ws e (script_as (then_stop e (return_passed (λ t p. p)) (λ p. return_can) f))
 
-script_fits : {ws rest : List Word} {p : Progress} → Fits goes_phases (Phases nothing_yet) ws (Read p rest) → Fits goes_phases ScriptRule ws (Read (script_of p) rest)
+script_fits : {ws rest : List Word} {p : Progress} → Fits follow_phases (Phases nothing_yet) ws (Read p rest) → Fits follow_phases ScriptRule ws (Read (script_of p) rest)
 script_fits f = script_as (then_go (return_passed (λ t p. p)) f return_fits)
 
-pub script_read : (ws rest : List Word) (p : Progress) → rest ≡ [] → Fits goes_phases (Phases nothing_yet) ws (Read p rest) → Answers ScriptRule ws (Read (script_of p) [])
-script_read ws rest p e f = (refl, whole_read goes_phases ScriptRule ws (script_of p) (subst (λ (z : List Word). FitsRead goes_phases ScriptRule ws (script_of p) z) e (script_fits f).it))
+pub script_read : (ws rest : List Word) (p : Progress) → rest ≡ [] → Fits follow_phases (Phases nothing_yet) ws (Read p rest) → Answers ScriptRule ws (Read (script_of p) [])
+script_read ws rest p e f = (refl, whole_read follow_phases ScriptRule ws (script_of p) (subst (λ (z : List Word). FitsRead follow_phases ScriptRule ws (script_of p) z) e (script_fits f).it))
 
-pub script_past : (ws rest : List Word) (p : Progress) (k : ℕ) → length rest ≡ k → (rest ≡ [] → ⊥) → Fits goes_phases (Phases nothing_yet) ws (Read p rest) → Answers ScriptRule ws (Stuck k)
+pub script_past : (ws rest : List Word) (p : Progress) (k : ℕ) → length rest ≡ k → (rest ≡ [] → ⊥) → Fits follow_phases (Phases nothing_yet) ws (Read p rest) → Answers ScriptRule ws (Stuck k)
 script_past ws [] p k e some f = absurd (some refl)
-script_past ws (t ∷ rest) p k e some f = subst (λ (z : ℕ). IsStuck ScriptRule ws z) e (whole_past goes_phases ScriptRule ws (script_of p) t rest (script_fits f).it)
+script_past ws (t ∷ rest) p k e some f = subst (λ (z : ℕ). IsStuck ScriptRule ws z) e (whole_past follow_phases ScriptRule ws (script_of p) t rest (script_fits f).it)
 
 -- what a `?` passes on
-pub answer_exit : {X A : Type 0} (G : Rule A) (ws : List Word) (view : X → Reading A) (res : Result X Stop) (e : Stop) → IsErrAnd res (λ x. x ≡ e) → Answers G ws (stopped e) → Answers G ws (outcome view res)
+pub answer_exit : {X A : Type 0} (G : Rule A) (ws : List Word) (view : X → Reading A) (res : Result X ReadStop) (e : ReadStop) → IsErrAnd res (λ x. x ≡ e) → Answers G ws (stopped e) → Answers G ws (outcome view res)
 answer_exit G ws view (Ok x) e h f = absurd h
 answer_exit G ws view (Err x) e h f = rw h f
 

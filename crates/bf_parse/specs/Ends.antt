@@ -34,26 +34,26 @@ is_or (Keyword Or) = true
 is_or other = false
 
 -- a product, a sum, a conjunction and a disjunction go on
-abbrev pub goes_product : Word → Bool
-goes_product word = is_point word || is_star word
+abbrev pub follow_product : Word → Bool
+follow_product word = is_point word || is_star word
 
-abbrev pub goes_sum : Word → Bool
-goes_sum word = goes_product word || is_sum_operator word
+abbrev pub follow_sum : Word → Bool
+follow_sum word = follow_product word || is_sum_operator word
 
-abbrev pub goes_conjunction : Word → Bool
-goes_conjunction word = is_point word || is_and word
+abbrev pub follow_conjunction : Word → Bool
+follow_conjunction word = is_point word || is_and word
 
-abbrev pub goes_disjunction : Word → Bool
-goes_disjunction word = goes_conjunction word || is_or word
+abbrev pub follow_disjunction : Word → Bool
+follow_disjunction word = follow_conjunction word || is_or word
 
 -- a literal begins
-abbrev pub begins_literal : Word → Bool
-begins_literal (Keyword keyword) = false
-begins_literal (Name name) = false
-begins_literal (Number n) = true
-begins_literal (Text text) = true
-begins_literal (Minus number_behind) = number_behind
-begins_literal (Sign sign) = false
+abbrev pub first_literal : Word → Bool
+first_literal (Keyword keyword) = false
+first_literal (Name name) = false
+first_literal (Number n) = true
+first_literal (Text text) = true
+first_literal (Minus number_behind) = number_behind
+first_literal (Sign sign) = false
 
 abbrev pub is_name : Word → Bool
 is_name (Keyword keyword) = false

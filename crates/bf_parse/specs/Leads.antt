@@ -18,13 +18,13 @@ is_keyword (Text text) = false
 is_keyword (Minus number_behind) = false
 is_keyword (Sign sign) = false
 
-abbrev pub HasLead : List Word → Option (KeywordCase × Cursor) → Type 0
-HasLead ws (Some found) = ws ≡ Keyword found.0 ∷ words found.1
-HasLead ws None = begins is_keyword ws ≡ false
+abbrev pub HasFirstKeyword : List Word → Option (KeywordCase × Cursor) → Type 0
+HasFirstKeyword ws (Some found) = ws ≡ Keyword found.0 ∷ words found.1
+HasFirstKeyword ws None = begins is_keyword ws ≡ false
 
 -- the keyword at the front, and the words behind it
-pub record IsLead (ws : List Word) (found : Option (KeywordCase × Cursor)) : Type 0 where
-  pub it : HasLead ws found
+pub record IsFirstKeyword (ws : List Word) (found : Option (KeywordCase × Cursor)) : Type 0 where
+  pub it : HasFirstKeyword ws found
 
 -- a word that a token can be
 abbrev pub IsSayable : Word → Type 0
@@ -37,9 +37,9 @@ IsSayable (Sign sign) = Unit {0}
 
 -- A rule of which lists are made: what begins it, which can be gone on with from each such word on, and by which words it
 -- goes on. A comma or a closing parenthesis is none of these.
-pub record IsPart {A : Type 0} (goes_on begun : Word → Bool) (rule : Rule A) : Type 0 where
-  pub opens : (steps : List Step) (a : A) → rule steps a → begins begun (said steps) ≡ true
-  pub starts : (word : Word) → IsSayable word → begun word ≡ true → (next : List Step) × (said next ≡ word ∷ []) × CanGoOn rule next
+pub record IsPart {A : Type 0} (follow first : Word → Bool) (rule : Rule A) : Type 0 where
+  pub opens : (steps : List Step) (a : A) → rule steps a → begins first (said steps) ≡ true
+  pub starts : (word : Word) → IsSayable word → first word ≡ true → (next : List Step) × (said next ≡ word ∷ []) × CanGoOn rule next
   pub some : CanGoOn rule []
-  pub comma : goes_on (Sign Comma) ≡ false
-  pub closing : goes_on (Sign ClosingParenthesis) ≡ false
+  pub comma : follow (Sign Comma) ≡ false
+  pub closing : follow (Sign ClosingParenthesis) ≡ false

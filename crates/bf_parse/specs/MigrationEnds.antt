@@ -12,8 +12,8 @@ use Rattle.bf_tree.specs.declared.migration.Target.{Target}
 use Rattle.bf_parse.specs.Words.{Word, Keyword, Sign}
 use Rattle.bf_parse.specs.Steps.{Part, Target as TargetMark}
 use Rattle.bf_parse.specs.Rules.{Rule, Return, Marked, Either, Then}
-use Rattle.bf_parse.specs.Ends.{goes_sum, is_point, is_and}
-use Rattle.bf_parse.specs.StatementEnds.{begins_aggregate, begins_expression, goes_list, goes_where}
+use Rattle.bf_parse.specs.Ends.{follow_sum, is_point, is_and}
+use Rattle.bf_parse.specs.StatementEnds.{first_aggregate, first_expression, follow_list, follow_where}
 use Rattle.bf_parse.specs.Expressions.{Counted}
 use Rattle.bf_parse.specs.Statements.{WhereRule}
 use Rattle.bf_parse.specs.Migrations.{AsRule, BareRule, EqualityRule, Equalities, JoinRule, GroupRule, ArmRule, Arms, TargetRule, Targets}
@@ -39,33 +39,33 @@ is_semicolon (Sign Semicolon) = true
 is_semicolon other = false
 
 -- an item goes on, and begins
-abbrev pub goes_item : Word → Bool
-goes_item word = goes_sum word || is_as word
+abbrev pub follow_item : Word → Bool
+follow_item word = follow_sum word || is_as word
 
-abbrev pub begins_item : Word → Bool
-begins_item word = begins_expression word || begins_aggregate word
+abbrev pub first_item : Word → Bool
+first_item word = first_expression word || first_aggregate word
 
 -- equalities, and a JOIN, a GROUP BY and an arm with what may be missing, go on
-abbrev pub goes_equalities : Word → Bool
-goes_equalities word = is_point word || is_and word
+abbrev pub follow_equalities : Word → Bool
+follow_equalities word = is_point word || is_and word
 
-abbrev pub goes_join : Word → Bool
-goes_join word = goes_equalities word || is_join word
+abbrev pub follow_join : Word → Bool
+follow_join word = follow_equalities word || is_join word
 
-abbrev pub goes_group : Word → Bool
-goes_group word = goes_list is_point word || is_group word
+abbrev pub follow_group : Word → Bool
+follow_group word = follow_list is_point word || is_group word
 
-abbrev pub goes_clauses : Word → Bool
-goes_clauses word = goes_where word || goes_group word
+abbrev pub follow_clauses : Word → Bool
+follow_clauses word = follow_where word || follow_group word
 
-abbrev pub goes_arm : Word → Bool
-goes_arm word = goes_join word || goes_clauses word
+abbrev pub follow_arm : Word → Bool
+follow_arm word = follow_join word || follow_clauses word
 
-abbrev pub goes_arms : Word → Bool
-goes_arms word = goes_arm word || is_union word
+abbrev pub follow_arms : Word → Bool
+follow_arms word = follow_arm word || is_union word
 
-abbrev pub goes_targets : Word → Bool
-goes_targets word = goes_arms word || is_semicolon word
+abbrev pub follow_targets : Word → Bool
+follow_targets word = follow_arms word || is_semicolon word
 
 -- what may stand behind an expression that is an item
 abbrev pub ItemEnd : Counted → Rule Item

@@ -12,38 +12,38 @@ use Rattle.bf_parse.specs.Statements.{OrdinaryRule}
 use Rattle.bf_parse.specs.Migrations.{MigrateRule}
 use Rattle.bf_parse.specs.Scripts.{Progress}
 
-abbrev pub begins_ordinary : Word → Bool
-begins_ordinary (Keyword keyword.Create) = true
-begins_ordinary (Keyword keyword.Insert) = true
-begins_ordinary (Keyword keyword.Select) = true
-begins_ordinary (Keyword keyword.Update) = true
-begins_ordinary (Keyword keyword.Delete) = true
-begins_ordinary (Keyword keyword.Begin) = true
-begins_ordinary (Keyword keyword.Commit) = true
-begins_ordinary (Keyword keyword.Rollback) = true
-begins_ordinary other = false
+abbrev pub first_ordinary : Word → Bool
+first_ordinary (Keyword keyword.Create) = true
+first_ordinary (Keyword keyword.Insert) = true
+first_ordinary (Keyword keyword.Select) = true
+first_ordinary (Keyword keyword.Update) = true
+first_ordinary (Keyword keyword.Delete) = true
+first_ordinary (Keyword keyword.Begin) = true
+first_ordinary (Keyword keyword.Commit) = true
+first_ordinary (Keyword keyword.Rollback) = true
+first_ordinary other = false
 
-abbrev pub begins_migrate : Word → Bool
-begins_migrate (Keyword keyword.Migrate) = true
-begins_migrate other = false
+abbrev pub first_migrate : Word → Bool
+first_migrate (Keyword keyword.Migrate) = true
+first_migrate other = false
 
-abbrev pub begins_session : Word → Bool
-begins_session (Keyword keyword.Session) = true
-begins_session other = false
+abbrev pub first_session : Word → Bool
+first_session (Keyword keyword.Session) = true
+first_session other = false
 
-abbrev pub begins_phase : Word → Bool
-begins_phase (Keyword keyword.Phase) = true
-begins_phase other = false
+abbrev pub first_phase : Word → Bool
+first_phase (Keyword keyword.Phase) = true
+first_phase other = false
 
-abbrev pub begins_statement : Word → Bool
-begins_statement word = begins_ordinary word || begins_migrate word
+abbrev pub first_statement : Word → Bool
+first_statement word = first_ordinary word || first_migrate word
 
 -- sessions and phases go on
-abbrev pub goes_sessions : Word → Bool
-goes_sessions word = begins_statement word || begins_session word
+abbrev pub follow_sessions : Word → Bool
+follow_sessions word = first_statement word || first_session word
 
-abbrev pub goes_phases : Word → Bool
-goes_phases word = goes_sessions word || begins_phase word
+abbrev pub follow_phases : Word → Bool
+follow_phases word = follow_sessions word || first_phase word
 
 -- a statement, and how many MIGRATEs have come with it; `m` came before
 abbrev pub StatementRule : ℕ → Rule (Statement × ℕ)

@@ -10,14 +10,14 @@ use Rattle.bf_parse.specs.declared.start.Front.{Front}
 use Rattle.bf_parse.specs.declared.start.Front.TheVariants as front
 use Rattle.bf_parse.specs.Words.{Word, Number, Text, Minus, Sign}
 use Rattle.bf_parse.specs.Cursors.{words}
-use Rattle.bf_parse.specs.Ends.{begins, begins_literal, is_opposite, is_parenthesis}
+use Rattle.bf_parse.specs.Ends.{begins, first_literal, is_opposite, is_parenthesis}
 use Rattle.bf_parse.specs.Expressions.{begins_with_number}
 
 abbrev pub HasStart : List Word → Start → Type 0
-HasStart ws start.Literal = begins begins_literal ws ≡ true
+HasStart ws start.Literal = begins first_literal ws ≡ true
 HasStart ws (start.Opposite rest) = (ws ≡ Minus false ∷ words rest) × (begins_with_number (words rest) ≡ false)
 HasStart ws (start.Parenthesis rest) = ws ≡ Sign OpeningParenthesis ∷ words rest
-HasStart ws start.Other = (begins begins_literal ws ≡ false) × (begins is_opposite ws ≡ false) × (begins is_parenthesis ws ≡ false)
+HasStart ws start.Other = (begins first_literal ws ≡ false) × (begins is_opposite ws ≡ false) × (begins is_parenthesis ws ≡ false)
 
 -- which kind of operand begins, and the words behind the first word of a counted one
 pub record IsStart (ws : List Word) (found : Start) : Type 0 where
@@ -28,7 +28,7 @@ HasFront ws (front.Number n rest) = (ws ≡ Number n ∷ words rest) × (n ≤ 2
 HasFront ws (front.Negative n rest) = (ws ≡ Minus true ∷ Number n ∷ words rest) × (n ≤ 2 ^ 63)
 HasFront ws (front.Text bytes rest) = (inner : List ℕ) × IsText inner × (bytes.now ≡ quoted inner) × (ws ≡ Text inner ∷ words rest)
 HasFront ws (front.Minus rest) = (ws ≡ Minus false ∷ words rest) × (begins_with_number (words rest) ≡ false)
-HasFront ws front.Other = (begins begins_literal ws ≡ false) × (begins is_opposite ws ≡ false)
+HasFront ws front.Other = (begins first_literal ws ≡ false) × (begins is_opposite ws ≡ false)
 
 -- the literal at the front, or a minus alone, and the words behind it
 pub record IsFront (ws : List Word) (found : Front) : Type 0 where

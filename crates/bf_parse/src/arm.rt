@@ -3,13 +3,13 @@
 ghost use Rattle.std.specs.Prelude.{◌≡◌, ◌<◌, ◌≤◌, IfOk};
 ghost use Rattle.bf_parse.specs.Cursors.{IsPlace, left, words};
 ghost use Rattle.bf_parse.specs.Ends.{is_point};
-ghost use Rattle.bf_parse.specs.MigrationEnds.{ArmsRule, ClausesRule, EqualitiesRule, goes_arm, goes_arms, goes_equalities, goes_group, goes_join};
+ghost use Rattle.bf_parse.specs.MigrationEnds.{ArmsRule, ClausesRule, EqualitiesRule, follow_arm, follow_arms, follow_equalities, follow_group, follow_join};
 ghost use Rattle.bf_parse.specs.Migrations.{ArmRule, EqualityRule, GroupRule, JoinRule};
 ghost use Rattle.bf_parse.specs.Outcome.{outcome};
 ghost use Rattle.bf_parse.specs.Reading.{Fits, Read};
 
 use crate::cursor::Cursor;
-use crate::error::Stop;
+use crate::error::ReadStop;
 use crate::list::{list, room};
 use crate::operand::reference;
 use crate::query::where_clause;
@@ -19,7 +19,7 @@ use bf_lex::{Keyword, Sign};
 use std::alloc::Global;
 
 /// The equality at a place, and the place behind it.
-fn equality<'a>(alloc: Global, cursor: Cursor<'a>) -> Result<((Ref, Ref), Cursor<'a>), Stop>
+fn equality<'a>(alloc: Global, cursor: Cursor<'a>) -> Result<((Ref, Ref), Cursor<'a>), ReadStop>
     requires { IsPlace cursor }
     ensures fits { Fits is_point EqualityRule (words cursor.entry)
         (outcome (λ x. Read x.0 (words x.1)) result) }
@@ -33,9 +33,9 @@ fn equality<'a>(alloc: Global, cursor: Cursor<'a>) -> Result<((Ref, Ref), Cursor
 }
 
 /// The equalities at a place, with AND between them, and the place behind them.
-fn equalities<'a>(alloc: Global, cursor: Cursor<'a>) -> Result<(Vec<(Ref, Ref)>, Cursor<'a>), Stop>
+fn equalities<'a>(alloc: Global, cursor: Cursor<'a>) -> Result<(Vec<(Ref, Ref)>, Cursor<'a>), ReadStop>
     requires { IsPlace cursor }
-    ensures fits { Fits goes_equalities EqualitiesRule (words cursor.entry)
+    ensures fits { Fits follow_equalities EqualitiesRule (words cursor.entry)
         (outcome (λ x. Read x.0.items (words x.1)) result) }
     ensures place { IfOk result (λ x. IsPlace x.1) }
     ensures shorter { IfOk result (λ x. left x.1 < left cursor.entry) }
@@ -54,9 +54,9 @@ fn equalities<'a>(alloc: Global, cursor: Cursor<'a>) -> Result<(Vec<(Ref, Ref)>,
 }
 
 /// The JOIN at a place, if one stands there, and the place behind it.
-fn join<'a>(alloc: Global, cursor: Cursor<'a>) -> Result<(Option<Join>, Cursor<'a>), Stop>
+fn join<'a>(alloc: Global, cursor: Cursor<'a>) -> Result<(Option<Join>, Cursor<'a>), ReadStop>
     requires { IsPlace cursor }
-    ensures fits { Fits goes_join JoinRule (words cursor.entry)
+    ensures fits { Fits follow_join JoinRule (words cursor.entry)
         (outcome (λ x. Read x.0 (words x.1)) result) }
     ensures place { IfOk result (λ x. IsPlace x.1) }
     ensures shorter { IfOk result (λ x. left x.1 ≤ left cursor.entry) }
@@ -74,9 +74,9 @@ fn join<'a>(alloc: Global, cursor: Cursor<'a>) -> Result<(Option<Join>, Cursor<'
 }
 
 /// The columns of the GROUP BY at a place, none where none stands there, and the place behind it.
-fn group<'a>(alloc: Global, cursor: Cursor<'a>) -> Result<(Vec<Ref>, Cursor<'a>), Stop>
+fn group<'a>(alloc: Global, cursor: Cursor<'a>) -> Result<(Vec<Ref>, Cursor<'a>), ReadStop>
     requires { IsPlace cursor }
-    ensures fits { Fits goes_group GroupRule (words cursor.entry)
+    ensures fits { Fits follow_group GroupRule (words cursor.entry)
         (outcome (λ x. Read x.0.items (words x.1)) result) }
     ensures place { IfOk result (λ x. IsPlace x.1) }
     ensures shorter { IfOk result (λ x. left x.1 ≤ left cursor.entry) }
@@ -94,9 +94,9 @@ fn group<'a>(alloc: Global, cursor: Cursor<'a>) -> Result<(Vec<Ref>, Cursor<'a>)
 fn clauses<'a>(
     alloc: Global,
     cursor: Cursor<'a>,
-) -> Result<(Option<Join>, Option<RawCond>, Vec<Ref>, Cursor<'a>), Stop>
+) -> Result<(Option<Join>, Option<RawCond>, Vec<Ref>, Cursor<'a>), ReadStop>
     requires { IsPlace cursor }
-    ensures fits { Fits goes_arm ClausesRule (words cursor.entry)
+    ensures fits { Fits follow_arm ClausesRule (words cursor.entry)
         (outcome (λ x. Read (x.0, x.1, x.2.items) (words x.3)) result) }
     ensures place { IfOk result (λ x. IsPlace x.3) }
     ensures shorter { IfOk result (λ x. left x.3 ≤ left cursor.entry) }
@@ -108,9 +108,9 @@ fn clauses<'a>(
 }
 
 /// The arm at a place, and the place behind it.
-fn arm<'a>(alloc: Global, cursor: Cursor<'a>) -> Result<(Arm, Cursor<'a>), Stop>
+fn arm<'a>(alloc: Global, cursor: Cursor<'a>) -> Result<(Arm, Cursor<'a>), ReadStop>
     requires { IsPlace cursor }
-    ensures fits { Fits goes_arm ArmRule (words cursor.entry)
+    ensures fits { Fits follow_arm ArmRule (words cursor.entry)
         (outcome (λ x. Read x.0 (words x.1)) result) }
     ensures place { IfOk result (λ x. IsPlace x.1) }
     ensures shorter { IfOk result (λ x. left x.1 < left cursor.entry) }
@@ -135,9 +135,9 @@ fn arm<'a>(alloc: Global, cursor: Cursor<'a>) -> Result<(Arm, Cursor<'a>), Stop>
 }
 
 /// The arms at a place, with UNION ALL between them, and the place behind them.
-pub(crate) fn arms<'a>(alloc: Global, cursor: Cursor<'a>) -> Result<(Vec<Arm>, Cursor<'a>), Stop>
+pub(crate) fn arms<'a>(alloc: Global, cursor: Cursor<'a>) -> Result<(Vec<Arm>, Cursor<'a>), ReadStop>
     requires { IsPlace cursor }
-    ensures fits { Fits goes_arms ArmsRule (words cursor.entry)
+    ensures fits { Fits follow_arms ArmsRule (words cursor.entry)
         (outcome (λ x. Read x.0.items (words x.1)) result) }
     ensures place { IfOk result (λ x. IsPlace x.1) }
     ensures shorter { IfOk result (λ x. left x.1 < left cursor.entry) }

@@ -11,7 +11,7 @@ ghost use Rattle.bf_parse.specs.StatementEnds.{is_check};
 ghost use Rattle.bf_parse.specs.Statements.{CheckRule, ColumnRuleRule, FormRule, IndexRuleRule, TableRule};
 
 use crate::cursor::Cursor;
-use crate::error::Stop;
+use crate::error::ReadStop;
 use crate::list::{enclosed_list, room};
 use crate::operand::{WIDEST, signed};
 use crate::start::Front;
@@ -21,7 +21,7 @@ use bf_tree::{ColumnForm, ColumnRule, Statement};
 use std::alloc::Global;
 
 /// The number at a place, and the place behind it.
-fn number<'a>(cursor: Cursor<'a>) -> Result<(u64, Cursor<'a>), Stop>
+fn number<'a>(cursor: Cursor<'a>) -> Result<(u64, Cursor<'a>), ReadStop>
     requires { IsPlace cursor }
     ensures fits { Fits nothing NumberRule (words cursor.entry)
         (outcome (λ x. Read x.0 (words x.1)) result) }
@@ -33,15 +33,15 @@ fn number<'a>(cursor: Cursor<'a>) -> Result<(u64, Cursor<'a>), Stop>
             if number < WIDEST {
                 Ok((number, rest))
             } else {
-                Err(Stop::Limit(ScriptKind::NumberTooWide, cursor.tokens.len()))
+                Err(ReadStop::Limit(ScriptKind::NumberTooWide, cursor.tokens.len()))
             }
         }
-        _ => Err(Stop::Syntax(cursor.tokens.len())),
+        _ => Err(ReadStop::Syntax(cursor.tokens.len())),
     }
 }
 
 /// The column and the bounds of a CHECK at a place, and the place behind them.
-fn range<'a>(alloc: Global, cursor: Cursor<'a>) -> Result<(ColumnForm, Cursor<'a>), Stop>
+fn range<'a>(alloc: Global, cursor: Cursor<'a>) -> Result<(ColumnForm, Cursor<'a>), ReadStop>
     requires { IsPlace cursor }
     ensures fits { Fits nothing RangeRule (words cursor.entry)
         (outcome (λ x. Read x.0 (words x.1)) result) }
@@ -57,7 +57,7 @@ fn range<'a>(alloc: Global, cursor: Cursor<'a>) -> Result<(ColumnForm, Cursor<'a
 }
 
 /// The CHECK at a place, and the place behind it.
-fn check<'a>(alloc: Global, cursor: Cursor<'a>) -> Result<(ColumnForm, Cursor<'a>), Stop>
+fn check<'a>(alloc: Global, cursor: Cursor<'a>) -> Result<(ColumnForm, Cursor<'a>), ReadStop>
     requires { IsPlace cursor }
     ensures fits { Fits nothing CheckRule (words cursor.entry)
         (outcome (λ x. Read x.0 (words x.1)) result) }
@@ -72,7 +72,7 @@ fn check<'a>(alloc: Global, cursor: Cursor<'a>) -> Result<(ColumnForm, Cursor<'a
 }
 
 /// What a column is declared to admit, at a place, and the place behind it.
-fn form<'a>(alloc: Global, cursor: Cursor<'a>) -> Result<(ColumnForm, Cursor<'a>), Stop>
+fn form<'a>(alloc: Global, cursor: Cursor<'a>) -> Result<(ColumnForm, Cursor<'a>), ReadStop>
     requires { IsPlace cursor }
     ensures fits { Fits is_check FormRule (words cursor.entry)
         (outcome (λ x. Read x.0 (words x.1)) result) }
@@ -95,7 +95,7 @@ fn form<'a>(alloc: Global, cursor: Cursor<'a>) -> Result<(ColumnForm, Cursor<'a>
 }
 
 /// The column at a place, and the place behind it.
-fn column<'a>(alloc: Global, cursor: Cursor<'a>) -> Result<(ColumnRule, Cursor<'a>), Stop>
+fn column<'a>(alloc: Global, cursor: Cursor<'a>) -> Result<(ColumnRule, Cursor<'a>), ReadStop>
     requires { IsPlace cursor }
     ensures fits { Fits is_check ColumnRuleRule (words cursor.entry)
         (outcome (λ x. Read x.0 (words x.1)) result) }
@@ -108,7 +108,7 @@ fn column<'a>(alloc: Global, cursor: Cursor<'a>) -> Result<(ColumnRule, Cursor<'
 }
 
 /// The columns before PRIMARY at a place, and the place behind that.
-fn columns<'a>(alloc: Global, cursor: Cursor<'a>) -> Result<(Vec<ColumnRule>, Cursor<'a>), Stop>
+fn columns<'a>(alloc: Global, cursor: Cursor<'a>) -> Result<(Vec<ColumnRule>, Cursor<'a>), ReadStop>
     requires { IsPlace cursor }
     ensures fits { Fits nothing ColumnsRule (words cursor.entry)
         (outcome (λ x. Read x.0.items (words x.1)) result) }
@@ -133,7 +133,7 @@ fn columns<'a>(alloc: Global, cursor: Cursor<'a>) -> Result<(Vec<ColumnRule>, Cu
 }
 
 /// The table behind CREATE at a place, and the place behind it.
-fn table<'a>(alloc: Global, cursor: Cursor<'a>) -> Result<(Statement, Cursor<'a>), Stop>
+fn table<'a>(alloc: Global, cursor: Cursor<'a>) -> Result<(Statement, Cursor<'a>), ReadStop>
     requires { IsPlace cursor }
     ensures fits { Fits nothing TableRule (words cursor.entry)
         (outcome (λ x. Read x.0 (words x.1)) result) }
@@ -153,7 +153,7 @@ fn table<'a>(alloc: Global, cursor: Cursor<'a>) -> Result<(Statement, Cursor<'a>
 }
 
 /// The index behind CREATE at a place, and the place behind it.
-fn index<'a>(alloc: Global, cursor: Cursor<'a>) -> Result<(Statement, Cursor<'a>), Stop>
+fn index<'a>(alloc: Global, cursor: Cursor<'a>) -> Result<(Statement, Cursor<'a>), ReadStop>
     requires { IsPlace cursor }
     ensures fits { Fits nothing IndexRuleRule (words cursor.entry)
         (outcome (λ x. Read x.0 (words x.1)) result) }
@@ -177,7 +177,7 @@ fn index<'a>(alloc: Global, cursor: Cursor<'a>) -> Result<(Statement, Cursor<'a>
 }
 
 /// The CREATE at a place, and the place behind it.
-pub(crate) fn create<'a>(alloc: Global, cursor: Cursor<'a>) -> Result<(Statement, Cursor<'a>), Stop>
+pub(crate) fn create<'a>(alloc: Global, cursor: Cursor<'a>) -> Result<(Statement, Cursor<'a>), ReadStop>
     requires { IsPlace cursor }
     ensures fits { Fits nothing CreateRule (words cursor.entry)
         (outcome (λ x. Read x.0 (words x.1)) result) }

@@ -3,17 +3,17 @@
 ghost use Rattle.std.specs.Prelude.{◌≡◌, ◌<◌, IfErr, IfOk};
 ghost use Rattle.bf_tree.specs.Trees.{both, either, opposite as opposite_tree};
 ghost use Rattle.bf_tree.specs.Views.{operand_tree};
-ghost use Rattle.bf_parse.specs.declared.error.Stop.TheVariants.{Memory as OutOfMemory};
+ghost use Rattle.bf_parse.specs.declared.error.ReadStop.TheVariants.{Memory as OutOfMemory};
 ghost use Rattle.bf_parse.specs.Comparisons.{TestRule};
 ghost use Rattle.bf_parse.specs.Conditions.{Conjunction, Disjunction, Negation, OperandRule};
 ghost use Rattle.bf_parse.specs.Cursors.{IsPlace, left, words};
-ghost use Rattle.bf_parse.specs.Ends.{goes_conjunction, goes_disjunction, is_point};
+ghost use Rattle.bf_parse.specs.Ends.{follow_conjunction, follow_disjunction, is_point};
 ghost use Rattle.bf_parse.specs.Outcome.{outcome};
 ghost use Rattle.bf_parse.specs.Reading.{Fits, Read};
 
 use crate::comparison::next_comparison;
 use crate::cursor::Cursor;
-use crate::error::Stop;
+use crate::error::ReadStop;
 use crate::expression::counted;
 use crate::operand::{literal, reference};
 use crate::start::Start;
@@ -22,7 +22,7 @@ use bf_lex::{Keyword, Sign};
 use std::alloc::Global;
 
 /// A literal or a column at a place, and the place behind it.
-fn operand<'a>(alloc: Global, cursor: Cursor<'a>) -> Result<(Operand, Cursor<'a>), Stop>
+fn operand<'a>(alloc: Global, cursor: Cursor<'a>) -> Result<(Operand, Cursor<'a>), ReadStop>
     requires { IsPlace cursor }
     ensures fits { Fits is_point OperandRule (words cursor.entry)
         (outcome (λ x. Read (operand_tree x.0) (words x.1)) result) }
@@ -46,7 +46,7 @@ fn test<'a>(
     alloc: Global,
     cursor: Cursor<'a>,
     count: usize,
-) -> Result<(RawCond, usize, Cursor<'a>), Stop>
+) -> Result<(RawCond, usize, Cursor<'a>), ReadStop>
     requires { IsPlace cursor }
     ensures fits { Fits is_point (TestRule count) (words cursor.entry)
         (outcome (λ x. Read (x.0, x.1) (words x.2)) result) }
@@ -76,19 +76,19 @@ fn test<'a>(
                     behind,
                 ))
             }
-            None => Err(Stop::Syntax(rest.tokens.len())),
+            None => Err(ReadStop::Syntax(rest.tokens.len())),
         },
     }
 }
 
-fn opposite(alloc: Global, inner: RawCond) -> Result<RawCond, Stop>
+fn opposite(alloc: Global, inner: RawCond) -> Result<RawCond, ReadStop>
     ensures memory { IfErr result (λ e. e ≡ OutOfMemory) }
     ensures value { IfOk result (λ cond. cond ≡ opposite_tree inner) }
 {
     Ok(RawCond::of(RawTest::Not(Box::new(alloc, inner)?)))
 }
 
-fn both_of(alloc: Global, left: RawCond, right: RawCond) -> Result<RawCond, Stop>
+fn both_of(alloc: Global, left: RawCond, right: RawCond) -> Result<RawCond, ReadStop>
     ensures memory { IfErr result (λ e. e ≡ OutOfMemory) }
     ensures value { IfOk result (λ cond. cond ≡ both left right) }
 {
@@ -97,7 +97,7 @@ fn both_of(alloc: Global, left: RawCond, right: RawCond) -> Result<RawCond, Stop
     Ok(RawCond::of(RawTest::And(left, right)))
 }
 
-fn either_of(alloc: Global, left: RawCond, right: RawCond) -> Result<RawCond, Stop>
+fn either_of(alloc: Global, left: RawCond, right: RawCond) -> Result<RawCond, ReadStop>
     ensures memory { IfErr result (λ e. e ≡ OutOfMemory) }
     ensures value { IfOk result (λ cond. cond ≡ either left right) }
 {
@@ -112,7 +112,7 @@ fn negation<'a>(
     alloc: Global,
     cursor: Cursor<'a>,
     count: usize,
-) -> Result<(RawCond, usize, Cursor<'a>), Stop>
+) -> Result<(RawCond, usize, Cursor<'a>), ReadStop>
     requires { IsPlace cursor }
     ensures fits { Fits is_point (Negation count) (words cursor.entry)
         (outcome (λ x. Read (x.0, x.1) (words x.2)) result) }
@@ -144,9 +144,9 @@ fn conjunction<'a>(
     alloc: Global,
     cursor: Cursor<'a>,
     count: usize,
-) -> Result<(RawCond, usize, Cursor<'a>), Stop>
+) -> Result<(RawCond, usize, Cursor<'a>), ReadStop>
     requires { IsPlace cursor }
-    ensures fits { Fits goes_conjunction (Conjunction count) (words cursor.entry)
+    ensures fits { Fits follow_conjunction (Conjunction count) (words cursor.entry)
         (outcome (λ x. Read (x.0, x.1) (words x.2)) result) }
     ensures place { IfOk result (λ x. IsPlace x.2) }
     ensures shorter { IfOk result (λ x. left x.2 < left cursor.entry) }
@@ -171,9 +171,9 @@ pub(crate) fn condition<'a>(
     alloc: Global,
     cursor: Cursor<'a>,
     count: usize,
-) -> Result<(RawCond, usize, Cursor<'a>), Stop>
+) -> Result<(RawCond, usize, Cursor<'a>), ReadStop>
     requires { IsPlace cursor }
-    ensures fits { Fits goes_disjunction (Disjunction count) (words cursor.entry)
+    ensures fits { Fits follow_disjunction (Disjunction count) (words cursor.entry)
         (outcome (λ x. Read (x.0, x.1) (words x.2)) result) }
     ensures place { IfOk result (λ x. IsPlace x.2) }
     ensures shorter { IfOk result (λ x. left x.2 < left cursor.entry) }

@@ -3,13 +3,13 @@
 ghost use Rattle.std.specs.Prelude.{◌≡◌, ◌<◌, IfErr, IfOk, IfSome, IsTrue, slice_range};
 ghost use Rattle.bf_base.specs.Names.{folded, is_name};
 ghost use Rattle.bf_lex.specs.declared.sign.Sign.TheVariants.{Minus as MinusCase};
-ghost use Rattle.bf_parse.specs.declared.error.Stop.TheVariants.{Memory as OutOfMemory};
+ghost use Rattle.bf_parse.specs.declared.error.ReadStop.TheVariants.{Memory as OutOfMemory};
 ghost use Rattle.bf_parse.specs.Words.{Keyword as KeywordWord, Sign as SignWord};
 ghost use Rattle.bf_parse.specs.Cursors.{IsNext, IsPlace, left, words};
 ghost use Rattle.bf_parse.specs.Outcome.{IsBehind, IsExpected, IsNamed, seen, some_seen};
 ghost use Rattle.bf_parse.specs.Tokens.{IsTokenOf};
 
-use crate::error::Stop;
+use crate::error::ReadStop;
 use bf_base::{Name, NameError};
 use bf_lex::{Keyword, Sign, Token, TokenKind};
 use std::alloc::Global;
@@ -79,7 +79,7 @@ impl<'a> Cursor<'a> {
     }
 
     /// The place behind a sign other than `-`, which has to stand first.
-    pub(crate) fn expect_sign(self, sign: Sign) -> Result<Cursor<'a>, Stop>
+    pub(crate) fn expect_sign(self, sign: Sign) -> Result<Cursor<'a>, ReadStop>
         requires other { sign ≡ MinusCase → ⊥ }
         requires place { IsPlace self }
         ensures found { IsExpected (SignWord sign) (words self.entry) (seen words result) }
@@ -88,12 +88,12 @@ impl<'a> Cursor<'a> {
     {
         match self.sign(sign) {
             Some(rest) => Ok(rest),
-            None => Err(Stop::Syntax(self.tokens.len())),
+            None => Err(ReadStop::Syntax(self.tokens.len())),
         }
     }
 
     /// The place behind a keyword, which has to stand first.
-    pub(crate) fn expect_keyword(self, keyword: Keyword) -> Result<Cursor<'a>, Stop>
+    pub(crate) fn expect_keyword(self, keyword: Keyword) -> Result<Cursor<'a>, ReadStop>
         requires { IsPlace self }
         ensures found { IsExpected (KeywordWord keyword) (words self.entry) (seen words result) }
         ensures place { IfOk result IsPlace }
@@ -101,35 +101,35 @@ impl<'a> Cursor<'a> {
     {
         match self.keyword(keyword) {
             Some(rest) => Ok(rest),
-            None => Err(Stop::Syntax(self.tokens.len())),
+            None => Err(ReadStop::Syntax(self.tokens.len())),
         }
     }
 
     /// The name that has to stand first, and the place behind it.
-    pub(crate) fn name(self, alloc: Global) -> Result<(Name, Cursor<'a>), Stop>
+    pub(crate) fn name(self, alloc: Global) -> Result<(Name, Cursor<'a>), ReadStop>
         requires { IsPlace self }
         ensures found { IsNamed (words self.entry) (seen (λ x. (x.0, words x.1)) result) }
         ensures place { IfOk result (λ x. IsPlace x.1) }
         ensures shorter { IfOk result (λ x. left x.1 < left self.entry) }
     {
         match self.next() {
-            None => Err(Stop::Syntax(self.tokens.len())),
+            None => Err(ReadStop::Syntax(self.tokens.len())),
             Some((first, behind)) => match first.kind {
                 TokenKind::Name => Ok((name_of(alloc, bytes_of(self.text, first))?, behind)),
-                _ => Err(Stop::Syntax(self.tokens.len())),
+                _ => Err(ReadStop::Syntax(self.tokens.len())),
             },
         }
     }
 }
 
-fn name_of(alloc: Global, bytes: &[u8]) -> Result<Name, Stop>
+fn name_of(alloc: Global, bytes: &[u8]) -> Result<Name, ReadStop>
     requires { IsTrue (is_name (folded bytes.now)) }
     ensures memory { IfErr result (λ e. e ≡ OutOfMemory) }
     ensures value { IfOk result (λ name. name ≡ folded bytes.now) }
 {
     match Name::of(alloc, bytes) {
         Ok(name) => Ok(name),
-        Err(NameError::Memory) => Err(Stop::Memory),
+        Err(NameError::Memory) => Err(ReadStop::Memory),
         Err(NameError::BadName) => unreachable!(),
     }
 }

@@ -1,7 +1,7 @@
 //! Why a reading of tokens stops.
 
 ghost use Rattle.std.specs.Prelude.{◌≡◌};
-ghost use Rattle.bf_parse.specs.declared.error.Stop.TheVariants.{Memory as OutOfMemory};
+ghost use Rattle.bf_parse.specs.declared.error.ReadStop.TheVariants.{Memory as OutOfMemory};
 
 use bf_base::Memory;
 use bf_lex::ScriptKind;
@@ -10,7 +10,7 @@ use thiserror::Error;
 
 /// Why a reading stops, and the number of tokens that are left there.
 #[derive(Clone, Copy, Debug, PartialEq, Eq, Error)]
-pub(crate) enum Stop {
+pub(crate) enum ReadStop {
     /// The first token that can't go on, or the end.
     #[error("syntax")]
     Syntax(usize),
@@ -21,26 +21,26 @@ pub(crate) enum Stop {
     Memory,
 }
 
-impl From<Memory> for Stop {
+impl From<Memory> for ReadStop {
     ghost from_gives = { λ _ e. e ≡ OutOfMemory };
 
-    fn from(_e: Memory) -> Stop {
-        Stop::Memory
+    fn from(_e: Memory) -> ReadStop {
+        ReadStop::Memory
     }
 }
 
-impl From<AllocError> for Stop {
+impl From<AllocError> for ReadStop {
     ghost from_gives = { λ _ e. e ≡ OutOfMemory };
 
-    fn from(_e: AllocError) -> Stop {
-        Stop::Memory
+    fn from(_e: AllocError) -> ReadStop {
+        ReadStop::Memory
     }
 }
 
-impl<T: Drop> From<AllocFailed<T>> for Stop {
+impl<T: Drop> From<AllocFailed<T>> for ReadStop {
     ghost from_gives = { λ _ e. e ≡ OutOfMemory };
 
-    fn from(_e: AllocFailed<T>) -> Stop {
-        Stop::Memory
+    fn from(_e: AllocFailed<T>) -> ReadStop {
+        ReadStop::Memory
     }
 }

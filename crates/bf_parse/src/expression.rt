@@ -3,17 +3,17 @@
 ghost use Rattle.std.specs.Prelude.{◌≡◌, ◌+◌, ◌<◌, ◌≤◌, IfErr, IfOk, IfSome};
 ghost use Rattle.bf_tree.specs.Trees.{negated, times};
 ghost use Rattle.bf_lex.specs.declared.fault.ScriptKind.TheVariants.{TooDeep as TooDeepKind};
-ghost use Rattle.bf_parse.specs.declared.error.Stop.TheVariants.{Limit as BeyondLimit, Memory as OutOfMemory};
+ghost use Rattle.bf_parse.specs.declared.error.ReadStop.TheVariants.{Limit as BeyondLimit, Memory as OutOfMemory};
 ghost use Rattle.bf_parse.specs.Cursors.{IsPlace, left, words};
-ghost use Rattle.bf_parse.specs.Ends.{goes_product, goes_sum, is_point};
+ghost use Rattle.bf_parse.specs.Ends.{follow_product, follow_sum, is_point};
 ghost use Rattle.bf_parse.specs.Expressions.{Factor, Product, Sum};
 ghost use Rattle.bf_parse.specs.Outcome.{outcome};
 ghost use Rattle.bf_parse.specs.Reading.{Fits, Read};
-ghost use Rattle.bf_parse.specs.Sums.{IsJoint, joint};
+ghost use Rattle.bf_parse.specs.Sums.{IsNextOperator, joint};
 
 use crate::cursor::Cursor;
-use crate::error::Stop;
-use crate::joint::{Joint, next_joint};
+use crate::error::ReadStop;
+use crate::sum_operator::{SumOperator, next_operator};
 use crate::operand::{literal, reference};
 use crate::start::Start;
 use bf_tree::{RawExpr, RawNode};
@@ -24,7 +24,7 @@ use std::alloc::Global;
 const DEEPEST: usize = 256;
 
 /// One more than the count, for the counted word at a place.
-pub(crate) fn counted(count: usize, cursor: Cursor<'_>) -> Result<usize, Stop>
+pub(crate) fn counted(count: usize, cursor: Cursor<'_>) -> Result<usize, ReadStop>
     ensures one_more { IfOk result (λ n. n ≡ count + 1) }
     ensures shallow { IfOk result (λ n. count < 256) }
     ensures fault { IfErr result (λ e. e ≡ BeyondLimit TooDeepKind (left cursor.entry)) }
@@ -33,18 +33,18 @@ pub(crate) fn counted(count: usize, cursor: Cursor<'_>) -> Result<usize, Stop>
     if count < DEEPEST {
         Ok(count + 1)
     } else {
-        Err(Stop::Limit(ScriptKind::TooDeep, cursor.tokens.len()))
+        Err(ReadStop::Limit(ScriptKind::TooDeep, cursor.tokens.len()))
     }
 }
 
-fn opposite(alloc: Global, inner: RawExpr) -> Result<RawExpr, Stop>
+fn opposite(alloc: Global, inner: RawExpr) -> Result<RawExpr, ReadStop>
     ensures memory { IfErr result (λ e. e ≡ OutOfMemory) }
     ensures value { IfOk result (λ expr. expr ≡ negated inner) }
 {
     Ok(RawExpr::of(RawNode::Neg(Box::new(alloc, inner)?)))
 }
 
-fn product_of(alloc: Global, left: RawExpr, right: RawExpr) -> Result<RawExpr, Stop>
+fn product_of(alloc: Global, left: RawExpr, right: RawExpr) -> Result<RawExpr, ReadStop>
     ensures memory { IfErr result (λ e. e ≡ OutOfMemory) }
     ensures value { IfOk result (λ expr. expr ≡ times left right) }
 {
@@ -53,16 +53,16 @@ fn product_of(alloc: Global, left: RawExpr, right: RawExpr) -> Result<RawExpr, S
     Ok(RawExpr::of(RawNode::Mul(left, right)))
 }
 
-fn joined(alloc: Global, by: Joint, left: RawExpr, right: RawExpr) -> Result<RawExpr, Stop>
+fn joined(alloc: Global, by: SumOperator, left: RawExpr, right: RawExpr) -> Result<RawExpr, ReadStop>
     ensures memory { IfErr result (λ e. e ≡ OutOfMemory) }
-    ensures value { IfOk result (λ expr. expr ≡ joint by left right) }
+    ensures value { IfOk result (λ expr. expr ≡ sum_of by left right) }
 {
     let left = Box::new(alloc, left)?;
     let right = Box::new(alloc, right)?;
     match by {
-        Joint::Plus => Ok(RawExpr::of(RawNode::Add(left, right))),
-        Joint::Difference => Ok(RawExpr::of(RawNode::Sub(left, right))),
-        Joint::Concatenation => Ok(RawExpr::of(RawNode::Concat(left, right))),
+        SumOperator::Plus => Ok(RawExpr::of(RawNode::Add(left, right))),
+        SumOperator::Difference => Ok(RawExpr::of(RawNode::Sub(left, right))),
+        SumOperator::Concatenation => Ok(RawExpr::of(RawNode::Concat(left, right))),
     }
 }
 
@@ -72,7 +72,7 @@ fn factor<'a>(
     alloc: Global,
     cursor: Cursor<'a>,
     count: usize,
-) -> Result<(RawExpr, usize, Cursor<'a>), Stop>
+) -> Result<(RawExpr, usize, Cursor<'a>), ReadStop>
     requires { IsPlace cursor }
     ensures fits { Fits is_point (Factor count) (words cursor.entry)
         (outcome (λ x. Read (x.0, x.1) (words x.2)) result) }
@@ -109,9 +109,9 @@ fn product<'a>(
     alloc: Global,
     cursor: Cursor<'a>,
     count: usize,
-) -> Result<(RawExpr, usize, Cursor<'a>), Stop>
+) -> Result<(RawExpr, usize, Cursor<'a>), ReadStop>
     requires { IsPlace cursor }
-    ensures fits { Fits goes_product (Product count) (words cursor.entry)
+    ensures fits { Fits follow_product (Product count) (words cursor.entry)
         (outcome (λ x. Read (x.0, x.1) (words x.2)) result) }
     ensures place { IfOk result (λ x. IsPlace x.2) }
     ensures shorter { IfOk result (λ x. left x.2 < left cursor.entry) }
@@ -136,9 +136,9 @@ pub(crate) fn sum<'a>(
     alloc: Global,
     cursor: Cursor<'a>,
     count: usize,
-) -> Result<(RawExpr, usize, Cursor<'a>), Stop>
+) -> Result<(RawExpr, usize, Cursor<'a>), ReadStop>
     requires { IsPlace cursor }
-    ensures fits { Fits goes_sum (Sum count) (words cursor.entry)
+    ensures fits { Fits follow_sum (Sum count) (words cursor.entry)
         (outcome (λ x. Read (x.0, x.1) (words x.2)) result) }
     ensures place { IfOk result (λ x. IsPlace x.2) }
     ensures shorter { IfOk result (λ x. left x.2 < left cursor.entry) }
@@ -147,7 +147,7 @@ pub(crate) fn sum<'a>(
     let mut total = first;
     let mut so_far = last;
     let mut rest = rest;
-    while let Some((by, behind)) = next_joint(rest) {
+    while let Some((by, behind)) = next_operator(rest) {
         let next = counted(so_far, rest)?;
         let (right, last, behind) = product(alloc, behind, next)?;
         total = joined(alloc, by, total, right)?;

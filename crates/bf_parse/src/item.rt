@@ -3,13 +3,13 @@
 ghost use Rattle.std.specs.Prelude.{◌≡◌, ◌<◌, ◌≤◌, IfOk};
 ghost use Rattle.bf_parse.specs.Cursors.{IsPlace, left, words};
 ghost use Rattle.bf_parse.specs.Ends.{begins};
-ghost use Rattle.bf_parse.specs.MigrationEnds.{IsBare, ItemEnd, begins_item, goes_item, is_as};
+ghost use Rattle.bf_parse.specs.MigrationEnds.{IsBare, ItemEnd, first_item, follow_item, is_as};
 ghost use Rattle.bf_parse.specs.Migrations.{ItemRule};
 ghost use Rattle.bf_parse.specs.Outcome.{outcome};
 ghost use Rattle.bf_parse.specs.Reading.{Fits, Read};
 
 use crate::cursor::Cursor;
-use crate::error::Stop;
+use crate::error::ReadStop;
 use crate::expression::sum;
 use crate::list::Part;
 use crate::query::aggregate;
@@ -36,7 +36,7 @@ fn behind<'a>(
     expr: RawExpr,
     count: usize,
     cursor: Cursor<'a>,
-) -> Result<(Item, Cursor<'a>), Stop>
+) -> Result<(Item, Cursor<'a>), ReadStop>
     requires { IsPlace cursor }
     ensures fits { Fits is_as (ItemEnd (expr, count)) (words cursor.entry)
         (outcome (λ x. Read x.0 (words x.1)) result) }
@@ -50,15 +50,15 @@ fn behind<'a>(
         }
         None => match bare(expr, count) {
             Some(column) => Ok((Item::Column(column), cursor)),
-            None => Err(Stop::Syntax(cursor.tokens.len())),
+            None => Err(ReadStop::Syntax(cursor.tokens.len())),
         },
     }
 }
 
 /// The item at a place, and the place behind it.
-fn item<'a>(alloc: Global, cursor: Cursor<'a>) -> Result<(Item, Cursor<'a>), Stop>
+fn item<'a>(alloc: Global, cursor: Cursor<'a>) -> Result<(Item, Cursor<'a>), ReadStop>
     requires { IsPlace cursor }
-    ensures fits { Fits goes_item ItemRule (words cursor.entry)
+    ensures fits { Fits follow_item ItemRule (words cursor.entry)
         (outcome (λ x. Read x.0 (words x.1)) result) }
     ensures place { IfOk result (λ x. IsPlace x.1) }
     ensures shorter { IfOk result (λ x. left x.1 < left cursor.entry) }
@@ -77,7 +77,7 @@ fn item<'a>(alloc: Global, cursor: Cursor<'a>) -> Result<(Item, Cursor<'a>), Sto
 /// Whether an item begins at a place.
 fn begins(cursor: Cursor<'_>) -> bool
     requires { IsPlace cursor }
-    ensures { result ≡ begins begins_item (words cursor.entry) }
+    ensures { result ≡ begins first_item (words cursor.entry) }
 {
     cursor.begins_expression() || cursor.begins_aggregate()
 }
@@ -85,15 +85,15 @@ fn begins(cursor: Cursor<'_>) -> bool
 impl Part for Item {
     ghost rule = { ItemRule };
 
-    ghost goes_on = { goes_item };
+    ghost follow = { follow_item };
 
-    ghost begun = { begins_item };
+    ghost first = { first_item };
 
     fn begins_at(cursor: Cursor<'_>) -> bool {
         begins(cursor)
     }
 
-    fn read<'a>(alloc: Global, cursor: Cursor<'a>) -> Result<(Item, Cursor<'a>), Stop> {
+    fn read<'a>(alloc: Global, cursor: Cursor<'a>) -> Result<(Item, Cursor<'a>), ReadStop> {
         item(alloc, cursor)
     }
 }

@@ -3,17 +3,17 @@
 ghost use Rattle.std.specs.Prelude.{◌≡◌, ◌<◌, IfSome};
 ghost use Rattle.bf_parse.specs.Cursors.{IsPlace, left, words};
 ghost use Rattle.bf_parse.specs.Ends.{begins, is_name};
-ghost use Rattle.bf_parse.specs.Leads.{IsLead};
-ghost use Rattle.bf_parse.specs.StatementEnds.{begins_aggregate as aggregate_begins, begins_constant as constant_begins, begins_expression as expression_begins};
+ghost use Rattle.bf_parse.specs.Leads.{IsFirstKeyword};
+ghost use Rattle.bf_parse.specs.StatementEnds.{first_aggregate, first_constant, first_expression};
 
 use crate::cursor::Cursor;
 use bf_lex::{Keyword, Sign, TokenKind};
 
 impl<'a> Cursor<'a> {
     /// The keyword that stands first, and the place behind it.
-    pub(crate) fn leading(self) -> Option<(Keyword, Cursor<'a>)>
+    pub(crate) fn first_keyword(self) -> Option<(Keyword, Cursor<'a>)>
         requires { IsPlace self }
-        ensures found { IsLead (words self.entry) result }
+        ensures found { IsFirstKeyword (words self.entry) result }
         ensures place { IfSome result (λ x. IsPlace x.1) }
         ensures shorter { IfSome result (λ x. left x.1 < left self.entry) }
     {
@@ -43,7 +43,7 @@ impl<'a> Cursor<'a> {
     /// Whether a literal begins here, or a minus stands where one is due.
     pub(crate) fn begins_constant(self) -> bool
         requires { IsPlace self }
-        ensures { result ≡ begins constant_begins (words self.entry) }
+        ensures { result ≡ begins first_constant (words self.entry) }
     {
         match self.next() {
             None => false,
@@ -59,7 +59,7 @@ impl<'a> Cursor<'a> {
     /// Whether an expression begins here.
     pub(crate) fn begins_expression(self) -> bool
         requires { IsPlace self }
-        ensures { result ≡ begins expression_begins (words self.entry) }
+        ensures { result ≡ begins first_expression (words self.entry) }
     {
         match self.next() {
             None => false,
@@ -77,9 +77,9 @@ impl<'a> Cursor<'a> {
     /// Whether an aggregate begins here.
     pub(crate) fn begins_aggregate(self) -> bool
         requires { IsPlace self }
-        ensures { result ≡ begins aggregate_begins (words self.entry) }
+        ensures { result ≡ begins first_aggregate (words self.entry) }
     {
-        match self.leading() {
+        match self.first_keyword() {
             None => false,
             Some((keyword, _)) => match keyword {
                 Keyword::Count => true,

@@ -2,7 +2,7 @@
 
 ghost use Rattle.std.specs.Prelude.{◌≡◌, ◌<◌, ◌≤◌, Bool, List, IfErr, IfOk, if◌then◌else◌};
 ghost use Rattle.bf_lex.specs.declared.fault.ScriptKind.TheVariants.{TooManyColumns as TooManyColumnsKind};
-ghost use Rattle.bf_parse.specs.declared.error.Stop.TheVariants.{Limit as BeyondLimit, Syntax as NoSyntax};
+ghost use Rattle.bf_parse.specs.declared.error.ReadStop.TheVariants.{Limit as BeyondLimit, Syntax as NoSyntax};
 ghost use Rattle.bf_parse.specs.Cursors.{IsPlace, left, words};
 ghost use Rattle.bf_parse.specs.Ends.{begins, nothing};
 ghost use Rattle.bf_parse.specs.Leads.{IsPart};
@@ -10,12 +10,12 @@ ghost use Rattle.bf_parse.specs.Outcome.{outcome};
 ghost use Rattle.bf_parse.specs.Reading.{Fits, Read};
 ghost use Rattle.bf_parse.specs.Rules.{Listed, Return};
 ghost use Rattle.bf_parse.specs.Statements.{Enclosed};
-ghost use Rattle.bf_parse.specs.StatementEnds.{goes_list};
+ghost use Rattle.bf_parse.specs.StatementEnds.{follow_list};
 ghost use Rattle.bf_parse.specs.Steps.{Step};
 ghost use Rattle.bf_parse.specs.Words.{Word};
 
 use crate::cursor::Cursor;
-use crate::error::Stop;
+use crate::error::ReadStop;
 use bf_lex::{ScriptKind, Sign};
 use std::alloc::Global;
 
@@ -26,26 +26,26 @@ const MOST_PARTS: usize = 16;
 pub(crate) trait Part: Drop {
     ghost rule: { List Step → Self → Type 0 };
 
-    ghost goes_on: { Word → Bool };
+    ghost follow: { Word → Bool };
 
-    ghost begun: { Word → Bool };
+    ghost first: { Word → Bool };
 
     /// Whether a part begins at a place.
     fn begins_at(cursor: Cursor<'_>) -> bool
         requires { IsPlace cursor }
-        ensures { result ≡ begins begun (words cursor.entry) };
+        ensures { result ≡ begins first (words cursor.entry) };
 
     /// The part at a place, and the place behind it.
-    fn read<'a>(alloc: Global, cursor: Cursor<'a>) -> Result<(Self, Cursor<'a>), Stop>
+    fn read<'a>(alloc: Global, cursor: Cursor<'a>) -> Result<(Self, Cursor<'a>), ReadStop>
         requires { IsPlace cursor }
-        ensures fits { Fits goes_on rule (words cursor.entry)
+        ensures fits { Fits follow rule (words cursor.entry)
             (outcome (λ x. Read x.0 (words x.1)) result) }
         ensures place { IfOk result (λ x. IsPlace x.1) }
         ensures shorter { IfOk result (λ x. left x.1 < left cursor.entry) };
 }
 
 /// Refuses the part behind this many, where a part begins or not, at a place.
-pub(crate) fn room(parts: usize, begins: bool, cursor: Cursor<'_>) -> Result<(), Stop>
+pub(crate) fn room(parts: usize, begins: bool, cursor: Cursor<'_>) -> Result<(), ReadStop>
     ensures room { IfOk result (λ done. parts < 16) }
     ensures full { IfErr result (λ e. 16 ≤ parts) }
     ensures fault { IfErr result (λ e.
@@ -55,9 +55,9 @@ pub(crate) fn room(parts: usize, begins: bool, cursor: Cursor<'_>) -> Result<(),
     if parts < MOST_PARTS {
         Ok(())
     } else if begins {
-        Err(Stop::Limit(ScriptKind::TooManyColumns, cursor.tokens.len()))
+        Err(ReadStop::Limit(ScriptKind::TooManyColumns, cursor.tokens.len()))
     } else {
-        Err(Stop::Syntax(cursor.tokens.len()))
+        Err(ReadStop::Syntax(cursor.tokens.len()))
     }
 }
 
@@ -65,10 +65,10 @@ pub(crate) fn room(parts: usize, begins: bool, cursor: Cursor<'_>) -> Result<(),
 pub(crate) fn list<'a, P: Part>(
     alloc: Global,
     cursor: Cursor<'a>,
-) -> Result<(Vec<P>, Cursor<'a>), Stop>
-    requires part { IsPart P.goes_on P.begun P.rule }
+) -> Result<(Vec<P>, Cursor<'a>), ReadStop>
+    requires part { IsPart P.follow P.first P.rule }
     requires place { IsPlace cursor }
-    ensures fits { Fits (goes_list P.goes_on) (Listed P.rule) (words cursor.entry)
+    ensures fits { Fits (follow_list P.follow) (Listed P.rule) (words cursor.entry)
         (outcome (λ x. Read x.0.items (words x.1)) result) }
     ensures place { IfOk result (λ x. IsPlace x.1) }
     ensures shorter { IfOk result (λ x. left x.1 < left cursor.entry) }
@@ -90,8 +90,8 @@ pub(crate) fn list<'a, P: Part>(
 pub(crate) fn enclosed_list<'a, P: Part>(
     alloc: Global,
     cursor: Cursor<'a>,
-) -> Result<(Vec<P>, Cursor<'a>), Stop>
-    requires part { IsPart P.goes_on P.begun P.rule }
+) -> Result<(Vec<P>, Cursor<'a>), ReadStop>
+    requires part { IsPart P.follow P.first P.rule }
     requires place { IsPlace cursor }
     ensures fits { Fits nothing (Enclosed (Listed P.rule) (λ parts. Return parts))
         (words cursor.entry) (outcome (λ x. Read x.0.items (words x.1)) result) }

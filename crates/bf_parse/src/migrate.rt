@@ -3,7 +3,7 @@
 ghost use Rattle.std.specs.Prelude.{◌≡◌, ◌+◌, ◌<◌, IfErr, IfOk, None, Some};
 ghost use Rattle.bf_parse.specs.Cursors.{IsPlace, left, words};
 ghost use Rattle.bf_parse.specs.Ends.{nothing};
-ghost use Rattle.bf_parse.specs.MigrationEnds.{TargetsRule, goes_arms, goes_targets};
+ghost use Rattle.bf_parse.specs.MigrationEnds.{TargetsRule, follow_arms, follow_targets};
 ghost use Rattle.bf_parse.specs.Migrations.{MigrateRule, TargetRule};
 ghost use Rattle.bf_parse.specs.Outcome.{outcome, stopped};
 ghost use Rattle.bf_parse.specs.Reading.{Fits, Read};
@@ -12,7 +12,7 @@ ghost use Rattle.bf_parse.specs.Steps.{Target as TargetMark, fault_at};
 
 use crate::arm::arms;
 use crate::cursor::Cursor;
-use crate::error::Stop;
+use crate::error::ReadStop;
 use bf_base::Sequence;
 use bf_lex::{Keyword, ScriptKind, Sign};
 use bf_tree::{Migrate, Target};
@@ -22,9 +22,9 @@ use std::alloc::Global;
 const MOST_TARGETS: usize = 8;
 
 /// The target at a place, and the place behind it.
-fn target<'a>(alloc: Global, cursor: Cursor<'a>) -> Result<(Target, Cursor<'a>), Stop>
+fn target<'a>(alloc: Global, cursor: Cursor<'a>) -> Result<(Target, Cursor<'a>), ReadStop>
     requires { IsPlace cursor }
-    ensures fits { Fits goes_arms TargetRule (words cursor.entry)
+    ensures fits { Fits follow_arms TargetRule (words cursor.entry)
         (outcome (λ x. Read x.0 (words x.1)) result) }
     ensures place { IfOk result (λ x. IsPlace x.1) }
     ensures shorter { IfOk result (λ x. left x.1 < left cursor.entry) }
@@ -39,26 +39,26 @@ fn target<'a>(alloc: Global, cursor: Cursor<'a>) -> Result<(Target, Cursor<'a>),
 }
 
 /// Refuses the target behind this many at a place.
-fn expect_room(targets: usize, cursor: Cursor<'_>) -> Result<(), Stop>
+fn expect_room(targets: usize, cursor: Cursor<'_>) -> Result<(), ReadStop>
     requires { IsPlace cursor }
     ensures room { IfOk result (λ _. fault_at (TargetMark (targets + 1)) ≡ None) }
     ensures full { IfErr result (λ e.
-        Fits goes_arms (Marked (TargetMark (targets + 1)) TargetRule) (words cursor.entry)
+        Fits follow_arms (Marked (TargetMark (targets + 1)) TargetRule) (words cursor.entry)
         (stopped e)) }
 {
     if targets < MOST_TARGETS {
         return Ok(());
     }
     match cursor.keyword(Keyword::Create) {
-        Some(_) => Err(Stop::Limit(ScriptKind::TooManyTargets, cursor.tokens.len())),
-        None => Err(Stop::Syntax(cursor.tokens.len())),
+        Some(_) => Err(ReadStop::Limit(ScriptKind::TooManyTargets, cursor.tokens.len())),
+        None => Err(ReadStop::Syntax(cursor.tokens.len())),
     }
 }
 
 /// The targets at a place, with semicolons between them, and the place behind them.
-fn targets<'a>(alloc: Global, cursor: Cursor<'a>) -> Result<(Vec<Target>, Cursor<'a>), Stop>
+fn targets<'a>(alloc: Global, cursor: Cursor<'a>) -> Result<(Vec<Target>, Cursor<'a>), ReadStop>
     requires { IsPlace cursor }
-    ensures fits { Fits goes_targets TargetsRule (words cursor.entry)
+    ensures fits { Fits follow_targets TargetsRule (words cursor.entry)
         (outcome (λ x. Read x.0.items (words x.1)) result) }
     ensures place { IfOk result (λ x. IsPlace x.1) }
     ensures shorter { IfOk result (λ x. left x.1 < left cursor.entry) }
@@ -77,7 +77,7 @@ fn targets<'a>(alloc: Global, cursor: Cursor<'a>) -> Result<(Vec<Target>, Cursor
 }
 
 /// The MIGRATE at a place, and the place behind it.
-pub(crate) fn migrate<'a>(alloc: Global, cursor: Cursor<'a>) -> Result<(Migrate, Cursor<'a>), Stop>
+pub(crate) fn migrate<'a>(alloc: Global, cursor: Cursor<'a>) -> Result<(Migrate, Cursor<'a>), ReadStop>
     requires { IsPlace cursor }
     ensures fits { Fits nothing MigrateRule (words cursor.entry)
         (outcome (λ x. Read x.0 (words x.1)) result) }

@@ -10,7 +10,7 @@ ghost use Rattle.bf_parse.specs.Outcome.{outcome};
 ghost use Rattle.bf_parse.specs.Reading.{Fits, Read};
 
 use crate::cursor::Cursor;
-use crate::error::Stop;
+use crate::error::ReadStop;
 use crate::start::Front;
 use bf_base::Value;
 use bf_tree::Ref;
@@ -21,7 +21,7 @@ use std::alloc::Global;
 pub(crate) const WIDEST: u64 = 1 << 63;
 
 /// The number, or the minus and the number, at a place, and the place behind it.
-pub(crate) fn signed<'a>(cursor: Cursor<'a>) -> Result<(i64, Cursor<'a>), Stop>
+pub(crate) fn signed<'a>(cursor: Cursor<'a>) -> Result<(i64, Cursor<'a>), ReadStop>
     requires { IsPlace cursor }
     ensures fits { Fits nothing SignedRule (words cursor.entry)
         (outcome (λ x. Read (IntValue x.0) (words x.1)) result) }
@@ -33,18 +33,18 @@ pub(crate) fn signed<'a>(cursor: Cursor<'a>) -> Result<(i64, Cursor<'a>), Stop>
             if number < WIDEST {
                 Ok((number as i64, rest))
             } else {
-                Err(Stop::Limit(ScriptKind::NumberTooWide, cursor.tokens.len()))
+                Err(ReadStop::Limit(ScriptKind::NumberTooWide, cursor.tokens.len()))
             }
         }
         Front::Negative(number, rest) => Ok((negative(number), rest)),
-        Front::Minus(behind) => Err(Stop::Syntax(behind.tokens.len())),
-        Front::Text(_, _) => Err(Stop::Syntax(cursor.tokens.len())),
-        Front::Other => Err(Stop::Syntax(cursor.tokens.len())),
+        Front::Minus(behind) => Err(ReadStop::Syntax(behind.tokens.len())),
+        Front::Text(_, _) => Err(ReadStop::Syntax(cursor.tokens.len())),
+        Front::Other => Err(ReadStop::Syntax(cursor.tokens.len())),
     }
 }
 
 /// The literal at a place, and the place behind it.
-pub(crate) fn literal<'a>(alloc: Global, cursor: Cursor<'a>) -> Result<(Value, Cursor<'a>), Stop>
+pub(crate) fn literal<'a>(alloc: Global, cursor: Cursor<'a>) -> Result<(Value, Cursor<'a>), ReadStop>
     requires { IsPlace cursor }
     ensures fits { Fits nothing LiteralRule (words cursor.entry)
         (outcome (λ x. Read x.0 (words x.1)) result) }
@@ -72,7 +72,7 @@ fn negative(number: u64) -> i64
 }
 
 /// The column at a place, and the place behind it.
-pub(crate) fn reference<'a>(alloc: Global, cursor: Cursor<'a>) -> Result<(Ref, Cursor<'a>), Stop>
+pub(crate) fn reference<'a>(alloc: Global, cursor: Cursor<'a>) -> Result<(Ref, Cursor<'a>), ReadStop>
     requires { IsPlace cursor }
     ensures fits { Fits is_point RefRule (words cursor.entry)
         (outcome (λ x. Read x.0 (words x.1)) result) }

@@ -1,13 +1,13 @@
 //! The parts of the lists of statements.
 
 ghost use Rattle.bf_parse.specs.Conditions.{LiteralRule};
-ghost use Rattle.bf_parse.specs.Ends.{goes_sum, is_name, is_point, nothing};
+ghost use Rattle.bf_parse.specs.Ends.{follow_sum, is_name, is_point, nothing};
 ghost use Rattle.bf_parse.specs.Expressions.{RefRule};
-ghost use Rattle.bf_parse.specs.StatementEnds.{begins_aggregate, begins_constant, begins_expression};
+ghost use Rattle.bf_parse.specs.StatementEnds.{first_aggregate, first_constant, first_expression};
 ghost use Rattle.bf_parse.specs.Statements.{AggregateRule, ExprRule, NameRule, SetRule};
 
 use crate::cursor::Cursor;
-use crate::error::Stop;
+use crate::error::ReadStop;
 use crate::list::Part;
 use crate::operand::{literal, reference};
 use crate::query::{aggregate, expression};
@@ -19,15 +19,15 @@ use std::alloc::Global;
 impl Part for Name {
     ghost rule = { NameRule };
 
-    ghost goes_on = { nothing };
+    ghost follow = { nothing };
 
-    ghost begun = { is_name };
+    ghost first = { is_name };
 
     fn begins_at(cursor: Cursor<'_>) -> bool {
         cursor.begins_name()
     }
 
-    fn read<'a>(alloc: Global, cursor: Cursor<'a>) -> Result<(Name, Cursor<'a>), Stop> {
+    fn read<'a>(alloc: Global, cursor: Cursor<'a>) -> Result<(Name, Cursor<'a>), ReadStop> {
         cursor.name(alloc)
     }
 }
@@ -35,15 +35,15 @@ impl Part for Name {
 impl Part for Ref {
     ghost rule = { RefRule };
 
-    ghost goes_on = { is_point };
+    ghost follow = { is_point };
 
-    ghost begun = { is_name };
+    ghost first = { is_name };
 
     fn begins_at(cursor: Cursor<'_>) -> bool {
         cursor.begins_name()
     }
 
-    fn read<'a>(alloc: Global, cursor: Cursor<'a>) -> Result<(Ref, Cursor<'a>), Stop> {
+    fn read<'a>(alloc: Global, cursor: Cursor<'a>) -> Result<(Ref, Cursor<'a>), ReadStop> {
         reference(alloc, cursor)
     }
 }
@@ -51,15 +51,15 @@ impl Part for Ref {
 impl Part for Value {
     ghost rule = { LiteralRule };
 
-    ghost goes_on = { nothing };
+    ghost follow = { nothing };
 
-    ghost begun = { begins_constant };
+    ghost first = { first_constant };
 
     fn begins_at(cursor: Cursor<'_>) -> bool {
         cursor.begins_constant()
     }
 
-    fn read<'a>(alloc: Global, cursor: Cursor<'a>) -> Result<(Value, Cursor<'a>), Stop> {
+    fn read<'a>(alloc: Global, cursor: Cursor<'a>) -> Result<(Value, Cursor<'a>), ReadStop> {
         literal(alloc, cursor)
     }
 }
@@ -67,15 +67,15 @@ impl Part for Value {
 impl Part for RawExpr {
     ghost rule = { ExprRule };
 
-    ghost goes_on = { goes_sum };
+    ghost follow = { follow_sum };
 
-    ghost begun = { begins_expression };
+    ghost first = { first_expression };
 
     fn begins_at(cursor: Cursor<'_>) -> bool {
         cursor.begins_expression()
     }
 
-    fn read<'a>(alloc: Global, cursor: Cursor<'a>) -> Result<(RawExpr, Cursor<'a>), Stop> {
+    fn read<'a>(alloc: Global, cursor: Cursor<'a>) -> Result<(RawExpr, Cursor<'a>), ReadStop> {
         expression(alloc, cursor)
     }
 }
@@ -83,15 +83,15 @@ impl Part for RawExpr {
 impl Part for RawAggregate {
     ghost rule = { AggregateRule };
 
-    ghost goes_on = { nothing };
+    ghost follow = { nothing };
 
-    ghost begun = { begins_aggregate };
+    ghost first = { first_aggregate };
 
     fn begins_at(cursor: Cursor<'_>) -> bool {
         cursor.begins_aggregate()
     }
 
-    fn read<'a>(alloc: Global, cursor: Cursor<'a>) -> Result<(RawAggregate, Cursor<'a>), Stop> {
+    fn read<'a>(alloc: Global, cursor: Cursor<'a>) -> Result<(RawAggregate, Cursor<'a>), ReadStop> {
         aggregate(alloc, cursor)
     }
 }
@@ -100,15 +100,15 @@ impl Part for RawAggregate {
 impl Part for (Name, RawExpr) {
     ghost rule = { SetRule };
 
-    ghost goes_on = { goes_sum };
+    ghost follow = { follow_sum };
 
-    ghost begun = { is_name };
+    ghost first = { is_name };
 
     fn begins_at(cursor: Cursor<'_>) -> bool {
         cursor.begins_name()
     }
 
-    fn read<'a>(alloc: Global, cursor: Cursor<'a>) -> Result<((Name, RawExpr), Cursor<'a>), Stop> {
+    fn read<'a>(alloc: Global, cursor: Cursor<'a>) -> Result<((Name, RawExpr), Cursor<'a>), ReadStop> {
         let (column, rest) = cursor.name(alloc)?;
         let rest = rest.expect_sign(Sign::Equal)?;
         let (expr, rest) = expression(alloc, rest)?;

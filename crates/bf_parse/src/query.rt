@@ -2,17 +2,17 @@
 
 ghost use Rattle.std.specs.Prelude.{◌≡◌, ◌<◌, ◌≤◌, IfOk};
 ghost use Rattle.bf_parse.specs.Cursors.{IsPlace, left, words};
-ghost use Rattle.bf_parse.specs.Ends.{goes_sum, nothing};
+ghost use Rattle.bf_parse.specs.Ends.{follow_sum, nothing};
 ghost use Rattle.bf_parse.specs.Outcome.{outcome};
 ghost use Rattle.bf_parse.specs.Pieces.{StarRule, count};
 ghost use Rattle.bf_parse.specs.Reading.{Fits, Read};
-ghost use Rattle.bf_parse.specs.StatementEnds.{goes_list, goes_where};
+ghost use Rattle.bf_parse.specs.StatementEnds.{follow_list, follow_where};
 ghost use Rattle.bf_parse.specs.Rules.{Return};
 ghost use Rattle.bf_parse.specs.Statements.{AggregateRule, Enclosed, ExprRule, ListRule, SelectRule, WhereRule};
 
 use crate::condition::condition;
 use crate::cursor::Cursor;
-use crate::error::Stop;
+use crate::error::ReadStop;
 use crate::expression::sum;
 use crate::list::list;
 use bf_base::Sequence;
@@ -24,9 +24,9 @@ use std::alloc::Global;
 pub(crate) fn where_clause<'a>(
     alloc: Global,
     cursor: Cursor<'a>,
-) -> Result<(Option<RawCond>, Cursor<'a>), Stop>
+) -> Result<(Option<RawCond>, Cursor<'a>), ReadStop>
     requires { IsPlace cursor }
-    ensures fits { Fits goes_where WhereRule (words cursor.entry)
+    ensures fits { Fits follow_where WhereRule (words cursor.entry)
         (outcome (λ x. Read x.0 (words x.1)) result) }
     ensures place { IfOk result (λ x. IsPlace x.1) }
     ensures shorter { IfOk result (λ x. left x.1 ≤ left cursor.entry) }
@@ -44,9 +44,9 @@ pub(crate) fn where_clause<'a>(
 pub(crate) fn expression<'a>(
     alloc: Global,
     cursor: Cursor<'a>,
-) -> Result<(RawExpr, Cursor<'a>), Stop>
+) -> Result<(RawExpr, Cursor<'a>), ReadStop>
     requires { IsPlace cursor }
-    ensures fits { Fits goes_sum ExprRule (words cursor.entry)
+    ensures fits { Fits follow_sum ExprRule (words cursor.entry)
         (outcome (λ x. Read x.0 (words x.1)) result) }
     ensures place { IfOk result (λ x. IsPlace x.1) }
     ensures shorter { IfOk result (λ x. left x.1 < left cursor.entry) }
@@ -56,7 +56,7 @@ pub(crate) fn expression<'a>(
 }
 
 /// The expression between parentheses at a place, and the place behind it.
-fn enclosed<'a>(alloc: Global, cursor: Cursor<'a>) -> Result<(RawExpr, Cursor<'a>), Stop>
+fn enclosed<'a>(alloc: Global, cursor: Cursor<'a>) -> Result<(RawExpr, Cursor<'a>), ReadStop>
     requires { IsPlace cursor }
     ensures fits { Fits nothing (Enclosed ExprRule (λ e. Return e)) (words cursor.entry)
         (outcome (λ x. Read x.0 (words x.1)) result) }
@@ -70,7 +70,7 @@ fn enclosed<'a>(alloc: Global, cursor: Cursor<'a>) -> Result<(RawExpr, Cursor<'a
 }
 
 /// The place behind a star between parentheses.
-fn star<'a>(cursor: Cursor<'a>) -> Result<Cursor<'a>, Stop>
+fn star<'a>(cursor: Cursor<'a>) -> Result<Cursor<'a>, ReadStop>
     requires { IsPlace cursor }
     ensures fits { Fits nothing StarRule (words cursor.entry)
         (outcome (λ rest. Read count (words rest)) result) }
@@ -87,15 +87,15 @@ fn star<'a>(cursor: Cursor<'a>) -> Result<Cursor<'a>, Stop>
 pub(crate) fn aggregate<'a>(
     alloc: Global,
     cursor: Cursor<'a>,
-) -> Result<(RawAggregate, Cursor<'a>), Stop>
+) -> Result<(RawAggregate, Cursor<'a>), ReadStop>
     requires { IsPlace cursor }
     ensures fits { Fits nothing AggregateRule (words cursor.entry)
         (outcome (λ x. Read x.0 (words x.1)) result) }
     ensures place { IfOk result (λ x. IsPlace x.1) }
     ensures shorter { IfOk result (λ x. left x.1 < left cursor.entry) }
 {
-    match cursor.leading() {
-        None => Err(Stop::Syntax(cursor.tokens.len())),
+    match cursor.first_keyword() {
+        None => Err(ReadStop::Syntax(cursor.tokens.len())),
         Some((keyword, behind)) => match keyword {
             Keyword::Count => {
                 let rest = star(behind)?;
@@ -113,15 +113,15 @@ pub(crate) fn aggregate<'a>(
                 let (expr, rest) = enclosed(alloc, behind)?;
                 Ok((RawAggregate::Max(expr), rest))
             }
-            _ => Err(Stop::Syntax(cursor.tokens.len())),
+            _ => Err(ReadStop::Syntax(cursor.tokens.len())),
         },
     }
 }
 
 /// What a SELECT gives, at a place, and the place behind it.
-fn select_list<'a>(alloc: Global, cursor: Cursor<'a>) -> Result<(List, Cursor<'a>), Stop>
+fn select_list<'a>(alloc: Global, cursor: Cursor<'a>) -> Result<(List, Cursor<'a>), ReadStop>
     requires { IsPlace cursor }
-    ensures fits { Fits (goes_list goes_sum) ListRule (words cursor.entry)
+    ensures fits { Fits (follow_list follow_sum) ListRule (words cursor.entry)
         (outcome (λ x. Read x.0 (words x.1)) result) }
     ensures place { IfOk result (λ x. IsPlace x.1) }
     ensures shorter { IfOk result (λ x. left x.1 < left cursor.entry) }
@@ -141,9 +141,9 @@ fn select_list<'a>(alloc: Global, cursor: Cursor<'a>) -> Result<(List, Cursor<'a
 }
 
 /// The SELECT at a place, and the place behind it.
-pub(crate) fn select<'a>(alloc: Global, cursor: Cursor<'a>) -> Result<(Statement, Cursor<'a>), Stop>
+pub(crate) fn select<'a>(alloc: Global, cursor: Cursor<'a>) -> Result<(Statement, Cursor<'a>), ReadStop>
     requires { IsPlace cursor }
-    ensures fits { Fits goes_where SelectRule (words cursor.entry)
+    ensures fits { Fits follow_where SelectRule (words cursor.entry)
         (outcome (λ x. Read x.0 (words x.1)) result) }
     ensures place { IfOk result (λ x. IsPlace x.1) }
     ensures shorter { IfOk result (λ x. left x.1 < left cursor.entry) }

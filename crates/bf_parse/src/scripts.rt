@@ -10,7 +10,7 @@ ghost use Rattle.bf_parse.specs.Reading.{Read};
 ghost use Rattle.bf_parse.specs.Scripts.{IsScriptText, ScriptRule, place_of};
 
 use crate::cursor::Cursor;
-use crate::error::Stop;
+use crate::error::ReadStop;
 use crate::session::phases;
 use bf_base::{LONGEST_SCRIPT, Sequence};
 use bf_lex::{ScriptError, ScriptFault, ScriptKind, Token, tokens};
@@ -37,20 +37,20 @@ pub fn script(alloc: Global, text: &[u8]) -> Result<Script, ScriptError>
     let tokens = found.as_slice();
     match whole(alloc, Cursor { text, tokens }) {
         Ok(script) => Ok(script),
-        Err(Stop::Syntax(left)) => Err(ScriptError::Fault(ScriptFault {
+        Err(ReadStop::Syntax(left)) => Err(ScriptError::Fault(ScriptFault {
             at: place(text, tokens, left),
             kind: ScriptKind::Syntax,
         })),
-        Err(Stop::Limit(kind, left)) => Err(ScriptError::Fault(ScriptFault {
+        Err(ReadStop::Limit(kind, left)) => Err(ScriptError::Fault(ScriptFault {
             at: place(text, tokens, left),
             kind,
         })),
-        Err(Stop::Memory) => Err(ScriptError::Memory),
+        Err(ReadStop::Memory) => Err(ScriptError::Memory),
     }
 }
 
 /// The script that all tokens are.
-fn whole(alloc: Global, cursor: Cursor<'_>) -> Result<Script, Stop>
+fn whole(alloc: Global, cursor: Cursor<'_>) -> Result<Script, ReadStop>
     requires place { IsPlace cursor }
     requires few { left cursor < 2 ^ 32 }
     ensures { Answers ScriptRule (words cursor.entry) (outcome (λ script. Read script []) result) }
@@ -61,7 +61,7 @@ fn whole(alloc: Global, cursor: Cursor<'_>) -> Result<Script, Stop>
             phases: progress.phases,
             sessions: Sequence::of(progress.sessions),
         }),
-        Some(_) => Err(Stop::Syntax(rest.tokens.len())),
+        Some(_) => Err(ReadStop::Syntax(rest.tokens.len())),
     }
 }
 

@@ -2,18 +2,18 @@
 
 ghost use Rattle.std.specs.Prelude.{◌≡◌, ◌+◌, ◌<◌, ◌≤◌, ◌^◌, None, Some, [], IfErr, IfOk, length};
 ghost use Rattle.bf_lex.specs.declared.fault.ScriptKind.TheVariants.{TooManyMigrations as Migrations, TooManySessions as TooMany};
-ghost use Rattle.bf_parse.specs.declared.error.Stop.TheVariants.{Limit as BeyondLimit, Memory as OutOfMemory};
+ghost use Rattle.bf_parse.specs.declared.error.ReadStop.TheVariants.{Limit as BeyondLimit, Memory as OutOfMemory};
 ghost use Rattle.bf_parse.specs.Cursors.{IsPlace, left, words};
 ghost use Rattle.bf_parse.specs.Ends.{begins};
 ghost use Rattle.bf_parse.specs.Outcome.{outcome};
 ghost use Rattle.bf_parse.specs.Reading.{Fits, Read};
-ghost use Rattle.bf_parse.specs.ScriptParts.{StatementRule, begins_statement, goes_phases, goes_sessions, progress_of};
+ghost use Rattle.bf_parse.specs.ScriptParts.{StatementRule, first_statement, follow_phases, follow_sessions, progress_of};
 ghost use Rattle.bf_parse.specs.Scripts.{Phases, Sessions, Statements, nothing_yet, with_phase, with_session};
 ghost use Rattle.bf_parse.specs.Steps.{Migration, Session as SessionMark, fault_at};
-ghost use Rattle.bf_parse.specs.StatementEnds.{goes_ordinary};
+ghost use Rattle.bf_parse.specs.StatementEnds.{follow_ordinary};
 
 use crate::cursor::Cursor;
-use crate::error::Stop;
+use crate::error::ReadStop;
 use crate::migrate::migrate;
 use crate::statement::ordinary;
 use bf_base::Sequence;
@@ -65,7 +65,7 @@ impl SoFar {
     }
 
     /// Whether a session may begin at a place.
-    fn expect_room(&self, cursor: Cursor<'_>) -> Result<(), Stop>
+    fn expect_room(&self, cursor: Cursor<'_>) -> Result<(), ReadStop>
         ensures room { IfOk result (λ _.
             fault_at (SessionMark (length self.now.sessions.items + 1) (self.now.of_phase + 1))
             ≡ None) }
@@ -78,11 +78,11 @@ impl SoFar {
         if self.sessions.len() < MOST_SESSIONS && self.of_phase < MOST_OF_PHASE {
             Ok(())
         } else {
-            Err(Stop::Limit(ScriptKind::TooManySessions, cursor.tokens.len()))
+            Err(ReadStop::Limit(ScriptKind::TooManySessions, cursor.tokens.len()))
         }
     }
 
-    fn with_session(self, statements: Vec<Statement>, migrations: usize) -> Result<SoFar, Stop>
+    fn with_session(self, statements: Vec<Statement>, migrations: usize) -> Result<SoFar, ReadStop>
         requires { self.of_phase < 16 }
         ensures memory { IfErr result (λ e. e ≡ OutOfMemory) }
         ensures value { IfOk result (λ s.
@@ -105,7 +105,7 @@ impl SoFar {
 /// Whether a statement begins at a place.
 fn begins(cursor: Cursor<'_>) -> bool
     requires { IsPlace cursor }
-    ensures { result ≡ begins begins_statement (words cursor.entry) }
+    ensures { result ≡ begins first_statement (words cursor.entry) }
 {
     match cursor.next() {
         None => false,
@@ -128,7 +128,7 @@ fn begins(cursor: Cursor<'_>) -> bool
 }
 
 /// One more than the count of MIGRATEs, for the one at a place.
-fn counted_migration(count: usize, cursor: Cursor<'_>) -> Result<usize, Stop>
+fn counted_migration(count: usize, cursor: Cursor<'_>) -> Result<usize, ReadStop>
     ensures one_more { IfOk result (λ n. n ≡ count + 1) }
     ensures room { IfOk result (λ _. fault_at (Migration (count + 1)) ≡ None) }
     ensures over { IfErr result (λ _. fault_at (Migration (count + 1)) ≡ Some Migrations) }
@@ -137,7 +137,7 @@ fn counted_migration(count: usize, cursor: Cursor<'_>) -> Result<usize, Stop>
     if count < MOST_MIGRATIONS {
         Ok(count + 1)
     } else {
-        Err(Stop::Limit(ScriptKind::TooManyMigrations, cursor.tokens.len()))
+        Err(ReadStop::Limit(ScriptKind::TooManyMigrations, cursor.tokens.len()))
     }
 }
 
@@ -146,9 +146,9 @@ fn statement<'a>(
     alloc: Global,
     cursor: Cursor<'a>,
     migrations: usize,
-) -> Result<(Statement, usize, Cursor<'a>), Stop>
+) -> Result<(Statement, usize, Cursor<'a>), ReadStop>
     requires { IsPlace cursor }
-    ensures fits { Fits goes_ordinary (StatementRule migrations) (words cursor.entry)
+    ensures fits { Fits follow_ordinary (StatementRule migrations) (words cursor.entry)
         (outcome (λ x. Read (x.0, x.1) (words x.2)) result) }
     ensures place { IfOk result (λ x. IsPlace x.2) }
     ensures shorter { IfOk result (λ x. left x.2 < left cursor.entry) }
@@ -171,9 +171,9 @@ fn statements<'a>(
     alloc: Global,
     cursor: Cursor<'a>,
     migrations: usize,
-) -> Result<(Vec<Statement>, usize, Cursor<'a>), Stop>
+) -> Result<(Vec<Statement>, usize, Cursor<'a>), ReadStop>
     requires { IsPlace cursor }
-    ensures fits { Fits begins_statement (Statements migrations []) (words cursor.entry)
+    ensures fits { Fits first_statement (Statements migrations []) (words cursor.entry)
         (outcome (λ x. Read (x.0.items, x.1) (words x.2)) result) }
     ensures place { IfOk result (λ x. IsPlace x.2) }
     ensures shorter { IfOk result (λ x. left x.2 ≤ left cursor.entry) }
@@ -196,9 +196,9 @@ fn sessions<'a>(
     alloc: Global,
     cursor: Cursor<'a>,
     before: SoFar,
-) -> Result<(SoFar, Cursor<'a>), Stop>
+) -> Result<(SoFar, Cursor<'a>), ReadStop>
     requires { IsPlace cursor }
-    ensures fits { Fits goes_sessions (Sessions (progress_of before)) (words cursor.entry)
+    ensures fits { Fits follow_sessions (Sessions (progress_of before)) (words cursor.entry)
         (outcome (λ x. Read (progress_of x.0) (words x.1)) result) }
     ensures phases { IfOk result (λ x. x.0.phases ≡ before.phases) }
     ensures place { IfOk result (λ x. IsPlace x.1) }
@@ -217,10 +217,10 @@ fn sessions<'a>(
 }
 
 /// How far a script has come behind the phases at a place, and the place there.
-pub(crate) fn phases<'a>(alloc: Global, cursor: Cursor<'a>) -> Result<(SoFar, Cursor<'a>), Stop>
+pub(crate) fn phases<'a>(alloc: Global, cursor: Cursor<'a>) -> Result<(SoFar, Cursor<'a>), ReadStop>
     requires place { IsPlace cursor }
     requires few { left cursor < 2 ^ 32 }
-    ensures fits { Fits goes_phases (Phases nothing_yet) (words cursor.entry)
+    ensures fits { Fits follow_phases (Phases nothing_yet) (words cursor.entry)
         (outcome (λ x. Read (progress_of x.0) (words x.1)) result) }
     ensures place { IfOk result (λ x. IsPlace x.1) }
 {

@@ -5,12 +5,12 @@ ghost use Rattle.bf_parse.specs.Cursors.{IsPlace, left, words};
 ghost use Rattle.bf_parse.specs.Ends.{nothing};
 ghost use Rattle.bf_parse.specs.Outcome.{outcome};
 ghost use Rattle.bf_parse.specs.Reading.{Fits, Read};
-ghost use Rattle.bf_parse.specs.StatementEnds.{goes_ordinary, goes_where, is_comma};
+ghost use Rattle.bf_parse.specs.StatementEnds.{follow_ordinary, follow_where, is_comma};
 ghost use Rattle.bf_parse.specs.Statements.{DeleteRule, InsertRule, OrdinaryRule, Several, TupleRule, UpdateRule};
 
 use crate::column::create;
 use crate::cursor::Cursor;
-use crate::error::Stop;
+use crate::error::ReadStop;
 use crate::list::{enclosed_list, list};
 use crate::query::{select, where_clause};
 use bf_base::{Name, Row, Sequence, Value};
@@ -19,7 +19,7 @@ use bf_lex::{Keyword, Sign};
 use std::alloc::Global;
 
 /// The tuple at a place, and the place behind it.
-fn tuple<'a>(alloc: Global, cursor: Cursor<'a>) -> Result<(Row, Cursor<'a>), Stop>
+fn tuple<'a>(alloc: Global, cursor: Cursor<'a>) -> Result<(Row, Cursor<'a>), ReadStop>
     requires { IsPlace cursor }
     ensures fits { Fits nothing TupleRule (words cursor.entry)
         (outcome (λ x. Read x.0 (words x.1)) result) }
@@ -31,7 +31,7 @@ fn tuple<'a>(alloc: Global, cursor: Cursor<'a>) -> Result<(Row, Cursor<'a>), Sto
 }
 
 /// The tuples at a place, of any number, and the place behind them.
-fn tuples<'a>(alloc: Global, cursor: Cursor<'a>) -> Result<(Vec<Row>, Cursor<'a>), Stop>
+fn tuples<'a>(alloc: Global, cursor: Cursor<'a>) -> Result<(Vec<Row>, Cursor<'a>), ReadStop>
     requires { IsPlace cursor }
     ensures fits { Fits is_comma (Several TupleRule) (words cursor.entry)
         (outcome (λ x. Read x.0.items (words x.1)) result) }
@@ -51,7 +51,7 @@ fn tuples<'a>(alloc: Global, cursor: Cursor<'a>) -> Result<(Vec<Row>, Cursor<'a>
 }
 
 /// The INSERT at a place, and the place behind it.
-fn insert<'a>(alloc: Global, cursor: Cursor<'a>) -> Result<(Statement, Cursor<'a>), Stop>
+fn insert<'a>(alloc: Global, cursor: Cursor<'a>) -> Result<(Statement, Cursor<'a>), ReadStop>
     requires { IsPlace cursor }
     ensures fits { Fits is_comma InsertRule (words cursor.entry)
         (outcome (λ x. Read x.0 (words x.1)) result) }
@@ -68,9 +68,9 @@ fn insert<'a>(alloc: Global, cursor: Cursor<'a>) -> Result<(Statement, Cursor<'a
 }
 
 /// The UPDATE at a place, and the place behind it.
-fn update<'a>(alloc: Global, cursor: Cursor<'a>) -> Result<(Statement, Cursor<'a>), Stop>
+fn update<'a>(alloc: Global, cursor: Cursor<'a>) -> Result<(Statement, Cursor<'a>), ReadStop>
     requires { IsPlace cursor }
-    ensures fits { Fits goes_ordinary UpdateRule (words cursor.entry)
+    ensures fits { Fits follow_ordinary UpdateRule (words cursor.entry)
         (outcome (λ x. Read x.0 (words x.1)) result) }
     ensures place { IfOk result (λ x. IsPlace x.1) }
     ensures shorter { IfOk result (λ x. left x.1 < left cursor.entry) }
@@ -85,9 +85,9 @@ fn update<'a>(alloc: Global, cursor: Cursor<'a>) -> Result<(Statement, Cursor<'a
 }
 
 /// The DELETE at a place, and the place behind it.
-fn delete<'a>(alloc: Global, cursor: Cursor<'a>) -> Result<(Statement, Cursor<'a>), Stop>
+fn delete<'a>(alloc: Global, cursor: Cursor<'a>) -> Result<(Statement, Cursor<'a>), ReadStop>
     requires { IsPlace cursor }
-    ensures fits { Fits goes_where DeleteRule (words cursor.entry)
+    ensures fits { Fits follow_where DeleteRule (words cursor.entry)
         (outcome (λ x. Read x.0 (words x.1)) result) }
     ensures place { IfOk result (λ x. IsPlace x.1) }
     ensures shorter { IfOk result (λ x. left x.1 < left cursor.entry) }
@@ -103,15 +103,15 @@ fn delete<'a>(alloc: Global, cursor: Cursor<'a>) -> Result<(Statement, Cursor<'a
 pub(crate) fn ordinary<'a>(
     alloc: Global,
     cursor: Cursor<'a>,
-) -> Result<(Statement, Cursor<'a>), Stop>
+) -> Result<(Statement, Cursor<'a>), ReadStop>
     requires { IsPlace cursor }
-    ensures fits { Fits goes_ordinary OrdinaryRule (words cursor.entry)
+    ensures fits { Fits follow_ordinary OrdinaryRule (words cursor.entry)
         (outcome (λ x. Read x.0 (words x.1)) result) }
     ensures place { IfOk result (λ x. IsPlace x.1) }
     ensures shorter { IfOk result (λ x. left x.1 < left cursor.entry) }
 {
-    match cursor.leading() {
-        None => Err(Stop::Syntax(cursor.tokens.len())),
+    match cursor.first_keyword() {
+        None => Err(ReadStop::Syntax(cursor.tokens.len())),
         Some((keyword, behind)) => match keyword {
             Keyword::Create => create(alloc, cursor),
             Keyword::Insert => insert(alloc, cursor),
@@ -121,7 +121,7 @@ pub(crate) fn ordinary<'a>(
             Keyword::Begin => Ok((Statement::Begin, behind)),
             Keyword::Commit => Ok((Statement::Commit, behind)),
             Keyword::Rollback => Ok((Statement::Rollback, behind)),
-            _ => Err(Stop::Syntax(cursor.tokens.len())),
+            _ => Err(ReadStop::Syntax(cursor.tokens.len())),
         },
     }
 }

@@ -4,7 +4,7 @@ ghost use Rattle.bf_parse.specs.Cursors.{IsPlace};
 
 use crate::condition::condition;
 use crate::cursor::Cursor;
-use crate::error::Stop;
+use crate::error::ReadStop;
 use crate::expression::sum;
 use crate::operand::literal;
 use bf_base::Value;
@@ -26,7 +26,7 @@ fn literal_of(
     rt: &impl Abort,
     alloc: Global,
     text: &[u8],
-) -> Result<Result<(Value, usize), Stop>, Fail> {
+) -> Result<Result<(Value, usize), ReadStop>, Fail> {
     assert!(rt; text.len() < 10_000);
     let tokens = tokens(alloc, text)?;
     match literal(alloc, front(text, &tokens)) {
@@ -41,7 +41,7 @@ fn condition_of(
     rt: &impl Abort,
     alloc: Global,
     text: &[u8],
-) -> Result<Result<(usize, usize), Stop>, Fail> {
+) -> Result<Result<(usize, usize), ReadStop>, Fail> {
     assert!(rt; text.len() < 10_000);
     let tokens = tokens(alloc, text)?;
     match condition(alloc, front(text, &tokens), 0) {
@@ -55,7 +55,7 @@ fn expression_of(
     rt: &impl Abort,
     alloc: Global,
     text: &[u8],
-) -> Result<Result<(usize, usize), Stop>, Fail> {
+) -> Result<Result<(usize, usize), ReadStop>, Fail> {
     assert!(rt; text.len() < 10_000);
     let tokens = tokens(alloc, text)?;
     match sum(alloc, front(text, &tokens), 0) {
@@ -67,7 +67,7 @@ fn expression_of(
 fn conditions_are(
     rt: &impl Abort,
     alloc: Global,
-    cases: &[(&[u8], Result<(usize, usize), Stop>)],
+    cases: &[(&[u8], Result<(usize, usize), ReadStop>)],
 ) -> Result<(), Fail> {
     for (text, want) in cases {
         assert_eq!(rt; condition_of(rt, alloc, text)?, *want, "of {text:?}");
@@ -78,7 +78,7 @@ fn conditions_are(
 fn expressions_are(
     rt: &impl Abort,
     alloc: Global,
-    cases: &[(&[u8], Result<(usize, usize), Stop>)],
+    cases: &[(&[u8], Result<(usize, usize), ReadStop>)],
 ) -> Result<(), Fail> {
     for (text, want) in cases {
         assert_eq!(rt; expression_of(rt, alloc, text)?, *want, "of {text:?}");
@@ -86,7 +86,7 @@ fn expressions_are(
     Ok(())
 }
 
-fn literal_stops(rt: &impl Abort, alloc: Global, text: &[u8], want: Stop) -> Result<(), Fail> {
+fn literal_stops(rt: &impl Abort, alloc: Global, text: &[u8], want: ReadStop) -> Result<(), Fail> {
     assert_eq!(rt; literal_of(rt, alloc, text)?, Err(want), "of {text:?}");
     Ok(())
 }
@@ -135,12 +135,12 @@ fn a_literal_stops_where_it_can_not_go_on(rt: HostRuntime) -> Result<(), Fail> {
         &rt,
         alloc,
         b"9223372036854775808",
-        Stop::Limit(ScriptKind::NumberTooWide, 1),
+        ReadStop::Limit(ScriptKind::NumberTooWide, 1),
     )?;
-    literal_stops(&rt, alloc, b"- b", Stop::Syntax(1))?;
-    literal_stops(&rt, alloc, b"-", Stop::Syntax(0))?;
-    literal_stops(&rt, alloc, b"- - 1", Stop::Syntax(2))?;
-    literal_stops(&rt, alloc, b"b", Stop::Syntax(1))
+    literal_stops(&rt, alloc, b"- b", ReadStop::Syntax(1))?;
+    literal_stops(&rt, alloc, b"-", ReadStop::Syntax(0))?;
+    literal_stops(&rt, alloc, b"- - 1", ReadStop::Syntax(2))?;
+    literal_stops(&rt, alloc, b"b", ReadStop::Syntax(1))
 }
 
 #[test]
@@ -165,11 +165,11 @@ fn conditions_stop_where_they_can_not_go_on(rt: HostRuntime) -> Result<(), Fail>
         &rt,
         rt.alloc(),
         &[
-            (b"a = - b", Err(Stop::Syntax(1))),
-            (b"a + 1 = 2", Err(Stop::Syntax(4))),
-            (b"(a) = 1", Err(Stop::Syntax(3))),
-            (b"a BETWEEN 1 OR 2", Err(Stop::Syntax(2))),
-            (b"(a = 1", Err(Stop::Syntax(0))),
+            (b"a = - b", Err(ReadStop::Syntax(1))),
+            (b"a + 1 = 2", Err(ReadStop::Syntax(4))),
+            (b"(a) = 1", Err(ReadStop::Syntax(3))),
+            (b"a BETWEEN 1 OR 2", Err(ReadStop::Syntax(2))),
+            (b"(a = 1", Err(ReadStop::Syntax(0))),
         ],
     )
 }
@@ -182,7 +182,7 @@ fn conditions_have_at_most_256_counted_words(rt: HostRuntime) -> Result<(), Fail
     let wider = around(alloc, 256, b"NOT ", b"a = 1", b"")?;
     assert_eq!(rt;
         condition_of(&rt, alloc, &wider)?,
-        Err(Stop::Limit(ScriptKind::TooDeep, 2))
+        Err(ReadStop::Limit(ScriptKind::TooDeep, 2))
     );
     Ok(())
 }
@@ -196,10 +196,10 @@ fn expressions_count_operators_and_parentheses(rt: HostRuntime) -> Result<(), Fa
             (b"1 - 2 - 3", Ok((2, 0))),
             (b"- - 5 * (a)", Ok((3, 0))),
             (b"-a || 'x' , 1", Ok((2, 2))),
-            (b"1 -", Err(Stop::Syntax(0))),
+            (b"1 -", Err(ReadStop::Syntax(0))),
             (
                 b"a - 9223372036854775808",
-                Err(Stop::Limit(ScriptKind::NumberTooWide, 1)),
+                Err(ReadStop::Limit(ScriptKind::NumberTooWide, 1)),
             ),
         ],
     )
@@ -213,7 +213,7 @@ fn expressions_have_at_most_256_counted_words(rt: HostRuntime) -> Result<(), Fai
     let wider = around(alloc, 257, b"(", b"1", b")")?;
     assert_eq!(rt;
         expression_of(&rt, alloc, &wider)?,
-        Err(Stop::Limit(ScriptKind::TooDeep, 259))
+        Err(ReadStop::Limit(ScriptKind::TooDeep, 259))
     );
     Ok(())
 }

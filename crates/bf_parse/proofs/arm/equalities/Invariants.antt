@@ -1,7 +1,7 @@
 use Rattle.std.proofs.Common.{◌<◌, suc, List, length}
 use Rattle.bf_tree.specs.declared.raw.Ref.{Ref}
 use Rattle.bf_parse.specs.Cursors.{IsPlace, left, words}
-use Rattle.bf_parse.specs.MigrationEnds.{EqualitiesRule, goes_equalities}
+use Rattle.bf_parse.specs.MigrationEnds.{EqualitiesRule, follow_equalities}
 use Rattle.bf_parse.specs.Migrations.{Equalities}
 use Rattle.bf_parse.specs.Reading.{Reading, Fits}
 use Rattle.bf_parse.proofs.arm.equalities.Given as goal
@@ -10,7 +10,7 @@ abbrev pub invariant-equalities : goal.invariant-equalities
 invariant-equalities l = record {
   place : IsPlace l.rest;
   shorter : left l.rest < left l.fn.cursor;
-  fits : (r : Reading (List (Ref × Ref))) → Fits goes_equalities (Equalities (suc (length l.found.items)) l.found.items) (words l.rest) r → Fits goes_equalities EqualitiesRule (words l.fn.cursor) r;
+  fits : (r : Reading (List (Ref × Ref))) → Fits follow_equalities (Equalities (suc (length l.found.items)) l.found.items) (words l.rest) r → Fits follow_equalities EqualitiesRule (words l.fn.cursor) r;
 }
 
 abbrev pub decreases-equalities : goal.decreases-equalities

@@ -1,6 +1,6 @@
 use Rattle.std.proofs.Common.{◌<◌, ◌+◌, ◌*◌}
 use Rattle.bf_parse.specs.Cursors.{IsPlace, left, words}
-use Rattle.bf_parse.specs.Ends.{goes_conjunction, goes_disjunction}
+use Rattle.bf_parse.specs.Ends.{follow_conjunction, follow_disjunction}
 use Rattle.bf_parse.specs.Conditions.{CountedCond, Conjunction, Negations, Disjunction, Conjunctions}
 use Rattle.bf_parse.specs.Reading.{Reading, Fits}
 use Rattle.bf_parse.proofs.condition.+condition.Given as goal
@@ -18,7 +18,7 @@ abbrev pub invariant-conjunction-loop-behind : goal.invariant-conjunction-loop-b
 invariant-conjunction-loop-behind l = record {
   place : IsPlace l.rest;
   shorter : left l.rest < left l.fn.cursor;
-  fits : (r : Reading CountedCond) → Fits goes_conjunction (Negations (l.total, l.so_far)) (words l.rest) r → Fits goes_conjunction (Conjunction l.fn.count) (words l.fn.cursor) r;
+  fits : (r : Reading CountedCond) → Fits follow_conjunction (Negations (l.total, l.so_far)) (words l.rest) r → Fits follow_conjunction (Conjunction l.fn.count) (words l.fn.cursor) r;
 }
 
 abbrev pub decreases-conjunction-loop-behind : goal.decreases-conjunction-loop-behind
@@ -28,7 +28,7 @@ abbrev pub invariant-condition-loop-behind : goal.invariant-condition-loop-behin
 invariant-condition-loop-behind l = record {
   place : IsPlace l.rest;
   shorter : left l.rest < left l.fn.cursor;
-  fits : (r : Reading CountedCond) → Fits goes_disjunction (Conjunctions (l.total, l.so_far)) (words l.rest) r → Fits goes_disjunction (Disjunction l.fn.count) (words l.fn.cursor) r;
+  fits : (r : Reading CountedCond) → Fits follow_disjunction (Conjunctions (l.total, l.so_far)) (words l.rest) r → Fits follow_disjunction (Disjunction l.fn.count) (words l.fn.cursor) r;
 }
 
 abbrev pub decreases-condition-loop-behind : goal.decreases-condition-loop-behind

@@ -3,7 +3,7 @@ use Rattle.bf_parse.specs.Expressions.{Counted}
 use Rattle.bf_parse.proofs.Additions.{sum_as, products_passed}
 use Rattle.bf_parse.proofs.Chains.{product_as, factors_can, products_can, factors_passed, star_deep, star_end, star_stop, star_more}
 use Rattle.bf_parse.proofs.Operands.{literal_stop, literal_read, ref_stop, ref_read, opposite_deep, opposite_stop, opposite_read, parenthesis_deep, parenthesis_stop, parenthesis_open, parenthesis_read}
-use Rattle.bf_parse.proofs.Joints.{joint_deep, joint_stop, joint_more, joint_end}
+use Rattle.bf_parse.proofs.SumOperators.{operator_deep, operator_stop, operator_more, operator_end}
 use Rattle.bf_parse.proofs.Moves.{exit, told, then_go, then_stop}
 use Rattle.bf_parse.proofs.Places.{length-words}
 use Rattle.bf_parse.proofs.expression.+expression.Goals as goal
@@ -80,17 +80,17 @@ product-loop-behind-preserved t c = record {
 }
 
 pub sum-returns-in_err-next-clause-fits : goal.sum-returns-in_err-next-clause-fits
-sum-returns-in_err-next-clause-fits t c = exit _ c.from_residual-in_err-next.result _ c.from_residual-in_err-next.ensures.1 (told _ _ c.in_err-next.ensures.fault (c.loop-by.invariant.fits _ (joint_deep _ c.in-Some.by (length-words c.loop-by.rest.text.now c.loop-by.rest.tokens.now) c.in_err-next.ensures.deep c.in-Some.ensures.found)))
+sum-returns-in_err-next-clause-fits t c = exit _ c.from_residual-in_err-next.result _ c.from_residual-in_err-next.ensures.1 (told _ _ c.in_err-next.ensures.fault (c.loop-by.invariant.fits _ (operator_deep _ c.in-Some.by (length-words c.loop-by.rest.text.now c.loop-by.rest.tokens.now) c.in_err-next.ensures.deep c.in-Some.ensures.found)))
 
 pub sum-returns-in_err-right-clause-fits : goal.sum-returns-in_err-right-clause-fits
-sum-returns-in_err-right-clause-fits t c = exit _ c.from_residual-in_err-right.result _ c.from_residual-in_err-right.ensures.1 (c.loop-by.invariant.fits _ (joint_stop _ c.in-Some.by c.in_ok-next.ensures.one_more c.in_ok-next.ensures.shallow c.in-Some.ensures.place c.in-Some.ensures.found c.in_err-right.ensures.fits))
+sum-returns-in_err-right-clause-fits t c = exit _ c.from_residual-in_err-right.result _ c.from_residual-in_err-right.ensures.1 (c.loop-by.invariant.fits _ (operator_stop _ c.in-Some.by c.in_ok-next.ensures.one_more c.in_ok-next.ensures.shallow c.in-Some.ensures.place c.in-Some.ensures.found c.in_err-right.ensures.fits))
 
 pub sum-loop-by-preserved : goal.sum-loop-by-preserved
 sum-loop-by-preserved t c = record {
   place = c.in_ok-right.ensures.place;
   shorter = omega (arith, c.in-Some.ensures.shorter, c.in_ok-right.ensures.shorter, c.loop-by.invariant.shorter);
-  fits = λ r f. c.loop-by.invariant.fits r (joint_more c.in-Some.by c.in_ok-next.ensures.one_more c.in_ok-next.ensures.shallow c.in-Some.ensures.place c.in-Some.ensures.found c.in_ok-right.ensures.fits c.in_ok-total.ensures.value f);
+  fits = λ r f. c.loop-by.invariant.fits r (operator_more c.in-Some.by c.in_ok-next.ensures.one_more c.in_ok-next.ensures.shallow c.in-Some.ensures.place c.in-Some.ensures.found c.in_ok-right.ensures.fits c.in_ok-total.ensures.value f);
 }
 
 pub sum-returns-clause-fits : goal.sum-returns-clause-fits
-sum-returns-clause-fits t c = c.loop-by.invariant.fits _ (joint_end c.in_default.ensures.found)
+sum-returns-clause-fits t c = c.loop-by.invariant.fits _ (operator_end c.in_default.ensures.found)

@@ -1,6 +1,6 @@
 use Rattle.std.proofs.Common.{◌<◌, ◌+◌, ◌*◌}
 use Rattle.bf_parse.specs.Cursors.{IsPlace, left, words}
-use Rattle.bf_parse.specs.Ends.{goes_product, goes_sum}
+use Rattle.bf_parse.specs.Ends.{follow_product, follow_sum}
 use Rattle.bf_parse.specs.Expressions.{Counted, Product, Factors, Sum, Products}
 use Rattle.bf_parse.specs.Reading.{Reading, Fits}
 use Rattle.bf_parse.proofs.expression.+expression.Given as goal
@@ -18,7 +18,7 @@ abbrev pub invariant-product-loop-behind : goal.invariant-product-loop-behind
 invariant-product-loop-behind l = record {
   place : IsPlace l.rest;
   shorter : left l.rest < left l.fn.cursor;
-  fits : (r : Reading Counted) → Fits goes_product (Factors (l.total, l.so_far)) (words l.rest) r → Fits goes_product (Product l.fn.count) (words l.fn.cursor) r;
+  fits : (r : Reading Counted) → Fits follow_product (Factors (l.total, l.so_far)) (words l.rest) r → Fits follow_product (Product l.fn.count) (words l.fn.cursor) r;
 }
 
 abbrev pub decreases-product-loop-behind : goal.decreases-product-loop-behind
@@ -28,7 +28,7 @@ abbrev pub invariant-sum-loop-by : goal.invariant-sum-loop-by
 invariant-sum-loop-by l = record {
   place : IsPlace l.rest;
   shorter : left l.rest < left l.fn.cursor;
-  fits : (r : Reading Counted) → Fits goes_sum (Products (l.total, l.so_far)) (words l.rest) r → Fits goes_sum (Sum l.fn.count) (words l.fn.cursor) r;
+  fits : (r : Reading Counted) → Fits follow_sum (Products (l.total, l.so_far)) (words l.rest) r → Fits follow_sum (Sum l.fn.count) (words l.fn.cursor) r;
 }
 
 abbrev pub decreases-sum-loop-by : goal.decreases-sum-loop-by

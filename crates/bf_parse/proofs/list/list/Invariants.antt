@@ -2,14 +2,14 @@ use Rattle.std.proofs.Common.{◌<◌, suc, List, length}
 use Rattle.bf_parse.specs.Cursors.{IsPlace, left, words}
 use Rattle.bf_parse.specs.Reading.{Reading, Fits}
 use Rattle.bf_parse.specs.Rules.{Listed, Others}
-use Rattle.bf_parse.specs.StatementEnds.{goes_list}
+use Rattle.bf_parse.specs.StatementEnds.{follow_list}
 use Rattle.bf_parse.proofs.list.list.Given as goal
 
 abbrev pub invariant-loop-behind : goal.invariant-loop-behind
 invariant-loop-behind g l = record {
   place : IsPlace l.rest;
   shorter : left l.rest < left l.fn.cursor;
-  fits : (r : Reading (List g.row.P.Denot)) → Fits (goes_list g.P.Part.goes_on) (Others g.P.Part.rule (suc (length l.parts.items)) l.parts.items) (words l.rest) r → Fits (goes_list g.P.Part.goes_on) (Listed g.P.Part.rule) (words l.fn.cursor) r;
+  fits : (r : Reading (List g.row.P.Denot)) → Fits (follow_list g.P.Part.follow) (Others g.P.Part.rule (suc (length l.parts.items)) l.parts.items) (words l.rest) r → Fits (follow_list g.P.Part.follow) (Listed g.P.Part.rule) (words l.fn.cursor) r;
 }
 
 abbrev pub decreases-loop-behind : goal.decreases-loop-behind

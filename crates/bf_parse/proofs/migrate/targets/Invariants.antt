@@ -1,7 +1,7 @@
 use Rattle.std.proofs.Common.{◌<◌, ◌+◌, List, length}
 use Rattle.bf_tree.specs.declared.migration.Target.{Target}
 use Rattle.bf_parse.specs.Cursors.{IsPlace, left, words}
-use Rattle.bf_parse.specs.MigrationEnds.{TargetsRule, goes_targets}
+use Rattle.bf_parse.specs.MigrationEnds.{TargetsRule, follow_targets}
 use Rattle.bf_parse.specs.Migrations.{Targets}
 use Rattle.bf_parse.specs.Reading.{Reading, Fits}
 use Rattle.bf_parse.proofs.migrate.targets.Given as goal
@@ -10,7 +10,7 @@ abbrev pub invariant-targets : goal.invariant-targets
 invariant-targets l = record {
   place : IsPlace l.rest;
   shorter : left l.rest < left l.fn.cursor;
-  fits : (r : Reading (List Target)) → Fits goes_targets (Targets (length l.found.items + 1) l.found.items) (words l.rest) r → Fits goes_targets TargetsRule (words l.fn.cursor) r;
+  fits : (r : Reading (List Target)) → Fits follow_targets (Targets (length l.found.items + 1) l.found.items) (words l.rest) r → Fits follow_targets TargetsRule (words l.fn.cursor) r;
 }
 
 abbrev pub decreases-targets : goal.decreases-targets

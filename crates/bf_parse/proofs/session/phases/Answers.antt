@@ -1,7 +1,7 @@
 use Rattle.std.proofs.Common.{◌≡◌, ◌+◌, ap, subst, arith}
 use Rattle.bf_parse.specs.Cursors.{words}
 use Rattle.bf_parse.specs.Reading.{Fits}
-use Rattle.bf_parse.specs.ScriptParts.{goes_phases}
+use Rattle.bf_parse.specs.ScriptParts.{follow_phases}
 use Rattle.bf_parse.specs.Scripts.{Progress, Phases}
 use Rattle.bf_parse.proofs.Moves.{exit}
 use Rattle.bf_parse.proofs.SessionLists.{phase_open, phase_stop, phase_more, phases_end}
@@ -12,7 +12,7 @@ phases-init c =
     let none : c.new-so_far.result.phases ≡ 0 = ap (λ (p : Progress). p.phases) c.new-so_far.ensures in record {
       place = c.requires.place;
       few = omega arith;
-      fits = λ r f. subst (λ (p : Progress). Fits goes_phases (Phases p) (words c.args.cursor) r) c.new-so_far.ensures f;
+      fits = λ r f. subst (λ (p : Progress). Fits follow_phases (Phases p) (words c.args.cursor) r) c.new-so_far.ensures f;
     }
 
 pub returns-in_err-behind-clause-fits : goal.returns-in_err-behind-clause-fits

@@ -1,9 +1,9 @@
 use Rattle.std.proofs.Common.{List, sym, subst, ◌∙◌, arith}
 use Rattle.bf_tree.specs.declared.statement.Statement.{Statement}
-use Rattle.bf_parse.specs.declared.error.Stop.TheVariants.{Memory}
+use Rattle.bf_parse.specs.declared.error.ReadStop.TheVariants.{Memory}
 use Rattle.bf_parse.specs.Cursors.{words}
 use Rattle.bf_parse.specs.Reading.{Fits}
-use Rattle.bf_parse.specs.ScriptParts.{begins_statement}
+use Rattle.bf_parse.specs.ScriptParts.{first_statement}
 use Rattle.bf_parse.specs.Scripts.{Statements}
 use Rattle.bf_parse.proofs.Moves.{exit}
 use Rattle.bf_parse.proofs.StatementLists.{statements_stop, statements_open, statements_more, statements_end}
@@ -13,7 +13,7 @@ pub statements-init : goal.statements-init
 statements-init c = record {
   place = c.requires;
   shorter = omega arith;
-  fits = λ r f. subst (λ (z : List Statement). Fits begins_statement (Statements c.args.migrations z) (words c.args.cursor) r) c.new-found.ensures.items f;
+  fits = λ r f. subst (λ (z : List Statement). Fits first_statement (Statements c.args.migrations z) (words c.args.cursor) r) c.new-found.ensures.items f;
 }
 
 pub returns-in_err-next-clause-fits : goal.returns-in_err-next-clause-fits
@@ -35,7 +35,7 @@ statements-preserved c = record {
   fits = λ r f.
       c.statements.invariant.fits r
       (statements_more (sym c.begins.ensures ∙ c.statements-test.true) c.in_ok-next.ensures.fits c.in_ok-behind.ensures.found
-      (subst (λ (z : List Statement). Fits begins_statement (Statements c.in_ok-next.count z) (words c.in_ok-behind.behind) r) c.in_ok-push.ensures.items f));
+      (subst (λ (z : List Statement). Fits first_statement (Statements c.in_ok-next.count z) (words c.in_ok-behind.behind) r) c.in_ok-push.ensures.items f));
 }
 
 pub statements-smaller : goal.statements-smaller

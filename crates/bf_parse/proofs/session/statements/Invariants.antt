@@ -2,7 +2,7 @@ use Rattle.std.proofs.Common.{◌≤◌, ℕ, List, []}
 use Rattle.bf_tree.specs.declared.statement.Statement.{Statement}
 use Rattle.bf_parse.specs.Cursors.{IsPlace, left, words}
 use Rattle.bf_parse.specs.Reading.{Reading, Fits}
-use Rattle.bf_parse.specs.ScriptParts.{begins_statement}
+use Rattle.bf_parse.specs.ScriptParts.{first_statement}
 use Rattle.bf_parse.specs.Scripts.{Statements}
 use Rattle.bf_parse.proofs.session.statements.Given as goal
 
@@ -10,7 +10,7 @@ abbrev pub invariant-statements : goal.invariant-statements
 invariant-statements l = record {
   place : IsPlace l.rest;
   shorter : left l.rest ≤ left l.fn.cursor;
-  fits : (r : Reading (List Statement × ℕ)) → Fits begins_statement (Statements l.so_far l.found.items) (words l.rest) r → Fits begins_statement (Statements l.fn.migrations []) (words l.fn.cursor) r;
+  fits : (r : Reading (List Statement × ℕ)) → Fits first_statement (Statements l.so_far l.found.items) (words l.rest) r → Fits first_statement (Statements l.fn.migrations []) (words l.fn.cursor) r;
 }
 
 abbrev pub decreases-statements : goal.decreases-statements
