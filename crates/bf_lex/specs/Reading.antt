@@ -1,5 +1,6 @@
 -- What private functions promise of the front of a text.
-use Rattle.std.specs.Prelude.{◌≡◌, ℕ, ◌+◌, ◌<◌, ◌≤◌, ◌^◌, Bool, false, ◌&&◌, ◌||◌, ◌==◌, nat_le, if◌then◌else◌, List, [], ◌∷◌, ◌++◌, take, drop, flat_map, length, Option, Some, None, Result, Ok, Err, IsTrue}
+use Rattle.std.specs.Prelude.{◌≡◌, ℕ, ◌+◌, ◌<◌, ◌≤◌, Bool, false, ◌&&◌, ◌||◌, ◌==◌, nat_le, if◌then◌else◌, List, [], ◌∷◌, ◌++◌, take, drop, flat_map, length, Option, Some, None, Result, Ok, Err, IsTrue}
+use Rattle.bf_base.specs.Limits.{int_end}
 use Rattle.bf_lex.specs.declared.sign.Sign.{Sign}
 use Rattle.bf_lex.specs.declared.sign.Sign.TheVariants as sign
 use Rattle.bf_lex.specs.declared.fault.ScriptFault.{ScriptFault}
@@ -54,7 +55,7 @@ pub record IsWrongBehindGap (place : ℕ) (text : List ℕ) (fault : ScriptFault
 
 -- the number that digits write, within the limits of numbers
 abbrev pub number_within : List ℕ → Option ℕ
-number_within digits = if nat_le (number_from 0 digits) (2 ^ 63) then Some (number_from 0 digits) else None
+number_within digits = if nat_le (number_from 0 digits) int_end then Some (number_from 0 digits) else None
 
 -- behind an opening quote, so many bytes up to the closing one, which write a content of so many
 pub record IsClosed (text : List ℕ) (size count : ℕ) : Type 0 where

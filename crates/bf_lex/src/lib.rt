@@ -7,8 +7,6 @@ pub mod keyword;
 mod lexeme;
 pub mod lexer;
 pub mod sign;
-#[cfg(test)]
-mod tests;
 pub mod token;
 
 pub use fault::{ScriptError, ScriptFault, ScriptKind};

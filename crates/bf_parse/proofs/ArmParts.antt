@@ -10,31 +10,34 @@ use Rattle.bf_lex.specs.declared.sign.Sign.TheVariants as sign
 use Rattle.bf_tree.specs.declared.migration.Arm.{Arm}
 use Rattle.bf_tree.specs.declared.migration.Item.{Item}
 use Rattle.bf_tree.specs.declared.migration.Join.{Join}
-use Rattle.bf_parse.specs.declared.cursor.Cursor.{Cursor}
-use Rattle.bf_parse.specs.declared.error.ReadStop.{ReadStop}
-use Rattle.bf_parse.specs.declared.error.ReadStop.TheVariants as stop
-use Rattle.bf_parse.specs.Words.{Word, Keyword, Name, Sign}
-use Rattle.bf_parse.specs.Steps.{Step, Say, Limit, Part, said}
-use Rattle.bf_parse.specs.Rules.{Return, After, Marked, Then, Either, Listed}
-use Rattle.bf_parse.specs.Reading.{CanGoOn, Ends, Reading, Read, Fits}
-use Rattle.bf_parse.specs.Outcome.{IsBehind, IsExpected, IsNamed, stopped}
-use Rattle.bf_parse.specs.Cursors.{IsPlace, left, words}
-use Rattle.bf_parse.specs.Ends.{begins, is_name, is_point}
-use Rattle.bf_parse.specs.StatementEnds.{follow_list, follow_where}
-use Rattle.bf_parse.specs.Leads.{IsPart, IsSayable}
-use Rattle.bf_parse.specs.Expressions.{RefRule, ref_to}
-use Rattle.bf_parse.specs.Statements.{WhereRule}
-use Rattle.bf_parse.specs.Migrations.{EqualityRule, Equalities, no_other, other, join_of, ItemRule, JoinRule, GroupRule, ArmRule, Arms, no_arm, arm}
-use Rattle.bf_parse.specs.MigrationEnds.{ArmsRule, ClausesRule, EqualitiesRule, follow_arm, follow_arms, follow_equalities, follow_group, follow_join}
-use Rattle.bf_parse.proofs.Fitting.{fits_by}
-use Rattle.bf_parse.proofs.Factors.{begins-append}
-use Rattle.bf_parse.proofs.Chains.{or_left}
-use Rattle.bf_parse.proofs.Clears.{Clear, clear_after, clear_either, clear_passed, clear_return, clear_then, or_right, then_assoc}
-use Rattle.bf_parse.proofs.Maps.{Maps, map_go, map_stop, wider}
-use Rattle.bf_parse.proofs.Listings.{ref_part}
-use Rattle.bf_parse.proofs.MigrateShapes.{ref_can, equality_can, equalities_can, item_can, join_can, where_can, group_can, arm_can, arms_can}
-use Rattle.bf_parse.proofs.Parts.{part_full, part_low}
-use Rattle.bf_parse.proofs.Moves.{Can, Passed, after_can, after_go, after_stop, after_not_here, behind_go, left_here, right_here, marked_can, marked_go, named_go, named_stop, others_can, return_can, return_fits, return_not_here, return_passed, then_can, then_go, then_stop}
+use Rattle.bf_phrase.specs.declared.cursor.Cursor.{Cursor}
+use Rattle.bf_phrase.specs.declared.error.ReadStop.{ReadStop}
+use Rattle.bf_phrase.specs.declared.error.ReadStop.TheVariants as stop
+use Rattle.bf_phrase.specs.Words.{Word, Keyword, Name, Sign}
+use Rattle.bf_phrase.specs.Steps.{Step, Say, Limit, Part, said}
+use Rattle.bf_phrase.specs.Rules.{Return, After, Marked, Then, Either, Listed}
+use Rattle.bf_phrase.specs.Reading.{CanGoOn, Ends, Reading, Read, Fits}
+use Rattle.bf_phrase.specs.Outcome.{IsBehind, IsExpected, IsNamed, stopped}
+use Rattle.bf_phrase.specs.Cursors.{IsPlace, left, words}
+use Rattle.bf_phrase.specs.First.{begins, is_name}
+use Rattle.bf_phrase.specs.Follow.{is_point, follow_list, follow_where}
+use Rattle.bf_phrase.specs.Parts.{IsPart, IsSayable}
+use Rattle.bf_phrase.specs.Expressions.{RefRule, ref_to}
+use Rattle.bf_phrase.specs.Phrases.{WhereRule}
+use Rattle.bf_parse.specs.Migrations.{EqualityRule, Equalities, no_other, other, join_of, JoinRule, GroupRule, ArmRule, Arms, no_arm, arm}
+use Rattle.bf_phrase.specs.Items.{ItemRule}
+use Rattle.bf_parse.specs.MigrationFollow.{ArmsRule, ClausesRule, EqualitiesRule, follow_arm, follow_arms, follow_equalities, follow_group, follow_join}
+use Rattle.bf_phrase.proofs.Fitting.{fits_by}
+use Rattle.bf_phrase.proofs.Factors.{begins-append}
+use Rattle.bf_phrase.proofs.Chains.{or_left}
+use Rattle.bf_phrase.proofs.Clears.{Clear, clear_after, clear_either, clear_passed, clear_return, clear_then, or_right, then_assoc}
+use Rattle.bf_phrase.proofs.Maps.{Maps, map_go, map_stop, wider}
+use Rattle.bf_phrase.proofs.Listings.{ref_part}
+use Rattle.bf_phrase.proofs.Shapes.{ref_can, item_can}
+use Rattle.bf_parse.proofs.MigrateShapes.{equality_can, equalities_can, join_can, group_can, arm_can, arms_can}
+use Rattle.bf_phrase.proofs.Phrases.{where_can}
+use Rattle.bf_phrase.proofs.Parts.{part_full, part_low}
+use Rattle.bf_phrase.proofs.Moves.{Can, Passed, after_can, after_go, after_stop, after_not_here, behind_go, left_here, right_here, marked_can, marked_go, named_go, named_stop, others_can, return_can, return_fits, return_not_here, return_passed, then_can, then_go, then_stop}
 
 -- ---- equalities
 

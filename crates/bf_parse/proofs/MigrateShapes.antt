@@ -3,20 +3,10 @@ use Rattle.std.proofs.Common.{ℕ, List, [], refl}
 use Rattle.bf_tree.specs.declared.raw.Ref.{Ref}
 use Rattle.bf_tree.specs.declared.migration.Arm.{Arm}
 use Rattle.bf_tree.specs.declared.migration.Target.{Target}
-use Rattle.bf_parse.specs.Statements.{WhereRule}
-use Rattle.bf_parse.specs.Expressions.{RefRule}
-use Rattle.bf_parse.specs.Migrations.{AsRule, EqualityRule, Equalities, no_other, ItemRule, JoinRule, GroupRule, ArmRule, Arms, no_arm, TargetRule, Targets, no_target, MigrateRule}
-use Rattle.bf_parse.proofs.Chains.{sum_can}
-use Rattle.bf_parse.proofs.Moves.{Can, return_can, after_can, named_can, then_can, marked_can, left_can, others_can}
-
-pub ref_can : Can RefRule
-ref_can = named_can (λ n. left_can return_can)
-
-pub as_can : Can AsRule
-as_can = after_can (named_can (λ n. return_can))
-
-pub item_can : Can ItemRule
-item_can = left_can (then_can (sum_can {n = 0}) (λ x. left_can (then_can as_can (λ n. return_can))))
+use Rattle.bf_parse.specs.Migrations.{EqualityRule, Equalities, no_other, JoinRule, GroupRule, ArmRule, Arms, no_arm, TargetRule, Targets, no_target, MigrateRule}
+use Rattle.bf_phrase.proofs.Moves.{Can, return_can, after_can, named_can, then_can, marked_can, left_can, others_can}
+use Rattle.bf_phrase.proofs.Phrases.{where_can}
+use Rattle.bf_phrase.proofs.Shapes.{ref_can, item_can}
 
 pub equality_can : Can EqualityRule
 equality_can = then_can ref_can (λ a. after_can (then_can ref_can (λ b. return_can)))
@@ -26,9 +16,6 @@ equalities_can {n = n} {before = before} = record { it = ([], before, no_other r
 
 pub join_can : Can JoinRule
 join_can = left_can return_can
-
-pub where_can : Can WhereRule
-where_can = left_can return_can
 
 pub group_can : Can GroupRule
 group_can = left_can return_can

@@ -7,26 +7,27 @@ use Rattle.bf_tree.specs.declared.raw.Ref.{Ref}
 use Rattle.bf_tree.specs.Trees.{Cond}
 use Rattle.bf_tree.specs.declared.statement.Statement.{Statement}
 use Rattle.bf_tree.specs.declared.statement.Statement.TheVariants as statement
-use Rattle.bf_parse.specs.declared.cursor.Cursor.{Cursor}
-use Rattle.bf_parse.specs.Words.{Word, Keyword}
-use Rattle.bf_parse.specs.Words as word
-use Rattle.bf_parse.specs.Steps.{Step, Say, said}
-use Rattle.bf_parse.specs.Rules.{Return, Then, Listed}
-use Rattle.bf_parse.specs.Reading.{Ends, Reading, Read, Stuck, Fits}
-use Rattle.bf_parse.specs.Outcome.{IsBehind}
-use Rattle.bf_parse.specs.Ends.{begins, follow_sum, nothing}
-use Rattle.bf_parse.specs.StatementEnds.{follow_list, follow_where, follow_ordinary, is_comma}
-use Rattle.bf_parse.specs.Leads.{IsFirstKeyword}
-use Rattle.bf_parse.specs.Statements.{WhereRule, SetRule, InsertRule, SelectRule, UpdateRule, DeleteRule, OrdinaryRule}
+use Rattle.bf_phrase.specs.declared.cursor.Cursor.{Cursor}
+use Rattle.bf_phrase.specs.Words.{Word, Keyword}
+use Rattle.bf_phrase.specs.Words as word
+use Rattle.bf_phrase.specs.Steps.{Step, Say, said}
+use Rattle.bf_phrase.specs.Rules.{Return, Then, Listed}
+use Rattle.bf_phrase.specs.Reading.{Ends, Reading, Read, Stuck, Fits}
+use Rattle.bf_phrase.specs.Outcome.{IsBehind}
+use Rattle.bf_phrase.specs.First.{begins, IsFirstKeyword}
+use Rattle.bf_phrase.specs.Follow.{follow_sum, nothing, follow_list, follow_where, is_comma}
+use Rattle.bf_parse.specs.StatementFollow.{follow_ordinary}
+use Rattle.bf_phrase.specs.Phrases.{WhereRule, SetRule}
+use Rattle.bf_parse.specs.Statements.{InsertRule, SelectRule, UpdateRule, DeleteRule, OrdinaryRule}
 use Rattle.bf_parse.specs.Pieces.{CreateRule}
-use Rattle.bf_parse.proofs.Beginnings.{Begun, other_stop}
-use Rattle.bf_parse.proofs.Chains.{or_left}
-use Rattle.bf_parse.proofs.Listings.{set_part}
-use Rattle.bf_parse.proofs.Lists.{weaker_ends}
-use Rattle.bf_parse.proofs.Maps.{wider, other_word, either_not_here}
-use Rattle.bf_parse.proofs.Moves.{Can, Passed, left_here, right_here, behind_go, return_fits}
-use Rattle.bf_parse.proofs.Parts.{list_can}
-use Rattle.bf_parse.proofs.Queries.{or_right}
+use Rattle.bf_phrase.proofs.Beginnings.{Begun, other_stop}
+use Rattle.bf_phrase.proofs.Chains.{or_left}
+use Rattle.bf_phrase.proofs.Listings.{set_part}
+use Rattle.bf_phrase.proofs.Lists.{weaker_ends}
+use Rattle.bf_phrase.proofs.Maps.{wider, other_word, either_not_here}
+use Rattle.bf_phrase.proofs.Moves.{Can, Passed, left_here, right_here, behind_go, return_fits}
+use Rattle.bf_phrase.proofs.Parts.{list_can}
+use Rattle.bf_phrase.proofs.Phrases.{or_right}
 
 -- ---- what may follow
 

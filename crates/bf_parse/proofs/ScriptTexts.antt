@@ -1,6 +1,6 @@
 -- What a text is, by what its tokens are.
 use Rattle.std.proofs.Common.{◌≡◌, ℕ, ◌<◌, ◌≤◌, List, Result, Ok, Err, sym, ap, ◌∙◌, inl, inr}
-use Rattle.std.specs.Prelude.{IfOk}
+use Rattle.std.specs.Prelude.{IfOk, length, []}
 use Rattle.std.specs.Result.{IsErr, IsErrAnd}
 use Rattle.bf_lex.specs.declared.fault.ScriptError.{ScriptError}
 use Rattle.bf_lex.specs.declared.fault.ScriptError.TheVariants.{Fault}
@@ -10,12 +10,11 @@ use Rattle.bf_lex.specs.declared.fault.ScriptKind.TheVariants as kind
 use Rattle.bf_lex.specs.declared.token.Token.{Token}
 use Rattle.bf_lex.specs.Lexing.{IsLexed}
 use Rattle.bf_tree.specs.declared.script.Script.{Script}
-use Rattle.bf_parse.specs.Words.{words_of}
-use Rattle.bf_parse.specs.Reading.{Read, Stuck, Over}
+use Rattle.bf_phrase.specs.Words.{words_of}
+use Rattle.bf_phrase.specs.Reading.{Read, Stuck, Over}
 use Rattle.bf_parse.specs.Faults.{Answers}
 use Rattle.bf_base.specs.Limits.{longest_script}
 use Rattle.bf_parse.specs.Scripts.{IsScriptText, ScriptRule, place_of}
-use Rattle.std.specs.Prelude.{length, []}
 
 abbrev fault_at_place : ℕ → ScriptKind → ScriptFault
 fault_at_place at kind = record { at = at; kind = kind }

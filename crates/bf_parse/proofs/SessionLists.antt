@@ -4,18 +4,18 @@ use Rattle.bf_lex.specs.declared.fault.ScriptKind.{ScriptKind}
 use Rattle.bf_lex.specs.declared.keyword.Keyword.TheVariants as keyword
 use Rattle.bf_lex.specs.declared.sign.Sign.TheVariants as sign
 use Rattle.bf_tree.specs.declared.statement.Statement.{Statement}
-use Rattle.bf_parse.specs.declared.error.ReadStop.{ReadStop}
-use Rattle.bf_parse.specs.Words.{Word, Keyword, Sign}
-use Rattle.bf_parse.specs.Steps.{Step, Say, Limit, Mark, Session, said, fault_at}
-use Rattle.bf_parse.specs.Rules.{Return, After, Marked, Then, Either}
-use Rattle.bf_parse.specs.Reading.{Ends, Reading, Read, Over, Fits}
-use Rattle.bf_parse.specs.Outcome.{IsBehind, IsExpected, stopped}
+use Rattle.bf_phrase.specs.declared.error.ReadStop.{ReadStop}
+use Rattle.bf_phrase.specs.Words.{Word, Keyword, Sign}
+use Rattle.bf_phrase.specs.Steps.{Step, Say, Limit, Mark, Session, said, fault_at}
+use Rattle.bf_phrase.specs.Rules.{Return, After, Marked, Then, Either}
+use Rattle.bf_phrase.specs.Reading.{Ends, Reading, Read, Over, Fits}
+use Rattle.bf_phrase.specs.Outcome.{IsBehind, IsExpected, stopped}
 use Rattle.bf_parse.specs.Scripts.{Statements, Progress, with_session, Sessions, no_session, session, with_phase, Phases, no_phase, phase}
-use Rattle.bf_parse.specs.ScriptParts.{first_statement, follow_sessions, follow_phases}
-use Rattle.bf_parse.proofs.Fitting.{fits_by}
-use Rattle.bf_parse.proofs.Lists.{weaker_ends}
-use Rattle.bf_parse.proofs.Chains.{marked_not_here, or_left}
-use Rattle.bf_parse.proofs.Moves.{Can, Passed, left_here, right_here, after_can, after_go, after_stop, after_not_here, behind_go, then_can, then_go, then_stop, marked_go, counted_over, return_fits, return_not_here}
+use Rattle.bf_parse.specs.StatementFollow.{first_statement, follow_sessions, follow_phases}
+use Rattle.bf_phrase.proofs.Fitting.{fits_by}
+use Rattle.bf_phrase.proofs.Lists.{weaker_ends}
+use Rattle.bf_phrase.proofs.Chains.{marked_not_here, or_left}
+use Rattle.bf_phrase.proofs.Moves.{Can, Passed, left_here, right_here, after_can, after_go, after_stop, after_not_here, behind_go, then_can, then_go, then_stop, marked_go, counted_over, return_fits, return_not_here}
 use Rattle.bf_parse.proofs.StatementLists.{statements_can}
 
 -- ---- sessions

@@ -8,22 +8,23 @@ use Rattle.bf_lex.specs.declared.sign.Sign.TheVariants as sign
 use Rattle.bf_tree.specs.declared.migration.Migrate.{Migrate as MigrateTree}
 use Rattle.bf_tree.specs.declared.statement.Statement.{Statement}
 use Rattle.bf_tree.specs.declared.statement.Statement.TheVariants.{Migrate}
-use Rattle.bf_parse.specs.declared.error.ReadStop.{ReadStop}
-use Rattle.bf_parse.specs.Words.{Word, Keyword, Sign}
-use Rattle.bf_parse.specs.Steps.{Step, Say, Limit, Migration, said, fault_at}
-use Rattle.bf_parse.specs.Rules.{Return, After, Marked, Then, Either}
-use Rattle.bf_parse.specs.Reading.{CanGoOn, Ends, Reading, Read, Over, Fits, first}
-use Rattle.bf_parse.specs.Outcome.{IsBehind, IsExpected, stopped}
-use Rattle.bf_parse.specs.Ends.{begins, nothing}
+use Rattle.bf_phrase.specs.declared.error.ReadStop.{ReadStop}
+use Rattle.bf_phrase.specs.Words.{Word, Keyword, Sign}
+use Rattle.bf_phrase.specs.Steps.{Step, Say, Limit, Migration, said, fault_at}
+use Rattle.bf_phrase.specs.Rules.{Return, After, Marked, Then, Either}
+use Rattle.bf_phrase.specs.Reading.{CanGoOn, Ends, Reading, Read, Over, Fits, first}
+use Rattle.bf_phrase.specs.Outcome.{IsBehind, IsExpected, stopped}
+use Rattle.bf_phrase.specs.First.{begins}
+use Rattle.bf_phrase.specs.Follow.{nothing}
 use Rattle.bf_parse.specs.Statements.{OrdinaryRule}
-use Rattle.bf_parse.specs.StatementEnds.{follow_ordinary}
+use Rattle.bf_parse.specs.StatementFollow.{follow_ordinary, first_migrate, first_ordinary, first_statement}
 use Rattle.bf_parse.specs.Migrations.{MigrateRule}
 use Rattle.bf_parse.specs.Scripts.{Statements, no_statement, ordinary, migrate}
-use Rattle.bf_parse.specs.ScriptParts.{StatementRule, first_migrate, first_ordinary, first_statement}
-use Rattle.bf_parse.proofs.Fitting.{fits_by, mark_over}
-use Rattle.bf_parse.proofs.Factors.{begins-append, begins_behind, whole}
-use Rattle.bf_parse.proofs.Beginnings.{Begun, other_not_here}
-use Rattle.bf_parse.proofs.Moves.{Can, NotHere, left_here, right_here, after_go, after_stop, after_passed, then_go, then_stop, marked_go, return_can, return_fits, return_passed}
+use Rattle.bf_parse.specs.ScriptParts.{StatementRule}
+use Rattle.bf_phrase.proofs.Fitting.{fits_by, mark_over}
+use Rattle.bf_phrase.proofs.Factors.{begins-append, begins_behind, whole}
+use Rattle.bf_phrase.proofs.Beginnings.{Begun, other_not_here}
+use Rattle.bf_phrase.proofs.Moves.{Can, NotHere, left_here, right_here, after_go, after_stop, after_passed, then_go, then_stop, marked_go, return_can, return_fits, return_passed}
 use Rattle.bf_parse.proofs.MigrateShapes.{migrate_can}
 
 -- ---- a statement

@@ -4,20 +4,21 @@ use Rattle.bf_lex.specs.declared.keyword.Keyword.TheVariants as keyword
 use Rattle.bf_lex.specs.declared.sign.Sign.TheVariants as sign
 use Rattle.bf_tree.specs.declared.statement.ColumnRule.{ColumnRule}
 use Rattle.bf_tree.specs.declared.statement.Statement.TheVariants as statement
-use Rattle.bf_parse.specs.declared.error.ReadStop.{ReadStop}
-use Rattle.bf_parse.specs.Words.{Word, Keyword, Name, Sign}
-use Rattle.bf_parse.specs.Steps.{Step, Say, Limit, Part, said}
-use Rattle.bf_parse.specs.Rules.{Return, After, Marked, Either, Then, Listed, Others, no_other, other}
-use Rattle.bf_parse.specs.Reading.{Ends, Reading, Read, Fits, first}
-use Rattle.bf_parse.specs.Outcome.{IsBehind, IsExpected, stopped}
-use Rattle.bf_parse.specs.Ends.{nothing}
-use Rattle.bf_parse.specs.StatementEnds.{is_check}
-use Rattle.bf_parse.specs.Statements.{ColumnRuleRule, NameRule, Enclosed, TableRule, IndexRuleRule}
+use Rattle.bf_phrase.specs.declared.error.ReadStop.{ReadStop}
+use Rattle.bf_phrase.specs.Words.{Word, Keyword, Name, Sign}
+use Rattle.bf_phrase.specs.Steps.{Step, Say, Limit, Part, said}
+use Rattle.bf_phrase.specs.Rules.{Return, After, Marked, Either, Then, Listed, Others, no_other, other}
+use Rattle.bf_phrase.specs.Reading.{Ends, Reading, Read, Fits, first}
+use Rattle.bf_phrase.specs.Outcome.{IsBehind, IsExpected, stopped}
+use Rattle.bf_phrase.specs.Follow.{nothing, is_check}
+use Rattle.bf_phrase.specs.Columns.{ColumnRuleRule}
+use Rattle.bf_phrase.specs.Phrases.{NameRule, Enclosed}
+use Rattle.bf_parse.specs.Statements.{TableRule, IndexRuleRule}
 use Rattle.bf_parse.specs.Pieces.{ColumnsRule}
-use Rattle.bf_parse.proofs.Moves.{Can, NotHere, Passed, left_here, right_here, after_not_here, behind_go, return_fits, then_go, then_stop, then_can, after_can, return_can, others_can, left_can, named_can, after_go, after_stop, marked_go}
-use Rattle.bf_parse.proofs.Maps.{same_rule}
-use Rattle.bf_parse.proofs.Listings.{column_part, name_part}
-use Rattle.bf_parse.proofs.Parts.{list_can, part_low}
+use Rattle.bf_phrase.proofs.Moves.{Can, NotHere, Passed, left_here, right_here, after_not_here, behind_go, return_fits, then_go, then_stop, then_can, after_can, return_can, others_can, left_can, named_can, after_go, after_stop, marked_go}
+use Rattle.bf_phrase.proofs.Maps.{same_rule}
+use Rattle.bf_phrase.proofs.Listings.{column_part, name_part}
+use Rattle.bf_phrase.proofs.Parts.{list_can, part_low}
 
 -- behind columns, from the n-th on
 abbrev pub More : ℕ → List ColumnRule → List Step → List ColumnRule → Type 0

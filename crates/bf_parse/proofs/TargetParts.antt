@@ -5,19 +5,19 @@ use Rattle.bf_lex.specs.declared.fault.ScriptKind.TheVariants.{TooManyTargets}
 use Rattle.bf_lex.specs.declared.keyword.Keyword.TheVariants as keyword
 use Rattle.bf_lex.specs.declared.sign.Sign.TheVariants as sign
 use Rattle.bf_tree.specs.declared.migration.Target.{Target}
-use Rattle.bf_parse.specs.declared.error.ReadStop.{ReadStop}
-use Rattle.bf_parse.specs.Words.{Word, Keyword, Sign}
-use Rattle.bf_parse.specs.Steps.{Step, Say, Limit, Target as TargetMark, said, fault_at}
-use Rattle.bf_parse.specs.Rules.{Return, After, Marked, Then, Either}
-use Rattle.bf_parse.specs.Reading.{CanGoOn, Ends, Reading, Read, Over, Stuck, Fits, first}
-use Rattle.bf_parse.specs.Outcome.{IsBehind, stopped}
+use Rattle.bf_phrase.specs.declared.error.ReadStop.{ReadStop}
+use Rattle.bf_phrase.specs.Words.{Word, Keyword, Sign}
+use Rattle.bf_phrase.specs.Steps.{Step, Say, Limit, Target as TargetMark, said, fault_at}
+use Rattle.bf_phrase.specs.Rules.{Return, After, Marked, Then, Either}
+use Rattle.bf_phrase.specs.Reading.{CanGoOn, Ends, Reading, Read, Over, Stuck, Fits, first}
+use Rattle.bf_phrase.specs.Outcome.{IsBehind, stopped}
 use Rattle.bf_parse.specs.Migrations.{ArmRule, Arms, TargetRule, Targets, no_target, target, target_of}
-use Rattle.bf_parse.specs.MigrationEnds.{TargetsRule, follow_arms, follow_targets}
-use Rattle.bf_parse.proofs.Fitting.{fits_by, mark_over, mark_stuck}
-use Rattle.bf_parse.proofs.Chains.{or_left}
-use Rattle.bf_parse.proofs.Clears.{Clear, clear_passed}
+use Rattle.bf_parse.specs.MigrationFollow.{TargetsRule, follow_arms, follow_targets}
+use Rattle.bf_phrase.proofs.Fitting.{fits_by, mark_over, mark_stuck}
+use Rattle.bf_phrase.proofs.Chains.{or_left}
+use Rattle.bf_phrase.proofs.Clears.{Clear, clear_passed}
 use Rattle.bf_parse.proofs.MigrateShapes.{arm_can, arms_can, target_can, targets_can}
-use Rattle.bf_parse.proofs.Moves.{Can, Passed, after_not_here, behind_go, left_here, right_here, marked_go, return_can, return_fits, return_not_here, then_can, then_go, then_stop}
+use Rattle.bf_phrase.proofs.Moves.{Can, Passed, after_not_here, behind_go, left_here, right_here, marked_go, return_can, return_fits, return_not_here, then_can, then_go, then_stop}
 
 -- ---- the limit of targets
 

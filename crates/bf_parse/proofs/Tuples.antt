@@ -1,17 +1,16 @@
 -- Lists of any number of parts.
 use Rattle.std.proofs.Common.{◌≡◌, List, [], ◌∷◌, ◌++◌, Some, None, refl, ap, subst, ◌∙◌, inl, inr}
 use Rattle.bf_lex.specs.declared.sign.Sign.TheVariants as sign
-use Rattle.bf_parse.specs.declared.error.ReadStop.{ReadStop}
-use Rattle.bf_parse.specs.Words.{Word, Sign}
-use Rattle.bf_parse.specs.Steps.{Step, Say}
-use Rattle.bf_parse.specs.Rules.{Return, After, Either, Then}
-use Rattle.bf_parse.specs.Reading.{Reading, Read, Fits}
-use Rattle.bf_parse.specs.Outcome.{IsBehind, stopped}
-use Rattle.bf_parse.specs.Ends.{nothing}
-use Rattle.bf_parse.specs.StatementEnds.{is_comma}
+use Rattle.bf_phrase.specs.declared.error.ReadStop.{ReadStop}
+use Rattle.bf_phrase.specs.Words.{Word, Sign}
+use Rattle.bf_phrase.specs.Steps.{Step, Say}
+use Rattle.bf_phrase.specs.Rules.{Return, After, Either, Then}
+use Rattle.bf_phrase.specs.Reading.{Reading, Read, Fits}
+use Rattle.bf_phrase.specs.Outcome.{IsBehind, stopped}
+use Rattle.bf_phrase.specs.Follow.{nothing, is_comma}
 use Rattle.bf_parse.specs.Statements.{Further, no_more, more, Several}
-use Rattle.bf_parse.proofs.Moves.{Can, left_here, right_here, after_not_here, return_not_here, return_fits, behind_go, then_go, then_stop}
-use Rattle.bf_parse.proofs.Maps.{same_rule, any_passed}
+use Rattle.bf_phrase.proofs.Moves.{Can, left_here, right_here, after_not_here, return_not_here, return_fits, behind_go, then_go, then_stop}
+use Rattle.bf_phrase.proofs.Maps.{same_rule, any_passed}
 
 abbrev Commas : {A : Type 0} → (List Step → A → Type 0) → List A → List Step → List A → Type 0
 Commas G before = Either (After (Sign sign.Comma) (Then G (λ a. Further G (before ++ a ∷ [])))) (Return before)

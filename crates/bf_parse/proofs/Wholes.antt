@@ -3,24 +3,25 @@ use Rattle.std.proofs.Common.{◌≡◌, ℕ, Bool, List, [], ◌∷◌, ◌++�
 use Rattle.std.proofs.lemmas.List.{append-nil, append_cancel_left}
 use Rattle.bf_lex.specs.declared.fault.ScriptKind.{ScriptKind}
 use Rattle.bf_tree.specs.declared.script.Script.{Script}
-use Rattle.bf_parse.specs.declared.error.ReadStop.{ReadStop}
-use Rattle.bf_parse.specs.declared.error.ReadStop.TheVariants as stop
+use Rattle.bf_phrase.specs.declared.error.ReadStop.{ReadStop}
+use Rattle.bf_phrase.specs.declared.error.ReadStop.TheVariants as stop
 use Rattle.std.specs.Result.{IsErrAnd}
 use Rattle.bf_lex.specs.declared.token.Token.{Token}
-use Rattle.bf_parse.specs.declared.cursor.Cursor.{Cursor}
-use Rattle.bf_parse.specs.Words.{Word, words_of}
-use Rattle.bf_parse.specs.Steps.{Step, Limit, said}
-use Rattle.bf_parse.specs.Rules.{Rule, Return, Then}
-use Rattle.bf_parse.specs.Reading.{Reading, Read, Stuck, FitsRead, FitsStuck, FitsOver, Fits, first}
-use Rattle.bf_parse.specs.Outcome.{outcome, stopped}
-use Rattle.bf_parse.specs.Cursors.{IsNext, words}
+use Rattle.bf_phrase.specs.declared.cursor.Cursor.{Cursor}
+use Rattle.bf_phrase.specs.Words.{Word, words_of}
+use Rattle.bf_phrase.specs.Steps.{Step, Limit, said}
+use Rattle.bf_phrase.specs.Rules.{Rule, Return, Then}
+use Rattle.bf_phrase.specs.Reading.{Reading, Read, Stuck, FitsRead, FitsStuck, FitsOver, Fits, first}
+use Rattle.bf_phrase.specs.Outcome.{outcome, stopped}
+use Rattle.bf_phrase.specs.Cursors.{IsNext, words}
 use Rattle.bf_parse.specs.Faults.{Answers, CantGoOn, IsOver, IsRead, IsStuck}
 use Rattle.bf_parse.specs.Scripts.{Progress, Phases, ScriptRule, nothing_yet}
-use Rattle.bf_parse.specs.ScriptParts.{follow_phases, script_of}
-use Rattle.bf_parse.proofs.Fitting.{fits_by}
-use Rattle.bf_parse.proofs.Factors.{whole}
-use Rattle.bf_parse.proofs.Places.{next_word}
-use Rattle.bf_parse.proofs.Moves.{return_can, return_fits, return_passed, then_go, then_stop}
+use Rattle.bf_parse.specs.StatementFollow.{follow_phases}
+use Rattle.bf_parse.specs.ScriptParts.{script_of}
+use Rattle.bf_phrase.proofs.Fitting.{fits_by}
+use Rattle.bf_phrase.proofs.Factors.{whole}
+use Rattle.bf_phrase.proofs.Places.{next_word}
+use Rattle.bf_phrase.proofs.Moves.{return_can, return_fits, return_passed, then_go, then_stop}
 
 module _ {A : Type 0} (w : Word → Bool) (G : List Step → A → Type 0) where
   cant : (ws : List Word) (left : ℕ) (used : List Step) (rest : List Word) (f : FitsStuck w G ws left) → f.used ≡ used → f.rest ≡ rest → CantGoOn G (said used) rest

@@ -1,10 +1,10 @@
 -- FAULTS: what words spell by a rule, or the first word that is refused, and why.
 use Rattle.std.specs.Prelude.{◌≡◌, ℕ, true, List, [], ◌∷◌, ◌++◌, length, Some}
 use Rattle.bf_lex.specs.declared.fault.ScriptKind.{ScriptKind}
-use Rattle.bf_parse.specs.Words.{Word}
-use Rattle.bf_parse.specs.Steps.{Step, Mark, Limit, said, within, fault_at}
-use Rattle.bf_parse.specs.Rules.{Rule}
-use Rattle.bf_parse.specs.Reading.{Reading, Read, Stuck, Over, Lost}
+use Rattle.bf_phrase.specs.Words.{Word}
+use Rattle.bf_phrase.specs.Steps.{Step, Mark, Limit, said, within, fault_at}
+use Rattle.bf_phrase.specs.Rules.{Rule}
+use Rattle.bf_phrase.specs.Reading.{Reading, Read, Stuck, Over, Lost}
 
 module _ {A : Type 0} (rule : Rule A) where
   -- the words are spelled by the rule, whatever the limits say

@@ -3,31 +3,16 @@ use Rattle.std.specs.Prelude.{◌≡◌, ℕ, suc, List, [], ◌∷◌, ◌++◌
 use Rattle.bf_lex.specs.declared.keyword.Keyword.TheVariants as keyword
 use Rattle.bf_lex.specs.declared.sign.Sign.TheVariants as sign
 use Rattle.bf_tree.specs.declared.raw.Ref.{Ref}
-use Rattle.bf_tree.specs.Trees.{column}
-use Rattle.bf_tree.specs.declared.migration.Item.{Item}
-use Rattle.bf_tree.specs.declared.migration.Item.TheVariants as item
 use Rattle.bf_tree.specs.declared.migration.Join.{Join}
 use Rattle.bf_tree.specs.declared.migration.Arm.{Arm}
 use Rattle.bf_tree.specs.declared.migration.Target.{Target}
 use Rattle.bf_tree.specs.declared.migration.Migrate.{Migrate}
-use Rattle.bf_parse.specs.Words as word
-use Rattle.bf_parse.specs.Steps.{Step, Say, Limit, Part, Target as TargetMark}
-use Rattle.bf_parse.specs.Rules.{Rule, Return, Named, Marked, Either, Then, Listed}
-use Rattle.bf_parse.specs.Expressions.{Counted, Sum, RefRule}
-use Rattle.bf_parse.specs.Statements.{AfterKeyword, AfterSign, Enclosed, WhereRule, AggregateRule}
-
--- AS name
-abbrev pub AsRule : Rule (List ℕ)
-AsRule = AfterKeyword keyword.As (Named (λ name. Return name))
-
--- an expression that is a ref and nothing else: no parenthesis was counted
-abbrev pub BareRule : Counted → Rule Item
-BareRule x steps i = (ref : Ref) × (x ≡ (column ref, 0)) × Return (item.Column ref) steps i
-
--- ref | expr AS name | aggregate AS name
-abbrev pub ItemRule : Rule Item
-ItemRule = Either (Then (Sum 0) (λ x. Either (Then AsRule (λ name. Return (item.Named x.0 name))) (BareRule x)))
-    (Then AggregateRule (λ total. Then AsRule (λ name. Return (item.Total total name))))
+use Rattle.bf_phrase.specs.Words as word
+use Rattle.bf_phrase.specs.Steps.{Step, Say, Limit, Part, Target as TargetMark}
+use Rattle.bf_phrase.specs.Rules.{Rule, Return, Named, Marked, Either, Then, Listed}
+use Rattle.bf_phrase.specs.Expressions.{RefRule}
+use Rattle.bf_phrase.specs.Phrases.{AfterKeyword, AfterSign, Enclosed, WhereRule}
+use Rattle.bf_phrase.specs.Items.{ItemRule}
 
 -- ref = ref
 abbrev pub EqualityRule : Rule (Ref × Ref)

@@ -12,9 +12,9 @@ use Rattle.bf_tree.specs.declared.statement.Statement.TheVariants.{Migrate}
 use Rattle.bf_tree.specs.declared.migration.Migrate.{Migrate as MigrateTree}
 use Rattle.bf_tree.specs.declared.script.Session.{Session}
 use Rattle.bf_tree.specs.declared.script.Script.{Script}
-use Rattle.bf_parse.specs.Words as word
-use Rattle.bf_parse.specs.Words.{words_of}
-use Rattle.bf_parse.specs.Steps.{Step, Say, Limit, Migration, Session as SessionMark}
+use Rattle.bf_phrase.specs.Words as word
+use Rattle.bf_phrase.specs.Words.{words_of}
+use Rattle.bf_phrase.specs.Steps.{Step, Say, Limit, Migration, Session as SessionMark}
 use Rattle.bf_parse.specs.Statements.{OrdinaryRule}
 use Rattle.bf_parse.specs.Migrations.{MigrateRule}
 use Rattle.bf_parse.specs.Faults.{IsRead, IsStuck, IsOver}

@@ -1,18 +1,17 @@
 //! The arms of a MIGRATE.
 
 ghost use Rattle.std.specs.Prelude.{◌≡◌, ◌<◌, ◌≤◌, IfOk};
-ghost use Rattle.bf_parse.specs.Cursors.{IsPlace, left, words};
-ghost use Rattle.bf_parse.specs.Ends.{is_point};
-ghost use Rattle.bf_parse.specs.MigrationEnds.{ArmsRule, ClausesRule, EqualitiesRule, follow_arm, follow_arms, follow_equalities, follow_group, follow_join};
+ghost use Rattle.bf_phrase.specs.Cursors.{IsPlace, left, words};
+ghost use Rattle.bf_phrase.specs.Follow.{is_point};
+ghost use Rattle.bf_parse.specs.MigrationFollow.{ArmsRule, ClausesRule, EqualitiesRule, follow_arm, follow_arms, follow_equalities, follow_group, follow_join};
 ghost use Rattle.bf_parse.specs.Migrations.{ArmRule, EqualityRule, GroupRule, JoinRule};
-ghost use Rattle.bf_parse.specs.Outcome.{outcome};
-ghost use Rattle.bf_parse.specs.Reading.{Fits, Read};
+ghost use Rattle.bf_phrase.specs.Outcome.{outcome};
+ghost use Rattle.bf_phrase.specs.Reading.{Fits, Read};
 
-use crate::cursor::Cursor;
-use crate::error::ReadStop;
-use crate::list::{list, room};
-use crate::operand::reference;
-use crate::query::where_clause;
+use bf_phrase::{Cursor, ReadStop};
+use bf_phrase::list::{list, room};
+use bf_phrase::operand::reference;
+use bf_phrase::clause::where_clause;
 use bf_base::Sequence;
 use bf_tree::{Arm, Item, Join, RawCond, Ref};
 use bf_lex::{Keyword, Sign};

@@ -1,18 +1,17 @@
 //! MIGRATE.
 
 ghost use Rattle.std.specs.Prelude.{◌≡◌, ◌+◌, ◌<◌, IfErr, IfOk, None, Some};
-ghost use Rattle.bf_parse.specs.Cursors.{IsPlace, left, words};
-ghost use Rattle.bf_parse.specs.Ends.{nothing};
-ghost use Rattle.bf_parse.specs.MigrationEnds.{TargetsRule, follow_arms, follow_targets};
+ghost use Rattle.bf_phrase.specs.Cursors.{IsPlace, left, words};
+ghost use Rattle.bf_phrase.specs.Follow.{nothing};
+ghost use Rattle.bf_parse.specs.MigrationFollow.{TargetsRule, follow_arms, follow_targets};
 ghost use Rattle.bf_parse.specs.Migrations.{MigrateRule, TargetRule};
-ghost use Rattle.bf_parse.specs.Outcome.{outcome, stopped};
-ghost use Rattle.bf_parse.specs.Reading.{Fits, Read};
-ghost use Rattle.bf_parse.specs.Rules.{Marked};
-ghost use Rattle.bf_parse.specs.Steps.{Target as TargetMark, fault_at};
+ghost use Rattle.bf_phrase.specs.Outcome.{outcome, stopped};
+ghost use Rattle.bf_phrase.specs.Reading.{Fits, Read};
+ghost use Rattle.bf_phrase.specs.Rules.{Marked};
+ghost use Rattle.bf_phrase.specs.Steps.{Target as TargetMark, fault_at};
 
 use crate::arm::arms;
-use crate::cursor::Cursor;
-use crate::error::ReadStop;
+use bf_phrase::{Cursor, ReadStop};
 use bf_base::Sequence;
 use bf_lex::{Keyword, ScriptKind, Sign};
 use bf_tree::{Migrate, Target};

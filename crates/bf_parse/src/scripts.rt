@@ -3,14 +3,13 @@
 ghost use Rattle.std.specs.Prelude.{◌≡◌, ◌<◌, ◌≤◌, ◌^◌, ◌⊎◌, [], Err, IfOk, Ok, length};
 ghost use Rattle.bf_base.specs.Limits.{longest_script};
 ghost use Rattle.bf_lex.specs.declared.fault.ScriptFault.{ScriptFault as FaultValue};
-ghost use Rattle.bf_parse.specs.Cursors.{IsPlace, left, words};
+ghost use Rattle.bf_phrase.specs.Cursors.{IsPlace, left, words};
 ghost use Rattle.bf_parse.specs.Faults.{Answers};
-ghost use Rattle.bf_parse.specs.Outcome.{outcome};
-ghost use Rattle.bf_parse.specs.Reading.{Read};
+ghost use Rattle.bf_phrase.specs.Outcome.{outcome};
+ghost use Rattle.bf_phrase.specs.Reading.{Read};
 ghost use Rattle.bf_parse.specs.Scripts.{IsScriptText, ScriptRule, place_of};
 
-use crate::cursor::Cursor;
-use crate::error::ReadStop;
+use bf_phrase::{Cursor, ReadStop};
 use crate::session::phases;
 use bf_base::{LONGEST_SCRIPT, Sequence};
 use bf_lex::{ScriptError, ScriptFault, ScriptKind, Token, tokens};
@@ -35,7 +34,7 @@ pub fn script(alloc: Global, text: &[u8]) -> Result<Script, ScriptError>
     }
     let found = tokens(alloc, text)?;
     let tokens = found.as_slice();
-    match whole(alloc, Cursor { text, tokens }) {
+    match whole(alloc, Cursor::new(text, tokens)) {
         Ok(script) => Ok(script),
         Err(ReadStop::Syntax(left)) => Err(ScriptError::Fault(ScriptFault {
             at: place(text, tokens, left),

@@ -2,18 +2,18 @@
 
 ghost use Rattle.std.specs.Prelude.{◌≡◌, ◌+◌, ◌<◌, ◌≤◌, ◌^◌, None, Some, [], IfErr, IfOk, length};
 ghost use Rattle.bf_lex.specs.declared.fault.ScriptKind.TheVariants.{TooManyMigrations as Migrations, TooManySessions as TooMany};
-ghost use Rattle.bf_parse.specs.declared.error.ReadStop.TheVariants.{Limit as BeyondLimit, Memory as OutOfMemory};
-ghost use Rattle.bf_parse.specs.Cursors.{IsPlace, left, words};
-ghost use Rattle.bf_parse.specs.Ends.{begins};
-ghost use Rattle.bf_parse.specs.Outcome.{outcome};
-ghost use Rattle.bf_parse.specs.Reading.{Fits, Read};
-ghost use Rattle.bf_parse.specs.ScriptParts.{StatementRule, first_statement, follow_phases, follow_sessions, progress_of};
+ghost use Rattle.bf_phrase.specs.declared.error.ReadStop.TheVariants.{Limit as BeyondLimit, Memory as OutOfMemory};
+ghost use Rattle.bf_phrase.specs.Cursors.{IsPlace, left, words};
+ghost use Rattle.bf_phrase.specs.First.{begins};
+ghost use Rattle.bf_phrase.specs.Limits.{most_of_phase};
+ghost use Rattle.bf_phrase.specs.Outcome.{outcome};
+ghost use Rattle.bf_phrase.specs.Reading.{Fits, Read};
+ghost use Rattle.bf_parse.specs.ScriptParts.{StatementRule, progress_of};
+ghost use Rattle.bf_parse.specs.StatementFollow.{first_statement, follow_phases, follow_sessions, follow_ordinary};
 ghost use Rattle.bf_parse.specs.Scripts.{Phases, Sessions, Statements, nothing_yet, with_phase, with_session};
-ghost use Rattle.bf_parse.specs.Steps.{Migration, Session as SessionMark, fault_at};
-ghost use Rattle.bf_parse.specs.StatementEnds.{follow_ordinary};
+ghost use Rattle.bf_phrase.specs.Steps.{Migration, Session as SessionMark, fault_at};
 
-use crate::cursor::Cursor;
-use crate::error::ReadStop;
+use bf_phrase::{Cursor, ReadStop};
 use crate::migrate::migrate;
 use crate::statement::ordinary;
 use bf_base::Sequence;
@@ -69,7 +69,7 @@ impl SoFar {
         ensures room { IfOk result (λ _.
             fault_at (SessionMark (length self.now.sessions.items + 1) (self.now.of_phase + 1))
             ≡ None) }
-        ensures few { IfOk result (λ _. self.now.of_phase < 16) }
+        ensures few { IfOk result (λ _. self.now.of_phase < most_of_phase) }
         ensures over { IfErr result (λ _.
             fault_at (SessionMark (length self.now.sessions.items + 1) (self.now.of_phase + 1))
             ≡ Some TooMany) }
@@ -83,7 +83,7 @@ impl SoFar {
     }
 
     fn with_session(self, statements: Vec<Statement>, migrations: usize) -> Result<SoFar, ReadStop>
-        requires { self.of_phase < 16 }
+        requires { self.of_phase < most_of_phase }
         ensures memory { IfErr result (λ e. e ≡ OutOfMemory) }
         ensures value { IfOk result (λ s.
             progress_of s ≡ with_session (progress_of self) (statements.items, migrations)) }

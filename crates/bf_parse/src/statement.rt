@@ -1,18 +1,18 @@
 //! Statements, but for MIGRATE.
 
 ghost use Rattle.std.specs.Prelude.{◌≡◌, ◌<◌, IfOk};
-ghost use Rattle.bf_parse.specs.Cursors.{IsPlace, left, words};
-ghost use Rattle.bf_parse.specs.Ends.{nothing};
-ghost use Rattle.bf_parse.specs.Outcome.{outcome};
-ghost use Rattle.bf_parse.specs.Reading.{Fits, Read};
-ghost use Rattle.bf_parse.specs.StatementEnds.{follow_ordinary, follow_where, is_comma};
+ghost use Rattle.bf_phrase.specs.Cursors.{IsPlace, left, words};
+ghost use Rattle.bf_phrase.specs.Follow.{nothing, follow_where, is_comma};
+ghost use Rattle.bf_phrase.specs.Outcome.{outcome};
+ghost use Rattle.bf_phrase.specs.Reading.{Fits, Read};
+ghost use Rattle.bf_parse.specs.StatementFollow.{follow_ordinary};
 ghost use Rattle.bf_parse.specs.Statements.{DeleteRule, InsertRule, OrdinaryRule, Several, TupleRule, UpdateRule};
 
-use crate::column::create;
-use crate::cursor::Cursor;
-use crate::error::ReadStop;
-use crate::list::{enclosed_list, list};
-use crate::query::{select, where_clause};
+use crate::create::create;
+use bf_phrase::{Cursor, ReadStop};
+use bf_phrase::list::{enclosed_list, list};
+use crate::query::select;
+use bf_phrase::clause::where_clause;
 use bf_base::{Name, Row, Sequence, Value};
 use bf_tree::{RawExpr, Statement};
 use bf_lex::{Keyword, Sign};

@@ -12,11 +12,13 @@ use Rattle.bf_tree.specs.declared.statement.Statement.TheVariants as statement
 use Rattle.bf_tree.specs.declared.statement.Statement.TheVariants.{Migrate}
 use Rattle.bf_tree.specs.declared.script.Session.{Session}
 use Rattle.bf_tree.specs.declared.script.Script.{Script}
-use Rattle.bf_parse.specs.Words as word
-use Rattle.bf_parse.specs.Words.{Word}
-use Rattle.bf_parse.specs.Steps.{Step, Say, Limit, Part, Migration, Session as SessionMark, fault_at, within}
-use Rattle.bf_parse.specs.Rules.{Rule, Return, Either, Others, no_other, other, Listed}
-use Rattle.bf_parse.specs.Statements.{AfterKeyword, ColumnRuleRule, TableRule, IndexRuleRule, InsertRule, SelectRule, UpdateRule, DeleteRule, OrdinaryRule}
+use Rattle.bf_phrase.specs.Words as word
+use Rattle.bf_phrase.specs.Words.{Word}
+use Rattle.bf_phrase.specs.Steps.{Step, Say, Limit, Part, Migration, Session as SessionMark, fault_at, within}
+use Rattle.bf_phrase.specs.Rules.{Rule, Return, Either, Others, no_other, other, Listed}
+use Rattle.bf_phrase.specs.Phrases.{AfterKeyword}
+use Rattle.bf_phrase.specs.Columns.{ColumnRuleRule}
+use Rattle.bf_parse.specs.Statements.{TableRule, IndexRuleRule, InsertRule, SelectRule, UpdateRule, DeleteRule, OrdinaryRule}
 use Rattle.bf_parse.specs.Scripts.{Statements, no_statement, ordinary, migrate, Progress, with_session, with_phase, nothing_yet, Sessions, no_session, session, Phases, no_phase, phase, IsScriptText}
 use Rattle.bf_tree.specs.Limits.{is_narrow_statement, is_narrow_script}
 use Rattle.bf_machine.specs.Runnable.{phases_rise_from}

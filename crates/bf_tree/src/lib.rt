@@ -15,8 +15,6 @@ pub mod reply;
 pub mod script;
 pub mod statement;
 pub mod statement_error;
-#[cfg(test)]
-mod tests;
 pub mod tree;
 
 pub use bound::{Action, Bound};

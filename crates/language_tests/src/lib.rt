@@ -3,4 +3,20 @@
 #![tactic(auto)]
 
 #[cfg(test)]
+mod fixtures;
+#[cfg(test)]
+mod grouping;
+#[cfg(test)]
+mod lexing;
+#[cfg(test)]
+mod names;
+#[cfg(test)]
+mod parsing;
+#[cfg(test)]
+mod scripts;
+#[cfg(test)]
 mod texts;
+#[cfg(test)]
+mod trees;
+#[cfg(test)]
+mod values;

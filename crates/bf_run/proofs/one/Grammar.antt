@@ -1,12 +1,11 @@
 -- Words are one thing by a rule, or have one first fault.
-use Rattle.std.proofs.Common.{◌≡◌, ℕ, ◌<◌, ◌≤◌, true, List, [], ◌∷◌, ◌++◌, length, Some, refl, sym, ap, subst, ◌∙◌, inl, inr}
-use Rattle.std.proofs.Common.{arith, append_assoc, length-append}
+use Rattle.std.proofs.Common.{◌≡◌, ℕ, ◌<◌, ◌≤◌, true, List, [], ◌∷◌, ◌++◌, length, Some, refl, sym, ap, subst, ◌∙◌, inl, inr, arith, append_assoc, length-append}
 use Rattle.std.proofs.lemmas.Bool.{cases_lt, cases_order}
 use Rattle.std.proofs.lemmas.List.{append-nil}
 use Rattle.bf_lex.specs.declared.fault.ScriptKind.{ScriptKind}
-use Rattle.bf_parse.specs.Words.{Word}
-use Rattle.bf_parse.specs.Steps.{Step, Limit, fault_at, said, within}
-use Rattle.bf_parse.specs.Rules.{Rule}
+use Rattle.bf_phrase.specs.Words.{Word}
+use Rattle.bf_phrase.specs.Steps.{Step, Limit, fault_at, said, within}
+use Rattle.bf_phrase.specs.Rules.{Rule}
 use Rattle.bf_parse.specs.Faults.{CantGoOn, IsRead, IsStuck, IsOver}
 use Rattle.bf_run.proofs.one.Fronts.{longer, same_head}
 use Rattle.bf_run.proofs.one.Marks.{said_behind, not_within, ends_before, one_first}

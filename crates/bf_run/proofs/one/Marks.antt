@@ -2,8 +2,8 @@
 use Rattle.std.proofs.Common.{◌≡◌, ◌≤◌, true, List, [], ◌∷◌, ◌++◌, length, Some, is_none, refl, sym, ap, subst, arith}
 use Rattle.std.proofs.lemmas.Bool.{and_parts}
 use Rattle.bf_lex.specs.declared.fault.ScriptKind.{ScriptKind}
-use Rattle.bf_parse.specs.Words.{Word}
-use Rattle.bf_parse.specs.Steps.{Step, Say, Limit, Mark, fault_at, said, within}
+use Rattle.bf_phrase.specs.Words.{Word}
+use Rattle.bf_phrase.specs.Steps.{Step, Say, Limit, Mark, fault_at, said, within}
 use Rattle.bf_run.proofs.one.Fronts.{same_head, same_tail}
 
 pub said_behind : (s t : List Step) → said (s ++ t) ≡ said s ++ said t

@@ -5,7 +5,7 @@ use Rattle.bf_lex.specs.declared.token.Token.{Token}
 use Rattle.bf_lex.specs.Lexing.{IsLexed}
 use Rattle.bf_lex.proofs.OneLexing.{one_lexing}
 use Rattle.bf_tree.specs.declared.script.Script.{Script}
-use Rattle.bf_parse.specs.Words.{words_of}
+use Rattle.bf_phrase.specs.Words.{words_of}
 use Rattle.bf_parse.specs.Faults.{IsRead}
 use Rattle.bf_parse.specs.Scripts.{ScriptRule, place_of, IsRefused, IsScriptText}
 use Rattle.bf_run.proofs.one.Grammar.{one_read, read_not_stuck, read_not_over, one_stuck, stuck_not_over, one_over}

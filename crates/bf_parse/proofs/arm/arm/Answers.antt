@@ -1,7 +1,7 @@
 use Rattle.std.proofs.Common.{refl}
 use Rattle.bf_parse.proofs.ArmParts.{clauses_can, end_read, end_stop, items_can, not_read}
-use Rattle.bf_parse.proofs.Items.{item_part}
-use Rattle.bf_parse.proofs.Moves.{after_can, after_go, after_passed, after_stop, exit, named_can, named_go, named_stop, then_can, then_go, then_stop}
+use Rattle.bf_phrase.proofs.Items.{item_part}
+use Rattle.bf_phrase.proofs.Moves.{after_can, after_go, after_passed, after_stop, exit, named_can, named_go, named_stop, then_can, then_go, then_stop}
 use Rattle.bf_parse.proofs.arm.arm.Goals as goal
 
 pub list-requires-clause-part : goal.list-requires-clause-part

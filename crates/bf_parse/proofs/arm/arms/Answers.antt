@@ -1,8 +1,8 @@
 use Rattle.std.proofs.Common.{◌∷◌, ◌++◌, List, [], ap, ◌∙◌, arith}
 use Rattle.bf_tree.specs.declared.migration.Arm.{Arm}
-use Rattle.bf_parse.specs.declared.error.ReadStop.TheVariants.{Memory}
+use Rattle.bf_phrase.specs.declared.error.ReadStop.TheVariants.{Memory}
 use Rattle.bf_parse.proofs.ArmParts.{arms_end, arms_first, arms_next, arms_next_stop, arms_open, arms_stop}
-use Rattle.bf_parse.proofs.Moves.{exit}
+use Rattle.bf_phrase.proofs.Moves.{exit}
 use Rattle.bf_parse.proofs.arm.arms.Goals as goal
 
 pub returns-in_err-first-clause-fits : goal.returns-in_err-first-clause-fits

@@ -1,9 +1,9 @@
 use Rattle.std.proofs.Common.{◌<◌, List}
 use Rattle.bf_tree.specs.declared.migration.Arm.{Arm}
-use Rattle.bf_parse.specs.Cursors.{IsPlace, left, words}
-use Rattle.bf_parse.specs.MigrationEnds.{ArmsRule, follow_arms}
+use Rattle.bf_phrase.specs.Cursors.{IsPlace, left, words}
+use Rattle.bf_parse.specs.MigrationFollow.{ArmsRule, follow_arms}
 use Rattle.bf_parse.specs.Migrations.{Arms}
-use Rattle.bf_parse.specs.Reading.{Reading, Fits}
+use Rattle.bf_phrase.specs.Reading.{Reading, Fits}
 use Rattle.bf_parse.proofs.arm.arms.Given as goal
 
 abbrev pub invariant-arms : goal.invariant-arms

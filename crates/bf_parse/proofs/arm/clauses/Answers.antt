@@ -1,6 +1,7 @@
 use Rattle.bf_parse.proofs.ArmParts.{group_weaker, join_passed, not_read, where_passed}
-use Rattle.bf_parse.proofs.MigrateShapes.{group_can, where_can}
-use Rattle.bf_parse.proofs.Moves.{exit, return_can, return_fits, return_passed, then_can, then_go, then_stop}
+use Rattle.bf_parse.proofs.MigrateShapes.{group_can}
+use Rattle.bf_phrase.proofs.Phrases.{where_can}
+use Rattle.bf_phrase.proofs.Moves.{exit, return_can, return_fits, return_passed, then_can, then_go, then_stop}
 use Rattle.bf_parse.proofs.arm.clauses.Goals as goal
 
 pub returns-in_err-join-clause-fits : goal.returns-in_err-join-clause-fits

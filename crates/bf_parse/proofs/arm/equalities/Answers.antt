@@ -1,7 +1,7 @@
 use Rattle.std.proofs.Common.{◌∷◌, ◌++◌, List, [], ap, ◌∙◌, arith}
 use Rattle.bf_tree.specs.declared.raw.Ref.{Ref}
 use Rattle.bf_parse.proofs.ArmParts.{equalities_end, equalities_first, equalities_full, equalities_next, equalities_next_stop, equalities_stop}
-use Rattle.bf_parse.proofs.Moves.{exit}
+use Rattle.bf_phrase.proofs.Moves.{exit}
 use Rattle.bf_parse.proofs.arm.equalities.Goals as goal
 
 pub returns-in_err-first-clause-fits : goal.returns-in_err-first-clause-fits

@@ -1,9 +1,9 @@
 use Rattle.std.proofs.Common.{◌<◌, suc, List, length}
 use Rattle.bf_tree.specs.declared.raw.Ref.{Ref}
-use Rattle.bf_parse.specs.Cursors.{IsPlace, left, words}
-use Rattle.bf_parse.specs.MigrationEnds.{EqualitiesRule, follow_equalities}
+use Rattle.bf_phrase.specs.Cursors.{IsPlace, left, words}
+use Rattle.bf_parse.specs.MigrationFollow.{EqualitiesRule, follow_equalities}
 use Rattle.bf_parse.specs.Migrations.{Equalities}
-use Rattle.bf_parse.specs.Reading.{Reading, Fits}
+use Rattle.bf_phrase.specs.Reading.{Reading, Fits}
 use Rattle.bf_parse.proofs.arm.equalities.Given as goal
 
 abbrev pub invariant-equalities : goal.invariant-equalities

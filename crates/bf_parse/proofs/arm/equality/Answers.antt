@@ -1,6 +1,6 @@
 use Rattle.std.proofs.Common.{refl}
-use Rattle.bf_parse.proofs.MigrateShapes.{ref_can}
-use Rattle.bf_parse.proofs.Moves.{after_can, after_go, after_passed, after_stop, exit, return_can, return_fits, return_passed, then_can, then_go, then_stop}
+use Rattle.bf_phrase.proofs.Shapes.{ref_can}
+use Rattle.bf_phrase.proofs.Moves.{after_can, after_go, after_passed, after_stop, exit, return_can, return_fits, return_passed, then_can, then_go, then_stop}
 use Rattle.bf_parse.proofs.arm.equality.Goals as goal
 
 pub returns-in_err-one-clause-fits : goal.returns-in_err-one-clause-fits

@@ -1,6 +1,6 @@
 use Rattle.bf_parse.proofs.ArmParts.{group_open, group_read, no_group}
-use Rattle.bf_parse.proofs.Listings.{ref_part}
-use Rattle.bf_parse.proofs.Moves.{exit}
+use Rattle.bf_phrase.proofs.Listings.{ref_part}
+use Rattle.bf_phrase.proofs.Moves.{exit}
 use Rattle.bf_parse.proofs.arm.group.Goals as goal
 
 pub list-requires-clause-part : goal.list-requires-clause-part

@@ -1,5 +1,5 @@
 use Rattle.bf_parse.proofs.ArmParts.{join_open, join_read, join_stop, join_unnamed, no_join}
-use Rattle.bf_parse.proofs.Moves.{exit}
+use Rattle.bf_phrase.proofs.Moves.{exit}
 use Rattle.bf_parse.proofs.arm.join.Goals as goal
 
 pub returns-in-None-clause-fits : goal.returns-in-None-clause-fits

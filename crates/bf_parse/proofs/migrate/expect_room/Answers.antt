@@ -1,5 +1,5 @@
 use Rattle.std.proofs.Common.{arith}
-use Rattle.bf_parse.proofs.Places.{length-words}
+use Rattle.bf_phrase.proofs.Places.{length-words}
 use Rattle.bf_parse.proofs.TargetParts.{target_low, target_none, target_over}
 use Rattle.bf_parse.proofs.migrate.expect_room.Goals as goal
 

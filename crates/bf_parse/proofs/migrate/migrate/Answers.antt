@@ -1,6 +1,6 @@
 use Rattle.std.proofs.Common.{refl}
 use Rattle.bf_parse.proofs.MigrateShapes.{target_can, targets_can}
-use Rattle.bf_parse.proofs.Moves.{after_can, after_go, after_passed, after_stop, exit, marked_can, return_can, return_fits, then_can, then_go, then_stop}
+use Rattle.bf_phrase.proofs.Moves.{after_can, after_go, after_passed, after_stop, exit, marked_can, return_can, return_fits, then_can, then_go, then_stop}
 use Rattle.bf_parse.proofs.migrate.migrate.Goals as goal
 
 pub returns-in_err-rest-clause-fits : goal.returns-in_err-rest-clause-fits

@@ -1,5 +1,5 @@
-use Rattle.bf_parse.proofs.Clears.{then_assoc}
-use Rattle.bf_parse.proofs.Moves.{after_can, after_go, after_stop, exit, named_can, named_go, named_stop, return_can, return_fits, return_passed, then_go, then_stop}
+use Rattle.bf_phrase.proofs.Clears.{then_assoc}
+use Rattle.bf_phrase.proofs.Moves.{after_can, after_go, after_stop, exit, named_can, named_go, named_stop, return_can, return_fits, return_passed, then_go, then_stop}
 use Rattle.bf_parse.proofs.TargetParts.{arms_end_can}
 use Rattle.bf_parse.proofs.migrate.target.Goals as goal
 

@@ -1,8 +1,8 @@
 use Rattle.std.proofs.Common.{◌∷◌, ◌++◌, List, [], ap, ◌∙◌, arith}
 use Rattle.bf_tree.specs.declared.migration.Target.{Target}
-use Rattle.bf_parse.specs.declared.error.ReadStop.TheVariants.{Memory}
+use Rattle.bf_phrase.specs.declared.error.ReadStop.TheVariants.{Memory}
 use Rattle.bf_parse.proofs.TargetParts.{targets_end, targets_first, targets_full_at, targets_next, targets_next_stop_at, targets_stop}
-use Rattle.bf_parse.proofs.Moves.{exit}
+use Rattle.bf_phrase.proofs.Moves.{exit}
 use Rattle.bf_parse.proofs.migrate.targets.Goals as goal
 
 pub returns-in_err-first-clause-fits : goal.returns-in_err-first-clause-fits

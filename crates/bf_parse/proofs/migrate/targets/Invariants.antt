@@ -1,9 +1,9 @@
 use Rattle.std.proofs.Common.{◌<◌, ◌+◌, List, length}
 use Rattle.bf_tree.specs.declared.migration.Target.{Target}
-use Rattle.bf_parse.specs.Cursors.{IsPlace, left, words}
-use Rattle.bf_parse.specs.MigrationEnds.{TargetsRule, follow_targets}
+use Rattle.bf_phrase.specs.Cursors.{IsPlace, left, words}
+use Rattle.bf_parse.specs.MigrationFollow.{TargetsRule, follow_targets}
 use Rattle.bf_parse.specs.Migrations.{Targets}
-use Rattle.bf_parse.specs.Reading.{Reading, Fits}
+use Rattle.bf_phrase.specs.Reading.{Reading, Fits}
 use Rattle.bf_parse.proofs.migrate.targets.Given as goal
 
 abbrev pub invariant-targets : goal.invariant-targets

@@ -1,6 +1,6 @@
 use Rattle.std.proofs.Common.{sym, ◌∙◌}
-use Rattle.bf_parse.proofs.Listings.{aggregate_part, expression_part}
-use Rattle.bf_parse.proofs.Moves.{exit}
+use Rattle.bf_phrase.proofs.Listings.{aggregate_part, expression_part}
+use Rattle.bf_phrase.proofs.Moves.{exit}
 use Rattle.bf_parse.proofs.Queries.{star_list, totals_go, totals_stop, exprs_go, exprs_stop}
 use Rattle.bf_parse.proofs.query.select_list.Goals as goal
 

@@ -1,8 +1,8 @@
 use Rattle.std.proofs.Common.{List, Ok, Err, length, inl, inr, sym, ap, subst, arith}
 use Rattle.bf_lex.specs.declared.token.Token.{Token}
 use Rattle.bf_lex.specs.Lexing.{IsLexed}
-use Rattle.bf_parse.specs.Tokens.{AreTokens}
-use Rattle.bf_parse.proofs.Lexed.{few_tokens, lexed_tokens}
+use Rattle.bf_phrase.specs.Tokens.{AreTokens}
+use Rattle.bf_phrase.proofs.Lexed.{few_tokens, lexed_tokens}
 use Rattle.bf_parse.proofs.ScriptTexts.{is_fault, is_long, is_over, is_script, is_stuck, no_script}
 use Rattle.bf_parse.proofs.scripts.script.Goals as goal
 

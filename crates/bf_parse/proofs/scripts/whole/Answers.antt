@@ -1,4 +1,4 @@
-use Rattle.bf_parse.proofs.Places.{length-words}
+use Rattle.bf_phrase.proofs.Places.{length-words}
 use Rattle.bf_parse.proofs.Wholes.{answer_exit, no_words, script_past, script_read, script_stop, some_words}
 use Rattle.bf_parse.proofs.scripts.whole.Goals as goal
 

@@ -1,9 +1,9 @@
 use Rattle.std.proofs.Common.{◌≡◌, ◌+◌, ap, subst, arith}
-use Rattle.bf_parse.specs.Cursors.{words}
-use Rattle.bf_parse.specs.Reading.{Fits}
-use Rattle.bf_parse.specs.ScriptParts.{follow_phases}
+use Rattle.bf_phrase.specs.Cursors.{words}
+use Rattle.bf_phrase.specs.Reading.{Fits}
+use Rattle.bf_parse.specs.StatementFollow.{follow_phases}
 use Rattle.bf_parse.specs.Scripts.{Progress, Phases}
-use Rattle.bf_parse.proofs.Moves.{exit}
+use Rattle.bf_phrase.proofs.Moves.{exit}
 use Rattle.bf_parse.proofs.SessionLists.{phase_open, phase_stop, phase_more, phases_end}
 use Rattle.bf_parse.proofs.session.phases.Goals as goal
 

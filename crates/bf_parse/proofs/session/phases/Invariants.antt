@@ -1,7 +1,8 @@
 use Rattle.std.proofs.Common.{◌+◌, ◌≤◌}
-use Rattle.bf_parse.specs.Cursors.{IsPlace, left, words}
-use Rattle.bf_parse.specs.Reading.{Reading, Fits}
-use Rattle.bf_parse.specs.ScriptParts.{follow_phases, progress_of}
+use Rattle.bf_phrase.specs.Cursors.{IsPlace, left, words}
+use Rattle.bf_phrase.specs.Reading.{Reading, Fits}
+use Rattle.bf_parse.specs.StatementFollow.{follow_phases}
+use Rattle.bf_parse.specs.ScriptParts.{progress_of}
 use Rattle.bf_parse.specs.Scripts.{Progress, Phases, nothing_yet}
 use Rattle.bf_parse.proofs.session.phases.Given as goal
 

@@ -1,7 +1,7 @@
 use Rattle.std.proofs.Common.{◌∙◌, refl, ap, arith}
 use Rattle.bf_parse.specs.Scripts.{Progress}
-use Rattle.bf_parse.proofs.Moves.{exit, lost, told}
-use Rattle.bf_parse.proofs.Places.{length-words}
+use Rattle.bf_phrase.proofs.Moves.{exit, lost, told}
+use Rattle.bf_phrase.proofs.Places.{length-words}
 use Rattle.bf_parse.proofs.SessionLists.{session_over, session_open, session_stop, session_more, sessions_end}
 use Rattle.bf_parse.proofs.session.sessions.Goals as goal
 

@@ -1,5 +1,5 @@
-use Rattle.bf_parse.proofs.Moves.{exit, told}
-use Rattle.bf_parse.proofs.Places.{length-words}
+use Rattle.bf_phrase.proofs.Moves.{exit, told}
+use Rattle.bf_phrase.proofs.Places.{length-words}
 use Rattle.bf_parse.proofs.StatementLists.{ordinary_stop, ordinary_read, migrate_over, migrate_stop, migrate_read}
 use Rattle.bf_parse.proofs.session.statement.Goals as goal
 

@@ -1,11 +1,11 @@
 use Rattle.std.proofs.Common.{List, sym, subst, ◌∙◌, arith}
 use Rattle.bf_tree.specs.declared.statement.Statement.{Statement}
-use Rattle.bf_parse.specs.declared.error.ReadStop.TheVariants.{Memory}
-use Rattle.bf_parse.specs.Cursors.{words}
-use Rattle.bf_parse.specs.Reading.{Fits}
-use Rattle.bf_parse.specs.ScriptParts.{first_statement}
+use Rattle.bf_phrase.specs.declared.error.ReadStop.TheVariants.{Memory}
+use Rattle.bf_phrase.specs.Cursors.{words}
+use Rattle.bf_phrase.specs.Reading.{Fits}
+use Rattle.bf_parse.specs.StatementFollow.{first_statement}
 use Rattle.bf_parse.specs.Scripts.{Statements}
-use Rattle.bf_parse.proofs.Moves.{exit}
+use Rattle.bf_phrase.proofs.Moves.{exit}
 use Rattle.bf_parse.proofs.StatementLists.{statements_stop, statements_open, statements_more, statements_end}
 use Rattle.bf_parse.proofs.session.statements.Goals as goal
 

@@ -1,8 +1,8 @@
 use Rattle.std.proofs.Common.{◌≤◌, ℕ, List, []}
 use Rattle.bf_tree.specs.declared.statement.Statement.{Statement}
-use Rattle.bf_parse.specs.Cursors.{IsPlace, left, words}
-use Rattle.bf_parse.specs.Reading.{Reading, Fits}
-use Rattle.bf_parse.specs.ScriptParts.{first_statement}
+use Rattle.bf_phrase.specs.Cursors.{IsPlace, left, words}
+use Rattle.bf_phrase.specs.Reading.{Reading, Fits}
+use Rattle.bf_parse.specs.StatementFollow.{first_statement}
 use Rattle.bf_parse.specs.Scripts.{Statements}
 use Rattle.bf_parse.proofs.session.statements.Given as goal
 

@@ -1,5 +1,5 @@
-use Rattle.bf_parse.proofs.Moves.{after_can, after_go, after_stop, exit, named_can, named_go, named_stop, return_can, return_fits, return_passed, then_can, then_go, then_stop}
-use Rattle.bf_parse.proofs.Queries.{where_can}
+use Rattle.bf_phrase.proofs.Moves.{after_can, after_go, after_stop, exit, named_can, named_go, named_stop, return_can, return_fits, return_passed, then_can, then_go, then_stop}
+use Rattle.bf_phrase.proofs.Phrases.{where_can}
 use Rattle.bf_parse.proofs.statement.delete.Goals as goal
 
 pub returns-in_err-rest-clause-fits : goal.returns-in_err-rest-clause-fits

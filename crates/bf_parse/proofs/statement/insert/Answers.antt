@@ -1,4 +1,4 @@
-use Rattle.bf_parse.proofs.Moves.{after_can, after_go, after_stop, exit, named_can, named_go, named_stop, return_can, return_fits, return_passed, then_can, then_go, then_stop}
+use Rattle.bf_phrase.proofs.Moves.{after_can, after_go, after_stop, exit, named_can, named_go, named_stop, return_can, return_fits, return_passed, then_can, then_go, then_stop}
 use Rattle.bf_parse.proofs.Forms.{tuples_can}
 use Rattle.bf_parse.proofs.statement.insert.Goals as goal
 

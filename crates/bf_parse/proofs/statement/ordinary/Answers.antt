@@ -1,5 +1,5 @@
-use Rattle.bf_parse.proofs.Places.{length-words}
-use Rattle.bf_parse.proofs.Queries.{keyword_behind}
+use Rattle.bf_phrase.proofs.Places.{length-words}
+use Rattle.bf_phrase.proofs.Phrases.{keyword_behind}
 use Rattle.bf_parse.proofs.Ordinaries.{begin_first, commit_first, create_first, delete_first, insert_first, rollback_first, select_first, update_first, no_statement, other_statement}
 use Rattle.bf_parse.proofs.statement.ordinary.Goals as goal
 

@@ -1,5 +1,5 @@
-use Rattle.bf_parse.proofs.Listings.{constant_part}
-use Rattle.bf_parse.proofs.Moves.{exit}
+use Rattle.bf_phrase.proofs.Listings.{constant_part}
+use Rattle.bf_phrase.proofs.Moves.{exit}
 use Rattle.bf_parse.proofs.statement.tuple.Goals as goal
 
 pub enclosed_list-requires-clause-part : goal.enclosed_list-requires-clause-part

@@ -1,5 +1,5 @@
 use Rattle.std.proofs.Common.{◌∷◌, ◌++◌, List, [], arith, ap, ◌∙◌}
-use Rattle.bf_parse.proofs.Moves.{exit}
+use Rattle.bf_phrase.proofs.Moves.{exit}
 use Rattle.bf_parse.proofs.Tuples.{several_stop, several_first, further_stop, further_next, further_end}
 use Rattle.bf_parse.proofs.statement.tuples.Goals as goal
 

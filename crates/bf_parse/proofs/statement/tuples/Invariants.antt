@@ -1,8 +1,8 @@
 use Rattle.std.proofs.Common.{◌<◌, List}
 use Rattle.bf_base.specs.declared.value.Value.{Value}
-use Rattle.bf_parse.specs.Cursors.{IsPlace, left, words}
-use Rattle.bf_parse.specs.Reading.{Reading, Fits}
-use Rattle.bf_parse.specs.StatementEnds.{is_comma}
+use Rattle.bf_phrase.specs.Cursors.{IsPlace, left, words}
+use Rattle.bf_phrase.specs.Reading.{Reading, Fits}
+use Rattle.bf_phrase.specs.Follow.{is_comma}
 use Rattle.bf_parse.specs.Statements.{Further, Several, TupleRule}
 use Rattle.bf_parse.proofs.statement.tuples.Given as goal
 

@@ -1,5 +1,0 @@
-use Rattle.bf_parse.proofs.Places.{not_behind}
-use Rattle.bf_parse.proofs.cursor.Cursor.expect_sign.Goals as goal
-
-pub returns-in-None-clause-found : goal.returns-in-None-clause-found
-returns-in-None-clause-found c = not_behind _ c.args.self.text.now c.args.self.tokens.now c.in-None.ensures.found

@@ -1,0 +1,224 @@
+//! How operators group: the trees of expressions and conditions, written with a pair of parentheses around each operator
+//! and what it takes.
+
+use bf_base::{Name, Value};
+use bf_lex::tokens;
+use bf_phrase::condition::condition;
+use bf_phrase::expression::sum;
+use bf_phrase::Cursor;
+use bf_tree::{Compare, Operand, RawCond, RawExpr, RawNode, RawTest, Ref};
+use std::alloc::Global;
+use std::process::Abort;
+use std::test::Fail;
+
+fn write_bytes(told: &mut String, bytes: &[u8]) -> Result<(), Fail> {
+    for byte in bytes {
+        told.push(char::from(*byte))?;
+    }
+    Ok(())
+}
+
+fn write_name(told: &mut String, name: &Name) -> Result<(), Fail> {
+    write_bytes(told, name.as_bytes())
+}
+
+fn write_column(told: &mut String, column: &Ref) -> Result<(), Fail> {
+    if let Some(table) = &column.table {
+        write_name(told, table)?;
+        told.push('.')?;
+    }
+    write_name(told, &column.column)
+}
+
+fn write_value(told: &mut String, value: &Value) -> Result<(), Fail> {
+    match value {
+        Value::Int(number) => write!(told, "{number}")?,
+        Value::Text(text) => {
+            told.push('\'')?;
+            write_bytes(told, text.as_bytes())?;
+            told.push('\'')?;
+        }
+    }
+    Ok(())
+}
+
+fn write_expression(told: &mut String, expr: &RawExpr) -> Result<(), Fail> {
+    let (left, operator, right) = match expr.node() {
+        RawNode::Value(value) => return write_value(told, value),
+        RawNode::Column(column) => return write_column(told, column),
+        RawNode::Neg(inner) => {
+            told.push_str("(- ")?;
+            write_expression(told, inner)?;
+            told.push(')')?;
+            return Ok(());
+        }
+        RawNode::Add(left, right) => (left, " + ", right),
+        RawNode::Sub(left, right) => (left, " - ", right),
+        RawNode::Mul(left, right) => (left, " * ", right),
+        RawNode::Concat(left, right) => (left, " || ", right),
+    };
+    told.push('(')?;
+    write_expression(told, left)?;
+    told.push_str(operator)?;
+    write_expression(told, right)?;
+    told.push(')')?;
+    Ok(())
+}
+
+fn write_operand(told: &mut String, operand: &Operand) -> Result<(), Fail> {
+    match operand {
+        Operand::Value(value) => write_value(told, value),
+        Operand::Column(column) => write_column(told, column),
+    }
+}
+
+fn sign_of(compare: Compare) -> &'static str {
+    match compare {
+        Compare::Equal => " = ",
+        Compare::Unequal => " <> ",
+        Compare::Less => " < ",
+        Compare::LessEqual => " <= ",
+        Compare::Greater => " > ",
+        Compare::GreaterEqual => " >= ",
+    }
+}
+
+fn write_condition(told: &mut String, cond: &RawCond) -> Result<(), Fail> {
+    told.push('(')?;
+    match cond.node() {
+        RawTest::Compare(compare, left, right) => {
+            write_operand(told, left)?;
+            told.push_str(sign_of(*compare))?;
+            write_operand(told, right)?;
+        }
+        RawTest::Between(operand, low, high) => {
+            write_operand(told, operand)?;
+            told.push_str(" BETWEEN ")?;
+            write_operand(told, low)?;
+            told.push_str(" AND ")?;
+            write_operand(told, high)?;
+        }
+        RawTest::Not(inner) => {
+            told.push_str("NOT ")?;
+            write_condition(told, inner)?;
+        }
+        RawTest::And(left, right) => {
+            write_condition(told, left)?;
+            told.push_str(" AND ")?;
+            write_condition(told, right)?;
+        }
+        RawTest::Or(left, right) => {
+            write_condition(told, left)?;
+            told.push_str(" OR ")?;
+            write_condition(told, right)?;
+        }
+    }
+    told.push(')')?;
+    Ok(())
+}
+
+fn expression_tree(rt: &impl Abort, alloc: Global, text: &str) -> Result<String, Fail> {
+    assert!(rt; text.len() < 1000);
+    let text = text.as_bytes();
+    let tokens = tokens(alloc, text)?;
+    let (expr, _, _) = sum(alloc, Cursor::new(text, &tokens), 0)?;
+    let mut told = String::new(alloc);
+    write_expression(&mut told, &expr)?;
+    Ok(told)
+}
+
+fn condition_tree(rt: &impl Abort, alloc: Global, text: &str) -> Result<String, Fail> {
+    assert!(rt; text.len() < 1000);
+    let text = text.as_bytes();
+    let tokens = tokens(alloc, text)?;
+    let (cond, _, _) = condition(alloc, Cursor::new(text, &tokens), 0)?;
+    let mut told = String::new(alloc);
+    write_condition(&mut told, &cond)?;
+    Ok(told)
+}
+
+/// Expressions, and how they group.
+const EXPRESSIONS: [(&str, &str); 16] = [
+    ("2 - 3 * id", "(2 - (3 * id))"),
+    ("2 * 3 - id", "((2 * 3) - id)"),
+    ("1 + 2 * 3 + 4", "((1 + (2 * 3)) + 4)"),
+    ("1 - 2 - 3", "((1 - 2) - 3)"),
+    ("1 - 2 + 3", "((1 - 2) + 3)"),
+    ("1 + 2 - 3", "((1 + 2) - 3)"),
+    ("1 - (2 - 3)", "(1 - (2 - 3))"),
+    ("2 * 3 * id", "((2 * 3) * id)"),
+    ("2 * (3 * id)", "(2 * (3 * id))"),
+    ("'a' || 'b' || 'c'", "(('a' || 'b') || 'c')"),
+    ("'a' || ('b' || 'c')", "('a' || ('b' || 'c'))"),
+    ("a || b - c || d", "(((a || b) - c) || d)"),
+    ("a || b * c", "(a || (b * c))"),
+    ("- t.a * b", "((- t.a) * b)"),
+    ("- (a - b) - 5", "((- (a - b)) - 5)"),
+    ("2 - -3 * - id", "(2 - (-3 * (- id)))"),
+];
+
+#[test]
+fn expressions_group_to_the_left_and_products_first(rt: HostRuntime) -> Result<(), Fail> {
+    for (text, want) in &EXPRESSIONS {
+        let told = expression_tree(&rt, rt.alloc(), text)?;
+        assert_eq!(rt; told.as_str(), *want, "of {text}");
+    }
+    Ok(())
+}
+
+/// Conditions, and how they group.
+const CONDITIONS: [(&str, &str); 14] = [
+    (
+        "a = 1 OR b = 2 AND c = 3",
+        "((a = 1) OR ((b = 2) AND (c = 3)))",
+    ),
+    (
+        "a = 1 AND b = 2 OR c = 3",
+        "(((a = 1) AND (b = 2)) OR (c = 3))",
+    ),
+    (
+        "(a = 1 OR b = 2) AND c = 3",
+        "(((a = 1) OR (b = 2)) AND (c = 3))",
+    ),
+    (
+        "a = 1 OR b = 2 OR c = 3",
+        "(((a = 1) OR (b = 2)) OR (c = 3))",
+    ),
+    (
+        "a = 1 AND b = 2 AND c = 3",
+        "(((a = 1) AND (b = 2)) AND (c = 3))",
+    ),
+    (
+        "a = 1 AND (b = 2 AND c = 3)",
+        "((a = 1) AND ((b = 2) AND (c = 3)))",
+    ),
+    (
+        "NOT a = 1 AND b = 2",
+        "((NOT (a = 1)) AND (b = 2))",
+    ),
+    ("NOT a = 1 OR b = 2", "((NOT (a = 1)) OR (b = 2))"),
+    (
+        "NOT (a = 1 AND b = 2)",
+        "(NOT ((a = 1) AND (b = 2)))",
+    ),
+    ("NOT NOT a < b", "(NOT (NOT (a < b)))"),
+    (
+        "a BETWEEN 1 AND 2 AND b <> 'x'",
+        "((a BETWEEN 1 AND 2) AND (b <> 'x'))",
+    ),
+    (
+        "NOT t.a BETWEEN b AND -1 OR c <= 3",
+        "((NOT (t.a BETWEEN b AND -1)) OR (c <= 3))",
+    ),
+    ("1 > a", "(1 > a)"),
+    ("'x' >= a", "('x' >= a)"),
+];
+
+#[test]
+fn conditions_group_not_before_and_before_or(rt: HostRuntime) -> Result<(), Fail> {
+    for (text, want) in &CONDITIONS {
+        let told = condition_tree(&rt, rt.alloc(), text)?;
+        assert_eq!(rt; told.as_str(), *want, "of {text}");
+    }
+    Ok(())
+}

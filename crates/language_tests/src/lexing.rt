@@ -1,0 +1,213 @@
+//! Tokens of texts.
+
+use bf_lex::{Keyword, ScriptError, Sign, content, tokens};
+use std::alloc::Global;
+use std::process::Abort;
+use std::test::Fail;
+
+const LONGEST_NAME: &[u8] = b"abcdefghijklmnopqrstuvwxyz_0123456789_ABCDEFGHIJKLMNOPQRSTUVWXY";
+
+const TOO_LONG_NAME: &[u8] = b"abcdefghijklmnopqrstuvwxyz_0123456789_ABCDEFGHIJKLMNOPQRSTUVWXYZ";
+
+// The tokens of a text, or its first fault, as text.
+fn told(rt: &impl Abort, alloc: Global, text: &[u8]) -> Result<String, Fail> {
+    assert!(rt; text.len() < 1000);
+    let mut told = String::new(alloc);
+    match tokens(alloc, text) {
+        Ok(tokens) => {
+            for token in &tokens {
+                write!(told, "{:?}@{}-{} ", token.kind, token.at, token.end)?;
+            }
+        }
+        Err(ScriptError::Fault(fault)) => write!(told, "{:?} at {}", fault.kind, fault.at)?,
+        Err(memory) => Err(memory)?,
+    }
+    Ok(told)
+}
+
+fn tells(rt: &impl Abort, alloc: Global, cases: &[(&[u8], &str)]) -> Result<(), Fail> {
+    for (text, want) in cases {
+        let told = told(rt, alloc, text)?;
+        assert_eq!(rt; told.as_str().trim_end(), *want, "of {text:?}");
+    }
+    Ok(())
+}
+
+#[test]
+fn words_are_keywords_in_any_case_or_names(rt: HostRuntime) -> Result<(), Fail> {
+    tells(
+        &rt,
+        rt.alloc(),
+        &[
+            (b"SELECT", "Keyword(Select)@0-6"),
+            (b"select", "Keyword(Select)@0-6"),
+            (b"SeLeCt a_9", "Keyword(Select)@0-6 Name@7-10"),
+            (b"selects", "Name@0-7"),
+            (b"selec", "Name@0-5"),
+            (b"all WHERE", "Keyword(All)@0-3 Keyword(Where)@4-9"),
+            (LONGEST_NAME, "Name@0-63"),
+            (TOO_LONG_NAME, "NameTooLong at 0"),
+            (b"a _b", "BadByte at 2"),
+        ],
+    )
+}
+
+#[test]
+fn keywords_have_numbers_and_words(rt: HostRuntime) -> Result<(), Fail> {
+    let cases = Keyword::cases();
+    for number in 0..39 {
+        let keyword = Keyword::of_number(number).ok_or("no keyword")?;
+        let word = cases.by_number(number).ok_or("no word")?;
+        assert_eq!(rt; keyword.number(), number);
+        assert_eq!(rt; Keyword::of_word(word.as_bytes()), Some(keyword));
+    }
+    assert_eq!(rt; Keyword::of_number(39), None);
+    for word in ["", "al", "alll", "inte", "a\u{cc}l", "wherea", "zone"] {
+        assert_eq!(rt; Keyword::of_word(word.as_bytes()), None, "of {word}");
+    }
+    Ok(())
+}
+
+#[test]
+fn numbers_reach_to_2_to_the_63(rt: HostRuntime) -> Result<(), Fail> {
+    tells(
+        &rt,
+        rt.alloc(),
+        &[
+            (b"0", "Number(0)@0-1"),
+            (b"007", "Number(7)@0-3"),
+            (b"9223372036854775808", "Number(9223372036854775808)@0-19"),
+            (
+                b"000000000000000009223372036854775808",
+                "Number(9223372036854775808)@0-36",
+            ),
+            (b" 9223372036854775809", "NumberTooWide at 1"),
+            (b"99999999999999999999", "NumberTooWide at 0"),
+            (b"1a", "Number(1)@0-1 Name@1-2"),
+        ],
+    )
+}
+
+#[test]
+fn texts_stand_between_quotes(rt: HostRuntime) -> Result<(), Fail> {
+    tells(
+        &rt,
+        rt.alloc(),
+        &[
+            (b"''", "Text@0-2"),
+            (b"''''", "Text@0-4"),
+            (b"'it''s'", "Text@0-7"),
+            (b"' ~' 'a--b'", "Text@0-4 Text@5-11"),
+            (b" '", "OpenString at 1"),
+            (b"'''", "OpenString at 0"),
+            (b"'a\x01''", "OpenString at 0"),
+            (b"'a\n\x01'", "BadByte at 2"),
+            (b"'a''\x7f'", "BadByte at 4"),
+        ],
+    )
+}
+
+// A quoted text of so many bytes, each of which may take two.
+fn long_text(alloc: Global, byte: &[u8], count: usize) -> Result<Vec<u8>, Fail> {
+    let mut text = Vec::new(alloc);
+    text.push(b'\'')?;
+    for _ in 0..count {
+        text.extend_from_slice(byte)?;
+    }
+    text.push(b'\'')?;
+    Ok(text)
+}
+
+#[test]
+fn texts_have_at_most_255_bytes(rt: HostRuntime) -> Result<(), Fail> {
+    let alloc = rt.alloc();
+    let cases = [
+        (b"x".as_slice(), 255, "Text@0-257 "),
+        (b"''", 255, "Text@0-512 "),
+        (b"x", 256, "TextTooLong at 0"),
+        (b"''", 256, "TextTooLong at 0"),
+        (b"\x01", 256, "TextTooLong at 0"),
+    ];
+    for (byte, count, want) in cases {
+        let text = long_text(alloc, byte, count)?;
+        assert_eq!(rt; told(&rt, alloc, &text)?.as_str(), want);
+    }
+    Ok(())
+}
+
+#[test]
+fn signs_are_as_long_as_possible(rt: HostRuntime) -> Result<(), Fail> {
+    tells(
+        &rt,
+        rt.alloc(),
+        &[
+            (b"(", "Sign(OpeningParenthesis)@0-1"),
+            (b")", "Sign(ClosingParenthesis)@0-1"),
+            (b",;", "Sign(Comma)@0-1 Sign(Semicolon)@1-2"),
+            (b".*", "Sign(Point)@0-1 Sign(Star)@1-2"),
+            (b"+-", "Sign(Plus)@0-1 Sign(Minus)@1-2"),
+            (b"==", "Sign(Equal)@0-1 Sign(Equal)@1-2"),
+            (b"<> !=", "Sign(Unequal)@0-2 Sign(Unequal)@3-5"),
+            (b"<> =", "Sign(Unequal)@0-2 Sign(Equal)@3-4"),
+            (b"<>=", "Sign(Unequal)@0-2 Sign(Equal)@2-3"),
+            (b"<=>", "Sign(LessEqual)@0-2 Sign(Greater)@2-3"),
+            (b"< =", "Sign(Less)@0-1 Sign(Equal)@2-3"),
+            (b">>=", "Sign(Greater)@0-1 Sign(GreaterEqual)@1-3"),
+            (b"||", "Sign(Bars)@0-2"),
+            (b"|||", "BadByte at 2"),
+            (b"<! =", "BadByte at 1"),
+            (b"!", "BadByte at 0"),
+            (b"a#", "BadByte at 1"),
+            (b"\xff", "BadByte at 0"),
+        ],
+    )
+}
+
+#[test]
+fn signs_have_numbers_and_words(rt: HostRuntime) -> Result<(), Fail> {
+    let words = "( ) , ; . * + - = <> < <= > >= ||";
+    let cases = Sign::cases();
+    for (number, word) in (0..15).zip(words.split(' ')) {
+        let sign = Sign::of_number(number).ok_or("no sign")?;
+        assert_eq!(rt; sign.number(), number);
+        assert_eq!(rt; cases.by_number(number), Some(word));
+    }
+    assert_eq!(rt; Sign::of_number(15), None);
+    Ok(())
+}
+
+#[test]
+fn blanks_and_comments_stand_between_tokens(rt: HostRuntime) -> Result<(), Fail> {
+    tells(
+        &rt,
+        rt.alloc(),
+        &[
+            (b"", ""),
+            (b" \t\r\n", ""),
+            (b"--", ""),
+            (b"-- 'a\x01", ""),
+            (b"---\n", ""),
+            (b"--\n \n-- ", ""),
+            (b"- -", "Sign(Minus)@0-1 Sign(Minus)@2-3"),
+            (b"a-b", "Name@0-1 Sign(Minus)@1-2 Name@2-3"),
+            (b"a--'--\r\nb", "Name@0-1 Name@8-9"),
+            (b"a -- # \nb-- c\n", "Name@0-1 Name@8-9"),
+            (b"a\t\n\r   \nb--", "Name@0-1 Name@8-9"),
+            (b"a\x0bb", "BadByte at 1"),
+            (b"-- #\n#'", "BadByte at 5"),
+        ],
+    )
+}
+
+#[test]
+fn contents_have_their_quotes_once(rt: HostRuntime) -> Result<(), Fail> {
+    let alloc = rt.alloc();
+    assert_eq!(rt; content(alloc, b"''")?.as_bytes(), b"".as_slice());
+    assert_eq!(rt; content(alloc, b"'a b'")?.as_bytes(), b"a b".as_slice());
+    assert_eq!(rt; content(alloc, b"''''")?.as_bytes(), b"'".as_slice());
+    assert_eq!(rt;
+        content(alloc, b"'it''s'''")?.as_bytes(),
+        b"it's'".as_slice()
+    );
+    Ok(())
+}

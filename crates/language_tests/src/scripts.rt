@@ -1,0 +1,232 @@
+//! Scripts from their bytes, by the grammar and the table of refusals.
+
+use bf_lex::{ScriptError, ScriptKind};
+use bf_parse::script;
+use bf_tree::Statement;
+use std::alloc::{AllocError, Global};
+use std::test::Fail;
+
+/// The first fault of a text, and its place.
+fn fault_of(alloc: Global, text: &str) -> Option<(ScriptKind, u32)> {
+    match script(alloc, text.as_bytes()) {
+        Err(ScriptError::Fault(fault)) => Some((fault.kind, fault.at)),
+        _ => None,
+    }
+}
+
+const TEXTS: [(&str, Option<(ScriptKind, u32)>); 27] = [
+    (
+        "PHASE; SESSION; SELECT * FROM",
+        Some((ScriptKind::Syntax, 29)),
+    ),
+    (
+        "PHASE; SESSION; SELECT 'a",
+        Some((ScriptKind::OpenString, 23)),
+    ),
+    ("PHASE;\0", Some((ScriptKind::BadByte, 6))),
+    (
+        "PHASE; SESSION; SELECT a,a,a,a,a,a,a,a,a,a,a,a,a,a,a,a,a FROM t;",
+        Some((ScriptKind::TooManyColumns, 55)),
+    ),
+    (
+        "PHASE; SESSION; INSERT INTO t VALUES (9223372036854775808);",
+        Some((ScriptKind::NumberTooWide, 38)),
+    ),
+    (
+        "PHASE; SESSION; INSERT INTO t VALUES (-9223372036854775808);",
+        None,
+    ),
+    (
+        "PHASE; SESSION; INSERT INTO t VALUES (- 9223372036854775808);",
+        None,
+    ),
+    (
+        "PHASE; SESSION; INSERT INTO t VALUES (-x);",
+        Some((ScriptKind::Syntax, 39)),
+    ),
+    ("PHASE; SESSION; SELECT -9223372036854775808 FROM t;", None),
+    (
+        "PHASE; SESSION; SELECT 1 - 9223372036854775808 FROM t;",
+        Some((ScriptKind::NumberTooWide, 27)),
+    ),
+    (
+        "PHASE; SESSION; SELECT -(9223372036854775808) FROM t;",
+        Some((ScriptKind::NumberTooWide, 25)),
+    ),
+    ("PHASE; SESSION; SELECT 1 - - 2 FROM t;", None),
+    (
+        "PHASE; SESSION; SELECT 1 -- 2 FROM t;",
+        Some((ScriptKind::Syntax, 37)),
+    ),
+    (
+        "PHASE; SESSION; SELECT a, COUNT(*) FROM t;",
+        Some((ScriptKind::Syntax, 26)),
+    ),
+    (
+        "PHASE; SESSION; SELECT COUNT(*), b FROM t;",
+        Some((ScriptKind::Syntax, 33)),
+    ),
+    (
+        "PHASE; SESSION; CREATE TABLE t (id INT, PRIMARY KEY (id), b INT);",
+        Some((ScriptKind::Syntax, 56)),
+    ),
+    (
+        "PHASE; SESSION; CREATE TABLE t (id INT);",
+        Some((ScriptKind::Syntax, 38)),
+    ),
+    ("PHASE; SESSION; SELECT * FROM t WHERE (a = 1);", None),
+    (
+        "PHASE; SESSION; SELECT * FROM t WHERE (a) = 1;",
+        Some((ScriptKind::Syntax, 40)),
+    ),
+    (
+        "PHASE; SESSION; SELECT * FROM t WHERE a + 1 = 2;",
+        Some((ScriptKind::Syntax, 40)),
+    ),
+    ("PHASE; SESSION; SELECT a . b FROM a; -- end", None),
+    (
+        "PHASE; SESSION; SELECT * FROM Table;",
+        Some((ScriptKind::Syntax, 30)),
+    ),
+    ("SELECT $", Some((ScriptKind::BadByte, 7))),
+    (
+        "phase; session; session; phase; begin;",
+        Some((ScriptKind::Syntax, 32)),
+    ),
+    (
+        "phase; session; migrate (create table a as select (b) from t);",
+        Some((ScriptKind::Syntax, 54)),
+    ),
+    (
+        "phase; session; migrate (create table a as select count(*) from t);",
+        Some((ScriptKind::Syntax, 59)),
+    ),
+    (
+        "phase; session; migrate (create table a as select b from t union select b from t);",
+        Some((ScriptKind::Syntax, 65)),
+    ),
+];
+
+#[test]
+fn texts_are_scripts_or_have_a_first_fault(rt: HostRuntime) -> Result<(), Fail> {
+    for (text, fault) in &TEXTS {
+        assert_eq!(rt; fault_of(rt.alloc(), text), *fault, "of {text}");
+    }
+    Ok(())
+}
+
+const SIXTEEN_SESSIONS: &str =
+    "phase;session;session;session;session;session;session;session;session;session;session;session;session;session;session;session;session;";
+
+const BLANKS: &str = "                                                                ";
+
+/// A front, a part so many times, a back, and the first fault of the three together.
+const REPEATED: [(&str, &str, u32, &str, Option<(ScriptKind, u32)>); 11] = [
+    ("phase;", "session;", 16, "", None),
+    (
+        "phase;",
+        "session;",
+        17,
+        "",
+        Some((ScriptKind::TooManySessions, 134)),
+    ),
+    ("", SIXTEEN_SESSIONS, 4, "", None),
+    (
+        "",
+        SIXTEEN_SESSIONS,
+        4,
+        "phase;session;",
+        Some((ScriptKind::TooManySessions, 542)),
+    ),
+    (
+        "phase;session;",
+        "migrate(create table a as select b from c);",
+        64,
+        "",
+        None,
+    ),
+    (
+        "phase;session;",
+        "migrate(create table a as select b from c);",
+        65,
+        "",
+        Some((ScriptKind::TooManyMigrations, 2766)),
+    ),
+    (
+        "phase;session;migrate(create table a as select b from c",
+        ";create table a as select b from c",
+        7,
+        ");",
+        None,
+    ),
+    (
+        "phase;session;migrate(create table a as select b from c",
+        ";create table a as select b from c",
+        8,
+        ");",
+        Some((ScriptKind::TooManyTargets, 294)),
+    ),
+    (
+        "PHASE; SESSION; SELECT ",
+        "(",
+        256,
+        "",
+        Some((ScriptKind::Syntax, 279)),
+    ),
+    (
+        "PHASE; SESSION; SELECT ",
+        "(",
+        300,
+        "",
+        Some((ScriptKind::TooDeep, 279)),
+    ),
+    (
+        "",
+        BLANKS,
+        262144,
+        " ",
+        Some((ScriptKind::ScriptTooLong, 16777216)),
+    ),
+];
+
+fn repeated(
+    alloc: Global,
+    front: &str,
+    part: &str,
+    count: u32,
+    back: &str,
+) -> Result<String, AllocError> {
+    let mut text = String::from_str(alloc, front)?;
+    for _ in 0..count {
+        text.push_str(part)?;
+    }
+    text.push_str(back)?;
+    Ok(text)
+}
+
+#[test]
+fn limits_have_two_ends(rt: HostRuntime) -> Result<(), Fail> {
+    for (front, part, count, back, fault) in &REPEATED {
+        let text = repeated(rt.alloc(), front, part, *count, back)?;
+        assert_eq!(rt;
+            fault_of(rt.alloc(), text.as_str()),
+            *fault,
+            "of {count} in {front}"
+        );
+    }
+    Ok(())
+}
+
+#[test]
+fn sessions_and_phases_are_counted(rt: HostRuntime) -> Result<(), Fail> {
+    let text = "phase; phase; session; begin; commit; session;";
+    let script = script(rt.alloc(), text.as_bytes())?;
+    assert_eq!(rt; script.phases, 2);
+    let sessions = script.sessions.as_slice();
+    assert_eq!(rt; sessions.len(), 2);
+    assert_eq!(rt; sessions[0].phase, 2);
+    let statements = sessions[0].statements.as_slice();
+    assert_eq!(rt; statements.len(), 2);
+    assert!(rt; matches!(statements[1], Statement::Commit));
+    Ok(())
+}
