@@ -8,13 +8,13 @@ ghost use Rattle.bf_parse.specs.Migrations.{ArmRule, EqualityRule, GroupRule, Jo
 ghost use Rattle.bf_phrase.specs.Outcome.{outcome};
 ghost use Rattle.bf_phrase.specs.Reading.{Fits, Read};
 
-use bf_phrase::{Cursor, ReadStop};
+use bf_base::Sequence;
+use bf_lex::{Keyword, Sign};
+use bf_phrase::clause::where_clause;
 use bf_phrase::list::{list, room};
 use bf_phrase::operand::reference;
-use bf_phrase::clause::where_clause;
-use bf_base::Sequence;
+use bf_phrase::{Cursor, ReadStop};
 use bf_tree::{Arm, Item, Join, RawCond, Ref};
-use bf_lex::{Keyword, Sign};
 use std::alloc::Global;
 
 /// The equality at a place, and the place behind it.
@@ -32,7 +32,10 @@ fn equality<'a>(alloc: Global, cursor: Cursor<'a>) -> Result<((Ref, Ref), Cursor
 }
 
 /// The equalities at a place, with AND between them, and the place behind them.
-fn equalities<'a>(alloc: Global, cursor: Cursor<'a>) -> Result<(Vec<(Ref, Ref)>, Cursor<'a>), ReadStop>
+fn equalities<'a>(
+    alloc: Global,
+    cursor: Cursor<'a>,
+) -> Result<(Vec<(Ref, Ref)>, Cursor<'a>), ReadStop>
     requires { IsPlace cursor }
     ensures fits { Fits follow_equalities EqualitiesRule (words cursor.entry)
         (outcome (λ x. Read x.0.items (words x.1)) result) }
@@ -134,7 +137,10 @@ fn arm<'a>(alloc: Global, cursor: Cursor<'a>) -> Result<(Arm, Cursor<'a>), ReadS
 }
 
 /// The arms at a place, with UNION ALL between them, and the place behind them.
-pub(crate) fn arms<'a>(alloc: Global, cursor: Cursor<'a>) -> Result<(Vec<Arm>, Cursor<'a>), ReadStop>
+pub(crate) fn arms<'a>(
+    alloc: Global,
+    cursor: Cursor<'a>,
+) -> Result<(Vec<Arm>, Cursor<'a>), ReadStop>
     requires { IsPlace cursor }
     ensures fits { Fits follow_arms ArmsRule (words cursor.entry)
         (outcome (λ x. Read x.0.items (words x.1)) result) }

@@ -86,7 +86,10 @@ fn index<'a>(alloc: Global, cursor: Cursor<'a>) -> Result<(Statement, Cursor<'a>
 }
 
 /// The CREATE at a place, and the place behind it.
-pub(crate) fn create<'a>(alloc: Global, cursor: Cursor<'a>) -> Result<(Statement, Cursor<'a>), ReadStop>
+pub(crate) fn create<'a>(
+    alloc: Global,
+    cursor: Cursor<'a>,
+) -> Result<(Statement, Cursor<'a>), ReadStop>
     requires { IsPlace cursor }
     ensures fits { Fits nothing CreateRule (words cursor.entry)
         (outcome (λ x. Read x.0 (words x.1)) result) }

@@ -11,9 +11,9 @@ ghost use Rattle.bf_phrase.specs.Rules.{Marked};
 ghost use Rattle.bf_phrase.specs.Steps.{Target as TargetMark, fault_at};
 
 use crate::arm::arms;
-use bf_phrase::{Cursor, ReadStop};
 use bf_base::Sequence;
 use bf_lex::{Keyword, ScriptKind, Sign};
+use bf_phrase::{Cursor, ReadStop};
 use bf_tree::{Migrate, Target};
 use std::alloc::Global;
 
@@ -76,7 +76,10 @@ fn targets<'a>(alloc: Global, cursor: Cursor<'a>) -> Result<(Vec<Target>, Cursor
 }
 
 /// The MIGRATE at a place, and the place behind it.
-pub(crate) fn migrate<'a>(alloc: Global, cursor: Cursor<'a>) -> Result<(Migrate, Cursor<'a>), ReadStop>
+pub(crate) fn migrate<'a>(
+    alloc: Global,
+    cursor: Cursor<'a>,
+) -> Result<(Migrate, Cursor<'a>), ReadStop>
     requires { IsPlace cursor }
     ensures fits { Fits nothing MigrateRule (words cursor.entry)
         (outcome (λ x. Read x.0 (words x.1)) result) }

@@ -38,7 +38,10 @@ fn select_list<'a>(alloc: Global, cursor: Cursor<'a>) -> Result<(List, Cursor<'a
 }
 
 /// The SELECT at a place, and the place behind it.
-pub(crate) fn select<'a>(alloc: Global, cursor: Cursor<'a>) -> Result<(Statement, Cursor<'a>), ReadStop>
+pub(crate) fn select<'a>(
+    alloc: Global,
+    cursor: Cursor<'a>,
+) -> Result<(Statement, Cursor<'a>), ReadStop>
     requires { IsPlace cursor }
     ensures fits { Fits follow_where SelectRule (words cursor.entry)
         (outcome (λ x. Read x.0 (words x.1)) result) }

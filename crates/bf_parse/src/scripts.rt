@@ -9,10 +9,10 @@ ghost use Rattle.bf_phrase.specs.Outcome.{outcome};
 ghost use Rattle.bf_phrase.specs.Reading.{Read};
 ghost use Rattle.bf_parse.specs.Scripts.{IsScriptText, ScriptRule, place_of};
 
-use bf_phrase::{Cursor, ReadStop};
 use crate::session::phases;
 use bf_base::{LONGEST_SCRIPT, Sequence};
 use bf_lex::{ScriptError, ScriptFault, ScriptKind, Token, tokens};
+use bf_phrase::{Cursor, ReadStop};
 use bf_tree::Script;
 use std::alloc::Global;
 

@@ -13,11 +13,11 @@ ghost use Rattle.bf_parse.specs.StatementFollow.{first_statement, follow_phases,
 ghost use Rattle.bf_parse.specs.Scripts.{Phases, Sessions, Statements, nothing_yet, with_phase, with_session};
 ghost use Rattle.bf_phrase.specs.Steps.{Migration, Session as SessionMark, fault_at};
 
-use bf_phrase::{Cursor, ReadStop};
 use crate::migrate::migrate;
 use crate::statement::ordinary;
 use bf_base::Sequence;
 use bf_lex::{Keyword, ScriptKind, Sign, TokenKind};
+use bf_phrase::{Cursor, ReadStop};
 use bf_tree::{Session, Statement};
 use std::alloc::Global;
 

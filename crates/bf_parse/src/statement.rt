@@ -9,13 +9,13 @@ ghost use Rattle.bf_parse.specs.StatementFollow.{follow_ordinary};
 ghost use Rattle.bf_parse.specs.Statements.{DeleteRule, InsertRule, OrdinaryRule, Several, TupleRule, UpdateRule};
 
 use crate::create::create;
-use bf_phrase::{Cursor, ReadStop};
-use bf_phrase::list::{enclosed_list, list};
 use crate::query::select;
-use bf_phrase::clause::where_clause;
 use bf_base::{Name, Row, Sequence, Value};
-use bf_tree::{RawExpr, Statement};
 use bf_lex::{Keyword, Sign};
+use bf_phrase::clause::where_clause;
+use bf_phrase::list::{enclosed_list, list};
+use bf_phrase::{Cursor, ReadStop};
+use bf_tree::{RawExpr, Statement};
 use std::alloc::Global;
 
 /// The tuple at a place, and the place behind it.

@@ -6,7 +6,7 @@ use Rattle.bf_phrase.specs.Steps.{Step, Node, said}
 use Rattle.bf_phrase.specs.Rules.{Then}
 use Rattle.bf_phrase.specs.Reading.{Ends, Reading, Fits}
 use Rattle.bf_phrase.specs.Follow.{follow_product, follow_sum}
-use Rattle.bf_phrase.specs.Expressions.{Counted, Factor, RefRule, narrow, widest, number, negative, opposite, text, ref, parenthesis, Product, product, Products, no_product, other_product, Sum, sum, begins_with_number}
+use Rattle.bf_phrase.specs.Expressions.{Counted, Factor, narrow, widest, number, negative, opposite, text, ref, parenthesis, Product, product, Products, no_product, other_product, Sum, sum, begins_with_number}
 use Rattle.bf_phrase.specs.declared.sum_operator.SumOperator.TheVariants as operator
 use Rattle.bf_phrase.proofs.Fitting.{fits_by}
 use Rattle.bf_phrase.proofs.Lists.{weaker_ends}

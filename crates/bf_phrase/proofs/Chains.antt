@@ -7,7 +7,7 @@ use Rattle.bf_base.specs.declared.value.Value.TheVariants as value
 use Rattle.bf_tree.specs.Trees as tree
 use Rattle.bf_lex.specs.declared.fault.ScriptKind.TheVariants.{TooDeep}
 use Rattle.bf_lex.specs.declared.sign.Sign.TheVariants as sign
-use Rattle.bf_phrase.specs.Words.{Word, Minus, Sign}
+use Rattle.bf_phrase.specs.Words.{Word, Sign}
 use Rattle.bf_phrase.specs.Words as word
 use Rattle.bf_phrase.specs.Steps.{Step, Say, Limit, Mark, Node, said, fault_at}
 use Rattle.bf_phrase.specs.Rules.{Return, After, Marked, Then, Either}

@@ -9,7 +9,8 @@ use Rattle.bf_phrase.specs.Reading.{Reading, Read, Fits}
 use Rattle.bf_phrase.specs.Outcome.{IsBehind}
 use Rattle.bf_phrase.specs.Follow.{nothing, is_check}
 use Rattle.bf_phrase.specs.Expressions.{NumberRule}
-use Rattle.bf_phrase.specs.Columns.{CheckRule, FormRule, RangeRule}
+use Rattle.bf_phrase.specs.Columns.{CheckRule, FormRule}
+use Rattle.bf_phrase.specs.Pieces.{RangeRule}
 use Rattle.bf_phrase.specs.Phrases.{Enclosed}
 use Rattle.bf_phrase.proofs.Maps.{wider, other_word}
 use Rattle.bf_phrase.proofs.Moves.{Can, left_here, right_here, left_can, return_not_here, after_not_here, behind_go, return_fits, return_can, after_can, named_can, then_can}

@@ -3,7 +3,7 @@ use Rattle.std.proofs.Common.{◌≡◌, ℕ, ◌+◌, pos, neg_ℤ, Bool, true,
 use Rattle.std.proofs.lemmas.List.{append-nil}
 use Rattle.bf_base.specs.declared.value.Value.{Value}
 use Rattle.bf_base.specs.declared.value.Value.TheVariants as value
-use Rattle.bf_tree.specs.Trees.{Expr, column, negated}
+use Rattle.bf_tree.specs.Trees.{column, negated}
 use Rattle.bf_tree.specs.Trees as tree
 use Rattle.bf_lex.specs.declared.sign.Sign.TheVariants as sign
 use Rattle.bf_phrase.specs.declared.start.Start.TheVariants as start

@@ -20,7 +20,8 @@ use Rattle.bf_phrase.specs.Follow.{follow_sum, nothing, follow_item, is_as}
 use Rattle.bf_phrase.specs.Parts.{IsPart, IsSayable}
 use Rattle.bf_phrase.specs.Expressions.{Counted, Sum}
 use Rattle.bf_phrase.specs.Phrases.{AggregateRule}
-use Rattle.bf_phrase.specs.Items.{AsRule, BareRule, ItemRule, IsBare, ItemEnd}
+use Rattle.bf_phrase.specs.Items.{AsRule, BareRule, ItemRule}
+use Rattle.bf_phrase.specs.Pieces.{IsBare, ItemEnd}
 use Rattle.bf_phrase.proofs.Fitting.{stuck_here}
 use Rattle.bf_phrase.proofs.Factors.{begins-append}
 use Rattle.bf_phrase.proofs.Beginnings.{Begun, other_not_here}

@@ -21,7 +21,7 @@ use Rattle.bf_phrase.specs.First.{begins, is_name, first_constant, first_express
 use Rattle.bf_phrase.specs.Follow.{follow_sum, is_point, nothing, is_check}
 use Rattle.bf_phrase.specs.Parts.{IsPart, IsSayable}
 use Rattle.bf_phrase.specs.Expressions.{Counted, RefRule, NumberRule, narrow, widest, ref_to, Factor, number, negative, opposite, text, ref, parenthesis, Product, product, no_factor, Sum, sum, no_product}
-use Rattle.bf_phrase.specs.Conditions.{SignedRule, LiteralRule}
+use Rattle.bf_phrase.specs.Conditions.{LiteralRule}
 use Rattle.bf_phrase.specs.Conditions as literal
 use Rattle.bf_phrase.specs.Phrases.{NameRule, ExprRule, AggregateRule, SetRule, Enclosed}
 use Rattle.bf_phrase.specs.Columns.{ColumnRuleRule, rule_of}

@@ -1,5 +1,5 @@
 -- Conditions that may be missing, expressions, and aggregates.
-use Rattle.std.proofs.Common.{◌≡◌, ℕ, Bool, true, false, List, [], ◌∷◌, length, Option, Some, None, refl, ap, ◌∙◌, inl}
+use Rattle.std.proofs.Common.{◌≡◌, ℕ, Bool, true, false, List, [], ◌∷◌, length, Option, Some, None, refl, ap, ◌∙◌}
 use Rattle.std.specs.Prelude.{◌||◌}
 use Rattle.bf_tree.specs.declared.raw.Ref.{Ref}
 use Rattle.bf_tree.specs.Trees.{Expr, Cond}
@@ -20,7 +20,8 @@ use Rattle.bf_phrase.specs.First.{begins, first_aggregate, IsFirstKeyword}
 use Rattle.bf_phrase.specs.Follow.{follow_disjunction, nothing, follow_where}
 use Rattle.bf_phrase.specs.Expressions.{Sum}
 use Rattle.bf_phrase.specs.Conditions.{CountedCond, Disjunction}
-use Rattle.bf_phrase.specs.Phrases.{ExprRule, WhereRule, Enclosed, AggregateRule, StarRule}
+use Rattle.bf_phrase.specs.Phrases.{ExprRule, WhereRule, Enclosed, AggregateRule}
+use Rattle.bf_phrase.specs.Pieces.{StarRule}
 use Rattle.bf_phrase.proofs.Beginnings.{Begun, other_stop}
 use Rattle.bf_phrase.proofs.Chains.{or_left}
 use Rattle.bf_phrase.proofs.Listings.{aggregate_part, expression_part}
@@ -53,7 +54,7 @@ pub where_go : {ws rest mid : List Word} {c : Cond Ref} {n : ℕ} → IsBehind (
 where_go h f = right_here (return_not_here h refl) (behind_go h (wider (λ t p. or_left _ _ p) (map_go cond_maps f)))
 
 pub where_can : Can WhereRule
-where_can = record { it = ([], None, inl (refl, refl)) }
+where_can = left_can return_can
 
 pub expr_can : Can ExprRule
 expr_can = record { it = expression_part.some }
@@ -106,6 +107,3 @@ other_keyword other a b c d = refl
 
 pub no_aggregate : {ws : List Word} {k : KeywordCase} {behind : Cursor} → IsFirstKeyword ws (Some (k, behind)) → (k ≡ keyword.Count → ⊥) → (k ≡ keyword.Sum → ⊥) → (k ≡ keyword.Min → ⊥) → (k ≡ keyword.Max → ⊥) → begins first_aggregate ws ≡ false
 no_aggregate {k = k} h a b c d = ap (λ (z : List Word). begins first_aggregate z) h.it ∙ other_keyword k a b c d
-
-pub where_can : Can WhereRule
-where_can = left_can return_can

@@ -26,7 +26,7 @@ use Rattle.bf_phrase.specs.Tokens.{IsSpelling, AreTokensAs}
 use Rattle.bf_phrase.specs.First.{begins}
 use Rattle.bf_phrase.specs.Follow.{follow_product, follow_sum, is_sum_operator}
 use Rattle.bf_phrase.specs.Sums.{IsNextOperator}
-use Rattle.bf_phrase.specs.Expressions.{Counted, NumberRule, narrow, widest, number, text, Factor, Product, product, no_factor, Products, no_product, other_product, sum_of, sum_word, is_number, begins_with_number}
+use Rattle.bf_phrase.specs.Expressions.{Counted, NumberRule, narrow, widest, number, text, Product, product, no_factor, Products, no_product, other_product, sum_of, sum_word, is_number, begins_with_number}
 use Rattle.bf_phrase.specs.declared.sum_operator.SumOperator.TheVariants as operator
 use Rattle.bf_phrase.proofs.Fitting.{fits_by, fits_return, ends_not}
 use Rattle.bf_phrase.proofs.Moves.{Can, then_go, then_stop}

@@ -31,7 +31,3 @@ FormRule = Either
 
 abbrev pub ColumnRuleRule : Rule ColumnRule
 ColumnRuleRule = Named (λ name. Then FormRule (λ form. Return (rule_of name form)))
-
--- name BETWEEN signed AND signed
-abbrev pub RangeRule : Rule ColumnForm
-RangeRule = Named (λ checked. AfterKeyword keyword.Between (Then IntRule (λ low. AfterKeyword keyword.And (Then IntRule (λ high. Return (form.Checked checked low high))))))

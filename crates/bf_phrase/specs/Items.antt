@@ -1,5 +1,5 @@
--- ITEMS of a MIGRATE, and what may stand behind an expression that is one.
-use Rattle.std.specs.Prelude.{◌≡◌, ℕ, List, Option, Some, None}
+-- ITEMS of a MIGRATE.
+use Rattle.std.specs.Prelude.{◌≡◌, ℕ, List}
 use Rattle.bf_tree.specs.declared.raw.Ref.{Ref}
 use Rattle.bf_tree.specs.Trees.{column}
 use Rattle.bf_tree.specs.declared.migration.Item.{Item}
@@ -21,15 +21,3 @@ BareRule x steps i = (ref : Ref) × (x ≡ (column ref, 0)) × Return (item.Colu
 abbrev pub ItemRule : Rule Item
 ItemRule = Either (Then (Sum 0) (λ x. Either (Then AsRule (λ name. Return (item.Named x.0 name))) (BareRule x)))
     (Then AggregateRule (λ total. Then AsRule (λ name. Return (item.Total total name))))
-
--- what may stand behind an expression that is an item
-abbrev pub ItemEnd : Counted → Rule Item
-ItemEnd x = Either (Then AsRule (λ name. Return (item.Named x.0 name))) (BareRule x)
-
--- the ref that an expression is, where it is nothing else
-abbrev pub HasBare : Counted → Option Ref → Type 0
-HasBare x (Some ref) = x ≡ (column ref, 0)
-HasBare x None = (ref : Ref) → x ≡ (column ref, 0) → ⊥
-
-pub record IsBare (x : Counted) (found : Option Ref) : Type 0 where
-  pub it : HasBare x found

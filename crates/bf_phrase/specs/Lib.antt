@@ -10,6 +10,7 @@ pub mod Limits
 pub mod Outcome
 pub mod Parts
 pub mod Phrases
+pub mod Pieces
 pub mod Reading
 pub mod Rules
 pub mod Starts

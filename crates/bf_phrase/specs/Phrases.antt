@@ -44,10 +44,3 @@ AggregateRule = Either
 -- name = expr
 abbrev pub SetRule : Rule (List ℕ × Expr Ref)
 SetRule = Named (λ column. AfterSign sign.Equal (Then ExprRule (λ e. Return (column, e))))
-
--- ( * ), which is the number of rows
-abbrev pub count : Aggregate (Expr Ref)
-count = aggregate.Count
-
-abbrev pub StarRule : Rule (Aggregate (Expr Ref))
-StarRule = AfterSign sign.OpeningParenthesis (AfterSign sign.Star (AfterSign sign.ClosingParenthesis (Return count)))

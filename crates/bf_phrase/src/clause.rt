@@ -4,7 +4,8 @@ ghost use Rattle.std.specs.Prelude.{◌≡◌, ◌<◌, ◌≤◌, IfOk};
 ghost use Rattle.bf_phrase.specs.Cursors.{IsPlace, left, words};
 ghost use Rattle.bf_phrase.specs.Follow.{follow_sum, follow_where, nothing};
 ghost use Rattle.bf_phrase.specs.Outcome.{outcome};
-ghost use Rattle.bf_phrase.specs.Phrases.{AggregateRule, Enclosed, ExprRule, StarRule, WhereRule, count};
+ghost use Rattle.bf_phrase.specs.Phrases.{AggregateRule, Enclosed, ExprRule, WhereRule};
+ghost use Rattle.bf_phrase.specs.Pieces.{StarRule, count};
 ghost use Rattle.bf_phrase.specs.Reading.{Fits, Read};
 ghost use Rattle.bf_phrase.specs.Rules.{Return};
 

@@ -1,7 +1,8 @@
 //! Columns as CREATE declares them.
 
 ghost use Rattle.std.specs.Prelude.{◌≡◌, ◌<◌, IfOk};
-ghost use Rattle.bf_phrase.specs.Columns.{CheckRule, ColumnRuleRule, FormRule, RangeRule};
+ghost use Rattle.bf_phrase.specs.Columns.{CheckRule, ColumnRuleRule, FormRule};
+ghost use Rattle.bf_phrase.specs.Pieces.{RangeRule};
 ghost use Rattle.bf_phrase.specs.Cursors.{IsPlace, left, words};
 ghost use Rattle.bf_phrase.specs.Expressions.{NumberRule};
 ghost use Rattle.bf_phrase.specs.Follow.{is_check, nothing};

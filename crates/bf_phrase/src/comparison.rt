@@ -5,8 +5,8 @@ ghost use Rattle.bf_phrase.specs.Comparisons.{IsComparison};
 ghost use Rattle.bf_phrase.specs.Cursors.{IsPlace, left, words};
 
 use crate::cursor::Cursor;
-use bf_tree::Compare;
 use bf_lex::{Sign, TokenKind};
+use bf_tree::Compare;
 
 /// The comparison whose sign stands first, and the place behind it.
 pub(crate) fn next_comparison(cursor: Cursor<'_>) -> Option<(Compare, Cursor<'_>)>

@@ -17,8 +17,8 @@ use crate::error::ReadStop;
 use crate::expression::counted;
 use crate::operand::{literal, reference};
 use crate::start::Start;
-use bf_tree::{Operand, RawCond, RawTest};
 use bf_lex::{Keyword, Sign};
+use bf_tree::{Operand, RawCond, RawTest};
 use std::alloc::Global;
 
 /// A literal or a column at a place, and the place behind it.

@@ -1,6 +1,6 @@
 //! Expressions. Operators and opening parentheses are counted.
 
-ghost use Rattle.std.specs.Prelude.{◌≡◌, ◌+◌, ◌<◌, ◌≤◌, IfErr, IfOk, IfSome};
+ghost use Rattle.std.specs.Prelude.{◌≡◌, ◌+◌, ◌<◌, ◌≤◌, IfErr, IfOk};
 ghost use Rattle.bf_tree.specs.Trees.{negated, times};
 ghost use Rattle.bf_lex.specs.declared.fault.ScriptKind.TheVariants.{TooDeep as TooDeepKind};
 ghost use Rattle.bf_phrase.specs.declared.error.ReadStop.TheVariants.{Limit as BeyondLimit, Memory as OutOfMemory};
@@ -10,15 +10,14 @@ ghost use Rattle.bf_phrase.specs.Expressions.{Factor, Product, Sum, sum_of};
 ghost use Rattle.bf_phrase.specs.Limits.{most_counted};
 ghost use Rattle.bf_phrase.specs.Outcome.{outcome};
 ghost use Rattle.bf_phrase.specs.Reading.{Fits, Read};
-ghost use Rattle.bf_phrase.specs.Sums.{IsNextOperator};
 
 use crate::cursor::Cursor;
 use crate::error::ReadStop;
-use crate::sum_operator::{SumOperator, next_operator};
 use crate::operand::{literal, reference};
 use crate::start::Start;
-use bf_tree::{RawExpr, RawNode};
+use crate::sum_operator::{SumOperator, next_operator};
 use bf_lex::{ScriptKind, Sign};
+use bf_tree::{RawExpr, RawNode};
 use std::alloc::Global;
 
 /// The most counted words of an expression or a condition.
@@ -54,7 +53,12 @@ fn product_of(alloc: Global, left: RawExpr, right: RawExpr) -> Result<RawExpr, R
     Ok(RawExpr::of(RawNode::Mul(left, right)))
 }
 
-fn joined(alloc: Global, by: SumOperator, left: RawExpr, right: RawExpr) -> Result<RawExpr, ReadStop>
+fn joined(
+    alloc: Global,
+    by: SumOperator,
+    left: RawExpr,
+    right: RawExpr,
+) -> Result<RawExpr, ReadStop>
     ensures memory { IfErr result (λ e. e ≡ OutOfMemory) }
     ensures value { IfOk result (λ expr. expr ≡ sum_of by left right) }
 {

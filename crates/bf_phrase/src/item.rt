@@ -3,18 +3,19 @@
 ghost use Rattle.std.specs.Prelude.{◌≡◌, ◌<◌, ◌≤◌, IfOk};
 ghost use Rattle.bf_phrase.specs.Cursors.{IsPlace, left, words};
 ghost use Rattle.bf_phrase.specs.First.{begins, first_item};
-ghost use Rattle.bf_phrase.specs.Items.{IsBare, ItemEnd, ItemRule};
+ghost use Rattle.bf_phrase.specs.Items.{ItemRule};
+ghost use Rattle.bf_phrase.specs.Pieces.{IsBare, ItemEnd};
 ghost use Rattle.bf_phrase.specs.Follow.{follow_item, is_as};
 ghost use Rattle.bf_phrase.specs.Outcome.{outcome};
 ghost use Rattle.bf_phrase.specs.Reading.{Fits, Read};
 
+use crate::clause::aggregate;
 use crate::cursor::Cursor;
 use crate::error::ReadStop;
 use crate::expression::sum;
 use crate::list::Part;
-use crate::clause::aggregate;
-use bf_tree::{Item, RawExpr, RawNode, Ref};
 use bf_lex::Keyword;
+use bf_tree::{Item, RawExpr, RawNode, Ref};
 use std::alloc::Global;
 
 /// The column that an expression is, if it is nothing else and no parenthesis stood around it.

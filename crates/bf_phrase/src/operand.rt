@@ -14,8 +14,8 @@ use crate::cursor::Cursor;
 use crate::error::ReadStop;
 use crate::start::Front;
 use bf_base::Value;
-use bf_tree::Ref;
 use bf_lex::{ScriptKind, Sign, content};
+use bf_tree::Ref;
 use std::alloc::Global;
 
 /// Behind a minus alone this is an INT.

@@ -6,14 +6,14 @@ ghost use Rattle.bf_phrase.specs.First.{is_name, first_aggregate, first_constant
 ghost use Rattle.bf_phrase.specs.Expressions.{RefRule};
 ghost use Rattle.bf_phrase.specs.Phrases.{AggregateRule, ExprRule, NameRule, SetRule};
 
+use crate::clause::{aggregate, expression};
 use crate::cursor::Cursor;
 use crate::error::ReadStop;
 use crate::list::Part;
 use crate::operand::{literal, reference};
-use crate::clause::{aggregate, expression};
 use bf_base::{Name, Value};
-use bf_tree::{RawAggregate, RawExpr, Ref};
 use bf_lex::Sign;
+use bf_tree::{RawAggregate, RawExpr, Ref};
 use std::alloc::Global;
 
 impl Part for Name {
@@ -108,7 +108,10 @@ impl Part for (Name, RawExpr) {
         cursor.begins_name()
     }
 
-    fn read<'a>(alloc: Global, cursor: Cursor<'a>) -> Result<((Name, RawExpr), Cursor<'a>), ReadStop> {
+    fn read<'a>(
+        alloc: Global,
+        cursor: Cursor<'a>,
+    ) -> Result<((Name, RawExpr), Cursor<'a>), ReadStop> {
         let (column, rest) = cursor.name(alloc)?;
         let rest = rest.expect_sign(Sign::Equal)?;
         let (expr, rest) = expression(alloc, rest)?;

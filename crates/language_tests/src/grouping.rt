@@ -3,9 +3,9 @@
 
 use bf_base::{Name, Value};
 use bf_lex::tokens;
+use bf_phrase::Cursor;
 use bf_phrase::condition::condition;
 use bf_phrase::expression::sum;
-use bf_phrase::Cursor;
 use bf_tree::{Compare, Operand, RawCond, RawExpr, RawNode, RawTest, Ref};
 use std::alloc::Global;
 use std::process::Abort;
@@ -192,15 +192,9 @@ const CONDITIONS: [(&str, &str); 14] = [
         "a = 1 AND (b = 2 AND c = 3)",
         "((a = 1) AND ((b = 2) AND (c = 3)))",
     ),
-    (
-        "NOT a = 1 AND b = 2",
-        "((NOT (a = 1)) AND (b = 2))",
-    ),
+    ("NOT a = 1 AND b = 2", "((NOT (a = 1)) AND (b = 2))"),
     ("NOT a = 1 OR b = 2", "((NOT (a = 1)) OR (b = 2))"),
-    (
-        "NOT (a = 1 AND b = 2)",
-        "(NOT ((a = 1) AND (b = 2)))",
-    ),
+    ("NOT (a = 1 AND b = 2)", "(NOT ((a = 1) AND (b = 2)))"),
     ("NOT NOT a < b", "(NOT (NOT (a < b)))"),
     (
         "a BETWEEN 1 AND 2 AND b <> 'x'",

@@ -4,7 +4,10 @@
 use crate::fixtures::Cell::{self, Letters, Number};
 use crate::fixtures::{name, row, value as cell_value};
 use bf_base::{Text, Value};
-use bf_tree::{Compare, Cond, Expr, Fail as Failure, Node, Operand, RawCond, RawExpr, RawNode, RawTest, Ref, Test, holds, value};
+use bf_tree::{
+    Compare, Cond, Expr, Fail as Failure, Node, Operand, RawCond, RawExpr, RawNode, RawTest, Ref,
+    Test, holds, value,
+};
 use std::alloc::{AllocError, Global};
 use std::test::Fail;
 

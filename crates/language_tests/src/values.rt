@@ -5,7 +5,9 @@ ghost use Rattle.std.specs.List.{list_all};
 
 use crate::fixtures::Cell::{self, Letters, Number};
 use crate::fixtures::{name, row, value, values};
-use bf_base::{Admit, Column, Fit, Granule, Key, Kind, Place, Row, Sequence, Table, admits, key_of};
+use bf_base::{
+    Admit, Column, Fit, Granule, Key, Kind, Place, Row, Sequence, Table, admits, key_of,
+};
 use std::alloc::Global;
 use std::test::Fail;
 

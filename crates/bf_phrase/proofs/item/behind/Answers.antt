@@ -1,6 +1,6 @@
 use Rattle.std.proofs.Common.{Option, subst}
 use Rattle.bf_tree.specs.declared.raw.Ref.{Ref}
-use Rattle.bf_phrase.specs.Items.{IsBare}
+use Rattle.bf_phrase.specs.Pieces.{IsBare}
 use Rattle.bf_phrase.proofs.Items.{end_named_stop, end_named, end_bare, end_stuck}
 use Rattle.bf_phrase.proofs.Moves.{exit}
 use Rattle.bf_phrase.proofs.Places.{length-words}
