@@ -19,7 +19,7 @@ use std::marker::Model;
 #[derive(Debug, Drop)]
 pub struct TapeDisk {
     start: Vec<u8>,
-    /// The file as it reads, once a call has changed it.
+    /// The file as it reads, from the first write or cut on.
     changed: Option<Vec<u8>>,
     calls: Vec<Call>,
     failing: Vec<u64>,

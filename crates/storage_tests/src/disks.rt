@@ -8,7 +8,7 @@ use std::test::Fail;
 
 // The file `abcdef`, over which `XYZ` was written at 4 and not synced.
 fn half_written(alloc: Global) -> Result<TapeDisk, DiskError> {
-    let mut disk = tape(alloc, b"abcdef", &[])?;
+    let mut disk = TapeDisk::new(alloc, b"abcdef".to_vec(alloc)?, Vec::new(alloc), None);
     disk.write_at(4, b"XYZ")?;
     Ok(disk)
 }
