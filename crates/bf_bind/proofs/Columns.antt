@@ -132,7 +132,7 @@ module _ (table : Table) (ref : Ref) where
         rw (known, places_of-some i e, there, two)
 
   -- the column at the first of the places
-  pub column_of-at : (i : ℕ) (column : Column) → position (means table ref) table.columns ≡ Some i → column ≡ get_or table.columns i column → column_of (scope_of table) ref ≡ record { place = i; kind = kind_admitted column.admits }
+  pub column_of-at : (i : ℕ) (column : Column) → position (means table ref) table.columns ≡ Some i → column ≡ get_or table.columns i column → column_of table ref ≡ record { place = i; kind = kind_admitted column.admits }
   column_of-at i column e is =
       let at = position-Some (means table ref) table.columns i column e in
       let admitted = at_map (λ (c : List ℕ × Column). c.1.admits) named table.columns i column admits.Int at.0 in
@@ -146,7 +146,7 @@ module _ (table : Table) (name : List ℕ) where
   has-position = list_any-map (same_name name) (λ (c : Column). c.name) table.columns ∙ list_any-position has_name table.columns
 
   -- the same column by the name alone
-  pub column_of-named : (i : ℕ) (column : Column) → position has_name table.columns ≡ Some i → column ≡ get_or table.columns i column → column_of (scope_of table) (unqualified name) ≡ record { place = i; kind = kind_admitted column.admits }
+  pub column_of-named : (i : ℕ) (column : Column) → position has_name table.columns ≡ Some i → column ≡ get_or table.columns i column → column_of table (unqualified name) ≡ record { place = i; kind = kind_admitted column.admits }
   column_of-named i column e is = column_of-at table (unqualified name) i column (same_position has_name (means table (unqualified name)) (λ c. and-true (has_name c)) table.columns ∙ e) is
 
 -- refs can be qualified by the name of a table that has columns

@@ -1,68 +1,73 @@
 -- Tables and indexes of a catalog, by their names.
-use Rattle.std.proofs.Common.{◌≡◌, ℕ, ◌<◌, ◌≤◌, Bool, true, false, cond, List, [], ◌∷◌, map, length, get_or, Less, Equal, Greater, Some, None, find, is_eq, refl, sym, ap, ◌∙◌}
-use Rattle.std.proofs.lemmas.Bool.{leb-true}
-use Rattle.std.specs.List.{HoldsAt, list_all, list_any}
-use Rattle.std.specs.List.Sorted.{IsNonDecreasingBy, IsPartitionPoint}
+use Rattle.std.proofs.Common.{◌≡◌, ℕ, ◌≤◌, Bool, true, false, cond, List, [], ◌∷◌, map, length, Option, Some, None, find, is_some, unwrap_or, refl, sym, ap, ◌∙◌, inl, inr}
+use Rattle.std.proofs.lemmas.Bool.{cases_Bool, leb-true}
+use Rattle.std.specs.List.{list_all, list_any}
 use Rattle.std.specs.Option.{option_map}
-use Rattle.std.specs.Ordering.{eq_by_cmp, ordering_index}
-use Rattle.std.proofs.lemmas.List.Recursion.{and_at}
 use Rattle.std.proofs.lemmas.Simd.{map-map}
+use Rattle.bf_base.specs.Limits.{most_columns}
 use Rattle.bf_base.specs.declared.table.Table.{Table}
-use Rattle.bf_base.specs.Lists.{has, name_cmp, rises, same_name}
-use Rattle.bf_base.proofs.Names.{name_cmp_total, same_name-tie}
-use Rattle.bf_base.proofs.Order.{has-at, has-none, list_any-map, look_up, look_up-at, look_up-none, searchable_from_rises}
+use Rattle.bf_base.specs.Lists.{same_name}
 use Rattle.bf_tree.specs.declared.catalog.Catalog.{Catalog}
 use Rattle.bf_tree.specs.declared.catalog.IndexRule.{IndexRule}
-use Rattle.bf_sql.specs.Bound.{without_rows}
-use Rattle.bf_sql.specs.Database.{IsDatabase, Stored, stored_at}
 use Rattle.bf_tree.specs.Limits.{HasNarrowTables, is_narrow}
+use Rattle.bf_tree.specs.Places.{AreByName, index_named, table_named}
+use Rattle.bf_sql.specs.Bound.{without_rows}
+use Rattle.bf_sql.specs.Database.{IsDatabase, Stored, no_table, stored_at, table_at}
+use Rattle.bf_sql.specs.Objections.{table_objections}
+use Rattle.bf_tree.specs.Settling.{first_of}
+use Rattle.bf_tree.specs.declared.reply.Refusal.TheVariants.{NoTable}
+use Rattle.bf_bind.specs.Parts.{absence_objections}
 use Rattle.bf_bind.specs.Limits.{table_without_rows}
 
-abbrev table_name : Table → List ℕ
-table_name table = table.name
-
-abbrev index_name : IndexRule → List ℕ
-index_name index = index.name
-
--- what stands for an index past the end
-abbrev pub no_rule : IndexRule
-no_rule = record { name = []; table = []; columns = [] }
-
-find-without_rows : (name : List ℕ) (tables : List Table) → find (λ (s : Stored). same_name s.table.name name) (map table_without_rows tables) ≡ option_map table_without_rows (look_up name_cmp table_name tables name)
+find-without_rows : (name : List ℕ) (tables : List Table) → find (λ (s : Stored). same_name s.table.name name) (map table_without_rows tables) ≡ option_map table_without_rows (find (λ (t : Table). same_name t.name name) tables)
 find-without_rows name [] = refl
-find-without_rows name (t ∷ ts) = rw same_name-tie (
-    elim (is_eq (name_cmp t.name name)) as (λ b. cond b (Some (table_without_rows t)) (find (λ (s : Stored). same_name s.table.name name) (map table_without_rows ts)) ≡ option_map table_without_rows (cond b (Some t) (look_up name_cmp table_name ts name))) [
+find-without_rows name (t ∷ ts) =
+    elim (same_name t.name name) as (λ b. cond b (Some (table_without_rows t)) (find (λ (s : Stored). same_name s.table.name name) (map table_without_rows ts)) ≡ option_map table_without_rows (cond b (Some t) (find (λ (t : Table). same_name t.name name) ts))) [
       | true ↦ refl
       | false ↦ find-without_rows name ts
-    ])
+    ]
 
-same_any : {X : Type 0} (p q : X → Bool) → ((x : X) → p x ≡ q x) → (xs : List X) → list_any p xs ≡ list_any q xs
-same_any p q same [] = refl
-same_any p q same (x ∷ xs) = rw (same x, same_any p q same xs)
+any-find : {X : Type 0} (test : X → Bool) (xs : List X) → list_any test xs ≡ is_some (find test xs)
+any-find test [] = refl
+any-find test (x ∷ xs) = elim (cases_Bool (test x)) [
+  | inl passes ↦ rw passes
+  | inr fails ↦ rw fails (any-find test xs)
+]
 
-module _ (catalog : Catalog) (database : IsDatabase (without_rows catalog)) (name : List ℕ) where
-  tables_rise : rises name_cmp (map table_name catalog.tables) ≡ true
-  tables_rise = rw map-map at database.tables_by_name
+found_passes : {X : Type 0} (every test : X → Bool) (xs : List X) (x : X) → list_all every xs ≡ true → find test xs ≡ Some x → every x ≡ true
+found_passes every test [] x all e = absurd cc
+found_passes every test (y ∷ ys) x all e = elim (cases_Bool (every y)) [
+  | inl passes ↦
+      let rest : list_all every ys ≡ true = rw passes at all in
+      elim (cases_Bool (test y)) [
+        | inl here ↦ let is : Some y ≡ Some x = rw here at e in cc
+        | inr behind ↦ let is : find test ys ≡ Some x = rw behind at e in found_passes every test ys x rest is
+      ]
+  | inr fails ↦ let wrong : false ≡ true = rw fails at all in absurd cc
+]
 
-  pub stored_at-found : (i : ℕ) (table : Table) → i < length catalog.tables → HoldsAt (λ (t : Table). name_cmp t.name name ≡ Equal) catalog.tables i → table ≡ get_or catalog.tables i table → stored_at (without_rows catalog) name ≡ Some (table_without_rows table)
-  stored_at-found i table in_range ties is =
-      find-without_rows name catalog.tables ∙ ap (option_map table_without_rows) (look_up-at name_cmp_total table_name catalog.tables i name table tables_rise in_range (ties table)) ∙ ap (λ (t : Table). Some (table_without_rows t)) (sym is)
+present_of : (o : Option Stored) (name : List ℕ) (table : Table) → o ≡ Some (table_without_rows table) → (table_objections o name (λ _. []) ≡ []) × (table ≡ unwrap_or (option_map (λ s. s.table) o) no_table)
+present_of o name table e = rw e (refl, refl)
 
-  pub stored_at-gap : (i : ℕ) → (IsNonDecreasingBy (λ (t : Table). ordering_index (name_cmp t.name name)) catalog.tables → IsPartitionPoint (λ (t : Table). name_cmp t.name name ≡ Less) (λ (t : Table). name_cmp t.name name ≡ Greater) catalog.tables i) → stored_at (without_rows catalog) name ≡ None
-  stored_at-gap i at =
-      let gap = at (searchable_from_rises name_cmp_total table_name catalog.tables name tables_rise) in
-      find-without_rows name catalog.tables ∙ ap (option_map table_without_rows) (look_up-none name_cmp_total table_name catalog.tables i name gap)
+absent_of : (o : Option Stored) (name : List ℕ) → o ≡ None → first_of (table_objections o name (λ _. [])) ≡ Some (NoTable name)
+absent_of o name e = rw e refl
 
-  any_index : list_any (λ (index : IndexRule). same_name name index.name) catalog.indexes ≡ has (eq_by_cmp name_cmp) (map index_name catalog.indexes) name
-  any_index = same_any _ _ (λ (index : IndexRule). same_name-tie name index.name) catalog.indexes ∙ sym (list_any-map (eq_by_cmp name_cmp name) index_name catalog.indexes)
+module _ (catalog : Catalog) where
+  pub tables_by_name : IsDatabase (without_rows catalog) → AreByName catalog.tables
+  tables_by_name database = rw map-map at database.tables_by_name
 
-  pub index-found : (i : ℕ) (d : IndexRule) → i < length catalog.indexes → HoldsAt (λ (index : IndexRule). name_cmp index.name name ≡ Equal) catalog.indexes i → list_any (λ (index : IndexRule). same_name name index.name) catalog.indexes ≡ true
-  index-found i d in_range ties = any_index ∙ has-at name_cmp_total index_name catalog.indexes i name d in_range (ties d)
+  pub stored-named : (name : List ℕ) → stored_at (without_rows catalog) name ≡ option_map table_without_rows (table_named catalog name)
+  stored-named name = find-without_rows name catalog.tables
 
-  pub index-gap : (i : ℕ) → (IsNonDecreasingBy (λ (index : IndexRule). ordering_index (name_cmp index.name name)) catalog.indexes → IsPartitionPoint (λ (index : IndexRule). name_cmp index.name name ≡ Less) (λ (index : IndexRule). name_cmp index.name name ≡ Greater) catalog.indexes i) → list_any (λ (index : IndexRule). same_name name index.name) catalog.indexes ≡ false
-  index-gap i at = any_index ∙ has-none name_cmp_total index_name catalog.indexes i name (at (searchable_from_rises name_cmp_total index_name catalog.indexes name database.indexes_by_name))
+  pub index-named : (name : List ℕ) → list_any (λ (index : IndexRule). same_name name index.name) catalog.indexes ≡ is_some (index_named catalog name)
+  index-named name = any-find (λ (index : IndexRule). same_name name index.name) catalog.indexes
 
-pub narrow_at : (catalog : Catalog) → HasNarrowTables catalog → (i : ℕ) (table : Table) → i < length catalog.tables → table ≡ get_or catalog.tables i table → length table.columns ≤ 16
-narrow_at catalog narrow i table in_range is =
-    let here = and_at (list_all is_narrow) is_narrow refl (λ _ _. refl) catalog.tables i table in_range narrow in
-    leb-true (length table.columns) 16 (rw (← is) at here)
+  pub narrow_named : HasNarrowTables catalog → (name : List ℕ) (table : Table) → table_named catalog name ≡ Some table → length table.columns ≤ most_columns
+  narrow_named narrow name table is = leb-true (length table.columns) most_columns (found_passes is_narrow (λ (t : Table). same_name t.name name) catalog.tables table narrow is)
+
+  -- a table that is there, and one that is not
+  pub there : (name : List ℕ) (table : Table) → Some table ≡ table_named catalog name → (absence_objections (without_rows catalog) name ≡ []) × (table ≡ table_at (without_rows catalog) name)
+  there name table is = present_of (stored_at (without_rows catalog) name) name table (stored-named name ∙ ap (option_map table_without_rows) (sym is))
+
+  pub not_there : (name : List ℕ) → None ≡ table_named catalog name → first_of (absence_objections (without_rows catalog) name) ≡ Some (NoTable name)
+  not_there name is = absent_of (stored_at (without_rows catalog) name) name (stored-named name ∙ ap (option_map table_without_rows) (sym is))

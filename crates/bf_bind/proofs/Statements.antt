@@ -1,205 +1,201 @@
--- What stands in the way of a statement on a table, and what the statement is bound to.
-use Rattle.std.proofs.Common.{◌≡◌, ℕ, Bool, true, false, not, ◌&&◌, List, [], ◌∷◌, ◌++◌, map, slice_get, IfErr, IfOk, OnOk, Result, Ok, Err, Option, Some, None, refl, ap, ◌∙◌}
+-- What binding a statement gives, by the parts of the statement.
+use Rattle.std.proofs.Common.{◌≡◌, ℕ, Bool, true, false, not, ◌&&◌, List, [], ◌∷◌, ◌++◌, map, Result, Ok, Err, Option, Some, None, unwrap_or, refl, sym, ap, subst, ◌∙◌}
 use Rattle.std.specs.List.{flat_map}
 use Rattle.std.specs.Option.{option_map}
+use Rattle.std.specs.Result.{IsErrAnd}
 use Rattle.bf_base.specs.declared.table.Table.{Table}
 use Rattle.bf_base.specs.declared.value.Value.{Value}
-use Rattle.bf_tree.specs.declared.raw.Ref.{Ref}
+use Rattle.bf_base.specs.Lists.{when}
+use Rattle.bf_tree.specs.Settling.{first_of, Settles}
 use Rattle.bf_tree.specs.Trees.{Expr, Cond}
-use Rattle.bf_sql.specs.Bound.{action_of, bound_of, changes_schema, unless_objected}
-use Rattle.bf_sql.specs.Conditions.{condition_of}
-use Rattle.bf_sql.specs.Database.{Database, stored_at, table_at}
-use Rattle.bf_sql.specs.Objections.{items_objections, objections, new_index_objections, new_table_objections, sets_objections, tuple_objections}
-use Rattle.bf_sql.specs.Scopes.{cond_objections, scope_of}
 use Rattle.bf_tree.specs.declared.bound.Action.{Action}
 use Rattle.bf_tree.specs.declared.bound.Action.TheVariants as action
 use Rattle.bf_tree.specs.declared.bound.Bound.{Bound}
-use Rattle.bf_tree.specs.declared.catalog.IndexRule.{IndexRule}
 use Rattle.bf_tree.specs.declared.items.Items.{Items}
 use Rattle.bf_tree.specs.declared.migration.Migrate.{Migrate as MigrateTree}
+use Rattle.bf_tree.specs.declared.raw.Ref.{Ref}
 use Rattle.bf_tree.specs.declared.reply.Refusal.{Refusal}
-use Rattle.bf_tree.specs.declared.reply.Refusal.TheVariants.{MustBeAlone, NoTable}
+use Rattle.bf_tree.specs.declared.reply.Refusal.TheVariants.{InTransaction, MustBeAlone, NoTransaction}
 use Rattle.bf_tree.specs.declared.statement.ColumnRule.{ColumnRule}
 use Rattle.bf_tree.specs.declared.statement.Statement.{Statement}
 use Rattle.bf_tree.specs.declared.statement.Statement.TheVariants.{CreateTable, CreateIndex, Insert, Select, Update, Delete, Begin, Commit, Rollback, Migrate}
-use Rattle.bf_sql.specs.Meaning.{index_of, created_table}
-use Rattle.bf_bind.specs.Actions.{action_for, objections_to}
-use Rattle.bf_bind.specs.Stops.{Stops}
 use Rattle.bf_tree.specs.declared.statement_error.StatementError.{StatementError}
-use Rattle.bf_tree.specs.declared.statement_error.StatementError.TheVariants as stops
-use Rattle.bf_bind.proofs.Walks.{none_of, stops_before, stops_behind}
-use Rattle.bf_tree.specs.Trees.{cond_over}
-use Rattle.bf_sql.specs.Bound.{items_over}
-use Rattle.bf_sql.specs.Conditions.{fixed_key}
-use Rattle.bf_sql.specs.Scopes.{place_of}
-use Rattle.bf_bind.specs.Limits.{table_without_rows, is_planned}
-use Rattle.bf_bind.specs.Parts.{bound_set, delete_action, select_action, update_action}
+use Rattle.bf_tree.specs.declared.statement_error.StatementError.TheVariants as stop
+use Rattle.bf_tree.proofs.Settling.{handed_on}
+use Rattle.bf_sql.specs.Bound.{action_of, bound_of, changes_schema, cond_in, items_over, place_in, set_in, unless_objected}
+use Rattle.bf_sql.specs.Conditions.{condition_of, fixed_key}
+use Rattle.bf_sql.specs.Database.{Database, Stored, no_table, stored_at, table_at}
+use Rattle.bf_sql.specs.Meaning.{created_table, index_of}
+use Rattle.bf_sql.specs.Objections.{items_objections, objections, new_index_objections, new_table_objections, sets_objections, table_objections, tuple_objections}
+use Rattle.bf_sql.specs.Scopes.{cond_objections, scope_of}
+use Rattle.bf_bind.specs.Actions.{Binds}
+use Rattle.bf_bind.specs.Limits.{is_planned}
+use Rattle.bf_bind.specs.Parts.{absence_objections, seen_as}
 
-module _ (db : Database) (name : List ℕ) where
-  module _ (e : stored_at db name ≡ None) where
-    pub no_table-insert : (b : Bool) (tuples : List (List Value)) → objections db b (Insert name tuples) ≡ NoTable name ∷ []
-    no_table-insert true tuples = rw e
-    no_table-insert false tuples = rw e
+seen-some : (result : Result Action StatementError) (found : List Refusal) (meant : Action) → Settles result found meant → Settles (seen_as Some result) found (Some meant)
+seen-some (Ok act) found meant h = (h.0, ap Some h.1)
+seen-some (Err (stop.Refused r)) found meant h = h
+seen-some (Err stop.Memory) found meant h = tt
 
-    pub no_table-select : (b : Bool) (list : Items (Expr Ref)) (cond : Option (Cond Ref)) → objections db b (Select list name cond) ≡ NoTable name ∷ []
-    no_table-select true list cond = rw e
-    no_table-select false list cond = rw e
+-- the objections to a statement on a table that is there, and to one on a table that is not
+on_stored : (o : Option Stored) (name : List ℕ) (on_table : Table → List Refusal) → table_objections o name (λ _. []) ≡ [] → table_objections o name on_table ≡ on_table (unwrap_or (option_map (λ s. s.table) o) no_table)
+on_stored None name on_table there = absurd cc
+on_stored (Some s) name on_table there = refl
 
-    pub no_table-update : (b : Bool) (sets : List (List ℕ × Expr Ref)) (cond : Option (Cond Ref)) → objections db b (Update name sets cond) ≡ NoTable name ∷ []
-    no_table-update true sets cond = rw e
-    no_table-update false sets cond = rw e
+absent_first : (o : Option Stored) (name : List ℕ) (on_table : Table → List Refusal) (r : Refusal) → first_of (table_objections o name (λ _. [])) ≡ Some r → first_of (table_objections o name on_table) ≡ Some r
+absent_first None name on_table r e = e
+absent_first (Some s) name on_table r e = absurd cc
 
-    pub no_table-delete : (b : Bool) (cond : Option (Cond Ref)) → objections db b (Delete name cond) ≡ NoTable name ∷ []
-    no_table-delete true cond = rw e
-    no_table-delete false cond = rw e
+module _ (db : Database) (b : Bool) (s : Statement) where
+  -- an action that nothing stands in the way of
+  pub ok_binds : (act : Action) → objections db b s ≡ [] → Some act ≡ action_of db s → Binds (Ok act) db b s
+  unfolding Binds
+  ok_binds act none is = (none, is)
 
-    pub no_table-index : (index : List ℕ) (columns : List (List ℕ)) → objections db false (CreateIndex index name columns) ≡ NoTable name ∷ []
-    no_table-index index columns = rw e
+  -- an error that is handed on
+  pub error_binds : {A : Type 0} (result : Result Action StatementError) (e : StatementError) (meant : A) (found : List Refusal) → IsErrAnd result (λ given. given ≡ e) → Settles (Err e) found meant → ((r : Refusal) → first_of found ≡ Some r → first_of (objections db b s) ≡ Some r) → Binds result db b s
+  unfolding Binds
+  error_binds (Ok act) e meant found given here then = absurd given
+  error_binds (Err given) e meant found same here then = handed_on meant (action_of db s) (Err given) e found (objections db b s) same here then
 
-  module _ (t : Table) (e : stored_at db name ≡ Some (table_without_rows t)) where
-    pub table_at-stored : table_at db name ≡ t
-    table_at-stored = rw e
+  -- a call that does the whole
+  all_binds : (result : Result Action StatementError) (found : List Refusal) (meant : Action) → found ≡ objections db b s → Some meant ≡ action_of db s → Settles result found meant → Binds result db b s
+  unfolding Binds
+  all_binds result found meant same is h =
+      subst (λ (o : Option Action). Settles (seen_as Some result) (objections db b s) o) is
+      (subst (λ (rs : List Refusal). Settles (seen_as Some result) rs (Some meant)) same (seen-some result found meant h))
 
-    pub objections-insert : (b : Bool) (tuples : List (List Value)) → objections db b (Insert name tuples) ≡ flat_map (tuple_objections t) tuples
-    objections-insert true tuples = rw e
-    objections-insert false tuples = rw e
+  module _ (name : List ℕ) (on_table : Table → List Refusal) (e : objections db b s ≡ table_objections (stored_at db name) name on_table) where
+    absent : (result : Result Action StatementError) (error : StatementError) (meant : Table) → IsErrAnd result (λ given. given ≡ error) → Settles (Err error) (absence_objections db name) meant → Binds result db b s
+    absent result error meant same here =
+        error_binds result error meant (absence_objections db name) same here (λ r first. ap first_of e ∙ absent_first (stored_at db name) name on_table r first)
 
-    pub objections-select : (b : Bool) (list : Items (Expr Ref)) (cond : Option (Cond Ref)) → objections db b (Select list name cond) ≡ items_objections (scope_of t) list ++ cond_objections (scope_of t) (condition_of cond)
-    objections-select true list cond = rw e
-    objections-select false list cond = rw e
+    present : (act : Table → Action) → Some (act (table_at db name)) ≡ action_of db s → (t : Table) → (absence_objections db name ≡ []) × (t ≡ table_at db name) → (result : Result Action StatementError) → Settles result (on_table t) (act t) → Binds result db b s
+    present act is t there result h =
+        all_binds result (on_table (table_at db name)) (act (table_at db name)) (sym (e ∙ on_stored (stored_at db name) name on_table there.0)) is
+        (subst (λ (t : Table). Settles result (on_table t) (act t)) there.1 h)
 
-    pub objections-update : (b : Bool) (sets : List (List ℕ × Expr Ref)) (cond : Option (Cond Ref)) → objections db b (Update name sets cond) ≡ sets_objections t sets ++ cond_objections (scope_of t) (condition_of cond)
-    objections-update true sets cond = rw e
-    objections-update false sets cond = rw e
+module _ (db : Database) (b : Bool) (name : List ℕ) where
+  module _ (tuples : List (List Value)) where
+    on_insert : (b : Bool) → objections db b (Insert name tuples) ≡ table_objections (stored_at db name) name (λ t. flat_map (tuple_objections t) tuples)
+    on_insert true = refl
+    on_insert false = refl
 
-    pub objections-delete : (b : Bool) (cond : Option (Cond Ref)) → objections db b (Delete name cond) ≡ cond_objections (scope_of t) (condition_of cond)
-    objections-delete true cond = rw e
-    objections-delete false cond = rw e
+    pub insert-absent : (result : Result Action StatementError) (error : StatementError) (meant : Table) → IsErrAnd result (λ given. given ≡ error) → Settles (Err error) (absence_objections db name) meant → Binds result db b (Insert name tuples)
+    insert-absent = absent db b (Insert name tuples) name _ (on_insert b)
 
-    pub objections-index : (index : List ℕ) (columns : List (List ℕ)) → objections db false (CreateIndex index name columns) ≡ new_index_objections db index t columns
-    objections-index index columns = rw e
+    pub insert-binds : (t : Table) → (absence_objections db name ≡ []) × (t ≡ table_at db name) → (result : Result Action StatementError) → Settles result (flat_map (tuple_objections t) tuples) (action.Insert t tuples) → Binds result db b (Insert name tuples)
+    insert-binds = present db b (Insert name tuples) name (λ t. flat_map (tuple_objections t) tuples) (on_insert b) (λ t. action.Insert t tuples) refl
 
-    pub action_of-insert : (tuples : List (List Value)) → action_of db (Insert name tuples) ≡ Some (action.Insert t tuples)
-    action_of-insert tuples = rw table_at-stored
+  module _ (cond : Option (Cond Ref)) where
+    abbrev on_condition : Table → List Refusal
+    on_condition t = cond_objections (scope_of t) (condition_of cond)
 
-    pub action_of-select : (list : Items (Expr Ref)) (cond : Option (Cond Ref)) → action_of db (Select list name cond) ≡ Some (select_action t list cond)
-    action_of-select list cond = rw table_at-stored
+    abbrev fixed : Table → Option (List Value)
+    fixed t = fixed_key t (cond_in t cond)
 
-    pub action_of-update : (sets : List (List ℕ × Expr Ref)) (cond : Option (Cond Ref)) → action_of db (Update name sets cond) ≡ Some (update_action t sets cond)
-    action_of-update sets cond = ap (λ (u : Table). Some (update_action u sets cond)) table_at-stored
+    module _ (list : Items (Expr Ref)) where
+      abbrev on_items : Table → List Refusal
+      on_items t = items_objections (scope_of t) list ++ on_condition t
 
-    pub action_of-delete : (cond : Option (Cond Ref)) → action_of db (Delete name cond) ≡ Some (delete_action t cond)
-    action_of-delete cond = rw table_at-stored
+      abbrev selects : Table → Action
+      selects t = action.Select t (items_over (place_in t) list) (cond_in t cond) (fixed t)
 
-    pub action_of-index : (index : List ℕ) (columns : List (List ℕ)) → action_of db (CreateIndex index name columns) ≡ Some (action.CreateIndex (index_of index t columns))
-    action_of-index index columns = rw table_at-stored
+      on_select : (b : Bool) → objections db b (Select list name cond) ≡ table_objections (stored_at db name) name on_items
+      on_select true = refl
+      on_select false = refl
 
--- memory ran out
-pub stops_memory : (stop : StatementError) (found : List Refusal) → stop ≡ stops.Memory → Stops stop found
-unfolding Stops
-stops_memory stop found e = rw e tt
+      pub select-absent : (result : Result Action StatementError) (error : StatementError) (meant : Table) → IsErrAnd result (λ given. given ≡ error) → Settles (Err error) (absence_objections db name) meant → Binds result db b (Select list name cond)
+      select-absent = absent db b (Select list name cond) name on_items (on_select b)
 
--- the objections and the action of each statement, by its parts
-module _ (db : Database) (name : List ℕ) where
-  module _ (e : stored_at db name ≡ None) (stop : StatementError) (h : Stops stop (NoTable name ∷ [])) where
-    pub insert-no_table : (tuples : List (List Value)) (b : Bool) → Stops stop (objections_to db b (Insert name tuples))
-    unfolding objections_to
-    insert-no_table tuples b = rw (no_table-insert db name e b tuples) h
+      pub select-binds : (t : Table) → (absence_objections db name ≡ []) × (t ≡ table_at db name) → (result : Result Action StatementError) → Settles result (on_items t) (selects t) → Binds result db b (Select list name cond)
+      select-binds = present db b (Select list name cond) name on_items (on_select b) selects refl
 
-    pub select-no_table : (list : Items (Expr Ref)) (cond : Option (Cond Ref)) (b : Bool) → Stops stop (objections_to db b (Select list name cond))
-    unfolding objections_to
-    select-no_table list cond b = rw (no_table-select db name e b list cond) h
+    module _ (sets : List (List ℕ × Expr Ref)) where
+      abbrev on_sets : Table → List Refusal
+      on_sets t = sets_objections t sets ++ on_condition t
 
-    pub update-no_table : (sets : List (List ℕ × Expr Ref)) (cond : Option (Cond Ref)) (b : Bool) → Stops stop (objections_to db b (Update name sets cond))
-    unfolding objections_to
-    update-no_table sets cond b = rw (no_table-update db name e b sets cond) h
+      abbrev updates : Table → Action
+      updates t = action.Update t (map (set_in t) sets) (cond_in t cond) (fixed t)
 
-    pub delete-no_table : (cond : Option (Cond Ref)) (b : Bool) → Stops stop (objections_to db b (Delete name cond))
-    unfolding objections_to
-    delete-no_table cond b = rw (no_table-delete db name e b cond) h
+      on_update : (b : Bool) → objections db b (Update name sets cond) ≡ table_objections (stored_at db name) name on_sets
+      on_update true = refl
+      on_update false = refl
 
-    pub index-no_table : (index : List ℕ) (columns : List (List ℕ)) → Stops stop (objections_to db false (CreateIndex index name columns))
-    unfolding objections_to
-    index-no_table index columns = rw (no_table-index db name e index columns) h
+      pub update-absent : (result : Result Action StatementError) (error : StatementError) (meant : Table) → IsErrAnd result (λ given. given ≡ error) → Settles (Err error) (absence_objections db name) meant → Binds result db b (Update name sets cond)
+      update-absent = absent db b (Update name sets cond) name on_sets (on_update b)
 
-  module _ (t : Table) (e : stored_at db name ≡ Some (table_without_rows t)) where
-    pub insert-stops : (tuples : List (List Value)) (stop : StatementError) → Stops stop (flat_map (tuple_objections t) tuples) → (b : Bool) → Stops stop (objections_to db b (Insert name tuples))
-    unfolding objections_to
-    insert-stops tuples stop h b = rw (objections-insert db name t e b tuples) h
+      pub update-binds : (t : Table) → (absence_objections db name ≡ []) × (t ≡ table_at db name) → (result : Result Action StatementError) → Settles result (on_sets t) (updates t) → Binds result db b (Update name sets cond)
+      update-binds = present db b (Update name sets cond) name on_sets (on_update b) updates refl
 
-    pub insert-ok : (tuples : List (List Value)) → flat_map (tuple_objections t) tuples ≡ [] → (b : Bool) → objections_to db b (Insert name tuples) ≡ []
-    unfolding objections_to
-    insert-ok tuples none b = objections-insert db name t e b tuples ∙ none
+    abbrev deletes : Table → Action
+    deletes t = action.Delete t (cond_in t cond) (fixed t)
 
-    pub insert-action : (tuples : List (List Value)) (table : Table) (rows : List (List Value)) → table ≡ t → rows ≡ tuples → action_for db (Insert name tuples) ≡ Some (action.Insert table rows)
-    unfolding action_for
-    insert-action tuples table rows p q = rw (p, q) (action_of-insert db name t e tuples)
+    on_delete : (b : Bool) → objections db b (Delete name cond) ≡ table_objections (stored_at db name) name on_condition
+    on_delete true = refl
+    on_delete false = refl
 
-    module _ (cond : Option (Cond Ref)) where
-      abbrev bound_to_places : Cond ℕ
-      bound_to_places = cond_over (place_of (scope_of t)) (condition_of cond)
+    pub delete-absent : (result : Result Action StatementError) (error : StatementError) (meant : Table) → IsErrAnd result (λ given. given ≡ error) → Settles (Err error) (absence_objections db name) meant → Binds result db b (Delete name cond)
+    delete-absent = absent db b (Delete name cond) name on_condition (on_delete b)
 
-      module _ (list : Items (Expr Ref)) where
-        pub select-stops_at_items : (stop : StatementError) → Stops stop (items_objections (scope_of t) list) → (b : Bool) → Stops stop (objections_to db b (Select list name cond))
-        unfolding objections_to
-        select-stops_at_items stop h b = rw (objections-select db name t e b list cond) (stops_before stop _ _ h)
+    pub delete-binds : (t : Table) → (absence_objections db name ≡ []) × (t ≡ table_at db name) → (result : Result Action StatementError) → Settles result (on_condition t) (deletes t) → Binds result db b (Delete name cond)
+    delete-binds = present db b (Delete name cond) name on_condition (on_delete b) deletes refl
 
-        pub select-stops_at_condition : items_objections (scope_of t) list ≡ [] → (stop : StatementError) → Stops stop (cond_objections (scope_of t) (condition_of cond)) → (b : Bool) → Stops stop (objections_to db b (Select list name cond))
-        unfolding objections_to
-        select-stops_at_condition none stop h b = rw (objections-select db name t e b list cond) (stops_behind stop _ _ none h)
+-- words of a block
+module _ (db : Database) (result : Result Action StatementError) where
+  pub begin-binds : (b : Bool) → Settles result (when b InTransaction) action.Begin → Binds result db b Begin
+  begin-binds true h = all_binds db true Begin result _ _ refl refl h
+  begin-binds false h = all_binds db false Begin result _ _ refl refl h
 
-        pub select-ok : items_objections (scope_of t) list ≡ [] → cond_objections (scope_of t) (condition_of cond) ≡ [] → (b : Bool) → objections_to db b (Select list name cond) ≡ []
-        unfolding objections_to
-        select-ok none none_behind b = objections-select db name t e b list cond ∙ none_of _ _ none none_behind
+  pub commit-binds : (b : Bool) → Settles result (when (not b) NoTransaction) action.Commit → Binds result db b Commit
+  commit-binds true h = all_binds db true Commit result _ _ refl refl h
+  commit-binds false h = all_binds db false Commit result _ _ refl refl h
 
-        pub select-action : (table : Table) (items : Items (Expr ℕ)) (places : Cond ℕ) (key : Option (List Value)) → table ≡ t → items ≡ items_over (place_of (scope_of t)) list → places ≡ bound_to_places → key ≡ fixed_key t places → action_for db (Select list name cond) ≡ Some (action.Select table items places key)
-        unfolding action_for
-        select-action table items places key p q r s = rw (s, p, q, r) (action_of-select db name t e list cond)
+  pub rollback-binds : (b : Bool) → Settles result (when (not b) NoTransaction) action.Rollback → Binds result db b Rollback
+  rollback-binds true h = all_binds db true Rollback result _ _ refl refl h
+  rollback-binds false h = all_binds db false Rollback result _ _ refl refl h
 
-      module _ (sets : List (List ℕ × Expr Ref)) where
-        pub update-stops_at_sets : (stop : StatementError) → Stops stop (sets_objections t sets) → (b : Bool) → Stops stop (objections_to db b (Update name sets cond))
-        unfolding objections_to
-        update-stops_at_sets stop h b = rw (objections-update db name t e b sets cond) (stops_before stop _ _ h)
+-- CREATE, which stands alone
+module _ (db : Database) (name : List ℕ) (rules : List ColumnRule) (key : List (List ℕ)) where
+  pub table-inside : (b : Bool) (r : Refusal) → first_of (when b MustBeAlone) ≡ Some r → first_of (objections db b (CreateTable name rules key)) ≡ Some r
+  table-inside true r e = e
+  table-inside false r e = absurd cc
 
-        pub update-stops_at_condition : sets_objections t sets ≡ [] → (stop : StatementError) → Stops stop (cond_objections (scope_of t) (condition_of cond)) → (b : Bool) → Stops stop (objections_to db b (Update name sets cond))
-        unfolding objections_to
-        update-stops_at_condition none stop h b = rw (objections-update db name t e b sets cond) (stops_behind stop _ _ none h)
+  pub table-alone : (b : Bool) → when b MustBeAlone ≡ [] → objections db b (CreateTable name rules key) ≡ new_table_objections db name rules key
+  table-alone true e = absurd cc
+  table-alone false e = refl
 
-        pub update-ok : sets_objections t sets ≡ [] → cond_objections (scope_of t) (condition_of cond) ≡ [] → (b : Bool) → objections_to db b (Update name sets cond) ≡ []
-        unfolding objections_to
-        update-ok none none_behind b = objections-update db name t e b sets cond ∙ none_of _ _ none none_behind
+module _ (db : Database) (index : List ℕ) (name : List ℕ) (columns : List (List ℕ)) where
+  pub index-inside : (b : Bool) (r : Refusal) → first_of (when b MustBeAlone) ≡ Some r → first_of (objections db b (CreateIndex index name columns)) ≡ Some r
+  index-inside true r e = e
+  index-inside false r e = absurd cc
 
-        pub update-action : (table : Table) (bound : List (ℕ × Expr ℕ)) (places : Cond ℕ) (key : Option (List Value)) → table ≡ t → bound ≡ map (bound_set (scope_of t)) sets → places ≡ bound_to_places → key ≡ fixed_key t places → action_for db (Update name sets cond) ≡ Some (action.Update table bound places key)
-        unfolding action_for
-        update-action table bound places key p q r s = rw (s, p, q, r) (action_of-update db name t e sets cond)
+  abbrev on_columns : Table → List Refusal
+  on_columns t = new_index_objections db index t columns
 
-      pub delete-stops : (stop : StatementError) → Stops stop (cond_objections (scope_of t) (condition_of cond)) → (b : Bool) → Stops stop (objections_to db b (Delete name cond))
-      unfolding objections_to
-      delete-stops stop h b = rw (objections-delete db name t e b cond) h
+  on_index : (b : Bool) → when b MustBeAlone ≡ [] → objections db b (CreateIndex index name columns) ≡ table_objections (stored_at db name) name on_columns
+  on_index true e = absurd cc
+  on_index false e = refl
 
-      pub delete-ok : cond_objections (scope_of t) (condition_of cond) ≡ [] → (b : Bool) → objections_to db b (Delete name cond) ≡ []
-      unfolding objections_to
-      delete-ok none b = objections-delete db name t e b cond ∙ none
+  module _ (b : Bool) (alone : when b MustBeAlone ≡ []) where
+    pub index-absent : (result : Result Action StatementError) (error : StatementError) (meant : Table) → IsErrAnd result (λ given. given ≡ error) → Settles (Err error) (absence_objections db name) meant → Binds result db b (CreateIndex index name columns)
+    index-absent = absent db b (CreateIndex index name columns) name on_columns (on_index b alone)
 
-      pub delete-action : (table : Table) (places : Cond ℕ) (key : Option (List Value)) → table ≡ t → places ≡ bound_to_places → key ≡ fixed_key t places → action_for db (Delete name cond) ≡ Some (action.Delete table places key)
-      unfolding action_for
-      delete-action table places key p r s = rw (s, p, r) (action_of-delete db name t e cond)
+    -- the objections to a new index on the table that is there
+    pub index-alone : (t : Table) → (absence_objections db name ≡ []) × (t ≡ table_at db name) → objections db b (CreateIndex index name columns) ≡ new_index_objections db index t columns
+    index-alone t there = on_index b alone ∙ on_stored (stored_at db name) name on_columns there.0 ∙ ap on_columns (sym there.1)
 
-    module _ (index : List ℕ) (columns : List (List ℕ)) where
-      pub index-stops : (stop : StatementError) → Stops stop (new_index_objections db index t columns) → Stops stop (objections_to db false (CreateIndex index name columns))
-      unfolding objections_to
-      index-stops stop h = rw (objections-index db name t e index columns) h
+    pub index-action : (t : Table) → t ≡ table_at db name → Some (action.CreateIndex (index_of index t columns)) ≡ action_of db (CreateIndex index name columns)
+    index-action t is = ap (λ (t : Table). Some (action.CreateIndex (index_of index t columns))) is
 
-      pub index-ok : new_index_objections db index t columns ≡ [] → objections_to db false (CreateIndex index name columns) ≡ []
-      unfolding objections_to
-      index-ok none = objections-index db name t e index columns ∙ none
-
-      pub index-action : (made : IndexRule) → made ≡ index_of index t columns → action_for db (CreateIndex index name columns) ≡ Some (action.CreateIndex made)
-      unfolding action_for
-      index-action made p = rw p (action_of-index db name t e index columns)
+-- a MIGRATE that is not planned stands in a block
+pub migrate-inside : (db : Database) (b : Bool) (m : MigrateTree) → is_planned b (Migrate m) ≡ false → Binds (Err (stop.Refused MustBeAlone)) db b (Migrate m)
+unfolding Binds
+migrate-inside db true m e = refl
+migrate-inside db false m e = absurd cc
 
 -- the first objection stands in the action
-unless_objected-refused : (r : Refusal) (found : List Refusal) (act : Option Action) → slice_get found 0 ≡ Some r → unless_objected found act ≡ Some (action.Refused r)
+unless_objected-refused : (r : Refusal) (found : List Refusal) (act : Option Action) → first_of found ≡ Some r → unless_objected found act ≡ Some (action.Refused r)
 unless_objected-refused r [] act e = absurd cc
 unless_objected-refused r (x ∷ xs) act e = ap (λ (o : Option Refusal). option_map action.Refused o) e
 
@@ -223,58 +219,10 @@ abbrev pub bound_to : Database → Bool → Statement → Action → Bound
 bound_to db b s act = record { catalog = db.number; schema_change = changes_schema false s && not b; action = act }
 
 module _ (db : Database) (b : Bool) (s : Statement) where
-  pub bound_of-unobjected : (act : Action) → objections_to db b s ≡ [] → action_for db s ≡ Some act → bound_of db b s ≡ Some (bound_to db b s act)
-  unfolding objections_to action_for
-  bound_of-unobjected act none is = rw (none, is, changes_schema-alone b s)
+  pub bound_of-unobjected : (act : Action) → Binds (Ok act) db b s → bound_of db b s ≡ Some (bound_to db b s act)
+  unfolding Binds
+  bound_of-unobjected act h = rw (h.0, ← h.1, changes_schema-alone b s)
 
-  pub bound_of-refused : (r : Refusal) → Stops (stops.Refused r) (objections_to db b s) → bound_of db b s ≡ Some (bound_to db b s (action.Refused r))
-  unfolding objections_to Stops
+  pub bound_of-refused : (r : Refusal) → Binds (Err (stop.Refused r)) db b s → bound_of db b s ≡ Some (bound_to db b s (action.Refused r))
+  unfolding Binds
   bound_of-refused r first = rw (unless_objected-refused r (objections db b s) (action_of db s) first, changes_schema-alone b s)
-
--- CREATE, which stands alone
-module _ (db : Database) (b : Bool) (name : List ℕ) (rules : List ColumnRule) (key : List (List ℕ)) where
-  pub table-inside : b ≡ true → (stop : StatementError) → Stops stop (MustBeAlone ∷ []) → Stops stop (objections_to db b (CreateTable name rules key))
-  unfolding objections_to
-  table-inside e stop h = rw e h
-
-  pub table-stops : b ≡ false → (stop : StatementError) → Stops stop (new_table_objections db name rules key) → Stops stop (objections_to db b (CreateTable name rules key))
-  unfolding objections_to
-  table-stops e stop h = rw e h
-
-  pub table-ok : b ≡ false → new_table_objections db name rules key ≡ [] → objections_to db b (CreateTable name rules key) ≡ []
-  unfolding objections_to
-  table-ok e none = rw e none
-
-  pub table-action : (made : Table) → made ≡ created_table name rules key → action_for db (CreateTable name rules key) ≡ Some (action.CreateTable made)
-  unfolding action_for
-  table-action made p = rw p
-
-module _ (db : Database) (b : Bool) (name : List ℕ) (index : List ℕ) (columns : List (List ℕ)) where
-  pub index-inside : b ≡ true → (stop : StatementError) → Stops stop (MustBeAlone ∷ []) → Stops stop (objections_to db b (CreateIndex index name columns))
-  unfolding objections_to
-  index-inside e stop h = rw e h
-
-  pub index-alone : b ≡ false → (stop : StatementError) → Stops stop (objections_to db false (CreateIndex index name columns)) → Stops stop (objections_to db b (CreateIndex index name columns))
-  index-alone e stop h = rw e h
-
-  pub index-alone_ok : b ≡ false → objections_to db false (CreateIndex index name columns) ≡ [] → objections_to db b (CreateIndex index name columns) ≡ []
-  index-alone_ok e none = rw e none
-
--- a MIGRATE that is not planned stands in a block
-pub migrate-inside : (db : Database) (b : Bool) (m : MigrateTree) → is_planned b (Migrate m) ≡ false → Stops (stops.Refused MustBeAlone) (objections_to db b (Migrate m))
-unfolding objections_to Stops
-migrate-inside db true m e = refl
-migrate-inside db false m e = absurd cc
-
--- what holds of each, holds of one
-pub at_ok : {I T : Type 0} (r : Result T StatementError) (found : I → List Refusal) (i : I) → OnOk r ((i : I) → found i ≡ []) → OnOk r (found i ≡ [])
-at_ok (Ok x) found i h = h i
-at_ok (Err e) found i h = h
-
-pub at_stops : {I T : Type 0} (r : Result T StatementError) (found : I → List Refusal) (i : I) → IfErr r (λ stop. (i : I) → Stops stop (found i)) → IfErr r (λ stop. Stops stop (found i))
-at_stops (Ok x) found i h = h
-at_stops (Err e) found i h = h i
-
-pub at_value : {I T : Type 0} (r : Result T StatementError) (made : I → Option T) (i : I) → IfOk r (λ x. (i : I) → made i ≡ Some x) → IfOk r (λ x. made i ≡ Some x)
-at_value (Ok x) made i h = h i
-at_value (Err e) made i h = h

@@ -1,5 +1,5 @@
 -- Tuples, whose values are of their columns' kinds.
-use Rattle.std.proofs.Common.{◌≡◌, true, false, List, [], ◌∷◌, length, eqb, eq-eqb, slice_get, Some, refl, inl, inr}
+use Rattle.std.proofs.Common.{◌≡◌, true, false, List, [], ◌∷◌, length, eqb, eq-eqb, Some, refl, inl, inr}
 use Rattle.std.specs.List.{flat_map, list_all, zip}
 use Rattle.std.proofs.lemmas.Bool.{cases_Bool}
 use Rattle.bf_base.specs.declared.table.Column.{Column}
@@ -7,6 +7,7 @@ use Rattle.bf_base.specs.declared.value.Value.{Value}
 use Rattle.bf_base.specs.declared.table.Table.{Table}
 use Rattle.bf_sql.specs.Objections.{literal_objections, tuple_objections}
 use Rattle.bf_bind.specs.Parts.{is_of_kind}
+use Rattle.bf_tree.specs.Settling.{first_of}
 use Rattle.bf_tree.specs.declared.reply.Refusal.{Refusal}
 use Rattle.bf_tree.specs.declared.reply.Refusal.TheVariants.{TypeMismatch}
 
@@ -22,7 +23,7 @@ none_misfits (p ∷ ps) all = elim (cases_Bool (is_of_kind p)) [
   | inr misfit ↦ let wrong : false ≡ true = rw misfit at all in absurd cc
 ]
 
-pub first_misfit : (ps : List (Column × Value)) → list_all is_of_kind ps ≡ false → slice_get (kinds_objections ps) 0 ≡ Some TypeMismatch
+pub first_misfit : (ps : List (Column × Value)) → list_all is_of_kind ps ≡ false → first_of (kinds_objections ps) ≡ Some TypeMismatch
 first_misfit [] some = absurd cc
 first_misfit (p ∷ ps) some = elim (cases_Bool (is_of_kind p)) [
   | inl fit ↦
@@ -38,5 +39,5 @@ module _ (table : Table) (tuple : List Value) (counted : length tuple ≡ length
   pub tuple_fits : list_all is_of_kind (zip table.columns tuple) ≡ true → tuple_objections table tuple ≡ []
   tuple_fits all = rw (long_enough, none_misfits (zip table.columns tuple) all)
 
-  pub tuple_misfits : list_all is_of_kind (zip table.columns tuple) ≡ false → slice_get (tuple_objections table tuple) 0 ≡ Some TypeMismatch
+  pub tuple_misfits : list_all is_of_kind (zip table.columns tuple) ≡ false → first_of (tuple_objections table tuple) ≡ Some TypeMismatch
   tuple_misfits some = rw long_enough (first_misfit (zip table.columns tuple) some)

@@ -1,29 +1,13 @@
--- The first of some objections, and walks over lists that stop at it.
-use Rattle.std.proofs.Common.{◌≡◌, ℕ, ◌+◌, ◌<◌, List, [], ◌∷◌, ◌++◌, length, get_or, take, drop, slice_get, Some, sym, ◌∙◌, subst}
+-- Walks over lists that stop at the first objection.
+use Rattle.std.proofs.Common.{◌≡◌, ℕ, ◌+◌, ◌<◌, List, [], ◌∷◌, ◌++◌, length, get_or, take, drop, Some, Result, Err, ap, sym, ◌∙◌}
 use Rattle.std.specs.List.{flat_map}
+use Rattle.std.specs.Result.{IsErrAnd}
 use Rattle.std.proofs.lemmas.List.{drop_more, take_more}
 use Rattle.bf_base.specs.Lists.{with_before, with_before_from}
+use Rattle.bf_tree.specs.Settling.{first_of, Settles}
 use Rattle.bf_tree.specs.declared.reply.Refusal.{Refusal}
 use Rattle.bf_tree.specs.declared.statement_error.StatementError.{StatementError}
-use Rattle.bf_tree.specs.declared.statement_error.StatementError.TheVariants.{Refused, Memory}
-use Rattle.bf_bind.specs.Stops.{Stops}
-
-first_of-append : (r : Refusal) (xs ys : List Refusal) → slice_get xs 0 ≡ Some r → slice_get (xs ++ ys) 0 ≡ Some r
-first_of-append r [] ys e = absurd cc
-first_of-append r (x ∷ xs) ys e = e
-
--- the first objection stays the first before others
-pub stops_before : (stop : StatementError) (xs ys : List Refusal) → Stops stop xs → Stops stop (xs ++ ys)
-unfolding Stops
-stops_before (Refused r) xs ys h = first_of-append r xs ys h
-stops_before Memory xs ys h = h
-
--- and behind none
-pub stops_behind : (stop : StatementError) (xs ys : List Refusal) → xs ≡ [] → Stops stop ys → Stops stop (xs ++ ys)
-stops_behind stop xs ys none h = rw none h
-
-pub none_of : (xs ys : List Refusal) → xs ≡ [] → ys ≡ [] → xs ++ ys ≡ []
-none_of xs ys none none_behind = rw (none, none_behind)
+use Rattle.bf_tree.proofs.Settling.{first_ahead, handed_on}
 
 module _ {X : Type 0} (f : List X × X → List Refusal) (xs : List X) where
   -- the objections that are left behind the first i items
@@ -36,11 +20,11 @@ module _ {X : Type 0} (f : List X × X → List Refusal) (xs : List X) where
   abbrev pub all : List Refusal
   all = flat_map f (with_before xs)
 
-  module _ (i : ℕ) (so_far : all ≡ left_behind i) where
-    pub walk_stops : (stop : StatementError) (x : X) (before : List X) → i < length xs → x ≡ get_or xs i x → before ≡ take i xs → Stops stop (f (before, x)) → Stops stop all
-    walk_stops stop x before in_range is same h =
-        let here : Stops stop (f (take i xs, x)) = rw (← same) h in
-        subst (Stops stop) (sym (so_far ∙ left_more i x in_range is)) (stops_before stop (f (take i xs, x)) (left_behind (i + 1)) here)
+  module _ (i : ℕ) (so_far : all ≡ left_behind i) (x : X) (in_range : i < length xs) (is : x ≡ get_or xs i x) where
+    pub walk_stops : {A B : Type 0} (result : Result B StatementError) (e : StatementError) (meant : A) (whole : B) → IsErrAnd result (λ given. given ≡ e) → Settles (Err e) (f (take i xs, x)) meant → Settles result all whole
+    walk_stops result e meant whole same here =
+        handed_on meant whole result e (f (take i xs, x)) all same here
+        (λ r first. ap first_of (so_far ∙ left_more i x in_range is) ∙ first_ahead (f (take i xs, x)) (left_behind (i + 1)) r first)
 
 module _ {X : Type 0} (f : X → List Refusal) (xs : List X) where
   abbrev pub left_from : ℕ → List Refusal
@@ -49,7 +33,8 @@ module _ {X : Type 0} (f : X → List Refusal) (xs : List X) where
   left_from_more : (i : ℕ) (x : X) → i < length xs → x ≡ get_or xs i x → left_from i ≡ f x ++ left_from (i + 1)
   left_from_more i x in_range is = rw (drop_more xs i x in_range, ← is)
 
-  module _ (i : ℕ) (so_far : flat_map f xs ≡ left_from i) where
-    pub pass_stops : (stop : StatementError) (x : X) → i < length xs → x ≡ get_or xs i x → Stops stop (f x) → Stops stop (flat_map f xs)
-    pass_stops stop x in_range is h =
-        subst (Stops stop) (sym (so_far ∙ left_from_more i x in_range is)) (stops_before stop (f x) (left_from (i + 1)) h)
+  module _ (i : ℕ) (so_far : flat_map f xs ≡ left_from i) (x : X) (in_range : i < length xs) (is : x ≡ get_or xs i x) where
+    pub pass_stops : {A B : Type 0} (result : Result B StatementError) (e : StatementError) (meant : A) (whole : B) → IsErrAnd result (λ given. given ≡ e) → Settles (Err e) (f x) meant → Settles result (flat_map f xs) whole
+    pass_stops result e meant whole same here =
+        handed_on meant whole result e (f x) (flat_map f xs) same here
+        (λ r first. ap first_of (so_far ∙ left_from_more i x in_range is) ∙ first_ahead (f x) (left_from (i + 1)) r first)

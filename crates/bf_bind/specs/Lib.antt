@@ -1,4 +1,3 @@
 pub mod Actions
 pub mod Limits
 pub mod Parts
-pub mod Stops

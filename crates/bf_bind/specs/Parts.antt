@@ -1,5 +1,6 @@
 -- Parts of the definitions, as the functions of this crate have them.
-use Rattle.std.specs.Prelude.{ℕ, Bool, false, not, ◌&&◌, ◌==◌, List, ◌++◌, map, slice_get, Option, Some, None}
+use Rattle.std.specs.Prelude.{ℕ, Bool, false, not, ◌&&◌, ◌==◌, List, [], ◌++◌, map, slice_get, Option, Some, None, Result, Ok, Err}
+use Rattle.std.specs.Global.{Box}
 use Rattle.std.specs.List.{filter_map}
 use Rattle.bf_base.specs.declared.value.Value.{Value}
 use Rattle.bf_base.specs.declared.table.Column.{Column}
@@ -9,39 +10,73 @@ use Rattle.bf_base.specs.Lists.{has, same_name, when}
 use Rattle.bf_base.specs.Tables.{kind_admitted, kind_of, same_kind}
 use Rattle.bf_tree.specs.Trees.{Expr, literal, column, Cond, expr_over, cond_over}
 use Rattle.bf_tree.specs.declared.raw.Ref.{Ref}
-use Rattle.bf_sql.specs.Bound.{items_over}
-use Rattle.bf_sql.specs.Conditions.{condition_of, conjuncts, fixed_key, value_fixed}
-use Rattle.bf_sql.specs.Meaning.{admit_of}
-use Rattle.bf_sql.specs.Scopes.{twice_objections}
-use Rattle.bf_sql.specs.Objections.{column_names, rule_names, form_objections, set_objections}
-use Rattle.bf_sql.specs.Scopes.{Scope, is_qualified_by, scope_of, place_of, admitted_by, unqualified, kind_in, expr_objections, kind_objections}
-use Rattle.bf_tree.specs.declared.bound.Action.{Action}
-use Rattle.bf_tree.specs.declared.bound.Action.TheVariants as action
-use Rattle.bf_tree.specs.declared.items.Items.{Items}
 use Rattle.bf_tree.specs.declared.reply.Refusal.{Refusal}
 use Rattle.bf_tree.specs.declared.reply.Refusal.TheVariants.{NoColumn}
 use Rattle.bf_tree.specs.declared.statement.ColumnRule.{ColumnRule}
+use Rattle.bf_tree.specs.declared.statement_error.StatementError.{StatementError}
+use Rattle.bf_sql.specs.Bound.{cond_in, place_in}
+use Rattle.bf_sql.specs.Conditions.{conjuncts, fixed_key, value_fixed}
+use Rattle.bf_sql.specs.Database.{Database, stored_at}
+use Rattle.bf_sql.specs.Meaning.{admit_of}
+use Rattle.bf_sql.specs.Objections.{column_names, rule_names, form_objections, set_objections, table_objections}
+use Rattle.bf_sql.specs.Scopes.{is_qualified_by, scope_of, admitted_by, kind_in, cond_objections, expr_objections, kind_objections, twice_objections}
 use Rattle.bf_bind.specs.declared.expression.BoundExpr.{BoundExpr}
+use Rattle.bf_bind.specs.declared.fixed.Selection.{Selection}
 use Rattle.bf_bind.specs.declared.scope.ColumnPlace.{ColumnPlace}
 
--- the column that a ref means, and the kind of its values
-abbrev pub column_of : Scope → Ref → ColumnPlace
-column_of scope ref = record { place = place_of scope ref; kind = kind_admitted (admitted_by scope ref) }
+-- what is seen of a value that was found, or why there is none
+abbrev pub seen_as : {A B : Type 0} → (A → B) → Result A StatementError → Result B StatementError
+seen_as see (Ok found) = Ok (see found)
+seen_as see (Err stop) = Err stop
 
--- whether a ref means a column of a table
-abbrev pub means : Table → Ref → Column → Bool
-means table ref c = same_name ref.column c.name && is_qualified_by ref.table table.name
+-- the values of two boxes
+abbrev pub unboxed : {A : Type 0} → Box A × Box A → A × A
+unboxed boxes = (boxes.0.value, boxes.1.value)
 
-abbrev pub bound_expr : Scope → Expr Ref → BoundExpr
-bound_expr scope e = record { expr = expr_over (place_of scope) e; kind = kind_in scope e }
+-- the table of a name has to be there
+abbrev pub absence_objections : Database → List ℕ → List Refusal
+absence_objections db name = table_objections (stored_at db name) name (λ table. [])
 
--- a node of two parts, which are of a kind
-abbrev pub parts_objections : Scope → Expr Ref → Expr Ref → Kind → List Refusal
-parts_objections scope a b kind = expr_objections scope a ++ expr_objections scope b ++ kind_objections scope a kind ++ kind_objections scope b kind
+abbrev pub set_names : List (List ℕ × Expr Ref) → List (List ℕ)
+set_names sets = map (λ set. set.0) sets
 
--- the name of a column, behind the names before
-abbrev pub name_objections : Table → List (List ℕ) → List ℕ → List Refusal
-name_objections table before name = when (not (has same_name (column_names table) name)) (NoColumn name) ++ twice_objections before name
+module _ (table : Table) where
+  -- the column that a ref means, and the kind of its values
+  abbrev pub column_of : Ref → ColumnPlace
+  column_of ref = record { place = place_in table ref; kind = kind_admitted (admitted_by (scope_of table) ref) }
+
+  -- whether a ref means a column of the table
+  abbrev pub means : Ref → Column → Bool
+  means ref c = same_name ref.column c.name && is_qualified_by ref.table table.name
+
+  abbrev pub bound_expr : Expr Ref → BoundExpr
+  bound_expr e = record { expr = expr_over (place_in table) e; kind = kind_in (scope_of table) e }
+
+  -- a node of two parts, which are of a kind
+  abbrev pub parts_objections : Expr Ref → Expr Ref → Kind → List Refusal
+  parts_objections a b kind =
+      expr_objections (scope_of table) a ++ expr_objections (scope_of table) b ++ kind_objections (scope_of table) a kind ++ kind_objections (scope_of table) b kind
+
+  abbrev pub bound_parts : Expr Ref → Expr Ref → Expr ℕ × Expr ℕ
+  bound_parts a b = (expr_over (place_in table) a, expr_over (place_in table) b)
+
+  -- the two sides of an AND or an OR
+  abbrev pub sides_objections : Cond Ref → Cond Ref → List Refusal
+  sides_objections c d = cond_objections (scope_of table) c ++ cond_objections (scope_of table) d
+
+  abbrev pub bound_sides : Cond Ref → Cond Ref → Cond ℕ × Cond ℕ
+  bound_sides c d = (cond_over (place_in table) c, cond_over (place_in table) d)
+
+  -- the name of a column, behind the names before
+  abbrev pub name_objections : List (List ℕ) → List ℕ → List Refusal
+  name_objections before name = when (not (has same_name (column_names table) name)) (NoColumn name) ++ twice_objections before name
+
+  -- a column that is set, behind those before
+  abbrev pub set_objections_of : List (List ℕ × Expr Ref) → List ℕ × Expr Ref → List Refusal
+  set_objections_of before set = set_objections table (set_names before) set.0 set.1
+
+  abbrev pub selection_of : Option (Cond Ref) → Selection
+  selection_of cond = record { cond = cond_in table cond; fixed = fixed_key table (cond_in table cond) }
 
 -- a column of a new table, behind those before
 abbrev pub rule_objections : List ColumnRule → ColumnRule → List Refusal
@@ -53,28 +88,6 @@ new_column rule = record { name = rule.name; admits = admit_of rule.form }
 -- whether a value is of its column's kind
 abbrev pub is_of_kind : Column × Value → Bool
 is_of_kind p = same_kind (kind_of p.1) (kind_admitted p.0.admits)
-
-abbrev pub set_names : List (List ℕ × Expr Ref) → List (List ℕ)
-set_names sets = map (λ set. set.0) sets
-
--- a column that is set, behind those before
-abbrev pub set_objections_of : Table → List (List ℕ × Expr Ref) → List ℕ × Expr Ref → List Refusal
-set_objections_of table before set = set_objections table (set_names before) set.0 set.1
-
-abbrev pub bound_set : Scope → List ℕ × Expr Ref → ℕ × Expr ℕ
-bound_set scope set = (place_of scope (unqualified set.0), expr_over (place_of scope) set.1)
-
-abbrev pub bound_cond : Table → Option (Cond Ref) → Cond ℕ
-bound_cond table cond = cond_over (place_of (scope_of table)) (condition_of cond)
-
-abbrev pub select_action : Table → Items (Expr Ref) → Option (Cond Ref) → Action
-select_action table list cond = action.Select table (items_over (place_of (scope_of table)) list) (bound_cond table cond) (fixed_key table (bound_cond table cond))
-
-abbrev pub update_action : Table → List (List ℕ × Expr Ref) → Option (Cond Ref) → Action
-update_action table sets cond = action.Update table (map (bound_set (scope_of table)) sets) (bound_cond table cond) (fixed_key table (bound_cond table cond))
-
-abbrev pub delete_action : Table → Option (Cond Ref) → Action
-delete_action table cond = action.Delete table (bound_cond table cond) (fixed_key table (bound_cond table cond))
 
 -- the value that the first conjunct which fixes a column fixes it to
 abbrev pub first_fixed : Cond ℕ → ℕ → Option Value

@@ -1,30 +1,33 @@
 //! Statements.
 
-ghost use Rattle.std.specs.Prelude.{◌≡◌, ◌≤◌, [], ◌∷◌, Bool, false, true, IfErr, IfOk, OnErr, OnOk, Some, length, not, ◌&&◌};
+ghost use Rattle.std.specs.Prelude.{◌≡◌, ◌≤◌, ◌++◌, ◌&&◌, false, not, IfOk, Some, flat_map, length, map};
 ghost use Rattle.bf_base.specs.Limits.{most_columns};
-ghost use Rattle.bf_sql.specs.Bound.{without_rows, bound_of, changes_schema as changes_schema_of};
-ghost use Rattle.bf_sql.specs.Database.{Database, IsDatabase};
+ghost use Rattle.bf_base.specs.Lists.{when};
+ghost use Rattle.bf_sql.specs.Bound.{without_rows, bound_of, changes_schema as changes_schema_of, cond_in, items_over, place_in, set_in};
+ghost use Rattle.bf_sql.specs.Conditions.{condition_of, fixed_key};
+ghost use Rattle.bf_sql.specs.Database.{IsDatabase, table_at};
+ghost use Rattle.bf_sql.specs.Objections.{items_objections, sets_objections, tuple_objections};
+ghost use Rattle.bf_sql.specs.Scopes.{cond_objections, scope_of};
+ghost use Rattle.bf_tree.specs.Limits.{HasNarrowTables, KeepsLimits};
+ghost use Rattle.bf_tree.specs.Settling.{Settles};
+ghost use Rattle.bf_tree.specs.declared.bound.Action.TheVariants as action;
 ghost use Rattle.bf_tree.specs.declared.reply.Refusal.TheVariants as refusal;
 ghost use Rattle.bf_tree.specs.declared.statement.Statement.TheVariants as statement;
-ghost use Rattle.bf_bind.specs.Actions.{action_for, objections_to};
-ghost use Rattle.bf_tree.specs.Limits.{HasNarrowTables, KeepsLimits};
+ghost use Rattle.bf_bind.specs.Actions.{Binds};
 ghost use Rattle.bf_bind.specs.Limits.{is_planned};
-ghost use Rattle.bf_bind.specs.Stops.{Stops};
+ghost use Rattle.bf_bind.specs.Parts.{absence_objections, seen_as};
 
-use crate::tuples_and_sets::{bind_sets, bind_tuples};
 use crate::create::{bind_index, bind_table};
 use crate::fixed::bind_selection;
 use crate::list::bind_items;
-use crate::lookup::expect_table;
-use bf_base::{Memory, Name, Row, Sequence};
+use crate::tuples_and_sets::{bind_sets, bind_tuples};
+use bf_base::{Memory, Name, Row, Sequence, Table};
 use bf_tree::{Action, Bound, Catalog, ColumnRule, List, RawCond, RawExpr, Refusal, Statement, StatementError};
 use std::alloc::Global;
 
 /// CREATE and MIGRATE stand outside a block.
 fn expect_alone(in_block: bool) -> Result<(), StatementError>
-    ensures ok { OnOk result (in_block ≡ false) }
-    ensures inside { OnErr result (in_block ≡ true) }
-    ensures stopped { IfErr result (λ stop. Stops stop (refusal.MustBeAlone ∷ [])) }
+    ensures { Settles result (when in_block refusal.MustBeAlone) tt }
 {
     if in_block {
         Err(StatementError::Refused(Refusal::MustBeAlone))
@@ -33,121 +36,98 @@ fn expect_alone(in_block: bool) -> Result<(), StatementError>
     }
 }
 
-fn bind_insert(
+/// The table of a name, which has to be there. It compares about log n names.
+fn expect_table<'a>(
     alloc: Global,
-    catalog: &Catalog,
+    catalog: &'a Catalog,
     name: &Name,
-    tuples: &Sequence<Row>,
-) -> Result<Action, StatementError>
+) -> Result<&'a Table, StatementError>
     requires database { IsDatabase (without_rows catalog.now) }
     requires narrow { HasNarrowTables catalog.now }
-    ensures ok { OnOk result ((in_block : Bool)
-        → objections_to (without_rows catalog.now) in_block (statement.Insert name.now tuples.now) ≡ []) }
-    ensures value { IfOk result (λ bound.
-        action_for (without_rows catalog.now) (statement.Insert name.now tuples.now) ≡ Some bound) }
-    ensures stopped { IfErr result (λ stop. (in_block : Bool)
-        → Stops stop (objections_to (without_rows catalog.now) in_block
-        (statement.Insert name.now tuples.now))) }
+    ensures table { Settles (seen_as (λ table. table.now) result)
+        (absence_objections (without_rows catalog.now) name.now)
+        (table_at (without_rows catalog.now) name.now) }
+    ensures narrow { IfOk result (λ table. length table.now.columns ≤ most_columns) }
 {
-    let found = expect_table(alloc, catalog, name)?;
-    let table = found.copy(alloc)?;
-    let rows = bind_tuples(alloc, found, tuples)?;
-    Ok(Action::Insert { table, rows })
+    match catalog.table(name) {
+        Some(table) => Ok(table),
+        None => Err(StatementError::Refused(Refusal::NoTable(name.copy(alloc)?))),
+    }
+}
+
+fn bind_insert(alloc: Global, table: &Table, tuples: &Sequence<Row>) -> Result<Action, StatementError>
+    ensures { Settles result (flat_map (tuple_objections table.now) tuples.now)
+        (action.Insert table.now tuples.now) }
+{
+    let copy = table.copy(alloc)?;
+    let rows = bind_tuples(alloc, table, tuples)?;
+    Ok(Action::Insert { table: copy, rows })
 }
 
 fn bind_select(
     alloc: Global,
-    catalog: &Catalog,
+    table: &Table,
     list: &List,
-    name: &Name,
     cond: &Option<RawCond>,
 ) -> Result<Action, StatementError>
-    requires database { IsDatabase (without_rows catalog.now) }
-    requires narrow { HasNarrowTables catalog.now }
-    ensures ok { OnOk result ((in_block : Bool)
-        → objections_to (without_rows catalog.now) in_block (statement.Select list.now name.now cond.now)
-        ≡ []) }
-    ensures value { IfOk result (λ bound.
-        action_for (without_rows catalog.now) (statement.Select list.now name.now cond.now) ≡ Some bound) }
-    ensures stopped { IfErr result (λ stop. (in_block : Bool)
-        → Stops stop (objections_to (without_rows catalog.now) in_block
-        (statement.Select list.now name.now cond.now))) }
+    requires { length table.now.columns ≤ most_columns }
+    ensures { Settles result (items_objections (scope_of table.now) list.now
+        ++ cond_objections (scope_of table.now) (condition_of cond.now))
+        (action.Select table.now (items_over (place_in table.now) list.now)
+        (cond_in table.now cond.now) (fixed_key table.now (cond_in table.now cond.now))) }
 {
-    let found = expect_table(alloc, catalog, name)?;
-    let table = found.copy(alloc)?;
-    let items = bind_items(alloc, found, list)?;
-    let picked = bind_selection(alloc, found, cond)?;
+    let copy = table.copy(alloc)?;
+    let items = bind_items(alloc, table, list)?;
+    let selection = bind_selection(alloc, table, cond)?;
     Ok(Action::Select {
-        table,
+        table: copy,
         items,
-        cond: picked.cond,
-        fixed: picked.fixed,
+        cond: selection.cond,
+        fixed: selection.fixed,
     })
 }
 
 fn bind_update(
     alloc: Global,
-    catalog: &Catalog,
-    name: &Name,
+    table: &Table,
     sets: &Sequence<(Name, RawExpr)>,
     cond: &Option<RawCond>,
 ) -> Result<Action, StatementError>
-    requires database { IsDatabase (without_rows catalog.now) }
-    requires narrow { HasNarrowTables catalog.now }
-    ensures ok { OnOk result ((in_block : Bool)
-        → objections_to (without_rows catalog.now) in_block (statement.Update name.now sets.now cond.now)
-        ≡ []) }
-    ensures value { IfOk result (λ bound.
-        action_for (without_rows catalog.now) (statement.Update name.now sets.now cond.now) ≡ Some bound) }
-    ensures stopped { IfErr result (λ stop. (in_block : Bool)
-        → Stops stop (objections_to (without_rows catalog.now) in_block
-        (statement.Update name.now sets.now cond.now))) }
+    requires { length table.now.columns ≤ most_columns }
+    ensures { Settles result (sets_objections table.now sets.now
+        ++ cond_objections (scope_of table.now) (condition_of cond.now))
+        (action.Update table.now (map (set_in table.now) sets.now)
+        (cond_in table.now cond.now) (fixed_key table.now (cond_in table.now cond.now))) }
 {
-    let found = expect_table(alloc, catalog, name)?;
-    let table = found.copy(alloc)?;
-    let bound = bind_sets(alloc, found, sets.as_slice())?;
-    let picked = bind_selection(alloc, found, cond)?;
+    let copy = table.copy(alloc)?;
+    let sets = bind_sets(alloc, table, sets.as_slice())?;
+    let selection = bind_selection(alloc, table, cond)?;
     Ok(Action::Update {
-        table,
-        sets: bound,
-        cond: picked.cond,
-        fixed: picked.fixed,
+        table: copy,
+        sets,
+        cond: selection.cond,
+        fixed: selection.fixed,
     })
 }
 
-fn bind_delete(
-    alloc: Global,
-    catalog: &Catalog,
-    name: &Name,
-    cond: &Option<RawCond>,
-) -> Result<Action, StatementError>
-    requires database { IsDatabase (without_rows catalog.now) }
-    requires narrow { HasNarrowTables catalog.now }
-    ensures ok { OnOk result ((in_block : Bool)
-        → objections_to (without_rows catalog.now) in_block (statement.Delete name.now cond.now) ≡ []) }
-    ensures value { IfOk result (λ bound.
-        action_for (without_rows catalog.now) (statement.Delete name.now cond.now) ≡ Some bound) }
-    ensures stopped { IfErr result (λ stop. (in_block : Bool)
-        → Stops stop (objections_to (without_rows catalog.now) in_block
-        (statement.Delete name.now cond.now))) }
+fn bind_delete(alloc: Global, table: &Table, cond: &Option<RawCond>) -> Result<Action, StatementError>
+    requires { length table.now.columns ≤ most_columns }
+    ensures { Settles result (cond_objections (scope_of table.now) (condition_of cond.now))
+        (action.Delete table.now (cond_in table.now cond.now)
+        (fixed_key table.now (cond_in table.now cond.now))) }
 {
-    let found = expect_table(alloc, catalog, name)?;
-    let table = found.copy(alloc)?;
-    let picked = bind_selection(alloc, found, cond)?;
+    let copy = table.copy(alloc)?;
+    let selection = bind_selection(alloc, table, cond)?;
     Ok(Action::Delete {
-        table,
-        cond: picked.cond,
-        fixed: picked.fixed,
+        table: copy,
+        cond: selection.cond,
+        fixed: selection.fixed,
     })
 }
 
 /// BEGIN stands outside a block.
 fn bind_begin(in_block: bool) -> Result<Action, StatementError>
-    ensures ok { OnOk result ((db : Database) → objections_to db in_block statement.Begin ≡ []) }
-    ensures value { IfOk result (λ bound. (db : Database)
-        → action_for db statement.Begin ≡ Some bound) }
-    ensures stopped { IfErr result (λ stop. (db : Database)
-        → Stops stop (objections_to db in_block statement.Begin)) }
+    ensures { Settles result (when in_block refusal.InTransaction) action.Begin }
 {
     if in_block {
         Err(StatementError::Refused(Refusal::InTransaction))
@@ -158,11 +138,7 @@ fn bind_begin(in_block: bool) -> Result<Action, StatementError>
 
 /// COMMIT stands inside a block.
 fn bind_commit(in_block: bool) -> Result<Action, StatementError>
-    ensures ok { OnOk result ((db : Database) → objections_to db in_block statement.Commit ≡ []) }
-    ensures value { IfOk result (λ bound. (db : Database)
-        → action_for db statement.Commit ≡ Some bound) }
-    ensures stopped { IfErr result (λ stop. (db : Database)
-        → Stops stop (objections_to db in_block statement.Commit)) }
+    ensures { Settles result (when (not in_block) refusal.NoTransaction) action.Commit }
 {
     if in_block {
         Ok(Action::Commit)
@@ -173,11 +149,7 @@ fn bind_commit(in_block: bool) -> Result<Action, StatementError>
 
 /// ROLLBACK stands inside a block.
 fn bind_rollback(in_block: bool) -> Result<Action, StatementError>
-    ensures ok { OnOk result ((db : Database) → objections_to db in_block statement.Rollback ≡ []) }
-    ensures value { IfOk result (λ bound. (db : Database)
-        → action_for db statement.Rollback ≡ Some bound) }
-    ensures stopped { IfErr result (λ stop. (db : Database)
-        → Stops stop (objections_to db in_block statement.Rollback)) }
+    ensures { Settles result (when (not in_block) refusal.NoTransaction) action.Rollback }
 {
     if in_block {
         Ok(Action::Rollback)
@@ -195,20 +167,13 @@ fn bind_create_table(
     in_block: bool,
 ) -> Result<Action, StatementError>
     requires database { IsDatabase (without_rows catalog.now) }
-    requires narrow { HasNarrowTables catalog.now }
     requires declared { length rules.now ≤ most_columns }
-    ensures ok { OnOk result (objections_to (without_rows catalog.now) in_block
-        (statement.CreateTable name.now rules.now key.now) ≡ []) }
-    ensures value { IfOk result (λ bound.
-        action_for (without_rows catalog.now) (statement.CreateTable name.now rules.now key.now)
-        ≡ Some bound) }
-    ensures stopped { IfErr result
-        (λ stop. Stops stop (objections_to (without_rows catalog.now) in_block
-        (statement.CreateTable name.now rules.now key.now))) }
+    ensures { Binds result (without_rows catalog.now) in_block
+        (statement.CreateTable name.now rules.now key.now) }
 {
     expect_alone(in_block)?;
-    let made = bind_table(alloc, catalog, name, rules.as_slice(), key.as_slice())?;
-    Ok(Action::CreateTable(made))
+    let table = bind_table(alloc, catalog, name, rules.as_slice(), key.as_slice())?;
+    Ok(Action::CreateTable(table))
 }
 
 fn bind_create_index(
@@ -221,19 +186,13 @@ fn bind_create_index(
 ) -> Result<Action, StatementError>
     requires database { IsDatabase (without_rows catalog.now) }
     requires narrow { HasNarrowTables catalog.now }
-    ensures ok { OnOk result (objections_to (without_rows catalog.now) in_block
-        (statement.CreateIndex name.now table.now columns.now) ≡ []) }
-    ensures value { IfOk result (λ bound.
-        action_for (without_rows catalog.now) (statement.CreateIndex name.now table.now columns.now)
-        ≡ Some bound) }
-    ensures stopped { IfErr result
-        (λ stop. Stops stop (objections_to (without_rows catalog.now) in_block
-        (statement.CreateIndex name.now table.now columns.now))) }
+    ensures { Binds result (without_rows catalog.now) in_block
+        (statement.CreateIndex name.now table.now columns.now) }
 {
     expect_alone(in_block)?;
-    let found = expect_table(alloc, catalog, table)?;
-    let made = bind_index(alloc, catalog, name, found, columns.as_slice())?;
-    Ok(Action::CreateIndex(made))
+    let table = expect_table(alloc, catalog, table)?;
+    let index = bind_index(alloc, catalog, name, table, columns.as_slice())?;
+    Ok(Action::CreateIndex(index))
 }
 
 /// What a statement is to do.
@@ -246,11 +205,7 @@ fn bind_action(
     requires alone { is_planned in_block statement.now ≡ false }
     requires database { IsDatabase (without_rows catalog.now) }
     requires limits { KeepsLimits catalog.now statement.now }
-    ensures ok { OnOk result (objections_to (without_rows catalog.now) in_block statement.now ≡ []) }
-    ensures value { IfOk result (λ bound.
-        action_for (without_rows catalog.now) statement.now ≡ Some bound) }
-    ensures stopped { IfErr result
-        (λ stop. Stops stop (objections_to (without_rows catalog.now) in_block statement.now)) }
+    ensures { Binds result (without_rows catalog.now) in_block statement.now }
 {
     match statement {
         Statement::CreateTable { name, columns, key } => {
@@ -261,10 +216,18 @@ fn bind_action(
             table,
             columns,
         } => bind_create_index(alloc, catalog, name, table, columns, in_block),
-        Statement::Insert { table, tuples } => bind_insert(alloc, catalog, table, tuples),
-        Statement::Select { list, table, cond } => bind_select(alloc, catalog, list, table, cond),
-        Statement::Update { table, sets, cond } => bind_update(alloc, catalog, table, sets, cond),
-        Statement::Delete { table, cond } => bind_delete(alloc, catalog, table, cond),
+        Statement::Insert { table, tuples } => {
+            bind_insert(alloc, expect_table(alloc, catalog, table)?, tuples)
+        }
+        Statement::Select { list, table, cond } => {
+            bind_select(alloc, expect_table(alloc, catalog, table)?, list, cond)
+        }
+        Statement::Update { table, sets, cond } => {
+            bind_update(alloc, expect_table(alloc, catalog, table)?, sets, cond)
+        }
+        Statement::Delete { table, cond } => {
+            bind_delete(alloc, expect_table(alloc, catalog, table)?, cond)
+        }
         Statement::Begin => bind_begin(in_block),
         Statement::Commit => bind_commit(in_block),
         Statement::Rollback => bind_rollback(in_block),

@@ -1,13 +1,14 @@
 //! Conditions.
 
-ghost use Rattle.std.specs.Prelude.{◌≡◌, ◌≤◌, ◌++◌, [], IfErr, IfOk, OnOk, length};
+ghost use Rattle.std.specs.Prelude.{◌≤◌, length};
 ghost use Rattle.bf_base.specs.Limits.{most_columns};
+ghost use Rattle.bf_tree.specs.Settling.{Settles};
 ghost use Rattle.bf_tree.specs.Trees.{between, compared, cond_over};
 ghost use Rattle.bf_tree.specs.Views.{operand_tree};
+ghost use Rattle.bf_sql.specs.Bound.{cond_in, place_in};
 ghost use Rattle.bf_sql.specs.Conditions.{condition_of};
-ghost use Rattle.bf_sql.specs.Scopes.{cond_objections, expr_objections, place_of, scope_of};
-ghost use Rattle.bf_bind.specs.Parts.{bound_expr};
-ghost use Rattle.bf_bind.specs.Stops.{Stops};
+ghost use Rattle.bf_sql.specs.Scopes.{cond_objections, expr_objections, scope_of};
+ghost use Rattle.bf_bind.specs.Parts.{bound_expr, bound_sides, seen_as, sides_objections, unboxed};
 
 use crate::expression::{BoundExpr, bind_column, bind_literal};
 use crate::scope::expect_kind;
@@ -18,12 +19,8 @@ use std::alloc::Global;
 /// A literal or a column, and its kind.
 fn bind_operand(alloc: Global, table: &Table, operand: &Operand) -> Result<BoundExpr, StatementError>
     requires { length table.now.columns ≤ most_columns }
-    ensures ok { OnOk result (expr_objections (scope_of table.now) (operand_tree operand.now)
-        ≡ []) }
-    ensures value { IfOk result (λ bound.
-        bound ≡ bound_expr (scope_of table.now) (operand_tree operand.now)) }
-    ensures stopped { IfErr result
-        (λ stop. Stops stop (expr_objections (scope_of table.now) (operand_tree operand.now))) }
+    ensures { Settles result (expr_objections (scope_of table.now) (operand_tree operand.now))
+        (bound_expr table.now (operand_tree operand.now)) }
 {
     match operand {
         Operand::Value(value) => bind_literal(alloc, value),
@@ -40,14 +37,10 @@ fn bind_comparison(
     b: &Operand,
 ) -> Result<Cond, StatementError>
     requires { length table.now.columns ≤ most_columns }
-    ensures ok { OnOk result (cond_objections (scope_of table.now)
-        (compared compare (operand_tree a.now) (operand_tree b.now)) ≡ []) }
-    ensures value { IfOk result (λ cond.
-        cond ≡ cond_over (place_of (scope_of table.now))
+    ensures { Settles result (cond_objections (scope_of table.now)
+        (compared compare (operand_tree a.now) (operand_tree b.now)))
+        (cond_over (place_in table.now)
         (compared compare (operand_tree a.now) (operand_tree b.now))) }
-    ensures stopped { IfErr result
-        (λ stop. Stops stop (cond_objections (scope_of table.now)
-        (compared compare (operand_tree a.now) (operand_tree b.now)))) }
 {
     let left = bind_operand(alloc, table, a)?;
     let right = bind_operand(alloc, table, b)?;
@@ -64,14 +57,10 @@ fn bind_between(
     high: &Operand,
 ) -> Result<Cond, StatementError>
     requires { length table.now.columns ≤ most_columns }
-    ensures ok { OnOk result (cond_objections (scope_of table.now)
-        (between (operand_tree a.now) (operand_tree low.now) (operand_tree high.now)) ≡ []) }
-    ensures value { IfOk result (λ cond.
-        cond ≡ cond_over (place_of (scope_of table.now))
+    ensures { Settles result (cond_objections (scope_of table.now)
+        (between (operand_tree a.now) (operand_tree low.now) (operand_tree high.now)))
+        (cond_over (place_in table.now)
         (between (operand_tree a.now) (operand_tree low.now) (operand_tree high.now))) }
-    ensures stopped { IfErr result
-        (λ stop. Stops stop (cond_objections (scope_of table.now)
-        (between (operand_tree a.now) (operand_tree low.now) (operand_tree high.now)))) }
 {
     let middle = bind_operand(alloc, table, a)?;
     let least = bind_operand(alloc, table, low)?;
@@ -88,10 +77,8 @@ fn bind_between(
 #[cycle(condition)]
 fn bind_test(alloc: Global, table: &Table, raw: &RawCond) -> Result<Cond, StatementError>
     requires { length table.now.columns ≤ most_columns }
-    ensures ok { OnOk result (cond_objections (scope_of table.now) raw.now ≡ []) }
-    ensures value { IfOk result (λ cond. cond ≡ cond_over (place_of (scope_of table.now)) raw.now) }
-    ensures stopped { IfErr result
-        (λ stop. Stops stop (cond_objections (scope_of table.now) raw.now)) }
+    ensures { Settles result (cond_objections (scope_of table.now) raw.now)
+        (cond_over (place_in table.now) raw.now) }
 {
     match raw.node() {
         RawTest::Compare(compare, a, b) => bind_comparison(alloc, table, *compare, a, b),
@@ -120,15 +107,8 @@ fn bind_sides(
     d: &RawCond,
 ) -> Result<(Box<Cond>, Box<Cond>), StatementError>
     requires { length table.now.columns ≤ most_columns }
-    ensures ok { OnOk result (cond_objections (scope_of table.now) c.now
-        ++ cond_objections (scope_of table.now) d.now ≡ []) }
-    ensures left { IfOk result (λ sides.
-        sides.0.value ≡ cond_over (place_of (scope_of table.now)) c.now) }
-    ensures right { IfOk result (λ sides.
-        sides.1.value ≡ cond_over (place_of (scope_of table.now)) d.now) }
-    ensures stopped { IfErr result
-        (λ stop. Stops stop (cond_objections (scope_of table.now) c.now
-        ++ cond_objections (scope_of table.now) d.now)) }
+    ensures { Settles (seen_as unboxed result) (sides_objections table.now c.now d.now)
+        (bound_sides table.now c.now d.now) }
 {
     let left = bind_test(alloc, table, c)?;
     let right = bind_test(alloc, table, d)?;
@@ -144,11 +124,8 @@ pub(crate) fn bind_condition(
     cond: &Option<RawCond>,
 ) -> Result<Cond, StatementError>
     requires { length table.now.columns ≤ most_columns }
-    ensures ok { OnOk result (cond_objections (scope_of table.now) (condition_of cond.now) ≡ []) }
-    ensures value { IfOk result (λ bound.
-        bound ≡ cond_over (place_of (scope_of table.now)) (condition_of cond.now)) }
-    ensures stopped { IfErr result
-        (λ stop. Stops stop (cond_objections (scope_of table.now) (condition_of cond.now))) }
+    ensures { Settles result (cond_objections (scope_of table.now) (condition_of cond.now))
+        (cond_in table.now cond.now) }
 {
     match cond {
         Some(cond) => bind_test(alloc, table, cond),

@@ -1,17 +1,15 @@
 //! New tables and indexes.
 
-ghost use Rattle.std.specs.Prelude.{◌≡◌, ◌≤◌, [], ◌++◌, IfErr, IfOk, OnOk, length, map};
+ghost use Rattle.std.specs.Prelude.{◌≡◌, ◌≤◌, length, map};
 ghost use Rattle.bf_base.specs.Limits.{most_columns};
 ghost use Rattle.bf_base.specs.Lists.{has, same_name};
+ghost use Rattle.bf_tree.specs.Settling.{Settles};
 ghost use Rattle.bf_sql.specs.Bound.{without_rows};
 ghost use Rattle.bf_sql.specs.Database.{IsDatabase};
 ghost use Rattle.bf_sql.specs.Meaning.{admit_of, index_of, created_table};
 ghost use Rattle.bf_sql.specs.Objections.{form_objections, new_index_objections, new_table_objections, rule_names, rules_objections};
-ghost use Rattle.bf_tree.specs.Limits.{HasNarrowTables};
 ghost use Rattle.bf_bind.specs.Parts.{new_column, rule_objections};
-ghost use Rattle.bf_bind.specs.Stops.{Stops};
 
-use crate::lookup::{has_index, table_named};
 use crate::scope::places_named;
 use bf_base::{Admit, Column, Name, Sequence, Table};
 use bf_tree::{Catalog, ColumnForm, ColumnRule, IndexRule, Refusal, StatementError};
@@ -19,9 +17,7 @@ use std::alloc::Global;
 
 /// What a column of a name admits by its form.
 fn admitted(alloc: Global, name: &Name, form: &ColumnForm) -> Result<Admit, StatementError>
-    ensures ok { OnOk result (form_objections name.now form.now ≡ []) }
-    ensures value { IfOk result (λ admit. admit ≡ admit_of form.now) }
-    ensures stopped { IfErr result (λ stop. Stops stop (form_objections name.now form.now)) }
+    ensures { Settles result (form_objections name.now form.now) (admit_of form.now) }
 {
     match form {
         ColumnForm::Int => Ok(Admit::Int),
@@ -53,9 +49,7 @@ fn is_declared(name: &Name, rules: &[ColumnRule]) -> bool
 
 /// A column of a new table, behind those before it.
 fn bind_rule(alloc: Global, before: &[ColumnRule], rule: &ColumnRule) -> Result<Column, StatementError>
-    ensures ok { OnOk result (rule_objections before.now rule.now ≡ []) }
-    ensures value { IfOk result (λ column. column ≡ new_column rule.now) }
-    ensures stopped { IfErr result (λ stop. Stops stop (rule_objections before.now rule.now)) }
+    ensures { Settles result (rule_objections before.now rule.now) (new_column rule.now) }
 {
     if is_declared(&rule.name, before) {
         return Err(StatementError::Refused(Refusal::NameTwice(rule.name.copy(alloc)?)));
@@ -66,9 +60,7 @@ fn bind_rule(alloc: Global, before: &[ColumnRule], rule: &ColumnRule) -> Result<
 }
 
 fn bind_rules(alloc: Global, rules: &[ColumnRule]) -> Result<Sequence<Column>, StatementError>
-    ensures ok { OnOk result (rules_objections rules.now ≡ []) }
-    ensures value { IfOk result (λ columns. columns ≡ map new_column rules.now) }
-    ensures stopped { IfErr result (λ stop. Stops stop (rules_objections rules.now)) }
+    ensures { Settles result (rules_objections rules.now) (map new_column rules.now) }
 {
     let mut columns = Vec::with_capacity(alloc, rules.len())?;
     for (index, rule) in rules.iter().enumerate() {
@@ -86,15 +78,12 @@ pub(crate) fn bind_table(
     key: &[Name],
 ) -> Result<Table, StatementError>
     requires database { IsDatabase (without_rows catalog.now) }
-    requires narrow { HasNarrowTables catalog.now }
     requires declared { length rules.now ≤ most_columns }
-    ensures ok { OnOk result (new_table_objections (without_rows catalog.now) name.now rules.now key.now
-        ≡ []) }
-    ensures value { IfOk result (λ table. table ≡ created_table name.now rules.now key.now) }
-    ensures stopped { IfErr result
-        (λ stop. Stops stop (new_table_objections (without_rows catalog.now) name.now rules.now key.now)) }
+    ensures { Settles result
+        (new_table_objections (without_rows catalog.now) name.now rules.now key.now)
+        (created_table name.now rules.now key.now) }
 {
-    if table_named(catalog, name).is_some() {
+    if catalog.table(name).is_some() {
         return Err(StatementError::Refused(Refusal::TableExists(name.copy(alloc)?)));
     }
     let columns = bind_rules(alloc, rules)?;
@@ -117,15 +106,12 @@ pub(crate) fn bind_index(
 ) -> Result<IndexRule, StatementError>
     requires database { IsDatabase (without_rows catalog.now) }
     requires narrow { length table.now.columns ≤ most_columns }
-    ensures ok { OnOk result (new_index_objections (without_rows catalog.now) name.now table.now columns.now
-        ≡ []) }
-    ensures value { IfOk result (λ index. index ≡ index_of name.now table.now columns.now) }
-    ensures stopped { IfErr result
-        (λ stop. Stops stop (new_index_objections
-        (without_rows catalog.now) name.now table.now columns.now)) }
+    ensures { Settles result
+        (new_index_objections (without_rows catalog.now) name.now table.now columns.now)
+        (index_of name.now table.now columns.now) }
 {
     let places = places_named(alloc, table, columns)?;
-    if has_index(catalog, name) {
+    if catalog.index(name).is_some() {
         return Err(StatementError::Refused(Refusal::IndexExists(name.copy(alloc)?)));
     }
     let name = name.copy(alloc)?;

@@ -1,14 +1,15 @@
 //! Expressions.
 
-ghost use Rattle.std.specs.Prelude.{◌≡◌, ◌≤◌, [], ◌++◌, IfErr, IfOk, OnOk, length};
+ghost use Rattle.std.specs.Prelude.{◌≡◌, ◌≤◌, [], ◌++◌, length};
 ghost use Rattle.bf_base.specs.Limits.{most_columns};
-ghost use Rattle.bf_base.specs.Tables.{kind_of};
+ghost use Rattle.bf_tree.specs.Settling.{Settles};
 ghost use Rattle.bf_tree.specs.Trees as trees;
 ghost use Rattle.bf_tree.specs.Trees.{expr_over};
 ghost use Rattle.bf_tree.specs.Views.{bound_tree};
-ghost use Rattle.bf_sql.specs.Scopes.{expr_objections, kind_in, kind_objections, place_of, ref_objections, scope_of};
-ghost use Rattle.bf_bind.specs.Parts.{bound_expr, parts_objections};
-ghost use Rattle.bf_bind.specs.Stops.{Stops};
+ghost use Rattle.bf_sql.specs.Bound.{place_in};
+ghost use Rattle.bf_sql.specs.Database.{no_table};
+ghost use Rattle.bf_sql.specs.Scopes.{expr_objections, kind_objections, ref_objections, scope_of};
+ghost use Rattle.bf_bind.specs.Parts.{bound_expr, bound_parts, parts_objections, seen_as, unboxed};
 
 use crate::scope::{column, expect_kind};
 use bf_base::{Kind, Table, Value};
@@ -36,9 +37,7 @@ impl BoundExpr {
 
 /// A literal.
 pub(crate) fn bind_literal(alloc: Global, value: &Value) -> Result<BoundExpr, StatementError>
-    ensures expr { IfOk result (λ bound. bound.expr ≡ trees.literal value.now) }
-    ensures kind { IfOk result (λ bound. bound.kind ≡ kind_of value.now) }
-    ensures stopped { IfErr result (λ stop. Stops stop []) }
+    ensures { Settles result [] (bound_expr no_table (trees.literal value.now)) }
 {
     Ok(BoundExpr::of(Node::Value(value.copy(alloc)?), value.kind()))
 }
@@ -49,11 +48,8 @@ pub(crate) fn bind_literal(alloc: Global, value: &Value) -> Result<BoundExpr, St
 /// The first objection to the ref.
 pub(crate) fn bind_column(alloc: Global, table: &Table, reference: &Ref) -> Result<BoundExpr, StatementError>
     requires { length table.now.columns ≤ most_columns }
-    ensures ok { OnOk result (ref_objections (scope_of table.now) reference.now ≡ []) }
-    ensures value { IfOk result (λ bound.
-        bound ≡ bound_expr (scope_of table.now) (trees.column reference.now)) }
-    ensures stopped { IfErr result
-        (λ stop. Stops stop (ref_objections (scope_of table.now) reference.now)) }
+    ensures { Settles result (ref_objections (scope_of table.now) reference.now)
+        (bound_expr table.now (trees.column reference.now)) }
 {
     let found = column(alloc, table, reference)?;
     Ok(BoundExpr::of(Node::Column(found.place), found.kind))
@@ -70,10 +66,8 @@ pub(crate) fn bind_expression(
     raw: &RawExpr,
 ) -> Result<BoundExpr, StatementError>
     requires { length table.now.columns ≤ most_columns }
-    ensures ok { OnOk result (expr_objections (scope_of table.now) raw.now ≡ []) }
-    ensures value { IfOk result (λ bound. bound ≡ bound_expr (scope_of table.now) raw.now) }
-    ensures stopped { IfErr result
-        (λ stop. Stops stop (expr_objections (scope_of table.now) raw.now)) }
+    ensures { Settles result (expr_objections (scope_of table.now) raw.now)
+        (bound_expr table.now raw.now) }
 {
     match raw.node() {
         RawNode::Value(value) => bind_literal(alloc, value),
@@ -105,13 +99,10 @@ pub(crate) fn bind_expression(
 #[cycle(expression)]
 fn bind_part(alloc: Global, table: &Table, a: &RawExpr, kind: Kind) -> Result<Box<Expr>, StatementError>
     requires { length table.now.columns ≤ most_columns }
-    ensures ok { OnOk result (expr_objections (scope_of table.now) a.now
-        ++ kind_objections (scope_of table.now) a.now kind ≡ []) }
-    ensures value { IfOk result (λ part.
-        part.value ≡ expr_over (place_of (scope_of table.now)) a.now) }
-    ensures stopped { IfErr result
-        (λ stop. Stops stop (expr_objections (scope_of table.now) a.now
-        ++ kind_objections (scope_of table.now) a.now kind)) }
+    ensures { Settles (seen_as (λ part. part.value) result)
+        (expr_objections (scope_of table.now) a.now
+        ++ kind_objections (scope_of table.now) a.now kind)
+        (expr_over (place_in table.now) a.now) }
 {
     let inner = bind_expression(alloc, table, a)?;
     expect_kind(inner.kind, kind)?;
@@ -128,13 +119,8 @@ fn bind_parts(
     kind: Kind,
 ) -> Result<(Box<Expr>, Box<Expr>), StatementError>
     requires { length table.now.columns ≤ most_columns }
-    ensures ok { OnOk result (parts_objections (scope_of table.now) a.now b.now kind ≡ []) }
-    ensures left { IfOk result (λ parts.
-        parts.0.value ≡ expr_over (place_of (scope_of table.now)) a.now) }
-    ensures right { IfOk result (λ parts.
-        parts.1.value ≡ expr_over (place_of (scope_of table.now)) b.now) }
-    ensures stopped { IfErr result
-        (λ stop. Stops stop (parts_objections (scope_of table.now) a.now b.now kind)) }
+    ensures { Settles (seen_as unboxed result) (parts_objections table.now a.now b.now kind)
+        (bound_parts table.now a.now b.now) }
 {
     let left = bind_expression(alloc, table, a)?;
     let right = bind_expression(alloc, table, b)?;

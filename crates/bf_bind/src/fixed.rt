@@ -1,13 +1,13 @@
 //! The rows that a condition selects, and the key that it fixes.
 
-ghost use Rattle.std.specs.Prelude.{◌≡◌, ◌≤◌, [], IfErr, IfOk, OnOk, length, option_copied};
+ghost use Rattle.std.specs.Prelude.{◌≡◌, ◌≤◌, IfOk, length, option_copied};
 ghost use Rattle.bf_base.specs.Limits.{most_columns};
-ghost use Rattle.bf_tree.specs.Trees.{compared, cond_over};
+ghost use Rattle.bf_tree.specs.Settling.{Settles};
+ghost use Rattle.bf_tree.specs.Trees.{compared};
 ghost use Rattle.bf_tree.specs.declared.compare.Compare.TheVariants as comparison;
 ghost use Rattle.bf_sql.specs.Conditions.{condition_of, fixed_key as fixed_key_of, value_fixed};
-ghost use Rattle.bf_sql.specs.Scopes.{cond_objections, place_of, scope_of};
-ghost use Rattle.bf_bind.specs.Stops.{Stops};
-ghost use Rattle.bf_bind.specs.Parts.{first_fixed as first_fixed_of, is_column_at, literal_of};
+ghost use Rattle.bf_sql.specs.Scopes.{cond_objections, scope_of};
+ghost use Rattle.bf_bind.specs.Parts.{first_fixed as first_fixed_of, is_column_at, literal_of, selection_of};
 
 use crate::condition::bind_condition;
 use bf_base::{Key, Memory, Table, Value};
@@ -92,12 +92,8 @@ pub(crate) fn bind_selection(
     raw: &Option<RawCond>,
 ) -> Result<Selection, StatementError>
     requires { length table.now.columns ≤ most_columns }
-    ensures ok { OnOk result (cond_objections (scope_of table.now) (condition_of raw.now) ≡ []) }
-    ensures cond { IfOk result (λ picked.
-        picked.cond ≡ cond_over (place_of (scope_of table.now)) (condition_of raw.now)) }
-    ensures fixed { IfOk result (λ picked. picked.fixed ≡ fixed_key_of table.now picked.cond) }
-    ensures stopped { IfErr result
-        (λ stop. Stops stop (cond_objections (scope_of table.now) (condition_of raw.now))) }
+    ensures { Settles result (cond_objections (scope_of table.now) (condition_of raw.now))
+        (selection_of table.now raw.now) }
 {
     let cond = bind_condition(alloc, table, raw)?;
     let fixed = fixed_key(alloc, table, &cond)?;

@@ -1,6 +1,6 @@
 //! Statements bound in a catalog: their tables and columns are looked up, and the first objection
 //! of the catalog stands in the action. Rows are not looked at.
-#![tactic(auto, unfolding(crate::specs::Stops::Stops))]
+#![tactic(auto)]
 
 pub mod binding;
 mod tuples_and_sets;
@@ -9,9 +9,6 @@ mod create;
 mod expression;
 mod fixed;
 mod list;
-mod lookup;
 mod scope;
-#[cfg(test)]
-mod tests;
 
 pub use binding::bind;

@@ -1,12 +1,12 @@
 //! What SELECT gives.
 
-ghost use Rattle.std.specs.Prelude.{◌≡◌, ◌≤◌, [], IfErr, IfOk, OnOk, flat_map, length, map};
+ghost use Rattle.std.specs.Prelude.{◌≤◌, flat_map, length, map};
 ghost use Rattle.bf_base.specs.Limits.{most_columns};
+ghost use Rattle.bf_tree.specs.Settling.{Settles};
 ghost use Rattle.bf_tree.specs.Trees.{expr_over};
-ghost use Rattle.bf_sql.specs.Bound.{items_over, total_over};
+ghost use Rattle.bf_sql.specs.Bound.{items_over, place_in, total_over};
 ghost use Rattle.bf_sql.specs.Objections.{items_objections};
-ghost use Rattle.bf_sql.specs.Scopes.{expr_objections, place_of, scope_of, total_objections};
-ghost use Rattle.bf_bind.specs.Stops.{Stops};
+ghost use Rattle.bf_sql.specs.Scopes.{expr_objections, scope_of, total_objections};
 
 use crate::expression::bind_expression;
 use crate::scope::expect_kind;
@@ -16,11 +16,8 @@ use std::alloc::Global;
 
 fn bind_expressions(alloc: Global, table: &Table, exprs: &[RawExpr]) -> Result<Sequence<Expr>, StatementError>
     requires { length table.now.columns ≤ most_columns }
-    ensures ok { OnOk result (flat_map (expr_objections (scope_of table.now)) exprs.now ≡ []) }
-    ensures value { IfOk result (λ bound.
-        bound ≡ map (expr_over (place_of (scope_of table.now))) exprs.now) }
-    ensures stopped { IfErr result
-        (λ stop. Stops stop (flat_map (expr_objections (scope_of table.now)) exprs.now)) }
+    ensures { Settles result (flat_map (expr_objections (scope_of table.now)) exprs.now)
+        (map (expr_over (place_in table.now)) exprs.now) }
 {
     let mut bound = Vec::with_capacity(alloc, exprs.len())?;
     for raw in exprs {
@@ -31,11 +28,8 @@ fn bind_expressions(alloc: Global, table: &Table, exprs: &[RawExpr]) -> Result<S
 
 fn bind_total(alloc: Global, table: &Table, total: &RawAggregate) -> Result<Aggregate, StatementError>
     requires { length table.now.columns ≤ most_columns }
-    ensures ok { OnOk result (total_objections (scope_of table.now) total.now ≡ []) }
-    ensures value { IfOk result (λ bound.
-        bound ≡ total_over (place_of (scope_of table.now)) total.now) }
-    ensures stopped { IfErr result
-        (λ stop. Stops stop (total_objections (scope_of table.now) total.now)) }
+    ensures { Settles result (total_objections (scope_of table.now) total.now)
+        (total_over (place_in table.now) total.now) }
 {
     match total {
         Aggregate::Count => Ok(Aggregate::Count),
@@ -55,11 +49,8 @@ fn bind_totals(
     totals: &[RawAggregate],
 ) -> Result<Sequence<Aggregate>, StatementError>
     requires { length table.now.columns ≤ most_columns }
-    ensures ok { OnOk result (flat_map (total_objections (scope_of table.now)) totals.now ≡ []) }
-    ensures value { IfOk result (λ bound.
-        bound ≡ map (total_over (place_of (scope_of table.now))) totals.now) }
-    ensures stopped { IfErr result
-        (λ stop. Stops stop (flat_map (total_objections (scope_of table.now)) totals.now)) }
+    ensures { Settles result (flat_map (total_objections (scope_of table.now)) totals.now)
+        (map (total_over (place_in table.now)) totals.now) }
 {
     let mut bound = Vec::with_capacity(alloc, totals.len())?;
     for total in totals {
@@ -74,11 +65,8 @@ fn bind_totals(
 /// The first objection, from the left.
 pub(crate) fn bind_items(alloc: Global, table: &Table, list: &List) -> Result<Items, StatementError>
     requires { length table.now.columns ≤ most_columns }
-    ensures ok { OnOk result (items_objections (scope_of table.now) list.now ≡ []) }
-    ensures value { IfOk result (λ items.
-        items ≡ items_over (place_of (scope_of table.now)) list.now) }
-    ensures stopped { IfErr result
-        (λ stop. Stops stop (items_objections (scope_of table.now) list.now)) }
+    ensures { Settles result (items_objections (scope_of table.now) list.now)
+        (items_over (place_in table.now) list.now) }
 {
     match list {
         Items::All => Ok(Items::All),

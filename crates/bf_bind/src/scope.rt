@@ -1,16 +1,17 @@
 //! Columns of a table, by refs and by names.
 
-ghost use Rattle.std.specs.Prelude.{◌≡◌, ◌≤◌, [], IfErr, IfOk, IfSome, OnOk, is_some, length, not, position, slice_range};
+ghost use Rattle.std.specs.Prelude.{◌≡◌, ◌≤◌, IfSome, is_some, length, not, position, slice_range};
 ghost use Rattle.std.specs.List.{list_any};
 ghost use Rattle.bf_base.specs.Limits.{most_columns};
 ghost use Rattle.bf_base.specs.Lists.{has, same_name, when};
 ghost use Rattle.bf_base.specs.Tables.{kind_admitted, same_kind};
+ghost use Rattle.bf_tree.specs.Settling.{Settles};
+ghost use Rattle.bf_sql.specs.Bound.{place_in};
 ghost use Rattle.bf_sql.specs.Objections.{column_names, names_objections};
 ghost use Rattle.bf_sql.specs.Meaning.{named_places};
 ghost use Rattle.bf_sql.specs.Scopes.{is_qualified_by, qualifier_objections, ref_objections, scope_of, unqualified};
 ghost use Rattle.bf_tree.specs.declared.reply.Refusal.TheVariants as refusal;
 ghost use Rattle.bf_bind.specs.Parts.{column_of, means, name_objections};
-ghost use Rattle.bf_bind.specs.Stops.{Stops};
 
 use bf_base::{Admit, Column, Kind, Name, Sequence, Table};
 use bf_tree::{Ref, Refusal, StatementError};
@@ -41,9 +42,7 @@ pub(crate) fn is_same_kind(a: Kind, b: Kind) -> bool
 
 /// A value of this kind stands where one of the other kind is wanted.
 pub(crate) fn expect_kind(found: Kind, wanted: Kind) -> Result<(), StatementError>
-    ensures ok { OnOk result (when (not (same_kind found wanted)) refusal.TypeMismatch ≡ []) }
-    ensures stopped { IfErr result
-        (λ stop. Stops stop (when (not (same_kind found wanted)) refusal.TypeMismatch)) }
+    ensures { Settles result (when (not (same_kind found wanted)) refusal.TypeMismatch) tt }
 {
     if is_same_kind(found, wanted) {
         Ok(())
@@ -71,9 +70,7 @@ fn is_qualifier(table: &Table, qualifier: &Name) -> bool
 
 /// The qualifier of a ref, if it has one, has to be the table's name.
 fn expect_qualifier(alloc: Global, table: &Table, qualifier: &Option<Name>) -> Result<(), StatementError>
-    ensures ok { OnOk result (qualifier_objections (scope_of table.now) qualifier.now ≡ []) }
-    ensures stopped { IfErr result
-        (λ stop. Stops stop (qualifier_objections (scope_of table.now) qualifier.now)) }
+    ensures { Settles result (qualifier_objections (scope_of table.now) qualifier.now) tt }
 {
     match qualifier {
         None => Ok(()),
@@ -121,10 +118,8 @@ fn is_meant_from(table: &Table, reference: &Ref, from: usize) -> bool
 /// The qualifier is not the table's name, or no column or more than one has the name.
 pub(crate) fn column(alloc: Global, table: &Table, reference: &Ref) -> Result<ColumnPlace, StatementError>
     requires { length table.now.columns ≤ most_columns }
-    ensures ok { OnOk result (ref_objections (scope_of table.now) reference.now ≡ []) }
-    ensures place { IfOk result (λ found. found ≡ column_of (scope_of table.now) reference.now) }
-    ensures stopped { IfErr result
-        (λ stop. Stops stop (ref_objections (scope_of table.now) reference.now)) }
+    ensures { Settles result (ref_objections (scope_of table.now) reference.now)
+        (column_of table.now reference.now) }
 {
     expect_qualifier(alloc, table, &reference.table)?;
     let Some(place) = first_meant(table, reference) else {
@@ -151,7 +146,7 @@ pub(crate) fn column_named(table: &Table, name: &Name) -> Option<ColumnPlace>
     requires { length table.now.columns ≤ most_columns }
     ensures there { is_some result ≡ has same_name (column_names table.now) name.now }
     ensures place { IfSome result
-        (λ found. found ≡ column_of (scope_of table.now) (unqualified name.now)) }
+        (λ found. found ≡ column_of table.now (unqualified name.now)) }
 {
     let columns = table.columns.as_slice();
     match first_named(columns, name) {
@@ -173,11 +168,8 @@ fn is_among(name: &Name, names: &[Name]) -> bool
 /// The place of a column by its name, which may not be one of those before.
 fn place_named(alloc: Global, table: &Table, before: &[Name], name: &Name) -> Result<u8, StatementError>
     requires { length table.now.columns ≤ most_columns }
-    ensures ok { OnOk result (name_objections table.now before.now name.now ≡ []) }
-    ensures place { IfOk result (λ place.
-        place ≡ (column_of (scope_of table.now) (unqualified name.now)).place) }
-    ensures stopped { IfErr result
-        (λ stop. Stops stop (name_objections table.now before.now name.now)) }
+    ensures { Settles result (name_objections table.now before.now name.now)
+        (place_in table.now (unqualified name.now)) }
 {
     let Some(found) = column_named(table, name) else {
         return Err(StatementError::Refused(Refusal::NoColumn(name.copy(alloc)?)));
@@ -199,10 +191,8 @@ pub(crate) fn places_named(
     names: &[Name],
 ) -> Result<Sequence<u8>, StatementError>
     requires { length table.now.columns ≤ most_columns }
-    ensures ok { OnOk result (names_objections (column_names table.now) names.now ≡ []) }
-    ensures places { IfOk result (λ places. places ≡ named_places table.now names.now) }
-    ensures stopped { IfErr result
-        (λ stop. Stops stop (names_objections (column_names table.now) names.now)) }
+    ensures { Settles result (names_objections (column_names table.now) names.now)
+        (named_places table.now names.now) }
 {
     let mut places = Vec::with_capacity(alloc, names.len())?;
     for (index, name) in names.iter().enumerate() {

@@ -1,13 +1,13 @@
 //! New rows, and the columns that UPDATE sets.
 
-ghost use Rattle.std.specs.Prelude.{◌≡◌, ◌≤◌, [], IfErr, IfOk, OnOk, flat_map, length, map, slice_index_or};
+ghost use Rattle.std.specs.Prelude.{◌≡◌, ◌≤◌, [], flat_map, length, map, slice_index_or};
 ghost use Rattle.std.specs.List.{list_all, zip};
 ghost use Rattle.bf_base.specs.Limits.{most_columns};
 ghost use Rattle.bf_base.specs.Lists.{has, same_name};
+ghost use Rattle.bf_tree.specs.Settling.{Settles};
+ghost use Rattle.bf_sql.specs.Bound.{set_in};
 ghost use Rattle.bf_sql.specs.Objections.{key_names, sets_objections, tuple_objections};
-ghost use Rattle.bf_sql.specs.Scopes.{scope_of};
-ghost use Rattle.bf_bind.specs.Parts.{bound_set, is_of_kind, set_names, set_objections_of};
-ghost use Rattle.bf_bind.specs.Stops.{Stops};
+ghost use Rattle.bf_bind.specs.Parts.{is_of_kind, set_names, set_objections_of};
 
 use crate::expression::bind_expression;
 use crate::scope::{column_named, expect_kind, is_same_kind, kind_of_column};
@@ -27,8 +27,7 @@ fn all_fit(columns: &[Column], values: &[Value]) -> bool
 
 /// A tuple has a value for each column of a table, of its kind.
 fn expect_tuple(table: &Table, tuple: &Row) -> Result<(), StatementError>
-    ensures ok { OnOk result (tuple_objections table.now tuple.now ≡ []) }
-    ensures stopped { IfErr result (λ stop. Stops stop (tuple_objections table.now tuple.now)) }
+    ensures { Settles result (tuple_objections table.now tuple.now) tt }
 {
     let columns = table.columns.as_slice();
     let values = tuple.as_slice();
@@ -51,10 +50,7 @@ pub(crate) fn bind_tuples(
     table: &Table,
     tuples: &Sequence<Row>,
 ) -> Result<Sequence<Row>, StatementError>
-    ensures ok { OnOk result (flat_map (tuple_objections table.now) tuples.now ≡ []) }
-    ensures value { IfOk result (λ rows. rows ≡ tuples.now) }
-    ensures stopped { IfErr result
-        (λ stop. Stops stop (flat_map (tuple_objections table.now) tuples.now)) }
+    ensures { Settles result (flat_map (tuple_objections table.now) tuples.now) tuples.now }
 {
     for tuple in tuples.as_slice() {
         expect_tuple(table, tuple)?;
@@ -101,10 +97,8 @@ fn bind_set(
     set: &(Name, RawExpr),
 ) -> Result<(u8, Expr), StatementError>
     requires { length table.now.columns ≤ most_columns }
-    ensures ok { OnOk result (set_objections_of table.now before.now set.now ≡ []) }
-    ensures value { IfOk result (λ bound. bound ≡ bound_set (scope_of table.now) set.now) }
-    ensures stopped { IfErr result
-        (λ stop. Stops stop (set_objections_of table.now before.now set.now)) }
+    ensures { Settles result (set_objections_of table.now before.now set.now)
+        (set_in table.now set.now) }
 {
     let name = &set.0;
     let Some(column) = column_named(table, name) else {
@@ -132,9 +126,8 @@ pub(crate) fn bind_sets(
     sets: &[(Name, RawExpr)],
 ) -> Result<Sequence<(u8, Expr)>, StatementError>
     requires { length table.now.columns ≤ most_columns }
-    ensures ok { OnOk result (sets_objections table.now sets.now ≡ []) }
-    ensures value { IfOk result (λ bound. bound ≡ map (bound_set (scope_of table.now)) sets.now) }
-    ensures stopped { IfErr result (λ stop. Stops stop (sets_objections table.now sets.now)) }
+    ensures { Settles result (sets_objections table.now sets.now)
+        (map (set_in table.now) sets.now) }
 {
     let mut bound = Vec::with_capacity(alloc, sets.len())?;
     for (index, set) in sets.iter().enumerate() {

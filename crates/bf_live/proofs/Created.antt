@@ -20,9 +20,9 @@ use Rattle.bf_heap.specs.Heaps.{Rows, empty_heap}
 use Rattle.bf_tree.specs.declared.catalog.Catalog.{Catalog}
 use Rattle.bf_sql.specs.Database.{Database, IsDatabase, Stored, no_table, stored_at, stored_in_order, with_tables}
 use Rattle.bf_sql.specs.Meaning.{next_number}
-use Rattle.bf_live.specs.Places.{IsBehind}
+use Rattle.bf_tree.specs.Places.{IsBehind}
 use Rattle.bf_live.specs.Live.{AreLiveTables, IsUnderOwnKeys, database_of, stored}
-use Rattle.bf_live.proofs.ByName.{placed_behind}
+use Rattle.bf_tree.proofs.ByName.{placed_behind}
 use Rattle.bf_live.proofs.Held.{held, name_of, stored_held, length-zipped}
 
 zip-insert : {X Y : Type 0} (xs : List X) (ys : List Y) (i : ℕ) (x : X) (y : Y) → length ys ≡ length xs → zip (insert xs i x) (insert ys i y) ≡ insert (zip xs ys) i (x, y)

@@ -1,4 +1,4 @@
--- The tests' live tables is a database, and the writes keep it one.
+-- The tests' live tables are a database, and the writes keep it one.
 use Rattle.std.proofs.Common.{◌≡◌, ℕ, ℤ, List, [], ◌∷◌, None, refl, sym, ap₂, subst}
 use Rattle.std.specs.Prelude.{pos, negsuc}
 use Rattle.std.specs.List.{All}

@@ -13,23 +13,14 @@ use Rattle.bf_heap.specs.Heaps.{Rows}
 use Rattle.bf_query.specs.Meanings.{entries_of}
 use Rattle.bf_tree.specs.declared.catalog.Catalog.{Catalog}
 use Rattle.bf_sql.specs.Database.{Database, Stored, no_table, stored_at}
-use Rattle.bf_live.specs.Places.{AreByName, IsPlaceOf}
+use Rattle.bf_tree.specs.Places.{AreByName, IsPlaceOf}
+use Rattle.bf_tree.proofs.ByName.{no_match, other_name}
 use Rattle.bf_live.specs.Live.{AreLiveTables, IsUnderOwnKeys, catalog_of, database_of, stored}
-
-pub other_name : (a b : List ℕ) → (a ≡ b → ⊥) → same_name a b ≡ false
-other_name a b apart = elim (cases_Bool (same_name a b)) [
-  | inl same ↦ absurd (apart ((name_ties a b).0 (equal_from_test _ (sym (same_name-tie a b) ∙ same))))
-  | inr other ↦ other
-]
-
-no_match : {X : Type 0} (test : X → Bool) (xs : List X) → ((i : ℕ) (x : X) → i < length xs → test (get_or xs i x) ≡ false) → find test xs ≡ None
-no_match test [] none = refl
-no_match test (x ∷ xs) none = rw (none 0 x (omega arith)) (no_match test xs (λ i d below. none (suc i) d (omega arith)))
 
 abbrev pub name_of : Stored → List ℕ
 name_of s = s.table.name
 
--- the tables of a live tables
+-- the tables of live tables
 abbrev pub held : List Table → List Rows → List Stored
 held tables heaps = map stored (zip tables heaps)
 

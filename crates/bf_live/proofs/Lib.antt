@@ -1,4 +1,3 @@
-mod ByName
 mod Committed
 mod Created
 mod Fixtures

@@ -19,7 +19,7 @@ use Rattle.bf_sql.specs.Database.{no_table}
 use Rattle.bf_txn.specs.declared.write.Write.{Write}
 use Rattle.bf_txn.specs.Writes.{writes_to}
 use Rattle.bf_live.specs.Commits.{AreWritten, HasRoom, HaveRoomFor, HaveRoomSoFar, put_by, puts}
-use Rattle.bf_live.specs.Places.{IsPlaceOf}
+use Rattle.bf_tree.specs.Places.{IsPlaceOf}
 
 is_same : (a b : List ℕ) → a ≡ b → same_name a b ≡ true
 is_same a b same = same_name-tie a b ∙ ap is_eq ((name_ties a b).1 same)

@@ -1,4 +1,4 @@
--- What a live tables holds: a catalog, and a heap for each of its tables.
+-- What live tables hold: a catalog, and a heap for each of its tables.
 use Rattle.std.specs.Prelude.{◌≡◌, List, length, map, zip}
 use Rattle.std.specs.List.{All}
 use Rattle.bf_base.specs.declared.table.Table.{Table}
@@ -20,7 +20,7 @@ database_of catalog heaps = record { number = catalog.number; tables = map store
 abbrev pub IsUnderOwnKeys : Table × Rows → Type 0
 IsUnderOwnKeys held = held.1.entries ≡ entries_of held.0 (stored held).rows
 
--- what is true of each live tables
+-- what is true of live tables
 pub record AreLiveTables (catalog : Catalog) (heaps : List Rows) : Type 0 where
   pub one_each : length heaps ≡ length catalog.tables
   pub under_own_keys : All IsUnderOwnKeys (zip catalog.tables heaps)

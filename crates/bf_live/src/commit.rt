@@ -3,11 +3,11 @@
 ghost use Rattle.std.specs.Prelude.{◌≡◌, ◌≤◌, ◌+◌, OnOk, count_by, is_some, length, map};
 ghost use Rattle.bf_query.specs.Merged.{applied};
 ghost use Rattle.bf_live.specs.Commits.{AreWritten, HaveRoomFor, entries_in, put_by};
-ghost use Rattle.bf_live.specs.Places.{AreByName};
+ghost use Rattle.bf_tree.specs.Places.{AreByName};
 
-use crate::places::place_near;
-use bf_base::{Memory, Table};
+use bf_base::Memory;
 use bf_heap::Heap;
+use bf_tree::Catalog;
 use bf_txn::{Workspace, Write};
 
 /// The number of writes that put a row, in time linear in their number. Takes no memory.
@@ -17,20 +17,20 @@ fn count_puts(writes: &[Box<Write>]) -> usize
     writes.iter().filter(|write| write.row.is_some()).count()
 }
 
-/// Makes room in each table's heap for the rows that a transaction has put there. It looks a table up
-/// once for all writes to it that follow one another.
+/// Makes room in each table's heap for the rows that a transaction has put there. It looks a table
+/// up once for all writes to it that follow one another.
 ///
 /// # Errors
 /// Where memory runs out. The heaps have their rows then, and may have more room.
-pub fn make_room(tables: &[Table], heaps: &mut [Heap], writes: &Workspace) -> Result<(), Memory>
-    requires one_each { length heaps.old ≡ length tables.now }
-    requires by_name { AreByName tables.now }
+pub fn make_room(catalog: &Catalog, heaps: &mut [Heap], writes: &Workspace) -> Result<(), Memory>
+    requires one_each { length heaps.old ≡ length catalog.now.tables }
+    requires by_name { AreByName catalog.now.tables }
     ensures entries { entries_in heaps.new ≡ entries_in heaps.old }
-    ensures room { OnOk result (HaveRoomFor writes.now tables.now heaps.new) }
+    ensures room { OnOk result (HaveRoomFor writes.now catalog.now.tables heaps.new) }
 {
     let mut last = None;
     for write in writes.as_slice() {
-        let place = place_near(tables, last, &write.table);
+        let place = catalog.place_near(last, &write.table);
         if place == last {
             continue;
         }
@@ -65,15 +65,17 @@ fn change(heap: &mut Heap, write: Write)
 
 /// Makes each write in its table's heap, and passes over those to tables that are not there. It
 /// looks a table up once for all writes to it that follow one another. Takes no memory.
-pub fn apply(tables: &[Table], heaps: &mut [Heap], writes: Vec<Box<Write>>)
-    requires one_each { length heaps.old ≡ length tables.now }
-    requires by_name { AreByName tables.now }
-    requires room { HaveRoomFor (map (λ write. write.value) writes.items) tables.now heaps.old }
-    ensures { AreWritten (map (λ write. write.value) writes.items) tables.now heaps.old heaps.new }
+pub fn apply(catalog: &Catalog, heaps: &mut [Heap], writes: Vec<Box<Write>>)
+    requires one_each { length heaps.old ≡ length catalog.now.tables }
+    requires by_name { AreByName catalog.now.tables }
+    requires room { HaveRoomFor (map (λ write. write.value) writes.items) catalog.now.tables
+        heaps.old }
+    ensures { AreWritten (map (λ write. write.value) writes.items) catalog.now.tables
+        heaps.old heaps.new }
 {
     let mut last = None;
     for write in writes {
-        let place = place_near(tables, last, &write.table);
+        let place = catalog.place_near(last, &write.table);
         if let Some(place) = place {
             change(&mut heaps[place], Box::into_inner(write));
         }

@@ -3,7 +3,6 @@
 
 mod commit;
 pub mod laws;
-mod places;
 pub mod live_tables;
 #[cfg(test)]
 mod tests;

@@ -10,7 +10,6 @@ ghost use Rattle.bf_sql.specs.Meaning.{next_number, with_index};
 ghost use Rattle.bf_live.specs.Live.{catalog_of, committed};
 
 use crate::commit::{apply, make_room};
-use crate::places::{index_place, place_of, table_place};
 use bf_base::{Memory, Name, Sequence, Table};
 use bf_heap::Heap;
 use bf_tree::{Catalog, IndexRule};
@@ -68,14 +67,14 @@ impl LiveTables {
         ensures { option_map (λ heap. heap.now.entries) result
             ≡ option_map (λ s. entries_of s.table s.rows) (stored_at self.now table.now) }
     {
-        let place = place_of(self.catalog.tables.as_slice(), table)?;
+        let place = self.catalog.place_of(table)?;
         Some(&self.heaps[place])
     }
 
     /// Adds a table without rows, and counts a schema change. It moves the tables behind it.
     ///
     /// # Errors
-    /// Where memory runs out, or 2 ^ 64 schema changes were made. The live tables is as it was then.
+    /// Where memory runs out, or 2 ^ 64 schema changes were made. The live tables are as they were then.
     pub fn create_table(&mut self, table: Table) -> Result<(), Memory>
         requires fresh { stored_at self.old table.name ≡ None }
         requires database { IsDatabase
@@ -85,7 +84,7 @@ impl LiveTables {
         ensures err { OnErr result (self.new ≡ self.old) }
     {
         let number = self.catalog.number.checked_add(1).ok_or(Memory)?;
-        let place = table_place(self.catalog.tables.as_slice(), &table.name);
+        let place = self.catalog.table_place(&table.name);
         self.heaps.reserve(1)?;
         self.catalog.tables.insert(place, table)?;
         self.heaps.insert(place, Heap::new(self.alloc)).unwrap();
@@ -97,14 +96,14 @@ impl LiveTables {
     /// built.
     ///
     /// # Errors
-    /// Where memory runs out, or 2 ^ 64 schema changes were made. The live tables is as it was then.
+    /// Where memory runs out, or 2 ^ 64 schema changes were made. The live tables are as they were then.
     pub fn create_index(&mut self, index: IndexRule) -> Result<(), Memory>
         requires database { IsDatabase (next_number (with_index index self.old)) }
         ensures ok { OnOk result (self.new ≡ next_number (with_index index self.old)) }
         ensures err { OnErr result (self.new ≡ self.old) }
     {
         let number = self.catalog.number.checked_add(1).ok_or(Memory)?;
-        let place = index_place(self.catalog.indexes.as_slice(), &index.name);
+        let place = self.catalog.index_place(&index.name);
         self.catalog.indexes.insert(place, index)?;
         self.catalog.number = number;
         Ok(())
@@ -116,7 +115,7 @@ impl LiveTables {
     /// what is left of it stays as room for later rows.
     ///
     /// # Errors
-    /// Where memory runs out. The live tables is as it was then.
+    /// Where memory runs out. The live tables are as they were then.
     pub fn commit(&mut self, writes: Workspace) -> Result<(), Memory>
         requires own_keys { All (λ s. StandUnderOwnKeys s.table (entries_of s.table s.rows) writes)
             self.old.tables }
@@ -124,9 +123,8 @@ impl LiveTables {
         ensures ok { OnOk result (self.new ≡ committed self.old writes) }
         ensures err { OnErr result (self.new ≡ self.old) }
     {
-        let tables = self.catalog.tables.as_slice();
-        make_room(tables, &mut self.heaps, &writes)?;
-        apply(tables, &mut self.heaps, writes.into_writes());
+        make_room(&self.catalog, &mut self.heaps, &writes)?;
+        apply(&self.catalog, &mut self.heaps, writes.into_writes());
         Ok(())
     }
 }

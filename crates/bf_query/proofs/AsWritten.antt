@@ -153,26 +153,26 @@ module _ (commit : ℕ) (db : Database) (in_block : Bool) where
     set_place n = place_of (scope_of on_table) (unqualified n)
 
     abbrev fixed_by : Option (Cond Ref) → Option (List Value)
-    fixed_by c = fixed_key on_table (cond_in db name c)
+    fixed_by c = fixed_key on_table (cond_in on_table c)
 
     abbrev select_of : Items (Expr Ref) → Option (Cond Ref) → Action
-    select_of list c = action.Select on_table (items_over (place_in db name) list) (cond_in db name c) (fixed_by c)
+    select_of list c = action.Select on_table (items_over (place_in on_table) list) (cond_in on_table c) (fixed_by c)
 
     abbrev update_of : List (List ℕ × Expr Ref) → Option (Cond Ref) → Action
-    update_of sets c = action.Update on_table (map (set_in db name) sets) (cond_in db name c) (fixed_by c)
+    update_of sets c = action.Update on_table (map (set_in on_table) sets) (cond_in on_table c) (fixed_by c)
 
     abbrev delete_of : Option (Cond Ref) → Action
-    delete_of c = action.Delete on_table (cond_in db name c) (fixed_by c)
+    delete_of c = action.Delete on_table (cond_in on_table c) (fixed_by c)
 
-    seen : (c : Option (Cond Ref)) → selected cell (cond_in db name c) rows ≡ selected read (condition_of c) rows
-    seen c = selected-over (place_in db name) (condition_of c) rows
+    seen : (c : Option (Cond Ref)) → selected cell (cond_in on_table c) rows ≡ selected read (condition_of c) rows
+    seen c = selected-over (place_in on_table) (condition_of c) rows
 
     select_means : (list : Items (Expr Ref)) (c : Option (Cond Ref)) → objections db in_block (statement.Select list name c) ≡ [] → on_table.name ≡ name
         → SelectMeansWhatIsWritten commit db in_block (statement.Select list name c) (select_of list c) on_table
     select_means list c none named =
-        let to = place_in db name in
+        let to = place_in on_table in
         let s = statement.Select list name c in
-        let same : selected cell (cond_in db name c) (table_rows db on_table.name) ≡ selected read (condition_of c) rows = ap (λ (n : List ℕ). selected cell (cond_in db name c) (table_rows db n)) named ∙ seen c in (
+        let same : selected cell (cond_in on_table c) (table_rows db on_table.name) ≡ selected read (condition_of c) rows = ap (λ (n : List ℕ). selected cell (cond_in on_table c) (table_rows db n)) named ∙ seen c in (
           ap₂ (λ (rs : List Refusal) (told : List (List Cell)). Some (actions.unless_refused rs (reply.Rows told)))
               (ap (answer_objections cell (items_over to list)) same ∙ answer_objections-over to list (selected read (condition_of c) rows))
               (ap (answer_of cell (items_over to list)) same ∙ answer_of-over to list (selected read (condition_of c) rows))
@@ -190,7 +190,7 @@ module _ (commit : ℕ) (db : Database) (in_block : Bool) where
     update_objects : (sets : List (List ℕ × Expr Ref)) (c : Option (Cond Ref)) → objections_on rows (update_of sets c) ≡ row_objections db (statement.Update name sets c)
     update_objects sets c =
         ap₂ (λ (f : List Value → List Refusal) (rs : List (List Value)). flat_map f rs)
-        (fun_ext (change_objections-over (place_in db name) set_place (admitted_at on_table) (λ n. admitted_by (scope_of on_table) (unqualified n)) same_admit sets))
+        (fun_ext (change_objections-over (place_in on_table) set_place (admitted_at on_table) (λ n. admitted_by (scope_of on_table) (unqualified n)) same_admit sets))
         (seen c)
       where
         same_admit : (n : List ℕ) → admitted_at on_table (set_place n) ≡ admitted_by (scope_of on_table) (unqualified n)
@@ -236,19 +236,19 @@ module _ (commit : ℕ) (db : Database) (in_block : Bool) where
       update_makes : (sets : List (List ℕ × Expr Ref)) (c : Option (Cond Ref)) → objections db in_block (statement.Update name sets c) ≡ []
           → ChangeMakesWhatIsWritten commit db in_block (statement.Update name sets c) (update_of sets c) on_table entries writes
       update_makes sets c none =
-          let same : map (λ row. if holds_on (cell row) (cond_in db name c) then changed cell (λ place. place) (map (set_in db name) sets) row else row) rows
+          let same : map (λ row. if holds_on (cell row) (cond_in on_table c) then changed cell (λ place. place) (map (set_in on_table) sets) row else row) rows
           ≡ map (λ row. if holds_on (read row) (condition_of c) then changed read set_place sets row else row) rows =
-          ap (λ (f : List Value → List Value). map f rows) (fun_ext (λ row. ap₂ (λ (b : Bool) (new : List Value). if b then new else row) (holds_on-cond_over (cell row) (place_in db name) (condition_of c)) (changed-over (place_in db name) set_place sets row))) in
+          ap (λ (f : List Value → List Value). map f rows) (fun_ext (λ row. ap₂ (λ (b : Bool) (new : List Value). if b then new else row) (holds_on-cond_over (cell row) (place_in on_table) (condition_of c)) (changed-over (place_in on_table) set_place sets row))) in
           makes (statement.Update name sets c) (update_of sets c) (reply.Updated (length (selected read (condition_of c) rows))) (map (λ row. if holds_on (read row) (condition_of c) then changed read set_place sets row else row) rows) none refl (update_objects sets c)
-          (λ _. updated on_table rows db entries writes hold held (map (set_in db name) sets) (cond_in db name c) (fixed_by c) ∙ same)
+          (λ _. updated on_table rows db entries writes hold held (map (set_in on_table) sets) (cond_in on_table c) (fixed_by c) ∙ same)
 
       delete_makes : (c : Option (Cond Ref)) → objections db in_block (statement.Delete name c) ≡ []
           → ChangeMakesWhatIsWritten commit db in_block (statement.Delete name c) (delete_of c) on_table entries writes
       delete_makes c none =
-          let same : filter (λ row. not (holds_on (cell row) (cond_in db name c))) rows ≡ filter (λ row. not (holds_on (read row) (condition_of c))) rows =
-          ap (λ (f : List Value → Bool). filter f rows) (fun_ext (λ row. ap not (holds_on-cond_over (cell row) (place_in db name) (condition_of c)))) in
+          let same : filter (λ row. not (holds_on (cell row) (cond_in on_table c))) rows ≡ filter (λ row. not (holds_on (read row) (condition_of c))) rows =
+          ap (λ (f : List Value → Bool). filter f rows) (fun_ext (λ row. ap not (holds_on-cond_over (cell row) (place_in on_table) (condition_of c)))) in
           makes (statement.Delete name c) (delete_of c) (reply.Deleted (length (selected read (condition_of c) rows))) (filter (λ row. not (holds_on (read row) (condition_of c))) rows) none refl refl
-          (λ _. deleted on_table rows db entries writes hold held (cond_in db name c) (fixed_by c) ∙ same)
+          (λ _. deleted on_table rows db entries writes hold held (cond_in on_table c) (fixed_by c) ∙ same)
 
   pub select_law : (s : Statement) (act : Action) (table : Table) → IsBoundAs db in_block s act → IsSelect act → action_table act ≡ Some table → SelectMeansWhatIsWritten commit db in_block s act table
   select_law (statement.Select list name c) act table bound is on =

@@ -232,7 +232,7 @@ module _ (db : Database) (in_block : Bool) where
       let there = update_found db in_block name sets c bound.admitted in
       let none = nothing_before (sets_objections table sets) _ there.nothing in
       let apart = sets_apart table [] sets none.0 in
-      subst LeavesKeys (same_Some _ act bound.action) (list_all-map (λ (set : ℕ × Expr ℕ). not (has nat_eq table.key set.0)) (set_in db name) sets ∙ apart)
+      subst LeavesKeys (same_Some _ act bound.action) (list_all-map (λ (set : ℕ × Expr ℕ). not (has nat_eq table.key set.0)) (set_in (table_at db name)) sets ∙ apart)
   leaves_keys (statement.Migrate migrate) act bound = absurd cc
   leaves_keys other act bound = subst LeavesKeys (same_Some _ act bound.action) tt
 

@@ -1,5 +1,6 @@
 -- What a statement is bound to in a catalog: its table, and places in a row for refs.
 use Rattle.std.specs.Prelude.{ℕ, Bool, false, not, List, [], ◌∷◌, map, Option, Some, None, option_map}
+use Rattle.bf_base.specs.declared.table.Table.{Table}
 use Rattle.bf_tree.specs.Trees.{Expr, Cond, expr_over, cond_over}
 use Rattle.bf_tree.specs.declared.raw.Ref.{Ref}
 use Rattle.bf_tree.specs.declared.items.Aggregate.{Aggregate}
@@ -36,10 +37,10 @@ module _ {R S : Type 0} (to : R → S) where
   items_over (Exprs exprs) = Exprs (map (expr_over to) exprs)
   items_over (Aggregates totals) = Aggregates (map total_over totals)
 
-module _ (db : Database) (table : List ℕ) where
-  -- the place of a column in a row of the table of a name
+module _ (table : Table) where
+  -- the place of a column in a row of a table
   abbrev pub place_in : Ref → ℕ
-  place_in = place_of (scope_of (table_at db table))
+  place_in = place_of (scope_of table)
 
   abbrev pub cond_in : Option (Cond Ref) → Cond ℕ
   cond_in cond = cond_over place_in (condition_of cond)
@@ -53,13 +54,13 @@ action_of db (CreateTable name rules key) = Some (action.CreateTable (created_ta
 action_of db (CreateIndex name table columns) = Some (action.CreateIndex (index_of name (table_at db table) columns))
 action_of db (Insert table tuples) = Some (action.Insert (table_at db table) tuples)
 action_of db (Select list table cond) =
-    let bound = cond_in db table cond in
-    Some (action.Select (table_at db table) (items_over (place_in db table) list) bound (fixed_key (table_at db table) bound))
+    let bound = cond_in (table_at db table) cond in
+    Some (action.Select (table_at db table) (items_over (place_in (table_at db table)) list) bound (fixed_key (table_at db table) bound))
 action_of db (Update table sets cond) =
-    let bound = cond_in db table cond in
-    Some (action.Update (table_at db table) (map (set_in db table) sets) bound (fixed_key (table_at db table) bound))
+    let bound = cond_in (table_at db table) cond in
+    Some (action.Update (table_at db table) (map (set_in (table_at db table)) sets) bound (fixed_key (table_at db table) bound))
 action_of db (Delete table cond) =
-    let bound = cond_in db table cond in
+    let bound = cond_in (table_at db table) cond in
     Some (action.Delete (table_at db table) bound (fixed_key (table_at db table) bound))
 action_of db Begin = Some action.Begin
 action_of db Commit = Some action.Commit

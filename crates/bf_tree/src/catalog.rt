@@ -1,6 +1,7 @@
 //! The catalog: what a database has beside its rows.
 
-ghost use Rattle.std.specs.Prelude.{◌≡◌, IfOk};
+ghost use Rattle.std.specs.Prelude.{◌≡◌, ◌≤◌, IfOk, length, option_copied};
+ghost use Rattle.bf_tree.specs.Places.{AreByName, AreIndexesByName, IsBehind, IsIndexPlace, IsPlaceOf, index_named, table_named};
 
 use bf_base::{Memory, Name, Sequence, Table, TryClone};
 use std::alloc::Global;
@@ -56,5 +57,77 @@ impl Catalog {
             tables,
             indexes,
         })
+    }
+
+    /// The place of the table of a name, and `None` exactly where no table has it. It compares
+    /// about log n names, and takes no memory.
+    pub fn place_of(&self, name: &Name) -> Option<usize>
+        requires { AreByName self.now.tables }
+        ensures { IsPlaceOf self.now.tables name.now result }
+    {
+        self.tables
+            .as_slice()
+            .binary_search_by(|table| table.name.compare(name))
+            .ok()
+    }
+
+    /// `place_of`, which compares one name where the table is at the place to look at first, and
+    /// else about log n names. Takes no memory.
+    pub fn place_near(&self, near: Option<usize>, name: &Name) -> Option<usize>
+        requires { AreByName self.now.tables }
+        ensures { IsPlaceOf self.now.tables name.now result }
+    {
+        if let Some(place) = near
+            && let Some(table) = self.tables.as_slice().get(place)
+            && table.name.compare(name).is_eq()
+        {
+            return near;
+        }
+        self.place_of(name)
+    }
+
+    /// The table of a name. It compares about log n names, and takes no memory.
+    pub fn table(&self, name: &Name) -> Option<&Table>
+        requires { AreByName self.now.tables }
+        ensures { option_copied result ≡ table_named self.now name.now }
+    {
+        let place = self.place_of(name)?;
+        Some(&self.tables.as_slice()[place])
+    }
+
+    /// Where a new table goes, behind those whose names are not greater. It compares about log n
+    /// names, and takes no memory.
+    pub fn table_place(&self, name: &Name) -> usize
+        requires { AreByName self.now.tables }
+        ensures bound { result ≤ length self.now.tables }
+        ensures place { IsBehind name.now self.now.tables result }
+    {
+        self.tables
+            .as_slice()
+            .partition_point(|table| table.name.compare(name).is_le())
+    }
+
+    /// The index rule of a name. It compares about log n names, and takes no memory.
+    pub fn index(&self, name: &Name) -> Option<&IndexRule>
+        requires { AreIndexesByName self.now.indexes }
+        ensures { option_copied result ≡ index_named self.now name.now }
+    {
+        let indexes = self.indexes.as_slice();
+        match indexes.binary_search_by(|index| index.name.compare(name)) {
+            Ok(place) => Some(&indexes[place]),
+            Err(_) => None,
+        }
+    }
+
+    /// Where a new index rule goes, behind those whose names are not greater. It compares about
+    /// log n names, and takes no memory.
+    pub fn index_place(&self, name: &Name) -> usize
+        requires { AreIndexesByName self.now.indexes }
+        ensures bound { result ≤ length self.now.indexes }
+        ensures place { IsIndexPlace name.now self.now.indexes result }
+    {
+        self.indexes
+            .as_slice()
+            .partition_point(|index| index.name.compare(name).is_le())
     }
 }

@@ -144,8 +144,8 @@ module _ (commit : ℕ) (db : Database) (in_block : Bool) (database : IsDatabase
       → IsDatabase (executed commit db in_block (statement.Update name sets c)).1
   keeps_update sets c none =
       let s = statement.Update name sets c in
-      let cond = cond_in db name c in
-      let places = map (set_in db name) sets in
+      let cond = cond_in (table_at db name) c in
+      let places = map (set_in (table_at db name)) sets in
       let act = action.Update table places cond (fixed_key table cond) in
       let bound : IsBoundAs db in_block s act = record { database = database; admitted = none; action = refl } in
       let before = filtered (IsAdmitted table) (λ row. holds_on (cell row) cond) held (rows_admitted_before commit db in_block s act table bound tt refl) in
@@ -157,7 +157,7 @@ module _ (commit : ℕ) (db : Database) (in_block : Bool) (database : IsDatabase
       → IsDatabase (executed commit db in_block (statement.Delete name c)).1
   keeps_delete c none =
       let s = statement.Delete name c in
-      let cond = cond_in db name c in
+      let cond = cond_in (table_at db name) c in
       let act = action.Delete table cond (fixed_key table cond) in
       let bound : IsBoundAs db in_block s act = record { database = database; admitted = none; action = refl } in
       keeps_change commit db in_block s act table bound tt refl (λ fine. removals_admitted table (selected cell cond held))

@@ -1,17 +1,33 @@
-use Rattle.std.proofs.lemmas.Result.{err_from_is_err_and}
-use Rattle.bf_sql.specs.Bound.{without_rows}
-use Rattle.bf_bind.proofs.Creating.{free_name, new_table-stops, new_table-unobjected}
+use Rattle.std.proofs.Common.{false, true, rules, Some, sym, ap, ◌∙◌}
+use Rattle.bf_base.specs.declared.name.Name.{Name}
+use Rattle.bf_tree.specs.Settling.{first_of}
+use Rattle.bf_tree.specs.declared.reply.Refusal.TheVariants.{TableExists}
+use Rattle.bf_tree.proofs.Settling.{first_ahead, handed_on}
+use Rattle.bf_bind.proofs.Creating.{copied_some, stored_some, table_free, table_keyed, table_taken}
+use Rattle.bf_bind.proofs.Lookups.{tables_by_name}
 use Rattle.bf_bind.proofs.create.bind_table.Goals as goal
 
-pub returns-in_err-table-clause-stopped : goal.returns-in_err-table-clause-stopped
-returns-in_err-table-clause-stopped c =
-    let p = err_from_is_err_and c.from_residual-in_err-table.result c.from_residual-in_err-table.ensures.1 in
-    let free = free_name c.table_named.result _ c.table_named.ensures.stored c.if-is_some.ensures in
-    let made = c.in_ok-columns.ensures in
-    rw (p.1, p.2) (new_table-stops (without_rows c.args.catalog.now) c.args.name.now c.args.rules.now c.args.key.now c.in_ok-columns.columns free made.ok made.value c.in_err-table.field-0.0 c.in_err-table.ensures.stopped)
+pub table-requires : goal.table-requires
+table-requires c = tables_by_name c.args.catalog.now c.requires.database
 
-pub returns-clause-ok : goal.returns-clause-ok
-returns-clause-ok c =
-    let free = free_name c.table_named.result _ c.table_named.ensures.stored c.if-is_some.ensures in
-    let made = c.in_ok-columns.ensures in
-    new_table-unobjected (without_rows c.args.catalog.now) c.args.name.now c.args.rules.now c.args.key.now c.in_ok-columns.columns free made.ok made.value c.in_ok-table.ensures.ok
+pub returns-then-is_some : goal.returns-then-is_some
+returns-then-is_some c =
+    let taken = stored_some c.args.catalog.now c.args.name.now true (copied_some c.table.result _ c.table.ensures true c.if-is_some.ensures) in
+    rw c.in_ok-copy.ensures (table_taken c.args.catalog.now c.args.name.now c.args.rules.now c.args.key.now taken)
+
+pub returns-in_err-columns : goal.returns-in_err-columns
+returns-in_err-columns c =
+    let free = stored_some c.args.catalog.now c.args.name.now false (copied_some c.table.result _ c.table.ensures false c.if-is_some.ensures) in
+    handed_on _ _ _ c.in_err-columns.field-0.0 _ _ c.from_residual-in_err-columns.ensures.1 c.in_err-columns.ensures
+    (λ r first. ap first_of (table_free c.args.catalog.now c.args.name.now c.args.rules.now c.args.key.now free) ∙ first_ahead _ _ r first)
+
+pub returns-in_err-table : goal.returns-in_err-table
+returns-in_err-table c =
+    let free = stored_some c.args.catalog.now c.args.name.now false (copied_some c.table.result _ c.table.ensures false c.if-is_some.ensures) in
+    handed_on _ _ _ c.in_err-table.field-0.0 _ _ c.from_residual-in_err-table.ensures.1 c.in_err-table.ensures
+    (λ r first. ap first_of (table_keyed c.args.catalog.now c.args.name.now c.args.rules.now c.args.key.now free c.in_ok-columns.columns c.in_ok-columns.ensures) ∙ first)
+
+pub returns : goal.returns
+returns c =
+    let free = stored_some c.args.catalog.now c.args.name.now false (copied_some c.table.result _ c.table.ensures false c.if-is_some.ensures) in
+    (table_keyed c.args.catalog.now c.args.name.now c.args.rules.now c.args.key.now free c.in_ok-columns.columns c.in_ok-columns.ensures ∙ c.in_ok-table.ensures.0, search rules)

@@ -4,14 +4,14 @@ use Rattle.std.proofs.lemmas.List.{map_push}
 use Rattle.bf_query.specs.Merged.{applied}
 use Rattle.bf_txn.specs.declared.write.Write.{Write}
 use Rattle.bf_live.specs.Commits.{AreWritten, HaveRoomFor, put_by}
-use Rattle.bf_live.specs.Places.{IsPlaceOf}
+use Rattle.bf_tree.specs.Places.{IsPlaceOf}
 use Rattle.bf_live.proofs.Written.{changed, passed, place_within, room_for, room_left, room_stays}
 use Rattle.bf_live.proofs.commit.apply.Goals as goal
 
 pub change-requires : goal.change-requires
 change-requires c =
     let opened = λ (box : Box Write Global). box.value in
-    let tables = c.args.tables.now in
+    let tables = c.args.catalog.now.tables in
     let heaps = c.loop-write.heaps in
     let inv = c.loop-write.invariant in
     let write : Write = c.in-Some.write.value in
@@ -28,7 +28,7 @@ change-requires c =
 pub loop-write-preserved-in-Some-place : goal.loop-write-preserved-in-Some-place
 loop-write-preserved-in-Some-place c =
     let opened = λ (box : Box Write Global). box.value in
-    let tables = c.args.tables.now in
+    let tables = c.args.catalog.now.tables in
     let heaps = c.loop-write.heaps in
     let inv = c.loop-write.invariant in
     let write : Write = c.in-Some.write.value in
@@ -58,7 +58,7 @@ loop-write-preserved-in-Some-place c =
 pub loop-write-preserved : goal.loop-write-preserved
 loop-write-preserved c =
     let opened = λ (box : Box Write Global). box.value in
-    let tables = c.args.tables.now in
+    let tables = c.args.catalog.now.tables in
     let heaps = c.loop-write.heaps in
     let inv = c.loop-write.invariant in
     let write : Write = c.in-Some.write.value in

@@ -16,7 +16,7 @@ loop-write-preserved-then-eq c =
     let opened = λ (box : Box Write Global). box.value in
     let boxes = c.as_slice-write-items.result.now in
     let all = c.args.writes.now in
-    let tables = c.args.tables.now in
+    let tables = c.args.catalog.now.tables in
     let heaps = c.loop-write.heaps in
     let inv = c.loop-write.invariant in
     let first = map opened (take c.loop-write.write-index boxes) in
@@ -37,7 +37,7 @@ loop-write-preserved c =
     let opened = λ (box : Box Write Global). box.value in
     let boxes = c.as_slice-write-items.result.now in
     let all = c.args.writes.now in
-    let tables = c.args.tables.now in
+    let tables = c.args.catalog.now.tables in
     let heaps = c.loop-write.heaps in
     let inv = c.loop-write.invariant in
     let first = map opened (take c.loop-write.write-index boxes) in
@@ -78,4 +78,4 @@ returns-clause-room c i table heap in_range =
     let opened = λ (box : Box Write Global). box.value in
     let boxes = c.as_slice-write-items.result.now in
     let all : map opened (take c.loop-write.write-index boxes) ≡ c.args.writes.now = ap (map opened) (take_all c.loop-write.write-index boxes c.loop-write-test.false) ∙ c.as_slice-write-items.ensures.writes in
-    all_have_room c.args.writes.now c.args.tables.now c.loop-write.heaps (subst (λ (first : List Write). HaveRoomSoFar first c.args.writes.now c.args.tables.now c.loop-write.heaps) all c.loop-write.invariant.room) i table heap in_range
+    all_have_room c.args.writes.now c.args.catalog.now.tables c.loop-write.heaps (subst (λ (first : List Write). HaveRoomSoFar first c.args.writes.now c.args.catalog.now.tables c.loop-write.heaps) all c.loop-write.invariant.room) i table heap in_range

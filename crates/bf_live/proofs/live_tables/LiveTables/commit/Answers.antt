@@ -5,17 +5,17 @@ use Rattle.bf_base.specs.declared.table.Table.{Table}
 use Rattle.bf_heap.specs.Heaps.{Rows}
 use Rattle.bf_txn.specs.declared.write.Write.{Write}
 use Rattle.bf_live.specs.Commits.{AreWritten, entries_in}
-use Rattle.bf_live.specs.Places.{AreByName}
+use Rattle.bf_tree.specs.Places.{AreByName}
 use Rattle.bf_live.specs.Live.{AreLiveTables, database_of}
 use Rattle.bf_live.proofs.Committed.{on_error, store_committed, store_roomy, view_committed, view_roomy}
 use Rattle.bf_live.proofs.Held.{by_name}
 use Rattle.bf_live.proofs.live_tables.LiveTables.commit.Goals as goal
 
 pub make_room-requires-clause-by_name : goal.make_room-requires-clause-by_name
-make_room-requires-clause-by_name c = subst AreByName (sym c.as_slice-tables.ensures) (by_name c.self.inside.catalog c.self.inside.heaps.items c.self.invariant)
+make_room-requires-clause-by_name c = by_name c.self.inside.catalog c.self.inside.heaps.items c.self.invariant
 
 pub apply-requires-clause-by_name : goal.apply-requires-clause-by_name
-apply-requires-clause-by_name c = subst AreByName (sym c.as_slice-tables.ensures) (by_name c.self.inside.catalog c.self.inside.heaps.items c.self.invariant)
+apply-requires-clause-by_name c = by_name c.self.inside.catalog c.self.inside.heaps.items c.self.invariant
 
 -- room that was made before an error changes no row
 pub invariant_of-self : goal.invariant_of-self
@@ -39,8 +39,7 @@ invariant_of-self-2 c =
     let heaps_are : c.deref_mut-2.result.now ≡ c.make_room.new.heaps = c.deref_mut-2.ensures.value ∙ roomy_is in
     let written : AreWritten c.args.writes c.self.inside.catalog.tables c.make_room.new.heaps c.apply.new.heaps =
     subst (λ (writes : List Write). AreWritten writes c.self.inside.catalog.tables c.make_room.new.heaps c.apply.new.heaps) c.into_writes.ensures.writes
-    (subst (λ (heaps : List Rows). AreWritten (map (λ (box : Box Write Global). box.value) c.into_writes.result.items) c.self.inside.catalog.tables heaps c.apply.new.heaps) heaps_are
-    (subst (λ (tables : List Table). AreWritten (map (λ (box : Box Write Global). box.value) c.into_writes.result.items) tables c.deref_mut-2.result.now c.apply.new.heaps) c.as_slice-tables.ensures c.apply.ensures)) in
+    (subst (λ (heaps : List Rows). AreWritten (map (λ (box : Box Write Global). box.value) c.into_writes.result.items) c.self.inside.catalog.tables heaps c.apply.new.heaps) heaps_are c.apply.ensures) in
     subst (AreLiveTables c.self.inside.catalog) (sym now_is) (store_committed c.self.inside.catalog c.self.inside.heaps.items c.self.invariant c.args.self.now c.self.view_is c.make_room.new.heaps same c.args.writes c.apply.new.heaps written c.requires.own_keys c.requires.database)
 
 pub returns-clause-ok : goal.returns-clause-ok
@@ -51,6 +50,5 @@ returns-clause-ok c =
     let heaps_are : c.deref_mut-2.result.now ≡ c.make_room.new.heaps = c.deref_mut-2.ensures.value ∙ roomy_is in
     let written : AreWritten c.args.writes c.self.inside.catalog.tables c.make_room.new.heaps c.apply.new.heaps =
     subst (λ (writes : List Write). AreWritten writes c.self.inside.catalog.tables c.make_room.new.heaps c.apply.new.heaps) c.into_writes.ensures.writes
-    (subst (λ (heaps : List Rows). AreWritten (map (λ (box : Box Write Global). box.value) c.into_writes.result.items) c.self.inside.catalog.tables heaps c.apply.new.heaps) heaps_are
-    (subst (λ (tables : List Table). AreWritten (map (λ (box : Box Write Global). box.value) c.into_writes.result.items) tables c.deref_mut-2.result.now c.apply.new.heaps) c.as_slice-tables.ensures c.apply.ensures)) in
+    (subst (λ (heaps : List Rows). AreWritten (map (λ (box : Box Write Global). box.value) c.into_writes.result.items) c.self.inside.catalog.tables heaps c.apply.new.heaps) heaps_are c.apply.ensures) in
     ap (database_of c.self.inside.catalog) now_is ∙ view_committed c.self.inside.catalog c.self.inside.heaps.items c.self.invariant c.args.self.now c.self.view_is c.make_room.new.heaps same c.args.writes c.apply.new.heaps written

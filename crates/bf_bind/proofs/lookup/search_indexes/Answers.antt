@@ -1,9 +1,0 @@
-use Rattle.std.proofs.Common.{rules}
-use Rattle.std.proofs.lemmas.Fn.{always_returns_same}
-use Rattle.bf_base.specs.Lists.{name_cmp}
-use Rattle.bf_bind.proofs.lookup.search_indexes.Goals as goal
-
--- the closure compares an index's name with the one that is sought
-pub returns-clause-position : goal.returns-clause-position
-returns-clause-position c =
-    c.binary_search_by.ensures.position (λ index. name_cmp index.name c.args.name.now) (always_returns_same _ _ _ (λ a r f called. (search rules, search rules)))
