@@ -1,5 +1,5 @@
 -- `of` makes a value of no bytes, whose table is read off the tracker. Assumes `Logic`.
-use Rattle.std.proofs.Common.{◌≡◌, List, [], ◌∷◌, refl}
+use Rattle.std.proofs.Common.{◌≡◌, [], ◌∷◌, refl}
 use mir.Val.{Val, vptr, vstruct, vcons, vnil}
 use mir.Syntax.{named}
 use base.Logic.{SProp, emp}

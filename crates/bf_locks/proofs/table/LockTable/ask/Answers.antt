@@ -1,4 +1,4 @@
-use Rattle.std.proofs.Common.{not, sym, ap, subst, ◌∙◌}
+use Rattle.std.proofs.Common.{sym, ap, subst, ◌∙◌}
 use Rattle.std.specs.FinMap as map
 use Rattle.std.specs.Option.{option_copied, is_some}
 use Rattle.bf_locks.specs.declared.answer.LockAnswer.TheVariants.{Granted}

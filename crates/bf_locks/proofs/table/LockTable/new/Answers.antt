@@ -1,7 +1,5 @@
-use Rattle.std.proofs.Common.{IsSome, sym, ap, subst, ◌∙◌}
-use Rattle.std.proofs.lemmas.Bool.{false≢true}
-use Rattle.std.specs.FinMap.{get-empty}
-use Rattle.bf_locks.specs.Locks.{IsConsistent, held, holding_cmp}
+use Rattle.std.proofs.Common.{sym, subst}
+use Rattle.bf_locks.specs.Locks.{IsConsistent}
 use Rattle.bf_locks.proofs.Held.{consistent_empty}
 use Rattle.bf_locks.proofs.Holders.{locks_of_empty}
 use Rattle.bf_locks.proofs.Sound.{sound_empty}
