@@ -1,6 +1,6 @@
 //! The live tables.
 
-ghost use Rattle.std.specs.Prelude.{◌≡◌, [], ◌∷◌, None, OnErr, OnOk};
+ghost use Rattle.std.specs.Prelude.{◌≡◌, [], ◌∷◌, OnErr, OnOk};
 ghost use Rattle.std.specs.List.{All};
 ghost use Rattle.std.specs.Option.{option_map};
 ghost use Rattle.bf_query.specs.Meanings.{entries_of};
@@ -17,6 +17,7 @@ use bf_tree::{Catalog, IndexRule};
 use bf_txn::Workspace;
 use std::alloc::Global;
 use std::marker::Model;
+use std::mem;
 
 /// The committed tables. Contracts see the database that they are.
 #[derive(Drop)]
@@ -75,9 +76,8 @@ impl LiveTables {
     /// Adds a table without rows, and counts a schema change. It moves the tables behind it.
     ///
     /// # Errors
-    /// Where memory runs out, or 2 ^ 64 schema changes were made. The live tables is as it was then.
+    /// Where memory runs out, or 2 ^ 64 schema changes were made. The live tables are as they were then.
     pub fn create_table(&mut self, table: Table) -> Result<(), Memory>
-        requires fresh { stored_at self.old table.name ≡ None }
         requires database { IsDatabase
             (next_number (with_tables (stored_in_order table [] ∷ []) self.old)) }
         ensures ok { OnOk result (self.new
@@ -97,7 +97,7 @@ impl LiveTables {
     /// built.
     ///
     /// # Errors
-    /// Where memory runs out, or 2 ^ 64 schema changes were made. The live tables is as it was then.
+    /// Where memory runs out, or 2 ^ 64 schema changes were made. The live tables are as they were then.
     pub fn create_index(&mut self, index: IndexRule) -> Result<(), Memory>
         requires database { IsDatabase (next_number (with_index index self.old)) }
         ensures ok { OnOk result (self.new ≡ next_number (with_index index self.old)) }
@@ -110,23 +110,27 @@ impl LiveTables {
         Ok(())
     }
 
-    /// Makes what a transaction has written part of its tables, and each other table stays. A write
+    /// Makes what a transaction has written part of its tables, and each other table stays. The
+    /// writes move into the tables, which leaves the workspace empty. A write
     /// to a table costs a look-up by key, in time logarithmic in the table's rows, and a new or a
     /// removed row moves 8 bytes for each row behind it. Room is made for as many rows as are put;
     /// what is left of it stays as room for later rows.
     ///
     /// # Errors
-    /// Where memory runs out. The live tables is as it was then.
-    pub fn commit(&mut self, writes: Workspace) -> Result<(), Memory>
-        requires own_keys { All (λ s. StandUnderOwnKeys s.table (entries_of s.table s.rows) writes)
-            self.old.tables }
-        requires database { IsDatabase (committed self.old writes) }
-        ensures ok { OnOk result (self.new ≡ committed self.old writes) }
+    /// Where memory runs out. The live tables and the workspace are as they were then.
+    pub fn commit(&mut self, writes: &mut Workspace) -> Result<(), Memory>
+        requires own_keys { All (λ s. StandUnderOwnKeys s.table (entries_of s.table s.rows)
+            writes.old) self.old.tables }
+        requires database { IsDatabase (committed self.old writes.old) }
+        ensures ok { OnOk result (self.new ≡ committed self.old writes.old) }
+        ensures emptied { OnOk result (writes.new ≡ []) }
         ensures err { OnErr result (self.new ≡ self.old) }
+        ensures kept { OnErr result (writes.new ≡ writes.old) }
     {
         let tables = self.catalog.tables.as_slice();
-        make_room(tables, &mut self.heaps, &writes)?;
-        apply(tables, &mut self.heaps, writes.into_writes());
+        make_room(tables, &mut self.heaps, writes)?;
+        let taken = mem::replace(writes, Workspace::new(self.alloc));
+        apply(tables, &mut self.heaps, taken.into_writes());
         Ok(())
     }
 }

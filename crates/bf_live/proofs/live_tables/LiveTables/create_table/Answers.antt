@@ -15,19 +15,19 @@ invariant_of-self-2 c =
     let behind : IsBehind c.args.table.name c.self.inside.catalog.tables c.table_place-place.result = subst (λ (ts : List Table). IsBehind c.args.table.name ts c.table_place-place.result) c.as_slice.ensures c.table_place-place.ensures.place in
     let within : c.table_place-place.result ≤ length c.self.inside.catalog.tables = subst (λ (ts : List Table). c.table_place-place.result ≤ length ts) c.as_slice.ensures c.table_place-place.ensures.bound in
     let counted : c.in_ok-number.number ≡ c.self.inside.catalog.number + 1 = search rules in
-    let with_table : c.insert_at.new.list ≡ insert c.self.inside.catalog.tables c.table_place-place.result c.args.table = c.in_ok-insert_at.ensures.ok in
-    let inserted : c.insert.new.self.items ≡ insert c.reserve.new.self.items c.table_place-place.result c.new.result = rw c.unwrap.ensures at c.insert.ensures.items in
-    let with_heap : c.insert.new.self.items ≡ insert c.self.inside.heaps.items c.table_place-place.result empty_heap = inserted ∙ ap₂ (λ hs h. insert hs c.table_place-place.result h) c.reserve.ensures.items c.new.ensures in
-    store_created c.self.inside.catalog c.self.inside.heaps.items c.self.invariant c.args.self.now c.self.view_is c.args.table c.table_place-place.result c.requires.fresh within behind
-    c.in_ok-number.number counted c.insert_at.new.list c.insert.new.self.items with_table with_heap c.requires.database
+    let with_table : c.insert.new.self ≡ insert c.self.inside.catalog.tables c.table_place-place.result c.args.table = c.in_ok-insert.ensures.ok in
+    let inserted : c.insert-2.new.self.items ≡ insert c.reserve.new.self.items c.table_place-place.result c.new.result = rw c.unwrap.ensures at c.insert-2.ensures.items in
+    let with_heap : c.insert-2.new.self.items ≡ insert c.self.inside.heaps.items c.table_place-place.result empty_heap = inserted ∙ ap₂ (λ hs h. insert hs c.table_place-place.result h) c.reserve.ensures.items c.new.ensures in
+    store_created c.self.inside.catalog c.self.inside.heaps.items c.self.invariant c.args.self.now c.self.view_is c.args.table c.table_place-place.result c.requires.database within behind
+    c.in_ok-number.number counted c.insert.new.self c.insert-2.new.self.items with_table with_heap
 
 pub returns-clause-ok : goal.returns-clause-ok
 returns-clause-ok c =
     let behind : IsBehind c.args.table.name c.self.inside.catalog.tables c.table_place-place.result = subst (λ (ts : List Table). IsBehind c.args.table.name ts c.table_place-place.result) c.as_slice.ensures c.table_place-place.ensures.place in
     let within : c.table_place-place.result ≤ length c.self.inside.catalog.tables = subst (λ (ts : List Table). c.table_place-place.result ≤ length ts) c.as_slice.ensures c.table_place-place.ensures.bound in
     let counted : c.in_ok-number.number ≡ c.self.inside.catalog.number + 1 = search rules in
-    let with_table : c.insert_at.new.list ≡ insert c.self.inside.catalog.tables c.table_place-place.result c.args.table = c.in_ok-insert_at.ensures.ok in
-    let inserted : c.insert.new.self.items ≡ insert c.reserve.new.self.items c.table_place-place.result c.new.result = rw c.unwrap.ensures at c.insert.ensures.items in
-    let with_heap : c.insert.new.self.items ≡ insert c.self.inside.heaps.items c.table_place-place.result empty_heap = inserted ∙ ap₂ (λ hs h. insert hs c.table_place-place.result h) c.reserve.ensures.items c.new.ensures in
-    view_created c.self.inside.catalog c.self.inside.heaps.items c.self.invariant c.args.self.now c.self.view_is c.args.table c.table_place-place.result c.requires.fresh within behind
-    c.in_ok-number.number counted c.insert_at.new.list c.insert.new.self.items with_table with_heap
+    let with_table : c.insert.new.self ≡ insert c.self.inside.catalog.tables c.table_place-place.result c.args.table = c.in_ok-insert.ensures.ok in
+    let inserted : c.insert-2.new.self.items ≡ insert c.reserve.new.self.items c.table_place-place.result c.new.result = rw c.unwrap.ensures at c.insert-2.ensures.items in
+    let with_heap : c.insert-2.new.self.items ≡ insert c.self.inside.heaps.items c.table_place-place.result empty_heap = inserted ∙ ap₂ (λ hs h. insert hs c.table_place-place.result h) c.reserve.ensures.items c.new.ensures in
+    view_created c.self.inside.catalog c.self.inside.heaps.items c.self.invariant c.args.self.now c.self.view_is c.args.table c.table_place-place.result c.requires.database within behind
+    c.in_ok-number.number counted c.insert.new.self c.insert-2.new.self.items with_table with_heap
