@@ -1,7 +1,6 @@
 mod ByName
 mod Committed
 mod Created
-mod Fixtures
 mod Held
 mod Written
 pub mod keeps

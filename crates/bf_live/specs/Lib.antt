@@ -1,5 +1,4 @@
 pub mod Autocommit
 pub mod Commits
-pub mod Examples
 pub mod Places
 pub mod Live

@@ -5,7 +5,5 @@ mod commit;
 pub mod laws;
 mod places;
 pub mod live_tables;
-#[cfg(test)]
-mod tests;
 
 pub use live_tables::LiveTables;

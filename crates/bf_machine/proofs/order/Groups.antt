@@ -11,7 +11,7 @@ use Rattle.bf_tree.specs.declared.history.Outcome.{Outcome}
 use Rattle.bf_sql.specs.Database.{Database}
 use Rattle.bf_sql.specs.Groups.{groups_from, commits, ends_block, outcome_by}
 use Rattle.bf_sql.specs.History.{settled, commits_with}
-use Rattle.bf_machine.specs.Sessions.{Standing, at_rest, session_from}
+use Rattle.bf_machine.specs.Sessions.{SessionState, at_rest, session_from}
 use Rattle.bf_machine.proofs.order.Blocks.{Run, behind, NoEnd, inner_groups, inner_run, run_group-append, no_commit, last_says}
 
 module _ (committing : Bool) (c : ℕ) where
@@ -23,7 +23,7 @@ module _ (committing : Bool) (c : ℕ) where
   commits_here = commits_with c outcome_here
 
   -- what comes of a group, given its replies and the database that it leaves, and of what runs behind it
-  abbrev pub with_entry : ℕ → ℕ → ℕ → List Reply × Database → (Standing → Run) → Run
+  abbrev pub with_entry : ℕ → ℕ → ℕ → List Reply × Database → (SessionState → Run) → Run
   with_entry k n last result later =
       let run = later (at_rest commits_here result.1) in
       (result.0 ++ run.0, run.1, record { session = k; first = n; last = last; outcome = outcome_here } ∷ run.2)
@@ -53,17 +53,17 @@ rollback_is_stray : (rest : List Statement) → IsStray Rollback rest (Rollback 
 rollback_is_stray rest = record { split = refl; ends = refl; group = λ n. refl; run = λ k n c db. refl }
 
 -- a statement that outside a block is a transaction of its own
-abbrev is_lone : Statement → Bool
-is_lone Begin = false
-is_lone Commit = false
-is_lone Rollback = false
-is_lone other = true
+abbrev stands_alone : Statement → Bool
+stands_alone Begin = false
+stands_alone Commit = false
+stands_alone Rollback = false
+stands_alone other = true
 
-lone_is_group : (s : Statement) (rest : List Statement) → is_lone s ≡ true → IsGroup (s ∷ []) rest (s ∷ rest) true
-lone_is_group Begin rest autocommit = absurd (false≢true autocommit)
-lone_is_group Commit rest autocommit = absurd (false≢true autocommit)
-lone_is_group Rollback rest autocommit = absurd (false≢true autocommit)
-lone_is_group s rest autocommit = record {
+alone_is_group : (s : Statement) (rest : List Statement) → stands_alone s ≡ true → IsGroup (s ∷ []) rest (s ∷ rest) true
+alone_is_group Begin rest autocommit = absurd (false≢true autocommit)
+alone_is_group Commit rest autocommit = absurd (false≢true autocommit)
+alone_is_group Rollback rest autocommit = absurd (false≢true autocommit)
+alone_is_group s rest autocommit = record {
   split = refl;
   not_empty = omega arith;
   commits_so = refl;
@@ -144,8 +144,8 @@ module _ (P : List Statement → Type 0) (nothing : P [])
     λ body inner. group (Begin ∷ body ++ Rollback ∷ []) ss (Begin ∷ body ++ Rollback ∷ ss) false (rolled_back_is_group body ss inner) later.0,
   )
 
-  autocommit : (s : Statement) (ss : List Statement) → is_lone s ≡ true → ends_block s ≡ false → P ss × InBlock ss → P (s ∷ ss) × InBlock (s ∷ ss)
-  autocommit s ss is_autocommit goes_on later = (group (s ∷ []) ss (s ∷ ss) true (lone_is_group s ss is_autocommit) later.0, one_more_in_block s ss goes_on later.1)
+  autocommit : (s : Statement) (ss : List Statement) → stands_alone s ≡ true → ends_block s ≡ false → P ss × InBlock ss → P (s ∷ ss) × InBlock (s ∷ ss)
+  autocommit s ss is_autocommit goes_on later = (group (s ∷ []) ss (s ∷ ss) true (alone_is_group s ss is_autocommit) later.0, one_more_in_block s ss goes_on later.1)
 
   outside_and_in_block : (ss : List Statement) → P ss × InBlock ss
   outside_and_in_block [] = (nothing, λ body inner. group (Begin ∷ body) [] (Begin ∷ body ++ []) false (open_is_group body inner) nothing)
