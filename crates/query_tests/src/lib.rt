@@ -4,6 +4,8 @@
 #[cfg(test)]
 mod answers;
 #[cfg(test)]
+mod binding;
+#[cfg(test)]
 mod changes;
 #[cfg(test)]
 mod fixtures;
@@ -11,3 +13,5 @@ mod fixtures;
 mod live;
 #[cfg(test)]
 mod selections;
+#[cfg(test)]
+mod statements;
