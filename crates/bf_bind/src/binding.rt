@@ -254,7 +254,7 @@ fn changes_schema(statement: &Statement, in_block: bool) -> bool
 
 /// A statement bound in a catalog, in a block or outside: the first objection of the catalog, or
 /// what the statement is to do. Its time is linear in the statement, but that each name is looked
-/// up: a table or an index by binary search, a column among at most 16.
+/// up: a table or an index by binary search, a column among those of its table.
 ///
 /// # Errors
 /// Memory ran out.

@@ -33,17 +33,17 @@ fn bind_comparison(
     alloc: Global,
     table: &Table,
     compare: Compare,
-    a: &Operand,
-    b: &Operand,
+    left: &Operand,
+    right: &Operand,
 ) -> Result<Cond, StatementError>
     requires { length table.now.columns ≤ most_columns }
     ensures { Settles result (cond_objections (scope_of table.now)
-        (compared compare (operand_tree a.now) (operand_tree b.now)))
+        (compared compare (operand_tree left.now) (operand_tree right.now)))
         (cond_over (place_in table.now)
-        (compared compare (operand_tree a.now) (operand_tree b.now))) }
+        (compared compare (operand_tree left.now) (operand_tree right.now))) }
 {
-    let left = bind_operand(alloc, table, a)?;
-    let right = bind_operand(alloc, table, b)?;
+    let left = bind_operand(alloc, table, left)?;
+    let right = bind_operand(alloc, table, right)?;
     expect_kind(left.kind, right.kind)?;
     Ok(Cond::of(Test::Compare(compare, left.expr, right.expr)))
 }
@@ -52,17 +52,17 @@ fn bind_comparison(
 fn bind_between(
     alloc: Global,
     table: &Table,
-    a: &Operand,
+    middle: &Operand,
     low: &Operand,
     high: &Operand,
 ) -> Result<Cond, StatementError>
     requires { length table.now.columns ≤ most_columns }
     ensures { Settles result (cond_objections (scope_of table.now)
-        (between (operand_tree a.now) (operand_tree low.now) (operand_tree high.now)))
+        (between (operand_tree middle.now) (operand_tree low.now) (operand_tree high.now)))
         (cond_over (place_in table.now)
-        (between (operand_tree a.now) (operand_tree low.now) (operand_tree high.now))) }
+        (between (operand_tree middle.now) (operand_tree low.now) (operand_tree high.now))) }
 {
-    let middle = bind_operand(alloc, table, a)?;
+    let middle = bind_operand(alloc, table, middle)?;
     let least = bind_operand(alloc, table, low)?;
     let greatest = bind_operand(alloc, table, high)?;
     expect_kind(least.kind, middle.kind)?;
@@ -81,18 +81,20 @@ fn bind_test(alloc: Global, table: &Table, raw: &RawCond) -> Result<Cond, Statem
         (cond_over (place_in table.now) raw.now) }
 {
     match raw.node() {
-        RawTest::Compare(compare, a, b) => bind_comparison(alloc, table, *compare, a, b),
-        RawTest::Between(a, low, high) => bind_between(alloc, table, a, low, high),
-        RawTest::Not(c) => {
-            let inner = bind_test(alloc, table, c)?;
+        RawTest::Compare(compare, left, right) => {
+            bind_comparison(alloc, table, *compare, left, right)
+        }
+        RawTest::Between(middle, low, high) => bind_between(alloc, table, middle, low, high),
+        RawTest::Not(inner) => {
+            let inner = bind_test(alloc, table, inner)?;
             Ok(Cond::of(Test::Not(Box::new(alloc, inner)?)))
         }
-        RawTest::And(c, d) => {
-            let (left, right) = bind_sides(alloc, table, c, d)?;
+        RawTest::And(left, right) => {
+            let (left, right) = bind_sides(alloc, table, left, right)?;
             Ok(Cond::of(Test::And(left, right)))
         }
-        RawTest::Or(c, d) => {
-            let (left, right) = bind_sides(alloc, table, c, d)?;
+        RawTest::Or(left, right) => {
+            let (left, right) = bind_sides(alloc, table, left, right)?;
             Ok(Cond::of(Test::Or(left, right)))
         }
     }
@@ -103,15 +105,15 @@ fn bind_test(alloc: Global, table: &Table, raw: &RawCond) -> Result<Cond, Statem
 fn bind_sides(
     alloc: Global,
     table: &Table,
-    c: &RawCond,
-    d: &RawCond,
+    left: &RawCond,
+    right: &RawCond,
 ) -> Result<(Box<Cond>, Box<Cond>), StatementError>
     requires { length table.now.columns ≤ most_columns }
-    ensures { Settles (seen_as unboxed result) (sides_objections table.now c.now d.now)
-        (bound_sides table.now c.now d.now) }
+    ensures { Settles (seen_as unboxed result) (sides_objections table.now left.now right.now)
+        (bound_sides table.now left.now right.now) }
 {
-    let left = bind_test(alloc, table, c)?;
-    let right = bind_test(alloc, table, d)?;
+    let left = bind_test(alloc, table, left)?;
+    let right = bind_test(alloc, table, right)?;
     let left = Box::new(alloc, left)?;
     let right = Box::new(alloc, right)?;
     Ok((left, right))

@@ -72,24 +72,24 @@ pub(crate) fn bind_expression(
     match raw.node() {
         RawNode::Value(value) => bind_literal(alloc, value),
         RawNode::Column(reference) => bind_column(alloc, table, reference),
-        RawNode::Neg(a) => {
-            let inner = bind_part(alloc, table, a, Kind::Int)?;
+        RawNode::Neg(inner) => {
+            let inner = bind_part(alloc, table, inner, Kind::Int)?;
             Ok(BoundExpr::of(Node::Neg(inner), Kind::Int))
         }
-        RawNode::Add(a, b) => {
-            let (left, right) = bind_parts(alloc, table, a, b, Kind::Int)?;
+        RawNode::Add(left, right) => {
+            let (left, right) = bind_parts(alloc, table, left, right, Kind::Int)?;
             Ok(BoundExpr::of(Node::Add(left, right), Kind::Int))
         }
-        RawNode::Sub(a, b) => {
-            let (left, right) = bind_parts(alloc, table, a, b, Kind::Int)?;
+        RawNode::Sub(left, right) => {
+            let (left, right) = bind_parts(alloc, table, left, right, Kind::Int)?;
             Ok(BoundExpr::of(Node::Sub(left, right), Kind::Int))
         }
-        RawNode::Mul(a, b) => {
-            let (left, right) = bind_parts(alloc, table, a, b, Kind::Int)?;
+        RawNode::Mul(left, right) => {
+            let (left, right) = bind_parts(alloc, table, left, right, Kind::Int)?;
             Ok(BoundExpr::of(Node::Mul(left, right), Kind::Int))
         }
-        RawNode::Concat(a, b) => {
-            let (left, right) = bind_parts(alloc, table, a, b, Kind::Text)?;
+        RawNode::Concat(left, right) => {
+            let (left, right) = bind_parts(alloc, table, left, right, Kind::Text)?;
             Ok(BoundExpr::of(Node::Concat(left, right), Kind::Text))
         }
     }
@@ -97,16 +97,16 @@ pub(crate) fn bind_expression(
 
 /// The part of a node whose parts are of a kind.
 #[cycle(expression)]
-fn bind_part(alloc: Global, table: &Table, a: &RawExpr, kind: Kind) -> Result<Box<Expr>, StatementError>
+fn bind_part(alloc: Global, table: &Table, part: &RawExpr, kind: Kind) -> Result<Box<Expr>, StatementError>
     requires { length table.now.columns ≤ most_columns }
     ensures { Settles (seen_as (λ part. part.value) result)
-        (expr_objections (scope_of table.now) a.now
-        ++ kind_objections (scope_of table.now) a.now kind)
-        (expr_over (place_in table.now) a.now) }
+        (expr_objections (scope_of table.now) part.now
+        ++ kind_objections (scope_of table.now) part.now kind)
+        (expr_over (place_in table.now) part.now) }
 {
-    let inner = bind_expression(alloc, table, a)?;
-    expect_kind(inner.kind, kind)?;
-    Ok(Box::new(alloc, inner.expr)?)
+    let part = bind_expression(alloc, table, part)?;
+    expect_kind(part.kind, kind)?;
+    Ok(Box::new(alloc, part.expr)?)
 }
 
 /// The two parts of a node whose parts are of a kind.
@@ -114,16 +114,16 @@ fn bind_part(alloc: Global, table: &Table, a: &RawExpr, kind: Kind) -> Result<Bo
 fn bind_parts(
     alloc: Global,
     table: &Table,
-    a: &RawExpr,
-    b: &RawExpr,
+    left: &RawExpr,
+    right: &RawExpr,
     kind: Kind,
 ) -> Result<(Box<Expr>, Box<Expr>), StatementError>
     requires { length table.now.columns ≤ most_columns }
-    ensures { Settles (seen_as unboxed result) (parts_objections table.now a.now b.now kind)
-        (bound_parts table.now a.now b.now) }
+    ensures { Settles (seen_as unboxed result) (parts_objections table.now left.now right.now kind)
+        (bound_parts table.now left.now right.now) }
 {
-    let left = bind_expression(alloc, table, a)?;
-    let right = bind_expression(alloc, table, b)?;
+    let left = bind_expression(alloc, table, left)?;
+    let right = bind_expression(alloc, table, right)?;
     expect_kind(left.kind, kind)?;
     expect_kind(right.kind, kind)?;
     let left = Box::new(alloc, left.expr)?;

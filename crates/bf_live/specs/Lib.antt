@@ -1,4 +1,3 @@
 pub mod Autocommit
 pub mod Commits
-pub mod Examples
 pub mod Live

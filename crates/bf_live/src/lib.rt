@@ -4,7 +4,5 @@
 mod commit;
 pub mod laws;
 pub mod live_tables;
-#[cfg(test)]
-mod tests;
 
 pub use live_tables::LiveTables;

@@ -1,6 +1,6 @@
 //! The live tables.
 
-ghost use Rattle.std.specs.Prelude.{◌≡◌, [], ◌∷◌, None, OnErr, OnOk};
+ghost use Rattle.std.specs.Prelude.{◌≡◌, [], ◌∷◌, OnErr, OnOk};
 ghost use Rattle.std.specs.List.{All};
 ghost use Rattle.std.specs.Option.{option_map};
 ghost use Rattle.bf_query.specs.Meanings.{entries_of};
@@ -16,6 +16,7 @@ use bf_tree::{Catalog, IndexRule};
 use bf_txn::Workspace;
 use std::alloc::Global;
 use std::marker::Model;
+use std::mem;
 
 /// The committed tables. Contracts see the database that they are.
 #[derive(Drop)]
@@ -76,7 +77,6 @@ impl LiveTables {
     /// # Errors
     /// Where memory runs out, or 2 ^ 64 schema changes were made. The live tables are as they were then.
     pub fn create_table(&mut self, table: Table) -> Result<(), Memory>
-        requires fresh { stored_at self.old table.name ≡ None }
         requires database { IsDatabase
             (next_number (with_tables (stored_in_order table [] ∷ []) self.old)) }
         ensures ok { OnOk result (self.new
@@ -109,22 +109,26 @@ impl LiveTables {
         Ok(())
     }
 
-    /// Makes what a transaction has written part of its tables, and each other table stays. A write
+    /// Makes what a transaction has written part of its tables, and each other table stays. The
+    /// writes move into the tables, which leaves the workspace empty. A write
     /// to a table costs a look-up by key, in time logarithmic in the table's rows, and a new or a
     /// removed row moves 8 bytes for each row behind it. Room is made for as many rows as are put;
     /// what is left of it stays as room for later rows.
     ///
     /// # Errors
-    /// Where memory runs out. The live tables are as they were then.
-    pub fn commit(&mut self, writes: Workspace) -> Result<(), Memory>
-        requires own_keys { All (λ s. StandUnderOwnKeys s.table (entries_of s.table s.rows) writes)
-            self.old.tables }
-        requires database { IsDatabase (committed self.old writes) }
-        ensures ok { OnOk result (self.new ≡ committed self.old writes) }
+    /// Where memory runs out. The live tables and the workspace are as they were then.
+    pub fn commit(&mut self, writes: &mut Workspace) -> Result<(), Memory>
+        requires own_keys { All (λ s. StandUnderOwnKeys s.table (entries_of s.table s.rows)
+            writes.old) self.old.tables }
+        requires database { IsDatabase (committed self.old writes.old) }
+        ensures ok { OnOk result (self.new ≡ committed self.old writes.old) }
+        ensures emptied { OnOk result (writes.new ≡ []) }
         ensures err { OnErr result (self.new ≡ self.old) }
+        ensures kept { OnErr result (writes.new ≡ writes.old) }
     {
-        make_room(&self.catalog, &mut self.heaps, &writes)?;
-        apply(&self.catalog, &mut self.heaps, writes.into_writes());
+        make_room(&self.catalog, &mut self.heaps, writes)?;
+        let taken = mem::replace(writes, Workspace::new(self.alloc));
+        apply(&self.catalog, &mut self.heaps, taken.into_writes());
         Ok(())
     }
 }

@@ -1,6 +1,6 @@
 pub mod Places
 pub mod Blocks
-pub mod Course
+pub mod Groups
 pub mod Entries
 pub mod Whole
 pub mod Precedence

@@ -13,16 +13,16 @@ use Rattle.bf_sql.specs.Meaning.{executed}
 
 -- the committed database and the number of commits, and of an open block the statement that began it and the database
 -- that it sees
-pub record Standing : Type 0 where
+pub record SessionState : Type 0 where
   pub db : Database
   pub commits : ℕ
   pub block : Option (ℕ × Database)
 
 -- TURN: what comes of a statement: its reply, where the session stands behind it, and the entry of the transaction that it ends
 abbrev pub Turn : Type 0
-Turn = Reply × Standing × List Entry
+Turn = Reply × SessionState × List Entry
 
-abbrev pub at_rest : ℕ → Database → Standing
+abbrev pub at_rest : ℕ → Database → SessionState
 at_rest commits db = record { db = db; commits = commits; block = None }
 
 module _ (session : ℕ) where
@@ -52,15 +52,15 @@ module _ (session : ℕ) where
       let (answer, next) = executed (commits + 1) view true s in
       (answer, record { db = db; commits = commits; block = Some (first, next) }, [])
 
-  abbrev pub stepped : ℕ → Standing → Statement → Turn
+  abbrev pub stepped : ℕ → SessionState → Statement → Turn
   stepped n at s = elim at.block [ None ↦ outside n at.commits at.db s | Some block ↦ inside n at.commits at.db block.0 block.1 s ]
 
   -- the end of a session before statement n: an open block is rolled back
-  abbrev pub closing : ℕ → Standing → List Entry
+  abbrev pub closing : ℕ → SessionState → List Entry
   closing n at = elim at.block [ None ↦ [] | Some block ↦ ended block.0 (n - 1) RolledBack ]
 
   -- the statements of a session from n on, and its end
-  abbrev pub session_from : ℕ → Standing → List Statement → List Reply × Standing × List Entry
+  abbrev pub session_from : ℕ → SessionState → List Statement → List Reply × SessionState × List Entry
   session_from n at [] = ([], at_rest at.commits at.db, closing n at)
   session_from n at (s ∷ ss) =
       let (answer, next, entries) = stepped n at s in
@@ -68,7 +68,7 @@ module _ (session : ℕ) where
       (answer ∷ answers, last, entries ++ later)
 
 -- sessions, the first of which has a number, each on what the one before it left
-abbrev pub sessions_from : ℕ → Standing → List Session → List (List Reply) × Standing × List Entry
+abbrev pub sessions_from : ℕ → SessionState → List Session → List (List Reply) × SessionState × List Entry
 sessions_from number at [] = ([], at, [])
 sessions_from number at (s ∷ ss) =
     let (answers, next, entries) = session_from number 1 at s.statements in
@@ -76,5 +76,5 @@ sessions_from number at (s ∷ ss) =
     (answers ∷ others, last, entries ++ later)
 
 -- the sessions of a script from a database on
-abbrev pub script_from : Database → Script → List (List Reply) × Standing × List Entry
+abbrev pub script_from : Database → Script → List (List Reply) × SessionState × List Entry
 script_from start script = sessions_from 1 (at_rest 0 start) script.sessions

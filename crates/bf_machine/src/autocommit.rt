@@ -19,8 +19,8 @@ use std::alloc::Global;
 /// CREATE moves the tables or the index rules behind the new one.
 ///
 /// # Errors
-/// Where memory runs out, 2 ^ 32 rows or more change, or 2 ^ 64 schema changes were made. The live tables is as
-/// it was then.
+/// Where memory runs out, 2 ^ 32 rows or more change, or 2 ^ 64 schema changes were made. The live tables are
+/// as they were then.
 pub(crate) fn execute(
     alloc: Global,
     live: &mut LiveTables,
@@ -50,7 +50,7 @@ pub(crate) fn execute(
         | Action::Delete { table, .. } => {
             let mut writes = Workspace::new(alloc);
             let reply = run_on_table(alloc, live, &mut writes, &bound, table)?;
-            live.commit(writes)?;
+            live.commit(&mut writes)?;
             Ok(reply)
         }
         Action::Begin | Action::Commit | Action::Rollback => unreachable!(),

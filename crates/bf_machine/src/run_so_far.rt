@@ -1,6 +1,6 @@
 //! Sessions that run one after the other.
 
-ghost use Rattle.std.specs.Prelude.{◌≡◌, ◌+◌, ◌^◌, ◌++◌, ◌<◌, ◌≤◌, [], IfOk, IsTrue, OnOk, length, not};
+ghost use Rattle.std.specs.Prelude.{◌≡◌, ◌+◌, ◌^◌, ◌++◌, ◌<◌, ◌≤◌, [], IfOk, IsTrue, OnErr, OnOk, length, not};
 ghost use Rattle.std.specs.List.{list_all};
 ghost use Rattle.bf_tree.specs.Limits.{HasNarrowTables, is_narrow_statement};
 ghost use Rattle.bf_tree.specs.declared.history.Outcome.TheVariants.{Committed};
@@ -9,7 +9,7 @@ ghost use Rattle.bf_live.specs.Live.{catalog_of, committed};
 ghost use Rattle.bf_machine.specs.InOrder.{is_migrate};
 ghost use Rattle.bf_machine.specs.Open.{IsOpen};
 ghost use Rattle.bf_machine.specs.Sessions.{at_rest, ended, inside, outside, session_from};
-ghost use Rattle.bf_machine.specs.Turns.{HasTaken, MayBeOpen, standing};
+ghost use Rattle.bf_machine.specs.Turns.{HasRoom, HasRoomToEnd, HasTaken, MayBeOpen, standing};
 
 use crate::autocommit::execute;
 use crate::transaction::{Transaction, execute_in_block};
@@ -27,7 +27,8 @@ struct StatementPlace {
 }
 
 /// The committed tables, the transactions that have ended, in order, and how many of them have
-/// committed. After an error it is not used again: tables may have changed that no entry tells of.
+/// committed. Room for an entry is made before its transaction changes a table, so that the entries
+/// tell of every change, also after an error.
 #[derive(Drop)]
 pub(crate) struct RunSoFar {
     alloc: Global,
@@ -59,38 +60,41 @@ impl RunSoFar {
         Sequence::of(self.entries)
     }
 
-    /// Notes that the transaction from a statement to the one at a place has ended.
-    fn end(&mut self, first: u32, last: StatementPlace, outcome: Outcome) -> Result<(), Memory>
+    /// Notes that the transaction from a statement to the one at a place has ended. Takes no memory.
+    fn end(&mut self, first: u32, last: StatementPlace, outcome: Outcome)
+        requires room { HasRoom self.old.entries }
         ensures stands { at_rest self.new.commits self.new.live
             ≡ at_rest self.old.commits self.old.live }
-        ensures entries { OnOk result (self.new.entries.items ≡ self.old.entries.items
-            ++ ended last.session first last.statement outcome) }
+        ensures entries { self.new.entries.items ≡ self.old.entries.items
+            ++ ended last.session first last.statement outcome }
     {
-        self.entries.push(Entry {
+        let entry = Entry {
             session: last.session,
             first,
             last: last.statement,
             outcome,
-        })?;
-        Ok(())
+        };
+        self.entries.push(entry).unwrap();
     }
 
     /// Notes that the transaction from a statement to the one at a place has committed, and answers
-    /// the number of the commit.
-    fn commit(&mut self, first: u32, last: StatementPlace) -> Result<u64, Memory>
-        ensures number { IfOk result (λ number. number ≡ self.old.commits + 1) }
-        ensures stands { OnOk result (at_rest self.new.commits self.new.live
-            ≡ at_rest (self.old.commits + 1) self.old.live) }
-        ensures entries { OnOk result (self.new.entries.items ≡ self.old.entries.items
-            ++ ended last.session first last.statement (Committed (self.old.commits + 1))) }
+    /// the number of the commit. Takes no memory.
+    fn commit(&mut self, first: u32, last: StatementPlace) -> u64
+        requires room { HasRoom self.old.entries }
+        ensures number { result ≡ self.old.commits + 1 }
+        ensures stands { at_rest self.new.commits self.new.live
+            ≡ at_rest (self.old.commits + 1) self.old.live }
+        ensures entries { self.new.entries.items ≡ self.old.entries.items
+            ++ ended last.session first last.statement (Committed (self.old.commits + 1)) }
     {
         let number = self.commits + 1;
-        self.end(first, last, Outcome::Committed(number))?;
+        self.end(first, last, Outcome::Committed(number));
         self.commits = number;
-        Ok(number)
+        number
     }
 
-    /// Runs a statement outside a block, which may begin one.
+    /// Runs a statement outside a block, which may begin one. Room for the entry of a block is made
+    /// where it begins. After an error nothing has changed.
     fn step_outside(
         &mut self,
         place: StatementPlace,
@@ -104,10 +108,15 @@ impl RunSoFar {
             step.0 (standing self.new.commits self.new.live step.1)
             self.old.entries.items self.new.entries.items) }
         ensures open { IfOk result (λ step. MayBeOpen self.new.live step.1) }
+        ensures room { IfOk result (λ step. HasRoomToEnd step.1 self.new.entries) }
         ensures tables { OnOk result (HasNarrowTables (catalog_of self.new.live)) }
+        ensures stands { OnErr result (at_rest self.new.commits self.new.live
+            ≡ at_rest self.old.commits self.old.live) }
+        ensures entries { OnErr result (self.new.entries.items ≡ self.old.entries.items) }
     {
         match statement {
             Statement::Begin => {
+                self.entries.reserve(1)?;
                 let block = Transaction {
                     first: place.statement,
                     writes: Workspace::new(self.alloc),
@@ -118,15 +127,17 @@ impl RunSoFar {
                 Ok((Reply::Refused(Refusal::NoTransaction), None))
             }
             _ => {
+                self.entries.reserve(1)?;
                 let reply = execute(self.alloc, &mut self.live, statement)?;
-                self.commit(place.statement, place)?;
+                self.commit(place.statement, place);
                 Ok((reply, None))
             }
         }
     }
 
-    /// Runs a statement in a block, which may end it. COMMIT costs what the block has written; the others
-    /// what the statement does.
+    /// Runs a statement in a block, which may end it. COMMIT costs what the block has written; the
+    /// others what the statement does. After an error no table and no entry has changed, and the block
+    /// is gone.
     fn step_inside(
         &mut self,
         place: StatementPlace,
@@ -136,23 +147,28 @@ impl RunSoFar {
         requires narrow { IsTrue (is_narrow_statement statement.now) }
         requires tables { HasNarrowTables (catalog_of self.old.live) }
         requires open { IsOpen self.old.live block.writes }
+        requires room { HasRoom self.old.entries }
         ensures taken { IfOk result (λ step. HasTaken
             (inside place.session place.statement self.old.commits self.old.live block.first
             (committed self.old.live block.writes) statement.now)
             step.0 (standing self.new.commits self.new.live step.1)
             self.old.entries.items self.new.entries.items) }
         ensures open { IfOk result (λ step. MayBeOpen self.new.live step.1) }
+        ensures room { IfOk result (λ step. HasRoomToEnd step.1 self.new.entries) }
         ensures tables { OnOk result (HasNarrowTables (catalog_of self.new.live)) }
+        ensures stands { OnErr result (at_rest self.new.commits self.new.live
+            ≡ at_rest self.old.commits self.old.live) }
+        ensures entries { OnErr result (self.new.entries.items ≡ self.old.entries.items) }
     {
         let mut block = block;
         match statement {
             Statement::Commit => {
-                self.live.commit(block.writes)?;
-                let number = self.commit(block.first, place)?;
+                self.live.commit(&mut block.writes)?;
+                let number = self.commit(block.first, place);
                 Ok((Reply::Committed(number), None))
             }
             Statement::Rollback => {
-                self.end(block.first, place, Outcome::RolledBack)?;
+                self.end(block.first, place, Outcome::RolledBack);
                 Ok((Reply::RolledBack, None))
             }
             _ => {
@@ -168,7 +184,8 @@ impl RunSoFar {
     }
 
     /// Runs the statements of a session, one after the other. A block that is open at its end is
-    /// rolled back.
+    /// rolled back. After an error the statements before have run, and what an open block has
+    /// written is lost.
     pub(crate) fn run_session(
         &mut self,
         session: u32,
@@ -198,7 +215,7 @@ impl RunSoFar {
                 Some(block) => self.step_inside(place, block, statement)?,
                 None => self.step_outside(place, statement)?,
             };
-            replies.push(reply)?;
+            replies.push(reply).unwrap();
             block = left;
         }
         if let Some(block) = block {
@@ -206,7 +223,7 @@ impl RunSoFar {
                 session,
                 statement: replies.len() as u32,
             };
-            self.end(block.first, last, Outcome::RolledBack)?;
+            self.end(block.first, last, Outcome::RolledBack);
         }
         Ok(Sequence::of(replies))
     }

@@ -41,23 +41,23 @@ pub fn migrates_nothing(script: &Script) -> bool
 /// Runs sessions, one after the other.
 fn run_sessions(
     alloc: Global,
-    course: &mut RunSoFar,
+    run_so_far: &mut RunSoFar,
     sessions: &[Session],
 ) -> Result<Vec<Sequence<Reply>>, Memory>
     requires plain { IsTrue (list_all (λ session.
         list_all (λ statement. not (is_migrate statement)) session.statements) sessions.now) }
     requires narrow { IsTrue (list_all (λ session.
         list_all is_narrow_statement session.statements) sessions.now) }
-    requires tables { HasNarrowTables (catalog_of course.old.live) }
+    requires tables { HasNarrowTables (catalog_of run_so_far.old.live) }
     ensures replies { IfOk result (λ transcripts. transcripts.items ≡ (sessions_from 1
-        (at_rest course.old.commits course.old.live) sessions.now).0) }
-    ensures entries { OnOk result (course.new.entries.items ≡ course.old.entries.items
-        ++ (sessions_from 1 (at_rest course.old.commits course.old.live) sessions.now).2) }
+        (at_rest run_so_far.old.commits run_so_far.old.live) sessions.now).0) }
+    ensures entries { OnOk result (run_so_far.new.entries.items ≡ run_so_far.old.entries.items
+        ++ (sessions_from 1 (at_rest run_so_far.old.commits run_so_far.old.live) sessions.now).2) }
 {
     let mut transcripts = Vec::with_capacity(alloc, sessions.len())?;
     for session in sessions {
         let number = next_number(transcripts.len())?;
-        transcripts.push(course.run_session(number, session.statements.as_slice())?)?;
+        transcripts.push(run_so_far.run_session(number, session.statements.as_slice())?)?;
     }
     Ok(transcripts)
 }
@@ -76,14 +76,14 @@ pub fn in_order(alloc: Global, script: &Script) -> Result<Run, Memory>
     ensures { IfOk result (λ run.
         IsRunInOrder script.now run.transcripts.sessions run.history.entries run.sweep) }
 {
-    let mut course = RunSoFar::new(alloc);
-    let transcripts = run_sessions(alloc, &mut course, script.sessions.as_slice())?;
+    let mut run_so_far = RunSoFar::new(alloc);
+    let transcripts = run_sessions(alloc, &mut run_so_far, script.sessions.as_slice())?;
     Ok(Run {
         transcripts: Transcripts {
             sessions: Sequence::of(transcripts),
         },
         history: History {
-            entries: course.into_entries(),
+            entries: run_so_far.into_entries(),
         },
         sweep: Sweep::Never,
     })

@@ -1,6 +1,6 @@
 //! Statements in a transaction that is open.
 
-ghost use Rattle.std.specs.Prelude.{◌≡◌, Bool, IfOk, IsTrue, true};
+ghost use Rattle.std.specs.Prelude.{◌≡◌, Bool, IfOk, IsTrue, OnErr, true};
 ghost use Rattle.bf_tree.specs.Limits.{KeepsLimits};
 ghost use Rattle.bf_query.specs.Meanings.{IsBoundAs};
 ghost use Rattle.bf_tree.specs.declared.statement.Statement.{Statement};
@@ -31,8 +31,7 @@ pub(crate) struct Transaction {
 /// transaction behind it.
 ///
 /// # Errors
-/// Where memory runs out, or 2 ^ 32 rows or more change. The workspace may have some of the statement's
-/// writes then.
+/// Where memory runs out, or 2 ^ 32 rows or more change. The workspace is as it was then.
 pub(crate) fn run_on_table(
     alloc: Global,
     live: &LiveTables,
@@ -43,9 +42,10 @@ pub(crate) fn run_on_table(
     requires database { IsDatabase live.now }
     requires open { IsOpen live.now writes.old }
     requires on { IsOn (committed live.now writes.old) table.now bound.now.action }
-    ensures { (in_block : Bool) (s : Statement)
+    ensures step { (in_block : Bool) (s : Statement)
         → IsBoundAs (committed live.now writes.old) in_block s bound.now.action
         → IfOk result (IsStep live.now writes.old writes.new in_block s) }
+    ensures err { OnErr result (writes.new ≡ writes.old) }
 {
     let Some(heap) = live.heap(&table.name) else {
         unreachable!();
@@ -60,8 +60,7 @@ pub(crate) fn run_on_table(
 /// costs the binding, and what [`run_on_table`] does.
 ///
 /// # Errors
-/// Where memory runs out, or 2 ^ 32 rows or more change. The workspace may have some of the statement's
-/// writes then.
+/// Where memory runs out, or 2 ^ 32 rows or more change. The workspace is as it was then.
 pub(crate) fn execute_in_block(
     alloc: Global,
     live: &LiveTables,
@@ -71,7 +70,8 @@ pub(crate) fn execute_in_block(
     requires goes_on { IsTrue (goes_on statement.now) }
     requires limits { KeepsLimits (catalog_of live.now) statement.now }
     requires open { IsOpen live.now writes.old }
-    ensures { IfOk result (IsStep live.now writes.old writes.new true statement.now) }
+    ensures step { IfOk result (IsStep live.now writes.old writes.new true statement.now) }
+    ensures err { OnErr result (writes.new ≡ writes.old) }
 {
     let bound = bind(alloc, statement, live.catalog(), true)?;
     match &bound.action {

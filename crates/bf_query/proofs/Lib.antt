@@ -2,7 +2,6 @@ pub mod AsWritten
 pub mod Binding
 pub mod Effects
 pub mod FixedKey
-pub mod Fixtures
 pub mod Held
 pub mod Inserting
 pub mod Keeping

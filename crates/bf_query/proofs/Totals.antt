@@ -12,7 +12,7 @@ use Rattle.bf_tree.specs.declared.items.Aggregate.TheVariants.{Count, Sum, Min, 
 use Rattle.bf_sql.specs.RowObjections.{argument_objections, sum_objections}
 use Rattle.bf_sql.specs.Totals.{lesser, greater, values_of, total_of}
 use Rattle.bf_query.proofs.Steps.{map_map}
-use Rattle.bf_query.specs.Standings.{Standing, standing_after, advanced, picked, row_objections, end_objections, total_cell, IsCountable}
+use Rattle.bf_query.specs.RunningTotals.{RunningTotal, running_total_after, advanced, picked, row_objections, end_objections, total_cell, IsCountable}
 
 fold_push : {A B : Type 0} (f : B → A → B) (b : B) (xs : List A) (x : A) → fold f b (xs ++ x ∷ []) ≡ f (fold f b xs) x
 fold_push f b [] x = refl
@@ -26,37 +26,37 @@ module _ (rows : List (List Value)) (row : List Value) where
   values_push : (e : Expr (ℕ)) → values_of cell (rows ++ row ∷ []) e ≡ values_of cell rows e ++ sure_value (cell row) e ∷ []
   values_push e = map_push (λ r. sure_value (cell r) e) rows row
 
-  advanced-standing_after : (t : Aggregate (Expr (ℕ))) → advanced row (standing_after rows t) ≡ standing_after (rows ++ row ∷ []) t
-  advanced-standing_after Count = rw (length_push rows row)
-  advanced-standing_after (Sum e) = rw (length_push rows row, values_push e, fold_push (λ sum v. sum +ℤ number_of v) (pos 0) (values_of cell rows e) (sure_value (cell row) e))
-  advanced-standing_after (Min e) = rw (values_push e, reduce_push lesser (values_of cell rows e) (sure_value (cell row) e))
-  advanced-standing_after (Max e) = rw (values_push e, reduce_push greater (values_of cell rows e) (sure_value (cell row) e))
+  advanced-running_total_after : (t : Aggregate (Expr (ℕ))) → advanced row (running_total_after rows t) ≡ running_total_after (rows ++ row ∷ []) t
+  advanced-running_total_after Count = rw (length_push rows row)
+  advanced-running_total_after (Sum e) = rw (length_push rows row, values_push e, fold_push (λ sum v. sum +ℤ number_of v) (pos 0) (values_of cell rows e) (sure_value (cell row) e))
+  advanced-running_total_after (Min e) = rw (values_push e, reduce_push lesser (values_of cell rows e) (sure_value (cell row) e))
+  advanced-running_total_after (Max e) = rw (values_push e, reduce_push greater (values_of cell rows e) (sure_value (cell row) e))
 
-  row_objections-standing_after : (t : Aggregate (Expr (ℕ))) → row_objections row (standing_after rows t) ≡ argument_objections cell row t
-  row_objections-standing_after Count = refl
-  row_objections-standing_after (Sum e) = refl
-  row_objections-standing_after (Min e) = refl
-  row_objections-standing_after (Max e) = refl
+  row_objections-running_total_after : (t : Aggregate (Expr (ℕ))) → row_objections row (running_total_after rows t) ≡ argument_objections cell row t
+  row_objections-running_total_after Count = refl
+  row_objections-running_total_after (Sum e) = refl
+  row_objections-running_total_after (Min e) = refl
+  row_objections-running_total_after (Max e) = refl
 
 module _ (rows : List (List Value)) where
-  end_objections-standing_after : (t : Aggregate (Expr (ℕ))) → end_objections (standing_after rows t) ≡ sum_objections cell rows t
-  end_objections-standing_after Count = refl
-  end_objections-standing_after (Sum e) = refl
-  end_objections-standing_after (Min e) = refl
-  end_objections-standing_after (Max e) = refl
+  end_objections-running_total_after : (t : Aggregate (Expr (ℕ))) → end_objections (running_total_after rows t) ≡ sum_objections cell rows t
+  end_objections-running_total_after Count = refl
+  end_objections-running_total_after (Sum e) = refl
+  end_objections-running_total_after (Min e) = refl
+  end_objections-running_total_after (Max e) = refl
 
-total_cell-standing_after : (rows : List (List Value)) (t : Aggregate (Expr (ℕ))) → total_cell (standing_after rows t) ≡ total_of cell rows t
-total_cell-standing_after rows Count = refl
-total_cell-standing_after [] (Sum e) = refl
-total_cell-standing_after (row ∷ rows) (Sum e) = refl
-total_cell-standing_after rows (Min e) = refl
-total_cell-standing_after rows (Max e) = refl
+total_cell-running_total_after : (rows : List (List Value)) (t : Aggregate (Expr (ℕ))) → total_cell (running_total_after rows t) ≡ total_of cell rows t
+total_cell-running_total_after rows Count = refl
+total_cell-running_total_after [] (Sum e) = refl
+total_cell-running_total_after (row ∷ rows) (Sum e) = refl
+total_cell-running_total_after rows (Min e) = refl
+total_cell-running_total_after rows (Max e) = refl
 
-standing_after-IsCountable : (rows : List (List Value)) → length rows < 2 ^ 63 → (t : Aggregate (Expr (ℕ))) → IsCountable (standing_after rows t)
-standing_after-IsCountable rows few Count = few
-standing_after-IsCountable rows few (Sum e) = few
-standing_after-IsCountable rows few (Min e) = tt
-standing_after-IsCountable rows few (Max e) = tt
+running_total_after-IsCountable : (rows : List (List Value)) → length rows < 2 ^ 63 → (t : Aggregate (Expr (ℕ))) → IsCountable (running_total_after rows t)
+running_total_after-IsCountable rows few Count = few
+running_total_after-IsCountable rows few (Sum e) = few
+running_total_after-IsCountable rows few (Min e) = tt
+running_total_after-IsCountable rows few (Max e) = tt
 
 flat_map-same : {X Y : Type 0} (f g : X → List Y) → ((x : X) → f x ≡ g x) → (xs : List X) → flat_map f xs ≡ flat_map g xs
 flat_map-same f g same [] = refl
@@ -72,25 +72,25 @@ All-of_map P f each (x ∷ xs) zero d lt = each x
 All-of_map P f each (x ∷ xs) (suc k) d lt = All-of_map P f each xs k d (omega arith)
 
 -- totals of which some rows are known
-module _ (rows : List (List Value)) (totals : List (Aggregate (Expr (ℕ)))) (standings : List Standing) (are : standings ≡ map (standing_after rows) totals) where
-  pub all_countable : length rows < 2 ^ 63 → All IsCountable standings
-  all_countable few = subst (λ (ss : List Standing). All IsCountable ss) (sym are) (All-of_map IsCountable (standing_after rows) (standing_after-IsCountable rows few) totals)
+module _ (rows : List (List Value)) (totals : List (Aggregate (Expr (ℕ)))) (running : List RunningTotal) (are : running ≡ map (running_total_after rows) totals) where
+  pub all_countable : length rows < 2 ^ 63 → All IsCountable running
+  all_countable few = subst (λ (ss : List RunningTotal). All IsCountable ss) (sym are) (All-of_map IsCountable (running_total_after rows) (running_total_after-IsCountable rows few) totals)
 
-  pub all_advanced : (row : List Value) → map (advanced row) standings ≡ map (standing_after (rows ++ row ∷ [])) totals
-  all_advanced row = rw (are, map_map (advanced row) (standing_after rows) totals) (map-same _ _ (advanced-standing_after rows row) totals)
+  pub all_advanced : (row : List Value) → map (advanced row) running ≡ map (running_total_after (rows ++ row ∷ [])) totals
+  all_advanced row = rw (are, map_map (advanced row) (running_total_after rows) totals) (map-same _ _ (advanced-running_total_after rows row) totals)
 
-  pub all_row_objections : (row : List Value) → flat_map (row_objections row) standings ≡ flat_map (argument_objections cell row) totals
-  all_row_objections row = rw (are, flat_map-map (row_objections row) (standing_after rows) totals) (flat_map-same _ _ (row_objections-standing_after rows row) totals)
+  pub all_row_objections : (row : List Value) → flat_map (row_objections row) running ≡ flat_map (argument_objections cell row) totals
+  all_row_objections row = rw (are, flat_map-map (row_objections row) (running_total_after rows) totals) (flat_map-same _ _ (row_objections-running_total_after rows row) totals)
 
-  pub all_end_objections : flat_map end_objections standings ≡ flat_map (sum_objections cell rows) totals
-  all_end_objections = rw (are, flat_map-map end_objections (standing_after rows) totals) (flat_map-same _ _ (end_objections-standing_after rows) totals)
+  pub all_end_objections : flat_map end_objections running ≡ flat_map (sum_objections cell rows) totals
+  all_end_objections = rw (are, flat_map-map end_objections (running_total_after rows) totals) (flat_map-same _ _ (end_objections-running_total_after rows) totals)
 
-  pub all_cells : map total_cell standings ≡ map (total_of cell rows) totals
-  all_cells = rw (are, map_map total_cell (standing_after rows) totals) (map-same _ _ (total_cell-standing_after rows) totals)
+  pub all_cells : map total_cell running ≡ map (total_of cell rows) totals
+  all_cells = rw (are, map_map total_cell (running_total_after rows) totals) (map-same _ _ (total_cell-running_total_after rows) totals)
 
 -- totals after one more row, which v reads of an item
-pub next_after : {X : Type 0} (v : X → List Value) (xs : List X) (i : ℕ) (x : X) → i < length xs → x ≡ get_or xs i x → (totals : List (Aggregate (Expr (ℕ)))) (before after : List Standing) →
-    before ≡ map (standing_after (map v (take i xs))) totals → after ≡ map (advanced (v x)) before → after ≡ map (standing_after (map v (take (i + 1) xs))) totals
+pub next_after : {X : Type 0} (v : X → List Value) (xs : List X) (i : ℕ) (x : X) → i < length xs → x ≡ get_or xs i x → (totals : List (Aggregate (Expr (ℕ)))) (before after : List RunningTotal) →
+    before ≡ map (running_total_after (map v (take i xs))) totals → after ≡ map (advanced (v x)) before → after ≡ map (running_total_after (map v (take (i + 1) xs))) totals
 next_after v xs i x lt is totals before after are next =
     let sofar = map v (take i xs) in
     let more : map v (take (i + 1) xs) ≡ sofar ++ v x ∷ [] = map_more v xs i x lt ∙ ap (λ y. sofar ++ v y ∷ []) (sym is) in

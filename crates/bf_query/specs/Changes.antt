@@ -29,10 +29,3 @@ counted other count = None
 abbrev pub LeavesKeys : Action → Type 0
 LeavesKeys (action.Update table sets cond fixed) = IsTrue (list_all (λ set. not (has nat_eq table.key set.0)) sets)
 LeavesKeys other = Unit {0}
-
--- what a change of a table has to be, so that rows stand under their own keys after it
-pub record IsReadyOn (table : Table) (act : Action) : Type 0 where
-  pub change : IsChange act
-  pub of_table : action_table act ≡ Some table
-  pub bound : IsWellBound act
-  pub leaves : LeavesKeys act

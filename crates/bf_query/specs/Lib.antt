@@ -2,5 +2,5 @@ pub mod Actions
 pub mod Changes
 pub mod Meanings
 pub mod Merged
-pub mod Standings
+pub mod RunningTotals
 pub mod Sums

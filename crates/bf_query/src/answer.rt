@@ -97,6 +97,3 @@ pub fn answer(alloc: Global, items: &Items, rows: &[&Row]) -> Result<Reply, Memo
         Err(StatementError::Memory) => Err(Memory),
     }
 }
-
-#[cfg(test)]
-mod tests;

@@ -1,6 +1,6 @@
 //! INSERT, UPDATE and DELETE.
 
-ghost use Rattle.std.specs.Prelude.{◌≡◌, ◌<◌, ◌++◌, [], IfOk, OnOk, None, Some, map, flat_map, fold, length};
+ghost use Rattle.std.specs.Prelude.{◌≡◌, ◌++◌, IfOk, OnErr, OnOk, None, Some, map, flat_map};
 ghost use Rattle.std.specs.List.{All};
 ghost use Rattle.bf_base.specs.Lists.{when};
 ghost use Rattle.bf_base.specs.Tables.{IsKeyWithin, cell, fit_of, key_of};
@@ -8,7 +8,6 @@ ghost use Rattle.bf_tree.specs.Evaluation.{sure_value, value_of};
 ghost use Rattle.bf_tree.specs.declared.reply.Refusal.TheVariants.{DuplicateKey};
 ghost use Rattle.bf_sql.specs.Queries.{changed};
 ghost use Rattle.bf_sql.specs.RowObjections.{change_objections, fit_objections, insert_objections, unfit_objections, unfit_row_objections, value_objections};
-ghost use Rattle.bf_txn.specs.Writes.{with_write};
 ghost use Rattle.bf_query.specs.Actions.{HaveOwnKeys, IsChange, IsWellBound, admitted_at, change_reply, objections_on, rows_for, write_of, writes_of, written};
 ghost use Rattle.bf_query.specs.Changes.{counted, is_taken};
 ghost use Rattle.bf_query.specs.Merged.{StandUnderOwnKeys, rows_under};
@@ -226,16 +225,6 @@ fn plan(
     }
 }
 
-/// Notes writes, one after the other. After an error the workspace has some of them.
-fn note(workspace: &mut Workspace, writes: Sequence<Write>) -> Result<(), Memory>
-    ensures { OnOk result (workspace.new ≡ fold with_write workspace.old writes) }
-{
-    for write in writes.into_vec() {
-        workspace.write(write.table, write.key, write.row)?;
-    }
-    Ok(())
-}
-
 /// The reply to a change of so many rows.
 fn reply(action: &Action, count: u32) -> Reply
     requires { IsChange action.now }
@@ -256,8 +245,7 @@ fn reply(action: &Action, count: u32) -> Reply
 /// logarithmic in the rows; else an UPDATE or a DELETE goes over the rows once.
 ///
 /// # Errors
-/// Where memory runs out, or 2 ^ 32 rows or more change. The workspace may have some of the
-/// statement's writes then.
+/// Where memory runs out, or 2 ^ 32 rows or more change. The workspace is as it was then.
 pub fn changes(
     alloc: Global,
     bound: &Bound,
@@ -274,6 +262,7 @@ pub fn changes(
         (workspace.new ≡ written (objections_on
         (rows_for heap.now.entries workspace.old bound.now.action) bound.now.action) workspace.old
         (writes_of (rows_for heap.now.entries workspace.old bound.now.action) bound.now.action)) }
+    ensures err { OnErr result (workspace.new ≡ workspace.old) }
 {
     let action = &bound.action;
     let writes = match plan(alloc, heap, workspace, action) {
@@ -284,6 +273,6 @@ pub fn changes(
     let Ok(count) = u32::try_from(writes.as_slice().len()) else {
         return Err(Memory);
     };
-    note(workspace, writes)?;
+    workspace.write_all(writes)?;
     Ok(reply(action, count))
 }

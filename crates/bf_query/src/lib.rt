@@ -9,8 +9,6 @@ pub mod merge;
 mod running;
 pub mod selection;
 mod sum;
-#[cfg(test)]
-mod tests;
 
 pub use change::changes;
 pub use selection::select;

@@ -7,7 +7,7 @@ ghost use Rattle.bf_tree.specs.Evaluation.{sure_value, value_of};
 ghost use Rattle.bf_sql.specs.RowObjections.{answer_objections, value_objections};
 ghost use Rattle.bf_sql.specs.Totals.{total_of};
 ghost use Rattle.bf_tree.specs.declared.items.Items.TheVariants.{Aggregates};
-ghost use Rattle.bf_query.specs.Standings.{IsCountable, advanced, end_objections, row_objections, standing, standing_after, total_cell};
+ghost use Rattle.bf_query.specs.RunningTotals.{IsCountable, advanced, end_objections, row_objections, running_total, running_total_after, total_cell};
 ghost use Rattle.bf_tree.specs.Settling.{Settles};
 
 use crate::sum::ExactSum;
@@ -40,7 +40,7 @@ pub fn value_or_refusal(alloc: Global, expr: &Expr, row: &Row) -> Result<Value, 
 impl<'a> Running<'a> {
     /// The total of no rows.
     fn new(total: &'a Aggregate) -> Running<'a>
-        ensures { standing result ≡ standing_after [] total.now }
+        ensures { running_total result ≡ running_total_after [] total.now }
     {
         match total {
             Aggregate::Count => Running::Count(0),
@@ -52,9 +52,10 @@ impl<'a> Running<'a> {
 
     /// Takes a row in.
     fn advance(&mut self, alloc: Global, row: &Row) -> Result<(), StatementError>
-        requires { IsCountable (standing self.old) }
-        ensures objections { Settles result (row_objections row.now (standing self.old)) tt }
-        ensures total { OnOk result (standing self.new ≡ advanced row.now (standing self.old)) }
+        requires { IsCountable (running_total self.old) }
+        ensures objections { Settles result (row_objections row.now (running_total self.old)) tt }
+        ensures total { OnOk result (running_total self.new
+            ≡ advanced row.now (running_total self.old)) }
     {
         match self {
             Running::Count(rows) => *rows += 1,
@@ -77,9 +78,9 @@ impl<'a> Running<'a> {
 
     /// The total of all rows.
     fn finish(self) -> Result<Cell, StatementError>
-        requires { IsCountable (standing self) }
-        ensures { Settles result (end_objections (standing self.entry))
-            (total_cell (standing self.entry)) }
+        requires { IsCountable (running_total self) }
+        ensures { Settles result (end_objections (running_total self.entry))
+            (total_cell (running_total self.entry)) }
     {
         match self {
             Running::Count(rows) => Ok(Cell::Value(Value::Int(rows as i64))),
@@ -99,7 +100,7 @@ impl<'a> Running<'a> {
 /// The totals of no rows.
 fn started<'a>(alloc: Global, totals: &'a [Aggregate]) -> Result<Vec<Running<'a>>, Memory>
     ensures { IfOk result (λ running.
-        map standing running.items ≡ map (standing_after []) totals.now) }
+        map running_total running.items ≡ map (running_total_after []) totals.now) }
 {
     let mut running = Vec::with_capacity(alloc, totals.len())?;
     for total in totals {
@@ -110,11 +111,11 @@ fn started<'a>(alloc: Global, totals: &'a [Aggregate]) -> Result<Vec<Running<'a>
 
 /// Takes a row into each total, the first one first.
 fn advance_all(alloc: Global, running: &mut [Running<'_>], row: &Row) -> Result<(), StatementError>
-    requires { All IsCountable (map standing running.old) }
+    requires { All IsCountable (map running_total running.old) }
     ensures objections { Settles result
-        (flat_map (row_objections row.now) (map standing running.old)) tt }
-    ensures totals { OnOk result (map standing running.new
-        ≡ map (advanced row.now) (map standing running.old)) }
+        (flat_map (row_objections row.now) (map running_total running.old)) tt }
+    ensures totals { OnOk result (map running_total running.new
+        ≡ map (advanced row.now) (map running_total running.old)) }
 {
     for total in running.iter_mut() {
         total.advance(alloc, row)?;
@@ -124,9 +125,9 @@ fn advance_all(alloc: Global, running: &mut [Running<'_>], row: &Row) -> Result<
 
 /// Ends each total, the first one first.
 fn finished(alloc: Global, running: Vec<Running<'_>>) -> Result<Sequence<Cell>, StatementError>
-    requires { All IsCountable (map standing running.items) }
-    ensures { Settles result (flat_map end_objections (map standing running.entry.items))
-        (map total_cell (map standing running.entry.items)) }
+    requires { All IsCountable (map running_total running.items) }
+    ensures { Settles result (flat_map end_objections (map running_total running.entry.items))
+        (map total_cell (map running_total running.entry.items)) }
 {
     let mut cells = Vec::with_capacity(alloc, running.len())?;
     for total in running {

@@ -39,6 +39,3 @@ pub fn select(
     let rows = selected_rows(alloc, heap, workspace, table, cond, fixed)?;
     answer(alloc, items, &rows)
 }
-
-#[cfg(test)]
-mod tests;

@@ -17,19 +17,19 @@ use Rattle.bf_sql.specs.Database.{Database}
 use Rattle.bf_sql.specs.Groups.{groups_from, groups_in, statements_in, session_at, no_session, has_statement, ends_block, is_stray}
 use Rattle.bf_sql.specs.History.{stands_in, settled, IsApart}
 use Rattle.bf_machine.specs.InOrder.{NoCause, none_open, entry_of}
-use Rattle.bf_machine.specs.Sessions.{Standing, stepped, at_rest, session_from, sessions_from}
+use Rattle.bf_machine.specs.Sessions.{SessionState, stepped, at_rest, session_from, sessions_from}
 use Rattle.bf_machine.proofs.order.Places.{IsAt, at_next, at_behind, part_at, item_at}
 use Rattle.bf_machine.proofs.order.Blocks.{Run}
-use Rattle.bf_machine.proofs.order.Course.{IsGroup, IsStray, by_groups, outcome_here, commits_here}
+use Rattle.bf_machine.proofs.order.Groups.{IsGroup, IsStray, by_groups, outcome_here, commits_here}
 use Rattle.bf_machine.proofs.order.Entries.{rests, text_at}
 use Rattle.bf_machine.proofs.order.Replies.{length-settled}
 
-length-session : (k n : ℕ) (at : Standing) (ss : List Statement) → length (session_from k n at ss).0 ≡ length ss
+length-session : (k n : ℕ) (at : SessionState) (ss : List Statement) → length (session_from k n at ss).0 ≡ length ss
 length-session k n at [] = refl
 length-session k n at (s ∷ ss) = ap suc (length-session k (n + 1) (stepped k n at s).1 ss)
 
 -- every statement has its reply
-pub all_answered : (k : ℕ) (at : Standing) (ss : List Session) → map (λ t. length t) (sessions_from k at ss).0 ≡ map (λ s. length s.statements) ss
+pub all_answered : (k : ℕ) (at : SessionState) (ss : List Session) → map (λ t. length t) (sessions_from k at ss).0 ≡ map (λ s. length s.statements) ss
 all_answered k at [] = refl
 all_answered k at (s ∷ ss) =
     rw (length-session k 1 at s.statements)
@@ -144,7 +144,7 @@ module _ (script : Script) (transcripts : List (List Reply)) (history : List Ent
       let others = sessions_from (k + 1) run.1 ss in
       let same : HasSame k 1 s.statements = λ j low. rw here refl in
       let own : AllApart (numbered_from k 1 run.0) = session_apart k s.statements 1 c db before others.2 (text_at script k s ss at) same split in
-      let AreApart : Standing → Type 0 = λ standing.
+      let AreApart : SessionState → Type 0 = λ standing.
       let later = sessions_from (k + 1) standing ss in
       history ≡ (before ++ run.2) ++ later.2 → AllApart (flat_map (λ s. numbered_from s.0 1 s.1) (enumerate_from (k + 1) later.0)) in
       let others_apart : AreApart run.1 =

@@ -10,17 +10,17 @@ use Rattle.bf_sql.specs.Database.{Database}
 use Rattle.bf_sql.specs.Meaning.{executed}
 use Rattle.bf_sql.specs.Groups.{groups_from, ends_block, last_is_commit}
 use Rattle.bf_sql.specs.History.{run_group}
-use Rattle.bf_machine.specs.Sessions.{Standing, Turn, inside, session_from}
+use Rattle.bf_machine.specs.Sessions.{SessionState, Turn, inside, session_from}
 
 -- what comes of a session's statements
 abbrev pub Run : Type 0
-Run = List Reply × Standing × List Entry
+Run = List Reply × SessionState × List Entry
 
 -- what comes of statements behind others that end no transaction
 abbrev pub behind : List Reply → Run → Run
 behind answers run = (answers ++ run.0, run.1, run.2)
 
-abbrev pub in_block : Database → ℕ → ℕ → Database → Standing
+abbrev pub in_block : Database → ℕ → ℕ → Database → SessionState
 in_block db c first view = record { db = db; commits = c; block = Some (first, view) }
 
 -- no statement of a list ends a block

@@ -8,17 +8,17 @@ use Rattle.bf_tree.specs.declared.history.Entry.{Entry}
 use Rattle.bf_sql.specs.Database.{Database}
 use Rattle.bf_sql.specs.Groups.{groups_from, groups_in, session_at, no_session, statements_in, commits, outcomes_from}
 use Rattle.bf_machine.specs.InOrder.{entry_of}
-use Rattle.bf_machine.specs.Sessions.{Standing, stepped, at_rest, session_from, sessions_from}
+use Rattle.bf_machine.specs.Sessions.{SessionState, stepped, at_rest, session_from, sessions_from}
 use Rattle.bf_machine.proofs.order.Places.{IsAt, at_start, at_next, at_behind, part_at, item_at}
 use Rattle.bf_machine.proofs.order.Blocks.{Run}
-use Rattle.bf_machine.proofs.order.Course.{IsGroup, IsStray, by_groups, outcome_here, commits_here}
+use Rattle.bf_machine.proofs.order.Groups.{IsGroup, IsStray, by_groups, outcome_here, commits_here}
 
 -- a group, and the session that it is of
 abbrev pub Group : Type 0
 Group = ℕ × (ℕ × ℕ)
 
 -- a session's end leaves no open block
-pub rests : (k n : ℕ) (at : Standing) (ss : List Statement)
+pub rests : (k n : ℕ) (at : SessionState) (ss : List Statement)
     → let last = (session_from k n at ss).1 in last ≡ at_rest last.commits last.db
 rests k n at [] = refl
 rests k n at (s ∷ ss) = rests k (n + 1) (stepped k n at s).1 ss

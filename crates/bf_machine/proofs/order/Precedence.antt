@@ -14,7 +14,7 @@ use Rattle.bf_sql.specs.Groups.{groups_from, groups_in, session_at, no_session}
 use Rattle.bf_sql.specs.History.{may_precede}
 use Rattle.bf_machine.specs.Runnable.{phases_rise_from}
 use Rattle.bf_machine.proofs.order.Places.{IsAt, at_start, at_next, item_at, list_all-weaker}
-use Rattle.bf_machine.proofs.order.Course.{IsGroup, IsStray, by_groups}
+use Rattle.bf_machine.proofs.order.Groups.{IsGroup, IsStray, by_groups}
 use Rattle.bf_machine.proofs.order.Entries.{Group, entries_from, groups_at}
 use Rattle.bf_machine.proofs.order.Whole.{group_of, groups_entered}
 

@@ -15,7 +15,7 @@ use Rattle.bf_machine.specs.InOrder.{entry_of}
 use Rattle.bf_machine.specs.Sessions.{at_rest, session_from, sessions_from}
 use Rattle.bf_machine.proofs.order.Places.{IsAt, at_start, at_next, at_behind, part_at, item_at}
 use Rattle.bf_machine.proofs.order.Blocks.{Run, length-run_group}
-use Rattle.bf_machine.proofs.order.Course.{IsGroup, IsStray, by_groups, outcome_here, commits_here}
+use Rattle.bf_machine.proofs.order.Groups.{IsGroup, IsStray, by_groups, outcome_here, commits_here}
 use Rattle.bf_machine.proofs.order.Entries.{rests, text_at}
 
 -- each statement of a group has its reply

@@ -11,7 +11,7 @@ use Rattle.bf_sql.specs.Database.{Database}
 use Rattle.bf_live.specs.Live.{catalog_of, committed}
 use Rattle.bf_machine.specs.declared.transaction.Transaction.{Transaction}
 use Rattle.bf_machine.specs.InOrder.{is_migrate}
-use Rattle.bf_machine.specs.Sessions.{Standing, Turn, at_rest, inside, outside, session_from, sessions_from, stepped}
+use Rattle.bf_machine.specs.Sessions.{SessionState, Turn, at_rest, inside, outside, session_from, sessions_from, stepped}
 use Rattle.bf_machine.specs.Turns.{HasTaken, MayBeOpen, standing}
 use Rattle.bf_machine.proofs.serving.Steps.{behind, item_here, turn_first}
 
@@ -33,7 +33,7 @@ module _ (session m n : ℕ) (same : m ≡ n) (commits : ℕ) (db : Database) (b
   stepped_inside b is taken = record { taken = rw (is, ← same) taken; tables = tables; is_open = is_open }
 
 -- what the statements of a session have left, where so many of them have run
-pub record HasRun (session : ℕ) (start : Standing) (noted : List Entry) (all : List Statement) (place commits : ℕ)
+pub record HasRun (session : ℕ) (start : SessionState) (noted : List Entry) (all : List Statement) (place commits : ℕ)
     (db : Database) (block : Option Transaction) (replies : List Reply) (entries : List Entry) : Type 0 where
   pub plain : list_all (λ statement. not (is_migrate statement)) (drop place all) ≡ true
   pub narrow : list_all is_narrow_statement (drop place all) ≡ true
@@ -44,7 +44,7 @@ pub record HasRun (session : ℕ) (start : Standing) (noted : List Entry) (all :
   pub run : behind [] noted (session_from session 1 start all)
       ≡ behind replies entries (session_from session (place + 1) (standing commits db block) (drop place all))
 
-module _ (session : ℕ) (start : Standing) (noted : List Entry) (all : List Statement) (place commits : ℕ)
+module _ (session : ℕ) (start : SessionState) (noted : List Entry) (all : List Statement) (place commits : ℕ)
     (db : Database) (block : Option Transaction) (replies : List Reply) (entries : List Entry)
     (so_far : HasRun session start noted all place commits db block replies entries)
     (s : Statement) (less : place < length all) (here : s ≡ get_or all place s) where
@@ -78,7 +78,7 @@ module _ (session : ℕ) (start : Standing) (noted : List Entry) (all : List Sta
             ∙ (ap (λ (ss : List Statement). behind replies entries (session_from session (place + 1) at ss)) (item_here all place s less here)
             ∙ turn_first (stepped session (place + 1) at s) step.0 (standing commits' db' step.1) entries entries'
             after.taken.told after.taken.stands after.taken.entered
-            replies (λ (next : Standing). session_from session (place + 1 + 1) next rest));
+            replies (λ (next : SessionState). session_from session (place + 1 + 1) next rest));
       }
 
 abbrev pub are_plain : Session → Bool
@@ -88,7 +88,7 @@ abbrev pub are_narrow : Session → Bool
 are_narrow session = list_all is_narrow_statement session.statements
 
 -- what the sessions have left, where so many of them have run
-pub record HaveRun (start : Standing) (noted : List Entry) (all : List Session) (place commits : ℕ) (db : Database)
+pub record HaveRun (start : SessionState) (noted : List Entry) (all : List Session) (place commits : ℕ) (db : Database)
     (transcripts : List (List Reply)) (entries : List Entry) : Type 0 where
   pub plain : list_all are_plain (drop place all) ≡ true
   pub narrow : list_all are_narrow (drop place all) ≡ true
@@ -97,7 +97,7 @@ pub record HaveRun (start : Standing) (noted : List Entry) (all : List Session) 
   pub run : behind [] noted (sessions_from 1 start all)
       ≡ behind transcripts entries (sessions_from (place + 1) (at_rest commits db) (drop place all))
 
-module _ (start : Standing) (noted : List Entry) (all : List Session) (place commits : ℕ) (db : Database)
+module _ (start : SessionState) (noted : List Entry) (all : List Session) (place commits : ℕ) (db : Database)
     (transcripts : List (List Reply)) (entries : List Entry) (so_far : HaveRun start noted all place commits db transcripts entries)
     (s : Session) (less : place < length all) (here : s ≡ get_or all place s) where
   session_is_plain : (are_plain s ≡ true) × (list_all are_plain (drop (place + 1) all) ≡ true)
@@ -130,5 +130,5 @@ module _ (start : Standing) (noted : List Entry) (all : List Session) (place com
         run = so_far.run
             ∙ (ap (λ (ss : List Session). behind transcripts entries (sessions_from (place + 1) at ss)) (item_here all place s less here)
             ∙ turn_first (session_from (place + 1) 1 at s.statements) replies (at_rest commits' db') entries entries' told stands entered
-            transcripts (λ (next : Standing). sessions_from (place + 1 + 1) next rest));
+            transcripts (λ (next : SessionState). sessions_from (place + 1 + 1) next rest));
       }

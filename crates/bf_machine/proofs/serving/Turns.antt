@@ -17,7 +17,7 @@ use Rattle.bf_live.proofs.keeps.Statements.{keeps_plain}
 use Rattle.bf_txn.specs.declared.write.Write.{Write}
 use Rattle.bf_machine.specs.InOrder.{is_migrate}
 use Rattle.bf_machine.specs.Open.{IsStep, goes_on}
-use Rattle.bf_machine.specs.Sessions.{Standing, alone, at_rest, ended, inside, outside}
+use Rattle.bf_machine.specs.Sessions.{SessionState, alone, at_rest, ended, inside, outside}
 use Rattle.bf_machine.specs.Turns.{HasTaken, standing}
 use Rattle.bf_machine.proofs.statements.Seeing.{nothing_written}
 
@@ -43,7 +43,7 @@ still_database db new s plain is (Ok answer) meant same = subst IsDatabase (ap (
 still_database db new s plain is (Err e) meant same = rw same is
 
 -- a standing has the tables that it is at rest with
-pub narrow_at : (at : Standing) (commits : ℕ) (db : Database) → at ≡ at_rest commits db → HasNarrowTables (catalog_of db) → HasNarrowTables (catalog_of at.db)
+pub narrow_at : (at : SessionState) (commits : ℕ) (db : Database) → at ≡ at_rest commits db → HasNarrowTables (catalog_of db) → HasNarrowTables (catalog_of at.db)
 narrow_at at commits db stands narrow = rw stands narrow
 
 module _ (session n commits : ℕ) (db : Database) where
@@ -72,7 +72,7 @@ module _ (session n commits : ℕ) (db : Database) where
   -- a plain statement outside a block is a transaction, which commits
   pub alone_taken : (s : Statement) → is_autocommit s ≡ true → (answer : Reply) (new : Database)
       → ((commit : ℕ) → executed commit db false s ≡ (answer, new))
-      → (next : Standing) (before after : List Entry) → next ≡ at_rest (commits + 1) new
+      → (next : SessionState) (before after : List Entry) → next ≡ at_rest (commits + 1) new
       → after ≡ before ++ ended session n n (Committed (commits + 1))
       → HasTaken (outside session n commits db s) answer next before after
   alone_taken s plain answer new meant next before after stands entered = rw (outside_plain s plain) (record {

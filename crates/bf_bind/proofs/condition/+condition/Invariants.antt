@@ -6,4 +6,4 @@ abbrev pub decreases-bind_test : goal.decreases-bind_test
 decreases-bind_test l = 2 * tests l.raw.now
 
 abbrev pub decreases-bind_sides : goal.decreases-bind_sides
-decreases-bind_sides l = 2 * (tests l.c.now + tests l.d.now) + 1
+decreases-bind_sides l = 2 * (tests l.left.now + tests l.right.now) + 1

@@ -30,7 +30,7 @@ create_table-requires c =
     let copied = c.in_ok-copy-in-CreateTable in
     let made = creates_alone c.args.live.now c.catalog.ensures.database c.args.statement.now c.requires.plain _ c.catalog.ensures.catalog
     c.in_ok-bound.bound c.in_ok-bound.ensures copied.field-0 (c.in-CreateTable.is ∙ ap action.CreateTable (sym copied.ensures)) in
-    record { fresh = made.fresh; database = made.database }
+    record { database = made.database }
 
 pub returns-in-CreateTable : goal.returns-in-CreateTable
 returns-in-CreateTable c =
@@ -78,7 +78,7 @@ commit-requires c =
     let s = c.args.statement.now in
     let bound = bound_first c.args.live.now c.catalog.ensures.database s c.requires.plain _ c.catalog.ensures.catalog
     c.in_ok-bound.bound c.in_ok-bound.ensures c.new-writes.result c.new-writes.ensures table (of_table c.in_ok-bound.bound.action table c.in-Select.is) in
-    let step = c.in_ok-reply-in-Select.ensures false s bound in
+    let step = c.in_ok-reply-in-Select.ensures.step false s bound in
     record { own_keys = step.is_open.own_keys; database = step.is_open.database }
 
 pub returns-in-Select-clause-replies : goal.returns-in-Select-clause-replies
@@ -89,7 +89,7 @@ returns-in-Select-clause-replies c =
     let bound = bound_first db c.catalog.ensures.database s c.requires.plain _ c.catalog.ensures.catalog
     c.in_ok-bound.bound c.in_ok-bound.ensures c.new-writes.result c.new-writes.ensures table (of_table c.in_ok-bound.bound.action table c.in-Select.is) in
     committed_step db c.new-writes.result c.run_on_table.new.writes s c.in_ok-reply-in-Select.reply c.commit.new.self c.new-writes.ensures
-    (c.in_ok-reply-in-Select.ensures false s bound) c.in_ok-commit-in-Select.ensures.ok
+    (c.in_ok-reply-in-Select.ensures.step false s bound) c.in_ok-commit-in-Select.ensures.ok
 
 pub returns-in-Select-clause-narrow : goal.returns-in-Select-clause-narrow
 returns-in-Select-clause-narrow c =

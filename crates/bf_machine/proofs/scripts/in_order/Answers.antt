@@ -8,7 +8,7 @@ use Rattle.bf_tree.specs.declared.history.Sweep.TheVariants.{Never}
 use Rattle.bf_sql.specs.Database.{empty_database}
 use Rattle.bf_machine.specs.InOrder.{IsRunInOrder}
 use Rattle.bf_machine.specs.Runnable.{phases_rise_from}
-use Rattle.bf_machine.specs.Sessions.{Standing, script_from, sessions_from}
+use Rattle.bf_machine.specs.Sessions.{SessionState, script_from, sessions_from}
 use Rattle.bf_machine.proofs.order.Legal.{run_is_answered, run_is_entered, run_is_legal}
 use Rattle.bf_machine.proofs.scripts.in_order.Goals as goal
 
@@ -27,10 +27,10 @@ is_run script rise transcripts history told noted =
 
 pub returns : goal.returns
 returns c =
-    let begun = c.new-course.ensures in
+    let begun = c.new-run_so_far.ensures in
     let ran = c.in_ok-transcripts.ensures in
     let sessions = c.as_slice.ensures in
     is_run c.args.script.now c.requires.phases c.of.result c.into_entries.result
-    (c.of.ensures ∙ (ran.replies ∙ ap₂ (λ (at : Standing) (ss : List Session). (sessions_from 1 at ss).0) begun.stands sessions))
+    (c.of.ensures ∙ (ran.replies ∙ ap₂ (λ (at : SessionState) (ss : List Session). (sessions_from 1 at ss).0) begun.stands sessions))
     (c.into_entries.ensures ∙ (ran.entries ∙ ap₂ (λ (before later : List Entry). before ++ later) begun.entries
-    (ap₂ (λ (at : Standing) (ss : List Session). (sessions_from 1 at ss).2) begun.stands sessions)))
+    (ap₂ (λ (at : SessionState) (ss : List Session). (sessions_from 1 at ss).2) begun.stands sessions)))

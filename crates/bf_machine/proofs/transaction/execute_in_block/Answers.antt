@@ -13,8 +13,8 @@ bind-requires-clause-database c =
     subst (λ (catalog : Catalog). IsDatabase (without_rows catalog)) (sym c.catalog.ensures.catalog)
     (bare_is_database c.args.live.now c.catalog.ensures.database)
 
-pub returns-in-Refused : goal.returns-in-Refused
-returns-in-Refused c =
+pub returns-in-Refused-clause-step : goal.returns-in-Refused-clause-step
+returns-in-Refused-clause-step c =
     let copied = c.in_ok-copy-in-Refused in
     refused_step c.args.live.now c.args.writes.now c.requires.«open» true c.args.statement.now refl _ c.catalog.ensures.catalog
     c.in_ok-bound.bound c.in_ok-bound.ensures copied.field-0 (c.in-Refused.is ∙ ap action.Refused (sym copied.ensures))
@@ -25,10 +25,10 @@ run_on_table-requires-clause-on c =
     on_its_table c.args.live.now c.args.writes.now c.requires.«open» true c.args.statement.now refl _ c.catalog.ensures.catalog
     c.in_ok-bound.bound c.in_ok-bound.ensures table (of_table c.in_ok-bound.bound.action table c.in-Select.is)
 
-pub returns-in-Select : goal.returns-in-Select
-returns-in-Select c =
+pub returns-in-Select-clause-step : goal.returns-in-Select-clause-step
+returns-in-Select-clause-step c =
     let table = c.in-Select.table in
     let s = c.args.statement.now in
     let bound = bound_on c.args.live.now c.args.writes.now c.requires.«open» true s refl _ c.catalog.ensures.catalog
     c.in_ok-bound.bound c.in_ok-bound.ensures table (of_table c.in_ok-bound.bound.action table c.in-Select.is) in
-    c.run_on_table.ensures true s bound
+    c.run_on_table.ensures.step true s bound

@@ -14,8 +14,8 @@ select-requires-clause-keys c =
     own_keys_there c.args.live.now c.args.writes.now c.requires.database c.requires.«open» c.args.table.now c.args.bound.now.action c.requires.on
     _ c.in-Some.ensures
 
-pub returns-in-Select : goal.returns-in-Select
-returns-in-Select c = λ in_block s bound.
+pub returns-in-Select-clause-step : goal.returns-in-Select-clause-step
+returns-in-Select-clause-step c = λ in_block s bound.
     let act = c.args.bound.now.action in
     select_steps c.args.live.now c.args.writes.now c.requires.database c.requires.«open» in_block s act c.args.table.now bound c.requires.on.of_table
     _ c.in-Some.ensures (subst IsSelect (sym c.in-Select.is) tt) c.select.result c.select.ensures
@@ -28,8 +28,8 @@ changes-requires c =
       keys = own_keys_there c.args.live.now c.args.writes.now c.requires.database c.requires.«open» c.args.table.now act c.requires.on _ c.in-Some.ensures;
     }
 
-pub returns : goal.returns
-returns c = λ in_block s bound.
+pub returns-clause-step : goal.returns-clause-step
+returns-clause-step c = λ in_block s bound.
     let act = c.args.bound.now.action in
     let change = is_change act c.args.table.now c.requires.on.of_table c.in_default-action.not-Select in
     change_steps c.args.live.now c.args.writes.now c.requires.database c.requires.«open» in_block s act c.args.table.now bound c.requires.on.of_table

@@ -1,36 +1,36 @@
 use Rattle.std.proofs.Common.{map, ◌∙◌, sym, ap, subst, length, ◌<◌, arith, get_or}
 use Rattle.std.proofs.lemmas.List.{length-map, map-set}
-use Rattle.bf_query.specs.Standings.{Standing, IsCountable, advanced, row_objections, standing}
+use Rattle.bf_query.specs.RunningTotals.{RunningTotal, IsCountable, advanced, row_objections, running_total}
 use Rattle.bf_query.proofs.Steps.{passes_on, stops, goes_on, next_left, taken_more, left_less}
 use Rattle.bf_query.proofs.running.advance_all.Goals as goal
 
 pub advance-requires : goal.advance-requires
 advance-requires c =
-    let z = standing c.total-item.result in
-    let lt : c.loop-total.total-index < length (map standing c.args.running.now) = simp length-map (omega arith) in
-    let here = next_left standing c.loop-total.running c.args.running.now c.loop-total.total-index c.total-item.result (omega arith) c.loop-total.invariant.left z in
-    subst (λ (s : Standing). IsCountable s) (sym here) (c.requires c.loop-total.total-index z lt)
+    let z = running_total c.total-item.result in
+    let lt : c.loop-total.total-index < length (map running_total c.args.running.now) = simp length-map (omega arith) in
+    let here = next_left running_total c.loop-total.running c.args.running.now c.loop-total.total-index c.total-item.result (omega arith) c.loop-total.invariant.left z in
+    subst (λ (s : RunningTotal). IsCountable s) (sym here) (c.requires c.loop-total.total-index z lt)
 
 pub returns-in_err-advance-clause-objections : goal.returns-in_err-advance-clause-objections
 returns-in_err-advance-clause-objections c =
-    let x = standing (get_or c.loop-total.running c.loop-total.total-index c.total-item.result) in
-    let lt : c.loop-total.total-index < length (map standing c.args.running.now) = simp length-map (omega arith) in
-    let here = next_left standing c.loop-total.running c.args.running.now c.loop-total.total-index c.total-item.result (omega arith) c.loop-total.invariant.left x in
+    let x = running_total (get_or c.loop-total.running c.loop-total.total-index c.total-item.result) in
+    let lt : c.loop-total.total-index < length (map running_total c.args.running.now) = simp length-map (omega arith) in
+    let here = next_left running_total c.loop-total.running c.args.running.now c.loop-total.total-index c.total-item.result (omega arith) c.loop-total.invariant.left x in
     passes_on _ _ _ _ _ (c.from_residual.ensures.1)
-    (stops (map standing c.args.running.now) c.loop-total.total-index x lt here (row_objections c.args.row.now) _ _ c.loop-total.invariant.none c.in_err-advance.ensures.objections)
+    (stops (map running_total c.args.running.now) c.loop-total.total-index x lt here (row_objections c.args.row.now) _ _ c.loop-total.invariant.none c.in_err-advance.ensures.objections)
 
 pub loop-total-preserved : goal.loop-total-preserved
 loop-total-preserved c =
-    let x = standing (get_or c.loop-total.running c.loop-total.total-index c.total-item.result) in
-    let lt : c.loop-total.total-index < length (map standing c.args.running.now) = simp length-map (omega arith) in
-    let lt_now : c.loop-total.total-index < length (map standing c.loop-total.running) = simp length-map (omega arith) in
-    let here = next_left standing c.loop-total.running c.args.running.now c.loop-total.total-index c.total-item.result (omega arith) c.loop-total.invariant.left x in
+    let x = running_total (get_or c.loop-total.running c.loop-total.total-index c.total-item.result) in
+    let lt : c.loop-total.total-index < length (map running_total c.args.running.now) = simp length-map (omega arith) in
+    let lt_now : c.loop-total.total-index < length (map running_total c.loop-total.running) = simp length-map (omega arith) in
+    let here = next_left running_total c.loop-total.running c.args.running.now c.loop-total.total-index c.total-item.result (omega arith) c.loop-total.invariant.left x in
     record {
       taken =
-          rw (map-set standing c.loop-total.running c.loop-total.total-index c.advance.new.self)
-          (taken_more (map standing c.loop-total.running) (map standing c.args.running.now) c.loop-total.total-index x lt_now lt (advanced c.args.row.now) (standing c.advance.new.self) c.loop-total.invariant.taken (c.in_ok-advance.ensures.total ∙ ap (advanced c.args.row.now) here));
+          rw (map-set running_total c.loop-total.running c.loop-total.total-index c.advance.new.self)
+          (taken_more (map running_total c.loop-total.running) (map running_total c.args.running.now) c.loop-total.total-index x lt_now lt (advanced c.args.row.now) (running_total c.advance.new.self) c.loop-total.invariant.taken (c.in_ok-advance.ensures.total ∙ ap (advanced c.args.row.now) here));
       left =
-          rw (map-set standing c.loop-total.running c.loop-total.total-index c.advance.new.self)
-          (left_less (map standing c.loop-total.running) (map standing c.args.running.now) c.loop-total.total-index (standing c.advance.new.self) c.loop-total.invariant.left);
-      none = goes_on (map standing c.args.running.now) c.loop-total.total-index x lt here (row_objections c.args.row.now) c.loop-total.invariant.none c.in_ok-advance.ensures.objections.0;
+          rw (map-set running_total c.loop-total.running c.loop-total.total-index c.advance.new.self)
+          (left_less (map running_total c.loop-total.running) (map running_total c.args.running.now) c.loop-total.total-index (running_total c.advance.new.self) c.loop-total.invariant.left);
+      none = goes_on (map running_total c.args.running.now) c.loop-total.total-index x lt here (row_objections c.args.row.now) c.loop-total.invariant.none c.in_ok-advance.ensures.objections.0;
     }

@@ -18,8 +18,8 @@ invariant_of-self-2 c =
     let with_table : c.insert.new.self ≡ insert c.self.inside.catalog.tables c.table_place-place.result c.args.table = c.in_ok-insert.ensures.ok in
     let inserted : c.insert-2.new.self.items ≡ insert c.reserve.new.self.items c.table_place-place.result c.new.result = rw c.unwrap.ensures at c.insert-2.ensures.items in
     let with_heap : c.insert-2.new.self.items ≡ insert c.self.inside.heaps.items c.table_place-place.result empty_heap = inserted ∙ ap₂ (λ hs h. insert hs c.table_place-place.result h) c.reserve.ensures.items c.new.ensures in
-    store_created c.self.inside.catalog c.self.inside.heaps.items c.self.invariant c.args.self.now c.self.view_is c.args.table c.table_place-place.result c.requires.fresh within behind
-    c.in_ok-number.number counted c.insert.new.self c.insert-2.new.self.items with_table with_heap c.requires.database
+    store_created c.self.inside.catalog c.self.inside.heaps.items c.self.invariant c.args.self.now c.self.view_is c.args.table c.table_place-place.result c.requires.database within behind
+    c.in_ok-number.number counted c.insert.new.self c.insert-2.new.self.items with_table with_heap
 
 pub returns-clause-ok : goal.returns-clause-ok
 returns-clause-ok c =
@@ -29,5 +29,5 @@ returns-clause-ok c =
     let with_table : c.insert.new.self ≡ insert c.self.inside.catalog.tables c.table_place-place.result c.args.table = c.in_ok-insert.ensures.ok in
     let inserted : c.insert-2.new.self.items ≡ insert c.reserve.new.self.items c.table_place-place.result c.new.result = rw c.unwrap.ensures at c.insert-2.ensures.items in
     let with_heap : c.insert-2.new.self.items ≡ insert c.self.inside.heaps.items c.table_place-place.result empty_heap = inserted ∙ ap₂ (λ hs h. insert hs c.table_place-place.result h) c.reserve.ensures.items c.new.ensures in
-    view_created c.self.inside.catalog c.self.inside.heaps.items c.self.invariant c.args.self.now c.self.view_is c.args.table c.table_place-place.result c.requires.fresh within behind
+    view_created c.self.inside.catalog c.self.inside.heaps.items c.self.invariant c.args.self.now c.self.view_is c.args.table c.table_place-place.result c.requires.database within behind
     c.in_ok-number.number counted c.insert.new.self c.insert-2.new.self.items with_table with_heap
