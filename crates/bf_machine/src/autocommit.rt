@@ -9,8 +9,8 @@ ghost use Rattle.bf_live.specs.Live.{catalog_of};
 use crate::transaction::run_on_table;
 use bf_base::Memory;
 use bf_bind::bind;
-use bf_tree::{Action, Reply, Statement};
 use bf_live::LiveTables;
+use bf_tree::{Action, Reply, Statement};
 use bf_txn::Workspace;
 use std::alloc::Global;
 

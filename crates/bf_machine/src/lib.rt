@@ -2,9 +2,9 @@
 //! another, and the history of what has ended.
 #![tactic(auto)]
 
-mod run_so_far;
-pub mod laws;
 mod autocommit;
+pub mod laws;
+mod run_so_far;
 mod scripts;
 mod transaction;
 

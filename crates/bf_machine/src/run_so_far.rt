@@ -14,8 +14,8 @@ ghost use Rattle.bf_machine.specs.Turns.{HasRoom, HasRoomToEnd, HasTaken, MayBeO
 use crate::autocommit::execute;
 use crate::transaction::{Transaction, execute_in_block};
 use bf_base::{Memory, Sequence, next_number};
-use bf_tree::{Entry, Outcome, Refusal, Reply, Statement};
 use bf_live::LiveTables;
+use bf_tree::{Entry, Outcome, Refusal, Reply, Statement};
 use bf_txn::Workspace;
 use std::alloc::Global;
 
@@ -172,12 +172,7 @@ impl RunSoFar {
                 Ok((Reply::RolledBack, None))
             }
             _ => {
-                let reply = execute_in_block(
-                    self.alloc,
-                    &self.live,
-                    &mut block.writes,
-                    statement,
-                )?;
+                let reply = execute_in_block(self.alloc, &self.live, &mut block.writes, statement)?;
                 Ok((reply, Some(block)))
             }
         }

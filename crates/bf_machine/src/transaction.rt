@@ -11,9 +11,9 @@ ghost use Rattle.bf_machine.specs.Open.{IsOpen, IsStep, goes_on};
 
 use bf_base::{Memory, Table};
 use bf_bind::bind;
+use bf_live::LiveTables;
 use bf_query::{changes, select};
 use bf_tree::{Action, Bound, Reply, Statement};
-use bf_live::LiveTables;
 use bf_txn::Workspace;
 use std::alloc::Global;
 

@@ -31,8 +31,8 @@ table_in s = s.table
 abbrev table_or_none : Option Stored → Table
 table_or_none o = unwrap_or (option_map table_in o) no_table
 
-abbrev without_rows : Stored → Stored
-without_rows s = table_without_rows s.table
+abbrev emptied : Stored → Stored
+emptied s = table_without_rows s.table
 
 -- a search that goes on alike finds alike
 pub either_found : {X Y : Type 0} (f : X → Y) (found : Bool) (x : X) (behind : Option X) (behind_that : Option Y)
@@ -43,28 +43,28 @@ either_found f false x behind behind_that same = same
 
 found_bare : (name : List ℕ) (tables : List Stored)
     → find (λ s. same_name s.table.name name) (map table_without_rows (map table_in tables))
-    ≡ option_map without_rows (find (λ s. same_name s.table.name name) tables)
+    ≡ option_map emptied (find (λ s. same_name s.table.name name) tables)
 found_bare name [] = refl
-found_bare name (s ∷ tables) = either_found without_rows (same_name s.table.name name) s _ _ (found_bare name tables)
+found_bare name (s ∷ tables) = either_found emptied (same_name s.table.name name) s _ _ (found_bare name tables)
 
 module _ (db : Database) where
   abbrev the_bare : Database
   the_bare = without_rows (catalog_of db)
 
-  stored_bare : (name : List ℕ) → stored_at the_bare name ≡ option_map without_rows (stored_at db name)
+  stored_bare : (name : List ℕ) → stored_at the_bare name ≡ option_map emptied (stored_at db name)
   stored_bare name = found_bare name db.tables
 
   there_alike : (name : List ℕ) → is_some (stored_at the_bare name) ≡ is_some (stored_at db name)
   there_alike name = ap is_some (stored_bare name) ∙ alike (stored_at db name)
     where
-      alike : (o : Option Stored) → is_some (option_map without_rows o) ≡ is_some o
+      alike : (o : Option Stored) → is_some (option_map emptied o) ≡ is_some o
       alike None = refl
       alike (Some s) = refl
 
   same_table_at : (name : List ℕ) → table_at the_bare name ≡ table_at db name
   same_table_at name = ap (λ (o : Option Stored). table_or_none o) (stored_bare name) ∙ alike (stored_at db name)
     where
-      alike : (o : Option Stored) → table_or_none (option_map without_rows o) ≡ table_or_none o
+      alike : (o : Option Stored) → table_or_none (option_map emptied o) ≡ table_or_none o
       alike None = refl
       alike (Some s) = refl
 
@@ -73,7 +73,7 @@ module _ (db : Database) where
   same_on_table name on_table =
       ap (λ (o : Option Stored). table_objections o name on_table) (stored_bare name) ∙ alike (stored_at db name)
     where
-      alike : (o : Option Stored) → table_objections (option_map without_rows o) name on_table ≡ table_objections o name on_table
+      alike : (o : Option Stored) → table_objections (option_map emptied o) name on_table ≡ table_objections o name on_table
       alike None = refl
       alike (Some s) = refl
 

@@ -7,21 +7,19 @@ use Rattle.bf_machine.proofs.serving.Turns.{goes_on_otherwise, inside_taken, nar
 use Rattle.bf_machine.proofs.statements.Seeing.{narrow_seen}
 use Rattle.bf_machine.proofs.run_so_far.RunSoFar.step_inside.Goals as goal
 
-pub returns-in_ok-number-in-Commit-clause-tables : goal.returns-in_ok-number-in-Commit-clause-tables
-returns-in_ok-number-in-Commit-clause-tables c =
-    narrow_at _ _ _ c.in_ok-number-in-Commit.ensures.stands
+pub returns-in_ok-commit-in-Commit-clause-tables : goal.returns-in_ok-commit-in-Commit-clause-tables
+returns-in_ok-commit-in-Commit-clause-tables c =
+    narrow_at _ _ _ c.commit-number.ensures.stands
     (subst (λ (db : Database). HasNarrowTables (catalog_of db)) (sym c.in_ok-commit-in-Commit.ensures.ok)
     (narrow_seen c.args.self.now.live c.args.block.writes c.requires.tables))
 
-pub returns-in_ok-reply-in_default : goal.returns-in_ok-reply-in_default
-returns-in_ok-reply-in_default c =
+pub returns-in_ok-reply-in_default-clause-taken : goal.returns-in_ok-reply-in_default-clause-taken
+returns-in_ok-reply-in_default-clause-taken c =
     let self = c.args.self.now in
     let s = c.args.statement.now in
-    let step = c.in_ok-reply-in_default.ensures in
-    record {
-      taken = inside_taken c.args.place.session c.args.place.statement self.commits self.live c.args.block.first c.args.block.writes
-          c.execute_in_block.new.writes s (goes_on_otherwise s c.in_default.not-Commit c.in_default.not-Rollback)
-          c.in_ok-reply-in_default.reply step self.entries.items;
-      «open» = step.is_open;
-      tables = c.requires.tables;
-    }
+    inside_taken c.args.place.session c.args.place.statement self.commits self.live c.args.block.first c.args.block.writes
+    c.execute_in_block.new.writes s (goes_on_otherwise s c.in_default.not-Commit c.in_default.not-Rollback)
+    c.in_ok-reply-in_default.reply c.in_ok-reply-in_default.ensures.step self.entries.items
+
+pub returns-in_ok-reply-in_default-clause-open : goal.returns-in_ok-reply-in_default-clause-open
+returns-in_ok-reply-in_default-clause-open c = c.in_ok-reply-in_default.ensures.step.is_open
