@@ -11,7 +11,7 @@ ghost use Rattle.bf_tree.specs.declared.reply.Reply.TheVariants as reply;
 ghost use Rattle.bf_query.specs.Actions.{unless_refused};
 ghost use Rattle.bf_tree.specs.Settling.{Settles};
 
-use crate::running::{value_or_refusal, totals};
+use crate::running::{totals, value_or_refusal};
 use bf_base::{Memory, Row, Sequence};
 use bf_tree::{Cell, Expr, Items, Reply, StatementError};
 use std::alloc::Global;
@@ -70,7 +70,11 @@ fn all_values(
 }
 
 /// What is given of some rows.
-fn given(alloc: Global, items: &Items, rows: &[&Row]) -> Result<Sequence<Sequence<Cell>>, StatementError>
+fn given(
+    alloc: Global,
+    items: &Items,
+    rows: &[&Row],
+) -> Result<Sequence<Sequence<Cell>>, StatementError>
     ensures { Settles result (answer_objections cell items.now (map (λ row. row.now) rows.now))
         (answer_of cell items.now (map (λ row. row.now) rows.now)) }
 {

@@ -16,8 +16,8 @@ ghost use Rattle.bf_tree.specs.Settling.{Settles, first_of};
 use crate::merge::{row_at, selected_rows};
 use crate::running::value_or_refusal;
 use bf_base::{Fit, Key, Memory, Row, Sequence, Table, Value, admits, key_of};
-use bf_tree::{Action, Bound, Expr, Refusal, Reply, StatementError};
 use bf_heap::Heap;
+use bf_tree::{Action, Bound, Expr, Refusal, Reply, StatementError};
 use bf_txn::{Workspace, Write};
 use std::alloc::Global;
 
@@ -125,7 +125,13 @@ fn fit_at(table: &Table, place: u8, value: &Value) -> Fit
 
 /// The value that a set gives a column of a row, if the expression has one there and the column
 /// admits it.
-fn set_value(alloc: Global, table: &Table, place: u8, expr: &Expr, row: &Row) -> Result<Value, StatementError>
+fn set_value(
+    alloc: Global,
+    table: &Table,
+    place: u8,
+    expr: &Expr,
+    row: &Row,
+) -> Result<Value, StatementError>
     ensures { Settles result (value_objections (value_of (cell row.now) expr.now)
         ++ unfit_objections (admitted_at table.now place) (sure_value (cell row.now) expr.now))
         (sure_value (cell row.now) expr.now) }
@@ -138,7 +144,12 @@ fn set_value(alloc: Global, table: &Table, place: u8, expr: &Expr, row: &Row) ->
 }
 
 /// A row with its sets, all from the old row.
-fn changed_row(alloc: Global, table: &Table, sets: &[(u8, Expr)], row: &Row) -> Result<Row, StatementError>
+fn changed_row(
+    alloc: Global,
+    table: &Table,
+    sets: &[(u8, Expr)],
+    row: &Row,
+) -> Result<Row, StatementError>
     ensures { Settles result (change_objections cell (admitted_at table.now) sets.now row.now)
         (changed cell (λ place. place) sets.now row.now) }
 {

@@ -9,8 +9,8 @@ ghost use Rattle.bf_sql.specs.Queries.{selected};
 ghost use Rattle.bf_query.specs.Merged.{AreByKey, StandUnderOwnKeys, entries_under, rows_ahead, rows_stepped, rows_under, steps_ahead};
 
 use bf_base::{Key, Memory, Name, Row, Table};
-use bf_tree::{Cond, holds};
 use bf_heap::Heap;
+use bf_tree::{Cond, holds};
 use bf_txn::{Workspace, Write};
 use std::alloc::Global;
 use std::cmp::Ordering;

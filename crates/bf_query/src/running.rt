@@ -138,7 +138,11 @@ fn finished(alloc: Global, running: Vec<Running<'_>>) -> Result<Sequence<Cell>, 
 
 /// The totals of some rows: the arguments are computed row by row, and the sums are judged at
 /// the end.
-pub fn totals(alloc: Global, totals: &[Aggregate], rows: &[&Row]) -> Result<Sequence<Cell>, StatementError>
+pub fn totals(
+    alloc: Global,
+    totals: &[Aggregate],
+    rows: &[&Row],
+) -> Result<Sequence<Cell>, StatementError>
     ensures { Settles result (answer_objections cell (Aggregates totals.now)
         (map (λ row. row.now) rows.now))
         (map (total_of cell (map (λ row. row.now) rows.now)) totals.now) }
