@@ -12,6 +12,7 @@ use Rattle.bf_base.specs.declared.table.Column.{Column}
 use Rattle.bf_base.specs.declared.table.Table.{Table}
 use Rattle.bf_base.specs.Lists.{same_name, has}
 use Rattle.bf_base.specs.Tables.{kind_admitted}
+use Rattle.bf_base.proofs.Order.{list_any-map}
 use Rattle.bf_tree.specs.declared.raw.Ref.{Ref}
 use Rattle.bf_sql.specs.Objections.{column_names}
 use Rattle.bf_sql.specs.Scopes.{scope_of, is_qualified_by, places_of, unqualified, qualifier_objections, ref_objections}
@@ -48,10 +49,6 @@ same_position_from p q same k (x ∷ xs) = rw (same x, same_position_from p q sa
 
 same_position : {X : Type 0} (p q : X → Bool) → ((x : X) → q x ≡ p x) → (xs : List X) → position q xs ≡ position p xs
 same_position p q same xs = position_from-zero q xs ∙ same_position_from q p same 0 xs ∙ sym (position_from-zero p xs)
-
-pub list_any-map : {X Y : Type 0} (p : Y → Bool) (f : X → Y) (xs : List X) → list_any p (map f xs) ≡ list_any (λ x. p (f x)) xs
-list_any-map p f [] = refl
-list_any-map p f (x ∷ xs) = rw (list_any-map p f xs)
 
 module _ {X Y : Type 0} (p : Y → Bool) (f : X → Y) where
   -- the places of the items that pass, counted from k

@@ -56,7 +56,7 @@ module _ (db : Database) (b : Bool) (s : Statement) where
   pub error_binds : {A : Type 0} (result : Result Action StatementError) (e : StatementError) (meant : A) (found : List Refusal) → IsErrAnd result (λ given. given ≡ e) → Settles (Err e) found meant → ((r : Refusal) → first_of found ≡ Some r → first_of (objections db b s) ≡ Some r) → Binds result db b s
   unfolding Binds
   error_binds (Ok act) e meant found given here then = absurd given
-  error_binds (Err given) e meant found same here then = handed_on meant (action_of db s) (Err given) e found (objections db b s) same here then
+  error_binds (Err given) e meant found same here then = handed_on (Err given) e found (objections db b s) meant (action_of db s) same here then
 
   -- a call that does the whole
   all_binds : (result : Result Action StatementError) (found : List Refusal) (meant : Action) → found ≡ objections db b s → Some meant ≡ action_of db s → Settles result found meant → Binds result db b s

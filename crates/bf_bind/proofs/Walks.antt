@@ -23,7 +23,7 @@ module _ {X : Type 0} (f : List X × X → List Refusal) (xs : List X) where
   module _ (i : ℕ) (so_far : all ≡ left_behind i) (x : X) (in_range : i < length xs) (is : x ≡ get_or xs i x) where
     pub walk_stops : {A B : Type 0} (result : Result B StatementError) (e : StatementError) (meant : A) (whole : B) → IsErrAnd result (λ given. given ≡ e) → Settles (Err e) (f (take i xs, x)) meant → Settles result all whole
     walk_stops result e meant whole same here =
-        handed_on meant whole result e (f (take i xs, x)) all same here
+        handed_on result e (f (take i xs, x)) all meant whole same here
         (λ r first. ap first_of (so_far ∙ left_more i x in_range is) ∙ first_ahead (f (take i xs, x)) (left_behind (i + 1)) r first)
 
 module _ {X : Type 0} (f : X → List Refusal) (xs : List X) where
@@ -36,5 +36,5 @@ module _ {X : Type 0} (f : X → List Refusal) (xs : List X) where
   module _ (i : ℕ) (so_far : flat_map f xs ≡ left_from i) (x : X) (in_range : i < length xs) (is : x ≡ get_or xs i x) where
     pub pass_stops : {A B : Type 0} (result : Result B StatementError) (e : StatementError) (meant : A) (whole : B) → IsErrAnd result (λ given. given ≡ e) → Settles (Err e) (f x) meant → Settles result (flat_map f xs) whole
     pass_stops result e meant whole same here =
-        handed_on meant whole result e (f x) (flat_map f xs) same here
+        handed_on result e (f x) (flat_map f xs) meant whole same here
         (λ r first. ap first_of (so_far ∙ left_from_more i x in_range is) ∙ first_ahead (f x) (left_from (i + 1)) r first)

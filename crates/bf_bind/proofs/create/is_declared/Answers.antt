@@ -4,7 +4,7 @@ use Rattle.std.proofs.lemmas.Iterator.{YieldsList-from_slice}
 use Rattle.std.proofs.lemmas.Iterator.Search.{any_from_yields_List}
 use Rattle.bf_base.specs.Lists.{same_name}
 use Rattle.bf_tree.specs.declared.statement.ColumnRule.{ColumnRule}
-use Rattle.bf_bind.proofs.Columns.{list_any-map}
+use Rattle.bf_base.proofs.Order.{list_any-map}
 use Rattle.bf_bind.proofs.create.is_declared.Goals as goal
 
 pub returns : goal.returns

@@ -5,7 +5,7 @@ use Rattle.std.proofs.lemmas.Iterator.Search.{any_from_yields_List}
 use Rattle.bf_base.specs.Lists.{same_name}
 use Rattle.bf_tree.specs.Trees.{Expr}
 use Rattle.bf_tree.specs.declared.raw.Ref.{Ref}
-use Rattle.bf_bind.proofs.Columns.{list_any-map}
+use Rattle.bf_base.proofs.Order.{list_any-map}
 use Rattle.bf_bind.proofs.tuples_and_sets.is_set.Goals as goal
 
 pub returns : goal.returns
