@@ -1,4 +1,4 @@
--- A live tables after a commit.
+-- The live tables after a commit.
 use Rattle.std.proofs.Common.{◌≡◌, ℕ, suc, ◌<◌, List, [], ◌∷◌, map, length, get_or, Result, Ok, Err, OnErr, refl, sym, ap, ap₂, subst, ◌∙◌, arith}
 use Rattle.std.specs.Prelude.{zip}
 use Rattle.std.specs.List.{All, AllByRecursion}

@@ -1,4 +1,4 @@
--- A live tables with one table more.
+-- The live tables with one table more.
 use Rattle.std.proofs.Common.{◌≡◌, ℕ, zero, suc, ◌+◌, ◌<◌, ◌≤◌, true, false, List, [], ◌∷◌, map, length, insert, find, None, is_some, refl, sym, ap, ap₂, subst, ◌∙◌, arith, is_le}
 use Rattle.std.specs.Prelude.{zip}
 use Rattle.std.specs.List.{All}

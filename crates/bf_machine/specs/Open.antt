@@ -1,4 +1,4 @@
--- A transaction that is open over a live tables, and a statement that runs in it.
+-- A transaction that is open over the live tables, and a statement that runs in it.
 use Rattle.std.specs.Prelude.{◌≡◌, ℕ, Bool, true, false, List, option_and_then, option_map, unwrap_or}
 use Rattle.std.specs.List.{All}
 use Rattle.bf_tree.specs.declared.statement.Statement.{Statement}
