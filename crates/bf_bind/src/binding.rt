@@ -22,7 +22,9 @@ use crate::fixed::bind_selection;
 use crate::list::bind_items;
 use crate::tuples_and_sets::{bind_sets, bind_tuples};
 use bf_base::{Memory, Name, Row, Sequence, Table};
-use bf_tree::{Action, Bound, Catalog, ColumnRule, List, RawCond, RawExpr, Refusal, Statement, StatementError};
+use bf_tree::{
+    Action, Bound, Catalog, ColumnRule, List, RawCond, RawExpr, Refusal, Statement, StatementError,
+};
 use std::alloc::Global;
 
 /// CREATE and MIGRATE stand outside a block.
@@ -55,7 +57,11 @@ fn expect_table<'a>(
     }
 }
 
-fn bind_insert(alloc: Global, table: &Table, tuples: &Sequence<Row>) -> Result<Action, StatementError>
+fn bind_insert(
+    alloc: Global,
+    table: &Table,
+    tuples: &Sequence<Row>,
+) -> Result<Action, StatementError>
     ensures { Settles result (flat_map (tuple_objections table.now) tuples.now)
         (action.Insert table.now tuples.now) }
 {
@@ -110,7 +116,11 @@ fn bind_update(
     })
 }
 
-fn bind_delete(alloc: Global, table: &Table, cond: &Option<RawCond>) -> Result<Action, StatementError>
+fn bind_delete(
+    alloc: Global,
+    table: &Table,
+    cond: &Option<RawCond>,
+) -> Result<Action, StatementError>
     requires { length table.now.columns ≤ most_columns }
     ensures { Settles result (cond_objections (scope_of table.now) (condition_of cond.now))
         (action.Delete table.now (cond_in table.now cond.now)

@@ -17,7 +17,11 @@ use bf_tree::{Compare, Cond, Operand, RawCond, RawTest, StatementError, Test};
 use std::alloc::Global;
 
 /// A literal or a column, and its kind.
-fn bind_operand(alloc: Global, table: &Table, operand: &Operand) -> Result<BoundExpr, StatementError>
+fn bind_operand(
+    alloc: Global,
+    table: &Table,
+    operand: &Operand,
+) -> Result<BoundExpr, StatementError>
     requires { length table.now.columns ≤ most_columns }
     ensures { Settles result (expr_objections (scope_of table.now) (operand_tree operand.now))
         (bound_expr table.now (operand_tree operand.now)) }

@@ -48,7 +48,11 @@ fn is_declared(name: &Name, rules: &[ColumnRule]) -> bool
 }
 
 /// A column of a new table, behind those before it.
-fn bind_rule(alloc: Global, before: &[ColumnRule], rule: &ColumnRule) -> Result<Column, StatementError>
+fn bind_rule(
+    alloc: Global,
+    before: &[ColumnRule],
+    rule: &ColumnRule,
+) -> Result<Column, StatementError>
     ensures { Settles result (rule_objections before.now rule.now) (new_column rule.now) }
 {
     if is_declared(&rule.name, before) {

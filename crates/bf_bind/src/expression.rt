@@ -46,7 +46,11 @@ pub(crate) fn bind_literal(alloc: Global, value: &Value) -> Result<BoundExpr, St
 ///
 /// # Errors
 /// The first objection to the ref.
-pub(crate) fn bind_column(alloc: Global, table: &Table, reference: &Ref) -> Result<BoundExpr, StatementError>
+pub(crate) fn bind_column(
+    alloc: Global,
+    table: &Table,
+    reference: &Ref,
+) -> Result<BoundExpr, StatementError>
     requires { length table.now.columns ≤ most_columns }
     ensures { Settles result (ref_objections (scope_of table.now) reference.now)
         (bound_expr table.now (trees.column reference.now)) }
@@ -97,7 +101,12 @@ pub(crate) fn bind_expression(
 
 /// The part of a node whose parts are of a kind.
 #[cycle(expression)]
-fn bind_part(alloc: Global, table: &Table, part: &RawExpr, kind: Kind) -> Result<Box<Expr>, StatementError>
+fn bind_part(
+    alloc: Global,
+    table: &Table,
+    part: &RawExpr,
+    kind: Kind,
+) -> Result<Box<Expr>, StatementError>
     requires { length table.now.columns ≤ most_columns }
     ensures { Settles (seen_as (λ part. part.value) result)
         (expr_objections (scope_of table.now) part.now

@@ -3,12 +3,12 @@
 #![tactic(auto)]
 
 pub mod binding;
-mod tuples_and_sets;
 mod condition;
 mod create;
 mod expression;
 mod fixed;
 mod list;
 mod scope;
+mod tuples_and_sets;
 
 pub use binding::bind;

@@ -14,7 +14,11 @@ use bf_base::{Kind, Sequence, Table};
 use bf_tree::{Aggregate, Expr, Items, List, RawAggregate, RawExpr, StatementError};
 use std::alloc::Global;
 
-fn bind_expressions(alloc: Global, table: &Table, exprs: &[RawExpr]) -> Result<Sequence<Expr>, StatementError>
+fn bind_expressions(
+    alloc: Global,
+    table: &Table,
+    exprs: &[RawExpr],
+) -> Result<Sequence<Expr>, StatementError>
     requires { length table.now.columns ≤ most_columns }
     ensures { Settles result (flat_map (expr_objections (scope_of table.now)) exprs.now)
         (map (expr_over (place_in table.now)) exprs.now) }
@@ -26,7 +30,11 @@ fn bind_expressions(alloc: Global, table: &Table, exprs: &[RawExpr]) -> Result<S
     Ok(Sequence::of(bound))
 }
 
-fn bind_total(alloc: Global, table: &Table, total: &RawAggregate) -> Result<Aggregate, StatementError>
+fn bind_total(
+    alloc: Global,
+    table: &Table,
+    total: &RawAggregate,
+) -> Result<Aggregate, StatementError>
     requires { length table.now.columns ≤ most_columns }
     ensures { Settles result (total_objections (scope_of table.now) total.now)
         (total_over (place_in table.now) total.now) }

@@ -69,7 +69,11 @@ fn is_qualifier(table: &Table, qualifier: &Name) -> bool
 }
 
 /// The qualifier of a ref, if it has one, has to be the table's name.
-fn expect_qualifier(alloc: Global, table: &Table, qualifier: &Option<Name>) -> Result<(), StatementError>
+fn expect_qualifier(
+    alloc: Global,
+    table: &Table,
+    qualifier: &Option<Name>,
+) -> Result<(), StatementError>
     ensures { Settles result (qualifier_objections (scope_of table.now) qualifier.now) tt }
 {
     match qualifier {
@@ -116,7 +120,11 @@ fn is_meant_from(table: &Table, reference: &Ref, from: usize) -> bool
 ///
 /// # Errors
 /// The qualifier is not the table's name, or no column or more than one has the name.
-pub(crate) fn column(alloc: Global, table: &Table, reference: &Ref) -> Result<ColumnPlace, StatementError>
+pub(crate) fn column(
+    alloc: Global,
+    table: &Table,
+    reference: &Ref,
+) -> Result<ColumnPlace, StatementError>
     requires { length table.now.columns ≤ most_columns }
     ensures { Settles result (ref_objections (scope_of table.now) reference.now)
         (column_of table.now reference.now) }
@@ -166,7 +174,12 @@ fn is_among(name: &Name, names: &[Name]) -> bool
 }
 
 /// The place of a column by its name, which may not be one of those before.
-fn place_named(alloc: Global, table: &Table, before: &[Name], name: &Name) -> Result<u8, StatementError>
+fn place_named(
+    alloc: Global,
+    table: &Table,
+    before: &[Name],
+    name: &Name,
+) -> Result<u8, StatementError>
     requires { length table.now.columns ≤ most_columns }
     ensures { Settles result (name_objections table.now before.now name.now)
         (place_in table.now (unqualified name.now)) }

@@ -3,8 +3,8 @@
 use crate::catalog::IndexRule;
 use crate::items::Items;
 use crate::reply::Refusal;
-use bf_base::{Key, Row, Sequence, Table};
 use crate::tree::{Cond, Expr};
+use bf_base::{Key, Row, Sequence, Table};
 
 /// What a statement is bound to do. Columns are places in a row of the table; `fixed` is the
 /// key that the condition fixes.

@@ -2,9 +2,9 @@
 
 ghost use Rattle.std.specs.Prelude.{◌≡◌, IfOk};
 
-use bf_base::{Memory, Sequence, TryClone};
 use crate::raw::RawExpr;
 use crate::tree::Expr;
+use bf_base::{Memory, Sequence, TryClone};
 use std::alloc::Global;
 
 /// A total over rows, of an expression on each of them. COUNT of no rows is 0; of no rows the

@@ -3,8 +3,8 @@
 ghost use Rattle.std.specs.Prelude.{◌≡◌, IfOk};
 
 use crate::items::RawAggregate;
-use bf_base::{Memory, Name, Sequence, TryClone};
 use crate::raw::{RawCond, RawExpr, Ref};
+use bf_base::{Memory, Name, Sequence, TryClone};
 use std::alloc::Global;
 
 /// A column of a new table, as an arm gives it.

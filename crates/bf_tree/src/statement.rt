@@ -4,8 +4,8 @@ ghost use Rattle.std.specs.Prelude.{◌≡◌, IfOk};
 
 use crate::items::List;
 use crate::migration::Migrate;
-use bf_base::{Memory, Name, Row, Sequence, TryClone};
 use crate::raw::{RawCond, RawExpr};
+use bf_base::{Memory, Name, Row, Sequence, TryClone};
 use std::alloc::Global;
 
 /// What a column is declared to admit.

@@ -9,14 +9,13 @@ ghost use Rattle.bf_tree.specs.Limits.{HasNarrowTables};
 
 use crate::fixtures::column;
 use crate::statements::{Form, Line, Part, Where, name, statement};
+use Line::{Begin, Commit, Create, Delete, Index, Insert, Rollback, Select, Totals, Update};
+use Part::{Letters, Named, Number, Of};
 use bf_base::{Admit, Column, Key, Sequence, Table, Value};
 use bf_bind::bind;
 use bf_tree::{Action, Catalog, Expr, IndexRule, Migrate, Refusal, Statement};
 use std::alloc::Global;
 use std::test::Fail;
-
-use Line::{Begin, Commit, Create, Delete, Index, Insert, Rollback, Select, Totals, Update};
-use Part::{Letters, Named, Number, Of};
 
 /// What a test sees of an action: names by their first letters, columns by the first place, rows
 /// by their count, and the number that the key is fixed to.

@@ -7,13 +7,15 @@ ghost use Rattle.bf_tree.specs.Limits.{declared_columns};
 ghost use Rattle.bf_bind.specs.Limits.{is_planned};
 
 use crate::fixtures::text;
-use bf_base::{Name, Row, Sequence, Value};
-use bf_tree::{Aggregate, ColumnForm, ColumnRule, Compare, Items, List, Operand, RawCond, RawExpr, RawNode, RawTest, Ref, Statement};
-use std::alloc::Global;
-use std::test::Fail;
-
 use Line::{Begin, Commit, Create, Delete, Index, Insert, Rollback, Select, Totals, Update};
 use Part::{Letters, Named, Number, Of};
+use bf_base::{Name, Row, Sequence, Value};
+use bf_tree::{
+    Aggregate, ColumnForm, ColumnRule, Compare, Items, List, Operand, RawCond, RawExpr, RawNode,
+    RawTest, Ref, Statement,
+};
+use std::alloc::Global;
+use std::test::Fail;
 
 /// A literal or a column.
 #[derive(Clone, Copy)]
