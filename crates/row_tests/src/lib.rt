@@ -1,0 +1,13 @@
+//! Tests of heaps and of workspaces, by their public calls.
+#![tactic(auto)]
+
+#[cfg(test)]
+mod fixtures;
+#[cfg(test)]
+mod heaps;
+#[cfg(test)]
+mod pages;
+#[cfg(test)]
+mod rooms;
+#[cfg(test)]
+mod workspaces;
