@@ -2,6 +2,7 @@
 
 use crate::fixtures::Cell::{self, Letters, Number};
 use crate::fixtures::{key, number, row};
+use bf_base::{Key, Row};
 use bf_heap::Heap;
 use std::alloc::Global;
 use std::process::Abort;
@@ -22,16 +23,19 @@ const RISING: [&[Cell]; 8] = [
 /// Keys that are none of those.
 const ABSENT: [&[Cell]; 3] = [&[], &[Number(1), Number(0)], &[Letters("a")]];
 
-/// Puts a row with a number, for which room is made where there is none, and answers the number
-/// of the row that stood there.
-pub fn put(alloc: Global, heap: &mut Heap, cells: &[Cell], new: i64) -> Result<Option<i64>, Fail> {
-    let key = key(alloc, cells)?;
-    let row = row(alloc, new)?;
+/// Puts a row, for which room is made where there is none, and answers the number of the row that
+/// stood there.
+pub fn put_row(heap: &mut Heap, key: Key, row: Row) -> Result<Option<i64>, Fail> {
     heap.reserve(1)?;
     match heap.put(key, row) {
         Some(former) => Ok(number(&former)),
         None => Ok(None),
     }
+}
+
+/// Puts a row with a number, and answers the number of the row that stood there.
+pub fn put(alloc: Global, heap: &mut Heap, cells: &[Cell], new: i64) -> Result<Option<i64>, Fail> {
+    put_row(heap, key(alloc, cells)?, row(alloc, new)?)
 }
 
 /// Compares the numbers of all rows, in the order of the keys.

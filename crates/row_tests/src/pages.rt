@@ -2,8 +2,9 @@
 //! one more.
 
 use crate::fixtures::Cell::{Letters, Number};
-use crate::fixtures::{key, number};
-use crate::heaps::put;
+use crate::fixtures::{key, number, row};
+use crate::heaps::{put, put_row};
+use bf_base::Key;
 use bf_heap::Heap;
 use std::alloc::Global;
 use std::process::Abort;
@@ -212,38 +213,53 @@ fn gives_emptied_pages_up(rt: HostRuntime) -> Result<(), Fail> {
 const WORDS: [&str; 5] = ["", "A", "a", "ab", "b"];
 
 /// The key at a place of 130: a word, and a number from -13 to 12.
-#[test]
-fn splits_pages_of_texts_and_numbers(rt: HostRuntime) -> Result<(), Fail> {
-    let alloc = rt.alloc();
+fn word_key(alloc: Global, place: u32) -> Result<Key, Fail> {
+    let word = *WORDS.get(place as usize / 26).ok_or("no word")?;
+    key(alloc, &[Letters(word), Number((place % 26) as i64 - 13)])
+}
+
+/// A heap of these keys, each with its place, put seven places on each time.
+fn words(alloc: Global) -> Result<Heap, Fail> {
     let mut heap = Heap::new(alloc);
-    for before in 0..130_u32 {
-        let place = before.wrapping_mul(7) % 130;
-        let word = *WORDS.get(place as usize / 26).ok_or("no word")?;
-        let cells = [Letters(word), Number((place % 26) as i64 - 13)];
-        assert_eq!(rt; put(alloc, &mut heap, &cells, place as i64)?, None);
+    for before in 0..130 {
+        let place = Order::Mixed.place(before, 130);
+        put_row(
+            &mut heap,
+            word_key(alloc, place)?,
+            row(alloc, place as i64)?,
+        )?;
     }
-    assert!(rt; heap.pages() >= 3 && heap.pages() <= 4);
-    for (place, word) in WORDS.iter().enumerate() {
-        let first = place.wrapping_mul(26) as u32;
-        let least = key(alloc, &[Letters(word), Number(-13)])?;
-        let greatest = key(alloc, &[Letters(word), Number(12)])?;
-        let (at, row) = heap.at(first).ok_or("no row")?;
-        assert!(rt;
-            *at == least && number(row) == Some(first as i64),
-            "at {word}"
-        );
-        let (at, _) = heap.at(first.wrapping_add(25)).ok_or("no row")?;
-        assert!(rt; *at == greatest, "at {word}");
+    Ok(heap)
+}
+
+#[test]
+fn orders_pages_of_texts_and_numbers(rt: HostRuntime) -> Result<(), Fail> {
+    let alloc = rt.alloc();
+    let heap = words(alloc)?;
+    let pages = heap.pages();
+    assert!(rt; pages >= 3 && pages <= 4);
+    for position in 0..130 {
+        let (at, row) = heap.at(position).ok_or("no row")?;
+        assert!(rt; *at == word_key(alloc, position)?, "at {position}");
+        assert_eq!(rt; number(row), Some(position as i64));
+    }
+    assert!(rt; heap.at(130).is_none());
+    Ok(())
+}
+
+/// Neither the word alone is there, nor the word with a number on either side of the others.
+#[test]
+fn finds_no_other_texts(rt: HostRuntime) -> Result<(), Fail> {
+    let alloc = rt.alloc();
+    let mut heap = words(alloc)?;
+    for word in &WORDS {
         assert!(rt; heap.get(&key(alloc, &[Letters(word)])?).is_none());
         for outside in [-14, 13] {
             let absent = key(alloc, &[Letters(word), Number(outside)])?;
             assert!(rt; heap.remove(&absent).is_none(), "{word}, {outside}");
         }
     }
-    for position in 0..130_u32 {
-        let (_, row) = heap.at(position).ok_or("no row")?;
-        assert_eq!(rt; number(row), Some(position as i64));
-    }
+    assert_eq!(rt; heap.len(), 130);
     Ok(())
 }
 

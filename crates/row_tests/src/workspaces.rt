@@ -2,11 +2,24 @@
 
 use crate::fixtures::Cell::Number;
 use crate::fixtures::{key, number, row};
-use bf_base::Name;
+use bf_base::{Name, Sequence};
 use bf_txn::{Workspace, Write};
 use std::alloc::Global;
 use std::process::Abort;
 use std::test::Fail;
+
+/// The write of a row of a number to a key of a number, or of its removal.
+fn write_of(alloc: Global, table: &str, at: i64, number: Option<i64>) -> Result<Write, Fail> {
+    let row = match number {
+        Some(number) => Some(row(alloc, number)?),
+        None => None,
+    };
+    Ok(Write {
+        table: Name::of(alloc, table.as_bytes())?,
+        key: key(alloc, &[Number(at)])?,
+        row,
+    })
+}
 
 /// Writes a row of a number to a key of a number, or removes what is there.
 fn write(
@@ -16,12 +29,7 @@ fn write(
     at: i64,
     number: Option<i64>,
 ) -> Result<(), Fail> {
-    let table = Name::of(alloc, table.as_bytes())?;
-    let key = key(alloc, &[Number(at)])?;
-    let row = match number {
-        Some(number) => Some(row(alloc, number)?),
-        None => None,
-    };
+    let Write { table, key, row } = write_of(alloc, table, at, number)?;
     workspace.write(table, key, row)?;
     Ok(())
 }
@@ -96,6 +104,29 @@ fn expect_write(
     Ok(())
 }
 
+/// Compares the writes of a workspace with the sorted ones.
+fn expect_sorted(rt: &impl Abort, alloc: Global, workspace: &Workspace) -> Result<(), Fail> {
+    let writes = workspace.as_slice();
+    assert_eq!(rt; writes.len(), SORTED.len());
+    for (write, wanted) in writes.iter().zip(&SORTED) {
+        expect_write(rt, alloc, write, wanted)?;
+    }
+    Ok(())
+}
+
+#[test]
+fn sorts_writes_that_come_at_once(rt: HostRuntime) -> Result<(), Fail> {
+    let alloc = rt.alloc();
+    let mut workspace = Workspace::new(alloc);
+    write(alloc, &mut workspace, "b", 2, Some(7))?;
+    let mut writes = Vec::new(alloc);
+    for (table, at, row) in &WRITES {
+        writes.push(write_of(alloc, table, *at, *row)?)?;
+    }
+    workspace.write_all(Sequence::of(writes))?;
+    expect_sorted(&rt, alloc, &workspace)
+}
+
 #[test]
 fn sorts_the_last_writes(rt: HostRuntime) -> Result<(), Fail> {
     let alloc = rt.alloc();
@@ -109,7 +140,7 @@ fn sorts_the_last_writes(rt: HostRuntime) -> Result<(), Fail> {
         expect_write(&rt, alloc, write, wanted)?;
     }
     assert!(rt; set == workspace.write_set(alloc)?);
-    assert_eq!(rt; workspace.as_slice().len(), SORTED.len());
+    expect_sorted(&rt, alloc, &workspace)?;
     let writes = workspace.into_writes();
     assert_eq!(rt; writes.len(), SORTED.len());
     for (write, wanted) in writes.iter().zip(&SORTED) {
