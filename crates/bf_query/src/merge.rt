@@ -45,7 +45,7 @@ struct Merge<'a> {
 
 impl<'a> Merge<'a> {
     /// Goes to the next key, and gives the row that stands there, or none where it is removed;
-    /// `None` behind the last key. It compares two keys at most.
+    /// `None` behind the last key. It takes constant time, and compares one pair of keys at most.
     fn advance(&mut self) -> Option<Option<&'a Row>>
         ensures rows { rows_stepped (option_map (λ row. option_map (λ r. r.now) row) result)
             (rows_ahead self.new.rows 0 (map (λ write. write.value) self.new.writes.now))
