@@ -1,6 +1,7 @@
 //! Statements, each alone, and the replies to them.
 
 use crate::call::{ONE_COLUMN, reports, reports_alone};
+use std::alloc::Global;
 use std::test::Fail;
 
 /// Statements behind a table with one column, the replies, and how many statements they are with it.
@@ -197,12 +198,17 @@ const REPLIES: [(&str, &str); 57] = [
     ("DELETE FROM t WHERE s <> 'abd';", "deleted 1"),
 ];
 
+/// Whether a statement behind the tables has a reply.
+fn has_reply(alloc: Global, statement: &str, reply: &str) -> Result<bool, Fail> {
+    let replies = [TABLES_MADE, "1.6 ", reply, "\n"];
+    reports_alone(alloc, &[TABLES, statement], &replies, 6, "none")
+}
+
 #[test]
 fn replies_to_each_statement(rt: HostRuntime) -> Result<(), Fail> {
     let alloc = rt.alloc();
     for (statement, reply) in REPLIES {
-        let replies = [TABLES_MADE, "1.6 ", reply, "\n"];
-        let is_right = reports_alone(alloc, &[TABLES, statement], &replies, 6, "none")?;
+        let is_right = has_reply(alloc, statement, reply)?;
         assert!(rt; is_right, "{statement:?}");
     }
     Ok(())
