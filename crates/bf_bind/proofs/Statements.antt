@@ -25,7 +25,7 @@ use Rattle.bf_tree.proofs.Settling.{handed_on}
 use Rattle.bf_sql.specs.Bound.{action_of, bound_of, changes_schema, cond_in, items_over, place_in, set_in, unless_objected, is_planned}
 use Rattle.bf_sql.specs.Conditions.{condition_of, fixed_key}
 use Rattle.bf_sql.specs.Database.{Database, Stored, no_table, stored_at, table_at}
-use Rattle.bf_sql.specs.Meaning.{created_table, index_of}
+use Rattle.bf_sql.specs.Meaning.{index_of}
 use Rattle.bf_sql.specs.Objections.{items_objections, objections, new_index_objections, new_table_objections, sets_objections, table_objections, tuple_objections}
 use Rattle.bf_sql.specs.Scopes.{cond_objections, scope_of}
 use Rattle.bf_bind.specs.Actions.{Binds}

@@ -38,6 +38,11 @@ first_page (page ∷ pages) = 0
 abbrev pub page_at : List (List Entry) → ℕ → List Entry
 page_at pages place = slice_index_or pages place []
 
+-- what is ahead of a place in a page, and the pages behind it: without rows only where no page is left
+pub record IsAhead (rows : List Entry) (pages : List (List Entry)) : Type 0 where
+  pub used : IsTrue (list_all is_used_page pages)
+  pub none : rows ≡ [] → pages ≡ []
+
 -- the last page that does not begin behind a key, or the first page
 pub record IsPageOf (pages : List (List Entry)) (key : List Value) (place : ℕ) : Type 0 where
   pub within : place < length pages

@@ -6,6 +6,7 @@ ghost use Rattle.std.specs.Option.{option_map};
 ghost use Rattle.bf_heap.specs.Heaps.{Entry, empty_heap, IsHeap, row_under, has_row, with_row, without_row, spare_after};
 ghost use Rattle.bf_heap.specs.Pages.{IsPageOf, IsPutNew, IsTakenOut, page_at, is_empty_page, first_page};
 
+use crate::cursor::Cursor;
 use crate::page::{FULL, HALF, Page};
 use bf_base::{Key, Memory, Row};
 use std::alloc::Global;
@@ -256,6 +257,13 @@ impl Heap {
             left -= count;
         }
         None
+    }
+
+    /// The place of the first row. Takes no memory.
+    pub fn first(&self) -> Cursor<'_>
+        ensures { result ≡ self.now.entries }
+    {
+        Cursor::new(&self.pages)
     }
 
     /// The number of pages with rows. Takes no memory.

@@ -88,6 +88,13 @@ impl Page {
         self.rows.binary_search_by(|entry| entry.0.compare(key))
     }
 
+    /// The rows, in the order of their keys. Takes no memory.
+    pub fn rows(&self) -> &[(Key, Row)]
+        ensures { result.now ≡ self.now }
+    {
+        self.rows.as_slice()
+    }
+
     /// The key and the row at a place. Takes no memory.
     pub fn at(&self, place: usize) -> (&Key, &Row)
         requires { place < length self.now }

@@ -1,13 +1,12 @@
 -- Tables with their heaps, and the database that they are.
-use Rattle.std.proofs.Common.{◌≡◌, ℕ, suc, ◌<◌, Bool, false, List, [], ◌∷◌, map, length, get_or, find, Option, Some, None, option_map, refl, sym, ap, subst, ◌∙◌, inl, inr, arith, Equal}
+use Rattle.std.proofs.Common.{◌≡◌, ℕ, suc, ◌<◌, false, List, [], ◌∷◌, map, length, get_or, find, Option, Some, None, option_map, refl, sym, ap, subst, ◌∙◌, arith, Equal}
 use Rattle.std.specs.Prelude.{zip}
-use Rattle.std.proofs.lemmas.Bool.{cases_Bool}
 use Rattle.std.proofs.lemmas.List.{get_or-map, length-map}
 use Rattle.std.proofs.lemmas.Slice.Zip.{get_or-zip}
 use Rattle.bf_base.specs.declared.table.Table.{Table}
 use Rattle.bf_base.specs.Lists.{name_cmp, same_name}
 use Rattle.bf_base.proofs.Names.{name_cmp_total, same_name-tie}
-use Rattle.bf_base.proofs.Order.{equal_from_test, look_up, look_up-at}
+use Rattle.bf_base.proofs.Order.{look_up, look_up-at}
 use Rattle.bf_base.proofs.Ties.{name_ties}
 use Rattle.bf_heap.specs.Heaps.{Rows}
 use Rattle.bf_query.specs.Meanings.{entries_of}

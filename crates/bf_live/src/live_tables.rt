@@ -111,10 +111,10 @@ impl LiveTables {
     }
 
     /// Makes what a transaction has written part of its tables, and each other table stays. The
-    /// writes move into the tables, which leaves the workspace empty. A write
-    /// to a table costs a look-up by key, in time logarithmic in the table's rows, and a new or a
-    /// removed row moves 8 bytes for each row behind it. Room is made for as many rows as are put;
-    /// what is left of it stays as room for later rows.
+    /// writes move into the tables, which leaves the workspace empty. A write to a table costs a
+    /// look-up by key, in time logarithmic in the table's rows, and a new or a removed row moves the
+    /// rows behind it in its page. Room is made for as many rows as are put; what is left of it stays
+    /// as room for later rows.
     ///
     /// # Errors
     /// Where memory runs out. The live tables and the workspace are as they were then.

@@ -1,5 +1,5 @@
 -- What a text is, by what its tokens are.
-use Rattle.std.proofs.Common.{◌≡◌, ℕ, ◌<◌, ◌≤◌, List, Result, Ok, Err, sym, ap, ◌∙◌, inl, inr}
+use Rattle.std.proofs.Common.{◌≡◌, ℕ, ◌<◌, ◌≤◌, List, Result, Ok, Err, sym, ap, subst, ◌∙◌, inl, inr}
 use Rattle.std.specs.Prelude.{IfOk, length, []}
 use Rattle.std.specs.Result.{IsErr, IsErrAnd}
 use Rattle.bf_lex.specs.declared.fault.ScriptError.{ScriptError}
@@ -10,8 +10,10 @@ use Rattle.bf_lex.specs.declared.fault.ScriptKind.TheVariants as kind
 use Rattle.bf_lex.specs.declared.token.Token.{Token}
 use Rattle.bf_lex.specs.Lexing.{IsLexed}
 use Rattle.bf_tree.specs.declared.script.Script.{Script}
-use Rattle.bf_phrase.specs.Words.{words_of}
-use Rattle.bf_phrase.specs.Reading.{Read, Stuck, Over}
+use Rattle.bf_phrase.specs.Words.{Word, words_of}
+use Rattle.bf_phrase.specs.declared.cursor.Cursor.{Cursor}
+use Rattle.bf_phrase.specs.Cursors.{words}
+use Rattle.bf_phrase.specs.Reading.{Reading, Read, Stuck, Over}
 use Rattle.bf_parse.specs.Faults.{Answers}
 use Rattle.bf_base.specs.Limits.{longest_script}
 use Rattle.bf_parse.specs.Scripts.{IsScriptText, ScriptRule, place_of}
@@ -53,3 +55,8 @@ no_script P (Err x) e = tt
 pub is_fault : (res : Result Script ScriptError) (e : ScriptError) (fault : ScriptFault) → IsErrAnd res (λ x. x ≡ e) → res ≡ Err (Fault fault) → e ≡ Fault fault
 is_fault (Ok s) e fault h same = absurd h
 is_fault (Err x) e fault h same = let d : x ≡ Fault fault = cc in sym h ∙ d
+
+-- what a place of tokens of a text answers, the words of these tokens answer
+pub answers_of : (r : Reading Script) (c : Cursor) (text : List ℕ) (ts : List Token) → c.text.now ≡ text → c.tokens.now ≡ ts → Answers ScriptRule (words c) r → Answers ScriptRule (words_of text ts) r
+answers_of r c text ts e f h =
+    subst (λ (ws : List Word). Answers ScriptRule ws r) (ap (λ (t : List ℕ). words_of t c.tokens.now) e ∙ ap (λ (us : List Token). words_of text us) f) h

@@ -1,7 +1,6 @@
 -- One pass over entries and writes, both in the order of their keys, makes what applying the writes makes.
-use Rattle.std.proofs.Common.{◌≡◌, ℕ, zero, suc, ◌+◌, ◌<◌, true, List, [], ◌∷◌, map, fold, drop, length, Less, Equal, Greater, Option, Some, None, refl, sym, ap, subst, ◌∙◌, is_lt, arith, add-one}
+use Rattle.std.proofs.Common.{◌≡◌, true, List, [], ◌∷◌, map, fold, drop, length, Less, Equal, Greater, Option, Some, None, refl, sym, ap, subst, ◌∙◌, is_lt, arith}
 use Rattle.std.specs.List.{slice_get}
-use Rattle.std.proofs.lemmas.Option.{slice_get_within}
 use Rattle.std.proofs.lemmas.Bool.{and_parts, and_from}
 use Rattle.bf_base.specs.declared.value.Value.{Value}
 use Rattle.bf_base.specs.Lists.{rises}
@@ -9,7 +8,7 @@ use Rattle.bf_base.specs.Values.{key_cmp, key_cmp_total}
 use Rattle.bf_base.proofs.Order.{less_from_test, turned, turned_less, turned_equal, rises_alike, rises_tail, rises_skip}
 use Rattle.bf_heap.specs.Heaps.{Entry, key_of_entry, with_row, without_row}
 use Rattle.bf_txn.specs.declared.write.Write.{Write}
-use Rattle.bf_query.specs.Merged.{changed_by, applied, rows_stepped, rows_ahead, steps_ahead}
+use Rattle.bf_query.specs.Merged.{changed_by, applied, rows_stepped, rows_ahead}
 
 -- the keys behind a key rise
 abbrev pub RisesFrom : List Value → List (List Value) → Type 0
@@ -78,71 +77,61 @@ pub entry_first : (e : Entry) (es : List Entry) (w : Write) (writes : List Write
     → e.1 ∷ rows_of (fold applied es (w ∷ writes)) ≡ rows_of (fold applied (e ∷ es) (w ∷ writes))
 entry_first e es w writes greater h = sym (ap rows_of (all_behind e es (w ∷ writes) (and_from _ _ (ap is_lt (turned key_cmp_total w.key e.0 greater)) h)))
 
--- what is at a place of a list, and behind it
-pub drop_at : {X : Type 0} (xs : List X) (i : ℕ) (x : X) → slice_get xs i ≡ Some x → drop i xs ≡ x ∷ drop (i + 1) xs
-drop_at [] i x e = absurd cc
-drop_at (y ∷ ys) zero x e = let same : y ≡ x = cc in ap (λ z. z ∷ ys) same
-drop_at (y ∷ ys) (suc i) x e = rw (add-one, drop_at ys i x e, add-one) refl
+-- the first of a list and those behind it, or that there is none
+first_of : {X : Type 0} (xs : List X) (x : X) → slice_get xs 0 ≡ Some x → xs ≡ x ∷ drop 1 xs
+first_of [] x e = absurd cc
+first_of (y ∷ ys) x e = let same : y ≡ x = cc in ap (λ z. z ∷ ys) same
 
-pub drop_past : {X : Type 0} (xs : List X) (i : ℕ) → slice_get xs i ≡ None → drop i xs ≡ []
-drop_past [] zero e = refl
-drop_past [] (suc i) e = refl
-drop_past (y ∷ ys) zero e = absurd cc
-drop_past (y ∷ ys) (suc i) e = drop_past ys i e
-
-pub rises_drop : (entries : List Entry) (i : ℕ) → rises key_cmp (keys_of entries) ≡ true → rises key_cmp (keys_of (drop i entries)) ≡ true
-rises_drop entries zero h = h
-rises_drop [] (suc i) h = refl
-rises_drop (e ∷ es) (suc i) h = rises_drop es i (rises_tail key_cmp_total e.0 (keys_of es) h)
+none_of : {X : Type 0} (xs : List X) → slice_get xs 0 ≡ None → xs ≡ []
+none_of [] e = refl
+none_of (y ∷ ys) e = absurd cc
 
 pub nothing_in : {X Y : Type 0} (f : X → Y) (xs : List X) → length xs ≡ 0 → map f xs ≡ []
 nothing_in f [] none = refl
 nothing_in f (x ∷ xs) none = absurd (omega arith)
 
--- the steps of a pass, from a position among the entries on
-module _ (entries : List Entry) (position : ℕ) (in_order : rises key_cmp (keys_of entries) ≡ true) where
-  pub at_end : None ≡ slice_get entries position → (writes : List Write) → writes ≡ [] → [] ≡ rows_ahead entries position writes
-  at_end none writes is = sym (ap (λ ws. rows_ahead entries position ws) is ∙ ap rows_of (drop_past entries position (sym none)))
+-- the steps of a pass that has these entries ahead
+module _ (entries : List Entry) (in_order : rises key_cmp (keys_of entries) ≡ true) where
+  pub at_end : None ≡ slice_get entries 0 → (writes : List Write) → writes ≡ [] → [] ≡ rows_ahead entries 0 writes
+  at_end none writes is = sym (ap (rows_ahead entries 0) is ∙ ap rows_of (none_of entries (sym none)))
 
-  pub entry_alone : (e : Entry) → Some e ≡ slice_get entries position → (writes : List Write) → writes ≡ [] → e.1 ∷ rows_ahead entries (position + 1) writes ≡ rows_ahead entries position writes
-  entry_alone e there writes is =
-      ap (λ ws. e.1 ∷ rows_ahead entries (position + 1) ws) is ∙ sym (ap (λ ws. rows_ahead entries position ws) is ∙ ap rows_of (drop_at entries position e (sym there)))
+  pub below_none : (key : List Value) → None ≡ slice_get entries 0 → RisesFrom key (keys_of entries)
+  below_none key none = subst (λ es. RisesFrom key (keys_of es)) (sym (none_of entries (sym none))) refl
 
-  below_drop : (e : Entry) → Some e ≡ slice_get entries position → RisesFrom e.0 (keys_of (drop (position + 1) entries))
-  below_drop e there = subst (λ es. rises key_cmp (keys_of es) ≡ true) (drop_at entries position e (sym there)) (rises_drop entries position in_order)
+  pub below_first : (key : List Value) (e : Entry) → Some e ≡ slice_get entries 0 → key_cmp key e.0 ≡ Less → RisesFrom key (keys_of entries)
+  below_first key e there less =
+      let split = first_of entries e (sym there) in
+      subst (λ es. RisesFrom key (keys_of es)) (sym split) (and_from _ _ (ap is_lt less) (subst (λ es. rises key_cmp (keys_of es) ≡ true) split in_order))
 
-  pub one_nearer : (e : Entry) → Some e ≡ slice_get entries position → (writes : List Write) → steps_ahead entries (position + 1) writes < steps_ahead entries position writes
-  one_nearer e there writes = omega (arith, slice_get_within entries position e (sym there))
-
-  module _ (w : Write) (later writes : List Write) (is : writes ≡ w ∷ later) (by_key : rises key_cmp (write_keys writes) ≡ true) (row : Option (List Value)) (row_is : row ≡ w.row) where
+  module _ (w : Write) (later writes : List Write) (is : writes ≡ w ∷ later) (by_key : rises key_cmp (write_keys writes) ≡ true) where
     behind : RisesFrom w.key (write_keys later)
     behind = subst (λ ws. rises key_cmp (write_keys ws) ≡ true) is by_key
 
-    write_of_step : (es : List Entry) (behind : List (List Value)) → drop position entries ≡ es → rows_stepped (Some w.row) behind ≡ rows_of (fold applied es (w ∷ later)) → rows_stepped (Some row) behind ≡ rows_ahead entries position writes
-    write_of_step es behind there step =
-        ap (λ r. rows_stepped (Some r) behind) row_is ∙ step ∙ ap (λ es. rows_of (fold applied es (w ∷ later))) (sym there) ∙ ap (λ ws. rows_ahead entries position ws) (sym is)
+    -- a write to a key before all entries
+    pub write_ahead : (row : Option (List Value)) → row ≡ w.row → RisesFrom w.key (keys_of entries) → rows_stepped (Some row) (rows_ahead entries 0 later) ≡ rows_ahead entries 0 writes
+    write_ahead row row_is below =
+        ap (λ r. rows_stepped (Some r) (rows_ahead entries 0 later)) row_is ∙ write_first entries w later below behind ∙ ap (rows_ahead entries 0) (sym is)
 
-    pub write_alone : None ≡ slice_get entries position → rows_stepped (Some row) (rows_ahead entries position later) ≡ rows_ahead entries position writes
-    write_alone none =
-        let past = drop_past entries position (sym none) in
-        ap (λ es. rows_stepped (Some row) (rows_of (fold applied es later))) past ∙ write_of_step [] (rows_of (fold applied [] later)) past (write_first [] w later refl behind)
+  -- the pass goes over the first entry
+  module _ (e : Entry) (there : Some e ≡ slice_get entries 0) (now : List Entry) (now_is : now ≡ drop 1 entries) where
+    split : entries ≡ e ∷ now
+    split = first_of entries e (sym there) ∙ ap (λ es. e ∷ es) (sym now_is)
 
-    module _ (e : Entry) (there : Some e ≡ slice_get entries position) where
-      pub write_before : key_cmp w.key e.0 ≡ Less → rows_stepped (Some row) (rows_ahead entries position later) ≡ rows_ahead entries position writes
-      write_before less =
-          let at = drop_at entries position e (sym there) in
-          ap (λ es. rows_stepped (Some row) (rows_of (fold applied es later))) at
-          ∙ write_of_step (e ∷ drop (position + 1) entries) _ at (write_first (e ∷ drop (position + 1) entries) w later (and_from _ _ (ap is_lt less) (below_drop e there)) behind)
+    below : RisesFrom e.0 (keys_of now)
+    below = subst (λ es. rises key_cmp (keys_of es) ≡ true) split in_order
 
-      pub write_replaces : key_cmp w.key e.0 ≡ Equal → rows_stepped (Some row) (rows_ahead entries (position + 1) later) ≡ rows_ahead entries position writes
-      write_replaces tied =
-          write_of_step (e ∷ drop (position + 1) entries) _ (drop_at entries position e (sym there)) (write_over e (drop (position + 1) entries) w later tied (below_drop e there) behind)
+    pub now_in_order : rises key_cmp (keys_of now) ≡ true
+    now_in_order = rises_tail key_cmp_total e.0 (keys_of now) below
 
-  pub entry_before : (w : Write) (later writes : List Write) → writes ≡ w ∷ later → rises key_cmp (write_keys writes) ≡ true → (e : Entry) → Some e ≡ slice_get entries position → key_cmp w.key e.0 ≡ Greater
-      → e.1 ∷ rows_ahead entries (position + 1) writes ≡ rows_ahead entries position writes
-  entry_before w later writes is by_key e there greater =
-      let rest : RisesFrom w.key (write_keys later) = subst (λ ws. rises key_cmp (write_keys ws) ≡ true) is by_key in
-      ap (λ ws. e.1 ∷ rows_ahead entries (position + 1) ws) is
-      ∙ entry_first e (drop (position + 1) entries) w later greater rest
-      ∙ ap (λ es. rows_of (fold applied es (w ∷ later))) (sym (drop_at entries position e (sym there)))
-      ∙ ap (λ ws. rows_ahead entries position ws) (sym is)
+    module _ (w : Write) (later writes : List Write) (is : writes ≡ w ∷ later) (by_key : rises key_cmp (write_keys writes) ≡ true) where
+      rest : RisesFrom w.key (write_keys later)
+      rest = subst (λ ws. rises key_cmp (write_keys ws) ≡ true) is by_key
+
+      both : rows_of (fold applied (e ∷ now) (w ∷ later)) ≡ rows_ahead entries 0 writes
+      both = ap (λ es. rows_of (fold applied es (w ∷ later))) (sym split) ∙ ap (rows_ahead entries 0) (sym is)
+
+      pub write_replaces : (row : Option (List Value)) → row ≡ w.row → key_cmp w.key e.0 ≡ Equal → rows_stepped (Some row) (rows_ahead now 0 later) ≡ rows_ahead entries 0 writes
+      write_replaces row row_is tied = ap (λ r. rows_stepped (Some r) (rows_ahead now 0 later)) row_is ∙ write_over e now w later tied below rest ∙ both
+
+      pub entry_before : key_cmp w.key e.0 ≡ Greater → e.1 ∷ rows_ahead now 0 writes ≡ rows_ahead entries 0 writes
+      entry_before greater = ap (λ ws. e.1 ∷ rows_ahead now 0 ws) is ∙ entry_first e now w later greater rest ∙ both

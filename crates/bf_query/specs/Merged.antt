@@ -1,5 +1,5 @@
 -- The rows of a table as a transaction sees them: those of the heap, under what it has written.
-use Rattle.std.specs.Prelude.{◌≡◌, ℕ, ◌+◌, ◌-◌, List, [], ◌∷◌, map, fold, drop, length, Option, Some, None, IsTrue}
+use Rattle.std.specs.Prelude.{◌≡◌, ℕ, ◌+◌, List, [], ◌∷◌, map, fold, drop, length, Option, Some, None, IsTrue}
 use Rattle.std.specs.List.{All}
 use Rattle.bf_base.specs.declared.value.Value.{Value}
 use Rattle.bf_base.specs.declared.table.Table.{Table}
@@ -47,8 +47,8 @@ abbrev pub rows_ahead : List Entry → ℕ → List Write → List (List Value)
 rows_ahead entries position writes = map (λ entry. entry.1) (fold applied (drop position entries) writes)
 
 -- the entries and writes that it has before it
-abbrev pub steps_ahead : List Entry → ℕ → List Write → ℕ
-steps_ahead entries position writes = (length entries - position) + length writes
+abbrev pub steps_ahead : List Entry → List Write → ℕ
+steps_ahead entries writes = length entries + length writes
 
 -- the rows of a step, which gives a row or none, before those behind it; nothing is behind the last step
 abbrev pub rows_stepped : Option (Option (List Value)) → List (List Value) → List (List Value)

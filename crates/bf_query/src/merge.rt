@@ -1,15 +1,17 @@
 //! The rows of a table as a transaction sees them: those of the heap, under what it has written.
 
-ghost use Rattle.std.specs.Prelude.{◌≡◌, ◌<◌, ℕ, IfOk, OnSome, map};
+ghost use Rattle.std.specs.Prelude.{◌≡◌, ◌<◌, ℕ, IfOk, IsTrue, OnSome, map};
 ghost use Rattle.std.specs.Option.{option_map, option_to_list};
+ghost use Rattle.bf_base.specs.Maps.{is_map};
 ghost use Rattle.bf_base.specs.Tables.{cell};
-ghost use Rattle.bf_heap.specs.Heaps.{IsHeap, row_under};
+ghost use Rattle.bf_base.specs.Values.{key_cmp};
+ghost use Rattle.bf_heap.specs.Heaps.{IsHeap, key_of_entry, row_under};
 ghost use Rattle.bf_sql.specs.Conditions.{fixed_key};
 ghost use Rattle.bf_sql.specs.Queries.{selected};
 ghost use Rattle.bf_query.specs.Merged.{AreByKey, StandUnderOwnKeys, entries_under, rows_ahead, rows_stepped, rows_under, steps_ahead};
 
 use bf_base::{Key, Memory, Name, Row, Table};
-use bf_heap::Heap;
+use bf_heap::{Cursor, Heap};
 use bf_tree::{Cond, holds};
 use bf_txn::{Workspace, Write};
 use std::alloc::Global;
@@ -35,32 +37,27 @@ pub fn row_at<'a>(
 /// A pass over the rows of a heap and the writes to its table, in the order of keys.
 #[derive(Drop)]
 struct Merge<'a> {
-    heap: &'a Heap,
-    position: u32,
+    rows: Cursor<'a>,
     writes: &'a [Box<Write>],
-    ghost in_order: { IsHeap heap.now },
+    ghost in_order: { IsTrue (is_map key_cmp key_of_entry rows) },
     ghost by_key: { AreByKey (map (λ write. write.value) writes.now) },
 }
 
 impl<'a> Merge<'a> {
     /// Goes to the next key, and gives the row that stands there, or none where it is removed;
-    /// `None` behind the last key.
+    /// `None` behind the last key. It takes constant time, and compares one pair of keys at most.
     fn advance(&mut self) -> Option<Option<&'a Row>>
         ensures rows { rows_stepped (option_map (λ row. option_map (λ r. r.now) row) result)
-            (rows_ahead self.new.heap.now.entries self.new.position
-            (map (λ write. write.value) self.new.writes.now))
-            ≡ rows_ahead self.old.heap.now.entries self.old.position
-            (map (λ write. write.value) self.old.writes.now) }
+            (rows_ahead self.new.rows 0 (map (λ write. write.value) self.new.writes.now))
+            ≡ rows_ahead self.old.rows 0 (map (λ write. write.value) self.old.writes.now) }
         ensures nearer { OnSome result
-            (steps_ahead self.new.heap.now.entries self.new.position
-            (map (λ write. write.value) self.new.writes.now)
-            < steps_ahead self.old.heap.now.entries self.old.position
-            (map (λ write. write.value) self.old.writes.now)) }
+            (steps_ahead self.new.rows (map (λ write. write.value) self.new.writes.now)
+            < steps_ahead self.old.rows (map (λ write. write.value) self.old.writes.now)) }
     {
-        match (self.heap.at(self.position), self.writes.split_first()) {
+        match (self.rows.get(), self.writes.split_first()) {
             (None, None) => None,
             (Some((_, row)), None) => {
-                self.position += 1;
+                self.rows.advance();
                 Some(Some(row))
             }
             (None, Some((write, later))) => {
@@ -73,12 +70,12 @@ impl<'a> Merge<'a> {
                     Some(write.row.as_ref())
                 }
                 Ordering::Equal => {
-                    self.position += 1;
+                    self.rows.advance();
                     self.writes = later;
                     Some(write.row.as_ref())
                 }
                 Ordering::Greater => {
-                    self.position += 1;
+                    self.rows.advance();
                     Some(Some(row))
                 }
             },
@@ -101,8 +98,7 @@ fn scan<'a>(
         (map (λ write. write.value) writes.now))) }
 {
     let mut merge = Merge {
-        heap,
-        position: 0,
+        rows: heap.first(),
         writes,
     };
     let mut rows = Vec::new(alloc);

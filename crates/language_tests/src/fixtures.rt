@@ -14,8 +14,12 @@ pub enum Cell {
 pub fn value(alloc: Global, cell: Cell) -> Result<Value, Fail> {
     match cell {
         Cell::Number(number) => Ok(Value::Int(number)),
-        Cell::Letters(letters) => Ok(Value::Text(Text::of(alloc, letters.as_bytes())?)),
+        Cell::Letters(letters) => text(alloc, letters),
     }
+}
+
+pub fn text(alloc: Global, letters: &str) -> Result<Value, Fail> {
+    Ok(Value::Text(Text::of(alloc, letters.as_bytes())?))
 }
 
 pub fn values(alloc: Global, cells: &[Cell]) -> Result<Vec<Value>, Fail> {

@@ -1,18 +1,11 @@
 //! The exact texts, by the tables of replies and refusals.
 
-use bf_base::{Key, Memory, Name, NameError, Sequence, Text, TextError, Value};
+use crate::fixtures::{name, text};
+use bf_base::{Key, Memory, Name, Sequence, Value};
 use bf_text::{put_number, put_refusal, put_values, report};
 use bf_tree::{Cause, Cell, Entry, History, Outcome, Refusal, Reply, Sweep, Transcripts};
 use std::alloc::Global;
 use std::test::Fail;
-
-fn name(alloc: Global, text: &str) -> Result<Name, NameError> {
-    Name::of(alloc, text.as_bytes())
-}
-
-fn text(alloc: Global, text: &str) -> Result<Value, TextError> {
-    Ok(Value::Text(Text::of(alloc, text.as_bytes())?))
-}
 
 fn session(alloc: Global, replies: Vec<Reply>) -> Result<Transcripts, Memory> {
     let sessions = Sequence::of(vec![in alloc; Sequence::of(replies)]?);

@@ -1,7 +1,7 @@
 -- What the tests' tables and rows are.
-use Rattle.std.proofs.Common.{◌≡◌, ℕ, zero, suc, ◌<◌, List, [], ◌∷◌, ◌++◌, map, length, not, true, Option, Some, refl, sym, ap, subst, ◌∙◌, arith}
+use Rattle.std.proofs.Common.{◌≡◌, ℕ, List, [], ◌∷◌, map, length, not, true, Option, Some, refl, sym, subst, arith}
 use Rattle.std.specs.Prelude.{nat_eq}
-use Rattle.std.specs.List.{All, AllByRecursion, list_all}
+use Rattle.std.specs.List.{list_all}
 use Rattle.bf_base.specs.declared.value.Value.{Value}
 use Rattle.bf_base.specs.declared.table.Table.{Table}
 use Rattle.bf_base.specs.Lists.{has}
@@ -12,12 +12,11 @@ use Rattle.bf_heap.specs.Heaps.{Entry, key_of_entry, with_row}
 use Rattle.bf_sql.specs.Conditions.{fixed_key}
 use Rattle.bf_tree.specs.declared.bound.Action.{Action}
 use Rattle.bf_tree.specs.declared.bound.Action.TheVariants as action
-use Rattle.bf_tree.specs.declared.reply.Refusal.{Refusal}
 use Rattle.bf_txn.specs.declared.write.Write.{Write}
 use Rattle.bf_query.specs.Actions.{IsWellBound, action_table, rows_for, objections_on, writes_of, written}
 use Rattle.bf_query.specs.Changes.{LeavesKeys}
 use Rattle.query_tests.specs.Ready.{IsReadyOn}
-use Rattle.bf_query.specs.Merged.{rows_under, HasOwnKey, StandUnderOwnKeys}
+use Rattle.bf_query.specs.Merged.{HasOwnKey, StandUnderOwnKeys}
 use Rattle.bf_query.proofs.Keeping.{own_kept}
 use Rattle.bf_query.proofs.OwnKeys.{by_recursion, each, with_one_more}
 

@@ -110,6 +110,22 @@ fn expect_rising(rt: &impl Abort, alloc: Global, heap: &Heap, rows: u32) -> Resu
     Ok(())
 }
 
+/// Goes over all rows from the first place on, each with its even number under it, and stays behind
+/// the last one.
+fn expect_in_turn(rt: &impl Abort, alloc: Global, heap: &Heap, rows: u32) -> Result<(), Fail> {
+    let mut cursor = heap.first();
+    for place in 0..rows {
+        let (at, row) = cursor.get().ok_or("no row")?;
+        assert!(rt; *at == key(alloc, &[Number(even(place))])?, "at {place}");
+        assert_eq!(rt; number(row), Some(even(place)));
+        cursor.advance();
+    }
+    assert!(rt; cursor.get().is_none());
+    cursor.advance();
+    assert!(rt; cursor.get().is_none());
+    Ok(())
+}
+
 #[test]
 fn splits_pages_at_both_ends(rt: HostRuntime) -> Result<(), Fail> {
     let alloc = rt.alloc();
@@ -132,6 +148,20 @@ fn splits_pages_anywhere(rt: HostRuntime) -> Result<(), Fail> {
         expect_rising(&rt, alloc, &heap, rows)?;
         expect_found(&rt, alloc, &heap, 0, rows)?;
         assert_eq!(rt; find(alloc, &heap, -1)?, None);
+    }
+    Ok(())
+}
+
+/// No page, a page of one row, a full page, and two and more pages of 32 and 33 rows, or as mixed
+/// puts leave them.
+#[test]
+fn goes_on_from_page_to_page(rt: HostRuntime) -> Result<(), Fail> {
+    let alloc = rt.alloc();
+    for rows in [0, 1, 64, 65, 129] {
+        for order in [Order::Rising, Order::Falling, Order::Mixed] {
+            let heap = filled(&rt, alloc, order, rows)?;
+            expect_in_turn(&rt, alloc, &heap, rows)?;
+        }
     }
     Ok(())
 }

@@ -1,4 +1,4 @@
-use Rattle.std.proofs.Common.{false, true, rules, ap, ◌∙◌}
+use Rattle.std.proofs.Common.{false, true, rules, ap}
 use Rattle.bf_tree.specs.Settling.{first_of}
 use Rattle.bf_bind.proofs.Creating.{copied_some, index_free, index_taken}
 use Rattle.bf_bind.proofs.create.bind_index.Goals as goal

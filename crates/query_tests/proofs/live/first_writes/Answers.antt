@@ -1,8 +1,8 @@
 use Rattle.std.proofs.Common.{List, [], ◌∷◌, ap, ◌∙◌}
-use Rattle.std.specs.Prelude.{negsuc, pos}
+use Rattle.std.specs.Prelude.{pos}
 use Rattle.bf_txn.specs.declared.write.Write.{Write}
 use Rattle.bf_txn.specs.Writes.{with_write}
-use Rattle.query_tests.specs.TwoTables.{put, removal}
+use Rattle.query_tests.specs.TwoTables.{put}
 use Rattle.query_tests.proofs.TwoTables.{first_is}
 use Rattle.query_tests.proofs.live.first_writes.Goals as goal
 

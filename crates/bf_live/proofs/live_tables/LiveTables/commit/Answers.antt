@@ -1,11 +1,9 @@
 use Rattle.std.proofs.Common.{◌≡◌, List, Box, Global, map, ap, subst, sym, ◌∙◌, arith}
 use Rattle.std.specs.Vec.{with_items}
 use Rattle.std.proofs.lemmas.List.{with_items_is}
-use Rattle.bf_base.specs.declared.table.Table.{Table}
 use Rattle.bf_heap.specs.Heaps.{Rows}
 use Rattle.bf_txn.specs.declared.write.Write.{Write}
 use Rattle.bf_live.specs.Commits.{AreWritten, entries_in}
-use Rattle.bf_tree.specs.Places.{AreByName}
 use Rattle.bf_live.specs.Live.{AreLiveTables, database_of}
 use Rattle.bf_live.proofs.Committed.{on_error, store_committed, store_roomy, view_committed, view_roomy}
 use Rattle.bf_live.proofs.Held.{by_name}

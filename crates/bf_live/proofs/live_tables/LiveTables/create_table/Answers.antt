@@ -1,7 +1,6 @@
-use Rattle.std.proofs.Common.{◌≡◌, ◌≤◌, ◌+◌, List, length, insert, ap₂, subst, sym, ◌∙◌, rules}
-use Rattle.bf_base.specs.declared.table.Table.{Table}
+use Rattle.std.proofs.Common.{◌≡◌, ◌≤◌, ◌+◌, length, insert, ap₂, ◌∙◌, rules}
 use Rattle.bf_heap.specs.Heaps.{empty_heap}
-use Rattle.bf_tree.specs.Places.{AreByName, IsBehind}
+use Rattle.bf_tree.specs.Places.{IsBehind}
 use Rattle.bf_live.proofs.Held.{by_name}
 use Rattle.bf_live.proofs.Created.{store_created, view_created}
 use Rattle.bf_live.proofs.live_tables.LiveTables.create_table.Goals as goal
