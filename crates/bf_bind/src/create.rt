@@ -11,7 +11,7 @@ ghost use Rattle.bf_sql.specs.Objections.{form_objections, new_index_objections,
 ghost use Rattle.bf_bind.specs.Parts.{new_column, rule_objections};
 
 use crate::scope::places_named;
-use bf_base::{Admit, Column, Name, Sequence, Table};
+use bf_base::{Admit, Column, LONGEST_TEXT, Name, Sequence, Table};
 use bf_tree::{Catalog, ColumnForm, ColumnRule, IndexRule, Refusal, StatementError};
 use std::alloc::Global;
 
@@ -31,7 +31,7 @@ fn admitted(alloc: Global, name: &Name, form: &ColumnForm) -> Result<Admit, Stat
             Ok(Admit::Checked(*low, *high))
         }
         ColumnForm::Varchar(most) => {
-            if 1 <= *most && *most <= 255 {
+            if 1 <= *most && *most <= LONGEST_TEXT as u64 {
                 Ok(Admit::Varchar(*most as u8))
             } else {
                 Err(StatementError::Refused(Refusal::TooLong))

@@ -1,5 +1,5 @@
 -- What the rows have against a statement to which the catalog has no objection, in order. The first objection is told.
-use Rattle.std.specs.Prelude.{ℕ, ◌^◌, not, List, [], ◌∷◌, ◌++◌, map, flat_map, length, zip, nat_lt, Result, Ok, Err}
+use Rattle.std.specs.Prelude.{ℕ, not, List, [], ◌∷◌, ◌++◌, map, flat_map, length, zip, nat_lt, Result, Ok, Err}
 use Rattle.bf_base.specs.declared.value.Value.{Value}
 use Rattle.bf_base.specs.declared.table.Admit.{Admit}
 use Rattle.bf_base.specs.declared.table.Fit.{Fit}
@@ -24,6 +24,7 @@ use Rattle.bf_sql.specs.Conditions.{condition_of}
 use Rattle.bf_sql.specs.Scopes.{scope_of, read_in, admitted_by, unqualified}
 use Rattle.bf_sql.specs.Totals.{values_of, exact_sum}
 use Rattle.bf_sql.specs.Queries.{selected}
+use Rattle.bf_sql.specs.migrations.Extents.{most_rows}
 use Rattle.bf_sql.specs.migrations.MigrationObjections.{sources_of}
 
 -- an expression that has no value
@@ -79,10 +80,6 @@ module _ {R : Type 0} (read : List Value → R → Value) where
   -- UPDATE of a row: sets from the left, each its value and then whether its column admits it. `admit` tells of a set's column
   abbrev pub change_objections : {C : Type 0} → (C → Admit) → List (C × Expr R) → List Value → List Refusal
   change_objections admit sets row = flat_map (λ set. value_objections (value_of (read row) set.1) ++ unfit_objections (admit set.0) (sure_value (read row) set.1)) sets
-
--- the most rows of a source
-abbrev pub most_rows : ℕ
-most_rows = 2 ^ 20
 
 abbrev pub size_objections : Database → List ℕ → List Refusal
 size_objections db name = when (nat_lt most_rows (length (table_rows db name))) (TooManyRows name (length (table_rows db name)))

@@ -51,9 +51,12 @@ abbrev pub extent_joined : Extent → Extent → Extent
 extent_joined (texts m) (texts n) = if nat_le (m + n) longest_text then texts (m + n) else beyond
 extent_joined e f = beyond
 
--- a table has at most 2^20 rows when it migrates
+-- the most rows of a source
+abbrev pub most_rows : ℕ
+most_rows = 2 ^ 20
+
 abbrev pub extent_summed : Extent → Extent
-extent_summed (numbers low high) = extent_between (pos (2 ^ 20) *ℤ low) (pos (2 ^ 20) *ℤ high)
+extent_summed (numbers low high) = extent_between (pos most_rows *ℤ low) (pos most_rows *ℤ high)
 extent_summed e = beyond
 
 -- `admitted` tells what a column admits
@@ -68,9 +71,9 @@ module _ {R : Type 0} (admitted : R → Admit) where
   extent_of (times a b) = extent_times (extent_of a) (extent_of b)
   extent_of (joined a b) = extent_joined (extent_of a) (extent_of b)
 
-  -- COUNT can't fail; SUM may fail where 2^20 times an end does
+  -- COUNT can't fail; SUM may fail where an end does, as many times as a source may have rows
   abbrev pub extent_of_total : Aggregate (Expr R) → Extent
-  extent_of_total Count = numbers (pos 0) (pos (2 ^ 20))
+  extent_of_total Count = numbers (pos 0) (pos most_rows)
   extent_of_total (Sum e) = extent_summed (extent_of e)
   extent_of_total (Min e) = extent_of e
   extent_of_total (Max e) = extent_of e
