@@ -58,6 +58,14 @@ def all_at_once(size):
     yield from filled(size, size)
 
 
+def short_rows_at_once(size):
+    """As many rows as a script of 16 MiB holds, in one statement."""
+    order = random.Random(size).sample(range(size), size)
+    yield "CREATE TABLE t (id INT, PRIMARY KEY (id));"
+    yield f"INSERT INTO t VALUES {','.join(f'({key})' for key in order)};"
+    yield "SELECT COUNT(*), MIN(id), MAX(id) FROM t;"
+
+
 def selects_by_key(size):
     yield from filled(size)
     yield from (f"SELECT * FROM t WHERE id = {key};" for key in keys(size, 1))
@@ -113,6 +121,7 @@ WORKS = [
     ("INSERT, one row a statement", one_by_one, USUAL),
     ("INSERT, 100 rows a statement", by_hundreds, USUAL),
     ("one INSERT of all rows", all_at_once, [50_000, 100_000, 200_000, 400_000]),
+    ("one INSERT of short rows", short_rows_at_once, [100_000, 1_500_000]),
     ("SELECT by key", selects_by_key, USUAL),
     ("UPDATE by key", updates_by_key, USUAL),
     ("DELETE of half by key", deletes_by_key, USUAL),

@@ -1,18 +1,18 @@
 //! Totals, row by row.
 
-ghost use Rattle.std.specs.Prelude.{◌≡◌, [], map, flat_map, IfOk, OnOk};
+ghost use Rattle.std.specs.Prelude.{◌≡◌, [], Some, map, flat_map, IfOk, OnOk};
 ghost use Rattle.std.specs.List.{All};
 ghost use Rattle.bf_base.specs.Tables.{cell};
 ghost use Rattle.bf_tree.specs.Evaluation.{sure_value, value_of};
 ghost use Rattle.bf_sql.specs.RowObjections.{answer_objections, value_objections};
-ghost use Rattle.bf_sql.specs.Totals.{total_of};
+ghost use Rattle.bf_sql.specs.Totals.{greater, lesser, total_of};
 ghost use Rattle.bf_tree.specs.declared.items.Items.TheVariants.{Aggregates};
-ghost use Rattle.bf_query.specs.RunningTotals.{IsCountable, advanced, end_objections, row_objections, running_total, running_total_after, total_cell};
+ghost use Rattle.bf_query.specs.RunningTotals.{IsCountable, advanced, end_objections, picked, row_objections, running_total, running_total_after, total_cell};
 ghost use Rattle.bf_tree.specs.Settling.{Settles};
 
 use crate::sum::ExactSum;
 use bf_base::{Memory, Row, Sequence, Value};
-use bf_tree::{Aggregate, Cell, Expr, Fail, Refusal, StatementError, value};
+use bf_tree::{Aggregate, Cell, Expr, Fail, Refusal, StatementError, operand, value};
 use std::alloc::Global;
 
 /// A total of the rows so far.
@@ -37,6 +37,26 @@ pub fn value_or_refusal(alloc: Global, expr: &Expr, row: &Row) -> Result<Value, 
     }
 }
 
+/// Keeps the lesser of two values. It copies the new one only where that is kept.
+fn keep_lesser(alloc: Global, least: &mut Option<Value>, found: &Value) -> Result<(), Memory>
+    ensures { OnOk result (least.new ≡ Some (picked lesser least.old found.now)) }
+{
+    if least.as_ref().is_none_or(|least| *found < *least) {
+        *least = Some(found.copy(alloc)?);
+    }
+    Ok(())
+}
+
+/// Keeps the greater of two values. It copies the new one only where that is kept.
+fn keep_greater(alloc: Global, greatest: &mut Option<Value>, found: &Value) -> Result<(), Memory>
+    ensures { OnOk result (greatest.new ≡ Some (picked greater greatest.old found.now)) }
+{
+    if greatest.as_ref().is_none_or(|greatest| *greatest < *found) {
+        *greatest = Some(found.copy(alloc)?);
+    }
+    Ok(())
+}
+
 impl<'a> Running<'a> {
     /// The total of no rows.
     fn new(total: &'a Aggregate) -> Running<'a>
@@ -50,7 +70,7 @@ impl<'a> Running<'a> {
         }
     }
 
-    /// Takes a row in.
+    /// Takes a row in. A literal and a column are read where they stand.
     fn advance(&mut self, alloc: Global, row: &Row) -> Result<(), StatementError>
         requires { IsCountable (running_total self.old) }
         ensures objections { Settles result (row_objections row.now (running_total self.old)) tt }
@@ -59,19 +79,18 @@ impl<'a> Running<'a> {
     {
         match self {
             Running::Count(rows) => *rows += 1,
-            Running::Sum(expr, sum) => sum.add(&value_or_refusal(alloc, expr, row)?),
-            Running::Least(expr, least) => {
-                let value = value_or_refusal(alloc, expr, row)?;
-                if least.as_ref().is_none_or(|least| value < *least) {
-                    *least = Some(value);
-                }
-            }
-            Running::Greatest(expr, greatest) => {
-                let value = value_or_refusal(alloc, expr, row)?;
-                if greatest.as_ref().is_none_or(|greatest| *greatest < value) {
-                    *greatest = Some(value);
-                }
-            }
+            Running::Sum(expr, sum) => match operand(expr, row) {
+                Some(found) => sum.add(found),
+                None => sum.add(&value_or_refusal(alloc, expr, row)?),
+            },
+            Running::Least(expr, least) => match operand(expr, row) {
+                Some(found) => keep_lesser(alloc, least, found)?,
+                None => keep_lesser(alloc, least, &value_or_refusal(alloc, expr, row)?)?,
+            },
+            Running::Greatest(expr, greatest) => match operand(expr, row) {
+                Some(found) => keep_greater(alloc, greatest, found)?,
+                None => keep_greater(alloc, greatest, &value_or_refusal(alloc, expr, row)?)?,
+            },
         }
         Ok(())
     }

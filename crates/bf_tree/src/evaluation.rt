@@ -144,8 +144,9 @@ pub fn value(alloc: Global, expr: &Expr, row: &Row) -> Result<Value, Fail>
     }
 }
 
-/// The value of a literal or of a column that the row has, where it stands.
-fn operand<'a>(expr: &'a Expr, row: &'a Row) -> Option<&'a Value>
+/// The value of a literal or of a column that the row has, where it stands, and `None` of every other
+/// expression. Takes no memory.
+pub fn operand<'a>(expr: &'a Expr, row: &'a Row) -> Option<&'a Value>
     ensures { IfSome result (λ found. value_of (cell row.now) expr.now ≡ Ok found.now) }
 {
     match expr.node() {

@@ -20,7 +20,7 @@ pub mod tree;
 pub use bound::{Action, Bound};
 pub use catalog::{Catalog, IndexRule};
 pub use compare::Compare;
-pub use evaluation::{Fail, holds, value};
+pub use evaluation::{Fail, holds, operand, value};
 pub use history::{Entry, History, Outcome, Sweep, Transcripts};
 pub use items::{Aggregate, Items, List, RawAggregate};
 pub use migration::{Arm, Item, Join, Migrate, Target};
