@@ -1,4 +1,4 @@
-use Rattle.std.proofs.Common.{ap, sym, ◌∙◌, Bor, Some}
+use Rattle.std.proofs.Common.{ap, sym, ◌∙◌, Some}
 use Rattle.std.specs.Option.{option_copied}
 use Rattle.bf_base.specs.declared.table.Table.{Table}
 use Rattle.bf_tree.proofs.ByName.{table_found, table_nowhere}
