@@ -26,11 +26,11 @@ use Rattle.bf_query.proofs.Keeping.{other_tables_stay, others_keep, own_kept}
 use Rattle.bf_query.proofs.OwnKeys.{by_recursion, each, weakened}
 use Rattle.bf_live.proofs.keeps.Changes.{keeps_insert, keeps_update, keeps_delete}
 use Rattle.bf_live.specs.Live.{committed, written_to}
-use Rattle.bf_machine.specs.Actions.{IsOn}
-use Rattle.bf_machine.specs.Open.{IsOpen}
-use Rattle.bf_machine.proofs.statements.Named.{IsThere, all_there, both_hold, same_itself}
-use Rattle.bf_machine.proofs.statements.OnTables.{held, is_on, stored}
-use Rattle.bf_machine.proofs.statements.Seeing.{Stands}
+use Rattle.bf_live.specs.Actions.{IsOn}
+use Rattle.bf_live.specs.Open.{IsOpen}
+use Rattle.bf_live.proofs.statements.Named.{IsThere, all_there, both_hold, same_itself}
+use Rattle.bf_live.proofs.statements.OnTables.{held, is_on, stored}
+use Rattle.bf_live.proofs.statements.Seeing.{Stands}
 
 -- a bound change leaves a database
 keeps_change : (commit : ℕ) (db : Database) (in_block : Bool) (s : Statement) (act : Action) → IsBoundAs db in_block s act → IsChange act

@@ -1,6 +1,6 @@
 -- A statement that is bound in the committed catalog, in a transaction that is open.
 use Rattle.std.proofs.Common.{◌≡◌, ℕ, Bool, true, false, List, [], Some, sym, subst, ◌∙◌}
-use Rattle.bf_bind.specs.Limits.{is_planned}
+use Rattle.bf_sql.specs.Bound.{is_planned, without_rows, bound_of, catalog_of}
 use Rattle.bf_base.specs.declared.table.Table.{Table}
 use Rattle.bf_tree.specs.declared.bound.Action.TheVariants as action
 use Rattle.bf_tree.specs.declared.bound.Bound.{Bound}
@@ -9,20 +9,19 @@ use Rattle.bf_tree.specs.declared.catalog.IndexRule.{IndexRule}
 use Rattle.bf_tree.specs.declared.reply.Refusal.{Refusal}
 use Rattle.bf_tree.specs.declared.reply.Reply.TheVariants as reply
 use Rattle.bf_tree.specs.declared.statement.Statement.{Statement}
-use Rattle.bf_sql.specs.Bound.{without_rows, bound_of}
 use Rattle.bf_sql.specs.Database.{Database, IsDatabase}
 use Rattle.bf_sql.specs.Meaning.{executed}
 use Rattle.bf_query.specs.Actions.{action_table}
 use Rattle.bf_query.specs.Meanings.{IsBoundAs}
 use Rattle.bf_live.specs.Autocommit.{is_autocommit}
-use Rattle.bf_live.specs.Live.{catalog_of, committed}
+use Rattle.bf_live.specs.Live.{committed}
 use Rattle.bf_txn.specs.declared.write.Write.{Write}
-use Rattle.bf_machine.specs.Actions.{IsOn}
-use Rattle.bf_machine.specs.Open.{IsOpen, IsStep}
-use Rattle.bf_machine.proofs.statements.Creating.{Creates, CreatesIndex, creates, creates_index}
-use Rattle.bf_machine.proofs.statements.OnTables.{is_on, no_refusal}
-use Rattle.bf_machine.proofs.statements.Outcomes.{IsBoundIn, as_bound, bound_in, bound_to, not_planned, refused, refused_writes}
-use Rattle.bf_machine.proofs.statements.Seeing.{begun, same_catalog}
+use Rattle.bf_live.specs.Actions.{IsOn}
+use Rattle.bf_live.specs.Open.{IsOpen, IsStep}
+use Rattle.bf_live.proofs.statements.Creating.{Creates, CreatesIndex, creates, creates_index}
+use Rattle.bf_live.proofs.statements.OnTables.{is_on, no_refusal}
+use Rattle.bf_live.proofs.statements.Outcomes.{IsBoundIn, as_bound, bound_in, bound_to, not_planned, refused, refused_writes}
+use Rattle.bf_live.proofs.statements.Seeing.{begun, same_catalog}
 
 module _ (db : Database) (writes : List Write) (opened : IsOpen db writes) (in_block : Bool) (s : Statement) (planned : is_planned in_block s ≡ false)
     (catalog : Catalog) (same : catalog ≡ catalog_of db) (bound : Bound) (is : bound_of (without_rows catalog) in_block s ≡ Some bound) where

@@ -2,7 +2,7 @@
 use Rattle.std.proofs.Common.{◌≡◌, ◌≢◌, ℕ, Bool, true, false, List, [], ◌∷◌, ◌++◌, Option, Some, None, option_map, unwrap_or, refl, sym, ap, ap₂, subst, ◌∙◌}
 use Rattle.std.specs.Prelude.{option_and_then}
 use Rattle.bf_base.specs.declared.table.Table.{Table}
-use Rattle.bf_bind.specs.Limits.{is_planned}
+use Rattle.bf_sql.specs.Bound.{is_planned, action_of, without_rows, bound_of, changes_schema, unless_objected, catalog_of}
 use Rattle.bf_tree.specs.declared.bound.Action.{Action}
 use Rattle.bf_tree.specs.declared.bound.Action.TheVariants as action
 use Rattle.bf_tree.specs.declared.bound.Bound.{Bound}
@@ -11,7 +11,6 @@ use Rattle.bf_tree.specs.declared.reply.Refusal.{Refusal}
 use Rattle.bf_tree.specs.declared.reply.Reply.TheVariants as reply
 use Rattle.bf_tree.specs.declared.statement.Statement.{Statement}
 use Rattle.bf_tree.specs.declared.statement.Statement.TheVariants.{CreateTable, CreateIndex, Insert, Select, Update, Delete, Begin, Commit, Rollback, Migrate}
-use Rattle.bf_sql.specs.Bound.{action_of, without_rows, bound_of, changes_schema, unless_objected}
 use Rattle.bf_sql.specs.Database.{Database, IsDatabase}
 use Rattle.bf_sql.specs.Meaning.{effect, executed, unless_refused}
 use Rattle.bf_sql.specs.Objections.{objections}
@@ -19,10 +18,9 @@ use Rattle.bf_sql.specs.RowObjections.{row_objections}
 use Rattle.bf_query.specs.Actions.{action_table}
 use Rattle.bf_query.specs.Meanings.{IsBoundAs, writes_after}
 use Rattle.bf_live.specs.Autocommit.{is_autocommit}
-use Rattle.bf_live.specs.Live.{catalog_of}
 use Rattle.bf_txn.specs.declared.write.Write.{Write}
-use Rattle.bf_machine.specs.Open.{writes_behind}
-use Rattle.bf_machine.proofs.statements.Bare.{same_bound}
+use Rattle.bf_live.specs.Open.{writes_behind}
+use Rattle.bf_live.proofs.statements.Bare.{same_bound}
 
 -- a plain statement is no MIGRATE
 pub not_planned : (s : Statement) → is_autocommit s ≡ true → is_planned false s ≡ false

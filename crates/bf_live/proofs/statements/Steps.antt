@@ -17,11 +17,11 @@ use Rattle.bf_query.specs.Meanings.{IsBoundAs, entries_of, writes_after}
 use Rattle.bf_query.proofs.AsWritten.{reply_law, select_law}
 use Rattle.bf_live.specs.Live.{committed}
 use Rattle.bf_txn.specs.declared.write.Write.{Write}
-use Rattle.bf_machine.specs.Open.{IsOpen, IsStep}
-use Rattle.bf_machine.proofs.statements.Committing.{committed_means, stays_open}
-use Rattle.bf_machine.proofs.statements.OnTables.{is_on, rows_there, writes_there}
-use Rattle.bf_machine.proofs.statements.Outcomes.{writes_of_action}
-use Rattle.bf_machine.proofs.statements.Seeing.{nothing_written}
+use Rattle.bf_live.specs.Open.{IsOpen, IsStep}
+use Rattle.bf_live.proofs.statements.Committing.{committed_means, stays_open}
+use Rattle.bf_live.proofs.statements.OnTables.{is_on, rows_there, writes_there}
+use Rattle.bf_live.proofs.statements.Outcomes.{writes_of_action}
+use Rattle.bf_live.proofs.statements.Seeing.{nothing_written}
 
 -- a SELECT writes nothing
 no_writes : (writes : List Write) (rows : List (List Value)) (act : Action) → IsSelect act

@@ -11,11 +11,12 @@ use Rattle.bf_query.proofs.OwnKeys.{each, weakened}
 use Rattle.bf_query.proofs.RowsAsEntries.{hold_rows, rows_are}
 use Rattle.bf_tree.specs.declared.catalog.Catalog.{Catalog}
 use Rattle.bf_sql.specs.Database.{Database, Stored, IsDatabase, stored_at}
-use Rattle.bf_live.specs.Live.{catalog_of, committed, written_to}
+use Rattle.bf_sql.specs.Bound.{catalog_of}
+use Rattle.bf_live.specs.Live.{committed, written_to}
 use Rattle.bf_txn.specs.declared.write.Write.{Write}
-use Rattle.bf_machine.specs.Open.{IsOpen}
-use Rattle.bf_machine.proofs.statements.Bare.{either_found}
-use Rattle.bf_machine.proofs.statements.Named.{IsThere, all_there, rows_there}
+use Rattle.bf_live.specs.Open.{IsOpen}
+use Rattle.bf_live.proofs.statements.Bare.{either_found}
+use Rattle.bf_live.proofs.statements.Named.{IsThere, all_there, rows_there}
 
 module _ (db : Database) (writes : List Write) where
   -- it sees the committed catalog

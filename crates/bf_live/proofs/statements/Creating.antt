@@ -21,7 +21,7 @@ use Rattle.bf_sql.specs.Meaning.{effect, executed, index_of, next_number, create
 use Rattle.bf_sql.specs.Objections.{names_objections, objections, rule_names, rules_objections}
 use Rattle.bf_query.specs.Meanings.{IsBoundAs}
 use Rattle.bf_query.proofs.Effects.{nothing_before, not_when}
-use Rattle.bf_live.specs.Live.{catalog_of}
+use Rattle.bf_sql.specs.Bound.{catalog_of}
 use Rattle.bf_live.proofs.keeps.New.{keeps_create_table, keeps_create_index}
 
 abbrev pub with_new_table : Table → Database → Database

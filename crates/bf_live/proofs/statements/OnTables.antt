@@ -20,10 +20,10 @@ use Rattle.bf_query.proofs.Binding.{as_stored, leaves_keys, stored_table, well_b
 use Rattle.bf_query.proofs.OwnKeys.{by_recursion}
 use Rattle.bf_query.proofs.RowsAsEntries.{hold_rows}
 use Rattle.bf_live.specs.Live.{committed, written_to}
-use Rattle.bf_machine.specs.Actions.{IsOn}
-use Rattle.bf_machine.specs.Open.{IsOpen}
-use Rattle.bf_machine.proofs.statements.Named.{found_among}
-use Rattle.bf_machine.proofs.statements.Seeing.{Stands, seen_at}
+use Rattle.bf_live.specs.Actions.{IsOn}
+use Rattle.bf_live.specs.Open.{IsOpen}
+use Rattle.bf_live.proofs.statements.Named.{found_among}
+use Rattle.bf_live.proofs.statements.Seeing.{Stands, seen_at}
 
 -- what a statement is bound to is well bound on its table
 pub is_on : (db : Database) (in_block : Bool) (s : Statement) (act : Action) (table : Table) → IsBoundAs db in_block s act

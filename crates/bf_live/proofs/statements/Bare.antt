@@ -6,7 +6,7 @@ use Rattle.std.proofs.lemmas.List.Folds.{list_all-map}
 use Rattle.std.proofs.lemmas.Simd.{map-map}
 use Rattle.bf_base.specs.declared.table.Table.{Table}
 use Rattle.bf_base.specs.Lists.{name_cmp, rises, same_name, when}
-use Rattle.bf_bind.specs.Limits.{table_without_rows, is_planned}
+use Rattle.bf_sql.specs.Bound.{table_without_rows, is_planned, action_of, without_rows, bound_of, changes_schema, items_over, unless_objected, catalog_of}
 use Rattle.bf_tree.specs.Trees.{cond_over, expr_over}
 use Rattle.bf_tree.specs.declared.bound.Action.{Action}
 use Rattle.bf_tree.specs.declared.bound.Action.TheVariants as action
@@ -16,13 +16,11 @@ use Rattle.bf_tree.specs.declared.reply.Refusal.{Refusal}
 use Rattle.bf_tree.specs.declared.reply.Refusal.TheVariants as refusal
 use Rattle.bf_tree.specs.declared.statement.Statement.{Statement}
 use Rattle.bf_tree.specs.declared.statement.Statement.TheVariants.{CreateTable, CreateIndex, Insert, Select, Update, Delete, Begin, Commit, Rollback, Migrate}
-use Rattle.bf_sql.specs.Bound.{action_of, without_rows, bound_of, changes_schema, items_over, unless_objected}
 use Rattle.bf_sql.specs.Conditions.{condition_of, fixed_key}
 use Rattle.bf_sql.specs.Database.{Database, Stored, IsDatabase, is_on_table, is_within, no_table, stored_at, table_at}
 use Rattle.bf_sql.specs.Meaning.{index_of}
 use Rattle.bf_sql.specs.Objections.{items_objections, names_objections, new_index_objections, objections, rule_names, rules_objections, sets_objections, table_objections}
 use Rattle.bf_sql.specs.Scopes.{cond_objections, place_of, scope_of, unqualified}
-use Rattle.bf_live.specs.Live.{catalog_of}
 use Rattle.bf_live.proofs.keeps.Items.{list_all_if, list_any_alike}
 
 abbrev table_in : Stored → Table
