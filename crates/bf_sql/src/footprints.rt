@@ -53,7 +53,8 @@ fn key_locks(
     mode: Mode,
 ) -> Result<Vec<(LockName, Mode)>, Memory>
     ensures { IfOk result (λ locks.
-        locks.items ≡ catalog_read ∷ (Whole table.now.name, above) ∷ (One table.now.name key.now, mode) ∷ []) }
+        locks.items ≡ catalog_read ∷ (Whole table.now.name, above)
+        ∷ (One table.now.name key.now, mode) ∷ []) }
 {
     let whole = LockName::Whole(table.name.copy(alloc)?);
     let one = LockName::One(table.name.copy(alloc)?, key.copy(alloc)?);
@@ -62,7 +63,8 @@ fn key_locks(
 
 /// The locks of a whole table in a mode.
 fn table_locks(alloc: Global, table: &Table, mode: Mode) -> Result<Vec<(LockName, Mode)>, Memory>
-    ensures { IfOk result (λ locks. locks.items ≡ catalog_read ∷ (Whole table.now.name, mode) ∷ []) }
+    ensures { IfOk result (λ locks.
+        locks.items ≡ catalog_read ∷ (Whole table.now.name, mode) ∷ []) }
 {
     let whole = LockName::Whole(table.name.copy(alloc)?);
     Ok(vec![in alloc; (LockName::Catalog, Mode::S), (whole, mode)]?)
