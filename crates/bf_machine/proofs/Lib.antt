@@ -1,2 +1,3 @@
+pub mod interleaving
 pub mod order
 pub mod serving

@@ -2,3 +2,4 @@ pub mod InOrder
 pub mod Runnable
 pub mod Sessions
 pub mod Turns
+pub mod interleaving

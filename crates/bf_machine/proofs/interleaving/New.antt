@@ -1,0 +1,61 @@
+-- A new machine has all that is kept.
+use Rattle.std.proofs.Common.{◌≡◌, ℕ, zero, suc, ◌+◌, List, [], ◌∷◌, length, map, filter, Option, Some, None, Bool, refl, sym, ap, subst, ◌∙◌}
+use Rattle.std.specs.FinMap as fin
+use Rattle.std.specs.FinMap.{get-empty}
+use Rattle.std.specs.List.{AllByRecursion, slice_index_or}
+use Rattle.bf_locks.specs.declared.mode.Mode.{Mode}
+use Rattle.bf_locks.specs.Locks.{holding_cmp}
+use Rattle.bf_locks.proofs.Held.{consistent_empty}
+use Rattle.bf_tree.specs.declared.reply.Reply.{Reply}
+use Rattle.bf_tree.specs.declared.script.Script.{Script}
+use Rattle.bf_tree.specs.declared.script.Session.{Session}
+use Rattle.bf_sql.specs.Database.{Database, IsDatabase}
+use Rattle.bf_machine.specs.interleaving.Machines.{Began, Open, Machine, began_at}
+use Rattle.bf_machine.specs.interleaving.Kept.{IsKept, HasStart, fresh, no_group, no_replies}
+use Rattle.bf_machine.proofs.interleaving.Answers.{told_from}
+use Rattle.bf_machine.proofs.interleaving.Asked.{length-map}
+
+none_told : (k : ℕ) (sessions : List Session) → told_from k (map no_replies sessions) ≡ []
+none_told k [] = refl
+none_told k (s ∷ sessions) = none_told (k + 1) sessions
+
+none_open : (sessions : List Session) (k : ℕ) → slice_index_or (map no_group sessions) k None ≡ None
+none_open [] k = refl
+none_open (s ∷ sessions) zero = refl
+none_open (s ∷ sessions) (suc k) = none_open sessions k
+
+none_at : (sessions : List Session) (k : ℕ) → slice_index_or (None ∷ map no_group sessions) k None ≡ None
+none_at sessions zero = refl
+none_at sessions (suc k) = none_open sessions k
+
+none_began : (n : ℕ) (b : Began) → began_at [] n ≡ Some b → ⊥
+none_began zero b is = cc
+none_began (suc n) b is = cc
+
+pub new_is_kept : (start : Database) (script : Script) (retries : ℕ) → IsDatabase start → IsKept start (fresh start script retries)
+new_is_kept start script retries is = record {
+  shaped = record { opens = length-map no_group script.sessions; told = length-map no_replies script.sessions };
+  history_legal = record {
+    legal = record {
+      whole_groups = refl;
+      in_order = refl;
+      outcomes = refl;
+      replies = refl;
+      others = let none = none_told 1 script.sessions in rw none tt;
+    };
+    replay = refl;
+    database = is;
+    placed = tt;
+    in_turn = tt;
+  };
+  open_groups_replay = record { each = λ s o there. let none = sym (none_at script.sessions s) ∙ there in absurd cc };
+  locks_consistent = record {
+    apart = consistent_empty;
+    owners = λ name owner mode held. let none = sym (get-empty holding_cmp (name, owner)) ∙ held in absurd cc;
+    starts = λ s o there. let none = sym (none_at script.sessions s) ∙ there in absurd cc;
+    once = λ s g i j x y. absurd (none_began i _ x.is);
+    in_turn = λ s g n x. absurd (none_began n _ x.is);
+    by_phase = λ s t one other i j x y before. absurd (none_began i _ x.is);
+  };
+  causes_allowed = record { deaths = λ n b there. absurd (none_began n b there) };
+}

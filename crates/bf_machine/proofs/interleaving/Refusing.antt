@@ -1,0 +1,157 @@
+-- A COMMIT or ROLLBACK in no group keeps all.
+use Rattle.std.proofs.Common.{◌≡◌, ◌≢◌, ◌⊎◌, ℕ, zero, suc, ◌+◌, ◌-◌, ◌<◌, ◌≤◌, Bool, true, false, not, ◌&&◌, ◌||◌, cond, List, [], ◌∷◌, ◌++◌, length, map, filter, Option, Some, None, refl, sym, ap, ap₂, subst, ◌∙◌, arith, inl, inr, length-append}
+use Rattle.std.specs.List.{AllByRecursion, list_any, slice_index_or, slice_set}
+use Rattle.std.proofs.lemmas.Bool.{cases_eq}
+use Rattle.std.proofs.lemmas.List.{length-set}
+use Rattle.bf_base.specs.Lists.{part}
+use Rattle.bf_tree.specs.declared.history.Entry.{Entry}
+use Rattle.bf_tree.specs.declared.reply.Refusal.TheVariants.{NoTransaction}
+use Rattle.bf_tree.specs.declared.reply.Reply.{Reply}
+use Rattle.bf_tree.specs.declared.reply.Reply.TheVariants.{Refused, Ended}
+use Rattle.bf_sql.specs.Database.{Database}
+use Rattle.bf_sql.specs.Groups.{session_at, groups_in, statements_in, has_statement, is_stray}
+use Rattle.bf_sql.specs.History.{IsApart, replies_to, stands_in, told}
+use Rattle.bf_machine.proofs.interleaving.Texts.{AreTexts}
+use Rattle.bf_machine.specs.interleaving.Machines.{Group, Began, Open, Machine, open_at, told_at, answered_in}
+use Rattle.bf_machine.specs.interleaving.Kept.{IsKept, IsOpenGroup, HistoryLegal, OpenGroupsReplay, LocksConsistent, DeathsAllowed, IsAllowed, IsCurrent, none_open}
+use Rattle.bf_machine.specs.interleaving.Events.{Refuses}
+use Rattle.bf_machine.proofs.interleaving.Answers.{Told, told_from, told_in, told_more}
+use Rattle.bf_machine.proofs.interleaving.Entries.{part_in_front}
+use Rattle.bf_machine.proofs.interleaving.Places.{set_same, set_other, from_one}
+use Rattle.bf_machine.proofs.interleaving.Legal.{found_there, length-part, length-map}
+use Rattle.bf_machine.proofs.interleaving.Opens.{stays}
+
+module _ (start : Database) (m : Machine) (kept : IsKept start m) (texts : AreTexts m.script) (s : ℕ) (closed : open_at m s ≡ None) (low : 1 ≤ s) (high : s ≤ length m.told)
+    (stray : is_stray m.script s (length (told_at m s) + 1) ≡ true) where
+  abbrev more : List Reply
+  more = Refused NoTransaction ∷ []
+
+  abbrev after : Machine
+  after = record m { told = slice_set m.told (s - 1) (told_at m s ++ more) }
+
+  told_here : told_at after s ≡ told_at m s ++ more
+  told_here = set_same [] [] m.told s (told_at m s ++ more) low high
+
+  told_there : (t : ℕ) → t ≢ s → told_at after t ≡ told_at m t
+  told_there t apart = set_other [] [] m.told s t (told_at m s ++ more) low apart
+
+  told_alike : (t : ℕ) (g : Group) → g.1 ≤ length (told_at m t) → replies_to after.told t g ≡ replies_to m.told t g
+  told_alike t g within = elim (cases_eq t s) as (λ _. replies_to after.told t g ≡ replies_to m.told t g) [
+    | inl same ↦
+        let here : told_at after t ≡ told_at m t ++ more = ap (told_at after) same ∙ (told_here ∙ ap (λ (s : ℕ). told_at m s ++ more) (sym same)) in
+        ap (part g.0 g.1) here ∙ part_in_front g.0 g.1 (told_at m t) more within
+    | inr apart ↦ ap (part g.0 g.1) (told_there t apart)
+  ]
+
+  grows : (t : ℕ) → length (told_at m t) ≤ length (told_at after t)
+  grows t = elim (cases_eq t s) as (λ _. length (told_at m t) ≤ length (told_at after t)) [
+    | inl same ↦
+        let sizes : length (told_at after t) ≡ length (told_at m t) + 1 =
+        ap (λ (t : ℕ). length (told_at after t)) same ∙ (ap (λ (rs : List Reply). length rs) told_here ∙ (length-append (told_at m s) more ∙ ap (λ (t : ℕ). length (told_at m t) + 1) (sym same))) in
+        omega (arith, sizes)
+    | inr apart ↦
+        let sizes : length (told_at after t) ≡ length (told_at m t) = ap (λ (rs : List Reply). length rs) (told_there t apart) in
+        omega (arith, sizes)
+  ]
+
+  old_told : (history : List Entry) → AllByRecursion (λ d. d.last ≤ length (told_at m d.session)) history → map (told after.told) history ≡ map (told m.told) history
+  old_told [] placed = refl
+  old_told (d ∷ history) placed =
+      ap₂ (λ (rs : List Reply) (rest : List (List Reply)). rs ∷ rest) (told_alike d.session (d.first, d.last) placed.0) (old_told history placed.1)
+
+  apart_still : (a : Told) → IsApart m.script (IsAllowed start m.script m.began m.history m.retries) m.told a → IsApart m.script (IsAllowed start m.script m.began m.history m.retries) after.told a
+  apart_still a was = elim was as (λ _. IsApart m.script (IsAllowed start m.script m.began m.history m.retries) after.told a) [
+    | inl stray ↦ inl stray
+    | inr caused ↦
+        let g = caused.0 in
+        let among = found_there (has_statement a.1) (groups_in m.script a.0) g caused.2 in
+        let b = texts.bounds a.0 g among in
+        let sizes : length (replies_to m.told a.0 g) ≡ length (statements_in m.script a.0 g) =
+        ap (λ (rs : List Reply). length rs) caused.4 ∙ length-map (λ _. Ended caused.1) (statements_in m.script a.0 g) in
+        let within : g.1 ≤ length (told_at m a.0) =
+        omega (arith, sizes, length-part g.0 g.1 (told_at m a.0), length-part g.0 g.1 (session_at m.script a.0).statements, b.0, b.1, b.2) in
+        inr (g, caused.1, caused.2, caused.3, told_alike a.0 g within ∙ caused.4)
+  ]
+
+  abbrev kept_by : Told → Bool
+  kept_by a = not (list_any (stands_in a.0 a.1) m.history || list_any (λ g. none_open a.0 g && has_statement a.1 g) (groups_in m.script a.0))
+
+  one_if : (p : Told → Bool) (P : Told → Type 0) (x : Told) → P x → AllByRecursion P (filter p (x ∷ []))
+  one_if p P x here = elim (p x) as (λ b. AllByRecursion P (cond b (x ∷ []) [])) [ true ↦ (here, tt) | false ↦ tt ]
+
+  others_still : AllByRecursion (IsApart m.script (IsAllowed start m.script m.began m.history m.retries) after.told) (filter kept_by (told_from 1 after.told))
+  others_still =
+      let i = s - 1 in
+      let at : 1 + i ≡ s = omega (arith, low) in
+      let here : slice_index_or m.told i [] ≡ told_at m s = from_one [] [] m.told s low in
+      let next : 1 + length (told_at m s) ≡ length (told_at m s) + 1 = omega arith in
+      let P : Told → Type 0 = IsApart m.script (IsAllowed start m.script m.began m.history m.retries) after.told in
+      let new : AllByRecursion P (filter kept_by (told_in s (1 + length (told_at m s)) more)) =
+      rw next (one_if kept_by P (s, length (told_at m s) + 1, Refused NoTransaction) (inl (stray, refl))) in
+      let all = told_more (IsApart m.script (IsAllowed start m.script m.began m.history m.retries) m.told) P kept_by kept_by apart_still (λ a h. h) 1 i m.told more
+      (rw (here, at) new) kept.history_legal.legal.others in
+      rw here at all
+
+  current_still : (t : ℕ) → IsCurrent m t → IsCurrent after t
+  current_still t current = λ u before. let was = current u before in (omega (arith, was.0, grows u), was.1)
+
+  turns_still : (history : List Entry) → AllByRecursion (λ d. IsCurrent m d.session) history → AllByRecursion (λ d. IsCurrent after d.session) history
+  turns_still [] turns = tt
+  turns_still (d ∷ history) turns = (current_still d.session turns.0, turns_still history turns.1)
+
+  placed_still : (history : List Entry) → AllByRecursion (λ d. d.last ≤ length (told_at m d.session)) history → AllByRecursion (λ d. d.last ≤ length (told_at after d.session)) history
+  placed_still [] placed = tt
+  placed_still (d ∷ history) placed = (omega (arith, placed.0, grows d.session), placed_still history placed.1)
+
+  not_open : (t : ℕ) (p : Open) → open_at m t ≡ Some p → t ≢ s
+  not_open t p is_open same =
+      let clash : None ≡ Some p = sym closed ∙ (ap (open_at m) (sym same) ∙ is_open) in
+      cc
+
+  pub stray_keeps_all : IsKept start after
+  stray_keeps_all = record {
+    shaped = record { opens = kept.shaped.opens; told = length-set m.told (s - 1) (told_at m s ++ more) ∙ kept.shaped.told };
+    history_legal = record {
+      legal = record {
+        whole_groups = kept.history_legal.legal.whole_groups;
+        in_order = kept.history_legal.legal.in_order;
+        outcomes = kept.history_legal.legal.outcomes;
+        replies = old_told m.history kept.history_legal.placed ∙ kept.history_legal.legal.replies;
+        others = others_still;
+      };
+      replay = kept.history_legal.replay;
+      database = kept.history_legal.database;
+      placed = placed_still m.history kept.history_legal.placed;
+      in_turn = turns_still m.history kept.history_legal.in_turn;
+    };
+    open_groups_replay = record {
+      each = λ t p is_open.
+      let group = kept.open_groups_replay.each t p is_open in
+      stays start m m.locks m.began m.opens (slice_set m.told (s - 1) (told_at m s ++ more)) m.history t p (told_there t (not_open t p is_open)) group.held group;
+    };
+    locks_consistent = record {
+      apart = kept.locks_consistent.apart;
+      owners = kept.locks_consistent.owners;
+      starts = kept.locks_consistent.starts;
+      once = kept.locks_consistent.once;
+      in_turn = λ t g n has. current_still t (kept.locks_consistent.in_turn t g n has);
+      by_phase = kept.locks_consistent.by_phase;
+    };
+    causes_allowed = record {
+      deaths = λ n b is.
+      let was = kept.causes_allowed.deaths n b is in record {
+        each = was.each;
+        sessions_differ = was.sessions_differ;
+        ended = λ i t g below has. omega (arith, was.ended i t g below has, grows t);
+        last_ended = λ i t g p is_open at below has. omega (arith, was.last_ended i t g p is_open at below has, grows t);
+        later = was.later;
+        most = was.most;
+      };
+    };
+  }
+
+-- REFUSED KEEPS ALL
+pub refuse_keeps_all : (start : Database) (m : Machine) (kept : IsKept start m) (texts : AreTexts m.script) (s : ℕ) (next : Machine) → Refuses m s next → IsKept start next
+refuse_keeps_all start m kept texts s next by =
+    let high : s ≤ length m.told = omega (arith, by.place.1, kept.shaped.told) in
+    subst (IsKept start) (sym by.goes) (stray_keeps_all start m kept texts s by.closed by.place.0 high by.stray)
