@@ -14,4 +14,5 @@ pub mod Going
 pub mod New
 pub mod Beginning
 pub mod Refusing
+pub mod Joins
 pub mod Dying

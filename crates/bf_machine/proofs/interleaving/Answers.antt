@@ -55,6 +55,17 @@ module _ (P Q : Told → Type 0) (p q : Told → Bool) (weaker : (a : Told) → 
       let here : q (k, n, r) ≡ false = out n r (omega arith) (omega arith) in
       rw here (none_kept k (n + 1) replies (λ j r low high. out j r (omega arith) (omega arith)))
 
+  -- or all of them are so
+  pub all_so : (k n : ℕ) (replies : List Reply) → ((j : ℕ) (r : Reply) → n ≤ j → j < n + length replies → Q (k, j, r))
+      → AllByRecursion Q (filter q (told_in k n replies))
+  all_so k n [] so = tt
+  all_so k n (r ∷ replies) so =
+      let rest : AllByRecursion Q (filter q (told_in k (n + 1) replies)) = all_so k (n + 1) replies (λ j r low high. so j r (omega arith) (omega arith)) in
+      elim (cases_Bool (q (k, n, r))) as (λ _. AllByRecursion Q (filter q (told_in k n (r ∷ replies)))) [
+        | inl stays ↦ rw stays (so n r (omega arith) (omega arith), rest)
+        | inr out ↦ rw out rest
+      ]
+
   -- MORE is told in session k + i, of which all that the second test keeps is so
   pub told_more : (k i : ℕ) (told : List (List Reply)) (more : List Reply)
       → AllByRecursion Q (filter q (told_in (k + i) (1 + length (slice_index_or told i [])) more))

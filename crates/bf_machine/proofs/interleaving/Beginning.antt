@@ -4,7 +4,7 @@ use Rattle.std.specs.Prelude.{Contains, nat_le}
 use Rattle.std.specs.List.{AllByRecursion, list_any, slice_index_or, slice_set}
 use Rattle.std.proofs.lemmas.Bool.{cases_eq, cases_Bool}
 use Rattle.std.proofs.lemmas.Bool.Decides.{nat_tests}
-use Rattle.std.proofs.lemmas.List.{length-set, map-append}
+use Rattle.std.proofs.lemmas.List.{length-map, length-set, map-append}
 use Rattle.bf_tree.specs.declared.history.Entry.{Entry}
 use Rattle.bf_tree.specs.declared.reply.Cause.{Cause}
 use Rattle.bf_tree.specs.declared.reply.Cause.TheVariants.{Died}
@@ -14,13 +14,13 @@ use Rattle.bf_tree.specs.declared.script.Session.{Session}
 use Rattle.bf_sql.specs.Database.{Database}
 use Rattle.bf_sql.specs.Groups.{session_at, groups_in, groups_of, has_statement, no_session}
 use Rattle.bf_sql.specs.History.{IsApart, answered, stands_in}
-use Rattle.bf_machine.proofs.interleaving.Texts.{AreTexts}
+use Rattle.bf_machine.proofs.interleaving.Texts.{AreTexts, one_first}
 use Rattle.bf_machine.specs.interleaving.Machines.{Group, Began, Open, Machine, open_at, told_at, began_at}
-use Rattle.bf_machine.specs.interleaving.Kept.{IsKept, HistoryLegal, OpenGroupsReplay, LocksConsistent, CausesAllowed, DeathsAllowed, HasStart, DiedFor, IsAllowed, IsCurrent, phase_of, none_open}
-use Rattle.bf_machine.specs.interleaving.Events.{Begins, begun, begun_again, opened}
+use Rattle.bf_machine.specs.interleaving.Kept.{IsKept, HistoryLegal, OpenGroupsReplay, LocksConsistent, CausesAllowed, DeathsAllowed, HasStart, DiedFor, IsAllowed, IsCurrent, HasBegun, HasEnded, phase_of}
+use Rattle.bf_machine.specs.InOrder.{none_open}
+use Rattle.bf_machine.specs.interleaving.Events.{Begins, LastHasEnded, begun, begun_again, opened}
 use Rattle.bf_machine.proofs.interleaving.Answers.{Told, still}
 use Rattle.bf_machine.proofs.interleaving.Places.{set_same, set_other}
-use Rattle.bf_machine.proofs.interleaving.Legal.{length-map}
 use Rattle.bf_machine.proofs.interleaving.Opens.{begin_keeps_open}
 
 -- a start number of a list is one of a longer one
@@ -46,7 +46,7 @@ module _ (began : List Began) (b : Began) where
   at_more n = ap (λ (xs : List (Option Began)). slice_index_or (None ∷ xs) n None) (map-append Some began (b ∷ []))
 
   size : length (None ∷ map Some began) ≡ length began + 1
-  size = let e = length-map Some began in omega (arith, e)
+  size = let e = length-map began Some in omega (arith, e)
 
   pub began_then : (n : ℕ) (x : Began) → began_at began n ≡ Some x → began_at more n ≡ Some x
   began_then n x is = at_more n ∙ among_more (None ∷ map Some began) (Some b ∷ []) n x is
@@ -130,18 +130,18 @@ module _ (start : Database) (m : Machine) (kept : IsKept start m) (texts : AreTe
     clash = was.clash;
   }
 
-  allowed_then : (t : ℕ) (g : Group) (cause : Cause) → IsAllowed start m.script m.began m.history m.retries t g cause → IsAllowed start m.script (more m.began b) m.history t g cause
-  allowed_then t g (Died h) was = died_then t g h was
+  allowed_then : (t : ℕ) (g : Group) (cause : Cause) → IsAllowed start m.script m.began m.history m.retries t g cause → IsAllowed start m.script (more m.began b) m.history m.retries t g cause
+  allowed_then t g (Died h) was = (died_then t g h was.0, was.1)
   allowed_then t g other was = was
 
-  apart_then : (a : Told) → IsApart m.script (IsAllowed start m.script m.began m.history m.retries) m.told a → IsApart m.script (IsAllowed start m.script (more m.began b) m.history) m.told a
-  apart_then a was = elim was as (λ _. IsApart m.script (IsAllowed start m.script (more m.began b) m.history) m.told a) [
+  apart_then : (a : Told) → IsApart m.script (IsAllowed start m.script m.began m.history m.retries) m.told a → IsApart m.script (IsAllowed start m.script (more m.began b) m.history m.retries) m.told a
+  apart_then a was = elim was as (λ _. IsApart m.script (IsAllowed start m.script (more m.began b) m.history m.retries) m.told a) [
     | inl stray ↦ inl stray
     | inr caused ↦ inr (caused.0, caused.1, caused.2, allowed_then a.0 caused.0 caused.1 caused.3, caused.4)
   ]
 
   others_then : (p : Told → Bool) (xs : List Told) → AllByRecursion (IsApart m.script (IsAllowed start m.script m.began m.history m.retries) m.told) (filter p xs)
-      → AllByRecursion (IsApart m.script (IsAllowed start m.script (more m.began b) m.history) m.told) (filter p xs)
+      → AllByRecursion (IsApart m.script (IsAllowed start m.script (more m.began b) m.history m.retries) m.told) (filter p xs)
   others_then p xs all = still _ _ p p apart_then (λ a h. h) xs all
 
   -- what is open then is the new group, or was open in another session
@@ -199,6 +199,25 @@ module _ (start : Database) (m : Machine) (kept : IsKept start m) (texts : AreTe
     in_turn = λ t g n x. elim (start_was m.began b t g n x) as (λ _. IsCurrent after t) [
       | inl old ↦ current_then t (kept.locks_consistent.in_turn t g n old)
       | inr new ↦ subst (IsCurrent after) new.1 (current_then s current)
+    ];
+    begun = λ t g n x. elim (start_was m.began b t g n x) as (λ _. HasBegun start after t g) [
+      | inl old ↦ let was = kept.locks_consistent.begun t g n old in record { whole = was.whole; goes = was.goes }
+      | inr new ↦ subst (λ (t : ℕ). HasBegun start after t g) new.1 (subst (λ (g : Group). HasBegun start after s g) new.2 (record { whole = whole; goes = inr first }))
+    ];
+    by_session = λ t one other i j x y before. elim (start_was m.began b t other j y) as (λ _. one.1 ≤ length (told_at m t)) [
+      | inl old_j ↦
+          let low_j = start_within m.began b j _ old_j.is in
+          kept.locks_consistent.by_session t one other i j (start_old m.began b t one i (omega (arith, before, low_j)) x) old_j before
+      | inr new_j ↦
+          let old_i = start_old m.began b t one i (omega (arith, before, new_j.0)) x in
+          elim (kept.locks_consistent.begun t one i old_i).goes as (λ _. one.1 ≤ length (told_at m t)) [
+            | inl has_ended ↦ has_ended
+            | inr next ↦
+                let here : Contains (groups_in m.script s) one = subst (λ (t : ℕ). Contains (groups_in m.script t) one) (sym new_j.1) (kept.locks_consistent.begun t one i old_i).whole in
+                let begins : one.0 ≡ group.0 = next ∙ (ap (λ (t : ℕ). length (told_at m t) + 1) (sym new_j.1) ∙ sym first) in
+                let same : one ≡ group = one_first m.script s one group here whole begins in
+                absurd (never i (subst (λ (g : Group). HasStart m.began s g i) same (subst (λ (t : ℕ). HasStart m.began t one i) (sym new_j.1) old_i)))
+          ]
     ];
     by_phase = λ t u one other i j x y before. elim (start_was m.began b u other j y) as (λ _. phase_of m.script t ≤ phase_of m.script u) [
       | inl old_j ↦
@@ -263,6 +282,7 @@ module _ (start : Database) (m : Machine) (kept : IsKept start m) (texts : AreTe
         | inr new_k ↦ omega (arith, new_k.0, start_within m.began b n x old)
       ];
       most = was.most;
+      retried = was.retried;
     }
 
   -- a new group has no deaths
@@ -274,6 +294,7 @@ module _ (start : Database) (m : Machine) (kept : IsKept start m) (texts : AreTe
     last_ended = λ i t g q is_open is below has. absurd (omega (arith, below));
     later = λ h t k one other among hx hy before. absurd (omega (arith, among.1));
     most = omega arith;
+    retried = inl (omega arith);
   }
 
   -- BEGIN KEEPS ALL, where a group begins for the first time
@@ -306,7 +327,7 @@ module _ (start : Database) (m : Machine) (kept : IsKept start m) (texts : AreTe
   module _ (current : IsCurrent m s) (closed : open_at m s ≡ None) (group : Group) (low : 1 ≤ s) (high : s ≤ length m.opens)
       (whole : Contains (groups_in m.script s) group) (first : group.0 ≡ length (told_at m s) + 1)
       (n : ℕ) (has : HasStart m.began s group n)
-      (ended : (h t : ℕ) (other : Group) → Contains has.deaths h → HasStart m.began t other h → other.1 ≤ length (told_at m t)) where
+      (last_has : LastHasEnded m s has.deaths) where
     abbrev again : Machine
     again = begun_again m s n group
 
@@ -357,19 +378,16 @@ module _ (start : Database) (m : Machine) (kept : IsKept start m) (texts : AreTe
                 let both : Some (record { session = s; group = group; deaths = has.deaths }) ≡ Some x = sym has.is ∙ (ap (began_at m.began) same_n ∙ is) in
                 let one : ◌≡◌ {A = Began} (record { session = s; group = group; deaths = has.deaths }) x = cc in
                 let deaths : x.deaths ≡ has.deaths = ap (λ (b : Began). b.deaths) (sym one) in
-                ended (slice_index_or x.deaths i 0) t g (subst (λ (ds : List ℕ). Contains ds (slice_index_or x.deaths i 0)) deaths (there_in x.deaths i below)) named
+                elim (cases_eq (i + 1) (length x.deaths)) as (λ _. g.1 ≤ length (told_at m t)) [
+                  | inl last ↦ last_has i t g (last ∙ ap (λ (ds : List ℕ). length ds) deaths) (subst (λ (ds : List ℕ). HasStart m.began t g (slice_index_or ds i 0)) deaths named)
+                  | inr not_last ↦ was.ended i t g (omega (arith, below, not_last)) named
+                ]
             | inr old ↦ was.last_ended i t g q old.1 at below named
           ];
           later = was.later;
           most = was.most;
+          retried = was.retried;
         }
-      where
-        same_there : (xs : List ℕ) (i : ℕ) → i < length xs → slice_index_or xs i (slice_index_or xs i 0) ≡ slice_index_or xs i 0
-        same_there [] i below = absurd (omega arith)
-        same_there (x ∷ xs) zero below = refl
-        same_there (x ∷ xs) (suc i) below = same_there xs i (omega arith)
-        there_in : (xs : List ℕ) (i : ℕ) → i < length xs → Contains xs (slice_index_or xs i 0)
-        there_in xs i below = (i, below, same_there xs i below)
 
     again_keeps_all : IsKept start again
     again_keeps_all = record {
@@ -394,6 +412,8 @@ module _ (start : Database) (m : Machine) (kept : IsKept start m) (texts : AreTe
         ];
         once = kept.locks_consistent.once;
         in_turn = λ t g k x. current_again t (kept.locks_consistent.in_turn t g k x);
+        begun = λ t g k x. let was = kept.locks_consistent.begun t g k x in record { whole = was.whole; goes = was.goes };
+        by_session = kept.locks_consistent.by_session;
         by_phase = kept.locks_consistent.by_phase;
       };
       causes_allowed = record { deaths = deaths_again };

@@ -29,7 +29,7 @@ module _ {X : Type 0} where
       (with_before-end (seen ++ y ∷ []) xs x ∙ ap (λ (s : List X). with_before_from (seen ++ y ∷ []) xs ++ (s, x) ∷ []) (append_assoc seen (y ∷ []) xs))
 
   -- a test that an item of a list passes
-  any_of : (p : X → Bool) (xs : List X) (x : X) → Contains xs x → p x ≡ true → list_any p xs ≡ true
+  pub any_of : (p : X → Bool) (xs : List X) (x : X) → Contains xs x → p x ≡ true → list_any p xs ≡ true
   any_of p [] x among so = absurd (omega (arith, among.1))
   any_of p (y ∷ xs) x (zero, within, is) so = or_left (p y) (list_any p xs) (subst (λ (z : X). p z ≡ true) (sym is) so)
   any_of p (y ∷ xs) x (suc k, within, is) so = or_right (p y) (list_any p xs) (any_of p xs x (k, omega (arith, within), is) so)

@@ -20,13 +20,12 @@ use Rattle.bf_sql.specs.Database.{Database}
 use Rattle.bf_sql.specs.Groups.{ends_block}
 use Rattle.bf_sql.specs.History.{replayed}
 use Rattle.bf_machine.specs.interleaving.Groups.{footprint_in}
-use Rattle.bf_machine.specs.interleaving.Holding.{HoldsAll}
-use Rattle.bf_machine.specs.interleaving.Law.{is_plain}
+use Rattle.bf_machine.proofs.interleaving.Texts.{AreTexts}
 use Rattle.bf_machine.specs.interleaving.Machines.{Group, Began, Open, Machine, open_at, told_at, began_at}
-use Rattle.bf_machine.specs.interleaving.Kept.{IsKept, HistoryLegal, OpenGroupsReplay, LocksConsistent, CausesAllowed, DeathsAllowed, HasStart, IsCurrent, IsJoin, wanted as is_wanted, joined, SomeOf, Wants}
-use Rattle.bf_machine.specs.interleaving.Events.{Executes, Asks, with_open, answered_by, stands_inside, rest_of, text_of}
+use Rattle.bf_machine.specs.interleaving.Kept.{IsKept, HasBegun, HistoryLegal, OpenGroupsReplay, LocksConsistent, CausesAllowed, DeathsAllowed, HasStart, IsCurrent, IsJoin, wanted as is_wanted, joined, SomeOf, Wants}
+use Rattle.bf_machine.specs.interleaving.Events.{Executes, Asks, with_open, stepped, stands_inside, rest_of, text_of}
 use Rattle.bf_machine.proofs.interleaving.Places.{set_same, set_other}
-use Rattle.bf_machine.proofs.interleaving.Opens.{exec_keeps_open, grant_keeps_open}
+use Rattle.bf_machine.proofs.interleaving.Opens.{answer_keeps_open, exec_keeps_open}
 use Rattle.bf_machine.proofs.interleaving.Others.{has_place, starts_differ}
 
 module _ (start : Database) (m : Machine) (kept : IsKept start m) (s : ℕ) (o : Open) (there : open_at m s ≡ Some o) where
@@ -89,6 +88,7 @@ module _ (start : Database) (m : Machine) (kept : IsKept start m) (s : ℕ) (o :
       was.last_ended i t g before.was before.is (sym before.start_so ∙ is) below has;
       later = was.later;
       most = was.most;
+      retried = was.retried;
     }
 
     locks_then : LocksConsistent start after
@@ -112,6 +112,8 @@ module _ (start : Database) (m : Machine) (kept : IsKept start m) (s : ℕ) (o :
       (subst (λ (g : Group). HasStart m.began t g before.was.start) (sym before.group_so) (kept.locks_consistent.starts t before.was before.is));
       once = kept.locks_consistent.once;
       in_turn = λ t g n has. current_then t (kept.locks_consistent.in_turn t g n has);
+      begun = λ t g n has. let was = kept.locks_consistent.begun t g n has in record { whole = was.whole; goes = was.goes };
+      by_session = kept.locks_consistent.by_session;
       by_phase = kept.locks_consistent.by_phase;
     }
 
@@ -164,7 +166,7 @@ module _ (start : Database) (m : Machine) (kept : IsKept start m) (s : ℕ) (o :
         placed = kept.history_legal.placed;
         in_turn = kept.history_legal.in_turn;
       };
-      open_groups_replay = grant_keeps_open start m kept s o.start name mode;
+      open_groups_replay = answer_keeps_open start m kept s o.start name mode Granted;
       locks_consistent = record {
         apart = consistent_granted m.locks o.start name mode none kept.locks_consistent.apart;
         owners = λ at owner mode_held is. elim (insert_cases m.locks name o.start (wanted m.locks o.start name mode) at owner)
@@ -180,6 +182,8 @@ module _ (start : Database) (m : Machine) (kept : IsKept start m) (s : ℕ) (o :
         starts = kept.locks_consistent.starts;
         once = kept.locks_consistent.once;
         in_turn = kept.locks_consistent.in_turn;
+        begun = λ t g n has. let was = kept.locks_consistent.begun t g n has in record { whole = was.whole; goes = was.goes };
+        by_session = kept.locks_consistent.by_session;
         by_phase = kept.locks_consistent.by_phase;
       };
       causes_allowed = record {
@@ -191,6 +195,7 @@ module _ (start : Database) (m : Machine) (kept : IsKept start m) (s : ℕ) (o :
           last_ended = was.last_ended;
           later = was.later;
           most = was.most;
+          retried = was.retried;
         };
       };
     }
@@ -212,22 +217,22 @@ some_of P inner (suc k) (x ∷ text) st later left here =
 module _ (start : Database) (m : Machine) (kept : IsKept start m) (s : ℕ) where
   -- what the next statement asks for its group wants
   pub next_wants : (o : Open) (st : Statement) (later : List Statement) → rest_of m s o ≡ st ∷ later → (name : LockName) (mode : Mode)
-      → IsAmong name mode (footprint_in (catalog_of m.db) (stands_inside o.replies) st) → Wants start m.script m.history s o.group name mode
+      → Contains (footprint_in m.db (stands_inside o.replies) st) (name, mode) → Wants start m.script m.history s o.group name mode
   next_wants o st later left name mode among =
-      let P : Database → Bool → Statement → Type 0 = λ db inner st. IsAmong name mode (footprint_in (catalog_of db) inner st) in
+      let P : Database → Bool → Statement → Type 0 = λ db inner st. Contains (footprint_in db inner st) (name, mode) in
       let now : (replayed m.script start (take (length m.history) m.history)).1 ≡ m.db =
       ap (λ (history : List Entry). (replayed m.script start history).1) (take-length m.history) ∙ sym kept.history_legal.replay in
       let inside : (if nat_lt 0 (length o.replies) then true else false) ≡ stands_inside o.replies =
-      elim (nat_lt 0 (length o.replies)) as (λ b. (if b then true else false) ≡ b) [ true ↦ refl | false ↦ refl ] in
+      elim o.replies as (λ rs. (if nat_lt 0 (length rs) then true else false) ≡ stands_inside rs) [ | [] ↦ refl | r ∷ rs ↦ refl ] in
       (length m.history, subst (λ (db : Database). SomeOf (P db) false (text_of m s o)) (sym now)
       (some_of (P m.db) false (length o.replies) (text_of m s o) st later left (rw inside among)))
 
   -- EXEC KEEPS ALL
-  pub exec_keeps_all : (next : Machine) → Executes m s next → IsKept start next
-  exec_keeps_all next by =
+  pub exec_keeps_all : AreTexts m.script → (next : Machine) → Executes m s next → IsKept start next
+  exec_keeps_all texts next by =
       subst (IsKept start) (sym by.goes)
-      (exchange_keeps start m kept s by.o by.is (answered_by m s by.o by.statement) refl refl
-      (exec_keeps_open start m kept s by.o by.is by.statement by.later by.left by.plain by.goes_on by.held))
+      (exchange_keeps start m kept s by.o by.is (stepped m s by.o by.statement by.bound) refl refl
+      (exec_keeps_open start m kept s texts by.o by.is by.statement by.later by.left by.goes_on by.bound by.bound_so by.held))
 
   -- GRANTED KEEPS ALL
   pub grant_keeps_all : (name : LockName) (mode : Mode) (next : Machine) → Asks m s name mode Granted next → IsKept start next

@@ -3,6 +3,7 @@ use Rattle.std.proofs.Common.{◌≡◌, ℕ, zero, suc, ◌+◌, List, [], ◌�
 use Rattle.std.specs.FinMap as fin
 use Rattle.std.specs.FinMap.{get-empty}
 use Rattle.std.specs.List.{AllByRecursion, slice_index_or}
+use Rattle.std.proofs.lemmas.List.{length-map}
 use Rattle.bf_locks.specs.declared.mode.Mode.{Mode}
 use Rattle.bf_locks.specs.Locks.{holding_cmp}
 use Rattle.bf_locks.proofs.Held.{consistent_empty}
@@ -13,7 +14,6 @@ use Rattle.bf_sql.specs.Database.{Database, IsDatabase}
 use Rattle.bf_machine.specs.interleaving.Machines.{Began, Open, Machine, began_at}
 use Rattle.bf_machine.specs.interleaving.Kept.{IsKept, HasStart, fresh, no_group, no_replies}
 use Rattle.bf_machine.proofs.interleaving.Answers.{told_from}
-use Rattle.bf_machine.proofs.interleaving.Asked.{length-map}
 
 none_told : (k : ℕ) (sessions : List Session) → told_from k (map no_replies sessions) ≡ []
 none_told k [] = refl
@@ -34,7 +34,7 @@ none_began (suc n) b is = cc
 
 pub new_is_kept : (start : Database) (script : Script) (retries : ℕ) → IsDatabase start → IsKept start (fresh start script retries)
 new_is_kept start script retries is = record {
-  shaped = record { opens = length-map no_group script.sessions; told = length-map no_replies script.sessions };
+  shaped = record { opens = length-map script.sessions no_group; told = length-map script.sessions no_replies };
   history_legal = record {
     legal = record {
       whole_groups = refl;
@@ -55,6 +55,8 @@ new_is_kept start script retries is = record {
     starts = λ s o there. let none = sym (none_at script.sessions s) ∙ there in absurd cc;
     once = λ s g i j x y. absurd (none_began i _ x.is);
     in_turn = λ s g n x. absurd (none_began n _ x.is);
+    begun = λ s g n x. absurd (none_began n _ x.is);
+    by_session = λ s one other i j x y before. absurd (none_began i _ x.is);
     by_phase = λ s t one other i j x y before. absurd (none_began i _ x.is);
   };
   causes_allowed = record { deaths = λ n b there. absurd (none_began n b there) };

@@ -1,24 +1,28 @@
 -- A COMMIT or ROLLBACK in no group keeps all.
 use Rattle.std.proofs.Common.{◌≡◌, ◌≢◌, ◌⊎◌, ℕ, zero, suc, ◌+◌, ◌-◌, ◌<◌, ◌≤◌, Bool, true, false, not, ◌&&◌, ◌||◌, cond, List, [], ◌∷◌, ◌++◌, length, map, filter, Option, Some, None, refl, sym, ap, ap₂, subst, ◌∙◌, arith, inl, inr, length-append}
+use Rattle.std.specs.Prelude.{Contains}
 use Rattle.std.specs.List.{AllByRecursion, list_any, slice_index_or, slice_set}
-use Rattle.std.proofs.lemmas.Bool.{cases_eq}
-use Rattle.std.proofs.lemmas.List.{length-set}
+use Rattle.std.proofs.lemmas.Bool.{and_parts, cases_eq, false≢true}
+use Rattle.std.proofs.lemmas.Bool.Decides.{nat_tests}
+use Rattle.std.proofs.lemmas.List.{length-map, length-set}
 use Rattle.bf_base.specs.Lists.{part}
 use Rattle.bf_tree.specs.declared.history.Entry.{Entry}
 use Rattle.bf_tree.specs.declared.reply.Refusal.TheVariants.{NoTransaction}
 use Rattle.bf_tree.specs.declared.reply.Reply.{Reply}
 use Rattle.bf_tree.specs.declared.reply.Reply.TheVariants.{Refused, Ended}
 use Rattle.bf_sql.specs.Database.{Database}
-use Rattle.bf_sql.specs.Groups.{session_at, groups_in, statements_in, has_statement, is_stray}
+use Rattle.bf_sql.specs.Groups.{session_at, ends_block, groups_in, statements_in, has_statement, is_stray}
 use Rattle.bf_sql.specs.History.{IsApart, replies_to, stands_in, told}
 use Rattle.bf_machine.proofs.interleaving.Texts.{AreTexts}
 use Rattle.bf_machine.specs.interleaving.Machines.{Group, Began, Open, Machine, open_at, told_at, answered_in}
-use Rattle.bf_machine.specs.interleaving.Kept.{IsKept, IsOpenGroup, HistoryLegal, OpenGroupsReplay, LocksConsistent, DeathsAllowed, IsAllowed, IsCurrent, none_open}
+use Rattle.bf_machine.specs.interleaving.Kept.{IsKept, IsOpenGroup, HistoryLegal, OpenGroupsReplay, LocksConsistent, DeathsAllowed, HasBegun, HasEnded, IsAllowed, IsCurrent}
+use Rattle.bf_machine.specs.InOrder.{none_open}
 use Rattle.bf_machine.specs.interleaving.Events.{Refuses}
 use Rattle.bf_machine.proofs.interleaving.Answers.{Told, told_from, told_in, told_more}
-use Rattle.bf_machine.proofs.interleaving.Entries.{part_in_front}
-use Rattle.bf_machine.proofs.interleaving.Places.{set_same, set_other, from_one}
-use Rattle.bf_machine.proofs.interleaving.Legal.{found_there, length-part, length-map}
+use Rattle.bf_machine.proofs.interleaving.Entries.{any_of}
+use Rattle.bf_machine.proofs.interleaving.Places.{from_one}
+use Rattle.bf_machine.proofs.interleaving.Telling.{entries_alike, grows, placed_still, told_alike, told_there}
+use Rattle.bf_machine.proofs.interleaving.Legal.{found_there, length-part}
 use Rattle.bf_machine.proofs.interleaving.Opens.{stays}
 
 module _ (start : Database) (m : Machine) (kept : IsKept start m) (texts : AreTexts m.script) (s : ℕ) (closed : open_at m s ≡ None) (low : 1 ≤ s) (high : s ≤ length m.told)
@@ -29,36 +33,6 @@ module _ (start : Database) (m : Machine) (kept : IsKept start m) (texts : AreTe
   abbrev after : Machine
   after = record m { told = slice_set m.told (s - 1) (told_at m s ++ more) }
 
-  told_here : told_at after s ≡ told_at m s ++ more
-  told_here = set_same [] [] m.told s (told_at m s ++ more) low high
-
-  told_there : (t : ℕ) → t ≢ s → told_at after t ≡ told_at m t
-  told_there t apart = set_other [] [] m.told s t (told_at m s ++ more) low apart
-
-  told_alike : (t : ℕ) (g : Group) → g.1 ≤ length (told_at m t) → replies_to after.told t g ≡ replies_to m.told t g
-  told_alike t g within = elim (cases_eq t s) as (λ _. replies_to after.told t g ≡ replies_to m.told t g) [
-    | inl same ↦
-        let here : told_at after t ≡ told_at m t ++ more = ap (told_at after) same ∙ (told_here ∙ ap (λ (s : ℕ). told_at m s ++ more) (sym same)) in
-        ap (part g.0 g.1) here ∙ part_in_front g.0 g.1 (told_at m t) more within
-    | inr apart ↦ ap (part g.0 g.1) (told_there t apart)
-  ]
-
-  grows : (t : ℕ) → length (told_at m t) ≤ length (told_at after t)
-  grows t = elim (cases_eq t s) as (λ _. length (told_at m t) ≤ length (told_at after t)) [
-    | inl same ↦
-        let sizes : length (told_at after t) ≡ length (told_at m t) + 1 =
-        ap (λ (t : ℕ). length (told_at after t)) same ∙ (ap (λ (rs : List Reply). length rs) told_here ∙ (length-append (told_at m s) more ∙ ap (λ (t : ℕ). length (told_at m t) + 1) (sym same))) in
-        omega (arith, sizes)
-    | inr apart ↦
-        let sizes : length (told_at after t) ≡ length (told_at m t) = ap (λ (rs : List Reply). length rs) (told_there t apart) in
-        omega (arith, sizes)
-  ]
-
-  old_told : (history : List Entry) → AllByRecursion (λ d. d.last ≤ length (told_at m d.session)) history → map (told after.told) history ≡ map (told m.told) history
-  old_told [] placed = refl
-  old_told (d ∷ history) placed =
-      ap₂ (λ (rs : List Reply) (rest : List (List Reply)). rs ∷ rest) (told_alike d.session (d.first, d.last) placed.0) (old_told history placed.1)
-
   apart_still : (a : Told) → IsApart m.script (IsAllowed start m.script m.began m.history m.retries) m.told a → IsApart m.script (IsAllowed start m.script m.began m.history m.retries) after.told a
   apart_still a was = elim was as (λ _. IsApart m.script (IsAllowed start m.script m.began m.history m.retries) after.told a) [
     | inl stray ↦ inl stray
@@ -67,10 +41,10 @@ module _ (start : Database) (m : Machine) (kept : IsKept start m) (texts : AreTe
         let among = found_there (has_statement a.1) (groups_in m.script a.0) g caused.2 in
         let b = texts.bounds a.0 g among in
         let sizes : length (replies_to m.told a.0 g) ≡ length (statements_in m.script a.0 g) =
-        ap (λ (rs : List Reply). length rs) caused.4 ∙ length-map (λ _. Ended caused.1) (statements_in m.script a.0 g) in
+        ap (λ (rs : List Reply). length rs) caused.4 ∙ length-map (statements_in m.script a.0 g) (λ _. Ended caused.1) in
         let within : g.1 ≤ length (told_at m a.0) =
         omega (arith, sizes, length-part g.0 g.1 (told_at m a.0), length-part g.0 g.1 (session_at m.script a.0).statements, b.0, b.1, b.2) in
-        inr (g, caused.1, caused.2, caused.3, told_alike a.0 g within ∙ caused.4)
+        inr (g, caused.1, caused.2, caused.3, told_alike m s more low high a.0 g within ∙ caused.4)
   ]
 
   abbrev kept_by : Told → Bool
@@ -93,20 +67,40 @@ module _ (start : Database) (m : Machine) (kept : IsKept start m) (texts : AreTe
       rw here at all
 
   current_still : (t : ℕ) → IsCurrent m t → IsCurrent after t
-  current_still t current = λ u before. let was = current u before in (omega (arith, was.0, grows u), was.1)
+  current_still t current = λ u before. let was = current u before in (omega (arith, was.0, grows m s more low high u), was.1)
 
   turns_still : (history : List Entry) → AllByRecursion (λ d. IsCurrent m d.session) history → AllByRecursion (λ d. IsCurrent after d.session) history
   turns_still [] turns = tt
   turns_still (d ∷ history) turns = (current_still d.session turns.0, turns_still history turns.1)
 
-  placed_still : (history : List Entry) → AllByRecursion (λ d. d.last ≤ length (told_at m d.session)) history → AllByRecursion (λ d. d.last ≤ length (told_at after d.session)) history
-  placed_still [] placed = tt
-  placed_still (d ∷ history) placed = (omega (arith, placed.0, grows d.session), placed_still history placed.1)
-
   not_open : (t : ℕ) (p : Open) → open_at m t ≡ Some p → t ≢ s
   not_open t p is_open same =
       let clash : None ≡ Some p = sym closed ∙ (ap (open_at m) (sym same) ∙ is_open) in
       cc
+
+  -- the stray statement is of no group
+  not_next : (g : Group) → Contains (groups_in m.script s) g → g.0 ≡ length (told_at m s) + 1 → ⊥
+  not_next g whole next =
+      let bounds = texts.bounds s g whole in
+      let n = length (told_at m s) + 1 in
+      let parts = and_parts (list_any ends_block (statements_in m.script s (n, n))) (not (list_any (has_statement n) (groups_in m.script s))) stray in
+      let has : has_statement n g ≡ true = grind (arith, nat_tests, next, bounds.1) in
+      let there : list_any (has_statement n) (groups_in m.script s) ≡ true = any_of (has_statement n) (groups_in m.script s) g whole has in
+      let both : false ≡ true = ap not (sym there) ∙ parts.1 in
+      false≢true both
+
+  begun_still : (t : ℕ) (g : Group) → HasBegun start m t g → HasBegun start after t g
+  begun_still t g was = record {
+    whole = was.whole;
+    goes = elim was.goes as (λ _. HasEnded after t g ⊎ (g.0 ≡ length (told_at after t) + 1)) [
+      | inl has_ended ↦ inl (omega (arith, has_ended, grows m s more low high t))
+      | inr next ↦ elim (cases_eq t s) as (λ _. HasEnded after t g ⊎ (g.0 ≡ length (told_at after t) + 1)) [
+        | inl same ↦
+            absurd (not_next g (subst (λ (t : ℕ). Contains (groups_in m.script t) g) same was.whole) (next ∙ ap (λ (t : ℕ). length (told_at m t) + 1) same))
+        | inr apart ↦ inr (next ∙ ap (λ (rs : List Reply). length rs + 1) (sym (told_there m s more low high t apart)))
+      ]
+    ];
+  }
 
   pub stray_keeps_all : IsKept start after
   stray_keeps_all = record {
@@ -116,18 +110,18 @@ module _ (start : Database) (m : Machine) (kept : IsKept start m) (texts : AreTe
         whole_groups = kept.history_legal.legal.whole_groups;
         in_order = kept.history_legal.legal.in_order;
         outcomes = kept.history_legal.legal.outcomes;
-        replies = old_told m.history kept.history_legal.placed ∙ kept.history_legal.legal.replies;
+        replies = entries_alike m s more low high m.history kept.history_legal.placed ∙ kept.history_legal.legal.replies;
         others = others_still;
       };
       replay = kept.history_legal.replay;
       database = kept.history_legal.database;
-      placed = placed_still m.history kept.history_legal.placed;
+      placed = placed_still m s more low high m.history kept.history_legal.placed;
       in_turn = turns_still m.history kept.history_legal.in_turn;
     };
     open_groups_replay = record {
       each = λ t p is_open.
       let group = kept.open_groups_replay.each t p is_open in
-      stays start m m.locks m.began m.opens (slice_set m.told (s - 1) (told_at m s ++ more)) m.history t p (told_there t (not_open t p is_open)) group.held group;
+      stays start m m.db m.locks m.began m.opens (slice_set m.told (s - 1) (told_at m s ++ more)) m.history t p (told_there m s more low high t (not_open t p is_open)) group.run group;
     };
     locks_consistent = record {
       apart = kept.locks_consistent.apart;
@@ -135,6 +129,8 @@ module _ (start : Database) (m : Machine) (kept : IsKept start m) (texts : AreTe
       starts = kept.locks_consistent.starts;
       once = kept.locks_consistent.once;
       in_turn = λ t g n has. current_still t (kept.locks_consistent.in_turn t g n has);
+      begun = λ t g n has. begun_still t g (kept.locks_consistent.begun t g n has);
+      by_session = λ t one other i j x y before. omega (arith, kept.locks_consistent.by_session t one other i j x y before, grows m s more low high t);
       by_phase = kept.locks_consistent.by_phase;
     };
     causes_allowed = record {
@@ -142,10 +138,14 @@ module _ (start : Database) (m : Machine) (kept : IsKept start m) (texts : AreTe
       let was = kept.causes_allowed.deaths n b is in record {
         each = was.each;
         sessions_differ = was.sessions_differ;
-        ended = λ i t g below has. omega (arith, was.ended i t g below has, grows t);
-        last_ended = λ i t g p is_open at below has. omega (arith, was.last_ended i t g p is_open at below has, grows t);
+        ended = λ i t g below has. omega (arith, was.ended i t g below has, grows m s more low high t);
+        last_ended = λ i t g p is_open at below has. omega (arith, was.last_ended i t g p is_open at below has, grows m s more low high t);
         later = was.later;
         most = was.most;
+        retried = elim was.retried as (λ _. (length b.deaths ≤ m.retries) ⊎ HasEnded after b.session b.group) [
+          | inl few ↦ inl few
+          | inr has_ended ↦ inr (omega (arith, has_ended, grows m s more low high b.session))
+        ];
       };
     };
   }
