@@ -57,7 +57,7 @@ module _ (began : List Began) (b : Began) where
     | inr new ↦ let same : b ≡ x = (let e = new.1 in cc) in inr (new.0 ∙ size, same)
   ]
 
-  pub start_then : (t : ℕ) (g : Group) (n : ℕ) → HasStart began t g n → HasStart more t g n
+  abbrev pub start_then : (t : ℕ) (g : Group) (n : ℕ) → HasStart began t g n → HasStart more t g n
   start_then t g n has = record { deaths = has.deaths; is = began_then n _ has.is }
 
   pub start_was : (t : ℕ) (g : Group) (n : ℕ) → HasStart more t g n → HasStart began t g n ⊎ ((n ≡ length began + 1) × (b.session ≡ t) × (b.group ≡ g))
@@ -117,7 +117,7 @@ module _ (start : Database) (m : Machine) (kept : IsKept start m) (texts : AreTe
   turns_then [] turns = tt
   turns_then (d ∷ history) turns = (current_then d.session turns.0, turns_then history turns.1)
 
-  died_then : (t : ℕ) (g : Group) (h : ℕ) → DiedFor start m.script m.began m.history t g h → DiedFor start m.script (more m.began b) m.history t g h
+  abbrev died_then : (t : ℕ) (g : Group) (h : ℕ) → DiedFor start m.script m.began m.history t g h → DiedFor start m.script (more m.began b) m.history t g h
   died_then t g h was = record {
     own = was.own;
     other = was.other;

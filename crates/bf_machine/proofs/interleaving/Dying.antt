@@ -253,7 +253,7 @@ module _ (start : Database) (m : Machine) (kept : IsKept start m) (texts : AreTe
   -- it has retries left, or had its last one
   few : length deaths ≤ m.retries
   few = elim was_allowed.retried [
-    | inl few ↦ few
+    | inl some_left ↦ some_left
     | inr has_ended ↦ absurd (omega (arith, has_ended, own_next, bounds.1))
   ]
 

@@ -223,7 +223,10 @@ module _ (start : Database) (m : Machine) (kept : IsKept start m) (s : ℕ) wher
       let now : (replayed m.script start (take (length m.history) m.history)).1 ≡ m.db =
       ap (λ (history : List Entry). (replayed m.script start history).1) (take-length m.history) ∙ sym kept.history_legal.replay in
       let inside : (if nat_lt 0 (length o.replies) then true else false) ≡ stands_inside o.replies =
-      elim o.replies as (λ rs. (if nat_lt 0 (length rs) then true else false) ≡ stands_inside rs) [ | [] ↦ refl | r ∷ rs ↦ refl ] in
+      elim o.replies as (λ rs. (if nat_lt 0 (length rs) then true else false) ≡ stands_inside rs) [
+        | [] ↦ refl
+        | r ∷ rs ↦ let at : nat_lt 0 (suc (length rs)) ≡ true = grind (arith, nat_tests) in rw at refl
+      ] in
       (length m.history, subst (λ (db : Database). SomeOf (P db) false (text_of m s o)) (sym now)
       (some_of (P m.db) false (length o.replies) (text_of m s o) st later left (rw inside among)))
 

@@ -71,7 +71,7 @@ module _ (start : Database) (script : Script) (history : List Entry) (e : Entry)
   }
 
   -- so a death that was allowed is
-  pub died_more : (began : List Began) (s : ℕ) (group : Group) (h : ℕ) → DiedFor start script began history s group h → DiedFor start script began (history ++ e ∷ []) s group h
+  abbrev pub died_more : (began : List Began) (s : ℕ) (group : Group) (h : ℕ) → DiedFor start script began history s group h → DiedFor start script began (history ++ e ∷ []) s group h
   died_more began s group h died = record {
     own = died.own;
     other = died.other;

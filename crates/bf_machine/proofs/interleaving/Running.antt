@@ -58,17 +58,17 @@ inside_is [] = refl
 inside_is (r ∷ rs) = refl
 
 -- the first of some items
-first_of : Statement → List Statement → Statement
+abbrev first_of : Statement → List Statement → Statement
 first_of d [] = d
 first_of d (s ∷ ss) = s
 
-statement_of : Statement → List Answered → Statement
+abbrev statement_of : Statement → List Answered → Statement
 statement_of d [] = d
-statement_of d (a ∷ as) = a.statement
+statement_of d (a ∷ rest) = a.statement
 
-reply_of : Reply → List Answered → Reply
+abbrev reply_of : Reply → List Answered → Reply
 reply_of d [] = d
-reply_of d (a ∷ as) = a.reply
+reply_of d (a ∷ rest) = a.reply
 
 -- one statement more has its reply
 pub answered_next : (inner : Bool) (rs : List Reply) (ss : List Statement) (r : Reply) (s : Statement) (later : List Statement) → drop (length rs) ss ≡ s ∷ later
@@ -78,7 +78,7 @@ answered_next inner [] ss r s later left =
 answered_next inner (q ∷ rs) [] r s later left = absurd cc
 answered_next inner (q ∷ rs) (t ∷ ss) r s later left =
     let first : Answered = record { in_block = inner; statement = t; reply = q } in
-    ap (λ (as : List Answered). first ∷ as) (answered_next true rs ss r s later left
+    ap (λ (more : List Answered). first ∷ more) (answered_next true rs ss r s later left
     ∙ ap (λ (b : Bool). answered_by true rs ss ++ record { in_block = b; statement = s; reply = r } ∷ []) (stays_inside rs))
 
 -- what a group has written keeps it open
@@ -141,7 +141,7 @@ module _ (locks : Locks) (owner : ℕ) (db : Database) (n : ℕ) where
       → run_group n false db ss
       ≡ (let rest = run_group n (inside false rs) (left_by db change) (drop (length rs) ss) in
       (rs ++ rest.0, rest.1))
-  schema_ran change [] ss within run = absurd (let sizes = ap (λ (as : List Answered). length as) run.alone in omega (arith, sizes))
+  schema_ran change [] ss within run = absurd (let sizes = ap (λ (more : List Answered). length more) run.alone in omega (arith, sizes))
   schema_ran change (r ∷ rs) [] within run = absurd (omega (arith, within))
   schema_ran change (r ∷ []) (s ∷ ss) within run =
       let told : s ≡ run.statement = ap (statement_of s) run.alone in
@@ -150,7 +150,7 @@ module _ (locks : Locks) (owner : ℕ) (db : Database) (n : ℕ) where
       ap (λ (s : Statement). executed n db false s) told ∙ (run.meant n ∙ ap (λ (r : Reply). (r, left_by db change)) answer) in
       ap (λ (t : Reply × Database). let rest = run_group n true t.1 ss in (t.0 ∷ rest.0, rest.1)) means
   schema_ran change (r ∷ q ∷ rs) (s ∷ []) within run = absurd (omega (arith, within))
-  schema_ran change (r ∷ q ∷ rs) (s ∷ t ∷ ss) within run = absurd (let sizes = ap (λ (as : List Answered). length as) run.alone in omega (arith, sizes))
+  schema_ran change (r ∷ q ∷ rs) (s ∷ t ∷ ss) within run = absurd (let sizes = ap (λ (more : List Answered). length more) run.alone in omega (arith, sizes))
 
   pub ran : (p : Pending) (rs : List Reply) (ss : List Statement) → length rs ≤ length ss → HasRun locks owner db (answered_by false rs ss) p
       → run_group n false db ss
@@ -176,7 +176,7 @@ pub text_means : (locks : Locks) (owner : ℕ) (db : Database) (n : ℕ) (p : Pe
 text_means locks owner db n p rs ss text within run c r ends ending left =
     let view = left_by db p in
     let Ends : List Statement → Type 0 = λ rest.
-    (let ran = run_group n (inside false rs) view rest in (rs ++ ran.0, ran.1)) ≡ (rs ++ map (λ _. r) rest, view) in
+    ◌≡◌ {A = List Reply × Database} (let ran = run_group n (inside false rs) view rest in (rs ++ ran.0, ran.1)) (rs ++ map (λ _. r) rest, view) in
     let ended : Ends (drop (length rs) ss) = elim left as (λ _. Ends (drop (length rs) ss)) [
       | inl nothing ↦ subst Ends (sym nothing) refl
       | inr one ↦
@@ -321,7 +321,7 @@ module _ (locks : Locks) (owner : ℕ) (db : Database) (is : IsDatabase db) (ss 
       let last : Bool → Answered = λ b. record { in_block = b; statement = s; reply = answer } in
       let same : more (Rows before) rs ≡ told ++ last inner ∷ [] =
       answered_next false rs ss answer s later left ∙ ap (λ (b : Bool). told ++ last b ∷ []) (inside_is rs) in
-      subst (λ (as : List Answered). Replays locks owner db [] as after) (sym same)
+      subst (λ (more : List Answered). Replays locks owner db [] more after) (sym same)
       (step_added locks owner db [] before after told (last inner) bound run is_seen held (row_step db is before opened inner s goes_on bound is_seen none))
 
   -- a CREATE is the first and only one
@@ -361,16 +361,16 @@ module _ (locks : Locks) (owner : ℕ) (db : Database) (is : IsDatabase db) (ss 
     where
       by_text : (ss : List Statement) → IsText ss → (rs : List Reply) → drop (length rs) ss ≡ s ∷ later
           → answered_by false rs ss ≡ record { in_block = false; statement = run.statement; reply = run.reply } ∷ [] → ⊥
-      by_text ss text [] left alone = let sizes = ap (λ (as : List Answered). length as) alone in omega (arith, sizes)
-      by_text _ (lone t goes_on) (r ∷ []) left alone = let sizes = ap (λ (ss : List Statement). length ss) left in omega (arith, sizes)
-      by_text _ (lone t goes_on) (r ∷ q ∷ rs) left alone = let sizes = ap (λ (ss : List Statement). length ss) left in omega (arith, sizes)
-      by_text _ (block ss) (r ∷ []) left alone =
-          let told : Begin ≡ run.statement = ap (statement_of Begin) alone in
+      by_text ss text [] left one = let sizes = ap (λ (more : List Answered). length more) one in omega (arith, sizes)
+      by_text _ (lone t goes_on) (r ∷ []) left one = let sizes = ap (λ (ss : List Statement). length ss) left in omega (arith, sizes)
+      by_text _ (lone t goes_on) (r ∷ q ∷ rs) left one = let sizes = ap (λ (ss : List Statement). length ss) left in omega (arith, sizes)
+      by_text _ (block ss) (r ∷ []) left one =
+          let told : Begin ≡ run.statement = ap (statement_of Begin) one in
           let same : db ≡ left_by db change = ap (λ (s : Statement). (executed 0 db false s).1) told ∙ ap (λ (t : Reply × Database). t.1) (run.meant 0) in
           let number : db.number ≡ db.number + 1 = ap (λ (d : Database). d.number) same ∙ numbered in
           omega (arith, number)
-      by_text _ (block []) (r ∷ q ∷ rs) left alone = let sizes = ap (λ (ss : List Statement). length ss) left in omega (arith, sizes)
-      by_text _ (block (t ∷ ss)) (r ∷ q ∷ rs) left alone = let sizes = ap (λ (as : List Answered). length as) alone in omega (arith, sizes)
+      by_text _ (block []) (r ∷ q ∷ rs) left one = let sizes = ap (λ (ss : List Statement). length ss) left in omega (arith, sizes)
+      by_text _ (block (t ∷ ss)) (r ∷ q ∷ rs) left one = let sizes = ap (λ (more : List Answered). length more) one in omega (arith, sizes)
 
   pub run_next : (p : Pending) (rs : List Reply) → IsLeft rs → IsNext rs → HasRun locks owner db (answered_by false rs ss) p
       → HasRun locks owner db (more p rs) (pending_behind db p (stands_inside rs) s bound.action)
