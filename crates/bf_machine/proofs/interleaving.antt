@@ -16,3 +16,4 @@ pub mod Beginning
 pub mod Refusing
 pub mod Joins
 pub mod Dying
+pub mod Reaching

@@ -6,23 +6,25 @@ ghost use Rattle.bf_locks.specs.declared.mode.Mode.{Mode};
 ghost use Rattle.bf_locks.specs.declared.name.LockName.{LockName};
 ghost use Rattle.bf_tree.specs.declared.script.Script.{Script};
 ghost use Rattle.bf_sql.specs.Database.{Database, IsDatabase};
-ghost use Rattle.bf_machine.specs.interleaving.Events.{Aborts, Asks, Begins, Commits, Executes, Refuses};
+ghost use Rattle.bf_machine.specs.interleaving.Events.{Aborts, Asks, Begins, Commits, Executes, Reaches, Refuses};
 ghost use Rattle.bf_machine.specs.interleaving.Kept.{IsKept, fresh};
 ghost use Rattle.bf_machine.specs.interleaving.Machines.{Machine};
 
 /// Histories stay legal, open groups replay, locks are consistent and deaths are allowed: in a new machine, and
-/// behind each begin, refusal of a stray COMMIT or ROLLBACK, statement, grant, wait, death, commit and abort.
+/// behind each begin, refusal of a stray COMMIT or ROLLBACK, statement, grant, wait, death, commit and abort. So
+/// they do in each machine that events reach, in whatever order they come.
 pub fn events_keep_all()
     ensures new { (start : Database) (script : Script) (retries : ℕ) → IsDatabase start → IsKept start (fresh start script retries) }
     ensures begins { (start : Database) (m next : Machine) (s : ℕ) → IsKept start m → Begins m s next → IsKept start next }
     ensures refuses { (start : Database) (m next : Machine) (s : ℕ) → IsKept start m → Refuses m s next → IsKept start next }
     ensures executes { (start : Database) (m next : Machine) (s : ℕ) → IsKept start m → Executes m s next → IsKept start next }
     ensures granted { (start : Database) (m next : Machine) (s : ℕ) (name : LockName) (mode : Mode)
-        → IsKept start m → Asks m s name mode Granted next → IsKept start next }
+        → IsKept start m → Asks m s start name mode Granted next → IsKept start next }
     ensures waits { (start : Database) (m next : Machine) (s : ℕ) (name : LockName) (mode : Mode) (owners : List ℕ)
-        → IsKept start m → Asks m s name mode (Wait owners) next → IsKept start next }
+        → IsKept start m → Asks m s start name mode (Wait owners) next → IsKept start next }
     ensures dies { (start : Database) (m next : Machine) (s : ℕ) (name : LockName) (mode : Mode) (older : ℕ)
-        → IsKept start m → Asks m s name mode (Die older) next → IsKept start next }
+        → IsKept start m → Asks m s start name mode (Die older) next → IsKept start next }
     ensures commits { (start : Database) (m next : Machine) (s : ℕ) → IsKept start m → Commits m s next → IsKept start next }
     ensures aborts { (start : Database) (m next : Machine) (s : ℕ) → IsKept start m → Aborts m s next → IsKept start next }
+    ensures reaches { (start : Database) (script : Script) (retries : ℕ) (m : Machine) → IsDatabase start → Reaches start (fresh start script retries) m → IsKept start m }
 {}

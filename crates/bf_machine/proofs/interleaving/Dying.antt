@@ -63,7 +63,7 @@ module _ (start : Database) (m : Machine) (kept : IsKept start m) (s : ℕ) wher
   ]
 
   -- A DEATH IS ALLOWED
-  death_is_allowed : (name : LockName) (mode : Mode) (h : ℕ) (next : Machine) (by : Asks m s name mode (Die h) next) → IsHolder start m s by.o.group h
+  death_is_allowed : (name : LockName) (mode : Mode) (h : ℕ) (next : Machine) (by : Asks m s start name mode (Die h) next) → IsHolder start m s by.o.group h
   death_is_allowed name mode h next by =
       let against : IsSomeAnd (held m.locks name h) (λ theirs. are_compatible theirs (wanted m.locks by.o.start name mode) ≡ false) = by.judged.conflicts.against in
       elim (held m.locks name h) as (λ o. held m.locks name h ≡ o → IsSomeAnd o (λ theirs. are_compatible theirs (wanted m.locks by.o.start name mode) ≡ false)
@@ -71,7 +71,7 @@ module _ (start : Database) (m : Machine) (kept : IsKept start m) (s : ℕ) wher
         | None ↦ λ is no. absurd no
         | Some theirs ↦ λ is conflict.
             let was = kept.locks_consistent.owners name h theirs is in
-            let mine = joins start m kept s by.o by.is name mode (next_wants start m kept s by.o by.statement by.later by.left name mode by.asks) in
+            let mine = joins start m kept s by.o by.is name mode (next_wants start m kept s by.o by.statement by.later by.left by.prefix name mode by.asks) in
             let apart : was.0 ≢ s = λ same.
             let both : Some was.1 ≡ Some by.o = sym was.2 ∙ (ap (open_at m) same ∙ by.is) in
             let one : was.1 ≡ by.o = cc in
@@ -509,6 +509,6 @@ module _ (start : Database) (m : Machine) (kept : IsKept start m) (texts : AreTe
 
 -- A DEATH KEEPS ALL
 pub death_keeps_all : (start : Database) (m : Machine) (kept : IsKept start m) (texts : AreTexts m.script) (s : ℕ) (name : LockName) (mode : Mode) (h : ℕ) (next : Machine)
-    → Asks m s name mode (Die h) next → IsKept start next
+    → Asks m s start name mode (Die h) next → IsKept start next
 death_keeps_all start m kept texts s name mode h next by =
     subst (IsKept start) (sym by.goes) (death_keeps start m kept texts s by.current by.o by.is h (death_is_allowed start m kept s name mode h next by))

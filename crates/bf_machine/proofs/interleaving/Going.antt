@@ -216,19 +216,16 @@ some_of P inner (suc k) (x ∷ text) st later left here =
 
 module _ (start : Database) (m : Machine) (kept : IsKept start m) (s : ℕ) where
   -- what the next statement asks for its group wants
-  pub next_wants : (o : Open) (st : Statement) (later : List Statement) → rest_of m s o ≡ st ∷ later → (name : LockName) (mode : Mode)
-      → Contains (footprint_in m.db (stands_inside o.replies) st) (name, mode) → Wants start m.script m.history s o.group name mode
-  next_wants o st later left name mode among =
-      let P : Database → Bool → Statement → Type 0 = λ db inner st. Contains (footprint_in db inner st) (name, mode) in
-      let now : (replayed m.script start (take (length m.history) m.history)).1 ≡ m.db =
-      ap (λ (history : List Entry). (replayed m.script start history).1) (take-length m.history) ∙ sym kept.history_legal.replay in
+  pub next_wants : (o : Open) (st : Statement) (later : List Statement) → rest_of m s o ≡ st ∷ later → (k : ℕ) (name : LockName) (mode : Mode)
+      → Contains (footprint_in (replayed m.script start (take k m.history)).1 (stands_inside o.replies) st) (name, mode) → Wants start m.script m.history s o.group name mode
+  next_wants o st later left k name mode among =
+      let P : Bool → Statement → Type 0 = λ inner st. Contains (footprint_in (replayed m.script start (take k m.history)).1 inner st) (name, mode) in
       let inside : (if nat_lt 0 (length o.replies) then true else false) ≡ stands_inside o.replies =
       elim o.replies as (λ rs. (if nat_lt 0 (length rs) then true else false) ≡ stands_inside rs) [
         | [] ↦ refl
         | r ∷ rs ↦ let at : nat_lt 0 (suc (length rs)) ≡ true = grind (arith, nat_tests) in rw at refl
       ] in
-      (length m.history, subst (λ (db : Database). SomeOf (P db) false (text_of m s o)) (sym now)
-      (some_of (P m.db) false (length o.replies) (text_of m s o) st later left (rw inside among)))
+      (k, some_of P false (length o.replies) (text_of m s o) st later left (rw inside among))
 
   -- EXEC KEEPS ALL
   pub exec_keeps_all : AreTexts m.script → (next : Machine) → Executes m s next → IsKept start next
@@ -238,11 +235,11 @@ module _ (start : Database) (m : Machine) (kept : IsKept start m) (s : ℕ) wher
       (exec_keeps_open start m kept s texts by.o by.is by.statement by.later by.left by.goes_on by.bound by.bound_so by.held))
 
   -- GRANTED KEEPS ALL
-  pub grant_keeps_all : (name : LockName) (mode : Mode) (next : Machine) → Asks m s name mode Granted next → IsKept start next
+  pub grant_keeps_all : (name : LockName) (mode : Mode) (next : Machine) → Asks m s start name mode Granted next → IsKept start next
   grant_keeps_all name mode next by =
       subst (IsKept start) (sym by.goes)
-      (grant_keeps start m kept s by.o by.is name mode (next_wants by.o by.statement by.later by.left name mode by.asks) by.judged)
+      (grant_keeps start m kept s by.o by.is name mode (next_wants by.o by.statement by.later by.left by.prefix name mode by.asks) by.judged)
 
   -- WAITING changes nothing
-  pub wait_keeps_all : (name : LockName) (mode : Mode) (owners : List ℕ) (next : Machine) → Asks m s name mode (Wait owners) next → IsKept start next
+  pub wait_keeps_all : (name : LockName) (mode : Mode) (owners : List ℕ) (next : Machine) → Asks m s start name mode (Wait owners) next → IsKept start next
   wait_keeps_all name mode owners next by = subst (IsKept start) (sym by.goes) kept

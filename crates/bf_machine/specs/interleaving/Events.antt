@@ -1,5 +1,5 @@
 -- EVENTS on the seen state: what a call makes of a machine.
-use Rattle.std.specs.Prelude.{◌≡◌, ◌⊎◌, ℕ, ◌+◌, ◌-◌, ◌≤◌, Bool, true, false, List, [], ◌∷◌, ◌++◌, length, map, drop, Option, Some, None, nat_lt, if◌then◌else◌, IsTrue, Contains, slice_set, slice_index_or}
+use Rattle.std.specs.Prelude.{◌≡◌, ◌⊎◌, ℕ, ◌+◌, ◌-◌, ◌≤◌, Bool, true, false, List, [], ◌∷◌, ◌++◌, length, map, take, drop, Option, Some, None, nat_lt, if◌then◌else◌, IsTrue, Contains, slice_set, slice_index_or}
 use Rattle.std.specs.Option.{option_map_or}
 use Rattle.bf_locks.specs.declared.answer.LockAnswer.{LockAnswer}
 use Rattle.bf_locks.specs.declared.answer.LockAnswer.TheVariants.{Die}
@@ -17,9 +17,10 @@ use Rattle.bf_tree.specs.declared.reply.Reply.TheVariants as reply
 use Rattle.bf_tree.specs.declared.statement.Statement.{Statement}
 use Rattle.bf_tree.specs.declared.statement.Statement.TheVariants.{Commit, Rollback}
 use Rattle.bf_sql.specs.Bound.{bound_of}
+use Rattle.bf_sql.specs.Database.{Database}
 use Rattle.bf_sql.specs.Footprints.{footprint_of}
 use Rattle.bf_sql.specs.Groups.{groups_in, statements_in, ends_block, commits, is_stray}
-use Rattle.bf_sql.specs.History.{commits_with}
+use Rattle.bf_sql.specs.History.{commits_with, replayed}
 use Rattle.bf_live.specs.OpenGroups.{Holds}
 use Rattle.bf_machine.specs.interleaving.Groups.{Pending, Rows, footprint_in, left_by, pending_behind, reply_on}
 use Rattle.bf_machine.specs.interleaving.Machines.{Group, Began, Open, Machine, open_at, told_at, began_at}
@@ -87,19 +88,20 @@ module _ (m : Machine) (s : ℕ) where
   abbrev pub died : Open → ℕ → Machine
   died o h = record (ended o (told_at_death o h)) { began = with_death o h }
 
-  -- LOCK: an answer to a request for a lock of the next statement's footprint
+  -- LOCK: an answer to a request for a lock of the next statement's footprint, as it is bound after some prefix of the history
   abbrev pub asked : Open → LockName → Mode → LockAnswer → Machine
   asked o name mode (Die h) = died o h
   asked o name mode answer = record m { locks = after m.locks o.start name mode answer }
 
-  pub record Asks (name : LockName) (mode : Mode) (answer : LockAnswer) (next : Machine) : Type 0 where
+  pub record Asks (start : Database) (name : LockName) (mode : Mode) (answer : LockAnswer) (next : Machine) : Type 0 where
     pub current : IsCurrent m s
     pub o : Open
     pub is : open_at m s ≡ Some o
     pub statement : Statement
     pub later : List Statement
     pub left : rest_of m s o ≡ statement ∷ later
-    pub asks : Contains (footprint_in m.db (stands_inside o.replies) statement) (name, mode)
+    pub prefix : ℕ
+    pub asks : Contains (footprint_in (replayed m.script start (take prefix m.history)).1 (stands_inside o.replies) statement) (name, mode)
     pub judged : IsJudged m.locks o.start name mode answer
     pub goes : next ≡ asked o name mode answer
 
@@ -161,11 +163,16 @@ module _ (m : Machine) (s : ℕ) where
     pub goes : next ≡ rolled_back o
 
 -- an event of the machine. A session's end changes nothing that is seen
-pub data Event (m next : Machine) : Type 0 where
-  begins : (s : ℕ) → Begins m s next → Event m next
-  asks : (s : ℕ) (name : LockName) (mode : Mode) (answer : LockAnswer) → Asks m s name mode answer next → Event m next
-  executes : (s : ℕ) → Executes m s next → Event m next
-  refuses : (s : ℕ) → Refuses m s next → Event m next
-  commits_now : (s : ℕ) → Commits m s next → Event m next
-  aborts : (s : ℕ) → Aborts m s next → Event m next
-  finishes : (s : ℕ) → next ≡ m → Event m next
+pub data Event (start : Database) (m next : Machine) : Type 0 where
+  begins : (s : ℕ) → Begins m s next → Event start m next
+  asks : (s : ℕ) (name : LockName) (mode : Mode) (answer : LockAnswer) → Asks m s start name mode answer next → Event start m next
+  executes : (s : ℕ) → Executes m s next → Event start m next
+  refuses : (s : ℕ) → Refuses m s next → Event start m next
+  commits_now : (s : ℕ) → Commits m s next → Event start m next
+  aborts : (s : ℕ) → Aborts m s next → Event start m next
+  finishes : (s : ℕ) → next ≡ m → Event start m next
+
+-- REACH: events one after the other, in whatever order
+pub data Reaches (start : Database) (m : Machine) : Machine → Type 0 where
+  at_once : Reaches start m m
+  one_more : {now next : Machine} → Reaches start m now → Event start now next → Reaches start m next
