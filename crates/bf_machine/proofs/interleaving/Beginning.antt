@@ -20,7 +20,7 @@ use Rattle.bf_machine.specs.interleaving.Kept.{IsKept, HistoryLegal, OpenGroupsR
 use Rattle.bf_machine.specs.InOrder.{none_open}
 use Rattle.bf_machine.specs.interleaving.Events.{Begins, LastHasEnded, begun, begun_again, opened}
 use Rattle.bf_machine.proofs.interleaving.Answers.{Told, still}
-use Rattle.bf_machine.proofs.interleaving.Places.{set_same, set_other}
+use Rattle.bf_machine.proofs.interleaving.Places.{set_same, set_other, some_within, there_in}
 use Rattle.bf_machine.proofs.interleaving.Opens.{begin_keeps_open}
 
 -- a start number of a list is one of a longer one
@@ -66,11 +66,6 @@ module _ (began : List Began) (b : Began) where
     | inr new ↦ inr (new.0, ap (λ (b : Began). b.session) new.1, ap (λ (b : Began). b.group) new.1)
   ]
 
-  within_some : (xs : List (Option Began)) (n : ℕ) (x : Began) → slice_index_or xs n None ≡ Some x → n < length xs
-  within_some [] n x is = absurd cc
-  within_some (y ∷ xs) zero x is = omega arith
-  within_some (y ∷ xs) (suc n) x is = omega (arith, within_some xs n x is)
-
   at_end : (xs : List (Option Began)) (y : Option Began) → slice_index_or (xs ++ y ∷ []) (length xs) None ≡ y
   at_end [] y = refl
   at_end (x ∷ xs) y = at_end xs y
@@ -84,7 +79,7 @@ module _ (began : List Began) (b : Began) where
 
   -- and is at most as great as the list is long
   pub start_within : (n : ℕ) (x : Began) → began_at began n ≡ Some x → n ≤ length began
-  start_within n x is = omega (arith, within_some (None ∷ map Some began) n x is, size)
+  start_within n x is = omega (arith, some_within (None ∷ map Some began) n x is, size)
 
   -- one that is not greater is of the list
   pub start_old : (t : ℕ) (g : Group) (n : ℕ) → n ≤ length began → HasStart more t g n → HasStart began t g n
@@ -248,14 +243,6 @@ module _ (start : Database) (m : Machine) (kept : IsKept start m) (texts : AreTe
   }
 
   -- and the causes
-  death_there : (xs : List ℕ) (i : ℕ) → i < length xs → Contains xs (slice_index_or xs i 0)
-  death_there xs i below = (i, below, same xs i below)
-    where
-      same : (xs : List ℕ) (i : ℕ) → i < length xs → slice_index_or xs i (slice_index_or xs i 0) ≡ slice_index_or xs i 0
-      same [] i below = absurd (omega arith)
-      same (x ∷ xs) zero below = refl
-      same (x ∷ xs) (suc i) below = same xs i (omega arith)
-
   module _ (n : ℕ) (x : Began) (old : began_at m.began n ≡ Some x) where
     was : DeathsAllowed start m n x
     was = kept.causes_allowed.deaths n x old
@@ -267,15 +254,15 @@ module _ (start : Database) (m : Machine) (kept : IsKept start m) (texts : AreTe
     deaths_then = record {
       each = λ h among. died_then x.session x.group h (was.each h among);
       sessions_differ = λ i j t one other li lj hi hj.
-      was.sessions_differ i j t one other li lj (start_old m.began b t one _ (named_low _ (death_there x.deaths i li)) hi) (start_old m.began b t other _ (named_low _ (death_there x.deaths j lj)) hj);
+      was.sessions_differ i j t one other li lj (start_old m.began b t one _ (named_low _ (there_in x.deaths i li)) hi) (start_old m.began b t other _ (named_low _ (there_in x.deaths j lj)) hj);
       ended = λ i t g below has.
       let within : i < length x.deaths = omega (arith, below) in
-      was.ended i t g below (start_old m.began b t g _ (named_low _ (death_there x.deaths i within)) has);
+      was.ended i t g below (start_old m.began b t g _ (named_low _ (there_in x.deaths i within)) has);
       last_ended = λ i t g q is_open is below has. elim (was_open x.session q is_open) as (λ _. g.1 ≤ length (told_at m t)) [
         | inl new ↦
             let at : q.start ≡ length m.began + 1 = ap (λ (q : Open). q.start) new.1 in
             absurd (omega (arith, at, is, start_within m.began b n x old))
-        | inr before ↦ was.last_ended i t g q before.1 is below (start_old m.began b t g _ (named_low _ (death_there x.deaths i below)) has)
+        | inr before ↦ was.last_ended i t g q before.1 is below (start_old m.began b t g _ (named_low _ (there_in x.deaths i below)) has)
       ];
       later = λ h t k one other among hx hy before. elim (start_was m.began b t other k hy) as (λ _. n < k) [
         | inl old_k ↦ was.later h t k one other among (start_old m.began b t one h (named_low h among) hx) old_k before

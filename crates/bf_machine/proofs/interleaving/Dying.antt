@@ -25,16 +25,15 @@ use Rattle.bf_machine.specs.InOrder.{none_open}
 use Rattle.bf_machine.specs.interleaving.Machines.{Group, Began, Open, Machine, open_at, told_at, began_at}
 use Rattle.bf_machine.specs.interleaving.Kept.{IsKept, HistoryLegal, CausesAllowed, DeathsAllowed, DiedFor, HasStart, HasEnded, IsAllowed, IsCurrent, phase_of}
 use Rattle.bf_machine.specs.interleaving.Events.{Asks, deaths_of, died, ended, text_of, told_at_death, with_death}
-use Rattle.bf_machine.proofs.interleaving.Answers.{Told, all_so, told_from, told_in, told_more}
+use Rattle.bf_machine.proofs.interleaving.Answers.{Told, all_so, told_from, told_in}
 use Rattle.bf_machine.proofs.interleaving.Entries.{part_behind}
 use Rattle.bf_machine.proofs.interleaving.Going.{joins, next_wants}
 use Rattle.bf_machine.proofs.interleaving.Joins.{clash_of, turned}
-use Rattle.bf_machine.proofs.interleaving.Legal.{found_there, length-part}
 use Rattle.bf_machine.proofs.interleaving.Opens.{unchanged_keeps_open}
-use Rattle.bf_machine.proofs.interleaving.Places.{from_one, set_other, set_same}
+use Rattle.bf_machine.proofs.interleaving.Places.{set_other, set_same, some_within, there_in}
 use Rattle.bf_machine.proofs.interleaving.Others.{has_place}
 use Rattle.bf_machine.proofs.interleaving.Rest.{StaysAtEnd, current_then, deaths_then, end_keeps, was_open}
-use Rattle.bf_machine.proofs.interleaving.Telling.{entries_alike, grows, placed_still, size_here, told_alike, told_here}
+use Rattle.bf_machine.proofs.interleaving.Telling.{apart_still, entries_alike, grows, length-part, others_told, placed_still, size_here, told_here}
 use Rattle.bf_machine.proofs.interleaving.Texts.{AreTexts}
 
 -- the open group for which another one dies
@@ -104,11 +103,6 @@ map_set [] (suc i) x = refl
 map_set (y ∷ xs) zero x = refl
 map_set (y ∷ xs) (suc i) x = ap (λ (os : List (Option Began)). Some y ∷ os) (map_set xs i x)
 
-within_some : (xs : List (Option Began)) (k : ℕ) (x : Began) → slice_index_or xs k None ≡ Some x → k < length xs
-within_some [] k x is = absurd cc
-within_some (y ∷ xs) zero x is = omega arith
-within_some (y ∷ xs) (suc k) x is = omega (arith, within_some xs k x is)
-
 -- one more at a list's end
 module _ (xs : List ℕ) (x : ℕ) where
   at_front : (i : ℕ) → i < length xs → slice_index_or (xs ++ x ∷ []) i 0 ≡ slice_index_or xs i 0
@@ -137,15 +131,6 @@ module _ (xs : List ℕ) (x : ℕ) where
         | inl old ↦ inl (suc old.0, omega (arith, old.1), old.2)
         | inr new ↦ inr new
       ]
-
--- what is at a place is there
-there_in : (xs : List ℕ) (i : ℕ) → i < length xs → Contains xs (slice_index_or xs i 0)
-there_in xs i below = (i, below, same xs i below)
-  where
-    same : (xs : List ℕ) (i : ℕ) → i < length xs → slice_index_or xs i (slice_index_or xs i 0) ≡ slice_index_or xs i 0
-    same [] i below = absurd (omega (arith, below))
-    same (x ∷ xs) zero below = refl
-    same (x ∷ xs) (suc i) below = same xs i (omega (arith, below))
 
 module _ (start : Database) (m : Machine) (kept : IsKept start m) (texts : AreTexts m.script) (s : ℕ) (current : IsCurrent m s) (o : Open) (there : open_at m s ≡ Some o) (h : ℕ)
     (named : IsHolder start m s o.group h) where
@@ -176,7 +161,7 @@ module _ (start : Database) (m : Machine) (kept : IsKept start m) (texts : AreTe
       number (suc n) is = omega arith
 
   high : o.start ≤ length m.began
-  high = let within = within_some (None ∷ map Some m.began) o.start _ has.is in omega (arith, within, length-map m.began Some, low)
+  high = let within = some_within (None ∷ map Some m.began) o.start _ has.is in omega (arith, within, length-map m.began Some, low)
 
   abbrev dead : Began
   dead = record { session = s; group = o.group; deaths = deaths_of m s o ++ h ∷ [] }
@@ -430,23 +415,11 @@ module _ (start : Database) (m : Machine) (kept : IsKept start m) (texts : AreTe
   abbrev Apart : Told → Type 0
   Apart = IsApart m.script AllowedThen after.told
 
-  apart_still : (a : Told) → IsApart m.script Allowed m.told a → Apart a
-  apart_still a was = elim was as (λ _. Apart a) [
-    | inl stray ↦ inl stray
-    | inr caused ↦
-        let g = caused.0 in
-        let cause = caused.1 in
-        let among = found_there (has_statement a.1) (groups_in m.script a.0) g caused.2 in
-        let b = texts.bounds a.0 g among in
-        let sizes : length (replies_to m.told a.0 g) ≡ length (statements_in m.script a.0 g) =
-        ap (λ (rs : List Reply). length rs) caused.4 ∙ length-map (statements_in m.script a.0 g) (λ _. Ended cause) in
-        let within : g.1 ≤ length (told_at m a.0) =
-        omega (arith, sizes, length-part g.0 g.1 (told_at m a.0), length-part g.0 g.1 (session_at m.script a.0).statements, b.0, b.1, b.2) in
-        inr (g, cause, caused.2, allowed_then a.0 g cause within caused.3, told_alike m s answers place.0 place.1 a.0 g within ∙ caused.4)
-  ]
-
   abbrev kept_by : Told → Bool
   kept_by a = not (list_any (stands_in a.0 a.1) m.history || list_any (λ g. none_open a.0 g && has_statement a.1 g) (groups_in m.script a.0))
+
+  still : (a : Told) → IsApart m.script Allowed m.told a → Apart a
+  still = apart_still m s answers place.0 place.1 texts Allowed AllowedThen allowed_then
 
   -- the statements of the group, where they are told its cause
   caused_now : answers ≡ told_all → length deaths ≡ m.retries → (j : ℕ) (r : Reply) → 1 + length (told_at m s) ≤ j → j < 1 + length (told_at m s) + length answers → Apart (s, j, r)
@@ -472,16 +445,11 @@ module _ (start : Database) (m : Machine) (kept : IsKept start m) (texts : AreTe
   told_so : AllByRecursion Apart (filter kept_by (told_in s (1 + length (told_at m s)) answers))
   told_so = elim ends [
     | inl again ↦ subst (λ (rs : List Reply). AllByRecursion Apart (filter kept_by (told_in s (1 + length (told_at m s)) rs))) (sym again.0) tt
-    | inr last ↦ all_so (IsApart m.script Allowed m.told) Apart kept_by kept_by apart_still (λ a h. h) s (1 + length (told_at m s)) answers (caused_now last.0 last.1)
+    | inr last ↦ all_so (IsApart m.script Allowed m.told) Apart kept_by kept_by still (λ a h. h) s (1 + length (told_at m s)) answers (caused_now last.0 last.1)
   ]
 
   others_still : AllByRecursion Apart (filter kept_by (told_from 1 after.told))
-  others_still =
-      let i = s - 1 in
-      let at : 1 + i ≡ s = omega (arith, place.0) in
-      let here : slice_index_or m.told i [] ≡ told_at m s = from_one [] [] m.told s place.0 in
-      let all = told_more (IsApart m.script Allowed m.told) Apart kept_by kept_by apart_still (λ a h. h) 1 i m.told answers (rw (here, at) told_so) kept.history_legal.legal.others in
-      rw here at all
+  others_still = others_told m s answers place.0 place.1 (IsApart m.script Allowed m.told) Apart kept_by kept_by still (λ a h. h) told_so kept.history_legal.legal.others
 
   turns_then : (history : List Entry) → AllByRecursion (λ d. IsCurrent m d.session) history → AllByRecursion (λ d. IsCurrent after d.session) history
   turns_then [] turns = tt

@@ -18,10 +18,11 @@ use Rattle.bf_machine.specs.interleaving.Machines.{Open, Machine, open_at, told_
 use Rattle.bf_machine.specs.interleaving.Kept.{IsKept, HistoryLegal, OpenGroupsReplay}
 use Rattle.bf_machine.specs.interleaving.Events.{Commits, Aborts, committed, ended, entry_of, rolled_back, commits_behind, text_of, rest_of}
 use Rattle.bf_machine.proofs.interleaving.Entries.{length-run_group}
-use Rattle.bf_machine.proofs.interleaving.Legal.{died_more, end_keeps_legal, length-part}
+use Rattle.bf_machine.proofs.interleaving.Legal.{died_more, end_keeps_legal}
 use Rattle.bf_machine.proofs.interleaving.Opens.{commit_keeps_open, unchanged_keeps_open}
 use Rattle.bf_machine.proofs.interleaving.Rest.{StaysAtEnd, deaths_then, end_keeps, join_more}
 use Rattle.bf_machine.proofs.interleaving.Running.{run_is_database, text_means}
+use Rattle.bf_machine.proofs.interleaving.Telling.{length-part}
 use Rattle.bf_machine.proofs.interleaving.Texts.{AreTexts}
 
 module _ (start : Database) (m : Machine) (kept : IsKept start m) (texts : AreTexts m.script) (s : ℕ) (o : Open) (there : open_at m s ≡ Some o) where

@@ -26,28 +26,11 @@ use Rattle.bf_machine.specs.interleaving.Machines.{Group, Began, Open, Machine, 
 use Rattle.bf_machine.specs.InOrder.{none_open}
 use Rattle.bf_machine.specs.interleaving.Kept.{IsKept, IsOpenGroup, HistoryLegal, IsAllowed, DiedFor, Clash, Wants, SomeOf, IsCurrent, phase_of}
 use Rattle.bf_machine.specs.interleaving.Events.{ended, entry_of, commits_behind, text_of, rest_of}
-use Rattle.bf_machine.proofs.interleaving.Answers.{Told, told_from, told_more, none_kept}
+use Rattle.bf_machine.proofs.interleaving.Answers.{Told, told_from, none_kept}
 use Rattle.bf_machine.proofs.interleaving.Entries.{whole_end, in_order_end, outcomes_end, part_behind, replayed-end}
 use Rattle.bf_machine.proofs.interleaving.Places.{set_same, set_other, from_one}
-use Rattle.bf_machine.proofs.interleaving.Telling.{told_here, told_alike, entries_alike, grows, size_here}
+use Rattle.bf_machine.proofs.interleaving.Telling.{apart_still, entries_alike, grows, length-part, others_told, size_here, told_here}
 use Rattle.bf_machine.proofs.interleaving.Others.{has_place}
-
-pub length-part : {X : Type 0} (first last : ℕ) (xs : List X) → length (part first last xs) ≡ min (last - (first - 1)) (length xs - (first - 1))
-length-part first last xs = length-take (last - (first - 1)) (drop (first - 1) xs) ∙ ap (min (last - (first - 1))) (length-drop (first - 1) xs)
-
--- a group that is found is there
-pub found_there : (p : Group → Bool) (xs : List Group) (g : Group) → find p xs ≡ Some g → Contains xs g
-found_there p [] g is = absurd cc
-found_there p (x ∷ xs) g is = elim (cases_Bool (p x)) as (λ _. Contains (x ∷ xs) g) [
-  | inl here ↦
-      let e : Some x ≡ Some g = rw here at is in
-      let same : x ≡ g = cc in
-      (0, omega arith, same)
-  | inr other ↦
-      let e : find p xs ≡ Some g = rw other at is in
-      let later = found_there p xs g e in
-      (suc later.0, omega (arith, later.1), later.2)
-]
 
 -- what a group wants after a prefix of a history it wants after one of a longer one
 module _ (start : Database) (script : Script) (history : List Entry) (e : Entry) where
@@ -176,21 +159,6 @@ module _ (start : Database) (m : Machine) (kept : IsKept start m) (texts : AreTe
   allowed_still t g (Died h) allowed = (died_more start m.script m.history e m.began t g h allowed.0, allowed.1)
   allowed_still t g other allowed = allowed
 
-  apart_still : (a : Told) → IsApart m.script Allowed m.told a → IsApart m.script AllowedThen after.told a
-  apart_still a was = elim was as (λ _. IsApart m.script AllowedThen after.told a) [
-    | inl stray ↦ inl stray
-    | inr caused ↦
-        let g = caused.0 in
-        let cause = caused.1 in
-        let among = found_there (has_statement a.1) (groups_in m.script a.0) g caused.2 in
-        let b = texts.bounds a.0 g among in
-        let sizes : length (replies_to m.told a.0 g) ≡ length (statements_in m.script a.0 g) =
-        ap (λ (rs : List Reply). length rs) caused.4 ∙ length-map (statements_in m.script a.0 g) (λ _. Ended cause) in
-        let within : g.1 ≤ length (told_at m a.0) =
-        omega (arith, sizes, length-part g.0 g.1 (told_at m a.0), length-part g.0 g.1 (session_at m.script a.0).statements, b.0, b.1, b.2) in
-        inr (g, cause, caused.2, allowed_still a.0 g cause caused.3, told_alike m s answers place.0 place.1 a.0 g within ∙ caused.4)
-  ]
-
   abbrev kept_by : List Entry → Told → Bool
   kept_by history a = not (list_any (stands_in a.0 a.1) history || list_any (λ g. none_open a.0 g && has_statement a.1 g) (groups_in m.script a.0))
 
@@ -234,17 +202,14 @@ module _ (start : Database) (m : Machine) (kept : IsKept start m) (texts : AreTe
   turns_still [] turns = (current_still s turn, tt)
   turns_still (d ∷ history) turns = (current_still d.session turns.0, turns_still history turns.1)
 
-  -- told_more counts sessions from 1 on and places from 0 on
   others_still : AllByRecursion (IsApart m.script AllowedThen after.told) (filter (kept_by (m.history ++ e ∷ [])) (told_from 1 after.told))
   others_still =
-      let i = s - 1 in
-      let at : 1 + i ≡ s = omega (arith, place.0) in
-      let here : slice_index_or m.told i [] ≡ told_at m s = from_one [] [] m.told s place.0 in
-      let more = told_more (IsApart m.script Allowed m.told) (IsApart m.script AllowedThen after.told)
-      (kept_by m.history) (kept_by (m.history ++ e ∷ [])) apart_still fewer 1 i m.told answers
-      (rw (here, at) (none_kept (IsApart m.script Allowed m.told) (IsApart m.script AllowedThen after.told) (kept_by m.history) (kept_by (m.history ++ e ∷ [])) apart_still fewer
-      s (1 + length (told_at m s)) answers (λ j r low high. in_the_entry j r (omega (arith, low)) (omega (arith, high))))) kept.history_legal.legal.others in
-      rw here at more
+      let P = IsApart m.script Allowed m.told in
+      let Q = IsApart m.script AllowedThen after.told in
+      let still = apart_still m s answers place.0 place.1 texts Allowed AllowedThen (λ t g cause within allowed. allowed_still t g cause allowed) in
+      others_told m s answers place.0 place.1 P Q (kept_by m.history) (kept_by (m.history ++ e ∷ [])) still fewer
+      (none_kept P Q (kept_by m.history) (kept_by (m.history ++ e ∷ [])) still fewer s (1 + length (told_at m s)) answers
+      (λ j r low high. in_the_entry j r (omega (arith, low)) (omega (arith, high)))) kept.history_legal.legal.others
 
   -- KEEPS THE HISTORY LEGAL
   pub end_keeps_legal : HistoryLegal start after

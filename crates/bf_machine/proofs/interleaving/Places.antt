@@ -1,9 +1,8 @@
 -- Places of sessions in a machine's lists.
 use Rattle.std.proofs.Common.{◌≡◌, ◌≢◌, ℕ, zero, suc, ◌+◌, ◌-◌, ◌<◌, ◌≤◌, List, [], ◌∷◌, length, get_or, set, Option, Some, None, refl, sym, ap, subst, ◌∙◌, arith}
+use Rattle.std.specs.Prelude.{Contains}
 use Rattle.std.specs.List.{slice_index_or, slice_set}
 use Rattle.std.proofs.lemmas.List.{get_or-set_other, get_or-set_same, get_or_past}
-use Rattle.bf_machine.specs.interleaving.Machines.{Group, Open, Machine, open_at, told_at}
-use Rattle.bf_machine.specs.interleaving.Events.{with_open}
 
 -- one item a place, counted from 1
 module _ {X : Type 0} (none d : X) where
@@ -29,3 +28,18 @@ module _ {X : Type 0} (none d : X) where
   from_one xs (suc s) low =
       let here : suc s - 1 ≡ s = omega arith in
       rw here refl
+
+-- what is at a place stands within the list
+pub some_within : {X : Type 0} (xs : List (Option X)) (k : ℕ) (x : X) → slice_index_or xs k None ≡ Some x → k < length xs
+some_within [] k x is = absurd cc
+some_within (y ∷ xs) zero x is = omega arith
+some_within (y ∷ xs) (suc k) x is = omega (arith, some_within xs k x is)
+
+-- and is there
+pub there_in : (xs : List ℕ) (i : ℕ) → i < length xs → Contains xs (slice_index_or xs i 0)
+there_in xs i below = (i, below, same xs i below)
+  where
+    same : (xs : List ℕ) (i : ℕ) → i < length xs → slice_index_or xs i (slice_index_or xs i 0) ≡ slice_index_or xs i 0
+    same [] i below = absurd (omega (arith, below))
+    same (x ∷ xs) zero below = refl
+    same (x ∷ xs) (suc i) below = same xs i (omega (arith, below))

@@ -7,6 +7,7 @@ use Rattle.std.proofs.lemmas.Bool.Decides.{nat_tests}
 use Rattle.std.proofs.lemmas.List.{length-map, length-set}
 use Rattle.bf_base.specs.Lists.{part}
 use Rattle.bf_tree.specs.declared.history.Entry.{Entry}
+use Rattle.bf_tree.specs.declared.reply.Cause.{Cause}
 use Rattle.bf_tree.specs.declared.reply.Refusal.TheVariants.{NoTransaction}
 use Rattle.bf_tree.specs.declared.reply.Reply.{Reply}
 use Rattle.bf_tree.specs.declared.reply.Reply.TheVariants.{Refused, Ended}
@@ -18,11 +19,9 @@ use Rattle.bf_machine.specs.interleaving.Machines.{Group, Began, Open, Machine, 
 use Rattle.bf_machine.specs.interleaving.Kept.{IsKept, IsOpenGroup, HistoryLegal, OpenGroupsReplay, LocksConsistent, DeathsAllowed, HasBegun, HasEnded, IsAllowed, IsCurrent}
 use Rattle.bf_machine.specs.InOrder.{none_open}
 use Rattle.bf_machine.specs.interleaving.Events.{Refuses}
-use Rattle.bf_machine.proofs.interleaving.Answers.{Told, told_from, told_in, told_more}
+use Rattle.bf_machine.proofs.interleaving.Answers.{Told, told_from, told_in}
 use Rattle.bf_machine.proofs.interleaving.Entries.{any_of}
-use Rattle.bf_machine.proofs.interleaving.Places.{from_one}
-use Rattle.bf_machine.proofs.interleaving.Telling.{entries_alike, grows, placed_still, told_alike, told_there}
-use Rattle.bf_machine.proofs.interleaving.Legal.{found_there, length-part}
+use Rattle.bf_machine.proofs.interleaving.Telling.{apart_still, entries_alike, grows, others_told, placed_still, told_there}
 use Rattle.bf_machine.proofs.interleaving.Opens.{stays}
 
 module _ (start : Database) (m : Machine) (kept : IsKept start m) (texts : AreTexts m.script) (s : ℕ) (closed : open_at m s ≡ None) (low : 1 ≤ s) (high : s ≤ length m.told)
@@ -33,38 +32,23 @@ module _ (start : Database) (m : Machine) (kept : IsKept start m) (texts : AreTe
   abbrev after : Machine
   after = record m { told = slice_set m.told (s - 1) (told_at m s ++ more) }
 
-  apart_still : (a : Told) → IsApart m.script (IsAllowed start m.script m.began m.history m.retries) m.told a → IsApart m.script (IsAllowed start m.script m.began m.history m.retries) after.told a
-  apart_still a was = elim was as (λ _. IsApart m.script (IsAllowed start m.script m.began m.history m.retries) after.told a) [
-    | inl stray ↦ inl stray
-    | inr caused ↦
-        let g = caused.0 in
-        let among = found_there (has_statement a.1) (groups_in m.script a.0) g caused.2 in
-        let b = texts.bounds a.0 g among in
-        let sizes : length (replies_to m.told a.0 g) ≡ length (statements_in m.script a.0 g) =
-        ap (λ (rs : List Reply). length rs) caused.4 ∙ length-map (statements_in m.script a.0 g) (λ _. Ended caused.1) in
-        let within : g.1 ≤ length (told_at m a.0) =
-        omega (arith, sizes, length-part g.0 g.1 (told_at m a.0), length-part g.0 g.1 (session_at m.script a.0).statements, b.0, b.1, b.2) in
-        inr (g, caused.1, caused.2, caused.3, told_alike m s more low high a.0 g within ∙ caused.4)
-  ]
-
   abbrev kept_by : Told → Bool
   kept_by a = not (list_any (stands_in a.0 a.1) m.history || list_any (λ g. none_open a.0 g && has_statement a.1 g) (groups_in m.script a.0))
 
   one_if : (p : Told → Bool) (P : Told → Type 0) (x : Told) → P x → AllByRecursion P (filter p (x ∷ []))
   one_if p P x here = elim (p x) as (λ b. AllByRecursion P (cond b (x ∷ []) [])) [ true ↦ (here, tt) | false ↦ tt ]
 
-  others_still : AllByRecursion (IsApart m.script (IsAllowed start m.script m.began m.history m.retries) after.told) (filter kept_by (told_from 1 after.told))
+  abbrev Allowed : ℕ → Group → Cause → Type 0
+  Allowed = IsAllowed start m.script m.began m.history m.retries
+
+  others_still : AllByRecursion (IsApart m.script Allowed after.told) (filter kept_by (told_from 1 after.told))
   others_still =
-      let i = s - 1 in
-      let at : 1 + i ≡ s = omega (arith, low) in
-      let here : slice_index_or m.told i [] ≡ told_at m s = from_one [] [] m.told s low in
+      let P = IsApart m.script Allowed m.told in
+      let Q = IsApart m.script Allowed after.told in
       let next : 1 + length (told_at m s) ≡ length (told_at m s) + 1 = omega arith in
-      let P : Told → Type 0 = IsApart m.script (IsAllowed start m.script m.began m.history m.retries) after.told in
-      let new : AllByRecursion P (filter kept_by (told_in s (1 + length (told_at m s)) more)) =
-      rw next (one_if kept_by P (s, length (told_at m s) + 1, Refused NoTransaction) (inl (stray, refl))) in
-      let all = told_more (IsApart m.script (IsAllowed start m.script m.began m.history m.retries) m.told) P kept_by kept_by apart_still (λ a h. h) 1 i m.told more
-      (rw (here, at) new) kept.history_legal.legal.others in
-      rw here at all
+      let new : AllByRecursion Q (filter kept_by (told_in s (1 + length (told_at m s)) more)) =
+      rw next (one_if kept_by Q (s, length (told_at m s) + 1, Refused NoTransaction) (inl (stray, refl))) in
+      others_told m s more low high P Q kept_by kept_by (apart_still m s more low high texts Allowed Allowed (λ t g cause within allowed. allowed)) (λ a h. h) new kept.history_legal.legal.others
 
   current_still : (t : ℕ) → IsCurrent m t → IsCurrent after t
   current_still t current = λ u before. let was = current u before in (omega (arith, was.0, grows m s more low high u), was.1)

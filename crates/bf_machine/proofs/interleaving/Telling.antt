@@ -1,14 +1,38 @@
 -- What is told in one session grows.
-use Rattle.std.proofs.Common.{◌≡◌, ◌≢◌, ◌⊎◌, ℕ, ◌+◌, ◌-◌, ◌≤◌, List, [], ◌∷◌, ◌++◌, length, map, refl, sym, ap, ap₂, ◌∙◌, arith, inl, inr, length-append}
+use Rattle.std.proofs.Common.{◌≡◌, ◌≢◌, ◌⊎◌, ℕ, suc, ◌+◌, ◌-◌, ◌≤◌, Bool, true, List, [], ◌∷◌, ◌++◌, length, map, filter, drop, Some, refl, sym, ap, ap₂, ◌∙◌, arith, inl, inr, length-append}
+use Rattle.std.specs.Prelude.{Contains, find, min}
 use Rattle.std.specs.List.{AllByRecursion, slice_index_or, slice_set}
-use Rattle.std.proofs.lemmas.Bool.{cases_eq}
+use Rattle.std.proofs.lemmas.Bool.{cases_Bool, cases_eq}
+use Rattle.std.proofs.lemmas.List.{length-drop, length-map, length-take}
 use Rattle.bf_base.specs.Lists.{part}
 use Rattle.bf_tree.specs.declared.history.Entry.{Entry}
+use Rattle.bf_tree.specs.declared.reply.Cause.{Cause}
 use Rattle.bf_tree.specs.declared.reply.Reply.{Reply}
-use Rattle.bf_sql.specs.History.{replies_to, told}
+use Rattle.bf_tree.specs.declared.reply.Reply.TheVariants.{Ended}
+use Rattle.bf_sql.specs.Groups.{groups_in, has_statement, session_at, statements_in}
+use Rattle.bf_sql.specs.History.{IsApart, replies_to, told}
 use Rattle.bf_machine.specs.interleaving.Machines.{Group, Machine, told_at}
+use Rattle.bf_machine.proofs.interleaving.Answers.{Told, told_from, told_in, told_more}
 use Rattle.bf_machine.proofs.interleaving.Entries.{part_in_front}
-use Rattle.bf_machine.proofs.interleaving.Places.{set_same, set_other}
+use Rattle.bf_machine.proofs.interleaving.Places.{from_one, set_same, set_other}
+use Rattle.bf_machine.proofs.interleaving.Texts.{AreTexts}
+
+pub length-part : {X : Type 0} (first last : ℕ) (xs : List X) → length (part first last xs) ≡ min (last - (first - 1)) (length xs - (first - 1))
+length-part first last xs = length-take (last - (first - 1)) (drop (first - 1) xs) ∙ ap (min (last - (first - 1))) (length-drop (first - 1) xs)
+
+-- a group that is found is there
+found_there : (p : Group → Bool) (xs : List Group) (g : Group) → find p xs ≡ Some g → Contains xs g
+found_there p [] g is = absurd cc
+found_there p (x ∷ xs) g is = elim (cases_Bool (p x)) as (λ _. Contains (x ∷ xs) g) [
+  | inl here ↦
+      let e : Some x ≡ Some g = rw here at is in
+      let same : x ≡ g = cc in
+      (0, omega arith, same)
+  | inr other ↦
+      let e : find p xs ≡ Some g = rw other at is in
+      let later = found_there p xs g e in
+      (suc later.0, omega (arith, later.1), later.2)
+]
 
 module _ (m : Machine) (s : ℕ) (more : List Reply) (low : 1 ≤ s) (high : s ≤ length m.told) where
   abbrev pub told_then : List (List Reply)
@@ -56,3 +80,31 @@ module _ (m : Machine) (s : ℕ) (more : List Reply) (low : 1 ≤ s) (high : s �
   pub placed_still : (history : List Entry) → AllByRecursion (λ d. d.last ≤ length (told_at m d.session)) history → AllByRecursion (λ d. d.last ≤ length (told_after d.session)) history
   placed_still [] placed = tt
   placed_still (d ∷ history) placed = (omega (arith, placed.0, grows d.session), placed_still history placed.1)
+
+  -- a statement that stands apart still does, where the cause that it is told is still allowed
+  module _ (texts : AreTexts m.script) (Allowed AllowedThen : ℕ → Group → Cause → Type 0)
+      (allowed_still : (t : ℕ) (g : Group) (cause : Cause) → g.1 ≤ length (told_at m t) → Allowed t g cause → AllowedThen t g cause) where
+    pub apart_still : (a : Told) → IsApart m.script Allowed m.told a → IsApart m.script AllowedThen told_then a
+    apart_still a was = elim was as (λ _. IsApart m.script AllowedThen told_then a) [
+      | inl stray ↦ inl stray
+      | inr caused ↦
+          let g = caused.0 in
+          let cause = caused.1 in
+          let among = found_there (has_statement a.1) (groups_in m.script a.0) g caused.2 in
+          let b = texts.bounds a.0 g among in
+          let sizes : length (replies_to m.told a.0 g) ≡ length (statements_in m.script a.0 g) =
+          ap (λ (rs : List Reply). length rs) caused.4 ∙ length-map (statements_in m.script a.0 g) (λ _. Ended cause) in
+          let within : g.1 ≤ length (told_at m a.0) =
+          omega (arith, sizes, length-part g.0 g.1 (told_at m a.0), length-part g.0 g.1 (session_at m.script a.0).statements, b.0, b.1, b.2) in
+          inr (g, cause, caused.2, allowed_still a.0 g cause within caused.3, told_alike a.0 g within ∙ caused.4)
+    ]
+
+  -- what is so of each statement that was told, and of those told then, is so of all
+  pub others_told : (P Q : Told → Type 0) (p q : Told → Bool) → ((a : Told) → P a → Q a) → ((a : Told) → q a ≡ true → p a ≡ true)
+      → AllByRecursion Q (filter q (told_in s (1 + length (told_at m s)) more)) → AllByRecursion P (filter p (told_from 1 m.told)) → AllByRecursion Q (filter q (told_from 1 told_then))
+  others_told P Q p q weaker fewer new old =
+      let i = s - 1 in
+      let at : 1 + i ≡ s = omega (arith, low) in
+      let here : slice_index_or m.told i [] ≡ told_at m s = from_one [] [] m.told s low in
+      let all = told_more P Q p q weaker fewer 1 i m.told more (rw (here, at) new) old in
+      rw here at all
