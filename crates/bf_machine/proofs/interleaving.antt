@@ -17,3 +17,4 @@ pub mod Refusing
 pub mod Joins
 pub mod Dying
 pub mod Reaching
+pub mod Standing

@@ -7,7 +7,7 @@ ghost use Rattle.bf_locks.specs.declared.name.LockName.{LockName};
 ghost use Rattle.bf_tree.specs.declared.script.Script.{Script};
 ghost use Rattle.bf_sql.specs.Database.{Database, IsDatabase};
 ghost use Rattle.bf_machine.specs.interleaving.Events.{Aborts, Asks, Begins, Commits, Executes, Reaches, Refuses};
-ghost use Rattle.bf_machine.specs.interleaving.Kept.{IsKept, fresh};
+ghost use Rattle.bf_machine.specs.interleaving.Kept.{IsKept, TranscriptsLegal, fresh};
 ghost use Rattle.bf_machine.specs.interleaving.Machines.{Machine};
 
 /// Histories stay legal, open groups replay, locks are consistent and deaths are allowed: in a new machine, and
@@ -27,4 +27,9 @@ pub fn events_keep_all()
     ensures commits { (start : Database) (m next : Machine) (s : ℕ) → IsKept start m → Commits m s next → IsKept start next }
     ensures aborts { (start : Database) (m next : Machine) (s : ℕ) → IsKept start m → Aborts m s next → IsKept start next }
     ensures reaches { (start : Database) (script : Script) (retries : ℕ) (m : Machine) → IsDatabase start → Reaches start (fresh start script retries) m → IsKept start m }
+{}
+
+/// The transcripts as they stand, with the replies of open groups in their places, and the history are legal.
+pub fn transcripts_are_legal()
+    ensures { (start : Database) (m : Machine) → IsKept start m → TranscriptsLegal start m }
 {}

@@ -15,7 +15,7 @@ told_in k n replies = map (λ p. (k, p.0, p.1)) (enumerate_from n replies)
 abbrev pub told_from : ℕ → List (List Reply) → List Told
 told_from k told = flat_map (λ s. told_in s.0 1 s.1) (enumerate_from k told)
 
-told_in-append : (k n : ℕ) (xs ys : List Reply) → told_in k n (xs ++ ys) ≡ told_in k n xs ++ told_in k (n + length xs) ys
+pub told_in-append : (k n : ℕ) (xs ys : List Reply) → told_in k n (xs ++ ys) ≡ told_in k n xs ++ told_in k (n + length xs) ys
 told_in-append k n [] ys =
     let here : n + 0 ≡ n = omega arith in
     rw here refl
@@ -27,11 +27,11 @@ pub all_in_both : {X : Type 0} (P : X → Type 0) (xs ys : List X) → AllByRecu
 all_in_both P [] ys first second = second
 all_in_both P (x ∷ xs) ys first second = (first.0, all_in_both P xs ys first.1 second)
 
-all_of_front : {X : Type 0} (P : X → Type 0) (xs ys : List X) → AllByRecursion P (xs ++ ys) → AllByRecursion P xs
+pub all_of_front : {X : Type 0} (P : X → Type 0) (xs ys : List X) → AllByRecursion P (xs ++ ys) → AllByRecursion P xs
 all_of_front P [] ys all = tt
 all_of_front P (x ∷ xs) ys all = (all.0, all_of_front P xs ys all.1)
 
-all_of_back : {X : Type 0} (P : X → Type 0) (xs ys : List X) → AllByRecursion P (xs ++ ys) → AllByRecursion P ys
+pub all_of_back : {X : Type 0} (P : X → Type 0) (xs ys : List X) → AllByRecursion P (xs ++ ys) → AllByRecursion P ys
 all_of_back P [] ys all = all
 all_of_back P (x ∷ xs) ys all = all_of_back P xs ys all.1
 

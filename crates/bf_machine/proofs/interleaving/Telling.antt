@@ -34,6 +34,25 @@ found_there p (x ∷ xs) g is = elim (cases_Bool (p x)) as (λ _. Contains (x �
       (suc later.0, omega (arith, later.1), later.2)
 ]
 
+-- a statement that stands apart does so in transcripts in which each group that was told is told the same, where the cause that
+-- it is told is still allowed
+module _ (m : Machine) (texts : AreTexts m.script) (then : List (List Reply)) (alike : (t : ℕ) (g : Group) → g.1 ≤ length (told_at m t) → replies_to then t g ≡ replies_to m.told t g)
+    (Allowed AllowedThen : ℕ → Group → Cause → Type 0) (allowed_still : (t : ℕ) (g : Group) (cause : Cause) → g.1 ≤ length (told_at m t) → Allowed t g cause → AllowedThen t g cause) where
+  pub apart_as : (a : Told) → IsApart m.script Allowed m.told a → IsApart m.script AllowedThen then a
+  apart_as a was = elim was as (λ _. IsApart m.script AllowedThen then a) [
+    | inl stray ↦ inl stray
+    | inr caused ↦
+        let g = caused.0 in
+        let cause = caused.1 in
+        let among = found_there (has_statement a.1) (groups_in m.script a.0) g caused.2 in
+        let b = texts.bounds a.0 g among in
+        let sizes : length (replies_to m.told a.0 g) ≡ length (statements_in m.script a.0 g) =
+        ap (λ (rs : List Reply). length rs) caused.4 ∙ length-map (statements_in m.script a.0 g) (λ _. Ended cause) in
+        let within : g.1 ≤ length (told_at m a.0) =
+        omega (arith, sizes, length-part g.0 g.1 (told_at m a.0), length-part g.0 g.1 (session_at m.script a.0).statements, b.0, b.1, b.2) in
+        inr (g, cause, caused.2, allowed_still a.0 g cause within caused.3, alike a.0 g within ∙ caused.4)
+  ]
+
 module _ (m : Machine) (s : ℕ) (more : List Reply) (low : 1 ≤ s) (high : s ≤ length m.told) where
   abbrev pub told_then : List (List Reply)
   told_then = slice_set m.told (s - 1) (told_at m s ++ more)
@@ -81,23 +100,10 @@ module _ (m : Machine) (s : ℕ) (more : List Reply) (low : 1 ≤ s) (high : s �
   placed_still [] placed = tt
   placed_still (d ∷ history) placed = (omega (arith, placed.0, grows d.session), placed_still history placed.1)
 
-  -- a statement that stands apart still does, where the cause that it is told is still allowed
-  module _ (texts : AreTexts m.script) (Allowed AllowedThen : ℕ → Group → Cause → Type 0)
-      (allowed_still : (t : ℕ) (g : Group) (cause : Cause) → g.1 ≤ length (told_at m t) → Allowed t g cause → AllowedThen t g cause) where
-    pub apart_still : (a : Told) → IsApart m.script Allowed m.told a → IsApart m.script AllowedThen told_then a
-    apart_still a was = elim was as (λ _. IsApart m.script AllowedThen told_then a) [
-      | inl stray ↦ inl stray
-      | inr caused ↦
-          let g = caused.0 in
-          let cause = caused.1 in
-          let among = found_there (has_statement a.1) (groups_in m.script a.0) g caused.2 in
-          let b = texts.bounds a.0 g among in
-          let sizes : length (replies_to m.told a.0 g) ≡ length (statements_in m.script a.0 g) =
-          ap (λ (rs : List Reply). length rs) caused.4 ∙ length-map (statements_in m.script a.0 g) (λ _. Ended cause) in
-          let within : g.1 ≤ length (told_at m a.0) =
-          omega (arith, sizes, length-part g.0 g.1 (told_at m a.0), length-part g.0 g.1 (session_at m.script a.0).statements, b.0, b.1, b.2) in
-          inr (g, cause, caused.2, allowed_still a.0 g cause within caused.3, told_alike a.0 g within ∙ caused.4)
-    ]
+  -- a statement that stands apart still does
+  pub apart_still : AreTexts m.script → (Allowed AllowedThen : ℕ → Group → Cause → Type 0) → ((t : ℕ) (g : Group) (cause : Cause) → g.1 ≤ length (told_at m t) → Allowed t g cause → AllowedThen t g cause)
+      → (a : Told) → IsApart m.script Allowed m.told a → IsApart m.script AllowedThen told_then a
+  apart_still texts Allowed AllowedThen allowed_still = apart_as m texts told_then told_alike Allowed AllowedThen allowed_still
 
   -- what is so of each statement that was told, and of those told then, is so of all
   pub others_told : (P Q : Told → Type 0) (p q : Told → Bool) → ((a : Told) → P a → Q a) → ((a : Told) → q a ≡ true → p a ≡ true)

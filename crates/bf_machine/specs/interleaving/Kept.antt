@@ -18,7 +18,7 @@ use Rattle.bf_sql.specs.Groups.{session_at, groups_in, statements_in}
 use Rattle.bf_sql.specs.History.{IsLegalHistory, replayed}
 use Rattle.bf_machine.specs.InOrder.{none_open}
 use Rattle.bf_machine.specs.interleaving.Groups.{footprint_in, HasRun}
-use Rattle.bf_machine.specs.interleaving.Machines.{Group, Began, Open, Machine, open_at, told_at, began_at, answered_in}
+use Rattle.bf_machine.specs.interleaving.Machines.{Group, Began, Open, Machine, open_at, told_at, began_at, answered_in, has_open, transcripts_of}
 
 -- something holds of one of a group's statements, given whether it stands in the group's block
 abbrev pub SomeOf : (Bool → Statement → Type 0) → Bool → List Statement → Type 0
@@ -97,6 +97,10 @@ module _ (start : Database) (m : Machine) where
     -- entries stand in what is told, and sessions of phases before theirs have ended
     pub placed : AllByRecursion (λ e. e.last ≤ length (told_at m e.session)) m.history
     pub in_turn : AllByRecursion (λ e. IsCurrent m e.session) m.history
+
+  -- so they are with the replies of open groups in their places
+  abbrev pub TranscriptsLegal : Type 0
+  TranscriptsLegal = IsLegalHistory m.script AllowedNow (has_open m) start (transcripts_of m) m.history
 
   -- OPEN GROUPS REPLAY: an open group of session s
   pub record IsOpenGroup (s : ℕ) (o : Open) : Type 0 where

@@ -1,5 +1,5 @@
 -- THE SEEN STATE of a machine whose sessions take turns, over one database.
-use Rattle.std.specs.Prelude.{◌≡◌, ℕ, ◌+◌, ◌-◌, Bool, false, List, [], ◌∷◌, length, map, Option, Some, None, slice_index_or}
+use Rattle.std.specs.Prelude.{ℕ, ◌&&◌, ◌==◌, Bool, false, List, [], ◌∷◌, ◌++◌, map, zip, Option, Some, None, slice_index_or}
 use Rattle.bf_locks.specs.Locks.{Locks}
 use Rattle.bf_tree.specs.declared.history.Entry.{Entry}
 use Rattle.bf_tree.specs.declared.reply.Reply.{Reply}
@@ -52,3 +52,19 @@ began_at began n = slice_index_or (None ∷ map Some began) n None
 -- the statements of an open group that have their replies, with these
 abbrev pub answered_in : Script → ℕ → Open → List Answered
 answered_in script s o = answered_by false o.replies (statements_in script s o.group)
+
+-- the replies of a session as they stand: those of an open group stand behind those before it
+abbrev pub with_replies : List Reply → Option Open → List Reply
+with_replies told None = told
+with_replies told (Some o) = told ++ o.replies
+
+abbrev pub transcripts_of : Machine → List (List Reply)
+transcripts_of m = map (λ p. with_replies p.0 p.1) (zip m.told m.opens)
+
+-- whether a group of session s is open
+abbrev pub is_group : Group → Option Open → Bool
+is_group g None = false
+is_group g (Some o) = o.group.0 == g.0 && o.group.1 == g.1
+
+abbrev pub has_open : Machine → ℕ → Group → Bool
+has_open m s g = is_group g (open_at m s)
