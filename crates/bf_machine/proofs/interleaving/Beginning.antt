@@ -1,14 +1,13 @@
 -- A group's first begin keeps all.
-use Rattle.std.proofs.Common.{◌≡◌, ◌≢◌, ◌⊎◌, ℕ, zero, suc, ◌+◌, ◌-◌, ◌<◌, ◌≤◌, Bool, true, false, not, ◌&&◌, ◌||◌, List, [], ◌∷◌, ◌++◌, length, map, filter, cond, Option, Some, None, refl, sym, ap, ap₂, subst, ◌∙◌, arith, inl, inr, length-append}
+use Rattle.std.proofs.Common.{◌≡◌, ◌≢◌, ◌⊎◌, ℕ, zero, suc, ◌+◌, ◌-◌, ◌<◌, ◌≤◌, Bool, not, ◌&&◌, ◌||◌, List, [], ◌∷◌, ◌++◌, length, map, filter, Option, Some, None, refl, sym, ap, subst, ◌∙◌, arith, inl, inr}
 use Rattle.std.specs.Prelude.{Contains, nat_le}
-use Rattle.std.specs.List.{AllByRecursion, list_any, slice_index_or, slice_set}
+use Rattle.std.specs.List.{AllByRecursion, list_any, slice_index_or}
 use Rattle.std.proofs.lemmas.Bool.{cases_eq, cases_Bool}
 use Rattle.std.proofs.lemmas.Bool.Decides.{nat_tests}
 use Rattle.std.proofs.lemmas.List.{length-map, length-set, map-append}
 use Rattle.bf_tree.specs.declared.history.Entry.{Entry}
 use Rattle.bf_tree.specs.declared.reply.Cause.{Cause}
 use Rattle.bf_tree.specs.declared.reply.Cause.TheVariants.{Died}
-use Rattle.bf_tree.specs.declared.reply.Reply.{Reply}
 use Rattle.bf_tree.specs.declared.script.Script.{Script}
 use Rattle.bf_tree.specs.declared.script.Session.{Session}
 use Rattle.bf_sql.specs.Database.{Database}
@@ -16,7 +15,7 @@ use Rattle.bf_sql.specs.Groups.{session_at, groups_in, groups_of, has_statement,
 use Rattle.bf_sql.specs.History.{IsApart, answered, stands_in}
 use Rattle.bf_machine.proofs.interleaving.Texts.{AreTexts, one_first}
 use Rattle.bf_machine.specs.interleaving.Machines.{Group, Began, Open, Machine, open_at, told_at, began_at}
-use Rattle.bf_machine.specs.interleaving.Kept.{IsKept, HistoryLegal, OpenGroupsReplay, LocksConsistent, CausesAllowed, DeathsAllowed, HasStart, DiedFor, IsAllowed, IsCurrent, HasBegun, HasEnded, phase_of}
+use Rattle.bf_machine.specs.interleaving.Kept.{IsKept, HistoryLegal, LocksConsistent, DeathsAllowed, HasStart, DiedFor, IsAllowed, IsCurrent, HasBegun, phase_of}
 use Rattle.bf_machine.specs.InOrder.{none_open}
 use Rattle.bf_machine.specs.interleaving.Events.{Begins, LastHasEnded, begun, begun_again, opened}
 use Rattle.bf_machine.proofs.interleaving.Answers.{Told, still}
@@ -100,13 +99,15 @@ module _ (start : Database) (m : Machine) (kept : IsKept start m) (texts : AreTe
 
   current_then : (t : ℕ) → IsCurrent m t → IsCurrent after t
   current_then t then = λ u before.
-      let was = then u before in
-      (was.0, elim (cases_eq u s) as (λ _. open_at after u ≡ None) [
-        | inl same ↦
-            let full : length (session_at m.script s).statements ≤ length (told_at m s) = subst (λ (u : ℕ). length (session_at m.script u).statements ≤ length (told_at m u)) same was.0 in
-            absurd (omega (arith, full, left))
-        | inr apart ↦ set_other None None m.opens s u (Some (opened m s (length m.began + 1) group)) low apart ∙ was.1
-      ])
+      let was = then u before in (
+        was.0,
+        elim (cases_eq u s) as (λ _. open_at after u ≡ None) [
+          | inl same ↦
+              let full : length (session_at m.script s).statements ≤ length (told_at m s) = subst (λ (u : ℕ). length (session_at m.script u).statements ≤ length (told_at m u)) same was.0 in
+              absurd (omega (arith, full, left))
+          | inr apart ↦ set_other None None m.opens s u (Some (opened m s (length m.began + 1) group)) low apart ∙ was.1
+        ],
+      )
 
   turns_then : (history : List Entry) → AllByRecursion (λ d. IsCurrent m d.session) history → AllByRecursion (λ d. IsCurrent after d.session) history
   turns_then [] turns = tt
@@ -173,8 +174,8 @@ module _ (start : Database) (m : Machine) (kept : IsKept start m) (texts : AreTe
   begin_keeps_locks = record {
     apart = kept.locks_consistent.apart;
     owners = λ name owner mode is.
-    let was = kept.locks_consistent.owners name owner mode is in
-    (was.0, was.1, still_open was.0 was.1 was.2, was.3, was.4);
+        let was = kept.locks_consistent.owners name owner mode is in
+        (was.0, was.1, still_open was.0 was.1 was.2, was.3, was.4);
     starts = λ t q is_open. elim (was_open t q is_open) as (λ _. HasStart (more m.began b) t q.group q.start) [
       | inl new ↦
           subst (λ (t : ℕ). HasStart (more m.began b) t q.group q.start) (sym new.0)
@@ -254,10 +255,10 @@ module _ (start : Database) (m : Machine) (kept : IsKept start m) (texts : AreTe
     deaths_then = record {
       each = λ h among. died_then x.session x.group h (was.each h among);
       sessions_differ = λ i j t one other li lj hi hj.
-      was.sessions_differ i j t one other li lj (start_old m.began b t one _ (named_low _ (there_in x.deaths i li)) hi) (start_old m.began b t other _ (named_low _ (there_in x.deaths j lj)) hj);
+          was.sessions_differ i j t one other li lj (start_old m.began b t one _ (named_low _ (there_in x.deaths i li)) hi) (start_old m.began b t other _ (named_low _ (there_in x.deaths j lj)) hj);
       ended = λ i t g below has.
-      let within : i < length x.deaths = omega (arith, below) in
-      was.ended i t g below (start_old m.began b t g _ (named_low _ (there_in x.deaths i within)) has);
+          let within : i < length x.deaths = omega (arith, below) in
+          was.ended i t g below (start_old m.began b t g _ (named_low _ (there_in x.deaths i within)) has);
       last_ended = λ i t g q is_open is below has. elim (was_open x.session q is_open) as (λ _. g.1 ≤ length (told_at m t)) [
         | inl new ↦
             let at : q.start ≡ length m.began + 1 = ap (λ (q : Open). q.start) new.1 in
@@ -323,13 +324,15 @@ module _ (start : Database) (m : Machine) (kept : IsKept start m) (texts : AreTe
 
     current_again : (t : ℕ) → IsCurrent m t → IsCurrent again t
     current_again t then = λ u before.
-        let was = then u before in
-        (was.0, elim (cases_eq u s) as (λ _. open_at again u ≡ None) [
-          | inl same ↦
-              let full : length (session_at m.script s).statements ≤ length (told_at m s) = subst (λ (u : ℕ). length (session_at m.script u).statements ≤ length (told_at m u)) same was.0 in
-              absurd (omega (arith, full, room))
-          | inr apart ↦ set_other None None m.opens s u (Some (opened m s n group)) low apart ∙ was.1
-        ])
+        let was = then u before in (
+          was.0,
+          elim (cases_eq u s) as (λ _. open_at again u ≡ None) [
+            | inl same ↦
+                let full : length (session_at m.script s).statements ≤ length (told_at m s) = subst (λ (u : ℕ). length (session_at m.script u).statements ≤ length (told_at m u)) same was.0 in
+                absurd (omega (arith, full, room))
+            | inr apart ↦ set_other None None m.opens s u (Some (opened m s n group)) low apart ∙ was.1
+          ],
+        )
 
     turns_again : (history : List Entry) → AllByRecursion (λ d. IsCurrent m d.session) history → AllByRecursion (λ d. IsCurrent again d.session) history
     turns_again [] turns = tt
@@ -390,8 +393,8 @@ module _ (start : Database) (m : Machine) (kept : IsKept start m) (texts : AreTe
       locks_consistent = record {
         apart = kept.locks_consistent.apart;
         owners = λ name owner mode is.
-        let was = kept.locks_consistent.owners name owner mode is in
-        (was.0, was.1, open_again was.0 was.1 was.2, was.3, was.4);
+            let was = kept.locks_consistent.owners name owner mode is in
+            (was.0, was.1, open_again was.0 was.1 was.2, was.3, was.4);
         starts = λ t q is_open. elim (was_open_again t q is_open) as (λ _. HasStart m.began t q.group q.start) [
           | inl new ↦
               subst (λ (t : ℕ). HasStart m.began t q.group q.start) (sym new.0) (subst (λ (q : Open). HasStart m.began s q.group q.start) (sym new.1) has)

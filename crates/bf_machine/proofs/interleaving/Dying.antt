@@ -1,5 +1,5 @@
 -- A death keeps all.
-use Rattle.std.proofs.Common.{◌≡◌, ◌≢◌, ◌⊎◌, ℕ, zero, suc, ◌+◌, ◌-◌, ◌<◌, ◌≤◌, Bool, true, false, not, ◌&&◌, ◌||◌, IsTrue, if◌then◌else◌, List, [], ◌∷◌, ◌++◌, length, map, filter, Option, Some, None, refl, sym, ap, subst, ◌∙◌, arith, inl, inr, length-append}
+use Rattle.std.proofs.Common.{◌≡◌, ◌≢◌, ◌⊎◌, ℕ, zero, suc, ◌+◌, ◌-◌, ◌<◌, ◌≤◌, Bool, false, not, ◌&&◌, ◌||◌, if◌then◌else◌, List, [], ◌∷◌, ◌++◌, length, map, filter, Option, Some, None, refl, sym, ap, subst, ◌∙◌, arith, inl, inr, length-append}
 use Rattle.std.specs.Prelude.{Contains, IsSomeAnd, nat_le, nat_lt, slice_set}
 use Rattle.std.specs.List.{AllByRecursion, list_any, slice_index_or}
 use Rattle.std.specs.Option.{option_map_or}
@@ -19,12 +19,12 @@ use Rattle.bf_tree.specs.declared.reply.Cause.TheVariants.{Died}
 use Rattle.bf_tree.specs.declared.reply.Reply.{Reply}
 use Rattle.bf_tree.specs.declared.reply.Reply.TheVariants.{Ended}
 use Rattle.bf_sql.specs.Database.{Database}
-use Rattle.bf_sql.specs.Groups.{session_at, groups_in, statements_in, has_statement}
+use Rattle.bf_sql.specs.Groups.{session_at, groups_in, has_statement}
 use Rattle.bf_sql.specs.History.{IsApart, replies_to, stands_in}
 use Rattle.bf_machine.specs.InOrder.{none_open}
 use Rattle.bf_machine.specs.interleaving.Machines.{Group, Began, Open, Machine, open_at, told_at, began_at}
 use Rattle.bf_machine.specs.interleaving.Kept.{IsKept, HistoryLegal, CausesAllowed, DeathsAllowed, DiedFor, HasStart, HasEnded, IsAllowed, IsCurrent, phase_of}
-use Rattle.bf_machine.specs.interleaving.Events.{Asks, deaths_of, died, ended, text_of, told_at_death, with_death}
+use Rattle.bf_machine.specs.interleaving.Events.{Asks, deaths_of, died, text_of, told_at_death, with_death}
 use Rattle.bf_machine.proofs.interleaving.Answers.{Told, all_so, told_from, told_in}
 use Rattle.bf_machine.proofs.interleaving.Entries.{part_behind}
 use Rattle.bf_machine.proofs.interleaving.Going.{joins, next_wants}
@@ -32,7 +32,7 @@ use Rattle.bf_machine.proofs.interleaving.Joins.{clash_of, turned}
 use Rattle.bf_machine.proofs.interleaving.Opens.{unchanged_keeps_open}
 use Rattle.bf_machine.proofs.interleaving.Places.{set_other, set_same, some_within, there_in}
 use Rattle.bf_machine.proofs.interleaving.Others.{has_place}
-use Rattle.bf_machine.proofs.interleaving.Rest.{StaysAtEnd, current_then, deaths_then, end_keeps, was_open}
+use Rattle.bf_machine.proofs.interleaving.Rest.{StaysAtEnd, current_then, deaths_then, end_keeps}
 use Rattle.bf_machine.proofs.interleaving.Telling.{apart_still, entries_alike, grows, length-part, others_told, placed_still, size_here, told_here}
 use Rattle.bf_machine.proofs.interleaving.Texts.{AreTexts}
 
@@ -66,7 +66,7 @@ module _ (start : Database) (m : Machine) (kept : IsKept start m) (s : ℕ) wher
   death_is_allowed name mode h next by =
       let against : IsSomeAnd (held m.locks name h) (λ theirs. are_compatible theirs (wanted m.locks by.o.start name mode) ≡ false) = by.judged.conflicts.against in
       elim (held m.locks name h) as (λ o. held m.locks name h ≡ o → IsSomeAnd o (λ theirs. are_compatible theirs (wanted m.locks by.o.start name mode) ≡ false)
-          → IsHolder start m s by.o.group h) [
+      → IsHolder start m s by.o.group h) [
         | None ↦ λ is no. absurd no
         | Some theirs ↦ λ is conflict.
             let was = kept.locks_consistent.owners name h theirs is in
@@ -333,38 +333,38 @@ module _ (start : Database) (m : Machine) (kept : IsKept start m) (texts : AreTe
       | inr new ↦ subst (λ (k : ℕ). DiedFor start m.script began m.history s o.group k) new (died_then s o.group h named.died)
     ];
     sessions_differ = λ i j t one other li lj x y.
-    let x_was = start_was t one _ x in
-    let y_was = start_was t other _ y in
-    elim (place_of_death i li) as (λ _. i ≡ j) [
-      | inl old_i ↦
-          let one_is : HasStart m.began t one (slice_index_or deaths i 0) = subst (λ (n : ℕ). HasStart m.began t one n) old_i.1 x_was in
-          elim (place_of_death j lj) as (λ _. i ≡ j) [
-            | inl old_j ↦ was_allowed.sessions_differ i j t one other old_i.0 old_j.0 one_is (subst (λ (n : ℕ). HasStart m.began t other n) old_j.1 y_was)
-            | inr new_j ↦
-                absurd (not_named t other (subst (λ (n : ℕ). HasStart m.began t other n) new_j.1 y_was) one (slice_index_or deaths i 0) (there_in deaths i old_i.0) one_is (had_ended i t one old_i.0 one_is))
-          ]
-      | inr new_i ↦
-          elim (place_of_death j lj) as (λ _. i ≡ j) [
-            | inl old_j ↦
-                let other_is : HasStart m.began t other (slice_index_or deaths j 0) = subst (λ (n : ℕ). HasStart m.began t other n) old_j.1 y_was in
-                absurd (not_named t one (subst (λ (n : ℕ). HasStart m.began t one n) new_i.1 x_was) other (slice_index_or deaths j 0) (there_in deaths j old_j.0) other_is (had_ended j t other old_j.0 other_is))
-            | inr new_j ↦ new_i.0 ∙ sym new_j.0
-          ]
-    ];
+        let x_was = start_was t one _ x in
+        let y_was = start_was t other _ y in
+        elim (place_of_death i li) as (λ _. i ≡ j) [
+          | inl old_i ↦
+              let one_is : HasStart m.began t one (slice_index_or deaths i 0) = subst (λ (n : ℕ). HasStart m.began t one n) old_i.1 x_was in
+              elim (place_of_death j lj) as (λ _. i ≡ j) [
+                | inl old_j ↦ was_allowed.sessions_differ i j t one other old_i.0 old_j.0 one_is (subst (λ (n : ℕ). HasStart m.began t other n) old_j.1 y_was)
+                | inr new_j ↦
+                    absurd (not_named t other (subst (λ (n : ℕ). HasStart m.began t other n) new_j.1 y_was) one (slice_index_or deaths i 0) (there_in deaths i old_i.0) one_is (had_ended i t one old_i.0 one_is))
+              ]
+          | inr new_i ↦
+              elim (place_of_death j lj) as (λ _. i ≡ j) [
+                | inl old_j ↦
+                    let other_is : HasStart m.began t other (slice_index_or deaths j 0) = subst (λ (n : ℕ). HasStart m.began t other n) old_j.1 y_was in
+                    absurd (not_named t one (subst (λ (n : ℕ). HasStart m.began t one n) new_i.1 x_was) other (slice_index_or deaths j 0) (there_in deaths j old_j.0) other_is (had_ended j t other old_j.0 other_is))
+                | inr new_j ↦ new_i.0 ∙ sym new_j.0
+              ]
+        ];
     ended = λ i t g below x.
-    let front : i < length deaths = omega (arith, below, length-append deaths (h ∷ [])) in
-    let ended = had_ended i t g front (subst (λ (n : ℕ). HasStart m.began t g n) (at_front deaths h i front) (start_was t g _ x)) in
-    omega (arith, ended, more t);
+        let front : i < length deaths = omega (arith, below, length-append deaths (h ∷ [])) in
+        let ended = had_ended i t g front (subst (λ (n : ℕ). HasStart m.began t g n) (at_front deaths h i front) (start_was t g _ x)) in
+        omega (arith, ended, more t);
     last_ended = λ i t g p is_open is below x.
-    let clash : None ≡ Some p = sym closed ∙ is_open in
-    absurd cc;
+        let clash : None ≡ Some p = sym closed ∙ is_open in
+        absurd cc;
     later = λ k t n one other among x y before.
-    let x_was = start_was t one k x in
-    let y_was = start_was t other n y in
-    elim (one_of deaths h k among) as (λ _. o.start < n) [
-      | inl old ↦ was_allowed.later k t n one other old x_was y_was before
-      | inr new ↦ absurd (last_of_all t one (subst (λ (k : ℕ). HasStart m.began t one k) (sym new) x_was) other n y_was (subst (λ (k : ℕ). k < n) (sym new) before))
-    ];
+        let x_was = start_was t one k x in
+        let y_was = start_was t other n y in
+        elim (one_of deaths h k among) as (λ _. o.start < n) [
+          | inl old ↦ was_allowed.later k t n one other old x_was y_was before
+          | inr new ↦ absurd (last_of_all t one (subst (λ (k : ℕ). HasStart m.began t one k) (sym new) x_was) other n y_was (subst (λ (k : ℕ). k < n) (sym new) before))
+        ];
     most = omega (arith, few, length-append deaths (h ∷ []));
     retried = elim ends as (λ _. (length (deaths ++ h ∷ []) ≤ m.retries) ⊎ HasEnded after s o.group) [
       | inl again ↦ inl (omega (arith, again.1, length-append deaths (h ∷ [])))
@@ -398,18 +398,20 @@ module _ (start : Database) (m : Machine) (kept : IsKept start m) (texts : AreTe
       let own = is_own t g (subst (λ (n : ℕ). HasStart m.began t g n) same was.has) in
       let last : g.1 ≡ o.group.1 = ap (λ (g : Group). g.1) own.1 in
       let told : length (told_at m t) ≡ length (told_at m s) = ap (λ (t : ℕ). length (told_at m t)) own.0 in
-      omega (arith, has_ended, last, told, own_next, bounds.1) in
-      (record {
-        own = was.own;
-        other = was.other;
-        theirs = was.theirs;
-        has = record { deaths = was.has.deaths; is = began_other was.own apart ∙ was.has.is };
-        named = start_then was.other was.theirs k was.named;
-        another = was.another;
-        one_phase = was.one_phase;
-        older = was.older;
-        clash = was.clash;
-      }, allowed.1)
+      omega (arith, has_ended, last, told, own_next, bounds.1) in (
+        record {
+          own = was.own;
+          other = was.other;
+          theirs = was.theirs;
+          has = record { deaths = was.has.deaths; is = began_other was.own apart ∙ was.has.is };
+          named = start_then was.other was.theirs k was.named;
+          another = was.another;
+          one_phase = was.one_phase;
+          older = was.older;
+          clash = was.clash;
+        },
+        allowed.1,
+      )
   allowed_then t g other has_ended allowed = allowed
 
   abbrev Apart : Told → Type 0
@@ -425,18 +427,20 @@ module _ (start : Database) (m : Machine) (kept : IsKept start m) (texts : AreTe
   caused_now : answers ≡ told_all → length deaths ≡ m.retries → (j : ℕ) (r : Reply) → 1 + length (told_at m s) ≤ j → j < 1 + length (told_at m s) + length answers → Apart (s, j, r)
   caused_now all count j r from to =
       let size = told_size all in
-      let allowed : AllowedThen s o.group (Died h) =
-      (record {
-        own = o.start;
-        other = named.died.other;
-        theirs = named.died.theirs;
-        has = record { deaths = dead.deaths; is = began_own };
-        named = start_then named.died.other named.died.theirs h named.died.named;
-        another = named.died.another;
-        one_phase = named.died.one_phase;
-        older = subst (λ (n : ℕ). h < n) (kept.locks_consistent.once s o.group named.died.own o.start named.died.has has) named.died.older;
-        clash = named.died.clash;
-      }, omega (arith, count, length-append (deaths_of m s o) (h ∷ []), ap (λ (ds : List ℕ). length ds) deaths_are)) in
+      let allowed : AllowedThen s o.group (Died h) = (
+        record {
+          own = o.start;
+          other = named.died.other;
+          theirs = named.died.theirs;
+          has = record { deaths = dead.deaths; is = began_own };
+          named = start_then named.died.other named.died.theirs h named.died.named;
+          another = named.died.another;
+          one_phase = named.died.one_phase;
+          older = subst (λ (n : ℕ). h < n) (kept.locks_consistent.once s o.group named.died.own o.start named.died.has has) named.died.older;
+          clash = named.died.clash;
+        },
+        omega (arith, count, length-append (deaths_of m s o) (h ∷ []), ap (λ (ds : List ℕ). length ds) deaths_are),
+      ) in
       let told : replies_to after.told s o.group ≡ told_all =
       ap (part o.group.0 o.group.1) (told_here m s answers place.0 place.1)
       ∙ (part_behind o.group.0 o.group.1 (told_at m s) answers own_next (omega (arith, size, own_next)) ∙ all) in

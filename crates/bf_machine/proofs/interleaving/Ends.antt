@@ -1,7 +1,5 @@
 -- Commit and abort keep all.
-use Rattle.std.proofs.Common.{◌≡◌, ◌⊎◌, ℕ, ◌+◌, ◌-◌, ◌≤◌, Bool, true, false, List, [], ◌∷◌, ◌++◌, length, map, Some, refl, sym, ap, subst, ◌∙◌, arith, inl, inr}
-use Rattle.bf_locks.specs.declared.mode.Mode.{Mode}
-use Rattle.bf_locks.specs.declared.name.LockName.{LockName}
+use Rattle.std.proofs.Common.{◌≡◌, ◌⊎◌, ℕ, ◌+◌, ◌≤◌, Bool, true, false, List, [], ◌∷◌, ◌++◌, length, map, Some, refl, sym, ap, subst, ◌∙◌, arith, inr}
 use Rattle.bf_tree.specs.declared.history.Outcome.{Outcome}
 use Rattle.bf_tree.specs.declared.history.Outcome.TheVariants.{Committed, RolledBack}
 use Rattle.bf_tree.specs.declared.history.Entry.{Entry}
@@ -9,14 +7,14 @@ use Rattle.bf_tree.specs.declared.reply.Reply.{Reply}
 use Rattle.bf_tree.specs.declared.reply.Reply.TheVariants as reply
 use Rattle.bf_tree.specs.declared.statement.Statement.{Statement}
 use Rattle.bf_tree.specs.declared.statement.Statement.TheVariants.{Commit, Rollback}
-use Rattle.bf_sql.specs.Database.{Database, IsDatabase}
-use Rattle.bf_sql.specs.Groups.{commits, ends_block, outcome_by, session_at}
+use Rattle.bf_sql.specs.Database.{Database}
+use Rattle.bf_sql.specs.Groups.{ends_block, outcome_by, session_at}
 use Rattle.bf_sql.specs.History.{run_group}
 use Rattle.bf_sql.specs.Meaning.{executed}
 use Rattle.bf_machine.specs.interleaving.Groups.{left_by}
 use Rattle.bf_machine.specs.interleaving.Machines.{Open, Machine, open_at, told_at, answered_in}
 use Rattle.bf_machine.specs.interleaving.Kept.{IsKept, HistoryLegal, OpenGroupsReplay}
-use Rattle.bf_machine.specs.interleaving.Events.{Commits, Aborts, committed, ended, entry_of, rolled_back, commits_behind, text_of, rest_of}
+use Rattle.bf_machine.specs.interleaving.Events.{Commits, Aborts, ended, entry_of, commits_behind, text_of, rest_of}
 use Rattle.bf_machine.proofs.interleaving.Entries.{length-run_group}
 use Rattle.bf_machine.proofs.interleaving.Legal.{died_more, end_keeps_legal}
 use Rattle.bf_machine.proofs.interleaving.Opens.{commit_keeps_open, unchanged_keeps_open}

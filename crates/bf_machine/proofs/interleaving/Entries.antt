@@ -1,11 +1,11 @@
 -- A history with one more entry.
-use Rattle.std.proofs.Common.{◌≡◌, ◌≢◌, ◌⊎◌, ℕ, zero, suc, ◌+◌, ◌-◌, ◌<◌, ◌≤◌, Bool, true, false, not, ◌&&◌, ◌||◌, ◌==◌, nat_lt, nat_le, IsTrue, cond, List, [], ◌∷◌, ◌++◌, length, map, take, drop, Option, Some, None, refl, sym, ap, ap₂, subst, ◌∙◌, arith, inl, inr, append_assoc, length-append}
+use Rattle.std.proofs.Common.{◌≡◌, ℕ, zero, suc, ◌+◌, ◌-◌, ◌≤◌, Bool, true, false, ◌&&◌, ◌==◌, nat_le, List, [], ◌∷◌, ◌++◌, length, map, drop, refl, sym, ap, ap₂, subst, ◌∙◌, arith, inl, inr, append_assoc}
 use Rattle.std.specs.Prelude.{Contains}
-use Rattle.std.specs.List.{AllByRecursion, list_any, list_all}
-use Rattle.std.proofs.lemmas.Bool.{and_from, and_parts, or_left, or_right, cases_Bool}
+use Rattle.std.specs.List.{list_any, list_all}
+use Rattle.std.proofs.lemmas.Bool.{or_left, or_right, cases_Bool}
 use Rattle.std.proofs.lemmas.Bool.Decides.{nat_tests}
 use Rattle.std.proofs.Math.Seq.{drop-append_seam, take-length}
-use Rattle.std.proofs.lemmas.List.{append-nil, map-append, take-append-le, drop-append-le, length-drop}
+use Rattle.std.proofs.lemmas.List.{append-nil, take-append-le, drop-append-le, length-drop}
 use Rattle.std.proofs.lemmas.List.Folds.{list_all-append}
 use Rattle.bf_base.specs.Lists.{part, with_before_from}
 use Rattle.bf_tree.specs.declared.history.Entry.{Entry}
@@ -15,7 +15,7 @@ use Rattle.bf_tree.specs.declared.script.Script.{Script}
 use Rattle.bf_tree.specs.declared.statement.Statement.{Statement}
 use Rattle.bf_tree.specs.declared.reply.Reply.{Reply}
 use Rattle.bf_sql.specs.Database.{Database}
-use Rattle.bf_sql.specs.Groups.{session_at, groups_in, statements_of, commits, outcome_by, outcomes_from}
+use Rattle.bf_sql.specs.Groups.{groups_in, statements_of, commits, outcome_by, outcomes_from}
 use Rattle.bf_sql.specs.History.{is_whole_group, may_precede, commits_with, replayed_behind, run_group, settled}
 use Rattle.bf_sql.specs.Meaning.{executed}
 use Rattle.bf_machine.specs.interleaving.Events.{commits_behind}

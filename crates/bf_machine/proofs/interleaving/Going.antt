@@ -1,28 +1,25 @@
 -- Exec and a granted lock keep all.
-use Rattle.std.proofs.Common.{◌≡◌, ◌≢◌, ◌⊎◌, ℕ, zero, suc, ◌+◌, ◌-◌, ◌<◌, ◌≤◌, Bool, true, false, IsTrue, if◌then◌else◌, List, [], ◌∷◌, ◌++◌, length, drop, take, Option, Some, None, refl, sym, ap, ap₂, subst, ◌∙◌, arith, inl, inr}
+use Rattle.std.proofs.Common.{◌≡◌, ◌≢◌, ℕ, zero, suc, ◌-◌, ◌≤◌, Bool, true, false, if◌then◌else◌, List, [], ◌∷◌, length, drop, take, Some, None, refl, sym, ap, subst, ◌∙◌, arith, inl, inr}
 use Rattle.std.specs.Prelude.{Contains, nat_lt}
 use Rattle.std.specs.Option.{option_map_or}
-use Rattle.std.specs.List.{AllByRecursion, slice_index_or, slice_set}
-use Rattle.std.proofs.Math.Seq.{take-length}
+use Rattle.std.specs.List.{AllByRecursion}
 use Rattle.std.proofs.lemmas.Bool.{cases_eq}
 use Rattle.std.proofs.lemmas.Bool.Decides.{nat_tests}
 use Rattle.std.proofs.lemmas.List.{length-set}
 use Rattle.bf_locks.specs.declared.answer.LockAnswer.TheVariants.{Granted, Wait}
 use Rattle.bf_locks.specs.declared.mode.Mode.{Mode}
 use Rattle.bf_locks.specs.declared.name.LockName.{LockName}
-use Rattle.bf_locks.specs.Locks.{Locks, held, wanted, Conflicts, IsJudged, after as after_grant}
+use Rattle.bf_locks.specs.Locks.{held, wanted, IsJudged, after as after_grant}
 use Rattle.bf_locks.specs.Modes.{join_of}
 use Rattle.bf_locks.proofs.Held.{insert_cases, consistent_granted}
 use Rattle.bf_tree.specs.declared.history.Entry.{Entry}
-use Rattle.bf_tree.specs.declared.reply.Reply.{Reply}
 use Rattle.bf_tree.specs.declared.statement.Statement.{Statement}
 use Rattle.bf_sql.specs.Database.{Database}
-use Rattle.bf_sql.specs.Groups.{ends_block}
 use Rattle.bf_sql.specs.History.{replayed}
 use Rattle.bf_machine.specs.interleaving.Groups.{footprint_in}
 use Rattle.bf_machine.proofs.interleaving.Texts.{AreTexts}
-use Rattle.bf_machine.specs.interleaving.Machines.{Group, Began, Open, Machine, open_at, told_at, began_at}
-use Rattle.bf_machine.specs.interleaving.Kept.{IsKept, HasBegun, HistoryLegal, OpenGroupsReplay, LocksConsistent, CausesAllowed, DeathsAllowed, HasStart, IsCurrent, IsJoin, wanted as is_wanted, joined, SomeOf, Wants}
+use Rattle.bf_machine.specs.interleaving.Machines.{Group, Began, Open, Machine, open_at}
+use Rattle.bf_machine.specs.interleaving.Kept.{IsKept, OpenGroupsReplay, LocksConsistent, DeathsAllowed, HasStart, IsCurrent, IsJoin, wanted as is_wanted, joined, SomeOf, Wants}
 use Rattle.bf_machine.specs.interleaving.Events.{Executes, Asks, with_open, stepped, stands_inside, rest_of, text_of}
 use Rattle.bf_machine.proofs.interleaving.Places.{set_same, set_other}
 use Rattle.bf_machine.proofs.interleaving.Opens.{answer_keeps_open, exec_keeps_open}
@@ -45,13 +42,15 @@ module _ (start : Database) (m : Machine) (kept : IsKept start m) (s : ℕ) (o :
 
     current_then : (t : ℕ) → IsCurrent m t → IsCurrent after t
     current_then t current = λ u before.
-        let was = current u before in
-        (was.0, elim (cases_eq u s) as (λ _. open_at after u ≡ None) [
-          | inl same ↦
-              let clash : None ≡ Some o = sym was.1 ∙ (ap (open_at m) same ∙ there) in
-              absurd cc
-          | inr apart ↦ elsewhere u apart ∙ was.1
-        ])
+        let was = current u before in (
+          was.0,
+          elim (cases_eq u s) as (λ _. open_at after u ≡ None) [
+            | inl same ↦
+                let clash : None ≡ Some o = sym was.1 ∙ (ap (open_at m) same ∙ there) in
+                absurd cc
+            | inr apart ↦ elsewhere u apart ∙ was.1
+          ],
+        )
 
     turns_then : (history : List Entry) → AllByRecursion (λ d. IsCurrent m d.session) history → AllByRecursion (λ d. IsCurrent after d.session) history
     turns_then [] turns = tt
@@ -84,8 +83,8 @@ module _ (start : Database) (m : Machine) (kept : IsKept start m) (s : ℕ) (o :
       sessions_differ = was.sessions_differ;
       ended = was.ended;
       last_ended = λ i t g q is_open is below has.
-      let before = was_open b.session q is_open in
-      was.last_ended i t g before.was before.is (sym before.start_so ∙ is) below has;
+          let before = was_open b.session q is_open in
+          was.last_ended i t g before.was before.is (sym before.start_so ∙ is) below has;
       later = was.later;
       most = was.most;
       retried = was.retried;
@@ -95,21 +94,25 @@ module _ (start : Database) (m : Machine) (kept : IsKept start m) (s : ℕ) (o :
     locks_then = record {
       apart = kept.locks_consistent.apart;
       owners = λ name owner mode is.
-      let was = kept.locks_consistent.owners name owner mode is in
-      elim (cases_eq was.0 s) as (λ _. (t : ℕ) × (q : Open) × (open_at after t ≡ Some q) × (q.start ≡ owner) × IsJoin start m.script m.history t q.group name mode) [
-        | inl same ↦
-            let both : Some was.1 ≡ Some o = sym was.2 ∙ (ap (open_at m) same ∙ there) in
-            let one : was.1 ≡ o = cc in
-            let group : was.1.group ≡ p.group = ap (λ (q : Open). q.group) one ∙ sym groups in
-            (s, p, here, starts ∙ (ap (λ (q : Open). q.start) (sym one) ∙ was.3),
-            subst (λ (t : ℕ). IsJoin start m.script m.history t p.group name mode) same
-            (subst (λ (g : Group). IsJoin start m.script m.history was.0 g name mode) group was.4))
-        | inr apart ↦ (was.0, was.1, elsewhere was.0 apart ∙ was.2, was.3, was.4)
-      ];
+          let was = kept.locks_consistent.owners name owner mode is in
+          elim (cases_eq was.0 s) as (λ _. (t : ℕ) × (q : Open) × (open_at after t ≡ Some q) × (q.start ≡ owner) × IsJoin start m.script m.history t q.group name mode) [
+            | inl same ↦
+                let both : Some was.1 ≡ Some o = sym was.2 ∙ (ap (open_at m) same ∙ there) in
+                let one : was.1 ≡ o = cc in
+                let group : was.1.group ≡ p.group = ap (λ (q : Open). q.group) one ∙ sym groups in (
+                  s,
+                  p,
+                  here,
+                  starts ∙ (ap (λ (q : Open). q.start) (sym one) ∙ was.3),
+                  subst (λ (t : ℕ). IsJoin start m.script m.history t p.group name mode) same
+                      (subst (λ (g : Group). IsJoin start m.script m.history was.0 g name mode) group was.4),
+                )
+            | inr apart ↦ (was.0, was.1, elsewhere was.0 apart ∙ was.2, was.3, was.4)
+          ];
       starts = λ t q is_open.
-      let before = was_open t q is_open in
-      subst (λ (n : ℕ). HasStart m.began t q.group n) (sym before.start_so)
-      (subst (λ (g : Group). HasStart m.began t g before.was.start) (sym before.group_so) (kept.locks_consistent.starts t before.was before.is));
+          let before = was_open t q is_open in
+          subst (λ (n : ℕ). HasStart m.began t q.group n) (sym before.start_so)
+          (subst (λ (g : Group). HasStart m.began t g before.was.start) (sym before.group_so) (kept.locks_consistent.starts t before.was before.is));
       once = kept.locks_consistent.once;
       in_turn = λ t g n has. current_then t (kept.locks_consistent.in_turn t g n has);
       begun = λ t g n has. let was = kept.locks_consistent.begun t g n has in record { whole = was.whole; goes = was.goes };
@@ -173,10 +176,14 @@ module _ (start : Database) (m : Machine) (kept : IsKept start m) (s : ℕ) (o :
             as (λ _. (t : ℕ) × (q : Open) × (open_at granted t ≡ Some q) × (q.start ≡ owner) × IsJoin start m.script m.history t q.group at mode_held) [
               | inl new ↦
                   let both : Some (wanted m.locks o.start name mode) ≡ Some mode_held = sym new.2 ∙ is in
-                  let one : wanted m.locks o.start name mode ≡ mode_held = cc in
-                  (s, o, there, sym new.1,
-                  subst (λ (n : LockName). IsJoin start m.script m.history s o.group n mode_held) (sym new.0)
-                  (subst (λ (k : Mode). IsJoin start m.script m.history s o.group name k) one joins))
+                  let one : wanted m.locks o.start name mode ≡ mode_held = cc in (
+                    s,
+                    o,
+                    there,
+                    sym new.1,
+                    subst (λ (n : LockName). IsJoin start m.script m.history s o.group n mode_held) (sym new.0)
+                        (subst (λ (k : Mode). IsJoin start m.script m.history s o.group name k) one joins),
+                  )
               | inr kept_so ↦ kept.locks_consistent.owners at owner mode_held (sym kept_so ∙ is)
             ];
         starts = kept.locks_consistent.starts;
@@ -188,15 +195,15 @@ module _ (start : Database) (m : Machine) (kept : IsKept start m) (s : ℕ) (o :
       };
       causes_allowed = record {
         deaths = λ n b is.
-        let was = kept.causes_allowed.deaths n b is in record {
-          each = was.each;
-          sessions_differ = was.sessions_differ;
-          ended = was.ended;
-          last_ended = was.last_ended;
-          later = was.later;
-          most = was.most;
-          retried = was.retried;
-        };
+            let was = kept.causes_allowed.deaths n b is in record {
+              each = was.each;
+              sessions_differ = was.sessions_differ;
+              ended = was.ended;
+              last_ended = was.last_ended;
+              later = was.later;
+              most = was.most;
+              retried = was.retried;
+            };
       };
     }
 

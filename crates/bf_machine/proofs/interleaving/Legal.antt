@@ -1,34 +1,32 @@
 -- A group's end keeps the history legal.
-use Rattle.std.proofs.Common.{◌≡◌, ◌≢◌, ◌⊎◌, ℕ, zero, suc, ◌+◌, ◌-◌, ◌<◌, ◌≤◌, Bool, true, false, not, ◌&&◌, ◌||◌, ◌==◌, nat_lt, nat_le, IsTrue, List, [], ◌∷◌, ◌++◌, length, map, filter, take, drop, Option, Some, None, refl, sym, ap, ap₂, subst, ◌∙◌, arith, inl, inr, length-append}
-use Rattle.std.specs.Prelude.{Contains, find, min}
-use Rattle.std.specs.List.{AllByRecursion, list_any, list_all, slice_index_or, slice_set}
+use Rattle.std.proofs.Common.{◌≡◌, ℕ, ◌+◌, ◌-◌, ◌<◌, ◌≤◌, Bool, true, false, not, ◌&&◌, ◌||◌, ◌==◌, nat_lt, nat_le, List, [], ◌∷◌, ◌++◌, length, map, filter, take, Some, None, refl, sym, ap, ap₂, subst, ◌∙◌, arith, inl, inr}
+use Rattle.std.specs.Prelude.{Contains, min}
+use Rattle.std.specs.List.{AllByRecursion, list_any, list_all}
 use Rattle.std.proofs.lemmas.Bool.{cases_eq, cases_Bool, false≢true, or_left, or_right, and_from}
 use Rattle.std.proofs.lemmas.Bool.Decides.{nat_tests}
-use Rattle.std.proofs.lemmas.List.{length-map, map-append, take-append-le, take_min, length-take, length-drop}
+use Rattle.std.proofs.lemmas.List.{map-append, take-append-le, take_min}
 use Rattle.std.proofs.lemmas.List.Folds.{list_any-append}
-use Rattle.bf_base.specs.Lists.{part, with_before}
+use Rattle.bf_base.specs.Lists.{part}
 use Rattle.bf_locks.specs.declared.mode.Mode.{Mode}
 use Rattle.bf_locks.specs.declared.name.LockName.{LockName}
 use Rattle.bf_tree.specs.declared.history.Entry.{Entry}
 use Rattle.bf_tree.specs.declared.history.Outcome.{Outcome}
 use Rattle.bf_tree.specs.declared.reply.Cause.{Cause}
-use Rattle.bf_tree.specs.declared.reply.Cause.TheVariants.{Died, DiskFault, Halted, LogFull, TooLarge}
+use Rattle.bf_tree.specs.declared.reply.Cause.TheVariants.{Died}
 use Rattle.bf_tree.specs.declared.reply.Reply.{Reply}
-use Rattle.bf_tree.specs.declared.reply.Reply.TheVariants.{Ended}
 use Rattle.bf_tree.specs.declared.script.Script.{Script}
-use Rattle.bf_tree.specs.declared.statement.Statement.{Statement}
 use Rattle.bf_sql.specs.Database.{Database, IsDatabase}
 use Rattle.bf_sql.specs.Groups.{session_at, groups_in, statements_in, statements_of, has_statement, commits, outcome_by}
-use Rattle.bf_sql.specs.History.{IsLegalHistory, IsApart, IsEndedBy, replayed, replayed_behind, settled, commits_with, told, replies_to, stands_in, may_precede, is_whole_group}
+use Rattle.bf_sql.specs.History.{IsApart, replayed, settled, commits_with, told, stands_in, may_precede}
 use Rattle.bf_machine.specs.interleaving.Groups.{footprint_in}
 use Rattle.bf_machine.proofs.interleaving.Texts.{AreTexts}
-use Rattle.bf_machine.specs.interleaving.Machines.{Group, Began, Open, Machine, open_at, told_at, answered_in}
+use Rattle.bf_machine.specs.interleaving.Machines.{Group, Began, Open, Machine, open_at, told_at}
 use Rattle.bf_machine.specs.InOrder.{none_open}
 use Rattle.bf_machine.specs.interleaving.Kept.{IsKept, IsOpenGroup, HistoryLegal, IsAllowed, DiedFor, Clash, Wants, SomeOf, IsCurrent, phase_of}
-use Rattle.bf_machine.specs.interleaving.Events.{ended, entry_of, commits_behind, text_of, rest_of}
+use Rattle.bf_machine.specs.interleaving.Events.{ended, entry_of, commits_behind, text_of}
 use Rattle.bf_machine.proofs.interleaving.Answers.{Told, told_from, none_kept}
 use Rattle.bf_machine.proofs.interleaving.Entries.{whole_end, in_order_end, outcomes_end, part_behind, replayed-end}
-use Rattle.bf_machine.proofs.interleaving.Places.{set_same, set_other, from_one}
+use Rattle.bf_machine.proofs.interleaving.Places.{set_same, set_other}
 use Rattle.bf_machine.proofs.interleaving.Telling.{apart_still, entries_alike, grows, length-part, others_told, size_here, told_here}
 use Rattle.bf_machine.proofs.interleaving.Others.{has_place}
 
@@ -38,10 +36,11 @@ module _ (start : Database) (script : Script) (history : List Entry) (e : Entry)
   prefix_alike k = take-append-le (min k (length history)) history (e ∷ []) (omega arith) ∙ take_min k history
 
   pub wants_more : (s : ℕ) (group : Group) (name : LockName) (mode : Mode) → Wants start script history s group name mode → Wants start script (history ++ e ∷ []) s group name mode
-  wants_more s group name mode wants =
-      (min wants.0 (length history),
-      subst (λ (front : List Entry). SomeOf (λ inner statement. Contains (footprint_in (replayed script start front).1 inner statement) (name, mode)) false (statements_in script s group))
-      (sym (prefix_alike wants.0)) wants.1)
+  wants_more s group name mode wants = (
+    min wants.0 (length history),
+    subst (λ (front : List Entry). SomeOf (λ inner statement. Contains (footprint_in (replayed script start front).1 inner statement) (name, mode)) false (statements_in script s group))
+        (sym (prefix_alike wants.0)) wants.1,
+  )
 
   pub clash_more : (s : ℕ) (one : Group) (t : ℕ) (other : Group) → Clash start script history s one t other → Clash start script (history ++ e ∷ []) s one t other
   clash_more s one t other clash = record {
@@ -135,6 +134,7 @@ module _ (start : Database) (m : Machine) (kept : IsKept start m) (texts : AreTe
             let clash : None ≡ Some o = sym closed ∙ there in
             absurd cc
       ]
+
       by_text_order : (not (d.session == s) || nat_lt d.last o.group.0) ≡ true
       by_text_order = elim (cases_eq d.session s) as (λ _. (not (d.session == s) || nat_lt d.last o.group.0) ≡ true) [
         | inl same ↦
@@ -145,6 +145,7 @@ module _ (start : Database) (m : Machine) (kept : IsKept start m) (texts : AreTe
             let out : (d.session == s) ≡ false = grind (arith, nat_tests) in
             rw out refl
       ]
+
       here : may_precede m.script d e ≡ true
       here = and_from _ _ by_text_order in_phase
 

@@ -1,18 +1,15 @@
 -- A new machine has all that is kept.
-use Rattle.std.proofs.Common.{◌≡◌, ℕ, zero, suc, ◌+◌, List, [], ◌∷◌, length, map, filter, Option, Some, None, Bool, refl, sym, ap, subst, ◌∙◌}
-use Rattle.std.specs.FinMap as fin
+use Rattle.std.proofs.Common.{◌≡◌, ℕ, zero, suc, ◌+◌, List, [], ◌∷◌, map, Some, None, refl, sym, ◌∙◌}
 use Rattle.std.specs.FinMap.{get-empty}
-use Rattle.std.specs.List.{AllByRecursion, slice_index_or}
+use Rattle.std.specs.List.{slice_index_or}
 use Rattle.std.proofs.lemmas.List.{length-map}
-use Rattle.bf_locks.specs.declared.mode.Mode.{Mode}
 use Rattle.bf_locks.specs.Locks.{holding_cmp}
 use Rattle.bf_locks.proofs.Held.{consistent_empty}
-use Rattle.bf_tree.specs.declared.reply.Reply.{Reply}
 use Rattle.bf_tree.specs.declared.script.Script.{Script}
 use Rattle.bf_tree.specs.declared.script.Session.{Session}
 use Rattle.bf_sql.specs.Database.{Database, IsDatabase}
-use Rattle.bf_machine.specs.interleaving.Machines.{Began, Open, Machine, began_at}
-use Rattle.bf_machine.specs.interleaving.Kept.{IsKept, HasStart, fresh, no_group, no_replies}
+use Rattle.bf_machine.specs.interleaving.Machines.{Began, began_at}
+use Rattle.bf_machine.specs.interleaving.Kept.{IsKept, fresh, no_group, no_replies}
 use Rattle.bf_machine.proofs.interleaving.Answers.{told_from}
 
 none_told : (k : ℕ) (sessions : List Session) → told_from k (map no_replies sessions) ≡ []

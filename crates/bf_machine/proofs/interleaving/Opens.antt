@@ -1,5 +1,5 @@
 -- What each open group has come to stays through each event.
-use Rattle.std.proofs.Common.{◌≡◌, ◌≢◌, ◌⊎◌, ℕ, suc, ◌+◌, ◌-◌, ◌≤◌, Bool, false, List, [], ◌∷◌, ◌++◌, length, Option, Some, None, refl, sym, ap, subst, ◌∙◌, arith, inl, inr, length-append}
+use Rattle.std.proofs.Common.{◌≡◌, ◌≢◌, ℕ, ◌+◌, ◌-◌, ◌≤◌, false, List, [], ◌∷◌, ◌++◌, length, Option, Some, None, refl, sym, ap, subst, ◌∙◌, arith, inl, inr, length-append}
 use Rattle.std.specs.Prelude.{slice_set, Contains}
 use Rattle.std.proofs.lemmas.Bool.{cases_eq}
 use Rattle.std.proofs.lemmas.List.{length-drop}
@@ -12,12 +12,12 @@ use Rattle.bf_tree.specs.declared.history.Entry.{Entry}
 use Rattle.bf_tree.specs.declared.reply.Reply.{Reply}
 use Rattle.bf_tree.specs.declared.statement.Statement.{Statement}
 use Rattle.bf_sql.specs.Bound.{bound_of}
-use Rattle.bf_sql.specs.Database.{Database, IsDatabase}
+use Rattle.bf_sql.specs.Database.{Database}
 use Rattle.bf_sql.specs.Footprints.{footprint_of}
-use Rattle.bf_sql.specs.Groups.{ends_block, groups_in, statements_in}
-use Rattle.bf_live.specs.OpenGroups.{Holds, HoldsIn}
+use Rattle.bf_sql.specs.Groups.{ends_block, groups_in}
+use Rattle.bf_live.specs.OpenGroups.{Holds}
 use Rattle.bf_live.proofs.locking.Granting.{answer_keeps, freeing_keeps}
-use Rattle.bf_machine.specs.interleaving.Groups.{Pending, Rows, HasRun, left_by}
+use Rattle.bf_machine.specs.interleaving.Groups.{HasRun, left_by}
 use Rattle.bf_machine.specs.interleaving.Machines.{Group, Began, Open, Machine, open_at, told_at, answered_in}
 use Rattle.bf_machine.specs.interleaving.Kept.{IsKept, IsOpenGroup, OpenGroupsReplay}
 use Rattle.bf_machine.specs.interleaving.Events.{ended, with_open, stepped, opened, stands_inside, text_of, rest_of}
@@ -49,16 +49,16 @@ module _ (start : Database) (m : Machine) (kept : IsKept start m) (s : ℕ) wher
     pub one_keeps_open : IsOpenGroup start with_one s o → OpenGroupsReplay start with_one
     one_keeps_open new = record {
       each = λ t p is_open.
-      elim (cases_eq t s) as (λ _. IsOpenGroup start with_one t p) [
-        | inl same ↦
-            let now : Some o ≡ Some p = sym (set_same None None m.opens s (Some o) low high) ∙ (ap (open_at with_one) (sym same) ∙ is_open) in
-            let it : o ≡ p = cc in
-            subst (λ (t : ℕ). IsOpenGroup start with_one t p) (sym same) (subst (λ (p : Open). IsOpenGroup start with_one s p) it new)
-        | inr apart ↦
-            let was : open_at m t ≡ Some p = sym (set_other None None m.opens s t (Some o) low apart) ∙ is_open in
-            let other = kept.open_groups_replay.each t p was in
-            stays start m m.db m.locks began (slice_set m.opens (s - 1) (Some o)) m.told m.history t p refl other.run other
-      ];
+          elim (cases_eq t s) as (λ _. IsOpenGroup start with_one t p) [
+            | inl same ↦
+                let now : Some o ≡ Some p = sym (set_same None None m.opens s (Some o) low high) ∙ (ap (open_at with_one) (sym same) ∙ is_open) in
+                let it : o ≡ p = cc in
+                subst (λ (t : ℕ). IsOpenGroup start with_one t p) (sym same) (subst (λ (p : Open). IsOpenGroup start with_one s p) it new)
+            | inr apart ↦
+                let was : open_at m t ≡ Some p = sym (set_other None None m.opens s t (Some o) low apart) ∙ is_open in
+                let other = kept.open_groups_replay.each t p was in
+                stays start m m.db m.locks began (slice_set m.opens (s - 1) (Some o)) m.told m.history t p refl other.run other
+          ];
     }
 
   -- EXEC
@@ -94,10 +94,10 @@ module _ (start : Database) (m : Machine) (kept : IsKept start m) (s : ℕ) wher
   pub answer_keeps_open : (owner : ℕ) (name : LockName) (mode : Mode) (answer : LockAnswer) → OpenGroupsReplay start (record m { locks = locks_after m.locks owner name mode answer })
   answer_keeps_open owner name mode answer = record {
     each = λ t p is_open.
-    let group = kept.open_groups_replay.each t p is_open in
-    let locks = locks_after m.locks owner name mode answer in
-    stays start m m.db locks m.began m.opens m.told m.history t p refl
-    (run_under m.locks locks p.start m.db (answered_in m.script t p) p.pending (λ at mode_held holds. answer_keeps m.locks owner p.start name at mode mode_held answer holds) group.run) group;
+        let group = kept.open_groups_replay.each t p is_open in
+        let locks = locks_after m.locks owner name mode answer in
+        stays start m m.db locks m.began m.opens m.told m.history t p refl
+        (run_under m.locks locks p.start m.db (answered_in m.script t p) p.pending (λ at mode_held holds. answer_keeps m.locks owner p.start name at mode mode_held answer holds) group.run) group;
   }
 
   -- ENDED, by a commit, an abort or a death: the others stay, where what they have come to is right on the next database
@@ -109,21 +109,21 @@ module _ (start : Database) (m : Machine) (kept : IsKept start m) (s : ℕ) wher
     pub end_keeps_open : OpenGroupsReplay start after
     end_keeps_open = record {
       each = λ t p is_open.
-      let place = has_place m s o there in
-      elim (cases_eq t s) as (λ _. IsOpenGroup start after t p) [
-        | inl same ↦
-            let none : open_at after t ≡ None = ap (open_at after) same ∙ set_same None None m.opens s None place.0 place.1 in
-            let clash : None ≡ Some p = sym none ∙ is_open in
-            absurd cc
-        | inr apart ↦
-            let was : open_at m t ≡ Some p = sym (set_other None None m.opens s t None place.0 apart) ∙ is_open in
-            let group = kept.open_groups_replay.each t p was in
-            let starts : p.start ≢ o.start = starts_differ m.began s t o.group p.group o.start p.start apart (kept.locks_consistent.starts t p was) (kept.locks_consistent.starts s o there) in
-            let locks = without_owner m.locks o.start in
-            stays start m db locks began (slice_set m.opens (s - 1) None) (slice_set m.told (s - 1) (told_at m s ++ answers)) history t p
-            (set_other [] [] m.told s t (told_at m s ++ answers) place.0 apart)
-            (run_under m.locks locks p.start db (answered_in m.script t p) p.pending (λ name mode holds. freeing_keeps m.locks o.start p.start name mode starts holds) (others t p starts was)) group
-      ];
+          let place = has_place m s o there in
+          elim (cases_eq t s) as (λ _. IsOpenGroup start after t p) [
+            | inl same ↦
+                let none : open_at after t ≡ None = ap (open_at after) same ∙ set_same None None m.opens s None place.0 place.1 in
+                let clash : None ≡ Some p = sym none ∙ is_open in
+                absurd cc
+            | inr apart ↦
+                let was : open_at m t ≡ Some p = sym (set_other None None m.opens s t None place.0 apart) ∙ is_open in
+                let group = kept.open_groups_replay.each t p was in
+                let starts : p.start ≢ o.start = starts_differ m.began s t o.group p.group o.start p.start apart (kept.locks_consistent.starts t p was) (kept.locks_consistent.starts s o there) in
+                let locks = without_owner m.locks o.start in
+                stays start m db locks began (slice_set m.opens (s - 1) None) (slice_set m.told (s - 1) (told_at m s ++ answers)) history t p
+                (set_other [] [] m.told s t (told_at m s ++ answers) place.0 apart)
+                (run_under m.locks locks p.start db (answered_in m.script t p) p.pending (λ name mode holds. freeing_keeps m.locks o.start p.start name mode starts holds) (others t p starts was)) group
+          ];
     }
 
   module _ (o : Open) (there : open_at m s ≡ Some o) (answers : List Reply) (began : List Began) (history : List Entry) where

@@ -1,22 +1,21 @@
 -- A COMMIT or ROLLBACK in no group keeps all.
-use Rattle.std.proofs.Common.{◌≡◌, ◌≢◌, ◌⊎◌, ℕ, zero, suc, ◌+◌, ◌-◌, ◌<◌, ◌≤◌, Bool, true, false, not, ◌&&◌, ◌||◌, cond, List, [], ◌∷◌, ◌++◌, length, map, filter, Option, Some, None, refl, sym, ap, ap₂, subst, ◌∙◌, arith, inl, inr, length-append}
+use Rattle.std.proofs.Common.{◌≡◌, ◌≢◌, ◌⊎◌, ℕ, ◌+◌, ◌-◌, ◌≤◌, Bool, true, false, not, ◌&&◌, ◌||◌, cond, List, [], ◌∷◌, ◌++◌, length, filter, Some, None, refl, sym, ap, subst, ◌∙◌, arith, inl, inr}
 use Rattle.std.specs.Prelude.{Contains}
-use Rattle.std.specs.List.{AllByRecursion, list_any, slice_index_or, slice_set}
+use Rattle.std.specs.List.{AllByRecursion, list_any, slice_set}
 use Rattle.std.proofs.lemmas.Bool.{and_parts, cases_eq, false≢true}
 use Rattle.std.proofs.lemmas.Bool.Decides.{nat_tests}
-use Rattle.std.proofs.lemmas.List.{length-map, length-set}
-use Rattle.bf_base.specs.Lists.{part}
+use Rattle.std.proofs.lemmas.List.{length-set}
 use Rattle.bf_tree.specs.declared.history.Entry.{Entry}
 use Rattle.bf_tree.specs.declared.reply.Cause.{Cause}
 use Rattle.bf_tree.specs.declared.reply.Refusal.TheVariants.{NoTransaction}
 use Rattle.bf_tree.specs.declared.reply.Reply.{Reply}
-use Rattle.bf_tree.specs.declared.reply.Reply.TheVariants.{Refused, Ended}
+use Rattle.bf_tree.specs.declared.reply.Reply.TheVariants.{Refused}
 use Rattle.bf_sql.specs.Database.{Database}
-use Rattle.bf_sql.specs.Groups.{session_at, ends_block, groups_in, statements_in, has_statement, is_stray}
-use Rattle.bf_sql.specs.History.{IsApart, replies_to, stands_in, told}
+use Rattle.bf_sql.specs.Groups.{ends_block, groups_in, statements_in, has_statement, is_stray}
+use Rattle.bf_sql.specs.History.{IsApart, stands_in}
 use Rattle.bf_machine.proofs.interleaving.Texts.{AreTexts}
-use Rattle.bf_machine.specs.interleaving.Machines.{Group, Began, Open, Machine, open_at, told_at, answered_in}
-use Rattle.bf_machine.specs.interleaving.Kept.{IsKept, IsOpenGroup, HistoryLegal, OpenGroupsReplay, LocksConsistent, DeathsAllowed, HasBegun, HasEnded, IsAllowed, IsCurrent}
+use Rattle.bf_machine.specs.interleaving.Machines.{Group, Open, Machine, open_at, told_at}
+use Rattle.bf_machine.specs.interleaving.Kept.{IsKept, HasBegun, HasEnded, IsAllowed, IsCurrent}
 use Rattle.bf_machine.specs.InOrder.{none_open}
 use Rattle.bf_machine.specs.interleaving.Events.{Refuses}
 use Rattle.bf_machine.proofs.interleaving.Answers.{Told, told_from, told_in}
@@ -104,8 +103,8 @@ module _ (start : Database) (m : Machine) (kept : IsKept start m) (texts : AreTe
     };
     open_groups_replay = record {
       each = λ t p is_open.
-      let group = kept.open_groups_replay.each t p is_open in
-      stays start m m.db m.locks m.began m.opens (slice_set m.told (s - 1) (told_at m s ++ more)) m.history t p (told_there m s more low high t (not_open t p is_open)) group.run group;
+          let group = kept.open_groups_replay.each t p is_open in
+          stays start m m.db m.locks m.began m.opens (slice_set m.told (s - 1) (told_at m s ++ more)) m.history t p (told_there m s more low high t (not_open t p is_open)) group.run group;
     };
     locks_consistent = record {
       apart = kept.locks_consistent.apart;
@@ -119,18 +118,18 @@ module _ (start : Database) (m : Machine) (kept : IsKept start m) (texts : AreTe
     };
     causes_allowed = record {
       deaths = λ n b is.
-      let was = kept.causes_allowed.deaths n b is in record {
-        each = was.each;
-        sessions_differ = was.sessions_differ;
-        ended = λ i t g below has. omega (arith, was.ended i t g below has, grows m s more low high t);
-        last_ended = λ i t g p is_open at below has. omega (arith, was.last_ended i t g p is_open at below has, grows m s more low high t);
-        later = was.later;
-        most = was.most;
-        retried = elim was.retried as (λ _. (length b.deaths ≤ m.retries) ⊎ HasEnded after b.session b.group) [
-          | inl few ↦ inl few
-          | inr has_ended ↦ inr (omega (arith, has_ended, grows m s more low high b.session))
-        ];
-      };
+          let was = kept.causes_allowed.deaths n b is in record {
+            each = was.each;
+            sessions_differ = was.sessions_differ;
+            ended = λ i t g below has. omega (arith, was.ended i t g below has, grows m s more low high t);
+            last_ended = λ i t g p is_open at below has. omega (arith, was.last_ended i t g p is_open at below has, grows m s more low high t);
+            later = was.later;
+            most = was.most;
+            retried = elim was.retried as (λ _. (length b.deaths ≤ m.retries) ⊎ HasEnded after b.session b.group) [
+              | inl few ↦ inl few
+              | inr has_ended ↦ inr (omega (arith, has_ended, grows m s more low high b.session))
+            ];
+          };
     };
   }
 

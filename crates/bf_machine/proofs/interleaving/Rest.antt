@@ -1,7 +1,6 @@
 -- A group's end, by a commit, an abort or a death, keeps locks and causes.
-use Rattle.std.proofs.Common.{◌≡◌, ◌≢◌, ◌⊎◌, ℕ, ◌+◌, ◌-◌, ◌<◌, ◌≤◌, List, [], ◌∷◌, ◌++◌, length, Option, Some, None, refl, sym, ap, subst, ◌∙◌, arith, inl, inr, length-append}
+use Rattle.std.proofs.Common.{◌≡◌, ◌≢◌, ◌⊎◌, ℕ, ◌+◌, ◌-◌, ◌≤◌, List, [], ◌∷◌, ◌++◌, length, Some, None, sym, ap, subst, ◌∙◌, arith, inl, inr}
 use Rattle.std.specs.Prelude.{Contains}
-use Rattle.std.specs.List.{slice_index_or, slice_set}
 use Rattle.std.proofs.lemmas.Bool.{cases_eq}
 use Rattle.std.proofs.lemmas.List.{length-set}
 use Rattle.bf_locks.specs.declared.mode.Mode.{Mode}
@@ -13,8 +12,8 @@ use Rattle.bf_tree.specs.declared.reply.Reply.{Reply}
 use Rattle.bf_tree.specs.declared.script.Script.{Script}
 use Rattle.bf_sql.specs.Database.{Database}
 use Rattle.bf_sql.specs.Groups.{groups_in}
-use Rattle.bf_machine.specs.interleaving.Machines.{Group, Began, Open, Machine, open_at, told_at, began_at}
-use Rattle.bf_machine.specs.interleaving.Kept.{IsKept, IsOpenGroup, HistoryLegal, OpenGroupsReplay, LocksConsistent, CausesAllowed, DeathsAllowed, IsShaped, HasBegun, HasStart, HasEnded, DiedFor, IsCurrent, IsJoin, wanted, joined}
+use Rattle.bf_machine.specs.interleaving.Machines.{Group, Began, Open, Machine, open_at, told_at}
+use Rattle.bf_machine.specs.interleaving.Kept.{IsKept, HistoryLegal, OpenGroupsReplay, LocksConsistent, CausesAllowed, DeathsAllowed, HasBegun, HasStart, HasEnded, DiedFor, IsCurrent, IsJoin, wanted, joined}
 use Rattle.bf_machine.specs.interleaving.Events.{ended}
 use Rattle.bf_machine.proofs.interleaving.Places.{set_same, set_other}
 use Rattle.bf_machine.proofs.interleaving.Legal.{wants_more}
@@ -64,11 +63,13 @@ module _ (start : Database) (m : Machine) (kept : IsKept start m) (s : ℕ) (o :
 
   pub current_then : (t : ℕ) → IsCurrent m t → IsCurrent after t
   current_then t current = λ u before.
-      let was = current u before in
-      (omega (arith, was.0, more u), elim (cases_eq u s) as (λ _. open_at after u ≡ None) [
-        | inl same ↦ ap (open_at after) same ∙ set_same None None m.opens s None place.0 place.1
-        | inr apart ↦ set_other None None m.opens s u None place.0 apart ∙ was.1
-      ])
+      let was = current u before in (
+        omega (arith, was.0, more u),
+        elim (cases_eq u s) as (λ _. open_at after u ≡ None) [
+          | inl same ↦ ap (open_at after) same ∙ set_same None None m.opens s None place.0 place.1
+          | inr apart ↦ set_other None None m.opens s u None place.0 apart ∙ was.1
+        ],
+      )
 
   -- the next group of a session, where that is the ended one's
   next_then : (t : ℕ) (g : Group) → Contains (groups_in m.script t) g → t ≡ s → g.0 ≡ length (told_at m t) + 1 → HasEnded after t g ⊎ (g.0 ≡ length (told_at after t) + 1)

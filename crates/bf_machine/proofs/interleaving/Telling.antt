@@ -1,5 +1,5 @@
 -- What is told in one session grows.
-use Rattle.std.proofs.Common.{◌≡◌, ◌≢◌, ◌⊎◌, ℕ, suc, ◌+◌, ◌-◌, ◌≤◌, Bool, true, List, [], ◌∷◌, ◌++◌, length, map, filter, drop, Some, refl, sym, ap, ap₂, ◌∙◌, arith, inl, inr, length-append}
+use Rattle.std.proofs.Common.{◌≡◌, ◌≢◌, ℕ, suc, ◌+◌, ◌-◌, ◌≤◌, Bool, true, List, [], ◌∷◌, ◌++◌, length, map, filter, drop, Some, refl, sym, ap, ap₂, ◌∙◌, arith, inl, inr, length-append}
 use Rattle.std.specs.Prelude.{Contains, find, min}
 use Rattle.std.specs.List.{AllByRecursion, slice_index_or, slice_set}
 use Rattle.std.proofs.lemmas.Bool.{cases_Bool, cases_eq}

@@ -1,7 +1,7 @@
 -- The groups of a text lie within it, apart from one another, and each is one statement or a block.
-use Rattle.std.proofs.Common.{◌≡◌, ◌≢◌, ◌⊎◌, ℕ, zero, suc, ◌+◌, ◌-◌, ◌<◌, ◌≤◌, Bool, true, false, List, [], ◌∷◌, ◌++◌, length, Option, Some, None, refl, sym, ap, subst, ◌∙◌, arith, length-append}
-use Rattle.std.specs.Prelude.{Contains, find, cond, nat_le, ◌&&◌}
-use Rattle.std.specs.List.{AllByRecursion, slice_index_or}
+use Rattle.std.proofs.Common.{◌≡◌, ℕ, zero, suc, ◌+◌, ◌-◌, ◌≤◌, Bool, true, false, List, [], ◌∷◌, ◌++◌, length, Option, Some, None, refl, sym, ap, subst, ◌∙◌, arith, length-append}
+use Rattle.std.specs.Prelude.{Contains, find}
+use Rattle.std.specs.List.{AllByRecursion}
 use Rattle.bf_base.specs.Lists.{part}
 use Rattle.bf_tree.specs.declared.script.Script.{Script}
 use Rattle.bf_tree.specs.declared.statement.Statement.{Statement}

@@ -22,7 +22,7 @@ use Rattle.bf_sql.specs.Footprints.{footprint_of}
 use Rattle.bf_sql.specs.Groups.{groups_in, statements_in, ends_block, commits, is_stray}
 use Rattle.bf_sql.specs.History.{commits_with, replayed}
 use Rattle.bf_live.specs.OpenGroups.{Holds}
-use Rattle.bf_machine.specs.interleaving.Groups.{Pending, Rows, footprint_in, left_by, pending_behind, reply_on}
+use Rattle.bf_machine.specs.interleaving.Groups.{Rows, footprint_in, left_by, pending_behind, reply_on}
 use Rattle.bf_machine.specs.interleaving.Machines.{Group, Began, Open, Machine, open_at, told_at, began_at}
 use Rattle.bf_machine.specs.interleaving.Kept.{HasStart, HasEnded, IsCurrent}
 
