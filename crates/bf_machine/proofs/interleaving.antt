@@ -18,3 +18,4 @@ pub mod Joins
 pub mod Dying
 pub mod Reaching
 pub mod Standing
+pub mod Progress
