@@ -19,3 +19,4 @@ pub mod Dying
 pub mod Reaching
 pub mod Standing
 pub mod Progress
+pub mod Worked

@@ -3,3 +3,4 @@ pub mod Groups
 pub mod Machines
 pub mod Kept
 pub mod Events
+pub mod Examples

@@ -9,6 +9,7 @@ ghost use Rattle.bf_locks.specs.Locks.{IsJudged};
 ghost use Rattle.bf_tree.specs.declared.script.Script.{Script};
 ghost use Rattle.bf_sql.specs.Database.{Database, IsDatabase};
 ghost use Rattle.bf_machine.specs.interleaving.Events.{Aborts, Asks, Begins, Commits, Executes, LastHasEnded, Reaches, Refuses};
+ghost use Rattle.bf_machine.specs.interleaving.Examples.{YoungerIsRefused};
 ghost use Rattle.bf_machine.specs.interleaving.Kept.{HasEnded, HasStart, IsKept, TranscriptsLegal, fresh};
 ghost use Rattle.bf_machine.specs.interleaving.Machines.{Group, Machine, Open, open_at};
 
@@ -48,4 +49,10 @@ pub fn some_session_goes_on()
     ensures oldest { (start : Database) (m : Machine) (s : ℕ) (group : Group) (n : ℕ) (has : HasStart m.began s group n)
         → IsKept start m → ((t : ℕ) (other : Group) (k : ℕ) → HasStart m.began t other k → k < n → HasEnded m t other)
         → LastHasEnded m s has.deaths }
+{}
+
+/// Such machines are reached: where two sessions create one table, the younger dies for the older, begins again once
+/// that has ended, and is refused then.
+pub fn a_younger_session_is_refused()
+    ensures { YoungerIsRefused }
 {}
