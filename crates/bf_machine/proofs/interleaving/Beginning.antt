@@ -1,4 +1,4 @@
--- A group's first begin keeps all.
+-- A begin keeps all, of a group that begins for the first time or again.
 use Rattle.std.proofs.Common.{◌≡◌, ◌≢◌, ◌⊎◌, ℕ, zero, suc, ◌+◌, ◌-◌, ◌<◌, ◌≤◌, Bool, not, ◌&&◌, ◌||◌, List, [], ◌∷◌, ◌++◌, length, map, filter, Option, Some, None, refl, sym, ap, subst, ◌∙◌, arith, inl, inr}
 use Rattle.std.specs.Prelude.{Contains, nat_le}
 use Rattle.std.specs.List.{AllByRecursion, list_any, slice_index_or}
@@ -200,6 +200,7 @@ module _ (start : Database) (m : Machine) (kept : IsKept start m) (texts : AreTe
       | inl old ↦ let was = kept.locks_consistent.begun t g n old in record { whole = was.whole; goes = was.goes }
       | inr new ↦ subst (λ (t : ℕ). HasBegun start after t g) new.1 (subst (λ (g : Group). HasBegun start after s g) new.2 (record { whole = whole; goes = inr first }))
     ];
+    numbered = λ t g whole has_ended. let was = kept.locks_consistent.numbered t g whole has_ended in (was.0, start_then m.began b t g was.0 was.1);
     by_session = λ t one other i j x y before. elim (start_was m.began b t other j y) as (λ _. one.1 ≤ length (told_at m t)) [
       | inl old_j ↦
           let low_j = start_within m.began b j _ old_j.is in
@@ -403,6 +404,7 @@ module _ (start : Database) (m : Machine) (kept : IsKept start m) (texts : AreTe
         once = kept.locks_consistent.once;
         in_turn = λ t g k x. current_again t (kept.locks_consistent.in_turn t g k x);
         begun = λ t g k x. let was = kept.locks_consistent.begun t g k x in record { whole = was.whole; goes = was.goes };
+        numbered = kept.locks_consistent.numbered;
         by_session = kept.locks_consistent.by_session;
         by_phase = kept.locks_consistent.by_phase;
       };

@@ -264,10 +264,10 @@ module _ (start : Database) (m : Machine) (kept : IsKept start m) (texts : AreTe
       let sizes : length answers ≡ length (text_of m s o) = ap (λ (rs : List Reply). length rs) all ∙ length-map (text_of m s o) (λ _. Ended (Died h)) in
       omega (arith, sizes, length-text, own_next, bounds.0, bounds.1)
 
-  closes : (answers ≡ []) ⊎ (o.group.1 ≤ length (told_at m s) + length answers)
+  closes : (answers ≡ []) ⊎ (o.group.1 ≡ length (told_at m s) + length answers)
   closes = elim ends [
     | inl again ↦ inl again.0
-    | inr last ↦ inr (let size = told_size last.0 in omega (arith, size))
+    | inr last ↦ inr (told_size last.0)
   ]
 
   more : (t : ℕ) → length (told_at m t) ≤ length (told_at after t)

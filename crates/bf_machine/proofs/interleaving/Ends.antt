@@ -1,5 +1,5 @@
 -- Commit and abort keep all.
-use Rattle.std.proofs.Common.{◌≡◌, ◌⊎◌, ℕ, ◌+◌, ◌≤◌, Bool, true, false, List, [], ◌∷◌, ◌++◌, length, map, Some, refl, sym, ap, subst, ◌∙◌, arith, inr}
+use Rattle.std.proofs.Common.{◌≡◌, ◌⊎◌, ℕ, ◌+◌, Bool, true, false, List, [], ◌∷◌, ◌++◌, length, map, Some, refl, sym, ap, subst, ◌∙◌, arith, inr}
 use Rattle.bf_tree.specs.declared.history.Outcome.{Outcome}
 use Rattle.bf_tree.specs.declared.history.Outcome.TheVariants.{Committed, RolledBack}
 use Rattle.bf_tree.specs.declared.history.Entry.{Entry}
@@ -41,7 +41,7 @@ module _ (start : Database) (m : Machine) (kept : IsKept start m) (texts : AreTe
     died_then = λ t g h died. died_more start m.script m.history e m.began t g h died;
   }
 
-  all_told : (answers : List Reply) → length answers ≡ length (text_of m s o) → o.group.1 ≤ length (told_at m s) + length answers
+  all_told : (answers : List Reply) → length answers ≡ length (text_of m s o) → o.group.1 ≡ length (told_at m s) + length answers
   all_told answers sizes =
       let own = kept.open_groups_replay.each s o there in
       let bounds = texts.bounds s o.group own.whole in

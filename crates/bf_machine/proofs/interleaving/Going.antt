@@ -1,4 +1,4 @@
--- Exec and a granted lock keep all.
+-- A statement, a grant and a wait keep all.
 use Rattle.std.proofs.Common.{◌≡◌, ◌≢◌, ℕ, zero, suc, ◌-◌, ◌≤◌, Bool, true, false, if◌then◌else◌, List, [], ◌∷◌, length, drop, take, Some, None, refl, sym, ap, subst, ◌∙◌, arith, inl, inr}
 use Rattle.std.specs.Prelude.{Contains, nat_lt}
 use Rattle.std.specs.Option.{option_map_or}
@@ -116,6 +116,7 @@ module _ (start : Database) (m : Machine) (kept : IsKept start m) (s : ℕ) (o :
       once = kept.locks_consistent.once;
       in_turn = λ t g n has. current_then t (kept.locks_consistent.in_turn t g n has);
       begun = λ t g n has. let was = kept.locks_consistent.begun t g n has in record { whole = was.whole; goes = was.goes };
+      numbered = kept.locks_consistent.numbered;
       by_session = kept.locks_consistent.by_session;
       by_phase = kept.locks_consistent.by_phase;
     }
@@ -190,6 +191,7 @@ module _ (start : Database) (m : Machine) (kept : IsKept start m) (s : ℕ) (o :
         once = kept.locks_consistent.once;
         in_turn = kept.locks_consistent.in_turn;
         begun = λ t g n has. let was = kept.locks_consistent.begun t g n has in record { whole = was.whole; goes = was.goes };
+        numbered = kept.locks_consistent.numbered;
         by_session = kept.locks_consistent.by_session;
         by_phase = kept.locks_consistent.by_phase;
       };

@@ -1,8 +1,8 @@
 -- A COMMIT or ROLLBACK in no group keeps all.
-use Rattle.std.proofs.Common.{◌≡◌, ◌≢◌, ◌⊎◌, ℕ, ◌+◌, ◌-◌, ◌≤◌, Bool, true, false, not, ◌&&◌, ◌||◌, cond, List, [], ◌∷◌, ◌++◌, length, filter, Some, None, refl, sym, ap, subst, ◌∙◌, arith, inl, inr}
-use Rattle.std.specs.Prelude.{Contains}
+use Rattle.std.proofs.Common.{◌≡◌, ◌≢◌, ◌⊎◌, ℕ, ◌+◌, ◌-◌, ◌<◌, ◌≤◌, Bool, true, false, not, ◌&&◌, ◌||◌, cond, List, [], ◌∷◌, ◌++◌, length, filter, Some, None, refl, sym, ap, subst, ◌∙◌, arith, inl, inr}
+use Rattle.std.specs.Prelude.{Contains, nat_le}
 use Rattle.std.specs.List.{AllByRecursion, list_any, slice_set}
-use Rattle.std.proofs.lemmas.Bool.{and_parts, cases_eq, false≢true}
+use Rattle.std.proofs.lemmas.Bool.{and_parts, cases_Bool, cases_eq, false≢true}
 use Rattle.std.proofs.lemmas.Bool.Decides.{nat_tests}
 use Rattle.std.proofs.lemmas.List.{length-set}
 use Rattle.bf_tree.specs.declared.history.Entry.{Entry}
@@ -20,7 +20,7 @@ use Rattle.bf_machine.specs.InOrder.{none_open}
 use Rattle.bf_machine.specs.interleaving.Events.{Refuses}
 use Rattle.bf_machine.proofs.interleaving.Answers.{Told, told_from, told_in}
 use Rattle.bf_machine.proofs.interleaving.Entries.{any_of}
-use Rattle.bf_machine.proofs.interleaving.Telling.{apart_still, entries_alike, grows, others_told, placed_still, told_there}
+use Rattle.bf_machine.proofs.interleaving.Telling.{apart_still, entries_alike, grows, others_told, placed_still, size_here, told_there}
 use Rattle.bf_machine.proofs.interleaving.Opens.{stays}
 
 module _ (start : Database) (m : Machine) (kept : IsKept start m) (texts : AreTexts m.script) (s : ℕ) (closed : open_at m s ≡ None) (low : 1 ≤ s) (high : s ≤ length m.told)
@@ -62,15 +62,38 @@ module _ (start : Database) (m : Machine) (kept : IsKept start m) (texts : AreTe
       cc
 
   -- the stray statement is of no group
-  not_next : (g : Group) → Contains (groups_in m.script s) g → g.0 ≡ length (told_at m s) + 1 → ⊥
-  not_next g whole next =
-      let bounds = texts.bounds s g whole in
+  not_of : (g : Group) → Contains (groups_in m.script s) g → g.0 ≤ length (told_at m s) + 1 → length (told_at m s) + 1 ≤ g.1 → ⊥
+  not_of g whole from to =
       let n = length (told_at m s) + 1 in
       let parts = and_parts (list_any ends_block (statements_in m.script s (n, n))) (not (list_any (has_statement n) (groups_in m.script s))) stray in
-      let has : has_statement n g ≡ true = grind (arith, nat_tests, next, bounds.1) in
+      let has : has_statement n g ≡ true = grind (arith, nat_tests, from, to) in
       let there : list_any (has_statement n) (groups_in m.script s) ≡ true = any_of (has_statement n) (groups_in m.script s) g whole has in
       let both : false ≡ true = ap not (sym there) ∙ parts.1 in
       false≢true both
+
+  -- so what has ended then had ended
+  had_ended : (t : ℕ) (g : Group) → Contains (groups_in m.script t) g → HasEnded after t g → HasEnded m t g
+  had_ended t g whole has_ended = elim (cases_eq t s) as (λ _. HasEnded m t g) [
+    | inr apart ↦
+        let same : length (told_at after t) ≡ length (told_at m t) = ap (λ (rs : List Reply). length rs) (told_there m s more low high t apart) in
+        omega (arith, same, has_ended)
+    | inl same ↦
+        let here : Contains (groups_in m.script s) g = subst (λ (t : ℕ). Contains (groups_in m.script t) g) same whole in
+        let bounds = texts.bounds s g here in
+        let within : g.1 ≤ length (told_at after s) = subst (λ (t : ℕ). g.1 ≤ length (told_at after t)) same has_ended in
+        let sizes = size_here m s more low high in
+        elim (cases_Bool (nat_le g.1 (length (told_at m s)))) as (λ _. HasEnded m t g) [
+          | inl is_low ↦
+              let before : g.1 ≤ length (told_at m s) = grind (arith, nat_tests, is_low) in
+              subst (λ (t : ℕ). g.1 ≤ length (told_at m t)) (sym same) before
+          | inr is_high ↦
+              let above : length (told_at m s) < g.1 = grind (arith, nat_tests, is_high) in
+              absurd (not_of g here (omega (arith, bounds.1, within, sizes)) (omega (arith, above)))
+        ]
+  ]
+
+  not_next : (g : Group) → Contains (groups_in m.script s) g → g.0 ≡ length (told_at m s) + 1 → ⊥
+  not_next g whole next = let bounds = texts.bounds s g whole in not_of g whole (omega (arith, next)) (omega (arith, next, bounds.1))
 
   begun_still : (t : ℕ) (g : Group) → HasBegun start m t g → HasBegun start after t g
   begun_still t g was = record {
@@ -113,6 +136,7 @@ module _ (start : Database) (m : Machine) (kept : IsKept start m) (texts : AreTe
       once = kept.locks_consistent.once;
       in_turn = λ t g n has. current_still t (kept.locks_consistent.in_turn t g n has);
       begun = λ t g n has. begun_still t g (kept.locks_consistent.begun t g n has);
+      numbered = λ t g whole has_ended. kept.locks_consistent.numbered t g whole (had_ended t g whole has_ended);
       by_session = λ t one other i j x y before. omega (arith, kept.locks_consistent.by_session t one other i j x y before, grows m s more low high t);
       by_phase = kept.locks_consistent.by_phase;
     };

@@ -1,7 +1,8 @@
 -- A group's end, by a commit, an abort or a death, keeps locks and causes.
-use Rattle.std.proofs.Common.{◌≡◌, ◌≢◌, ◌⊎◌, ℕ, ◌+◌, ◌-◌, ◌≤◌, List, [], ◌∷◌, ◌++◌, length, Some, None, sym, ap, subst, ◌∙◌, arith, inl, inr}
-use Rattle.std.specs.Prelude.{Contains}
-use Rattle.std.proofs.lemmas.Bool.{cases_eq}
+use Rattle.std.proofs.Common.{◌≡◌, ◌≢◌, ◌⊎◌, ℕ, ◌+◌, ◌-◌, ◌<◌, ◌≤◌, List, [], ◌∷◌, ◌++◌, length, Some, None, sym, ap, subst, ◌∙◌, arith, inl, inr}
+use Rattle.std.specs.Prelude.{Contains, nat_le}
+use Rattle.std.proofs.lemmas.Bool.{cases_Bool, cases_eq}
+use Rattle.std.proofs.lemmas.Bool.Decides.{nat_tests}
 use Rattle.std.proofs.lemmas.List.{length-set}
 use Rattle.bf_locks.specs.declared.mode.Mode.{Mode}
 use Rattle.bf_locks.specs.declared.name.LockName.{LockName}
@@ -19,7 +20,7 @@ use Rattle.bf_machine.proofs.interleaving.Places.{set_same, set_other}
 use Rattle.bf_machine.proofs.interleaving.Legal.{wants_more}
 use Rattle.bf_machine.proofs.interleaving.Others.{has_place}
 use Rattle.bf_machine.proofs.interleaving.Telling.{grows, size_here, told_there}
-use Rattle.bf_machine.proofs.interleaving.Texts.{one_first}
+use Rattle.bf_machine.proofs.interleaving.Texts.{are_texts, one_first, one_group}
 
 pub join_more : (start : Database) (script : Script) (history : List Entry) (e : Entry) (s : ℕ) (group : Group) (name : LockName) (mode : Mode)
     → IsJoin start script history s group name mode → IsJoin start script (history ++ e ∷ []) s group name mode
@@ -35,7 +36,7 @@ pub record StaysAtEnd (start : Database) (m : Machine) (began : List Began) (his
   pub died_then : (t : ℕ) (g : Group) (h : ℕ) → DiedFor start m.script m.began m.history t g h → DiedFor start m.script began history t g h
 
 module _ (start : Database) (m : Machine) (kept : IsKept start m) (s : ℕ) (o : Open) (there : open_at m s ≡ Some o) (answers : List Reply)
-    (closes : (answers ≡ []) ⊎ (o.group.1 ≤ length (told_at m s) + length answers)) (db : Database) (began : List Began) (history : List Entry) (stays : StaysAtEnd start m began history) where
+    (closes : (answers ≡ []) ⊎ (o.group.1 ≡ length (told_at m s) + length answers)) (db : Database) (began : List Began) (history : List Entry) (stays : StaysAtEnd start m began history) where
   abbrev after : Machine
   after = record (ended m s o answers) { db = db; began = began; history = history }
 
@@ -102,6 +103,34 @@ module _ (start : Database) (m : Machine) (kept : IsKept start m) (s : ℕ) (o :
     ];
   }
 
+  -- what has ended then had ended, or is the group
+  numbered_then : (t : ℕ) (g : Group) → Contains (groups_in m.script t) g → HasEnded after t g → (n : ℕ) × HasStart began t g n
+  numbered_then t g whole has_ended = elim (cases_Bool (nat_le g.1 (length (told_at m t)))) as (λ _. (n : ℕ) × HasStart began t g n) [
+    | inl low ↦
+        let before : HasEnded m t g = grind (arith, nat_tests, low) in
+        let was = kept.locks_consistent.numbered t g whole before in
+        (was.0, stays.start_then t g was.0 was.1)
+    | inr high ↦
+        let above : length (told_at m t) < g.1 = grind (arith, nat_tests, high) in
+        elim (cases_eq t s) as (λ _. (n : ℕ) × HasStart began t g n) [
+          | inr apart ↦
+              let same : length (told_at after t) ≡ length (told_at m t) = ap (λ (rs : List Reply). length rs) (told_there m s answers place.0 told_place t apart) in
+              absurd (omega (arith, same, above, has_ended))
+          | inl same ↦
+              let own = kept.open_groups_replay.each s o there in
+              let here : Contains (groups_in m.script s) g = subst (λ (t : ℕ). Contains (groups_in m.script t) g) same whole in
+              let over : length (told_at m s) < g.1 = subst (λ (t : ℕ). length (told_at m t) < g.1) same above in
+              let within : g.1 ≤ length (told_at after s) = subst (λ (t : ℕ). g.1 ≤ length (told_at after t)) same has_ended in
+              let sizes = size_here m s answers place.0 told_place in
+              let last : g.1 ≤ o.group.1 = elim closes [
+                | inl none ↦ let zero_more : length answers ≡ 0 = ap (λ (rs : List Reply). length rs) none in absurd (omega (arith, over, within, sizes, zero_more))
+                | inr all ↦ omega (arith, within, sizes, all)
+              ] in
+              let one : g ≡ o.group = one_group m.script s g o.group here own.whole g.1 ((are_texts m.script).bounds s g here).1 (omega arith) (omega (arith, own.next, over)) last in
+              (o.start, subst (λ (t : ℕ). HasStart began t g o.start) (sym same) (subst (λ (g : Group). HasStart began s g o.start) (sym one) (stays.start_then s o.group o.start (kept.locks_consistent.starts s o there))))
+        ]
+  ]
+
   end_keeps_locks : LocksConsistent start after
   end_keeps_locks = record {
     apart = consistent_without m.locks o.start kept.locks_consistent.apart;
@@ -123,6 +152,7 @@ module _ (start : Database) (m : Machine) (kept : IsKept start m) (s : ℕ) (o :
     once = λ t g i j x y. kept.locks_consistent.once t g i j (stays.start_was t g i x) (stays.start_was t g j y);
     in_turn = λ t g n x. current_then t (kept.locks_consistent.in_turn t g n (stays.start_was t g n x));
     begun = λ t g n x. begun_then t g (kept.locks_consistent.begun t g n (stays.start_was t g n x));
+    numbered = numbered_then;
     by_session = λ t one other i j x y before. omega (arith, kept.locks_consistent.by_session t one other i j (stays.start_was t one i x) (stays.start_was t other j y) before, more t);
     by_phase = λ t u one other i j x y before. kept.locks_consistent.by_phase t u one other i j (stays.start_was t one i x) (stays.start_was u other j y) before;
   }

@@ -155,10 +155,15 @@ are_texts script = record {
   found = λ s g among k from to. all_found (session_at script s).statements 1 g among k from to;
 }
 
--- groups that begin at one statement are the same
+-- groups that have one statement are the same
+pub one_group : (script : Script) (s : ℕ) (g h : Group) → Contains (groups_in script s) g → Contains (groups_in script s) h → (k : ℕ) → g.0 ≤ k → k ≤ g.1 → h.0 ≤ k → k ≤ h.1 → g ≡ h
+one_group script s g h is_g is_h k from_g to_g from_h to_h =
+    let found = (are_texts script).found in
+    same_Some g h (sym (found s g is_g k from_g to_g) ∙ found s h is_h k from_h to_h)
+
+-- and so are those that begin at one
 pub one_first : (script : Script) (s : ℕ) (g h : Group) → Contains (groups_in script s) g → Contains (groups_in script s) h → g.0 ≡ h.0 → g ≡ h
 one_first script s g h is_g is_h same =
-    let texts = are_texts script in
-    let bounds_g = texts.bounds s g is_g in
-    let bounds_h = texts.bounds s h is_h in
-    same_Some g h (sym (texts.found s g is_g g.0 (omega arith) bounds_g.1) ∙ texts.found s h is_h g.0 (omega (arith, same)) (omega (arith, same, bounds_h.1)))
+    let bounds_g = (are_texts script).bounds s g is_g in
+    let bounds_h = (are_texts script).bounds s h is_h in
+    one_group script s g h is_g is_h g.0 (omega arith) bounds_g.1 (omega (arith, same)) (omega (arith, same, bounds_h.1))

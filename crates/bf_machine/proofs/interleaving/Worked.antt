@@ -1,20 +1,17 @@
 -- The worked run, event by event.
-use Rattle.std.proofs.Common.{◌≡◌, ◌≢◌, ◌⊎◌, ℕ, zero, suc, ◌+◌, ◌<◌, ◌≤◌, false, true, IsTrue, List, [], ◌∷◌, length, Option, Some, None, unwrap_or, refl, sym, ap, subst, ◌∙◌, arith, inl, inr}
-use Rattle.std.specs.Prelude.{Contains, IsSomeAnd}
+use Rattle.std.proofs.Common.{◌≡◌, ◌≢◌, ℕ, zero, suc, ◌+◌, ◌<◌, ◌≤◌, false, true, List, [], ◌∷◌, length, Option, Some, None, unwrap_or, refl, sym, ap, subst, ◌∙◌, arith, inl, inr}
+use Rattle.std.specs.Prelude.{IsSomeAnd}
 use Rattle.std.specs.Option.{option_map_or}
 use Rattle.std.specs.List.{slice_index_or}
-use Rattle.std.specs.FinMap as fin
 use Rattle.std.specs.FinMap.{get-empty}
 use Rattle.std.proofs.lemmas.Bool.{cases_eq}
 use Rattle.bf_locks.specs.declared.answer.LockAnswer.TheVariants.{Die, Granted}
 use Rattle.bf_locks.specs.declared.mode.Mode.{Mode}
 use Rattle.bf_locks.specs.declared.mode.Mode.TheVariants.{X}
-use Rattle.bf_locks.specs.declared.name.LockName.{LockName}
 use Rattle.bf_locks.specs.declared.name.LockName.TheVariants.{Catalog}
 use Rattle.bf_locks.specs.Locks.{Conflicts, Dies, Locks, after, held, holding_cmp, wanted, without_owner}
 use Rattle.bf_locks.specs.Modes.{are_compatible, covers, join_of}
 use Rattle.bf_locks.proofs.Held.{held_granted, held_granted_other_owner, held_without_other, held_without_own}
-use Rattle.bf_tree.specs.declared.reply.Reply.{Reply}
 use Rattle.bf_tree.specs.declared.bound.Action.TheVariants as action
 use Rattle.bf_tree.specs.declared.bound.Bound.{Bound}
 use Rattle.bf_tree.specs.declared.script.Script.{Script}
@@ -25,10 +22,10 @@ use Rattle.bf_sql.specs.FootprintExamples.{create}
 use Rattle.bf_sql.specs.Footprints.{Lock, catalog_change}
 use Rattle.bf_live.specs.OpenGroups.{Holds, HoldsIn}
 use Rattle.bf_query.proofs.OwnKeys.{each}
-use Rattle.bf_machine.specs.interleaving.Events.{Asks, Begins, Commits, Executes, Reaches, asks, at_once, begins, begun, begun_again, asked, committed, commits_now, executes, one_more, opened, stepped, with_open}
-use Rattle.bf_machine.specs.interleaving.Examples.{IsYoungerRefused, YoungerIsRefused, two_creating}
+use Rattle.bf_machine.specs.interleaving.Events.{Asks, Begins, Commits, Executes, asks, at_once, begins, begun, begun_again, asked, committed, commits_now, executes, one_more, opened, stepped, with_open}
+use Rattle.bf_machine.specs.interleaving.Examples.{YoungerIsRefused, two_creating}
 use Rattle.bf_machine.specs.interleaving.Kept.{HasStart, IsCurrent, fresh, phase_of}
-use Rattle.bf_machine.specs.interleaving.Machines.{Began, Group, Machine, Open, began_at, open_at, told_at}
+use Rattle.bf_machine.specs.interleaving.Machines.{Began, Group, Machine, Open, open_at, told_at}
 
 -- both sessions are of the one phase
 by_session : (m : Machine) (a b : Option Open) → m.script ≡ two_creating → m.opens ≡ a ∷ b ∷ [] → (s : ℕ) → phase_of two_creating s ≡ 1 → IsCurrent m s
@@ -285,11 +282,14 @@ commits_two = record {
 }
 
 pub younger_is_refused : YoungerIsRefused
-younger_is_refused = (last, record {
-  reached =
-      one_more (one_more (one_more (one_more (one_more (one_more (one_more (one_more (one_more (one_more at_once (begins 1 begins_one)) (begins 2 begins_two)) (asks 1 Catalog X Granted asks_one))
-      (asks 2 Catalog X (Die 1) asks_two)) (executes 1 executes_one)) (commits_now 1 commits_one)) (begins 2 begins_again)) (asks 2 Catalog X Granted asks_again)) (executes 2 executes_two)) (commits_now 2 commits_two);
-  told = refl;
-  entered = refl;
-  died = refl;
-})
+younger_is_refused = (
+  last,
+  record {
+    reached =
+        one_more (one_more (one_more (one_more (one_more (one_more (one_more (one_more (one_more (one_more at_once (begins 1 begins_one)) (begins 2 begins_two)) (asks 1 Catalog X Granted asks_one))
+        (asks 2 Catalog X (Die 1) asks_two)) (executes 1 executes_one)) (commits_now 1 commits_one)) (begins 2 begins_again)) (asks 2 Catalog X Granted asks_again)) (executes 2 executes_two)) (commits_now 2 commits_two);
+    told = refl;
+    entered = refl;
+    died = refl;
+  },
+)

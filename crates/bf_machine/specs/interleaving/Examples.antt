@@ -1,10 +1,9 @@
 -- A worked run of events: two sessions create one table. The younger one dies for the older, begins again once that has
 -- ended, and is refused then.
-use Rattle.std.specs.Prelude.{◌≡◌, ℕ, List, [], ◌∷◌}
+use Rattle.std.specs.Prelude.{◌≡◌, ℕ, [], ◌∷◌}
 use Rattle.bf_tree.specs.declared.history.Entry.{Entry}
 use Rattle.bf_tree.specs.declared.history.Outcome.TheVariants.{Committed}
 use Rattle.bf_tree.specs.declared.reply.Refusal.TheVariants.{TableExists}
-use Rattle.bf_tree.specs.declared.reply.Reply.{Reply}
 use Rattle.bf_tree.specs.declared.reply.Reply.TheVariants.{Created, Refused}
 use Rattle.bf_tree.specs.declared.script.Script.{Script}
 use Rattle.bf_tree.specs.declared.script.Session.{Session}
@@ -12,7 +11,7 @@ use Rattle.bf_sql.specs.Database.{empty_database}
 use Rattle.bf_sql.specs.FootprintExamples.{create, t}
 use Rattle.bf_machine.specs.interleaving.Events.{Reaches}
 use Rattle.bf_machine.specs.interleaving.Kept.{fresh}
-use Rattle.bf_machine.specs.interleaving.Machines.{Began, Machine}
+use Rattle.bf_machine.specs.interleaving.Machines.{Machine}
 
 abbrev pub creating : Session
 creating = record { phase = 1; statements = create ∷ [] }

@@ -129,6 +129,8 @@ module _ (start : Database) (m : Machine) where
     pub once : (s : ℕ) (group : Group) (i j : ℕ) → HasStart m.began s group i → HasStart m.began s group j → i ≡ j
     pub in_turn : (s : ℕ) (group : Group) (n : ℕ) → HasStart m.began s group n → IsCurrent m s
     pub begun : (s : ℕ) (group : Group) (n : ℕ) → HasStart m.began s group n → HasBegun s group
+    -- each group that has ended had begun
+    pub numbered : (s : ℕ) (group : Group) → Contains (groups_in m.script s) group → HasEnded m s group → (n : ℕ) × HasStart m.began s group n
     -- the last one of a session alone may not have ended
     pub by_session : (s : ℕ) (one other : Group) (i j : ℕ) → HasStart m.began s one i → HasStart m.began s other j → i < j → HasEnded m s one
     pub by_phase : (s t : ℕ) (one other : Group) (i j : ℕ) → HasStart m.began s one i → HasStart m.began t other j → i < j → phase_of m.script s ≤ phase_of m.script t
