@@ -9,10 +9,9 @@ use Rattle.bf_tree.specs.Settling.{first_of}
 use Rattle.bf_tree.specs.declared.catalog.Catalog.{Catalog}
 use Rattle.bf_tree.specs.declared.reply.Refusal.TheVariants.{IndexExists, TableExists}
 use Rattle.bf_tree.specs.declared.statement.ColumnRule.{ColumnRule}
-use Rattle.bf_sql.specs.Bound.{without_rows}
+use Rattle.bf_sql.specs.Bound.{without_rows, table_without_rows}
 use Rattle.bf_sql.specs.Database.{Stored, stored_at}
 use Rattle.bf_sql.specs.Objections.{column_names, names_objections, new_index_objections, new_table_objections, rule_names, rules_objections}
-use Rattle.bf_bind.specs.Limits.{table_without_rows}
 use Rattle.bf_bind.specs.Parts.{new_column}
 use Rattle.bf_bind.proofs.Lookups.{index-named, stored-named}
 

@@ -11,13 +11,12 @@ use Rattle.bf_tree.specs.declared.catalog.Catalog.{Catalog}
 use Rattle.bf_tree.specs.declared.catalog.IndexRule.{IndexRule}
 use Rattle.bf_tree.specs.Limits.{HasNarrowTables, is_narrow}
 use Rattle.bf_tree.specs.Places.{AreByName, index_named, table_named}
-use Rattle.bf_sql.specs.Bound.{without_rows}
+use Rattle.bf_sql.specs.Bound.{without_rows, table_without_rows}
 use Rattle.bf_sql.specs.Database.{IsDatabase, Stored, no_table, stored_at, table_at}
 use Rattle.bf_sql.specs.Objections.{table_objections}
 use Rattle.bf_tree.specs.Settling.{first_of}
 use Rattle.bf_tree.specs.declared.reply.Refusal.TheVariants.{NoTable}
 use Rattle.bf_bind.specs.Parts.{absence_objections}
-use Rattle.bf_bind.specs.Limits.{table_without_rows}
 
 find-without_rows : (name : List ℕ) (tables : List Table) → find (λ (s : Stored). same_name s.table.name name) (map table_without_rows tables) ≡ option_map table_without_rows (find (λ (t : Table). same_name t.name name) tables)
 find-without_rows name [] = refl

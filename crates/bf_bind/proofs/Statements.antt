@@ -22,14 +22,13 @@ use Rattle.bf_tree.specs.declared.statement.Statement.TheVariants.{CreateTable, 
 use Rattle.bf_tree.specs.declared.statement_error.StatementError.{StatementError}
 use Rattle.bf_tree.specs.declared.statement_error.StatementError.TheVariants as stop
 use Rattle.bf_tree.proofs.Settling.{handed_on}
-use Rattle.bf_sql.specs.Bound.{action_of, bound_of, changes_schema, cond_in, items_over, place_in, set_in, unless_objected}
+use Rattle.bf_sql.specs.Bound.{action_of, bound_of, changes_schema, cond_in, items_over, place_in, set_in, unless_objected, is_planned}
 use Rattle.bf_sql.specs.Conditions.{condition_of, fixed_key}
 use Rattle.bf_sql.specs.Database.{Database, Stored, no_table, stored_at, table_at}
 use Rattle.bf_sql.specs.Meaning.{index_of}
 use Rattle.bf_sql.specs.Objections.{items_objections, objections, new_index_objections, new_table_objections, sets_objections, table_objections, tuple_objections}
 use Rattle.bf_sql.specs.Scopes.{cond_objections, scope_of}
 use Rattle.bf_bind.specs.Actions.{Binds}
-use Rattle.bf_bind.specs.Limits.{is_planned}
 use Rattle.bf_bind.specs.Parts.{absence_objections, seen_as}
 
 seen-some : (result : Result Action StatementError) (found : List Refusal) (meant : Action) → Settles result found meant → Settles (seen_as Some result) found (Some meant)

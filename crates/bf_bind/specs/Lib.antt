@@ -1,3 +1,2 @@
 pub mod Actions
-pub mod Limits
 pub mod Parts

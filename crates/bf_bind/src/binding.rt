@@ -3,7 +3,7 @@
 ghost use Rattle.std.specs.Prelude.{◌≡◌, ◌≤◌, ◌++◌, ◌&&◌, false, not, IfOk, Some, flat_map, length, map};
 ghost use Rattle.bf_base.specs.Limits.{most_columns};
 ghost use Rattle.bf_base.specs.Lists.{when};
-ghost use Rattle.bf_sql.specs.Bound.{without_rows, bound_of, changes_schema as changes_schema_of, cond_in, items_over, place_in, set_in};
+ghost use Rattle.bf_sql.specs.Bound.{without_rows, bound_of, changes_schema as changes_schema_of, cond_in, items_over, place_in, set_in, is_planned};
 ghost use Rattle.bf_sql.specs.Conditions.{condition_of, fixed_key};
 ghost use Rattle.bf_sql.specs.Database.{IsDatabase, table_at};
 ghost use Rattle.bf_sql.specs.Objections.{items_objections, sets_objections, tuple_objections};
@@ -14,7 +14,6 @@ ghost use Rattle.bf_tree.specs.declared.bound.Action.TheVariants as action;
 ghost use Rattle.bf_tree.specs.declared.reply.Refusal.TheVariants as refusal;
 ghost use Rattle.bf_tree.specs.declared.statement.Statement.TheVariants as statement;
 ghost use Rattle.bf_bind.specs.Actions.{Binds};
-ghost use Rattle.bf_bind.specs.Limits.{is_planned};
 ghost use Rattle.bf_bind.specs.Parts.{absence_objections, seen_as};
 
 use crate::create::{bind_index, bind_table};

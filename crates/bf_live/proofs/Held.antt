@@ -14,7 +14,8 @@ use Rattle.bf_tree.specs.declared.catalog.Catalog.{Catalog}
 use Rattle.bf_sql.specs.Database.{Database, Stored, no_table, stored_at}
 use Rattle.bf_tree.specs.Places.{AreByName, IsPlaceOf}
 use Rattle.bf_tree.proofs.ByName.{no_match, other_name}
-use Rattle.bf_live.specs.Live.{AreLiveTables, IsUnderOwnKeys, catalog_of, database_of, stored}
+use Rattle.bf_sql.specs.Bound.{catalog_of}
+use Rattle.bf_live.specs.Live.{AreLiveTables, IsUnderOwnKeys, database_of, stored}
 
 abbrev pub name_of : Stored → List ℕ
 name_of s = s.table.name

@@ -3,3 +3,5 @@ mod Created
 mod Held
 mod Written
 pub mod keeps
+pub mod locking
+pub mod statements

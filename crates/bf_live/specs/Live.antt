@@ -26,10 +26,6 @@ pub record AreLiveTables (catalog : Catalog) (heaps : List Rows) : Type 0 where
   pub under_own_keys : All IsUnderOwnKeys (zip catalog.tables heaps)
   pub database : IsDatabase (database_of catalog heaps)
 
--- the catalog of a database
-abbrev pub catalog_of : Database → Catalog
-catalog_of db = record { number = db.number; tables = map (λ s. s.table) db.tables; indexes = db.indexes }
-
 -- a table's rows after the writes of a transaction
 abbrev pub written_to : List Write → Stored → Stored
 written_to writes s = record s { rows = rows_under (entries_of s.table s.rows) writes s.table.name }

@@ -7,7 +7,8 @@ ghost use Rattle.bf_query.specs.Meanings.{entries_of};
 ghost use Rattle.bf_query.specs.Merged.{StandUnderOwnKeys};
 ghost use Rattle.bf_sql.specs.Database.{IsDatabase, empty_database, stored_at, stored_in_order, with_tables};
 ghost use Rattle.bf_sql.specs.Meaning.{next_number, with_index};
-ghost use Rattle.bf_live.specs.Live.{catalog_of, committed};
+ghost use Rattle.bf_sql.specs.Bound.{catalog_of};
+ghost use Rattle.bf_live.specs.Live.{committed};
 
 use crate::commit::{apply, make_room};
 use bf_base::{Memory, Name, Sequence, Table};

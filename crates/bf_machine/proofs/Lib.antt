@@ -1,3 +1,3 @@
+pub mod interleaving
 pub mod order
 pub mod serving
-pub mod statements

@@ -1,6 +1,5 @@
-pub mod Actions
 pub mod InOrder
-pub mod Open
 pub mod Runnable
 pub mod Sessions
 pub mod Turns
+pub mod interleaving

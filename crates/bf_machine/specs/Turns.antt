@@ -6,7 +6,7 @@ use Rattle.bf_tree.specs.declared.history.Entry.{Entry}
 use Rattle.bf_sql.specs.Database.{Database}
 use Rattle.bf_live.specs.Live.{committed}
 use Rattle.bf_machine.specs.declared.transaction.Transaction.{Transaction}
-use Rattle.bf_machine.specs.Open.{IsOpen}
+use Rattle.bf_live.specs.Open.{IsOpen}
 use Rattle.bf_machine.specs.Sessions.{SessionState, Turn}
 
 -- the statement that began a block, and the database that the block sees over the committed one

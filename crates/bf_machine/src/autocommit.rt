@@ -4,7 +4,7 @@ ghost use Rattle.std.specs.Prelude.{◌≡◌, ℕ, false, IfOk, IsTrue, OnErr, 
 ghost use Rattle.bf_tree.specs.Limits.{HasNarrowTables, KeepsLimits};
 ghost use Rattle.bf_sql.specs.Meaning.{executed};
 ghost use Rattle.bf_live.specs.Autocommit.{is_autocommit};
-ghost use Rattle.bf_live.specs.Live.{catalog_of};
+ghost use Rattle.bf_sql.specs.Bound.{catalog_of};
 
 use crate::transaction::run_on_table;
 use bf_base::Memory;

@@ -3,6 +3,7 @@
 #![tactic(auto)]
 
 mod autocommit;
+pub mod interleaving_laws;
 pub mod laws;
 mod run_so_far;
 mod scripts;

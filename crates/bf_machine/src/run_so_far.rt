@@ -5,9 +5,10 @@ ghost use Rattle.std.specs.List.{list_all};
 ghost use Rattle.bf_tree.specs.Limits.{HasNarrowTables, is_narrow_statement};
 ghost use Rattle.bf_tree.specs.declared.history.Outcome.TheVariants.{Committed};
 ghost use Rattle.bf_sql.specs.Database.{IsDatabase, empty_database};
-ghost use Rattle.bf_live.specs.Live.{catalog_of, committed};
+ghost use Rattle.bf_sql.specs.Bound.{catalog_of};
+ghost use Rattle.bf_live.specs.Live.{committed};
 ghost use Rattle.bf_machine.specs.InOrder.{is_migrate};
-ghost use Rattle.bf_machine.specs.Open.{IsOpen};
+ghost use Rattle.bf_live.specs.Open.{IsOpen};
 ghost use Rattle.bf_machine.specs.Sessions.{at_rest, ended, inside, outside, session_from};
 ghost use Rattle.bf_machine.specs.Turns.{HasRoom, HasRoomToEnd, HasTaken, MayBeOpen, standing};
 

@@ -3,7 +3,7 @@
 ghost use Rattle.std.specs.Prelude.{◌≡◌, ◌++◌, IfOk, IsTrue, OnOk, not};
 ghost use Rattle.std.specs.List.{list_all};
 ghost use Rattle.bf_tree.specs.Limits.{HasNarrowTables, is_narrow_script, is_narrow_statement};
-ghost use Rattle.bf_live.specs.Live.{catalog_of};
+ghost use Rattle.bf_sql.specs.Bound.{catalog_of};
 ghost use Rattle.bf_machine.specs.InOrder.{IsRunInOrder, is_migrate, migrates_nothing};
 ghost use Rattle.bf_machine.specs.Runnable.{phases_rise_from};
 ghost use Rattle.bf_machine.specs.Sessions.{at_rest, sessions_from};

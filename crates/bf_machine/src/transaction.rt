@@ -5,9 +5,10 @@ ghost use Rattle.bf_tree.specs.Limits.{KeepsLimits};
 ghost use Rattle.bf_query.specs.Meanings.{IsBoundAs};
 ghost use Rattle.bf_tree.specs.declared.statement.Statement.{Statement};
 ghost use Rattle.bf_sql.specs.Database.{IsDatabase};
-ghost use Rattle.bf_live.specs.Live.{catalog_of, committed};
-ghost use Rattle.bf_machine.specs.Actions.{IsOn};
-ghost use Rattle.bf_machine.specs.Open.{IsOpen, IsStep, goes_on};
+ghost use Rattle.bf_sql.specs.Bound.{catalog_of};
+ghost use Rattle.bf_live.specs.Live.{committed};
+ghost use Rattle.bf_live.specs.Actions.{IsOn};
+ghost use Rattle.bf_live.specs.Open.{IsOpen, IsStep, goes_on};
 
 use bf_base::{Memory, Table};
 use bf_bind::bind;

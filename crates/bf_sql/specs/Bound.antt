@@ -1,5 +1,5 @@
 -- What a statement is bound to in a catalog: its table, and places in a row for refs.
-use Rattle.std.specs.Prelude.{ℕ, Bool, false, not, List, [], ◌∷◌, map, Option, Some, None, option_map}
+use Rattle.std.specs.Prelude.{ℕ, Bool, true, false, not, List, [], ◌∷◌, map, Option, Some, None, option_map}
 use Rattle.bf_base.specs.declared.table.Table.{Table}
 use Rattle.bf_tree.specs.Trees.{Expr, Cond, expr_over, cond_over}
 use Rattle.bf_tree.specs.declared.raw.Ref.{Ref}
@@ -14,15 +14,28 @@ use Rattle.bf_tree.specs.declared.catalog.Catalog.{Catalog}
 use Rattle.bf_tree.specs.declared.statement.Statement.{Statement}
 use Rattle.bf_tree.specs.declared.statement.Statement.TheVariants.{CreateTable, CreateIndex, Insert, Select, Update, Delete, Begin, Commit, Rollback, Migrate}
 use Rattle.bf_tree.specs.declared.reply.Refusal.{Refusal}
-use Rattle.bf_sql.specs.Database.{Database, table_at}
+use Rattle.bf_sql.specs.Database.{Database, Stored, table_at}
 use Rattle.bf_sql.specs.Conditions.{condition_of, fixed_key}
 use Rattle.bf_sql.specs.Scopes.{scope_of, place_of, unqualified}
 use Rattle.bf_sql.specs.Objections.{objections}
 use Rattle.bf_sql.specs.Meaning.{created_table, index_of}
 
+-- a table without rows
+abbrev pub table_without_rows : Table → Stored
+table_without_rows table = record { table = table; rows = [] }
+
 -- the database of a catalog, without rows
 abbrev pub without_rows : Catalog → Database
-without_rows catalog = record { number = catalog.number; tables = map (λ table. record { table = table; rows = [] }) catalog.tables; indexes = catalog.indexes }
+without_rows catalog = record { number = catalog.number; tables = map table_without_rows catalog.tables; indexes = catalog.indexes }
+
+-- the catalog of a database
+abbrev pub catalog_of : Database → Catalog
+catalog_of db = record { number = db.number; tables = map (λ s. s.table) db.tables; indexes = db.indexes }
+
+-- a MIGRATE outside a block is planned, and not bound
+abbrev pub is_planned : Bool → Statement → Bool
+is_planned false (Migrate migrate) = true
+is_planned in_block s = false
 
 module _ {R S : Type 0} (to : R → S) where
   -- the same total, and the same items, over other columns

@@ -1,6 +1,9 @@
+pub mod Agreement
 pub mod Bound
 pub mod Conditions
 pub mod Database
+pub mod FootprintExamples
+pub mod Footprints
 pub mod Groups
 pub mod History
 pub mod Meaning

@@ -10,6 +10,8 @@ mod changes;
 #[cfg(test)]
 mod fixtures;
 #[cfg(test)]
+mod footprints;
+#[cfg(test)]
 mod live;
 #[cfg(test)]
 mod selections;

@@ -4,7 +4,7 @@ ghost use Rattle.std.specs.Prelude.{◌≡◌, ◌≤◌, false, length, IfOk};
 ghost use Rattle.bf_base.specs.Limits.{most_columns};
 ghost use Rattle.bf_base.specs.Names.{folded};
 ghost use Rattle.bf_tree.specs.Limits.{declared_columns};
-ghost use Rattle.bf_bind.specs.Limits.{is_planned};
+ghost use Rattle.bf_sql.specs.Bound.{is_planned};
 
 use crate::fixtures::text;
 use Line::{Begin, Commit, Create, Delete, Index, Insert, Rollback, Select, Totals, Update};

@@ -8,7 +8,8 @@ use Rattle.bf_tree.specs.declared.script.Session.{Session}
 use Rattle.bf_tree.specs.declared.reply.Reply.{Reply}
 use Rattle.bf_tree.specs.declared.history.Entry.{Entry}
 use Rattle.bf_sql.specs.Database.{Database}
-use Rattle.bf_live.specs.Live.{catalog_of, committed}
+use Rattle.bf_sql.specs.Bound.{catalog_of}
+use Rattle.bf_live.specs.Live.{committed}
 use Rattle.bf_machine.specs.declared.transaction.Transaction.{Transaction}
 use Rattle.bf_machine.specs.InOrder.{is_migrate}
 use Rattle.bf_machine.specs.Sessions.{SessionState, Turn, at_rest, inside, outside, session_from, sessions_from, stepped}

@@ -12,14 +12,15 @@ use Rattle.bf_tree.specs.declared.history.Entry.{Entry}
 use Rattle.bf_sql.specs.Database.{Database, IsDatabase}
 use Rattle.bf_sql.specs.Meaning.{executed}
 use Rattle.bf_live.specs.Autocommit.{is_autocommit}
-use Rattle.bf_live.specs.Live.{catalog_of, committed}
+use Rattle.bf_sql.specs.Bound.{catalog_of}
+use Rattle.bf_live.specs.Live.{committed}
 use Rattle.bf_live.proofs.keeps.Statements.{keeps_plain}
 use Rattle.bf_txn.specs.declared.write.Write.{Write}
 use Rattle.bf_machine.specs.InOrder.{is_migrate}
-use Rattle.bf_machine.specs.Open.{IsStep, goes_on}
+use Rattle.bf_live.specs.Open.{IsStep, goes_on}
 use Rattle.bf_machine.specs.Sessions.{SessionState, alone, at_rest, ended, inside, outside}
 use Rattle.bf_machine.specs.Turns.{HasTaken, standing}
-use Rattle.bf_machine.proofs.statements.Seeing.{nothing_written}
+use Rattle.bf_live.proofs.statements.Seeing.{nothing_written}
 
 -- what is no MIGRATE and no word of a block is a transaction of its own
 pub plain_otherwise : (s : Statement) → not (is_migrate s) ≡ true → (s ≡ Begin → ⊥) → (s ≡ Commit → ⊥) → (s ≡ Rollback → ⊥)

@@ -3,15 +3,14 @@ use Rattle.bf_tree.specs.Limits.{HasNarrowTables}
 use Rattle.bf_tree.specs.declared.bound.Action.TheVariants as action
 use Rattle.bf_tree.specs.declared.catalog.Catalog.{Catalog}
 use Rattle.bf_tree.specs.declared.reply.Reply.TheVariants as reply
-use Rattle.bf_sql.specs.Bound.{without_rows}
+use Rattle.bf_sql.specs.Bound.{without_rows, catalog_of}
 use Rattle.bf_sql.specs.Database.{Database, IsDatabase}
-use Rattle.bf_live.specs.Live.{catalog_of}
-use Rattle.bf_machine.proofs.statements.Bare.{bare_is_database}
-use Rattle.bf_machine.proofs.statements.Creating.{narrow_with_new}
-use Rattle.bf_machine.proofs.statements.InCatalog.{bound_first, creates_alone, creates_index_alone, on_first, opened_first, refused_alone}
-use Rattle.bf_machine.proofs.statements.OnTables.{of_table}
-use Rattle.bf_machine.proofs.statements.Seeing.{narrow_seen}
-use Rattle.bf_machine.proofs.statements.Steps.{committed_step}
+use Rattle.bf_live.proofs.statements.Bare.{bare_is_database}
+use Rattle.bf_live.proofs.statements.Creating.{narrow_with_new}
+use Rattle.bf_live.proofs.statements.InCatalog.{bound_first, creates_alone, creates_index_alone, on_first, opened_first, refused_alone}
+use Rattle.bf_live.proofs.statements.OnTables.{of_table}
+use Rattle.bf_live.proofs.statements.Seeing.{narrow_seen}
+use Rattle.bf_live.proofs.statements.Steps.{committed_step}
 use Rattle.bf_machine.proofs.autocommit.execute.Goals as goal
 
 pub bind-requires-clause-database : goal.bind-requires-clause-database

@@ -3,9 +3,9 @@ use Rattle.bf_tree.specs.declared.bound.Action.TheVariants as action
 use Rattle.bf_tree.specs.declared.catalog.Catalog.{Catalog}
 use Rattle.bf_sql.specs.Bound.{without_rows}
 use Rattle.bf_sql.specs.Database.{IsDatabase}
-use Rattle.bf_machine.proofs.statements.Bare.{bare_is_database}
-use Rattle.bf_machine.proofs.statements.InCatalog.{bound_on, on_its_table, refused_step}
-use Rattle.bf_machine.proofs.statements.OnTables.{of_table}
+use Rattle.bf_live.proofs.statements.Bare.{bare_is_database}
+use Rattle.bf_live.proofs.statements.InCatalog.{bound_on, on_its_table, refused_step}
+use Rattle.bf_live.proofs.statements.OnTables.{of_table}
 use Rattle.bf_machine.proofs.transaction.execute_in_block.Goals as goal
 
 pub bind-requires-clause-database : goal.bind-requires-clause-database

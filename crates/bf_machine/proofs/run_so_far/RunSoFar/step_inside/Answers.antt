@@ -2,9 +2,9 @@
 use Rattle.std.proofs.Common.{subst, sym}
 use Rattle.bf_tree.specs.Limits.{HasNarrowTables}
 use Rattle.bf_sql.specs.Database.{Database}
-use Rattle.bf_live.specs.Live.{catalog_of}
+use Rattle.bf_sql.specs.Bound.{catalog_of}
 use Rattle.bf_machine.proofs.serving.Turns.{goes_on_otherwise, inside_taken, narrow_at}
-use Rattle.bf_machine.proofs.statements.Seeing.{narrow_seen}
+use Rattle.bf_live.proofs.statements.Seeing.{narrow_seen}
 use Rattle.bf_machine.proofs.run_so_far.RunSoFar.step_inside.Goals as goal
 
 pub returns-in_ok-commit-in-Commit-clause-tables : goal.returns-in_ok-commit-in-Commit-clause-tables

@@ -6,7 +6,7 @@ use Rattle.bf_tree.specs.declared.reply.Reply.TheVariants.{Begun}
 use Rattle.bf_machine.specs.Sessions.{ended, outside}
 use Rattle.bf_machine.specs.Turns.{HasTaken, standing}
 use Rattle.bf_machine.proofs.serving.Turns.{alone_taken, begin_taken, narrow_at, plain_otherwise, still_database}
-use Rattle.bf_machine.proofs.statements.Seeing.{begun}
+use Rattle.bf_live.proofs.statements.Seeing.{begun}
 use Rattle.bf_machine.proofs.run_so_far.RunSoFar.step_outside.Goals as goal
 
 pub invariant_of-self-in_default-clause-database : goal.invariant_of-self-in_default-clause-database

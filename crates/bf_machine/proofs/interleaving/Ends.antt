@@ -1,0 +1,89 @@
+-- Commit and abort keep all.
+use Rattle.std.proofs.Common.{◌≡◌, ◌⊎◌, ℕ, ◌+◌, Bool, true, false, List, [], ◌∷◌, ◌++◌, length, map, Some, refl, sym, ap, subst, ◌∙◌, arith, inr}
+use Rattle.bf_tree.specs.declared.history.Outcome.{Outcome}
+use Rattle.bf_tree.specs.declared.history.Outcome.TheVariants.{Committed, RolledBack}
+use Rattle.bf_tree.specs.declared.history.Entry.{Entry}
+use Rattle.bf_tree.specs.declared.reply.Reply.{Reply}
+use Rattle.bf_tree.specs.declared.reply.Reply.TheVariants as reply
+use Rattle.bf_tree.specs.declared.statement.Statement.{Statement}
+use Rattle.bf_tree.specs.declared.statement.Statement.TheVariants.{Commit, Rollback}
+use Rattle.bf_sql.specs.Database.{Database}
+use Rattle.bf_sql.specs.Groups.{ends_block, outcome_by, session_at}
+use Rattle.bf_sql.specs.History.{run_group}
+use Rattle.bf_sql.specs.Meaning.{executed}
+use Rattle.bf_machine.specs.interleaving.Groups.{left_by}
+use Rattle.bf_machine.specs.interleaving.Machines.{Open, Machine, open_at, told_at, answered_in}
+use Rattle.bf_machine.specs.interleaving.Kept.{IsKept, HistoryLegal, OpenGroupsReplay}
+use Rattle.bf_machine.specs.interleaving.Events.{Commits, Aborts, ended, entry_of, commits_behind, text_of, rest_of}
+use Rattle.bf_machine.proofs.interleaving.Entries.{length-run_group}
+use Rattle.bf_machine.proofs.interleaving.Legal.{died_more, end_keeps_legal}
+use Rattle.bf_machine.proofs.interleaving.Opens.{commit_keeps_open, unchanged_keeps_open}
+use Rattle.bf_machine.proofs.interleaving.Rest.{StaysAtEnd, deaths_then, end_keeps, join_more}
+use Rattle.bf_machine.proofs.interleaving.Running.{run_is_database, text_means}
+use Rattle.bf_machine.proofs.interleaving.Telling.{length-part}
+use Rattle.bf_machine.proofs.interleaving.Texts.{AreTexts}
+
+module _ (start : Database) (m : Machine) (kept : IsKept start m) (texts : AreTexts m.script) (s : ℕ) (o : Open) (there : open_at m s ≡ Some o) where
+  -- the whole text, as the replay runs it
+  whole_run : (n : ℕ) (c : Statement) (r : Reply) → ends_block c ≡ true → ((view : Database) → executed n view true c ≡ (r, view))
+      → (rest_of m s o ≡ []) ⊎ (rest_of m s o ≡ c ∷ [])
+      → run_group n false m.db (text_of m s o) ≡ (o.replies ++ map (λ _. r) (rest_of m s o), left_by m.db o.pending)
+  whole_run n c r ends ending left =
+      let own = kept.open_groups_replay.each s o there in
+      text_means m.locks o.start m.db n o.pending o.replies (text_of m s o) (texts.shape s o.group own.whole) own.within own.run c r ends ending left
+
+  -- an entry more leaves start numbers, wishes and deaths
+  with_entry : (e : Entry) → StaysAtEnd start m m.began (m.history ++ e ∷ [])
+  with_entry e = record {
+    start_then = λ t g n has. has;
+    start_was = λ t g n has. has;
+    join_then = λ t g name mode join. join_more start m.script m.history e t g name mode join;
+    died_then = λ t g h died. died_more start m.script m.history e m.began t g h died;
+  }
+
+  all_told : (answers : List Reply) → length answers ≡ length (text_of m s o) → o.group.1 ≡ length (told_at m s) + length answers
+  all_told answers sizes =
+      let own = kept.open_groups_replay.each s o there in
+      let bounds = texts.bounds s o.group own.whole in
+      let whole = length-part o.group.0 o.group.1 (session_at m.script s).statements in
+      omega (arith, own.next, sizes, whole, bounds.0, bounds.1, bounds.2)
+
+  end_with : (outcome : Outcome) (answers : List Reply) (db : Database) → length answers ≡ length (text_of m s o)
+      → let after = record (ended m s o answers) { db = db; history = m.history ++ entry_of m s o outcome ∷ [] } in
+      HistoryLegal start after → OpenGroupsReplay start after → IsKept start after
+  end_with outcome answers db sizes legal replay =
+      let e = entry_of m s o outcome in
+      let history = m.history ++ e ∷ [] in
+      let closes = inr (all_told answers sizes) in
+      end_keeps start m kept s o there answers closes db m.began history (with_entry e) legal replay
+      (record { deaths = λ n b is. deaths_then start m kept s o there answers closes db m.began history (with_entry e) n b (kept.causes_allowed.deaths n b is) })
+
+-- COMMIT KEEPS ALL
+pub commit_keeps_all : (start : Database) (m : Machine) (kept : IsKept start m) (texts : AreTexts m.script) (s : ℕ) (next : Machine) → Commits m s next → IsKept start next
+commit_keeps_all start m kept texts s next by =
+    let o = by.o in
+    let count = commits_behind 0 m.history + 1 in
+    let answers = o.replies ++ map (λ _. reply.Committed count) (rest_of m s o) in
+    let own = kept.open_groups_replay.each s o by.is in
+    let ran = whole_run start m kept texts s o by.is count Commit (reply.Committed count) refl (λ view. refl) by.left in
+    let sizes : length answers ≡ length (text_of m s o) = sym (ap (λ (ran : List Reply × Database). length ran.0) ran) ∙ length-run_group count false m.db (text_of m s o) in
+    let is_next = run_is_database m.locks o.start m.db (answered_in m.script s o) o.pending kept.history_legal.database own.run in
+    let legal = end_keeps_legal start m kept texts s o by.is (Committed count) answers (left_by m.db o.pending) is_next by.current
+    (sym (ap (λ (b : Bool). (outcome_by b count).0) by.commits_so)) ran sizes in
+    subst (IsKept start) (sym by.goes)
+    (end_with start m kept texts s o by.is (Committed count) answers (left_by m.db o.pending) sizes legal
+    (commit_keeps_open start m kept s o by.is answers m.began (m.history ++ entry_of m s o (Committed count) ∷ [])))
+
+-- ABORT KEEPS ALL
+pub abort_keeps_all : (start : Database) (m : Machine) (kept : IsKept start m) (texts : AreTexts m.script) (s : ℕ) (next : Machine) → Aborts m s next → IsKept start next
+abort_keeps_all start m kept texts s next by =
+    let o = by.o in
+    let count = commits_behind 0 m.history in
+    let answers = o.replies ++ map (λ _. reply.RolledBack) (rest_of m s o) in
+    let ran = whole_run start m kept texts s o by.is count Rollback reply.RolledBack refl (λ view. refl) by.left in
+    let sizes : length answers ≡ length (text_of m s o) = sym (ap (λ (ran : List Reply × Database). length ran.0) ran) ∙ length-run_group count false m.db (text_of m s o) in
+    let legal = end_keeps_legal start m kept texts s o by.is RolledBack answers m.db kept.history_legal.database by.current
+    (sym (ap (λ (b : Bool). (outcome_by b (count + 1)).0) by.commits_so)) (ap (λ (ran : List Reply × Database). (ran.0, m.db)) ran) sizes in
+    subst (IsKept start) (sym by.goes)
+    (end_with start m kept texts s o by.is RolledBack answers m.db sizes legal
+    (unchanged_keeps_open start m kept s o by.is answers m.began (m.history ++ entry_of m s o RolledBack ∷ [])))

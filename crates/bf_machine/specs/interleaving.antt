@@ -1,0 +1,6 @@
+-- A machine whose sessions take turns: what is seen of it, what it keeps, and what its events make of it.
+pub mod Groups
+pub mod Machines
+pub mod Kept
+pub mod Events
+pub mod Examples

@@ -1,0 +1,182 @@
+-- WHAT EVERY EVENT KEEPS of a machine whose sessions take turns.
+use Rattle.std.specs.Prelude.{◌≡◌, ◌≢◌, ◌⊎◌, ℕ, ◌+◌, ◌<◌, ◌≤◌, Bool, true, false, List, [], ◌∷◌, length, map, take, Option, Some, None, Contains, slice_index_or}
+use Rattle.std.specs.FinMap as fin
+use Rattle.std.specs.List.{AllByRecursion}
+use Rattle.bf_locks.specs.declared.mode.Mode.{Mode}
+use Rattle.bf_locks.specs.declared.name.LockName.{LockName}
+use Rattle.bf_locks.specs.Locks.{held, IsConsistent}
+use Rattle.bf_locks.specs.Modes.{are_compatible, join_of}
+use Rattle.bf_tree.specs.declared.history.Entry.{Entry}
+use Rattle.bf_tree.specs.declared.reply.Cause.{Cause}
+use Rattle.bf_tree.specs.declared.reply.Cause.TheVariants.{Died}
+use Rattle.bf_tree.specs.declared.reply.Reply.{Reply}
+use Rattle.bf_tree.specs.declared.script.Script.{Script}
+use Rattle.bf_tree.specs.declared.script.Session.{Session}
+use Rattle.bf_tree.specs.declared.statement.Statement.{Statement}
+use Rattle.bf_sql.specs.Database.{Database, IsDatabase}
+use Rattle.bf_sql.specs.Groups.{session_at, groups_in, statements_in}
+use Rattle.bf_sql.specs.History.{IsLegalHistory, replayed}
+use Rattle.bf_machine.specs.InOrder.{none_open}
+use Rattle.bf_machine.specs.interleaving.Groups.{footprint_in, HasRun}
+use Rattle.bf_machine.specs.interleaving.Machines.{Group, Began, Open, Machine, open_at, told_at, began_at, answered_in, has_open, transcripts_of}
+
+-- something holds of one of a group's statements, given whether it stands in the group's block
+abbrev pub SomeOf : (Bool → Statement → Type 0) → Bool → List Statement → Type 0
+SomeOf P inner [] = ⊥
+SomeOf P inner (s ∷ ss) = P inner s ⊎ SomeOf P true ss
+
+module _ (start : Database) (script : Script) (history : List Entry) where
+  -- WANTS: a statement of the group, bound in the catalog after some prefix of the history, has the name and the mode in its footprint
+  abbrev pub Wants : ℕ → Group → LockName → Mode → Type 0
+  Wants s group name mode =
+      (k : ℕ) × SomeOf (λ inner statement. Contains (footprint_in (replayed script start (take k history)).1 inner statement) (name, mode)) false (statements_in script s group)
+
+  -- two groups want one name in modes that conflict
+  pub record Clash (s : ℕ) (one : Group) (t : ℕ) (other : Group) : Type 0 where
+    pub name : LockName
+    pub mine : Mode
+    pub theirs : Mode
+    pub first : Wants s one name mine
+    pub second : Wants t other name theirs
+    pub against : are_compatible mine theirs ≡ false
+
+  -- a mode is a join of modes that a group wants
+  pub data IsJoin (s : ℕ) (group : Group) (name : LockName) : Mode → Type 0 where
+    wanted : {mode : Mode} → Wants s group name mode → IsJoin s group name mode
+    joined : {a b : Mode} → IsJoin s group name a → IsJoin s group name b → IsJoin s group name (join_of a b)
+
+abbrev pub phase_of : Script → ℕ → ℕ
+phase_of script s = (session_at script s).phase
+
+-- a group has its start number
+pub record HasStart (began : List Began) (s : ℕ) (group : Group) (n : ℕ) : Type 0 where
+  pub deaths : List ℕ
+  pub is : began_at began n ≡ Some (record { session = s; group = group; deaths = deaths })
+
+-- a group has ended: it stands in the history, or its statements have a cause as their reply
+abbrev pub HasEnded : Machine → ℕ → Group → Type 0
+HasEnded m s group = group.1 ≤ length (told_at m s)
+
+-- session s is of the current phase or of an earlier one: all sessions of phases before its own have ended
+abbrev pub IsCurrent : Machine → ℕ → Type 0
+IsCurrent m s = (t : ℕ) → phase_of m.script t < phase_of m.script s → (length (session_at m.script t).statements ≤ length (told_at m t)) × (open_at m t ≡ None)
+
+-- each session of the script has a place for its open group and for its replies
+pub record IsShaped (m : Machine) : Type 0 where
+  pub opens : length m.opens ≡ length m.script.sessions
+  pub told : length m.told ≡ length m.script.sessions
+
+module _ (start : Database) (script : Script) (began : List Began) (history : List Entry) where
+  -- a group died for an older one of another session of its phase, with which it clashes
+  pub record DiedFor (s : ℕ) (group : Group) (h : ℕ) : Type 0 where
+    pub own : ℕ
+    pub other : ℕ
+    pub theirs : Group
+    pub has : HasStart began s group own
+    pub named : HasStart began other theirs h
+    pub another : other ≢ s
+    pub one_phase : phase_of script other ≡ phase_of script s
+    pub older : h < own
+    pub clash : Clash start script history s group other theirs
+
+  -- the causes of a machine without a log: a group ends by a death where it has died once more than the retries
+  abbrev pub IsAllowed : ℕ → ℕ → Group → Cause → Type 0
+  IsAllowed retries s group (Died h) = (died : DiedFor s group h) × (length died.has.deaths ≡ retries + 1)
+  IsAllowed retries s group other = ⊥
+
+module _ (start : Database) (m : Machine) where
+  abbrev pub AllowedNow : ℕ → Group → Cause → Type 0
+  AllowedNow = IsAllowed start m.script m.began m.history m.retries
+
+  -- HISTORY LEGAL: transcripts and history are legal from the opening database, and the database is the replay's. No group is
+  -- open in the transcripts: the replies of open groups stand apart
+  pub record HistoryLegal : Type 0 where
+    pub legal : IsLegalHistory m.script AllowedNow none_open start m.told m.history
+    pub replay : m.db ≡ (replayed m.script start m.history).1
+    pub database : IsDatabase m.db
+    -- entries stand in what is told, and sessions of phases before theirs have ended
+    pub placed : AllByRecursion (λ e. e.last ≤ length (told_at m e.session)) m.history
+    pub in_turn : AllByRecursion (λ e. IsCurrent m e.session) m.history
+
+  -- so they are with the replies of open groups in their places
+  abbrev pub TranscriptsLegal : Type 0
+  TranscriptsLegal = IsLegalHistory m.script AllowedNow (has_open m) start (transcripts_of m) m.history
+
+  -- OPEN GROUPS REPLAY: an open group of session s
+  pub record IsOpenGroup (s : ℕ) (o : Open) : Type 0 where
+    -- is the session's next group
+    pub whole : Contains (groups_in m.script s) o.group
+    pub next : o.group.0 ≡ length (told_at m s) + 1
+    pub within : length o.replies ≤ length (statements_in m.script s o.group)
+    -- and its replies, and what it is to leave, are those of its answered statements on the present database
+    pub run : HasRun m.locks o.start m.db (answered_in m.script s o) o.pending
+
+  pub record OpenGroupsReplay : Type 0 where
+    pub each : (s : ℕ) (o : Open) → open_at m s ≡ Some o → IsOpenGroup s o
+
+  -- a group that has begun is one of its session's, and has ended or is the next
+  pub record HasBegun (s : ℕ) (group : Group) : Type 0 where
+    pub whole : Contains (groups_in m.script s) group
+    pub goes : HasEnded m s group ⊎ (group.0 ≡ length (told_at m s) + 1)
+
+  -- LOCKS CONSISTENT: owners are start numbers of open groups, and hold joins of modes that their groups want
+  pub record LocksConsistent : Type 0 where
+    pub apart : IsConsistent m.locks
+    pub owners : (name : LockName) (owner : ℕ) (mode : Mode) → held m.locks name owner ≡ Some mode
+        → (s : ℕ) × (o : Open) × (open_at m s ≡ Some o) × (o.start ≡ owner) × IsJoin start m.script m.history s o.group name mode
+    pub starts : (s : ℕ) (o : Open) → open_at m s ≡ Some o → HasStart m.began s o.group o.start
+    -- each group has one start number, and those of earlier phases have the smaller ones
+    pub once : (s : ℕ) (group : Group) (i j : ℕ) → HasStart m.began s group i → HasStart m.began s group j → i ≡ j
+    pub in_turn : (s : ℕ) (group : Group) (n : ℕ) → HasStart m.began s group n → IsCurrent m s
+    pub begun : (s : ℕ) (group : Group) (n : ℕ) → HasStart m.began s group n → HasBegun s group
+    -- each group that has ended had begun
+    pub numbered : (s : ℕ) (group : Group) → Contains (groups_in m.script s) group → HasEnded m s group → (n : ℕ) × HasStart m.began s group n
+    -- the last one of a session alone may not have ended
+    pub by_session : (s : ℕ) (one other : Group) (i j : ℕ) → HasStart m.began s one i → HasStart m.began s other j → i < j → HasEnded m s one
+    pub by_phase : (s t : ℕ) (one other : Group) (i j : ℕ) → HasStart m.began s one i → HasStart m.began t other j → i < j → phase_of m.script s ≤ phase_of m.script t
+
+  -- CAUSES ALLOWED: what a group's deaths named. (That causes in the transcripts are allowed stands in `legal`.)
+  pub record DeathsAllowed (n : ℕ) (b : Began) : Type 0 where
+    pub each : (h : ℕ) → Contains b.deaths h → DiedFor start m.script m.began m.history b.session b.group h
+    -- groups of different sessions
+    pub sessions_differ : (i j s : ℕ) (one other : Group) → i < length b.deaths → j < length b.deaths
+        → HasStart m.began s one (slice_index_or b.deaths i 0) → HasStart m.began s other (slice_index_or b.deaths j 0) → i ≡ j
+    -- of which all but the last have ended, and the last too where the group is open
+    pub ended : (i s : ℕ) (group : Group) → i + 1 < length b.deaths → HasStart m.began s group (slice_index_or b.deaths i 0) → HasEnded m s group
+    pub last_ended : (i s : ℕ) (group : Group) (o : Open) → open_at m b.session ≡ Some o → o.start ≡ n → i < length b.deaths
+        → HasStart m.began s group (slice_index_or b.deaths i 0) → HasEnded m s group
+    -- each later group of these sessions has a greater number than the group that died
+    pub later : (h s k : ℕ) (one other : Group) → Contains b.deaths h → HasStart m.began s one h → HasStart m.began s other k → h < k → n < k
+    -- while the group has not ended it has not died once more than the retries
+    pub most : length b.deaths ≤ m.retries + 1
+    pub retried : (length b.deaths ≤ m.retries) ⊎ HasEnded m b.session b.group
+
+  pub record CausesAllowed : Type 0 where
+    pub deaths : (n : ℕ) (b : Began) → began_at m.began n ≡ Some b → DeathsAllowed n b
+
+  -- ALL OF THEM
+  pub record IsKept : Type 0 where
+    pub shaped : IsShaped m
+    pub history_legal : HistoryLegal
+    pub open_groups_replay : OpenGroupsReplay
+    pub locks_consistent : LocksConsistent
+    pub causes_allowed : CausesAllowed
+
+abbrev pub no_group : Session → Option Open
+no_group s = None
+
+abbrev pub no_replies : Session → List Reply
+no_replies s = []
+
+-- NEW: nothing has begun
+abbrev pub fresh : Database → Script → ℕ → Machine
+fresh start script retries = record {
+  script = script;
+  retries = retries;
+  db = start;
+  locks = fin.empty;
+  began = [];
+  opens = map no_group script.sessions;
+  told = map no_replies script.sessions;
+  history = [];
+}
