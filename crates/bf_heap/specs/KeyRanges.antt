@@ -1,8 +1,8 @@
 -- Key ranges: the keys between two ends. An end has values for the first columns of a key, and bounds the keys by those.
 use Rattle.std.specs.Prelude.{Bool, false, not, ◌&&◌, List, length, take}
 use Rattle.std.specs.declared.cmp.Ordering.{Ordering}
-use Rattle.std.specs.declared.ops.bounds.Bound.{Bound}
-use Rattle.std.specs.declared.ops.bounds.Bound.TheVariants.{Included, Excluded, Unbounded}
+use Rattle.std.specs.declared.ops.Bound.{Bound}
+use Rattle.std.specs.declared.ops.Bound.TheVariants.{Included, Excluded, Unbounded}
 use Rattle.std.specs.Ordering.{is_lt, is_le, is_gt, is_ge}
 use Rattle.bf_base.specs.declared.value.Value.{Value}
 use Rattle.bf_base.specs.Values.{key_cmp}
