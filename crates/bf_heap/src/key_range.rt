@@ -1,9 +1,12 @@
 //! Ranges of keys.
 
-ghost use Rattle.std.specs.Prelude.{◌≡◌};
+ghost use Rattle.std.specs.Prelude.{◌≡◌, IsTrue, filter, not};
+ghost use Rattle.bf_base.specs.Maps.{is_map};
+ghost use Rattle.bf_base.specs.Values.{key_cmp};
+ghost use Rattle.bf_heap.specs.Heaps.{key_of_entry};
 ghost use Rattle.bf_heap.specs.KeyRanges.{front_cmp, is_before, is_behind};
 
-use bf_base::{Key, Value};
+use bf_base::{Key, Row};
 use std::cmp::Ordering;
 use std::ops::Bound;
 
@@ -46,5 +49,25 @@ impl KeyRange {
             Bound::Excluded(end) => compare_front(key, end).is_ge(),
             Bound::Unbounded => false,
         }
+    }
+
+    /// The rows that do not come before the low end, of rows in the order of their keys. It compares
+    /// about log n keys, and takes no memory.
+    pub(crate) fn from_low<'a>(&self, rows: &'a [(Key, Row)]) -> &'a [(Key, Row)]
+        requires { IsTrue (is_map key_cmp key_of_entry rows.now) }
+        ensures { result.now ≡ filter (λ entry. not (is_before self.now.low entry.0)) rows.now }
+    {
+        let before = rows.partition_point(|entry| self.is_before(&entry.0));
+        &rows[before..]
+    }
+
+    /// The rows that do not come behind the high end, of rows in the order of their keys. It compares
+    /// about log n keys, and takes no memory.
+    pub(crate) fn to_high<'a>(&self, rows: &'a [(Key, Row)]) -> &'a [(Key, Row)]
+        requires { IsTrue (is_map key_cmp key_of_entry rows.now) }
+        ensures { result.now ≡ filter (λ entry. not (is_behind self.now.high entry.0)) rows.now }
+    {
+        let within = rows.partition_point(|entry| !self.is_behind(&entry.0));
+        &rows[..within]
     }
 }
