@@ -1,6 +1,6 @@
 -- Tests that keys pass up to some place of their order, and fail from there on: those of the ends of a range.
-use Rattle.std.proofs.Common.{◌≡◌, ℕ, zero, suc, ◌+◌, ◌-◌, ◌<◌, ◌≤◌, Bool, true, false, not, ◌&&◌, cond, ◌⊎◌, List, [], ◌∷◌, ◌++◌, length, get_or, take, drop, filter, Ordering, Less, Equal, Greater, refl, sym, ap, subst, ◌∙◌, inl, inr, arith, IsTrue, is_lt, is_le, is_gt, is_ge}
-use Rattle.std.specs.List.{list_all, AllWithin}
+use Rattle.std.proofs.Common.{◌≡◌, ℕ, zero, suc, ◌+◌, ◌-◌, ◌<◌, Bool, true, false, not, ◌&&◌, List, [], ◌∷◌, ◌++◌, length, get_or, take, drop, filter, Ordering, Less, Equal, Greater, refl, sym, ap, subst, ◌∙◌, inl, inr, arith, IsTrue, is_lt, is_le, is_gt, is_ge}
+use Rattle.std.specs.List.{list_all}
 use Rattle.std.specs.List.Sorted.{IsPartitionPoint, IsPartitionedBy}
 use Rattle.std.specs.declared.ops.Bound.{Bound}
 use Rattle.std.specs.declared.ops.Bound.TheVariants.{Included, Excluded, Unbounded}
@@ -10,14 +10,12 @@ use Rattle.std.proofs.lemmas.Bool.{and_parts, and_from, cases_Bool, cases_lt, fa
 use Rattle.std.proofs.lemmas.List.{append_assoc, append-nil, take_all, drop_all, drop_more, length-drop}
 use Rattle.std.proofs.lemmas.List.Elements.{filter-append}
 use Rattle.bf_base.specs.declared.value.Value.{Value}
-use Rattle.bf_base.specs.Lists.{rises}
 use Rattle.bf_base.specs.Maps.{is_map}
-use Rattle.bf_base.specs.Values.{key_cmp, value_cmp, key_cmp_total, value_cmp_total}
+use Rattle.bf_base.specs.Values.{key_cmp, key_cmp_total}
 use Rattle.bf_base.proofs.Order.{less_from_rises, less_from_test}
 use Rattle.bf_base.proofs.Parts.{filter_all}
-use Rattle.bf_heap.specs.declared.key_range.KeyRange.{KeyRange}
 use Rattle.bf_heap.specs.Heaps.{Entry, key_of_entry}
-use Rattle.bf_heap.specs.KeyRanges.{front_cmp, is_before, is_behind, is_within}
+use Rattle.bf_heap.specs.KeyRanges.{front_cmp, is_before, is_behind}
 use Rattle.bf_heap.specs.Pages.{rows_of, is_used_page, ends_with}
 use Rattle.bf_heap.proofs.Flat.{rises_left, rises_right}
 

@@ -24,7 +24,11 @@ fn compare_front(key: &Key, end: &Key) -> Ordering
 {
     let end = end.as_slice();
     let key = key.as_slice();
-    let front = if end.len() < key.len() { &key[..end.len()] } else { key };
+    let front = if end.len() < key.len() {
+        &key[..end.len()]
+    } else {
+        key
+    };
     front.cmp(end)
 }
 

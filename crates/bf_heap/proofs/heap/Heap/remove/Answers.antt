@@ -31,4 +31,4 @@ pub returns-in-Err-clause-former : goal.returns-in-Err-clause-former
 returns-in-Err-clause-former c = sym (no_row c.self.inside.pages.items c.self.inside.spares.items c.self.inside.count c.self.inside.spare c.self.inside.over _ _ c.self.invariant c.args.self.now c.self.view_is c.deref.result.now c.deref.ensures.value c.args.key.now c.page_near-here.result c.page_near-here.ensures c.index-page.result.now c.index-page.ensures c.in-Err.field-0 c.in-Err.ensures.bound c.in-Err.ensures.position)
 
 pub returns-in-Err-clause-entries : goal.returns-in-Err-clause-entries
-returns-in-Err-clause-entries c = nothing_taken c.self.inside.pages.items c.self.inside.spares.items c.self.inside.count c.self.inside.spare c.self.inside.over _ _ c.self.invariant c.args.self.now c.self.view_is c.deref.result.now c.deref.ensures.value c.args.key.now c.page_near-here.result c.page_near-here.ensures c.index-page.result.now c.index-page.ensures c.in-Err.field-0 c.in-Err.ensures.bound c.in-Err.ensures.position
+returns-in-Err-clause-entries c = ap (λ (h : Rows). h.entries) c.self.view_is ∙ nothing_taken c.self.inside.pages.items c.self.inside.spares.items c.self.inside.count c.self.inside.spare c.self.inside.over _ _ c.self.invariant c.args.self.now c.self.view_is c.deref.result.now c.deref.ensures.value c.args.key.now c.page_near-here.result c.page_near-here.ensures c.index-page.result.now c.index-page.ensures c.in-Err.field-0 c.in-Err.ensures.bound c.in-Err.ensures.position
