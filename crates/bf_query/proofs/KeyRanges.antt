@@ -1,14 +1,11 @@
 -- The range of keys that a condition leaves, column by column.
-use Rattle.std.proofs.Common.{◌≡◌, ℕ, List, [], ◌∷◌, ◌++◌, fold, flat_map, slice_get, Option, Some, None, refl, ap, ◌∙◌}
+use Rattle.std.proofs.Common.{◌≡◌, ℕ, List, [], ◌∷◌, ◌++◌, slice_get, Some, None, refl}
 use Rattle.std.specs.List.{filter_map}
-use Rattle.std.specs.declared.ops.Bound.{Bound}
-use Rattle.std.proofs.lemmas.Grind.{fold-append}
 use Rattle.std.proofs.lemmas.List.Elements.{filter_map-append}
 use Rattle.bf_base.specs.declared.value.Value.{Value}
 use Rattle.bf_tree.specs.Trees.{Cond, both}
 use Rattle.bf_sql.specs.Conditions.{conjuncts, value_fixed}
-use Rattle.bf_query.specs.declared.range.Side.{Side}
-use Rattle.bf_query.specs.Ranges.{column_fixed, comparisons, end_of, narrower, narrowed}
+use Rattle.bf_query.specs.Ranges.{column_fixed}
 
 first_of_both : {Y : Type 0} (y : Y) (xs ys : List Y) → slice_get xs 0 ≡ Some y → slice_get (xs ++ ys) 0 ≡ Some y
 first_of_both y [] ys e = absurd cc
