@@ -24,6 +24,12 @@ abbrev pub begins_behind : List Value → List Entry → Bool
 begins_behind key [] = false
 begins_behind key (e ∷ es) = is_gt (key_cmp e.0 key)
 
+-- whether a page's last key passes a test; a page without rows does
+abbrev pub ends_with : (List Value → Bool) → List Entry → Bool
+ends_with test [] = true
+ends_with test (e ∷ []) = test e.0
+ends_with test (e ∷ f ∷ es) = ends_with test (f ∷ es)
+
 -- the sum over all pages of the rows above half a page
 abbrev pub above_half : List (List Entry) → ℕ
 above_half [] = 0
@@ -38,10 +44,10 @@ first_page (page ∷ pages) = 0
 abbrev pub page_at : List (List Entry) → ℕ → List Entry
 page_at pages place = slice_index_or pages place []
 
--- what is ahead of a place in a page, and the pages behind it: without rows only where no page is left
-pub record IsAhead (rows : List Entry) (pages : List (List Entry)) : Type 0 where
+-- what is ahead of a place in a page, the pages behind it, and what counts of one last page: without rows only where nothing is behind
+pub record IsAhead (rows : List Entry) (pages : List (List Entry)) (last : List Entry) : Type 0 where
   pub used : IsTrue (list_all is_used_page pages)
-  pub none : rows ≡ [] → pages ≡ []
+  pub none : rows ≡ [] → (pages ≡ []) × (last ≡ [])
 
 -- the last page that does not begin behind a key, or the first page
 pub record IsPageOf (pages : List (List Entry)) (key : List Value) (place : ℕ) : Type 0 where

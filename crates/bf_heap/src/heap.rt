@@ -1,12 +1,16 @@
 //! Pages of rows under their keys.
 
-ghost use Rattle.std.specs.Prelude.{◌≡◌, ◌↔◌, [], ◌+◌, ◌*◌, ◌<◌, ◌≤◌, ◌⊎◌, IsTrue, OnOk, OnErr, length, slice_get, slice_index_or, ◌-◌, vec_len, vec_capacity};
+ghost use Rattle.std.specs.Prelude.{◌≡◌, ◌↔◌, [], ◌++◌, ◌+◌, ◌*◌, ◌<◌, ◌≤◌, ◌⊎◌, IsTrue, OnOk, OnErr, filter, length, not, slice_get, slice_index_or, ◌-◌, vec_len, vec_capacity};
 ghost use Rattle.std.specs.List.{list_all};
 ghost use Rattle.std.specs.Option.{option_map};
-ghost use Rattle.bf_heap.specs.Heaps.{Entry, empty_heap, IsHeap, row_under, has_row, with_row, without_row, spare_after};
-ghost use Rattle.bf_heap.specs.Pages.{IsPageOf, IsPutNew, IsTakenOut, page_at, is_empty_page, first_page};
+ghost use Rattle.bf_base.specs.Maps.{is_map};
+ghost use Rattle.bf_base.specs.Values.{key_cmp};
+ghost use Rattle.bf_heap.specs.Heaps.{Entry, empty_heap, IsHeap, key_of_entry, row_under, has_row, with_row, without_row, spare_after};
+ghost use Rattle.bf_heap.specs.KeyRanges.{is_behind, is_within};
+ghost use Rattle.bf_heap.specs.Pages.{IsPageOf, IsPutNew, IsTakenOut, page_at, is_empty_page, is_used_page, first_page, rows_of};
 
 use crate::cursor::Cursor;
+use crate::key_range::KeyRange;
 use crate::page::{FULL, HALF, Page};
 use bf_base::{Key, Memory, Row};
 use std::alloc::Global;
@@ -16,7 +20,7 @@ use std::marker::Model;
 /// below 2 ^ 32. Contracts see the rows in the order of their keys, and the room.
 ///
 /// The rows stand in pages of 1 to 64, in the order of the keys. A look-up compares about log n
-/// keys. A put of a new key moves at most 64 rows, and where its page is full and so is split, the
+/// keys; a put or a removal near the last one, as where keys rise, at most eleven. A put of a new key moves at most 64 rows, and where its page is full and so is split, the
 /// places of the pages behind; a removal does so where a page loses its last row. `reserve` makes
 /// the pages of later rows, and a page that has lost its last row is kept for them.
 #[derive(Drop)]
@@ -33,6 +37,8 @@ pub struct Heap {
     // The sum over all pages of the rows above half a page. A put brings it up by one at most, and a
     // split down by 32. So half a page for each spare one is enough for this sum and the room.
     over: usize,
+    // The place of the page of the last put or removal, or any other: where a search begins.
+    near: usize,
 }
 
 impl Model for Heap {
@@ -65,6 +71,47 @@ fn page_of(pages: &[Page], key: &Key) -> usize
         }
     }
     low
+}
+
+/// Whether a place is that of the last page that does not begin behind a key, or else of the first
+/// page. It compares two keys at most, and takes no memory.
+fn is_page_of(pages: &[Page], place: usize, key: &Key) -> bool
+    ensures { IsTrue result → IsPageOf pages.now key.now place }
+{
+    place < pages.len()
+        && (place == 0 || !pages[place].begins_behind(key))
+        && (place + 1 == pages.len() || pages[place + 1].begins_behind(key))
+}
+
+/// The same place as `page_of` gives. A page and the one behind it are tried first, so for a key
+/// near them it compares four keys at most, and else about log n. Takes no memory.
+fn page_near(pages: &[Page], near: usize, key: &Key) -> usize
+    requires { 0 < length pages.now }
+    ensures { IsPageOf pages.now key.now result }
+{
+    if is_page_of(pages, near, key) {
+        return near;
+    }
+    if near < pages.len() && is_page_of(pages, near + 1, key) {
+        return near + 1;
+    }
+    page_of(pages, key)
+}
+
+/// The whole pages and the front of one more that do not come behind the high end of a range. It
+/// compares about log n keys, and takes no memory.
+fn to_high<'a>(pages: &'a [Page], range: &KeyRange) -> (&'a [Page], &'a [(Key, Row)])
+    requires used { IsTrue (list_all is_used_page pages.now) }
+    requires in_order { IsTrue (is_map key_cmp key_of_entry (rows_of pages.now)) }
+    ensures used { IsTrue (list_all is_used_page result.0.now) }
+    ensures rows { rows_of result.0.now ++ result.1.now
+        ≡ filter (λ entry. not (is_behind range.now.high entry.0)) (rows_of pages.now) }
+{
+    let whole = pages.partition_point(|page| page.ends_within(range));
+    if whole == pages.len() {
+        return (pages, &[]);
+    }
+    (&pages[..whole], range.to_high(pages[whole].rows()))
 }
 
 /// Adds pages to the spare ones until there are this many.
@@ -208,6 +255,7 @@ impl Heap {
             count: 0,
             spare: 0,
             over: 0,
+            near: 0,
         }
     }
 
@@ -263,7 +311,16 @@ impl Heap {
     pub fn first(&self) -> Cursor<'_>
         ensures { result ≡ self.now.entries }
     {
-        Cursor::new(&self.pages)
+        Cursor::new(&self.pages, &[])
+    }
+
+    /// The place of the first row whose key is in a range; those behind it end with the range. It
+    /// compares about log n keys, and takes no memory.
+    pub fn range(&self, range: &KeyRange) -> Cursor<'_>
+        ensures { result ≡ filter (λ entry. is_within range.now entry.0) self.now.entries }
+    {
+        let (whole, last) = to_high(&self.pages, range);
+        Cursor::from_low(whole, last, range)
     }
 
     /// The number of pages with rows. Takes no memory.
@@ -307,7 +364,8 @@ impl Heap {
     }
 
     /// Puts a row under a key, and answers the row that stood there. The key is there, or there is
-    /// room. Takes no memory.
+    /// room. In the page of the last put or removal, or in the one behind it, it compares at most
+    /// eleven keys, and else about log n. Takes no memory.
     pub fn put(&mut self, key: Key, row: Row) -> Option<Row>
         requires { IsTrue (has_row self.old.entries key) ⊎ (0 < self.old.spare) }
         ensures former { result ≡ row_under self.old.entries key }
@@ -322,7 +380,8 @@ impl Heap {
             self.spare -= 1;
             return None;
         }
-        let here = page_of(&self.pages, &key);
+        let here = page_near(&self.pages, self.near, &key);
+        self.near = here;
         let page = &self.pages[here];
         let rows = page.len();
         match page.find(&key) {
@@ -341,7 +400,8 @@ impl Heap {
     }
 
     /// Takes the row under a key out, and answers it; `None` exactly where there is none, and then
-    /// the heap is as it was. Takes no memory.
+    /// the heap is as it was. In the page of the last put or removal, or in the one behind it, it
+    /// compares at most eleven keys, and else about log n. Takes no memory.
     pub fn remove(&mut self, key: &Key) -> Option<Row>
         ensures former { result ≡ row_under self.old.entries key.now }
         ensures entries { self.new.entries ≡ without_row self.old.entries key.now }
@@ -350,7 +410,8 @@ impl Heap {
         if self.pages.is_empty() {
             return None;
         }
-        let here = page_of(&self.pages, key);
+        let here = page_near(&self.pages, self.near, key);
+        self.near = here;
         let page = &self.pages[here];
         let rows = page.len();
         match page.find(key) {

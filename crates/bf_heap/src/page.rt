@@ -1,12 +1,14 @@
 //! Pages of rows.
 
-ghost use Rattle.std.specs.Prelude.{◌≡◌, [], ◌≤◌, ◌<◌, List, length, take, drop, reverse, vec_capacity, IfOk, slice_index_or, slice_set};
+ghost use Rattle.std.specs.Prelude.{◌≡◌, [], ◌≤◌, ◌<◌, List, length, take, drop, reverse, vec_capacity, IfOk, not, slice_index_or, slice_set};
 ghost use Rattle.std.specs.List.{insert, remove};
 ghost use Rattle.std.specs.List.Sorted.{IsBinarySearchResult, IsSearchInRange};
 ghost use Rattle.bf_base.specs.Values.{key_cmp};
 ghost use Rattle.bf_heap.specs.Heaps.{Entry};
-ghost use Rattle.bf_heap.specs.Pages.{begins_behind};
+ghost use Rattle.bf_heap.specs.KeyRanges.{is_before, is_behind};
+ghost use Rattle.bf_heap.specs.Pages.{begins_behind, ends_with};
 
+use crate::key_range::KeyRange;
 use bf_base::{Key, Memory, Row};
 use std::alloc::Global;
 use std::cmp::Ordering;
@@ -76,6 +78,26 @@ impl Page {
         match self.rows.as_slice() {
             [] => false,
             [first, ..] => first.0.compare(key) == Ordering::Greater,
+        }
+    }
+
+    /// Whether the last key comes before the low end of a range. Takes no memory.
+    pub fn ends_before(&self, range: &KeyRange) -> bool
+        ensures { result ≡ ends_with (is_before range.now.low) self.now }
+    {
+        match self.rows.as_slice() {
+            [] => true,
+            [.., last] => range.is_before(&last.0),
+        }
+    }
+
+    /// Whether the last key does not come behind the high end of a range. Takes no memory.
+    pub fn ends_within(&self, range: &KeyRange) -> bool
+        ensures { result ≡ ends_with (λ key. not (is_behind range.now.high key)) self.now }
+    {
+        match self.rows.as_slice() {
+            [] => true,
+            [.., last] => !range.is_behind(&last.0),
         }
     }
 

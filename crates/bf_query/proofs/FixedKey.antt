@@ -15,7 +15,7 @@ use Rattle.bf_tree.specs.Trees.{literal, column, Cond, always, compared, between
 use Rattle.bf_tree.specs.Evaluation.{holds_on}
 use Rattle.bf_sql.specs.Conditions.{conjuncts, value_fixed, all_there, fixed_key}
 
-same_place : (m n : ℕ) → m == n ≡ true → m ≡ n
+pub same_place : (m n : ℕ) → m == n ≡ true → m ≡ n
 same_place m n e = grind (arith, nat_tests)
 
 all_append : {X : Type 0} (test : X → Bool) (xs ys : List X) → list_all test xs ≡ true → list_all test ys ≡ true → list_all test (xs ++ ys) ≡ true
@@ -24,7 +24,7 @@ all_append test (x ∷ xs) ys h g = and_from _ _ (and_parts _ _ h).0 (all_append
 
 module _ (row : List Value) where
   -- a condition that is true has true conjuncts
-  conjuncts_hold : (c : Cond ℕ) → holds_on (cell row) c ≡ true → list_all (holds_on (cell row)) (conjuncts c) ≡ true
+  pub conjuncts_hold : (c : Cond ℕ) → holds_on (cell row) c ≡ true → list_all (holds_on (cell row)) (conjuncts c) ≡ true
   conjuncts_hold (both c d) h = all_append (holds_on (cell row)) (conjuncts c) (conjuncts d) (conjuncts_hold c (and_parts _ _ h).0) (conjuncts_hold d (and_parts _ _ h).1)
   conjuncts_hold always h = refl
   conjuncts_hold (compared op a b) h = and_from _ _ h refl
@@ -48,7 +48,7 @@ module _ (row : List Value) where
   value_held place (compared compare.Equal (literal w) (column at)) v fixed h = at_place_back at place w v fixed h
   value_held place c v fixed h = absurd cc
 
-  first_held : (place : ℕ) (cs : List (Cond ℕ)) (v : Value) → slice_get (filter_map (value_fixed place) cs) 0 ≡ Some v → list_all (holds_on (cell row)) cs ≡ true → cell row place ≡ v
+  pub first_held : (place : ℕ) (cs : List (Cond ℕ)) (v : Value) → slice_get (filter_map (value_fixed place) cs) 0 ≡ Some v → list_all (holds_on (cell row)) cs ≡ true → cell row place ≡ v
   first_held place [] v first all = absurd cc
   first_held place (c ∷ cs) v first all =
       elim (value_fixed place c) as (λ o. value_fixed place c ≡ o → slice_get (cons_option o (filter_map (value_fixed place) cs)) 0 ≡ Some v → cell row place ≡ v) [

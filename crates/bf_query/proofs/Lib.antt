@@ -6,11 +6,15 @@ pub mod Held
 pub mod Inserting
 pub mod Keeping
 pub mod Keyed
+pub mod KeyRanges
 pub mod Merging
 pub mod OwnKeys
+pub mod RangeRows
 pub mod Renaming
+pub mod Restricting
 pub mod RowsAsEntries
 pub mod Steps
 pub mod Stopping
 pub mod Taken
 pub mod Totals
+pub mod Within

@@ -1,6 +1,6 @@
 //! Laws of the definitions. Each is the contract of a function that does nothing.
 
-ghost use Rattle.std.specs.Prelude.{◌≡◌, ◌≢◌, ℕ, not, IsTrue, List, [], map, filter, fold, Option, Some, if◌then◌else◌};
+ghost use Rattle.std.specs.Prelude.{◌≡◌, ◌≢◌, ℕ, Bool, not, IsTrue, List, [], map, filter, fold, Option, Some, if◌then◌else◌};
 ghost use Rattle.std.specs.List.{All};
 ghost use Rattle.bf_base.specs.declared.table.Table.{Table};
 ghost use Rattle.bf_base.specs.declared.value.Value.{Value};
@@ -11,6 +11,7 @@ ghost use Rattle.bf_base.specs.Values.{key_cmp};
 ghost use Rattle.bf_tree.specs.Evaluation.{holds_on};
 ghost use Rattle.bf_tree.specs.Trees.{Cond, Expr};
 ghost use Rattle.bf_heap.specs.Heaps.{Entry, key_of_entry};
+ghost use Rattle.bf_heap.specs.KeyRanges.{is_within};
 ghost use Rattle.bf_sql.specs.Queries.{changed};
 ghost use Rattle.bf_tree.specs.declared.bound.Action.{Action};
 ghost use Rattle.bf_tree.specs.declared.bound.Action.TheVariants as action;
@@ -18,7 +19,8 @@ ghost use Rattle.bf_txn.specs.declared.write.Write.{Write};
 ghost use Rattle.bf_txn.specs.Writes.{AreWrites, with_write};
 ghost use Rattle.bf_query.specs.Actions.{IsWellBound, objections_on, action_table, writes_of};
 ghost use Rattle.bf_query.specs.Changes.{LeavesKeys};
-ghost use Rattle.bf_query.specs.Merged.{StandUnderOwnKeys, rows_under};
+ghost use Rattle.bf_query.specs.Merged.{StandUnderOwnKeys, applied, rows_under};
+ghost use Rattle.bf_query.specs.Ranges.{key_range_of};
 
 /// The writes of an INSERT that nothing stands in the way of place its tuples among the rows of
 /// the table, in key order.
@@ -75,4 +77,21 @@ pub fn an_action_keeps_own_keys()
         (entries : List Entry) (writes : List Write) → action_table act ≡ Some table
         → other.name ≢ table.name → StandUnderOwnKeys other entries writes
         → StandUnderOwnKeys other entries (fold with_write writes (writes_of rows act)) }
+{}
+
+/// A row that satisfies a condition has its key in the range that the condition leaves.
+pub fn a_key_range_has_the_keys_of_its_rows()
+    ensures { (table : Table) (cond : Cond ℕ) (row : List Value)
+        → IsTrue (holds_on (cell row) cond)
+        → IsTrue (is_within (key_range_of table cond) (key_of table row)) }
+{}
+
+/// Of entries under writes, the keys that pass a test have the rows that the writes to such keys
+/// make of the entries with such keys.
+pub fn keys_may_be_chosen_first()
+    ensures { (test : List Value → Bool) (entries : List Entry) (writes : List Write)
+        → IsTrue (is_map key_cmp key_of_entry entries)
+        → filter (λ entry. test entry.0) (fold applied entries writes)
+        ≡ fold applied (filter (λ entry. test entry.0) entries)
+        (filter (λ write. test write.key) writes) }
 {}

@@ -6,6 +6,7 @@ pub mod change;
 pub mod laws;
 pub mod meaning;
 pub mod merge;
+pub mod range;
 mod running;
 pub mod selection;
 mod sum;

@@ -1,2 +1,4 @@
-pub mod Boxes
+pub mod Ahead
+pub mod KeyWrites
 pub mod Tables
+pub mod Taking

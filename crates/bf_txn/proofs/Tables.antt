@@ -1,109 +1,275 @@
--- The writes to one table among sorted ones: those from the first place on, up to the second.
-use Rattle.std.proofs.Common.{◌≡◌, ℕ, zero, suc, ◌+◌, ◌≤◌, Bool, true, false, not, ◌&&◌, cond, List, [], ◌∷◌, map, filter, take, drop, get_or, Ordering, Less, Equal, Greater, refl, sym, ap, ◌∙◌, arith, is_lt, is_le, is_eq}
-use Rattle.std.specs.List.Sorted.{IsPartitionPoint, IsNonDecreasingBy, IsPartitionedBy}
-use Rattle.std.specs.Ordering.{ordering_index, ordering_then}
-use Rattle.std.proofs.lemmas.List.Sorted.{searchable_from_sorted, IsNonDecreasingBy-drop}
-use Rattle.std.proofs.lemmas.Simd.{map-map}
-use Rattle.bf_base.specs.Lists.{same_name, name_cmp, rises}
-use Rattle.bf_base.specs.Values.{key_cmp}
+-- The writes of tables, one table behind the other.
+use Rattle.std.proofs.Common.{◌≡◌, ℕ, true, false, cond, List, [], ◌∷◌, ◌++◌, map, fold, Ordering, Less, Equal, Greater, Option, Some, None, option_map, unwrap_or, refl, sym, ap, subst, ◌∙◌, inl, inr, is_lt, is_eq}
+use Rattle.std.specs.BTreeMap.{is_at}
+use Rattle.std.specs.Cmp.{IsTotalOrder, on_total, then_total}
+use Rattle.std.specs.FinMap.{IsAntisymmetric, nat_cmp-IsAntisymmetric, slice_cmp-IsAntisymmetric}
+use Rattle.std.specs.Map.{keys_of, lookup}
+use Rattle.std.specs.Ordering.{ordering_then}
+use Rattle.std.proofs.lemmas.Bool.{and_parts, and_from, cases_Bool}
+use Rattle.std.proofs.lemmas.Cmp.{tied_itself}
+use Rattle.std.proofs.lemmas.List.{append-nil}
+use Rattle.std.specs.List.Sorted.{IsStrictlySortedBy}
+use Rattle.bf_base.specs.declared.value.Value.{Value}
+use Rattle.bf_base.specs.Lists.{rises, name_cmp, same_name}
+use Rattle.bf_base.specs.Maps.{is_map, entry_at}
+use Rattle.bf_base.specs.Values.{key_cmp, key_cmp_total, key_cmp-IsAntisymmetric}
 use Rattle.bf_base.proofs.Names.{name_cmp_total, same_name-tie}
-use Rattle.bf_base.proofs.Order.{less_from_rises, turned_less, turned_equal}
-use Rattle.bf_base.proofs.Parts.{filter-filter}
+use Rattle.bf_base.proofs.Order.{first_is, less_from_test, equal_from_test, symmetric, turned_less, rises_alike, rises_cons, rises_tail, rises_skip, same_from_look_ups}
 use Rattle.bf_txn.specs.declared.write.Write.{Write}
-use Rattle.bf_txn.specs.Writes.{TableKey, table_key_cmp, table_key_of, writes_to, AreWrites}
-use Rattle.bf_txn.proofs.Boxes.{table_key_cmp_total}
+use Rattle.bf_txn.specs.Writes.{AreKeyWrites, AreTables, AreWrites, KeyWrite, OfTable, TableKey, all_writes, key_of_write, key_write_of, key_writes_to, row_written_at, table_key_cmp, table_key_of, with_key_write, with_write, writes_at, writes_in, writes_to, written_at}
+use Rattle.bf_txn.proofs.KeyWrites.{entry_at-with_entries, is_map-with_entries, looked_up, over, over_none, rises_from_sorted}
 
-module _ {X : Type 0} (p : X → Bool) where
-  pub take_passing : (xs : List X) (i : ℕ) → IsPartitionPoint (λ y. p y ≡ true) (λ y. p y ≡ false) xs i → take i xs ≡ filter p xs
-  take_passing [] zero at = refl
-  take_passing [] (suc i) at = refl
-  take_passing (x ∷ xs) zero at =
-      let fails : p x ≡ false = at.1 0 x (omega arith) (omega arith) in
-      rw (fails, ← take_passing xs zero (λ j d low high. absurd (omega arith), λ j d low high. at.1 (suc j) d (omega arith) (omega arith))) refl
-  take_passing (x ∷ xs) (suc i) at =
-      let passes : p x ≡ true = at.0 0 x (omega arith) (omega arith) in
-      let rest = take_passing xs i (λ j d low high. at.0 (suc j) d (omega arith) (omega arith), λ j d low high. at.1 (suc j) d (omega arith) (omega arith)) in
-      rw (passes, rest) refl
+pub table_key_cmp_total : IsTotalOrder table_key_cmp
+table_key_cmp_total = then_total (on_total (λ (table_key : TableKey). table_key.0) name_cmp_total) (on_total (λ (table_key : TableKey). table_key.1) key_cmp_total)
 
-  pub drop_passing : (xs : List X) (i : ℕ) → IsPartitionPoint (λ y. p y ≡ true) (λ y. p y ≡ false) xs i → drop i xs ≡ filter (λ x. not (p x)) xs
-  drop_passing [] zero at = refl
-  drop_passing [] (suc i) at = refl
-  drop_passing (x ∷ xs) zero at =
-      let fails : p x ≡ false = at.1 0 x (omega arith) (omega arith) in
-      rw (fails, ← drop_passing xs zero (λ j d low high. absurd (omega arith), λ j d low high. at.1 (suc j) d (omega arith) (omega arith))) refl
-  drop_passing (x ∷ xs) (suc i) at =
-      let passes : p x ≡ true = at.0 0 x (omega arith) (omega arith) in
-      let rest = drop_passing xs i (λ j d low high. at.0 (suc j) d (omega arith) (omega arith), λ j d low high. at.1 (suc j) d (omega arith) (omega arith)) in
-      rw (passes, rest) refl
+pub same_names : IsAntisymmetric name_cmp
+same_names = slice_cmp-IsAntisymmetric nat_cmp-IsAntisymmetric
 
-pub filter_alike : {X : Type 0} (p q : X → Bool) → ((x : X) → p x ≡ q x) → (xs : List X) → filter p xs ≡ filter q xs
-filter_alike p q same [] = refl
-filter_alike p q same (x ∷ xs) = rw (same x, filter_alike p q same xs) refl
+abbrev pub names_of : List OfTable → List (List ℕ)
+names_of tables = map (λ t. t.0) tables
 
-pub map-filter : {X Y : Type 0} (test : Y → Bool) (f : X → Y) (xs : List X) → map f (filter (λ x. test (f x)) xs) ≡ filter test (map f xs)
-map-filter test f [] = refl
-map-filter test f (x ∷ xs) = elim (test (f x)) as (λ b. map f (cond b (x ∷ filter (λ x. test (f x)) xs) (filter (λ x. test (f x)) xs)) ≡ cond b (f x ∷ filter test (map f xs)) (filter test (map f xs))) [
-  | true ↦ ap (λ ys. f x ∷ ys) (map-filter test f xs)
-  | false ↦ map-filter test f xs
+-- the keys rise, by name and then by key
+abbrev pub RisesIn : List OfTable → Type 0
+RisesIn tables = rises name_cmp (names_of tables) ≡ true
+
+abbrev pub written : List ℕ → List Value → Option (List Value) → Write
+written table key row = record { table = table; key = key; row = row }
+
+then_apart : (r s : Ordering) → is_eq r ≡ false → is_eq (ordering_then r s) ≡ false
+then_apart Less s e = refl
+then_apart Equal s e = absurd cc
+then_apart Greater s e = refl
+
+-- a name before those of all tables
+apart_below : (n m : List ℕ) → is_lt (name_cmp n m) ≡ true → is_eq (name_cmp m n) ≡ false
+apart_below n m less = ap is_eq (turned_less name_cmp_total n m (less_from_test _ less))
+
+module _ (n : List ℕ) where
+  none_named : (ts : List OfTable) → rises name_cmp (n ∷ names_of ts) ≡ true → lookup (is_at (name_cmp n)) ts ≡ None
+  none_named [] h = refl
+  none_named (t ∷ ts) h =
+      let less : name_cmp n t.0 ≡ Less = less_from_test _ (and_parts _ _ h).0 in
+      rw (less, none_named ts (rises_skip name_cmp_total n t.0 (names_of ts) h)) refl
+
+-- the writes of a table by its name
+writes_at-first : (t : OfTable) (ts : List OfTable) (n : List ℕ) → is_eq (name_cmp t.0 n) ≡ true → writes_at (t ∷ ts) n ≡ t.1
+writes_at-first t ts n tied =
+    let turned : is_eq (name_cmp n t.0) ≡ true = symmetric name_cmp_total n t.0 ∙ tied in
+    rw turned refl
+
+writes_at-later : (t : OfTable) (ts : List OfTable) (n : List ℕ) → is_eq (name_cmp t.0 n) ≡ false → writes_at (t ∷ ts) n ≡ writes_at ts n
+writes_at-later t ts n apart =
+    let turned : is_eq (name_cmp n t.0) ≡ false = symmetric name_cmp_total n t.0 ∙ apart in
+    rw turned refl
+
+-- the writes to tables behind the first
+later_each : (t : OfTable) (ts : List OfTable) → RisesIn (t ∷ ts) → ((n : List ℕ) → is_map key_cmp key_of_write (writes_at (t ∷ ts) n) ≡ true) → (n : List ℕ) → is_map key_cmp key_of_write (writes_at ts n) ≡ true
+later_each t ts h each n = elim (cases_Bool (is_eq (name_cmp t.0 n))) [
+  | inl tied ↦
+      let none = none_named n ts (rises_alike name_cmp_total t.0 n (names_of ts) (equal_from_test _ tied) h) in
+      rw none refl
+  | inr apart ↦ subst (λ ws. is_map key_cmp key_of_write ws ≡ true) (writes_at-later t ts n apart) (each n)
 ]
 
--- a name neither before another nor behind it is that name
-same_between : (a b : List ℕ) → (not (is_lt (name_cmp a b)) && is_le (name_cmp a b)) ≡ same_name a b
-same_between a b = between (name_cmp a b) ∙ sym (same_name-tie a b)
+-- ---- in their order
+first_behind : (n : List ℕ) (k : List Value) (ts : List OfTable) → rises name_cmp (n ∷ names_of ts) ≡ true → first_is (λ b. is_lt (table_key_cmp (n, k) b)) (map table_key_of (all_writes ts)) ≡ true
+first_behind n k [] h = refl
+first_behind n k (t ∷ ts) h = behind t.0 t.1 (less_from_test _ (and_parts _ _ h).0) (first_behind n k ts (rises_skip name_cmp_total n t.0 (names_of ts) h))
   where
-    between : (r : Ordering) → (not (is_lt r) && is_le r) ≡ is_eq r
-    between Less = refl
-    between Equal = refl
-    between Greater = refl
+    behind : (m : List ℕ) (ws : List KeyWrite) → name_cmp n m ≡ Less → first_is (λ b. is_lt (table_key_cmp (n, k) b)) (map table_key_of (all_writes ts)) ≡ true
+        → first_is (λ b. is_lt (table_key_cmp (n, k) b)) (map table_key_of (writes_in m ws ++ all_writes ts)) ≡ true
+    behind m [] less rest = rest
+    behind m (w ∷ ws) less rest = rw less refl
 
--- the tables of sorted writes don't fall
-not_behind : (a b : TableKey) → table_key_cmp a b ≡ Less → is_lt (name_cmp b.0 a.0) ≡ false
-not_behind a b less = elim (name_cmp a.0 b.0) as (λ r. name_cmp a.0 b.0 ≡ r → ordering_then r (key_cmp a.1 b.1) ≡ Less → is_lt (name_cmp b.0 a.0) ≡ false) [
-  | Less ↦ λ e l. ap is_lt (turned_less name_cmp_total a.0 b.0 e)
-  | Equal ↦ λ e l. ap is_lt (turned_equal name_cmp_total a.0 b.0 e)
-  | Greater ↦ λ e l. absurd cc
-] refl less
+in_front : (n : List ℕ) (ws : List KeyWrite) (rest : List Write) → is_map key_cmp key_of_write ws ≡ true → is_map table_key_cmp table_key_of rest ≡ true
+    → ((k : List Value) → first_is (λ b. is_lt (table_key_cmp (n, k) b)) (map table_key_of rest) ≡ true)
+    → is_map table_key_cmp table_key_of (writes_in n ws ++ rest) ≡ true
+in_front n [] rest h sorted first = sorted
+in_front n (w ∷ []) rest h sorted first = rises_cons table_key_cmp_total (n, w.0) (map table_key_of rest) (first w.0) sorted
+in_front n (w ∷ v ∷ ws) rest h sorted first =
+    let less : is_lt (ordering_then (name_cmp n n) (key_cmp w.0 v.0)) ≡ true = rw (tied_itself name_cmp_total n) (and_parts _ _ h).0 in
+    and_from _ _ less (in_front n (v ∷ ws) rest (and_parts _ _ h).1 sorted first)
 
--- what is before or level with a place that is before, or not behind, is so itself
-lt_below : (r s : Ordering) → ordering_index r ≤ ordering_index s → is_lt s ≡ true → is_lt r ≡ true
-lt_below Less s h e = refl
-lt_below Equal Less h e = absurd (omega arith)
-lt_below Equal Equal h e = e
-lt_below Equal Greater h e = e
-lt_below Greater Less h e = absurd (omega arith)
-lt_below Greater Equal h e = e
-lt_below Greater Greater h e = e
+in_order : (ts : List OfTable) → RisesIn ts → ((n : List ℕ) → is_map key_cmp key_of_write (writes_at ts n) ≡ true) → AreWrites (all_writes ts)
+in_order [] h each = refl
+in_order (t ∷ ts) h each =
+    let own : is_map key_cmp key_of_write t.1 ≡ true = subst (λ ws. is_map key_cmp key_of_write ws ≡ true) (writes_at-first t ts t.0 (ap is_eq (tied_itself name_cmp_total t.0))) (each t.0) in
+    in_front t.0 t.1 (all_writes ts) own (in_order ts (rises_tail name_cmp_total t.0 (names_of ts) h) (later_each t ts h each)) (λ k. first_behind t.0 k ts h)
 
-le_below : (r s : Ordering) → ordering_index r ≤ ordering_index s → is_le s ≡ true → is_le r ≡ true
-le_below Less s h e = refl
-le_below Equal s h e = refl
-le_below Greater Less h e = absurd (omega arith)
-le_below Greater Equal h e = absurd (omega arith)
-le_below Greater Greater h e = e
+pub names_rise : (ts : List OfTable) → AreTables ts → RisesIn ts
+names_rise ts h = rises_from_sorted name_cmp_total ts h.by_name
 
-module _ {B : Type 0} (opened : B → Write) (boxes : List B) (sorted : AreWrites (map opened boxes)) (table : List ℕ) where
-  abbrev pub before : B → Bool
-  before b = is_lt (name_cmp (opened b).table table)
+pub are_writes : (ts : List OfTable) → AreTables ts → AreWrites (all_writes ts)
+are_writes ts h = in_order ts (names_rise ts h) (λ n. rises_from_sorted key_cmp_total (writes_at ts n) (h.each n))
 
-  abbrev pub upto : B → Bool
-  upto b = is_le (name_cmp (opened b).table table)
+-- ---- look-ups
+module _ (n : List ℕ) (k : List Value) where
+  here : (ws : List KeyWrite) (rest : List Write) → entry_at table_key_cmp table_key_of rest (n, k) ≡ None
+      → entry_at table_key_cmp table_key_of (writes_in n ws ++ rest) (n, k) ≡ option_map (written n k) (lookup (is_at (key_cmp k)) ws)
+  here [] rest none = none
+  here (w ∷ ws) rest none = elim (cases_Bool (is_eq (key_cmp w.0 k))) [
+    | inl tied ↦
+        let turned : is_eq (key_cmp k w.0) ≡ true = symmetric key_cmp_total k w.0 ∙ tied in
+        let same : w.0 ≡ k = key_cmp-IsAntisymmetric w.0 k (equal_from_test _ tied) in
+        rw (tied_itself name_cmp_total n, tied, turned) (ap (λ (q : List Value). Some (written n q w.1)) same)
+    | inr apart ↦
+        let turned : is_eq (key_cmp k w.0) ≡ false = symmetric key_cmp_total k w.0 ∙ apart in
+        rw (tied_itself name_cmp_total n, apart, turned) (here ws rest none)
+  ]
 
-  rises_by_table : IsNonDecreasingBy (λ b. ordering_index (name_cmp (opened b).table table)) boxes
-  rises_by_table =
-      let table_keys : rises table_key_cmp (map (λ b. table_key_of (opened b)) boxes) ≡ true = ap (rises table_key_cmp) (sym (map-map table_key_of opened boxes)) ∙ sorted in
-      searchable_from_sorted name_cmp_total (λ b. (opened b).table) boxes table
-      (λ i d low high. not_behind (table_key_of (opened (get_or boxes i d))) (table_key_of (opened (get_or boxes (i + 1) d))) (less_from_rises table_key_cmp_total (λ b. table_key_of (opened b)) boxes i (i + 1) d table_keys (omega arith) high))
+  elsewhere : (m : List ℕ) (ws : List KeyWrite) (rest : List Write) → is_eq (name_cmp m n) ≡ false
+      → entry_at table_key_cmp table_key_of (writes_in m ws ++ rest) (n, k) ≡ entry_at table_key_cmp table_key_of rest (n, k)
+  elsewhere m [] rest apart = refl
+  elsewhere m (w ∷ ws) rest apart = rw (then_apart (name_cmp m n) (key_cmp w.0 k) apart) (elsewhere m ws rest apart)
 
-  pub before_parted : IsPartitionedBy before boxes
-  before_parted i j d within in_range = lt_below _ _ (rises_by_table i j d within in_range)
+  none_later : (ts : List OfTable) → rises name_cmp (n ∷ names_of ts) ≡ true → entry_at table_key_cmp table_key_of (all_writes ts) (n, k) ≡ None
+  none_later [] h = refl
+  none_later (t ∷ ts) h =
+      elsewhere t.0 t.1 (all_writes ts) (apart_below n t.0 (and_parts _ _ h).0)
+      ∙ none_later ts (rises_skip name_cmp_total n t.0 (names_of ts) h)
 
-  pub upto_parted : (k : ℕ) → IsPartitionedBy upto (drop k boxes)
-  upto_parted k i j d within in_range = le_below _ _ (IsNonDecreasingBy-drop (λ b. ordering_index (name_cmp (opened b).table table)) k boxes rises_by_table i j d within in_range)
+  -- what is written to a key of a table
+  pub found_in : (ts : List OfTable) → RisesIn ts → entry_at table_key_cmp table_key_of (all_writes ts) (n, k) ≡ option_map (written n k) (lookup (is_at (key_cmp k)) (writes_at ts n))
+  found_in [] h = refl
+  found_in (t ∷ ts) h = elim (cases_Bool (is_eq (name_cmp t.0 n))) [
+    | inl tied ↦
+        let same : t.0 ≡ n = same_names t.0 n (equal_from_test _ tied) in
+        let none = none_later ts (rises_alike name_cmp_total t.0 n (names_of ts) (equal_from_test _ tied) h) in
+        ap (λ (m : List ℕ). entry_at table_key_cmp table_key_of (writes_in m t.1 ++ all_writes ts) (n, k)) same
+        ∙ here t.1 (all_writes ts) none
+        ∙ sym (ap (λ (ws : List KeyWrite). option_map (written n k) (lookup (is_at (key_cmp k)) ws)) (writes_at-first t ts n tied))
+    | inr apart ↦
+        elsewhere t.0 t.1 (all_writes ts) apart ∙ found_in ts (rises_tail name_cmp_total t.0 (names_of ts) h)
+        ∙ sym (ap (λ (ws : List KeyWrite). option_map (written n k) (lookup (is_at (key_cmp k)) ws)) (writes_at-later t ts n apart))
+  ]
 
-  -- what two searches leave: from the first write that is not before the table, up to the last that is not behind it
-  pub cut : (i k : ℕ) → IsPartitionPoint (λ b. before b ≡ true) (λ b. before b ≡ false) boxes i → IsPartitionPoint (λ b. upto b ≡ true) (λ b. upto b ≡ false) (drop i boxes) k
-      → map opened (take k (drop i boxes)) ≡ writes_to table (map opened boxes)
-  cut i k first last =
-      ap (map opened) (take_passing upto (drop i boxes) k last ∙ ap (filter upto) (drop_passing before boxes i first) ∙ filter-filter upto (λ b. not (before b)) boxes)
-      ∙ ap (map opened) (filter_alike _ (λ b. same_name (opened b).table table) (λ b. same_between (opened b).table table) boxes)
-      ∙ map-filter (λ w. same_name w.table table) opened boxes
+-- ---- the writes to one table
+module _ (n : List ℕ) where
+  here_to : (ws : List KeyWrite) (rest : List Write) → writes_to n rest ≡ [] → key_writes_to n (writes_in n ws ++ rest) ≡ ws
+  here_to [] rest none = ap (map key_write_of) none
+  here_to (w ∷ ws) rest none =
+      let same : same_name n n ≡ true = same_name-tie n n ∙ ap is_eq (tied_itself name_cmp_total n) in
+      rw same (ap (λ (vs : List KeyWrite). w ∷ vs) (here_to ws rest none))
+
+  elsewhere_to : (m : List ℕ) (ws : List KeyWrite) (rest : List Write) → is_eq (name_cmp m n) ≡ false → writes_to n (writes_in m ws ++ rest) ≡ writes_to n rest
+  elsewhere_to m [] rest apart = refl
+  elsewhere_to m (w ∷ ws) rest apart =
+      let other : same_name m n ≡ false = same_name-tie m n ∙ apart in
+      rw other (elsewhere_to m ws rest apart)
+
+  none_to : (ts : List OfTable) → rises name_cmp (n ∷ names_of ts) ≡ true → writes_to n (all_writes ts) ≡ []
+  none_to [] h = refl
+  none_to (t ∷ ts) h =
+      elsewhere_to t.0 t.1 (all_writes ts) (apart_below n t.0 (and_parts _ _ h).0)
+      ∙ none_to ts (rises_skip name_cmp_total n t.0 (names_of ts) h)
+
+  pub written_to : (ts : List OfTable) → RisesIn ts → key_writes_to n (all_writes ts) ≡ writes_at ts n
+  written_to [] h = refl
+  written_to (t ∷ ts) h = elim (cases_Bool (is_eq (name_cmp t.0 n))) [
+    | inl tied ↦
+        let same : t.0 ≡ n = same_names t.0 n (equal_from_test _ tied) in
+        let none = none_to ts (rises_alike name_cmp_total t.0 n (names_of ts) (equal_from_test _ tied) h) in
+        ap (λ (m : List ℕ). key_writes_to n (writes_in m t.1 ++ all_writes ts)) same
+        ∙ here_to t.1 (all_writes ts) none ∙ sym (writes_at-first t ts n tied)
+    | inr apart ↦
+        ap (map key_write_of) (elsewhere_to t.0 t.1 (all_writes ts) apart)
+        ∙ written_to ts (rises_tail name_cmp_total t.0 (names_of ts) h) ∙ sym (writes_at-later t ts n apart)
+  ]
+
+-- ---- after a change of one table's writes
+option_map-over : {A B : Type 0} (f : A → B) (first second : Option A) → option_map f (over first second) ≡ over (option_map f first) (option_map f second)
+option_map-over f (Some x) second = refl
+option_map-over f None second = refl
+
+-- what is read of writes with further ones
+pub read_over : (xs more : List KeyWrite) (k : List Value) → is_map key_cmp key_of_write more ≡ true
+    → lookup (is_at (key_cmp k)) (fold with_key_write xs more) ≡ over (lookup (is_at (key_cmp k)) more) (lookup (is_at (key_cmp k)) xs)
+read_over xs more k h =
+    looked_up key_cmp_total (fold with_key_write xs more) k
+    ∙ ap (option_map (λ (w : KeyWrite). w.1)) (entry_at-with_entries key_cmp_total key_of_write xs more k h)
+    ∙ option_map-over (λ (w : KeyWrite). w.1) _ _
+    ∙ sym (λ i. over (looked_up key_cmp_total more k i) (looked_up key_cmp_total xs k i))
+
+one_table : (table : List ℕ) (more : List KeyWrite) → all_writes ((table, more) ∷ []) ≡ writes_in table more
+one_table table more = append-nil (writes_in table more)
+
+one_each : (table : List ℕ) (more : List KeyWrite) → is_map key_cmp key_of_write more ≡ true → (n : List ℕ) → is_map key_cmp key_of_write (writes_at ((table, more) ∷ []) n) ≡ true
+one_each table more h n = elim (is_eq (name_cmp n table)) as (λ b. is_map key_cmp key_of_write (unwrap_or (cond b (Some more) None) []) ≡ true) [ true ↦ h | false ↦ refl ]
+
+pub are_writes_in : (table : List ℕ) (more : List KeyWrite) → is_map key_cmp key_of_write more ≡ true → AreWrites (writes_in table more)
+are_writes_in table more h = subst AreWrites (one_table table more) (in_order ((table, more) ∷ []) refl (one_each table more h))
+
+module _ (old new : List OfTable) (table : List ℕ) (ws : List KeyWrite) (before : AreTables old) (by_name : IsStrictlySortedBy name_cmp (keys_of new)) (sorted : AreKeyWrites ws)
+    (changed : (n : List ℕ) → lookup (is_at (name_cmp n)) new ≡ cond (is_eq (name_cmp table n)) (Some ws) (lookup (is_at (name_cmp n)) old)) where
+  now_at : (n : List ℕ) → writes_at new n ≡ cond (is_eq (name_cmp table n)) ws (writes_at old n)
+  now_at n =
+      ap (λ (o : Option (List KeyWrite)). unwrap_or o []) (changed n)
+      ∙ elim (is_eq (name_cmp table n)) as (λ b. unwrap_or (cond b (Some ws) (lookup (is_at (name_cmp n)) old)) [] ≡ cond b ws (writes_at old n)) [ true ↦ refl | false ↦ refl ]
+
+  pub still_tables : AreTables new
+  still_tables = record {
+    by_name = by_name;
+    each = λ n. subst AreKeyWrites (sym (now_at n)) (elim (is_eq (name_cmp table n)) as (λ b. AreKeyWrites (cond b ws (writes_at old n))) [ true ↦ sorted | false ↦ before.each n ]);
+  }
+
+  module _ (more : List KeyWrite) (in_turn : is_map key_cmp key_of_write more ≡ true)
+      (over_old : (k : List Value) → lookup (is_at (key_cmp k)) ws ≡ over (lookup (is_at (key_cmp k)) more) (lookup (is_at (key_cmp k)) (writes_at old table))) where
+    abbrev at : List OfTable → List ℕ → List Value → Option Write
+    at tables n k = option_map (written n k) (lookup (is_at (key_cmp k)) (writes_at tables n))
+
+    both : (n : List ℕ) (k : List Value) → option_map (written n k) (lookup (is_at (key_cmp k)) (cond (is_eq (name_cmp table n)) ws (writes_at old n))) ≡ over (at ((table, more) ∷ []) n k) (at old n k)
+    both n k = elim (cases_Bool (is_eq (name_cmp table n))) [
+      | inl tied ↦
+          let same : table ≡ n = same_names table n (equal_from_test _ tied) in
+          rw tied (
+          ap (option_map (written n k)) (over_old k ∙ ap (λ (m : List ℕ). over (lookup (is_at (key_cmp k)) more) (lookup (is_at (key_cmp k)) (writes_at old m))) same)
+          ∙ option_map-over (written n k) _ _
+          ∙ ap (λ (vs : List KeyWrite). over (option_map (written n k) (lookup (is_at (key_cmp k)) vs)) (at old n k)) (sym (writes_at-first (table, more) [] n tied)))
+      | inr apart ↦
+          rw apart (ap (λ (vs : List KeyWrite). over (option_map (written n k) (lookup (is_at (key_cmp k)) vs)) (at old n k)) (sym (writes_at-later (table, more) [] n apart)))
+    ]
+
+    added_at : (n : List ℕ) (k : List Value) → at ((table, more) ∷ []) n k ≡ entry_at table_key_cmp table_key_of (writes_in table more) (n, k)
+    added_at n k =
+        sym (found_in n k ((table, more) ∷ []) refl)
+        ∙ ap (λ (ws : List Write). entry_at table_key_cmp table_key_of ws (n, k)) (one_table table more)
+
+    alike : (q : TableKey) → entry_at table_key_cmp table_key_of (all_writes new) q ≡ entry_at table_key_cmp table_key_of (fold with_write (all_writes old) (writes_in table more)) q
+    alike q =
+        found_in q.0 q.1 new (names_rise new still_tables)
+        ∙ ap (λ (vs : List KeyWrite). option_map (written q.0 q.1) (lookup (is_at (key_cmp q.1)) vs)) (now_at q.0)
+        ∙ both q.0 q.1
+        ∙ (λ i. over (added_at q.0 q.1 i) (sym (found_in q.0 q.1 old (names_rise old before)) i))
+        ∙ sym (entry_at-with_entries table_key_cmp_total table_key_of (all_writes old) (writes_in table more) q (are_writes_in table more in_turn))
+
+    pub all_noted : all_writes new ≡ fold with_write (all_writes old) (writes_in table more)
+    all_noted = same_from_look_ups table_key_cmp_total table_key_of (all_writes new) (fold with_write (all_writes old) (writes_in table more))
+        (are_writes new still_tables) (is_map-with_entries table_key_cmp_total table_key_of (all_writes old) (writes_in table more) (are_writes old before)) alike
+
+  -- where the writes before are known
+  pub noted_over : (xs more : List KeyWrite) → is_map key_cmp key_of_write more ≡ true → xs ≡ writes_at old table → ws ≡ fold with_key_write xs more → all_writes new ≡ fold with_write (all_writes old) (writes_in table more)
+  noted_over xs more in_turn before_is now_is = all_noted more in_turn (λ k.
+      ap (lookup (is_at (key_cmp k))) now_is
+      ∙ read_over xs more k in_turn
+      ∙ ap (λ (vs : List KeyWrite). over (lookup (is_at (key_cmp k)) more) (lookup (is_at (key_cmp k)) vs)) before_is)
+
+  -- where there were none
+  pub noted_first : is_map key_cmp key_of_write ws ≡ true → [] ≡ writes_at old table → all_writes new ≡ fold with_write (all_writes old) (writes_in table ws)
+  noted_first in_turn none = all_noted ws in_turn (λ k.
+      over_none (lookup (is_at (key_cmp k)) ws)
+      ∙ ap (λ (vs : List KeyWrite). over (lookup (is_at (key_cmp k)) ws) (lookup (is_at (key_cmp k)) vs)) none)
+
+-- what is read of the writes to a table
+pub read_of : (writes : List Write) (n : List ℕ) (k : List Value) → row_written_at (key_writes_to n writes) k ≡ written_at writes (n, k)
+read_of [] n k = refl
+read_of (w ∷ writes) n k = elim (cases_Bool (same_name w.table n)) [
+  | inl same ↦
+      let tied : name_cmp w.table n ≡ Equal = equal_from_test _ (sym (same_name-tie w.table n) ∙ same) in
+      rw (same, tied) (elim (is_eq (key_cmp w.key k)) as (λ b. option_map (λ (v : KeyWrite). v.1) (cond b (Some (key_write_of w)) (entry_at key_cmp key_of_write (key_writes_to n writes) k)) ≡ option_map (λ (v : Write). v.row) (cond b (Some w) (entry_at table_key_cmp table_key_of writes (n, k)))) [
+        | true ↦ refl
+        | false ↦ read_of writes n k
+      ])
+  | inr other ↦
+      let apart : is_eq (name_cmp w.table n) ≡ false = sym (same_name-tie w.table n) ∙ other in
+      rw (other, then_apart (name_cmp w.table n) (key_cmp w.key k) apart) (read_of writes n k)
+]

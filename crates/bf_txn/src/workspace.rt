@@ -1,57 +1,62 @@
 //! The workspace of a transaction.
 
-mod write_all;
-
-ghost use Rattle.std.specs.Prelude.{◌≡◌, [], IfOk, OnOk, OnErr, length, map};
-ghost use Rattle.std.specs.List.Sorted.{IsBinarySearchResult, IsSearchInRange};
+ghost use Rattle.std.specs.Prelude.{◌≡◌, [], ◌++◌, IfOk, OnOk, OnErr, filter, fold};
 ghost use Rattle.std.specs.Option.{option_map};
-ghost use Rattle.bf_txn.specs.Writes.{written_at, writes_to, with_write, table_key_cmp, table_key_of, AreWrites};
+ghost use Rattle.bf_heap.specs.KeyRanges.{is_within};
+ghost use Rattle.bf_txn.specs.Writes.{AreTables, AreWrites, all_writes, key_writes_to, with_write, writes_in, written_at};
 
+use crate::table_writes::TableWrites;
 use crate::write::{Write, WriteSet};
-use bf_base::{Key, Memory, Name, Row, Sequence};
+use crate::writes_ahead::WritesAhead;
+use bf_base::{Key, Memory, Name, Row, Sequence, TryClone};
+use bf_heap::KeyRange;
 use std::alloc::Global;
-use std::cmp::Ordering;
+use std::collections::BTreeMap;
+use std::collections::btree_map::{IntoIter, Iter};
 use std::marker::Model;
 
 /// The writes of a transaction that has not ended. Contracts see the last write of each key,
-/// sorted by table, then key. A look-up compares about log n keys, and a write to a new key moves
-/// 8 bytes for each write behind it.
+/// sorted by table, then key. A look-up and a write compare about log n names and then about log n
+/// keys, in whatever order the writes come.
 #[derive(Drop)]
 pub struct Workspace {
     alloc: Global,
-    writes: Vec<Box<Write>>,
+    tables: BTreeMap<Name, TableWrites>,
+    // What is written to a table that `tables` does not have.
+    nothing: TableWrites,
 }
 
 impl Model for Workspace {
-    ghost use Rattle.std.specs.Prelude.{List, map};
+    ghost use Rattle.std.specs.Prelude.{List, ◌≡◌, []};
     ghost use Rattle.bf_txn.specs.declared.write.Write.{Write as Written};
-    ghost use Rattle.bf_txn.specs.Writes.{AreWrites};
+    ghost use Rattle.bf_txn.specs.Writes.{AreTables, all_writes};
 
     ghost Value = { List Written };
 
-    ghost view = { λ workspace. map (λ write. write.value) workspace.writes.items };
+    ghost view = { λ workspace. all_writes workspace.tables.entries };
 
-    ghost invariant = { λ workspace. AreWrites (map (λ write. write.value) workspace.writes.items) };
+    ghost invariant = { λ workspace. AreTables workspace.tables.entries
+        × (workspace.nothing ≡ []) };
 }
 
-/// How a write compares with a key of a table: by table, then key.
-fn compare(write: &Write, table: &Name, key: &Key) -> Ordering
-    ensures { result ≡ table_key_cmp (table_key_of write.now) (table.now, key.now) }
+/// Adds copies of the writes to a table to others.
+fn copy_each(
+    alloc: Global,
+    table: &Name,
+    writes: &TableWrites,
+    copies: &mut Vec<Write>,
+) -> Result<(), Memory>
+    ensures { OnOk result
+        (copies.new.items ≡ copies.old.items ++ writes_in table.now writes.now) }
 {
-    write
-        .table
-        .compare(table)
-        .then_with(|| write.key.compare(key))
-}
-
-/// Where the write to a key of a table is, or else where it goes, among sorted writes. It compares
-/// about log n keys, and takes no memory.
-fn find(writes: &[Box<Write>], table: &Name, key: &Key) -> Result<usize, usize>
-    ensures bound { IsSearchInRange result (length writes.now) }
-    ensures position { IsBinarySearchResult
-        (λ write. table_key_cmp (table_key_of write.value) (table.now, key.now)) writes.now result }
-{
-    writes.binary_search_by(|write| compare(write, table, key))
+    for (key, row) in writes.iter() {
+        copies.push(Write {
+            table: table.copy(alloc)?,
+            key: key.copy(alloc)?,
+            row: row.try_clone(alloc)?,
+        })?;
+    }
+    Ok(())
 }
 
 impl Workspace {
@@ -61,7 +66,19 @@ impl Workspace {
     {
         Workspace {
             alloc,
-            writes: Vec::new(alloc),
+            tables: BTreeMap::new(alloc),
+            nothing: TableWrites::new(alloc),
+        }
+    }
+
+    /// All writes to a table. Takes no memory.
+    pub fn of_table(&self, table: &Name) -> &TableWrites
+        ensures writes { result.now ≡ key_writes_to table.now self.now }
+        ensures sorted { AreWrites self.now }
+    {
+        match self.tables.get(table) {
+            Some(writes) => writes,
+            None => &self.nothing,
         }
     }
 
@@ -72,68 +89,83 @@ impl Workspace {
             ≡ written_at self.now (table.now, key.now) }
         ensures sorted { AreWrites self.now }
     {
-        match find(&self.writes, table, key) {
-            Ok(place) => Some(self.writes[place].row.as_ref()),
-            Err(_) => None,
-        }
+        self.of_table(table).read(key)
     }
 
-    /// The writes to a table, in the order of their keys. It compares about log n names, and takes
-    /// no memory.
-    pub fn of_table(&self, table: &Name) -> &[Box<Write>]
-        ensures writes { map (λ write. write.value) result.now ≡ writes_to table.now self.now }
+    /// The place of the first write to a key of a range, for a pass over the writes to a table whose
+    /// keys are in the range. Takes no memory.
+    pub fn range<'w, 'r>(&'w self, table: &Name, range: &'r KeyRange) -> WritesAhead<'w, 'r>
+        ensures writes { result
+            ≡ filter (λ write. is_within range.now write.0) (key_writes_to table.now self.now) }
         ensures sorted { AreWrites self.now }
     {
-        let writes = self.writes.as_slice();
-        let before = writes.partition_point(|write| write.table.compare(table).is_lt());
-        let from = &writes[before..];
-        let count = from.partition_point(|write| write.table.compare(table).is_le());
-        &from[..count]
+        self.of_table(table).range(range)
     }
 
-    /// All writes, sorted by table, then key. Takes no memory.
-    pub fn as_slice(&self) -> &[Box<Write>]
-        ensures writes { map (λ write. write.value) result.now ≡ self.now }
-        ensures sorted { AreWrites self.now }
+    /// The tables that are written, by name, each with its writes. Takes no memory.
+    pub fn tables(&self) -> Iter<'_, Name, TableWrites>
+        ensures writes { all_writes result ≡ self.now }
+        ensures sorted { AreTables result }
     {
-        self.writes.as_slice()
+        self.tables.iter()
     }
 
-    /// The writes themselves, sorted by table, then key. Copies nothing, and takes no memory.
-    pub fn into_writes(self) -> Vec<Box<Write>>
-        ensures writes { map (λ write. write.value) result.items ≡ self }
-        ensures sorted { AreWrites self }
+    /// The tables that are written, by name, each with its writes. Copies nothing, and takes no
+    /// memory.
+    pub fn into_tables(self) -> IntoIter<Name, TableWrites>
+        ensures writes { all_writes result ≡ self }
+        ensures sorted { AreTables result }
     {
-        self.writes
+        self.tables.into_iter()
     }
 
-    /// Notes a write, which takes the place of an earlier one to its key. After an error the
-    /// workspace is as it was.
+    /// Notes a write, which takes the place of an earlier one to its key.
+    ///
+    /// # Errors
+    /// Where memory runs out. The workspace is as it was then.
     pub fn write(&mut self, table: Name, key: Key, row: Option<Row>) -> Result<(), Memory>
         ensures ok { OnOk result (self.new
             ≡ with_write self.old (record { table = table; key = key; row = row })) }
         ensures err { OnErr result (self.new ≡ self.old) }
     {
-        match find(&self.writes, &table, &key) {
-            Ok(place) => {
-                *self.writes[place] = Write { table, key, row };
-            }
-            Err(place) => {
-                let write = Box::new(self.alloc, Write { table, key, row })?;
-                self.writes.insert(place, write)?;
-            }
+        if let Some(writes) = self.tables.get_mut(&table) {
+            return writes.write(key, row);
         }
+        let mut writes = TableWrites::new(self.alloc);
+        writes.write(key, row)?;
+        self.tables.insert(table, writes)?;
         Ok(())
     }
 
-    /// A copy of the writes, in time linear in their size.
+    /// Notes writes to a table: each takes the place of an earlier one to its key. Where nothing is
+    /// written to the table yet they are taken over as they are, and else each costs what `write`
+    /// costs.
+    ///
+    /// # Errors
+    /// Where memory runs out. The workspace is as it was then.
+    pub fn write_all(&mut self, table: &Name, writes: TableWrites) -> Result<(), Memory>
+        ensures ok { OnOk result
+            (self.new ≡ fold with_write self.old (writes_in table.now writes)) }
+        ensures err { OnErr result (self.new ≡ self.old) }
+    {
+        if let Some(before) = self.tables.get_mut(table) {
+            return before.write_all(writes);
+        }
+        self.tables.insert(table.copy(self.alloc)?, writes)?;
+        Ok(())
+    }
+
+    /// A copy of the writes, sorted by table, then key, in time linear in their size.
+    ///
+    /// # Errors
+    /// Where memory runs out.
     pub fn write_set(&self, alloc: Global) -> Result<WriteSet, Memory>
         ensures writes { IfOk result (λ set. set.writes ≡ self.now) }
         ensures sorted { AreWrites self.now }
     {
-        let mut copies = Vec::with_capacity(alloc, self.writes.len())?;
-        for write in self.writes.as_slice() {
-            copies.push(write.copy(alloc)?)?;
+        let mut copies = Vec::new(alloc);
+        for (table, writes) in self.tables() {
+            copy_each(alloc, table, writes, &mut copies)?;
         }
         Ok(WriteSet {
             writes: Sequence::of(copies),

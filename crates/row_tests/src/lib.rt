@@ -8,6 +8,8 @@ mod heaps;
 #[cfg(test)]
 mod pages;
 #[cfg(test)]
+mod ranges;
+#[cfg(test)]
 mod rooms;
 #[cfg(test)]
 mod workspaces;

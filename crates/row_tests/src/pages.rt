@@ -26,7 +26,7 @@ const SIZES: [(u32, u32); 10] = [
 
 /// In which order rows are put.
 #[derive(Clone, Copy, Debug)]
-enum Order {
+pub enum Order {
     Rising,
     Falling,
     /// Seven places on each time, and round again: 7 divides none of the numbers of rows.
@@ -35,7 +35,7 @@ enum Order {
 
 impl Order {
     /// The place in the order of keys of the row that is put after `before` others.
-    fn place(self, before: u32, rows: u32) -> u32 {
+    pub fn place(self, before: u32, rows: u32) -> u32 {
         match self {
             Order::Rising => before,
             Order::Falling => rows.saturating_sub(before).saturating_sub(1),
@@ -45,12 +45,12 @@ impl Order {
 }
 
 /// The number that is the key and the row at a place: an even one, so that odd ones fall between.
-fn even(place: u32) -> i64 {
+pub fn even(place: u32) -> i64 {
     place as i64 * 2
 }
 
 /// A heap of this many even numbers from 0 on.
-fn filled(rt: &impl Abort, alloc: Global, order: Order, rows: u32) -> Result<Heap, Fail> {
+pub fn filled(rt: &impl Abort, alloc: Global, order: Order, rows: u32) -> Result<Heap, Fail> {
     let mut heap = Heap::new(alloc);
     for before in 0..rows {
         let new = even(order.place(before, rows));
@@ -93,7 +93,7 @@ fn expect_found(
 }
 
 /// Goes over all positions: a key and its row have the same number, and the numbers rise.
-fn expect_rising(rt: &impl Abort, alloc: Global, heap: &Heap, rows: u32) -> Result<(), Fail> {
+pub fn expect_rising(rt: &impl Abort, alloc: Global, heap: &Heap, rows: u32) -> Result<(), Fail> {
     assert_eq!(rt; heap.len(), rows);
     let mut last = None;
     for position in 0..rows {
@@ -249,7 +249,7 @@ fn word_key(alloc: Global, place: u32) -> Result<Key, Fail> {
 }
 
 /// A heap of these keys, each with its place, put seven places on each time.
-fn words(alloc: Global) -> Result<Heap, Fail> {
+pub fn words(alloc: Global) -> Result<Heap, Fail> {
     let mut heap = Heap::new(alloc);
     for before in 0..130 {
         let place = Order::Mixed.place(before, 130);

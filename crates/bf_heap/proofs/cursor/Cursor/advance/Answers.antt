@@ -12,5 +12,5 @@ behind_one (row ∷ next ∷ rows) rest one = absurd (omega arith)
 pub returns-in-len1 : goal.returns-in-len1
 returns-in-len1 c =
     c.self-in-len1.view_is ∙ c.new.ensures
-    ∙ behind_one c.self.inside.rows.now (rows_of c.self.inside.pages.now) (omega (arith, c.in-len1.len_at_least, c.in-len1.len_below))
+    ∙ behind_one c.self.inside.rows.now (rows_of c.self.inside.pages.now ++ c.self.inside.last.now) (omega (arith, c.in-len1.len_at_least, c.in-len1.len_below))
     ∙ ap (drop 1) c.self.view_is
