@@ -21,7 +21,7 @@ use Rattle.bf_heap.specs.Heaps.{Entry, key_of_entry, row_under, with_row}
 use Rattle.bf_sql.specs.RowObjections.{insert_objections, unfit_row_objections}
 use Rattle.bf_txn.specs.declared.write.Write.{Write}
 use Rattle.bf_txn.specs.Writes.{TableKey, table_key_cmp, table_key_of, written_at, writes_to, with_write, AreWrites}
-use Rattle.bf_txn.proofs.Boxes.{table_key_cmp_total}
+use Rattle.bf_txn.proofs.Tables.{table_key_cmp_total}
 use Rattle.bf_query.specs.Actions.{write_of}
 use Rattle.bf_query.specs.Merged.{changed_by, applied, entries_under, rows_under, HasOwnKey, StandUnderOwnKeys}
 use Rattle.bf_query.proofs.Keyed.{row_under-applied, row_under-entries_under, is_map-fold}
@@ -150,9 +150,9 @@ module _ (table : Table) (test : List Value → Bool) (new : List Value → Opti
               | None ↦
                   let gone = without_key-none key_cmp_total key_of_entry entries e.0 (nothing_at e.0 entries in_order) in
                   rw (tied_itself key_cmp_total e.0, gone) rest
-              | Some row ↦ rw (tied_itself key_cmp_total e.0) (all_behind (e.0, row) entries _ behind ∙ ap (λ (es : List Entry). (e.0, row) ∷ es) rest)
+              | Some row ↦ rw (tied_itself key_cmp_total e.0) (all_behind (λ (w : Write). w.key) (λ (w : Write). w.row) (e.0, row) entries _ behind ∙ ap (λ (es : List Entry). (e.0, row) ∷ es) rest)
             ]
-        | false ↦ all_behind e entries _ behind ∙ ap (λ (es : List Entry). e ∷ es) rest
+        | false ↦ all_behind (λ (w : Write). w.key) (λ (w : Write). w.row) e entries _ behind ∙ ap (λ (es : List Entry). e ∷ es) rest
       ]
 
   -- and to all writes alike

@@ -1,8 +1,7 @@
 -- The tuples of an INSERT, one after the other.
-use Rattle.std.proofs.Common.{◌≡◌, ℕ, ◌+◌, ◌<◌, List, [], ◌∷◌, ◌++◌, map, fold, length, get_or, take, drop, Option, Some, None, sym, ap, ◌∙◌}
+use Rattle.std.proofs.Common.{◌≡◌, ℕ, ◌+◌, ◌<◌, List, [], ◌∷◌, ◌++◌, map, length, get_or, take, drop, Option, Some, None, sym, ap, ◌∙◌}
 use Rattle.std.specs.Prelude.{flat_map}
-use Rattle.std.proofs.lemmas.Grind.{fold-append}
-use Rattle.std.proofs.lemmas.List.{take_more, map-append}
+use Rattle.std.proofs.lemmas.List.{take_more}
 use Rattle.bf_base.specs.declared.value.Value.{Value}
 use Rattle.bf_base.specs.declared.table.Table.{Table}
 use Rattle.bf_base.specs.Lists.{with_before_from, when}
@@ -12,12 +11,12 @@ use Rattle.bf_tree.specs.declared.reply.Refusal.{Refusal}
 use Rattle.bf_tree.specs.declared.reply.Refusal.TheVariants.{DuplicateKey}
 use Rattle.bf_sql.specs.RowObjections.{unfit_row_objections, taken_key_objections}
 use Rattle.bf_txn.specs.declared.write.Write.{Write}
-use Rattle.bf_txn.specs.Writes.{with_write}
+use Rattle.bf_txn.specs.Writes.{KeyWrite, gathered}
 use Rattle.bf_query.specs.Changes.{is_taken}
 use Rattle.bf_query.specs.Merged.{rows_under, StandUnderOwnKeys}
 use Rattle.bf_tree.specs.Settling.{first_of}
 use Rattle.bf_query.proofs.Stopping.{behind_item, none_first, first_ahead}
-use Rattle.bf_query.proofs.Taken.{note_of, taken}
+use Rattle.bf_query.proofs.Taken.{taken, write_of_tuple}
 
 -- what is objected to a tuple behind others
 abbrev pub objections_to : Table → List (List Value) → List (List Value) × List Value → List Refusal
@@ -30,15 +29,7 @@ module _ (table : Table) (entries : List Entry) (writes : List Write) (stand : S
   one_more : take (i + 1) tuples ≡ take i tuples ++ tuple ∷ []
   one_more = take_more tuples i tuple in_range ∙ ap (λ (t : List Value). take i tuples ++ t ∷ []) (sym is)
 
-  -- one more key is noted
-  pub noted_more : (noted now : List Write) → noted ≡ fold with_write [] (map (note_of table) (take i tuples)) → now ≡ with_write noted (note_of table tuple) → now ≡ fold with_write [] (map (note_of table) (take (i + 1) tuples))
-  noted_more noted now so_far step =
-      step ∙ ap (λ (ws : List Write). with_write ws (note_of table tuple)) so_far
-      ∙ sym (ap (λ (ts : List (List Value)). fold with_write [] (map (note_of table) ts)) one_more
-      ∙ ap (fold with_write []) (map-append (note_of table) (take i tuples) (tuple ∷ []))
-      ∙ fold-append with_write [] (map (note_of table) (take i tuples)) (note_of table tuple ∷ []))
-
-  module _ (noted : List Write) (is_noted : noted ≡ fold with_write [] (map (note_of table) (take i tuples))) (key : List Value) (key_is : key ≡ key_of table tuple) (found : Option Refusal)
+  module _ (noted : List KeyWrite) (is_noted : noted ≡ gathered (map (write_of_tuple table) (take i tuples))) (key : List Value) (key_is : key ≡ key_of table tuple) (found : Option Refusal)
       (found_is : found ≡ first_of (unfit_row_objections table tuple ++ when (is_taken entries writes noted table.name key) (DuplicateKey key)))
       (all : List Refusal) (ahead : flat_map (objections_to table rows) (with_before_from (take i tuples) (drop i tuples)) ≡ all) where
     here : found ≡ first_of (objections_to table rows (take i tuples, tuple))

@@ -1,6 +1,7 @@
 -- The row under a key once the writes to a table are applied.
-use Rattle.std.proofs.Common.{◌≡◌, ℕ, Bool, true, false, ◌&&◌, cond, List, [], ◌∷◌, map, filter, find, fold, Less, Equal, Greater, Some, None, option_map, unwrap_or, refl, sym, ap, ◌∙◌, inl, inr, is_lt, is_eq}
+use Rattle.std.proofs.Common.{◌≡◌, ℕ, Bool, true, false, ◌&&◌, cond, List, [], ◌∷◌, map, filter, find, fold, Less, Equal, Greater, Some, None, option_map, unwrap_or, refl, sym, ap, subst, ◌∙◌, inl, inr, is_lt, is_eq}
 use Rattle.std.specs.Ordering.{ordering_then}
+use Rattle.std.proofs.lemmas.Simd.{map-map}
 use Rattle.std.specs.List.{list_all}
 use Rattle.std.proofs.lemmas.Bool.{and_parts, and_from, cases_Bool}
 use Rattle.bf_base.specs.declared.value.Value.{Value}
@@ -13,8 +14,8 @@ use Rattle.bf_base.proofs.Names.{same_name-tie, name_cmp_total}
 use Rattle.bf_base.proofs.Order.{less_from_test, equal_from_test, turned_less, turned_equal, rises_alike, rises_tail, rises_skip}
 use Rattle.bf_heap.specs.Heaps.{Entry, key_of_entry, row_under}
 use Rattle.bf_txn.specs.declared.write.Write.{Write}
-use Rattle.bf_txn.specs.Writes.{table_key_cmp, table_key_of, written_at, writes_to, AreWrites}
-use Rattle.bf_txn.proofs.Boxes.{table_key_cmp_total}
+use Rattle.bf_txn.specs.Writes.{KeyWrite, key_of_write, key_write_of, key_writes_to, table_key_cmp, table_key_of, written_at, writes_to, AreWrites}
+use Rattle.bf_txn.proofs.Tables.{table_key_cmp_total}
 use Rattle.bf_query.specs.Merged.{changed_by, applied, entries_under, AreByKey}
 use Rattle.bf_query.proofs.Merging.{RisesFrom, write_keys}
 
@@ -87,9 +88,15 @@ all_pass test (x ∷ xs) = elim (cases_Bool (test x)) [
   | inr fails ↦ rw fails (all_pass test xs)
 ]
 
-pub by_key : (writes : List Write) (table : List ℕ) → AreWrites writes → AreByKey (writes_to table writes)
+pub by_key : (writes : List Write) (table : List ℕ) → AreWrites writes → rises key_cmp (write_keys (writes_to table writes)) ≡ true
 by_key writes table sorted =
     by_key_if_same table (writes_to table writes) (all_pass (λ w. same_name w.table table) writes) (rises-filter table_key_cmp_total table_key_of (λ w. same_name w.table table) writes sorted)
+
+-- and so are those that a test leaves, without the table's name
+pub by_key_in : (writes : List Write) (table : List ℕ) (test : KeyWrite → Bool) (some : List KeyWrite) → AreWrites writes → some ≡ filter test (key_writes_to table writes) → AreByKey some
+by_key_in writes table test some sorted is =
+    let all : rises key_cmp (map key_of_write (key_writes_to table writes)) ≡ true = ap (rises key_cmp) (map-map key_of_write key_write_of (writes_to table writes)) ∙ by_key writes table sorted in
+    subst AreByKey (sym is) (rises-filter key_cmp_total key_of_write test (key_writes_to table writes) all)
 
 -- the row under a key: what is written there, and else the heap's
 pub row_under-entries_under : (entries : List Entry) (writes : List Write) (table : List ℕ) (key : List Value) → AreWrites writes

@@ -1,8 +1,6 @@
 -- A key is taken where a row or an earlier tuple has it.
-use Rattle.std.proofs.Common.{◌≡◌, ℕ, Bool, true, false, ◌||◌, cond, List, [], ◌∷◌, ◌++◌, map, fold, Option, Some, None, is_some, option_map, refl, sym, ap, ap₂, ◌∙◌, is_eq}
+use Rattle.std.proofs.Common.{◌≡◌, Bool, true, false, ◌||◌, cond, List, [], ◌∷◌, ◌++◌, map, fold, Option, Some, None, is_some, option_map, refl, sym, ap, ap₂, ◌∙◌}
 use Rattle.std.specs.List.{list_any}
-use Rattle.std.specs.Ordering.{ordering_then}
-use Rattle.std.proofs.lemmas.Cmp.{tied_itself}
 use Rattle.std.proofs.lemmas.List.{map-append}
 use Rattle.std.proofs.lemmas.List.Folds.{list_any-append}
 use Rattle.bf_base.specs.declared.value.Value.{Value}
@@ -12,12 +10,10 @@ use Rattle.bf_base.specs.Maps.{entry_at}
 use Rattle.bf_base.specs.Tables.{key_of}
 use Rattle.bf_base.specs.Values.{key_cmp, key_cmp_total}
 use Rattle.bf_base.proofs.Maps.{entry_at-with_entry}
-use Rattle.bf_base.proofs.Names.{name_cmp_total}
 use Rattle.bf_base.proofs.Order.{is_some-look_up, symmetric}
 use Rattle.bf_heap.specs.Heaps.{Entry, key_of_entry, has_row}
 use Rattle.bf_txn.specs.declared.write.Write.{Write}
-use Rattle.bf_txn.specs.Writes.{table_key_cmp, table_key_of, written_at, with_write}
-use Rattle.bf_txn.proofs.Boxes.{table_key_cmp_total}
+use Rattle.bf_txn.specs.Writes.{KeyWrite, gathered, key_of_write, key_write_of, row_written_at, with_key_write}
 use Rattle.bf_query.specs.Actions.{write_of}
 use Rattle.bf_query.specs.Changes.{is_taken}
 use Rattle.bf_query.specs.Merged.{entries_under, rows_under, StandUnderOwnKeys}
@@ -38,39 +34,36 @@ row_has table entries key own =
     ∙ is_some-look_up key_cmp_total key_of_entry entries key
     ∙ ap (λ (keys : List (List Value)). has same_key keys key) (own_keys_are table entries own)
 
--- the note of a tuple's key
-abbrev pub note_of : Table → List Value → Write
-note_of table tuple = write_of table (key_of table tuple) None
+-- the write of a tuple
+abbrev pub write_of_tuple : Table → List Value → Write
+write_of_tuple table tuple = write_of table (key_of table tuple) (Some tuple)
 
-same_table_key : (name : List ℕ) (a b : List Value) → is_eq (table_key_cmp (name, a) (name, b)) ≡ same_key b a
-same_table_key name a b = ap (λ r. is_eq (ordering_then r (key_cmp a b))) (tied_itself name_cmp_total name) ∙ symmetric key_cmp_total a b
-
-noted_has : (table : Table) (key : List Value) (before : List (List Value)) (noted : List Write)
-    → is_some (entry_at table_key_cmp table_key_of (fold with_write noted (map (note_of table) before)) (table.name, key)) ≡ (is_some (entry_at table_key_cmp table_key_of noted (table.name, key)) || has same_key (map (key_of table) before) key)
-noted_has table key [] noted = sym (or_false (is_some (entry_at table_key_cmp table_key_of noted (table.name, key))))
+noted_has : (table : Table) (key : List Value) (before : List (List Value)) (noted : List KeyWrite)
+    → is_some (entry_at key_cmp key_of_write (fold (λ ws w. with_key_write ws (key_write_of w)) noted (map (write_of_tuple table) before)) key) ≡ (is_some (entry_at key_cmp key_of_write noted key) || has same_key (map (key_of table) before) key)
+noted_has table key [] noted = sym (or_false (is_some (entry_at key_cmp key_of_write noted key)))
   where
     or_false : (b : Bool) → (b || false) ≡ b
     or_false true = refl
     or_false false = refl
 noted_has table key (t ∷ before) noted =
-    let now = with_write noted (note_of table t) in
+    let now = with_key_write noted (key_write_of (write_of_tuple table t)) in
     noted_has table key before now
-    ∙ ap (λ (found : Option Write). is_some found || has same_key (map (key_of table) before) key) (entry_at-with_entry table_key_cmp_total table_key_of noted (note_of table t) (table.name, key))
-    ∙ ap (λ (b : Bool). is_some (cond b (Some (note_of table t)) (entry_at table_key_cmp table_key_of noted (table.name, key))) || has same_key (map (key_of table) before) key) (same_table_key table.name (key_of table t) key)
-    ∙ either (note_of table t) (same_key key (key_of table t)) (entry_at table_key_cmp table_key_of noted (table.name, key)) (has same_key (map (key_of table) before) key)
+    ∙ ap (λ (found : Option KeyWrite). is_some found || has same_key (map (key_of table) before) key) (entry_at-with_entry key_cmp_total key_of_write noted (key_write_of (write_of_tuple table t)) key)
+    ∙ ap (λ (b : Bool). is_some (cond b (Some (key_write_of (write_of_tuple table t))) (entry_at key_cmp key_of_write noted key)) || has same_key (map (key_of table) before) key) (symmetric key_cmp_total (key_of table t) key)
+    ∙ either (key_write_of (write_of_tuple table t)) (same_key key (key_of table t)) (entry_at key_cmp key_of_write noted key) (has same_key (map (key_of table) before) key)
   where
-    either : (x : Write) (here : Bool) (found : Option Write) (later : Bool) → (is_some (cond here (Some x) found) || later) ≡ (is_some found || (here || later))
+    either : (x : KeyWrite) (here : Bool) (found : Option KeyWrite) (later : Bool) → (is_some (cond here (Some x) found) || later) ≡ (is_some found || (here || later))
     either x true None later = refl
     either x true (Some y) later = refl
     either x false found later = refl
 
 -- a key is taken exactly where it is a key of the rows or of the tuples whose keys are noted
-pub taken : (table : Table) (entries : List Entry) (writes noted : List Write) (before : List (List Value)) (key : List Value) → StandUnderOwnKeys table entries writes → noted ≡ fold with_write [] (map (note_of table) before)
+pub taken : (table : Table) (entries : List Entry) (writes : List Write) (noted : List KeyWrite) (before : List (List Value)) (key : List Value) → StandUnderOwnKeys table entries writes → noted ≡ gathered (map (write_of_tuple table) before)
     → is_taken entries writes noted table.name key ≡ has same_key (map (key_of table) (rows_under entries writes table.name ++ before)) key
 taken table entries writes noted before key stand is =
     let rows = rows_under entries writes table.name in
     let in_rows = row_has table (entries_under entries writes table.name) key (own_keys table entries writes stand) in
-    let in_notes : is_some (written_at noted (table.name, key)) ≡ has same_key (map (key_of table) before) key =
-    is_some-map (λ (w : Write). w.row) (entry_at table_key_cmp table_key_of noted (table.name, key)) ∙ ap (λ (ws : List Write). is_some (entry_at table_key_cmp table_key_of ws (table.name, key))) is ∙ noted_has table key before [] in
+    let in_notes : is_some (row_written_at noted key) ≡ has same_key (map (key_of table) before) key =
+    is_some-map (λ (w : KeyWrite). w.1) (entry_at key_cmp key_of_write noted key) ∙ ap (λ (ws : List KeyWrite). is_some (entry_at key_cmp key_of_write ws key)) is ∙ noted_has table key before [] in
     ap₂ (λ (a b : Bool). a || b) in_rows in_notes
     ∙ sym (ap (list_any (same_key key)) (map-append (key_of table) rows before) ∙ list_any-append (same_key key) (map (key_of table) rows) (map (key_of table) before))

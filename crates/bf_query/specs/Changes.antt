@@ -1,22 +1,25 @@
 -- Parts of the contracts of changes.
-use Rattle.std.specs.Prelude.{◌≡◌, ℕ, Bool, not, ◌||◌, List, Option, Some, None, is_some, nat_eq, IsTrue}
+use Rattle.std.specs.Prelude.{ℕ, length, Bool, not, ◌||◌, List, Option, Some, None, is_some, nat_eq, IsTrue}
 use Rattle.std.specs.List.{list_all}
 use Rattle.bf_base.specs.declared.value.Value.{Value}
 use Rattle.bf_base.specs.Lists.{has}
-use Rattle.bf_base.specs.declared.table.Table.{Table}
 use Rattle.bf_heap.specs.Heaps.{Entry, has_row}
 use Rattle.bf_tree.specs.declared.bound.Action.{Action}
 use Rattle.bf_tree.specs.declared.bound.Action.TheVariants as action
 use Rattle.bf_tree.specs.declared.reply.Reply.{Reply}
 use Rattle.bf_tree.specs.declared.reply.Reply.TheVariants as reply
 use Rattle.bf_txn.specs.declared.write.Write.{Write}
-use Rattle.bf_txn.specs.Writes.{written_at}
-use Rattle.bf_query.specs.Actions.{IsChange, IsWellBound, action_table}
+use Rattle.bf_txn.specs.Writes.{KeyWrite, gathered, row_written_at}
+use Rattle.bf_query.specs.declared.change.Planned.{Planned}
 use Rattle.bf_query.specs.Merged.{entries_under}
 
--- whether a row has a key, or an earlier tuple, whose keys are noted as writes
-abbrev pub is_taken : List Entry → List Write → List Write → List ℕ → List Value → Bool
-is_taken entries writes noted table key = has_row (entries_under entries writes table) key || is_some (written_at noted (table, key))
+-- whether a row has a key, or an earlier tuple, whose writes are gathered
+abbrev pub is_taken : List Entry → List Write → List KeyWrite → List ℕ → List Value → Bool
+is_taken entries writes earlier table key = has_row (entries_under entries writes table) key || is_some (row_written_at earlier key)
+
+-- the plan of a change that makes these writes
+abbrev pub planned : List Write → Planned
+planned writes = record { count = length writes; writes = gathered writes }
 
 -- the reply to a change of so many rows
 abbrev pub counted : Action → ℕ → Option Reply

@@ -1,14 +1,14 @@
 -- The rows of a table as a transaction sees them: those of the heap, under what it has written.
-use Rattle.std.specs.Prelude.{◌≡◌, ℕ, ◌+◌, List, [], ◌∷◌, map, fold, drop, length, Option, Some, None, IsTrue}
+use Rattle.std.specs.Prelude.{◌≡◌, ℕ, ◌+◌, List, [], ◌∷◌, map, fold, length, Option, Some, None, IsTrue}
 use Rattle.std.specs.List.{All}
 use Rattle.bf_base.specs.declared.value.Value.{Value}
 use Rattle.bf_base.specs.declared.table.Table.{Table}
-use Rattle.bf_base.specs.Lists.{rises}
+use Rattle.bf_base.specs.Maps.{is_map}
 use Rattle.bf_base.specs.Tables.{key_of, IsKeyWithin}
 use Rattle.bf_base.specs.Values.{key_cmp}
 use Rattle.bf_heap.specs.Heaps.{Entry, with_row, without_row}
 use Rattle.bf_txn.specs.declared.write.Write.{Write}
-use Rattle.bf_txn.specs.Writes.{writes_to}
+use Rattle.bf_txn.specs.Writes.{KeyWrite, key_of_write, writes_to}
 
 -- the entries after a write
 abbrev pub changed_by : Option (List Value) → List Value → List Entry → List Entry
@@ -38,16 +38,20 @@ pub record StandUnderOwnKeys (table : Table) (entries : List Entry) (writes : Li
   pub heap : All (λ entry. HasOwnKey table entry.0 entry.1) entries
   pub workspace : All (WritesOwnKey table) writes
 
--- the writes to one table come in the order of their keys, each once
-abbrev pub AreByKey : List Write → Type 0
-AreByKey writes = IsTrue (rises key_cmp (map (λ write. write.key) writes))
+-- the entries after a write to their table
+abbrev pub applied_to : List Entry → KeyWrite → List Entry
+applied_to entries write = changed_by write.1 write.0 entries
 
--- what a pass over entries and writes has before it: the rows of the entries from a position on, under the writes
-abbrev pub rows_ahead : List Entry → ℕ → List Write → List (List Value)
-rows_ahead entries position writes = map (λ entry. entry.1) (fold applied (drop position entries) writes)
+-- the writes to one table come in the order of their keys, each once
+abbrev pub AreByKey : List KeyWrite → Type 0
+AreByKey writes = IsTrue (is_map key_cmp key_of_write writes)
+
+-- what a pass over entries and writes has before it: the rows of the entries under the writes
+abbrev pub rows_ahead : List Entry → List KeyWrite → List (List Value)
+rows_ahead entries writes = map (λ entry. entry.1) (fold applied_to entries writes)
 
 -- the entries and writes that it has before it
-abbrev pub steps_ahead : List Entry → List Write → ℕ
+abbrev pub steps_ahead : List Entry → List KeyWrite → ℕ
 steps_ahead entries writes = length entries + length writes
 
 -- the rows of a step, which gives a row or none, before those behind it; nothing is behind the last step

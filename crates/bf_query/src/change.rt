@@ -8,17 +8,18 @@ ghost use Rattle.bf_tree.specs.Evaluation.{sure_value, value_of};
 ghost use Rattle.bf_tree.specs.declared.reply.Refusal.TheVariants.{DuplicateKey};
 ghost use Rattle.bf_sql.specs.Queries.{changed};
 ghost use Rattle.bf_sql.specs.RowObjections.{change_objections, fit_objections, insert_objections, unfit_objections, unfit_row_objections, value_objections};
-ghost use Rattle.bf_query.specs.Actions.{HaveOwnKeys, IsChange, IsWellBound, admitted_at, change_reply, objections_on, rows_for, write_of, writes_of, written};
-ghost use Rattle.bf_query.specs.Changes.{counted, is_taken};
+ghost use Rattle.bf_query.specs.Actions.{HaveOwnKeys, IsChange, IsWellBound, action_table, admitted_at, change_reply, objections_on, rows_for, write_of, writes_of, written};
+ghost use Rattle.bf_query.specs.Changes.{counted, is_taken, planned};
+ghost use Rattle.bf_txn.specs.Writes.{gathered};
 ghost use Rattle.bf_query.specs.Merged.{StandUnderOwnKeys, rows_under};
 ghost use Rattle.bf_tree.specs.Settling.{Settles, first_of};
 
 use crate::merge::{row_at, selected_rows};
 use crate::running::value_or_refusal;
-use bf_base::{Fit, Key, Memory, Row, Sequence, Table, Value, admits, key_of};
+use bf_base::{Fit, Key, Memory, Row, Table, Value, admits, key_of};
 use bf_heap::Heap;
 use bf_tree::{Action, Bound, Expr, Refusal, Reply, StatementError};
-use bf_txn::{Workspace, Write};
+use bf_txn::{TableWrites, Workspace};
 use std::alloc::Global;
 
 /// The objection to a value by what its column says of it.
@@ -49,19 +50,19 @@ fn first_unfit(table: &Table, tuple: &Row) -> Option<Refusal>
 }
 
 /// The first objection to a tuple: of a column to its value, and then to its key, which a row has
-/// or an earlier tuple had. The keys of earlier tuples are noted as removals.
+/// or an earlier tuple had.
 fn tuple_objection(
     alloc: Global,
     table: &Table,
     heap: &Heap,
     workspace: &Workspace,
-    noted: &Workspace,
+    earlier: &TableWrites,
     tuple: &Row,
     key: &Key,
 ) -> Result<Option<Refusal>, Memory>
     ensures { IfOk result (λ found.
         found ≡ first_of (unfit_row_objections table.now tuple.now
-        ++ when (is_taken heap.now.entries workspace.now noted.now table.now.name key.now)
+        ++ when (is_taken heap.now.entries workspace.now earlier.now table.now.name key.now)
         (DuplicateKey key.now))) }
 {
     let unfit = first_unfit(table, tuple);
@@ -69,47 +70,38 @@ fn tuple_objection(
         return Ok(unfit);
     }
     let name = &table.name;
-    if row_at(heap, workspace, name, key).is_some() || noted.read(name, key).is_some() {
+    if row_at(heap, workspace, name, key).is_some() || earlier.read(key).is_some() {
         return Ok(Some(Refusal::DuplicateKey(key.copy(alloc)?)));
     }
     Ok(None)
 }
 
-/// The write of a row to a key of a table, or of its removal.
-fn write_to(alloc: Global, table: &Table, key: Key, row: Option<Row>) -> Result<Write, Memory>
-    ensures { IfOk result (λ write. write ≡ write_of table.now key row) }
-{
-    let table = table.name.copy(alloc)?;
-    Ok(Write { table, key, row })
-}
-
-/// The writes of an INSERT, in the order of its tuples, where nothing stands in its way.
+/// The writes of an INSERT where nothing stands in its way.
 fn plan_insert(
     alloc: Global,
     heap: &Heap,
     workspace: &Workspace,
     table: &Table,
     tuples: &[Row],
-) -> Result<Sequence<Write>, StatementError>
+) -> Result<TableWrites, StatementError>
     requires tuples { All (IsKeyWithin table.now) tuples.now }
     requires keys { StandUnderOwnKeys table.now heap.now.entries workspace.now }
     ensures { Settles result (insert_objections table.now
         (rows_under heap.now.entries workspace.now table.now.name) tuples.now)
-        (map (λ tuple. write_of table.now (key_of table.now tuple) (Some tuple)) tuples.now) }
+        (gathered
+        (map (λ tuple. write_of table.now (key_of table.now tuple) (Some tuple)) tuples.now)) }
 {
-    let mut noted = Workspace::new(alloc);
-    let mut writes = Vec::with_capacity(alloc, tuples.len())?;
+    let mut writes = TableWrites::new(alloc);
     for tuple in tuples {
         let key = key_of(alloc, table, tuple)?;
         if let Some(refusal) = tuple_objection(
-            alloc, table, heap, workspace, &noted, tuple, &key,
+            alloc, table, heap, workspace, &writes, tuple, &key,
         )? {
             return Err(StatementError::Refused(refusal));
         }
-        noted.write(table.name.copy(alloc)?, key.copy(alloc)?, None)?;
-        writes.push(write_to(alloc, table, key, Some(tuple.copy(alloc)?))?)?;
+        writes.write(key, Some(tuple.copy(alloc)?))?;
     }
-    Ok(Sequence::of(writes))
+    Ok(writes)
 }
 
 /// Whether the column at a place admits a value. A column that the table lacks admits each INT.
@@ -164,60 +156,73 @@ fn changed_row(
     Ok(Row::of(new))
 }
 
-/// The writes of an UPDATE of some rows, in their order, where nothing stands in its way.
+/// The writes of an UPDATE of some rows where nothing stands in its way.
 fn plan_update(
     alloc: Global,
     table: &Table,
     sets: &[(u8, Expr)],
     rows: &[&Row],
-) -> Result<Sequence<Write>, StatementError>
+) -> Result<TableWrites, StatementError>
     requires { All (IsKeyWithin table.now) (map (λ row. row.now) rows.now) }
     ensures { Settles result (flat_map (change_objections cell (admitted_at table.now) sets.now)
         (map (λ row. row.now) rows.now))
-        (map (λ row. write_of table.now (key_of table.now row)
-        (Some (changed cell (λ place. place) sets.now row))) (map (λ row. row.now) rows.now)) }
+        (gathered (map (λ row. write_of table.now (key_of table.now row)
+        (Some (changed cell (λ place. place) sets.now row))) (map (λ row. row.now) rows.now))) }
 {
-    let mut writes = Vec::with_capacity(alloc, rows.len())?;
+    let mut writes = TableWrites::new(alloc);
     for row in rows {
         let new = changed_row(alloc, table, sets, row)?;
         let key = key_of(alloc, table, row)?;
-        writes.push(write_to(alloc, table, key, Some(new))?)?;
+        writes.write(key, Some(new))?;
     }
-    Ok(Sequence::of(writes))
+    Ok(writes)
 }
 
-/// The writes of a DELETE of some rows, in their order.
-fn plan_delete(alloc: Global, table: &Table, rows: &[&Row]) -> Result<Sequence<Write>, Memory>
+/// The writes of a DELETE of some rows.
+fn plan_delete(alloc: Global, table: &Table, rows: &[&Row]) -> Result<TableWrites, Memory>
     requires { All (IsKeyWithin table.now) (map (λ row. row.now) rows.now) }
     ensures { IfOk result (λ writes.
-        writes ≡ map (λ row. write_of table.now (key_of table.now row) None)
-        (map (λ row. row.now) rows.now)) }
+        writes ≡ gathered (map (λ row. write_of table.now (key_of table.now row) None)
+        (map (λ row. row.now) rows.now))) }
 {
-    let mut writes = Vec::with_capacity(alloc, rows.len())?;
+    let mut writes = TableWrites::new(alloc);
     for row in rows {
         let key = key_of(alloc, table, row)?;
-        writes.push(write_to(alloc, table, key, None)?)?;
+        writes.write(key, None)?;
     }
-    Ok(Sequence::of(writes))
+    Ok(writes)
 }
 
-/// The writes of a change where nothing stands in its way. It reads alone.
+/// What a change does where nothing stands in its way.
+#[derive(Drop)]
+struct Planned {
+    /// The number of rows that it writes.
+    count: usize,
+    writes: TableWrites,
+}
+
+/// What a change does where nothing stands in its way. It reads alone.
 fn plan(
     alloc: Global,
     heap: &Heap,
     workspace: &Workspace,
     action: &Action,
-) -> Result<Sequence<Write>, StatementError>
+) -> Result<Planned, StatementError>
     requires change { IsChange action.now }
     requires bound { IsWellBound action.now }
     requires keys { HaveOwnKeys heap.now.entries workspace.now action.now }
     ensures { Settles result (objections_on
         (rows_for heap.now.entries workspace.now action.now) action.now)
-        (writes_of (rows_for heap.now.entries workspace.now action.now) action.now) }
+        (planned (writes_of (rows_for heap.now.entries workspace.now action.now) action.now)) }
 {
     match action {
         Action::Insert { table, rows } => {
-            plan_insert(alloc, heap, workspace, table, rows.as_slice())
+            let rows = rows.as_slice();
+            let writes = plan_insert(alloc, heap, workspace, table, rows)?;
+            Ok(Planned {
+                count: rows.len(),
+                writes,
+            })
         }
         Action::Update {
             table,
@@ -226,12 +231,33 @@ fn plan(
             fixed,
         } => {
             let rows = selected_rows(alloc, heap, workspace, table, cond, fixed)?;
-            plan_update(alloc, table, sets.as_slice(), rows.as_slice())
+            let writes = plan_update(alloc, table, sets.as_slice(), rows.as_slice())?;
+            Ok(Planned {
+                count: rows.len(),
+                writes,
+            })
         }
         Action::Delete { table, cond, fixed } => {
             let rows = selected_rows(alloc, heap, workspace, table, cond, fixed)?;
-            Ok(plan_delete(alloc, table, rows.as_slice())?)
+            let writes = plan_delete(alloc, table, rows.as_slice())?;
+            Ok(Planned {
+                count: rows.len(),
+                writes,
+            })
         }
+        _ => unreachable!(),
+    }
+}
+
+/// The table of a change.
+fn changed_table(action: &Action) -> &Table
+    requires { IsChange action.now }
+    ensures { action_table action.now ≡ Some result.now }
+{
+    match action {
+        Action::Insert { table, .. } => table,
+        Action::Update { table, .. } => table,
+        Action::Delete { table, .. } => table,
         _ => unreachable!(),
     }
 }
@@ -276,14 +302,14 @@ pub fn changes(
     ensures err { OnErr result (workspace.new ≡ workspace.old) }
 {
     let action = &bound.action;
-    let writes = match plan(alloc, heap, workspace, action) {
-        Ok(writes) => writes,
+    let plan = match plan(alloc, heap, workspace, action) {
+        Ok(plan) => plan,
         Err(StatementError::Refused(refusal)) => return Ok(Reply::Refused(refusal)),
         Err(StatementError::Memory) => return Err(Memory),
     };
-    let Ok(count) = u32::try_from(writes.as_slice().len()) else {
+    let Ok(count) = u32::try_from(plan.count) else {
         return Err(Memory);
     };
-    workspace.write_all(writes)?;
+    workspace.write_all(&changed_table(action).name, plan.writes)?;
     Ok(reply(action, count))
 }

@@ -5,17 +5,18 @@ ghost use Rattle.std.specs.Option.{option_map, option_to_list};
 ghost use Rattle.bf_base.specs.Maps.{is_map};
 ghost use Rattle.bf_base.specs.Tables.{cell};
 ghost use Rattle.bf_base.specs.Values.{key_cmp};
-ghost use Rattle.bf_heap.specs.Heaps.{IsHeap, key_of_entry, row_under};
+ghost use Rattle.bf_heap.specs.Heaps.{key_of_entry, row_under};
 ghost use Rattle.bf_sql.specs.Conditions.{fixed_key};
 ghost use Rattle.bf_sql.specs.Queries.{selected};
 ghost use Rattle.bf_query.specs.Merged.{AreByKey, StandUnderOwnKeys, entries_under, rows_ahead, rows_stepped, rows_under, steps_ahead};
 
 use bf_base::{Key, Memory, Name, Row, Table};
-use bf_heap::{Cursor, Heap};
+use bf_heap::{Cursor, Heap, KeyRange};
 use bf_tree::{Cond, holds};
-use bf_txn::{Workspace, Write};
+use bf_txn::{Workspace, WritesAhead};
 use std::alloc::Global;
 use std::cmp::Ordering;
+use std::ops::Bound;
 
 /// The row of a table under a key, and `None` exactly where there is none. It compares about
 /// log n keys in the heap and in the workspace, and takes no memory.
@@ -36,43 +37,43 @@ pub fn row_at<'a>(
 
 /// A pass over the rows of a heap and the writes to its table, in the order of keys.
 #[derive(Drop)]
-struct Merge<'a> {
+struct Merge<'a, 'r> {
     rows: Cursor<'a>,
-    writes: &'a [Box<Write>],
+    writes: WritesAhead<'a, 'r>,
     ghost in_order: { IsTrue (is_map key_cmp key_of_entry rows) },
-    ghost by_key: { AreByKey (map (λ write. write.value) writes.now) },
+    ghost by_key: { AreByKey writes },
 }
 
-impl<'a> Merge<'a> {
+impl<'a, 'r> Merge<'a, 'r> {
     /// Goes to the next key, and gives the row that stands there, or none where it is removed;
-    /// `None` behind the last key. It takes constant time, and compares one pair of keys at most.
+    /// `None` behind the last key. It takes constant time over many keys, and compares one pair of
+    /// keys at most.
     fn advance(&mut self) -> Option<Option<&'a Row>>
         ensures rows { rows_stepped (option_map (λ row. option_map (λ r. r.now) row) result)
-            (rows_ahead self.new.rows 0 (map (λ write. write.value) self.new.writes.now))
-            ≡ rows_ahead self.old.rows 0 (map (λ write. write.value) self.old.writes.now) }
-        ensures nearer { OnSome result
-            (steps_ahead self.new.rows (map (λ write. write.value) self.new.writes.now)
-            < steps_ahead self.old.rows (map (λ write. write.value) self.old.writes.now)) }
+            (rows_ahead self.new.rows self.new.writes)
+            ≡ rows_ahead self.old.rows self.old.writes }
+        ensures nearer { OnSome result (steps_ahead self.new.rows self.new.writes
+            < steps_ahead self.old.rows self.old.writes) }
     {
-        match (self.rows.get(), self.writes.split_first()) {
+        match (self.rows.get(), self.writes.get()) {
             (None, None) => None,
             (Some((_, row)), None) => {
                 self.rows.advance();
                 Some(Some(row))
             }
-            (None, Some((write, later))) => {
-                self.writes = later;
-                Some(write.row.as_ref())
+            (None, Some((_, written))) => {
+                self.writes.advance();
+                Some(written)
             }
-            (Some((key, row)), Some((write, later))) => match write.key.compare(key) {
+            (Some((key, row)), Some((at, written))) => match at.compare(key) {
                 Ordering::Less => {
-                    self.writes = later;
-                    Some(write.row.as_ref())
+                    self.writes.advance();
+                    Some(written)
                 }
                 Ordering::Equal => {
                     self.rows.advance();
-                    self.writes = later;
-                    Some(write.row.as_ref())
+                    self.writes.advance();
+                    Some(written)
                 }
                 Ordering::Greater => {
                     self.rows.advance();
@@ -83,34 +84,30 @@ impl<'a> Merge<'a> {
     }
 }
 
-/// The rows that satisfy a condition, in one pass over the heap and the writes to its table.
-fn scan<'a>(
+/// The rows that satisfy a condition, in one pass over rows and the writes to their table.
+fn scan<'a, 'r>(
     alloc: Global,
-    heap: &'a Heap,
-    writes: &'a [Box<Write>],
+    rows: Cursor<'a>,
+    writes: WritesAhead<'a, 'r>,
     cond: &Cond,
 ) -> Result<Vec<&'a Row>, Memory>
-    requires heap { IsHeap heap.now }
-    requires writes { AreByKey (map (λ write. write.value) writes.now) }
-    ensures { IfOk result (λ rows.
-        map (λ row. row.now) rows.items
-        ≡ selected cell cond.now (rows_ahead heap.now.entries 0
-        (map (λ write. write.value) writes.now))) }
+    requires rows { IsTrue (is_map key_cmp key_of_entry rows) }
+    requires writes { AreByKey writes }
+    ensures { IfOk result (λ found.
+        map (λ row. row.now) found.items ≡ selected cell cond.now
+        (rows_ahead rows.entry writes.entry)) }
 {
-    let mut merge = Merge {
-        rows: heap.first(),
-        writes,
-    };
-    let mut rows = Vec::new(alloc);
-    while let Some(found) = merge.advance() {
-        let Some(row) = found else {
+    let mut merge = Merge { rows, writes };
+    let mut found = Vec::new(alloc);
+    while let Some(next) = merge.advance() {
+        let Some(row) = next else {
             continue;
         };
         if holds(alloc, cond, row)? {
-            rows.push(row)?;
+            found.push(row)?;
         }
     }
-    Ok(rows)
+    Ok(found)
 }
 
 /// The row that is there, if it satisfies a condition.
@@ -154,6 +151,17 @@ pub fn selected_rows<'a>(
     let _ = heap.len();
     match fixed {
         Some(key) => if_it_holds(alloc, row_at(heap, workspace, &table.name, key), cond),
-        None => scan(alloc, heap, workspace.of_table(&table.name), cond),
+        None => {
+            let all = KeyRange {
+                low: Bound::Unbounded,
+                high: Bound::Unbounded,
+            };
+            scan(
+                alloc,
+                heap.first(),
+                workspace.range(&table.name, &all),
+                cond,
+            )
+        }
     }
 }

@@ -1,5 +1,5 @@
 -- Entries as std's maps have them, and the finite maps that they are.
-use Rattle.std.proofs.Common.{◌≡◌, Result, true, false, List, [], ◌∷◌, map, fold, Ordering, Less, Equal, Greater, Option, Some, None, option_map, refl, sym, ap, ◌∙◌, inl, inr, is_lt, is_eq}
+use Rattle.std.proofs.Common.{◌≡◌, Result, cond, true, false, List, [], ◌∷◌, map, fold, Ordering, Less, Equal, Greater, Option, Some, None, option_map, refl, sym, ap, ◌∙◌, inl, inr, is_lt, is_eq}
 use Rattle.std.specs.BTreeMap.{insert_entry, is_at}
 use Rattle.std.specs.Cmp.{IsTotalOrder}
 use Rattle.std.specs.FinMap.{IsAntisymmetric}
@@ -14,7 +14,7 @@ use Rattle.std.proofs.lemmas.Map.Keys.{sorted_head, sorted_tail}
 use Rattle.bf_base.specs.Lists.{rises}
 use Rattle.bf_base.specs.Maps.{is_map, has_key, entry_at, with_entry, beside}
 use Rattle.bf_base.proofs.Maps.{entry_at-with_entry, is_map-with_entry}
-use Rattle.bf_base.proofs.Order.{less_from_test, equal_from_test, symmetric, turned_less, rises_alike, rises_tail, rises_skip}
+use Rattle.bf_base.proofs.Order.{less_from_test, equal_from_test, symmetric, turned_less, rises_alike, rises_tail, rises_skip, same_from_look_ups}
 
 -- what is found first, or else second
 abbrev pub over : {A : Type 0} → Option A → Option A → Option A
@@ -48,6 +48,17 @@ module _ {K : Type 0} {cmp : K → K → Ordering} (o : IsTotalOrder cmp) {X : T
   pub is_map-with_entries : (xs ws : List X) → is_map cmp key xs ≡ true → is_map cmp key (fold (with_entry cmp key) xs ws) ≡ true
   is_map-with_entries xs [] h = h
   is_map-with_entries xs (w ∷ ws) h = is_map-with_entries (with_entry cmp key xs w) ws (is_map-with_entry o key xs w h)
+
+  -- an entry that is put among the further ones first
+  pub with_entry-with_entries : (xs ws : List X) (x : X) → is_map cmp key xs ≡ true → is_map cmp key ws ≡ true → with_entry cmp key (fold (with_entry cmp key) xs ws) x ≡ fold (with_entry cmp key) xs (with_entry cmp key ws x)
+  with_entry-with_entries xs ws x h g =
+      let more = is_map-with_entry o key ws x g in
+      let all = is_map-with_entries xs ws h in
+      same_from_look_ups o key _ _ (is_map-with_entry o key (fold (with_entry cmp key) xs ws) x all) (is_map-with_entries xs (with_entry cmp key ws x) h) (λ k.
+          entry_at-with_entry o key (fold (with_entry cmp key) xs ws) x k
+          ∙ ap (cond (has_key cmp key k x) (Some x)) (entry_at-with_entries xs ws k g)
+          ∙ elim (has_key cmp key k x) as (λ b. cond b (Some x) (over (entry_at cmp key ws k) (entry_at cmp key xs k)) ≡ over (cond b (Some x) (entry_at cmp key ws k)) (entry_at cmp key xs k)) [ true ↦ refl | false ↦ refl ]
+          ∙ sym (entry_at-with_entries xs (with_entry cmp key ws x) k more ∙ ap (λ (found : Option X). over found (entry_at cmp key xs k)) (entry_at-with_entry o key ws x k)))
 
 module _ {K X : Type 0} {cmp : K → K → Ordering} (o : IsTotalOrder cmp) where
   abbrev pub key_of_entry : K × X → K

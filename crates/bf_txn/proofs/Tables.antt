@@ -8,16 +8,18 @@ use Rattle.std.specs.Ordering.{ordering_then}
 use Rattle.std.proofs.lemmas.Bool.{and_parts, and_from, cases_Bool}
 use Rattle.std.proofs.lemmas.Cmp.{tied_itself}
 use Rattle.std.proofs.lemmas.List.{append-nil}
+use Rattle.std.specs.List.{AllByRecursion}
 use Rattle.std.specs.List.Sorted.{IsStrictlySortedBy}
+use Rattle.bf_base.proofs.Maps.{is_map-with_entry}
 use Rattle.bf_base.specs.declared.value.Value.{Value}
 use Rattle.bf_base.specs.Lists.{rises, name_cmp, same_name}
-use Rattle.bf_base.specs.Maps.{is_map, entry_at}
+use Rattle.bf_base.specs.Maps.{is_map, entry_at, beside}
 use Rattle.bf_base.specs.Values.{key_cmp, key_cmp_total, key_cmp-IsAntisymmetric}
 use Rattle.bf_base.proofs.Names.{name_cmp_total, same_name-tie}
 use Rattle.bf_base.proofs.Order.{first_is, less_from_test, equal_from_test, symmetric, turned_less, rises_alike, rises_cons, rises_tail, rises_skip, same_from_look_ups}
 use Rattle.bf_txn.specs.declared.write.Write.{Write}
-use Rattle.bf_txn.specs.Writes.{AreKeyWrites, AreTables, AreWrites, KeyWrite, OfTable, TableKey, all_writes, key_of_write, key_write_of, key_writes_to, row_written_at, table_key_cmp, table_key_of, with_key_write, with_write, writes_at, writes_in, writes_to, written_at}
-use Rattle.bf_txn.proofs.KeyWrites.{entry_at-with_entries, is_map-with_entries, looked_up, over, over_none, rises_from_sorted}
+use Rattle.bf_txn.specs.Writes.{gathered, AreKeyWrites, AreTables, AreWrites, KeyWrite, OfTable, TableKey, all_writes, key_of_write, key_write_of, key_writes_to, row_written_at, table_key_cmp, table_key_of, with_key_write, with_write, writes_at, writes_in, writes_to, written_at}
+use Rattle.bf_txn.proofs.KeyWrites.{with_entry-with_entries, entry_at-with_entries, is_map-with_entries, looked_up, over, over_none, rises_from_sorted}
 
 pub table_key_cmp_total : IsTotalOrder table_key_cmp
 table_key_cmp_total = then_total (on_total (λ (table_key : TableKey). table_key.0) name_cmp_total) (on_total (λ (table_key : TableKey). table_key.1) key_cmp_total)
@@ -273,3 +275,29 @@ read_of (w ∷ writes) n k = elim (cases_Bool (same_name w.table n)) [
       let apart : is_eq (name_cmp w.table n) ≡ false = sym (same_name-tie w.table n) ∙ other in
       rw (other, then_apart (name_cmp w.table n) (key_cmp w.key k) apart) (read_of writes n k)
 ]
+
+-- ---- writes to one table, by their keys
+module _ (n : List ℕ) where
+  in_table : (ws : List KeyWrite) (w : KeyWrite) → writes_in n (with_key_write ws w) ≡ with_write (writes_in n ws) (written n w.0 w.1)
+  in_table [] w = refl
+  in_table (v ∷ ws) w = rw (tied_itself name_cmp_total n) (
+    elim (key_cmp w.0 v.0) as (λ r. writes_in n (beside r v ws w (with_key_write ws w)) ≡ beside r (written n v.0 v.1) (writes_in n ws) (written n w.0 w.1) (with_write (writes_in n ws) (written n w.0 w.1))) [
+      | Less ↦ refl
+      | Equal ↦ refl
+      | Greater ↦ ap (λ (vs : List Write). written n v.0 v.1 ∷ vs) (in_table ws w)
+    ])
+
+  gathered_from : (ws : List Write) (noted : List KeyWrite) (old : List Write) → AreWrites old → is_map key_cmp key_of_write noted ≡ true → AllByRecursion (λ w. w.table ≡ n) ws
+      → fold with_write old (writes_in n (fold (λ noted w. with_key_write noted (key_write_of w)) noted ws)) ≡ fold with_write (fold with_write old (writes_in n noted)) ws
+  gathered_from [] noted old h g all = refl
+  gathered_from (w ∷ ws) noted old h g all =
+      let more = is_map-with_entry key_cmp_total key_of_write noted (key_write_of w) g in
+      gathered_from ws (with_key_write noted (key_write_of w)) old h more all.1
+      ∙ ap (λ (now : List Write). fold with_write now ws) (
+        ap (fold with_write old) (in_table noted (key_write_of w))
+        ∙ sym (with_entry-with_entries table_key_cmp_total table_key_of old (writes_in n noted) (written n w.key w.row) h (are_writes_in n noted g))
+        ∙ ap (λ (m : List ℕ). with_write (fold with_write old (writes_in n noted)) (written m w.key w.row)) (sym all.0))
+
+  -- they make what they make one after the other
+  pub gathered_alike : (ws old : List Write) → AreWrites old → AllByRecursion (λ w. w.table ≡ n) ws → fold with_write old (writes_in n (gathered ws)) ≡ fold with_write old ws
+  gathered_alike ws old h all = gathered_from ws [] old h refl all

@@ -1,5 +1,5 @@
 -- The writes of a transaction: for each key of a table that it has written, the last row or the removal.
-use Rattle.std.specs.Prelude.{◌≡◌, ℕ, List, [], map, filter, flat_map, Option, None, IsTrue, unwrap_or}
+use Rattle.std.specs.Prelude.{fold, ◌≡◌, ℕ, List, [], map, filter, flat_map, Option, None, IsTrue, unwrap_or}
 use Rattle.std.specs.List.Sorted.{IsStrictlySortedBy}
 use Rattle.std.specs.Map.{keys_of, lookup}
 use Rattle.std.specs.BTreeMap.{is_at}
@@ -65,6 +65,10 @@ row_written_at writes key = option_map (λ write. write.1) (entry_at key_cmp key
 
 abbrev pub with_key_write : List KeyWrite → KeyWrite → List KeyWrite
 with_key_write writes write = with_entry key_cmp key_of_write writes write
+
+-- writes to one table, one after the other, by their keys
+abbrev pub gathered : List Write → List KeyWrite
+gathered writes = fold (λ noted write. with_key_write noted (key_write_of write)) [] writes
 
 -- one write a key, sorted by key
 abbrev pub AreKeyWrites : List KeyWrite → Type 0

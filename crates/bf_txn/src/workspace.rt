@@ -147,6 +147,7 @@ impl Workspace {
         ensures ok { OnOk result
             (self.new ≡ fold with_write self.old (writes_in table.now writes)) }
         ensures err { OnErr result (self.new ≡ self.old) }
+        ensures sorted { AreWrites self.old }
     {
         if let Some(before) = self.tables.get_mut(table) {
             return before.write_all(writes);

@@ -1,8 +1,9 @@
 //! Changes of a table whose key is its second column and then its first. What a test asserts comes
 //! from a helper as plain data.
 
-ghost use Rattle.std.specs.Prelude.{◌≡◌, [], ◌∷◌, IfOk, OnOk, map};
+ghost use Rattle.std.specs.Prelude.{◌≡◌, [], ◌∷◌, IfOk, None, OnOk, map};
 ghost use Rattle.bf_base.specs.declared.table.Table.{Table};
+ghost use Rattle.bf_base.specs.declared.value.Value.TheVariants as values;
 ghost use Rattle.bf_tree.specs.declared.compare.Compare.TheVariants as compare;
 ghost use Rattle.bf_tree.specs.Trees as trees;
 ghost use Rattle.bf_sql.specs.Conditions.{fixed_key};
@@ -41,6 +42,15 @@ enum Where {
     Number(i64),
     /// By both key columns, which fixes the key.
     Both(&'static str, i64),
+    /// By a comparison of the second column, the first of the key.
+    Compared(Compare, i64),
+    /// By the same with the sides exchanged: the number stands on the left.
+    Turned(i64, Compare),
+    Between(i64, i64),
+    /// Above a number, and above another, and not above a third.
+    Thrice(i64, i64, i64),
+    /// By the number, and greater letters.
+    Above(i64, &'static str),
 }
 
 fn is_at(place: u8, value: Value) -> Cond
@@ -49,6 +59,53 @@ fn is_at(place: u8, value: Value) -> Cond
     let column = Expr::of(Node::Column(place));
     let literal = Expr::of(Node::Value(value));
     Cond::of(Test::Compare(Compare::Equal, column, literal))
+}
+
+fn column(place: u8) -> Expr
+    ensures { result ≡ trees.column place }
+{
+    Expr::of(Node::Column(place))
+}
+
+fn literal(number: i64) -> Expr
+    ensures { result ≡ trees.literal (values.Int number) }
+{
+    Expr::of(Node::Value(Value::Int(number)))
+}
+
+fn compared(op: Compare, number: i64) -> Cond
+    ensures { result ≡ trees.compared op (trees.column 1) (trees.literal (values.Int number)) }
+{
+    Cond::of(Test::Compare(op, column(1), literal(number)))
+}
+
+fn both(alloc: Global, left: Cond, right: Cond) -> Result<Cond, Fail>
+    ensures { IfOk result (λ cond. cond ≡ trees.both left right) }
+{
+    let left = Box::new(alloc, left)?;
+    let right = Box::new(alloc, right)?;
+    Ok(Cond::of(Test::And(left, right)))
+}
+
+/// Three bounds of the number, none of which fixes it.
+fn thrice(alloc: Global, low: i64, other: i64, high: i64) -> Result<Cond, Fail>
+    ensures { IfOk result (λ cond. (table : Table) → table.key ≡ 1 ∷ 0 ∷ []
+        → fixed_key table cond ≡ None) }
+{
+    let low = compared(Compare::Greater, low);
+    let other = compared(Compare::Greater, other);
+    let lows = both(alloc, low, other)?;
+    both(alloc, lows, compared(Compare::LessEqual, high))
+}
+
+/// A number, and letters above others.
+fn lettered(alloc: Global, number: i64, letters: &str) -> Result<Cond, Fail>
+    ensures { IfOk result (λ cond. (table : Table) → table.key ≡ 1 ∷ 0 ∷ []
+        → fixed_key table cond ≡ None) }
+{
+    let letters = Expr::of(Node::Value(text(alloc, letters)?));
+    let letters = Cond::of(Test::Compare(Compare::Greater, column(0), letters));
+    both(alloc, is_at(1, Value::Int(number)), letters)
 }
 
 /// A condition, and the key that it fixes.
@@ -69,6 +126,17 @@ fn bound(alloc: Global, which: Where) -> Result<(Cond, Option<Key>), Fail>
             let cond = Cond::of(Test::And(letters, number));
             Ok((cond, Some(Key::of(key))))
         }
+        Where::Compared(op, number) => Ok((compared(op, number), None)),
+        Where::Turned(number, op) => {
+            let cond = Cond::of(Test::Compare(op, literal(number), column(1)));
+            Ok((cond, None))
+        }
+        Where::Between(low, high) => {
+            let cond = Cond::of(Test::Between(column(1), literal(low), literal(high)));
+            Ok((cond, None))
+        }
+        Where::Thrice(low, other, high) => Ok((thrice(alloc, low, other, high)?, None)),
+        Where::Above(number, letters) => Ok((lettered(alloc, number, letters)?, None)),
     }
 }
 
@@ -338,6 +406,160 @@ const CASES: [(&str, &[Step], Where, &[Line]); 7] = [
 fn statements_change_rows(rt: HostRuntime) -> Result<(), Fail> {
     for (what, steps, which, left) in &CASES {
         let outcome = outcome(rt.alloc(), &LINES, steps, *which, left)?;
+        assert_eq!(rt; outcome, (None, true), "where {what}");
+    }
+    Ok(())
+}
+
+/// In key order, with several rows under some numbers, and numbers between those that no row has.
+const RANGED: [Line; 8] = [
+    ("b", -1, 1),
+    ("", 1, 2),
+    ("a", 1, 9),
+    ("ab", 1, 3),
+    ("c", 2, 0),
+    ("a", 4, 5),
+    ("b", 4, 6),
+    ("z", 7, 7),
+];
+
+/// Conditions on the first column of the key, and the rows that satisfy them.
+const SELECTED: [(Where, &[Line]); 20] = [
+    (
+        Where::Compared(Compare::GreaterEqual, 4),
+        &[("a", 4, 5), ("b", 4, 6), ("z", 7, 7)],
+    ),
+    (Where::Compared(Compare::Greater, 4), &[("z", 7, 7)]),
+    (Where::Compared(Compare::Greater, 7), &[]),
+    (Where::Compared(Compare::LessEqual, 0), &[("b", -1, 1)]),
+    (Where::Compared(Compare::Less, 1), &[("b", -1, 1)]),
+    (Where::Compared(Compare::Less, -1), &[]),
+    (
+        Where::Compared(Compare::Unequal, 1),
+        &[
+            ("b", -1, 1),
+            ("c", 2, 0),
+            ("a", 4, 5),
+            ("b", 4, 6),
+            ("z", 7, 7),
+        ],
+    ),
+    (
+        Where::Turned(4, Compare::LessEqual),
+        &[("a", 4, 5), ("b", 4, 6), ("z", 7, 7)],
+    ),
+    (Where::Turned(4, Compare::Less), &[("z", 7, 7)]),
+    (Where::Turned(0, Compare::GreaterEqual), &[("b", -1, 1)]),
+    (Where::Turned(1, Compare::Greater), &[("b", -1, 1)]),
+    (
+        Where::Turned(1, Compare::Equal),
+        &[("", 1, 2), ("a", 1, 9), ("ab", 1, 3)],
+    ),
+    (
+        Where::Between(1, 2),
+        &[("", 1, 2), ("a", 1, 9), ("ab", 1, 3), ("c", 2, 0)],
+    ),
+    (Where::Between(3, 3), &[]),
+    (Where::Between(4, 1), &[]),
+    (Where::Between(-9, 99), &RANGED),
+    (
+        Where::Thrice(0, 1, 4),
+        &[("c", 2, 0), ("a", 4, 5), ("b", 4, 6)],
+    ),
+    (Where::Thrice(2, 1, 3), &[]),
+    (Where::Above(1, ""), &[("a", 1, 9), ("ab", 1, 3)]),
+    (Where::Above(4, "b"), &[]),
+];
+
+#[test]
+fn ranges_select_rows(rt: HostRuntime) -> Result<(), Fail> {
+    for (which, left) in &SELECTED {
+        let outcome = outcome(rt.alloc(), &RANGED, &[], *which, left)?;
+        assert_eq!(rt; outcome, (None, true), "where {which:?}");
+    }
+    Ok(())
+}
+
+/// Statements on those rows in turn, of which the later ones see what the earlier ones wrote inside
+/// their ranges and outside.
+const CHANGED: [(&str, &[Step], Where, &[Line]); 5] = [
+    (
+        "own writes are inside a range and outside",
+        &[
+            (Insert(&[("m", 3, 1), ("n", 9, 1)]), Told::Inserted(2)),
+            (Delete(Where::Both("a", 4)), Told::Deleted(1)),
+            (Add(1, Where::Both("c", 2)), Told::Updated(1)),
+        ],
+        Where::Between(2, 4),
+        &[("c", 2, 1), ("m", 3, 1), ("b", 4, 6)],
+    ),
+    (
+        "an UPDATE has a range",
+        &[
+            (
+                Add(1, Where::Compared(Compare::Greater, 1)),
+                Told::Updated(4),
+            ),
+            (
+                Add(1, Where::Turned(1, Compare::LessEqual)),
+                Told::Updated(7),
+            ),
+        ],
+        Where::All,
+        &[
+            ("b", -1, 1),
+            ("", 1, 3),
+            ("a", 1, 10),
+            ("ab", 1, 4),
+            ("c", 2, 2),
+            ("a", 4, 7),
+            ("b", 4, 8),
+            ("z", 7, 9),
+        ],
+    ),
+    (
+        "an UPDATE fails where its range has the row",
+        &[
+            (Add(2, Where::Between(1, 1)), Told::OutOfRange),
+            (Add(2, Where::Above(1, "a")), Told::Updated(1)),
+            (Add(5, Where::Thrice(-1, 1, 3)), Told::Updated(1)),
+        ],
+        Where::Between(1, 3),
+        &[("", 1, 2), ("a", 1, 9), ("ab", 1, 5), ("c", 2, 5)],
+    ),
+    (
+        "a DELETE has a range",
+        &[
+            (Delete(Where::Between(1, 2)), Told::Deleted(4)),
+            (Delete(Where::Between(1, 2)), Told::Deleted(0)),
+            (Delete(Where::Turned(4, Compare::Greater)), Told::Deleted(1)),
+        ],
+        Where::All,
+        &[("a", 4, 5), ("b", 4, 6), ("z", 7, 7)],
+    ),
+    (
+        "ranges go over earlier writes",
+        &[
+            (Insert(&[("m", 3, 1)]), Told::Inserted(1)),
+            (Add(1, Where::Between(3, 4)), Told::Updated(3)),
+            (
+                Delete(Where::Compared(Compare::GreaterEqual, 4)),
+                Told::Deleted(3),
+            ),
+            (
+                Add(1, Where::Compared(Compare::Greater, 2)),
+                Told::Updated(1),
+            ),
+        ],
+        Where::Compared(Compare::Greater, 1),
+        &[("c", 2, 0), ("m", 3, 3)],
+    ),
+];
+
+#[test]
+fn ranges_change_rows(rt: HostRuntime) -> Result<(), Fail> {
+    for (what, steps, which, left) in &CHANGED {
+        let outcome = outcome(rt.alloc(), &RANGED, steps, *which, left)?;
         assert_eq!(rt; outcome, (None, true), "where {what}");
     }
     Ok(())

@@ -7,7 +7,7 @@ use Rattle.bf_query.proofs.change.plan.Goals as goal
 pub plan_update-requires : goal.plan_update-requires
 plan_update-requires c =
     let stand : StandUnderOwnKeys c.in-Update.table c.args.heap.now.entries c.args.workspace.now = rw c.in-Update.is at c.requires.keys in
-    selected_within c.in-Update.table c.in-Update.cond c.args.heap.now.entries c.args.workspace.now _ stand (ap (map (λ (row : Bor Row). row.now)) c.as_slice-in-Update-2.ensures.value ∙ c.in_ok-rows-in-Update.ensures)
+    selected_within c.in-Update.table c.in-Update.cond c.args.heap.now.entries c.args.workspace.now _ stand (ap (map (λ (row : Bor Row). row.now)) c.as_slice-in-Update.ensures.value ∙ c.in_ok-rows-in-Update.ensures)
 
 pub plan_delete-requires : goal.plan_delete-requires
 plan_delete-requires c =

@@ -7,9 +7,9 @@ use Rattle.std.proofs.lemmas.Result.{on_err_weaker, on_ok_weaker}
 use Rattle.bf_base.specs.Lists.{name_cmp}
 use Rattle.bf_base.specs.Values.{key_cmp_total}
 use Rattle.bf_txn.specs.declared.write.Write.{Write}
-use Rattle.bf_txn.specs.Writes.{AreKeyWrites, KeyWrite, all_writes, with_write, writes_at, writes_in}
+use Rattle.bf_txn.specs.Writes.{AreKeyWrites, AreWrites, KeyWrite, all_writes, with_write, writes_at, writes_in}
 use Rattle.bf_txn.proofs.KeyWrites.{rises_from_sorted}
-use Rattle.bf_txn.proofs.Tables.{noted_first, noted_over, still_tables}
+use Rattle.bf_txn.proofs.Tables.{are_writes, noted_first, noted_over, still_tables}
 use Rattle.bf_txn.proofs.workspace.Workspace.write_all.Goals as goal
 
 -- the table has writes
@@ -59,3 +59,15 @@ returns-clause-ok c =
     (rises_from_sorted key_cmp_total c.args.writes sorted) before
     ∙ ap (λ (n : List ℕ). fold with_write (all_writes c.self.inside.tables.entries) (writes_in n c.args.writes)) c.in_ok-copy.ensures
     ∙ ap (λ (ws : List Write). fold with_write ws (writes_in c.args.table.now c.args.writes)) c.self.view_is
+
+pub returns-in-Some-clause-sorted : goal.returns-in-Some-clause-sorted
+returns-in-Some-clause-sorted c = subst AreWrites c.self.view_is (are_writes c.self.inside.tables.entries c.self.invariant.0)
+
+pub returns-clause-sorted : goal.returns-clause-sorted
+returns-clause-sorted c = subst AreWrites c.self.view_is (are_writes c.self.inside.tables.entries c.self.invariant.0)
+
+pub returns-in_err-copy-clause-sorted : goal.returns-in_err-copy-clause-sorted
+returns-in_err-copy-clause-sorted c = subst AreWrites c.self.view_is (are_writes c.self.inside.tables.entries c.self.invariant.0)
+
+pub returns-in_err-insert-clause-sorted : goal.returns-in_err-insert-clause-sorted
+returns-in_err-insert-clause-sorted c = subst AreWrites c.self.view_is (are_writes c.self.inside.tables.entries c.self.invariant.0)
