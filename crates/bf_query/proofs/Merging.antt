@@ -151,7 +151,7 @@ pub rows_alone : (entries now : List Entry) (e : Entry) (writes : List KeyWrite)
 rows_alone entries now e writes split none = ap (λ ws. e.1 ∷ rows_ahead now ws) none ∙ ap rows_of (sym split) ∙ ap (rows_ahead entries) (sym none)
 
 -- the writes to a table, without its name
-without_name : (entries : List Entry) (writes : List Write) → fold applied_to entries (map key_write_of writes) ≡ fold applied entries writes
+pub without_name : (entries : List Entry) (writes : List Write) → fold applied_to entries (map key_write_of writes) ≡ fold applied entries writes
 without_name entries [] = refl
 without_name entries (w ∷ writes) = without_name (applied entries w) writes
 

@@ -279,7 +279,8 @@ fn reply(action: &Action, count: u32) -> Reply
 /// the transaction has written, and notes what it writes in the workspace. Where something stands
 /// in its way, the reply is the first refusal, and the workspace stays as it was. A statement whose
 /// condition fixes a key, and each tuple of an INSERT, costs a look-up and a write in time
-/// logarithmic in the rows; else an UPDATE or a DELETE goes over the rows once.
+/// logarithmic in the rows; else an UPDATE or a DELETE goes once over the rows whose keys are in the
+/// range that its condition leaves.
 ///
 /// # Errors
 /// Where memory runs out, or 2 ^ 32 rows or more change. The workspace is as it was then.

@@ -10,13 +10,13 @@ ghost use Rattle.bf_sql.specs.Conditions.{fixed_key};
 ghost use Rattle.bf_sql.specs.Queries.{selected};
 ghost use Rattle.bf_query.specs.Merged.{AreByKey, StandUnderOwnKeys, entries_under, rows_ahead, rows_stepped, rows_under, steps_ahead};
 
+use crate::range::key_range;
 use bf_base::{Key, Memory, Name, Row, Table};
-use bf_heap::{Cursor, Heap, KeyRange};
+use bf_heap::{Cursor, Heap};
 use bf_tree::{Cond, holds};
 use bf_txn::{Workspace, WritesAhead};
 use std::alloc::Global;
 use std::cmp::Ordering;
-use std::ops::Bound;
 
 /// The row of a table under a key, and `None` exactly where there is none. It compares about
 /// log n keys in the heap and in the workspace, and takes no memory.
@@ -131,8 +131,9 @@ fn if_it_holds<'a>(
 }
 
 /// The rows of a table that satisfy a condition, in key order, where they stand. A key that the
-/// condition fixes is looked up, in time logarithmic in the rows; else one pass goes over all
-/// rows of the heap and the writes to the table. Memory is taken for the references alone.
+/// condition fixes is looked up, in time logarithmic in the rows; else one pass goes over the rows of
+/// the heap and the writes to the table whose keys are in the range that the condition leaves. Memory
+/// is taken for the references and the ends of the range alone.
 pub fn selected_rows<'a>(
     alloc: Global,
     heap: &'a Heap,
@@ -152,16 +153,10 @@ pub fn selected_rows<'a>(
     match fixed {
         Some(key) => if_it_holds(alloc, row_at(heap, workspace, &table.name, key), cond),
         None => {
-            let all = KeyRange {
-                low: Bound::Unbounded,
-                high: Bound::Unbounded,
-            };
-            scan(
-                alloc,
-                heap.first(),
-                workspace.range(&table.name, &all),
-                cond,
-            )
+            let range = key_range(alloc, table, cond)?;
+            let rows = heap.range(&range);
+            let writes = workspace.range(&table.name, &range);
+            scan(alloc, rows, writes, cond)
         }
     }
 }

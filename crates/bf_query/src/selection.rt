@@ -13,7 +13,7 @@ use std::alloc::Global;
 
 /// The reply to a SELECT on the rows of its table as the transaction of the workspace sees them.
 /// A key that the condition fixes is looked up, in time logarithmic in the rows; else it is linear
-/// in the rows and in the writes to the table.
+/// in the rows and the writes to the table whose keys are in the range that the condition leaves.
 pub fn select(
     alloc: Global,
     bound: &Bound,

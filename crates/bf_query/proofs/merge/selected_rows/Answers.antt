@@ -1,15 +1,19 @@
-use Rattle.std.proofs.Common.{◌≡◌, List, Option, Bor, map, IfOk, sym, ap, subst, ◌∙◌}
+use Rattle.std.proofs.Common.{◌≡◌, true, List, Option, Bor, filter, map, IfOk, sym, ap, subst, ◌∙◌}
 use Rattle.std.specs.Option.{option_to_list}
 use Rattle.bf_base.specs.declared.row.Row.{Row}
 use Rattle.bf_base.specs.declared.value.Value.{Value}
 use Rattle.bf_base.specs.Tables.{cell}
 use Rattle.bf_sql.specs.Queries.{selected}
-use Rattle.bf_query.specs.Merged.{rows_ahead, rows_under}
-use Rattle.bf_query.proofs.Keyed.{by_key_in}
-use Rattle.bf_query.proofs.Merging.{all_ahead, every_key}
-use Rattle.bf_txn.specs.Writes.{key_writes_to}
-use Rattle.std.specs.declared.ops.Bound.TheVariants.{Unbounded}
+use Rattle.bf_base.specs.Maps.{is_map}
+use Rattle.bf_base.specs.Values.{key_cmp, key_cmp_total}
+use Rattle.bf_base.proofs.Apart.{rises-filter}
+use Rattle.bf_heap.specs.declared.key_range.KeyRange.{KeyRange}
+use Rattle.bf_heap.specs.Heaps.{Entry, key_of_entry}
 use Rattle.bf_heap.specs.KeyRanges.{is_within}
+use Rattle.bf_txn.specs.Writes.{KeyWrite, key_writes_to}
+use Rattle.bf_query.specs.Ranges.{key_range_of}
+use Rattle.bf_query.proofs.Keyed.{by_key_in}
+use Rattle.bf_query.proofs.RangeRows.{range_ahead}
 use Rattle.bf_query.proofs.OwnKeys.{fixed_selected}
 use Rattle.bf_query.proofs.merge.selected_rows.Goals as goal
 
@@ -20,13 +24,24 @@ returns-in-Some c =
     let one = fixed_selected c.args.table.now c.args.cond.now c.in-Some.key c.args.heap.now.entries c.args.workspace.now c.len.ensures.heap.in_order c.requires.keys (sym c.requires.fixed ∙ c.in-Some.is) in
     subst (λ (all : List (List Value)). IfOk c.if_it_holds.result (λ rows. map (λ (row : Bor Row). row.now) rows.items ≡ all)) (looked_up ∙ one) c.if_it_holds.ensures
 
--- else one pass goes over the rows and the writes
-pub scan-requires-clause-writes : goal.scan-requires-clause-writes
-scan-requires-clause-writes c = by_key_in c.args.workspace.now c.args.table.now.name (λ write. is_within (record { low = Unbounded; high = Unbounded }) write.0) c.range.result c.range.ensures.sorted c.range.ensures.writes
+-- else one pass goes over the rows and the writes whose keys are in the range that the condition leaves
+pub scan-requires-clause-rows : goal.scan-requires-clause-rows
+scan-requires-clause-rows c =
+    subst (λ (rows : List Entry). is_map key_cmp key_of_entry rows ≡ true) (sym c.range-rows.ensures)
+    (rises-filter key_cmp_total key_of_entry (λ (e : Entry). is_within c.in_ok-range-in-None.range e.0) c.args.heap.now.entries c.len.ensures.heap.in_order)
 
-pub returns-in-None : goal.returns-in-None
-returns-in-None c =
-    let writes : c.range.result ≡ key_writes_to c.args.table.now.name c.args.workspace.now = c.range.ensures.writes ∙ every_key (key_writes_to c.args.table.now.name c.args.workspace.now) in
-    let ahead : rows_ahead c.first.result c.range.result ≡ rows_under c.args.heap.now.entries c.args.workspace.now c.args.table.now.name =
-    (λ i. rows_ahead (c.first.ensures i) (writes i)) ∙ all_ahead c.args.heap.now.entries c.args.workspace.now c.args.table.now.name in
-    subst (λ (all : List (List Value)). IfOk c.scan.result (λ rows. map (λ (row : Bor Row). row.now) rows.items ≡ selected cell c.args.cond.now all)) ahead c.scan.ensures
+pub scan-requires-clause-writes : goal.scan-requires-clause-writes
+scan-requires-clause-writes c =
+    by_key_in c.args.workspace.now c.args.table.now.name (λ (write : KeyWrite). is_within c.in_ok-range-in-None.range write.0) c.range-writes.result c.range-writes.ensures.sorted c.range-writes.ensures.writes
+
+pub returns-in_ok-range-in-None : goal.returns-in_ok-range-in-None
+returns-in_ok-range-in-None c =
+    let table = c.args.table.now in
+    let entries = c.args.heap.now.entries in
+    let writes = c.args.workspace.now in
+    let rows_are : c.range-rows.result ≡ filter (λ (e : Entry). is_within (key_range_of table c.args.cond.now) e.0) entries =
+    c.range-rows.ensures ∙ ap (λ (range : KeyRange). filter (λ (e : Entry). is_within range e.0) entries) c.in_ok-range-in-None.ensures in
+    let writes_are : c.range-writes.result ≡ filter (λ (w : KeyWrite). is_within (key_range_of table c.args.cond.now) w.0) (key_writes_to table.name writes) =
+    c.range-writes.ensures.writes ∙ ap (λ (range : KeyRange). filter (λ (w : KeyWrite). is_within range w.0) (key_writes_to table.name writes)) c.in_ok-range-in-None.ensures in
+    let all = range_ahead table c.args.cond.now entries c.range-rows.result writes c.range-writes.result c.len.ensures.heap.in_order c.requires.keys rows_are writes_are in
+    subst (λ (found : List (List Value)). IfOk c.scan.result (λ rows. map (λ (row : Bor Row). row.now) rows.items ≡ found)) all c.scan.ensures
