@@ -1,14 +1,20 @@
 -- The heaps of tables, from the first room that a commit makes to its last write.
-use Rattle.std.specs.Prelude.{◌≡◌, ◌⊎◌, ℕ, ◌≤◌, ◌<◌, List, [], map, length, count_by, is_some, if◌then◌else◌, get_or}
+use Rattle.std.specs.Prelude.{Option, ◌≡◌, ◌⊎◌, ℕ, ◌≤◌, ◌<◌, List, [], map, length, count_by, is_some, if◌then◌else◌, get_or}
 use Rattle.bf_base.specs.declared.table.Table.{Table}
 use Rattle.bf_heap.specs.Heaps.{Entry, Rows}
 use Rattle.bf_query.specs.Merged.{entries_under}
 use Rattle.bf_txn.specs.declared.write.Write.{Write}
-use Rattle.bf_txn.specs.Writes.{writes_to}
+use Rattle.bf_txn.specs.Writes.{KeyWrite, writes_to}
+use Rattle.std.specs.Map.{values_of}
+use Rattle.bf_base.specs.declared.value.Value.{Value}
 
--- the number of rows that a write puts
-abbrev pub put_by : Write → ℕ
-put_by write = if is_some write.row then 1 else 0
+-- the number of rows that a write of a row or of a removal puts
+abbrev pub put_by : Option (List Value) → ℕ
+put_by row = if is_some row then 1 else 0
+
+-- those that writes to a table put
+abbrev pub key_puts : List KeyWrite → ℕ
+key_puts writes = count_by (λ row. is_some row) (values_of writes)
 
 abbrev pub puts : List Write → ℕ
 puts writes = count_by (λ write. is_some write.row) writes

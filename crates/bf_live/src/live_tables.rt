@@ -111,9 +111,9 @@ impl LiveTables {
     }
 
     /// Makes what a transaction has written part of its tables, and each other table stays. The
-    /// writes move into the tables, which leaves the workspace empty. A write to a table costs a
-    /// look-up by key, in time logarithmic in the table's rows, and a new or a removed row moves the
-    /// rows behind it in its page. Room is made for as many rows as are put; what is left of it stays
+    /// writes move into the tables, which leaves the workspace empty. A table is looked up twice, and
+    /// a write to it costs a look-up by key, in time logarithmic in its rows; a new or a removed row
+    /// moves the rows behind it in its page. Room is made for as many rows as are put; what is left of it stays
     /// as room for later rows.
     ///
     /// # Errors
@@ -129,7 +129,7 @@ impl LiveTables {
     {
         make_room(&self.catalog, &mut self.heaps, writes)?;
         let taken = mem::replace(writes, Workspace::new(self.alloc));
-        apply(&self.catalog, &mut self.heaps, taken.into_writes());
+        apply(&self.catalog, &mut self.heaps, taken);
         Ok(())
     }
 }

@@ -1,79 +1,51 @@
-use Rattle.std.proofs.Common.{◌≡◌, ◌<◌, ◌≤◌, ◌+◌, List, [], ◌∷◌, ◌++◌, Box, Global, get_or, length, map, set, ap, subst, sym, ◌∙◌, arith, append_assoc}
-use Rattle.std.specs.Vec.Iter.{into_iter_items}
-use Rattle.std.proofs.lemmas.List.{map_push}
-use Rattle.bf_query.specs.Merged.{applied}
+use Rattle.std.proofs.Common.{◌≡◌, ◌<◌, List, [], ◌∷◌, ◌++◌, length, set, ap, subst, sym, ◌∙◌, arith, append_assoc}
 use Rattle.bf_txn.specs.declared.write.Write.{Write}
-use Rattle.bf_live.specs.Commits.{AreWritten, HaveRoomFor, put_by}
-use Rattle.bf_tree.specs.Places.{IsPlaceOf}
-use Rattle.bf_live.proofs.Written.{changed, passed, place_within, room_for, room_left, room_stays}
+use Rattle.bf_txn.specs.Writes.{OfTable, all_writes, writes_in}
+use Rattle.bf_live.specs.Commits.{AreWritten, HaveRoomFor}
+use Rattle.bf_live.proofs.Written.{changed, one_more, passed, place_within, room_for, room_left, room_stays}
+use Rattle.bf_live.proofs.commit.apply.Goals.{in-Some-place_of, in_default}
 use Rattle.bf_live.proofs.commit.apply.Goals as goal
 
-pub change-requires : goal.change-requires
-change-requires c =
-    let opened = λ (box : Box Write Global). box.value in
+pub change_all-requires : goal.change_all-requires
+change_all-requires c =
     let tables = c.args.catalog.now.tables in
-    let heaps = c.loop-write.heaps in
-    let inv = c.loop-write.invariant in
-    let write : Write = c.in-Some.write.value in
-    let place = c.place_near-place.result in
-    let at : IsPlaceOf tables write.table place = subst (λ (w : Write). IsPlaceOf tables w.table place) c.deref.ensures c.place_near-place.ensures in
-    let step : into_iter_items c.loop-write.write-iterator ≡ c.in-Some.write ∷ into_iter_items c.next.new.self = c.in-Some.ensures.steps.0 in
-    let rest = map opened (into_iter_items c.next.new.self) in
-    let room : HaveRoomFor (write ∷ rest) tables heaps = subst (λ (boxes : List (Box Write Global)). HaveRoomFor (map opened boxes) tables heaps) step inv.room in
-    let p = c.in-Some-place.place in
-    let d = c.index-heaps-place.result in
-    subst (λ (w : Write). put_by w ≤ (get_or heaps p d).spare) (sym c.into_inner.ensures) (room_for tables write place at rest heaps room p d c.in-Some-place.is)
+    let heaps = c.loop-table.heaps in
+    let rest = all_writes c.next.new.self in
+    let room : HaveRoomFor (writes_in c.in-Some.table c.in-Some.writes ++ rest) tables heaps = subst (λ (ts : List OfTable). HaveRoomFor (all_writes ts) tables heaps) c.in-Some.ensures.steps c.loop-table.invariant.room in
+    room_for tables c.in-Some.table c.in-Some.writes c.place_of.result c.place_of.ensures rest heaps room c.in-Some-place_of.place c.index-heaps-place.result c.in-Some-place_of.is
 
--- the write is in the heap of its table
-pub loop-write-preserved-in-Some-place : goal.loop-write-preserved-in-Some-place
-loop-write-preserved-in-Some-place c =
-    let opened = λ (box : Box Write Global). box.value in
+pub loop-table-preserved : goal.loop-table-preserved
+loop-table-preserved c =
     let tables = c.args.catalog.now.tables in
-    let heaps = c.loop-write.heaps in
-    let inv = c.loop-write.invariant in
-    let write : Write = c.in-Some.write.value in
-    let place = c.place_near-place.result in
-    let at : IsPlaceOf tables write.table place = subst (λ (w : Write). IsPlaceOf tables w.table place) c.deref.ensures c.place_near-place.ensures in
-    let step : into_iter_items c.loop-write.write-iterator ≡ c.in-Some.write ∷ into_iter_items c.next.new.self = c.in-Some.ensures.steps.0 in
-    let rest = map opened (into_iter_items c.next.new.self) in
-    let room : HaveRoomFor (write ∷ rest) tables heaps = subst (λ (boxes : List (Box Write Global)). HaveRoomFor (map opened boxes) tables heaps) step inv.room in
-    let p = c.in-Some-place.place in
-    let d = c.index-heaps-place.result in
-    let new = c.change.new.heap in
-    let in_heaps : p < length heaps = omega (arith, inv.written.one_each, c.requires.one_each, place_within tables write place at p c.in-Some-place.is) in
-    let means : new.entries ≡ applied (get_or heaps p d).entries write = c.change.ensures.entries ∙ ap (applied (get_or heaps p d).entries) c.into_inner.ensures in
-    let spare : (get_or heaps p d).spare ≤ new.spare + put_by write = subst (λ (w : Write). (get_or heaps p d).spare ≤ new.spare + put_by w) c.into_inner.ensures c.change.ensures.spare in
-    let now = changed tables write place at (map opened c.loop-write.yielded) c.args.heaps.now heaps inv.written p new d c.in-Some-place.is in_heaps means in
-    let left : (c.loop-write.yielded ++ c.in-Some.write ∷ []) ++ into_iter_items c.next.new.self ≡ c.args.writes.items =
-    append_assoc c.loop-write.yielded (c.in-Some.write ∷ []) (into_iter_items c.next.new.self) ∙ ap (λ r. c.loop-write.yielded ++ r) (sym step) ∙ inv.left in
-    record {
-      can = tt;
-      ends = tt;
-      left = left;
-      written = subst (λ ws. AreWritten ws tables c.args.heaps.now (set heaps p new)) (sym (map_push opened c.loop-write.yielded c.in-Some.write)) now;
-      room = room_left tables write place at rest heaps room p new d c.in-Some-place.is in_heaps spare;
-    }
-
--- no table has the name
-pub loop-write-preserved : goal.loop-write-preserved
-loop-write-preserved c =
-    let opened = λ (box : Box Write Global). box.value in
-    let tables = c.args.catalog.now.tables in
-    let heaps = c.loop-write.heaps in
-    let inv = c.loop-write.invariant in
-    let write : Write = c.in-Some.write.value in
-    let place = c.place_near-place.result in
-    let at : IsPlaceOf tables write.table place = subst (λ (w : Write). IsPlaceOf tables w.table place) c.deref.ensures c.place_near-place.ensures in
-    let step : into_iter_items c.loop-write.write-iterator ≡ c.in-Some.write ∷ into_iter_items c.next.new.self = c.in-Some.ensures.steps.0 in
-    let rest = map opened (into_iter_items c.next.new.self) in
-    let room : HaveRoomFor (write ∷ rest) tables heaps = subst (λ (boxes : List (Box Write Global)). HaveRoomFor (map opened boxes) tables heaps) step inv.room in
-    let now = passed tables write place at (map opened c.loop-write.yielded) c.args.heaps.now heaps inv.written c.in_default.is in
-    let left : (c.loop-write.yielded ++ c.in-Some.write ∷ []) ++ into_iter_items c.next.new.self ≡ c.args.writes.items =
-    append_assoc c.loop-write.yielded (c.in-Some.write ∷ []) (into_iter_items c.next.new.self) ∙ ap (λ r. c.loop-write.yielded ++ r) (sym step) ∙ inv.left in
-    record {
-      can = tt;
-      ends = tt;
-      left = left;
-      written = subst (λ ws. AreWritten ws tables c.args.heaps.now heaps) (sym (map_push opened c.loop-write.yielded c.in-Some.write)) now;
-      room = room_stays tables write place at rest heaps room c.in_default.is;
-    }
+    let heaps = c.loop-table.heaps in
+    let inv = c.loop-table.invariant in
+    let n = c.in-Some.table in
+    let ws = c.in-Some.writes in
+    let item : OfTable = (n, ws) in
+    let so_far = c.loop-table.yielded in
+    let rest = all_writes c.next.new.self in
+    let room : HaveRoomFor (writes_in n ws ++ rest) tables heaps = subst (λ (ts : List OfTable). HaveRoomFor (all_writes ts) tables heaps) c.in-Some.ensures.steps inv.room in
+    let place = c.place_of.result in
+    let at = c.place_of.ensures in
+    let left : all_writes ((so_far ++ item ∷ []) ++ c.next.new.self) ≡ c.args.writes =
+    ap all_writes (append_assoc so_far (item ∷ []) c.next.new.self ∙ ap (λ (ts : List OfTable). so_far ++ ts) (sym c.in-Some.ensures.steps)) ∙ inv.left in
+    elim c.match-place_of.branch [
+      | in-Some-place_of w ↦
+          let p = w.in-Some-place_of.place in
+          let new = w.change_all.new.heap in
+          let d = w.index-heaps-place.result in
+          let in_heaps : p < length heaps = omega (arith, inv.written.one_each, c.requires.one_each, place_within tables n ws place at p w.in-Some-place_of.is) in
+          let now = changed tables n ws place at (all_writes so_far) c.args.heaps.now heaps inv.written p new d w.in-Some-place_of.is in_heaps w.change_all.ensures.entries in
+          record {
+            left = left;
+            written = subst (AreWritten (all_writes (so_far ++ item ∷ [])) tables c.args.heaps.now) (sym w.heaps-is) (subst (λ (ws : List Write). AreWritten ws tables c.args.heaps.now (set heaps p new)) (sym (one_more so_far item)) now);
+            room = subst (HaveRoomFor rest tables) (sym w.heaps-is) (room_left tables n ws place at rest heaps room p new d w.in-Some-place_of.is in_heaps w.change_all.ensures.spare);
+          }
+      | in_default w ↦
+          let now = passed tables n ws place at (all_writes so_far) c.args.heaps.now heaps inv.written w.in_default.is in
+          record {
+            left = left;
+            written = subst (AreWritten (all_writes (so_far ++ item ∷ [])) tables c.args.heaps.now) (sym w.heaps-is) (subst (λ (ws : List Write). AreWritten ws tables c.args.heaps.now heaps) (sym (one_more so_far item)) now);
+            room = subst (HaveRoomFor rest tables) (sym w.heaps-is) (room_stays tables n ws place at rest heaps room w.in_default.is);
+          }
+    ]

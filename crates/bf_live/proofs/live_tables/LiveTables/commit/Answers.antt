@@ -1,4 +1,4 @@
-use Rattle.std.proofs.Common.{◌≡◌, List, Box, Global, map, ap, subst, sym, ◌∙◌, arith}
+use Rattle.std.proofs.Common.{◌≡◌, List, ap, subst, sym, ◌∙◌, arith}
 use Rattle.std.specs.Vec.{with_items}
 use Rattle.std.proofs.lemmas.List.{with_items_is}
 use Rattle.bf_heap.specs.Heaps.{Rows}
@@ -36,8 +36,8 @@ invariant_of-self-2 c =
     let now_is : (with_items (with_items c.self.inside.heaps c.make_room.new.heaps) c.apply.new.heaps).items ≡ c.apply.new.heaps = with_items_is (with_items c.self.inside.heaps c.make_room.new.heaps) c.apply.new.heaps (omega arith) in
     let heaps_are : c.deref_mut-2.result.now ≡ c.make_room.new.heaps = c.deref_mut-2.ensures.value ∙ roomy_is in
     let written : AreWritten c.args.writes.now c.self.inside.catalog.tables c.make_room.new.heaps c.apply.new.heaps =
-    subst (λ (writes : List Write). AreWritten writes c.self.inside.catalog.tables c.make_room.new.heaps c.apply.new.heaps) (c.into_writes.ensures.writes ∙ c.replace-taken.ensures.value)
-    (subst (λ (heaps : List Rows). AreWritten (map (λ (box : Box Write Global). box.value) c.into_writes.result.items) c.self.inside.catalog.tables heaps c.apply.new.heaps) heaps_are c.apply.ensures) in
+    subst (λ (writes : List Write). AreWritten writes c.self.inside.catalog.tables c.make_room.new.heaps c.apply.new.heaps) c.replace-taken.ensures.value
+    (subst (λ (heaps : List Rows). AreWritten c.replace-taken.result c.self.inside.catalog.tables heaps c.apply.new.heaps) heaps_are c.apply.ensures) in
     subst (AreLiveTables c.self.inside.catalog) (sym now_is) (store_committed c.self.inside.catalog c.self.inside.heaps.items c.self.invariant c.args.self.now c.self.view_is c.make_room.new.heaps same c.args.writes.now c.apply.new.heaps written c.requires.own_keys c.requires.database)
 
 pub returns-clause-ok : goal.returns-clause-ok
@@ -47,6 +47,6 @@ returns-clause-ok c =
     let now_is : (with_items (with_items c.self.inside.heaps c.make_room.new.heaps) c.apply.new.heaps).items ≡ c.apply.new.heaps = with_items_is (with_items c.self.inside.heaps c.make_room.new.heaps) c.apply.new.heaps (omega arith) in
     let heaps_are : c.deref_mut-2.result.now ≡ c.make_room.new.heaps = c.deref_mut-2.ensures.value ∙ roomy_is in
     let written : AreWritten c.args.writes.now c.self.inside.catalog.tables c.make_room.new.heaps c.apply.new.heaps =
-    subst (λ (writes : List Write). AreWritten writes c.self.inside.catalog.tables c.make_room.new.heaps c.apply.new.heaps) (c.into_writes.ensures.writes ∙ c.replace-taken.ensures.value)
-    (subst (λ (heaps : List Rows). AreWritten (map (λ (box : Box Write Global). box.value) c.into_writes.result.items) c.self.inside.catalog.tables heaps c.apply.new.heaps) heaps_are c.apply.ensures) in
+    subst (λ (writes : List Write). AreWritten writes c.self.inside.catalog.tables c.make_room.new.heaps c.apply.new.heaps) c.replace-taken.ensures.value
+    (subst (λ (heaps : List Rows). AreWritten c.replace-taken.result c.self.inside.catalog.tables heaps c.apply.new.heaps) heaps_are c.apply.ensures) in
     ap (database_of c.self.inside.catalog) now_is ∙ view_committed c.self.inside.catalog c.self.inside.heaps.items c.self.invariant c.args.self.now c.self.view_is c.make_room.new.heaps same c.args.writes.now c.apply.new.heaps written
