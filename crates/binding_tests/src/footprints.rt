@@ -12,6 +12,20 @@ fn name(alloc: Global) -> Result<Name, Fail> {
     Ok(Name::of(alloc, b"t")?)
 }
 
+fn key_lock(alloc: Global, id: i64) -> Result<(LockName, Mode), Fail> {
+    let key = Key::of(vec![in alloc; Value::Int(id)]?);
+    Ok((LockName::One(name(alloc)?, key), Mode::X))
+}
+
+fn wanted(alloc: Global) -> Result<Vec<(LockName, Mode)>, Fail> {
+    let mut locks = Vec::new(alloc);
+    locks.push((LockName::Catalog, Mode::S))?;
+    locks.push((LockName::Whole(name(alloc)?), Mode::IX))?;
+    locks.push(key_lock(alloc, 1)?)?;
+    locks.push(key_lock(alloc, 2)?)?;
+    Ok(locks)
+}
+
 #[test]
 fn locks_keys_in_their_order(rt: HostRuntime) -> Result<(), Fail> {
     let alloc = rt.alloc();
@@ -31,14 +45,6 @@ fn locks_keys_in_their_order(rt: HostRuntime) -> Result<(), Fail> {
         },
     };
     let locks = footprint(alloc, &bound)?;
-    let first = LockName::One(name(alloc)?, Key::of(vec![in alloc; Value::Int(1)]?));
-    let second = LockName::One(name(alloc)?, Key::of(vec![in alloc; Value::Int(2)]?));
-    let want = vec![in alloc;
-        (LockName::Catalog, Mode::S),
-        (LockName::Whole(name(alloc)?), Mode::IX),
-        (first, Mode::X),
-        (second, Mode::X),
-    ]?;
-    assert_eq!(rt; locks.as_slice(), want.as_slice());
+    assert_eq!(rt; locks.as_slice(), wanted(alloc)?.as_slice());
     Ok(())
 }
