@@ -55,10 +55,10 @@ module _ {K : Type 0} {cmp : K → K → Ordering} (o : IsTotalOrder cmp) {X : T
       let more = is_map-with_entry o key ws x g in
       let all = is_map-with_entries xs ws h in
       same_from_look_ups o key _ _ (is_map-with_entry o key (fold (with_entry cmp key) xs ws) x all) (is_map-with_entries xs (with_entry cmp key ws x) h) (λ k.
-          entry_at-with_entry o key (fold (with_entry cmp key) xs ws) x k
-          ∙ ap (cond (has_key cmp key k x) (Some x)) (entry_at-with_entries xs ws k g)
-          ∙ elim (has_key cmp key k x) as (λ b. cond b (Some x) (over (entry_at cmp key ws k) (entry_at cmp key xs k)) ≡ over (cond b (Some x) (entry_at cmp key ws k)) (entry_at cmp key xs k)) [ true ↦ refl | false ↦ refl ]
-          ∙ sym (entry_at-with_entries xs (with_entry cmp key ws x) k more ∙ ap (λ (found : Option X). over found (entry_at cmp key xs k)) (entry_at-with_entry o key ws x k)))
+      entry_at-with_entry o key (fold (with_entry cmp key) xs ws) x k
+      ∙ ap (cond (has_key cmp key k x) (Some x)) (entry_at-with_entries xs ws k g)
+      ∙ elim (has_key cmp key k x) as (λ b. cond b (Some x) (over (entry_at cmp key ws k) (entry_at cmp key xs k)) ≡ over (cond b (Some x) (entry_at cmp key ws k)) (entry_at cmp key xs k)) [ true ↦ refl | false ↦ refl ]
+      ∙ sym (entry_at-with_entries xs (with_entry cmp key ws x) k more ∙ ap (λ (found : Option X). over found (entry_at cmp key xs k)) (entry_at-with_entry o key ws x k)))
 
 module _ {K X : Type 0} {cmp : K → K → Ordering} (o : IsTotalOrder cmp) where
   abbrev pub key_of_entry : K × X → K

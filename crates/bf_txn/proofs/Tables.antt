@@ -281,11 +281,11 @@ module _ (n : List ℕ) where
   in_table : (ws : List KeyWrite) (w : KeyWrite) → writes_in n (with_key_write ws w) ≡ with_write (writes_in n ws) (written n w.0 w.1)
   in_table [] w = refl
   in_table (v ∷ ws) w = rw (tied_itself name_cmp_total n) (
-    elim (key_cmp w.0 v.0) as (λ r. writes_in n (beside r v ws w (with_key_write ws w)) ≡ beside r (written n v.0 v.1) (writes_in n ws) (written n w.0 w.1) (with_write (writes_in n ws) (written n w.0 w.1))) [
-      | Less ↦ refl
-      | Equal ↦ refl
-      | Greater ↦ ap (λ (vs : List Write). written n v.0 v.1 ∷ vs) (in_table ws w)
-    ])
+      elim (key_cmp w.0 v.0) as (λ r. writes_in n (beside r v ws w (with_key_write ws w)) ≡ beside r (written n v.0 v.1) (writes_in n ws) (written n w.0 w.1) (with_write (writes_in n ws) (written n w.0 w.1))) [
+        | Less ↦ refl
+        | Equal ↦ refl
+        | Greater ↦ ap (λ (vs : List Write). written n v.0 v.1 ∷ vs) (in_table ws w)
+      ])
 
   gathered_from : (ws : List Write) (noted : List KeyWrite) (old : List Write) → AreWrites old → is_map key_cmp key_of_write noted ≡ true → AllByRecursion (λ w. w.table ≡ n) ws
       → fold with_write old (writes_in n (fold (λ noted w. with_key_write noted (key_write_of w)) noted ws)) ≡ fold with_write (fold with_write old (writes_in n noted)) ws
@@ -294,9 +294,9 @@ module _ (n : List ℕ) where
       let more = is_map-with_entry key_cmp_total key_of_write noted (key_write_of w) g in
       gathered_from ws (with_key_write noted (key_write_of w)) old h more all.1
       ∙ ap (λ (now : List Write). fold with_write now ws) (
-        ap (fold with_write old) (in_table noted (key_write_of w))
-        ∙ sym (with_entry-with_entries table_key_cmp_total table_key_of old (writes_in n noted) (written n w.key w.row) h (are_writes_in n noted g))
-        ∙ ap (λ (m : List ℕ). with_write (fold with_write old (writes_in n noted)) (written m w.key w.row)) (sym all.0))
+      ap (fold with_write old) (in_table noted (key_write_of w))
+      ∙ sym (with_entry-with_entries table_key_cmp_total table_key_of old (writes_in n noted) (written n w.key w.row) h (are_writes_in n noted g))
+      ∙ ap (λ (m : List ℕ). with_write (fold with_write old (writes_in n noted)) (written m w.key w.row)) (sym all.0))
 
   -- they make what they make one after the other
   pub gathered_alike : (ws old : List Write) → AreWrites old → AllByRecursion (λ w. w.table ≡ n) ws → fold with_write old (writes_in n (gathered ws)) ≡ fold with_write old ws
