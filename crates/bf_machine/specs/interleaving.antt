@@ -4,3 +4,4 @@ pub mod Machines
 pub mod Kept
 pub mod Events
 pub mod Examples
+pub mod Seen
