@@ -2,6 +2,7 @@
 //! another, and the history of what has ended.
 #![tactic(auto)]
 
+mod answer;
 mod autocommit;
 pub mod interleaving_laws;
 pub mod laws;
