@@ -1,0 +1,3 @@
+-- What the calls of the machine keep of its fields.
+pub mod Fresh
+pub mod Sessions
