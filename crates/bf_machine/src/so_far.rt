@@ -115,7 +115,7 @@ pub(crate) fn tell_death(replies: &mut Vec<Reply>, count: u32, older: u64)
         ≡ replies.old.items ++ replicate count (Ended (Died older)) }
     ensures capacity { vec_capacity replies.new ≡ vec_capacity replies.old }
 {
-    for _ in 0..count {
+    for _told in 0..count {
         replies.push_reserved(Reply::Ended(Cause::Died(older)));
     }
 }

@@ -90,8 +90,8 @@ new_is_sound script retries sessions history transcripts all none numbers empty 
         };
       };
   room =
-      let open = none_open script.sessions sessions all in
-      rw (open, none) (omega arith);
+      let shut = none_open script.sessions sessions all in
+      rw (shut, none) (omega arith);
   no_transcripts = empty;
   transcripts_room = room;
 }
