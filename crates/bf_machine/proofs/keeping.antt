@@ -1,3 +1,4 @@
 -- What the calls of the machine keep of its fields.
 pub mod Fresh
 pub mod Sessions
+pub mod Places

@@ -9,7 +9,7 @@ use Rattle.bf_tree.specs.declared.reply.Reply.{Reply}
 use Rattle.bf_tree.specs.declared.script.Script.{Script}
 use Rattle.bf_tree.specs.declared.script.Session.{Session}
 use Rattle.bf_sql.specs.Database.{Database, empty_database}
-use Rattle.bf_sql.specs.Groups.{no_session}
+use Rattle.bf_sql.specs.Groups.{no_session, session_at}
 use Rattle.bf_live.proofs.keeps.Statements.{empty_is_database}
 use Rattle.bf_machine.specs.declared.so_far.Began.{Began as BeganGroup}
 use Rattle.bf_machine.specs.declared.so_far.SessionSoFar.{SessionSoFar}
@@ -53,11 +53,16 @@ none_open (s ∷ sessions) [] all = absurd all
 none_open (s ∷ sessions) (x ∷ made) all =
     let closed : is_open x ≡ false = ap is_some all.0.closed in
     let rest = none_open sessions made all.1 in
-    grind (closed, rest)
+    rw closed (omega (arith, rest))
 
 none_began : (n : ℕ) (b : Began) → began_at [] n ≡ Some b → ⊥
 none_began zero b is = absurd cc
 none_began (suc n) b is = absurd cc
+
+session_next : (script : Script) (i : ℕ) → session_at script (i + 1) ≡ slice_index_or script.sessions i no_session
+session_next script i =
+    let next : i + 1 ≡ suc i = omega arith in
+    rw next refl
 
 item_new : (sessions : List Session) (made : List SessionSoFar) → AreNew sessions made → (i : ℕ) (so_far : SessionSoFar) → i < length made → slice_index_or made i so_far ≡ so_far
     → IsNew (slice_index_or sessions i no_session) so_far
@@ -81,9 +86,10 @@ new_is_sound script retries sessions history transcripts all none numbers empty 
   counted = rw none refl;
   sessions_numbered = numbers;
   roomy = λ i so_far below at.
-      let new = item_new script.sessions sessions all i so_far below at in record {
-        room = new.room;
-        numbers = new.numbers;
+      let new = item_new script.sessions sessions all i so_far below at in
+      let own : session_at script (i + 1) ≡ slice_index_or script.sessions i no_session = session_next script i in record {
+        room = rw own new.room;
+        numbers = rw own new.numbers;
         latest = record {
           last = λ group k has. absurd (none_began k _ has.is);
           has = λ some. absurd (omega (arith, some, new.latest));
@@ -91,7 +97,8 @@ new_is_sound script retries sessions history transcripts all none numbers empty 
       };
   room =
       let shut = none_open script.sessions sessions all in
-      rw (shut, none) (omega arith);
+      let nothing : length history.items ≡ 0 = ap (λ (es : List Entry). length es) none in
+      omega (arith, shut, nothing);
   no_transcripts = empty;
   transcripts_room = room;
 }
