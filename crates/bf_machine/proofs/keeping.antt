@@ -2,3 +2,4 @@
 pub mod Fresh
 pub mod Sessions
 pub mod Places
+pub mod Answered
