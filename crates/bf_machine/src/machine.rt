@@ -1,6 +1,7 @@
 //! The machine: sessions that take turns over the live tables, under locks.
 
 mod ends;
+mod stands;
 mod statements;
 mod turns;
 

@@ -201,6 +201,15 @@ pub answer_of : (db : Database) (before : Pending) (bound : Bound) (in_block : B
 answer_of db before bound in_block s answer after by = λ writes same next.
     subst (λ (p : Pending). (answer ≡ reply_on db p in_block s) × (after ≡ pending_behind db p in_block s bound.action)) (sym same) (by writes same next)
 
+-- and where it stays
+pub stays_of : (db : Database) (before : Pending) (bound : Bound) (in_block : Bool) (s : Statement) (answer : Reply)
+    → ((writes : List Write) → before ≡ Rows writes → IsNext db writes bound in_block s
+    → (answer ≡ reply_on db (Rows writes) in_block s) × (Rows writes ≡ pending_behind db (Rows writes) in_block s bound.action))
+    → IsAnswer db before bound in_block s answer before
+stays_of db before bound in_block s answer by =
+    answer_of db before bound in_block s answer before (λ writes same next.
+    subst (λ (p : Pending). (answer ≡ reply_on db (Rows writes) in_block s) × (p ≡ pending_behind db (Rows writes) in_block s bound.action)) (sym same) (by writes same next))
+
 pub answers_of : (db : Database) (mine : List Write) (bound : Bound) (in_block : Bool) (s : Statement) (result : Result Reply Memory) (after : List Write)
     → IsDatabase db → IsOpen db mine → (table : Table) → action_table bound.action ≡ Some table
     → (IsBoundAs (committed db mine) in_block s bound.action → IfOk result (IsStep db mine after in_block s))

@@ -1,7 +1,8 @@
 -- One session of a machine that is changed, and what is seen of it.
-use Rattle.std.proofs.Common.{◌≡◌, ◌≢◌, ℕ, zero, suc, ◌+◌, ◌-◌, ◌<◌, ◌≤◌, Bool, true, false, List, [], ◌∷◌, length, map, set, Option, Some, None, refl, sym, ap, ap₂, subst, ◌∙◌, arith, inl, inr, vec_capacity}
+use Rattle.std.proofs.Common.{◌≡◌, ◌≢◌, ℕ, zero, suc, ◌+◌, ◌-◌, ◌<◌, ◌≤◌, Bool, true, false, cond, List, [], ◌∷◌, length, map, set, Option, Some, None, refl, sym, ap, ap₂, subst, ◌∙◌, arith, inl, inr, vec_capacity}
 use Rattle.std.specs.Prelude.{count_by, slice_index_or, slice_set}
 use Rattle.std.proofs.lemmas.Bool.{cases_eq}
+use Rattle.std.proofs.lemmas.List.Sums.{sum_by-set}
 use Rattle.std.proofs.lemmas.List.{get_or-set_other, get_or-set_same, length-set, map-set}
 use Rattle.bf_locks.specs.Locks.{Locks}
 use Rattle.bf_tree.specs.declared.history.Entry.{Entry}
@@ -52,24 +53,24 @@ module _ (script : Script) (began : List Began) (sessions : List SessionSoFar) (
         roomy j z (omega (arith, within, length-set sessions i y)) there
   ]
 
--- one group fewer is open
-pub one_closed : (sessions : List SessionSoFar) (i : ℕ) (x y : SessionSoFar) → i < length sessions → slice_index_or sessions i x ≡ x → is_open x ≡ true → is_open y ≡ false
-    → count_by is_open (slice_set sessions i y) + 1 ≡ count_by is_open sessions
-one_closed [] i x y below at was now = absurd (omega (arith, below))
-one_closed (z ∷ sessions) zero x y below at was now =
-    let here : is_open z ≡ true = ap is_open at ∙ was in
-    rw (here, now) (omega arith)
-one_closed (z ∷ sessions) (suc i) x y below at was now =
-    let rest = one_closed sessions i x y (omega (arith, below)) at was now in
-    omega (arith, rest)
+module _ (sessions : List SessionSoFar) (i : ℕ) (x y : SessionSoFar) (below : i < length sessions) (at : slice_index_or sessions i x ≡ x) where
+  abbrev counts : SessionSoFar → ℕ
+  counts z = cond (is_open z) 1 0
 
--- or one more
-pub one_opened : (sessions : List SessionSoFar) (i : ℕ) (x y : SessionSoFar) → i < length sessions → slice_index_or sessions i x ≡ x → is_open x ≡ false → is_open y ≡ true
-    → count_by is_open (slice_set sessions i y) ≡ count_by is_open sessions + 1
-one_opened [] i x y below at was now = absurd (omega (arith, below))
-one_opened (z ∷ sessions) zero x y below at was now =
-    let here : is_open z ≡ false = ap is_open at ∙ was in
-    rw (here, now) (omega arith)
-one_opened (z ∷ sessions) (suc i) x y below at was now =
-    let rest = one_opened sessions i x y (omega (arith, below)) at was now in
-    omega (arith, rest)
+  changed : count_by is_open (slice_set sessions i y) + counts (slice_index_or sessions i x) ≡ count_by is_open sessions + counts y
+  changed = sum_by-set counts sessions i y x below
+
+  counted : (b : Bool) → is_open x ≡ b → counts (slice_index_or sessions i x) ≡ cond b 1 0
+  counted b was = ap counts at ∙ ap (λ (b : Bool). cond b 1 0) was
+
+  -- one group fewer is open
+  pub one_closed : is_open x ≡ true → is_open y ≡ false → count_by is_open (slice_set sessions i y) + 1 ≡ count_by is_open sessions
+  one_closed was now =
+      let none : counts y ≡ 0 = ap (λ (b : Bool). cond b 1 0) now in
+      omega (arith, changed, counted true was, none)
+
+  -- or one more
+  pub one_opened : is_open x ≡ false → is_open y ≡ true → count_by is_open (slice_set sessions i y) ≡ count_by is_open sessions + 1
+  one_opened was now =
+      let one : counts y ≡ 1 = ap (λ (b : Bool). cond b 1 0) now in
+      omega (arith, changed, counted false was, one)

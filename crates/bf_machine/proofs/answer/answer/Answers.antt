@@ -12,7 +12,7 @@ use Rattle.bf_live.proofs.statements.OnTables.{of_table}
 use Rattle.bf_machine.specs.interleaving.Answering.{IsAnswer, IsNext}
 use Rattle.bf_machine.specs.interleaving.Groups.{Pending, Rows, NewTable, NewIndex}
 use Rattle.bf_machine.specs.interleaving.Seen.{pending_seen}
-use Rattle.bf_machine.proofs.keeping.Answered.{answer_of, answers_of, begun_answer, index_answer, is_on_table, refused_answer, table_answer}
+use Rattle.bf_machine.proofs.keeping.Answered.{answer_of, answers_of, begun_answer, index_answer, is_on_table, refused_answer, stays_of, table_answer}
 use Rattle.bf_machine.proofs.answer.answer.Goals as goal
 
 pub run_on_table-requires-clause-on : goal.run_on_table-requires-clause-on
@@ -28,15 +28,13 @@ run_on_table-requires-clause-on c =
 pub returns-in_ok-copy-in-Refused-clause-answer : goal.returns-in_ok-copy-in-Refused-clause-answer
 returns-in_ok-copy-in-Refused-clause-answer c = λ in_block s.
     let copied = c.in_ok-copy-in-Refused in
-    answer_of c.args.live.now (pending_seen c.args.pending.now) c.args.bound.now in_block s (reply.Refused copied.field-0) (pending_seen c.args.pending.now)
-    (λ writes same next. subst (λ (p : Pending). (reply.Refused copied.field-0 ≡ _) × (p ≡ _)) (sym same)
-    (refused_answer c.args.live.now c.requires.database writes c.args.bound.now in_block s next copied.field-0 (c.in-Refused.is ∙ ap action.Refused (sym copied.ensures))))
+    stays_of c.args.live.now (pending_seen c.args.pending.now) c.args.bound.now in_block s (reply.Refused copied.field-0)
+    (λ writes same next. refused_answer c.args.live.now c.requires.database writes c.args.bound.now in_block s next copied.field-0 (c.in-Refused.is ∙ ap action.Refused (sym copied.ensures)))
 
 pub returns-in-Begin-clause-answer : goal.returns-in-Begin-clause-answer
 returns-in-Begin-clause-answer c = λ in_block s.
-    answer_of c.args.live.now (pending_seen c.args.pending.now) c.args.bound.now in_block s reply.Begun (pending_seen c.args.pending.now)
-    (λ writes same next. subst (λ (p : Pending). (reply.Begun ≡ _) × (p ≡ _)) (sym same)
-    (begun_answer c.args.live.now c.requires.database writes c.args.bound.now in_block s next c.in-Begin.is))
+    stays_of c.args.live.now (pending_seen c.args.pending.now) c.args.bound.now in_block s reply.Begun
+    (λ writes same next. begun_answer c.args.live.now c.requires.database writes c.args.bound.now in_block s next c.in-Begin.is)
 
 pub returns-in_ok-copy-in-CreateTable-clause-answer : goal.returns-in_ok-copy-in-CreateTable-clause-answer
 returns-in_ok-copy-in-CreateTable-clause-answer c = λ in_block s.
