@@ -3,3 +3,4 @@ pub mod Fresh
 pub mod Sessions
 pub mod Places
 pub mod Answered
+pub mod Ending
