@@ -4,3 +4,6 @@ pub mod Machines
 pub mod Kept
 pub mod Events
 pub mod Examples
+pub mod Answering
+pub mod Seen
+pub mod Calls

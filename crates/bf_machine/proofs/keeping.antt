@@ -1,0 +1,6 @@
+-- What the calls of the machine keep of its fields.
+pub mod Fresh
+pub mod Sessions
+pub mod Places
+pub mod Answered
+pub mod Ending

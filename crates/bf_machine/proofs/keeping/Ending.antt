@@ -1,0 +1,144 @@
+-- The end of a session's open group: its replies, and what is seen of it.
+use Rattle.std.proofs.Common.{◌≡◌, ◌⊎◌, ℕ, ◌+◌, ◌-◌, ◌<◌, ◌≤◌, false, List, [], ◌∷◌, ◌++◌, length, map, take, drop, Option, Some, None, refl, sym, ap, ap₂, subst, ◌∙◌, arith, inl, inr, option_map, append_assoc, append-nil, length-append, vec_capacity, vec_len}
+use Rattle.std.specs.Prelude.{is_some, slice_index_or, slice_set}
+use Rattle.std.specs.Global.{Vec}
+use Rattle.std.proofs.lemmas.List.{length-drop, length-set, take-append-drop}
+use Rattle.std.proofs.lemmas.Option.{same_Some}
+use Rattle.bf_locks.specs.Locks.{Locks, without_owner}
+use Rattle.bf_tree.specs.declared.history.Entry.{Entry}
+use Rattle.bf_tree.specs.declared.reply.Reply.{Reply}
+use Rattle.bf_tree.specs.declared.script.Script.{Script}
+use Rattle.bf_tree.specs.declared.statement.Statement.{Statement}
+use Rattle.bf_tree.specs.declared.statement.Statement.TheVariants.{Rollback}
+use Rattle.bf_sql.specs.Database.{Database, empty_database}
+use Rattle.bf_sql.specs.Groups.{commits as commits_text, session_at}
+use Rattle.bf_sql.specs.History.{commits_with}
+use Rattle.bf_machine.specs.declared.so_far.Began.{Began as BeganGroup}
+use Rattle.bf_machine.specs.declared.so_far.OpenGroup.{OpenGroup}
+use Rattle.bf_machine.specs.declared.so_far.SessionSoFar.{SessionSoFar}
+use Rattle.bf_machine.specs.interleaving.Events.{Aborts, commits_behind, ended, rest_of, rolled_back, text_of}
+use Rattle.bf_machine.specs.interleaving.Kept.{IsKept, IsOpenGroup}
+use Rattle.bf_machine.specs.interleaving.Machines.{Machine, Open, open_at, told_at}
+use Rattle.bf_machine.specs.interleaving.Seen.{IsLatest, IsSound, began_seen, group_seen, open_seen, seen, told_before, told_seen}
+use Rattle.bf_machine.proofs.interleaving.Ends.{abort_keeps_all}
+use Rattle.bf_machine.proofs.interleaving.Telling.{length-part}
+use Rattle.bf_machine.proofs.interleaving.Texts.{are_texts}
+use Rattle.bf_machine.proofs.keeping.Places.{one_closed, roomy_then, open_there, opens_then, told_then, told_there}
+
+-- one entry more
+commits_more : (n : ℕ) (es : List Entry) (e : Entry) → commits_behind n (es ++ e ∷ []) ≡ commits_with (commits_behind n es) e.outcome
+commits_more n [] e = refl
+commits_more n (d ∷ es) e = commits_more (commits_with n d.outcome) es e
+
+module _ (script : Script) (retries : ℕ) (db : Database) (locks : Locks) (began : List BeganGroup) (sessions : List SessionSoFar) (history : Vec Entry) (commits : ℕ) (transcripts : Vec (List Reply))
+    (sound : IsSound script retries db locks began sessions history commits transcripts)
+    (s : ℕ) (low : 1 ≤ s) (high : s ≤ length sessions) (x : SessionSoFar) (at : slice_index_or sessions (s - 1) x ≡ x) (g : OpenGroup) (is : x.«open» ≡ Some g) where
+  abbrev m : Machine
+  m = seen script retries db locks began sessions history.items
+
+  abbrev o : Open
+  o = group_seen x.replies.items g
+
+  pub there : open_at m s ≡ Some o
+  there = open_there script retries db locks began sessions history.items x s low high at ∙ ap (option_map (group_seen x.replies.items)) is
+
+  told_is : told_at m s ≡ take (g.first - 1) x.replies.items
+  told_is = told_there script retries db locks began sessions history.items x s low high at ∙ ap (told_before x.replies.items) is
+
+  pub all_told : told_at m s ++ o.replies ≡ x.replies.items
+  all_told = ap (λ (rs : List Reply). rs ++ drop (g.first - 1) x.replies.items) told_is ∙ take-append-drop (g.first - 1) x.replies.items
+
+  own : IsOpenGroup empty_database m s o
+  own = sound.kept.open_groups_replay.each s o there
+
+  bounds : (1 ≤ g.first) × (g.first ≤ g.last) × (g.last ≤ length (session_at script s).statements)
+  bounds = (are_texts script).bounds s o.group own.whole
+
+  -- so many statements are left
+  pub left_size : length (rest_of m s o) + length x.replies.items ≡ g.last
+  left_size =
+      let sizes : length (told_at m s) + length o.replies ≡ length x.replies.items = sym (length-append (told_at m s) o.replies) ∙ ap (λ (rs : List Reply). length rs) all_told in
+      omega (arith, sizes, length-drop (length o.replies) (text_of m s o), length-part g.first g.last (session_at script s).statements, own.within, own.next, bounds.0, bounds.1, bounds.2)
+
+  -- there is room for a reply where one is left
+  pub room_for_reply : length x.replies.items < g.last → length x.replies.items < vec_capacity x.replies
+  room_for_reply less =
+      let next : s - 1 + 1 ≡ s = omega (arith, low) in
+      let room = (sound.roomy (s - 1) x (omega (arith, low, high)) at).room in
+      let here : length (session_at script s).statements ≤ vec_capacity x.replies = rw next at room in
+      omega (arith, less, here, bounds.2)
+
+  module _ (c : Statement) (r : Reply) (left : (rest_of m s o ≡ []) ⊎ (rest_of m s o ≡ c ∷ [])) where
+    abbrev more : List Reply
+    more = map (λ _. r) (rest_of m s o)
+
+    pub one_more : length x.replies.items < g.last → x.replies.items ++ r ∷ [] ≡ x.replies.items ++ more
+    one_more less = elim left as (λ _. x.replies.items ++ r ∷ [] ≡ x.replies.items ++ more) [
+      | inl nothing ↦
+          let none : length (rest_of m s o) ≡ 0 = ap (λ (ss : List Statement). length ss) nothing in
+          absurd (omega (arith, left_size, none, less))
+      | inr one ↦ ap (λ (ss : List Statement). x.replies.items ++ map (λ _. r) ss) (sym one)
+    ]
+
+    pub no_more : g.last ≤ length x.replies.items → x.replies.items ≡ x.replies.items ++ more
+    no_more full = elim left as (λ _. x.replies.items ≡ x.replies.items ++ more) [
+      | inl nothing ↦ sym (ap (λ (ss : List Statement). x.replies.items ++ map (λ _. r) ss) nothing ∙ append-nil x.replies.items)
+      | inr one ↦
+          let some : length (rest_of m s o) ≡ 1 = ap (λ (ss : List Statement). length ss) one in
+          absurd (omega (arith, left_size, some, full))
+    ]
+
+  -- what is seen once the group is closed, with such replies
+  module _ (answers : List Reply) (y : SessionSoFar) (closed : y.«open» ≡ None) (replies : y.replies.items ≡ x.replies.items ++ answers) (next : Database) (e : Entry) where
+    told_then_is : told_seen y ≡ told_at m s ++ (o.replies ++ answers)
+    told_then_is =
+        ap (told_before y.replies.items) closed
+        ∙ (replies ∙ (ap (λ (rs : List Reply). rs ++ answers) (sym all_told) ∙ append_assoc (told_at m s) o.replies answers))
+
+    pub seen_ended : seen script retries next (without_owner locks g.start) began (slice_set sessions (s - 1) y) (history.items ++ e ∷ [])
+        ≡ record (ended m s o (o.replies ++ answers)) { db = next; history = history.items ++ e ∷ [] }
+    seen_ended =
+        ap₂ (λ (opens : List (Option Open)) (told : List (List Reply)). record (ended m s o (o.replies ++ answers)) { db = next; history = history.items ++ e ∷ []; opens = opens; told = told })
+        (opens_then sessions (s - 1) y ∙ ap (λ (p : Option Open). slice_set (map open_seen sessions) (s - 1) p) (ap (option_map (group_seen y.replies.items)) closed))
+        (told_then sessions (s - 1) y ∙ ap (λ (rs : List Reply). slice_set (map told_seen sessions) (s - 1) rs) told_then_is)
+
+    -- and the machine keeps what it kept
+    module _ (commits_then : ℕ) (latest : y.latest ≡ x.latest) (capacity : vec_capacity x.replies ≤ vec_capacity y.replies) (entries : Vec Entry) (items : entries.items ≡ history.items ++ e ∷ [])
+        (space : vec_capacity entries ≡ vec_capacity history) (kept : IsKept empty_database (record (ended m s o (o.replies ++ answers)) { db = next; history = history.items ++ e ∷ [] }))
+        (counted : commits_then ≡ commits_with (commits_behind 0 history.items) e.outcome) where
+      pub ended_sound : IsSound script retries next (without_owner locks g.start) began (slice_set sessions (s - 1) y) entries commits_then transcripts
+      ended_sound =
+          let below : s - 1 < length sessions = omega (arith, low, high) in
+          let was = sound.roomy (s - 1) x below at in
+          let count = one_closed sessions (s - 1) x y below at (ap is_some is) (ap is_some closed) in
+          let sizes : length entries.items ≡ length history.items + 1 = ap (λ (es : List Entry). length es) items ∙ length-append history.items (e ∷ []) in record {
+            kept = subst (λ (es : List Entry). IsKept empty_database (seen script retries next (without_owner locks g.start) began (slice_set sessions (s - 1) y) es)) (sym items)
+                (subst (IsKept empty_database) (sym seen_ended) kept);
+            counted = counted ∙ (sym (commits_more 0 history.items e) ∙ ap (commits_behind 0) (sym items));
+            sessions_numbered = sound.sessions_numbered;
+            roomy = roomy_then script (map began_seen began) sessions (s - 1) x y below at sound.roomy capacity (subst (IsLatest (map began_seen began) (s - 1 + 1)) (sym latest) was.latest);
+            room = omega (arith, sound.room, count, sizes, space);
+            no_transcripts = sound.no_transcripts;
+            transcripts_room = omega (arith, length-set sessions (s - 1) y, sound.transcripts_room);
+          }
+
+  -- ABORT
+  module _ (before : Machine) (by : Aborts m s before) where
+    same_group : by.o ≡ o
+    same_group = same_Some by.o o (sym by.is ∙ there)
+
+    pub left_to_abort : (rest_of m s o ≡ []) ⊎ (rest_of m s o ≡ Rollback ∷ [])
+    left_to_abort = subst (λ (p : Open). (rest_of m s p ≡ []) ⊎ (rest_of m s p ≡ Rollback ∷ [])) same_group by.left
+
+    pub aborted : (next : Machine) → next ≡ rolled_back m s o → Aborts m s next
+    aborted next goes = record {
+      current = by.current;
+      o = o;
+      is = there;
+      commits_so = subst (λ (p : Open). commits_text (text_of m s p) ≡ false) same_group by.commits_so;
+      left = left_to_abort;
+      goes = goes;
+    }
+
+    pub abort_kept : IsKept empty_database (rolled_back m s o)
+    abort_kept = abort_keeps_all empty_database m sound.kept (are_texts script) s (rolled_back m s o) (aborted (rolled_back m s o) refl)

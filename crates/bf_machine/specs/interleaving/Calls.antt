@@ -1,0 +1,102 @@
+-- THE CONDITIONS of the machine's calls on a session, counted from 1, and where it stands by them.
+use Rattle.std.specs.Prelude.{◌≡◌, ◌⊎◌, ℕ, ◌+◌, ◌≤◌, Bool, false, List, [], ◌∷◌, ◌++◌, length, take, drop, Option, Some, None, Contains, IsTrue, IsSomeAnd, nat_lt, if◌then◌else◌, slice_get}
+use Rattle.bf_locks.specs.declared.mode.Mode.{Mode}
+use Rattle.bf_locks.specs.declared.name.LockName.{LockName}
+use Rattle.bf_tree.specs.declared.bound.Bound.{Bound}
+use Rattle.bf_tree.specs.declared.reply.Reply.{Reply}
+use Rattle.bf_tree.specs.declared.script.Script.{Script}
+use Rattle.bf_tree.specs.declared.statement.Statement.{Statement}
+use Rattle.bf_sql.specs.Database.{empty_database}
+use Rattle.bf_sql.specs.Groups.{ends_block, groups_in, session_at}
+use Rattle.bf_sql.specs.History.{replayed}
+use Rattle.bf_live.specs.OpenGroups.{HoldsIn}
+use Rattle.bf_machine.specs.declared.stand.Stand.{Stand}
+use Rattle.bf_machine.specs.declared.stand.Stand.TheVariants as stand
+use Rattle.bf_machine.specs.interleaving.Events.{Aborts, Begins, Commits, Executes, Refuses, rest_of, stands_inside}
+use Rattle.bf_machine.specs.interleaving.Groups.{footprint_in}
+use Rattle.bf_machine.specs.interleaving.Kept.{HasEnded, HasStart, IsCurrent}
+use Rattle.bf_machine.specs.interleaving.Machines.{Group, Machine, Open, open_at, told_at, with_replies}
+
+abbrev pub IsPlace : Script → ℕ → Type 0
+IsPlace script s = (1 ≤ s) × (s ≤ length script.sessions)
+
+module _ (m : Machine) (s : ℕ) where
+  -- the replies as they stand, those of an open group included
+  abbrev pub replies_at : List Reply
+  replies_at = with_replies (told_at m s) (open_at m s)
+
+  abbrev pub statements_at : List Statement
+  statements_at = (session_at m.script s).statements
+
+  -- the number of the next statement
+  abbrev pub next_place : Option ℕ
+  next_place = if nat_lt (length replies_at) (length statements_at) then Some (length replies_at + 1) else None
+
+  abbrev pub HasSessionEnded : Type 0
+  HasSessionEnded = (length statements_at ≤ length (told_at m s)) × (open_at m s ≡ None)
+
+  -- the open group holds a name in a mode that covers one
+  abbrev pub IsCovered : LockName → Mode → Type 0
+  IsCovered name mode = IsSomeAnd (open_at m s) (λ o. HoldsIn m.locks o.start name mode)
+
+  -- a call may be made where its event can come
+  abbrev pub CanBegin : Type 0
+  CanBegin = (next : Machine) × Begins m s next
+
+  abbrev pub CanCommit : Type 0
+  CanCommit = (next : Machine) × Commits m s next
+
+  abbrev pub CanAbort : Type 0
+  CanAbort = (next : Machine) × Aborts m s next
+
+  abbrev pub CanRefuse : Type 0
+  CanRefuse = (next : Machine) × Refuses m s next
+
+  -- EXEC of an open group's next statement as it is bound, or of a COMMIT or ROLLBACK in no group
+  abbrev pub CanExec : Bound → Type 0
+  CanExec bound = ((next : Machine) × (by : Executes m s next) × (by.bound ≡ bound)) ⊎ CanRefuse
+
+  -- LOCK, before the answer is known
+  pub record CanAsk (name : LockName) (mode : Mode) : Type 0 where
+    pub current : IsCurrent m s
+    pub o : Open
+    pub is : open_at m s ≡ Some o
+    pub statement : Statement
+    pub later : List Statement
+    pub left : rest_of m s o ≡ statement ∷ later
+    pub prefix : ℕ
+    pub asks : Contains (footprint_in (replayed m.script empty_database (take prefix m.history)).1 (stands_inside o.replies) statement) (name, mode)
+
+  -- the next statement has this number, and does not end its group
+  pub record GoesOn (n : ℕ) : Type 0 where
+    pub current : IsCurrent m s
+    pub o : Open
+    pub is : open_at m s ≡ Some o
+    pub statement : Statement
+    pub later : List Statement
+    pub left : rest_of m s o ≡ statement ∷ later
+    pub goes_on : ends_block statement ≡ false
+    pub number : n ≡ o.group.0 + length o.replies
+
+  -- the next group is to begin again, but the group that its last death named has not ended
+  pub record IsNamed (h : ℕ) : Type 0 where
+    pub current : IsCurrent m s
+    pub closed : open_at m s ≡ None
+    pub group : Group
+    pub whole : Contains (groups_in m.script s) group
+    pub first : group.0 ≡ length (told_at m s) + 1
+    pub start : ℕ
+    pub has : HasStart m.began s group start
+    pub before : List ℕ
+    pub named : has.deaths ≡ before ++ h ∷ []
+    pub goes_on : (t : ℕ) (other : Group) → HasStart m.began t other h → HasEnded m t other → ⊥
+
+  -- STAND: what the session's next call is
+  abbrev pub StandsAs : Stand → Type 0
+  StandsAs stand.Ended = HasSessionEnded
+  StandsAs stand.Later = (HasSessionEnded → ⊥) × (IsCurrent m s → ⊥)
+  StandsAs (stand.Named h) = IsNamed h
+  StandsAs stand.Begin = CanBegin
+  StandsAs (stand.Statement n) = GoesOn n ⊎ (CanRefuse × (n ≡ length (told_at m s) + 1))
+  StandsAs stand.Commit = CanCommit
+  StandsAs stand.Abort = CanAbort

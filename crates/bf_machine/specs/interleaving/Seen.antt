@@ -1,0 +1,108 @@
+-- THE MACHINE OF THE CODE, as it is seen, and what else its type keeps.
+use Rattle.std.specs.Prelude.{◌≡◌, ℕ, ◌+◌, ◌-◌, ◌*◌, ◌<◌, ◌≤◌, ◌^◌, Bool, true, false, List, [], ◌∷◌, map, length, take, drop, Option, Some, None, option_map, count_by, is_some, slice_index_or, vec_capacity, if◌then◌else◌}
+use Rattle.std.specs.Global.{Vec}
+use Rattle.std.specs.Option.{option_map_or}
+use Rattle.bf_locks.specs.Locks.{Locks}
+use Rattle.bf_tree.specs.declared.history.Entry.{Entry}
+use Rattle.bf_tree.specs.declared.reply.Reply.{Reply}
+use Rattle.bf_tree.specs.declared.script.Script.{Script}
+use Rattle.bf_tree.specs.declared.script.Session.{Session}
+use Rattle.bf_tree.specs.declared.statement.Statement.{Statement}
+use Rattle.bf_tree.specs.declared.statement.Statement.TheVariants.{Begin}
+use Rattle.bf_sql.specs.Database.{Database, empty_database}
+use Rattle.bf_sql.specs.Groups.{ends_block, session_at}
+use Rattle.bf_machine.specs.declared.so_far.Began.{Began as BeganGroup}
+use Rattle.bf_machine.specs.declared.so_far.OpenGroup.{OpenGroup}
+use Rattle.bf_machine.specs.declared.so_far.Pending.{Pending as PendingChange}
+use Rattle.bf_machine.specs.declared.so_far.Pending.TheVariants as change
+use Rattle.bf_machine.specs.declared.so_far.SessionSoFar.{SessionSoFar}
+use Rattle.bf_machine.specs.interleaving.Events.{commits_behind}
+use Rattle.bf_machine.specs.interleaving.Groups.{Pending, Rows, NewTable, NewIndex}
+use Rattle.bf_machine.specs.interleaving.Kept.{HasStart, IsKept}
+use Rattle.bf_machine.specs.interleaving.Machines.{Group, Began, Open, Machine}
+
+abbrev pub pending_seen : PendingChange → Pending
+pending_seen (change.Rows writes) = Rows writes
+pending_seen (change.NewTable table) = NewTable table
+pending_seen (change.NewIndex index) = NewIndex index
+
+abbrev pub began_seen : BeganGroup → Began
+began_seen b = record { session = b.session; group = (b.first, b.last); deaths = b.deaths.items }
+
+-- an open group, and the replies before it, of all the replies of its session
+abbrev pub group_seen : List Reply → OpenGroup → Open
+group_seen replies o = record { start = o.start; group = (o.first, o.last); replies = drop (o.first - 1) replies; pending = pending_seen o.pending }
+
+abbrev pub open_seen : SessionSoFar → Option Open
+open_seen so_far = option_map (group_seen so_far.replies.items) so_far.open
+
+abbrev pub told_before : List Reply → Option OpenGroup → List Reply
+told_before replies None = replies
+told_before replies (Some o) = take (o.first - 1) replies
+
+abbrev pub told_seen : SessionSoFar → List Reply
+told_seen so_far = told_before so_far.replies.items so_far.open
+
+abbrev pub seen : Script → ℕ → Database → Locks → List BeganGroup → List SessionSoFar → List Entry → Machine
+seen script retries db locks began sessions history = record {
+  script = script;
+  retries = retries;
+  db = db;
+  locks = locks;
+  began = map began_seen began;
+  opens = map open_seen sessions;
+  told = map told_seen sessions;
+  history = history;
+}
+
+-- whether a group is open in a session
+abbrev pub is_open : SessionSoFar → Bool
+is_open so_far = is_some so_far.open
+
+-- LATEST: the start number of the session's group that began last, and 0 where none has begun
+pub record IsLatest (began : List Began) (s n : ℕ) : Type 0 where
+  pub last : (group : Group) (k : ℕ) → HasStart began s group k → k ≤ n
+  pub has : 0 < n → (group : Group) × HasStart began s group n
+
+-- a session has room for a reply to each of its statements, which have numbers of 32 bits
+pub record IsRoomy (script : Script) (began : List Began) (s : ℕ) (so_far : SessionSoFar) : Type 0 where
+  pub room : length (session_at script s).statements ≤ vec_capacity so_far.replies
+  pub numbers : length (session_at script s).statements < 2 ^ 32
+  pub latest : IsLatest began s so_far.latest
+
+-- SOUND: what is seen is kept; the commits are counted; and there is room for each reply, and for the entry of each open group
+pub record IsSound (script : Script) (retries : ℕ) (db : Database) (locks : Locks) (began : List BeganGroup) (sessions : List SessionSoFar) (history : Vec Entry) (commits : ℕ) (transcripts : Vec (List Reply)) : Type 0 where
+  pub kept : IsKept empty_database (seen script retries db locks began sessions history.items)
+  pub counted : commits ≡ commits_behind 0 history.items
+  pub sessions_numbered : length script.sessions < 2 ^ 32
+  pub roomy : (i : ℕ) (so_far : SessionSoFar) → i < length sessions → slice_index_or sessions i so_far ≡ so_far → IsRoomy script (map began_seen began) (i + 1) so_far
+  pub room : count_by is_open sessions + length history.items ≤ vec_capacity history
+  pub no_transcripts : transcripts.items ≡ []
+  pub transcripts_room : length sessions ≤ vec_capacity transcripts
+
+-- NEW: sessions in which nothing has begun, with room for each reply
+pub record IsNew (session : Session) (so_far : SessionSoFar) : Type 0 where
+  pub replies : so_far.replies.items ≡ []
+  pub closed : so_far.open ≡ None
+  pub latest : so_far.latest ≡ 0
+  pub room : length session.statements ≤ vec_capacity so_far.replies
+  pub numbers : length session.statements < 2 ^ 32
+
+abbrev pub AreNew : List Session → List SessionSoFar → Type 0
+AreNew [] [] = Unit {0}
+AreNew (session ∷ sessions) (so_far ∷ made) = IsNew session so_far × AreNew sessions made
+AreNew sessions made = ⊥
+
+-- the number of the last statement of a block, of which those up to number n are read
+abbrev pub block_end : ℕ → List Statement → ℕ
+block_end n [] = n
+block_end n (s ∷ ss) = if ends_block s then n + 1 else block_end (n + 1) ss
+
+-- the last statement of the group that begins at one
+abbrev pub end_of : ℕ → List Statement → ℕ
+end_of first [] = first
+end_of first (Begin ∷ ss) = block_end first ss
+end_of first (s ∷ ss) = first
+
+abbrev pub last_from : ℕ → List Statement → ℕ
+last_from first statements = end_of first (drop (first - 1) statements)

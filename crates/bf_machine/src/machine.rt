@@ -1,0 +1,189 @@
+//! The machine: sessions that take turns over the live tables, under locks.
+
+mod ends;
+mod stands;
+mod statements;
+mod turns;
+
+ghost use Rattle.std.specs.Prelude.{◌≡◌, ◌↔◌, ◌-◌, ◌≤◌, IfOk, OnOk, length, slice_get, true};
+ghost use Rattle.std.specs.Option.{option_map};
+ghost use Rattle.bf_sql.specs.Bound.{catalog_of};
+ghost use Rattle.bf_sql.specs.Database.{IsDatabase, empty_database};
+ghost use Rattle.bf_sql.specs.History.{replayed};
+ghost use Rattle.bf_machine.specs.interleaving.Calls.{HasSessionEnded, IsCovered, IsPlace, next_place, replies_at};
+ghost use Rattle.bf_machine.specs.interleaving.Kept.{IsKept, TranscriptsLegal, fresh};
+ghost use Rattle.bf_machine.specs.interleaving.Machines.{open_at, transcripts_of};
+
+use crate::so_far::{Began, SessionSoFar, all_replies, sessions_so_far};
+use bf_base::{Memory, Sequence, next_number};
+use bf_live::LiveTables;
+use bf_locks::{LockName, LockTable, Mode, join};
+use bf_tree::{Catalog, Entry, History, Reply, Script, Transcripts};
+use std::alloc::Global;
+use std::marker::Model;
+
+/// Sessions that take turns over live tables, under locks. Contracts see the script, how often a
+/// group may begin again, the database, the locks, the groups that have begun, those that are open,
+/// the replies before them, and the history.
+#[derive(Drop)]
+pub struct Machine {
+    alloc: Global,
+    script: Script,
+    retries: u16,
+    live: LiveTables,
+    locks: LockTable,
+    /// By start number, from 1 on.
+    began: Vec<Began>,
+    sessions: Vec<SessionSoFar>,
+    history: Vec<Entry>,
+    /// How many entries are commits.
+    commits: u64,
+    /// Empty, with room for the transcript of each session.
+    transcripts: Vec<Sequence<Reply>>,
+}
+
+impl Model for Machine {
+    ghost use Rattle.bf_machine.specs.interleaving.Machines.{Machine as Seen};
+    ghost use Rattle.std.specs.Coded.{codes};
+    ghost use Rattle.bf_tree.specs.contracts.raw.RawExpr as exprs;
+    ghost use Rattle.bf_tree.specs.contracts.raw.RawCond as conds;
+    ghost use Rattle.bf_locks.specs.contracts.table.LockTable as tables;
+
+    ghost Value = { Seen };
+
+    ghost coded = { Prim.hlevel (codes, exprs.the_row.coded, conds.the_row.coded, tables.the_row.coded) };
+
+    ghost use Rattle.bf_machine.specs.interleaving.Seen.{IsSound, seen};
+
+    ghost view = { λ m. seen m.script m.retries m.live m.locks m.began.items m.sessions.items m.history.items };
+
+    ghost invariant = { λ m. IsSound m.script m.retries m.live m.locks m.began.items m.sessions.items m.history m.commits m.transcripts };
+}
+
+impl Machine {
+    /// A machine over the empty database, in which nothing has begun. It makes room for the reply to
+    /// each statement.
+    ///
+    /// # Errors
+    /// Where memory runs out, or 2 ^ 32 sessions, or statements of a session, stand in the script.
+    pub fn new(alloc: Global, script: Script, retries: u16) -> Result<Machine, Memory>
+        ensures { IfOk result (λ machine. machine ≡ fresh empty_database script retries) }
+    {
+        next_number(script.sessions.len())?;
+        let sessions = sessions_so_far(alloc, script.sessions.as_slice())?;
+        let transcripts = Vec::with_capacity(alloc, sessions.len())?;
+        Ok(Machine {
+            alloc,
+            script,
+            retries,
+            live: LiveTables::new(alloc),
+            locks: LockTable::new(alloc),
+            began: Vec::new(alloc),
+            sessions,
+            history: Vec::new(alloc),
+            commits: 0,
+            transcripts,
+        })
+    }
+
+    /// The script.
+    pub fn script(&self) -> &Script
+        ensures script { result.now ≡ self.now.script }
+        ensures kept { IsKept empty_database self.now }
+    {
+        &self.script
+    }
+
+    /// The catalog, which is that behind the whole history.
+    pub fn catalog(&self) -> &Catalog
+        ensures catalog { result.now ≡ catalog_of self.now.db }
+        ensures database { IsDatabase self.now.db }
+        ensures replay { self.now.db
+            ≡ (replayed self.now.script empty_database self.now.history).1 }
+    {
+        self.live.catalog()
+    }
+
+    /// The reply to a statement of a session, both counted from 1, as it stands now, that of an open
+    /// group included. `None` exactly where the statement has no reply.
+    pub fn reply(&self, session: u32, statement: u32) -> Option<&Reply>
+        requires session { IsPlace self.now.script session }
+        requires statement { 1 ≤ statement }
+        ensures { option_map (λ reply. reply.now) result
+            ≡ slice_get (replies_at self.now session) (statement - 1) }
+    {
+        let place = session as usize - 1;
+        let so_far = &self.sessions[place];
+        so_far.replies.get(statement as usize - 1)
+    }
+
+    /// The number of a session's next statement, and `None` exactly at its end.
+    pub fn place(&self, session: u32) -> Option<u32>
+        requires { IsPlace self.now.script session }
+        ensures { result ≡ next_place self.now session }
+    {
+        let place = session as usize - 1;
+        let answered = self.sessions[place].replies.len();
+        if answered < self.script.sessions.as_slice()[place].statements.len() {
+            Some(answered as u32 + 1)
+        } else {
+            None
+        }
+    }
+
+    /// The start number of a session's open group, and `None` exactly where none is open.
+    pub fn start(&self, session: u32) -> Option<u64>
+        requires { IsPlace self.now.script session }
+        ensures { result ≡ option_map (λ o. o.start) (open_at self.now session) }
+    {
+        let place = session as usize - 1;
+        match &self.sessions[place].open {
+            Some(group) => Some(group.start),
+            None => None,
+        }
+    }
+
+    /// Whether a session's open group holds a name in a mode that covers this one. It costs a look-up
+    /// in the lock table, in time logarithmic in what is held.
+    pub fn covers(&self, session: u32, name: &LockName, mode: Mode) -> bool
+        requires { IsPlace self.now.script session }
+        ensures { (result ≡ true) ↔ IsCovered self.now session name.now mode }
+    {
+        let Some(start) = self.start(session) else {
+            return false;
+        };
+        match self.locks.holds(start, name) {
+            Some(held) => join(held, mode) == held,
+            None => false,
+        }
+    }
+
+    /// Ends a session, which changes nothing that is seen.
+    pub fn finish_session(&mut self, session: u32)
+        requires place { IsPlace self.old.script session }
+        requires ended { HasSessionEnded self.old session }
+        ensures { self.new ≡ self.old }
+    {
+        let _ = session;
+    }
+
+    /// The live tables, the transcripts and the history. Transcripts and history are legal, but for
+    /// the groups that are open.
+    pub fn into_parts(self) -> (LiveTables, Transcripts, History)
+        ensures live { result.0 ≡ self.db }
+        ensures transcripts { result.1.sessions ≡ transcripts_of self }
+        ensures history { result.2.entries ≡ self.history }
+        ensures legal { TranscriptsLegal empty_database self }
+    {
+        let sessions = all_replies(self.sessions, self.transcripts);
+        (
+            self.live,
+            Transcripts {
+                sessions: Sequence::of(sessions),
+            },
+            History {
+                entries: Sequence::of(self.history),
+            },
+        )
+    }
+}

@@ -1,0 +1,77 @@
+//! Ends of groups.
+
+ghost use Rattle.std.specs.Prelude.{◌≡◌, ◌+◌, IfOk, OnErr, OnOk};
+ghost use Rattle.bf_machine.specs.declared.stand.Ending.TheVariants.{Committed};
+ghost use Rattle.bf_machine.specs.interleaving.Calls.{CanAbort, CanCommit, IsPlace};
+ghost use Rattle.bf_machine.specs.interleaving.Events.{Aborts, Commits, commits_behind};
+
+use crate::answer::settle;
+use crate::machine::Machine;
+use crate::stand::Ending;
+use bf_base::Memory;
+use bf_tree::{Entry, Outcome, Reply};
+
+impl Machine {
+    /// Commits a session's open group: what it was to leave becomes part of the live tables, its
+    /// locks are freed, and its entry comes last. It costs what [`bf_live::LiveTables::commit`] does,
+    /// and the freeing of the locks.
+    ///
+    /// # Errors
+    /// Where memory runs out, or 2 ^ 64 schema changes were made. The machine is as it was then.
+    pub fn commit(&mut self, session: u32) -> Result<Ending, Memory>
+        requires place { IsPlace self.old.script session }
+        requires can { CanCommit self.old session }
+        ensures commits { OnOk result (Commits self.old session self.new) }
+        ensures number { IfOk result (λ ending.
+            ending ≡ Committed (commits_behind 0 self.old.history + 1)) }
+        ensures err { OnErr result (self.new ≡ self.old) }
+    {
+        let place = session as usize - 1;
+        let so_far = &mut self.sessions[place];
+        let Some(group) = &mut so_far.open else {
+            unreachable!();
+        };
+        settle(self.alloc, &mut self.live, &mut group.pending)?;
+        let number = self.commits + 1;
+        let (start, first, last) = (group.start, group.first, group.last);
+        if so_far.replies.len() < last as usize {
+            so_far.replies.push_reserved(Reply::Committed(number));
+        }
+        so_far.open = None;
+        self.locks.free_all(start);
+        self.history.push_reserved(Entry {
+            session,
+            first,
+            last,
+            outcome: Outcome::Committed(number),
+        });
+        self.commits = number;
+        Ok(Ending::Committed(number))
+    }
+
+    /// Rolls a session's open block back: what it was to leave is dropped, its locks are freed, and
+    /// its entry comes last. Takes no memory.
+    pub fn abort(&mut self, session: u32)
+        requires place { IsPlace self.old.script session }
+        requires can { CanAbort self.old session }
+        ensures { Aborts self.old session self.new }
+    {
+        let place = session as usize - 1;
+        let so_far = &mut self.sessions[place];
+        let Some(group) = &so_far.open else {
+            unreachable!();
+        };
+        let (start, first, last) = (group.start, group.first, group.last);
+        if so_far.replies.len() < last as usize {
+            so_far.replies.push_reserved(Reply::RolledBack);
+        }
+        so_far.open = None;
+        self.locks.free_all(start);
+        self.history.push_reserved(Entry {
+            session,
+            first,
+            last,
+            outcome: Outcome::RolledBack,
+        });
+    }
+}

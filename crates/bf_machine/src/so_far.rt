@@ -1,0 +1,121 @@
+//! What a session has come to, and the groups that have begun.
+
+ghost use Rattle.std.specs.Prelude.{◌≡◌, ◌+◌, ◌-◌, ◌<◌, ◌≤◌, ◌++◌, [], IfOk, length, map, replicate, vec_capacity, vec_len};
+ghost use Rattle.bf_tree.specs.declared.reply.Cause.TheVariants.{Died};
+ghost use Rattle.bf_tree.specs.declared.reply.Reply.TheVariants.{Ended};
+ghost use Rattle.bf_machine.specs.interleaving.Seen.{AreNew, last_from};
+
+use bf_base::{Memory, Sequence, Table, next_number};
+use bf_tree::{Cause, IndexRule, Reply, Session, Statement};
+use bf_txn::Workspace;
+use std::alloc::Global;
+
+/// What an open group is to leave: rows that it has written, or one change of the schema.
+#[derive(Drop)]
+pub enum Pending {
+    Rows(Workspace),
+    NewTable(Table),
+    NewIndex(IndexRule),
+}
+
+/// A group that has begun, at the place of its start number, and the start numbers that its deaths
+/// named, in order.
+#[derive(Drop)]
+pub struct Began {
+    pub session: u32,
+    pub first: u32,
+    pub last: u32,
+    pub deaths: Vec<u64>,
+}
+
+/// A group that is open.
+#[derive(Drop)]
+pub struct OpenGroup {
+    pub start: u64,
+    pub first: u32,
+    pub last: u32,
+    pub pending: Pending,
+}
+
+/// A session: the replies so far, with those of its open group behind the others, and the start
+/// number of the group that began last, which is 0 where none has begun.
+#[derive(Drop)]
+pub struct SessionSoFar {
+    pub replies: Vec<Reply>,
+    pub open: Option<OpenGroup>,
+    pub latest: u64,
+}
+
+/// Sessions in which nothing has begun, with room for the reply to each statement.
+///
+/// # Errors
+/// Where memory runs out, or a session has 2 ^ 32 statements or more.
+pub(crate) fn sessions_so_far(
+    alloc: Global,
+    sessions: &[Session],
+) -> Result<Vec<SessionSoFar>, Memory>
+    ensures { IfOk result (λ made. AreNew sessions.now made.items) }
+{
+    let mut made = Vec::with_capacity(alloc, sessions.len())?;
+    for session in sessions {
+        next_number(session.statements.len())?;
+        let replies = Vec::with_capacity(alloc, session.statements.len())?;
+        made.push(SessionSoFar {
+            replies,
+            open: None,
+            latest: 0,
+        })?;
+    }
+    Ok(made)
+}
+
+/// The replies of sessions, put into an empty list that has room for them. Takes no memory.
+pub(crate) fn all_replies(
+    sessions: Vec<SessionSoFar>,
+    room: Vec<Sequence<Reply>>,
+) -> Vec<Sequence<Reply>>
+    requires empty { room.items ≡ [] }
+    requires room { vec_len sessions ≤ vec_capacity room }
+    ensures { result.items ≡ map (λ so_far. so_far.replies.items) sessions.items }
+{
+    let mut transcripts = room;
+    for so_far in sessions {
+        let SessionSoFar { replies, .. } = so_far;
+        transcripts.push_reserved(Sequence::of(replies));
+    }
+    transcripts
+}
+
+/// The last statement of the group that begins at one, both counted from 1: itself, or where it is
+/// BEGIN the first COMMIT or ROLLBACK behind it, or the session's last. Linear in the group.
+pub(crate) fn last_of_group(statements: &[Statement], first: u32) -> u32
+    requires first { 1 ≤ first }
+    requires within { first ≤ length statements.now }
+    requires numbers { length statements.now < 4294967296 }
+    ensures { result ≡ last_from first statements.now }
+{
+    let behind = first as usize;
+    if !matches!(statements[behind - 1], Statement::Begin) {
+        return first;
+    }
+    let mut last = first;
+    for statement in &statements[behind..] {
+        last += 1;
+        if matches!(statement, Statement::Commit | Statement::Rollback) {
+            break;
+        }
+    }
+    last
+}
+
+/// Tells so many statements the death for an older group. Takes no memory.
+pub(crate) fn tell_death(replies: &mut Vec<Reply>, count: u32, older: u64)
+    requires { vec_len replies.old + count ≤ vec_capacity replies.old }
+    ensures replies { replies.new.items
+        ≡ replies.old.items ++ replicate count (Ended (Died older)) }
+    ensures capacity { vec_capacity replies.new ≡ vec_capacity replies.old }
+{
+    for _told in 0..count {
+        replies.push_reserved(Reply::Ended(Cause::Died(older)));
+    }
+}

@@ -1,0 +1,30 @@
+//! Where a session stands, and how a group ends.
+
+use bf_tree::Cause;
+
+/// Where a session stands: which call is its next, if one is.
+#[derive(Clone, Copy, Debug, PartialEq, Eq)]
+pub enum Stand {
+    /// Sessions of earlier phases have not ended.
+    Later,
+    /// Its next group died, and is to begin again once the group of this start number has ended.
+    Named(u64),
+    /// Its next group may begin.
+    Begin,
+    /// This statement, counted from 1, is to have its reply.
+    Statement(u32),
+    /// Its open group is to commit.
+    Commit,
+    /// Its open group is to be rolled back.
+    Abort,
+    /// Each statement has its reply, and no group is open.
+    Ended,
+}
+
+/// How a group ended that was to commit.
+#[derive(Clone, Copy, Debug, PartialEq, Eq)]
+pub enum Ending {
+    /// The number of the commit.
+    Committed(u64),
+    Ended(Cause),
+}
