@@ -1,9 +1,3 @@
 pub mod Places
 pub mod Blocks
 pub mod Groups
-pub mod Entries
-pub mod Whole
-pub mod Precedence
-pub mod Replies
-pub mod Answered
-pub mod Legal

@@ -1,5 +1,3 @@
 pub mod InOrder
 pub mod Runnable
-pub mod Sessions
-pub mod Turns
 pub mod interleaving

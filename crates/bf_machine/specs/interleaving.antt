@@ -7,3 +7,4 @@ pub mod Examples
 pub mod Answering
 pub mod Seen
 pub mod Calls
+pub mod Serving

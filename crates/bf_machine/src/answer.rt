@@ -9,7 +9,7 @@ ghost use Rattle.bf_machine.specs.interleaving.Answering.{CanAnswer, CanSettle, 
 ghost use Rattle.bf_machine.specs.interleaving.Seen.{pending_seen};
 
 use crate::so_far::Pending;
-use crate::transaction::run_on_table;
+use crate::on_table::run_on_table;
 use bf_base::Memory;
 use bf_live::LiveTables;
 use bf_tree::{Action, Bound, Reply};

@@ -1,18 +1,17 @@
-//! Transactions over the committed tables: statements in blocks and outside, sessions that follow one
-//! another, and the history of what has ended.
+//! The machine: sessions whose transactions take turns over the live tables under locks, the history of
+//! what has ended, and sessions served on one thread.
 #![tactic(auto)]
 
 mod answer;
-mod autocommit;
 pub mod interleaving_laws;
-pub mod laws;
 pub mod machine;
-mod run_so_far;
-mod scripts;
+mod on_table;
+pub mod scripts;
+pub mod serving;
 pub mod so_far;
 pub mod stand;
-mod transaction;
 
 pub use machine::Machine;
-pub use scripts::{Run, in_order, migrates_nothing};
+pub use scripts::migrates_nothing;
+pub use serving::in_order;
 pub use stand::{Ending, Stand};

@@ -11,6 +11,7 @@ ghost use Rattle.bf_sql.specs.Bound.{catalog_of};
 ghost use Rattle.bf_sql.specs.Database.{IsDatabase, empty_database};
 ghost use Rattle.bf_sql.specs.History.{replayed};
 ghost use Rattle.bf_machine.specs.interleaving.Calls.{HasSessionEnded, IsCovered, IsPlace, next_place, replies_at};
+ghost use Rattle.bf_machine.specs.interleaving.Serving.{is_answered, is_in_block};
 ghost use Rattle.bf_machine.specs.interleaving.Kept.{IsKept, TranscriptsLegal, fresh};
 ghost use Rattle.bf_machine.specs.interleaving.Machines.{open_at, transcripts_of};
 
@@ -94,6 +95,13 @@ impl Machine {
         &self.script
     }
 
+    /// How many sessions the script has.
+    pub fn session_count(&self) -> u32
+        ensures { result ≡ length self.now.script.sessions }
+    {
+        self.sessions.len() as u32
+    }
+
     /// The catalog, which is that behind the whole history.
     pub fn catalog(&self) -> &Catalog
         ensures catalog { result.now ≡ catalog_of self.now.db }
@@ -140,6 +148,30 @@ impl Machine {
         match &self.sessions[place].open {
             Some(group) => Some(group.start),
             None => None,
+        }
+    }
+
+    /// Whether a session's next statement stands in a block that is open.
+    pub fn is_in_block(&self, session: u32) -> bool
+        requires { IsPlace self.now.script session }
+        ensures { result ≡ is_in_block self.now session }
+    {
+        let so_far = &self.sessions[session as usize - 1];
+        match &so_far.open {
+            Some(group) => so_far.replies.len() >= group.first as usize,
+            None => false,
+        }
+    }
+
+    /// Whether a session has an open group, and each statement of it has its reply.
+    pub fn is_answered(&self, session: u32) -> bool
+        requires { IsPlace self.now.script session }
+        ensures { result ≡ is_answered self.now session }
+    {
+        let so_far = &self.sessions[session as usize - 1];
+        match &so_far.open {
+            Some(group) => so_far.replies.len() >= group.last as usize,
+            None => false,
         }
     }
 

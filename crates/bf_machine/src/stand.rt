@@ -1,5 +1,8 @@
 //! Where a session stands, and how a group ends.
 
+ghost use Rattle.std.specs.Prelude.{◌≡◌};
+ghost use Rattle.bf_machine.specs.interleaving.Serving.{can_go};
+
 use bf_tree::Cause;
 
 /// Where a session stands: which call is its next, if one is.
@@ -19,6 +22,18 @@ pub enum Stand {
     Abort,
     /// Each statement has its reply, and no group is open.
     Ended,
+}
+
+impl Stand {
+    /// Whether a call of the session can come now.
+    pub fn can_go(self) -> bool
+        ensures { result ≡ can_go self }
+    {
+        match self {
+            Stand::Begin | Stand::Statement(_) | Stand::Commit | Stand::Abort => true,
+            Stand::Ended | Stand::Later | Stand::Named(_) => false,
+        }
+    }
 }
 
 /// How a group ended that was to commit.

@@ -1,0 +1,164 @@
+//! Sessions served on one thread, in an order that is given, and then to their ends.
+
+ghost use Rattle.std.specs.Prelude.{◌≡◌, ◌≢◌, ℕ, ◌-◌, ◌≤◌, [], IfOk, OnOk, IfSome, None, Some, true, false};
+ghost use Rattle.bf_sql.specs.Database.{empty_database};
+ghost use Rattle.bf_machine.specs.declared.stand.Stand.TheVariants.{Begin};
+ghost use Rattle.bf_machine.specs.interleaving.Calls.{HasSessionEnded, IsPlace, StandsAs};
+ghost use Rattle.bf_machine.specs.interleaving.Events.{Reaches};
+ghost use Rattle.bf_machine.specs.interleaving.Machines.{Open, open_at};
+ghost use Rattle.bf_machine.specs.interleaving.Serving.{IsServable, IsTurn, Serves, can_go};
+
+use crate::machine::Machine;
+use crate::stand::Stand;
+use bf_base::Memory;
+use bf_bind::bind;
+use bf_locks::{LockAnswer, LockName, Mode};
+use bf_sql::footprint;
+use std::alloc::Global;
+
+/// How a turn of a session ended.
+#[derive(Clone, Copy, Debug, PartialEq, Eq)]
+pub enum Turn {
+    /// No call of the session can come.
+    Passed,
+    /// Its next statement has its reply, or its open group has ended.
+    Served,
+    /// Its open group waits for a lock.
+    Waited,
+    /// Its open group died.
+    Died,
+}
+
+/// Asks for locks, one after the other, until one is not granted.
+fn lock_all(machine: &mut Machine, session: u32, locks: &[(LockName, Mode)]) -> Result<Turn, Memory> {
+    for (name, mode) in locks {
+        match machine.lock(session, name, *mode)? {
+            LockAnswer::Granted => {}
+            LockAnswer::Wait(_) => return Ok(Turn::Waited),
+            LockAnswer::Die(_) => return Ok(Turn::Died),
+        }
+    }
+    Ok(Turn::Served)
+}
+
+/// Ends a session's open group where each statement of it has its reply.
+fn end_if_answered(machine: &mut Machine, session: u32) -> Result<(), Memory> {
+    if !machine.is_answered(session) {
+        return Ok(());
+    }
+    match machine.stand(session) {
+        Stand::Commit => {
+            machine.commit(session)?;
+        }
+        Stand::Abort => machine.abort(session),
+        _ => {}
+    }
+    Ok(())
+}
+
+/// Gives a session's next statement its reply: asks for the locks of its footprint in their order,
+/// and ends its group where it is the last.
+fn serve(alloc: Global, machine: &mut Machine, session: u32, place: u32) -> Result<Turn, Memory> {
+    let sessions = machine.script().sessions.as_slice();
+    let statement = &sessions[session as usize - 1].statements.as_slice()[place as usize - 1];
+    let in_block = machine.is_in_block(session);
+    let bound = bind(alloc, statement, machine.catalog(), in_block)?;
+    if machine.start(session).is_some() {
+        let locks = footprint(alloc, &bound)?;
+        let turn = lock_all(machine, session, locks.as_slice())?;
+        if turn != Turn::Served {
+            return Ok(turn);
+        }
+    }
+    machine.exec(session, &bound)?;
+    end_if_answered(machine, session)?;
+    Ok(Turn::Served)
+}
+
+/// Begins a session's next group where it is to begin, and tells where the session stands then.
+fn begin_if_due(machine: &mut Machine, session: u32) -> Result<Stand, Memory> {
+    let stand = machine.stand(session);
+    if stand != Stand::Begin {
+        return Ok(stand);
+    }
+    machine.begin(session)?;
+    Ok(machine.stand(session))
+}
+
+/// One turn of a session: drives its next statement until it has its reply, waits or dies. A group
+/// begins with its first statement's turn and, but for its COMMIT or ROLLBACK, ends with its last one's.
+fn take_turn(alloc: Global, machine: &mut Machine, session: u32) -> Result<Turn, Memory> {
+    match begin_if_due(machine, session)? {
+        Stand::Statement(place) => serve(alloc, machine, session, place),
+        Stand::Commit => {
+            machine.commit(session)?;
+            Ok(Turn::Served)
+        }
+        Stand::Abort => {
+            machine.abort(session);
+            Ok(Turn::Served)
+        }
+        _ => Ok(Turn::Passed),
+    }
+}
+
+/// The session whose open group is the youngest, and `None` exactly where none is open. It looks at
+/// each session.
+fn youngest(machine: &Machine) -> Option<u32> {
+    let mut youngest = None;
+    let mut latest = 0;
+    for session in 1..=machine.session_count() {
+        if let Some(start) = machine.start(session)
+            && start > latest
+        {
+            latest = start;
+            youngest = Some(session);
+        }
+    }
+    youngest
+}
+
+/// The first session of which a call can come, and `None` exactly where there is none.
+fn first_to_go(machine: &Machine) -> Option<u32> {
+    for session in 1..=machine.session_count() {
+        if machine.stand(session).can_go() {
+            return Some(session);
+        }
+    }
+    None
+}
+
+/// Drives the open groups to their ends, the youngest first. No group begins.
+fn end_open_groups(alloc: Global, machine: &mut Machine) -> Result<(), Memory> {
+    while let Some(session) = youngest(machine) {
+        take_turn(alloc, machine, session)?;
+    }
+    Ok(())
+}
+
+/// Drives sessions of which no group is open to their ends, one group after the other.
+fn end_sessions(alloc: Global, machine: &mut Machine) -> Result<(), Memory> {
+    while let Some(session) = first_to_go(machine) {
+        take_turn(alloc, machine, session)?;
+        end_open_groups(alloc, machine)?;
+    }
+    Ok(())
+}
+
+/// Serves the sessions of a machine on one thread. Each number of the order is one turn of that
+/// session: its next statement is driven until it has its reply, or waits, or dies. A number of no
+/// session, and a session that has ended, is of a later phase or waits for the end of another group,
+/// is passed over. Then all that is left is driven, the youngest open group first, and where none is
+/// open the first session that can go on. Linear in the statements, beside what they cost.
+///
+/// # Errors
+/// Where memory runs out. The machine stands after some of the turns then.
+pub fn in_order(alloc: Global, machine: &mut Machine, order: &[u32]) -> Result<(), Memory> {
+    for session in order {
+        if 1 <= *session && *session <= machine.session_count() {
+            take_turn(alloc, machine, *session)?;
+        }
+    }
+    end_open_groups(alloc, machine)?;
+    end_sessions(alloc, machine)
+}
