@@ -97,7 +97,8 @@ impl Machine {
 
     /// How many sessions the script has.
     pub fn session_count(&self) -> u32
-        ensures { result ≡ length self.now.script.sessions }
+        ensures count { result ≡ length self.now.script.sessions }
+        ensures kept { IsKept empty_database self.now }
     {
         self.sessions.len() as u32
     }

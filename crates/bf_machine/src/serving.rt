@@ -1,12 +1,14 @@
 //! Sessions served on one thread, in an order that is given, and then to their ends.
 
-ghost use Rattle.std.specs.Prelude.{◌≡◌, ◌≢◌, ℕ, ◌-◌, ◌≤◌, [], IfOk, OnOk, IfSome, None, Some, true, false};
+ghost use Rattle.std.specs.Prelude.{◌≡◌, ◌≢◌, ℕ, ◌<◌, ◌≤◌, [], IfOk, IfSome, OnOk, None, Ok, false};
 ghost use Rattle.bf_sql.specs.Database.{empty_database};
-ghost use Rattle.bf_machine.specs.declared.stand.Stand.TheVariants.{Begin};
+ghost use Rattle.bf_machine.specs.declared.stand.Stand.TheVariants.{Begin, Statement};
 ghost use Rattle.bf_machine.specs.interleaving.Calls.{HasSessionEnded, IsPlace, StandsAs};
 ghost use Rattle.bf_machine.specs.interleaving.Events.{Reaches};
+ghost use Rattle.bf_machine.specs.interleaving.Kept.{IsKept};
 ghost use Rattle.bf_machine.specs.interleaving.Machines.{Open, open_at};
-ghost use Rattle.bf_machine.specs.interleaving.Serving.{IsServable, IsTurn, Serves, can_go};
+ghost use Rattle.bf_machine.specs.interleaving.Serving.{CanGo, CannotGo, HasLocked, IsAlone, IsInSequence, IsServable, IsToLock, IsTurn, IsYoungest, Serves, can_go, deaths_at, unanswered};
+ghost use Rattle.bf_machine.specs.declared.serving.Turn.TheVariants.{Served};
 
 use crate::machine::Machine;
 use crate::stand::Stand;
@@ -30,7 +32,14 @@ pub enum Turn {
 }
 
 /// Asks for locks, one after the other, until one is not granted.
-fn lock_all(machine: &mut Machine, session: u32, locks: &[(LockName, Mode)]) -> Result<Turn, Memory> {
+fn lock_all(machine: &mut Machine, session: u32, locks: &[(LockName, Mode)]) -> Result<Turn, Memory>
+    requires place { IsPlace machine.old.script session }
+    requires kept { IsKept empty_database machine.old }
+    requires next { (o : Open) × IsToLock machine.old session o locks.now }
+    ensures reaches { Reaches empty_database machine.old machine.new }
+    ensures locked { result ≡ Ok Served → HasLocked machine.old session locks.now machine.new }
+    ensures turn { IfOk result (λ turn. turn ≢ Served → IsTurn machine.old session turn machine.new) }
+{
     for (name, mode) in locks {
         match machine.lock(session, name, *mode)? {
             LockAnswer::Granted => {}
@@ -42,7 +51,14 @@ fn lock_all(machine: &mut Machine, session: u32, locks: &[(LockName, Mode)]) -> 
 }
 
 /// Ends a session's open group where each statement of it has its reply.
-fn end_if_answered(machine: &mut Machine, session: u32) -> Result<(), Memory> {
+fn end_if_answered(machine: &mut Machine, session: u32) -> Result<(), Memory>
+    requires place { IsPlace machine.old.script session }
+    requires kept { IsKept empty_database machine.old }
+    ensures reaches { Reaches empty_database machine.old machine.new }
+    ensures serves { OnOk result (Serves machine.old session machine.new) }
+    ensures replies { OnOk result
+        (unanswered machine.new session ≡ unanswered machine.old session) }
+{
     if !machine.is_answered(session) {
         return Ok(());
     }
@@ -58,7 +74,14 @@ fn end_if_answered(machine: &mut Machine, session: u32) -> Result<(), Memory> {
 
 /// Gives a session's next statement its reply: asks for the locks of its footprint in their order,
 /// and ends its group where it is the last.
-fn serve(alloc: Global, machine: &mut Machine, session: u32, place: u32) -> Result<Turn, Memory> {
+fn serve(alloc: Global, machine: &mut Machine, session: u32, place: u32) -> Result<Turn, Memory>
+    requires place { IsPlace machine.old.script session }
+    requires kept { IsKept empty_database machine.old }
+    requires servable { IsServable machine.old.script }
+    requires stands { StandsAs machine.old session (Statement place) }
+    ensures reaches { Reaches empty_database machine.old machine.new }
+    ensures turn { IfOk result (λ turn. IsTurn machine.old session turn machine.new) }
+{
     let sessions = machine.script().sessions.as_slice();
     let statement = &sessions[session as usize - 1].statements.as_slice()[place as usize - 1];
     let in_block = machine.is_in_block(session);
@@ -76,7 +99,17 @@ fn serve(alloc: Global, machine: &mut Machine, session: u32, place: u32) -> Resu
 }
 
 /// Begins a session's next group where it is to begin, and tells where the session stands then.
-fn begin_if_due(machine: &mut Machine, session: u32) -> Result<Stand, Memory> {
+fn begin_if_due(machine: &mut Machine, session: u32) -> Result<Stand, Memory>
+    requires place { IsPlace machine.old.script session }
+    requires kept { IsKept empty_database machine.old }
+    ensures reaches { Reaches empty_database machine.old machine.new }
+    ensures serves { OnOk result (Serves machine.old session machine.new) }
+    ensures replies { OnOk result
+        (unanswered machine.new session ≡ unanswered machine.old session) }
+    ensures stands { IfOk result (λ stand. StandsAs machine.new session stand) }
+    ensures begun { IfOk result (λ stand. stand ≢ Begin) }
+    ensures passed { IfOk result (λ stand. can_go stand ≡ false → machine.new ≡ machine.old) }
+{
     let stand = machine.stand(session);
     if stand != Stand::Begin {
         return Ok(stand);
@@ -87,7 +120,13 @@ fn begin_if_due(machine: &mut Machine, session: u32) -> Result<Stand, Memory> {
 
 /// One turn of a session: drives its next statement until it has its reply, waits or dies. A group
 /// begins with its first statement's turn and, but for its COMMIT or ROLLBACK, ends with its last one's.
-fn take_turn(alloc: Global, machine: &mut Machine, session: u32) -> Result<Turn, Memory> {
+fn take_turn(alloc: Global, machine: &mut Machine, session: u32) -> Result<Turn, Memory>
+    requires place { IsPlace machine.old.script session }
+    requires kept { IsKept empty_database machine.old }
+    requires servable { IsServable machine.old.script }
+    ensures reaches { Reaches empty_database machine.old machine.new }
+    ensures turn { IfOk result (λ turn. IsTurn machine.old session turn machine.new) }
+{
     match begin_if_due(machine, session)? {
         Stand::Statement(place) => serve(alloc, machine, session, place),
         Stand::Commit => {
@@ -104,32 +143,52 @@ fn take_turn(alloc: Global, machine: &mut Machine, session: u32) -> Result<Turn,
 
 /// The session whose open group is the youngest, and `None` exactly where none is open. It looks at
 /// each session.
-fn youngest(machine: &Machine) -> Option<u32> {
+fn youngest(machine: &Machine) -> Option<u32>
+    ensures none { result ≡ None → (s : ℕ) → open_at machine.now s ≡ None }
+    ensures place { IfSome result (IsPlace machine.now.script) }
+    ensures youngest { IfSome result (IsYoungest machine.now) }
+{
     let mut youngest = None;
     let mut latest = 0;
-    for session in 1..=machine.session_count() {
-        if let Some(start) = machine.start(session)
+    for place in 0..machine.session_count() {
+        if let Some(start) = machine.start(place + 1)
             && start > latest
         {
             latest = start;
-            youngest = Some(session);
+            youngest = Some(place + 1);
         }
     }
     youngest
 }
 
 /// The first session of which a call can come, and `None` exactly where there is none.
-fn first_to_go(machine: &Machine) -> Option<u32> {
-    for session in 1..=machine.session_count() {
-        if machine.stand(session).can_go() {
-            return Some(session);
+fn first_to_go(machine: &Machine) -> Option<u32>
+    ensures none { result ≡ None
+        → (s : ℕ) → IsPlace machine.now.script s → CannotGo machine.now s }
+    ensures place { IfSome result (IsPlace machine.now.script) }
+    ensures goes { IfSome result (CanGo machine.now) }
+    ensures first { IfSome result (λ first.
+        (s : ℕ) → 1 ≤ s → s < first → CannotGo machine.now s) }
+{
+    for place in 0..machine.session_count() {
+        if machine.stand(place + 1).can_go() {
+            return Some(place + 1);
         }
     }
     None
 }
 
 /// Drives the open groups to their ends, the youngest first. No group begins.
-fn end_open_groups(alloc: Global, machine: &mut Machine) -> Result<(), Memory> {
+fn end_open_groups(alloc: Global, machine: &mut Machine) -> Result<(), Memory>
+    requires kept { IsKept empty_database machine.old }
+    requires servable { IsServable machine.old.script }
+    ensures reaches { Reaches empty_database machine.old machine.new }
+    ensures closed { OnOk result ((s : ℕ) → open_at machine.new s ≡ None) }
+    ensures nothing { ((s : ℕ) → open_at machine.old s ≡ None) → machine.new ≡ machine.old }
+    ensures alone { OnOk result ((s : ℕ) → IsAlone machine.old s
+        → Serves machine.old s machine.new
+        × (unanswered machine.new s ≤ unanswered machine.old s)) }
+{
     while let Some(session) = youngest(machine) {
         take_turn(alloc, machine, session)?;
     }
@@ -137,7 +196,16 @@ fn end_open_groups(alloc: Global, machine: &mut Machine) -> Result<(), Memory> {
 }
 
 /// Drives sessions of which no group is open to their ends, one group after the other.
-fn end_sessions(alloc: Global, machine: &mut Machine) -> Result<(), Memory> {
+fn end_sessions(alloc: Global, machine: &mut Machine) -> Result<(), Memory>
+    requires kept { IsKept empty_database machine.old }
+    requires servable { IsServable machine.old.script }
+    requires closed { (s : ℕ) → open_at machine.old s ≡ None }
+    ensures reaches { Reaches empty_database machine.old machine.new }
+    ensures ended { OnOk result
+        ((s : ℕ) → IsPlace machine.new.script s → HasSessionEnded machine.new s) }
+    ensures deaths { OnOk result ((n : ℕ) → deaths_at machine.new n ≡ deaths_at machine.old n) }
+    ensures sequence { OnOk result (IsInSequence machine.old → IsInSequence machine.new) }
+{
     while let Some(session) = first_to_go(machine) {
         take_turn(alloc, machine, session)?;
         end_open_groups(alloc, machine)?;
@@ -153,9 +221,19 @@ fn end_sessions(alloc: Global, machine: &mut Machine) -> Result<(), Memory> {
 ///
 /// # Errors
 /// Where memory runs out. The machine stands after some of the turns then.
-pub fn in_order(alloc: Global, machine: &mut Machine, order: &[u32]) -> Result<(), Memory> {
+pub fn in_order(alloc: Global, machine: &mut Machine, order: &[u32]) -> Result<(), Memory>
+    requires servable { IsServable machine.old.script }
+    ensures reaches { Reaches empty_database machine.old machine.new }
+    ensures answered { OnOk result
+        ((s : ℕ) → IsPlace machine.new.script s → HasSessionEnded machine.new s) }
+    ensures no_death { OnOk result (order.now ≡ [] → ((s : ℕ) → open_at machine.old s ≡ None)
+        → (n : ℕ) → deaths_at machine.new n ≡ deaths_at machine.old n) }
+    ensures sequence { OnOk result
+        (order.now ≡ [] → IsInSequence machine.old → IsInSequence machine.new) }
+{
+    let count = machine.session_count();
     for session in order {
-        if 1 <= *session && *session <= machine.session_count() {
+        if 1 <= *session && *session <= count {
             take_turn(alloc, machine, *session)?;
         }
     }

@@ -32,7 +32,7 @@ module _ (start : Database) where
   event_keeps_all m next kept (aborts s by) = abort_keeps_all start m kept (are_texts m.script) s next by
   event_keeps_all m next kept (finishes s same) = subst (IsKept start) (sym same) kept
 
-  reached_keeps_all : (m now : Machine) → IsKept start m → Reaches start m now → IsKept start now
+  pub reached_keeps_all : (m now : Machine) → IsKept start m → Reaches start m now → IsKept start now
   reached_keeps_all m _ kept at_once = kept
   reached_keeps_all m _ kept (one_more {now = now} {next = next} before event) = event_keeps_all now next (reached_keeps_all m now kept before) event
 

@@ -19,10 +19,10 @@ pub data IsText : List Statement → Type 0 where
   block : (ss : List Statement) → IsText (Begin ∷ ss)
 
 -- no group begins before the statements that it is made of
-abbrev From : ℕ → List Group → Type 0
+abbrev pub From : ℕ → List Group → Type 0
 From m groups = AllByRecursion (λ g. m ≤ g.0) groups
 
-low : (m n : ℕ) (began : Option ℕ) (ss : List Statement) → m ≤ n → ((b : ℕ) → began ≡ Some b → m ≤ b) → From m (groups_from n began ss)
+pub low : (m n : ℕ) (began : Option ℕ) (ss : List Statement) → m ≤ n → ((b : ℕ) → began ≡ Some b → m ≤ b) → From m (groups_from n began ss)
 low m n None [] h hb = tt
 low m n (Some b) [] h hb = (hb b refl, tt)
 low m n None (Begin ∷ ss) h hb = low m (n + 1) (Some n) ss (omega arith) (λ b e. let same : n ≡ b = cc in omega arith)

@@ -4,53 +4,27 @@ use Rattle.std.proofs.lemmas.Bool.{false≢true}
 use Rattle.std.proofs.lemmas.List.Folds.{list_any-append}
 use Rattle.bf_tree.specs.declared.statement.Statement.{Statement}
 use Rattle.bf_tree.specs.declared.statement.Statement.TheVariants.{Begin, Commit, Rollback}
-use Rattle.bf_tree.specs.declared.reply.Refusal.TheVariants.{NoTransaction}
-use Rattle.bf_tree.specs.declared.reply.Reply.{Reply}
-use Rattle.bf_tree.specs.declared.reply.Reply.TheVariants.{Begun, Refused}
-use Rattle.bf_tree.specs.declared.history.Outcome.{Outcome}
-use Rattle.bf_sql.specs.Database.{Database}
-use Rattle.bf_sql.specs.Groups.{groups_from, commits, ends_block, outcome_by}
-use Rattle.bf_sql.specs.History.{settled, commits_with}
-use Rattle.bf_machine.specs.Sessions.{SessionState, at_rest, session_from}
-use Rattle.bf_machine.proofs.order.Blocks.{Run, behind, NoEnd, inner_groups, inner_run, run_group-append, no_commit, last_says}
+use Rattle.bf_sql.specs.Groups.{groups_from, commits, ends_block}
+use Rattle.bf_machine.proofs.order.Blocks.{NoEnd, inner_groups, no_commit, last_says}
 
-module _ (committing : Bool) (c : ℕ) where
-  -- the outcome of a group behind c commits, and the commits with it
-  abbrev pub outcome_here : Outcome
-  outcome_here = (outcome_by committing (c + 1)).0
-
-  abbrev pub commits_here : ℕ
-  commits_here = commits_with c outcome_here
-
-  -- what comes of a group, given its replies and the database that it leaves, and of what runs behind it
-  abbrev pub with_entry : ℕ → ℕ → ℕ → List Reply × Database → (SessionState → Run) → Run
-  with_entry k n last result later =
-      let run = later (at_rest commits_here result.1) in
-      (result.0 ++ run.0, run.1, record { session = k; first = n; last = last; outcome = outcome_here } ∷ run.2)
-
--- statements that begin with a whole group: it stands in the groups, and runs as its entry is replayed
+-- statements that begin with a whole group
 pub record IsGroup (text rest whole : List Statement) (committing : Bool) : Type 0 where
   pub split : whole ≡ text ++ rest
   pub not_empty : 1 ≤ length text
   pub commits_so : commits text ≡ committing
   pub group : (n last : ℕ) → last + 1 ≡ n + length text → groups_from n None whole ≡ (n, last) ∷ groups_from (last + 1) None rest
-  pub run : (k n last c : ℕ) (db : Database) → last + 1 ≡ n + length text
-      → session_from k n (at_rest c db) whole
-      ≡ with_entry committing c k n last (settled (commits_here committing c) db (outcome_here committing c) text) (λ at. session_from k (last + 1) at rest)
 
--- statements that begin with a COMMIT or ROLLBACK outside a block: it is in no group, and refused
+-- statements that begin with a COMMIT or ROLLBACK outside a block: it is in no group
 pub record IsStray (s : Statement) (rest whole : List Statement) : Type 0 where
   pub split : whole ≡ s ∷ rest
   pub ends : ends_block s ≡ true
   pub group : (n : ℕ) → groups_from n None whole ≡ groups_from (n + 1) None rest
-  pub run : (k n c : ℕ) (db : Database)
-      → session_from k n (at_rest c db) whole ≡ behind (Refused NoTransaction ∷ []) (session_from k (n + 1) (at_rest c db) rest)
 
 commit_is_stray : (rest : List Statement) → IsStray Commit rest (Commit ∷ rest)
-commit_is_stray rest = record { split = refl; ends = refl; group = λ n. refl; run = λ k n c db. refl }
+commit_is_stray rest = record { split = refl; ends = refl; group = λ n. refl }
 
 rollback_is_stray : (rest : List Statement) → IsStray Rollback rest (Rollback ∷ rest)
-rollback_is_stray rest = record { split = refl; ends = refl; group = λ n. refl; run = λ k n c db. refl }
+rollback_is_stray rest = record { split = refl; ends = refl; group = λ n. refl }
 
 -- a statement that outside a block is a transaction of its own
 abbrev stands_alone : Statement → Bool
@@ -70,9 +44,6 @@ alone_is_group s rest autocommit = record {
   group = λ n last e.
       let here : last ≡ n = omega arith in
       rw here refl;
-  run = λ k n last c db e.
-      let here : last ≡ n = omega arith in
-      rw here refl;
 }
 
 -- a block with its COMMIT
@@ -82,12 +53,6 @@ committed_is_group body rest inner = record {
   not_empty = omega arith;
   commits_so = last_says body Commit;
   group = λ n last e. inner_groups (n + 1) last n body (Commit ∷ rest) inner (omega (arith, length-append body (Commit ∷ [])));
-  run = λ k n last c db e.
-      let ran = inner_run (c + 1) k (n + 1) last c db n db body (Commit ∷ rest) inner (omega (arith, length-append body (Commit ∷ []))) in
-      let RunsAs : List Reply × Database → Type 0 = λ r.
-      session_from k n (at_rest c db) (Begin ∷ body ++ Commit ∷ rest)
-      ≡ with_entry true c k n last (Begun ∷ r.0, r.1) (λ at. session_from k (last + 1) at rest) in
-      subst RunsAs (sym (run_group-append (c + 1) db body (Commit ∷ []))) (rw append_assoc (ap (λ (r : Run). (Begun ∷ r.0, r.1, r.2)) ran));
 }
 
 -- a block with its ROLLBACK
@@ -97,9 +62,6 @@ rolled_back_is_group body rest inner = record {
   not_empty = omega arith;
   commits_so = last_says body Rollback;
   group = λ n last e. inner_groups (n + 1) last n body (Rollback ∷ rest) inner (omega (arith, length-append body (Rollback ∷ [])));
-  run = λ k n last c db e.
-      let ran = inner_run c k (n + 1) last c db n db body (Rollback ∷ rest) inner (omega (arith, length-append body (Rollback ∷ []))) in
-      rw (run_group-append c db body (Rollback ∷ []), append_assoc) (ap (λ (r : Run). (Begun ∷ r.0, r.1, r.2)) ran);
 }
 
 -- a block that the session's end cuts off
@@ -111,9 +73,6 @@ open_is_group body inner = record {
   group = λ n last e.
       let here : (last + 1) - 1 ≡ last = omega arith in
       rw (inner_groups (n + 1) (last + 1) n body [] inner (omega arith), here) refl;
-  run = λ k n last c db e.
-      let here : (last + 1) - 1 ≡ last = omega arith in
-      rw (inner_run c k (n + 1) (last + 1) c db n db body [] inner (omega arith), here) refl;
 }
 
 -- what holds of no statements, and with those behind it of what begins with a stray or a group, holds of all

@@ -1,23 +1,29 @@
 -- SERVING sessions on one thread: what a turn of a session makes of a machine.
-use Rattle.std.specs.Prelude.{◌≡◌, ◌≢◌, ◌⊎◌, ℕ, ◌-◌, ◌<◌, Bool, true, false, List, ◌++◌, length, Option, Some, None, nat_le, IsTrue}
+use Rattle.std.specs.Prelude.{◌≡◌, ◌≢◌, ◌⊎◌, ℕ, ◌-◌, ◌<◌, ◌≤◌, Bool, true, false, List, [], ◌∷◌, ◌++◌, length, Option, Some, None, nat_le, IsTrue}
 use Rattle.std.specs.Option.{option_map_or}
 use Rattle.std.specs.List.{AllByRecursion}
 use Rattle.bf_locks.specs.declared.answer.LockAnswer.{LockAnswer}
 use Rattle.bf_locks.specs.declared.answer.LockAnswer.TheVariants.{Die, Wait}
 use Rattle.bf_locks.specs.declared.mode.Mode.{Mode}
 use Rattle.bf_locks.specs.declared.name.LockName.{LockName}
-use Rattle.bf_locks.specs.Locks.{IsJudged}
+use Rattle.bf_locks.specs.Locks.{IsJudged, Locks}
 use Rattle.bf_tree.specs.Limits.{is_narrow_script}
 use Rattle.bf_tree.specs.declared.history.Entry.{Entry}
 use Rattle.bf_tree.specs.declared.script.Script.{Script}
+use Rattle.bf_tree.specs.declared.statement.Statement.{Statement}
 use Rattle.bf_sql.specs.Database.{empty_database}
+use Rattle.bf_sql.specs.Footprints.{Lock}
+use Rattle.bf_live.specs.OpenGroups.{Holds}
 use Rattle.bf_machine.specs.InOrder.{migrates_nothing}
+use Rattle.bf_machine.specs.Runnable.{phases_rise_from}
 use Rattle.bf_machine.specs.declared.serving.Turn.{Turn}
 use Rattle.bf_machine.specs.declared.serving.Turn.TheVariants as turn
 use Rattle.bf_machine.specs.declared.stand.Stand.{Stand}
 use Rattle.bf_machine.specs.declared.stand.Stand.TheVariants as stand
-use Rattle.bf_machine.specs.interleaving.Calls.{StandsAs, replies_at, statements_at}
-use Rattle.bf_machine.specs.interleaving.Events.{Reaches, died, stands_inside, text_of}
+use Rattle.bf_machine.specs.interleaving.Calls.{HasSessionEnded, StandsAs, replies_at, statements_at}
+use Rattle.bf_machine.specs.interleaving.Events.{Reaches, died, rest_of, stands_inside, text_of}
+use Rattle.bf_machine.specs.interleaving.Groups.{footprint_in}
+use Rattle.bf_machine.specs.interleaving.Kept.{IsCurrent}
 use Rattle.bf_machine.specs.interleaving.Machines.{Began, Machine, Open, began_at, open_at, told_at}
 
 -- a script that is served: without a MIGRATE, and within the limits
@@ -36,6 +42,10 @@ can_go other = true
 abbrev pub deaths_at : Machine → ℕ → List ℕ
 deaths_at m n = option_map_or (λ (b : Began). b.deaths) (began_at m.began n) []
 
+-- how many statements of a session have no reply
+abbrev pub unanswered : Machine → ℕ → ℕ
+unanswered m s = length (statements_at m s) - length (replies_at m s)
+
 module _ (m : Machine) (s : ℕ) where
   -- whether the next statement stands in an open block
   abbrev pub is_in_block : Bool
@@ -44,10 +54,6 @@ module _ (m : Machine) (s : ℕ) where
   -- whether a group is open whose statements all have replies
   abbrev pub is_answered : Bool
   is_answered = option_map_or (λ (o : Open). nat_le (length (text_of m s o)) (length o.replies)) (open_at m s) false
-
-  -- the statements without a reply
-  abbrev pub unanswered : ℕ
-  unanswered = length (statements_at m s) - length (replies_at m s)
 
   -- other sessions stay as they are
   abbrev pub IsBeside : Machine → Type 0
@@ -60,9 +66,11 @@ module _ (m : Machine) (s : ℕ) where
     pub deaths : (n : ℕ) → deaths_at next n ≡ deaths_at m n
     pub entries : (more : List Entry) × AllByRecursion (λ e. e.session ≡ s) more × (next.history ≡ m.history ++ more)
 
-  -- a statement more has its reply, or its group has ended
-  abbrev pub GoesOn : Machine → Type 0
-  GoesOn next = Serves next × ((unanswered next s < unanswered) ⊎ ((o : Open) × (open_at m s ≡ Some o) × (open_at next s ≡ None)))
+  -- a statement more has its reply, or its open group has ended
+  pub record HasGoneOn (next : Machine) : Type 0 where
+    pub serves : Serves next
+    pub no_more : unanswered next s ≤ unanswered m s
+    pub goes : (unanswered next s < unanswered m s) ⊎ ((o : Open) × (open_at m s ≡ Some o) × (open_at next s ≡ None))
 
   -- ASKED: the session's open group, as it stands by then, asks for a lock and has this answer
   pub record IsAsked (answer : LockAnswer) : Type 0 where
@@ -71,13 +79,55 @@ module _ (m : Machine) (s : ℕ) where
     pub reached : Reaches empty_database m now
     pub o : Open
     pub is : open_at now s ≡ Some o
+    pub same : (p : Open) → open_at m s ≡ Some p → p.start ≡ o.start
     pub name : LockName
     pub mode : Mode
     pub judged : IsJudged now.locks o.start name mode answer
 
+  -- the next statement, which has these locks in its footprint
+  pub record IsToLock (o : Open) (locks : List Lock) : Type 0 where
+    pub current : IsCurrent m s
+    pub is : open_at m s ≡ Some o
+    pub statement : Statement
+    pub later : List Statement
+    pub left : rest_of m s o ≡ statement ∷ later
+    pub footprint : footprint_in m.db (stands_inside o.replies) statement ≡ locks
+
+  -- the group holds them, and nothing else has changed
+  abbrev pub HasLocked : List Lock → Machine → Type 0
+  HasLocked footprint next = (o : Open) × (open_at m s ≡ Some o) × (locks : Locks) × (next ≡ record m { locks = locks }) × Holds locks o.start footprint
+
+  -- no other group is open
+  abbrev pub IsAlone : Type 0
+  IsAlone = (t : ℕ) → t ≢ s → open_at m t ≡ None
+
+  -- no open group is younger than the session's
+  abbrev pub IsYoungest : Type 0
+  IsYoungest = (o : Open) × (open_at m s ≡ Some o) × ((t : ℕ) (other : Open) → open_at m t ≡ Some other → other.start ≤ o.start)
+
+  -- a call of the session can come, or none can
+  abbrev pub CanGo : Type 0
+  CanGo = (at : Stand) × StandsAs m s at × (can_go at ≡ true)
+
+  abbrev pub CannotGo : Type 0
+  CannotGo = (at : Stand) × StandsAs m s at × (can_go at ≡ false)
+
   -- TURN: how it ended, and what it made
   abbrev pub IsTurn : Turn → Machine → Type 0
-  IsTurn turn.Passed next = (at : Stand) × StandsAs m s at × (can_go at ≡ false) × (next ≡ m)
-  IsTurn turn.Served next = GoesOn next
+  IsTurn turn.Passed next = CannotGo × (next ≡ m)
+  IsTurn turn.Served next = HasGoneOn next
   IsTurn turn.Waited next = (others : List ℕ) × (asked : IsAsked (Wait others)) × (next ≡ asked.now)
   IsTurn turn.Died next = (older : ℕ) × (asked : IsAsked (Die older)) × (next ≡ died asked.now s asked.o older)
+
+-- the entries are of one session after the other, from one on
+abbrev pub SessionsRiseFrom : ℕ → List Entry → Type 0
+SessionsRiseFrom s [] = Unit {0}
+SessionsRiseFrom s (e ∷ es) = (s ≤ e.session) × SessionsRiseFrom e.session es
+
+-- IN SEQUENCE: no group is open or has died, and the entries are of one session after the other, each once those before it have ended
+pub record IsInSequence (m : Machine) : Type 0 where
+  pub phases : IsTrue (phases_rise_from 0 m.script.sessions)
+  pub closed : (s : ℕ) → open_at m s ≡ None
+  pub no_death : (n : ℕ) → deaths_at m n ≡ []
+  pub rises : SessionsRiseFrom 1 m.history
+  pub ended : AllByRecursion (λ e. (s : ℕ) → 1 ≤ s → s < e.session → HasSessionEnded m s) m.history
