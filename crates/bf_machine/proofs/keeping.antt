@@ -4,3 +4,4 @@ pub mod Sessions
 pub mod Places
 pub mod Answered
 pub mod Ending
+pub mod Dying

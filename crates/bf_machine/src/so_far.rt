@@ -1,6 +1,6 @@
 //! What a session has come to, and the groups that have begun.
 
-ghost use Rattle.std.specs.Prelude.{◌≡◌, ◌+◌, ◌-◌, ◌<◌, ◌≤◌, ◌++◌, [], IfOk, length, map, replicate, vec_capacity, vec_len};
+ghost use Rattle.std.specs.Prelude.{◌≡◌, ◌+◌, ◌-◌, ◌<◌, ◌≤◌, ◌++◌, [], IfOk, None, if◌then◌else◌, length, map, nat_lt, replicate, take, vec_capacity, vec_len};
 ghost use Rattle.bf_tree.specs.declared.reply.Cause.TheVariants.{Died};
 ghost use Rattle.bf_tree.specs.declared.reply.Reply.TheVariants.{Ended};
 ghost use Rattle.bf_machine.specs.interleaving.Seen.{AreNew, last_from};
@@ -118,4 +118,34 @@ pub(crate) fn tell_death(replies: &mut Vec<Reply>, count: u32, older: u64)
     for _told in 0..count {
         replies.push_reserved(Reply::Ended(Cause::Died(older)));
     }
+}
+
+/// How many statements of a group that has died so often are told its death: each of them where it
+/// may not begin again, and else none.
+pub(crate) fn told_count(first: u32, last: u32, deaths: usize, retries: u16) -> u32
+    requires first { 1 ≤ first }
+    requires last { first ≤ last }
+    ensures { result ≡ if nat_lt retries deaths then last + 1 - first else 0 }
+{
+    if deaths > retries as usize {
+        last - first + 1
+    } else {
+        0
+    }
+}
+
+/// Closes a session's open group, drops its replies, and tells so many of its statements the death
+/// for an older group. Takes no memory.
+pub(crate) fn close_at_death(so_far: &mut SessionSoFar, first: u32, told: u32, older: u64)
+    requires first { 1 ≤ first }
+    requires room { first - 1 + told ≤ vec_capacity so_far.old.replies }
+    ensures closed { so_far.new.«open» ≡ None }
+    ensures latest { so_far.new.latest ≡ so_far.old.latest }
+    ensures replies { so_far.new.replies.items
+        ≡ take (first - 1) so_far.old.replies.items ++ replicate told (Ended (Died older)) }
+    ensures capacity { vec_capacity so_far.new.replies ≡ vec_capacity so_far.old.replies }
+{
+    so_far.open = None;
+    so_far.replies.truncate(first as usize - 1);
+    tell_death(&mut so_far.replies, told, older);
 }

@@ -6,7 +6,7 @@ ghost use Rattle.bf_machine.specs.interleaving.Calls.{CanAsk, CanBegin, IsPlace}
 ghost use Rattle.bf_machine.specs.interleaving.Events.{Asks, Begins};
 
 use crate::machine::Machine;
-use crate::so_far::{Began, OpenGroup, Pending, last_of_group, tell_death};
+use crate::so_far::{Began, OpenGroup, Pending, close_at_death, last_of_group, told_count};
 use bf_base::Memory;
 use bf_locks::{LockAnswer, LockName, Mode};
 use bf_txn::Workspace;
@@ -80,13 +80,8 @@ impl Machine {
         };
         let deaths = &mut self.began[start as usize - 1].deaths;
         deaths.push(*older)?;
-        let is_told = deaths.len() > self.retries as usize;
-        let so_far = &mut self.sessions[place];
-        so_far.open = None;
-        so_far.replies.truncate(first as usize - 1);
-        if is_told {
-            tell_death(&mut so_far.replies, last - first + 1, *older);
-        }
+        let told = told_count(first, last, deaths.len(), self.retries);
+        close_at_death(&mut self.sessions[place], first, told, *older);
         self.locks.free_all(start);
         Ok(answer)
     }

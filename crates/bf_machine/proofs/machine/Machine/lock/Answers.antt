@@ -1,0 +1,93 @@
+-- A grant and a wait change the locks alone; a death ends the attempt.
+use Rattle.std.proofs.Common.{◌≡◌, ℕ, ◌+◌, ◌-◌, if◌then◌else◌, length, sym, ap, ◌∙◌, arith, rules}
+use Rattle.std.specs.Prelude.{nat_lt}
+use Rattle.bf_machine.proofs.keeping.Dying.{bounds, died_asks, died_sound, lives_asks, lives_sound, room_for_all, start_within, unchanged, unchanged_sound}
+use Rattle.bf_machine.proofs.machine.Machine.lock.Goals as goal
+
+pub index_mut-requires : goal.index_mut-requires
+index_mut-requires c =
+    let within =
+    start_within c.self.inside c.self.invariant c.args.self.now c.self.view_is c.args.session c.requires.place c.index.result.now
+    (sym c.index.ensures) c.in-Some.group c.in-Some.is in
+    omega (arith, within.0, within.1, c.self.inside.began.ok.0)
+
+pub told_count-told-requires-clause-first : goal.told_count-told-requires-clause-first
+told_count-told-requires-clause-first c =
+    (bounds c.self.inside c.self.invariant c.args.self.now c.self.view_is c.args.session c.requires.place c.index.result.now
+    (sym c.index.ensures) c.in-Some.group c.in-Some.is).0
+
+pub told_count-told-requires-clause-last : goal.told_count-told-requires-clause-last
+told_count-told-requires-clause-last c =
+    (bounds c.self.inside c.self.invariant c.args.self.now c.self.view_is c.args.session c.requires.place c.index.result.now
+    (sym c.index.ensures) c.in-Some.group c.in-Some.is).1
+
+pub close_at_death-requires-clause-first : goal.close_at_death-requires-clause-first
+close_at_death-requires-clause-first c =
+    (bounds c.self.inside c.self.invariant c.args.self.now c.self.view_is c.args.session c.requires.place c.index.result.now
+    (sym c.index.ensures) c.in-Some.group c.in-Some.is).0
+
+pub close_at_death-requires-clause-room : goal.close_at_death-requires-clause-room
+close_at_death-requires-clause-room c =
+    room_for_all c.self.inside c.self.invariant c.args.self.now c.self.view_is c.args.session c.requires.place c.index.result.now
+    (sym c.index.ensures) c.in-Some.group c.in-Some.is
+    c.index_mut-2.result.now (sym c.index_mut-2.ensures.value) c.len.result c.told_count-told.result c.told_count-told.ensures
+
+pub invariant_of-self-in_default-answer : goal.invariant_of-self-in_default-answer
+invariant_of-self-in_default-answer c =
+    lives_sound c.self.inside c.self.invariant c.args.self.now c.self.view_is c.args.session c.requires.place c.index.result.now
+    (sym c.index.ensures) c.in-Some.group c.in-Some.is
+    c.args.name.now c.args.mode c.requires.can c.in_ok-answer.answer c.in_ok-answer.ensures.judged c.ask.new.self c.in_ok-answer.ensures.after
+    c.in_default-answer.not-Die
+
+pub returns-in_default-answer : goal.returns-in_default-answer
+returns-in_default-answer c =
+    let asks =
+    lives_asks c.self.inside c.self.invariant c.args.self.now c.self.view_is c.args.session c.requires.place c.index.result.now
+    (sym c.index.ensures) c.in-Some.group c.in-Some.is
+    c.args.name.now c.args.mode c.requires.can c.in_ok-answer.answer c.in_ok-answer.ensures.judged c.ask.new.self c.in_ok-answer.ensures.after
+    c.in_default-answer.not-Die in
+    record { asks = asks; err = tt }
+
+pub invariant_of-self-in_err-push : goal.invariant_of-self-in_err-push
+invariant_of-self-in_err-push c =
+    unchanged_sound c.self.inside c.self.invariant c.args.self.now c.self.view_is c.args.session c.requires.place c.index.result.now
+    (sym c.index.ensures) c.in-Some.group c.in-Some.is
+    c.args.name.now c.args.mode c.requires.can c.in_ok-answer.answer c.in_ok-answer.ensures.judged c.ask.new.self c.in_ok-answer.ensures.after
+    c.in-Die.older c.in-Die.is c.index_mut.result.now (sym c.index_mut.ensures.value) c.push.new.self c.in_err-push.ensures.items
+
+pub returns-in_err-push-clause-err : goal.returns-in_err-push-clause-err
+returns-in_err-push-clause-err c =
+    let same =
+    unchanged c.self.inside c.self.invariant c.args.self.now c.self.view_is c.args.session c.requires.place c.index.result.now
+    (sym c.index.ensures) c.in-Some.group c.in-Some.is
+    c.args.name.now c.args.mode c.requires.can c.in_ok-answer.answer c.in_ok-answer.ensures.judged c.ask.new.self c.in_ok-answer.ensures.after
+    c.in-Die.older c.in-Die.is c.index_mut.result.now (sym c.index_mut.ensures.value) c.push.new.self c.in_err-push.ensures.items in
+    search (rules, same)
+
+pub invariant_of-self-2 : goal.invariant_of-self-2
+invariant_of-self-2 c =
+    let size : c.len.result ≡ length c.push.new.self.items = omega (arith, c.len.ensures, c.push.new.self.ok.0) in
+    let group = c.in-Some.group in
+    let counted = c.told_count-told.ensures ∙ ap (λ (n : ℕ). if nat_lt c.self.inside.retries n then group.last + 1 - group.first else 0) size in
+    let by = c.close_at_death.ensures in
+    died_sound c.self.inside c.self.invariant c.args.self.now c.self.view_is c.args.session c.requires.place c.index.result.now
+    (sym c.index.ensures) c.in-Some.group c.in-Some.is
+    c.args.name.now c.args.mode c.requires.can c.in_ok-answer.answer c.in_ok-answer.ensures.judged c.ask.new.self c.in_ok-answer.ensures.after
+    c.in-Die.older c.in-Die.is c.index_mut.result.now
+    (sym c.index_mut.ensures.value) c.push.new.self c.in_ok-push.ensures.items c.free_all.new.self c.free_all.ensures.freed
+    c.told_count-told.result counted
+    c.index_mut-2.result.now c.close_at_death.new.so_far (sym c.index_mut-2.ensures.value) by.closed by.latest by.capacity by.replies
+
+pub returns-clause-asks : goal.returns-clause-asks
+returns-clause-asks c =
+    let size : c.len.result ≡ length c.push.new.self.items = omega (arith, c.len.ensures, c.push.new.self.ok.0) in
+    let group = c.in-Some.group in
+    let counted = c.told_count-told.ensures ∙ ap (λ (n : ℕ). if nat_lt c.self.inside.retries n then group.last + 1 - group.first else 0) size in
+    let by = c.close_at_death.ensures in
+    died_asks c.self.inside c.self.invariant c.args.self.now c.self.view_is c.args.session c.requires.place c.index.result.now
+    (sym c.index.ensures) c.in-Some.group c.in-Some.is
+    c.args.name.now c.args.mode c.requires.can c.in_ok-answer.answer c.in_ok-answer.ensures.judged c.ask.new.self c.in_ok-answer.ensures.after
+    c.in-Die.older c.in-Die.is c.index_mut.result.now
+    (sym c.index_mut.ensures.value) c.push.new.self c.in_ok-push.ensures.items c.free_all.new.self c.free_all.ensures.freed
+    c.told_count-told.result counted
+    c.index_mut-2.result.now c.close_at_death.new.so_far (sym c.index_mut-2.ensures.value) by.closed by.latest by.capacity by.replies
