@@ -1,4 +1,5 @@
 pub mod Events
+pub mod Goes
 pub mod Totals
 pub mod Stuck
 pub mod Judged

@@ -54,7 +54,7 @@ module _ (m : Machine) (s : ℕ) where
     beside_open : IsBeside m s (with_open m s o)
     beside_open = λ t apart. (set_other None None m.opens s t o low apart, refl)
 
-    serves_open : Serves m s (with_open m s o)
+    pub serves_open : Serves m s (with_open m s o)
     serves_open = record { script = refl; beside = beside_open; deaths = λ n. refl; entries = ([], tt, sym (append-nil m.history)) }
 
   -- a new group has not died
@@ -91,10 +91,10 @@ module _ (m : Machine) (s : ℕ) where
 
 -- a session's open group
 module _ (m : Machine) (kept : IsKept empty_database m) (texts : AreTexts m.script) (s : ℕ) (o : Open) (is : open_at m s ≡ Some o) where
-  own : IsOpenGroup empty_database m s o
+  pub own : IsOpenGroup empty_database m s o
   own = kept.open_groups_replay.each s o is
 
-  replies_are : replies_at m s ≡ told_at m s ++ o.replies
+  pub replies_are : replies_at m s ≡ told_at m s ++ o.replies
   replies_are = ap (with_replies (told_at m s)) is
 
   -- a statement of it that is left is one of the session's
@@ -107,10 +107,10 @@ module _ (m : Machine) (kept : IsKept empty_database m) (texts : AreTexts m.scri
 
   -- its end, with replies to what was left, on whatever database and with an entry
   module _ (r : Reply) (db : Database) (e : Entry) (same : e.session ≡ s) where
-    abbrev over : Machine
+    abbrev pub over : Machine
     over = record (ended m s o (o.replies ++ map (λ _. r) (rest_of m s o))) { db = db; history = m.history ++ e ∷ [] }
 
-    end_serves : Serves m s over
+    pub end_serves : Serves m s over
     end_serves =
         let place = has_place m s o is in record {
           script = refl;
@@ -122,10 +122,10 @@ module _ (m : Machine) (kept : IsKept empty_database m) (texts : AreTexts m.scri
           entries = (e ∷ [], (same, tt), refl);
         }
 
-    closed_then : open_at over s ≡ None
+    pub closed_then : open_at over s ≡ None
     closed_then = let place = has_place m s o is in set_same None None m.opens s None place.0 place.1
 
-    end_answers : length (replies_at over s) ≡ length (replies_at m s) + length (rest_of m s o)
+    pub end_answers : length (replies_at over s) ≡ length (replies_at m s) + length (rest_of m s o)
     end_answers =
         let place = has_place m s o is in
         let more = map (λ (_ : Statement). r) (rest_of m s o) in
