@@ -4,3 +4,8 @@ pub mod Sessions
 pub mod Places
 pub mod Answered
 pub mod Ending
+pub mod Told
+pub mod Ends
+pub mod Standing
+pub mod Stands
+pub mod Current
