@@ -48,7 +48,8 @@ ended_so session x has =
     let told : length (told_seen x) ≡ length x.replies.items = ap (λ (o : Option OpenGroup). length (told_before x.replies.items o)) none in
     (omega (arith, same, told), ap (option_map (group_seen x.replies.items)) none)
 
-pub has_ended_so : (session : Session) (so_far : SessionSoFar) → length (told_seen so_far) ≤ length session.statements → IsEnded session so_far → has_ended session so_far ≡ true
+pub has_ended_so : (session : Session) (so_far : SessionSoFar) → length (told_seen so_far) ≤ length session.statements → IsEnded session so_far
+    → has_ended session so_far ≡ true
 has_ended_so session x within is =
     let none = closed_seen x is.1 in
     let told : length (told_seen x) ≡ length x.replies.items = ap (λ (o : Option OpenGroup). length (told_before x.replies.items o)) none in
@@ -79,7 +80,8 @@ all_ended phase (x ∷ xs) (y ∷ ys) sizes all (suc k) before =
     all_ended phase xs ys (omega (arith, sizes)) parts.1 k before
 
 all_past : (phase : ℕ) (xs : List Session) (ys : List SessionSoFar) → ((k : ℕ) → (slice_index_or xs k no_session).phase < phase → EndedAt xs ys k)
-    → ((k : ℕ) → length (slice_index_or (map told_seen ys) k []) ≤ length (slice_index_or xs k no_session).statements) → list_all (is_past phase) (zip xs ys) ≡ true
+    → ((k : ℕ) → length (slice_index_or (map told_seen ys) k []) ≤ length (slice_index_or xs k no_session).statements)
+    → list_all (is_past phase) (zip xs ys) ≡ true
 all_past phase [] ys ended within = refl
 all_past phase (x ∷ xs) [] ended within = refl
 all_past phase (x ∷ xs) (y ∷ ys) ended within =
@@ -92,7 +94,8 @@ all_past phase (x ∷ xs) (y ∷ ys) ended within =
     ] in
     and_from (is_past phase (x, y)) (list_all (is_past phase) (zip xs ys)) here rest
 
-module _ (script : Script) (retries : ℕ) (db : Database) (locks : Locks) (began : List BeganGroup) (sessions : List SessionSoFar) (history : List Entry) (sizes : length script.sessions ≡ length sessions) (s : ℕ) where
+module _ (script : Script) (retries : ℕ) (db : Database) (locks : Locks) (began : List BeganGroup)
+    (sessions : List SessionSoFar) (history : List Entry) (sizes : length script.sessions ≡ length sessions) (s : ℕ) where
   abbrev m : Machine
   m = seen script retries db locks began sessions history
 

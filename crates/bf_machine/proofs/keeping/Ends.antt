@@ -35,13 +35,15 @@ same_end b n last xs ys is =
     ap (λ (g : Group). g.1) head
 
 -- the body of a block ends at its first COMMIT or ROLLBACK
-here_ends : (n b last : ℕ) (ss rest : List Statement) (tail : List Group) (x : Statement) → (b, n) ∷ groups_from (n + 1) None (ss ++ rest) ≡ (b, last) ∷ tail → last + 1 ≡ n + suc (length ss)
+here_ends : (n b last : ℕ) (ss rest : List Statement) (tail : List Group) (x : Statement)
+    → (b, n) ∷ groups_from (n + 1) None (ss ++ rest) ≡ (b, last) ∷ tail → last + 1 ≡ n + suc (length ss)
     → (k : ℕ) (c : Statement) (later : List Statement) → drop k (x ∷ ss) ≡ c ∷ later → later ≡ []
 here_ends n b last [] rest tail x is size zero c later left = sym (ap behind_first left)
 here_ends n b last [] rest tail x is size (suc k) c later left = absurd (none_left k c later left)
 here_ends n b last (y ∷ ss) rest tail x is size k c later left = absurd (omega (arith, same_end b n last _ tail is, size))
 
-body_ends : (n b last : ℕ) (ss rest : List Statement) (tail : List Group) → groups_from n (Some b) (ss ++ rest) ≡ (b, last) ∷ tail → last + 1 ≡ n + length ss
+body_ends : (n b last : ℕ) (ss rest : List Statement) (tail : List Group) → groups_from n (Some b) (ss ++ rest) ≡ (b, last) ∷ tail
+    → last + 1 ≡ n + length ss
     → (k : ℕ) (c : Statement) (later : List Statement) → drop k ss ≡ c ∷ later → ends_block c ≡ true → later ≡ []
 body_ends n b last [] rest tail is size k c later left ends = absurd (none_left k c later left)
 body_ends n b last (Commit ∷ ss) rest tail is size k c later left ends = here_ends n b last ss rest tail Commit is size k c later left
@@ -87,7 +89,8 @@ group_ends text rest whole committing gr behind n all at g among =
     (λ shape. subst EndsOnce (sym is) (text_ends text rest whole committing gr (subst IsText is shape)))
     (λ among. behind (last + 1) all (at_behind n last all text rest whole at gr.split e) g among)
   where
-    first_or_later : (last : ℕ) (gs : List Group) (g : Group) → Contains ((n, last) ∷ gs) g → EndsIn all (n, last) → (Contains gs g → EndsIn all g) → EndsIn all g
+    first_or_later : (last : ℕ) (gs : List Group) (g : Group) → Contains ((n, last) ∷ gs) g → EndsIn all (n, last) → (Contains gs g → EndsIn all g)
+        → EndsIn all g
     first_or_later last gs g (zero, within, is) here others = subst (EndsIn all) is here
     first_or_later last gs g (suc k, within, is) here others = others (k, omega (arith, within), is)
 
@@ -160,7 +163,8 @@ pub record IsOfGroup (script : Script) (s n : ℕ) : Type 0 where
   pub from : group.0 ≤ n
   pub to : n ≤ group.1
 
-pub has_group : (script : Script) (s k : ℕ) (statement : Statement) (later : List Statement) → drop k (session_at script s).statements ≡ statement ∷ later → ends_block statement ≡ false → IsOfGroup script s (1 + k)
+pub has_group : (script : Script) (s k : ℕ) (statement : Statement) (later : List Statement)
+    → drop k (session_at script s).statements ≡ statement ∷ later → ends_block statement ≡ false → IsOfGroup script s (1 + k)
 has_group script s k statement later left goes_on =
     let own = (session_at script s).statements in
     let there = by_groups HaveGroups (λ n k s later left goes_on. absurd (none_left k s later left)) stray_in group_in own 1 k statement later left goes_on in

@@ -42,20 +42,23 @@ committed_reply db r after meant =
     omega (arith, numbers)
 
 module _ (locks : Locks) (owner : ℕ) (db : Database) where
-  not_replayed : (before after : List Write) (rs : List Reply) (ss : List Statement) → length ss ≤ length rs → Replays locks owner db before (answered_by true rs ss) after → last_is_commit ss ≡ false
+  not_replayed : (before after : List Write) (rs : List Reply) (ss : List Statement) → length ss ≤ length rs
+      → Replays locks owner db before (answered_by true rs ss) after → last_is_commit ss ≡ false
   not_replayed before after rs [] within run = refl
   not_replayed before after [] (s ∷ ss) within run = absurd (omega (arith, within))
   not_replayed before after (r ∷ rs) (Commit ∷ []) within (bound, next, is, holds, step, run) = absurd (committed_reply _ r _ step.meant)
   not_replayed before after (r ∷ rs) (s ∷ []) within run = refl
   not_replayed before after (r ∷ rs) (s ∷ t ∷ ss) within (bound, next, is, holds, step, run) = not_replayed next after rs (t ∷ ss) (omega (arith, within)) run
 
-  schema_alone : (change : Pending) (r : Reply) (rs : List Reply) (ss : List Statement) → length ss ≤ length rs → IsSchemaStep locks owner db (answered_by false (r ∷ rs) (Begin ∷ ss)) change → last_is_commit ss ≡ false
+  schema_alone : (change : Pending) (r : Reply) (rs : List Reply) (ss : List Statement) → length ss ≤ length rs
+      → IsSchemaStep locks owner db (answered_by false (r ∷ rs) (Begin ∷ ss)) change → last_is_commit ss ≡ false
   schema_alone change r rs [] within run = refl
   schema_alone change r [] (s ∷ ss) within run = absurd (omega (arith, within))
   schema_alone change r (q ∷ rs) (s ∷ ss) within run = absurd (let sizes = ap (λ (more : List Answered). length more) run.alone in omega (arith, sizes))
 
   -- so a block that has all its replies while it is open does not commit
-  not_committed : (p : Pending) (rs : List Reply) (ss : List Statement) → suc (length ss) ≤ length rs → HasRun locks owner db (answered_by false rs (Begin ∷ ss)) p → last_is_commit ss ≡ false
+  not_committed : (p : Pending) (rs : List Reply) (ss : List Statement) → suc (length ss) ≤ length rs
+      → HasRun locks owner db (answered_by false rs (Begin ∷ ss)) p → last_is_commit ss ≡ false
   not_committed p [] ss within run = absurd (omega (arith, within))
   not_committed (Rows writes) (r ∷ rs) ss within (bound, next, is, holds, step, run) = not_replayed next writes rs ss (omega (arith, within)) run
   not_committed (NewTable table) (r ∷ rs) ss within run = schema_alone (NewTable table) r rs ss (omega (arith, within)) run
@@ -135,7 +138,8 @@ module _ (start : Database) (m : Machine) (kept : IsKept start m) (s : ℕ) (cur
   own = (session_at m.script s).statements
 
   -- IN A GROUP, of the session's statements so many have replies
-  module _ (o : Open) (there : open_at m s ≡ Some o) (answered : ℕ) (so_many : answered + 1 ≡ o.group.0 + length o.replies) (statement : Statement) (later : List Statement) where
+  module _ (o : Open) (there : open_at m s ≡ Some o) (answered : ℕ) (so_many : answered + 1 ≡ o.group.0 + length o.replies)
+      (statement : Statement) (later : List Statement) where
     group : IsOpenGroup start m s o
     group = kept.open_groups_replay.each s o there
 
@@ -273,8 +277,10 @@ module _ (start : Database) (m : Machine) (kept : IsKept start m) (s : ℕ) (cur
         let one : next - (next - 1) ≡ 1 = omega arith in
         let text : statements_in m.script s (next, next) ≡ statement ∷ [] =
         ap (λ (k : ℕ). take (next - (next - 1)) (drop k own)) before ∙ (ap (take (next - (next - 1))) is ∙ ap (λ (k : ℕ). take k (statement ∷ later)) one) in
-        let ends_there : list_any ends_block (statements_in m.script s (next, next)) ≡ true = ap (list_any ends_block) text ∙ or_left (ends_block statement) false ends in
-        let no_group : not (list_any (has_statement next) (groups_in m.script s)) ≡ true = ap not (none_passes (has_statement next) (groups_in m.script s) (in_none ends)) in
+        let ends_there : list_any ends_block (statements_in m.script s (next, next)) ≡ true =
+        ap (list_any ends_block) text ∙ or_left (ends_block statement) false ends in
+        let no_group : not (list_any (has_statement next) (groups_in m.script s)) ≡ true =
+        ap not (none_passes (has_statement next) (groups_in m.script s) (in_none ends)) in
         let next_machine : Machine = record m { told = slice_set m.told (s - 1) (told_at m s ++ reply.Refused NoTransaction ∷ []) } in (
           next_machine,
           record {
@@ -293,7 +299,8 @@ module _ (start : Database) (m : Machine) (kept : IsKept start m) (s : ℕ) (cur
         (there.group, there.whole, begins_here there.group there.whole (omega (arith, there.from)) (omega (arith, there.to)))
 
   -- BEFORE A GROUP, where the group that began last has a start number
-  module _ (closed : open_at m s ≡ None) (group : Group) (whole : Contains (groups_in m.script s) group) (first : group.0 ≡ length (told_at m s) + 1) (latest : ℕ) (is_latest : IsLatest m.began s latest) where
+  module _ (closed : open_at m s ≡ None) (group : Group) (whole : Contains (groups_in m.script s) group) (first : group.0 ≡ length (told_at m s) + 1)
+      (latest : ℕ) (is_latest : IsLatest m.began s latest) where
     begins_new : ((n : ℕ) → HasStart m.began s group n → ⊥) → CanBegin m s
     begins_new never = (begun m s group, record { current = current; closed = closed; group = group; whole = whole; first = first; goes = inl (never, refl) })
 
@@ -328,7 +335,8 @@ module _ (start : Database) (m : Machine) (kept : IsKept start m) (s : ℕ) (cur
             | inr high ↦
                 let not_before : latest ≤ n = grind (arith, nat_tests, high) in
                 let same : n ≡ latest = omega (arith, not_before, is_latest.last group n has) in
-                let one : began_of s group has.deaths ≡ b = same_Some (began_of s group has.deaths) b (sym has.is ∙ (ap (began_at m.began) same ∙ is)) in
+                let one : began_of s group has.deaths ≡ b =
+                same_Some (began_of s group has.deaths) b (sym has.is ∙ (ap (began_at m.began) same ∙ is)) in
                 let start_is : group.0 ≡ b.group.0 = ap (λ (x : Began). x.group.0) one in
                 other (sym start_is ∙ first)
           ])
@@ -407,7 +415,8 @@ module _ (start : Database) (m : Machine) (kept : IsKept start m) (s : ℕ) (cur
             -- which has ended
             pub begins_behind : named.group.0 ≤ length (told_at m named.session) → CanBegin m s
             begins_behind begun_there =
-                let has_ended : named.group.1 ≤ length (told_at m named.session) = told_whole start m kept named.session named.group is_group.is_whole begun_there in
+                let has_ended : named.group.1 ≤ length (told_at m named.session) =
+                told_whole start m kept named.session named.group is_group.is_whole begun_there in
                 begins_again (λ i t other last_one has_other.
                 let theirs : HasStart m.began t other h = subst (HasStart m.began t other) (last_is i last_one) has_other in
                 let same = same_named t other theirs in

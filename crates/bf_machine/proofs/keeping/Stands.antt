@@ -37,43 +37,51 @@ item_is (y ∷ xs) (suc i) x d below at = item_is xs i x d (omega (arith, below)
 pub rest_from : {X : Type 0} (xs : List X) (i : ℕ) (x : X) → i < length xs → slice_index_or xs i x ≡ x → drop i xs ≡ x ∷ drop (i + 1) xs
 rest_from xs i x below at = drop_more xs i x below ∙ ap (λ y. y ∷ drop (i + 1) xs) at
 
-pub session_there : (script : Script) (s : ℕ) (x : Session) → 1 ≤ s → s ≤ length script.sessions → slice_index_or script.sessions (s - 1) x ≡ x → session_at script s ≡ x
+pub session_there : (script : Script) (s : ℕ) (x : Session) → 1 ≤ s → s ≤ length script.sessions → slice_index_or script.sessions (s - 1) x ≡ x
+    → session_at script s ≡ x
 session_there script zero x low high at = absurd (omega (arith, low))
 session_there script (suc s) x low high at =
     let here : suc s - 1 ≡ s = omega arith in
     item_is script.sessions s x no_session (omega (arith, high)) (rw here at at)
 
 -- a statement of a session, as the code reads it
-pub statement_there : {read own : List Statement} {i n : ℕ} {statement : Statement} → read ≡ own → i ≡ n → statement ≡ slice_index_or read i statement → slice_index_or own n statement ≡ statement
+pub statement_there : {read own : List Statement} {i n : ℕ} {statement : Statement} → read ≡ own → i ≡ n
+    → statement ≡ slice_index_or read i statement → slice_index_or own n statement ≡ statement
 statement_there {statement = statement} all place is = sym (is ∙ ap₂ (λ (ss : List Statement) (k : ℕ). slice_index_or ss k statement) all place)
 
 -- a group that has begun, by its start number
-pub began_there : (began : List BeganGroup) (n : ℕ) (b : BeganGroup) → 1 ≤ n → n ≤ length began → slice_index_or began (n - 1) b ≡ b → began_at (map began_seen began) n ≡ Some (began_seen b)
+pub began_there : (began : List BeganGroup) (n : ℕ) (b : BeganGroup) → 1 ≤ n → n ≤ length began → slice_index_or began (n - 1) b ≡ b
+    → began_at (map began_seen began) n ≡ Some (began_seen b)
 began_there began zero b low high at = absurd (omega (arith, low))
 began_there began (suc n) b low high at =
     let here : suc n - 1 ≡ n = omega arith in
     some_there began n b (omega (arith, high)) (rw here at at)
   where
-    some_there : (began : List BeganGroup) (n : ℕ) (b : BeganGroup) → n < length began → slice_index_or began n b ≡ b → slice_index_or (map Some (map began_seen began)) n None ≡ Some (began_seen b)
+    some_there : (began : List BeganGroup) (n : ℕ) (b : BeganGroup) → n < length began → slice_index_or began n b ≡ b
+        → slice_index_or (map Some (map began_seen began)) n None ≡ Some (began_seen b)
     some_there [] n b below at = absurd (omega (arith, below))
     some_there (c ∷ began) zero b below at = ap (λ (x : BeganGroup). Some (began_seen x)) at
     some_there (c ∷ began) (suc n) b below at = some_there began n b (omega (arith, below)) at
 
 -- A SESSION at its place, in the fields of a machine, and the machine as it is seen
-pub record IsThere (script : Script) (retries : ℕ) (db : Database) (locks : Locks) (began : List BeganGroup) (sessions : List SessionSoFar) (history : Vec Entry) (commits : ℕ) (transcripts : Vec (List Reply))
+pub record IsThere (script : Script) (retries : ℕ) (db : Database) (locks : Locks) (began : List BeganGroup)
+    (sessions : List SessionSoFar) (history : Vec Entry) (commits : ℕ) (transcripts : Vec (List Reply))
     (now : Machine) (s : ℕ) (x : SessionSoFar) : Type 0 where
   pub sound : IsSound script retries db locks began sessions history commits transcripts
   pub view : seen script retries db locks began sessions history.items ≡ now
   pub place : IsPlace now.script s
   pub is : x ≡ slice_index_or sessions (s - 1) x
 
-pub is_there : {script : Script} {retries : ℕ} {db : Database} {locks : Locks} {began : List BeganGroup} {sessions : List SessionSoFar} {history : Vec Entry} {commits : ℕ} {transcripts : Vec (List Reply)}
+pub is_there : {script : Script} {retries : ℕ} {db : Database} {locks : Locks} {began : List BeganGroup}
+    {sessions : List SessionSoFar} {history : Vec Entry} {commits : ℕ} {transcripts : Vec (List Reply)}
     {now : Machine} {s : ℕ} {x : SessionSoFar}
-    → IsSound script retries db locks began sessions history commits transcripts → seen script retries db locks began sessions history.items ≡ now → IsPlace now.script s
+    → IsSound script retries db locks began sessions history commits transcripts → seen script retries db locks began sessions history.items ≡ now
+    → IsPlace now.script s
     → x ≡ slice_index_or sessions (s - 1) x → IsThere script retries db locks began sessions history commits transcripts now s x
 is_there sound view place is = record { sound = sound; view = view; place = place; is = is }
 
-module _ {script : Script} {retries : ℕ} {db : Database} {locks : Locks} {began : List BeganGroup} {sessions : List SessionSoFar} {history : Vec Entry} {commits : ℕ} {transcripts : Vec (List Reply)}
+module _ {script : Script} {retries : ℕ} {db : Database} {locks : Locks} {began : List BeganGroup}
+    {sessions : List SessionSoFar} {history : Vec Entry} {commits : ℕ} {transcripts : Vec (List Reply)}
     {now : Machine} {s : ℕ} {x : SessionSoFar} (session : IsThere script retries db locks began sessions history commits transcripts now s x) where
   abbrev m : Machine
   m = seen script retries db locks began sessions history.items
@@ -116,10 +124,12 @@ module _ {script : Script} {retries : ℕ} {db : Database} {locks : Locks} {bega
   told = subst (λ (m : Machine). told_at m s ≡ told_seen x) session.view (told_there script retries db locks began sessions history.items x s low high at)
 
   -- its statements, as the code reads them
-  pub own_there : {xs : List Session} {y : Session} {ss : List Statement} → xs ≡ script.sessions → y ≡ slice_index_or xs (s - 1) y → ss ≡ (slice_index_or xs (s - 1) y).statements → ss ≡ own
+  pub own_there : {xs : List Session} {y : Session} {ss : List Statement} → xs ≡ script.sessions → y ≡ slice_index_or xs (s - 1) y
+      → ss ≡ (slice_index_or xs (s - 1) y).statements → ss ≡ own
   own_there {y = y} all is text =
       let scripts : script.sessions ≡ now.script.sessions = ap (λ (m : Machine). m.script.sessions) session.view in
-      let here : slice_index_or now.script.sessions (s - 1) y ≡ y = sym (is ∙ ap (λ (ys : List Session). slice_index_or ys (s - 1) y) (all ∙ scripts)) in
+      let here : slice_index_or now.script.sessions (s - 1) y ≡ y =
+      sym (is ∙ ap (λ (ys : List Session). slice_index_or ys (s - 1) y) (all ∙ scripts)) in
       text ∙ ap (λ (y : Session). y.statements) (sym is ∙ sym (session_there now.script s y low session.place.1 here))
 
   -- they have numbers
@@ -140,7 +150,8 @@ module _ {script : Script} {retries : ℕ} {db : Database} {locks : Locks} {bega
     counts : length (told_at now s) + length o.replies ≡ length x.replies.items
     counts =
         let before : told_at now s ≡ take (g.first - 1) x.replies.items = told ∙ ap (told_before x.replies.items) is in
-        let all : told_at now s ++ o.replies ≡ x.replies.items = ap (λ (rs : List Reply). rs ++ o.replies) before ∙ take-append-drop (g.first - 1) x.replies.items in
+        let all : told_at now s ++ o.replies ≡ x.replies.items =
+        ap (λ (rs : List Reply). rs ++ o.replies) before ∙ take-append-drop (g.first - 1) x.replies.items in
         sym (length-append (told_at now s) o.replies) ∙ ap (λ (rs : List Reply). length rs) all
 
     so_many : length x.replies.items + 1 ≡ g.first + length o.replies

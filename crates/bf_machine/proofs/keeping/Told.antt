@@ -32,7 +32,8 @@ module _ (P : Told → Type 0) (q : Told → Bool) where
       let both : AllByRecursion P (a ∷ filter q xs) = rw keeps at all in
       both.0
 
-  in_session : (k n j : ℕ) (rs : List Reply) → j < length rs → ((r : Reply) → q (k, n + j, r) ≡ true) → AllByRecursion P (filter q (told_in k n rs)) → (r : Reply) × P (k, n + j, r)
+  in_session : (k n j : ℕ) (rs : List Reply) → j < length rs → ((r : Reply) → q (k, n + j, r) ≡ true) → AllByRecursion P (filter q (told_in k n rs))
+      → (r : Reply) × P (k, n + j, r)
   in_session k n j [] below keeps all = absurd (omega (arith, below))
   in_session k n zero (r ∷ rs) below keeps all =
       let first : n + 0 ≡ n = omega arith in
@@ -42,7 +43,8 @@ module _ (P : Told → Type 0) (q : Told → Bool) where
       subst (λ (i : ℕ). (r : Reply) × P (k, i, r)) (sym next)
       (in_session k (n + 1) j rs (omega (arith, below)) (λ r. subst (λ (i : ℕ). q (k, i, r) ≡ true) next (keeps r)) (behind (k, n, r) (told_in k (n + 1) rs) all))
 
-  in_sessions : (k i j : ℕ) (told : List (List Reply)) → j < length (slice_index_or told i []) → ((r : Reply) → q (k + i, 1 + j, r) ≡ true) → AllByRecursion P (filter q (told_from k told))
+  in_sessions : (k i j : ℕ) (told : List (List Reply)) → j < length (slice_index_or told i []) → ((r : Reply) → q (k + i, 1 + j, r) ≡ true)
+      → AllByRecursion P (filter q (told_from k told))
       → (r : Reply) × P (k + i, 1 + j, r)
   in_sessions k i j [] below keeps all = absurd (omega (arith, below))
   in_sessions k zero j (x ∷ xs) below keeps all =
@@ -106,7 +108,8 @@ module _ (start : Database) (m : Machine) (kept : IsKept start m) where
     pub to : n ≤ group.1
     pub ended : group.1 ≤ length (told_at m s)
 
-  in_entry : (s n : ℕ) (history : List Entry) → list_all (is_whole_group m.script) history ≡ true → AllByRecursion (λ e. e.last ≤ length (told_at m e.session)) history
+  in_entry : (s n : ℕ) (history : List Entry) → list_all (is_whole_group m.script) history ≡ true
+      → AllByRecursion (λ e. e.last ≤ length (told_at m e.session)) history
       → list_any (stands_in s n) history ≡ true → IsOfEnded s n
   in_entry s n [] whole placed has = absurd (false≢true has)
   in_entry s n (e ∷ history) whole placed has =
@@ -120,7 +123,8 @@ module _ (start : Database) (m : Machine) (kept : IsKept start m) where
             let same : e.session ≡ s = grind (arith, nat_tests, parts.0) in
             let from : e.first ≤ n = grind (arith, nat_tests, parts.1) in
             let to : n ≤ e.last = grind (arith, nat_tests, parts.1) in
-            let among : Contains (groups_in m.script e.session) (e.first, e.last) = whole_there e.first e.last (groups_in m.script e.session) wholes.0 in
+            let among : Contains (groups_in m.script e.session) (e.first, e.last) =
+            whole_there e.first e.last (groups_in m.script e.session) wholes.0 in
             record {
               group = (e.first, e.last);
               whole = subst (λ (t : ℕ). Contains (groups_in m.script t) (e.first, e.last)) same among;
@@ -135,12 +139,15 @@ module _ (start : Database) (m : Machine) (kept : IsKept start m) where
   told_is (suc i) j below = elim (cases_Bool (list_any (stands_in (suc i) (1 + j)) m.history)) as (λ _. IsTrue (is_stray m.script (suc i) (1 + j)) ⊎ IsOfEnded (suc i) (1 + j)) [
     | inl entered ↦ inr (in_entry (suc i) (1 + j) m.history kept.history_legal.legal.whole_groups kept.history_legal.placed entered)
     | inr out ↦
-        let kept_by : Told → Bool = λ a. not (list_any (stands_in a.0 a.1) m.history || list_any (λ g. none_open a.0 g && has_statement a.1 g) (groups_in m.script a.0)) in
+        let kept_by : Told → Bool =
+        λ a. not (list_any (stands_in a.0 a.1) m.history || list_any (λ g. none_open a.0 g && has_statement a.1 g) (groups_in m.script a.0)) in
         let next : 1 + i ≡ suc i = omega arith in
-        let keeps : (r : Reply) → kept_by (suc i, 1 + j, r) ≡ true = λ r. rw (out, none_open_in (suc i, 1 + j, r) (groups_in m.script (suc i))) refl in
+        let keeps : (r : Reply) → kept_by (suc i, 1 + j, r) ≡ true =
+        λ r. rw (out, none_open_in (suc i, 1 + j, r) (groups_in m.script (suc i))) refl in
         let apart = in_sessions (IsApart m.script (AllowedNow start m) m.told) kept_by 1 i j m.told below
         (λ r. subst (λ (n : ℕ). kept_by (n, 1 + j, r) ≡ true) (sym next) (keeps r)) kept.history_legal.legal.others in
-        let here : IsApart m.script (AllowedNow start m) m.told (suc i, 1 + j, apart.0) = subst (λ (n : ℕ). IsApart m.script (AllowedNow start m) m.told (n, 1 + j, apart.0)) next apart.1 in
+        let here : IsApart m.script (AllowedNow start m) m.told (suc i, 1 + j, apart.0) =
+        subst (λ (n : ℕ). IsApart m.script (AllowedNow start m) m.told (n, 1 + j, apart.0)) next apart.1 in
         elim here as (λ _. IsTrue (is_stray m.script (suc i) (1 + j)) ⊎ IsOfEnded (suc i) (1 + j)) [
           | inl stray ↦ inl stray.0
           | inr caused ↦
@@ -171,10 +178,12 @@ module _ (start : Database) (m : Machine) (kept : IsKept start m) where
         | inl stray ↦
             let parts = and_parts (list_any ends_block (statements_in m.script s (1 + j, 1 + j))) (not (list_any (has_statement (1 + j)) (groups_in m.script s))) stray in
             let has : has_statement (1 + j) g ≡ true = grind (arith, nat_tests, at, b.1) in
-            let there : list_any (has_statement (1 + j)) (groups_in m.script s) ≡ true = any_of (has_statement (1 + j)) (groups_in m.script s) g whole has in
+            let there : list_any (has_statement (1 + j)) (groups_in m.script s) ≡ true =
+            any_of (has_statement (1 + j)) (groups_in m.script s) g whole has in
             absurd (false≢true (ap not (sym there) ∙ parts.1))
         | inr own ↦
-            let same : own.group ≡ g = one_group m.script s own.group g own.whole whole (1 + j) own.from own.to (omega (arith, at)) (omega (arith, at, b.1)) in
+            let same : own.group ≡ g =
+            one_group m.script s own.group g own.whole whole (1 + j) own.from own.to (omega (arith, at)) (omega (arith, at, b.1)) in
             subst (λ (h : Group). h.1 ≤ length (told_at m s)) same own.ended
       ]
 

@@ -29,7 +29,8 @@ returns c =
     all_from_yields_List (is_past phase) c.all.new.self _ c.all.result c.all.ensures.ran
     (YieldsList-from_zip (YieldsList-from_slice i.script.sessions (cc)) (YieldsList-from_slice i.sessions.items (cc))) (λ x b q k. search (rules, tests)) in
     let y : Session = c.index-sessions-session.result in
-    let own : session_at i.script s ≡ y = session_there i.script s y place.0 place.1 (sym (c.index-sessions-session.is ∙ ap (λ (xs : List Session). slice_index_or xs (s - 1) y) c.as_slice-sessions.ensures)) in
+    let own : session_at i.script s ≡ y =
+    session_there i.script s y place.0 place.1 (sym (c.index-sessions-session.is ∙ ap (λ (xs : List Session). slice_index_or xs (s - 1) y) c.as_slice-sessions.ensures)) in
     let same : c.all.result ≡ list_all (is_past (session_at i.script s).phase) (zip i.script.sessions i.sessions.items) =
     all ∙ ap (λ (x : Session). list_all (is_past x.phase) (zip i.script.sessions i.sessions.items)) (sym own) in (
       λ holds. subst (λ (m : Machine). IsCurrent m s) c.self.view_is

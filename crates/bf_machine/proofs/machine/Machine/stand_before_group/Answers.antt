@@ -19,14 +19,16 @@ pub returns-then-began-len : goal.returns-then-began-len
 returns-then-began-len c =
     let there = is_there c.self.invariant c.self.view_is c.requires.place c.index-so_far.ensures in
     let some : 0 < c.index-so_far.result.now.latest = omega (arith, c.if-so_far-eq0.false) in
-    let count : c.len.result ≡ length c.index-so_far.result.now.replies.items = omega (arith, c.len.ensures, c.index-so_far.result.now.replies.ok.0) in
+    let count : c.len.result ≡ length c.index-so_far.result.now.replies.items =
+    omega (arith, c.len.ensures, c.index-so_far.result.now.replies.ok.0) in
     begin_other there c.requires.current c.requires.closed c.requires.next some c.index-began.ensures (λ same. omega (arith, same, count, c.if-began-len.true))
 
 pub returns-in_default : goal.returns-in_default
 returns-in_default c =
     let there = is_there c.self.invariant c.self.view_is c.requires.place c.index-so_far.ensures in
     let some : 0 < c.index-so_far.result.now.latest = omega (arith, c.if-so_far-eq0.false) in
-    let count : c.len.result ≡ length c.index-so_far.result.now.replies.items = omega (arith, c.len.ensures, c.index-so_far.result.now.replies.ok.0) in
+    let count : c.len.result ≡ length c.index-so_far.result.now.replies.items =
+    omega (arith, c.len.ensures, c.index-so_far.result.now.replies.ok.0) in
     let again : c.index-began.result.now.first ≡ length c.index-so_far.result.now.replies.items + 1 = omega (arith, c.if-began-len.false, count) in
     let deaths = ap (λ (hs : List ℕ). slice_get hs (length hs - 1)) c.deref.ensures.value in
     begin_unnamed there c.requires.current c.requires.closed c.requires.next some c.index-began.ensures again (sym (c.in_default.ensures.value ∙ deaths))
@@ -35,7 +37,8 @@ pub overflow_sub-older : goal.overflow_sub-older
 overflow_sub-older c =
     let there = is_there c.self.invariant c.self.view_is c.requires.place c.index-so_far.ensures in
     let some : 0 < c.index-so_far.result.now.latest = omega (arith, c.if-so_far-eq0.false) in
-    let count : c.len.result ≡ length c.index-so_far.result.now.replies.items = omega (arith, c.len.ensures, c.index-so_far.result.now.replies.ok.0) in
+    let count : c.len.result ≡ length c.index-so_far.result.now.replies.items =
+    omega (arith, c.len.ensures, c.index-so_far.result.now.replies.ok.0) in
     let again : c.index-began.result.now.first ≡ length c.index-so_far.result.now.replies.items + 1 = omega (arith, c.if-began-len.false, count) in
     let deaths = ap (λ (hs : List ℕ). slice_get hs (length hs - 1)) c.deref.ensures.value in
     let last = sym (c.in-Some.ensures.value ∙ deaths) in
@@ -45,7 +48,8 @@ pub index-named-requires : goal.index-named-requires
 index-named-requires c =
     let there = is_there c.self.invariant c.self.view_is c.requires.place c.index-so_far.ensures in
     let some : 0 < c.index-so_far.result.now.latest = omega (arith, c.if-so_far-eq0.false) in
-    let count : c.len.result ≡ length c.index-so_far.result.now.replies.items = omega (arith, c.len.ensures, c.index-so_far.result.now.replies.ok.0) in
+    let count : c.len.result ≡ length c.index-so_far.result.now.replies.items =
+    omega (arith, c.len.ensures, c.index-so_far.result.now.replies.ok.0) in
     let again : c.index-began.result.now.first ≡ length c.index-so_far.result.now.replies.items + 1 = omega (arith, c.if-began-len.false, count) in
     let deaths = ap (λ (hs : List ℕ). slice_get hs (length hs - 1)) c.deref.ensures.value in
     let last = sym (c.in-Some.ensures.value ∙ deaths) in
@@ -56,7 +60,8 @@ pub overflow_sub-named : goal.overflow_sub-named
 overflow_sub-named c =
     let there = is_there c.self.invariant c.self.view_is c.requires.place c.index-so_far.ensures in
     let some : 0 < c.index-so_far.result.now.latest = omega (arith, c.if-so_far-eq0.false) in
-    let count : c.len.result ≡ length c.index-so_far.result.now.replies.items = omega (arith, c.len.ensures, c.index-so_far.result.now.replies.ok.0) in
+    let count : c.len.result ≡ length c.index-so_far.result.now.replies.items =
+    omega (arith, c.len.ensures, c.index-so_far.result.now.replies.ok.0) in
     let again : c.index-began.result.now.first ≡ length c.index-so_far.result.now.replies.items + 1 = omega (arith, c.if-began-len.false, count) in
     let deaths = ap (λ (hs : List ℕ). slice_get hs (length hs - 1)) c.deref.ensures.value in
     let last = sym (c.in-Some.ensures.value ∙ deaths) in
@@ -66,42 +71,52 @@ pub index-requires : goal.index-requires
 index-requires c =
     let there = is_there c.self.invariant c.self.view_is c.requires.place c.index-so_far.ensures in
     let some : 0 < c.index-so_far.result.now.latest = omega (arith, c.if-so_far-eq0.false) in
-    let count : c.len.result ≡ length c.index-so_far.result.now.replies.items = omega (arith, c.len.ensures, c.index-so_far.result.now.replies.ok.0) in
+    let count : c.len.result ≡ length c.index-so_far.result.now.replies.items =
+    omega (arith, c.len.ensures, c.index-so_far.result.now.replies.ok.0) in
     let again : c.index-began.result.now.first ≡ length c.index-so_far.result.now.replies.items + 1 = omega (arith, c.if-began-len.false, count) in
     let deaths = ap (λ (hs : List ℕ). slice_get hs (length hs - 1)) c.deref.ensures.value in
     let last = sym (c.in-Some.ensures.value ∙ deaths) in
     let place = named_session there c.requires.current c.requires.closed c.requires.next some c.index-began.ensures again last c.index-named.ensures in
-    omega (arith, place.0, named_within_sessions there c.requires.current c.requires.closed c.requires.next some c.index-began.ensures again last c.index-named.ensures, c.self.inside.sessions.ok.0)
+    let within = named_within_sessions there c.requires.current c.requires.closed c.requires.next some c.index-began.ensures again last c.index-named.ensures in
+    omega (arith, place.0, within, c.self.inside.sessions.ok.0)
 
 pub count_told-requires : goal.count_told-requires
 count_told-requires c =
     let there = is_there c.self.invariant c.self.view_is c.requires.place c.index-so_far.ensures in
     let some : 0 < c.index-so_far.result.now.latest = omega (arith, c.if-so_far-eq0.false) in
-    let count : c.len.result ≡ length c.index-so_far.result.now.replies.items = omega (arith, c.len.ensures, c.index-so_far.result.now.replies.ok.0) in
+    let count : c.len.result ≡ length c.index-so_far.result.now.replies.items =
+    omega (arith, c.len.ensures, c.index-so_far.result.now.replies.ok.0) in
     let again : c.index-began.result.now.first ≡ length c.index-so_far.result.now.replies.items + 1 = omega (arith, c.if-began-len.false, count) in
     let deaths = ap (λ (hs : List ℕ). slice_get hs (length hs - 1)) c.deref.ensures.value in
     let last = sym (c.in-Some.ensures.value ∙ deaths) in
-    let named = is_there c.self.invariant c.self.view_is (named_session there c.requires.current c.requires.closed c.requires.next some c.index-began.ensures again last c.index-named.ensures) c.index.ensures in
+    let place = named_session there c.requires.current c.requires.closed c.requires.next some c.index-began.ensures again last c.index-named.ensures in
+    let named = is_there c.self.invariant c.self.view_is place c.index.ensures in
     well_opened named
 
 pub returns-then-count_told-named : goal.returns-then-count_told-named
 returns-then-count_told-named c =
     let there = is_there c.self.invariant c.self.view_is c.requires.place c.index-so_far.ensures in
     let some : 0 < c.index-so_far.result.now.latest = omega (arith, c.if-so_far-eq0.false) in
-    let count : c.len.result ≡ length c.index-so_far.result.now.replies.items = omega (arith, c.len.ensures, c.index-so_far.result.now.replies.ok.0) in
+    let count : c.len.result ≡ length c.index-so_far.result.now.replies.items =
+    omega (arith, c.len.ensures, c.index-so_far.result.now.replies.ok.0) in
     let again : c.index-began.result.now.first ≡ length c.index-so_far.result.now.replies.items + 1 = omega (arith, c.if-began-len.false, count) in
     let deaths = ap (λ (hs : List ℕ). slice_get hs (length hs - 1)) c.deref.ensures.value in
     let last = sym (c.in-Some.ensures.value ∙ deaths) in
-    let named = is_there c.self.invariant c.self.view_is (named_session there c.requires.current c.requires.closed c.requires.next some c.index-began.ensures again last c.index-named.ensures) c.index.ensures in
-    wait_for there c.requires.current c.requires.closed c.requires.next some c.index-began.ensures again last c.index-named.ensures c.index.result.now (told named) (omega (arith, c.if-count_told-named.true, c.count_told.ensures))
+    let place = named_session there c.requires.current c.requires.closed c.requires.next some c.index-began.ensures again last c.index-named.ensures in
+    let named = is_there c.self.invariant c.self.view_is place c.index.ensures in
+    wait_for there c.requires.current c.requires.closed c.requires.next some c.index-began.ensures again last c.index-named.ensures
+    c.index.result.now (told named) (omega (arith, c.if-count_told-named.true, c.count_told.ensures))
 
 pub returns : goal.returns
 returns c =
     let there = is_there c.self.invariant c.self.view_is c.requires.place c.index-so_far.ensures in
     let some : 0 < c.index-so_far.result.now.latest = omega (arith, c.if-so_far-eq0.false) in
-    let count : c.len.result ≡ length c.index-so_far.result.now.replies.items = omega (arith, c.len.ensures, c.index-so_far.result.now.replies.ok.0) in
+    let count : c.len.result ≡ length c.index-so_far.result.now.replies.items =
+    omega (arith, c.len.ensures, c.index-so_far.result.now.replies.ok.0) in
     let again : c.index-began.result.now.first ≡ length c.index-so_far.result.now.replies.items + 1 = omega (arith, c.if-began-len.false, count) in
     let deaths = ap (λ (hs : List ℕ). slice_get hs (length hs - 1)) c.deref.ensures.value in
     let last = sym (c.in-Some.ensures.value ∙ deaths) in
-    let named = is_there c.self.invariant c.self.view_is (named_session there c.requires.current c.requires.closed c.requires.next some c.index-began.ensures again last c.index-named.ensures) c.index.ensures in
-    begin_behind there c.requires.current c.requires.closed c.requires.next some c.index-began.ensures again last c.index-named.ensures c.index.result.now (told named) (omega (arith, c.if-count_told-named.false, c.count_told.ensures))
+    let place = named_session there c.requires.current c.requires.closed c.requires.next some c.index-began.ensures again last c.index-named.ensures in
+    let named = is_there c.self.invariant c.self.view_is place c.index.ensures in
+    begin_behind there c.requires.current c.requires.closed c.requires.next some c.index-began.ensures again last c.index-named.ensures
+    c.index.result.now (told named) (omega (arith, c.if-count_told-named.false, c.count_told.ensures))
