@@ -5,3 +5,8 @@ pub mod Places
 pub mod Answered
 pub mod Ending
 pub mod Dying
+pub mod Told
+pub mod Ends
+pub mod Standing
+pub mod Stands
+pub mod Current

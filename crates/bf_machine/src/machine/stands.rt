@@ -1,13 +1,15 @@
 //! Where a session stands.
 
-ghost use Rattle.std.specs.Prelude.{◌≡◌, ◌↔◌, ◌≤◌, ◌+◌, ◌==◌, ◌&&◌, IfSome, length, true};
+ghost use Rattle.std.specs.Prelude.{◌≡◌, ◌↔◌, ◌≤◌, ◌<◌, ◌+◌, ◌==◌, ◌&&◌, Contains, IfSome, IsTrue, None, is_some, length, true};
 ghost use Rattle.std.specs.Option.{is_none};
+ghost use Rattle.bf_sql.specs.Groups.{groups_in};
 ghost use Rattle.bf_machine.specs.interleaving.Seen.{told_seen};
-ghost use Rattle.bf_machine.specs.interleaving.Calls.{IsPlace, StandsAs};
+ghost use Rattle.bf_machine.specs.interleaving.Calls.{IsPlace, StandsAs, statements_at};
 ghost use Rattle.bf_machine.specs.interleaving.Kept.{IsCurrent};
+ghost use Rattle.bf_machine.specs.interleaving.Machines.{Group, open_at, told_at};
 
 use crate::machine::Machine;
-use crate::so_far::{OpenGroup, SessionSoFar};
+use crate::so_far::SessionSoFar;
 use crate::stand::Stand;
 use bf_tree::{Session, Statement};
 
@@ -31,21 +33,6 @@ fn has_ended(session: &Session, so_far: &SessionSoFar) -> bool
     so_far.open.is_none() && so_far.replies.len() == session.statements.len()
 }
 
-/// What the next call of an open group is, of which so many statements of its session have replies.
-fn stand_of_group(statements: &[Statement], answered: usize, group: &OpenGroup) -> Stand {
-    if answered < group.last as usize {
-        return match &statements[answered] {
-            Statement::Commit => Stand::Commit,
-            Statement::Rollback => Stand::Abort,
-            _ => Stand::Statement(answered as u32 + 1),
-        };
-    }
-    match &statements[group.first as usize - 1] {
-        Statement::Begin => Stand::Abort,
-        _ => Stand::Commit,
-    }
-}
-
 impl Machine {
     /// Where a session stands: which call is its next, if one is. It costs a look at each session of
     /// an earlier phase, and takes no memory.
@@ -55,21 +42,16 @@ impl Machine {
     {
         let place = session as usize - 1;
         let so_far = &self.sessions[place];
-        let sessions = self.script.sessions.as_slice();
-        if has_ended(&sessions[place], so_far) {
+        if has_ended(&self.script.sessions.as_slice()[place], so_far) {
             return Stand::Ended;
         }
         if !self.is_current(session) {
             return Stand::Later;
         }
-        let statements = sessions[place].statements.as_slice();
-        let answered = so_far.replies.len();
-        if let Some(group) = &so_far.open {
-            return stand_of_group(statements, answered, group);
-        }
-        match &statements[answered] {
-            Statement::Commit | Statement::Rollback => Stand::Statement(answered as u32 + 1),
-            _ => self.stand_of_next(so_far.latest, answered as u32 + 1),
+        if so_far.open.is_some() {
+            self.stand_in_group(session)
+        } else {
+            self.stand_between_groups(session)
         }
     }
 
@@ -84,14 +66,67 @@ impl Machine {
         others.all(|(other, so_far)| phase <= other.phase || has_ended(other, so_far))
     }
 
-    /// Whether the group at a statement may begin, or begin again, where the session's last group
-    /// to begin has this start number.
-    fn stand_of_next(&self, latest: u64, first: u32) -> Stand {
-        if latest == 0 {
+    /// Where a session stands that has an open group: at the group's next statement, or at its end.
+    fn stand_in_group(&self, session: u32) -> Stand
+        requires place { IsPlace self.now.script session }
+        requires current { IsCurrent self.now session }
+        requires opened { IsTrue (is_some (open_at self.now session)) }
+        ensures { StandsAs self.now session result }
+    {
+        let place = session as usize - 1;
+        let so_far = &self.sessions[place];
+        let statements = self.script.sessions.as_slice()[place].statements.as_slice();
+        let Some(group) = &so_far.open else {
+            unreachable!();
+        };
+        let answered = so_far.replies.len();
+        if answered < group.last as usize {
+            return match &statements[answered] {
+                Statement::Commit => Stand::Commit,
+                Statement::Rollback => Stand::Abort,
+                _ => Stand::Statement(answered as u32 + 1),
+            };
+        }
+        match &statements[group.first as usize - 1] {
+            Statement::Begin => Stand::Abort,
+            _ => Stand::Commit,
+        }
+    }
+
+    /// Where a session stands that has no open group, but a statement left: at a COMMIT or ROLLBACK
+    /// in no group, or before its next group.
+    fn stand_between_groups(&self, session: u32) -> Stand
+        requires place { IsPlace self.now.script session }
+        requires current { IsCurrent self.now session }
+        requires closed { open_at self.now session ≡ None }
+        requires left { length (told_at self.now session) < length (statements_at self.now session) }
+        ensures { StandsAs self.now session result }
+    {
+        let place = session as usize - 1;
+        let answered = self.sessions[place].replies.len();
+        let statements = self.script.sessions.as_slice()[place].statements.as_slice();
+        match &statements[answered] {
+            Statement::Commit | Statement::Rollback => Stand::Statement(answered as u32 + 1),
+            _ => self.stand_before_group(session),
+        }
+    }
+
+    /// Where a session stands before its next group: that may begin, or begin again, but where its
+    /// last death named a group that has not ended.
+    fn stand_before_group(&self, session: u32) -> Stand
+        requires place { IsPlace self.now.script session }
+        requires current { IsCurrent self.now session }
+        requires closed { open_at self.now session ≡ None }
+        requires next { (group : Group) × Contains (groups_in self.now.script session) group
+            × (group.0 ≡ length (told_at self.now session) + 1) }
+        ensures { StandsAs self.now session result }
+    {
+        let so_far = &self.sessions[session as usize - 1];
+        if so_far.latest == 0 {
             return Stand::Begin;
         }
-        let began = &self.began[latest as usize - 1];
-        if began.first != first {
+        let began = &self.began[so_far.latest as usize - 1];
+        if began.first as usize != so_far.replies.len() + 1 {
             return Stand::Begin;
         }
         let Some(older) = began.deaths.last() else {
