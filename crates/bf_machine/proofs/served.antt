@@ -7,3 +7,4 @@ pub mod Sequence
 pub mod Narrow
 pub mod Whole
 pub mod Ran
+pub mod Exclusive

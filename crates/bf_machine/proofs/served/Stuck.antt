@@ -40,11 +40,11 @@ place_or_none script (suc s) = elim (cases_Bool (nat_le (suc s) (length script.s
 ]
 
 -- the last of a list
-last_of : (before : List ℕ) (h : ℕ) → slice_index_or (before ++ h ∷ []) (length before) 0 ≡ h
+pub last_of : (before : List ℕ) (h : ℕ) → slice_index_or (before ++ h ∷ []) (length before) 0 ≡ h
 last_of [] h = refl
 last_of (x ∷ before) h = last_of before h
 
-last_there : (before : List ℕ) (h : ℕ) → Contains (before ++ h ∷ []) h
+pub last_there : (before : List ℕ) (h : ℕ) → Contains (before ++ h ∷ []) h
 last_there [] h = (0, omega arith, refl)
 last_there (x ∷ before) h = let there = last_there before h in (suc there.0, omega (arith, there.1), there.2)
 

@@ -1,7 +1,7 @@
 -- No call can come of the sessions that were looked at.
 use Rattle.std.proofs.Common.{ℕ, ◌≤◌}
 use Rattle.bf_machine.specs.interleaving.Serving.{CannotGo}
-use Rattle.bf_machine.proofs.served.Goes.{exec_goes_on}
+use Rattle.bf_machine.proofs.served.Exclusive.{one_or_other}
 use Rattle.bf_machine.proofs.served.Totals.{total_less}
 use Rattle.bf_machine.proofs.served.Stuck.{all_have_ended}
 use Rattle.bf_machine.proofs.served.Judged.{youngest_goes_on}
