@@ -3,4 +3,5 @@ pub mod Fresh
 pub mod Sessions
 pub mod Places
 pub mod Answered
+pub mod Committing
 pub mod Ending

@@ -29,12 +29,15 @@ impl Machine {
     {
         let place = session as usize - 1;
         let so_far = &mut self.sessions[place];
-        let Some(group) = &mut so_far.open else {
+        let Some(mut group) = so_far.open.take() else {
             unreachable!();
         };
-        settle(self.alloc, &mut self.live, &mut group.pending)?;
-        let number = self.commits + 1;
+        if let Err(memory) = settle(self.alloc, &mut self.live, &mut group.pending) {
+            so_far.open = Some(group);
+            return Err(memory);
+        }
         let (start, first, last) = (group.start, group.first, group.last);
+        let number = self.commits + 1;
         close(so_far, last, Reply::Committed(number));
         self.locks.free_all(start);
         self.history.push_reserved(Entry {
