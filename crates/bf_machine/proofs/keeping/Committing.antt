@@ -1,5 +1,5 @@
 -- The commit of a session's open group: what it is to leave can be settled, and the machine behind it keeps what it kept.
-use Rattle.std.proofs.Common.{◌≡◌, ◌⊎◌, ℕ, ◌+◌, ◌-◌, ◌<◌, ◌≤◌, true, cond, ltb, List, [], ◌∷◌, ◌++◌, length, map, Option, Some, None, refl, sym, ap, ap₂, subst, ◌∙◌, arith, vec_capacity}
+use Rattle.std.proofs.Common.{◌≡◌, ◌⊎◌, ℕ, ◌+◌, ◌-◌, ◌≤◌, true, cond, ltb, List, [], ◌∷◌, ◌++◌, length, map, Option, Some, None, refl, sym, ap, ap₂, subst, ◌∙◌, arith, vec_capacity}
 use Rattle.std.specs.Prelude.{slice_index_or, slice_set}
 use Rattle.std.specs.Global.{Vec}
 use Rattle.std.proofs.lemmas.List.{set-get_or}
@@ -61,12 +61,14 @@ same_pending (change.NewIndex a) (change.NewTable b) same = cc
 same_pending (change.NewIndex a) (change.NewIndex b) same = cc
 
 -- so where it is seen as before, the sessions are as before
-pub sessions_stay : (sessions : List SessionSoFar) (i : ℕ) (x : SessionSoFar) → slice_index_or sessions i x ≡ x → (g : OpenGroup) → x.«open» ≡ Some g → (p : PendingChange) → pending_seen p ≡ pending_seen g.pending
+pub sessions_stay : (sessions : List SessionSoFar) (i : ℕ) (x : SessionSoFar) → slice_index_or sessions i x ≡ x → (g : OpenGroup) → x.«open» ≡ Some g
+    → (p : PendingChange) → pending_seen p ≡ pending_seen g.pending
     → slice_set sessions i (record x { «open» = Some (record g { pending = p }) }) ≡ sessions
 sessions_stay sessions i x at g is p same =
     let one : p ≡ g.pending = same_pending p g.pending same in
     let group : record g { pending = p } ≡ g = ap (λ (q : PendingChange). record g { pending = q }) one in
-    let session : record x { «open» = Some (record g { pending = p }) } ≡ x = ap (λ (h : OpenGroup). record x { «open» = Some h }) group ∙ ap (λ (o : Option OpenGroup). record x { «open» = o }) (sym is) in
+    let session : record x { «open» = Some (record g { pending = p }) } ≡ x =
+    ap (λ (h : OpenGroup). record x { «open» = Some h }) group ∙ ap (λ (o : Option OpenGroup). record x { «open» = o }) (sym is) in
     ap (slice_set sessions i) (session ∙ sym at) ∙ set-get_or sessions i x
 
 module _ (script : Script) (retries : ℕ) (db : Database) (locks : Locks) (began : List BeganGroup) (sessions : List SessionSoFar) (history : Vec Entry) (commits : ℕ) (transcripts : Vec (List Reply))
@@ -82,7 +84,8 @@ module _ (script : Script) (retries : ℕ) (db : Database) (locks : Locks) (bega
   here = there script retries db locks began sessions history commits transcripts sound s low high x at g is
 
   pub can_settle : CanSettle db (pending_seen g.pending)
-  can_settle = run_can_settle locks g.start db (answered_in script s o) (pending_seen g.pending) sound.kept.history_legal.database (sound.kept.open_groups_replay.each s o here).run
+  can_settle =
+      run_can_settle locks g.start db (answered_in script s o) (pending_seen g.pending) sound.kept.history_legal.database (sound.kept.open_groups_replay.each s o here).run
 
   pub number_fits : commits + 1 ≤ vec_capacity history
   number_fits =
@@ -118,7 +121,8 @@ module _ (script : Script) (retries : ℕ) (db : Database) (locks : Locks) (bega
 
     -- the machine behind it
     module _ (y : SessionSoFar) (closed : y.«open» ≡ None) (latest : y.latest ≡ x.latest) (capacity : vec_capacity y.replies ≡ vec_capacity x.replies)
-        (told : y.replies.items ≡ cond (ltb (length x.replies.items) g.last) (x.replies.items ++ reply.Committed (commits + 1) ∷ []) x.replies.items) (free : Locks) (freed : free ≡ without_owner locks g.start)
+        (told : y.replies.items ≡ cond (ltb (length x.replies.items) g.last) (x.replies.items ++ reply.Committed (commits + 1) ∷ []) x.replies.items)
+        (free : Locks) (freed : free ≡ without_owner locks g.start)
         (live : Database) (settled : live ≡ left_by db (pending_seen g.pending))
         (entries : Vec Entry) (items : entries.items ≡ history.items ++ entry_of m s o (Committed (commits + 1)) ∷ []) (space : vec_capacity entries ≡ vec_capacity history) where
       abbrev answers : List Reply
@@ -131,18 +135,22 @@ module _ (script : Script) (retries : ℕ) (db : Database) (locks : Locks) (bega
       with_entry = subst (λ (k : ℕ). entries.items ≡ history.items ++ entry_of m s o (Committed k) ∷ []) count items
 
       replies : y.replies.items ≡ x.replies.items ++ answers
-      replies = last_told script retries db locks began sessions history commits transcripts sound s low high x at g is Commit (reply.Committed n) left_to_commit y.replies.items told_number
+      replies =
+          last_told script retries db locks began sessions history commits transcripts sound s low high x at g is
+          Commit (reply.Committed n) left_to_commit y.replies.items told_number
 
       pub commit_sound : IsSound script retries live free began (slice_set sessions (s - 1) y) entries (commits + 1) transcripts
       commit_sound =
           subst (λ (locks : Locks). IsSound script retries live locks began (slice_set sessions (s - 1) y) entries (commits + 1) transcripts) (sym freed)
           (subst (λ (db : Database). IsSound script retries db (without_owner locks g.start) began (slice_set sessions (s - 1) y) entries (commits + 1) transcripts) (sym settled)
-          (ended_sound script retries db locks began sessions history commits transcripts sound s low high x at g is answers y closed replies (left_by db (pending_seen g.pending))
-          (entry_of m s o (Committed n)) (commits + 1) latest (omega (arith, capacity)) entries with_entry space commit_kept count))
+          (ended_sound script retries db locks began sessions history commits transcripts sound s low high x at g is
+          answers y closed replies (left_by db (pending_seen g.pending)) (entry_of m s o (Committed n)) (commits + 1) latest (omega (arith, capacity)) entries with_entry space commit_kept count))
 
       pub commit_seen : Commits m s (seen script retries live free began (slice_set sessions (s - 1) y) entries.items)
       commit_seen =
           commits_so (seen script retries live free began (slice_set sessions (s - 1) y) entries.items)
           (ap (λ (db : Database). seen script retries db free began (slice_set sessions (s - 1) y) entries.items) settled
-          ∙ (ap₂ (λ (locks : Locks) (es : List Entry). seen script retries (left_by db (pending_seen g.pending)) locks began (slice_set sessions (s - 1) y) es) freed with_entry
-          ∙ seen_ended script retries db locks began sessions history commits transcripts sound s low high x at g is answers y closed replies (left_by db (pending_seen g.pending)) (entry_of m s o (Committed n))))
+          ∙ (ap₂ (λ (locks : Locks) (es : List Entry). seen script retries (left_by db (pending_seen g.pending)) locks began (slice_set sessions (s - 1) y) es)
+          freed with_entry
+          ∙ seen_ended script retries db locks began sessions history commits transcripts sound s low high x at g is
+          answers y closed replies (left_by db (pending_seen g.pending)) (entry_of m s o (Committed n))))

@@ -1,5 +1,5 @@
 -- The end of a session's open group: its replies, and what is seen of it.
-use Rattle.std.proofs.Common.{◌≡◌, ◌⊎◌, ℕ, ◌+◌, ◌-◌, ◌<◌, ◌≤◌, false, cond, ltb, List, [], ◌∷◌, ◌++◌, length, map, take, drop, Option, Some, None, refl, sym, ap, ap₂, subst, ◌∙◌, arith, inl, inr, option_map, append_assoc, append-nil, length-append, vec_capacity, vec_len}
+use Rattle.std.proofs.Common.{◌≡◌, ◌⊎◌, ℕ, ◌+◌, ◌-◌, ◌<◌, ◌≤◌, false, cond, ltb, List, [], ◌∷◌, ◌++◌, length, map, take, drop, Option, Some, None, refl, sym, ap, ap₂, subst, ◌∙◌, arith, inl, inr, option_map, append_assoc, append-nil, length-append, vec_capacity}
 use Rattle.std.specs.Prelude.{is_some, slice_index_or, slice_set}
 use Rattle.std.specs.Global.{Vec}
 use Rattle.std.proofs.lemmas.Bool.{cases_lt, cond_above, cond_below}
@@ -99,10 +99,12 @@ module _ (script : Script) (retries : ℕ) (db : Database) (locks : Locks) (bega
     ]
 
     -- so the replies are as the end tells them
-    pub last_told : (replies : List Reply) → replies ≡ cond (ltb (length x.replies.items) g.last) (x.replies.items ++ r ∷ []) x.replies.items → replies ≡ x.replies.items ++ more
+    pub last_told : (replies : List Reply) → replies ≡ cond (ltb (length x.replies.items) g.last) (x.replies.items ++ r ∷ []) x.replies.items
+        → replies ≡ x.replies.items ++ more
     last_told replies told = elim (cases_lt (length x.replies.items) g.last) as (λ _. replies ≡ x.replies.items ++ more) [
       | inl less ↦ told ∙ (sym (cond_below (length x.replies.items) g.last (x.replies.items ++ r ∷ []) x.replies.items less) ∙ one_more less)
-      | inr full ↦ told ∙ (sym (cond_above (length x.replies.items) g.last (x.replies.items ++ r ∷ []) x.replies.items x.replies.items full refl) ∙ no_more full)
+      | inr full ↦ told ∙ (sym (cond_above (length x.replies.items) g.last (x.replies.items ++ r ∷ []) x.replies.items x.replies.items full refl)
+          ∙ no_more full)
     ]
 
   -- what is seen once the group is closed, with such replies
@@ -162,7 +164,8 @@ module _ (script : Script) (retries : ℕ) (db : Database) (locks : Locks) (bega
 
     -- so does the machine behind it
     module _ (y : SessionSoFar) (closed : y.«open» ≡ None) (latest : y.latest ≡ x.latest) (capacity : vec_capacity y.replies ≡ vec_capacity x.replies)
-        (told : y.replies.items ≡ cond (ltb (length x.replies.items) g.last) (x.replies.items ++ reply.RolledBack ∷ []) x.replies.items) (free : Locks) (freed : free ≡ without_owner locks g.start)
+        (told : y.replies.items ≡ cond (ltb (length x.replies.items) g.last) (x.replies.items ++ reply.RolledBack ∷ []) x.replies.items)
+        (free : Locks) (freed : free ≡ without_owner locks g.start)
         (entries : Vec Entry) (items : entries.items ≡ history.items ++ entry_of m s o RolledBack ∷ []) (space : vec_capacity entries ≡ vec_capacity history) where
       abbrev answers : List Reply
       answers = map (λ _. reply.RolledBack) (rest_of m s o)

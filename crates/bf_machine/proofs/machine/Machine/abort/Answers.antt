@@ -1,5 +1,5 @@
 -- What is left of the block has its reply, and its entry comes last.
-use Rattle.std.proofs.Common.{◌≡◌, ◌-◌, ◌≤◌, length, sym, subst, arith}
+use Rattle.std.proofs.Common.{◌-◌, ◌≤◌, length, sym, subst, arith}
 use Rattle.std.specs.Prelude.{slice_set}
 use Rattle.std.proofs.lemmas.List.{length-map}
 use Rattle.bf_machine.specs.declared.so_far.SessionSoFar.{SessionSoFar}
@@ -7,7 +7,7 @@ use Rattle.bf_machine.specs.interleaving.Calls.{CanAbort, IsPlace}
 use Rattle.bf_machine.specs.interleaving.Events.{Aborts}
 use Rattle.bf_machine.specs.interleaving.Machines.{Machine}
 use Rattle.bf_machine.specs.interleaving.Seen.{open_seen, seen}
-use Rattle.bf_machine.proofs.keeping.Ending.{abort_seen, abort_sound, room_for_entry, room_for_reply}
+use Rattle.bf_machine.proofs.keeping.Ending.{abort_seen, abort_sound, room_for_reply}
 use Rattle.bf_machine.proofs.machine.Machine.abort.Goals as goal
 
 pub close-requires : goal.close-requires
@@ -33,7 +33,8 @@ invariant_of-self c =
     let pushed = c.push_reserved in
     abort_sound i.script i.retries i.live i.locks i.began.items i.sessions.items i.history i.commits i.transcripts c.self.invariant
     s place.0 high x (sym c.index_mut-so_far.ensures.value) c.in-Some.group c.in-Some.is can.0 can.1
-    c.close.new.so_far ends.closed ends.latest ends.capacity ends.replies c.free_all.new.self c.free_all.ensures.freed pushed.new.self pushed.ensures.items pushed.ensures.capacity
+    c.close.new.so_far ends.closed ends.latest ends.capacity ends.replies
+    c.free_all.new.self c.free_all.ensures.freed pushed.new.self pushed.ensures.items pushed.ensures.capacity
 
 pub returns : goal.returns
 returns c =
@@ -50,4 +51,5 @@ returns c =
     subst (λ (m : Machine). Aborts m s next) c.self.view_is
     (abort_seen i.script i.retries i.live i.locks i.began.items i.sessions.items i.history i.commits i.transcripts c.self.invariant
     s place.0 high x (sym c.index_mut-so_far.ensures.value) c.in-Some.group c.in-Some.is can.0 can.1
-    c.close.new.so_far ends.closed ends.latest ends.capacity ends.replies c.free_all.new.self c.free_all.ensures.freed pushed.new.self pushed.ensures.items pushed.ensures.capacity)
+    c.close.new.so_far ends.closed ends.latest ends.capacity ends.replies
+    c.free_all.new.self c.free_all.ensures.freed pushed.new.self pushed.ensures.items pushed.ensures.capacity)
