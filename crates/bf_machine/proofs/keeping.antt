@@ -3,6 +3,7 @@ pub mod Fresh
 pub mod Sessions
 pub mod Places
 pub mod Answered
+pub mod Committing
 pub mod Ending
 pub mod Dying
 pub mod Told

@@ -1,12 +1,15 @@
 -- The end of a session's open group: its replies, and what is seen of it.
-use Rattle.std.proofs.Common.{◌≡◌, ◌⊎◌, ℕ, ◌+◌, ◌-◌, ◌<◌, ◌≤◌, false, List, [], ◌∷◌, ◌++◌, length, map, take, drop, Option, Some, None, refl, sym, ap, ap₂, subst, ◌∙◌, arith, inl, inr, option_map, append_assoc, append-nil, length-append, vec_capacity, vec_len}
+use Rattle.std.proofs.Common.{◌≡◌, ◌⊎◌, ℕ, ◌+◌, ◌-◌, ◌<◌, ◌≤◌, false, cond, ltb, List, [], ◌∷◌, ◌++◌, length, map, take, drop, Option, Some, None, refl, sym, ap, ap₂, subst, ◌∙◌, arith, inl, inr, option_map, append_assoc, append-nil, length-append, vec_capacity}
 use Rattle.std.specs.Prelude.{is_some, slice_index_or, slice_set}
 use Rattle.std.specs.Global.{Vec}
+use Rattle.std.proofs.lemmas.Bool.{cases_lt, cond_above, cond_below}
 use Rattle.std.proofs.lemmas.List.{length-drop, length-set, take-append-drop}
 use Rattle.std.proofs.lemmas.Option.{same_Some}
 use Rattle.bf_locks.specs.Locks.{Locks, without_owner}
 use Rattle.bf_tree.specs.declared.history.Entry.{Entry}
+use Rattle.bf_tree.specs.declared.history.Outcome.TheVariants.{RolledBack}
 use Rattle.bf_tree.specs.declared.reply.Reply.{Reply}
+use Rattle.bf_tree.specs.declared.reply.Reply.TheVariants as reply
 use Rattle.bf_tree.specs.declared.script.Script.{Script}
 use Rattle.bf_tree.specs.declared.statement.Statement.{Statement}
 use Rattle.bf_tree.specs.declared.statement.Statement.TheVariants.{Rollback}
@@ -16,7 +19,7 @@ use Rattle.bf_sql.specs.History.{commits_with}
 use Rattle.bf_machine.specs.declared.so_far.Began.{Began as BeganGroup}
 use Rattle.bf_machine.specs.declared.so_far.OpenGroup.{OpenGroup}
 use Rattle.bf_machine.specs.declared.so_far.SessionSoFar.{SessionSoFar}
-use Rattle.bf_machine.specs.interleaving.Events.{Aborts, commits_behind, ended, rest_of, rolled_back, text_of}
+use Rattle.bf_machine.specs.interleaving.Events.{Aborts, commits_behind, ended, entry_of, rest_of, rolled_back, text_of}
 use Rattle.bf_machine.specs.interleaving.Kept.{IsKept, IsOpenGroup}
 use Rattle.bf_machine.specs.interleaving.Machines.{Machine, Open, open_at, told_at}
 use Rattle.bf_machine.specs.interleaving.Seen.{IsLatest, IsSound, began_seen, group_seen, open_seen, seen, told_before, told_seen}
@@ -68,6 +71,13 @@ module _ (script : Script) (retries : ℕ) (db : Database) (locks : Locks) (bega
       let here : length (session_at script s).statements ≤ vec_capacity x.replies = rw next at room in
       omega (arith, less, here, bounds.2)
 
+  -- and for the group's entry
+  pub room_for_entry : length history.items < vec_capacity history
+  room_for_entry =
+      let y : SessionSoFar = record x { «open» = None } in
+      let count = one_closed sessions (s - 1) x y (omega (arith, low, high)) at (ap is_some is) refl in
+      omega (arith, sound.room, count)
+
   module _ (c : Statement) (r : Reply) (left : (rest_of m s o ≡ []) ⊎ (rest_of m s o ≡ c ∷ [])) where
     abbrev more : List Reply
     more = map (λ _. r) (rest_of m s o)
@@ -86,6 +96,15 @@ module _ (script : Script) (retries : ℕ) (db : Database) (locks : Locks) (bega
       | inr one ↦
           let some : length (rest_of m s o) ≡ 1 = ap (λ (ss : List Statement). length ss) one in
           absurd (omega (arith, left_size, some, full))
+    ]
+
+    -- so the replies are as the end tells them
+    pub last_told : (replies : List Reply) → replies ≡ cond (ltb (length x.replies.items) g.last) (x.replies.items ++ r ∷ []) x.replies.items
+        → replies ≡ x.replies.items ++ more
+    last_told replies told = elim (cases_lt (length x.replies.items) g.last) as (λ _. replies ≡ x.replies.items ++ more) [
+      | inl less ↦ told ∙ (sym (cond_below (length x.replies.items) g.last (x.replies.items ++ r ∷ []) x.replies.items less) ∙ one_more less)
+      | inr full ↦ told ∙ (sym (cond_above (length x.replies.items) g.last (x.replies.items ++ r ∷ []) x.replies.items x.replies.items full refl)
+          ∙ no_more full)
     ]
 
   -- what is seen once the group is closed, with such replies
@@ -142,3 +161,25 @@ module _ (script : Script) (retries : ℕ) (db : Database) (locks : Locks) (bega
 
     pub abort_kept : IsKept empty_database (rolled_back m s o)
     abort_kept = abort_keeps_all empty_database m sound.kept (are_texts script) s (rolled_back m s o) (aborted (rolled_back m s o) refl)
+
+    -- so does the machine behind it
+    module _ (y : SessionSoFar) (closed : y.«open» ≡ None) (latest : y.latest ≡ x.latest) (capacity : vec_capacity y.replies ≡ vec_capacity x.replies)
+        (told : y.replies.items ≡ cond (ltb (length x.replies.items) g.last) (x.replies.items ++ reply.RolledBack ∷ []) x.replies.items)
+        (free : Locks) (freed : free ≡ without_owner locks g.start)
+        (entries : Vec Entry) (items : entries.items ≡ history.items ++ entry_of m s o RolledBack ∷ []) (space : vec_capacity entries ≡ vec_capacity history) where
+      abbrev answers : List Reply
+      answers = map (λ _. reply.RolledBack) (rest_of m s o)
+
+      replies : y.replies.items ≡ x.replies.items ++ answers
+      replies = last_told Rollback reply.RolledBack left_to_abort y.replies.items told
+
+      pub abort_sound : IsSound script retries db free began (slice_set sessions (s - 1) y) entries commits transcripts
+      abort_sound =
+          subst (λ (locks : Locks). IsSound script retries db locks began (slice_set sessions (s - 1) y) entries commits transcripts) (sym freed)
+          (ended_sound answers y closed replies db (entry_of m s o RolledBack) commits latest (omega (arith, capacity)) entries items space abort_kept sound.counted)
+
+      pub abort_seen : Aborts m s (seen script retries db free began (slice_set sessions (s - 1) y) entries.items)
+      abort_seen =
+          aborted (seen script retries db free began (slice_set sessions (s - 1) y) entries.items)
+          (ap₂ (λ (locks : Locks) (es : List Entry). seen script retries db locks began (slice_set sessions (s - 1) y) es) freed items
+          ∙ seen_ended answers y closed replies db (entry_of m s o RolledBack))

@@ -1,12 +1,13 @@
 //! Ends of groups.
 
-ghost use Rattle.std.specs.Prelude.{◌≡◌, ◌+◌, IfOk, OnErr, OnOk};
+ghost use Rattle.std.specs.Prelude.{◌≡◌, ◌+◌, ◌<◌, ◌++◌, ◌∷◌, [], IfOk, None, OnErr, OnOk, if◌then◌else◌, length, nat_lt, vec_capacity};
 ghost use Rattle.bf_machine.specs.declared.stand.Ending.TheVariants.{Committed};
 ghost use Rattle.bf_machine.specs.interleaving.Calls.{CanAbort, CanCommit, IsPlace};
 ghost use Rattle.bf_machine.specs.interleaving.Events.{Aborts, Commits, commits_behind};
 
 use crate::answer::settle;
 use crate::machine::Machine;
+use crate::so_far::SessionSoFar;
 use crate::stand::Ending;
 use bf_base::Memory;
 use bf_tree::{Entry, Outcome, Reply};
@@ -28,16 +29,16 @@ impl Machine {
     {
         let place = session as usize - 1;
         let so_far = &mut self.sessions[place];
-        let Some(group) = &mut so_far.open else {
+        let Some(mut group) = so_far.open.take() else {
             unreachable!();
         };
-        settle(self.alloc, &mut self.live, &mut group.pending)?;
-        let number = self.commits + 1;
-        let (start, first, last) = (group.start, group.first, group.last);
-        if so_far.replies.len() < last as usize {
-            so_far.replies.push_reserved(Reply::Committed(number));
+        if let Err(memory) = settle(self.alloc, &mut self.live, &mut group.pending) {
+            so_far.open = Some(group);
+            return Err(memory);
         }
-        so_far.open = None;
+        let (start, first, last) = (group.start, group.first, group.last);
+        let number = self.commits + 1;
+        close(so_far, last, Reply::Committed(number));
         self.locks.free_all(start);
         self.history.push_reserved(Entry {
             session,
@@ -62,10 +63,7 @@ impl Machine {
             unreachable!();
         };
         let (start, first, last) = (group.start, group.first, group.last);
-        if so_far.replies.len() < last as usize {
-            so_far.replies.push_reserved(Reply::RolledBack);
-        }
-        so_far.open = None;
+        close(so_far, last, Reply::RolledBack);
         self.locks.free_all(start);
         self.history.push_reserved(Entry {
             session,
@@ -74,4 +72,22 @@ impl Machine {
             outcome: Outcome::RolledBack,
         });
     }
+}
+
+/// Closes a session's open group, up to its last statement, which has this reply where it has none.
+/// Takes no memory.
+fn close(so_far: &mut SessionSoFar, last: u32, reply: Reply)
+    requires { length so_far.old.replies.items < last
+        → length so_far.old.replies.items < vec_capacity so_far.old.replies }
+    ensures closed { so_far.new.open ≡ None }
+    ensures latest { so_far.new.latest ≡ so_far.old.latest }
+    ensures capacity { vec_capacity so_far.new.replies ≡ vec_capacity so_far.old.replies }
+    ensures replies { so_far.new.replies.items
+        ≡ (if nat_lt (length so_far.old.replies.items) last
+        then so_far.old.replies.items ++ reply ∷ [] else so_far.old.replies.items) }
+{
+    if so_far.replies.len() < last as usize {
+        so_far.replies.push_reserved(reply);
+    }
+    so_far.open = None;
 }
