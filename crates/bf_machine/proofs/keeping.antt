@@ -4,3 +4,7 @@ pub mod Sessions
 pub mod Places
 pub mod Answered
 pub mod Ending
+pub mod Exchanging
+pub mod Executing
+pub mod Lasts
+pub mod Opening
