@@ -11,3 +11,7 @@ pub mod Ends
 pub mod Standing
 pub mod Stands
 pub mod Current
+pub mod Exchanging
+pub mod Executing
+pub mod Lasts
+pub mod Opening

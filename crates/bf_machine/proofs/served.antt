@@ -8,3 +8,4 @@ pub mod Narrow
 pub mod Whole
 pub mod Ran
 pub mod Exclusive
+pub mod Open

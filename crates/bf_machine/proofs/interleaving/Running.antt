@@ -355,7 +355,7 @@ module _ (locks : Locks) (owner : ℕ) (db : Database) (is : IsDatabase db) (ss 
   by_action before rs left is_bound run other e = rows_next before rs left is_bound run (λ create. subst IsCreate e create)
 
   -- behind a change of the schema nothing is left
-  nothing_left : (change : Pending) → (left_by db change).number ≡ db.number + 1 → (rs : List Reply) → IsLeft rs → IsSchemaStep locks owner db (answered_by false rs ss) change → ⊥
+  pub nothing_left : (change : Pending) → (left_by db change).number ≡ db.number + 1 → (rs : List Reply) → IsLeft rs → IsSchemaStep locks owner db (answered_by false rs ss) change → ⊥
   nothing_left change numbered rs left run = by_text ss text rs left run.alone
     where
       by_text : (ss : List Statement) → IsText ss → (rs : List Reply) → drop (length rs) ss ≡ s ∷ later

@@ -1,13 +1,23 @@
 //! Statements of open groups.
 
-ghost use Rattle.std.specs.Prelude.{◌≡◌, ◌⊎◌, OnErr, OnOk};
+ghost use Rattle.std.specs.Prelude.{◌≡◌, ◌⊎◌, Bool, IfOk, IfSome, None, OnErr, OnOk, Some};
+ghost use Rattle.bf_tree.specs.declared.reply.Refusal.TheVariants.{NoTransaction};
+ghost use Rattle.bf_tree.specs.declared.reply.Reply.TheVariants.{Refused};
+ghost use Rattle.bf_tree.specs.declared.statement.Statement.{Statement};
+ghost use Rattle.bf_machine.specs.declared.so_far.OpenGroup.{OpenGroup as Group};
+ghost use Rattle.bf_machine.specs.declared.so_far.Pending.{Pending as Change};
+ghost use Rattle.bf_machine.specs.interleaving.Answering.{CanAnswer, IsAnswer};
 ghost use Rattle.bf_machine.specs.interleaving.Calls.{CanExec, IsPlace};
 ghost use Rattle.bf_machine.specs.interleaving.Events.{Executes, Refuses};
+ghost use Rattle.bf_machine.specs.interleaving.Seen.{pending_seen};
 
 use crate::answer::answer;
 use crate::machine::Machine;
+use crate::so_far::OpenGroup;
 use bf_base::Memory;
+use bf_live::LiveTables;
 use bf_tree::{Bound, Refusal, Reply};
+use std::alloc::Global;
 
 impl Machine {
     /// Replies to a session's next statement, as it is bound in the present catalog, on what its group
@@ -25,13 +35,34 @@ impl Machine {
     {
         let place = session as usize - 1;
         let so_far = &mut self.sessions[place];
-        let Some(group) = &mut so_far.open else {
-            let refused = Reply::Refused(Refusal::NoTransaction);
-            so_far.replies.push_reserved(refused);
-            return Ok(());
-        };
-        let reply = answer(self.alloc, &self.live, &mut group.pending, bound)?;
+        let reply = reply_in(self.alloc, &self.live, &mut so_far.open, bound)?;
         so_far.replies.push_reserved(reply);
         Ok(())
+    }
+}
+
+/// Replies to a statement in a session's open group, where one is. A COMMIT or ROLLBACK in no group is
+/// refused.
+///
+/// # Errors
+/// Where memory runs out, or 2 ^ 32 rows or more change. What is pending is as it was then.
+fn reply_in(
+    alloc: Global,
+    live: &LiveTables,
+    group: &mut Option<OpenGroup>,
+    bound: &Bound,
+) -> Result<Reply, Memory>
+    requires { IfSome group.old (λ o. CanAnswer live.now (pending_seen o.pending) bound.now) }
+    ensures refused { group.old ≡ None
+        → (group.new ≡ None) × IfOk result (λ reply. reply ≡ Refused NoTransaction) }
+    ensures answered { (o : Group) → group.old ≡ Some o
+        → (after : Change) × (group.new ≡ Some (record o { pending = after }))
+        × ((in_block : Bool) (s : Statement) → IfOk result (λ reply.
+        IsAnswer live.now (pending_seen o.pending) bound.now in_block s reply (pending_seen after)))
+        × OnErr result (pending_seen after ≡ pending_seen o.pending) }
+{
+    match group {
+        Some(open) => answer(alloc, live, &mut open.pending, bound),
+        None => Ok(Reply::Refused(Refusal::NoTransaction)),
     }
 }
