@@ -11,12 +11,13 @@ use Rattle.bf_tree.specs.declared.history.Outcome.TheVariants.{Committed, Rolled
 use Rattle.bf_tree.specs.declared.reply.Refusal.TheVariants.{NoTransaction}
 use Rattle.bf_tree.specs.declared.reply.Reply.{Reply}
 use Rattle.bf_tree.specs.declared.reply.Reply.TheVariants as reply
+use Rattle.bf_tree.specs.declared.script.Script.{Script}
 use Rattle.bf_tree.specs.declared.statement.Statement.{Statement}
 use Rattle.bf_tree.specs.declared.statement.Statement.TheVariants.{Commit, Rollback}
 use Rattle.bf_sql.specs.Database.{Database, empty_database}
 use Rattle.bf_sql.specs.Groups.{ends_block, groups_in, has_statement, session_at, statements_in}
 use Rattle.bf_machine.specs.interleaving.Calls.{replies_at, statements_at}
-use Rattle.bf_machine.specs.interleaving.Events.{Aborts, Commits, Event, Executes, Reaches, Refuses, at_once, commits_behind, committed, entry_of, one_more, rest_of, rolled_back, stepped, text_of, with_open}
+use Rattle.bf_machine.specs.interleaving.Events.{Aborts, Begins, Commits, Event, Executes, Reaches, Refuses, at_once, begun, begun_again, commits_behind, committed, entry_of, one_more, opened, rest_of, rolled_back, stepped, text_of, with_open}
 use Rattle.bf_machine.specs.interleaving.Groups.{left_by}
 use Rattle.bf_machine.specs.interleaving.Kept.{IsKept}
 use Rattle.bf_machine.specs.interleaving.Machines.{Machine, Open, open_at, told_at, with_replies}
@@ -154,3 +155,39 @@ module _ (m : Machine) (kept : IsKept empty_database m) (s : ℕ) where
     abort_adds_none next by =
         subst (λ (next : Machine). unanswered next s ≡ unanswered m s) (sym by.goes)
         (end_adds_none by.o by.is Rollback by.left reply.RolledBack m.db (entry_of m s by.o RolledBack) refl (none_left by.o by.is))
+
+  -- BEGIN: nothing has its reply yet
+  module _ (place : (1 ≤ s) × (s ≤ length m.opens)) where
+    begun_adds_none : (o : Open) → o.replies ≡ [] → open_at m s ≡ None → (next : Machine) → told_at next s ≡ told_at m s → open_at next s ≡ Some o → next.script ≡ m.script
+        → unanswered next s ≡ unanswered m s
+    begun_adds_none o none closed next told is script =
+        let now : replies_at next s ≡ told_at m s ++ o.replies = ap (with_replies (told_at next s)) is ∙ ap (λ (rs : List Reply). rs ++ o.replies) told in
+        let was : replies_at m s ≡ told_at m s = ap (with_replies (told_at m s)) closed in
+        let one = ap (λ (rs : List Reply). length rs) now in
+        let other = ap (λ (rs : List Reply). length rs) was in
+        let nothing = ap (λ (rs : List Reply). length rs) none in
+        let text : length (statements_at next s) ≡ length (statements_at m s) = ap (λ (t : Script). length (session_at t s).statements) script in
+        omega (arith, one, other, nothing, text, length-append (told_at m s) o.replies)
+
+    pub begin_adds_none : (next : Machine) → Begins m s next → unanswered next s ≡ unanswered m s
+    begin_adds_none next by = elim by.goes as (λ _. unanswered next s ≡ unanswered m s) [
+      | inl first ↦
+          let o : Open = opened m s (length m.began + 1) by.group in
+          subst (λ (next : Machine). unanswered next s ≡ unanswered m s) (sym first.1)
+          (begun_adds_none o refl by.closed (begun m s by.group) refl (set_same None None m.opens s (Some o) place.0 place.1) refl)
+      | inr again ↦
+          let o : Open = opened m s again.0 by.group in
+          subst (λ (next : Machine). unanswered next s ≡ unanswered m s) (sym again.3)
+          (begun_adds_none o refl by.closed (begun_again m s again.0 by.group) refl (set_same None None m.opens s (Some o) place.0 place.1) refl)
+    ]
+
+    -- and its group is open
+    pub begin_opens : (next : Machine) → Begins m s next → (o : Open) × (open_at next s ≡ Some o)
+    begin_opens next by = elim by.goes as (λ _. (o : Open) × (open_at next s ≡ Some o)) [
+      | inl first ↦
+          let o : Open = opened m s (length m.began + 1) by.group in
+          (o, ap (λ (next : Machine). open_at next s) first.1 ∙ set_same None None m.opens s (Some o) place.0 place.1)
+      | inr again ↦
+          let o : Open = opened m s again.0 by.group in
+          (o, ap (λ (next : Machine). open_at next s) again.3 ∙ set_same None None m.opens s (Some o) place.0 place.1)
+    ]
