@@ -23,7 +23,9 @@ overflow_cast-first c =
     let place : IsPlace i.script s = subst (λ (m : Machine). IsPlace m.script s) (sym c.self.view_is) c.requires.place in
     let high : s ≤ length i.sessions.items = omega (arith, place.1, c.self.invariant.kept.shaped.opens, length-map i.sessions.items open_seen) in
     let can : CanBegin m s = subst (λ (m : Machine). CanBegin m s) (sym c.self.view_is) c.requires.can in
-    let size = size_fits i.script i.retries i.live i.locks i.began.items i.sessions.items i.history i.commits i.transcripts c.self.invariant s place.0 high x (sym c.index-so_far.ensures) can.0 can.1 in
+    let size =
+    size_fits i.script i.retries i.live i.locks i.began.items i.sessions.items i.history i.commits i.transcripts
+    c.self.invariant s place.0 high x (sym c.index-so_far.ensures) can.0 can.1 in
     omega (arith, size.0, c.len-2.ensures, x.replies.ok.0)
 
 pub overflow_add-first : goal.overflow_add-first
@@ -35,7 +37,9 @@ overflow_add-first c =
     let place : IsPlace i.script s = subst (λ (m : Machine). IsPlace m.script s) (sym c.self.view_is) c.requires.place in
     let high : s ≤ length i.sessions.items = omega (arith, place.1, c.self.invariant.kept.shaped.opens, length-map i.sessions.items open_seen) in
     let can : CanBegin m s = subst (λ (m : Machine). CanBegin m s) (sym c.self.view_is) c.requires.can in
-    let size = size_fits i.script i.retries i.live i.locks i.began.items i.sessions.items i.history i.commits i.transcripts c.self.invariant s place.0 high x (sym c.index-so_far.ensures) can.0 can.1 in
+    let size =
+    size_fits i.script i.retries i.live i.locks i.began.items i.sessions.items i.history i.commits i.transcripts
+    c.self.invariant s place.0 high x (sym c.index-so_far.ensures) can.0 can.1 in
     omega (arith, size.0, c.len-2.ensures, x.replies.ok.0)
 
 pub last_again-requires : goal.last_again-requires
@@ -47,7 +51,9 @@ last_again-requires c =
     let place : IsPlace i.script s = subst (λ (m : Machine). IsPlace m.script s) (sym c.self.view_is) c.requires.place in
     let high : s ≤ length i.sessions.items = omega (arith, place.1, c.self.invariant.kept.shaped.opens, length-map i.sessions.items open_seen) in
     let can : CanBegin m s = subst (λ (m : Machine). CanBegin m s) (sym c.self.view_is) c.requires.can in
-    let low = latest_within i.script i.retries i.live i.locks i.began.items i.sessions.items i.history i.commits i.transcripts c.self.invariant s place.0 high x (sym c.index-so_far.ensures) in
+    let low =
+    latest_within i.script i.retries i.live i.locks i.began.items i.sessions.items i.history i.commits i.transcripts
+    c.self.invariant s place.0 high x (sym c.index-so_far.ensures) in
     rw c.deref.ensures.value low
 
 pub invariant_of-self-in-Some : goal.invariant_of-self-in-Some
@@ -65,11 +71,13 @@ invariant_of-self-in-Some c =
     let starts : first ≡ length x.replies.items + 1 = omega (arith, c.len-2.ensures, x.replies.ok.0) in
     let below : s - 1 < length i.sessions.items = omega (arith, place.0, high) in
     let y : SessionSoFar = c.open_group.new.so_far in
-    let same : c.index_mut.result.now ≡ x = same_item i.sessions.items (s - 1) c.index_mut.result.now x below c.index_mut.ensures.value c.index-so_far.ensures in
+    let same : c.index_mut.result.now ≡ x =
+    same_item i.sessions.items (s - 1) c.index_mut.result.now x below c.index_mut.ensures.value c.index-so_far.ensures in
     let found = c.in-Some.ensures.again in
     let b : BeganGroup = found.1 in
     let all =
-    again_all i.script i.retries i.live i.locks i.began.items i.sessions.items i.history i.commits i.transcripts c.self.invariant s place.0 high x (sym c.index-so_far.ensures) can.0 can.1
+    again_all i.script i.retries i.live i.locks i.began.items i.sessions.items i.history i.commits i.transcripts
+    c.self.invariant s place.0 high x (sym c.index-so_far.ensures) can.0 can.1
     c.reserve.new.self c.in_ok-reserve.ensures.items room y (c.open_group.ensures.replies ∙ ap (λ (z : SessionSoFar). z.replies) same) first starts
     found.0 b (found.2 ∙ ap (λ (bs : List BeganGroup). slice_index_or bs (x.latest - 1) b) c.deref.ensures.value) found.3 c.in-Some.last found.4
     c.open_group.ensures.opened c.open_group.ensures.latest in
@@ -90,11 +98,13 @@ returns-in-Some-clause-begins c =
     let starts : first ≡ length x.replies.items + 1 = omega (arith, c.len-2.ensures, x.replies.ok.0) in
     let below : s - 1 < length i.sessions.items = omega (arith, place.0, high) in
     let y : SessionSoFar = c.open_group.new.so_far in
-    let same : c.index_mut.result.now ≡ x = same_item i.sessions.items (s - 1) c.index_mut.result.now x below c.index_mut.ensures.value c.index-so_far.ensures in
+    let same : c.index_mut.result.now ≡ x =
+    same_item i.sessions.items (s - 1) c.index_mut.result.now x below c.index_mut.ensures.value c.index-so_far.ensures in
     let found = c.in-Some.ensures.again in
     let b : BeganGroup = found.1 in
     let all =
-    again_all i.script i.retries i.live i.locks i.began.items i.sessions.items i.history i.commits i.transcripts c.self.invariant s place.0 high x (sym c.index-so_far.ensures) can.0 can.1
+    again_all i.script i.retries i.live i.locks i.began.items i.sessions.items i.history i.commits i.transcripts
+    c.self.invariant s place.0 high x (sym c.index-so_far.ensures) can.0 can.1
     c.reserve.new.self c.in_ok-reserve.ensures.items room y (c.open_group.ensures.replies ∙ ap (λ (z : SessionSoFar). z.replies) same) first starts
     found.0 b (found.2 ∙ ap (λ (bs : List BeganGroup). slice_index_or bs (x.latest - 1) b) c.deref.ensures.value) found.3 c.in-Some.last found.4
     c.open_group.ensures.opened c.open_group.ensures.latest in
@@ -111,10 +121,14 @@ last_of_group-last-requires-clause-within c =
     let high : s ≤ length i.sessions.items = omega (arith, place.1, c.self.invariant.kept.shaped.opens, length-map i.sessions.items open_seen) in
     let can : CanBegin m s = subst (λ (m : Machine). CanBegin m s) (sym c.self.view_is) c.requires.can in
     let own : Session = c.index-as_slice-place.result in
-    let there : own ≡ slice_index_or i.script.sessions (s - 1) own = c.index-as_slice-place.is ∙ ap (λ (xs : List Session). slice_index_or xs (s - 1) own) c.as_slice.ensures in
+    let there : own ≡ slice_index_or i.script.sessions (s - 1) own =
+    c.index-as_slice-place.is ∙ ap (λ (xs : List Session). slice_index_or xs (s - 1) own) c.as_slice.ensures in
     let statements : c.as_slice-statements.result.now ≡ (session_at i.script s).statements =
-    c.as_slice-statements.ensures ∙ (ap (λ (a : Session). a.statements) (sym c.index-as_slice-place.is) ∙ ap (λ (a : Session). a.statements) (session_there i.script s own place.0 place.1 there)) in
-    let there_is = within i.script i.retries i.live i.locks i.began.items i.sessions.items i.history i.commits i.transcripts c.self.invariant s place.0 high x (sym c.index-so_far.ensures) can.0 can.1 in
+    c.as_slice-statements.ensures
+    ∙ (ap (λ (a : Session). a.statements) (sym c.index-as_slice-place.is) ∙ ap (λ (a : Session). a.statements) (session_there i.script s own place.0 place.1 there)) in
+    let there_is =
+    within i.script i.retries i.live i.locks i.began.items i.sessions.items i.history i.commits i.transcripts
+    c.self.invariant s place.0 high x (sym c.index-so_far.ensures) can.0 can.1 in
     let size : length c.as_slice-statements.result.now ≡ length (session_at i.script s).statements = ap (λ (ss : List Statement). length ss) statements in
     omega (arith, there_is, size, c.len-2.ensures, x.replies.ok.0)
 
@@ -128,10 +142,14 @@ last_of_group-last-requires-clause-numbers c =
     let high : s ≤ length i.sessions.items = omega (arith, place.1, c.self.invariant.kept.shaped.opens, length-map i.sessions.items open_seen) in
     let can : CanBegin m s = subst (λ (m : Machine). CanBegin m s) (sym c.self.view_is) c.requires.can in
     let own : Session = c.index-as_slice-place.result in
-    let there : own ≡ slice_index_or i.script.sessions (s - 1) own = c.index-as_slice-place.is ∙ ap (λ (xs : List Session). slice_index_or xs (s - 1) own) c.as_slice.ensures in
+    let there : own ≡ slice_index_or i.script.sessions (s - 1) own =
+    c.index-as_slice-place.is ∙ ap (λ (xs : List Session). slice_index_or xs (s - 1) own) c.as_slice.ensures in
     let statements : c.as_slice-statements.result.now ≡ (session_at i.script s).statements =
-    c.as_slice-statements.ensures ∙ (ap (λ (a : Session). a.statements) (sym c.index-as_slice-place.is) ∙ ap (λ (a : Session). a.statements) (session_there i.script s own place.0 place.1 there)) in
-    let fits = size_fits i.script i.retries i.live i.locks i.began.items i.sessions.items i.history i.commits i.transcripts c.self.invariant s place.0 high x (sym c.index-so_far.ensures) can.0 can.1 in
+    c.as_slice-statements.ensures
+    ∙ (ap (λ (a : Session). a.statements) (sym c.index-as_slice-place.is) ∙ ap (λ (a : Session). a.statements) (session_there i.script s own place.0 place.1 there)) in
+    let fits =
+    size_fits i.script i.retries i.live i.locks i.began.items i.sessions.items i.history i.commits i.transcripts
+    c.self.invariant s place.0 high x (sym c.index-so_far.ensures) can.0 can.1 in
     let size : length c.as_slice-statements.result.now ≡ length (session_at i.script s).statements = ap (λ (ss : List Statement). length ss) statements in
     omega (arith, fits.1, size)
 
@@ -156,12 +174,15 @@ invariant_of-self-2 c =
     let first : ℕ = c.len-2.result + 1 in
     let starts : first ≡ length x.replies.items + 1 = omega (arith, c.len-2.ensures, x.replies.ok.0) in
     let own : Session = c.index-as_slice-place.result in
-    let there : own ≡ slice_index_or i.script.sessions (s - 1) own = c.index-as_slice-place.is ∙ ap (λ (xs : List Session). slice_index_or xs (s - 1) own) c.as_slice.ensures in
+    let there : own ≡ slice_index_or i.script.sessions (s - 1) own =
+    c.index-as_slice-place.is ∙ ap (λ (xs : List Session). slice_index_or xs (s - 1) own) c.as_slice.ensures in
     let statements : c.as_slice-statements.result.now ≡ (session_at i.script s).statements =
-    c.as_slice-statements.ensures ∙ (ap (λ (a : Session). a.statements) (sym c.index-as_slice-place.is) ∙ ap (λ (a : Session). a.statements) (session_there i.script s own place.0 place.1 there)) in
+    c.as_slice-statements.ensures
+    ∙ (ap (λ (a : Session). a.statements) (sym c.index-as_slice-place.is) ∙ ap (λ (a : Session). a.statements) (session_there i.script s own place.0 place.1 there)) in
     let below : s - 1 < length i.sessions.items = omega (arith, place.0, high) in
     let y : SessionSoFar = c.open_group-2.new.so_far in
-    let same : c.index_mut-2.result.now ≡ x = same_item i.sessions.items (s - 1) c.index_mut-2.result.now x below c.index_mut-2.ensures.value c.index-so_far.ensures in
+    let same : c.index_mut-2.result.now ≡ x =
+    same_item i.sessions.items (s - 1) c.index_mut-2.result.now x below c.index_mut-2.ensures.value c.index-so_far.ensures in
     let another : (x.latest ≡ 0) ⊎ ((b : BeganGroup) × (b ≡ slice_index_or i.began.items (x.latest - 1) b) × (b.first ≡ first → ⊥)) =
     subst (λ (bs : List BeganGroup). (x.latest ≡ 0) ⊎ ((b : BeganGroup) × (b ≡ slice_index_or bs (x.latest - 1) b) × (b.first ≡ first → ⊥))) c.deref.ensures.value
     (c.in_default.ensures.another refl) in
@@ -171,7 +192,8 @@ invariant_of-self-2 c =
     let pushed : began ≡ i.began.items ++ record { session = s; first = first; last = last; deaths = c.new.result } ∷ [] = c.in_ok-push.ensures.items in
     let start : c.len-start.result ≡ length began = omega (arith, c.len-start.ensures, c.push.new.self.ok.0) in
     let all =
-    begun_all i.script i.retries i.live i.locks i.began.items i.sessions.items i.history i.commits i.transcripts c.self.invariant s place.0 high x (sym c.index-so_far.ensures) can.0 can.1
+    begun_all i.script i.retries i.live i.locks i.began.items i.sessions.items i.history i.commits i.transcripts
+    c.self.invariant s place.0 high x (sym c.index-so_far.ensures) can.0 can.1
     c.reserve.new.self c.in_ok-reserve.ensures.items room y (c.open_group-2.ensures.replies ∙ ap (λ (z : SessionSoFar). z.replies) same) first starts
     another last last_so c.new.result c.new.ensures.items began pushed c.len-start.result start c.open_group-2.ensures.opened c.open_group-2.ensures.latest in
     all.1
@@ -190,12 +212,15 @@ returns-clause-begins c =
     let first : ℕ = c.len-2.result + 1 in
     let starts : first ≡ length x.replies.items + 1 = omega (arith, c.len-2.ensures, x.replies.ok.0) in
     let own : Session = c.index-as_slice-place.result in
-    let there : own ≡ slice_index_or i.script.sessions (s - 1) own = c.index-as_slice-place.is ∙ ap (λ (xs : List Session). slice_index_or xs (s - 1) own) c.as_slice.ensures in
+    let there : own ≡ slice_index_or i.script.sessions (s - 1) own =
+    c.index-as_slice-place.is ∙ ap (λ (xs : List Session). slice_index_or xs (s - 1) own) c.as_slice.ensures in
     let statements : c.as_slice-statements.result.now ≡ (session_at i.script s).statements =
-    c.as_slice-statements.ensures ∙ (ap (λ (a : Session). a.statements) (sym c.index-as_slice-place.is) ∙ ap (λ (a : Session). a.statements) (session_there i.script s own place.0 place.1 there)) in
+    c.as_slice-statements.ensures
+    ∙ (ap (λ (a : Session). a.statements) (sym c.index-as_slice-place.is) ∙ ap (λ (a : Session). a.statements) (session_there i.script s own place.0 place.1 there)) in
     let below : s - 1 < length i.sessions.items = omega (arith, place.0, high) in
     let y : SessionSoFar = c.open_group-2.new.so_far in
-    let same : c.index_mut-2.result.now ≡ x = same_item i.sessions.items (s - 1) c.index_mut-2.result.now x below c.index_mut-2.ensures.value c.index-so_far.ensures in
+    let same : c.index_mut-2.result.now ≡ x =
+    same_item i.sessions.items (s - 1) c.index_mut-2.result.now x below c.index_mut-2.ensures.value c.index-so_far.ensures in
     let another : (x.latest ≡ 0) ⊎ ((b : BeganGroup) × (b ≡ slice_index_or i.began.items (x.latest - 1) b) × (b.first ≡ first → ⊥)) =
     subst (λ (bs : List BeganGroup). (x.latest ≡ 0) ⊎ ((b : BeganGroup) × (b ≡ slice_index_or bs (x.latest - 1) b) × (b.first ≡ first → ⊥))) c.deref.ensures.value
     (c.in_default.ensures.another refl) in
@@ -205,7 +230,8 @@ returns-clause-begins c =
     let pushed : began ≡ i.began.items ++ record { session = s; first = first; last = last; deaths = c.new.result } ∷ [] = c.in_ok-push.ensures.items in
     let start : c.len-start.result ≡ length began = omega (arith, c.len-start.ensures, c.push.new.self.ok.0) in
     let all =
-    begun_all i.script i.retries i.live i.locks i.began.items i.sessions.items i.history i.commits i.transcripts c.self.invariant s place.0 high x (sym c.index-so_far.ensures) can.0 can.1
+    begun_all i.script i.retries i.live i.locks i.began.items i.sessions.items i.history i.commits i.transcripts
+    c.self.invariant s place.0 high x (sym c.index-so_far.ensures) can.0 can.1
     c.reserve.new.self c.in_ok-reserve.ensures.items room y (c.open_group-2.ensures.replies ∙ ap (λ (z : SessionSoFar). z.replies) same) first starts
     another last last_so c.new.result c.new.ensures.items began pushed c.len-start.result start c.open_group-2.ensures.opened c.open_group-2.ensures.latest in
     let next : Machine = seen i.script i.retries i.live i.locks began (slice_set i.sessions.items (s - 1) y) c.reserve.new.self.items in
