@@ -1,5 +1,5 @@
 -- The next statement of a session: it is answered in the open group, or a COMMIT or ROLLBACK is refused in none.
-use Rattle.std.proofs.Common.{◌≡◌, ◌⊎◌, ℕ, suc, ◌+◌, ◌-◌, ◌<◌, ◌≤◌, Bool, true, false, not, List, [], ◌∷◌, ◌++◌, length, map, take, drop, Option, Some, None, refl, sym, ap, ap₂, subst, ◌∙◌, arith, inl, inr, option_map, length-append, vec_capacity}
+use Rattle.std.proofs.Common.{◌≡◌, ◌⊎◌, ℕ, suc, ◌+◌, ◌-◌, ◌<◌, ◌≤◌, Bool, true, false, not, List, [], ◌∷◌, ◌++◌, length, take, drop, Option, Some, None, refl, sym, ap, ap₂, subst, ◌∙◌, arith, inl, inr, option_map, length-append, vec_capacity}
 use Rattle.std.specs.Prelude.{Err, IfSome, Ok, OnErr, Result, is_some, slice_index_or, slice_set}
 use Rattle.std.specs.Global.{Vec}
 use Rattle.std.specs.List.{list_any}
@@ -28,7 +28,7 @@ use Rattle.bf_machine.specs.declared.so_far.Pending.{Pending as PendingChange}
 use Rattle.bf_machine.specs.declared.so_far.SessionSoFar.{SessionSoFar}
 use Rattle.bf_machine.specs.interleaving.Calls.{CanExec}
 use Rattle.bf_machine.specs.interleaving.Answering.{CanAnswer, IsAnswer, IsNext}
-use Rattle.bf_machine.specs.interleaving.Events.{Executes, Refuses, rest_of, stands_inside, stepped, text_of, with_open}
+use Rattle.bf_machine.specs.interleaving.Events.{Executes, Refuses, rest_of, stands_inside, stepped, text_of}
 use Rattle.bf_machine.specs.interleaving.Groups.{HasRun, NewIndex, NewTable, Pending, Rows, answered_by, pending_behind, reply_on}
 use Rattle.bf_machine.specs.interleaving.Kept.{IsKept, IsOpenGroup}
 use Rattle.bf_machine.specs.interleaving.Machines.{Machine, Open, open_at, told_at}

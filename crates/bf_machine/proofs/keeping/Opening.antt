@@ -1,19 +1,19 @@
 -- A session's next group begins, for the first time or again.
-use Rattle.std.proofs.Common.{◌≡◌, ◌≢◌, ◌⊎◌, ℕ, zero, suc, ◌+◌, ◌-◌, ◌<◌, ◌≤◌, List, [], ◌∷◌, ◌++◌, length, map, take, drop, Option, Some, None, refl, sym, ap, ap₂, subst, ◌∙◌, arith, inl, inr, option_map, length-append, vec_capacity}
-use Rattle.std.specs.Prelude.{count_by, slice_index_or, slice_set}
+use Rattle.std.proofs.Common.{◌≡◌, ◌≢◌, ◌⊎◌, ℕ, zero, suc, ◌+◌, ◌-◌, ◌<◌, ◌≤◌, ◌^◌, List, [], ◌∷◌, ◌++◌, length, map, take, drop, Option, Some, None, refl, sym, ap, ap₂, subst, ◌∙◌, arith, inl, inr, option_map, length-append, vec_capacity}
+use Rattle.std.specs.Prelude.{slice_index_or, slice_set}
 use Rattle.std.specs.Global.{Vec}
 use Rattle.std.proofs.Math.ListN.{drop_of_length-le}
-use Rattle.std.proofs.Math.Seq.{map-set_same}
 use Rattle.std.proofs.lemmas.Bool.{cases_eq, cases_lt}
-use Rattle.std.proofs.lemmas.List.{get_or-set_other, get_or-set_same, length-map, length-set, take_all}
+use Rattle.std.proofs.lemmas.List.{get_or-set_other, get_or-set_same, length-map, length-set, map-append, take_all}
 use Rattle.std.proofs.lemmas.List.Sums.{count_by-le-length}
 use Rattle.std.proofs.lemmas.Option.{same_Some}
 use Rattle.bf_locks.specs.Locks.{Locks}
 use Rattle.bf_tree.specs.declared.history.Entry.{Entry}
 use Rattle.bf_tree.specs.declared.reply.Reply.{Reply}
 use Rattle.bf_tree.specs.declared.script.Script.{Script}
+use Rattle.bf_tree.specs.declared.script.Session.{Session}
 use Rattle.bf_sql.specs.Database.{Database, empty_database}
-use Rattle.bf_sql.specs.Groups.{session_at}
+use Rattle.bf_sql.specs.Groups.{no_session, session_at}
 use Rattle.bf_txn.specs.declared.write.Write.{Write}
 use Rattle.bf_machine.specs.declared.so_far.Began.{Began as BeganGroup}
 use Rattle.bf_machine.specs.declared.so_far.OpenGroup.{OpenGroup}
@@ -22,13 +22,28 @@ use Rattle.bf_machine.specs.declared.so_far.SessionSoFar.{SessionSoFar}
 use Rattle.bf_machine.specs.interleaving.Events.{Begins, LastHasEnded, begun, begun_again, opened}
 use Rattle.bf_machine.specs.interleaving.Groups.{Rows}
 use Rattle.bf_machine.specs.interleaving.Kept.{HasStart, IsKept}
-use Rattle.bf_machine.specs.interleaving.Machines.{Began, Group, Machine, Open, began_at, open_at, told_at}
+use Rattle.bf_machine.specs.interleaving.Machines.{Began, Group, Machine, Open, began_at, told_at}
 use Rattle.bf_machine.specs.interleaving.Seen.{IsLatest, IsRoomy, IsSound, began_seen, group_seen, is_open, last_from, open_seen, seen, told_before, told_seen}
 use Rattle.bf_machine.proofs.interleaving.Beginning.{begins_keeps_all, start_new, start_then, start_was, start_within}
+use Rattle.bf_machine.proofs.interleaving.Places.{from_one as place_of}
 use Rattle.bf_machine.proofs.interleaving.Texts.{are_texts, one_first}
 use Rattle.bf_machine.proofs.keeping.Exchanging.{seen_with_open}
 use Rattle.bf_machine.proofs.keeping.Lasts.{last_is}
 use Rattle.bf_machine.proofs.keeping.Places.{open_there, roomy_then, told_there}
+
+-- an item of a list, by whatever default
+any_default : {X : Type 0} (xs : List X) (i : ℕ) (a b : X) → i < length xs → slice_index_or xs i a ≡ slice_index_or xs i b
+any_default [] i a b below = absurd (omega (arith, below))
+any_default (x ∷ xs) zero a b below = refl
+any_default (x ∷ xs) (suc i) a b below = any_default xs i a b (omega (arith, below))
+
+pub same_item : {X : Type 0} (xs : List X) (i : ℕ) (a b : X) → i < length xs → a ≡ slice_index_or xs i a → b ≡ slice_index_or xs i b → a ≡ b
+same_item xs i a b below is_a is_b = is_a ∙ (any_default xs i a b below ∙ sym is_b)
+
+pub session_there : (script : Script) (s : ℕ) (a : Session) → 1 ≤ s → s ≤ length script.sessions → a ≡ slice_index_or script.sessions (s - 1) a → a ≡ session_at script s
+session_there script s a low high is =
+    let below : s - 1 < length script.sessions = omega (arith, low, high) in
+    is ∙ (any_default script.sessions (s - 1) a no_session below ∙ place_of no_session no_session script.sessions s low)
 
 -- a group by its start number
 pub from_one : (began : List Began) (n : ℕ) (b : Began) → began_at began n ≡ Some b → 1 ≤ n
@@ -130,6 +145,12 @@ module _ (script : Script) (retries : ℕ) (db : Database) (locks : Locks) (bega
 
       pub within : length x.replies.items + 1 ≤ length (session_at script s).statements
       within = omega (arith, begins_at, bounds.1, bounds.2)
+
+      pub size_fits : (length x.replies.items + 1 < 2 ^ 32) × (length (session_at script s).statements < 2 ^ 32)
+      size_fits =
+          let numbers = (sound.roomy (s - 1) x below at).numbers in
+          let fits : length (session_at script s).statements < 2 ^ 32 = rw here at numbers in
+          (omega (arith, within, fits), fits)
 
       pub ends_at : last_from (length x.replies.items + 1) (session_at script s).statements ≡ by.group.1
       ends_at = ap (λ (k : ℕ). last_from k (session_at script s).statements) (sym begins_at) ∙ last_is script s by.group by.whole
@@ -286,3 +307,60 @@ module _ (script : Script) (retries : ℕ) (db : Database) (locks : Locks) (bega
           begun_sound began_then is begins latest =
               assembled began_then (begins_keeps_all empty_database m sound.kept (are_texts script) s _ begins)
               (subst (λ (bs : List Began). (j : ℕ) (z : SessionSoFar) → j < length sessions_then → slice_index_or sessions_then j z ≡ z → IsRoomy script bs (j + 1) z) (sym is) (roomy_begun latest))
+
+      -- ALL OF IT, as the code has it
+      module _ (entries : Vec Entry) (items : entries.items ≡ history.items) (reserved : length history.items + length sessions ≤ vec_capacity entries)
+          (y : SessionSoFar) (replies : y.replies ≡ x.replies) (first : ℕ) (starts : first ≡ length x.replies.items + 1) where
+        abbrev next_of : List BeganGroup → Machine
+        next_of began_then = seen script retries db locks began_then (slice_set sessions (s - 1) y) entries.items
+
+        abbrev SoundWith : List BeganGroup → Type 0
+        SoundWith began_then = IsSound script retries db locks began_then (slice_set sessions (s - 1) y) entries commits transcripts
+
+        same_items : y.replies.items ≡ x.replies.items
+        same_items = ap (λ (v : Vec Reply). v.items) replies
+
+        same_room : vec_capacity x.replies ≤ vec_capacity y.replies
+        same_room =
+            let same : vec_capacity y.replies ≡ vec_capacity x.replies = ap (λ (v : Vec Reply). vec_capacity v) replies in
+            omega (arith, same)
+
+        pub again_all : (0 < x.latest) → (b : BeganGroup) → b ≡ slice_index_or began (x.latest - 1) b → b.first ≡ first → (last : ℕ) → b.last ≡ last
+            → y.«open» ≡ Some (record { start = x.latest; first = first; last = last; pending = change.Rows [] }) → y.latest ≡ x.latest
+            → Begins m s (next_of began) × SoundWith began
+        again_all some b is b_first last b_last opens latest =
+            let b_starts : b.first ≡ length x.replies.items + 1 = b_first ∙ starts in
+            let ends : last ≡ by.group.1 = sym b_last ∙ its_last some b is b_starts in
+            let begins : Begins m s (seen script retries db locks began (slice_set sessions (s - 1) y) history.items) =
+            goes_again some b is b_starts (seen script retries db locks began (slice_set sessions (s - 1) y) history.items)
+            (seen_again y x.latest first last [] opens same_items starts ends refl) in (
+              subst (λ (es : List Entry). Begins m s (seen script retries db locks began (slice_set sessions (s - 1) y) es)) (sym items) begins,
+              again_sound y x.latest first last [] opens same_items starts ends refl entries items reserved same_room begins latest,
+            )
+
+        pub begun_all : ((x.latest ≡ 0) ⊎ ((b : BeganGroup) × (b ≡ slice_index_or began (x.latest - 1) b) × (b.first ≡ first → ⊥)))
+            → (last : ℕ) → last ≡ last_from first (session_at script s).statements → (deaths : Vec ℕ) → deaths.items ≡ []
+            → (began_then : List BeganGroup) → began_then ≡ began ++ record { session = s; first = first; last = last; deaths = deaths } ∷ []
+            → (start : ℕ) → start ≡ length began_then → y.«open» ≡ Some (record { start = start; first = first; last = last; pending = change.Rows [] }) → y.latest ≡ start
+            → Begins m s (next_of began_then) × SoundWith began_then
+        begun_all other last last_so deaths none began_then then_is start start_is opens latest =
+            let ends : last ≡ by.group.1 = last_so ∙ (ap (λ (k : ℕ). last_from k (session_at script s).statements) starts ∙ ends_at) in
+            let group : ◌≡◌ {A = Group} (first, last) by.group = ap₂ (λ (a b : ℕ). (a, b)) (starts ∙ sym begins_at) ends in
+            let last_began : BeganGroup = record { session = s; first = first; last = last; deaths = deaths } in
+            let is : map began_seen began_then ≡ more m.began s by.group =
+            ap (map began_seen) then_is
+            ∙ (map-append began_seen began (last_began ∷ [])
+            ∙ ap₂ (λ (g : Group) (ds : List ℕ). m.began ++ record { session = s; group = g; deaths = ds } ∷ []) group none) in
+            let number : start ≡ length m.began + 1 =
+            omega (arith, start_is, ap (λ (bs : List BeganGroup). length bs) then_is, length-append began (last_began ∷ []), length-map began began_seen) in
+            let never_so : (x.latest ≡ 0) ⊎ ((b : BeganGroup) × (b ≡ slice_index_or began (x.latest - 1) b) × (b.first ≡ length x.replies.items + 1 → ⊥)) =
+            elim other as (λ _. (x.latest ≡ 0) ⊎ ((b : BeganGroup) × (b ≡ slice_index_or began (x.latest - 1) b) × (b.first ≡ length x.replies.items + 1 → ⊥))) [
+              | inl zero_so ↦ inl zero_so
+              | inr apart ↦ inr (apart.0, apart.1, λ same. apart.2 (same ∙ sym starts))
+            ] in
+            let begins : Begins m s (seen script retries db locks began_then (slice_set sessions (s - 1) y) history.items) =
+            goes_first never_so (seen script retries db locks began_then (slice_set sessions (s - 1) y) history.items)
+            (seen_begun y start first last [] opens same_items starts ends refl began_then is number) in (
+              subst (λ (es : List Entry). Begins m s (seen script retries db locks began_then (slice_set sessions (s - 1) y) es)) (sym items) begins,
+              begun_sound y start first last [] opens same_items starts ends refl entries items reserved same_room began_then is begins (latest ∙ number),
+            )

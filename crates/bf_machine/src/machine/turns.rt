@@ -1,15 +1,18 @@
 //! Groups that begin, and ask for locks.
 
-ghost use Rattle.std.specs.Prelude.{◌≡◌, IfOk, OnErr, OnOk};
+ghost use Rattle.std.specs.Prelude.{◌≡◌, ◌⊎◌, ◌-◌, ◌<◌, ◌≤◌, [], IfOk, IfSome, None, OnErr, OnOk, Some, length, slice_index_or};
 ghost use Rattle.bf_sql.specs.Database.{empty_database};
+ghost use Rattle.bf_machine.specs.declared.so_far.Began.{Began as Group};
+ghost use Rattle.bf_machine.specs.declared.so_far.Pending.TheVariants.{Rows};
 ghost use Rattle.bf_machine.specs.interleaving.Calls.{CanAsk, CanBegin, IsPlace};
 ghost use Rattle.bf_machine.specs.interleaving.Events.{Asks, Begins};
 
 use crate::machine::Machine;
-use crate::so_far::{Began, OpenGroup, Pending, close_at_death, last_of_group, told_count};
+use crate::so_far::{Began, OpenGroup, Pending, SessionSoFar, close_at_death, last_of_group, told_count};
 use bf_base::Memory;
 use bf_locks::{LockAnswer, LockName, Mode};
 use bf_txn::Workspace;
+use std::alloc::Global;
 
 impl Machine {
     /// Begins a session's next group, and makes room for its entry. A group that begins for the first
@@ -28,30 +31,21 @@ impl Machine {
         self.history.reserve(self.sessions.len())?;
         let so_far = &self.sessions[place];
         let first = so_far.replies.len() as u32 + 1;
-        let mut start = so_far.latest;
-        let mut last = first;
-        let died = start > 0 && self.began[start as usize - 1].first == first;
-        if died {
-            last = self.began[start as usize - 1].last;
-        } else {
-            let statements = self.script.sessions.as_slice()[place].statements.as_slice();
-            last = last_of_group(statements, first);
-            self.began.push(Began {
-                session,
-                first,
-                last,
-                deaths: Vec::new(self.alloc),
-            })?;
-            start = self.began.len() as u64;
+        let latest = so_far.latest;
+        if let Some(last) = last_again(&self.began, latest, first) {
+            open_group(self.alloc, &mut self.sessions[place], latest, first, last);
+            return Ok(());
         }
-        let so_far = &mut self.sessions[place];
-        so_far.latest = start;
-        so_far.open = Some(OpenGroup {
-            start,
+        let statements = self.script.sessions.as_slice()[place].statements.as_slice();
+        let last = last_of_group(statements, first);
+        self.began.push(Began {
+            session,
             first,
             last,
-            pending: Pending::Rows(Workspace::new(self.alloc)),
-        });
+            deaths: Vec::new(self.alloc),
+        })?;
+        let start = self.began.len() as u64;
+        open_group(self.alloc, &mut self.sessions[place], start, first, last);
         Ok(())
     }
 
@@ -85,4 +79,41 @@ impl Machine {
         self.locks.free_all(start);
         Ok(answer)
     }
+}
+
+/// The last statement of the group at a statement, if it is the one that began last in its session,
+/// with this start number, or 0 where none has begun: then it begins again.
+fn last_again(began: &[Began], latest: u64, first: u32) -> Option<u32>
+    requires { latest ≤ length began.now }
+    ensures again { IfSome result (λ last. (0 < latest)
+        × (b : Group) × (b ≡ slice_index_or began.now (latest - 1) b)
+        × (b.first ≡ first) × (b.last ≡ last)) }
+    ensures another { result ≡ None → (latest ≡ 0)
+        ⊎ ((b : Group) × (b ≡ slice_index_or began.now (latest - 1) b) × (b.first ≡ first → ⊥)) }
+{
+    if latest == 0 {
+        return None;
+    }
+    let group = &began[latest as usize - 1];
+    if group.first == first {
+        Some(group.last)
+    } else {
+        None
+    }
+}
+
+/// Opens a group of a session, which has written nothing.
+fn open_group(alloc: Global, so_far: &mut SessionSoFar, start: u64, first: u32, last: u32)
+    ensures opened { so_far.new.«open»
+        ≡ Some (record { start = start; first = first; last = last; pending = Rows [] }) }
+    ensures latest { so_far.new.latest ≡ start }
+    ensures replies { so_far.new.replies ≡ so_far.old.replies }
+{
+    so_far.latest = start;
+    so_far.open = Some(OpenGroup {
+        start,
+        first,
+        last,
+        pending: Pending::Rows(Workspace::new(alloc)),
+    });
 }

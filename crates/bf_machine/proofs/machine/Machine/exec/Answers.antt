@@ -1,8 +1,7 @@
 -- The next statement has its reply, and what is pending is seen as before where it has none.
-use Rattle.std.proofs.Common.{◌≡◌, ◌⊎◌, ◌-◌, ◌≤◌, length, subst, sym, ◌∙◌, arith}
+use Rattle.std.proofs.Common.{◌⊎◌, ◌-◌, ◌≤◌, length, subst, sym, ◌∙◌, arith}
 use Rattle.std.specs.Prelude.{slice_set}
 use Rattle.std.proofs.lemmas.List.{length-map}
-use Rattle.bf_tree.specs.declared.bound.Bound.{Bound}
 use Rattle.bf_machine.specs.declared.so_far.SessionSoFar.{SessionSoFar}
 use Rattle.bf_machine.specs.interleaving.Calls.{CanExec, IsPlace}
 use Rattle.bf_machine.specs.interleaving.Events.{Executes, Refuses}
