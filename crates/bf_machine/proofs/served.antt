@@ -9,3 +9,4 @@ pub mod Whole
 pub mod Ran
 pub mod Exclusive
 pub mod Open
+pub mod Locking

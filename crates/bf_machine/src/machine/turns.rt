@@ -8,7 +8,9 @@ ghost use Rattle.bf_machine.specs.interleaving.Calls.{CanAsk, CanBegin, IsPlace}
 ghost use Rattle.bf_machine.specs.interleaving.Events.{Asks, Begins};
 
 use crate::machine::Machine;
-use crate::so_far::{Began, OpenGroup, Pending, SessionSoFar, close_at_death, last_of_group, told_count};
+use crate::so_far::{
+    Began, OpenGroup, Pending, SessionSoFar, close_at_death, last_of_group, told_count,
+};
 use bf_base::Memory;
 use bf_locks::{LockAnswer, LockName, Mode};
 use bf_txn::Workspace;

@@ -1,8 +1,8 @@
 -- A group whose statements have their replies ends.
-use Rattle.std.proofs.Common.{sym, subst}
+use Rattle.std.proofs.Common.{refl, sym, subst}
 use Rattle.bf_sql.specs.Database.{empty_database}
 use Rattle.bf_machine.specs.interleaving.Events.{Reaches, aborts, at_once, commits_now, one_more}
-use Rattle.bf_machine.proofs.served.Goes.{abort_adds_none, abort_goes_on, commit_adds_none, commit_goes_on}
+use Rattle.bf_machine.proofs.served.Events.{serves_not}
 use Rattle.bf_machine.proofs.serving.end_if_answered.Goals as goal
 
 pub returns-then-not-is_answered-clause-reaches : goal.returns-then-not-is_answered-clause-reaches
@@ -18,4 +18,4 @@ pub returns-in-Abort-clause-reaches : goal.returns-in-Abort-clause-reaches
 returns-in-Abort-clause-reaches c = one_more at_once (aborts c.args.session c.abort.ensures)
 
 pub returns-in_default : goal.returns-in_default
-returns-in_default c = ?
+returns-in_default c = record { reaches = at_once; serves = serves_not c.args.machine.now c.args.session; replies = refl }
