@@ -11,3 +11,4 @@ pub mod Ends
 pub mod Standing
 pub mod Stands
 pub mod Current
+pub mod PlacesInGroup
