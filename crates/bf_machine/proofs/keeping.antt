@@ -15,3 +15,4 @@ pub mod Exchanging
 pub mod Executing
 pub mod Lasts
 pub mod Opening
+pub mod PlacesInGroup
