@@ -1,13 +1,13 @@
 //! Sessions served on one thread, in an order that is given, and then to their ends.
 
-ghost use Rattle.std.specs.Prelude.{◌≡◌, ◌≢◌, ℕ, ◌<◌, ◌≤◌, [], IfOk, IfSome, OnOk, None, Ok, false};
+ghost use Rattle.std.specs.Prelude.{◌≡◌, ◌≢◌, ◌⊎◌, ℕ, ◌<◌, ◌≤◌, [], IfOk, IfSome, OnOk, None, Ok, false};
 ghost use Rattle.bf_sql.specs.Database.{empty_database};
 ghost use Rattle.bf_machine.specs.declared.stand.Stand.TheVariants.{Begin, Statement};
-ghost use Rattle.bf_machine.specs.interleaving.Calls.{HasSessionEnded, IsPlace, StandsAs};
+ghost use Rattle.bf_machine.specs.interleaving.Calls.{CanRefuse, HasSessionEnded, IsPlace, StandsAs};
 ghost use Rattle.bf_machine.specs.interleaving.Events.{Reaches};
 ghost use Rattle.bf_machine.specs.interleaving.Kept.{IsKept};
 ghost use Rattle.bf_machine.specs.interleaving.Machines.{Open, open_at};
-ghost use Rattle.bf_machine.specs.interleaving.Serving.{CanGo, CannotGo, HasLocked, IsAlone, IsInSequence, IsServable, IsToLock, IsTurn, IsYoungest, Serves, can_go, deaths_at, unanswered};
+ghost use Rattle.bf_machine.specs.interleaving.Serving.{CanGo, CannotGo, HasLocked, IsAlone, IsBoundNext, IsInSequence, IsServable, IsToLock, IsTurn, IsYoungest, Serves, can_go, deaths_at, unanswered};
 ghost use Rattle.bf_machine.specs.declared.serving.Turn.TheVariants.{Served};
 
 use crate::machine::Machine;
@@ -16,6 +16,7 @@ use bf_base::Memory;
 use bf_bind::bind;
 use bf_locks::{LockAnswer, LockName, Mode};
 use bf_sql::footprint;
+use bf_tree::Bound;
 use std::alloc::Global;
 
 /// How a turn of a session ended.
@@ -72,8 +73,50 @@ fn end_if_answered(machine: &mut Machine, session: u32) -> Result<(), Memory>
     Ok(())
 }
 
-/// Gives a session's next statement its reply: asks for the locks of its footprint in their order,
-/// and ends its group where it is the last.
+/// A session's next statement, as it is bound in the present catalog.
+fn bind_next(
+    alloc: Global,
+    machine: &Machine,
+    session: u32,
+    place: u32,
+) -> Result<Bound, Memory>
+    requires place { IsPlace machine.now.script session }
+    requires kept { IsKept empty_database machine.now }
+    requires servable { IsServable machine.now.script }
+    requires stands { StandsAs machine.now session (Statement place) }
+    ensures { IfOk result (λ bound.
+        ((o : Open) × IsBoundNext machine.now session o bound) ⊎ CanRefuse machine.now session) }
+{
+    let sessions = machine.script().sessions.as_slice();
+    let statement = &sessions[session as usize - 1].statements.as_slice()[place as usize - 1];
+    bind(alloc, statement, machine.catalog(), machine.is_in_block(session))
+}
+
+/// Gives the next statement of a session's open group its reply: asks for the locks of its footprint
+/// in their order, and ends the group where it is the last.
+fn serve_in_group(
+    alloc: Global,
+    machine: &mut Machine,
+    session: u32,
+    bound: &Bound,
+) -> Result<Turn, Memory>
+    requires place { IsPlace machine.old.script session }
+    requires kept { IsKept empty_database machine.old }
+    requires next { (o : Open) × IsBoundNext machine.old session o bound.now }
+    ensures reaches { Reaches empty_database machine.old machine.new }
+    ensures turn { IfOk result (λ turn. IsTurn machine.old session turn machine.new) }
+{
+    let locks = footprint(alloc, bound)?;
+    let turn = lock_all(machine, session, locks.as_slice())?;
+    if turn != Turn::Served {
+        return Ok(turn);
+    }
+    machine.exec(session, bound)?;
+    end_if_answered(machine, session)?;
+    Ok(Turn::Served)
+}
+
+/// Gives a session's next statement its reply, or asks for its locks until one is not granted.
 fn serve(alloc: Global, machine: &mut Machine, session: u32, place: u32) -> Result<Turn, Memory>
     requires place { IsPlace machine.old.script session }
     requires kept { IsKept empty_database machine.old }
@@ -82,19 +125,11 @@ fn serve(alloc: Global, machine: &mut Machine, session: u32, place: u32) -> Resu
     ensures reaches { Reaches empty_database machine.old machine.new }
     ensures turn { IfOk result (λ turn. IsTurn machine.old session turn machine.new) }
 {
-    let sessions = machine.script().sessions.as_slice();
-    let statement = &sessions[session as usize - 1].statements.as_slice()[place as usize - 1];
-    let in_block = machine.is_in_block(session);
-    let bound = bind(alloc, statement, machine.catalog(), in_block)?;
+    let bound = bind_next(alloc, machine, session, place)?;
     if machine.start(session).is_some() {
-        let locks = footprint(alloc, &bound)?;
-        let turn = lock_all(machine, session, locks.as_slice())?;
-        if turn != Turn::Served {
-            return Ok(turn);
-        }
+        return serve_in_group(alloc, machine, session, &bound);
     }
     machine.exec(session, &bound)?;
-    end_if_answered(machine, session)?;
     Ok(Turn::Served)
 }
 

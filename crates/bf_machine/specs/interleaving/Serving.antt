@@ -8,11 +8,14 @@ use Rattle.bf_locks.specs.declared.mode.Mode.{Mode}
 use Rattle.bf_locks.specs.declared.name.LockName.{LockName}
 use Rattle.bf_locks.specs.Locks.{IsJudged, Locks}
 use Rattle.bf_tree.specs.Limits.{is_narrow_script}
+use Rattle.bf_tree.specs.declared.bound.Bound.{Bound}
 use Rattle.bf_tree.specs.declared.history.Entry.{Entry}
 use Rattle.bf_tree.specs.declared.script.Script.{Script}
 use Rattle.bf_tree.specs.declared.statement.Statement.{Statement}
 use Rattle.bf_sql.specs.Database.{empty_database}
-use Rattle.bf_sql.specs.Footprints.{Lock}
+use Rattle.bf_sql.specs.Bound.{bound_of}
+use Rattle.bf_sql.specs.Footprints.{Lock, footprint_of}
+use Rattle.bf_sql.specs.Groups.{ends_block}
 use Rattle.bf_live.specs.OpenGroups.{Holds}
 use Rattle.bf_machine.specs.InOrder.{migrates_nothing}
 use Rattle.bf_machine.specs.Runnable.{phases_rise_from}
@@ -92,6 +95,12 @@ module _ (m : Machine) (s : ℕ) where
     pub later : List Statement
     pub left : rest_of m s o ≡ statement ∷ later
     pub footprint : footprint_in m.db (stands_inside o.replies) statement ≡ locks
+
+  -- as it is bound in the present catalog, and is to be replied to
+  pub record IsBoundNext (o : Open) (bound : Bound) : Type 0 where
+    pub to_lock : IsToLock o (footprint_of bound)
+    pub goes_on : ends_block to_lock.statement ≡ false
+    pub bound_so : bound_of m.db (stands_inside o.replies) to_lock.statement ≡ Some bound
 
   -- the group holds them, and nothing else has changed
   abbrev pub HasLocked : List Lock → Machine → Type 0
