@@ -1,5 +1,5 @@
 -- One session more was looked at.
-use Rattle.std.proofs.Common.{◌≡◌, ◌+◌, ◌≤◌, sym, subst, ◌∙◌, arith, inl, inr}
+use Rattle.std.proofs.Common.{◌+◌, sym, subst, ◌∙◌, arith, inl, inr}
 use Rattle.std.proofs.lemmas.Bool.{cases_eq}
 use Rattle.bf_machine.specs.interleaving.Serving.{CannotGo}
 use Rattle.bf_machine.proofs.serving.first_to_go.Goals as goal

@@ -1,5 +1,5 @@
 -- A group has all its replies where its last statement has one.
-use Rattle.std.proofs.Common.{◌≡◌, ℕ, length, arith}
+use Rattle.std.proofs.Common.{◌≡◌, length, arith}
 use Rattle.bf_machine.proofs.keeping.PlacesInGroup.{answered_there, not_answered}
 use Rattle.bf_machine.proofs.keeping.Stands.{is_there}
 use Rattle.bf_machine.proofs.machine.Machine.is_answered.Goals as goal

@@ -1,5 +1,5 @@
 -- In a block stands what has a reply of its group before it.
-use Rattle.std.proofs.Common.{◌≡◌, ℕ, length, arith}
+use Rattle.std.proofs.Common.{◌≡◌, length, arith}
 use Rattle.bf_machine.proofs.keeping.PlacesInGroup.{block_there, in_no_block}
 use Rattle.bf_machine.proofs.keeping.Stands.{bounds, is_there}
 use Rattle.bf_machine.proofs.machine.Machine.is_in_block.Goals as goal
