@@ -47,7 +47,7 @@ fn is_session(machine: &Machine, session: u32) -> bool {
     1 <= session && session <= machine.session_count()
 }
 
-pub fn look(machine: &Machine, session: u32) -> Option<Look> {
+pub fn look_at(machine: &Machine, session: u32) -> Option<Look> {
     if !is_session(machine, session) {
         return None;
     }
@@ -171,7 +171,7 @@ fn finish(machine: &mut Machine, session: u32) -> Seen {
 }
 
 /// Makes a call, where its condition holds.
-pub fn act(alloc: Global, machine: &mut Machine, act: Act) -> Result<Seen, Memory> {
+pub fn make(alloc: Global, machine: &mut Machine, act: Act) -> Result<Seen, Memory> {
     match act {
         Act::Begin(session) => begin(machine, session),
         Act::Ask(session) => ask(alloc, machine, session),

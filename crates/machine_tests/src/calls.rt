@@ -1,6 +1,6 @@
 //! The calls of a machine, one by one.
 
-use crate::acts::{Act, Look, Seen, act, bound_next, covers, look, reply_at, session_of};
+use crate::acts::{Act, Look, Seen, bound_next, covers, look_at, make, reply_at, session_of};
 use crate::runs::machine_of;
 use bf_base::{Key, Name, Value};
 use bf_locks::{LockName, Mode};
@@ -73,10 +73,10 @@ fn are_made(
     calls: &[(Act, Seen, Stand)],
 ) -> Result<bool, Fail> {
     for (call, seen, stand) in calls {
-        if act(alloc, machine, *call)? != *seen {
+        if make(alloc, machine, *call)? != *seen {
             return Ok(false);
         }
-        let Some(behind) = look(machine, session_of(*call)) else {
+        let Some(behind) = look_at(machine, session_of(*call)) else {
             return Ok(false);
         };
         if behind.stand != *stand {
@@ -126,15 +126,15 @@ fn nothing_has_begun_in_a_new_machine(rt: HostRuntime) -> Result<(), Fail> {
     assert_eq!(rt; machine.session_count(), 5);
     assert_eq!(rt; machine.script().phases, 2);
     assert_eq!(rt; machine.catalog().number, 0);
-    assert_eq!(rt; look(&machine, 1), Some(TO_BEGIN));
+    assert_eq!(rt; look_at(&machine, 1), Some(TO_BEGIN));
     assert_eq!(rt;
-        look(&machine, 2),
+        look_at(&machine, 2),
         Some(Look {
             stand: Stand::Later,
             ..TO_BEGIN
         })
     );
-    assert_eq!(rt; look(&machine, 5), Some(ENDED));
+    assert_eq!(rt; look_at(&machine, 5), Some(ENDED));
     assert!(rt; !covers(&machine, 1, &LockName::Catalog, Mode::IS));
     assert!(rt; reply_at(&machine, 1, 1).is_none());
     let (live, transcripts, history) = machine.into_parts();
@@ -202,8 +202,8 @@ fn a_block_is_looked_at_behind_each_call(rt: HostRuntime) -> Result<(), Fail> {
     let mut machine = machine_of(alloc, SCRIPT, 0)?;
     assert!(rt; are_made(alloc, &mut machine, &SETUP)?);
     for (call, behind) in BLOCK {
-        act(alloc, &mut machine, call)?;
-        assert_eq!(rt; look(&machine, 2), Some(behind));
+        make(alloc, &mut machine, call)?;
+        assert_eq!(rt; look_at(&machine, 2), Some(behind));
     }
     assert!(rt; matches!(reply_at(&machine, 2, 1), Some(Reply::Begun)));
     assert!(rt; matches!(reply_at(&machine, 2, 2), Some(Reply::Updated(1))));
@@ -250,7 +250,7 @@ fn what_is_held_covers_what_is_below_it(rt: HostRuntime) -> Result<(), Fail> {
     let mut machine = machine_of(alloc, SCRIPT, 0)?;
     assert!(rt; are_made(alloc, &mut machine, &SETUP)?);
     for call in [Act::Begin(2), Act::Exec(2), Act::Ask(2)] {
-        act(alloc, &mut machine, call)?;
+        make(alloc, &mut machine, call)?;
     }
     for (modes, is_covered) in COVERED {
         let told = covers_all(alloc, &machine, 2, modes)?;
@@ -258,7 +258,7 @@ fn what_is_held_covers_what_is_below_it(rt: HostRuntime) -> Result<(), Fail> {
     }
     assert!(rt; !covers(&machine, 3, &LockName::Catalog, Mode::IS));
     for call in [Act::Exec(2), Act::Commit(2)] {
-        act(alloc, &mut machine, call)?;
+        make(alloc, &mut machine, call)?;
     }
     assert!(rt; !covers(&machine, 2, &LockName::Catalog, Mode::IS));
     Ok(())
@@ -282,7 +282,7 @@ fn each_statement_is_told_the_last_death(rt: HostRuntime) -> Result<(), Fail> {
     let mut machine = machine_of(alloc, SCRIPT, 0)?;
     assert!(rt; are_made(alloc, &mut machine, &SETUP)?);
     assert!(rt; are_made(alloc, &mut machine, &LAST_DEATH)?);
-    assert_eq!(rt; look(&machine, 3), Some(ENDED));
+    assert_eq!(rt; look_at(&machine, 3), Some(ENDED));
     for statement in [1, 2, 3] {
         let told = reply_at(&machine, 3, statement);
         assert!(rt;
@@ -309,10 +309,10 @@ fn a_block_that_died_has_its_number_again(rt: HostRuntime) -> Result<(), Fail> {
     let mut machine = machine_of(alloc, SCRIPT, 1)?;
     assert!(rt; are_made(alloc, &mut machine, &SETUP)?);
     for call in DEATH {
-        act(alloc, &mut machine, call)?;
+        make(alloc, &mut machine, call)?;
     }
     assert_eq!(rt;
-        look(&machine, 3),
+        look_at(&machine, 3),
         Some(Look {
             stand: Stand::Named(3),
             ..TO_BEGIN
@@ -320,16 +320,16 @@ fn a_block_that_died_has_its_number_again(rt: HostRuntime) -> Result<(), Fail> {
     );
     assert!(rt; reply_at(&machine, 3, 1).is_none());
     for call in [Act::Begin(4), Act::Exec(2), Act::Commit(2)] {
-        act(alloc, &mut machine, call)?;
+        make(alloc, &mut machine, call)?;
     }
-    assert_eq!(rt; look(&machine, 3), Some(TO_BEGIN));
-    act(alloc, &mut machine, Act::Begin(3))?;
+    assert_eq!(rt; look_at(&machine, 3), Some(TO_BEGIN));
+    make(alloc, &mut machine, Act::Begin(3))?;
     let again = Look {
         stand: Stand::Statement(1),
         start: Some(4),
         ..TO_BEGIN
     };
-    assert_eq!(rt; look(&machine, 3), Some(again));
+    assert_eq!(rt; look_at(&machine, 3), Some(again));
     Ok(())
 }
 
@@ -372,10 +372,10 @@ fn a_statement_is_bound_again_behind_a_schema_change(rt: HostRuntime) -> Result<
         (before.catalog, behind.catalog, machine.catalog().number),
         (1, 2, 2)
     );
-    assert_eq!(rt; act(alloc, &mut machine, Act::Exec(2))?, Seen::Done);
+    assert_eq!(rt; make(alloc, &mut machine, Act::Exec(2))?, Seen::Done);
     assert!(rt; matches!(reply_at(&machine, 2, 1), Some(Reply::Rows(rows)) if rows.is_empty()));
     assert_eq!(rt;
-        act(alloc, &mut machine, Act::Commit(2))?,
+        make(alloc, &mut machine, Act::Commit(2))?,
         Seen::Committed(3)
     );
     Ok(())

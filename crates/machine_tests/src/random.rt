@@ -104,7 +104,7 @@ struct Outside {
 }
 
 /// How many replies tell a death, and how many a COMMIT or ROLLBACK in no block.
-fn outside(transcripts: &Transcripts) -> Outside {
+fn count_outside(transcripts: &Transcripts) -> Outside {
     let mut count = Outside {
         deaths: 0,
         strays: 0,
@@ -135,7 +135,7 @@ fn without_entry(play: &Play, history: &History) -> usize {
 
 /// Whether a run is what its own history tells, and its statements without an entry died, or are strays.
 fn is_right(alloc: Global, play: &Play, told: &Told) -> Result<bool, Fail> {
-    let count = outside(&told.0);
+    let count = count_outside(&told.0);
     let others = count.deaths.saturating_add(count.strays);
     let is_whole = is_answered(play, &told.0) && without_entry(play, &told.1) == others;
     Ok(is_whole && is_replayed(alloc, play, told)?)
@@ -151,7 +151,7 @@ fn random_orders_are_replayed(rt: HostRuntime) -> Result<(), Fail> {
             let order = random_order(alloc, &mut seed, play)?;
             let told = run(alloc, text.as_slice(), 15, order.as_slice())?;
             assert!(rt; is_right(alloc, play, &told)?, "{order:?}");
-            assert_eq!(rt; outside(&told.0).deaths, 0, "{order:?}");
+            assert_eq!(rt; count_outside(&told.0).deaths, 0, "{order:?}");
             let once = run(alloc, text.as_slice(), 0, order.as_slice())?;
             assert!(rt; is_right(alloc, play, &once)?, "no retries, {order:?}");
         }
