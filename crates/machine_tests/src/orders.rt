@@ -1,6 +1,6 @@
 //! Scripts whose sessions are served in given orders, and their whole reports.
 
-use crate::runs::report_of;
+use crate::runs::{joined, report_of};
 use std::test::Fail;
 
 /// Two sessions that each change one row in a block, behind one that makes it.
@@ -43,6 +43,24 @@ fn an_older_session_waits_and_a_younger_one_dies(rt: HostRuntime) -> Result<(), 
         let text = report_of(rt.alloc(), TWO_UPDATES.as_bytes(), retries, order)?;
         assert!(rt; text.as_slice() == told.as_bytes(), "{retries} {order:?}");
     }
+    Ok(())
+}
+
+/// The order in which the second session waits, and what is told where a last session reads the row.
+const WAITED: [u32; 9] = [1, 1, 2, 3, 3, 2, 3, 2, 2];
+
+const READ_BEHIND: &str = "1.1 created\n1.2 inserted 1\n2.1 begun\n2.2 updated 1\n2.3 committed 4\n\
+3.1 begun\n3.2 updated 1\n3.3 committed 3\n4.1 rows 1\n4.1 | 2\nentry 1 session 1 from 1 to 1 committed 1\n\
+entry 2 session 1 from 2 to 2 committed 2\nentry 3 session 3 from 1 to 3 committed 3\n\
+entry 4 session 2 from 1 to 3 committed 4\nentry 5 session 4 from 1 to 1 committed 5\n\
+end commits 5 migration none\n";
+
+#[test]
+fn no_update_is_lost(rt: HostRuntime) -> Result<(), Fail> {
+    let alloc = rt.alloc();
+    let script = joined(alloc, &[TWO_UPDATES, " PHASE; SESSION; SELECT n FROM t;"])?;
+    let text = report_of(alloc, script.as_slice(), 0, &WAITED)?;
+    assert!(rt; text.as_slice() == READ_BEHIND.as_bytes());
     Ok(())
 }
 

@@ -3,7 +3,8 @@
 use crate::cases::{Case, is_told};
 use std::test::Fail;
 
-/// The sessions from number 2 on have the start numbers 3, 4 and 5, in the order in which they begin.
+/// The sessions from number 2 on have the start numbers 3, 4 and 5, in the order in which they begin. Where
+/// one waits, it has a second turn before the wait ends, which does nothing either.
 const WAITS: [Case; 5] = [
     Case {
         what: "two updates of one row, one after the other",
@@ -22,7 +23,7 @@ entry 5 session 3 from 4 to 4 committed 5\nend commits 5 migration none\n",
         sessions: "SESSION; BEGIN; SELECT * FROM t; UPDATE t SET n = n + 1; COMMIT; \
 SESSION; BEGIN; SELECT COUNT(*) FROM t; COMMIT;",
         retries: 0,
-        turns: &[2, 3, 2, 3, 2, 3, 2, 2],
+        turns: &[2, 3, 2, 3, 2, 2, 3, 2, 2],
         replies: "2.1 begun\n2.2 rows 3\n2.2 | 1, 0\n2.2 | 2, 0\n2.2 | 3, 0\n2.3 updated 3\n2.4 committed 4\n\
 3.1 begun\n3.2 rows 1\n3.2 | 3\n3.3 committed 3\n",
         entries: "entry 3 session 3 from 1 to 3 committed 3\nentry 4 session 2 from 1 to 4 committed 4\n\
@@ -46,7 +47,7 @@ end commits 4 migration none\n",
         sessions: "SESSION; BEGIN; UPDATE t SET n = 1 WHERE id = 2; UPDATE t SET n = 1 WHERE id = 1; COMMIT; \
 SESSION; BEGIN; UPDATE t SET n = 2 WHERE id = 1; UPDATE t SET n = 2 WHERE id = 2; COMMIT;",
         retries: 0,
-        turns: &[2, 3, 2, 3, 2, 3, 2, 2],
+        turns: &[2, 3, 2, 3, 2, 2, 3, 2, 2],
         replies: "2.1 begun\n2.2 updated 1\n2.3 updated 1\n2.4 committed 3\n3.1 died older 3\n\
 3.2 died older 3\n3.3 died older 3\n3.4 died older 3\n",
         entries: "entry 3 session 2 from 1 to 4 committed 3\nend commits 3 migration none\n",
@@ -57,7 +58,7 @@ SESSION; BEGIN; UPDATE t SET n = 2 WHERE id = 1; UPDATE t SET n = 2 WHERE id = 2
         sessions: "SESSION; BEGIN; UPDATE t SET n = n + 1 WHERE id = 1; COMMIT; SELECT n FROM t WHERE id = 1; \
 SESSION; BEGIN; UPDATE t SET n = 9 WHERE id = 1; SELECT n FROM t WHERE 1 = id;",
         retries: 0,
-        turns: &[2, 3, 3, 2, 3, 2, 2, 2],
+        turns: &[2, 3, 3, 2, 2, 3, 2, 2, 2],
         replies: "2.1 begun\n2.2 updated 1\n2.3 committed 3\n2.4 rows 1\n2.4 | 1\n3.1 begun\n3.2 updated 1\n\
 3.3 rows 1\n3.3 | 9\n",
         entries: "entry 3 session 3 from 1 to 3 rolled back\nentry 4 session 2 from 1 to 3 committed 3\n\
