@@ -11,3 +11,6 @@ pub mod Ran
 pub mod Exclusive
 pub mod Open
 pub mod Locking
+pub mod Binding
+pub mod Replying
+pub mod Turning

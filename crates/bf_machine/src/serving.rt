@@ -4,7 +4,7 @@ ghost use Rattle.std.specs.Prelude.{◌≡◌, ◌≢◌, ◌⊎◌, ℕ, ◌<�
 ghost use Rattle.bf_sql.specs.Database.{empty_database};
 ghost use Rattle.bf_machine.specs.declared.stand.Stand.TheVariants.{Begin, Statement};
 ghost use Rattle.bf_machine.specs.interleaving.Calls.{CanRefuse, HasSessionEnded, IsPlace, StandsAs};
-ghost use Rattle.bf_machine.specs.interleaving.Events.{Reaches};
+ghost use Rattle.bf_machine.specs.interleaving.Events.{Begins, Reaches};
 ghost use Rattle.bf_machine.specs.interleaving.Kept.{IsKept};
 ghost use Rattle.bf_machine.specs.interleaving.Machines.{Open, open_at};
 ghost use Rattle.bf_machine.specs.interleaving.Serving.{CanGo, CannotGo, HasLocked, IsAlone, IsBoundNext, IsInSequence, IsServable, IsToLock, IsTurn, IsYoungest, Serves, can_go, deaths_at, unanswered};
@@ -107,9 +107,9 @@ fn serve_in_group(
     ensures turn { IfOk result (λ turn. IsTurn machine.old session turn machine.new) }
 {
     let locks = footprint(alloc, bound)?;
-    let turn = lock_all(machine, session, locks.as_slice())?;
-    if turn != Turn::Served {
-        return Ok(turn);
+    match lock_all(machine, session, locks.as_slice())? {
+        Turn::Served => {}
+        turn => return Ok(turn),
     }
     machine.exec(session, bound)?;
     end_if_answered(machine, session)?;
@@ -138,9 +138,8 @@ fn begin_if_due(machine: &mut Machine, session: u32) -> Result<Stand, Memory>
     requires place { IsPlace machine.old.script session }
     requires kept { IsKept empty_database machine.old }
     ensures reaches { Reaches empty_database machine.old machine.new }
-    ensures serves { OnOk result (Serves machine.old session machine.new) }
-    ensures replies { OnOk result
-        (unanswered machine.new session ≡ unanswered machine.old session) }
+    ensures begins { OnOk result
+        ((machine.new ≡ machine.old) ⊎ Begins machine.old session machine.new) }
     ensures stands { IfOk result (λ stand. StandsAs machine.new session stand) }
     ensures begun { IfOk result (λ stand. stand ≢ Begin) }
     ensures passed { IfOk result (λ stand. can_go stand ≡ false → machine.new ≡ machine.old) }

@@ -123,7 +123,13 @@ module _ (m : Machine) (kept : IsKept empty_database m) (s : ℕ) where
     end_goes_on = record {
       serves = end_serves m kept (are_texts m.script) s o is r db e same;
       no_more = omega (arith, size_after);
-      goes = inr (o, is, closed_after);
+      goes = elim left as (λ _. (unanswered after s < unanswered m s) ⊎ ((o : Open) × (open_at m s ≡ Some o) × (rest_of m s o ≡ []) × (open_at after s ≡ None))) [
+        | inl nothing ↦ inr (o, is, nothing, closed_after)
+        | inr one ↦
+            let below = left_below m kept (are_texts m.script) s o is c [] one in
+            let some : length (rest_of m s o) ≡ 1 = ap (λ (ss : List Statement). length ss) one in
+            inl (omega (arith, size_after, below, some))
+      ];
     }
 
     end_adds_none : rest_of m s o ≡ [] → unanswered after s ≡ unanswered m s
@@ -182,12 +188,12 @@ module _ (m : Machine) (kept : IsKept empty_database m) (s : ℕ) where
     ]
 
     -- and its group is open
-    pub begin_opens : (next : Machine) → Begins m s next → (o : Open) × (open_at next s ≡ Some o)
-    begin_opens next by = elim by.goes as (λ _. (o : Open) × (open_at next s ≡ Some o)) [
+    pub begin_opens : (next : Machine) → Begins m s next → (o : Open) × (open_at next s ≡ Some o) × (o.replies ≡ [])
+    begin_opens next by = elim by.goes as (λ _. (o : Open) × (open_at next s ≡ Some o) × (o.replies ≡ [])) [
       | inl first ↦
           let o : Open = opened m s (length m.began + 1) by.group in
-          (o, ap (λ (next : Machine). open_at next s) first.1 ∙ set_same None None m.opens s (Some o) place.0 place.1)
+          (o, ap (λ (next : Machine). open_at next s) first.1 ∙ set_same None None m.opens s (Some o) place.0 place.1, refl)
       | inr again ↦
           let o : Open = opened m s again.0 by.group in
-          (o, ap (λ (next : Machine). open_at next s) again.3 ∙ set_same None None m.opens s (Some o) place.0 place.1)
+          (o, ap (λ (next : Machine). open_at next s) again.3 ∙ set_same None None m.opens s (Some o) place.0 place.1, refl)
     ]

@@ -33,7 +33,7 @@ use Rattle.bf_machine.specs.interleaving.Kept.{IsKept}
 use Rattle.bf_machine.specs.interleaving.Machines.{Machine}
 use Rattle.bf_machine.specs.interleaving.Serving.{IsServable}
 
-abbrev is_plain : Statement → Bool
+abbrev pub is_plain : Statement → Bool
 is_plain s = not (is_migrate s)
 
 abbrev IsNarrow : Database → Type 0

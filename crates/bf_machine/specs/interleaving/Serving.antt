@@ -69,11 +69,11 @@ module _ (m : Machine) (s : ℕ) where
     pub deaths : (n : ℕ) → deaths_at next n ≡ deaths_at m n
     pub entries : (more : List Entry) × AllByRecursion (λ e. e.session ≡ s) more × (next.history ≡ m.history ++ more)
 
-  -- a statement more has its reply, or its open group has ended
+  -- a statement more has its reply, or its open group has ended that had all its replies
   pub record HasGoneOn (next : Machine) : Type 0 where
     pub serves : Serves next
     pub no_more : unanswered next s ≤ unanswered m s
-    pub goes : (unanswered next s < unanswered m s) ⊎ ((o : Open) × (open_at m s ≡ Some o) × (open_at next s ≡ None))
+    pub goes : (unanswered next s < unanswered m s) ⊎ ((o : Open) × (open_at m s ≡ Some o) × (rest_of m s o ≡ []) × (open_at next s ≡ None))
 
   -- ASKED: the session's open group, as it stands by then, asks for a lock and has this answer
   pub record IsAsked (answer : LockAnswer) : Type 0 where

@@ -1,8 +1,7 @@
 -- A group that is to begin has begun, and can go on.
-use Rattle.std.proofs.Common.{◌≡◌, ℕ, ◌≤◌, length, refl, sym, subst, arith}
+use Rattle.std.proofs.Common.{sym, subst}
 use Rattle.bf_sql.specs.Database.{empty_database}
 use Rattle.bf_machine.specs.interleaving.Events.{Reaches, at_once, begins, one_more}
-use Rattle.bf_machine.proofs.served.Goes.{begin_adds_none}
 use Rattle.bf_machine.proofs.serving.begin_if_due.Goals as goal
 
 pub returns-then-ne-clause-reaches : goal.returns-then-ne-clause-reaches
@@ -13,7 +12,3 @@ returns-in_err-begin-clause-reaches c = subst (Reaches empty_database c.args.mac
 
 pub returns-clause-reaches : goal.returns-clause-reaches
 returns-clause-reaches c = one_more at_once (begins c.args.session c.in_ok-begin.ensures.begins)
-
-pub returns-clause-replies : goal.returns-clause-replies
-returns-clause-replies c =
-    begin_adds_none c.args.machine.now c.requires.kept c.args.session (c.requires.place.0, omega (arith, c.requires.place.1, c.requires.kept.shaped.opens)) c.begin.new.self c.in_ok-begin.ensures.begins

@@ -1,30 +1,75 @@
-use Rattle.std.proofs.Common.{rules, ◌≡◌, ◌≢◌, ◌⊎◌, ℕ, ◌<◌, ◌≤◌, [], IfOk, IfSome, OnOk, None, Ok, false, ◌+◌, ◌-◌, ◌*◌, length, ◌/◌, ◌%◌, Bool, true, nat_eq, nat_lt, List, ◌∷◌, ◌++◌, slice_index_or, slice_set, bit_and, bit_or, Fits, w8, w32, w64, Bor, MutBor}
-use Rattle.bf_sql.specs.Database.{empty_database}
-use Rattle.bf_machine.specs.declared.stand.Stand.TheVariants.{Begin, Statement}
-use Rattle.bf_machine.specs.interleaving.Calls.{CanRefuse, HasSessionEnded, IsPlace, StandsAs}
-use Rattle.bf_machine.specs.interleaving.Events.{Reaches}
-use Rattle.bf_machine.specs.interleaving.Kept.{IsKept}
-use Rattle.bf_machine.specs.interleaving.Machines.{Open, open_at}
-use Rattle.bf_machine.specs.interleaving.Serving.{CanGo, CannotGo, HasLocked, IsAlone, IsBoundNext, IsInSequence, IsServable, IsToLock, IsTurn, IsYoungest, Serves, can_go, deaths_at, unanswered}
-use Rattle.bf_machine.specs.declared.serving.Turn.TheVariants.{Served}
+-- The statement is bound in the catalog of the machine's database.
+use Rattle.std.proofs.Common.{◌≡◌, ◌⊎◌, ◌-◌, ◌<◌, Bool, List, Some, length, sym, ap, subst, ◌∙◌}
+use Rattle.std.specs.List.{slice_index_or}
+use Rattle.bf_tree.specs.Limits.{KeepsLimits}
+use Rattle.bf_tree.specs.declared.catalog.Catalog.{Catalog}
+use Rattle.bf_tree.specs.declared.script.Script.{Script}
+use Rattle.bf_tree.specs.declared.script.Session.{Session}
+use Rattle.bf_tree.specs.declared.statement.Statement.{Statement}
+use Rattle.bf_sql.specs.Bound.{bound_of, catalog_of, without_rows}
+use Rattle.bf_sql.specs.Database.{IsDatabase}
+use Rattle.bf_sql.specs.Groups.{session_at}
+use Rattle.bf_machine.specs.interleaving.Machines.{Machine}
+use Rattle.bf_machine.specs.interleaving.Serving.{is_in_block}
+use Rattle.bf_live.proofs.statements.Bare.{bare_is_database}
+use Rattle.bf_machine.proofs.served.Binding.{in_ok, next_bound, next_limits, next_planned, next_within, session_read}
 use Rattle.bf_machine.proofs.serving.bind_next.Goals as goal
 
--- src/serving.rt:91:9
 pub bounds-as_slice-place : goal.bounds-as_slice-place
-bounds-as_slice-place c = ?
+bounds-as_slice-place c =
+    let m : Machine = c.args.machine.now in
+    let s = c.args.session in
+    let sessions : c.as_slice-sessions.result.now ≡ m.script.sessions = c.as_slice-sessions.ensures ∙ ap (λ (script : Script). script.sessions) c.script.ensures.script in
+    let read : slice_index_or c.as_slice-sessions.result.now (s - 1) c.index-sessions-session.result ≡ session_at m.script s =
+    ap (λ (xs : List Session). slice_index_or xs (s - 1) c.index-sessions-session.result) sessions ∙ session_read m.script s c.requires.place c.index-sessions-session.result in
+    let text : c.as_slice.result.now ≡ (session_at m.script s).statements = c.as_slice.ensures ∙ ap (λ (x : Session). x.statements) read in
+    let within = next_within m c.requires.kept c.requires.servable s c.args.place c.requires.place c.requires.stands in
+    subst (λ (ss : List Statement). c.args.place - 1 < length ss) (sym text) within.1
 
--- src/serving.rt:92:5
 pub bind-requires-clause-alone : goal.bind-requires-clause-alone
-bind-requires-clause-alone c = ?
+bind-requires-clause-alone c =
+    let m : Machine = c.args.machine.now in
+    let s = c.args.session in
+    let sessions : c.as_slice-sessions.result.now ≡ m.script.sessions = c.as_slice-sessions.ensures ∙ ap (λ (script : Script). script.sessions) c.script.ensures.script in
+    let read : slice_index_or c.as_slice-sessions.result.now (s - 1) c.index-sessions-session.result ≡ session_at m.script s =
+    ap (λ (xs : List Session). slice_index_or xs (s - 1) c.index-sessions-session.result) sessions ∙ session_read m.script s c.requires.place c.index-sessions-session.result in
+    let text : c.as_slice.result.now ≡ (session_at m.script s).statements = c.as_slice.ensures ∙ ap (λ (x : Session). x.statements) read in
+    let here : slice_index_or (session_at m.script s).statements (c.args.place - 1) c.index-as_slice-place.result ≡ c.index-as_slice-place.result =
+    sym (c.index-as_slice-place.is ∙ ap (λ (ss : List Statement). slice_index_or ss (c.args.place - 1) c.index-as_slice-place.result) text) in
+    next_planned m c.requires.kept c.requires.servable s c.args.place c.requires.place c.requires.stands c.index-as_slice-place.result here c.is_in_block.result
 
--- src/serving.rt:92:5
 pub bind-requires-clause-database : goal.bind-requires-clause-database
-bind-requires-clause-database c = ?
+bind-requires-clause-database c =
+    subst (λ (catalog : Catalog). IsDatabase (without_rows catalog)) (sym c.catalog.ensures.catalog) (bare_is_database c.args.machine.now.db c.catalog.ensures.database)
 
--- src/serving.rt:92:5
 pub bind-requires-clause-limits : goal.bind-requires-clause-limits
-bind-requires-clause-limits c = ?
+bind-requires-clause-limits c =
+    let m : Machine = c.args.machine.now in
+    let s = c.args.session in
+    let sessions : c.as_slice-sessions.result.now ≡ m.script.sessions = c.as_slice-sessions.ensures ∙ ap (λ (script : Script). script.sessions) c.script.ensures.script in
+    let read : slice_index_or c.as_slice-sessions.result.now (s - 1) c.index-sessions-session.result ≡ session_at m.script s =
+    ap (λ (xs : List Session). slice_index_or xs (s - 1) c.index-sessions-session.result) sessions ∙ session_read m.script s c.requires.place c.index-sessions-session.result in
+    let text : c.as_slice.result.now ≡ (session_at m.script s).statements = c.as_slice.ensures ∙ ap (λ (x : Session). x.statements) read in
+    let here : slice_index_or (session_at m.script s).statements (c.args.place - 1) c.index-as_slice-place.result ≡ c.index-as_slice-place.result =
+    sym (c.index-as_slice-place.is ∙ ap (λ (ss : List Statement). slice_index_or ss (c.args.place - 1) c.index-as_slice-place.result) text) in
+    subst (λ (catalog : Catalog). KeepsLimits catalog c.index-as_slice-place.result) (sym c.catalog.ensures.catalog)
+    (next_limits m c.requires.kept c.requires.servable s c.args.place c.requires.place c.requires.stands c.index-as_slice-place.result here)
 
--- src/serving.rt:77:1
 pub returns : goal.returns
-returns c = ?
+returns c =
+    let m : Machine = c.args.machine.now in
+    let s = c.args.session in
+    let st = c.index-as_slice-place.result in
+    let sessions : c.as_slice-sessions.result.now ≡ m.script.sessions = c.as_slice-sessions.ensures ∙ ap (λ (script : Script). script.sessions) c.script.ensures.script in
+    let read : slice_index_or c.as_slice-sessions.result.now (s - 1) c.index-sessions-session.result ≡ session_at m.script s =
+    ap (λ (xs : List Session). slice_index_or xs (s - 1) c.index-sessions-session.result) sessions ∙ session_read m.script s c.requires.place c.index-sessions-session.result in
+    let text : c.as_slice.result.now ≡ (session_at m.script s).statements = c.as_slice.ensures ∙ ap (λ (x : Session). x.statements) read in
+    let here : slice_index_or (session_at m.script s).statements (c.args.place - 1) st ≡ st =
+    sym (c.index-as_slice-place.is ∙ ap (λ (ss : List Statement). slice_index_or ss (c.args.place - 1) st) text) in
+    in_ok c.bind.result
+    (λ bound so.
+        let there : bound_of (without_rows (catalog_of m.db)) (is_in_block m s) st ≡ Some bound =
+        subst (λ (catalog : Catalog). bound_of (without_rows catalog) (is_in_block m s) st ≡ Some bound) c.catalog.ensures.catalog
+        (subst (λ (b : Bool). bound_of (without_rows c.catalog.result.now) b st ≡ Some bound) c.is_in_block.ensures so) in
+        next_bound m c.requires.kept c.requires.servable s c.args.place c.requires.place c.requires.stands st here bound there)
+    c.bind.ensures
