@@ -14,3 +14,4 @@ pub mod Locking
 pub mod Binding
 pub mod Replying
 pub mod Turning
+pub mod Ending

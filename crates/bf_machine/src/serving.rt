@@ -1,6 +1,6 @@
 //! Sessions served on one thread, in an order that is given, and then to their ends.
 
-ghost use Rattle.std.specs.Prelude.{◌≡◌, ◌≢◌, ◌⊎◌, ℕ, ◌<◌, ◌≤◌, [], IfOk, IfSome, OnOk, None, Ok, false};
+ghost use Rattle.std.specs.Prelude.{◌≡◌, ◌≢◌, ◌⊎◌, ℕ, ◌<◌, ◌≤◌, [], IfOk, IfSome, OnOk, None, Ok, false, length};
 ghost use Rattle.bf_sql.specs.Database.{empty_database};
 ghost use Rattle.bf_machine.specs.declared.stand.Stand.TheVariants.{Begin, Statement};
 ghost use Rattle.bf_machine.specs.interleaving.Calls.{CanRefuse, HasSessionEnded, IsPlace, StandsAs};
@@ -175,6 +175,20 @@ fn take_turn(alloc: Global, machine: &mut Machine, session: u32) -> Result<Turn,
     }
 }
 
+/// A turn of the session of a number, if it is one of so many.
+fn turn_of(alloc: Global, machine: &mut Machine, count: u32, session: u32) -> Result<(), Memory>
+    requires count { count ≡ length machine.old.script.sessions }
+    requires kept { IsKept empty_database machine.old }
+    requires servable { IsServable machine.old.script }
+    ensures { Reaches empty_database machine.old machine.new }
+{
+    if session == 0 || count < session {
+        return Ok(());
+    }
+    take_turn(alloc, machine, session)?;
+    Ok(())
+}
+
 /// The session whose open group is the youngest, and `None` exactly where none is open. It looks at
 /// each session.
 fn youngest(machine: &Machine) -> Option<u32>
@@ -267,9 +281,7 @@ pub fn in_order(alloc: Global, machine: &mut Machine, order: &[u32]) -> Result<(
 {
     let count = machine.session_count();
     for session in order {
-        if 1 <= *session && *session <= count {
-            take_turn(alloc, machine, *session)?;
-        }
+        turn_of(alloc, machine, count, *session)?;
     }
     end_open_groups(alloc, machine)?;
     end_sessions(alloc, machine)
