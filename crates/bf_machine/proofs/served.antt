@@ -15,3 +15,4 @@ pub mod Binding
 pub mod Replying
 pub mod Turning
 pub mod Ending
+pub mod Begun

@@ -1,17 +1,22 @@
 //! What each event of a machine whose sessions take turns keeps. It is the contract of a function that does nothing.
 
-ghost use Rattle.std.specs.Prelude.{◌≡◌, ℕ, ◌<◌, ◌≤◌, List, Some};
+ghost use Rattle.std.specs.Prelude.{◌≡◌, ℕ, ◌<◌, ◌≤◌, List, Some, IsTrue};
 ghost use Rattle.bf_locks.specs.declared.answer.LockAnswer.{LockAnswer};
 ghost use Rattle.bf_locks.specs.declared.answer.LockAnswer.TheVariants.{Die, Granted, Wait};
 ghost use Rattle.bf_locks.specs.declared.mode.Mode.{Mode};
 ghost use Rattle.bf_locks.specs.declared.name.LockName.{LockName};
 ghost use Rattle.bf_locks.specs.Locks.{IsJudged};
+ghost use Rattle.bf_tree.specs.declared.history.Sweep.TheVariants.{Never};
 ghost use Rattle.bf_tree.specs.declared.script.Script.{Script};
-ghost use Rattle.bf_sql.specs.Database.{Database, IsDatabase};
+ghost use Rattle.bf_sql.specs.Database.{Database, IsDatabase, empty_database};
+ghost use Rattle.bf_machine.specs.InOrder.{IsRunInOrder};
+ghost use Rattle.bf_machine.specs.Runnable.{phases_rise_from};
+ghost use Rattle.bf_machine.specs.interleaving.Calls.{HasSessionEnded, IsPlace};
 ghost use Rattle.bf_machine.specs.interleaving.Events.{Aborts, Asks, Begins, Commits, Executes, LastHasEnded, Reaches, Refuses};
 ghost use Rattle.bf_machine.specs.interleaving.Examples.{YoungerIsRefused};
 ghost use Rattle.bf_machine.specs.interleaving.Kept.{HasEnded, HasStart, IsKept, TranscriptsLegal, fresh};
-ghost use Rattle.bf_machine.specs.interleaving.Machines.{Group, Machine, Open, open_at};
+ghost use Rattle.bf_machine.specs.interleaving.Machines.{Group, Machine, Open, open_at, transcripts_of};
+ghost use Rattle.bf_machine.specs.interleaving.Serving.{IsInSequence};
 
 /// Histories stay legal, open groups replay, locks are consistent and deaths are allowed: in a new machine, and
 /// behind each begin, refusal of a stray COMMIT or ROLLBACK, statement, grant, wait, death, commit and abort. So
@@ -55,4 +60,14 @@ pub fn some_session_goes_on()
 /// that has ended, and is refused then.
 pub fn a_younger_session_is_refused()
     ensures { YoungerIsRefused }
+{}
+
+/// Sessions in sequence run in order. Nothing has happened in a new machine, so it is in sequence; and once each session
+/// of one that is in sequence has ended, its transcripts and history are those of a run in the order of the text.
+pub fn sessions_in_sequence_run_in_order()
+    ensures new { (script : Script) (retries : ℕ) → IsTrue (phases_rise_from 0 script.sessions)
+        → IsInSequence (fresh empty_database script retries) }
+    ensures ran { (m : Machine) → IsKept empty_database m → IsInSequence m
+        → ((s : ℕ) → IsPlace m.script s → HasSessionEnded m s)
+        → IsRunInOrder m.script (transcripts_of m) m.history Never }
 {}

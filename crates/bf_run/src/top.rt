@@ -2,9 +2,9 @@
 
 ghost use Rattle.std.specs.Prelude.{◌≡◌, IfOk, IsTrue, map};
 ghost use Rattle.std.specs.Option.{option_map};
-ghost use Rattle.bf_machine.specs.InOrder.{IsRunInOrder, migrates_nothing};
-ghost use Rattle.bf_tree.specs.Limits.{is_narrow_script};
+ghost use Rattle.bf_machine.specs.InOrder.{IsRunInOrder};
 ghost use Rattle.bf_machine.specs.Runnable.{phases_rise_from};
+ghost use Rattle.bf_machine.specs.interleaving.Serving.{IsServable};
 ghost use Rattle.bf_run.specs.Outcome.{Ends, IsAnswer, fault_text};
 ghost use Rattle.bf_run.specs.Top.{FindsForm, IsAnswerTo, Tells};
 
@@ -14,10 +14,10 @@ use bf_base::{LONGEST_SCRIPT, Memory};
 use bf_form::read_script;
 use bf_io::{ReadError, Sink, Source, read_all, write_whole};
 use bf_lex::{ScriptError, ScriptFault, ScriptKind};
-use bf_machine::{in_order, migrates_nothing};
+use bf_machine::{Machine, in_order, migrates_nothing};
 use bf_parse::script;
 use bf_text::report;
-use bf_tree::Script;
+use bf_tree::{Script, Sweep};
 use std::alloc::Global;
 
 /// The status of a text that is no script, and what is written of its first fault.
@@ -28,15 +28,19 @@ fn answer_fault(alloc: Global, fault: ScriptFault) -> Result<(Status, Vec<u8>), 
     Ok((Status::Script(fault), fault_line(alloc, fault)?))
 }
 
-/// The report of a run of a plain script.
-fn plain_report(alloc: Global, script: &Script) -> Result<Vec<u8>, Memory>
-    requires plain { IsTrue (migrates_nothing script.now) }
-    requires narrow { IsTrue (is_narrow_script script.now) }
-    requires phases { IsTrue (phases_rise_from 0 script.now.sessions) }
-    ensures { IfOk result (λ text. Tells (IsRunInOrder script.now) text.items) }
+/// How often a group begins again after a death. None dies where sessions run one after the other.
+const RETRIES: u16 = 0;
+
+/// The report of a run of a plain script, whose sessions are served one after the other.
+fn plain_report(alloc: Global, script: Script) -> Result<Vec<u8>, Memory>
+    requires servable { IsServable script }
+    requires phases { IsTrue (phases_rise_from 0 script.sessions) }
+    ensures { IfOk result (λ text. Tells (IsRunInOrder script) text.items) }
 {
-    let run = in_order(alloc, script)?;
-    report(alloc, &run.transcripts, &run.history, None, &run.sweep)
+    let mut machine = Machine::new(alloc, script, RETRIES)?;
+    in_order(alloc, &mut machine, &[])?;
+    let (_, transcripts, history) = machine.into_parts();
+    report(alloc, &transcripts, &history, None, &Sweep::Never)
 }
 
 /// The report of a run of a text of the form that migrates one table lazily, if it is one.
@@ -61,7 +65,7 @@ fn answer_text(alloc: Global, text: &[u8]) -> Result<(Status, Vec<u8>), Memory>
         Err(ScriptError::Memory) => return Err(Memory),
     };
     if migrates_nothing(&script) {
-        return Ok((Status::Done, plain_report(alloc, &script)?));
+        return Ok((Status::Done, plain_report(alloc, script)?));
     }
     match form_report(alloc, text)? {
         Some(report) => Ok((Status::Done, report)),

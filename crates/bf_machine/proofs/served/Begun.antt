@@ -1,0 +1,33 @@
+-- A machine in which nothing has happened is in sequence.
+use Rattle.std.proofs.Common.{◌≡◌, ℕ, zero, suc, true, List, [], ◌∷◌, map, Option, None, refl}
+use Rattle.std.specs.List.{slice_index_or}
+use Rattle.std.specs.Option.{option_map_or}
+use Rattle.bf_tree.specs.declared.script.Script.{Script}
+use Rattle.bf_tree.specs.declared.script.Session.{Session}
+use Rattle.bf_sql.specs.Database.{empty_database}
+use Rattle.bf_machine.specs.Runnable.{phases_rise_from}
+use Rattle.bf_machine.specs.interleaving.Kept.{fresh, no_group}
+use Rattle.bf_machine.specs.interleaving.Machines.{Open, open_at}
+use Rattle.bf_machine.specs.interleaving.Serving.{IsInSequence, deaths_at}
+
+none_at : (sessions : List Session) (i : ℕ) → slice_index_or (map no_group sessions) i None ≡ None
+none_at [] i = refl
+none_at (x ∷ sessions) zero = refl
+none_at (x ∷ sessions) (suc i) = none_at sessions i
+
+pub none_open : (script : Script) (retries : ℕ) (s : ℕ) → open_at (fresh empty_database script retries) s ≡ None
+none_open script retries zero = refl
+none_open script retries (suc s) = none_at script.sessions s
+
+none_died : (script : Script) (retries n : ℕ) → deaths_at (fresh empty_database script retries) n ≡ []
+none_died script retries zero = refl
+none_died script retries (suc n) = refl
+
+pub fresh_is_in_sequence : (script : Script) (retries : ℕ) → phases_rise_from 0 script.sessions ≡ true → IsInSequence (fresh empty_database script retries)
+fresh_is_in_sequence script retries phases = record {
+  phases = phases;
+  closed = none_open script retries;
+  no_death = none_died script retries;
+  rises = tt;
+  ended = tt;
+}
