@@ -1,5 +1,5 @@
 -- The answer to a statement of an open group is its reply, and leaves pending what the statement leaves.
-use Rattle.std.proofs.Common.{◌≡◌, ℕ, Bool, true, false, List, [], ◌∷◌, ◌++◌, Option, Some, None, refl, sym, ap, ap₂, subst, ◌∙◌, option_map, unwrap_or}
+use Rattle.std.proofs.Common.{◌≡◌, ℕ, Bool, true, false, List, [], ◌∷◌, ◌++◌, Option, Some, None, refl, sym, ap, subst, ◌∙◌, option_map, unwrap_or}
 use Rattle.std.specs.Prelude.{option_and_then, Result, Ok, Err, IfOk}
 use Rattle.std.proofs.lemmas.Option.{same_Some}
 use Rattle.bf_base.specs.declared.memory.Memory.{Memory}
@@ -31,7 +31,7 @@ use Rattle.bf_live.proofs.statements.Creating.{creates, creates_index}
 use Rattle.bf_live.proofs.statements.InCatalog.{bound_on, on_its_table}
 use Rattle.bf_live.proofs.statements.Seeing.{nothing_written, same_catalog}
 use Rattle.bf_machine.specs.interleaving.Answering.{IsAnswer, IsNext}
-use Rattle.bf_machine.specs.interleaving.Groups.{Pending, Rows, NewTable, NewIndex, left_by, pending_behind, reply_on}
+use Rattle.bf_machine.specs.interleaving.Groups.{Pending, Rows, NewTable, NewIndex, pending_behind, reply_on}
 
 -- nothing objects, or the first objection is the refusal
 objected : (rs : List Refusal) (o : Option Action) (r : Refusal) → unless_objected rs o ≡ Some (action.Refused r) → (o ≡ Some (action.Refused r) → ⊥)

@@ -1,21 +1,19 @@
 -- A machine in which nothing has begun.
-use Rattle.std.proofs.Common.{◌≡◌, ℕ, zero, suc, ◌+◌, ◌^◌, ◌<◌, ◌≤◌, List, [], ◌∷◌, ◌++◌, length, map, Option, Some, None, false, refl, sym, ap, ap₂, subst, ◌∙◌, arith, vec_capacity, option_map}
+use Rattle.std.proofs.Common.{◌≡◌, ℕ, zero, suc, ◌+◌, ◌^◌, ◌<◌, ◌≤◌, List, [], ◌∷◌, ◌++◌, length, map, Option, Some, false, refl, sym, ap, ap₂, subst, ◌∙◌, arith, vec_capacity, option_map}
 use Rattle.std.specs.Prelude.{count_by, is_some, slice_index_or}
 use Rattle.std.specs.FinMap as fin
 use Rattle.std.specs.Global.{Vec}
-use Rattle.bf_locks.specs.Locks.{Locks}
 use Rattle.bf_tree.specs.declared.history.Entry.{Entry}
 use Rattle.bf_tree.specs.declared.reply.Reply.{Reply}
 use Rattle.bf_tree.specs.declared.script.Script.{Script}
 use Rattle.bf_tree.specs.declared.script.Session.{Session}
-use Rattle.bf_sql.specs.Database.{Database, empty_database}
+use Rattle.bf_sql.specs.Database.{empty_database}
 use Rattle.bf_sql.specs.Groups.{no_session, session_at}
 use Rattle.bf_live.proofs.keeps.Statements.{empty_is_database}
-use Rattle.bf_machine.specs.declared.so_far.Began.{Began as BeganGroup}
 use Rattle.bf_machine.specs.declared.so_far.SessionSoFar.{SessionSoFar}
 use Rattle.bf_machine.specs.interleaving.Kept.{IsKept, fresh, no_group, no_replies}
-use Rattle.bf_machine.specs.interleaving.Machines.{Began, Machine, Open, began_at}
-use Rattle.bf_machine.specs.interleaving.Seen.{AreNew, IsLatest, IsNew, IsRoomy, IsSound, began_seen, group_seen, is_open, open_seen, seen, told_before, told_seen}
+use Rattle.bf_machine.specs.interleaving.Machines.{Began, Open, began_at}
+use Rattle.bf_machine.specs.interleaving.Seen.{AreNew, IsNew, IsSound, group_seen, is_open, open_seen, seen, told_before, told_seen}
 use Rattle.bf_machine.proofs.interleaving.New.{new_is_kept}
 
 -- one session more

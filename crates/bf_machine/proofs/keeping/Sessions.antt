@@ -1,11 +1,11 @@
 -- The replies of a session as they stand.
-use Rattle.std.proofs.Common.{◌≡◌, ℕ, zero, suc, ◌-◌, ◌<◌, ◌≤◌, List, [], ◌∷◌, ◌++◌, length, map, take, drop, Option, Some, None, refl, sym, ap, ap₂, subst, ◌∙◌, arith, option_map}
+use Rattle.std.proofs.Common.{◌≡◌, ℕ, zero, suc, ◌-◌, ◌<◌, List, [], ◌∷◌, length, map, Option, Some, None, refl, sym, ap, ap₂, arith, option_map}
 use Rattle.std.specs.Prelude.{zip, slice_index_or}
 use Rattle.std.proofs.lemmas.List.{take-append-drop}
 use Rattle.bf_tree.specs.declared.reply.Reply.{Reply}
 use Rattle.bf_machine.specs.declared.so_far.OpenGroup.{OpenGroup}
 use Rattle.bf_machine.specs.declared.so_far.SessionSoFar.{SessionSoFar}
-use Rattle.bf_machine.specs.interleaving.Machines.{Open, with_replies}
+use Rattle.bf_machine.specs.interleaving.Machines.{with_replies}
 use Rattle.bf_machine.specs.interleaving.Seen.{group_seen, open_seen, told_before, told_seen}
 
 -- those before an open group, with the group's

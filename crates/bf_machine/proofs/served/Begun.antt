@@ -1,13 +1,12 @@
 -- A machine in which nothing has happened is in sequence.
-use Rattle.std.proofs.Common.{◌≡◌, ℕ, zero, suc, true, List, [], ◌∷◌, map, Option, None, refl}
+use Rattle.std.proofs.Common.{◌≡◌, ℕ, zero, suc, true, List, [], ◌∷◌, map, None, refl}
 use Rattle.std.specs.List.{slice_index_or}
-use Rattle.std.specs.Option.{option_map_or}
 use Rattle.bf_tree.specs.declared.script.Script.{Script}
 use Rattle.bf_tree.specs.declared.script.Session.{Session}
 use Rattle.bf_sql.specs.Database.{empty_database}
 use Rattle.bf_machine.specs.Runnable.{phases_rise_from}
 use Rattle.bf_machine.specs.interleaving.Kept.{fresh, no_group}
-use Rattle.bf_machine.specs.interleaving.Machines.{Open, open_at}
+use Rattle.bf_machine.specs.interleaving.Machines.{open_at}
 use Rattle.bf_machine.specs.interleaving.Serving.{IsInSequence, deaths_at}
 
 none_at : (sessions : List Session) (i : ℕ) → slice_index_or (map no_group sessions) i None ≡ None

@@ -1,10 +1,8 @@
 -- A session's next statement, as it is bound in the present catalog.
-use Rattle.std.proofs.Common.{◌≡◌, ◌⊎◌, ℕ, zero, suc, ◌+◌, ◌-◌, ◌<◌, ◌≤◌, Bool, true, false, List, [], ◌∷◌, length, take, drop, Option, Some, None, refl, sym, ap, subst, ◌∙◌, arith, inl, inr, length-append}
+use Rattle.std.proofs.Common.{◌≡◌, ◌⊎◌, ℕ, zero, suc, ◌+◌, ◌-◌, ◌<◌, ◌≤◌, Bool, true, false, List, [], ◌∷◌, length, take, drop, Option, Some, refl, sym, ap, subst, ◌∙◌, arith, inl, inr, length-append}
 use Rattle.std.specs.Prelude.{Result, Ok, Err, IfOk}
 use Rattle.std.specs.Option.{option_map_or}
-use Rattle.std.specs.List.{list_any, slice_index_or}
-use Rattle.std.proofs.lemmas.List.{length-drop}
-use Rattle.std.proofs.lemmas.Bool.{and_parts}
+use Rattle.std.specs.List.{slice_index_or}
 use Rattle.bf_base.specs.Lists.{part}
 use Rattle.bf_base.specs.declared.memory.Memory.{Memory}
 use Rattle.bf_tree.specs.Limits.{KeepsLimits, is_narrow_statement}
@@ -16,12 +14,12 @@ use Rattle.bf_tree.specs.declared.statement.Statement.{Statement}
 use Rattle.bf_sql.specs.Bound.{bound_of, catalog_of, is_planned, without_rows}
 use Rattle.bf_sql.specs.Database.{empty_database}
 use Rattle.bf_sql.specs.Footprints.{catalog_change, footprint_of}
-use Rattle.bf_sql.specs.Groups.{no_session, session_at, statements_in}
+use Rattle.bf_sql.specs.Groups.{no_session, session_at}
 use Rattle.bf_live.proofs.statements.Bare.{same_bound}
-use Rattle.bf_machine.specs.interleaving.Calls.{CanRefuse, GoesOn, IsPlace, StandsAs, replies_at, statements_at}
-use Rattle.bf_machine.specs.interleaving.Events.{rest_of, stands_inside, text_of}
+use Rattle.bf_machine.specs.interleaving.Calls.{CanRefuse, IsPlace, StandsAs, replies_at}
+use Rattle.bf_machine.specs.interleaving.Events.{stands_inside}
 use Rattle.bf_machine.specs.interleaving.Kept.{IsKept}
-use Rattle.bf_machine.specs.interleaving.Machines.{Machine, Open, open_at, told_at, with_replies}
+use Rattle.bf_machine.specs.interleaving.Machines.{Machine, Open, told_at, with_replies}
 use Rattle.bf_machine.specs.interleaving.Serving.{IsBoundNext, IsServable, is_in_block}
 use Rattle.bf_machine.specs.declared.stand.Stand.TheVariants as stand
 use Rattle.bf_machine.proofs.interleaving.Places.{from_one}
@@ -113,7 +111,9 @@ module _ (m : Machine) (kept : IsKept empty_database m) (servable : IsServable m
           let whole : bound_of m.db (is_in_block m s) statement ≡ Some bound = sym (same_bound m.db (is_in_block m s) statement (next_planned (is_in_block m s))) ∙ bound_so in
           let there : bound_of m.db (stands_inside on.o.replies) on.statement ≡ Some bound =
           subst (λ (b : Bool). bound_of m.db b on.statement ≡ Some bound) inside (subst (λ (st : Statement). bound_of m.db (is_in_block m s) st ≡ Some bound) same whole) in
-          inl (on.o, record {
+          inl (
+            on.o,
+            record {
               to_lock = record {
                 current = on.current;
                 is = on.is;
@@ -124,7 +124,8 @@ module _ (m : Machine) (kept : IsKept empty_database m) (servable : IsServable m
               };
               goes_on = on.goes_on;
               bound_so = there;
-            })
+            },
+          )
     ]
 
 pub in_ok : {P Q : Bound → Type 0} (r : Result Bound Memory) → ((bound : Bound) → P bound → Q bound) → IfOk r P → IfOk r Q

@@ -1,5 +1,5 @@
 -- What a turn makes of the groups that are open, and of the statements that are left.
-use Rattle.std.proofs.Common.{◌≡◌, ◌≢◌, ◌⊎◌, ℕ, ◌+◌, ◌-◌, ◌<◌, ◌≤◌, true, false, List, [], ◌++◌, length, Option, Some, None, refl, sym, ap, ap₂, subst, ◌∙◌, arith, inl, inr}
+use Rattle.std.proofs.Common.{◌≡◌, ℕ, ◌+◌, ◌<◌, ◌≤◌, List, [], ◌++◌, length, Option, Some, None, refl, sym, ap, ap₂, subst, ◌∙◌, arith, inl, inr}
 use Rattle.std.specs.Option.{option_map_or}
 use Rattle.std.proofs.lemmas.Bool.{cases_eq}
 use Rattle.bf_locks.specs.declared.answer.LockAnswer.{LockAnswer}
@@ -13,13 +13,12 @@ use Rattle.bf_sql.specs.Groups.{session_at}
 use Rattle.bf_machine.specs.declared.serving.Turn.{Turn}
 use Rattle.bf_machine.specs.declared.serving.Turn.TheVariants as turn
 use Rattle.bf_machine.specs.interleaving.Calls.{IsPlace, replies_at, statements_at}
-use Rattle.bf_machine.specs.interleaving.Events.{Asks, Event, Reaches, aborts, asked, asks, at_once, begins, commits_now, died, executes, finishes, one_more, refuses, rest_of, told_at_death}
+use Rattle.bf_machine.specs.interleaving.Events.{Event, Reaches, aborts, asked, asks, at_once, begins, commits_now, died, executes, finishes, one_more, refuses, told_at_death}
 use Rattle.bf_machine.specs.interleaving.Kept.{IsKept}
 use Rattle.bf_machine.specs.interleaving.Machines.{Machine, Open, open_at, told_at, with_replies}
-use Rattle.bf_machine.specs.interleaving.Serving.{CanGo, CannotGo, HasGoneOn, IsAlone, IsAsked, IsBeside, IsTurn, IsYoungest, Serves, unanswered}
+use Rattle.bf_machine.specs.interleaving.Serving.{CanGo, CannotGo, HasGoneOn, IsAlone, IsBeside, IsTurn, IsYoungest, Serves, unanswered}
 use Rattle.bf_machine.proofs.interleaving.Others.{has_place}
 use Rattle.bf_machine.proofs.interleaving.Places.{set_other, set_same}
-use Rattle.bf_machine.proofs.interleaving.Reaching.{reached_keeps_all}
 use Rattle.bf_machine.proofs.served.Events.{serves_both}
 use Rattle.bf_machine.proofs.served.Exclusive.{one_or_other, open_can}
 use Rattle.bf_machine.proofs.served.Judged.{alone_dies_not, alone_waits_not, youngest_goes_on}
@@ -110,9 +109,9 @@ module _ (m : Machine) (kept : IsKept empty_database m) (s : ℕ) (t : Turn) (ne
     by_beside beside less place =
         total_less (left_open next) (left_open m)
         (λ u. elim (cases_eq u s) as (λ _. left_open next u ≤ left_open m u) [
-            | inl same ↦ subst (λ (v : ℕ). left_open next v ≤ left_open m v) (sym same) (omega (arith, less))
-            | inr apart ↦ let e = same_left m next u script (beside u apart) in omega (arith, e)
-          ])
+          | inl same ↦ subst (λ (v : ℕ). left_open next v ≤ left_open m v) (sym same) (omega (arith, less))
+          | inr apart ↦ let e = same_left m next u script (beside u apart) in omega (arith, e)
+        ])
         s place.0 less (length m.script.sessions) place.1
 
     pub youngest_leaves_less : IsPlace m.script s → total (left_open next) (length m.script.sessions) < total (left_open m) (length m.script.sessions)
@@ -141,9 +140,9 @@ pub serves_less : (m next : Machine) (s : ℕ) → IsPlace m.script s → Serves
 serves_less m next s place serves less =
     total_less (unanswered next) (unanswered m)
     (λ u. elim (cases_eq u s) as (λ _. unanswered next u ≤ unanswered m u) [
-        | inl same ↦ subst (λ (v : ℕ). unanswered next v ≤ unanswered m v) (sym same) (omega (arith, less))
-        | inr apart ↦ let e = same_unanswered m next u serves.script (serves.beside u apart) in omega (arith, e)
-      ])
+      | inl same ↦ subst (λ (v : ℕ). unanswered next v ≤ unanswered m v) (sym same) (omega (arith, less))
+      | inr apart ↦ let e = same_unanswered m next u serves.script (serves.beside u apart) in omega (arith, e)
+    ])
     s place.0 less (length m.script.sessions) place.1
 
 -- where nothing is open, a session's turn and the end of its group

@@ -1,20 +1,19 @@
 -- Each event of a session serves it: it leaves the other sessions as they are, no group dies, and only a group of the session ends.
-use Rattle.std.proofs.Common.{◌≡◌, ◌≢◌, ◌⊎◌, ℕ, zero, suc, ◌+◌, ◌-◌, ◌<◌, ◌≤◌, false, List, [], ◌∷◌, ◌++◌, length, map, Option, Some, None, refl, sym, ap, subst, ◌∙◌, arith, inl, inr, append_assoc, append-nil, length-append}
-use Rattle.std.specs.Prelude.{IsTrue}
+use Rattle.std.proofs.Common.{◌≡◌, ℕ, suc, ◌+◌, ◌<◌, ◌≤◌, List, [], ◌∷◌, ◌++◌, length, map, Option, Some, None, refl, sym, ap, subst, ◌∙◌, arith, inl, inr, append_assoc, append-nil, length-append}
 use Rattle.std.specs.Option.{option_map_or}
-use Rattle.std.specs.List.{AllByRecursion, slice_index_or, slice_set}
-use Rattle.std.proofs.lemmas.List.{length-drop, length-map, map-append}
+use Rattle.std.specs.List.{AllByRecursion}
+use Rattle.std.proofs.lemmas.List.{length-drop, length-map}
 use Rattle.bf_locks.specs.Locks.{Locks}
 use Rattle.bf_tree.specs.declared.history.Entry.{Entry}
 use Rattle.bf_tree.specs.declared.reply.Reply.{Reply}
 use Rattle.bf_tree.specs.declared.statement.Statement.{Statement}
 use Rattle.bf_sql.specs.Database.{Database, empty_database}
-use Rattle.bf_sql.specs.Groups.{is_stray, session_at}
+use Rattle.bf_sql.specs.Groups.{session_at}
 use Rattle.bf_machine.specs.interleaving.Calls.{replies_at, statements_at}
-use Rattle.bf_machine.specs.interleaving.Events.{Aborts, Begins, Commits, Executes, Refuses, begun, begun_again, ended, opened, rest_of, stepped, text_of, with_open}
+use Rattle.bf_machine.specs.interleaving.Events.{Begins, ended, opened, rest_of, text_of, with_open}
 use Rattle.bf_machine.specs.interleaving.Kept.{IsKept, IsOpenGroup}
 use Rattle.bf_machine.specs.interleaving.Machines.{Began, Group, Machine, Open, began_at, open_at, told_at, with_replies}
-use Rattle.bf_machine.specs.interleaving.Serving.{IsBeside, Serves, deaths_at, unanswered}
+use Rattle.bf_machine.specs.interleaving.Serving.{IsBeside, Serves}
 use Rattle.bf_machine.proofs.interleaving.Beginning.{began_then, began_was}
 use Rattle.bf_machine.proofs.interleaving.Others.{has_place}
 use Rattle.bf_machine.proofs.interleaving.Places.{set_same, set_other}

@@ -1,16 +1,15 @@
 -- A session of which a call can come is none of which none can.
-use Rattle.std.proofs.Common.{◌≡◌, ℕ, ◌+◌, ◌<◌, ◌≤◌, Bool, true, false, not, List, [], ◌∷◌, ◌++◌, length, Option, Some, None, refl, sym, ap, subst, ◌∙◌, arith, inl, inr, length-append}
+use Rattle.std.proofs.Common.{◌≡◌, ℕ, ◌+◌, ◌≤◌, true, false, not, List, [], ◌∷◌, ◌++◌, length, Option, Some, None, sym, ap, subst, ◌∙◌, arith, inl, inr, length-append}
 use Rattle.std.specs.Prelude.{Contains}
 use Rattle.std.specs.List.{list_any, slice_index_or}
 use Rattle.std.proofs.lemmas.Bool.{and_parts, false≢true}
 use Rattle.std.proofs.lemmas.Bool.Decides.{nat_tests}
 use Rattle.std.proofs.lemmas.Option.{same_Some}
-use Rattle.bf_tree.specs.declared.statement.Statement.{Statement}
 use Rattle.bf_sql.specs.Database.{empty_database}
-use Rattle.bf_sql.specs.Groups.{ends_block, groups_in, has_statement, is_stray, session_at, statements_in}
+use Rattle.bf_sql.specs.Groups.{ends_block, groups_in, has_statement, is_stray, statements_in}
 use Rattle.bf_machine.specs.declared.stand.Stand.{Stand}
 use Rattle.bf_machine.specs.declared.stand.Stand.TheVariants as stand
-use Rattle.bf_machine.specs.interleaving.Calls.{CanAbort, CanBegin, CanCommit, CanRefuse, GoesOn, HasSessionEnded, IsNamed, IsPlace, StandsAs, replies_at, statements_at}
+use Rattle.bf_machine.specs.interleaving.Calls.{CanBegin, CanRefuse, HasSessionEnded, IsNamed, StandsAs, replies_at}
 use Rattle.bf_machine.specs.interleaving.Kept.{HasStart, IsCurrent, IsKept}
 use Rattle.bf_machine.specs.interleaving.Machines.{Began, Group, Machine, Open, began_at, open_at, told_at, with_replies}
 use Rattle.bf_machine.specs.interleaving.Serving.{CanGo, CannotGo, can_go}

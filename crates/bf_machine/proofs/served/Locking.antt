@@ -1,5 +1,5 @@
 -- The locks of a footprint, asked for one after the other.
-use Rattle.std.proofs.Common.{◌≡◌, ◌≢◌, ℕ, zero, suc, ◌+◌, ◌<◌, true, List, [], ◌∷◌, ◌++◌, length, take, Option, Some, None, refl, sym, ap, ap₂, subst, ◌∙◌, arith}
+use Rattle.std.proofs.Common.{◌≡◌, ℕ, zero, suc, true, List, [], ◌∷◌, ◌++◌, length, take, Option, Some, None, refl, sym, ap, ap₂, subst, ◌∙◌, arith}
 use Rattle.std.specs.Prelude.{Contains, IsSomeAnd, IsTrue}
 use Rattle.std.specs.Option.{option_map_or}
 use Rattle.std.specs.List.{All, slice_index_or}
@@ -7,11 +7,11 @@ use Rattle.std.proofs.lemmas.List.Elements.{All-append}
 use Rattle.std.proofs.lemmas.List.{take_all}
 use Rattle.std.proofs.lemmas.Option.{same_Some}
 use Rattle.bf_locks.specs.declared.answer.LockAnswer.{LockAnswer}
-use Rattle.bf_locks.specs.declared.answer.LockAnswer.TheVariants.{Die, Granted, Wait}
+use Rattle.bf_locks.specs.declared.answer.LockAnswer.TheVariants.{Die, Granted}
 use Rattle.bf_locks.specs.declared.mode.Mode.{Mode}
 use Rattle.bf_locks.specs.declared.mode.Mode.TheVariants.{IS, IX, S, SIX, X}
 use Rattle.bf_locks.specs.declared.name.LockName.{LockName}
-use Rattle.bf_locks.specs.Locks.{IsJudged, Locks, after as locks_after, held, wanted}
+use Rattle.bf_locks.specs.Locks.{IsJudged, Locks, after as locks_after, held}
 use Rattle.bf_locks.specs.Modes.{covers, join_of}
 use Rattle.bf_locks.proofs.Held.{held_granted}
 use Rattle.bf_tree.specs.declared.history.Entry.{Entry}
@@ -21,11 +21,11 @@ use Rattle.bf_sql.specs.History.{replayed}
 use Rattle.bf_live.specs.OpenGroups.{Holds, HoldsIn}
 use Rattle.bf_live.proofs.locking.Granting.{answer_keeps}
 use Rattle.bf_machine.specs.interleaving.Calls.{CanAsk}
-use Rattle.bf_machine.specs.interleaving.Events.{Asks, Reaches, asks, died, one_more, stands_inside}
+use Rattle.bf_machine.specs.interleaving.Events.{Asks, Reaches, died, stands_inside}
 use Rattle.bf_machine.specs.interleaving.Groups.{footprint_in}
 use Rattle.bf_machine.specs.interleaving.Kept.{IsKept}
 use Rattle.bf_machine.specs.interleaving.Machines.{Machine, Open, open_at}
-use Rattle.bf_machine.specs.interleaving.Serving.{HasLocked, IsAsked, IsToLock, Serves}
+use Rattle.bf_machine.specs.interleaving.Serving.{HasLocked, IsAsked, IsToLock}
 use Rattle.bf_machine.proofs.served.Events.{serves_locks}
 
 -- a mode covers itself, and a join its second part

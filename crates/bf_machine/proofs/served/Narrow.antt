@@ -1,29 +1,25 @@
 -- In a script that is served no table of the database is wide, whatever the history, and each statement can be bound.
-use Rattle.std.proofs.Common.{◌≡◌, ℕ, zero, suc, ◌-◌, ◌≤◌, Bool, true, false, not, ◌&&◌, List, [], ◌∷◌, ◌++◌, length, map, take, drop, cond, ◌<◌, refl, sym, ap, ap₂, subst, ◌∙◌, arith}
-use Rattle.std.specs.Prelude.{IsTrue}
+use Rattle.std.proofs.Common.{◌≡◌, ℕ, zero, suc, ◌-◌, Bool, true, false, not, List, [], ◌∷◌, ◌++◌, length, map, take, drop, cond, ◌<◌, refl, sym, ap₂, subst, arith}
 use Rattle.std.specs.List.{list_all, slice_index_or}
 use Rattle.std.proofs.lemmas.Bool.{and_from, and_parts}
 use Rattle.std.proofs.lemmas.Bool.Decides.{nat_tests}
 use Rattle.std.proofs.lemmas.List.{length-map}
-use Rattle.std.proofs.lemmas.List.Folds.{list_all-map}
 use Rattle.bf_base.specs.Lists.{part, same_name}
 use Rattle.bf_base.specs.declared.table.Table.{Table}
 use Rattle.bf_base.specs.declared.value.Value.{Value}
-use Rattle.bf_tree.specs.Limits.{HasNarrowTables, KeepsLimits, declared_columns, is_narrow, is_narrow_statement}
+use Rattle.bf_tree.specs.Limits.{HasNarrowTables, KeepsLimits, is_narrow, is_narrow_statement}
 use Rattle.bf_tree.specs.declared.history.Entry.{Entry}
 use Rattle.bf_tree.specs.declared.history.Outcome.{Outcome}
 use Rattle.bf_tree.specs.declared.history.Outcome.TheVariants.{Committed, RolledBack}
 use Rattle.bf_tree.specs.declared.reply.Refusal.{Refusal}
-use Rattle.bf_tree.specs.declared.reply.Reply.{Reply}
 use Rattle.bf_tree.specs.declared.script.Script.{Script}
 use Rattle.bf_tree.specs.declared.script.Session.{Session}
-use Rattle.bf_tree.specs.declared.statement.ColumnRule.{ColumnRule}
 use Rattle.bf_tree.specs.declared.statement.Statement.{Statement}
 use Rattle.bf_tree.specs.declared.statement.Statement.TheVariants.{CreateTable, CreateIndex, Insert, Select, Update, Delete, Begin, Commit, Rollback, Migrate}
 use Rattle.bf_sql.specs.Bound.{catalog_of, is_planned}
 use Rattle.bf_sql.specs.Database.{Database, Stored, empty_database, with_rows}
 use Rattle.bf_sql.specs.Groups.{no_session, session_at, statements_in, statements_of}
-use Rattle.bf_sql.specs.History.{commits_with, replayed, replayed_behind, run_group, settled}
+use Rattle.bf_sql.specs.History.{commits_with, replayed_behind, run_group, settled}
 use Rattle.bf_sql.specs.Meaning.{created_table, effect, executed, unless_refused}
 use Rattle.bf_sql.specs.Objections.{objections}
 use Rattle.bf_sql.specs.RowObjections.{row_objections}

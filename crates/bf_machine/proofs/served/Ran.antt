@@ -1,11 +1,10 @@
 -- Sessions that were served in sequence to their ends ran in order.
-use Rattle.std.proofs.Common.{◌≡◌, ◌≢◌, ◌⊎◌, ℕ, zero, suc, ◌+◌, ◌-◌, ◌<◌, ◌≤◌, Bool, true, false, cond, not, ◌&&◌, ◌||◌, List, [], ◌∷◌, ◌++◌, length, map, filter, zip, Option, Some, None, refl, sym, ap, ap₂, subst, ◌∙◌, arith, inl, inr}
-use Rattle.std.specs.Prelude.{Contains, IsTrue, find, nat_le, nat_lt, ◌==◌}
+use Rattle.std.proofs.Common.{◌≡◌, ◌≢◌, ℕ, zero, suc, ◌+◌, ◌-◌, ◌<◌, ◌≤◌, Bool, true, false, cond, not, ◌&&◌, ◌||◌, List, [], ◌∷◌, ◌++◌, length, map, filter, zip, Option, Some, None, refl, sym, ap, ap₂, subst, ◌∙◌, arith, inl, inr}
+use Rattle.std.specs.Prelude.{Contains, find, nat_le, nat_lt, ◌==◌}
 use Rattle.std.specs.Option.{option_map_or}
 use Rattle.std.specs.List.{AllByRecursion, list_all, list_any, slice_index_or}
-use Rattle.std.proofs.lemmas.Bool.{and_parts, cases_Bool, false≢true, or_parts}
+use Rattle.std.proofs.lemmas.Bool.{and_parts, cases_Bool, false≢true}
 use Rattle.std.proofs.lemmas.Bool.Decides.{nat_tests}
-use Rattle.std.proofs.lemmas.List.{length-map}
 use Rattle.std.proofs.lemmas.List.Elements.{filter-append}
 use Rattle.bf_base.specs.Lists.{with_before_from}
 use Rattle.bf_tree.specs.Answered.{IsAllAnswered}
@@ -19,12 +18,12 @@ use Rattle.bf_tree.specs.declared.script.Script.{Script}
 use Rattle.bf_tree.specs.declared.script.Session.{Session}
 use Rattle.bf_tree.specs.declared.statement.Statement.{Statement}
 use Rattle.bf_sql.specs.Database.{empty_database}
-use Rattle.bf_sql.specs.Groups.{ends_block, groups_in, has_statement, is_stray, no_session, outcomes_from, session_at, statements_in, statements_of}
+use Rattle.bf_sql.specs.Groups.{ends_block, groups_in, has_statement, no_session, outcomes_from, session_at, statements_in, statements_of}
 use Rattle.bf_sql.specs.History.{IsApart, IsLegalHistory, is_whole_group, may_precede, stands_in}
 use Rattle.bf_machine.specs.InOrder.{IsRunInOrder, NoCause, entries_in_order, entry_of, groups_in_order, none_open}
 use Rattle.bf_machine.specs.interleaving.Calls.{HasSessionEnded, IsPlace}
 use Rattle.bf_machine.specs.interleaving.Kept.{AllowedNow, IsKept}
-use Rattle.bf_machine.specs.interleaving.Machines.{Began, Group, Machine, Open, began_at, open_at, told_at, transcripts_of, with_replies}
+use Rattle.bf_machine.specs.interleaving.Machines.{Began, Group, Machine, Open, open_at, told_at, transcripts_of, with_replies}
 use Rattle.bf_machine.specs.interleaving.Serving.{IsInSequence, SessionsRiseFrom, deaths_at}
 use Rattle.bf_machine.proofs.interleaving.Answers.{Told, all_of_back, all_of_front, told_from, told_in}
 use Rattle.bf_machine.proofs.interleaving.Entries.{any_of}

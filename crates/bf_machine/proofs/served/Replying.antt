@@ -1,17 +1,15 @@
 -- A statement whose locks are held has its reply.
-use Rattle.std.proofs.Common.{◌≡◌, ◌⊎◌, ℕ, ◌<◌, ◌≤◌, List, Option, Some, None, refl, sym, ap, subst, ◌∙◌, arith, inl, inr}
+use Rattle.std.proofs.Common.{◌≡◌, ◌⊎◌, ℕ, ◌<◌, Some, None, refl, sym, ap, subst, ◌∙◌, arith, inl, inr}
 use Rattle.std.proofs.lemmas.Option.{same_Some}
-use Rattle.bf_locks.specs.Locks.{Locks}
 use Rattle.bf_tree.specs.declared.bound.Bound.{Bound}
 use Rattle.bf_sql.specs.Database.{empty_database}
 use Rattle.bf_sql.specs.Footprints.{footprint_of}
 use Rattle.bf_live.specs.OpenGroups.{Holds}
-use Rattle.bf_machine.specs.interleaving.Calls.{CanExec, CanRefuse}
+use Rattle.bf_machine.specs.interleaving.Calls.{CanExec}
 use Rattle.bf_machine.specs.interleaving.Events.{Event, Executes, Reaches, Refuses, at_once, executes, one_more, refuses, stepped, with_open}
 use Rattle.bf_machine.specs.interleaving.Kept.{IsKept}
 use Rattle.bf_machine.specs.interleaving.Machines.{Machine, Open, open_at}
 use Rattle.bf_machine.specs.interleaving.Serving.{HasGoneOn, HasLocked, IsBoundNext, Serves, unanswered}
-use Rattle.bf_machine.proofs.interleaving.Reaching.{reached_keeps_all}
 use Rattle.bf_machine.proofs.served.Events.{serves_both, serves_locks}
 use Rattle.bf_machine.proofs.served.Goes.{exec_goes_on, refuse_goes_on}
 

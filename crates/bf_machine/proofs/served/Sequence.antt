@@ -1,5 +1,5 @@
 -- Sessions that are served one after the other stay in sequence.
-use Rattle.std.proofs.Common.{◌≡◌, ◌≢◌, ◌⊎◌, ℕ, zero, suc, ◌+◌, ◌<◌, ◌≤◌, Bool, true, false, List, [], ◌∷◌, ◌++◌, length, Option, Some, None, refl, sym, ap, subst, ◌∙◌, arith, inl, inr, length-append}
+use Rattle.std.proofs.Common.{◌≡◌, ℕ, zero, suc, ◌+◌, ◌<◌, ◌≤◌, true, false, List, [], ◌∷◌, ◌++◌, length, Option, None, sym, ap, subst, ◌∙◌, arith, inl, inr, length-append}
 use Rattle.std.specs.Prelude.{IsTrue, nat_le}
 use Rattle.std.specs.List.{AllByRecursion, slice_index_or}
 use Rattle.std.specs.Option.{option_map_or}
@@ -9,17 +9,15 @@ use Rattle.bf_tree.specs.declared.history.Entry.{Entry}
 use Rattle.bf_tree.specs.declared.script.Script.{Script}
 use Rattle.bf_tree.specs.declared.script.Session.{Session}
 use Rattle.bf_tree.specs.declared.reply.Reply.{Reply}
-use Rattle.bf_tree.specs.declared.statement.Statement.{Statement}
-use Rattle.bf_sql.specs.Database.{empty_database}
 use Rattle.bf_sql.specs.Groups.{no_session, session_at}
 use Rattle.bf_machine.specs.Runnable.{phases_rise_from}
 use Rattle.bf_machine.specs.declared.stand.Stand.{Stand}
 use Rattle.bf_machine.specs.declared.stand.Stand.TheVariants as stand
-use Rattle.bf_machine.specs.interleaving.Calls.{HasSessionEnded, IsNamed, IsPlace, StandsAs, statements_at}
-use Rattle.bf_machine.specs.interleaving.Kept.{HasStart, IsCurrent, phase_of}
-use Rattle.bf_machine.specs.interleaving.Machines.{Began, Machine, Open, began_at, open_at, told_at}
+use Rattle.bf_machine.specs.interleaving.Calls.{HasSessionEnded, IsPlace, StandsAs, statements_at}
+use Rattle.bf_machine.specs.interleaving.Kept.{IsCurrent, phase_of}
+use Rattle.bf_machine.specs.interleaving.Machines.{Began, Machine, open_at, told_at}
 use Rattle.bf_machine.specs.interleaving.Serving.{CannotGo, IsInSequence, Serves, SessionsRiseFrom, can_go, deaths_at}
-use Rattle.bf_machine.proofs.served.Stuck.{IsNoPlace, place_or_none}
+use Rattle.bf_machine.proofs.served.Stuck.{place_or_none}
 
 -- phases rise with sessions
 abbrev phase_at : List Session → ℕ → ℕ

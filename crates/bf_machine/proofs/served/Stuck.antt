@@ -1,22 +1,20 @@
 -- Where no call of any session can come, each has ended: the oldest group that is to begin again may begin, and the first phase that has
 -- not ended is the current one.
-use Rattle.std.proofs.Common.{◌≡◌, ◌≢◌, ◌⊎◌, ℕ, zero, suc, ◌+◌, ◌<◌, ◌≤◌, Bool, true, false, List, [], ◌∷◌, ◌++◌, length, Option, Some, None, refl, sym, ap, subst, ◌∙◌, arith, inl, inr, length-append}
-use Rattle.std.specs.Prelude.{Contains, nat_lt, nat_le}
+use Rattle.std.proofs.Common.{◌≡◌, ◌⊎◌, ℕ, zero, suc, ◌+◌, ◌<◌, ◌≤◌, false, List, [], ◌∷◌, ◌++◌, length, None, refl, sym, ap, subst, ◌∙◌, arith, inl, inr, length-append}
+use Rattle.std.specs.Prelude.{Contains, nat_le}
 use Rattle.std.specs.List.{slice_index_or}
 use Rattle.std.proofs.lemmas.Bool.{cases_Bool}
 use Rattle.std.proofs.lemmas.Bool.Decides.{nat_tests}
 use Rattle.bf_tree.specs.declared.script.Script.{Script}
 use Rattle.bf_tree.specs.declared.script.Session.{Session}
-use Rattle.bf_tree.specs.declared.statement.Statement.{Statement}
 use Rattle.bf_sql.specs.Database.{empty_database}
 use Rattle.bf_sql.specs.Groups.{groups_in, no_session, session_at}
 use Rattle.bf_machine.specs.declared.stand.Stand.{Stand}
 use Rattle.bf_machine.specs.declared.stand.Stand.TheVariants as stand
 use Rattle.bf_machine.specs.interleaving.Calls.{HasSessionEnded, IsNamed, IsPlace, StandsAs}
 use Rattle.bf_machine.specs.interleaving.Kept.{HasBegun, HasEnded, HasStart, IsCurrent, IsKept, phase_of}
-use Rattle.bf_machine.specs.interleaving.Machines.{Group, Machine, Open, open_at, told_at}
-use Rattle.bf_machine.specs.interleaving.Serving.{CannotGo, IsInSequence, can_go}
-use Rattle.bf_machine.proofs.interleaving.Places.{there_in}
+use Rattle.bf_machine.specs.interleaving.Machines.{Group, Machine, open_at, told_at}
+use Rattle.bf_machine.specs.interleaving.Serving.{CannotGo, can_go}
 use Rattle.bf_machine.proofs.interleaving.Progress.{oldest_may_begin}
 use Rattle.bf_machine.proofs.interleaving.Texts.{AreTexts, one_first}
 

@@ -1,5 +1,5 @@
 -- A turn is taken behind the begin of a group.
-use Rattle.std.proofs.Common.{◌≡◌, ◌⊎◌, ℕ, ◌<◌, ◌≤◌, List, [], length, drop, Option, Some, None, refl, sym, ap, subst, ◌∙◌, arith, inl, inr}
+use Rattle.std.proofs.Common.{◌≡◌, ◌⊎◌, ℕ, ◌<◌, ◌≤◌, List, [], length, drop, Some, None, sym, ap, subst, ◌∙◌, arith, inl, inr}
 use Rattle.std.proofs.lemmas.Option.{same_Some}
 use Rattle.bf_locks.specs.declared.answer.LockAnswer.{LockAnswer}
 use Rattle.bf_locks.specs.declared.answer.LockAnswer.TheVariants.{Die, Wait}
@@ -10,10 +10,10 @@ use Rattle.bf_sql.specs.Groups.{session_at}
 use Rattle.bf_machine.specs.declared.serving.Turn.{Turn}
 use Rattle.bf_machine.specs.declared.serving.Turn.TheVariants as turn
 use Rattle.bf_machine.specs.interleaving.Calls.{IsPlace}
-use Rattle.bf_machine.specs.interleaving.Events.{Begins, Reaches, begins, at_once, one_more, rest_of, text_of}
+use Rattle.bf_machine.specs.interleaving.Events.{Begins, begins, at_once, one_more, rest_of, text_of}
 use Rattle.bf_machine.specs.interleaving.Kept.{IsKept}
 use Rattle.bf_machine.specs.interleaving.Machines.{Machine, Open, open_at}
-use Rattle.bf_machine.specs.interleaving.Serving.{CannotGo, HasGoneOn, IsAsked, IsTurn, Serves, unanswered}
+use Rattle.bf_machine.specs.interleaving.Serving.{HasGoneOn, IsAsked, IsTurn, Serves, unanswered}
 use Rattle.bf_machine.proofs.interleaving.Telling.{length-part}
 use Rattle.bf_machine.proofs.interleaving.Texts.{are_texts}
 use Rattle.bf_machine.proofs.served.Events.{begin_serves, serves_both}

@@ -1,25 +1,16 @@
 -- Where sessions were served in sequence to their ends, the history has the entries of a run in order: the groups of the text, one
 -- session after the other, each once.
-use Rattle.std.proofs.Common.{◌≡◌, ◌⊎◌, ℕ, zero, suc, ◌+◌, ◌-◌, ◌<◌, ◌≤◌, Bool, true, false, cond, not, ◌&&◌, ◌||◌, List, [], ◌∷◌, ◌++◌, length, map, filter, zip, Option, Some, None, refl, sym, ap, ap₂, subst, ◌∙◌, arith, inl, inr}
-use Rattle.std.specs.Prelude.{Contains, IsTrue, find, nat_le, nat_lt, ◌==◌}
-use Rattle.std.specs.Option.{option_map_or}
-use Rattle.std.specs.List.{AllByRecursion, enumerate_from, flat_map, list_all, list_any, range_with_len, slice_index_or}
-use Rattle.std.proofs.lemmas.Bool.{and_parts, cases_Bool, or_parts}
+use Rattle.std.proofs.Common.{◌≡◌, ◌⊎◌, ℕ, zero, suc, ◌+◌, ◌-◌, ◌<◌, ◌≤◌, Bool, List, [], ◌∷◌, ◌++◌, length, map, None, refl, sym, ap, ap₂, subst, ◌∙◌, arith, inl, inr}
+use Rattle.std.specs.Prelude.{Contains, nat_le}
+use Rattle.std.specs.List.{AllByRecursion, flat_map, range_with_len}
+use Rattle.std.proofs.lemmas.Bool.{cases_Bool}
 use Rattle.std.proofs.lemmas.Bool.Decides.{nat_tests}
-use Rattle.bf_base.specs.Lists.{with_before, with_before_from}
-use Rattle.bf_tree.specs.Answered.{IsAllAnswered}
-use Rattle.bf_tree.specs.declared.history.Entry.{Entry}
-use Rattle.bf_tree.specs.declared.history.Outcome.{Outcome}
-use Rattle.bf_tree.specs.declared.reply.Cause.{Cause}
-use Rattle.bf_tree.specs.declared.reply.Cause.TheVariants.{Died}
-use Rattle.bf_tree.specs.declared.reply.Reply.{Reply}
 use Rattle.bf_tree.specs.declared.script.Script.{Script}
-use Rattle.bf_tree.specs.declared.script.Session.{Session}
 use Rattle.bf_tree.specs.declared.statement.Statement.{Statement}
 use Rattle.bf_machine.specs.interleaving.Machines.{Group}
 use Rattle.bf_sql.specs.Groups.{groups_from, groups_in, session_at}
 use Rattle.bf_machine.proofs.interleaving.Texts.{From, low}
-use Rattle.bf_machine.proofs.order.Groups.{IsGroup, IsStray, by_groups}
+use Rattle.bf_machine.proofs.order.Groups.{IsGroup, by_groups}
 
 -- a group with its session
 abbrev pub Placed : Type 0

@@ -1,7 +1,5 @@
 -- A statement of an open group, and the end of the group, on the live tables.
-use Rattle.std.specs.Prelude.{◌≡◌, ◌⊎◌, ℕ, Bool, true, false, List, [], Option, Some}
-use Rattle.bf_tree.specs.declared.bound.Action.{Action}
-use Rattle.bf_tree.specs.declared.bound.Action.TheVariants as action
+use Rattle.std.specs.Prelude.{◌≡◌, Bool, false, List, [], Some}
 use Rattle.bf_tree.specs.declared.bound.Bound.{Bound}
 use Rattle.bf_tree.specs.declared.reply.Reply.{Reply}
 use Rattle.bf_tree.specs.declared.statement.Statement.{Statement}
@@ -10,7 +8,7 @@ use Rattle.bf_sql.specs.Database.{Database, IsDatabase}
 use Rattle.bf_sql.specs.Groups.{ends_block}
 use Rattle.bf_live.specs.Open.{IsOpen}
 use Rattle.bf_txn.specs.declared.write.Write.{Write}
-use Rattle.bf_machine.specs.interleaving.Groups.{Pending, Rows, NewTable, NewIndex, left_by, pending_behind, reply_on}
+use Rattle.bf_machine.specs.interleaving.Groups.{Pending, Rows, left_by, pending_behind, reply_on}
 
 -- a statement that ends no group is bound in the catalog; outside a block nothing is written before it
 pub record IsNext (db : Database) (writes : List Write) (bound : Bound) (in_block : Bool) (s : Statement) : Type 0 where

@@ -2,14 +2,13 @@
 use Rattle.std.proofs.Common.{◌≡◌, List, sym, ap, subst, ◌∙◌}
 use Rattle.std.specs.Prelude.{IfOk}
 use Rattle.bf_tree.specs.declared.bound.Action.TheVariants as action
-use Rattle.bf_tree.specs.declared.reply.Reply.{Reply}
 use Rattle.bf_tree.specs.declared.reply.Reply.TheVariants as reply
 use Rattle.bf_txn.specs.declared.write.Write.{Write}
 use Rattle.bf_live.specs.Actions.{IsOn}
 use Rattle.bf_live.specs.Live.{committed}
 use Rattle.bf_live.specs.Open.{IsOpen}
 use Rattle.bf_live.proofs.statements.OnTables.{of_table}
-use Rattle.bf_machine.specs.interleaving.Answering.{IsAnswer, IsNext}
+use Rattle.bf_machine.specs.interleaving.Answering.{IsAnswer}
 use Rattle.bf_machine.specs.interleaving.Groups.{Pending, Rows, NewTable, NewIndex}
 use Rattle.bf_machine.specs.interleaving.Seen.{pending_seen}
 use Rattle.bf_machine.proofs.keeping.Answered.{answer_of, answers_of, begun_answer, index_answer, is_on_table, refused_answer, stays_of, table_answer}

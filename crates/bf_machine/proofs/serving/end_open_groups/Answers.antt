@@ -1,9 +1,9 @@
 -- The youngest open group goes on or ends; where it is alone, its session is served.
-use Rattle.std.proofs.Common.{◌≡◌, ◌≢◌, ◌⊎◌, ℕ, ◌<◌, ◌≤◌, [], Some, None, length, refl, sym, ap, subst, ◌∙◌, arith, inl, inr}
+use Rattle.std.proofs.Common.{◌≡◌, ◌≢◌, ℕ, ◌<◌, ◌≤◌, Some, None, length, refl, sym, ap, subst, ◌∙◌, arith, inl, inr}
 use Rattle.std.proofs.lemmas.Bool.{cases_eq}
 use Rattle.bf_tree.specs.declared.script.Script.{Script}
 use Rattle.bf_sql.specs.Database.{empty_database}
-use Rattle.bf_machine.specs.interleaving.Events.{Reaches, at_once}
+use Rattle.bf_machine.specs.interleaving.Events.{at_once}
 use Rattle.bf_machine.specs.interleaving.Kept.{IsKept}
 use Rattle.bf_machine.specs.interleaving.Machines.{Machine, open_at}
 use Rattle.bf_machine.specs.interleaving.Serving.{HasGoneOn, IsAlone, IsServable, Serves, unanswered}

@@ -1,6 +1,5 @@
 -- The machine is one that events reach. Where one group alone was open, its session is served; where none was, nothing has happened.
-use Rattle.std.proofs.Common.{◌≡◌, ℕ, ◌+◌, ◌≤◌, None, length}
-use Rattle.std.specs.Option.{option_map_or}
+use Rattle.std.proofs.Common.{◌≡◌, ℕ, ◌≤◌, None, length}
 use Rattle.bf_sql.specs.Database.{empty_database}
 use Rattle.bf_machine.specs.interleaving.Events.{Reaches}
 use Rattle.bf_machine.specs.interleaving.Machines.{open_at}

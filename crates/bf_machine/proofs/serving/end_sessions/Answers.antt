@@ -1,11 +1,11 @@
 -- The first session that can go on is served until its group has ended; where none can, each has ended.
-use Rattle.std.proofs.Common.{◌≡◌, ◌≢◌, ◌⊎◌, ℕ, ◌<◌, ◌≤◌, Some, None, length, refl, sym, subst, ◌∙◌, arith, inl, inr}
+use Rattle.std.proofs.Common.{◌<◌, length, refl, sym, subst, ◌∙◌}
 use Rattle.bf_tree.specs.declared.script.Script.{Script}
 use Rattle.bf_sql.specs.Database.{empty_database}
-use Rattle.bf_machine.specs.interleaving.Events.{Reaches, at_once}
+use Rattle.bf_machine.specs.interleaving.Events.{at_once}
 use Rattle.bf_machine.specs.interleaving.Kept.{IsKept}
-use Rattle.bf_machine.specs.interleaving.Machines.{Machine, open_at}
-use Rattle.bf_machine.specs.interleaving.Serving.{HasGoneOn, IsAlone, IsServable, Serves, unanswered}
+use Rattle.bf_machine.specs.interleaving.Machines.{Machine}
+use Rattle.bf_machine.specs.interleaving.Serving.{IsServable, unanswered}
 use Rattle.bf_machine.proofs.interleaving.Reaching.{reached_keeps_all}
 use Rattle.bf_machine.proofs.interleaving.Texts.{are_texts}
 use Rattle.bf_machine.proofs.served.Ending.{none_of, reached_script, served_to_end, serves_less}

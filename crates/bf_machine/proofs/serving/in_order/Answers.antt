@@ -1,11 +1,10 @@
 -- The turns of the order, the open groups, and the rest.
-use Rattle.std.proofs.Common.{◌≡◌, ℕ, ◌<◌, List, [], None, length, refl, sym, ap, subst, ◌∙◌, arith}
+use Rattle.std.proofs.Common.{◌≡◌, ℕ, List, None, length, refl, sym, ap, subst, ◌∙◌, arith}
 use Rattle.std.specs.Prelude.{Result, Ok, Err, OnOk}
 use Rattle.bf_base.specs.declared.memory.Memory.{Memory}
 use Rattle.bf_tree.specs.declared.script.Script.{Script}
 use Rattle.bf_sql.specs.Database.{empty_database}
-use Rattle.bf_machine.specs.interleaving.Events.{Reaches, at_once}
-use Rattle.bf_machine.specs.interleaving.Kept.{IsKept}
+use Rattle.bf_machine.specs.interleaving.Events.{at_once}
 use Rattle.bf_machine.specs.interleaving.Machines.{Machine, open_at}
 use Rattle.bf_machine.specs.interleaving.Serving.{IsInSequence, IsServable, deaths_at}
 use Rattle.bf_machine.proofs.interleaving.Reaching.{reached_keeps_all}
@@ -77,10 +76,10 @@ returns-clause-no_death c =
     let m : Machine = c.args.machine.now in
     on_ok c.end_sessions.result
     (λ deaths empty closed n.
-        let here : c.loop-session.machine ≡ m = c.loop-session.invariant.nothing empty in
-        let none : (s : ℕ) → open_at c.loop-session.machine s ≡ None = λ s. ap (λ (k : Machine). open_at k s) here ∙ closed s in
-        let same : c.end_open_groups.new.machine ≡ m = c.in_ok-end_open_groups.ensures.nothing none ∙ here in
-        deaths n ∙ ap (λ (k : Machine). deaths_at k n) same)
+    let here : c.loop-session.machine ≡ m = c.loop-session.invariant.nothing empty in
+    let none : (s : ℕ) → open_at c.loop-session.machine s ≡ None = λ s. ap (λ (k : Machine). open_at k s) here ∙ closed s in
+    let same : c.end_open_groups.new.machine ≡ m = c.in_ok-end_open_groups.ensures.nothing none ∙ here in
+    deaths n ∙ ap (λ (k : Machine). deaths_at k n) same)
     c.end_sessions.ensures.deaths
 
 pub returns-clause-sequence : goal.returns-clause-sequence
@@ -88,8 +87,8 @@ returns-clause-sequence c =
     let m : Machine = c.args.machine.now in
     on_ok c.end_sessions.result
     (λ stays empty sequence.
-        let here : c.loop-session.machine ≡ m = c.loop-session.invariant.nothing empty in
-        let none : (s : ℕ) → open_at c.loop-session.machine s ≡ None = λ s. ap (λ (k : Machine). open_at k s) here ∙ sequence.closed s in
-        let same : c.end_open_groups.new.machine ≡ m = c.in_ok-end_open_groups.ensures.nothing none ∙ here in
-        stays (subst IsInSequence (sym same) sequence))
+    let here : c.loop-session.machine ≡ m = c.loop-session.invariant.nothing empty in
+    let none : (s : ℕ) → open_at c.loop-session.machine s ≡ None = λ s. ap (λ (k : Machine). open_at k s) here ∙ sequence.closed s in
+    let same : c.end_open_groups.new.machine ≡ m = c.in_ok-end_open_groups.ensures.nothing none ∙ here in
+    stays (subst IsInSequence (sym same) sequence))
     c.end_sessions.ensures.sequence

@@ -1,5 +1,5 @@
 -- Each lock that is granted is held; at a wait or a death the turn ends.
-use Rattle.std.proofs.Common.{◌≡◌, ℕ, ◌+◌, arith, ◌++◌, List, [], ◌∷◌, take, refl, sym, ap, subst, ◌∙◌}
+use Rattle.std.proofs.Common.{◌≡◌, ◌+◌, arith, ◌++◌, List, [], ◌∷◌, take, refl, sym, ap, subst, ◌∙◌}
 use Rattle.std.specs.Prelude.{Contains}
 use Rattle.std.proofs.lemmas.List.{take_all, take_more}
 use Rattle.bf_locks.specs.declared.answer.LockAnswer.{LockAnswer}

@@ -1,10 +1,7 @@
 -- The locks before this one are held, and nothing else has changed.
-use Rattle.std.proofs.Common.{◌≡◌, take}
-use Rattle.bf_locks.specs.Locks.{Locks}
-use Rattle.bf_live.specs.OpenGroups.{Holds}
+use Rattle.std.proofs.Common.{take}
 use Rattle.bf_sql.specs.Database.{empty_database}
 use Rattle.bf_machine.specs.interleaving.Events.{Reaches}
-use Rattle.bf_machine.specs.interleaving.Machines.{Open, open_at}
 use Rattle.bf_machine.specs.interleaving.Serving.{HasLocked}
 use Rattle.bf_machine.proofs.serving.lock_all.Given as goal
 

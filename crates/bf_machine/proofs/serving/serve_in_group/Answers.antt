@@ -1,5 +1,5 @@
 -- The locks are held, and the statement has its reply.
-use Rattle.std.proofs.Common.{◌≡◌, ◌<◌, ◌∙◌, List, ap, subst, arith, inl}
+use Rattle.std.proofs.Common.{◌<◌, ◌∙◌, List, ap, subst, arith, inl}
 use Rattle.std.specs.Prelude.{Ok}
 use Rattle.bf_sql.specs.Database.{empty_database}
 use Rattle.bf_sql.specs.Footprints.{Lock, footprint_of}

@@ -1,5 +1,4 @@
 -- A group that is to begin has begun; then the session's next call is made.
-use Rattle.std.proofs.Common.{◌≡◌, ap}
 use Rattle.std.specs.Prelude.{Result, Ok, Err, IfOk}
 use Rattle.bf_base.specs.declared.memory.Memory.{Memory}
 use Rattle.bf_sql.specs.Database.{empty_database}
@@ -8,7 +7,6 @@ use Rattle.bf_machine.specs.declared.serving.Turn.TheVariants as turn
 use Rattle.bf_machine.specs.interleaving.Events.{aborts, commits_now, one_more}
 use Rattle.bf_machine.specs.interleaving.Kept.{IsKept}
 use Rattle.bf_machine.specs.interleaving.Machines.{Machine}
-use Rattle.bf_machine.specs.interleaving.Serving.{IsTurn}
 use Rattle.bf_machine.proofs.interleaving.Reaching.{reached_keeps_all}
 use Rattle.bf_machine.proofs.served.Goes.{abort_goes_on, commit_goes_on, reaches_both}
 use Rattle.bf_machine.proofs.served.Turning.{turn_from}

@@ -1,4 +1,4 @@
-use Rattle.std.proofs.Common.{◌≡◌, ◌+◌, drop, arith}
+use Rattle.std.proofs.Common.{◌≡◌, ◌+◌, drop}
 use Rattle.bf_machine.specs.interleaving.Seen.{block_end, last_from}
 use Rattle.bf_machine.proofs.so_far.last_of_group.Given as goal
 

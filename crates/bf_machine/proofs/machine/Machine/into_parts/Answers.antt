@@ -5,8 +5,6 @@ use Rattle.bf_machine.specs.interleaving.Kept.{TranscriptsLegal}
 use Rattle.bf_machine.specs.interleaving.Machines.{Machine, transcripts_of}
 use Rattle.bf_machine.specs.interleaving.Seen.{seen}
 use Rattle.bf_machine.proofs.interleaving.Standing.{transcripts_legal}
-use Rattle.bf_machine.proofs.keeping.Places.{one_closed, one_opened, open_there, opens_then, roomy_then, told_then, told_there}
-use Rattle.bf_machine.proofs.keeping.Ending.{all_told, left_size, no_more, one_more, room_for_reply, seen_ended, there}
 use Rattle.bf_machine.proofs.keeping.Sessions.{all_joined}
 use Rattle.bf_machine.proofs.machine.Machine.into_parts.Goals as goal
 

@@ -1,5 +1,5 @@
 -- Nothing has begun.
-use Rattle.std.proofs.Common.{◌≡◌, ◌^◌, ◌<◌, ◌≤◌, List, length, vec_capacity, sym, subst, arith}
+use Rattle.std.proofs.Common.{◌≡◌, ◌^◌, ◌<◌, ◌≤◌, List, length, vec_capacity, subst, arith}
 use Rattle.bf_tree.specs.declared.script.Session.{Session}
 use Rattle.bf_sql.specs.Database.{empty_database}
 use Rattle.bf_machine.specs.interleaving.Kept.{fresh}
