@@ -74,7 +74,7 @@ fn end_if_answered(machine: &mut Machine, session: u32) -> Result<(), Memory>
 }
 
 /// A session's next statement, as it is bound in the present catalog.
-fn bind_next(
+pub fn bind_next(
     alloc: Global,
     machine: &Machine,
     session: u32,
@@ -89,7 +89,12 @@ fn bind_next(
 {
     let sessions = machine.script().sessions.as_slice();
     let statement = &sessions[session as usize - 1].statements.as_slice()[place as usize - 1];
-    bind(alloc, statement, machine.catalog(), machine.is_in_block(session))
+    bind(
+        alloc,
+        statement,
+        machine.catalog(),
+        machine.is_in_block(session),
+    )
 }
 
 /// Gives the next statement of a session's open group its reply: asks for the locks of its footprint
