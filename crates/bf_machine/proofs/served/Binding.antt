@@ -113,7 +113,9 @@ module _ (m : Machine) (kept : IsKept empty_database m) (servable : IsServable m
           let whole : bound_of m.db (is_in_block m s) statement ≡ Some bound = sym (same_bound m.db (is_in_block m s) statement (next_planned (is_in_block m s))) ∙ bound_so in
           let there : bound_of m.db (stands_inside on.o.replies) on.statement ≡ Some bound =
           subst (λ (b : Bool). bound_of m.db b on.statement ≡ Some bound) inside (subst (λ (st : Statement). bound_of m.db (is_in_block m s) st ≡ Some bound) same whole) in
-          inl (on.o, record {
+          inl (
+            on.o,
+            record {
               to_lock = record {
                 current = on.current;
                 is = on.is;
@@ -124,7 +126,8 @@ module _ (m : Machine) (kept : IsKept empty_database m) (servable : IsServable m
               };
               goes_on = on.goes_on;
               bound_so = there;
-            })
+            },
+          )
     ]
 
 pub in_ok : {P Q : Bound → Type 0} (r : Result Bound Memory) → ((bound : Bound) → P bound → Q bound) → IfOk r P → IfOk r Q

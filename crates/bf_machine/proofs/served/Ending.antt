@@ -110,9 +110,9 @@ module _ (m : Machine) (kept : IsKept empty_database m) (s : ℕ) (t : Turn) (ne
     by_beside beside less place =
         total_less (left_open next) (left_open m)
         (λ u. elim (cases_eq u s) as (λ _. left_open next u ≤ left_open m u) [
-            | inl same ↦ subst (λ (v : ℕ). left_open next v ≤ left_open m v) (sym same) (omega (arith, less))
-            | inr apart ↦ let e = same_left m next u script (beside u apart) in omega (arith, e)
-          ])
+          | inl same ↦ subst (λ (v : ℕ). left_open next v ≤ left_open m v) (sym same) (omega (arith, less))
+          | inr apart ↦ let e = same_left m next u script (beside u apart) in omega (arith, e)
+        ])
         s place.0 less (length m.script.sessions) place.1
 
     pub youngest_leaves_less : IsPlace m.script s → total (left_open next) (length m.script.sessions) < total (left_open m) (length m.script.sessions)
@@ -141,9 +141,9 @@ pub serves_less : (m next : Machine) (s : ℕ) → IsPlace m.script s → Serves
 serves_less m next s place serves less =
     total_less (unanswered next) (unanswered m)
     (λ u. elim (cases_eq u s) as (λ _. unanswered next u ≤ unanswered m u) [
-        | inl same ↦ subst (λ (v : ℕ). unanswered next v ≤ unanswered m v) (sym same) (omega (arith, less))
-        | inr apart ↦ let e = same_unanswered m next u serves.script (serves.beside u apart) in omega (arith, e)
-      ])
+      | inl same ↦ subst (λ (v : ℕ). unanswered next v ≤ unanswered m v) (sym same) (omega (arith, less))
+      | inr apart ↦ let e = same_unanswered m next u serves.script (serves.beside u apart) in omega (arith, e)
+    ])
     s place.0 less (length m.script.sessions) place.1
 
 -- where nothing is open, a session's turn and the end of its group

@@ -68,8 +68,8 @@ returns c =
     sym (c.index-as_slice-place.is ∙ ap (λ (ss : List Statement). slice_index_or ss (c.args.place - 1) st) text) in
     in_ok c.bind.result
     (λ bound so.
-        let there : bound_of (without_rows (catalog_of m.db)) (is_in_block m s) st ≡ Some bound =
-        subst (λ (catalog : Catalog). bound_of (without_rows catalog) (is_in_block m s) st ≡ Some bound) c.catalog.ensures.catalog
-        (subst (λ (b : Bool). bound_of (without_rows c.catalog.result.now) b st ≡ Some bound) c.is_in_block.ensures so) in
-        next_bound m c.requires.kept c.requires.servable s c.args.place c.requires.place c.requires.stands st here bound there)
+    let there : bound_of (without_rows (catalog_of m.db)) (is_in_block m s) st ≡ Some bound =
+    subst (λ (catalog : Catalog). bound_of (without_rows catalog) (is_in_block m s) st ≡ Some bound) c.catalog.ensures.catalog
+    (subst (λ (b : Bool). bound_of (without_rows c.catalog.result.now) b st ≡ Some bound) c.is_in_block.ensures so) in
+    next_bound m c.requires.kept c.requires.servable s c.args.place c.requires.place c.requires.stands st here bound there)
     c.bind.ensures

@@ -77,10 +77,10 @@ returns-clause-no_death c =
     let m : Machine = c.args.machine.now in
     on_ok c.end_sessions.result
     (λ deaths empty closed n.
-        let here : c.loop-session.machine ≡ m = c.loop-session.invariant.nothing empty in
-        let none : (s : ℕ) → open_at c.loop-session.machine s ≡ None = λ s. ap (λ (k : Machine). open_at k s) here ∙ closed s in
-        let same : c.end_open_groups.new.machine ≡ m = c.in_ok-end_open_groups.ensures.nothing none ∙ here in
-        deaths n ∙ ap (λ (k : Machine). deaths_at k n) same)
+    let here : c.loop-session.machine ≡ m = c.loop-session.invariant.nothing empty in
+    let none : (s : ℕ) → open_at c.loop-session.machine s ≡ None = λ s. ap (λ (k : Machine). open_at k s) here ∙ closed s in
+    let same : c.end_open_groups.new.machine ≡ m = c.in_ok-end_open_groups.ensures.nothing none ∙ here in
+    deaths n ∙ ap (λ (k : Machine). deaths_at k n) same)
     c.end_sessions.ensures.deaths
 
 pub returns-clause-sequence : goal.returns-clause-sequence
@@ -88,8 +88,8 @@ returns-clause-sequence c =
     let m : Machine = c.args.machine.now in
     on_ok c.end_sessions.result
     (λ stays empty sequence.
-        let here : c.loop-session.machine ≡ m = c.loop-session.invariant.nothing empty in
-        let none : (s : ℕ) → open_at c.loop-session.machine s ≡ None = λ s. ap (λ (k : Machine). open_at k s) here ∙ sequence.closed s in
-        let same : c.end_open_groups.new.machine ≡ m = c.in_ok-end_open_groups.ensures.nothing none ∙ here in
-        stays (subst IsInSequence (sym same) sequence))
+    let here : c.loop-session.machine ≡ m = c.loop-session.invariant.nothing empty in
+    let none : (s : ℕ) → open_at c.loop-session.machine s ≡ None = λ s. ap (λ (k : Machine). open_at k s) here ∙ sequence.closed s in
+    let same : c.end_open_groups.new.machine ≡ m = c.in_ok-end_open_groups.ensures.nothing none ∙ here in
+    stays (subst IsInSequence (sym same) sequence))
     c.end_sessions.ensures.sequence
