@@ -1,4 +1,4 @@
-//! What each event of a machine whose sessions take turns keeps. It is the contract of a function that does nothing.
+//! Laws of a machine whose sessions take turns. Each is the contract of a function that does nothing.
 
 ghost use Rattle.std.specs.Prelude.{◌≡◌, ℕ, ◌<◌, ◌≤◌, List, Some, IsTrue};
 ghost use Rattle.bf_locks.specs.declared.answer.LockAnswer.{LockAnswer};

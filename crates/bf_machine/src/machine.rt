@@ -5,12 +5,12 @@ mod stands;
 mod statements;
 mod turns;
 
-ghost use Rattle.std.specs.Prelude.{◌≡◌, ◌↔◌, ◌-◌, ◌≤◌, IfOk, OnOk, length, slice_get, true};
+ghost use Rattle.std.specs.Prelude.{◌≡◌, ◌↔◌, ◌-◌, ◌≤◌, IfOk, None, OnOk, length, slice_get, true};
 ghost use Rattle.std.specs.Option.{option_map};
 ghost use Rattle.bf_sql.specs.Bound.{catalog_of};
 ghost use Rattle.bf_sql.specs.Database.{IsDatabase, empty_database};
 ghost use Rattle.bf_sql.specs.History.{replayed};
-ghost use Rattle.bf_machine.specs.interleaving.Calls.{HasSessionEnded, IsCovered, IsPlace, next_place, replies_at};
+ghost use Rattle.bf_machine.specs.interleaving.Calls.{IsCovered, IsPlace, next_place, replies_at};
 ghost use Rattle.bf_machine.specs.interleaving.Serving.{is_answered, is_in_block};
 ghost use Rattle.bf_machine.specs.interleaving.Kept.{IsKept, TranscriptsLegal, fresh};
 ghost use Rattle.bf_machine.specs.interleaving.Machines.{open_at, transcripts_of};
@@ -66,7 +66,8 @@ impl Machine {
     /// each statement.
     ///
     /// # Errors
-    /// Where memory runs out, or 2 ^ 32 sessions, or statements of a session, stand in the script.
+    /// Where memory runs out, or 2 ^ 32 - 1 sessions or more, or statements of a session, stand in the
+    /// script.
     pub fn new(alloc: Global, script: Script, retries: u16) -> Result<Machine, Memory>
         ensures { IfOk result (λ machine. machine ≡ fresh empty_database script retries) }
     {
@@ -191,10 +192,10 @@ impl Machine {
         }
     }
 
-    /// Ends a session, which changes nothing that is seen.
+    /// Ends a session of which each statement has its reply, which changes nothing that is seen.
     pub fn finish_session(&mut self, session: u32)
         requires place { IsPlace self.old.script session }
-        requires ended { HasSessionEnded self.old session }
+        requires answered { next_place self.old session ≡ None }
         ensures { self.new ≡ self.old }
     {
         let _ = session;

@@ -74,7 +74,12 @@ fn end_if_answered(machine: &mut Machine, session: u32) -> Result<(), Memory>
 }
 
 /// A session's next statement, as it is bound in the present catalog.
-fn bind_next(alloc: Global, machine: &Machine, session: u32, place: u32) -> Result<Bound, Memory>
+pub fn bind_next(
+    alloc: Global,
+    machine: &Machine,
+    session: u32,
+    place: u32,
+) -> Result<Bound, Memory>
     requires place { IsPlace machine.now.script session }
     requires kept { IsKept empty_database machine.now }
     requires servable { IsServable machine.now.script }
@@ -265,10 +270,11 @@ fn end_sessions(alloc: Global, machine: &mut Machine) -> Result<(), Memory>
 /// session: its next statement is driven until it has its reply, or waits, or dies. A number of no
 /// session, and a session that has ended, is of a later phase or waits for the end of another group,
 /// is passed over. Then all that is left is driven, the youngest open group first, and where none is
-/// open the first session that can go on. Linear in the statements, beside what they cost.
+/// open the first session that can go on. Linear in the turns, each of which looks at every session.
 ///
 /// # Errors
-/// Where memory runs out. The machine stands after some of the turns then.
+/// Where memory runs out. The machine stands after some of the turns then, and maybe in the midst of
+/// one: its group has begun, holds some of its locks, or has its last reply and has not ended.
 pub fn in_order(alloc: Global, machine: &mut Machine, order: &[u32]) -> Result<(), Memory>
     requires servable { IsServable machine.old.script }
     ensures reaches { Reaches empty_database machine.old machine.new }

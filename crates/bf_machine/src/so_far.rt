@@ -49,7 +49,7 @@ pub struct SessionSoFar {
 /// Sessions in which nothing has begun, with room for the reply to each statement.
 ///
 /// # Errors
-/// Where memory runs out, or a session has 2 ^ 32 statements or more.
+/// Where memory runs out, or a session has 2 ^ 32 - 1 statements or more.
 pub(crate) fn sessions_so_far(
     alloc: Global,
     sessions: &[Session],

@@ -1,8 +1,17 @@
 //! Single calls of a machine. Each is made only where its condition holds, which is looked at first.
 
+ghost use Rattle.std.specs.Prelude.{◌⊎◌, ◌≡◌, IfSome, true};
+ghost use Rattle.std.specs.List.{All};
+ghost use Rattle.bf_sql.specs.Database.{empty_database};
+ghost use Rattle.bf_machine.specs.declared.stand.Stand.TheVariants.{Statement};
+ghost use Rattle.bf_machine.specs.interleaving.Calls.{IsCovered, IsPlace, StandsAs};
+ghost use Rattle.bf_machine.specs.interleaving.Kept.{IsKept};
+ghost use Rattle.bf_machine.specs.interleaving.Machines.{Open};
+ghost use Rattle.bf_machine.specs.interleaving.Serving.{IsBoundNext, IsServable, IsToLock};
+
 use bf_base::Memory;
-use bf_bind::bind;
 use bf_locks::{LockAnswer, LockName, Mode};
+use bf_machine::serving::bind_next;
 use bf_machine::{Ending, Machine, Stand};
 use bf_sql::footprint;
 use bf_tree::{Bound, Reply};
@@ -43,8 +52,23 @@ pub struct Look {
     pub is_answered: bool,
 }
 
-fn is_session(machine: &Machine, session: u32) -> bool {
+fn is_session(machine: &Machine, session: u32) -> bool
+    ensures { result ≡ true → IsPlace machine.now.script session }
+{
     1 <= session && session <= machine.session_count()
+}
+
+/// Where a session stands, and `None` where it is none of the script's.
+fn stand_of(machine: &Machine, session: u32) -> Option<Stand>
+    ensures kept { IsKept empty_database machine.now }
+    ensures place { IfSome result (λ stand. IsPlace machine.now.script session) }
+    ensures stands { IfSome result (StandsAs machine.now session) }
+{
+    let count = machine.session_count();
+    if session == 0 || count < session {
+        return None;
+    }
+    Some(machine.stand(session))
 }
 
 pub fn look_at(machine: &Machine, session: u32) -> Option<Look> {
@@ -71,41 +95,38 @@ pub fn covers(machine: &Machine, session: u32, name: &LockName, mode: Mode) -> b
     is_session(machine, session) && machine.covers(session, name, mode)
 }
 
-/// A session's next statement, as it is bound in the present catalog, and `None` at its end.
-pub fn bound_next(alloc: Global, machine: &Machine, session: u32) -> Result<Option<Bound>, Memory> {
-    if !is_session(machine, session) {
-        return Ok(None);
-    }
-    let Some(place) = machine.place(session) else {
+/// The statement at which a session stands, as it is bound in the present catalog, and `None` where
+/// it stands at none.
+pub fn bound_next(alloc: Global, machine: &Machine, session: u32) -> Result<Option<Bound>, Memory>
+    requires { IsServable machine.now.script }
+{
+    let Some(Stand::Statement(place)) = stand_of(machine, session) else {
         return Ok(None);
     };
-    let sessions = machine.script().sessions.as_slice();
-    let statement = &sessions[session as usize - 1].statements.as_slice()[place as usize - 1];
-    let in_block = machine.is_in_block(session);
-    Ok(Some(bind(alloc, statement, machine.catalog(), in_block)?))
+    Ok(Some(bind_next(alloc, machine, session, place)?))
 }
 
-fn stands_at_statement(machine: &Machine, session: u32) -> bool {
-    is_session(machine, session) && matches!(machine.stand(session), Stand::Statement(_))
-}
-
-fn begin(machine: &mut Machine, session: u32) -> Result<Seen, Memory> {
-    if !is_session(machine, session) || machine.stand(session) != Stand::Begin {
+fn begin(machine: &mut Machine, session: u32) -> Result<Seen, Memory>
+    requires { IsServable machine.old.script }
+    ensures { IsServable machine.new.script }
+{
+    let Some(Stand::Begin) = stand_of(machine, session) else {
         return Ok(Seen::Idle);
-    }
+    };
     machine.begin(session)?;
     Ok(Seen::Done)
 }
 
-fn ask(alloc: Global, machine: &mut Machine, session: u32) -> Result<Seen, Memory> {
-    if !stands_at_statement(machine, session) || machine.start(session).is_none() {
-        return Ok(Seen::Idle);
-    }
-    let Some(bound) = bound_next(alloc, machine, session)? else {
-        return Ok(Seen::Idle);
-    };
-    for (name, mode) in footprint(alloc, &bound)? {
-        match machine.lock(session, &name, mode)? {
+/// Asks for locks, one after the other, until one is not granted.
+fn ask_for(machine: &mut Machine, session: u32, locks: &[(LockName, Mode)]) -> Result<Seen, Memory>
+    requires place { IsPlace machine.old.script session }
+    requires kept { IsKept empty_database machine.old }
+    requires next { (o : Open) × IsToLock machine.old session o locks.now }
+    requires servable { IsServable machine.old.script }
+    ensures { IsServable machine.new.script }
+{
+    for (name, mode) in locks {
+        match machine.lock(session, name, *mode)? {
             LockAnswer::Granted => {}
             LockAnswer::Wait(others) => {
                 let oldest = others.as_slice().first().copied();
@@ -117,61 +138,149 @@ fn ask(alloc: Global, machine: &mut Machine, session: u32) -> Result<Seen, Memor
     Ok(Seen::Granted)
 }
 
-/// Whether no group of a session is open, or its group holds the locks of a statement.
-fn is_held(alloc: Global, machine: &Machine, session: u32, bound: &Bound) -> Result<bool, Memory> {
-    if machine.start(session).is_none() {
-        return Ok(true);
-    }
-    for (name, mode) in footprint(alloc, bound)? {
-        if !machine.covers(session, &name, mode) {
-            return Ok(false);
-        }
-    }
-    Ok(true)
+/// Asks for the locks of the next statement of a session's open group.
+fn ask_in_group(
+    alloc: Global,
+    machine: &mut Machine,
+    session: u32,
+    bound: &Bound,
+) -> Result<Seen, Memory>
+    requires place { IsPlace machine.old.script session }
+    requires kept { IsKept empty_database machine.old }
+    requires next { (o : Open) × IsBoundNext machine.old session o bound.now }
+    requires servable { IsServable machine.old.script }
+    ensures { IsServable machine.new.script }
+{
+    let locks = footprint(alloc, bound)?;
+    ask_for(machine, session, locks.as_slice())
 }
 
-fn exec(alloc: Global, machine: &mut Machine, session: u32) -> Result<Seen, Memory> {
-    if !stands_at_statement(machine, session) {
+/// Asks for the locks of the statement at which a session stands, where a group of it is open.
+fn ask_at(alloc: Global, machine: &mut Machine, session: u32, place: u32) -> Result<Seen, Memory>
+    requires place { IsPlace machine.old.script session }
+    requires kept { IsKept empty_database machine.old }
+    requires servable { IsServable machine.old.script }
+    requires stands { StandsAs machine.old session (Statement place) }
+    ensures { IsServable machine.new.script }
+{
+    if machine.start(session).is_none() {
         return Ok(Seen::Idle);
     }
-    let Some(bound) = bound_next(alloc, machine, session)? else {
+    let bound = bind_next(alloc, machine, session, place)?;
+    ask_in_group(alloc, machine, session, &bound)
+}
+
+fn ask(alloc: Global, machine: &mut Machine, session: u32) -> Result<Seen, Memory>
+    requires { IsServable machine.old.script }
+    ensures { IsServable machine.new.script }
+{
+    let Some(Stand::Statement(place)) = stand_of(machine, session) else {
         return Ok(Seen::Idle);
     };
-    if !is_held(alloc, machine, session, &bound)? {
+    ask_at(alloc, machine, session, place)
+}
+
+/// Whether a session's open group holds locks.
+fn are_covered(machine: &Machine, session: u32, locks: &[(LockName, Mode)]) -> bool
+    requires { IsPlace machine.now.script session }
+    ensures { result ≡ true
+        → All (λ lock. IsCovered machine.now session lock.0 lock.1) locks.now }
+{
+    for (name, mode) in locks {
+        if !machine.covers(session, name, *mode) {
+            return false;
+        }
+    }
+    true
+}
+
+/// Replies to the next statement of a session's open group, where it holds the locks.
+fn exec_in_group(
+    alloc: Global,
+    machine: &mut Machine,
+    session: u32,
+    bound: &Bound,
+) -> Result<Seen, Memory>
+    requires place { IsPlace machine.old.script session }
+    requires kept { IsKept empty_database machine.old }
+    requires next { (o : Open) × IsBoundNext machine.old session o bound.now }
+    requires servable { IsServable machine.old.script }
+    ensures { IsServable machine.new.script }
+{
+    let locks = footprint(alloc, bound)?;
+    if !are_covered(machine, session, locks.as_slice()) {
         return Ok(Seen::Idle);
+    }
+    machine.exec(session, bound)?;
+    Ok(Seen::Done)
+}
+
+/// Replies to the statement at which a session stands.
+fn exec_at(alloc: Global, machine: &mut Machine, session: u32, place: u32) -> Result<Seen, Memory>
+    requires place { IsPlace machine.old.script session }
+    requires kept { IsKept empty_database machine.old }
+    requires servable { IsServable machine.old.script }
+    requires stands { StandsAs machine.old session (Statement place) }
+    ensures { IsServable machine.new.script }
+{
+    let bound = bind_next(alloc, machine, session, place)?;
+    if machine.start(session).is_some() {
+        return exec_in_group(alloc, machine, session, &bound);
     }
     machine.exec(session, &bound)?;
     Ok(Seen::Done)
 }
 
-fn commit(machine: &mut Machine, session: u32) -> Result<Seen, Memory> {
-    if !is_session(machine, session) || machine.stand(session) != Stand::Commit {
+fn exec(alloc: Global, machine: &mut Machine, session: u32) -> Result<Seen, Memory>
+    requires { IsServable machine.old.script }
+    ensures { IsServable machine.new.script }
+{
+    let Some(Stand::Statement(place)) = stand_of(machine, session) else {
         return Ok(Seen::Idle);
-    }
+    };
+    exec_at(alloc, machine, session, place)
+}
+
+fn commit(machine: &mut Machine, session: u32) -> Result<Seen, Memory>
+    requires { IsServable machine.old.script }
+    ensures { IsServable machine.new.script }
+{
+    let Some(Stand::Commit) = stand_of(machine, session) else {
+        return Ok(Seen::Idle);
+    };
     match machine.commit(session)? {
         Ending::Committed(number) => Ok(Seen::Committed(number)),
         Ending::Ended(_) => Ok(Seen::Done),
     }
 }
 
-fn abort(machine: &mut Machine, session: u32) -> Seen {
-    if !is_session(machine, session) || machine.stand(session) != Stand::Abort {
+fn abort(machine: &mut Machine, session: u32) -> Seen
+    requires { IsServable machine.old.script }
+    ensures { IsServable machine.new.script }
+{
+    let Some(Stand::Abort) = stand_of(machine, session) else {
         return Seen::Idle;
-    }
+    };
     machine.abort(session);
     Seen::Done
 }
 
-fn finish(machine: &mut Machine, session: u32) -> Seen {
-    if !is_session(machine, session) || machine.stand(session) != Stand::Ended {
+fn finish(machine: &mut Machine, session: u32) -> Seen
+    requires { IsServable machine.old.script }
+    ensures { IsServable machine.new.script }
+{
+    let Some(Stand::Ended) = stand_of(machine, session) else {
         return Seen::Idle;
-    }
+    };
     machine.finish_session(session);
     Seen::Done
 }
 
-/// Makes a call, where its condition holds.
-pub fn make(alloc: Global, machine: &mut Machine, act: Act) -> Result<Seen, Memory> {
+/// Makes a call, where its condition holds. The script stays one that is served.
+pub fn make(alloc: Global, machine: &mut Machine, act: Act) -> Result<Seen, Memory>
+    requires { IsServable machine.old.script }
+    ensures { IsServable machine.new.script }
+{
     match act {
         Act::Begin(session) => begin(machine, session),
         Act::Ask(session) => ask(alloc, machine, session),

@@ -83,9 +83,9 @@ fn is_replayed(alloc: Global, play: &Play, told: &Told) -> Result<bool, Fail> {
 
 /// Whether each statement of a play has its reply.
 fn is_answered(play: &Play, transcripts: &Transcripts) -> bool {
-    let mut number = 0;
+    let mut number: usize = 0;
     for replies in transcripts.sessions.as_slice() {
-        number += 1;
+        number = number.saturating_add(1);
         let Some(lines) = play.session(number) else {
             return false;
         };

@@ -1,6 +1,9 @@
 //! Scripts whose sessions take turns in an order that is given.
 
-use bf_machine::{Machine, in_order};
+ghost use Rattle.std.specs.Prelude.{IfOk};
+ghost use Rattle.bf_machine.specs.interleaving.Serving.{IsServable};
+
+use bf_machine::{Machine, in_order, migrates_nothing};
 use bf_parse::script;
 use bf_text::report;
 use bf_tree::Sweep;
@@ -16,9 +19,14 @@ pub fn joined(alloc: Global, pieces: &[&str]) -> Result<Vec<u8>, Fail> {
     Ok(text)
 }
 
-/// A machine over the script of a text, in which nothing has begun.
-pub fn machine_of(alloc: Global, text: &[u8], retries: u16) -> Result<Machine, Fail> {
+/// A machine over the script of a text, in which nothing has begun. No MIGRATE stands in the script.
+pub fn machine_of(alloc: Global, text: &[u8], retries: u16) -> Result<Machine, Fail>
+    ensures { IfOk result (λ machine. IsServable machine.script) }
+{
     let script = script(alloc, text)?;
+    if !migrates_nothing(&script) {
+        return Err(Fail::new("a MIGRATE"));
+    }
     Ok(Machine::new(alloc, script, retries)?)
 }
 

@@ -34,8 +34,8 @@ fn has_ended(session: &Session, so_far: &SessionSoFar) -> bool
 }
 
 impl Machine {
-    /// Where a session stands: which call is its next, if one is. It costs a look at each session of
-    /// an earlier phase, and takes no memory.
+    /// Where a session stands: which call is its next, if one is. It costs a look at each session,
+    /// and takes no memory.
     pub fn stand(&self, session: u32) -> Stand
         requires { IsPlace self.now.script session }
         ensures { StandsAs self.now session result }
