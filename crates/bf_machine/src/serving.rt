@@ -74,6 +74,9 @@ fn end_if_answered(machine: &mut Machine, session: u32) -> Result<(), Memory>
 }
 
 /// A session's next statement, as it is bound in the present catalog.
+///
+/// # Errors
+/// Where memory runs out.
 pub fn bind_next(
     alloc: Global,
     machine: &Machine,
