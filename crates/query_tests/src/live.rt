@@ -133,8 +133,14 @@ fn keeps_tables_in_name_order(rt: HostRuntime) -> Result<(), Fail> {
     let catalog = live.catalog();
     assert_eq!(rt; catalog.number(), 3);
     let mut tables = catalog.tables();
-    assert_eq!(rt; tables.next().ok_or("no table")?.name.as_bytes(), b"a".as_slice());
-    assert_eq!(rt; tables.next().ok_or("one table")?.name.as_bytes(), b"b".as_slice());
+    assert_eq!(rt;
+        tables.next().ok_or("no table")?.name.as_bytes(),
+        b"a".as_slice()
+    );
+    assert_eq!(rt;
+        tables.next().ok_or("one table")?.name.as_bytes(),
+        b"b".as_slice()
+    );
     assert!(rt; tables.next().is_none());
     assert_eq!(rt; catalog.indexes().len(), 1);
     assert!(rt; live.heap(&Name::of(alloc, b"c")?).is_none());
