@@ -8,7 +8,8 @@ use Rattle.std.specs.Ordering.{int_cmp}
 use Rattle.bf_base.specs.declared.value.Value.{Value}
 use Rattle.bf_base.specs.declared.value.Value.TheVariants.{Int, Text}
 use Rattle.bf_heap.specs.Heaps.{Entry}
-use Rattle.bf_heap.specs.Pages.{begins_behind, rank_of, rank_of_page}
+use Rattle.bf_base.specs.Values.{rank_of}
+use Rattle.bf_heap.specs.Pages.{begins_behind, rank_of_page}
 
 none_below : (z : ℤ) → FitsSigned w64 z → z <ℤ negsuc 9223372036854775807 → ⊥
 none_below (pos n) fits below = absurd below.lt

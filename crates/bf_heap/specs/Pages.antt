@@ -1,10 +1,9 @@
 -- How a heap is kept: the rows in pages, and pages for the room.
-use Rattle.std.specs.Prelude.{◌≡◌, ℕ, ℤ, pos, negsuc, ◌+◌, ◌-◌, ◌*◌, ◌<◌, ◌≤◌, Bool, true, false, nat_lt, List, [], ◌∷◌, length, IsTrue, slice_index_or, slice_set}
+use Rattle.std.specs.Prelude.{◌≡◌, ℕ, ℤ, negsuc, ◌+◌, ◌-◌, ◌*◌, ◌<◌, ◌≤◌, Bool, true, false, nat_lt, List, [], ◌∷◌, length, IsTrue, slice_index_or, slice_set}
 use Rattle.std.specs.List.{flat_map, list_all, insert, remove}
 use Rattle.std.specs.Ordering.{is_gt}
 use Rattle.bf_base.specs.declared.value.Value.{Value}
-use Rattle.bf_base.specs.declared.value.Value.TheVariants.{Int, Text}
-use Rattle.bf_base.specs.Values.{key_cmp}
+use Rattle.bf_base.specs.Values.{key_cmp, rank_of}
 use Rattle.bf_heap.specs.Heaps.{Entry, IsHeap}
 
 -- the rows of the pages, one page behind the other
@@ -19,12 +18,6 @@ is_empty_page (e ∷ es) = false
 abbrev pub is_used_page : List Entry → Bool
 is_used_page [] = false
 is_used_page (e ∷ es) = nat_lt (length es) 64
-
--- the first value of a key where that is a number, and else the least or the greatest number
-abbrev pub rank_of : List Value → ℤ
-rank_of [] = negsuc 9223372036854775807
-rank_of (Int number ∷ values) = number
-rank_of (Text text ∷ values) = pos 9223372036854775807
 
 -- the rank of a page's first key
 abbrev pub rank_of_page : List Entry → ℤ

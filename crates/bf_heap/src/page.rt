@@ -6,10 +6,10 @@ ghost use Rattle.std.specs.List.Sorted.{IsBinarySearchResult, IsSearchInRange};
 ghost use Rattle.bf_base.specs.Values.{key_cmp};
 ghost use Rattle.bf_heap.specs.Heaps.{Entry};
 ghost use Rattle.bf_heap.specs.KeyRanges.{is_before, is_behind};
-ghost use Rattle.bf_heap.specs.Pages.{begins_behind, ends_with, rank_of, rank_of_page};
+ghost use Rattle.bf_heap.specs.Pages.{begins_behind, ends_with, rank_of_page};
 
 use crate::key_range::KeyRange;
-use bf_base::{Key, Memory, Row, Value};
+use bf_base::{Key, Memory, Row};
 use std::alloc::Global;
 use std::cmp::Ordering;
 use std::marker::Model;
@@ -43,25 +43,13 @@ impl Model for Page {
         × (page.rank ≡ rank_of_page page.rows.items) };
 }
 
-/// The first value of a key where that is a number, and else what comes before or behind each
-/// number: of two keys the one of the lesser rank is less. Takes no memory.
-fn rank_of(key: &Key) -> i64
-    ensures { result ≡ rank_of key.now }
-{
-    match key.as_slice() {
-        [] => i64::MIN,
-        [Value::Int(number), ..] => *number,
-        [Value::Text(_), ..] => i64::MAX,
-    }
-}
-
 /// The rank of the first key of some rows. Takes no memory.
 fn rank_of_rows(rows: &[(Key, Row)]) -> i64
     ensures { result ≡ rank_of_page rows.now }
 {
     match rows {
         [] => i64::MIN,
-        [first, ..] => rank_of(&first.0),
+        [first, ..] => first.0.rank(),
     }
 }
 
@@ -115,7 +103,7 @@ impl Page {
     pub fn begins_behind(&self, key: &Key) -> bool
         ensures { result ≡ begins_behind key.now self.now }
     {
-        let (first, sought) = (self.rank, rank_of(key));
+        let (first, sought) = (self.rank, key.rank());
         match first.cmp(&sought) {
             Ordering::Less => false,
             Ordering::Equal => first_is_behind(self.rows.as_slice(), key),
@@ -175,7 +163,7 @@ impl Page {
         ensures { self.new ≡ insert self.old place (key, row) }
     {
         if place == 0 {
-            self.rank = rank_of(&key);
+            self.rank = key.rank();
         }
         self.rows.insert(place, (key, row)).unwrap();
     }
@@ -188,7 +176,7 @@ impl Page {
         ensures rows { self.new ≡ slice_set self.old place (key, row) }
     {
         if place == 0 {
-            self.rank = rank_of(&key);
+            self.rank = key.rank();
         }
         let former = mem::replace(&mut self.rows[place], (key, row));
         former.1

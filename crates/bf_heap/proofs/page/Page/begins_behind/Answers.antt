@@ -10,14 +10,14 @@ pub returns-in-Less : goal.returns-in-Less
 returns-in-Less c =
     let rank_is : c.self.inside.rank ≡ rank_of_page c.args.self.now = c.self.invariant.2 ∙ ap rank_of_page c.self.view_is in
     let f : FitsSigned w64 c.self.inside.rank = search rules in
-    let g : FitsSigned w64 c.rank_of-sought.result = search rules in
-    let told : int_cmp c.self.inside.rank c.rank_of-sought.result ≡ Less = grind (arith, to_z-of_z) in
-    not_behind_by c.args.self.now c.args.key.now _ _ rank_is c.rank_of-sought.ensures f g told
+    let g : FitsSigned w64 c.rank-sought.result = search rules in
+    let told : int_cmp c.self.inside.rank c.rank-sought.result ≡ Less = grind (arith, to_z-of_z) in
+    not_behind_by c.args.self.now c.args.key.now _ _ rank_is c.rank-sought.ensures f g told
 
 pub returns-in-Greater : goal.returns-in-Greater
 returns-in-Greater c =
     let rank_is : c.self.inside.rank ≡ rank_of_page c.args.self.now = c.self.invariant.2 ∙ ap rank_of_page c.self.view_is in
     let f : FitsSigned w64 c.self.inside.rank = search rules in
-    let g : FitsSigned w64 c.rank_of-sought.result = search rules in
-    let told : int_cmp c.self.inside.rank c.rank_of-sought.result ≡ Greater = grind (arith, to_z-of_z) in
-    is_behind_by c.args.self.now c.args.key.now _ _ rank_is c.rank_of-sought.ensures f g told
+    let g : FitsSigned w64 c.rank-sought.result = search rules in
+    let told : int_cmp c.self.inside.rank c.rank-sought.result ≡ Greater = grind (arith, to_z-of_z) in
+    is_behind_by c.args.self.now c.args.key.now _ _ rank_is c.rank-sought.ensures f g told
