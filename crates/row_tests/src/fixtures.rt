@@ -1,4 +1,4 @@
-//! Keys and rows as a test writes them.
+//! Keys and rows as a test writes them, and what it sees of them.
 
 use bf_base::{Key, Row, Text, Value};
 use std::alloc::Global;
@@ -13,29 +13,53 @@ pub enum Cell {
 
 use Cell::{Letters, Number};
 
+fn value(alloc: Global, cell: Cell) -> Result<Value, Fail> {
+    match cell {
+        Number(number) => Ok(Value::Int(number)),
+        Letters(letters) => Ok(Value::Text(Text::of(alloc, letters.as_bytes())?)),
+    }
+}
+
 /// The key of these values.
 pub fn key(alloc: Global, cells: &[Cell]) -> Result<Key, Fail> {
     let mut values = Vec::new(alloc);
     for cell in cells {
-        values.push(match *cell {
-            Number(number) => Value::Int(number),
-            Letters(letters) => Value::Text(Text::of(alloc, letters.as_bytes())?),
-        })?;
+        values.push(value(alloc, *cell)?)?;
     }
     Ok(Key::of(values))
 }
 
+/// The key of one number.
+pub fn number_key(alloc: Global, number: i64) -> Result<Key, Fail> {
+    Ok(Key::of(vec![in alloc; Value::Int(number)]?))
+}
+
 /// The row of one number.
 pub fn row(alloc: Global, number: i64) -> Result<Row, Fail> {
-    let mut values = Vec::new(alloc);
-    values.push(Value::Int(number))?;
-    Ok(Row::of(values))
+    Ok(Row::of(vec![in alloc; Value::Int(number)]?))
+}
+
+fn only_number(values: &[Value]) -> Option<i64> {
+    match values {
+        [Value::Int(number)] => Some(*number),
+        _ => None,
+    }
 }
 
 /// The number in a row that `row` made.
 pub fn number(row: &Row) -> Option<i64> {
-    match row.as_slice() {
-        [Value::Int(number)] => Some(*number),
-        _ => None,
+    only_number(row.as_slice())
+}
+
+/// The number in such a row, if there is one.
+pub fn number_of(row: Option<&Row>) -> Option<i64> {
+    match row {
+        Some(row) => number(row),
+        None => None,
     }
+}
+
+/// The number in a key that `number_key` made.
+pub fn number_of_key(key: &Key) -> Option<i64> {
+    only_number(key.as_slice())
 }

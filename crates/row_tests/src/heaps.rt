@@ -1,12 +1,58 @@
-//! A heap of few rows, with keys of several columns, and of texts and numbers.
+//! The calls of a heap with plain answers, and a heap of few rows, with keys of several columns, and
+//! of texts and numbers.
 
 use crate::fixtures::Cell::{self, Letters, Number};
-use crate::fixtures::{key, number, row};
+use crate::fixtures::{key, number, number_of, row};
 use bf_base::{Key, Row};
 use bf_heap::Heap;
 use std::alloc::Global;
-use std::process::Abort;
 use std::test::Fail;
+
+/// Puts a row, for which room is made where there is none, and answers the number of the row that
+/// stood there.
+pub fn put_row(heap: &mut Heap, key: Key, row: Row) -> Result<Option<i64>, Fail> {
+    heap.reserve(1)?;
+    let former = heap.put(key, row);
+    Ok(number_of(former.as_ref()))
+}
+
+/// The number of the row under a key.
+pub fn find_row(heap: &Heap, key: &Key) -> Option<i64> {
+    number_of(heap.get(key))
+}
+
+/// Takes the row under a key out, and answers its number.
+pub fn take_row(heap: &mut Heap, key: &Key) -> Option<i64> {
+    let row = heap.remove(key);
+    number_of(row.as_ref())
+}
+
+/// The number of the row at a position, if its key is this one.
+pub fn number_at(heap: &Heap, position: u32, key: &Key) -> Option<i64> {
+    match heap.at(position) {
+        Some((at, row)) if *at == *key => number(row),
+        _ => None,
+    }
+}
+
+/// The number of the row at a position.
+fn number_in(heap: &Heap, position: u32) -> Option<i64> {
+    match heap.at(position) {
+        Some((_, row)) => number(row),
+        None => None,
+    }
+}
+
+/// Whether these are the numbers of all rows, in the order of the keys.
+pub fn has_numbers(heap: &Heap, wanted: &[i64]) -> bool {
+    for position in 0..heap.len() {
+        let found = number_in(heap, position);
+        if found.is_none() || found != wanted.get(position as usize).copied() {
+            return false;
+        }
+    }
+    heap.len() as usize == wanted.len() && heap.at(heap.len()).is_none()
+}
 
 /// Keys in rising order.
 const RISING: [&[Cell]; 8] = [
@@ -23,75 +69,112 @@ const RISING: [&[Cell]; 8] = [
 /// Keys that are none of those.
 const ABSENT: [&[Cell]; 3] = [&[], &[Number(1), Number(0)], &[Letters("a")]];
 
-/// Puts a row, for which room is made where there is none, and answers the number of the row that
-/// stood there.
-pub fn put_row(heap: &mut Heap, key: Key, row: Row) -> Result<Option<i64>, Fail> {
-    heap.reserve(1)?;
-    match heap.put(key, row) {
-        Some(former) => Ok(number(&former)),
-        None => Ok(None),
+/// What is done to a heap, and what it answers. The keys are rising ones, named by their places.
+#[derive(Clone, Copy)]
+enum Step {
+    /// Puts a row of a number where the second number stood.
+    Put(usize, i64, Option<i64>),
+    /// Takes this number out.
+    Take(usize, Option<i64>),
+    /// Has all these numbers in the order of the keys.
+    Have(&'static [i64]),
+}
+
+use Step::{Have, Put, Take};
+
+fn rising_key(alloc: Global, place: usize) -> Result<Key, Fail> {
+    key(alloc, RISING.get(place).ok_or("no such place")?)
+}
+
+fn answers(alloc: Global, heap: &mut Heap, step: Step) -> Result<bool, Fail> {
+    match step {
+        Put(place, new, former) => {
+            let found = put_row(heap, rising_key(alloc, place)?, row(alloc, new)?)?;
+            Ok(found == former)
+        }
+        Take(place, number) => Ok(take_row(heap, &rising_key(alloc, place)?) == number),
+        Have(numbers) => Ok(has_numbers(heap, numbers)),
     }
 }
 
-/// Puts a row with a number, and answers the number of the row that stood there.
-pub fn put(alloc: Global, heap: &mut Heap, cells: &[Cell], new: i64) -> Result<Option<i64>, Fail> {
-    put_row(heap, key(alloc, cells)?, row(alloc, new)?)
-}
-
-/// Compares the numbers of all rows, in the order of the keys.
-pub fn expect_numbers(rt: &impl Abort, heap: &Heap, wanted: &[i64]) {
-    assert_eq!(rt; heap.len() as usize, wanted.len());
-    for position in 0..heap.len() {
-        let found = heap.at(position).and_then(|(_, row)| number(row));
-        let wanted = wanted.get(position as usize).copied();
-        assert_eq!(rt; found, wanted, "at {position}");
+/// The place of the first step at which a heap does not answer as it says.
+fn first_wrong(alloc: Global, heap: &mut Heap, steps: &[Step]) -> Result<Option<usize>, Fail> {
+    for (place, step) in steps.iter().enumerate() {
+        if !answers(alloc, heap, *step)? {
+            return Ok(Some(place));
+        }
     }
-    assert!(rt; heap.at(heap.len()).is_none());
+    Ok(None)
 }
 
-/// A heap in which each of the rising keys has its place as its number.
-fn risen(rt: &impl Abort, alloc: Global) -> Result<Heap, Fail> {
+/// Puts each of the rising keys with its place as its number.
+const RISE: [Step; 9] = [
+    Put(4, 4, None),
+    Put(7, 7, None),
+    Put(0, 0, None),
+    Put(6, 6, None),
+    Put(2, 2, None),
+    Put(5, 5, None),
+    Put(1, 1, None),
+    Put(3, 3, None),
+    Have(&[0, 1, 2, 3, 4, 5, 6, 7]),
+];
+
+/// Replaces a row, takes rows out of the front, the middle and the end, and puts one back.
+const REPLACE: [Step; 9] = [
+    Put(3, 33, Some(3)),
+    Have(&[0, 1, 2, 33, 4, 5, 6, 7]),
+    Take(0, Some(0)),
+    Take(3, Some(33)),
+    Take(7, Some(7)),
+    Take(3, None),
+    Have(&[1, 2, 4, 5, 6]),
+    Put(7, 77, None),
+    Have(&[1, 2, 4, 5, 6, 77]),
+];
+
+/// A heap after the first steps.
+fn risen(alloc: Global) -> Result<Heap, Fail> {
     let mut heap = Heap::new(alloc);
-    for place in &[4, 7, 0, 6, 2, 5, 1, 3] {
-        let former = put(alloc, &mut heap, RISING[*place], *place as i64)?;
-        assert_eq!(rt; former, None);
+    match first_wrong(alloc, &mut heap, &RISE)? {
+        None => Ok(heap),
+        Some(_) => Err("does not rise")?,
     }
-    Ok(heap)
+}
+
+/// Whether a rising key is found with its place as its number, and stands at this place.
+fn stands(alloc: Global, heap: &Heap, place: u32) -> Result<bool, Fail> {
+    let key = rising_key(alloc, place as usize)?;
+    let wanted = Some(place as i64);
+    Ok(find_row(heap, &key) == wanted && number_at(heap, place, &key) == wanted)
+}
+
+fn lacks(alloc: Global, heap: &Heap, cells: &[Cell]) -> Result<bool, Fail> {
+    Ok(find_row(heap, &key(alloc, cells)?).is_none())
 }
 
 #[test]
 fn puts_in_key_order(rt: HostRuntime) -> Result<(), Fail> {
-    let alloc = rt.alloc();
-    let heap = risen(&rt, alloc)?;
+    let heap = risen(rt.alloc())?;
     assert_eq!(rt; (heap.len(), heap.is_empty()), (8, false));
-    for (place, cells) in RISING.iter().enumerate() {
-        let key = key(alloc, cells)?;
-        let found = heap.get(&key).and_then(|row| number(row));
-        assert_eq!(rt; found, Some(place as i64), "at {cells:?}");
-        let (at, row) = heap.at(place as u32).ok_or("no entry")?;
-        assert!(rt; *at == key, "at {place}");
-        assert_eq!(rt; number(row), Some(place as i64));
+    for place in 0..8 {
+        assert!(rt; stands(rt.alloc(), &heap, place)?, "at {place}");
     }
-    assert!(rt; heap.at(8).is_none());
-    for cells in &ABSENT {
-        assert!(rt; heap.get(&key(alloc, cells)?).is_none(), "at {cells:?}");
+    Ok(())
+}
+
+#[test]
+fn finds_no_other_keys(rt: HostRuntime) -> Result<(), Fail> {
+    let heap = risen(rt.alloc())?;
+    for cells in ABSENT {
+        assert!(rt; lacks(rt.alloc(), &heap, cells)?, "{cells:?}");
     }
     Ok(())
 }
 
 #[test]
 fn replaces_and_removes(rt: HostRuntime) -> Result<(), Fail> {
-    let alloc = rt.alloc();
-    let mut heap = risen(&rt, alloc)?;
-    assert_eq!(rt; put(alloc, &mut heap, RISING[3], 33)?, Some(3));
-    assert_eq!(rt; heap.len(), 8);
-    for place in [0, 3, 7] {
-        let row = heap.remove(&key(alloc, RISING[place])?);
-        assert!(rt; row.is_some(), "at {place}");
-    }
-    assert!(rt; heap.remove(&key(alloc, RISING[3])?).is_none());
-    expect_numbers(&rt, &heap, &[1, 2, 4, 5, 6]);
-    assert_eq!(rt; put(alloc, &mut heap, RISING[7], 77)?, None);
-    expect_numbers(&rt, &heap, &[1, 2, 4, 5, 6, 77]);
+    let mut heap = risen(rt.alloc())?;
+    assert_eq!(rt; first_wrong(rt.alloc(), &mut heap, &REPLACE)?, None);
     Ok(())
 }

@@ -2,12 +2,11 @@
 //! one more.
 
 use crate::fixtures::Cell::{Letters, Number};
-use crate::fixtures::{key, number, row};
-use crate::heaps::{put, put_row};
+use crate::fixtures::{key, number, number_key, number_of_key, row};
+use crate::heaps::{find_row, number_at, put_row, take_row};
 use bf_base::Key;
-use bf_heap::Heap;
+use bf_heap::{Cursor, Heap};
 use std::alloc::Global;
-use std::process::Abort;
 use std::test::Fail;
 
 /// Numbers of rows, and the pages of so many that were put in rising or in falling order.
@@ -49,92 +48,208 @@ pub fn even(place: u32) -> i64 {
     place as i64 * 2
 }
 
-/// A heap of this many even numbers from 0 on.
-pub fn filled(rt: &impl Abort, alloc: Global, order: Order, rows: u32) -> Result<Heap, Fail> {
-    let mut heap = Heap::new(alloc);
+/// What is done to a heap of numbers under themselves, and what it answers.
+#[derive(Clone, Copy)]
+pub enum Step {
+    /// Puts this many even numbers from 0 on, where none stood.
+    Fill(Order, u32),
+    /// Puts the row of the second number under the first, where the third stood.
+    Put(i64, i64, Option<i64>),
+    /// Finds this number under the first.
+    Find(i64, Option<i64>),
+    /// Takes this number out from under the first.
+    Take(i64, Option<i64>),
+    /// Finds the even number of each place from one up to another, and not the odd one behind it.
+    FindAll(u32, u32),
+    /// Takes the even number of each place from one up to another.
+    TakeAll(u32, u32),
+    /// Takes each of so many even numbers, and none is left.
+    Empty(Order, u32),
+    /// Replaces each of so many even numbers, puts the odd one behind it and takes the even one.
+    Shift(Order, u32),
+    /// Has so many rows, each the same number as its key, in rising order.
+    Rise(u32),
+    /// Has so many even numbers from 0 on in turn.
+    Turn(u32),
+    /// Has so many rows in so many pages.
+    Size(u32, u32),
+}
+
+use Step::{Empty, Fill, Find, FindAll, Put, Rise, Shift, Size, Take, TakeAll, Turn};
+
+fn put(alloc: Global, heap: &mut Heap, at: i64, new: i64) -> Result<Option<i64>, Fail> {
+    put_row(heap, number_key(alloc, at)?, row(alloc, new)?)
+}
+
+fn find(alloc: Global, heap: &Heap, at: i64) -> Result<Option<i64>, Fail> {
+    Ok(find_row(heap, &number_key(alloc, at)?))
+}
+
+fn take(alloc: Global, heap: &mut Heap, at: i64) -> Result<Option<i64>, Fail> {
+    Ok(take_row(heap, &number_key(alloc, at)?))
+}
+
+fn fill(alloc: Global, heap: &mut Heap, order: Order, rows: u32) -> Result<bool, Fail> {
     for before in 0..rows {
         let new = even(order.place(before, rows));
-        let former = put(alloc, &mut heap, &[Number(new)], new)?;
-        assert_eq!(rt; former, None);
+        if put(alloc, heap, new, new)?.is_some() {
+            return Ok(false);
+        }
     }
-    Ok(heap)
+    Ok(true)
 }
 
-/// The number in the row under a number.
-fn find(alloc: Global, heap: &Heap, at: i64) -> Result<Option<i64>, Fail> {
-    let key = key(alloc, &[Number(at)])?;
-    Ok(heap.get(&key).and_then(|row| number(row)))
-}
-
-/// Takes out the rows of even numbers, from a place up to another.
-fn remove(rt: &impl Abort, alloc: Global, heap: &mut Heap, from: u32, to: u32) -> Result<(), Fail> {
+fn take_all(alloc: Global, heap: &mut Heap, from: u32, to: u32) -> Result<bool, Fail> {
     for place in from..to {
-        let row = heap.remove(&key(alloc, &[Number(even(place))])?);
-        let row = row.ok_or("no row to remove")?;
-        assert_eq!(rt; number(&row), Some(even(place)));
+        if take(alloc, heap, even(place))? != Some(even(place)) {
+            return Ok(false);
+        }
     }
-    Ok(())
+    Ok(true)
 }
 
-/// Finds the number of each place from one up to another, and not the odd number behind it.
-fn expect_found(
-    rt: &impl Abort,
-    alloc: Global,
-    heap: &Heap,
-    from: u32,
-    to: u32,
-) -> Result<(), Fail> {
+fn empty(alloc: Global, heap: &mut Heap, order: Order, rows: u32) -> Result<bool, Fail> {
+    for before in 0..rows {
+        let wanted = even(order.place(before, rows));
+        if take(alloc, heap, wanted)? != Some(wanted) {
+            return Ok(false);
+        }
+    }
+    Ok(has_size(heap, 0, 0))
+}
+
+fn shift(alloc: Global, heap: &mut Heap, old: i64) -> Result<bool, Fail> {
+    let replaced = put(alloc, heap, old, 0)?;
+    let new = old.wrapping_add(1);
+    let behind = put(alloc, heap, new, new)?;
+    let taken = take(alloc, heap, old)?;
+    Ok((replaced, behind, taken) == (Some(old), None, Some(0)))
+}
+
+fn shift_all(alloc: Global, heap: &mut Heap, order: Order, rows: u32) -> Result<bool, Fail> {
+    for before in 0..rows {
+        if !shift(alloc, heap, even(order.place(before, rows)))? {
+            return Ok(false);
+        }
+    }
+    Ok(true)
+}
+
+fn find_all(alloc: Global, heap: &Heap, from: u32, to: u32) -> Result<bool, Fail> {
     for place in from..to {
         let wanted = even(place);
-        assert_eq!(rt; find(alloc, heap, wanted)?, Some(wanted));
-        assert_eq!(rt; find(alloc, heap, wanted.wrapping_add(1))?, None);
+        let behind = find(alloc, heap, wanted.wrapping_add(1))?;
+        if find(alloc, heap, wanted)? != Some(wanted) || behind.is_some() {
+            return Ok(false);
+        }
     }
-    Ok(())
+    Ok(true)
 }
 
-/// Goes over all positions: a key and its row have the same number, and the numbers rise.
-pub fn expect_rising(rt: &impl Abort, alloc: Global, heap: &Heap, rows: u32) -> Result<(), Fail> {
-    assert_eq!(rt; heap.len(), rows);
+fn has_size(heap: &Heap, rows: u32, pages: u32) -> bool {
+    heap.len() == rows
+        && heap.pages() == pages
+        && heap.is_empty() == (rows == 0)
+        && heap.at(rows).is_none()
+}
+
+/// The number at a position, if its key is the same.
+fn own_number(heap: &Heap, position: u32) -> Option<i64> {
+    match heap.at(position) {
+        Some((at, row)) if number_of_key(at) == number(row) => number(row),
+        _ => None,
+    }
+}
+
+fn rises(heap: &Heap, rows: u32) -> bool {
     let mut last = None;
     for position in 0..rows {
-        let (at, row) = heap.at(position).ok_or("no row")?;
-        let found = number(row);
-        assert!(rt; last < found, "at {position}");
-        assert!(rt;
-            *at == key(alloc, &[Number(found.unwrap_or(0))])?,
-            "at {position}"
-        );
+        let found = own_number(heap, position);
+        if found <= last {
+            return false;
+        }
         last = found;
     }
-    assert!(rt; heap.at(rows).is_none());
-    Ok(())
+    heap.len() == rows && heap.at(rows).is_none()
 }
 
-/// Goes over all rows from the first place on, each with its even number under it, and stays behind
-/// the last one.
-fn expect_in_turn(rt: &impl Abort, alloc: Global, heap: &Heap, rows: u32) -> Result<(), Fail> {
+/// The number under a cursor, if its key is the same.
+pub fn number_under(cursor: &Cursor<'_>) -> Option<i64> {
+    match cursor.get() {
+        Some((at, row)) if number_of_key(at) == number(row) => number(row),
+        _ => None,
+    }
+}
+
+/// Whether a cursor is behind the last row, and stays there.
+fn stays_behind(cursor: &mut Cursor<'_>) -> bool {
+    if cursor.get().is_some() {
+        return false;
+    }
+    cursor.advance();
+    cursor.get().is_none()
+}
+
+fn turns(heap: &Heap, rows: u32) -> bool {
     let mut cursor = heap.first();
     for place in 0..rows {
-        let (at, row) = cursor.get().ok_or("no row")?;
-        assert!(rt; *at == key(alloc, &[Number(even(place))])?, "at {place}");
-        assert_eq!(rt; number(row), Some(even(place)));
+        if number_under(&cursor) != Some(even(place)) {
+            return false;
+        }
         cursor.advance();
     }
-    assert!(rt; cursor.get().is_none());
-    cursor.advance();
-    assert!(rt; cursor.get().is_none());
-    Ok(())
+    stays_behind(&mut cursor)
+}
+
+fn answers(alloc: Global, heap: &mut Heap, step: Step) -> Result<bool, Fail> {
+    match step {
+        Fill(order, rows) => fill(alloc, heap, order, rows),
+        Put(at, new, former) => Ok(put(alloc, heap, at, new)? == former),
+        Find(at, number) => Ok(find(alloc, heap, at)? == number),
+        Take(at, number) => Ok(take(alloc, heap, at)? == number),
+        FindAll(from, to) => find_all(alloc, heap, from, to),
+        TakeAll(from, to) => take_all(alloc, heap, from, to),
+        Empty(order, rows) => empty(alloc, heap, order, rows),
+        Shift(order, rows) => shift_all(alloc, heap, order, rows),
+        Rise(rows) => Ok(rises(heap, rows)),
+        Turn(rows) => Ok(turns(heap, rows)),
+        Size(rows, pages) => Ok(has_size(heap, rows, pages)),
+    }
+}
+
+/// The place of the first step at which a heap, empty at first, does not answer as it says.
+pub fn first_wrong(alloc: Global, steps: &[Step]) -> Result<Option<usize>, Fail> {
+    let mut heap = Heap::new(alloc);
+    for (place, step) in steps.iter().enumerate() {
+        if !answers(alloc, &mut heap, *step)? {
+            return Ok(Some(place));
+        }
+    }
+    Ok(None)
+}
+
+/// A heap of this many even numbers from 0 on.
+pub fn filled(alloc: Global, order: Order, rows: u32) -> Result<Heap, Fail> {
+    let mut heap = Heap::new(alloc);
+    if fill(alloc, &mut heap, order, rows)? {
+        Ok(heap)
+    } else {
+        Err("a row stood there")?
+    }
 }
 
 #[test]
 fn splits_pages_at_both_ends(rt: HostRuntime) -> Result<(), Fail> {
-    let alloc = rt.alloc();
     for (rows, pages) in SIZES {
         for order in [Order::Rising, Order::Falling] {
-            let heap = filled(&rt, alloc, order, rows)?;
-            assert_eq!(rt; heap.pages(), pages, "{rows} rows, {order:?}");
-            expect_rising(&rt, alloc, &heap, rows)?;
-            expect_found(&rt, alloc, &heap, 0, rows)?;
+            let steps = [
+                Fill(order, rows),
+                Size(rows, pages),
+                Rise(rows),
+                FindAll(0, rows),
+            ];
+            let wrong = first_wrong(rt.alloc(), &steps)?;
+            assert_eq!(rt; wrong, None, "{rows} rows, {order:?}");
         }
     }
     Ok(())
@@ -142,12 +257,14 @@ fn splits_pages_at_both_ends(rt: HostRuntime) -> Result<(), Fail> {
 
 #[test]
 fn splits_pages_anywhere(rt: HostRuntime) -> Result<(), Fail> {
-    let alloc = rt.alloc();
     for (rows, _) in SIZES {
-        let heap = filled(&rt, alloc, Order::Mixed, rows)?;
-        expect_rising(&rt, alloc, &heap, rows)?;
-        expect_found(&rt, alloc, &heap, 0, rows)?;
-        assert_eq!(rt; find(alloc, &heap, -1)?, None);
+        let steps = [
+            Fill(Order::Mixed, rows),
+            Rise(rows),
+            FindAll(0, rows),
+            Find(-1, None),
+        ];
+        assert_eq!(rt; first_wrong(rt.alloc(), &steps)?, None, "{rows} rows");
     }
     Ok(())
 }
@@ -156,11 +273,10 @@ fn splits_pages_anywhere(rt: HostRuntime) -> Result<(), Fail> {
 /// puts leave them.
 #[test]
 fn goes_on_from_page_to_page(rt: HostRuntime) -> Result<(), Fail> {
-    let alloc = rt.alloc();
     for rows in [0, 1, 64, 65, 129] {
         for order in [Order::Rising, Order::Falling, Order::Mixed] {
-            let heap = filled(&rt, alloc, order, rows)?;
-            expect_in_turn(&rt, alloc, &heap, rows)?;
+            let wrong = first_wrong(rt.alloc(), &[Fill(order, rows), Turn(rows)])?;
+            assert_eq!(rt; wrong, None, "{rows} rows, {order:?}");
         }
     }
     Ok(())
@@ -170,72 +286,84 @@ fn goes_on_from_page_to_page(rt: HostRuntime) -> Result<(), Fail> {
 /// front, inside the lower half, to its end, inside the upper half and to its end.
 #[test]
 fn puts_on_either_side_of_a_split(rt: HostRuntime) -> Result<(), Fail> {
-    let alloc = rt.alloc();
     for odd in [-1, 31, 63, 65, 127] {
-        let mut heap = filled(&rt, alloc, Order::Rising, 64)?;
-        assert_eq!(rt; put(alloc, &mut heap, &[Number(odd)], odd)?, None);
-        assert_eq!(rt; heap.pages(), 2, "with {odd}");
-        expect_rising(&rt, alloc, &heap, 65)?;
-        assert_eq!(rt; find(alloc, &heap, odd)?, Some(odd));
+        let steps = [
+            Fill(Order::Rising, 64),
+            Put(odd, odd, None),
+            Size(65, 2),
+            Rise(65),
+            Find(odd, Some(odd)),
+        ];
+        assert_eq!(rt; first_wrong(rt.alloc(), &steps)?, None, "with {odd}");
     }
     Ok(())
 }
 
 /// With -1 in front the pages end and begin at 62 and 64, so 63 falls between them.
+const BETWEEN: [Step; 10] = [
+    Fill(Order::Rising, 64),
+    Put(-1, -1, None),
+    Find(63, None),
+    Take(63, None),
+    Put(63, 63, None),
+    Size(66, 2),
+    Rise(66),
+    Find(63, Some(63)),
+    Take(63, Some(63)),
+    Rise(65),
+];
+
 #[test]
 fn puts_between_pages(rt: HostRuntime) -> Result<(), Fail> {
-    let alloc = rt.alloc();
-    let mut heap = filled(&rt, alloc, Order::Rising, 64)?;
-    assert_eq!(rt; put(alloc, &mut heap, &[Number(-1)], -1)?, None);
-    let between = key(alloc, &[Number(63)])?;
-    assert!(rt; heap.get(&between).is_none());
-    assert!(rt; heap.remove(&between).is_none());
-    assert_eq!(rt; put(alloc, &mut heap, &[Number(63)], 63)?, None);
-    assert_eq!(rt; heap.pages(), 2);
-    expect_rising(&rt, alloc, &heap, 66)?;
-    assert_eq!(rt; find(alloc, &heap, 63)?, Some(63));
-    let row = heap.remove(&between).ok_or("no row to remove")?;
-    assert_eq!(rt; number(&row), Some(63));
-    expect_rising(&rt, alloc, &heap, 65)
+    assert_eq!(rt; first_wrong(rt.alloc(), &BETWEEN)?, None);
+    Ok(())
 }
+
+const REPLACE: [Step; 10] = [
+    Fill(Order::Falling, 64),
+    Put(0, 1000, Some(0)),
+    Find(0, Some(1000)),
+    Put(62, 1000, Some(62)),
+    Find(62, Some(1000)),
+    Put(64, 1000, Some(64)),
+    Find(64, Some(1000)),
+    Put(126, 1000, Some(126)),
+    Find(126, Some(1000)),
+    Size(64, 1),
+];
 
 #[test]
 fn replaces_without_a_split(rt: HostRuntime) -> Result<(), Fail> {
-    let alloc = rt.alloc();
-    let mut heap = filled(&rt, alloc, Order::Falling, 64)?;
-    for place in [0, 31, 32, 63] {
-        let former = put(alloc, &mut heap, &[Number(even(place))], 1000)?;
-        assert_eq!(rt; former, Some(even(place)));
-        assert_eq!(rt; find(alloc, &heap, even(place))?, Some(1000));
-    }
-    assert_eq!(rt; (heap.len(), heap.pages()), (64, 1));
+    assert_eq!(rt; first_wrong(rt.alloc(), &REPLACE)?, None);
     Ok(())
 }
 
 /// Of 97 rows that were put in rising order the pages have 32, 32 and 33. The middle one is
 /// emptied, then the first, then the last, each from its front.
+const GIVE_UP: [Step; 18] = [
+    Fill(Order::Rising, 97),
+    TakeAll(32, 63),
+    Size(66, 3),
+    TakeAll(63, 64),
+    Size(65, 2),
+    Rise(65),
+    FindAll(0, 32),
+    FindAll(64, 97),
+    Find(80, None),
+    Put(80, 80, None),
+    Rise(66),
+    TakeAll(0, 32),
+    Size(34, 2),
+    TakeAll(40, 41),
+    Size(33, 1),
+    TakeAll(64, 97),
+    Size(0, 0),
+    Find(0, None),
+];
+
 #[test]
 fn gives_emptied_pages_up(rt: HostRuntime) -> Result<(), Fail> {
-    let alloc = rt.alloc();
-    let mut heap = filled(&rt, alloc, Order::Rising, 97)?;
-    remove(&rt, alloc, &mut heap, 32, 63)?;
-    assert_eq!(rt; heap.pages(), 3);
-    remove(&rt, alloc, &mut heap, 63, 64)?;
-    assert_eq!(rt; heap.pages(), 2);
-    expect_rising(&rt, alloc, &heap, 65)?;
-    expect_found(&rt, alloc, &heap, 0, 32)?;
-    expect_found(&rt, alloc, &heap, 64, 97)?;
-    assert_eq!(rt; find(alloc, &heap, even(40))?, None);
-    assert_eq!(rt; put(alloc, &mut heap, &[Number(even(40))], even(40))?, None);
-    expect_rising(&rt, alloc, &heap, 66)?;
-    remove(&rt, alloc, &mut heap, 0, 32)?;
-    assert_eq!(rt; heap.pages(), 2);
-    remove(&rt, alloc, &mut heap, 40, 41)?;
-    assert_eq!(rt; heap.pages(), 1);
-    remove(&rt, alloc, &mut heap, 64, 97)?;
-    assert_eq!(rt; (heap.len(), heap.pages(), heap.is_empty()), (0, 0, true));
-    assert!(rt; heap.at(0).is_none());
-    assert_eq!(rt; find(alloc, &heap, 0)?, None);
+    assert_eq!(rt; first_wrong(rt.alloc(), &GIVE_UP)?, None);
     Ok(())
 }
 
@@ -262,59 +390,84 @@ pub fn words(alloc: Global) -> Result<Heap, Fail> {
     Ok(heap)
 }
 
+/// Whether the word of a place stands there, with its place as its number.
+fn word_stands(alloc: Global, heap: &Heap, place: u32) -> Result<bool, Fail> {
+    let key = word_key(alloc, place)?;
+    Ok(number_at(heap, place, &key) == Some(place as i64))
+}
+
 #[test]
 fn orders_pages_of_texts_and_numbers(rt: HostRuntime) -> Result<(), Fail> {
-    let alloc = rt.alloc();
-    let heap = words(alloc)?;
+    let heap = words(rt.alloc())?;
     let pages = heap.pages();
-    assert!(rt; pages >= 3 && pages <= 4);
-    for position in 0..130 {
-        let (at, row) = heap.at(position).ok_or("no row")?;
-        assert!(rt; *at == word_key(alloc, position)?, "at {position}");
-        assert_eq!(rt; number(row), Some(position as i64));
+    assert!(rt; pages >= 3 && pages <= 4 && heap.at(130).is_none());
+    for place in 0..130 {
+        assert!(rt; word_stands(rt.alloc(), &heap, place)?, "at {place}");
     }
-    assert!(rt; heap.at(130).is_none());
     Ok(())
 }
 
-/// Neither the word alone is there, nor the word with a number on either side of the others.
+/// Whether neither a word alone is there, nor the word with a number on either side of the others.
+fn lacks(alloc: Global, heap: &mut Heap, word: &'static str) -> Result<bool, Fail> {
+    let alone = find_row(heap, &key(alloc, &[Letters(word)])?);
+    let before = take_row(heap, &key(alloc, &[Letters(word), Number(-14)])?);
+    let behind = take_row(heap, &key(alloc, &[Letters(word), Number(13)])?);
+    Ok((alone, before, behind) == (None, None, None))
+}
+
 #[test]
 fn finds_no_other_texts(rt: HostRuntime) -> Result<(), Fail> {
-    let alloc = rt.alloc();
-    let mut heap = words(alloc)?;
-    for word in &WORDS {
-        assert!(rt; heap.get(&key(alloc, &[Letters(word)])?).is_none());
-        for outside in [-14, 13] {
-            let absent = key(alloc, &[Letters(word), Number(outside)])?;
-            assert!(rt; heap.remove(&absent).is_none(), "{word}, {outside}");
-        }
+    let mut heap = words(rt.alloc())?;
+    for word in WORDS {
+        assert!(rt; lacks(rt.alloc(), &mut heap, word)?, "{word:?}");
     }
     assert_eq!(rt; heap.len(), 130);
     Ok(())
+}
+
+/// Puts the numbers below a thousand, 619 places on each time, and answers the first that stood there.
+fn put_thousand(alloc: Global, heap: &mut Heap) -> Result<Option<i64>, Fail> {
+    for n in 0..1000_i64 {
+        let mixed = n.wrapping_mul(619) % 1000;
+        if put(alloc, heap, mixed, mixed)?.is_some() {
+            return Ok(Some(mixed));
+        }
+    }
+    Ok(None)
+}
+
+/// The first position below a thousand that does not have its own number.
+fn wrong_of_thousand(heap: &Heap) -> Option<u32> {
+    for n in 0..1000_u32 {
+        if own_number(heap, n) != Some(n as i64) {
+            return Some(n);
+        }
+    }
+    None
+}
+
+/// Takes the numbers below a thousand, 371 places on each time, and answers the first that is not
+/// there, or still is.
+fn take_thousand(alloc: Global, heap: &mut Heap) -> Result<Option<i64>, Fail> {
+    for n in 0..1000_i64 {
+        let mixed = n.wrapping_mul(371) % 1000;
+        let taken = take(alloc, heap, mixed)?;
+        if taken != Some(mixed) || find(alloc, heap, mixed)?.is_some() {
+            return Ok(Some(mixed));
+        }
+    }
+    Ok(None)
 }
 
 /// A thousand rows, put and taken out in mixed orders. A split leaves no page below 32 rows, so
 /// they take 16 to 31 pages.
 #[test]
 fn splits_and_empties_pages(rt: HostRuntime) -> Result<(), Fail> {
-    let alloc = rt.alloc();
-    let mut heap = Heap::new(alloc);
-    for n in 0..1000_i64 {
-        let mixed = n.wrapping_mul(619) % 1000;
-        assert_eq!(rt; put(alloc, &mut heap, &[Number(mixed)], mixed)?, None);
-    }
-    for n in 0..1000_u32 {
-        let (at, row) = heap.at(n).ok_or("no entry")?;
-        assert!(rt; *at == key(alloc, &[Number(n as i64)])?, "at {n}");
-        assert_eq!(rt; number(row), Some(n as i64));
-    }
+    let mut heap = filled(rt.alloc(), Order::Rising, 0)?;
+    assert_eq!(rt; put_thousand(rt.alloc(), &mut heap)?, None);
+    assert_eq!(rt; wrong_of_thousand(&heap), None);
     assert!(rt; heap.pages() >= 16 && heap.pages() <= 31);
-    for n in 0..1000_i64 {
-        let mixed = n.wrapping_mul(371) % 1000;
-        let row = heap.remove(&key(alloc, &[Number(mixed)])?).ok_or("no row")?;
-        assert_eq!(rt; number(&row), Some(mixed));
-        assert_eq!(rt; find(alloc, &heap, mixed)?, None);
-    }
+    assert_eq!(rt; take_thousand(rt.alloc(), &mut heap)?, None);
     assert_eq!(rt; (heap.len(), heap.pages()), (0, 0));
     Ok(())
 }

@@ -1,14 +1,13 @@
 //! Ranges of the keys of a heap, and puts and removals that go through keys in some order.
 
 use crate::fixtures::Cell::{self, Letters, Number};
-use crate::fixtures::{key, number};
-use crate::heaps::put;
-use crate::pages::{Order, even, expect_rising, filled, words};
+use crate::fixtures::{key, number, number_key};
+use crate::pages::Step::{Empty, Fill, Put, Rise, Shift};
+use crate::pages::{Order, even, filled, first_wrong, number_under, words};
 use bf_base::Key;
-use bf_heap::{Heap, KeyRange};
+use bf_heap::{Cursor, Heap, KeyRange};
 use std::alloc::Global;
 use std::ops::Bound;
-use std::process::Abort;
 use std::test::Fail;
 
 /// An end of a range of keys of one number.
@@ -18,6 +17,8 @@ enum End {
     With(i64),
     Without(i64),
 }
+
+use End::{Open, With, Without};
 
 impl End {
     /// Whether the numbers from this low end on have a number.
@@ -41,60 +42,87 @@ impl End {
     fn bound(self, alloc: Global) -> Result<Bound<Key>, Fail> {
         match self {
             End::Open => Ok(Bound::Unbounded),
-            End::With(end) => Ok(Bound::Included(key(alloc, &[Number(end)])?)),
-            End::Without(end) => Ok(Bound::Excluded(key(alloc, &[Number(end)])?)),
+            End::With(end) => Ok(Bound::Included(number_key(alloc, end)?)),
+            End::Without(end) => Ok(Bound::Excluded(number_key(alloc, end)?)),
         }
     }
 }
 
-/// Goes over the rows between two ends in a heap of even numbers: they are the even numbers there.
-fn expect_between(
-    rt: &impl Abort,
-    alloc: Global,
-    heap: &Heap,
-    low: End,
-    high: End,
-) -> Result<(), Fail> {
+/// Whether the rows of a range are the even numbers between two ends.
+fn has_between(heap: &Heap, range: &KeyRange, low: End, high: End) -> bool {
+    let mut cursor = heap.range(range);
+    for place in 0..heap.len() {
+        let wanted = even(place);
+        if low.lets_from(wanted) && high.lets_to(wanted) {
+            if number_under(&cursor) != Some(wanted) {
+                return false;
+            }
+            cursor.advance();
+        }
+    }
+    cursor.get().is_none()
+}
+
+/// Whether a heap of even numbers gives those between two ends.
+fn gives(alloc: Global, heap: &Heap, low: End, high: End) -> Result<bool, Fail> {
     let range = KeyRange {
         low: low.bound(alloc)?,
         high: high.bound(alloc)?,
     };
-    let mut cursor = heap.range(&range);
-    for place in 0..heap.len() {
-        let wanted = even(place);
-        if low.lets_from(wanted) && high.lets_to(wanted) {
-            let (_, row) = cursor.get().ok_or("no row")?;
-            assert_eq!(rt; number(row), Some(wanted), "{low:?} to {high:?}");
-            cursor.advance();
+    Ok(has_between(heap, &range, low, high))
+}
+
+/// Ends at numbers before, at, between and behind the even ones, and at and between the ends of
+/// pages.
+const ENDS: [End; 27] = [
+    Open,
+    With(-1),
+    Without(-1),
+    With(0),
+    Without(0),
+    With(1),
+    Without(1),
+    With(30),
+    Without(30),
+    With(61),
+    Without(61),
+    With(62),
+    Without(62),
+    With(63),
+    Without(63),
+    With(64),
+    Without(64),
+    With(65),
+    Without(65),
+    With(126),
+    Without(126),
+    With(127),
+    Without(127),
+    With(128),
+    Without(128),
+    With(129),
+    Without(129),
+];
+
+/// The first high end to which a heap gives other rows from a low one on.
+fn wrong_from(alloc: Global, heap: &Heap, low: End) -> Result<Option<End>, Fail> {
+    for high in ENDS {
+        if !gives(alloc, heap, low, high)? {
+            return Ok(Some(high));
         }
     }
-    assert!(rt; cursor.get().is_none(), "{low:?} to {high:?}");
-    Ok(())
+    Ok(None)
 }
 
-/// Numbers before, at, between and behind the even ones, and at and between the ends of pages.
-const NUMBERS: [i64; 13] = [-1, 0, 1, 30, 61, 62, 63, 64, 65, 126, 127, 128, 129];
-
-/// Ranges with a low end, and each high one: empty ones, of one row, of all rows, and with the low
-/// end beyond the high one.
-fn expect_from(rt: &impl Abort, alloc: Global, heap: &Heap, low: End) -> Result<(), Fail> {
-    expect_between(rt, alloc, heap, low, End::Open)?;
-    for number in NUMBERS {
-        expect_between(rt, alloc, heap, low, End::With(number))?;
-        expect_between(rt, alloc, heap, low, End::Without(number))?;
-    }
-    Ok(())
-}
-
+/// Each low end with each high one: empty ranges, of one row, of all rows, and with the low end beyond
+/// the high one.
 #[test]
 fn gives_the_rows_between_two_ends(rt: HostRuntime) -> Result<(), Fail> {
-    let alloc = rt.alloc();
     for rows in [0, 1, 32, 33, 64, 65] {
-        let heap = filled(&rt, alloc, Order::Rising, rows)?;
-        expect_from(&rt, alloc, &heap, End::Open)?;
-        for number in NUMBERS {
-            expect_from(&rt, alloc, &heap, End::With(number))?;
-            expect_from(&rt, alloc, &heap, End::Without(number))?;
+        let heap = filled(rt.alloc(), Order::Rising, rows)?;
+        for low in ENDS {
+            let wrong = wrong_from(rt.alloc(), &heap, low)?;
+            assert!(rt; wrong.is_none(), "{rows} rows, {low:?} to {wrong:?}");
         }
     }
     Ok(())
@@ -103,137 +131,130 @@ fn gives_the_rows_between_two_ends(rt: HostRuntime) -> Result<(), Fail> {
 /// Of 129 rows in mixed order: the ends are in pages of any size, and several are whole.
 #[test]
 fn gives_whole_pages_between_two_others(rt: HostRuntime) -> Result<(), Fail> {
-    let alloc = rt.alloc();
-    let heap = filled(&rt, alloc, Order::Mixed, 129)?;
+    let heap = filled(rt.alloc(), Order::Mixed, 129)?;
     for place in 0..129 {
         let low = even(place);
         let high = even(129_u32.saturating_sub(place));
-        expect_between(&rt, alloc, &heap, End::With(low), End::Without(high))?;
-        expect_between(&rt, alloc, &heap, End::Without(high), End::Open)?;
-        expect_between(&rt, alloc, &heap, End::Open, End::With(low))?;
+        for (from, to) in [
+            (With(low), Without(high)),
+            (Without(high), Open),
+            (Open, With(low)),
+        ] {
+            assert!(rt; gives(rt.alloc(), &heap, from, to)?, "{from:?} to {to:?}");
+        }
     }
     Ok(())
 }
 
-/// Goes over the rows of a range in a heap of words: their numbers are those from one up to another.
-fn expect_places(
-    rt: &impl Abort,
-    heap: &Heap,
-    low: Bound<Key>,
-    high: Bound<Key>,
-    from: i64,
-    to: i64,
-) -> Result<(), Fail> {
-    let mut cursor = heap.range(&KeyRange { low, high });
+/// The number under a cursor in a heap of words.
+fn place_under(cursor: &Cursor<'_>) -> Option<i64> {
+    match cursor.get() {
+        Some((_, row)) => number(row),
+        None => None,
+    }
+}
+
+/// Whether the rows of a range in a heap of words have the numbers from one up to another.
+fn has_places(heap: &Heap, range: &KeyRange, from: i64, to: i64) -> bool {
+    let mut cursor = heap.range(range);
     for place in from..to {
-        let (_, row) = cursor.get().ok_or("no row")?;
-        assert_eq!(rt; number(row), Some(place));
+        if place_under(&cursor) != Some(place) {
+            return false;
+        }
         cursor.advance();
     }
-    assert!(rt; cursor.get().is_none(), "from {from} to {to}");
+    cursor.get().is_none()
+}
+
+/// Values of two ends, and the places of the words between them, from one up to another.
+type Between = (&'static [Cell], &'static [Cell], i64, i64);
+
+fn has_all_of(alloc: Global, heap: &Heap, between: &Between) -> Result<bool, Fail> {
+    let (low, high, from, to) = *between;
+    let range = KeyRange {
+        low: Bound::Included(key(alloc, low)?),
+        high: Bound::Included(key(alloc, high)?),
+    };
+    Ok(has_places(heap, &range, from, to))
+}
+
+fn has_inside(alloc: Global, heap: &Heap, between: &Between) -> Result<bool, Fail> {
+    let (low, high, from, to) = *between;
+    let range = KeyRange {
+        low: Bound::Excluded(key(alloc, low)?),
+        high: Bound::Excluded(key(alloc, high)?),
+    };
+    Ok(has_places(heap, &range, from, to))
+}
+
+/// The keys are the words "", "A", "a", "ab" and "b" with numbers from -13 to 12, in this order. Both
+/// ends have the same values, and are of the range.
+const ALL_OF: [Between; 7] = [
+    (&[Letters("a")], &[Letters("a")], 52, 78),
+    (&[Letters("")], &[Letters("")], 0, 26),
+    (&[Letters("b")], &[Letters("b")], 104, 130),
+    (&[Letters("B")], &[Letters("B")], 0, 0),
+    (&[Number(1)], &[Number(1)], 0, 0),
+    (
+        &[Letters("a"), Number(0)],
+        &[Letters("a"), Number(0)],
+        65,
+        66,
+    ),
+    (&[], &[], 0, 130),
+];
+
+#[test]
+fn bounds_the_first_of_two_columns(rt: HostRuntime) -> Result<(), Fail> {
+    let heap = words(rt.alloc())?;
+    for between in &ALL_OF {
+        assert!(rt; has_all_of(rt.alloc(), &heap, between)?, "{between:?}");
+    }
     Ok(())
 }
 
-/// A range with an end of these values on either side, both of which it has.
-fn expect_all_of(
-    rt: &impl Abort,
-    alloc: Global,
-    heap: &Heap,
-    cells: &[Cell],
-    from: i64,
-    to: i64,
-) -> Result<(), Fail> {
-    let low = Bound::Included(key(alloc, cells)?);
-    let high = Bound::Included(key(alloc, cells)?);
-    expect_places(rt, heap, low, high, from, to)
-}
-
-/// A range between two ends of these values, neither of which it has.
-fn expect_inside(
-    rt: &impl Abort,
-    alloc: Global,
-    heap: &Heap,
-    low: &[Cell],
-    high: &[Cell],
-    from: i64,
-    to: i64,
-) -> Result<(), Fail> {
-    let low = Bound::Excluded(key(alloc, low)?);
-    let high = Bound::Excluded(key(alloc, high)?);
-    expect_places(rt, heap, low, high, from, to)
-}
-
-/// The keys are the words "", "A", "a", "ab" and "b" with numbers from -13 to 12, in this order.
-#[test]
-fn bounds_the_first_of_two_columns(rt: HostRuntime) -> Result<(), Fail> {
-    let alloc = rt.alloc();
-    let heap = words(alloc)?;
-    expect_all_of(&rt, alloc, &heap, &[Letters("a")], 52, 78)?;
-    expect_all_of(&rt, alloc, &heap, &[Letters("")], 0, 26)?;
-    expect_all_of(&rt, alloc, &heap, &[Letters("b")], 104, 130)?;
-    expect_all_of(&rt, alloc, &heap, &[Letters("B")], 0, 0)?;
-    expect_all_of(&rt, alloc, &heap, &[Number(1)], 0, 0)?;
-    expect_all_of(&rt, alloc, &heap, &[Letters("a"), Number(0)], 65, 66)?;
-    expect_all_of(&rt, alloc, &heap, &[], 0, 130)
-}
+/// Neither end is of the range.
+const INSIDE: [Between; 7] = [
+    (&[Letters("A")], &[Letters("b")], 52, 104),
+    (&[Letters("a")], &[Letters("ab")], 0, 0),
+    (&[Letters("aa")], &[Letters("c")], 78, 130),
+    (&[Letters("b")], &[Letters("")], 0, 0),
+    (&[Number(7)], &[Letters("a"), Number(-13)], 0, 52),
+    (
+        &[Letters("a"), Number(-3)],
+        &[Letters("a"), Number(4)],
+        63,
+        69,
+    ),
+    (&[Letters("a"), Number(-3)], &[Letters("ab")], 63, 78),
+];
 
 #[test]
 fn leaves_the_words_at_excluded_ends_out(rt: HostRuntime) -> Result<(), Fail> {
-    let alloc = rt.alloc();
-    let heap = words(alloc)?;
-    expect_inside(&rt, alloc, &heap, &[Letters("A")], &[Letters("b")], 52, 104)?;
-    expect_inside(&rt, alloc, &heap, &[Letters("a")], &[Letters("ab")], 0, 0)?;
-    expect_inside(
-        &rt,
-        alloc,
-        &heap,
-        &[Letters("aa")],
-        &[Letters("c")],
-        78,
-        130,
-    )?;
-    expect_inside(&rt, alloc, &heap, &[Letters("b")], &[Letters("")], 0, 0)?;
-    expect_inside(
-        &rt,
-        alloc,
-        &heap,
-        &[Number(7)],
-        &[Letters("a"), Number(-13)],
-        0,
-        52,
-    )?;
-    let low = [Letters("a"), Number(-3)];
-    let high = [Letters("a"), Number(4)];
-    expect_inside(&rt, alloc, &heap, &low, &high, 63, 69)?;
-    expect_inside(&rt, alloc, &heap, &low, &[Letters("ab")], 63, 78)
-}
-
-/// Takes all rows out of a heap of even numbers, in some order.
-fn empty(rt: &impl Abort, alloc: Global, heap: &mut Heap, order: Order) -> Result<(), Fail> {
-    let rows = heap.len();
-    for before in 0..rows {
-        let wanted = even(order.place(before, rows));
-        let row = heap.remove(&key(alloc, &[Number(wanted)])?);
-        let row = row.ok_or("no row to remove")?;
-        assert_eq!(rt; number(&row), Some(wanted));
+    let heap = words(rt.alloc())?;
+    for between in &INSIDE {
+        assert!(rt; has_inside(rt.alloc(), &heap, between)?, "{between:?}");
     }
-    assert_eq!(rt; (heap.len(), heap.pages()), (0, 0));
     Ok(())
 }
+
+const ORDERS: [Order; 3] = [Order::Rising, Order::Falling, Order::Mixed];
 
 /// A search that begins at the page of the last put or removal finds the right page in any order of
 /// keys, also where that page is gone.
 #[test]
 fn goes_through_keys_in_each_order(rt: HostRuntime) -> Result<(), Fail> {
-    let alloc = rt.alloc();
-    let orders = [Order::Rising, Order::Falling, Order::Mixed];
     for rows in [1, 64, 65, 129] {
-        for puts in orders {
-            for removals in orders {
-                let mut heap = filled(&rt, alloc, puts, rows)?;
-                empty(&rt, alloc, &mut heap, removals)?;
-                assert_eq!(rt; put(alloc, &mut heap, &[Number(5)], 5)?, None);
-                expect_rising(&rt, alloc, &heap, 1)?;
+        for puts in ORDERS {
+            for removals in ORDERS {
+                let steps = [
+                    Fill(puts, rows),
+                    Empty(removals, rows),
+                    Put(5, 5, None),
+                    Rise(1),
+                ];
+                let wrong = first_wrong(rt.alloc(), &steps)?;
+                assert_eq!(rt; wrong, None, "{rows} rows, {puts:?}, {removals:?}");
             }
         }
     }
@@ -243,17 +264,9 @@ fn goes_through_keys_in_each_order(rt: HostRuntime) -> Result<(), Fail> {
 /// Each even number is replaced, and each odd one put behind it, then each even one taken out.
 #[test]
 fn replaces_puts_and_removes_in_turn(rt: HostRuntime) -> Result<(), Fail> {
-    let alloc = rt.alloc();
-    for order in [Order::Rising, Order::Falling, Order::Mixed] {
-        let mut heap = filled(&rt, alloc, order, 129)?;
-        for before in 0..129 {
-            let old = even(order.place(before, 129));
-            let new = old.wrapping_add(1);
-            assert_eq!(rt; put(alloc, &mut heap, &[Number(old)], 0)?, Some(old));
-            assert_eq!(rt; put(alloc, &mut heap, &[Number(new)], new)?, None);
-            assert!(rt; heap.remove(&key(alloc, &[Number(old)])?).is_some());
-        }
-        expect_rising(&rt, alloc, &heap, 129)?;
+    for order in ORDERS {
+        let steps = [Fill(order, 129), Shift(order, 129), Rise(129)];
+        assert_eq!(rt; first_wrong(rt.alloc(), &steps)?, None, "{order:?}");
     }
     Ok(())
 }

@@ -1,75 +1,114 @@
 //! What a workspace reads back, the order of its writes, and those to the keys of a range.
 
 use crate::fixtures::Cell::{self, Letters, Number};
-use crate::fixtures::{key, number, row};
+use crate::fixtures::{key, number_key, number_of, number_of_key, row};
 use bf_base::{Key, Name, Row};
 use bf_heap::KeyRange;
-use bf_txn::{TableWrites, Workspace, Write};
+use bf_txn::{TableWrites, Workspace, WriteSet, WritesAhead};
 use std::alloc::Global;
 use std::ops::Bound;
-use std::process::Abort;
 use std::test::Fail;
 
-/// The write of a row of a number to a key of a number, or of its removal.
-fn write_of(alloc: Global, table: &str, at: i64, number: Option<i64>) -> Result<Write, Fail> {
-    let row = match number {
-        Some(number) => Some(row(alloc, number)?),
-        None => None,
-    };
-    Ok(Write {
-        table: Name::of(alloc, table.as_bytes())?,
-        key: key(alloc, &[Number(at)])?,
-        row,
-    })
+/// A write: a table, the number of a key there, and the number of a row, or no row.
+type Written = (&'static str, i64, Option<i64>);
+
+fn row_of(alloc: Global, number: Option<i64>) -> Result<Option<Row>, Fail> {
+    match number {
+        Some(number) => Ok(Some(row(alloc, number)?)),
+        None => Ok(None),
+    }
 }
 
-/// Writes a row of a number to a key of a number, or removes what is there.
-fn write(
-    alloc: Global,
+fn write_row(
     workspace: &mut Workspace,
-    table: &str,
-    at: i64,
-    number: Option<i64>,
+    table: Name,
+    key: Key,
+    row: Option<Row>,
 ) -> Result<(), Fail> {
-    let Write { table, key, row } = write_of(alloc, table, at, number)?;
     workspace.write(table, key, row)?;
     Ok(())
 }
 
-/// Reads a key, and compares the number in the row that is written there.
-fn expect(
-    rt: &impl Abort,
+fn write(alloc: Global, workspace: &mut Workspace, written: Written) -> Result<(), Fail> {
+    let (table, at, number) = written;
+    let name = Name::of(alloc, table.as_bytes())?;
+    let key = number_key(alloc, at)?;
+    write_row(workspace, name, key, row_of(alloc, number)?)
+}
+
+/// A workspace with these writes.
+fn written(alloc: Global, writes: &[Written]) -> Result<Workspace, Fail> {
+    let mut workspace = Workspace::new(alloc);
+    for written in writes {
+        write(alloc, &mut workspace, *written)?;
+    }
+    Ok(workspace)
+}
+
+/// The number in the row that is written to a key, if one is written there.
+fn read(
     alloc: Global,
     workspace: &Workspace,
     table: &str,
     at: i64,
-    written: Option<Option<i64>>,
-) -> Result<(), Fail> {
+) -> Result<Option<Option<i64>>, Fail> {
     let name = Name::of(alloc, table.as_bytes())?;
-    let key = key(alloc, &[Number(at)])?;
-    let read = workspace
-        .read(&name, &key)
-        .map(|row| row.and_then(|row| number(row)));
-    assert_eq!(rt; read, written, "in {table}");
-    Ok(())
+    let key = number_key(alloc, at)?;
+    match workspace.read(&name, &key) {
+        Some(row) => Ok(Some(number_of(row))),
+        None => Ok(None),
+    }
+}
+
+fn write_and_read(
+    alloc: Global,
+    workspace: &mut Workspace,
+    number: Option<i64>,
+) -> Result<Option<Option<i64>>, Fail> {
+    write(alloc, workspace, ("a", 1, number))?;
+    read(alloc, workspace, "a", 1)
+}
+
+/// What is read of a key where nothing was written, and after each of these rows is written there.
+fn read_in_turn(alloc: Global, rows: [Option<i64>; 3]) -> Result<[Option<Option<i64>>; 4], Fail> {
+    let mut workspace = Workspace::new(alloc);
+    let before = read(alloc, &workspace, "a", 1)?;
+    let [first, second, third] = rows;
+    Ok([
+        before,
+        write_and_read(alloc, &mut workspace, first)?,
+        write_and_read(alloc, &mut workspace, second)?,
+        write_and_read(alloc, &mut workspace, third)?,
+    ])
 }
 
 #[test]
 fn reads_what_was_last_written(rt: HostRuntime) -> Result<(), Fail> {
-    let alloc = rt.alloc();
-    let mut workspace = Workspace::new(alloc);
-    expect(&rt, alloc, &workspace, "a", 1, None)?;
-    for row in [Some(10), None, Some(11)] {
-        write(alloc, &mut workspace, "a", 1, row)?;
-        expect(&rt, alloc, &workspace, "a", 1, Some(row))?;
-    }
-    expect(&rt, alloc, &workspace, "a", 2, None)?;
-    expect(&rt, alloc, &workspace, "b", 1, None)?;
-    assert_eq!(rt; workspace.write_set(alloc)?.writes.as_slice().len(), 1);
+    let found = read_in_turn(rt.alloc(), [Some(10), None, Some(11)])?;
+    assert_eq!(rt; found, [None, Some(Some(10)), Some(None), Some(Some(11))]);
     Ok(())
 }
 
-const WRITES: [(&str, i64, Option<i64>); 7] = [
+/// The same rows, written to one key in turn.
+const AGAIN: [Written; 3] = [("a", 1, Some(10)), ("a", 1, None), ("a", 1, Some(11))];
+
+fn count_writes(alloc: Global, workspace: &Workspace) -> Result<usize, Fail> {
+    Ok(workspace.write_set(alloc)?.writes.as_slice().len())
+}
+
+#[test]
+fn reads_nothing_where_nothing_was_written(rt: HostRuntime) -> Result<(), Fail> {
+    let workspace = written(rt.alloc(), &AGAIN)?;
+    let found = (
+        read(rt.alloc(), &workspace, "a", 2)?,
+        read(rt.alloc(), &workspace, "b", 1)?,
+        count_writes(rt.alloc(), &workspace)?,
+    );
+    assert_eq!(rt; found, (None, None, 1));
+    Ok(())
+}
+
+const WRITES: [Written; 7] = [
     ("b", 2, Some(1)),
     ("a", 9, None),
     ("ab", -3, Some(2)),
@@ -80,7 +119,7 @@ const WRITES: [(&str, i64, Option<i64>); 7] = [
 ];
 
 /// The last of them for each key, by table, then key.
-const SORTED: [(&str, i64, Option<i64>); 5] = [
+const SORTED: [Written; 5] = [
     ("a", -9, Some(5)),
     ("a", 9, Some(4)),
     ("ab", -3, Some(2)),
@@ -88,110 +127,172 @@ const SORTED: [(&str, i64, Option<i64>); 5] = [
     ("b", 2, None),
 ];
 
-/// Compares a write with one of the list.
-fn expect_write(
-    rt: &impl Abort,
-    alloc: Global,
-    found: (&Name, &Key, Option<&Row>),
-    wanted: &(&str, i64, Option<i64>),
-) -> Result<(), Fail> {
-    let (name, key_found, row) = found;
-    let (table, at, number_wanted) = *wanted;
-    assert_eq!(rt; name.as_bytes(), table.as_bytes());
-    assert!(rt;
-        *key_found == key(alloc, &[Number(at)])?,
-        "at {at} in {table}"
-    );
-    let number_found = row.and_then(|row| number(row));
-    assert_eq!(rt; number_found, number_wanted, "at {at} in {table}");
-    Ok(())
+/// Whether a write is the one of the list.
+fn is_wanted(wanted: Option<&Written>, name: &Name, key: &Key, row: Option<&Row>) -> bool {
+    match wanted {
+        Some((table, at, number)) => {
+            name.as_bytes() == table.as_bytes()
+                && number_of_key(key) == Some(*at)
+                && number_of(row) == *number
+                && row.is_some() == number.is_some()
+        }
+        None => false,
+    }
 }
 
-/// Compares the writes of a workspace with the sorted ones.
-fn expect_sorted(rt: &impl Abort, alloc: Global, workspace: &Workspace) -> Result<(), Fail> {
+/// Whether a set of writes is the sorted one.
+fn is_sorted_set(set: &WriteSet) -> bool {
+    let mut wanted = SORTED.iter();
+    for write in set.writes.as_slice() {
+        if !is_wanted(wanted.next(), &write.table, &write.key, write.row.as_ref()) {
+            return false;
+        }
+    }
+    wanted.next().is_none()
+}
+
+/// Whether the writes of a workspace are the sorted ones.
+fn is_sorted(workspace: &Workspace) -> bool {
     let mut wanted = SORTED.iter();
     for (table, writes) in workspace.tables() {
         for (at, row) in writes.iter() {
-            let wanted = wanted.next().ok_or("a write too many")?;
-            expect_write(rt, alloc, (table, at, row.as_ref()), wanted)?;
+            if !is_wanted(wanted.next(), table, at, row.as_ref()) {
+                return false;
+            }
         }
     }
-    assert!(rt; wanted.next().is_none());
-    Ok(())
+    wanted.next().is_none()
+}
+
+/// Whether the writes that a workspace is taken apart into are the sorted ones.
+fn comes_apart_sorted(workspace: Workspace) -> bool {
+    let mut wanted = SORTED.iter();
+    for (table, writes) in workspace.into_tables() {
+        for (at, row) in writes.into_iter() {
+            if !is_wanted(wanted.next(), &table, &at, row.as_ref()) {
+                return false;
+            }
+        }
+    }
+    wanted.next().is_none()
 }
 
 /// Those of the writes that are to a table, gathered by their keys.
 fn gathered(alloc: Global, table: &str) -> Result<TableWrites, Fail> {
     let mut writes = TableWrites::new(alloc);
-    for (other, at, row) in &WRITES {
-        let Write { key, row, .. } = write_of(alloc, other, *at, *row)?;
+    for (other, at, number) in &WRITES {
         if *other == table {
-            writes.write(key, row)?;
+            writes.write(number_key(alloc, *at)?, row_of(alloc, *number)?)?;
         }
     }
     Ok(writes)
 }
 
+/// Writes those of a table at once, and answers how many they are.
+fn write_all(alloc: Global, workspace: &mut Workspace, table: &str) -> Result<usize, Fail> {
+    let writes = gathered(alloc, table)?;
+    let count = if writes.is_empty() { 0 } else { writes.len() };
+    workspace.write_all(&Name::of(alloc, table.as_bytes())?, writes)?;
+    Ok(count)
+}
+
+/// In each table how many keys are written to.
+const TABLES: [(&str, usize); 3] = [("b", 2), ("a", 2), ("ab", 1)];
+
+/// What is written before, which a later write replaces.
+const BEFORE: [Written; 1] = [("b", 2, Some(7))];
+
 #[test]
 fn sorts_writes_that_come_at_once(rt: HostRuntime) -> Result<(), Fail> {
-    let alloc = rt.alloc();
-    let mut workspace = Workspace::new(alloc);
-    write(alloc, &mut workspace, "b", 2, Some(7))?;
-    for (table, count) in [("b", 2), ("a", 2), ("ab", 1)] {
-        let writes = gathered(alloc, table)?;
-        assert_eq!(rt; (writes.len(), writes.is_empty()), (count, false));
-        workspace.write_all(&Name::of(alloc, table.as_bytes())?, writes)?;
+    let mut workspace = written(rt.alloc(), &BEFORE)?;
+    for (table, count) in TABLES {
+        let found = write_all(rt.alloc(), &mut workspace, table)?;
+        assert_eq!(rt; found, count, "in {table}");
     }
-    expect_sorted(&rt, alloc, &workspace)
+    assert!(rt; is_sorted(&workspace));
+    Ok(())
 }
 
 #[test]
 fn sorts_the_last_writes(rt: HostRuntime) -> Result<(), Fail> {
-    let alloc = rt.alloc();
-    let mut workspace = Workspace::new(alloc);
-    for (table, at, row) in &WRITES {
-        write(alloc, &mut workspace, table, *at, *row)?;
-    }
-    let set = workspace.write_set(alloc)?;
-    assert_eq!(rt; set.writes.as_slice().len(), SORTED.len());
-    for (write, wanted) in set.writes.as_slice().iter().zip(&SORTED) {
-        let Write { table, key, row } = write;
-        expect_write(&rt, alloc, (table, key, row.as_ref()), wanted)?;
-    }
-    assert!(rt; set == workspace.write_set(alloc)?);
-    expect_sorted(&rt, alloc, &workspace)?;
-    let mut wanted = SORTED.iter();
-    for (table, writes) in workspace.into_tables() {
-        for (at, row) in writes.into_iter() {
-            let wanted = wanted.next().ok_or("a write too many")?;
-            expect_write(&rt, alloc, (&table, &at, row.as_ref()), wanted)?;
-        }
-    }
-    assert!(rt; wanted.next().is_none());
+    let workspace = written(rt.alloc(), &WRITES)?;
+    assert!(rt; is_sorted(&workspace));
+    assert!(rt; comes_apart_sorted(workspace));
     Ok(())
 }
 
-/// Writes 1,009 numbers, 500 places on each time and round again, and reads them in order.
+/// Whether a workspace gives the sorted set of writes, and once more the same.
+fn gives_sorted_set(alloc: Global, workspace: &Workspace) -> Result<bool, Fail> {
+    let set = workspace.write_set(alloc)?;
+    let again = workspace.write_set(alloc)?;
+    Ok(is_sorted_set(&set) && set == again)
+}
+
 #[test]
-fn writes_in_any_order(rt: HostRuntime) -> Result<(), Fail> {
-    let alloc = rt.alloc();
+fn gives_the_last_writes_as_a_set(rt: HostRuntime) -> Result<(), Fail> {
+    let workspace = written(rt.alloc(), &WRITES)?;
+    assert!(rt; gives_sorted_set(rt.alloc(), &workspace)?);
+    Ok(())
+}
+
+/// A workspace with 1,009 numbers, written 500 places on each time and round again.
+fn scattered(alloc: Global) -> Result<Workspace, Fail> {
     let mut workspace = Workspace::new(alloc);
     for turn in 0..1009u32 {
         let at = (turn.wrapping_mul(500) % 1009) as i64;
-        write(alloc, &mut workspace, "a", at, Some(at))?;
+        write(alloc, &mut workspace, ("a", at, Some(at)))?;
     }
-    let name = Name::of(alloc, b"a")?;
-    assert_eq!(rt; workspace.of_table(&name).len(), 1009);
-    assert_eq!(rt; workspace.of_table(&name).count_puts(), 1009);
-    let all = range_of(alloc, End::Open, End::Open)?;
-    let mut ahead = workspace.range(&name, &all);
-    for at in 0..1009u32 {
-        let (key_found, row) = ahead.get().ok_or("no write")?;
-        assert!(rt; *key_found == key(alloc, &[Number(at as i64)])?, "at {at}");
-        assert_eq!(rt; row.and_then(|row| number(row)), Some(at as i64));
+    Ok(workspace)
+}
+
+/// The number in the row that is written next, if one is.
+fn number_ahead(ahead: &WritesAhead<'_, '_>) -> Option<i64> {
+    match ahead.get() {
+        Some((_, row)) => number_of(row),
+        None => None,
+    }
+}
+
+/// The number of the key that is written to next.
+fn key_ahead(ahead: &WritesAhead<'_, '_>) -> Option<i64> {
+    match ahead.get() {
+        Some((key, _)) => number_of_key(key),
+        None => None,
+    }
+}
+
+/// Whether the writes to a table are of this many numbers from 0 on, each to itself.
+fn has_numbers(workspace: &Workspace, table: &Name, range: &KeyRange, count: i64) -> bool {
+    let mut ahead = workspace.range(table, range);
+    for at in 0..count {
+        if key_ahead(&ahead) != Some(at) || number_ahead(&ahead) != Some(at) {
+            return false;
+        }
         ahead.advance();
     }
-    assert!(rt; ahead.get().is_none());
+    ahead.get().is_none()
+}
+
+fn writes_in(workspace: &Workspace, table: &Name) -> usize {
+    workspace.of_table(table).len()
+}
+
+/// How many writes these are, how many of them are puts, and whether they come in order.
+fn scattered_writes(alloc: Global) -> Result<(usize, usize, bool), Fail> {
+    let workspace = scattered(alloc)?;
+    let name = Name::of(alloc, b"a")?;
+    let all = range_of(alloc, End::Open, End::Open)?;
+    let in_order = has_numbers(&workspace, &name, &all, 1009);
+    Ok((
+        writes_in(&workspace, &name),
+        puts_in(&workspace, &name),
+        in_order,
+    ))
+}
+
+#[test]
+fn writes_in_any_order(rt: HostRuntime) -> Result<(), Fail> {
+    assert_eq!(rt; scattered_writes(rt.alloc())?, (1009, 1009, true));
     Ok(())
 }
 
@@ -219,18 +320,21 @@ fn range_of(alloc: Global, low: End, high: End) -> Result<KeyRange, Fail> {
     Ok(KeyRange { low, high })
 }
 
-/// Keys of two columns in rising order. The row of each is its place.
-const KEYS: [&[Cell]; 6] = [
-    &[Number(1), Letters("a")],
-    &[Number(1), Letters("b")],
-    &[Number(2), Letters("a")],
-    &[Number(2), Letters("ab")],
-    &[Number(3), Letters("")],
-    &[Letters("x"), Number(0)],
+/// Keys of two columns in falling order, each with its place in the rising one.
+const KEYS: [(i64, &[Cell]); 6] = [
+    (5, &[Letters("x"), Number(0)]),
+    (4, &[Number(3), Letters("")]),
+    (3, &[Number(2), Letters("ab")]),
+    (2, &[Number(2), Letters("a")]),
+    (1, &[Number(1), Letters("b")]),
+    (0, &[Number(1), Letters("a")]),
 ];
 
+/// The ends of a range, and the places of the keys in it.
+type Ranged = (End, End, &'static [i64]);
+
 /// Ranges, and the places of the keys in them.
-const RANGES: [(End, End, &[i64]); 12] = [
+const RANGES: [Ranged; 12] = [
     (Open, Open, &[0, 1, 2, 3, 4, 5]),
     (At(&[Number(1)]), At(&[Number(1)]), &[0, 1]),
     (Beside(&[Number(1)]), At(&[Number(2)]), &[2, 3]),
@@ -253,67 +357,121 @@ const RANGES: [(End, End, &[i64]); 12] = [
     (At(&[Number(2)]), Beside(&[Number(1)]), &[]),
 ];
 
-/// A workspace that has the keys in one table, put from the last to the first, and other keys before
-/// and behind in others.
+fn write_place(
+    alloc: Global,
+    workspace: &mut Workspace,
+    place: i64,
+    cells: &[Cell],
+) -> Result<(), Fail> {
+    let name = Name::of(alloc, b"b")?;
+    let key = key(alloc, cells)?;
+    write_row(workspace, name, key, row_of(alloc, Some(place))?)
+}
+
+const OTHERS: [Written; 2] = [("a", 1, Some(10)), ("c", 2, Some(11))];
+
+/// A workspace that has the keys in one table, each with its place, and other keys before and behind in
+/// others.
 fn ranged(alloc: Global) -> Result<Workspace, Fail> {
-    let mut workspace = Workspace::new(alloc);
-    write(alloc, &mut workspace, "a", 1, Some(10))?;
-    write(alloc, &mut workspace, "c", 2, Some(11))?;
-    for (place, cells) in KEYS.iter().enumerate().rev() {
-        let name = Name::of(alloc, b"b")?;
-        let row = row(alloc, place as i64)?;
-        workspace.write(name, key(alloc, cells)?, Some(row))?;
+    let mut workspace = written(alloc, &OTHERS)?;
+    for (place, cells) in &KEYS {
+        write_place(alloc, &mut workspace, *place, cells)?;
     }
     Ok(workspace)
 }
 
-/// Goes over the writes to the keys of a range, and stays behind the last one.
-fn expect_ranged(
-    rt: &impl Abort,
-    alloc: Global,
-    workspace: &Workspace,
-    range: &KeyRange,
-    wanted: &[i64],
-) -> Result<(), Fail> {
-    let name = Name::of(alloc, b"b")?;
-    let mut ahead = workspace.range(&name, range);
+/// Whether no write is ahead, also where it is sought further on.
+fn stays_behind(ahead: &mut WritesAhead<'_, '_>) -> bool {
+    if ahead.get().is_some() {
+        return false;
+    }
+    ahead.advance();
+    ahead.get().is_none()
+}
+
+/// Whether the writes to the keys of a range have rows of these numbers.
+fn has_rows(workspace: &Workspace, table: &Name, range: &KeyRange, wanted: &[i64]) -> bool {
+    let mut ahead = workspace.range(table, range);
     for place in wanted {
-        let (_, row) = ahead.get().ok_or("no write")?;
-        assert_eq!(rt; row.and_then(|row| number(row)), Some(*place));
+        if number_ahead(&ahead) != Some(*place) {
+            return false;
+        }
         ahead.advance();
     }
-    assert!(rt; ahead.get().is_none());
-    ahead.advance();
-    assert!(rt; ahead.get().is_none());
-    Ok(())
+    stays_behind(&mut ahead)
+}
+
+/// Whether a workspace gives the rows of these places in a range.
+fn gives(alloc: Global, workspace: &Workspace, ranged: &Ranged) -> Result<bool, Fail> {
+    let (low, high, wanted) = *ranged;
+    let name = Name::of(alloc, b"b")?;
+    let range = range_of(alloc, low, high)?;
+    Ok(has_rows(workspace, &name, &range, wanted))
 }
 
 #[test]
 fn goes_over_ranges_of_keys(rt: HostRuntime) -> Result<(), Fail> {
-    let alloc = rt.alloc();
-    let workspace = ranged(alloc)?;
-    for (low, high, wanted) in &RANGES {
-        let range = range_of(alloc, *low, *high)?;
-        expect_ranged(&rt, alloc, &workspace, &range, wanted)?;
-        expect_ranged(&rt, alloc, &Workspace::new(alloc), &range, &[])?;
+    let workspace = ranged(rt.alloc())?;
+    for ranged in &RANGES {
+        assert!(rt; gives(rt.alloc(), &workspace, ranged)?, "{ranged:?}");
     }
     Ok(())
+}
+
+/// Whether a workspace gives no rows in a range.
+fn gives_none(alloc: Global, workspace: &Workspace, ranged: &Ranged) -> Result<bool, Fail> {
+    let (low, high, _) = *ranged;
+    gives(alloc, workspace, &(low, high, &[]))
+}
+
+/// A workspace with no writes.
+fn unwritten(alloc: Global) -> Workspace {
+    Workspace::new(alloc)
+}
+
+#[test]
+fn goes_over_ranges_of_nothing(rt: HostRuntime) -> Result<(), Fail> {
+    let workspace = unwritten(rt.alloc());
+    for ranged in &RANGES {
+        assert!(rt; gives_none(rt.alloc(), &workspace, ranged)?, "{ranged:?}");
+    }
+    Ok(())
+}
+
+/// Whether the only write to the keys of a range is a removal.
+fn has_removal(workspace: &Workspace, table: &Name, range: &KeyRange) -> bool {
+    let mut ahead = workspace.range(table, range);
+    match ahead.get() {
+        Some((_, None)) => {
+            ahead.advance();
+            ahead.get().is_none()
+        }
+        _ => false,
+    }
+}
+
+const REMOVAL: [Written; 2] = [("a", 1, None), ("a", 2, Some(20))];
+
+fn puts_in(workspace: &Workspace, table: &Name) -> usize {
+    workspace.of_table(table).count_puts()
+}
+
+fn only_removes(alloc: Global, workspace: &Workspace, table: &Name) -> Result<bool, Fail> {
+    let range = range_of(alloc, At(&[Number(1)]), At(&[Number(1)]))?;
+    Ok(has_removal(workspace, table, &range))
+}
+
+/// How many rows are written beside a removal, and whether it is the only write to its key.
+fn removal(alloc: Global) -> Result<(usize, bool), Fail> {
+    let workspace = written(alloc, &REMOVAL)?;
+    let name = Name::of(alloc, b"a")?;
+    let only = only_removes(alloc, &workspace, &name)?;
+    Ok((puts_in(&workspace, &name), only))
 }
 
 /// A removal is a write too, and counts as no row.
 #[test]
 fn goes_over_removals(rt: HostRuntime) -> Result<(), Fail> {
-    let alloc = rt.alloc();
-    let mut workspace = Workspace::new(alloc);
-    write(alloc, &mut workspace, "a", 1, None)?;
-    write(alloc, &mut workspace, "a", 2, Some(20))?;
-    let name = Name::of(alloc, b"a")?;
-    assert_eq!(rt; workspace.of_table(&name).count_puts(), 1);
-    let range = range_of(alloc, At(&[Number(1)]), At(&[Number(1)]))?;
-    let mut ahead = workspace.range(&name, &range);
-    let (_, row) = ahead.get().ok_or("no write")?;
-    assert!(rt; row.is_none());
-    ahead.advance();
-    assert!(rt; ahead.get().is_none());
+    assert_eq!(rt; removal(rt.alloc())?, (1, true));
     Ok(())
 }
