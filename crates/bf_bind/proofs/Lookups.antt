@@ -3,16 +3,15 @@ use Rattle.std.proofs.Common.{◌≡◌, ℕ, ◌≤◌, Bool, true, false, cond
 use Rattle.std.proofs.lemmas.Bool.{cases_Bool, leb-true}
 use Rattle.std.specs.List.{list_all, list_any}
 use Rattle.std.specs.Option.{option_map}
-use Rattle.std.proofs.lemmas.Simd.{map-map}
 use Rattle.bf_base.specs.Limits.{most_columns}
 use Rattle.bf_base.specs.declared.table.Table.{Table}
 use Rattle.bf_base.specs.Lists.{same_name}
 use Rattle.bf_tree.specs.declared.catalog.Catalog.{Catalog}
 use Rattle.bf_tree.specs.declared.catalog.IndexRule.{IndexRule}
 use Rattle.bf_tree.specs.Limits.{HasNarrowTables, is_narrow}
-use Rattle.bf_tree.specs.Places.{AreByName, index_named, table_named}
+use Rattle.bf_tree.specs.Places.{index_named, table_named}
 use Rattle.bf_sql.specs.Bound.{without_rows, table_without_rows}
-use Rattle.bf_sql.specs.Database.{IsDatabase, Stored, no_table, stored_at, table_at}
+use Rattle.bf_sql.specs.Database.{Stored, no_table, stored_at, table_at}
 use Rattle.bf_sql.specs.Objections.{table_objections}
 use Rattle.bf_tree.specs.Settling.{first_of}
 use Rattle.bf_tree.specs.declared.reply.Refusal.TheVariants.{NoTable}
@@ -52,9 +51,6 @@ absent_of : (o : Option Stored) (name : List ℕ) → o ≡ None → first_of (t
 absent_of o name e = rw e refl
 
 module _ (catalog : Catalog) where
-  pub tables_by_name : IsDatabase (without_rows catalog) → AreByName catalog.tables
-  tables_by_name database = rw map-map at database.tables_by_name
-
   pub stored-named : (name : List ℕ) → stored_at (without_rows catalog) name ≡ option_map table_without_rows (table_named catalog name)
   stored-named name = find-without_rows name catalog.tables
 

@@ -1,21 +1,20 @@
 -- Parts of the definitions, as the functions of this crate have them.
-use Rattle.std.specs.Prelude.{ℕ, Bool, false, not, ◌&&◌, ◌==◌, List, [], ◌++◌, map, slice_get, Option, Some, None, Result, Ok, Err}
+use Rattle.std.specs.Prelude.{ℕ, Bool, not, ◌&&◌, List, [], ◌++◌, map, Option, Result, Ok, Err}
 use Rattle.std.specs.Global.{Box}
-use Rattle.std.specs.List.{filter_map}
 use Rattle.bf_base.specs.declared.value.Value.{Value}
 use Rattle.bf_base.specs.declared.table.Column.{Column}
 use Rattle.bf_base.specs.declared.table.Kind.{Kind}
 use Rattle.bf_base.specs.declared.table.Table.{Table}
 use Rattle.bf_base.specs.Lists.{has, same_name, when}
 use Rattle.bf_base.specs.Tables.{kind_admitted, kind_of, same_kind}
-use Rattle.bf_tree.specs.Trees.{Expr, literal, column, Cond, expr_over, cond_over}
+use Rattle.bf_tree.specs.Trees.{Expr, Cond, expr_over, cond_over}
 use Rattle.bf_tree.specs.declared.raw.Ref.{Ref}
 use Rattle.bf_tree.specs.declared.reply.Refusal.{Refusal}
 use Rattle.bf_tree.specs.declared.reply.Refusal.TheVariants.{NoColumn}
 use Rattle.bf_tree.specs.declared.statement.ColumnRule.{ColumnRule}
 use Rattle.bf_tree.specs.declared.statement_error.StatementError.{StatementError}
 use Rattle.bf_sql.specs.Bound.{cond_in, place_in}
-use Rattle.bf_sql.specs.Conditions.{conjuncts, fixed_key, value_fixed}
+use Rattle.bf_sql.specs.Conditions.{fixed_key}
 use Rattle.bf_sql.specs.Database.{Database, stored_at}
 use Rattle.bf_sql.specs.Meaning.{admit_of}
 use Rattle.bf_sql.specs.Objections.{column_names, rule_names, form_objections, set_objections, table_objections}
@@ -88,15 +87,3 @@ new_column rule = record { name = rule.name; admits = admit_of rule.form }
 -- whether a value is of its column's kind
 abbrev pub is_of_kind : Column × Value → Bool
 is_of_kind p = same_kind (kind_of p.1) (kind_admitted p.0.admits)
-
--- the value that the first conjunct which fixes a column fixes it to
-abbrev pub first_fixed : Cond ℕ → ℕ → Option Value
-first_fixed cond place = slice_get (filter_map (value_fixed place) (conjuncts cond)) 0
-
-abbrev pub literal_of : Expr ℕ → Option Value
-literal_of (literal v) = Some v
-literal_of e = None
-
-abbrev pub is_column_at : ℕ → Expr ℕ → Bool
-is_column_at place (column at) = at == place
-is_column_at place e = false

@@ -263,7 +263,7 @@ fn changes_schema(statement: &Statement, in_block: bool) -> bool
 
 /// A statement bound in a catalog, in a block or outside: the first objection of the catalog, or
 /// what the statement is to do. Its time is linear in the statement, but that each name is looked
-/// up: a table or an index by binary search, a column among those of its table.
+/// up: a table or an index by about log n compares of names, a column among those of its table.
 ///
 /// # Errors
 /// Memory ran out.
@@ -282,12 +282,12 @@ pub fn bind(
     let schema_change = changes_schema(statement, in_block);
     match bind_action(alloc, statement, catalog, in_block) {
         Ok(action) => Ok(Bound {
-            catalog: catalog.number,
+            catalog: catalog.number(),
             schema_change,
             action,
         }),
         Err(StatementError::Refused(refusal)) => Ok(Bound {
-            catalog: catalog.number,
+            catalog: catalog.number(),
             schema_change,
             action: Action::Refused(refusal),
         }),

@@ -1,9 +1,9 @@
 -- How a heap is kept: the rows in pages, and pages for the room.
-use Rattle.std.specs.Prelude.{◌≡◌, ℕ, ◌+◌, ◌-◌, ◌*◌, ◌<◌, ◌≤◌, Bool, true, false, nat_lt, List, [], ◌∷◌, length, IsTrue, slice_index_or, slice_set}
+use Rattle.std.specs.Prelude.{◌≡◌, ℕ, ℤ, negsuc, ◌+◌, ◌-◌, ◌*◌, ◌<◌, ◌≤◌, Bool, true, false, nat_lt, List, [], ◌∷◌, length, IsTrue, slice_index_or, slice_set}
 use Rattle.std.specs.List.{flat_map, list_all, insert, remove}
 use Rattle.std.specs.Ordering.{is_gt}
 use Rattle.bf_base.specs.declared.value.Value.{Value}
-use Rattle.bf_base.specs.Values.{key_cmp}
+use Rattle.bf_base.specs.Values.{key_cmp, rank_of}
 use Rattle.bf_heap.specs.Heaps.{Entry, IsHeap}
 
 -- the rows of the pages, one page behind the other
@@ -18,6 +18,11 @@ is_empty_page (e ∷ es) = false
 abbrev pub is_used_page : List Entry → Bool
 is_used_page [] = false
 is_used_page (e ∷ es) = nat_lt (length es) 64
+
+-- the rank of a page's first key
+abbrev pub rank_of_page : List Entry → ℤ
+rank_of_page [] = negsuc 9223372036854775807
+rank_of_page (e ∷ es) = rank_of e.0
 
 -- whether a page's first key is greater than a key
 abbrev pub begins_behind : List Value → List Entry → Bool

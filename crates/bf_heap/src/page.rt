@@ -6,7 +6,7 @@ ghost use Rattle.std.specs.List.Sorted.{IsBinarySearchResult, IsSearchInRange};
 ghost use Rattle.bf_base.specs.Values.{key_cmp};
 ghost use Rattle.bf_heap.specs.Heaps.{Entry};
 ghost use Rattle.bf_heap.specs.KeyRanges.{is_before, is_behind};
-ghost use Rattle.bf_heap.specs.Pages.{begins_behind, ends_with};
+ghost use Rattle.bf_heap.specs.Pages.{begins_behind, ends_with, rank_of_page};
 
 use crate::key_range::KeyRange;
 use bf_base::{Key, Memory, Row};
@@ -24,18 +24,43 @@ pub const HALF: usize = 32;
 /// At most 64 rows under their keys, and the memory for 64.
 #[derive(Drop)]
 pub struct Page {
+    // The rank of the first key. It stands in the page, and mostly tells what the key behind two
+    // pointers would.
+    rank: i64,
     rows: Vec<(Key, Row)>,
 }
 
 impl Model for Page {
-    ghost use Rattle.std.specs.Prelude.{◌≤◌, List, length, vec_capacity};
+    ghost use Rattle.std.specs.Prelude.{◌≡◌, ◌≤◌, List, length, vec_capacity};
     ghost use Rattle.bf_heap.specs.Heaps.{Entry};
+    ghost use Rattle.bf_heap.specs.Pages.{rank_of_page};
 
     ghost Value = { List Entry };
 
     ghost view = { λ page. page.rows.items };
 
-    ghost invariant = { λ page. (length page.rows.items ≤ 64) × (64 ≤ vec_capacity page.rows) };
+    ghost invariant = { λ page. (length page.rows.items ≤ 64) × (64 ≤ vec_capacity page.rows)
+        × (page.rank ≡ rank_of_page page.rows.items) };
+}
+
+/// The rank of the first key of some rows. Takes no memory.
+fn rank_of_rows(rows: &[(Key, Row)]) -> i64
+    ensures { result ≡ rank_of_page rows.now }
+{
+    match rows {
+        [] => i64::MIN,
+        [first, ..] => first.0.rank(),
+    }
+}
+
+/// Whether the first key of some rows is greater than a key. Takes no memory.
+fn first_is_behind(rows: &[(Key, Row)], key: &Key) -> bool
+    ensures { result ≡ begins_behind key.now rows.now }
+{
+    match rows {
+        [] => false,
+        [first, ..] => first.0.compare(key) == Ordering::Greater,
+    }
 }
 
 /// Moves the rows behind the first half to another list, the last one first. Takes no memory.
@@ -60,7 +85,10 @@ impl Page {
         ensures { IfOk result (λ page. page ≡ []) }
     {
         let rows = Vec::with_capacity(alloc, FULL)?;
-        Ok(Page { rows })
+        Ok(Page {
+            rank: i64::MIN,
+            rows,
+        })
     }
 
     /// The number of rows. Takes no memory.
@@ -75,9 +103,11 @@ impl Page {
     pub fn begins_behind(&self, key: &Key) -> bool
         ensures { result ≡ begins_behind key.now self.now }
     {
-        match self.rows.as_slice() {
-            [] => false,
-            [first, ..] => first.0.compare(key) == Ordering::Greater,
+        let (first, sought) = (self.rank, key.rank());
+        match first.cmp(&sought) {
+            Ordering::Less => false,
+            Ordering::Equal => first_is_behind(self.rows.as_slice(), key),
+            Ordering::Greater => true,
         }
     }
 
@@ -132,6 +162,9 @@ impl Page {
         requires room { length self.old < 64 }
         ensures { self.new ≡ insert self.old place (key, row) }
     {
+        if place == 0 {
+            self.rank = key.rank();
+        }
         self.rows.insert(place, (key, row)).unwrap();
     }
 
@@ -142,6 +175,9 @@ impl Page {
         ensures former { (d : Entry) → result ≡ (slice_index_or self.old place d).1 }
         ensures rows { self.new ≡ slice_set self.old place (key, row) }
     {
+        if place == 0 {
+            self.rank = key.rank();
+        }
         let former = mem::replace(&mut self.rows[place], (key, row));
         former.1
     }
@@ -152,7 +188,11 @@ impl Page {
         ensures former { (d : Entry) → result ≡ (slice_index_or self.old place d).1 }
         ensures rows { self.new ≡ remove self.old place }
     {
-        self.rows.remove(place).1
+        let former = self.rows.remove(place);
+        if place == 0 {
+            self.rank = rank_of_rows(self.rows.as_slice());
+        }
+        former.1
     }
 
     /// Moves the upper half of a full page to one without rows. Takes no memory.
@@ -164,5 +204,6 @@ impl Page {
     {
         move_half(&mut self.rows, &mut upper.rows);
         upper.rows.reverse();
+        upper.rank = rank_of_rows(upper.rows.as_slice());
     }
 }

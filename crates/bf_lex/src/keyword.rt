@@ -154,12 +154,22 @@ fn number_of_word(words: &[(u8, &str)], word: &[u8]) -> Option<u8>
     }
 }
 
-// The order of a word in lower case and of bytes whose letters are read as lower-case ones.
+// The order of a word in lower case and of bytes whose letters are read as lower-case ones. Most
+// differ in their first letters already.
 fn compare(word: &str, bytes: &[u8]) -> Ordering
     ensures { result ≡ name_cmp word.now (folded bytes.now) }
 {
-    word.as_bytes()
-        .iter()
+    let word = word.as_bytes();
+    if let ([first, ..], [byte, ..]) = (word, bytes) {
+        let (first, byte) = (*first, lower(*byte));
+        if first < byte {
+            return Ordering::Less;
+        }
+        if byte < first {
+            return Ordering::Greater;
+        }
+    }
+    word.iter()
         .copied()
         .cmp(bytes.iter().map(|byte| lower(*byte)))
 }

@@ -1,93 +1,81 @@
--- Tables with their heaps, and the database that they are.
-use Rattle.std.proofs.Common.{◌≡◌, ℕ, suc, ◌<◌, false, List, [], ◌∷◌, map, length, get_or, find, Option, Some, None, option_map, refl, sym, ap, subst, ◌∙◌, arith, Equal}
+-- Tables with their rows, and the database that they are.
+use Rattle.std.proofs.Common.{◌≡◌, ℕ, suc, List, [], ◌∷◌, map, cond, find, Bor, Option, Some, None, option_map, true, false, refl, sym, ap, ◌∙◌, arith, is_eq}
 use Rattle.std.specs.Prelude.{zip}
-use Rattle.std.proofs.lemmas.List.{get_or-map, length-map}
-use Rattle.std.proofs.lemmas.Slice.Zip.{get_or-zip}
+use Rattle.std.specs.BTreeMap.{is_at}
+use Rattle.std.specs.List.{All}
+use Rattle.std.specs.Map.{keys_of, lookup, values_of}
+use Rattle.std.specs.Option.{option_copied}
 use Rattle.bf_base.specs.declared.table.Table.{Table}
 use Rattle.bf_base.specs.Lists.{name_cmp, same_name}
-use Rattle.bf_base.proofs.Names.{name_cmp_total, same_name-tie}
-use Rattle.bf_base.proofs.Order.{look_up, look_up-at}
-use Rattle.bf_base.proofs.Ties.{name_ties}
-use Rattle.bf_heap.specs.Heaps.{Rows}
+use Rattle.bf_base.proofs.Names.{same_name-tie_back}
+use Rattle.bf_heap.specs.Heaps.{Entry, Rows}
 use Rattle.bf_query.specs.Meanings.{entries_of}
-use Rattle.bf_tree.specs.declared.catalog.Catalog.{Catalog}
-use Rattle.bf_sql.specs.Database.{Database, Stored, no_table, stored_at}
-use Rattle.bf_tree.specs.Places.{AreByName, IsPlaceOf}
-use Rattle.bf_tree.proofs.ByName.{no_match, other_name}
+use Rattle.bf_tree.specs.Catalogs.{Catalog}
+use Rattle.bf_sql.specs.Database.{Database, Stored, stored_at}
 use Rattle.bf_sql.specs.Bound.{catalog_of}
-use Rattle.bf_live.specs.Live.{AreLiveTables, IsUnderOwnKeys, database_of, stored}
+use Rattle.bf_live.specs.Live.{AreLiveTables, IsUnderOwnKeys, NamedHeap, NamedRows, database_of, rows_in, stored}
 
 abbrev pub name_of : Stored → List ℕ
 name_of s = s.table.name
 
 -- the tables of live tables
-abbrev pub held : List Table → List Rows → List Stored
-held tables heaps = map stored (zip tables heaps)
+abbrev pub held : List Table → List NamedRows → List Stored
+held tables rows = map stored (zip tables (values_of rows))
 
-tables_held : (tables : List Table) (heaps : List Rows) → length heaps ≡ length tables → map (λ s. s.table) (held tables heaps) ≡ tables
-tables_held [] heaps same = refl
-tables_held (t ∷ tables) [] same = absurd (omega arith)
-tables_held (t ∷ tables) (h ∷ heaps) same = ap (λ ts. t ∷ ts) (tables_held tables heaps (omega arith))
+-- the rows stand under the names of the tables
+abbrev pub OneEach : List Table → List NamedRows → Type 0
+OneEach tables rows = keys_of rows ≡ map (λ t. t.name) tables
 
-names_held : (tables : List Table) (heaps : List Rows) → length heaps ≡ length tables → map name_of (held tables heaps) ≡ map (λ t. t.name) tables
-names_held [] heaps same = refl
-names_held (t ∷ tables) [] same = absurd (omega arith)
-names_held (t ∷ tables) (h ∷ heaps) same = ap (λ ns. t.name ∷ ns) (names_held tables heaps (omega arith))
+tables_held : (tables : List Table) (rows : List NamedRows) → OneEach tables rows → map (λ s. s.table) (held tables rows) ≡ tables
+tables_held [] rows one_each = refl
+tables_held (t ∷ ts) [] one_each = absurd cc
+tables_held (t ∷ ts) (r ∷ rs) one_each =
+    let rest : OneEach ts rs = cc in
+    ap (λ ts. t ∷ ts) (tables_held ts rs rest)
 
-pub length-zipped : (tables : List Table) (heaps : List Rows) → length heaps ≡ length tables → length (zip tables heaps) ≡ length tables
-length-zipped [] heaps same = refl
-length-zipped (t ∷ tables) [] same = absurd (omega arith)
-length-zipped (t ∷ tables) (h ∷ heaps) same = ap suc (length-zipped tables heaps (omega arith))
+-- the rows under a name are those of the table that has it
+under_name : (name : List ℕ) (tables : List Table) (rows : List NamedRows) → OneEach tables rows → All IsUnderOwnKeys (zip tables (values_of rows))
+    → lookup (is_at (name_cmp name)) rows ≡ option_map (λ (s : Stored). entries_of s.table s.rows) (find (λ (s : Stored). same_name s.table.name name) (held tables rows))
+under_name name [] [] one_each own = refl
+under_name name [] (r ∷ rs) one_each own = absurd cc
+under_name name (t ∷ ts) [] one_each own = absurd cc
+under_name name (t ∷ ts) (r ∷ rs) one_each own =
+    let named : r.0 ≡ t.name = cc in
+    let rest : OneEach ts rs = cc in
+    let here : r.1 ≡ entries_of t (map (λ e. e.1) r.1) = own 0 (t, r.1) (omega arith) in
+    let same : is_eq (name_cmp name r.0) ≡ same_name t.name name = ap (λ n. is_eq (name_cmp name n)) named ∙ sym (same_name-tie_back t.name name) in
+    let others = under_name name ts rs rest (λ k d below. own (suc k) d (omega arith)) in
+    ap (λ b. cond b (Some r.1) (lookup (is_at (name_cmp name)) rs)) same
+    ∙ ap (λ es. cond (same_name t.name name) (Some es) (lookup (is_at (name_cmp name)) rs)) here
+    ∙ ap (cond (same_name t.name name) (Some (entries_of t (map (λ e. e.1) r.1)))) others
+    ∙ elim (same_name t.name name) as (λ b. cond b (Some (entries_of t (map (λ e. e.1) r.1))) (option_map (λ (s : Stored). entries_of s.table s.rows) (find (λ (s : Stored). same_name s.table.name name) (held ts rs)))
+    ≡ option_map (λ (s : Stored). entries_of s.table s.rows) (cond b (Some (stored (t, r.1))) (find (λ (s : Stored). same_name s.table.name name) (held ts rs)))) [ true ↦ refl | false ↦ refl ]
 
-in_zip : (tables : List Table) (heaps : List Rows) (i : ℕ) → length heaps ≡ length tables → i < length tables → i < length (zip tables heaps)
-in_zip tables heaps i same in_range = omega (arith, length-zipped tables heaps same)
+-- what is looked up among heaps has the rows that are looked up among theirs
+pub rows_found : (name : List ℕ) (heaps : List NamedHeap) → option_map (λ (h : Rows). h.entries) (lookup (is_at (name_cmp name)) heaps) ≡ lookup (is_at (name_cmp name)) (rows_in heaps)
+rows_found name [] = refl
+rows_found name (h ∷ hs) = elim (is_eq (name_cmp name h.0)) as (λ b. option_map (λ (h : Rows). h.entries) (cond b (Some h.1) (lookup (is_at (name_cmp name)) hs)) ≡ cond b (Some h.1.entries) (lookup (is_at (name_cmp name)) (rows_in hs))) [
+  | true ↦ refl
+  | false ↦ rows_found name hs
+]
 
-in_held : (tables : List Table) (heaps : List Rows) (i : ℕ) → length heaps ≡ length tables → i < length tables → i < length (held tables heaps)
-in_held tables heaps i same in_range = omega (arith, length-map (zip tables heaps) stored, length-zipped tables heaps same)
+entries_seen : (o : Option (Bor Rows)) → option_map (λ (h : Bor Rows). h.now.entries) o ≡ option_map (λ (h : Rows). h.entries) (option_copied o)
+entries_seen None = refl
+entries_seen (Some h) = refl
 
-pub stored_held : (tables : List Table) (heaps : List Rows) (i : ℕ) (s : Stored) (t : Table) (h : Rows) → length heaps ≡ length tables → i < length tables → get_or (held tables heaps) i s ≡ stored (get_or tables i t, get_or heaps i h)
-stored_held tables heaps i s t h same in_range =
-    get_or-map stored (zip tables heaps) i (t, h) s (in_zip tables heaps i same in_range)
-    ∙ ap stored (get_or-zip tables heaps i (t, h) in_range (omega arith))
-
-module _ (catalog : Catalog) (heaps : List Rows) (live : AreLiveTables catalog heaps) where
-  pub by_name : AreByName catalog.tables
-  by_name = rw (← names_held catalog.tables heaps live.one_each) live.database.tables_by_name
-
-  pub catalog_held : (db : Database) → database_of catalog heaps ≡ db → catalog ≡ catalog_of db
-  catalog_held db is =
-      ap (λ ts. record { number = catalog.number; tables = ts; indexes = catalog.indexes }) (sym (tables_held catalog.tables heaps live.one_each))
+module _ (catalog : Catalog) (rows : List NamedRows) (live : AreLiveTables catalog rows) (db : Database) (is : database_of catalog rows ≡ db) where
+  pub catalog_held : catalog ≡ catalog_of db
+  catalog_held =
+      ap (λ ts. record { number = catalog.number; tables = ts; indexes = catalog.indexes }) (sym (tables_held catalog.tables rows live.one_each))
       ∙ ap catalog_of is
 
-  module _ (db : Database) (is : database_of catalog heaps ≡ db) (name : List ℕ) where
-    found_by_order : stored_at db name ≡ look_up name_cmp name_of (held catalog.tables heaps) name
-    found_by_order = ap (λ (db : Database). stored_at db name) (sym is) ∙ (λ i. find (λ s. same_name-tie s.table.name name i) (held catalog.tables heaps))
+  pub rows_held : (name : List ℕ) → lookup (is_at (name_cmp name)) rows ≡ option_map (λ (s : Stored). entries_of s.table s.rows) (stored_at db name)
+  rows_held name =
+      under_name name catalog.tables rows live.one_each live.under_own_keys
+      ∙ ap (λ (db : Database). option_map (λ (s : Stored). entries_of s.table s.rows) (stored_at db name)) is
 
-    -- the heap at the place of a name has the rows of the table of that name
-    pub heap_found : (place : ℕ) (heap : Rows) → IsPlaceOf catalog.tables name (Some place) → heap ≡ get_or heaps place heap → Some heap.entries ≡ option_map (λ s. entries_of s.table s.rows) (stored_at db name)
-    heap_found place heap at read =
-        let tables = catalog.tables in
-        let none : Stored = record { table = no_table; rows = [] } in
-        let in_range : place < length tables = at.within in
-        let there = stored_held tables heaps place none no_table heap live.one_each in_range in
-        let tied : name_cmp (name_of (get_or (held tables heaps) place none)) name ≡ Equal = (name_ties _ name).1 (ap name_of there ∙ (at.alone place no_table in_range).1 refl) in
-        let found = look_up-at name_cmp_total name_of (held tables heaps) place name none live.database.tables_by_name (in_held tables heaps place live.one_each in_range) tied in
-        let own : IsUnderOwnKeys (get_or (zip tables heaps) place (no_table, heap)) = live.under_own_keys place (no_table, heap) (in_zip tables heaps place live.one_each in_range) in
-        let own_here : IsUnderOwnKeys (get_or tables place no_table, get_or heaps place heap) = subst IsUnderOwnKeys (get_or-zip tables heaps place (no_table, heap) in_range (omega (arith, live.one_each))) own in
-        ap (λ (h : Rows). Some h.entries) read
-        ∙ ap Some own_here
-        ∙ sym (ap (option_map (λ (s : Stored). entries_of s.table s.rows)) (found_by_order ∙ found ∙ ap Some there))
-
-    pub heap_nowhere : IsPlaceOf catalog.tables name None → None ≡ option_map (λ s. entries_of s.table s.rows) (stored_at db name)
-    heap_nowhere at =
-        let tables = catalog.tables in
-        let apart : (i : ℕ) (s : Stored) → i < length (held tables heaps) → same_name (get_or (held tables heaps) i s).table.name name ≡ false = λ i s below.
-        let in_range : i < length tables = omega (arith, length-map (zip tables heaps) stored, length-zipped tables heaps live.one_each) in
-        let there = stored_held tables heaps i s no_table (record { entries = []; spare = 0 }) live.one_each in_range in
-        ap (λ (s : Stored). same_name s.table.name name) there ∙ other_name _ name (λ same. nothing i ((at.alone i no_table in_range).0 same))
-        in
-        sym (ap (λ (db : Database). option_map (λ (s : Stored). entries_of s.table s.rows) (stored_at db name)) (sym is)
-        ∙ ap (option_map (λ (s : Stored). entries_of s.table s.rows)) (no_match (λ s. same_name s.table.name name) (held tables heaps) apart))
-      where
-        nothing : (i : ℕ) → ◌≡◌ {A = Option ℕ} None (Some i) → ⊥
-        nothing i e = absurd cc
+-- a heap that is found by a name has the rows of the table of that name
+pub heap_held : (catalog : Catalog) (heaps : List NamedHeap) → AreLiveTables catalog (rows_in heaps) → (db : Database) → database_of catalog (rows_in heaps) ≡ db → (name : List ℕ) (found : Option (Bor Rows))
+    → option_copied found ≡ lookup (is_at (name_cmp name)) heaps → option_map (λ (h : Bor Rows). h.now.entries) found ≡ option_map (λ (s : Stored). entries_of s.table s.rows) (stored_at db name)
+heap_held catalog heaps live db is name found looked_up =
+    entries_seen found ∙ ap (option_map (λ (h : Rows). h.entries)) looked_up ∙ rows_found name heaps ∙ rows_held catalog (rows_in heaps) live db is name

@@ -1,5 +1,6 @@
 mod Committed
 mod Created
+mod Heaps
 mod Held
 mod Written
 pub mod keeps

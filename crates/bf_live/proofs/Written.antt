@@ -1,31 +1,28 @@
--- Heaps under writes, one by one.
-use Rattle.std.proofs.Common.{◌≡◌, ℕ, zero, suc, ◌+◌, ◌<◌, ◌≤◌, ◌⊎◌, true, false, cond, List, [], ◌∷◌, ◌++◌, map, fold, length, get_or, set, Option, Some, None, IfSome, is_some, refl, sym, ap, subst, ◌∙◌, inl, inr, arith, is_eq}
-use Rattle.std.proofs.lemmas.Bool.{cases_Bool, false≢true}
-use Rattle.std.proofs.lemmas.Grind.{flat_map-append, fold-append, get_or-set_at}
-use Rattle.std.proofs.lemmas.List.{append-nil, append_assoc, map-append, get_or_default, get_or-set_other, get_or-set_same, length-set}
+-- Heaps under writes, table by table.
+use Rattle.std.proofs.Common.{◌≡◌, ℕ, suc, ◌+◌, ◌≤◌, ◌⊎◌, true, false, cond, List, [], ◌∷◌, ◌++◌, map, fold, get_or, Less, Greater, Some, Option, unwrap_or, is_some, refl, sym, ap, ap₂, subst, ◌∙◌, inl, inr, arith}
+use Rattle.std.specs.BTreeMap.{is_at}
+use Rattle.std.specs.List.{All, AllByRecursion}
+use Rattle.std.specs.List.Sorted.{IsStrictlySortedBy}
+use Rattle.std.specs.Map.{keys_of, lookup, values_of}
+use Rattle.std.proofs.lemmas.Bool.{cases_Bool}
+use Rattle.std.proofs.lemmas.Cmp.{tied_itself}
+use Rattle.std.proofs.lemmas.Grind.{flat_map-append, fold-append}
+use Rattle.std.proofs.lemmas.List.{append-nil, append_assoc, map-append}
 use Rattle.std.proofs.lemmas.List.Sums.{sum_by-append}
-use Rattle.std.proofs.lemmas.Option.{same_Some}
-use Rattle.std.proofs.lemmas.List.Elements.{filter-append}
-use Rattle.bf_base.specs.declared.table.Table.{Table}
-use Rattle.bf_base.specs.Lists.{same_name}
-use Rattle.bf_base.proofs.Names.{same_name-tie}
-use Rattle.bf_base.proofs.Order.{equal_from_test}
-use Rattle.bf_base.proofs.Ties.{name_ties}
-use Rattle.bf_heap.specs.Heaps.{Entry, Rows}
-use Rattle.bf_query.specs.Merged.{applied, applied_to, entries_under}
-use Rattle.bf_sql.specs.Database.{no_table}
-use Rattle.bf_txn.specs.declared.write.Write.{Write}
-use Rattle.bf_txn.specs.Writes.{KeyWrite, OfTable, all_writes, key_write_of, key_writes_to, writes_in, writes_to}
-use Rattle.std.specs.Map.{values_of}
+use Rattle.std.proofs.lemmas.List.Elements.{All-cons, filter-append}
+use Rattle.std.proofs.lemmas.Map.Keys.{sorted_head, sorted_tail}
+use Rattle.bf_base.specs.Lists.{name_cmp, same_name}
 use Rattle.bf_base.specs.declared.value.Value.{Value}
-use Rattle.bf_live.specs.Commits.{AreWritten, HasRoom, HaveRoomFor, HaveRoomSoFar, key_puts, put_by, puts}
-use Rattle.bf_tree.specs.Places.{IsPlaceOf}
-
-is_same : (a b : List ℕ) → a ≡ b → same_name a b ≡ true
-is_same a b same = same_name-tie a b ∙ ap is_eq ((name_ties a b).1 same)
-
-is_one : (a b : List ℕ) → same_name a b ≡ true → a ≡ b
-is_one a b same = (name_ties a b).0 (equal_from_test _ (sym (same_name-tie a b) ∙ same))
+use Rattle.bf_base.proofs.Names.{name_cmp_total}
+use Rattle.bf_base.proofs.Order.{turned_less}
+use Rattle.bf_heap.specs.Heaps.{Entry}
+use Rattle.bf_query.specs.Merged.{applied, applied_to, entries_under}
+use Rattle.bf_txn.specs.declared.write.Write.{Write}
+use Rattle.bf_txn.specs.Writes.{AreTables, KeyWrite, OfTable, all_writes, key_write_of, key_writes_to, writes_at, writes_in, writes_to}
+use Rattle.bf_txn.proofs.Tables.{names_rise, written_to}
+use Rattle.bf_live.specs.Commits.{HasRoom, HasRoomIn, HaveRoomFor, HaveRoomSoFar, KeepRoom, LeaveRoom, key_puts, put_by, puts, taken_by, with_writes, with_writes_to}
+use Rattle.bf_live.specs.Live.{NamedHeap, NamedRows, rows_in}
+use Rattle.bf_live.proofs.Heaps.{is_one, is_same}
 
 -- ---- the number of rows that writes put
 puts_append : (first more : List Write) → puts (first ++ more) ≡ puts first + puts more
@@ -87,118 +84,84 @@ under_last entries writes n ws name same =
 pub one_more : (tables : List OfTable) (t : OfTable) → all_writes (tables ++ t ∷ []) ≡ all_writes tables ++ writes_in t.0 t.1
 one_more tables t = flat_map-append (λ (t : OfTable). writes_in t.0 t.1) tables (t ∷ []) ∙ ap (λ (vs : List Write). all_writes tables ++ vs) (append-nil (writes_in t.0 t.1))
 
-spare_kept : (heaps : List Rows) (place : ℕ) (new d : Rows) → (get_or heaps place d).spare ≤ new.spare → (i : ℕ) (h : Rows) → i < length heaps → (get_or heaps i h).spare ≤ (get_or (set heaps place new) i h).spare
-spare_kept [] place new d more i h in_range = absurd (omega arith)
-spare_kept (x ∷ heaps) zero new d more zero h in_range = more
-spare_kept (x ∷ heaps) zero new d more (suc i) h in_range = omega arith
-spare_kept (x ∷ heaps) (suc place) new d more zero h in_range = omega arith
-spare_kept (x ∷ heaps) (suc place) new d more (suc i) h in_range = spare_kept heaps place new d more i h (omega arith)
+-- ---- the writes to a table are those that stand under its name
+among : {X : Type 0} (P : List ℕ → Type 0) (ts : List (List ℕ × X)) (t : List ℕ × X) (rest : List (List ℕ × X)) → AllByRecursion P (keys_of (ts ++ t ∷ rest)) → P t.0
+among P [] t rest all = all.0
+among P (s ∷ ts) t rest all = among P ts t rest all.1
 
-nowhere : {A : Type 0} (p : ℕ) → ◌≡◌ {A = Option ℕ} None (Some p) → A
-nowhere p e = absurd cc
+at_its_name : (so_far rest : List OfTable) (t : OfTable) → IsStrictlySortedBy name_cmp (keys_of (so_far ++ t ∷ rest)) → lookup (is_at (name_cmp t.0)) (so_far ++ t ∷ rest) ≡ Some t.1
+at_its_name [] rest t sorted = rw (tied_itself name_cmp_total t.0) refl
+at_its_name (s ∷ so_far) rest t sorted =
+    let less = among (λ q. name_cmp s.0 q ≡ Less) so_far t rest (sorted_head name_cmp s.0 (keys_of (so_far ++ t ∷ rest)) sorted) in
+    let behind : name_cmp t.0 s.0 ≡ Greater = turned_less name_cmp_total s.0 t.0 less in
+    rw behind (at_its_name so_far rest t (sorted_tail name_cmp s.0 (keys_of (so_far ++ t ∷ rest)) sorted))
 
-module _ (tables : List Table) (n : List ℕ) (ws : List KeyWrite) (place : Option ℕ) (at : IsPlaceOf tables n place) where
-  -- a table is that of the name, or is another
-  this_or_other : (i : ℕ) (t : Table) → i < length tables → ((place ≡ Some i) × (same_name n (get_or tables i t).name ≡ true)) ⊎ ((place ≡ Some i → ⊥) × (same_name n (get_or tables i t).name ≡ false))
-  this_or_other i t in_range = elim (cases_Bool (same_name n (get_or tables i t).name)) [
-    | inl same ↦ inl ((at.alone i t in_range).0 (sym (is_one n (get_or tables i t).name same)), same)
-    | inr other ↦ inr ((λ is. false≢true (sym other ∙ is_same n (get_or tables i t).name (sym ((at.alone i t in_range).1 is)))), other)
-  ]
+pub own_puts : (so_far rest : List OfTable) (t : OfTable) (all : List Write) → AreTables (so_far ++ t ∷ rest) → all_writes (so_far ++ t ∷ rest) ≡ all → key_puts t.1 ≡ puts (writes_to t.0 all)
+own_puts so_far rest t all are is =
+    let tables = so_far ++ t ∷ rest in
+    let found : writes_at tables t.0 ≡ t.1 = ap (λ (o : Option (List KeyWrite)). unwrap_or o []) (at_its_name so_far rest t are.by_name) in
+    ap key_puts (sym found ∙ sym (written_to t.0 tables (names_rise tables are)) ∙ ap (key_writes_to t.0) is) ∙ puts_of t.0 all
 
-  -- a table gets its room when its writes come
-  pub room_step : (first all : List Write) (heaps heaps_now : List Rows) → HaveRoomSoFar first all tables heaps
-      → ((i : ℕ) (h : Rows) → i < length tables → (get_or heaps i h).spare ≤ (get_or heaps_now i h).spare)
-      → ((p : ℕ) (t : Table) (h : Rows) → place ≡ Some p → HasRoom all (get_or tables p t).name (get_or heaps_now p h))
-      → HaveRoomSoFar (first ++ writes_in n ws) all tables heaps_now
-  room_step first all heaps heaps_now so_far kept room_here i t h in_range = elim (this_or_other i t in_range) [
-    | inl this ↦ inr (room_here i t h this.0)
-    | inr other ↦ elim (so_far i t h in_range) [
-      | inl none ↦ inl (to_other first n ws (get_or tables i t).name other.1 ∙ none)
-      | inr room ↦ inr (omega (arith, room, kept i h in_range))
-    ]
-  ]
+-- ---- room
+-- a table gets its room when its writes come
+pub room_step : (first all : List Write) (n : List ℕ) (ws : List KeyWrite) (heaps now : List NamedHeap) → key_puts ws ≡ puts (writes_to n all) → HaveRoomSoFar first all heaps → KeepRoom heaps now → All (HasRoomIn n ws) now
+    → HaveRoomSoFar (first ++ writes_in n ws) all now
+room_step first all n ws [] [] own so_far kept room = λ i h below. absurd (omega arith)
+room_step first all n ws [] (g ∷ gs) own so_far kept room = absurd kept
+room_step first all n ws (h ∷ hs) [] own so_far kept room = absurd kept
+room_step first all n ws (h ∷ hs) (g ∷ gs) own so_far kept room =
+    All-cons (λ (heap : NamedHeap). (writes_to heap.0 (first ++ writes_in n ws) ≡ []) ⊎ HasRoom all heap) g gs
+    (elim (cases_Bool (same_name n g.0)) [
+      | inl same ↦
+          let is : n ≡ g.0 = is_one n g.0 same in
+          inr (omega (arith, room 0 g (omega arith) (sym is), own, ap (λ name. puts (writes_to name all)) is))
+      | inr other ↦ elim (so_far 0 h (omega arith)) [
+        | inl none ↦ inl (to_other first n ws g.0 other ∙ ap (λ name. writes_to name first) kept.0.0 ∙ none)
+        | inr enough ↦ inr (omega (arith, enough, kept.0.1, ap (λ name. puts (writes_to name all)) kept.0.0))
+      ]
+    ])
+    (room_step first all n ws hs gs own (λ k d below. so_far (suc k) d (omega arith)) kept.1 (λ k d below. room (suc k) d (omega arith)))
 
-  pub place_within : (p : ℕ) → place ≡ Some p → p < length tables
-  place_within p is = subst (λ (o : Option ℕ). IfSome o (λ p. p < length tables)) is at.within
+module _ (n : List ℕ) (ws : List KeyWrite) (rest : List Write) where
+  -- the room for the next writes to a table
+  pub room_for : (heaps : List NamedHeap) → HaveRoomFor (writes_in n ws ++ rest) heaps → All (HasRoomIn n ws) heaps
+  room_for heaps room i h below is =
+      let heap = get_or heaps i h in
+      omega (arith, room i h below, first_here n ws rest heap.0 (is_same n heap.0 (sym is)))
 
-  -- a heap that has got room for all writes to its table
-  module _ (first all : List Write) (heaps : List Rows) (one_each : length heaps ≡ length tables) (so_far : HaveRoomSoFar first all tables heaps) (p : ℕ) (new d : Rows) (is : place ≡ Some p)
-      (kept : (get_or heaps p d).spare ≤ new.spare) (enough : puts (writes_to n all) ≤ new.spare) where
-    pub room_there : (t : Table) (h : Rows) → HasRoom all (get_or tables p t).name (get_or (set heaps p new) p h)
-    room_there t h =
-        let in_range = place_within p is in
-        let now = get_or-set_same heaps p new h (omega (arith, one_each, in_range)) in
-        let named : puts (writes_to (get_or tables p t).name all) ≡ puts (writes_to n all) = ap (λ name. puts (writes_to name all)) ((at.alone p t in_range).1 is) in
-        omega (arith, enough, named, ap (λ (h : Rows). h.spare) now)
-
-    pub room_made : HaveRoomSoFar (first ++ writes_in n ws) all tables (set heaps p new)
-    room_made =
-        room_step first all heaps (set heaps p new) so_far (λ i h in_range. spare_kept heaps p new d kept i h (omega (arith, one_each, in_range)))
-        (λ q t h there. subst (λ i. HasRoom all (get_or tables i t).name (get_or (set heaps p new) i h)) (same_Some p q (sym is ∙ there)) (room_there t h))
-
-  -- no table has the name
-  pub room_passed : (first all : List Write) (heaps : List Rows) → place ≡ None → HaveRoomSoFar first all tables heaps → HaveRoomSoFar (first ++ writes_in n ws) all tables heaps
-  room_passed first all heaps none so_far = room_step first all heaps heaps so_far (λ i h in_range. omega arith) (λ p t h is. nowhere p (sym none ∙ is))
-
-  -- the heaps with the writes to a table in the one of that table
-  module _ (writes : List Write) (before heaps : List Rows) (written : AreWritten writes tables before heaps) where
-    pub passed : place ≡ None → AreWritten (writes ++ writes_in n ws) tables before heaps
-    passed none = record {
-      one_each = written.one_each;
-      entries = λ i t h in_range. elim (this_or_other i t in_range) [
-        | inl this ↦ nowhere i (sym none ∙ this.0)
-        | inr other ↦ written.entries i t h in_range ∙ ap (λ ws. fold applied (get_or before i h).entries ws) (sym (to_other writes n ws (get_or tables i t).name other.1))
-      ];
-    }
-
-    pub changed : (p : ℕ) (new d : Rows) → place ≡ Some p → p < length heaps → new.entries ≡ fold applied_to (get_or heaps p d).entries ws → AreWritten (writes ++ writes_in n ws) tables before (set heaps p new)
-    changed p new d is in_heaps means = record {
-      one_each = length-set heaps p new ∙ written.one_each;
-      entries = λ i t h in_range. elim (this_or_other i t in_range) [
-        | inl this ↦
-            let one : p ≡ i = same_Some p i (sym is ∙ this.0) in
-            ap (λ (h : Rows). h.entries) (get_or-set_at heaps p i new h (sym one) in_heaps) ∙ means
-            ∙ ap (λ (h : Rows). fold applied_to h.entries ws) (get_or_default heaps p d h in_heaps ∙ ap (λ j. get_or heaps j h) one)
-            ∙ ap (λ es. fold applied_to es ws) (written.entries i t h in_range)
-            ∙ sym (under_last (get_or before i h).entries writes n ws (get_or tables i t).name this.1)
+  -- and for those that are left
+  pub room_behind : (heaps now : List NamedHeap) → HaveRoomFor (writes_in n ws ++ rest) heaps → LeaveRoom (taken_by n ws) heaps now → HaveRoomFor rest now
+  room_behind [] [] room left = λ i h below. absurd (omega arith)
+  room_behind [] (g ∷ gs) room left = absurd left
+  room_behind (h ∷ hs) [] room left = absurd left
+  room_behind (h ∷ hs) (g ∷ gs) room left =
+      let here : puts (writes_to h.0 (writes_in n ws ++ rest)) ≤ h.1.spare = room 0 h (omega arith) in
+      let named : puts (writes_to g.0 rest) ≡ puts (writes_to h.0 rest) = ap (λ name. puts (writes_to name rest)) left.0.0 in
+      All-cons (HasRoom rest) g gs
+      (elim (cases_Bool (same_name n h.0)) [
+        | inl same ↦
+            let spare : h.1.spare ≤ g.1.spare + key_puts ws = rw same at left.0.1 in
+            omega (arith, here, named, spare, first_here n ws rest h.0 same)
         | inr other ↦
-            ap (λ (h : Rows). h.entries) (get_or-set_other heaps p i new h (λ same. other.0 (is ∙ ap Some (sym same))))
-            ∙ written.entries i t h in_range ∙ ap (λ ws. fold applied (get_or before i h).entries ws) (sym (to_other writes n ws (get_or tables i t).name other.1))
-      ];
-    }
+            let spare : h.1.spare ≤ g.1.spare + 0 = rw other at left.0.1 in
+            omega (arith, here, named, spare, ap puts (first_other n ws rest h.0 other))
+      ])
+      (room_behind hs gs (λ k d below. room (suc k) d (omega arith)) left.1)
 
-  -- the room for the writes that are left
-  module _ (rest : List Write) (heaps : List Rows) (room : HaveRoomFor (writes_in n ws ++ rest) tables heaps) where
-    pub room_for : (p : ℕ) (h : Rows) → place ≡ Some p → key_puts ws ≤ (get_or heaps p h).spare
-    room_for p h is =
-        let in_range = place_within p is in
-        let same = is_same n (get_or tables p no_table).name (sym ((at.alone p no_table in_range).1 is)) in
-        omega (arith, room p no_table h in_range, first_here n ws rest (get_or tables p no_table).name same)
+-- ---- rows
+pub no_writes : (rows : List NamedRows) → rows ≡ with_writes [] rows
+no_writes [] = refl
+no_writes (r ∷ rs) = ap (λ (others : List NamedRows). r ∷ others) (no_writes rs)
 
-    pub room_left : (p : ℕ) (new d : Rows) → place ≡ Some p → p < length heaps → (get_or heaps p d).spare ≤ new.spare + key_puts ws → HaveRoomFor rest tables (set heaps p new)
-    room_left p new d is in_heaps left i t h in_range = elim (this_or_other i t in_range) [
-      | inl this ↦
-          let one : p ≡ i = same_Some p i (sym is ∙ this.0) in
-          let now = get_or-set_at heaps p i new h (sym one) in_heaps in
-          let then : get_or heaps p d ≡ get_or heaps i h = get_or_default heaps p d h in_heaps ∙ ap (λ j. get_or heaps j h) one in
-          omega (arith, left, room i t h in_range, first_here n ws rest (get_or tables i t).name this.1, ap (λ (h : Rows). h.spare) now, ap (λ (h : Rows). h.spare) then)
-      | inr other ↦
-          let now = get_or-set_other heaps p i new h (λ same. other.0 (is ∙ ap Some (sym same))) in
-          omega (arith, room i t h in_range, ap puts (first_other n ws rest (get_or tables i t).name other.1), ap (λ (h : Rows). h.spare) now)
-    ]
-
-    pub room_stays : place ≡ None → HaveRoomFor rest tables heaps
-    room_stays none i t h in_range = elim (this_or_other i t in_range) [
-      | inl this ↦ nowhere i (sym none ∙ this.0)
-      | inr other ↦ omega (arith, room i t h in_range, ap puts (first_other n ws rest (get_or tables i t).name other.1))
-    ]
-
--- room for each table to which a write is, is room for each table
-pub all_have_room : (all : List Write) (tables : List Table) (heaps : List Rows) → HaveRoomSoFar all all tables heaps → HaveRoomFor all tables heaps
-all_have_room all tables heaps so_far i t h in_range = elim (so_far i t h in_range) [
-  | inl none ↦ omega (arith, ap puts none)
-  | inr room ↦ room
-]
+-- the rows with the writes to one more table
+pub rows_step : (first : List Write) (n : List ℕ) (ws : List KeyWrite) (rows : List NamedRows) → with_writes_to n ws (with_writes first rows) ≡ with_writes (first ++ writes_in n ws) rows
+rows_step first n ws [] = refl
+rows_step first n ws (r ∷ rs) =
+    let here : cond (same_name n r.0) (fold applied_to (entries_under r.1 first r.0) ws) (entries_under r.1 first r.0) ≡ entries_under r.1 (first ++ writes_in n ws) r.0 = elim (cases_Bool (same_name n r.0)) [
+      | inl same ↦ rw same (sym (under_last r.1 first n ws r.0 same))
+      | inr other ↦ rw other (ap (λ (vs : List Write). fold applied r.1 vs) (sym (to_other first n ws r.0 other)))
+    ] in
+    ap₂ (λ (es : List Entry) (others : List NamedRows). (r.0, es) ∷ others) here (rows_step first n ws rs)
 
 -- the first of some writes to a table
 pub key_first : (w : KeyWrite) (ws : List KeyWrite) → key_puts (w ∷ ws) ≡ put_by w.1 + key_puts ws

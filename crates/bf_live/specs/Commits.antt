@@ -1,12 +1,13 @@
 -- The heaps of tables, from the first room that a commit makes to its last write.
-use Rattle.std.specs.Prelude.{Option, ◌≡◌, ◌⊎◌, ℕ, ◌≤◌, ◌<◌, List, [], map, length, count_by, is_some, if◌then◌else◌, get_or}
-use Rattle.bf_base.specs.declared.table.Table.{Table}
-use Rattle.bf_heap.specs.Heaps.{Entry, Rows}
-use Rattle.bf_query.specs.Merged.{entries_under}
+use Rattle.std.specs.Prelude.{Option, ◌≡◌, ◌⊎◌, ℕ, ◌+◌, ◌≤◌, List, [], map, fold, count_by, is_some, if◌then◌else◌}
+use Rattle.std.specs.List.{All, AllZip}
+use Rattle.std.specs.Map.{values_of}
+use Rattle.bf_base.specs.Lists.{same_name}
+use Rattle.bf_base.specs.declared.value.Value.{Value}
+use Rattle.bf_query.specs.Merged.{applied_to, entries_under}
 use Rattle.bf_txn.specs.declared.write.Write.{Write}
 use Rattle.bf_txn.specs.Writes.{KeyWrite, writes_to}
-use Rattle.std.specs.Map.{values_of}
-use Rattle.bf_base.specs.declared.value.Value.{Value}
+use Rattle.bf_live.specs.Live.{NamedHeap, NamedRows}
 
 -- the number of rows that a write of a row or of a removal puts
 abbrev pub put_by : Option (List Value) → ℕ
@@ -19,23 +20,34 @@ key_puts writes = count_by (λ row. is_some row) (values_of writes)
 abbrev pub puts : List Write → ℕ
 puts writes = count_by (λ write. is_some write.row) writes
 
-abbrev pub entries_in : List Rows → List (List Entry)
-entries_in heaps = map (λ heap. heap.entries) heaps
+-- the heap of a table, if it is there, has room for all rows that writes to the table put
+abbrev pub HasRoomIn : List ℕ → List KeyWrite → NamedHeap → Type 0
+HasRoomIn table writes heap = heap.0 ≡ table → key_puts writes ≤ heap.1.spare
 
--- a heap has room for all rows that are put into the table of a name
-abbrev pub HasRoom : List Write → List ℕ → Rows → Type 0
-HasRoom writes name heap = puts (writes_to name writes) ≤ heap.spare
+-- a heap has room for all rows that are put into its table
+abbrev pub HasRoom : List Write → NamedHeap → Type 0
+HasRoom writes heap = puts (writes_to heap.0 writes) ≤ heap.1.spare
 
-abbrev pub HaveRoomFor : List Write → List Table → List Rows → Type 0
-HaveRoomFor writes tables heaps = (i : ℕ) (table : Table) (heap : Rows) → i < length tables → HasRoom writes (get_or tables i table).name (get_or heaps i heap)
+abbrev pub HaveRoomFor : List Write → List NamedHeap → Type 0
+HaveRoomFor writes heaps = All (HasRoom writes) heaps
 
--- so has the heap of each table to which one of the first writes is
-abbrev pub HaveRoomSoFar : List Write → List Write → List Table → List Rows → Type 0
-HaveRoomSoFar first writes tables heaps =
-    (i : ℕ) (table : Table) (heap : Rows) → i < length tables → (writes_to (get_or tables i table).name first ≡ []) ⊎ HasRoom writes (get_or tables i table).name (get_or heaps i heap)
+-- so has each heap to which one of the first writes is
+abbrev pub HaveRoomSoFar : List Write → List Write → List NamedHeap → Type 0
+HaveRoomSoFar first writes heaps = All (λ heap. (writes_to heap.0 first ≡ []) ⊎ HasRoom writes heap) heaps
 
--- each table's heap has the writes to its table
-pub record AreWritten (writes : List Write) (tables : List Table) (before after : List Rows) : Type 0 where
-  pub one_each : length after ≡ length before
-  pub entries : (i : ℕ) (table : Table) (heap : Rows) → i < length tables
-      → (get_or after i heap).entries ≡ entries_under (get_or before i heap).entries writes (get_or tables i table).name
+-- each heap keeps its room, but for what is taken of it by its table's name
+abbrev pub LeaveRoom : (List ℕ → ℕ) → List NamedHeap → List NamedHeap → Type 0
+LeaveRoom taken before after = AllZip (λ a b. (b.0 ≡ a.0) × (a.1.spare ≤ b.1.spare + taken a.0)) before after
+
+abbrev pub KeepRoom : List NamedHeap → List NamedHeap → Type 0
+KeepRoom = LeaveRoom (λ name. 0)
+
+abbrev pub taken_by : List ℕ → List KeyWrite → List ℕ → ℕ
+taken_by table writes name = if same_name table name then key_puts writes else 0
+
+-- the rows of tables after the writes to one of them, and after all writes
+abbrev pub with_writes_to : List ℕ → List KeyWrite → List NamedRows → List NamedRows
+with_writes_to table writes rows = map (λ (r : NamedRows). (r.0, if same_name table r.0 then fold applied_to r.1 writes else r.1)) rows
+
+abbrev pub with_writes : List Write → List NamedRows → List NamedRows
+with_writes writes rows = map (λ (r : NamedRows). (r.0, entries_under r.1 writes r.0)) rows

@@ -1,30 +1,41 @@
 -- What live tables hold: a catalog, and a heap for each of its tables.
-use Rattle.std.specs.Prelude.{◌≡◌, List, length, map, zip}
+use Rattle.std.specs.Prelude.{◌≡◌, ℕ, List, map, zip}
 use Rattle.std.specs.List.{All}
+use Rattle.std.specs.Map.{keys_of, values_of}
 use Rattle.bf_base.specs.declared.table.Table.{Table}
-use Rattle.bf_heap.specs.Heaps.{Rows}
+use Rattle.bf_heap.specs.Heaps.{Entry, Rows}
 use Rattle.bf_query.specs.Merged.{rows_under}
 use Rattle.bf_query.specs.Meanings.{entries_of}
-use Rattle.bf_tree.specs.declared.catalog.Catalog.{Catalog}
+use Rattle.bf_tree.specs.Catalogs.{Catalog}
 use Rattle.bf_sql.specs.Database.{Database, Stored, IsDatabase}
 use Rattle.bf_txn.specs.declared.write.Write.{Write}
 
--- a table with the rows of its heap
-abbrev pub stored : Table × Rows → Stored
-stored held = record { table = held.0; rows = map (λ entry. entry.1) held.1.entries }
+-- the heap of the table of a name, and its rows under their keys
+abbrev pub NamedHeap : Type 0
+NamedHeap = List ℕ × Rows
 
-abbrev pub database_of : Catalog → List Rows → Database
-database_of catalog heaps = record { number = catalog.number; tables = map stored (zip catalog.tables heaps); indexes = catalog.indexes }
+abbrev pub NamedRows : Type 0
+NamedRows = List ℕ × List Entry
+
+abbrev pub rows_in : List NamedHeap → List NamedRows
+rows_in heaps = map (λ heap. (heap.0, heap.1.entries)) heaps
+
+-- a table with its rows
+abbrev pub stored : Table × List Entry → Stored
+stored held = record { table = held.0; rows = map (λ entry. entry.1) held.1 }
+
+abbrev pub database_of : Catalog → List NamedRows → Database
+database_of catalog rows = record { number = catalog.number; tables = map stored (zip catalog.tables (values_of rows)); indexes = catalog.indexes }
 
 -- each row stands under its own key
-abbrev pub IsUnderOwnKeys : Table × Rows → Type 0
-IsUnderOwnKeys held = held.1.entries ≡ entries_of held.0 (stored held).rows
+abbrev pub IsUnderOwnKeys : Table × List Entry → Type 0
+IsUnderOwnKeys held = held.1 ≡ entries_of held.0 (stored held).rows
 
 -- what is true of live tables
-pub record AreLiveTables (catalog : Catalog) (heaps : List Rows) : Type 0 where
-  pub one_each : length heaps ≡ length catalog.tables
-  pub under_own_keys : All IsUnderOwnKeys (zip catalog.tables heaps)
-  pub database : IsDatabase (database_of catalog heaps)
+pub record AreLiveTables (catalog : Catalog) (rows : List NamedRows) : Type 0 where
+  pub one_each : keys_of rows ≡ map (λ table. table.name) catalog.tables
+  pub under_own_keys : All IsUnderOwnKeys (zip catalog.tables (values_of rows))
+  pub database : IsDatabase (database_of catalog rows)
 
 -- a table's rows after the writes of a transaction
 abbrev pub written_to : List Write → Stored → Stored

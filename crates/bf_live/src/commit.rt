@@ -1,34 +1,46 @@
 //! What a transaction has written, put into the heaps of tables.
 
-ghost use Rattle.std.specs.Prelude.{◌≡◌, ◌≤◌, ◌+◌, OnOk, fold, length};
+ghost use Rattle.std.specs.Prelude.{◌≡◌, ◌≤◌, ◌+◌, OnOk, fold};
+ghost use Rattle.std.specs.List.{All};
 ghost use Rattle.bf_query.specs.Merged.{applied_to};
-ghost use Rattle.bf_live.specs.Commits.{AreWritten, HaveRoomFor, entries_in, key_puts, put_by};
-ghost use Rattle.bf_tree.specs.Places.{AreByName};
+ghost use Rattle.bf_live.specs.Live.{rows_in};
+ghost use Rattle.bf_live.specs.Commits.{HasRoomIn, HaveRoomFor, KeepRoom, LeaveRoom, key_puts, put_by, taken_by, with_writes, with_writes_to};
 
-use bf_base::{Key, Memory, Row};
+use bf_base::{Key, Memory, Name, Row};
 use bf_heap::Heap;
-use bf_tree::Catalog;
 use bf_txn::{TableWrites, Workspace};
+use std::collections::BTreeMap;
+
+/// Makes room in a table's heap for the rows that are put there, if the table is there.
+fn make_room_in(
+    heaps: &mut BTreeMap<Name, Heap>,
+    table: &Name,
+    writes: &TableWrites,
+) -> Result<(), Memory>
+    ensures rows { rows_in heaps.new.entries ≡ rows_in heaps.old.entries }
+    ensures kept { KeepRoom heaps.old.entries heaps.new.entries }
+    ensures room { OnOk result (All (HasRoomIn table.now writes.now) heaps.new.entries) }
+{
+    if let Some(heap) = heaps.get_mut(table) {
+        let Ok(count) = u32::try_from(writes.count_puts()) else {
+            return Err(Memory);
+        };
+        return heap.reserve(count);
+    }
+    Ok(())
+}
 
 /// Makes room in each table's heap for the rows that a transaction has put there. It looks a table
 /// up once, and is linear in the writes.
 ///
 /// # Errors
 /// Where memory runs out. The heaps have their rows then, and may have more room.
-pub fn make_room(catalog: &Catalog, heaps: &mut [Heap], writes: &Workspace) -> Result<(), Memory>
-    requires one_each { length heaps.old ≡ length catalog.now.tables }
-    requires by_name { AreByName catalog.now.tables }
-    ensures entries { entries_in heaps.new ≡ entries_in heaps.old }
-    ensures room { OnOk result (HaveRoomFor writes.now catalog.now.tables heaps.new) }
+pub fn make_room(heaps: &mut BTreeMap<Name, Heap>, writes: &Workspace) -> Result<(), Memory>
+    ensures rows { rows_in heaps.new.entries ≡ rows_in heaps.old.entries }
+    ensures room { OnOk result (HaveRoomFor writes.now heaps.new.entries) }
 {
-    for (table, _) in writes.tables() {
-        if let Some(place) = catalog.place_of(table) {
-            let count = writes.of_table(table).count_puts();
-            let Ok(count) = u32::try_from(count) else {
-                return Err(Memory);
-            };
-            heaps[place].reserve(count)?;
-        }
+    for (table, writes) in writes.tables() {
+        make_room_in(heaps, table, writes)?;
     }
     Ok(())
 }
@@ -60,17 +72,25 @@ fn change_all(heap: &mut Heap, writes: TableWrites)
     }
 }
 
+/// Makes each write to a table in its heap, if the table is there. Takes no memory.
+fn apply_in(heaps: &mut BTreeMap<Name, Heap>, table: &Name, writes: TableWrites)
+    requires { All (HasRoomIn table.now writes) heaps.old.entries }
+    ensures rows { rows_in heaps.new.entries
+        ≡ with_writes_to table.now writes (rows_in heaps.old.entries) }
+    ensures room { LeaveRoom (taken_by table.now writes) heaps.old.entries heaps.new.entries }
+{
+    if let Some(heap) = heaps.get_mut(table) {
+        change_all(heap, writes);
+    }
+}
+
 /// Makes each write in its table's heap, and passes over those to tables that are not there. It
 /// looks a table up once. Takes no memory.
-pub fn apply(catalog: &Catalog, heaps: &mut [Heap], writes: Workspace)
-    requires one_each { length heaps.old ≡ length catalog.now.tables }
-    requires by_name { AreByName catalog.now.tables }
-    requires room { HaveRoomFor writes catalog.now.tables heaps.old }
-    ensures { AreWritten writes catalog.now.tables heaps.old heaps.new }
+pub fn apply(heaps: &mut BTreeMap<Name, Heap>, writes: Workspace)
+    requires { HaveRoomFor writes heaps.old.entries }
+    ensures { rows_in heaps.new.entries ≡ with_writes writes (rows_in heaps.old.entries) }
 {
     for (table, writes) in writes.into_tables() {
-        if let Some(place) = catalog.place_of(&table) {
-            change_all(&mut heaps[place], writes);
-        }
+        apply_in(heaps, &table, writes);
     }
 }

@@ -11,11 +11,12 @@ ghost use Rattle.bf_sql.specs.Bound.{catalog_of};
 ghost use Rattle.bf_live.specs.Live.{committed};
 
 use crate::commit::{apply, make_room};
-use bf_base::{Memory, Name, Sequence, Table};
+use bf_base::{Memory, Name, Table};
 use bf_heap::Heap;
 use bf_tree::{Catalog, IndexRule};
 use bf_txn::Workspace;
 use std::alloc::Global;
+use std::collections::BTreeMap;
 use std::marker::Model;
 use std::mem;
 
@@ -24,19 +25,19 @@ use std::mem;
 pub struct LiveTables {
     alloc: Global,
     catalog: Catalog,
-    /// For each table of the catalog, in its order, the rows.
-    heaps: Vec<Heap>,
+    /// For the name of each table of the catalog, the rows.
+    heaps: BTreeMap<Name, Heap>,
 }
 
 impl Model for LiveTables {
     ghost use Rattle.bf_sql.specs.Database.{Database};
-    ghost use Rattle.bf_live.specs.Live.{AreLiveTables, database_of};
+    ghost use Rattle.bf_live.specs.Live.{AreLiveTables, database_of, rows_in};
 
     ghost Value = { Database };
 
-    ghost view = { λ live. database_of live.catalog live.heaps.items };
+    ghost view = { λ live. database_of live.catalog (rows_in live.heaps.entries) };
 
-    ghost invariant = { λ live. AreLiveTables live.catalog live.heaps.items };
+    ghost invariant = { λ live. AreLiveTables live.catalog (rows_in live.heaps.entries) };
 }
 
 impl LiveTables {
@@ -46,12 +47,8 @@ impl LiveTables {
     {
         LiveTables {
             alloc,
-            catalog: Catalog {
-                number: 0,
-                tables: Sequence::of(Vec::new(alloc)),
-                indexes: Sequence::of(Vec::new(alloc)),
-            },
-            heaps: Vec::new(alloc),
+            catalog: Catalog::new(alloc),
+            heaps: BTreeMap::new(alloc),
         }
     }
 
@@ -69,11 +66,10 @@ impl LiveTables {
         ensures { option_map (λ heap. heap.now.entries) result
             ≡ option_map (λ s. entries_of s.table s.rows) (stored_at self.now table.now) }
     {
-        let place = self.catalog.place_of(table)?;
-        Some(&self.heaps[place])
+        self.heaps.get(table)
     }
 
-    /// Adds a table without rows, and counts a schema change. It moves the tables behind it.
+    /// Adds a table without rows, and counts a schema change. It compares about log n names.
     ///
     /// # Errors
     /// Where memory runs out, or 2 ^ 64 schema changes were made. The live tables are as they were then.
@@ -84,16 +80,19 @@ impl LiveTables {
             ≡ next_number (with_tables (stored_in_order table [] ∷ []) self.old)) }
         ensures err { OnErr result (self.new ≡ self.old) }
     {
-        let number = self.catalog.number.checked_add(1).ok_or(Memory)?;
-        let place = self.catalog.table_place(&table.name);
-        self.heaps.reserve(1)?;
-        self.catalog.tables.insert(place, table)?;
-        self.heaps.insert(place, Heap::new(self.alloc)).unwrap();
-        self.catalog.number = number;
-        Ok(())
+        let name = table.name.copy(self.alloc)?;
+        let under = table.name.copy(self.alloc)?;
+        self.heaps.insert(under, Heap::new(self.alloc))?;
+        match self.catalog.add_table(table) {
+            Ok(()) => Ok(()),
+            Err(e) => {
+                self.heaps.remove(&name);
+                Err(e)
+            }
+        }
     }
 
-    /// Adds an index rule, and counts a schema change. It moves the rules behind it. No index is
+    /// Adds an index rule, and counts a schema change. It compares about log n names. No index is
     /// built.
     ///
     /// # Errors
@@ -103,11 +102,7 @@ impl LiveTables {
         ensures ok { OnOk result (self.new ≡ next_number (with_index index self.old)) }
         ensures err { OnErr result (self.new ≡ self.old) }
     {
-        let number = self.catalog.number.checked_add(1).ok_or(Memory)?;
-        let place = self.catalog.index_place(&index.name);
-        self.catalog.indexes.insert(place, index)?;
-        self.catalog.number = number;
-        Ok(())
+        self.catalog.add_index(index)
     }
 
     /// Makes what a transaction has written part of its tables, and each other table stays. The
@@ -127,9 +122,9 @@ impl LiveTables {
         ensures err { OnErr result (self.new ≡ self.old) }
         ensures kept { OnErr result (writes.new ≡ writes.old) }
     {
-        make_room(&self.catalog, &mut self.heaps, writes)?;
+        make_room(&mut self.heaps, writes)?;
         let taken = mem::replace(writes, Workspace::new(self.alloc));
-        apply(&self.catalog, &mut self.heaps, taken);
+        apply(&mut self.heaps, taken);
         Ok(())
     }
 }

@@ -13,7 +13,8 @@ use Rattle.bf_base.proofs.Order.{equal_from_test}
 use Rattle.bf_tree.specs.declared.compare.Compare.TheVariants as compare
 use Rattle.bf_tree.specs.Trees.{literal, column, Cond, always, compared, between, opposite, both, either}
 use Rattle.bf_tree.specs.Evaluation.{holds_on}
-use Rattle.bf_sql.specs.Conditions.{conjuncts, value_fixed, all_there, fixed_key}
+use Rattle.bf_tree.specs.Fixed.{conjuncts, value_fixed}
+use Rattle.bf_sql.specs.Conditions.{all_there, fixed_key}
 
 pub same_place : (m n : ℕ) → m == n ≡ true → m ≡ n
 same_place m n e = grind (arith, nat_tests)

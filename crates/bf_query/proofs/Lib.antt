@@ -6,7 +6,6 @@ pub mod Held
 pub mod Inserting
 pub mod Keeping
 pub mod Keyed
-pub mod KeyRanges
 pub mod Merging
 pub mod OwnKeys
 pub mod RangeRows

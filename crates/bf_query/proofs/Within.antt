@@ -19,10 +19,10 @@ use Rattle.bf_tree.specs.declared.compare.Compare.{Compare}
 use Rattle.bf_tree.specs.declared.compare.Compare.TheVariants as compare
 use Rattle.bf_tree.specs.Evaluation.{compares, holds_on}
 use Rattle.bf_tree.specs.Trees.{literal, column, Cond, compared, between}
-use Rattle.bf_sql.specs.Conditions.{conjuncts}
 use Rattle.bf_query.specs.declared.range.Side.{Side}
 use Rattle.bf_query.specs.declared.range.Side.TheVariants.{Low, High}
-use Rattle.bf_query.specs.Ranges.{turned, comparisons, end_of, toward, narrower, column_end, column_fixed, end_behind, range_behind, key_range_of}
+use Rattle.bf_tree.specs.Fixed.{column_fixed, conjuncts}
+use Rattle.bf_query.specs.Ranges.{turned, comparisons, end_of, toward, narrower, column_end, end_behind, range_behind, key_range_of}
 use Rattle.bf_query.proofs.FixedKey.{same_place, conjuncts_hold, first_held}
 
 -- a comparison whose sides change places

@@ -1,6 +1,5 @@
 -- The range of keys that a condition leaves, by what its conjuncts say of the key's first columns.
-use Rattle.std.specs.Prelude.{ℕ, Bool, false, ◌==◌, if◌then◌else◌, List, [], ◌∷◌, ◌++◌, flat_map, fold, slice_get, Option, Some, None, option_map, unwrap_or}
-use Rattle.std.specs.List.{filter_map}
+use Rattle.std.specs.Prelude.{ℕ, ◌==◌, if◌then◌else◌, List, [], ◌∷◌, ◌++◌, flat_map, fold, option_map, unwrap_or}
 use Rattle.std.specs.declared.cmp.Ordering.{Ordering}
 use Rattle.std.specs.declared.ops.Bound.{Bound}
 use Rattle.std.specs.declared.ops.Bound.TheVariants.{Included, Excluded, Unbounded}
@@ -11,8 +10,8 @@ use Rattle.bf_base.specs.Values.{value_cmp}
 use Rattle.bf_heap.specs.declared.key_range.KeyRange.{KeyRange}
 use Rattle.bf_tree.specs.declared.compare.Compare.{Compare}
 use Rattle.bf_tree.specs.declared.compare.Compare.TheVariants.{Equal, Unequal, Less, LessEqual, Greater, GreaterEqual}
-use Rattle.bf_tree.specs.Trees.{Expr, literal, column, Cond, compared, between}
-use Rattle.bf_sql.specs.Conditions.{conjuncts, value_fixed}
+use Rattle.bf_tree.specs.Trees.{literal, column, Cond, compared, between}
+use Rattle.bf_tree.specs.Fixed.{column_fixed, conjuncts}
 use Rattle.bf_query.specs.declared.range.Side.{Side}
 use Rattle.bf_query.specs.declared.range.Side.TheVariants.{Low, High}
 
@@ -63,10 +62,6 @@ narrowed side place cond end = fold (λ e c. narrower side e (end_of side c.0 c.
 abbrev pub column_end : Side → ℕ → Cond ℕ → Bound Value
 column_end side place cond = narrowed side place cond Unbounded
 
--- the value that a conjunct fixes it to; the first such serves
-abbrev pub column_fixed : ℕ → Cond ℕ → Option Value
-column_fixed place cond = slice_get (filter_map (value_fixed place) (conjuncts cond)) 0
-
 -- an end of a column, behind the values of the columns in front of it
 abbrev pub end_behind : List Value → Bound Value → Bound (List Value)
 end_behind front (Included v) = Included (front ++ v ∷ [])
@@ -84,12 +79,3 @@ range_behind cond front (place ∷ places) =
 -- KEY RANGE: the keys that a condition on a table leaves
 abbrev pub key_range_of : Table → Cond ℕ → KeyRange
 key_range_of table cond = range_behind cond [] table.key
-
--- what an expression is
-abbrev pub literal_of : Expr ℕ → Option Value
-literal_of (literal v) = Some v
-literal_of e = None
-
-abbrev pub is_column_at : ℕ → Expr ℕ → Bool
-is_column_at place (column at) = at == place
-is_column_at place e = false

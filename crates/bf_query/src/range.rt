@@ -1,17 +1,16 @@
 //! The range of keys that a condition leaves.
 
-ghost use Rattle.std.specs.Prelude.{◌≡◌, ◌++◌, ◌∷◌, [], IfOk, option_copied, unwrap_or};
+ghost use Rattle.std.specs.Prelude.{◌≡◌, ◌++◌, ◌∷◌, [], IfOk, unwrap_or};
 ghost use Rattle.std.specs.Option.{option_map, option_to_list};
 ghost use Rattle.std.specs.Range.Bound.{bound_map};
-ghost use Rattle.bf_sql.specs.Conditions.{value_fixed};
 ghost use Rattle.bf_tree.specs.Trees.{between, compared};
 ghost use Rattle.bf_tree.specs.declared.compare.Compare.TheVariants as comparison;
 ghost use Rattle.bf_query.specs.declared.range.Side.TheVariants as side;
-ghost use Rattle.bf_query.specs.Ranges.{column_end, column_fixed, comparisons, end_behind, end_of as end_on, is_column_at, key_range_of, literal_of, narrowed, narrower, toward, turned};
+ghost use Rattle.bf_query.specs.Ranges.{column_end, comparisons, end_behind, end_of as end_on, key_range_of, narrowed, narrower, toward, turned};
 
 use bf_base::{Key, Memory, Table, Value};
 use bf_heap::KeyRange;
-use bf_tree::{Compare, Cond, Expr, Node, Test};
+use bf_tree::{Compare, Cond, Expr, Test, column_fixed, is_column_at, literal};
 use std::alloc::Global;
 use std::cmp::Ordering;
 use std::ops::Bound;
@@ -34,26 +33,6 @@ fn turned(op: Compare) -> Compare
         Compare::LessEqual => Compare::GreaterEqual,
         Compare::Greater => Compare::Less,
         Compare::GreaterEqual => Compare::LessEqual,
-    }
-}
-
-/// The value of a literal.
-fn literal(expr: &Expr) -> Option<&Value>
-    ensures { option_copied result ≡ literal_of expr.now }
-{
-    match expr.node() {
-        Node::Value(value) => Some(value),
-        _ => None,
-    }
-}
-
-/// Whether an expression is the column at a place.
-fn is_column_at(expr: &Expr, place: u8) -> bool
-    ensures { result ≡ is_column_at place expr.now }
-{
-    match expr.node() {
-        Node::Column(at) => *at == place,
-        _ => false,
     }
 }
 
@@ -91,34 +70,6 @@ fn column_between<'a>(
         Some((literal(low)?, literal(high)?))
     } else {
         None
-    }
-}
-
-/// The value that an equality fixes the column at a place to.
-fn value_fixed<'a>(left: &'a Expr, right: &'a Expr, place: u8) -> Option<&'a Value>
-    ensures { option_copied result
-        ≡ value_fixed place (compared comparison.Equal left.now right.now) }
-{
-    if is_column_at(left, place) {
-        literal(right)
-    } else if is_column_at(right, place) {
-        literal(left)
-    } else {
-        None
-    }
-}
-
-/// The value that the first conjunct which fixes a column fixes it to.
-fn column_fixed(cond: &Cond, place: u8) -> Option<&Value>
-    ensures { option_copied result ≡ column_fixed place cond.now }
-{
-    match cond.node() {
-        Test::And(left, right) => match column_fixed(left, place) {
-            Some(value) => Some(value),
-            None => column_fixed(right, place),
-        },
-        Test::Compare(Compare::Equal, left, right) => value_fixed(left, right, place),
-        _ => None,
     }
 }
 

@@ -1,129 +1,77 @@
--- Places among items in the order of their names.
-use Rattle.std.proofs.Common.{◌≡◌, ℕ, zero, suc, ◌<◌, ◌≤◌, Bool, true, false, List, [], ◌∷◌, find, map, length, get_or, insert, Ordering, Less, Equal, Greater, Option, Some, None, Ok, Err, Result, refl, sym, ap, subst, ◌∙◌, inl, inr, arith, is_lt, is_le}
-use Rattle.std.specs.List.{HoldsAt}
-use Rattle.std.specs.List.Sorted.{IsBinarySearchResult, IsNonDecreasingBy, IsPartitionPoint, IsPartitionedBy, IsSearchInRange}
-use Rattle.std.specs.Ordering.{ordering_index}
-use Rattle.std.specs.Result.{result_ok}
-use Rattle.std.proofs.lemmas.Bool.{cases_Bool, cases_lt, cases_order}
-use Rattle.std.proofs.lemmas.Option.{same_Some}
+-- Items that stand under their names.
+use Rattle.std.proofs.Common.{◌≡◌, ℕ, true, cond, List, [], ◌∷◌, find, map, Less, Equal, Greater, Some, None, Bool, refl, sym, ap, ◌∙◌, is_eq, is_lt}
+use Rattle.std.specs.BTreeMap.{insert_entry, is_at}
+use Rattle.std.specs.List.Sorted.{IsStrictlySortedBy}
+use Rattle.std.specs.Map.{keys_of, lookup, values_of}
+use Rattle.std.specs.Ordering.{match_ordering}
+use Rattle.std.proofs.lemmas.Bool.{and_from}
+use Rattle.std.proofs.lemmas.Map.Keys.{sorted_head, sorted_tail}
 use Rattle.bf_base.specs.declared.table.Table.{Table}
 use Rattle.bf_base.specs.Lists.{name_cmp, placed, rises, same_name}
-use Rattle.bf_base.proofs.Names.{name_cmp_total, same_name-tie}
-use Rattle.bf_base.proofs.Order.{equal_from_test, less_from_rises, look_up, look_up-at, look_up-none, searchable_from_rises, symmetric, turned}
-use Rattle.bf_base.proofs.Ties.{name_ties}
+use Rattle.bf_base.proofs.Names.{same_name-tie, same_name-tie_back}
+use Rattle.bf_tree.specs.Catalogs.{StandByName}
 use Rattle.bf_tree.specs.declared.catalog.IndexRule.{IndexRule}
-use Rattle.bf_tree.specs.Places.{AreByName, AreIndexesByName, IsPlaceOf}
 
-pub other_name : (a b : List ℕ) → (a ≡ b → ⊥) → same_name a b ≡ false
-other_name a b apart = elim (cases_Bool (same_name a b)) [
-  | inl same ↦ absurd (apart ((name_ties a b).0 (equal_from_test _ (sym (same_name-tie a b) ∙ same))))
-  | inr other ↦ other
-]
-
-pub no_match : {X : Type 0} (test : X → Bool) (xs : List X) → ((i : ℕ) (x : X) → i < length xs → test (get_or xs i x) ≡ false) → find test xs ≡ None
-no_match test [] none = refl
-no_match test (x ∷ xs) none = rw (none 0 x (omega arith)) (no_match test xs (λ i d below. none (suc i) d (omega arith)))
-
-not_less : (a b : List ℕ) → name_cmp a b ≡ Less → a ≡ b → ⊥
-not_less a b less same =
-    let tied : name_cmp a b ≡ Equal = (name_ties a b).1 same in
-    absurd cc
-
-not_greater : (a b : List ℕ) → name_cmp a b ≡ Greater → a ≡ b → ⊥
-not_greater a b greater same =
-    let tied : name_cmp a b ≡ Equal = (name_ties a b).1 same in
-    absurd cc
-
--- what is before or level with a place that is not behind, is not behind
-le_below : (r s : Ordering) → ordering_index r ≤ ordering_index s → is_le s ≡ true → is_le r ≡ true
-le_below Less s h e = refl
-le_below Equal s h e = refl
-le_below Greater Less h e = absurd (omega arith)
-le_below Greater Equal h e = absurd (omega arith)
-le_below Greater Greater h e = e
-
-greater_from_test : (r : Ordering) → is_le r ≡ false → r ≡ Greater
-greater_from_test r e = grind arith
+-- names that are sorted rise
+rises_from_sorted : (names : List (List ℕ)) → IsStrictlySortedBy name_cmp names → rises name_cmp names ≡ true
+rises_from_sorted [] h = refl
+rises_from_sorted (n ∷ []) h = refl
+rises_from_sorted (n ∷ m ∷ names) h = and_from _ _ (ap is_lt (sorted_head name_cmp n (m ∷ names) h).0) (rises_from_sorted (m ∷ names) (sorted_tail name_cmp n (m ∷ names) h))
 
 module _ {X : Type 0} (name_of : X → List ℕ) where
-  -- items of one name are one item
-  one_place : (xs : List X) (i j : ℕ) (d : X) → rises name_cmp (map name_of xs) ≡ true → i < length xs → j < length xs → name_of (get_or xs i d) ≡ name_of (get_or xs j d) → i ≡ j
-  one_place xs i j d h in_i in_j same = elim (cases_order i j) [
-    | inl e ↦ e
-    | inr other ↦ elim other [
-      | inl before ↦ absurd (not_less _ _ (less_from_rises name_cmp_total name_of xs i j d h before in_j) same)
-      | inr behind ↦ absurd (not_less _ _ (less_from_rises name_cmp_total name_of xs j i d h behind in_i) (sym same))
-    ]
-  ]
+  pub by_name : (entries : List (List ℕ × X)) → StandByName X name_of entries → rises name_cmp (map name_of (values_of entries)) ≡ true
+  by_name entries stand = ap (rises name_cmp) (sym stand.own) ∙ rises_from_sorted (keys_of entries) stand.in_order
 
-  -- where names rise, those that are not greater than a name come first
-  pub not_behind_first : (xs : List X) (name : List ℕ) → rises name_cmp (map name_of xs) ≡ true → IsPartitionedBy (λ x. is_le (name_cmp (name_of x) name)) xs
-  not_behind_first xs name h i j d within in_range = le_below _ _ (searchable_from_rises name_cmp_total name_of xs name h i j d within in_range)
+  abbrev OwnNames : List (List ℕ × X) → Type 0
+  OwnNames entries = keys_of entries ≡ map name_of (values_of entries)
 
-  -- an item goes behind those whose names are not greater
-  pub placed_behind : (xs : List X) (i : ℕ) (x : X) → IsPartitionPoint (λ y. is_le (name_cmp (name_of y) (name_of x)) ≡ true) (λ y. is_le (name_cmp (name_of y) (name_of x)) ≡ false) xs i
-      → placed name_cmp name_of xs x ≡ insert xs i x
-  placed_behind [] zero x at = refl
-  placed_behind [] (suc i) x at = refl
-  placed_behind (y ∷ ys) zero x at =
-      let first = turned name_cmp_total (name_of y) (name_of x) (greater_from_test _ (at.1 0 y (omega arith) (omega arith))) in
-      rw first refl
-  placed_behind (y ∷ ys) (suc i) x at =
-      let first = not_before (name_of y) (name_of x) (at.0 0 y (omega arith) (omega arith)) in
-      let rest = placed_behind ys i x (λ j d low high. at.0 (suc j) d (omega arith) (omega arith), λ j d low high. at.1 (suc j) d (omega arith) (omega arith)) in
-      rw (first, rest) refl
-    where
-      not_before : (a b : List ℕ) → is_le (name_cmp a b) ≡ true → is_lt (name_cmp b a) ≡ false
-      not_before a b le = grind (arith, name_cmp_total.antisymm b a)
+  -- the item under a name is the one that has it
+  named : (test : X → Bool) (name : List ℕ) → ((x : X) → test x ≡ is_eq (name_cmp name (name_of x)))
+      → (entries : List (List ℕ × X)) → OwnNames entries → lookup (is_at (name_cmp name)) entries ≡ find test (values_of entries)
+  named test name reads [] own = refl
+  named test name reads (e ∷ es) own =
+      let here : e.0 ≡ name_of e.1 = cc in
+      let rest : OwnNames es = cc in
+      let same : is_eq (name_cmp name e.0) ≡ test e.1 = ap (λ n. is_eq (name_cmp name n)) here ∙ sym (reads e.1) in
+      rw (same, named test name reads es rest) refl
 
--- the place at which a table of the name is, is the place of the name
-pub place_there : (tables : List Table) (name : List ℕ) (place : ℕ) → AreByName tables → place < length tables → ((table : Table) → (get_or tables place table).name ≡ name) → IsPlaceOf tables name (Some place)
-place_there tables name place h in_range tied = record {
-  within = in_range;
-  alone = λ i table here. (
-    λ same. ap Some (sym (one_place (λ t. t.name) tables i place table h here in_range (same ∙ sym (tied table)))),
-    λ is. subst (λ j. (get_or tables j table).name ≡ name) (same_Some place i is) (tied table),
-  );
-}
+  -- a new item goes to its place in the order of the names
+  module _ (x : X) where
+    pub placed_by_name : (entries : List (List ℕ × X)) → OwnNames entries → lookup (is_at (name_cmp (name_of x))) entries ≡ None
+        → values_of (insert_entry name_cmp entries (name_of x) x) ≡ placed name_cmp name_of (values_of entries) x
+    placed_by_name [] own none = refl
+    placed_by_name (e ∷ es) own none =
+        let here : e.0 ≡ name_of e.1 = cc in
+        let rest : OwnNames es = cc in
+        elim (name_cmp (name_of x) e.0) as (λ r. name_cmp (name_of x) e.0 ≡ r → cond (is_eq r) (Some e.1) (lookup (is_at (name_cmp (name_of x))) es) ≡ None
+        → values_of (match_ordering r ((name_of x, x) ∷ e ∷ es) ((e.0, x) ∷ es) (e ∷ insert_entry name_cmp es (name_of x) x)) ≡ cond (is_lt r) (x ∷ e.1 ∷ values_of es) (e.1 ∷ placed name_cmp name_of (values_of es) x)) [
+          | Less ↦ λ is h. refl
+          | Equal ↦ λ is h. absurd cc
+          | Greater ↦ λ is h. ap (λ xs. e.1 ∷ xs) (placed_by_name es rest h)
+        ] refl none
+        ∙ ap (λ n. cond (is_lt (name_cmp (name_of x) n)) (x ∷ e.1 ∷ values_of es) (e.1 ∷ placed name_cmp name_of (values_of es) x)) here
 
--- and a name that would go between is nowhere
-place_nowhere : (tables : List Table) (name : List ℕ) (gap : ℕ) → IsPartitionPoint (λ t. name_cmp t.name name ≡ Less) (λ t. name_cmp t.name name ≡ Greater) tables gap → IsPlaceOf tables name None
-place_nowhere tables name gap at = record {
-  within = tt;
-  alone = λ i table here. (
-    λ same. elim (cases_lt i gap) [
-      | inl before ↦ absurd (not_less _ _ (at.0 i table (omega arith) before) same)
-      | inr behind ↦ absurd (not_greater _ _ (at.1 i table behind here) same)
-    ],
-    λ is. absurd cc,
-  );
-}
+    own_name : (entries : List (List ℕ × X)) → OwnNames entries → lookup (is_at (name_cmp (name_of x))) entries ≡ None → OwnNames (insert_entry name_cmp entries (name_of x) x)
+    own_name [] own none = refl
+    own_name (e ∷ es) own none =
+        let here : e.0 ≡ name_of e.1 = cc in
+        let rest : OwnNames es = cc in
+        elim (name_cmp (name_of x) e.0) as (λ r. cond (is_eq r) (Some e.1) (lookup (is_at (name_cmp (name_of x))) es) ≡ None
+        → OwnNames (match_ordering r ((name_of x, x) ∷ e ∷ es) ((e.0, x) ∷ es) (e ∷ insert_entry name_cmp es (name_of x) x))) [
+          | Less ↦ λ h. ap (λ ns. name_of x ∷ ns) own
+          | Equal ↦ λ h. absurd cc
+          | Greater ↦ λ h. ap (λ ns. e.0 ∷ ns) (own_name es rest h) ∙ ap (λ n. n ∷ map name_of (values_of (insert_entry name_cmp es (name_of x) x))) here
+        ] none
 
-pub place_searched : (tables : List Table) (name : List ℕ) (found : Result ℕ ℕ) → AreByName tables → IsSearchInRange found (length tables) → IsBinarySearchResult (λ t. name_cmp t.name name) tables found
-    → IsPlaceOf tables name (result_ok found)
-place_searched tables name (Ok place) h within tied = place_there tables name place h within (λ table. (name_ties (get_or tables place table).name name).0 (tied table))
-place_searched tables name (Err gap) h within parted = place_nowhere tables name gap (parted (searchable_from_rises name_cmp_total (λ t. t.name) tables name h))
+    pub still_by_name : (entries now : List (List ℕ × X)) → StandByName X name_of entries → lookup (is_at (name_cmp (name_of x))) entries ≡ None
+        → IsStrictlySortedBy name_cmp (keys_of now) → now ≡ insert_entry name_cmp entries (name_of x) x → StandByName X name_of now
+    still_by_name entries now stand none sorted is = record {
+      in_order = sorted;
+      own = ap keys_of is ∙ own_name entries stand.own none ∙ ap (λ es. map name_of (values_of es)) (sym is);
+    }
 
-module _ (tables : List Table) (name : List ℕ) where
-  -- the table at the place of a name is the table of that name
-  pub table_found : (place : ℕ) (table : Table) → AreByName tables → IsPlaceOf tables name (Some place) → find (λ t. same_name t.name name) tables ≡ Some (get_or tables place table)
-  table_found place table h at =
-      let tied : name_cmp (get_or tables place table).name name ≡ Equal = (name_ties _ name).1 ((at.alone place table at.within).1 refl) in
-      (λ i. find (λ (t : Table). same_name-tie t.name name i) tables) ∙ look_up-at name_cmp_total (λ (t : Table). t.name) tables place name table h at.within tied
+pub table_under : (name : List ℕ) (entries : List (List ℕ × Table)) → StandByName Table (λ t. t.name) entries → lookup (is_at (name_cmp name)) entries ≡ find (λ (t : Table). same_name t.name name) (values_of entries)
+table_under name entries stand = named (λ (t : Table). t.name) (λ (t : Table). same_name t.name name) name (λ t. same_name-tie_back t.name name) entries stand.own
 
-  pub table_nowhere : IsPlaceOf tables name None → find (λ t. same_name t.name name) tables ≡ None
-  table_nowhere at = no_match (λ (t : Table). same_name t.name name) tables (λ i t below. other_name _ name (λ same. nothing i ((at.alone i t below).0 same)))
-    where
-      nothing : (i : ℕ) → ◌≡◌ {A = Option ℕ} None (Some i) → ⊥
-      nothing i e = absurd cc
-
-module _ (indexes : List IndexRule) (name : List ℕ) (h : AreIndexesByName indexes) where
-  by_order : find (λ index. same_name name index.name) indexes ≡ look_up name_cmp (λ (index : IndexRule). index.name) indexes name
-  by_order = λ i. find (λ (index : IndexRule). (same_name-tie name index.name ∙ symmetric name_cmp_total name index.name) i) indexes
-
-  pub index_found : (place : ℕ) (index : IndexRule) → place < length indexes → HoldsAt (λ (index : IndexRule). name_cmp index.name name ≡ Equal) indexes place → find (λ index. same_name name index.name) indexes ≡ Some (get_or indexes place index)
-  index_found place index in_range ties = by_order ∙ look_up-at name_cmp_total (λ (index : IndexRule). index.name) indexes place name index h in_range (ties index)
-
-  pub index_nowhere : (gap : ℕ) → (IsNonDecreasingBy (λ (index : IndexRule). ordering_index (name_cmp index.name name)) indexes → IsPartitionPoint (λ (index : IndexRule). name_cmp index.name name ≡ Less) (λ (index : IndexRule). name_cmp index.name name ≡ Greater) indexes gap)
-      → find (λ index. same_name name index.name) indexes ≡ None
-  index_nowhere gap at = by_order ∙ look_up-none name_cmp_total (λ (index : IndexRule). index.name) indexes gap name (at (searchable_from_rises name_cmp_total (λ (index : IndexRule). index.name) indexes name h))
+pub index_under : (name : List ℕ) (entries : List (List ℕ × IndexRule)) → StandByName IndexRule (λ i. i.name) entries → lookup (is_at (name_cmp name)) entries ≡ find (λ (i : IndexRule). same_name name i.name) (values_of entries)
+index_under name entries stand = named (λ (i : IndexRule). i.name) (λ (i : IndexRule). same_name name i.name) name (λ i. same_name-tie name i.name) entries stand.own

@@ -1,5 +1,5 @@
 -- The value of an expression and the truth of a condition on a row.
-use Rattle.std.specs.Prelude.{◌≡◌, ℕ, ℤ, pos, ◌+ℤ◌, ◌-ℤ◌, ◌*ℤ◌, neg_ℤ, Bool, true, not, ◌&&◌, ◌||◌, List, [], ◌++◌, length, nat_le, int_le, Result, Ok, Err, if◌then◌else◌}
+use Rattle.std.specs.Prelude.{◌≡◌, ℕ, ℤ, pos, ◌+ℤ◌, ◌-ℤ◌, ◌*ℤ◌, neg_ℤ, Bool, true, not, ◌&&◌, ◌||◌, List, [], ◌++◌, length, nat_le, int_le, Option, Some, None, slice_get, Result, Ok, Err, if◌then◌else◌}
 use Rattle.std.specs.Result.{result_unwrap_or}
 use Rattle.std.specs.declared.cmp.Ordering.{Ordering}
 use Rattle.std.specs.Ordering.{is_eq, is_ne, is_lt, is_le, is_gt, is_ge}
@@ -78,6 +78,12 @@ module _ {R : Type 0} (read : R → Value) where
   holds_on (opposite c) = not (holds_on c)
   holds_on (both c d) = holds_on c && holds_on d
   holds_on (either c d) = holds_on c || holds_on d
+
+-- the value of an expression that is one already: of a literal, and of a column that the row has
+abbrev pub value_there : List Value → Expr ℕ → Option Value
+value_there row (literal v) = Some v
+value_there row (column place) = slice_get row place
+value_there row e = None
 
 -- what a call gives for a meaning: its value, or the reason why there is none; or memory ran out
 abbrev pub Gives : Result Value Fail → Result Value Fail → Type 0

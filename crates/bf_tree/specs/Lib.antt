@@ -1,6 +1,8 @@
 pub mod Answered
+pub mod Catalogs
 pub mod Codes
 pub mod Evaluation
+pub mod Fixed
 pub mod Limits
 pub mod Places
 pub mod Settling

@@ -1,10 +1,8 @@
--- Where the tables and the index rules of a catalog are, by their names.
-use Rattle.std.specs.Prelude.{◌≡◌, ◌↔◌, ℕ, ◌<◌, true, false, List, find, insert, map, length, Option, Some, IfSome, IsTrue, get_or}
-use Rattle.std.specs.List.Sorted.{IsPartitionPoint}
-use Rattle.std.specs.Ordering.{is_le}
+-- The tables and the index rules of a catalog by their names, and the catalog with one more.
+use Rattle.std.specs.Prelude.{ℕ, ◌+◌, List, [], find, map, Option, IsTrue}
 use Rattle.bf_base.specs.declared.table.Table.{Table}
 use Rattle.bf_base.specs.Lists.{name_cmp, placed, rises, same_name}
-use Rattle.bf_tree.specs.declared.catalog.Catalog.{Catalog}
+use Rattle.bf_tree.specs.Catalogs.{Catalog}
 use Rattle.bf_tree.specs.declared.catalog.IndexRule.{IndexRule}
 
 -- tables in the order of their names, each once
@@ -23,15 +21,12 @@ table_named catalog name = find (λ table. same_name table.name name) catalog.ta
 abbrev pub index_named : Catalog → List ℕ → Option IndexRule
 index_named catalog name = find (λ index. same_name name index.name) catalog.indexes
 
--- the place of the table of a name, which no other table has; none where no table has it
-pub record IsPlaceOf (tables : List Table) (name : List ℕ) (place : Option ℕ) : Type 0 where
-  pub within : IfSome place (λ p. p < length tables)
-  pub alone : (i : ℕ) (table : Table) → i < length tables → ((get_or tables i table).name ≡ name) ↔ (place ≡ Some i)
+abbrev pub empty_catalog : Catalog
+empty_catalog = record { number = 0; tables = []; indexes = [] }
 
--- the place behind the tables whose names are not greater than a name
-abbrev pub IsBehind : List ℕ → List Table → ℕ → Type 0
-IsBehind name tables place = IsPartitionPoint (λ table. is_le (name_cmp table.name name) ≡ true) (λ table. is_le (name_cmp table.name name) ≡ false) tables place
+-- the catalog after a schema change: a new table or a new index rule, in the order of the names
+abbrev pub with_new_table : Table → Catalog → Catalog
+with_new_table table catalog = record catalog { number = catalog.number + 1; tables = placed name_cmp (λ t. t.name) catalog.tables table }
 
--- the place at which an index rule of a name stands in order
-abbrev pub IsIndexPlace : List ℕ → List IndexRule → ℕ → Type 0
-IsIndexPlace name indexes place = (index : IndexRule) → index.name ≡ name → placed name_cmp (λ index. index.name) indexes index ≡ insert indexes place index
+abbrev pub with_new_index : IndexRule → Catalog → Catalog
+with_new_index index catalog = record catalog { number = catalog.number + 1; indexes = placed name_cmp (λ i. i.name) catalog.indexes index }

@@ -1,10 +1,13 @@
 //! The catalog: what a database has beside its rows.
 
-ghost use Rattle.std.specs.Prelude.{◌≡◌, ◌≤◌, IfOk, length, option_copied};
-ghost use Rattle.bf_tree.specs.Places.{AreByName, AreIndexesByName, IsBehind, IsIndexPlace, IsPlaceOf, index_named, table_named};
+ghost use Rattle.std.specs.Prelude.{◌≡◌, IfOk, OnErr, OnOk, None, option_copied};
+ghost use Rattle.bf_tree.specs.Places.{AreByName, AreIndexesByName, empty_catalog, index_named, table_named, with_new_index, with_new_table};
 
 use bf_base::{Memory, Name, Sequence, Table, TryClone};
 use std::alloc::Global;
+use std::collections::BTreeMap;
+use std::collections::btree_map::Values;
+use std::marker::Model;
 
 /// An index on columns of a table, by their places, counted from 0.
 #[derive(Debug, Drop, PartialEq, Eq)]
@@ -14,13 +17,32 @@ pub struct IndexRule {
     pub columns: Sequence<u8>,
 }
 
-/// The number of schema changes so far, and the tables and the index rules in the order of
-/// their names.
-#[derive(Debug, Drop, PartialEq, Eq)]
+/// The number of schema changes so far, and the tables and the index rules by their names, which
+/// contracts see in the order of those. A look-up and a schema change compare about log n names.
+#[derive(Drop)]
 pub struct Catalog {
-    pub number: u64,
-    pub tables: Sequence<Table>,
-    pub indexes: Sequence<IndexRule>,
+    alloc: Global,
+    number: u64,
+    tables: BTreeMap<Name, Table>,
+    indexes: BTreeMap<Name, IndexRule>,
+}
+
+impl Model for Catalog {
+    ghost use Rattle.std.specs.Map.{values_of};
+    ghost use Rattle.bf_base.specs.declared.table.Table.{Table as TableSeen};
+    ghost use Rattle.bf_tree.specs.Catalogs.{Catalog as Seen, StandByName};
+    ghost use Rattle.bf_tree.specs.declared.catalog.IndexRule.{IndexRule as RuleSeen};
+
+    ghost Value = { Seen };
+
+    ghost view = { λ catalog. record {
+      number = catalog.number;
+      tables = values_of catalog.tables.entries;
+      indexes = values_of catalog.indexes.entries;
+    } };
+
+    ghost invariant = { λ catalog. StandByName TableSeen (λ t. t.name) catalog.tables.entries
+        × StandByName RuleSeen (λ i. i.name) catalog.indexes.entries };
 }
 
 impl IndexRule {
@@ -46,88 +68,85 @@ impl TryClone for IndexRule {
 }
 
 impl Catalog {
-    /// An equal catalog.
-    pub fn copy(&self, alloc: Global) -> Result<Catalog, Memory>
-        ensures { IfOk result (λ copy. copy ≡ self.now) }
+    /// The catalog of no tables, before any schema change. Takes no memory.
+    pub fn new(alloc: Global) -> Catalog
+        ensures { result ≡ empty_catalog }
     {
-        let tables = self.tables.copy(alloc)?;
-        let indexes = self.indexes.copy(alloc)?;
-        Ok(Catalog {
-            number: self.number,
-            tables,
-            indexes,
-        })
-    }
-
-    /// The place of the table of a name, and `None` exactly where no table has it. It compares
-    /// about log n names, and takes no memory.
-    pub fn place_of(&self, name: &Name) -> Option<usize>
-        requires { AreByName self.now.tables }
-        ensures { IsPlaceOf self.now.tables name.now result }
-    {
-        self.tables
-            .as_slice()
-            .binary_search_by(|table| table.name.compare(name))
-            .ok()
-    }
-
-    /// `place_of`, which compares one name where the table is at the place to look at first, and
-    /// else about log n names. Takes no memory.
-    pub fn place_near(&self, near: Option<usize>, name: &Name) -> Option<usize>
-        requires { AreByName self.now.tables }
-        ensures { IsPlaceOf self.now.tables name.now result }
-    {
-        if let Some(place) = near
-            && let Some(table) = self.tables.as_slice().get(place)
-            && table.name.compare(name).is_eq()
-        {
-            return near;
+        Catalog {
+            alloc,
+            number: 0,
+            tables: BTreeMap::new(alloc),
+            indexes: BTreeMap::new(alloc),
         }
-        self.place_of(name)
+    }
+
+    /// The number of schema changes so far.
+    pub fn number(&self) -> u64
+        ensures { result ≡ self.now.number }
+    {
+        self.number
     }
 
     /// The table of a name. It compares about log n names, and takes no memory.
     pub fn table(&self, name: &Name) -> Option<&Table>
-        requires { AreByName self.now.tables }
         ensures { option_copied result ≡ table_named self.now name.now }
     {
-        let place = self.place_of(name)?;
-        Some(&self.tables.as_slice()[place])
-    }
-
-    /// Where a new table goes, behind those whose names are not greater. It compares about log n
-    /// names, and takes no memory.
-    pub fn table_place(&self, name: &Name) -> usize
-        requires { AreByName self.now.tables }
-        ensures bound { result ≤ length self.now.tables }
-        ensures place { IsBehind name.now self.now.tables result }
-    {
-        self.tables
-            .as_slice()
-            .partition_point(|table| table.name.compare(name).is_le())
+        self.tables.get(name)
     }
 
     /// The index rule of a name. It compares about log n names, and takes no memory.
     pub fn index(&self, name: &Name) -> Option<&IndexRule>
-        requires { AreIndexesByName self.now.indexes }
         ensures { option_copied result ≡ index_named self.now name.now }
     {
-        let indexes = self.indexes.as_slice();
-        match indexes.binary_search_by(|index| index.name.compare(name)) {
-            Ok(place) => Some(&indexes[place]),
-            Err(_) => None,
-        }
+        self.indexes.get(name)
     }
 
-    /// Where a new index rule goes, behind those whose names are not greater. It compares about
-    /// log n names, and takes no memory.
-    pub fn index_place(&self, name: &Name) -> usize
-        requires { AreIndexesByName self.now.indexes }
-        ensures bound { result ≤ length self.now.indexes }
-        ensures place { IsIndexPlace name.now self.now.indexes result }
+    /// The tables, in the order of their names. Takes no memory.
+    pub fn tables(&self) -> Values<'_, Name, Table>
+        ensures tables { result ≡ self.now.tables }
+        ensures by_name { AreByName self.now.tables }
     {
-        self.indexes
-            .as_slice()
-            .partition_point(|index| index.name.compare(name).is_le())
+        self.tables.values()
+    }
+
+    /// The index rules, in the order of their names. Takes no memory.
+    pub fn indexes(&self) -> Values<'_, Name, IndexRule>
+        ensures indexes { result ≡ self.now.indexes }
+        ensures by_name { AreIndexesByName self.now.indexes }
+    {
+        self.indexes.values()
+    }
+
+    /// Adds a table of a new name, and counts a schema change. It compares about log n names.
+    ///
+    /// # Errors
+    /// Where memory runs out, or 2 ^ 64 schema changes were made. The catalog is as it was then.
+    pub fn add_table(&mut self, table: Table) -> Result<(), Memory>
+        requires { table_named self.old table.name ≡ None }
+        ensures ok { OnOk result (self.new ≡ with_new_table table self.old) }
+        ensures err { OnErr result (self.new ≡ self.old) }
+    {
+        let number = self.number.checked_add(1).ok_or(Memory)?;
+        let name = table.name.copy(self.alloc)?;
+        self.tables.insert(name, table)?;
+        self.number = number;
+        Ok(())
+    }
+
+    /// Adds an index rule of a new name, and counts a schema change. It compares about log n names.
+    /// No index is built.
+    ///
+    /// # Errors
+    /// Where memory runs out, or 2 ^ 64 schema changes were made. The catalog is as it was then.
+    pub fn add_index(&mut self, index: IndexRule) -> Result<(), Memory>
+        requires { index_named self.old index.name ≡ None }
+        ensures ok { OnOk result (self.new ≡ with_new_index index self.old) }
+        ensures err { OnErr result (self.new ≡ self.old) }
+    {
+        let number = self.number.checked_add(1).ok_or(Memory)?;
+        let name = index.name.copy(self.alloc)?;
+        self.indexes.insert(name, index)?;
+        self.number = number;
+        Ok(())
     }
 }

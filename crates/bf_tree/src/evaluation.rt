@@ -1,11 +1,11 @@
 //! The value of an expression and the truth of a condition on a row.
 
-ghost use Rattle.std.specs.Prelude.{◌≡◌, ◌+ℤ◌, ◌-ℤ◌, ◌*ℤ◌, ◌++◌, neg_ℤ, FitsSigned, None, Ok, IfOk, IfSome};
+ghost use Rattle.std.specs.Prelude.{◌≡◌, ◌+ℤ◌, ◌-ℤ◌, ◌*ℤ◌, ◌++◌, neg_ℤ, FitsSigned, None, Ok, IfOk, IfSome, option_copied};
 ghost use Rattle.std.specs.Int.{w64};
 ghost use Rattle.bf_base.specs.Tables.{cell};
 ghost use Rattle.bf_base.specs.Texts.{first_bad_of};
 ghost use Rattle.bf_base.specs.Values.{value_cmp};
-ghost use Rattle.bf_tree.specs.Evaluation.{Gives, bytes_of, compares, exact, holds_on, number_of, short, sure_value, value_of};
+ghost use Rattle.bf_tree.specs.Evaluation.{Gives, bytes_of, compares, exact, holds_on, number_of, short, sure_value, value_of, value_there};
 ghost use Rattle.bf_tree.specs.declared.evaluation.Fail.TheVariants as fail;
 
 use crate::compare::Compare;
@@ -147,7 +147,8 @@ pub fn value(alloc: Global, expr: &Expr, row: &Row) -> Result<Value, Fail>
 /// The value of a literal or of a column that the row has, where it stands, and `None` of every other
 /// expression. Takes no memory.
 pub fn operand<'a>(expr: &'a Expr, row: &'a Row) -> Option<&'a Value>
-    ensures { IfSome result (λ found. value_of (cell row.now) expr.now ≡ Ok found.now) }
+    ensures there { option_copied result ≡ value_there row.now expr.now }
+    ensures value { IfSome result (λ found. value_of (cell row.now) expr.now ≡ Ok found.now) }
 {
     match expr.node() {
         Node::Value(literal) => Some(literal),

@@ -4,6 +4,8 @@
 #[cfg(test)]
 mod binding;
 #[cfg(test)]
+mod catalogs;
+#[cfg(test)]
 mod fixtures;
 #[cfg(test)]
 mod footprints;

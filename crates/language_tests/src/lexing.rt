@@ -25,31 +25,35 @@ fn told(rt: &impl Abort, alloc: Global, text: &[u8]) -> Result<String, Fail> {
     Ok(told)
 }
 
-fn tells(rt: &impl Abort, alloc: Global, cases: &[(&[u8], &str)]) -> Result<(), Fail> {
+// A text, and its tokens or its first fault.
+type Told = (&'static [u8], &'static str);
+
+fn is_told(rt: &impl Abort, alloc: Global, text: &[u8], want: &str) -> Result<bool, Fail> {
+    Ok(told(rt, alloc, text)?.as_str().trim_end() == want)
+}
+
+fn tells(rt: &impl Abort, alloc: Global, cases: &[Told]) -> Result<(), Fail> {
     for (text, want) in cases {
-        let told = told(rt, alloc, text)?;
-        assert_eq!(rt; told.as_str().trim_end(), *want, "of {text:?}");
+        assert!(rt; is_told(rt, alloc, text, want)?, "of {text:?}");
     }
     Ok(())
 }
 
+const WORDS: [Told; 9] = [
+    (b"SELECT", "Keyword(Select)@0-6"),
+    (b"select", "Keyword(Select)@0-6"),
+    (b"SeLeCt a_9", "Keyword(Select)@0-6 Name@7-10"),
+    (b"selects", "Name@0-7"),
+    (b"selec", "Name@0-5"),
+    (b"all WHERE", "Keyword(All)@0-3 Keyword(Where)@4-9"),
+    (LONGEST_NAME, "Name@0-63"),
+    (TOO_LONG_NAME, "NameTooLong at 0"),
+    (b"a _b", "BadByte at 2"),
+];
+
 #[test]
 fn words_are_keywords_in_any_case_or_names(rt: HostRuntime) -> Result<(), Fail> {
-    tells(
-        &rt,
-        rt.alloc(),
-        &[
-            (b"SELECT", "Keyword(Select)@0-6"),
-            (b"select", "Keyword(Select)@0-6"),
-            (b"SeLeCt a_9", "Keyword(Select)@0-6 Name@7-10"),
-            (b"selects", "Name@0-7"),
-            (b"selec", "Name@0-5"),
-            (b"all WHERE", "Keyword(All)@0-3 Keyword(Where)@4-9"),
-            (LONGEST_NAME, "Name@0-63"),
-            (TOO_LONG_NAME, "NameTooLong at 0"),
-            (b"a _b", "BadByte at 2"),
-        ],
-    )
+    tells(&rt, rt.alloc(), &WORDS)
 }
 
 #[test]
@@ -68,43 +72,39 @@ fn keywords_have_numbers_and_words(rt: HostRuntime) -> Result<(), Fail> {
     Ok(())
 }
 
+const NUMBERS: [Told; 7] = [
+    (b"0", "Number(0)@0-1"),
+    (b"007", "Number(7)@0-3"),
+    (b"9223372036854775808", "Number(9223372036854775808)@0-19"),
+    (
+        b"000000000000000009223372036854775808",
+        "Number(9223372036854775808)@0-36",
+    ),
+    (b" 9223372036854775809", "NumberTooWide at 1"),
+    (b"99999999999999999999", "NumberTooWide at 0"),
+    (b"1a", "Number(1)@0-1 Name@1-2"),
+];
+
 #[test]
 fn numbers_reach_to_2_to_the_63(rt: HostRuntime) -> Result<(), Fail> {
-    tells(
-        &rt,
-        rt.alloc(),
-        &[
-            (b"0", "Number(0)@0-1"),
-            (b"007", "Number(7)@0-3"),
-            (b"9223372036854775808", "Number(9223372036854775808)@0-19"),
-            (
-                b"000000000000000009223372036854775808",
-                "Number(9223372036854775808)@0-36",
-            ),
-            (b" 9223372036854775809", "NumberTooWide at 1"),
-            (b"99999999999999999999", "NumberTooWide at 0"),
-            (b"1a", "Number(1)@0-1 Name@1-2"),
-        ],
-    )
+    tells(&rt, rt.alloc(), &NUMBERS)
 }
+
+const QUOTED: [Told; 9] = [
+    (b"''", "Text@0-2"),
+    (b"''''", "Text@0-4"),
+    (b"'it''s'", "Text@0-7"),
+    (b"' ~' 'a--b'", "Text@0-4 Text@5-11"),
+    (b" '", "OpenString at 1"),
+    (b"'''", "OpenString at 0"),
+    (b"'a\x01''", "OpenString at 0"),
+    (b"'a\n\x01'", "BadByte at 2"),
+    (b"'a''\x7f'", "BadByte at 4"),
+];
 
 #[test]
 fn texts_stand_between_quotes(rt: HostRuntime) -> Result<(), Fail> {
-    tells(
-        &rt,
-        rt.alloc(),
-        &[
-            (b"''", "Text@0-2"),
-            (b"''''", "Text@0-4"),
-            (b"'it''s'", "Text@0-7"),
-            (b"' ~' 'a--b'", "Text@0-4 Text@5-11"),
-            (b" '", "OpenString at 1"),
-            (b"'''", "OpenString at 0"),
-            (b"'a\x01''", "OpenString at 0"),
-            (b"'a\n\x01'", "BadByte at 2"),
-            (b"'a''\x7f'", "BadByte at 4"),
-        ],
-    )
+    tells(&rt, rt.alloc(), &QUOTED)
 }
 
 // A quoted text of so many bytes, each of which may take two.
@@ -118,49 +118,57 @@ fn long_text(alloc: Global, byte: &[u8], count: usize) -> Result<Vec<u8>, Fail> 
     Ok(text)
 }
 
+fn is_told_long(
+    rt: &impl Abort,
+    alloc: Global,
+    byte: &[u8],
+    count: usize,
+    want: &str,
+) -> Result<bool, Fail> {
+    is_told(rt, alloc, &long_text(alloc, byte, count)?, want)
+}
+
+const LONG: [(&[u8], usize, &str); 5] = [
+    (b"x", 255, "Text@0-257"),
+    (b"''", 255, "Text@0-512"),
+    (b"x", 256, "TextTooLong at 0"),
+    (b"''", 256, "TextTooLong at 0"),
+    (b"\x01", 256, "TextTooLong at 0"),
+];
+
 #[test]
 fn texts_have_at_most_255_bytes(rt: HostRuntime) -> Result<(), Fail> {
-    let alloc = rt.alloc();
-    let cases = [
-        (b"x".as_slice(), 255, "Text@0-257 "),
-        (b"''", 255, "Text@0-512 "),
-        (b"x", 256, "TextTooLong at 0"),
-        (b"''", 256, "TextTooLong at 0"),
-        (b"\x01", 256, "TextTooLong at 0"),
-    ];
-    for (byte, count, want) in cases {
-        let text = long_text(alloc, byte, count)?;
-        assert_eq!(rt; told(&rt, alloc, &text)?.as_str(), want);
+    for (byte, count, want) in &LONG {
+        let is_told = is_told_long(&rt, rt.alloc(), byte, *count, want)?;
+        assert!(rt; is_told, "of {count} times {byte:?}");
     }
     Ok(())
 }
 
+const SIGNS: [Told; 18] = [
+    (b"(", "Sign(OpeningParenthesis)@0-1"),
+    (b")", "Sign(ClosingParenthesis)@0-1"),
+    (b",;", "Sign(Comma)@0-1 Sign(Semicolon)@1-2"),
+    (b".*", "Sign(Point)@0-1 Sign(Star)@1-2"),
+    (b"+-", "Sign(Plus)@0-1 Sign(Minus)@1-2"),
+    (b"==", "Sign(Equal)@0-1 Sign(Equal)@1-2"),
+    (b"<> !=", "Sign(Unequal)@0-2 Sign(Unequal)@3-5"),
+    (b"<> =", "Sign(Unequal)@0-2 Sign(Equal)@3-4"),
+    (b"<>=", "Sign(Unequal)@0-2 Sign(Equal)@2-3"),
+    (b"<=>", "Sign(LessEqual)@0-2 Sign(Greater)@2-3"),
+    (b"< =", "Sign(Less)@0-1 Sign(Equal)@2-3"),
+    (b">>=", "Sign(Greater)@0-1 Sign(GreaterEqual)@1-3"),
+    (b"||", "Sign(Bars)@0-2"),
+    (b"|||", "BadByte at 2"),
+    (b"<! =", "BadByte at 1"),
+    (b"!", "BadByte at 0"),
+    (b"a#", "BadByte at 1"),
+    (b"\xff", "BadByte at 0"),
+];
+
 #[test]
 fn signs_are_as_long_as_possible(rt: HostRuntime) -> Result<(), Fail> {
-    tells(
-        &rt,
-        rt.alloc(),
-        &[
-            (b"(", "Sign(OpeningParenthesis)@0-1"),
-            (b")", "Sign(ClosingParenthesis)@0-1"),
-            (b",;", "Sign(Comma)@0-1 Sign(Semicolon)@1-2"),
-            (b".*", "Sign(Point)@0-1 Sign(Star)@1-2"),
-            (b"+-", "Sign(Plus)@0-1 Sign(Minus)@1-2"),
-            (b"==", "Sign(Equal)@0-1 Sign(Equal)@1-2"),
-            (b"<> !=", "Sign(Unequal)@0-2 Sign(Unequal)@3-5"),
-            (b"<> =", "Sign(Unequal)@0-2 Sign(Equal)@3-4"),
-            (b"<>=", "Sign(Unequal)@0-2 Sign(Equal)@2-3"),
-            (b"<=>", "Sign(LessEqual)@0-2 Sign(Greater)@2-3"),
-            (b"< =", "Sign(Less)@0-1 Sign(Equal)@2-3"),
-            (b">>=", "Sign(Greater)@0-1 Sign(GreaterEqual)@1-3"),
-            (b"||", "Sign(Bars)@0-2"),
-            (b"|||", "BadByte at 2"),
-            (b"<! =", "BadByte at 1"),
-            (b"!", "BadByte at 0"),
-            (b"a#", "BadByte at 1"),
-            (b"\xff", "BadByte at 0"),
-        ],
-    )
+    tells(&rt, rt.alloc(), &SIGNS)
 }
 
 #[test]
@@ -176,27 +184,25 @@ fn signs_have_numbers_and_words(rt: HostRuntime) -> Result<(), Fail> {
     Ok(())
 }
 
+const GAPS: [Told; 13] = [
+    (b"", ""),
+    (b" \t\r\n", ""),
+    (b"--", ""),
+    (b"-- 'a\x01", ""),
+    (b"---\n", ""),
+    (b"--\n \n-- ", ""),
+    (b"- -", "Sign(Minus)@0-1 Sign(Minus)@2-3"),
+    (b"a-b", "Name@0-1 Sign(Minus)@1-2 Name@2-3"),
+    (b"a--'--\r\nb", "Name@0-1 Name@8-9"),
+    (b"a -- # \nb-- c\n", "Name@0-1 Name@8-9"),
+    (b"a\t\n\r   \nb--", "Name@0-1 Name@8-9"),
+    (b"a\x0bb", "BadByte at 1"),
+    (b"-- #\n#'", "BadByte at 5"),
+];
+
 #[test]
 fn blanks_and_comments_stand_between_tokens(rt: HostRuntime) -> Result<(), Fail> {
-    tells(
-        &rt,
-        rt.alloc(),
-        &[
-            (b"", ""),
-            (b" \t\r\n", ""),
-            (b"--", ""),
-            (b"-- 'a\x01", ""),
-            (b"---\n", ""),
-            (b"--\n \n-- ", ""),
-            (b"- -", "Sign(Minus)@0-1 Sign(Minus)@2-3"),
-            (b"a-b", "Name@0-1 Sign(Minus)@1-2 Name@2-3"),
-            (b"a--'--\r\nb", "Name@0-1 Name@8-9"),
-            (b"a -- # \nb-- c\n", "Name@0-1 Name@8-9"),
-            (b"a\t\n\r   \nb--", "Name@0-1 Name@8-9"),
-            (b"a\x0bb", "BadByte at 1"),
-            (b"-- #\n#'", "BadByte at 5"),
-        ],
-    )
+    tells(&rt, rt.alloc(), &GAPS)
 }
 
 #[test]

@@ -1,11 +1,39 @@
 //! Names and texts of bytes.
 
 use bf_base::{Name, NameError, Text, TextError};
+use std::alloc::Global;
 use std::test::Fail;
 
 const LONGEST: &str = "abcdefghijklmnopqrstuvwxyz_0123456789_abcdefghijklmnopqrstuvwxy";
 
 const TOO_LONG: &str = "abcdefghijklmnopqrstuvwxyz_0123456789_abcdefghijklmnopqrstuvwxyz";
+
+/// Whether a name is made of these bytes, and has others.
+fn folds(alloc: Global, bytes: &str, want: &str) -> Result<bool, Fail> {
+    let name = Name::of(alloc, bytes.as_bytes())?;
+    Ok(name.as_bytes() == want.as_bytes())
+}
+
+/// Why no name is made of these bytes.
+fn refusal(alloc: Global, bytes: &str) -> Option<NameError> {
+    match Name::of(alloc, bytes.as_bytes()) {
+        Ok(_) => None,
+        Err(error) => Some(error),
+    }
+}
+
+/// Whether a text is made of these bytes, and keeps them.
+fn keeps(alloc: Global, bytes: &[u8]) -> Result<bool, Fail> {
+    Ok(Text::of(alloc, bytes)?.as_bytes() == bytes)
+}
+
+/// Why no text is made of these bytes.
+fn text_error(alloc: Global, bytes: &[u8]) -> Option<TextError> {
+    match Text::of(alloc, bytes) {
+        Ok(_) => None,
+        Err(error) => Some(error),
+    }
+}
 
 #[test]
 fn folds_and_takes_names_up_to_63_bytes(rt: HostRuntime) -> Result<(), Fail> {
@@ -17,8 +45,7 @@ fn folds_and_takes_names_up_to_63_bytes(rt: HostRuntime) -> Result<(), Fail> {
         (LONGEST, LONGEST),
     ];
     for (bytes, want) in cases {
-        let name = Name::of(rt.alloc(), bytes.as_bytes())?;
-        assert_eq!(rt; name.as_bytes(), want.as_bytes(), "of {bytes}");
+        assert!(rt; folds(rt.alloc(), bytes, want)?, "of {bytes}");
     }
     Ok(())
 }
@@ -29,8 +56,8 @@ fn refuses_other_bytes(rt: HostRuntime) {
         "", TOO_LONG, "9a", "_a", "-", "a-b", "a b", "a@", "a[", "a`", "a{", "a/", "a:", "a\u{e9}",
     ];
     for bytes in cases {
-        let name = Name::of(rt.alloc(), bytes.as_bytes());
-        assert_eq!(rt; name.err(), Some(NameError::BadName), "of {bytes}");
+        let error = refusal(rt.alloc(), bytes);
+        assert_eq!(rt; error, Some(NameError::BadName), "of {bytes}");
     }
 }
 
@@ -38,8 +65,7 @@ fn refuses_other_bytes(rt: HostRuntime) {
 fn takes_printable_bytes_up_to_255(rt: HostRuntime) -> Result<(), Fail> {
     let longest = [b'x'; 255];
     for bytes in [b"".as_slice(), b" ~", longest.as_slice()] {
-        let text = Text::of(rt.alloc(), bytes)?;
-        assert_eq!(rt; text.as_bytes(), bytes);
+        assert!(rt; keeps(rt.alloc(), bytes)?, "of {bytes:?}");
     }
     Ok(())
 }
@@ -57,10 +83,7 @@ fn tells_the_first_bad_byte_and_length_before_it(rt: HostRuntime) {
         (bad_everywhere.as_slice(), TextError::TooLong(300)),
     ];
     for (bytes, error) in cases {
-        assert_eq!(rt;
-            Text::of(rt.alloc(), bytes).err(),
-            Some(error),
-            "at {bytes:?}"
-        );
+        let found = text_error(rt.alloc(), bytes);
+        assert_eq!(rt; found, Some(error), "at {bytes:?}");
     }
 }

@@ -2,7 +2,7 @@
 
 use bf_lex::{ScriptError, ScriptKind};
 use bf_parse::script;
-use bf_tree::Statement;
+use bf_tree::{Session, Statement};
 use std::alloc::{AllocError, Global};
 use std::test::Fail;
 
@@ -204,17 +204,36 @@ fn repeated(
     Ok(text)
 }
 
+fn fault_of_repeated(
+    alloc: Global,
+    front: &str,
+    part: &str,
+    count: u32,
+    back: &str,
+) -> Result<Option<(ScriptKind, u32)>, AllocError> {
+    let text = repeated(alloc, front, part, count, back)?;
+    Ok(fault_of(alloc, text.as_str()))
+}
+
 #[test]
 fn limits_have_two_ends(rt: HostRuntime) -> Result<(), Fail> {
     for (front, part, count, back, fault) in &REPEATED {
-        let text = repeated(rt.alloc(), front, part, *count, back)?;
-        assert_eq!(rt;
-            fault_of(rt.alloc(), text.as_str()),
-            *fault,
-            "of {count} in {front}"
-        );
+        let found = fault_of_repeated(rt.alloc(), front, part, *count, back)?;
+        assert_eq!(rt; found, *fault, "of {count} in {front}");
     }
     Ok(())
+}
+
+/// Whether there are two sessions, the first in the second phase and of two statements, of which the
+/// last is a commit.
+fn has_two_sessions(sessions: &[Session]) -> bool {
+    match sessions {
+        [first, _] => {
+            let statements = first.statements.as_slice();
+            first.phase == 2 && matches!(statements, [_, Statement::Commit])
+        }
+        _ => false,
+    }
 }
 
 #[test]
@@ -222,11 +241,6 @@ fn sessions_and_phases_are_counted(rt: HostRuntime) -> Result<(), Fail> {
     let text = "phase; phase; session; begin; commit; session;";
     let script = script(rt.alloc(), text.as_bytes())?;
     assert_eq!(rt; script.phases, 2);
-    let sessions = script.sessions.as_slice();
-    assert_eq!(rt; sessions.len(), 2);
-    assert_eq!(rt; sessions[0].phase, 2);
-    let statements = sessions[0].statements.as_slice();
-    assert_eq!(rt; statements.len(), 2);
-    assert!(rt; matches!(statements[1], Statement::Commit));
+    assert!(rt; has_two_sessions(script.sessions.as_slice()));
     Ok(())
 }

@@ -296,13 +296,19 @@ fn equals(alloc: Global, a: i64, b: Expr) -> Result<bool, Fail> {
     truth(alloc, cond, &[])
 }
 
+fn sum_equals(alloc: Global, a: i64, b: i64, want: i64) -> Result<bool, Fail> {
+    equals(alloc, want, binary(alloc, Plus, number(a), number(b))?)
+}
+
+/// Whether a literal equals the negative of a number, which may not be there.
+fn negative_equals(alloc: Global, a: i64, want: i64) -> Result<bool, Fail> {
+    equals(alloc, want, negative(alloc, number(a))?)
+}
+
 #[test]
 fn compares_values_that_are_made(rt: HostRuntime) -> Result<(), Fail> {
-    let alloc = rt.alloc();
-    let five = binary(alloc, Plus, number(2), number(3))?;
-    assert!(rt; equals(alloc, 5, five)?);
-    let none = negative(alloc, number(i64::MIN))?;
-    assert!(rt; equals(alloc, 0, none)?);
+    assert!(rt; sum_equals(rt.alloc(), 2, 3, 5)?);
+    assert!(rt; negative_equals(rt.alloc(), i64::MIN, 0)?);
     Ok(())
 }
 
@@ -362,14 +368,27 @@ fn disjunction(alloc: Global, a: Cond, b: Cond) -> Result<Cond, AllocError> {
     Ok(Cond::of(Test::Or(a, Box::new(alloc, b)?)))
 }
 
+fn both_hold(alloc: Global, a: bool, b: bool) -> Result<bool, Fail> {
+    let a = constant(alloc, a)?;
+    let b = constant(alloc, b)?;
+    truth(alloc, conjunction(alloc, a, b)?, &[])
+}
+
+fn one_holds(alloc: Global, a: bool, b: bool) -> Result<bool, Fail> {
+    let a = constant(alloc, a)?;
+    let b = constant(alloc, b)?;
+    truth(alloc, disjunction(alloc, a, b)?, &[])
+}
+
+fn does_not_hold(alloc: Global, a: bool) -> Result<bool, Fail> {
+    truth(alloc, negated(alloc, constant(alloc, a)?)?, &[])
+}
+
 /// Whether both of two truths hold, whether one does, and whether the first does not.
 fn joined_truths(alloc: Global, a: bool, b: bool) -> Result<(bool, bool, bool), Fail> {
-    let both = conjunction(alloc, constant(alloc, a)?, constant(alloc, b)?)?;
-    let both = truth(alloc, both, &[])?;
-    let either = disjunction(alloc, constant(alloc, a)?, constant(alloc, b)?)?;
-    let either = truth(alloc, either, &[])?;
-    let not = negated(alloc, constant(alloc, a)?)?;
-    Ok((both, either, truth(alloc, not, &[])?))
+    let both = both_hold(alloc, a, b)?;
+    let either = one_holds(alloc, a, b)?;
+    Ok((both, either, does_not_hold(alloc, a)?))
 }
 
 #[test]
@@ -400,23 +419,33 @@ fn same(a: &Expr, b: &Expr) -> bool {
     }
 }
 
+/// `-(2 + column 1)`
+fn negative_sum(alloc: Global) -> Result<Expr, AllocError> {
+    negative(alloc, binary(alloc, Plus, number(2), column(1))?)
+}
+
+/// `'ab' || column 0`
+fn joined_column(alloc: Global) -> Result<Expr, Fail> {
+    Ok(binary(alloc, Joined, literal(alloc, Letters("ab"))?, column(0))?)
+}
+
 /// `-(2 + column 1) * ('ab' || column 0) - 9`, in which each kind of node comes.
 fn each_node(alloc: Global) -> Result<Expr, Fail> {
-    let sum = binary(alloc, Plus, number(2), column(1))?;
-    let text = literal(alloc, Letters("ab"))?;
-    let joined = binary(alloc, Joined, text, column(0))?;
-    let product = binary(alloc, Times, negative(alloc, sum)?, joined)?;
-    Ok(binary(alloc, Minus, product, number(9))?)
+    let sum = negative_sum(alloc)?;
+    let joined = joined_column(alloc)?;
+    Ok(binary(alloc, Minus, binary(alloc, Times, sum, joined)?, number(9))?)
+}
+
+/// Whether the copy of an expression is the same, and whether it is another.
+fn is_copied(alloc: Global, expr: &Expr, other: &Expr) -> Result<(bool, bool), Fail> {
+    let copy = expr.copy(alloc)?;
+    Ok((same(&copy, expr), same(&copy, other)))
 }
 
 #[test]
 fn copies_expressions(rt: HostRuntime) -> Result<(), Fail> {
     let expr = each_node(rt.alloc())?;
-    let copy = expr.copy(rt.alloc())?;
-    assert_eq!(rt;
-        (same(&copy, &expr), same(&copy, &number(9))),
-        (true, false)
-    );
+    assert_eq!(rt; is_copied(rt.alloc(), &expr, &number(9))?, (true, false));
     Ok(())
 }
 
@@ -455,12 +484,19 @@ fn same_raw(a: &RawExpr, b: &RawExpr) -> bool {
     }
 }
 
+fn negative_reference(alloc: Global) -> Result<RawExpr, Fail> {
+    let column = RawExpr::of(RawNode::Column(reference(alloc)?));
+    Ok(RawExpr::of(RawNode::Neg(Box::new(alloc, column)?)))
+}
+
+fn is_raw_copied(alloc: Global, expr: &RawExpr) -> Result<bool, Fail> {
+    Ok(same_raw(&expr.copy(alloc)?, expr))
+}
+
 #[test]
 fn copies_raw_expressions(rt: HostRuntime) -> Result<(), Fail> {
-    let alloc = rt.alloc();
-    let column = RawExpr::of(RawNode::Column(reference(alloc)?));
-    let expr = RawExpr::of(RawNode::Neg(Box::new(alloc, column)?));
-    assert!(rt; same_raw(&expr.copy(alloc)?, &expr));
+    let expr = negative_reference(rt.alloc())?;
+    assert!(rt; is_raw_copied(rt.alloc(), &expr)?);
     Ok(())
 }
 
@@ -471,14 +507,22 @@ fn is_less(cond: &RawCond, left: &Operand, right: &Operand) -> bool {
     }
 }
 
+fn less_of(alloc: Global, left: &Operand, right: &Operand) -> Result<RawCond, Fail> {
+    let left = left.copy(alloc)?;
+    let right = right.copy(alloc)?;
+    Ok(RawCond::of(RawTest::Compare(Compare::Less, left, right)))
+}
+
+/// Whether the copy of a comparison compares these.
+fn is_less_copied(alloc: Global, left: &Operand, right: &Operand) -> Result<bool, Fail> {
+    let cond = less_of(alloc, left, right)?;
+    Ok(is_less(&cond.copy(alloc)?, left, right))
+}
+
 #[test]
 fn copies_raw_conditions(rt: HostRuntime) -> Result<(), Fail> {
-    let alloc = rt.alloc();
-    let (left, right) = (
-        Operand::Column(reference(alloc)?),
-        Operand::Value(Value::Int(7)),
-    );
-    let cond = RawCond::of(RawTest::Compare(Compare::Less, left.copy(alloc)?, right.copy(alloc)?));
-    assert!(rt; is_less(&cond.copy(alloc)?, &left, &right));
+    let left = Operand::Column(reference(rt.alloc())?);
+    let right = Operand::Value(Value::Int(7));
+    assert!(rt; is_less_copied(rt.alloc(), &left, &right)?);
     Ok(())
 }

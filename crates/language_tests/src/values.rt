@@ -9,6 +9,7 @@ use bf_base::{
     Admit, Column, Fit, Granule, Key, Kind, Place, Row, Sequence, Table, admits, key_of,
 };
 use std::alloc::Global;
+use std::cmp::Ordering;
 use std::test::Fail;
 
 fn column(alloc: Global, column: &str, admits: Admit) -> Result<Column, Fail> {
@@ -37,28 +38,41 @@ const RISING: [&[Cell]; 17] = [
     &[Letters("b"), Number(0)],
 ];
 
+/// The order of two keys, and whether they are equal and the first is less.
+fn key_order(alloc: Global, left: &[Cell], right: &[Cell]) -> Result<(Ordering, bool, bool), Fail> {
+    let key = Key::of(values(alloc, left)?);
+    let other = Key::of(values(alloc, right)?);
+    Ok((key.cmp(&other), key == other, key < other))
+}
+
+fn row_order(alloc: Global, left: &[Cell], right: &[Cell]) -> Result<Ordering, Fail> {
+    let left = row(alloc, left)?;
+    Ok(left.cmp(&row(alloc, right)?))
+}
+
 #[test]
 fn orders_keys_and_rows(rt: HostRuntime) -> Result<(), Fail> {
     let alloc = rt.alloc();
     for (i, left) in RISING.iter().enumerate() {
         for (j, right) in RISING.iter().enumerate() {
-            let key = Key::of(values(alloc, left)?);
-            let other = Key::of(values(alloc, right)?);
-            assert_eq!(rt; key.cmp(&other), i.cmp(&j), "of {left:?} and {right:?}");
+            let keys = key_order(alloc, left, right)?;
+            let rows = row_order(alloc, left, right)?;
             assert_eq!(rt;
-                (key == other, key < other),
-                (i == j, i < j),
+                (keys, rows),
+                ((i.cmp(&j), i == j, i < j), i.cmp(&j)),
                 "of {left:?} and {right:?}"
             );
-            let row = Row::of(key.into_vec());
-            assert_eq!(rt; row.cmp(&Row::of(other.into_vec())), i.cmp(&j));
         }
     }
     Ok(())
 }
 
+/// A unit, a row, and the cells of a group, if it is one.
+type Written = (u8, u32, &'static [Cell]);
+
 /// The granule at a row, or where there are cells at the group of their values.
-fn granule(alloc: Global, unit: u8, position: u32, group: &[Cell]) -> Result<Granule, Fail> {
+fn granule(alloc: Global, written: &Written) -> Result<Granule, Fail> {
+    let (unit, position, group) = *written;
     let place = if group.is_empty() {
         Place::Row(position)
     } else {
@@ -68,7 +82,7 @@ fn granule(alloc: Global, unit: u8, position: u32, group: &[Cell]) -> Result<Gra
 }
 
 /// Granules in rising order.
-const RISING_GRANULES: [(u8, u32, &[Cell]); 6] = [
+const RISING_GRANULES: [Written; 6] = [
     (1, 0, &[]),
     (1, 9, &[]),
     (1, 10, &[]),
@@ -77,76 +91,88 @@ const RISING_GRANULES: [(u8, u32, &[Cell]); 6] = [
     (2, 0, &[]),
 ];
 
+fn granule_order(alloc: Global, left: &Written, right: &Written) -> Result<Ordering, Fail> {
+    let left = granule(alloc, left)?;
+    Ok(left.cmp(&granule(alloc, right)?))
+}
+
+fn is_copied(alloc: Global, written: &Written) -> Result<bool, Fail> {
+    let granule = granule(alloc, written)?;
+    Ok(granule.copy(alloc)? == granule)
+}
+
 #[test]
 fn orders_granules_by_unit_then_place(rt: HostRuntime) -> Result<(), Fail> {
     let alloc = rt.alloc();
     for (i, left) in RISING_GRANULES.iter().enumerate() {
-        let granule_here = granule(alloc, left.0, left.1, left.2)?;
-        assert!(rt; granule_here.copy(alloc)? == granule_here, "of {left:?}");
+        assert!(rt; is_copied(alloc, left)?, "of {left:?}");
         for (j, right) in RISING_GRANULES.iter().enumerate() {
-            let other = granule(alloc, right.0, right.1, right.2)?;
-            assert_eq!(rt;
-                granule_here.cmp(&other),
-                i.cmp(&j),
-                "of {left:?} and {right:?}"
-            );
+            let order = granule_order(alloc, left, right)?;
+            assert_eq!(rt; order, i.cmp(&j), "of {left:?} and {right:?}");
         }
     }
     Ok(())
 }
 
+/// How a value fits a column that admits these, and of which kind it is.
+fn fit_of(alloc: Global, admit: Admit, cell: Cell) -> Result<(Fit, Kind), Fail> {
+    let column = column(alloc, "amount", admit)?;
+    let value = value(alloc, cell)?;
+    Ok((admits(&column, &value), value.kind()))
+}
+
+fn kind_of(cell: Cell) -> Kind {
+    match cell {
+        Number(_) => Kind::Int,
+        Letters(_) => Kind::Text,
+    }
+}
+
+const FITS: [(Admit, Cell, Fit); 13] = [
+    (Admit::Int, Number(i64::MIN), Fit::Fits),
+    (Admit::Int, Number(i64::MAX), Fit::Fits),
+    (Admit::Int, Letters("1"), Fit::WrongKind),
+    (Admit::Checked(-3, 7), Number(-4), Fit::OutOfRange),
+    (Admit::Checked(-3, 7), Number(-3), Fit::Fits),
+    (Admit::Checked(-3, 7), Number(7), Fit::Fits),
+    (Admit::Checked(-3, 7), Number(8), Fit::OutOfRange),
+    (Admit::Checked(-3, 7), Letters("1"), Fit::WrongKind),
+    (Admit::Checked(7, -3), Number(0), Fit::OutOfRange),
+    (Admit::Varchar(3), Letters(""), Fit::Fits),
+    (Admit::Varchar(3), Letters("abc"), Fit::Fits),
+    (Admit::Varchar(3), Letters("abcd"), Fit::TooLong),
+    (Admit::Varchar(3), Number(1), Fit::WrongKind),
+];
+
 #[test]
 fn admits_to_the_ends(rt: HostRuntime) -> Result<(), Fail> {
-    let alloc = rt.alloc();
-    let cases = [
-        (Admit::Int, Number(i64::MIN), Fit::Fits),
-        (Admit::Int, Number(i64::MAX), Fit::Fits),
-        (Admit::Int, Letters("1"), Fit::WrongKind),
-        (Admit::Checked(-3, 7), Number(-4), Fit::OutOfRange),
-        (Admit::Checked(-3, 7), Number(-3), Fit::Fits),
-        (Admit::Checked(-3, 7), Number(7), Fit::Fits),
-        (Admit::Checked(-3, 7), Number(8), Fit::OutOfRange),
-        (Admit::Checked(-3, 7), Letters("1"), Fit::WrongKind),
-        (Admit::Checked(7, -3), Number(0), Fit::OutOfRange),
-        (Admit::Varchar(3), Letters(""), Fit::Fits),
-        (Admit::Varchar(3), Letters("abc"), Fit::Fits),
-        (Admit::Varchar(3), Letters("abcd"), Fit::TooLong),
-        (Admit::Varchar(3), Number(1), Fit::WrongKind),
-    ];
-    for (admit, cell, fit) in cases {
-        let column = column(alloc, "amount", admit)?;
-        let value = value(alloc, cell)?;
-        assert_eq!(rt; admits(&column, &value), fit, "of {cell:?} at {admit:?}");
-        let kind = if matches!(cell, Number(_)) {
-            Kind::Int
-        } else {
-            Kind::Text
-        };
-        assert_eq!(rt; value.kind(), kind, "of {cell:?}");
+    for (admit, cell, fit) in FITS {
+        let found = fit_of(rt.alloc(), admit, cell)?;
+        assert_eq!(rt; found, (fit, kind_of(cell)), "of {cell:?} at {admit:?}");
     }
     Ok(())
 }
 
+const COLUMNS: [(&str, Admit); 3] = [
+    ("amount", Admit::Checked(0, 9)),
+    ("region", Admit::Varchar(8)),
+    ("id", Admit::Int),
+];
+
+fn columns(alloc: Global) -> Result<Sequence<Column>, Fail> {
+    let mut columns = Vec::new(alloc);
+    for (name, admits) in &COLUMNS {
+        columns.push(column(alloc, name, *admits)?)?;
+    }
+    Ok(Sequence::of(columns))
+}
+
 /// A table of three columns whose key is the third and then the second.
 fn orders(alloc: Global) -> Result<Table, Fail> {
-    let mut columns = Vec::new(alloc);
-    let admitted = [
-        ("amount", Admit::Checked(0, 9)),
-        ("region", Admit::Varchar(8)),
-        ("id", Admit::Int),
-    ];
-    for (name, admits) in admitted {
-        columns.push(column(alloc, name, admits)?)?;
-    }
-    let mut key = Vec::new(alloc);
-    for place in [2, 1] {
-        key.push(place)?;
-    }
-    Ok(Table {
-        name: name(alloc, "orders")?,
-        columns: Sequence::of(columns),
-        key: Sequence::of(key),
-    })
+    let name = name(alloc, "orders")?;
+    let key = Sequence::of(vec![in alloc; 2, 1]?);
+    let columns = columns(alloc)?;
+    Ok(Table { name, columns, key })
 }
 
 /// Whether a row has a value at each place of the table's key.
@@ -161,24 +187,37 @@ fn has_key(table: &Table, row: &Row) -> bool
         .all(|place| (*place as usize) < width)
 }
 
+/// Whether the key of a row has these values.
+fn has_key_of(alloc: Global, table: &Table, row: &Row, want: &[Cell]) -> Result<bool, Fail> {
+    if !has_key(table, row) {
+        return Ok(false);
+    }
+    let key = key_of(alloc, table, row)?;
+    Ok(key == Key::of(values(alloc, want)?))
+}
+
 #[test]
 fn reads_keys_in_key_order(rt: HostRuntime) -> Result<(), Fail> {
     let alloc = rt.alloc();
     let table = orders(alloc)?;
     let row = row(alloc, &[Number(5), Letters("north"), Number(77)])?;
-    assert!(rt; has_key(&table, &row));
-    let key = key_of(alloc, &table, &row)?;
-    let want = Key::of(values(alloc, &[Number(77), Letters("north")])?);
-    assert!(rt; key == want, "not {key:?}");
+    assert!(rt; has_key_of(alloc, &table, &row, &[Number(77), Letters("north")])?);
     Ok(())
+}
+
+fn is_table_copied(alloc: Global) -> Result<bool, Fail> {
+    let table = orders(alloc)?;
+    Ok(table.copy(alloc)? == table)
+}
+
+fn is_row_copied(alloc: Global) -> Result<bool, Fail> {
+    let row = row(alloc, &[Number(5), Letters("north")])?;
+    Ok(row.copy(alloc)? == row)
 }
 
 #[test]
 fn copies_are_equal(rt: HostRuntime) -> Result<(), Fail> {
-    let alloc = rt.alloc();
-    let table = orders(alloc)?;
-    assert!(rt; table.copy(alloc)? == table);
-    let row = row(alloc, &[Number(5), Letters("north")])?;
-    assert!(rt; row.copy(alloc)? == row);
+    assert!(rt; is_table_copied(rt.alloc())?);
+    assert!(rt; is_row_copied(rt.alloc())?);
     Ok(())
 }

@@ -131,12 +131,18 @@ fn keeps_tables_in_name_order(rt: HostRuntime) -> Result<(), Fail> {
     let alloc = rt.alloc();
     let live = two_tables(alloc)?;
     let catalog = live.catalog();
-    assert_eq!(rt; catalog.number, 3);
-    let tables = catalog.tables.as_slice();
-    assert_eq!(rt; tables.len(), 2);
-    assert_eq!(rt; tables[0].name.as_bytes(), b"a".as_slice());
-    assert_eq!(rt; tables[1].name.as_bytes(), b"b".as_slice());
-    assert_eq!(rt; catalog.indexes.as_slice().len(), 1);
+    assert_eq!(rt; catalog.number(), 3);
+    let mut tables = catalog.tables();
+    assert_eq!(rt;
+        tables.next().ok_or("no table")?.name.as_bytes(),
+        b"a".as_slice()
+    );
+    assert_eq!(rt;
+        tables.next().ok_or("one table")?.name.as_bytes(),
+        b"b".as_slice()
+    );
+    assert!(rt; tables.next().is_none());
+    assert_eq!(rt; catalog.indexes().len(), 1);
     assert!(rt; live.heap(&Name::of(alloc, b"c")?).is_none());
     assert!(rt; rows(alloc, &live, b"a")?.is_empty());
     Ok(())

@@ -30,10 +30,29 @@ fn synced_len<D: Disk>(disk: &mut D) -> Result<u64, DiskError> {
     disk.len()
 }
 
-// What a crash leaves of a disk, and how many calls the disk that is left has kept.
-fn left(alloc: Global, disk: &TapeDisk, torn: &[u8]) -> Result<(Vec<u8>, u64), Memory> {
+// Whether a crash leaves a disk of these bytes, which has kept no calls.
+fn leaves(alloc: Global, disk: &TapeDisk, torn: &[u8], image: &[u8]) -> Result<bool, Memory> {
     let left = disk.crash(alloc, torn)?;
-    Ok((left.bytes().to_vec(alloc)?, left.calls()))
+    Ok(left.bytes() == image && left.calls() == 0)
+}
+
+// Whether a crash before a call leaves these bytes.
+fn leaves_before(alloc: Global, disk: &TapeDisk, call: u64, image: &[u8]) -> Result<bool, Memory> {
+    Ok(disk.crash_at(alloc, call, b"1")?.bytes() == image)
+}
+
+// Which calls fail of a file of which one is told to, how many did, and how many were made.
+fn failing(alloc: Global, call: u64) -> Result<([bool; 5], u64, u64), Memory> {
+    let mut disk = tape(alloc, b"", &[call])?;
+    let failed = each_call(&mut disk);
+    Ok((failed, disk.faults(), disk.calls()))
+}
+
+// Which calls fail of a file of which all do from the third on, and how many did.
+fn failing_from_third(alloc: Global) -> ([bool; 5], u64) {
+    let mut disk = TapeDisk::new(alloc, Vec::new(alloc), Vec::new(alloc), Some(3));
+    let failed = each_call(&mut disk);
+    (failed, disk.faults())
 }
 
 #[test]
@@ -41,8 +60,12 @@ fn reads_what_was_written(rt: HostRuntime) -> Result<(), Fail> {
     let mut disk = half_written(rt.alloc())?;
     assert_eq!(rt; disk.bytes(), b"abcdXYZ".as_slice());
     assert_eq!(rt; synced_len(&mut disk)?, 7);
-    assert_eq!(rt; disk.faults(), 0);
-    assert_eq!(rt; disk.calls(), 3);
+    assert_eq!(rt; (disk.faults(), disk.calls()), (0, 3));
+    Ok(())
+}
+
+#[test]
+fn reads_what_was_written_to_memory(rt: HostRuntime) -> Result<(), Fail> {
     let mut memory = MemoryDisk::new(rt.alloc());
     memory.write_at(0, b"pq")?;
     assert_eq!(rt; synced_len(&mut memory)?, 2);
@@ -60,12 +83,9 @@ fn tears_what_is_pending(rt: HostRuntime) -> Result<(), Fail> {
         (b"12".as_slice(), b"abcd121".as_slice()),
         (b"1234".as_slice(), b"abcd123".as_slice()),
     ] {
-        let (bytes, calls) = left(rt.alloc(), &disk, torn)?;
-        assert_eq!(rt; bytes.as_slice(), image);
-        assert_eq!(rt; calls, 0);
+        assert!(rt; leaves(rt.alloc(), &disk, torn, image)?, "torn {torn:?}");
     }
-    let before = disk.crash_at(rt.alloc(), 1, b"1")?;
-    assert_eq!(rt; before.bytes(), b"abcdef".as_slice());
+    assert!(rt; leaves_before(rt.alloc(), &disk, 1, b"abcdef")?);
     Ok(())
 }
 
@@ -78,18 +98,9 @@ fn each_call_fails_where_it_is_told_to(rt: HostRuntime) -> Result<(), Fail> {
         (4, [false, false, false, true, false]),
         (5, [false, false, false, false, true]),
     ] {
-        let mut disk = tape(rt.alloc(), b"", &[call])?;
-        assert_eq!(rt; each_call(&mut disk), fails, "call {call}");
-        assert_eq!(rt; disk.faults(), 1);
-        assert_eq!(rt; disk.calls(), 5);
+        assert_eq!(rt; failing(rt.alloc(), call)?, (fails, 1, 5), "call {call}");
     }
-    let mut disk = TapeDisk::new(
-        rt.alloc(),
-        Vec::new(rt.alloc()),
-        Vec::new(rt.alloc()),
-        Some(3),
-    );
-    assert_eq!(rt; each_call(&mut disk), [false, false, false, true, true]);
-    assert_eq!(rt; disk.faults(), 2);
+    let fails = [false, false, false, true, true];
+    assert_eq!(rt; failing_from_third(rt.alloc()), (fails, 2));
     Ok(())
 }

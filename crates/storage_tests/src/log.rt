@@ -71,25 +71,78 @@ fn read_all<R: Abort, D: Disk + Drop>(
     }
 }
 
+// Whether these payloads are read from there on, and this ends them.
+fn reads_on<R: Abort, D: Disk>(
+    rt: &R,
+    alloc: Global,
+    opening: &mut Opening<D>,
+    payloads: &[u8],
+    end: Option<OpenError>,
+) -> Result<bool, Memory> {
+    let (found, error) = read_on(rt, alloc, opening)?;
+    Ok(found.as_slice() == payloads && error == end)
+}
+
+// The same of a whole file.
+fn reads<R: Abort, D: Disk + Drop>(
+    rt: &R,
+    alloc: Global,
+    disk: D,
+    payloads: &[u8],
+    end: Option<OpenError>,
+) -> Result<bool, Memory> {
+    let (found, error) = read_all(rt, alloc, disk)?;
+    Ok(found.as_slice() == payloads && error == end)
+}
+
+// The same of a file of these bytes.
+fn reads_bytes<R: Abort>(
+    rt: &R,
+    alloc: Global,
+    bytes: &[u8],
+    payloads: &[u8],
+    end: Option<OpenError>,
+) -> Result<bool, Memory> {
+    reads(rt, alloc, tape(alloc, bytes, &[])?, payloads, end)
+}
+
+// A log at the end of a file of these bytes.
+fn opened_bytes<R: Abort>(rt: &R, alloc: Global, bytes: &[u8]) -> Result<Log<TapeDisk>, Memory> {
+    Ok(opened(rt, alloc, tape(alloc, bytes, &[])?))
+}
+
+// Whether a crash before a call leaves a log of these payloads.
+fn leaves<R: Abort>(
+    rt: &R,
+    alloc: Global,
+    disk: &TapeDisk,
+    call: u64,
+    torn: &[u8],
+    payloads: &[u8],
+) -> Result<bool, Memory> {
+    reads(rt, alloc, disk.crash_at(alloc, call, torn)?, payloads, None)
+}
+
 // A crash before a call, or now if fewer were made, leaves a log: of the second payloads where the
-// first pending byte becomes an open gate, and else of the first.
-fn assert_left<R: Abort>(
+// first pending byte becomes an open gate, and else of the first. This answers the place of torn bytes
+// that leave another.
+fn wrongly_left<R: Abort>(
     rt: &R,
     alloc: Global,
     disk: &TapeDisk,
     call: u64,
     closed: &[u8],
     open: &[u8],
-) -> Result<(), Fail> {
-    for torn in TORN {
-        let (payloads, error) = read_all(rt, alloc, disk.crash_at(alloc, call, torn)?)?;
+) -> Result<Option<usize>, Memory> {
+    for (place, torn) in TORN.iter().enumerate() {
         let wanted = if torn.first() == Some(&0xa5) {
             open
         } else {
             closed
         };
-        assert_eq!(rt; payloads.as_slice(), wanted, "call {call}, torn {torn:?}");
-        assert_eq!(rt; error, None, "call {call}, torn {torn:?}");
+        if !leaves(rt, alloc, disk, call, torn, wanted)? {
+            return Ok(Some(place));
+        }
     }
-    Ok(())
+    Ok(None)
 }

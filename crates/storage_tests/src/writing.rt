@@ -3,6 +3,7 @@
 ghost use Rattle.std.specs.Prelude.{Some};
 
 use bf_io::{IoError, MemorySink, Sink, write_whole};
+use std::alloc::Global;
 use std::test::Fail;
 
 /// Takes one byte at a time.
@@ -24,18 +25,28 @@ impl Sink for OneByOne {
     }
 }
 
+// A sink of six bytes of which a write fails.
+fn failing_at(alloc: Global, failing: u64) -> Result<OneByOne, Fail> {
+    let failing = vec![in alloc; failing]?;
+    Ok(OneByOne {
+        sink: MemorySink::new(alloc, 6, failing)?,
+    })
+}
+
+// The answer of a write, whether these bytes are then written, and how many faults are told.
+fn writes(sink: &mut OneByOne, bytes: &[u8], written: &str) -> (Result<(), IoError>, bool, u64) {
+    let answer = write_whole(sink, bytes);
+    let taken = sink.sink.bytes() == written.as_bytes();
+    (answer, taken, sink.sink.faults())
+}
+
 #[test]
 fn tells_a_failing_write(rt: HostRuntime) -> Result<(), Fail> {
     for (failing, taken) in [(1, "x"), (2, "xh"), (3, "xhe"), (4, "xhel"), (5, "xhell")] {
-        let failing = vec![in rt.alloc(); failing + 1]?;
-        let mut sink = OneByOne {
-            sink: MemorySink::new(rt.alloc(), 6, failing)?,
-        };
+        let mut sink = failing_at(rt.alloc(), failing + 1)?;
         write_whole(&mut sink, b"x")?;
-        let outcome = write_whole(&mut sink, b"hello");
-        assert_eq!(rt; outcome, Err(IoError::Failed), "after {taken}");
-        assert_eq!(rt; sink.sink.bytes(), taken.as_bytes());
-        assert_eq!(rt; sink.sink.faults(), 1, "after {taken}");
+        let found = writes(&mut sink, b"hello", taken);
+        assert_eq!(rt; found, (Err(IoError::Failed), true, 1), "after {taken}");
     }
     Ok(())
 }
@@ -43,15 +54,11 @@ fn tells_a_failing_write(rt: HostRuntime) -> Result<(), Fail> {
 #[test]
 fn writes_all_before_a_failing_write(rt: HostRuntime) -> Result<(), Fail> {
     for failing in [0, 7, 8] {
-        let failing = vec![in rt.alloc(); failing]?;
-        let mut sink = OneByOne {
-            sink: MemorySink::new(rt.alloc(), 6, failing)?,
-        };
+        let mut sink = failing_at(rt.alloc(), failing)?;
         write_whole(&mut sink, b"x")?;
         write_whole(&mut sink, b"")?;
-        write_whole(&mut sink, b"hello")?;
-        assert_eq!(rt; sink.sink.bytes(), b"xhello".as_slice());
-        assert_eq!(rt; sink.sink.faults(), 0);
+        let found = writes(&mut sink, b"hello", "xhello");
+        assert_eq!(rt; found, (Ok(()), true, 0), "with write {failing} failing");
     }
     Ok(())
 }

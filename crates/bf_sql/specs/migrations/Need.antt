@@ -15,7 +15,7 @@ use Rattle.bf_tree.specs.declared.migration.Target.{Target}
 use Rattle.bf_tree.specs.declared.migration.Migrate.{Migrate}
 use Rattle.bf_tree.specs.declared.statement.Statement.{Statement}
 use Rattle.bf_sql.specs.Database.{Database, same_table}
-use Rattle.bf_sql.specs.Conditions.{conjuncts}
+use Rattle.bf_tree.specs.Fixed.{conjuncts}
 use Rattle.bf_sql.specs.Bound.{bound_of}
 use Rattle.bf_sql.specs.migrations.Targets.{target_table, is_total, first_arm}
 use Rattle.bf_sql.specs.migrations.Granules.{granules_of, part_in}

@@ -1,69 +1,100 @@
 use super::*;
 
+// The answers of a first creation and of another, and how many calls and faults were made between.
+fn created_twice(
+    alloc: Global,
+    call: u64,
+) -> Result<(Result<(), CreateError>, u64, u64, Result<(), CreateError>), Memory> {
+    let mut disk = tape(alloc, b"", &[call])?;
+    let first = create_log(&mut disk);
+    let (calls, faults) = (disk.calls(), disk.faults());
+    Ok((first, calls, faults, create_log(&mut disk)))
+}
+
 #[test]
 fn creation_tells_a_fault(rt: HostRuntime) -> Result<(), Fail> {
     for (call, again) in [(1, Ok(())), (2, Ok(())), (3, Err(CreateError::NotEmpty(9)))] {
-        let mut disk = tape(rt.alloc(), b"", &[call])?;
-        assert_eq!(rt;
-            create_log(&mut disk),
-            Err(CreateError::DiskFault),
-            "call {call}"
-        );
-        assert_eq!(rt; disk.calls(), call);
-        assert_eq!(rt; disk.faults(), 1);
-        assert_eq!(rt; create_log(&mut disk), again, "call {call}");
+        let found = created_twice(rt.alloc(), call)?;
+        let wanted = (Err(CreateError::DiskFault), call, 1, again);
+        assert_eq!(rt; found, wanted, "call {call}");
     }
     Ok(())
 }
 
-// The magic was written and its sync failed. Opening syncs first, so that the log stays.
+// A disk to which the magic was written, and whose sync failed.
+fn unsynced(alloc: Global) -> Result<TapeDisk, Fail> {
+    let mut disk = tape(alloc, b"", &[3])?;
+    match create_log(&mut disk) {
+        Err(CreateError::DiskFault) => Ok(disk),
+        _ => Err("no fault")?,
+    }
+}
+
+#[test]
+fn what_was_not_synced_may_be_lost(rt: HostRuntime) -> Result<(), Fail> {
+    let left = unsynced(rt.alloc())?.crash(rt.alloc(), b"\xa5")?;
+    let lost = Some(OpenError::NotALog(0));
+    assert!(rt; reads(&rt, rt.alloc(), left, b"", lost)?);
+    Ok(())
+}
+
+// Opening syncs first, so that the log stays.
 #[test]
 fn what_was_opened_stays(rt: HostRuntime) -> Result<(), Fail> {
-    let mut disk = tape(rt.alloc(), b"", &[3])?;
-    assert_eq!(rt; create_log(&mut disk), Err(CreateError::DiskFault));
-    let (_, lost) = read_all(&rt, rt.alloc(), disk.crash(rt.alloc(), b"\xa5")?)?;
-    assert_eq!(rt; lost, Some(OpenError::NotALog(0)));
+    let disk = unsynced(rt.alloc())?;
     let log = opened(&rt, rt.alloc(), disk);
-    assert_left(&rt, rt.alloc(), log.disk(), u64::MAX, b"", b"")?;
-    assert_eq!(rt; log.halted(), None);
+    let wrong = wrongly_left(&rt, rt.alloc(), log.disk(), u64::MAX, b"", b"")?;
+    assert_eq!(rt; (wrong, log.halted()), (None, None));
     Ok(())
+}
+
+// Whether an opening fails at a call, and gives a disk back from which the log is read.
+fn gives_back(rt: &impl Abort, alloc: Global, call: u64) -> Result<bool, Memory> {
+    match open_log(alloc, tape(alloc, b"BFROGLG1\xa5\x02\0\0\0AB\0", &[call])?) {
+        Ok(_) => Ok(false),
+        Err((disk, error)) => {
+            let stopped = error == OpenError::DiskFault && disk.calls() == call;
+            Ok(reads(rt, alloc, disk, b"AB|", None)? && stopped)
+        }
+    }
 }
 
 #[test]
 fn opening_gives_the_disk_back(rt: HostRuntime) -> Result<(), Fail> {
     for call in 1..=3 {
-        let disk = tape(rt.alloc(), b"BFROGLG1\xa5\x02\0\0\0AB\0", &[call])?;
-        let Err((disk, error)) = open_log(rt.alloc(), disk) else {
-            panic!(rt; "opened in spite of a fault at call {call}");
-        };
-        assert_eq!(rt; error, OpenError::DiskFault);
-        assert_eq!(rt; disk.calls(), call);
-        let (payloads, error) = read_all(&rt, rt.alloc(), disk)?;
-        assert_eq!(rt; payloads.as_slice(), b"AB|".as_slice());
-        assert_eq!(rt; error, None);
+        assert!(rt; gives_back(&rt, rt.alloc(), call)?, "call {call}");
     }
     Ok(())
 }
 
+// Whether a fault comes behind the first payloads, and behind it the second.
+fn reads_again(
+    rt: &impl Abort,
+    alloc: Global,
+    call: u64,
+    before: &[u8],
+    after: &[u8],
+) -> Result<bool, Fail> {
+    let disk = tape(alloc, b"BFROGLG1\xa5\x02\0\0\0AB\xa5\x01\0\0\0C\0", &[call])?;
+    let mut opening = open_log(alloc, disk)?;
+    let first = reads_on(rt, alloc, &mut opening, before, Some(OpenError::DiskFault))?;
+    Ok(reads_on(rt, alloc, &mut opening, after, None)? && first)
+}
+
 // A frame is read by the calls 4, 6 and 8, and a payload by 5 and 7.
+const AGAIN: [(u64, &[u8], &[u8]); 5] = [
+    (4, b"", b"AB|C|"),
+    (5, b"", b"AB|C|"),
+    (6, b"AB|", b"C|"),
+    (7, b"AB|", b"C|"),
+    (8, b"AB|C|", b""),
+];
+
 #[test]
 fn a_payload_is_read_again_after_a_fault(rt: HostRuntime) -> Result<(), Fail> {
-    let file = b"BFROGLG1\xa5\x02\0\0\0AB\xa5\x01\0\0\0C\0";
-    for (call, before, after) in [
-        (4, b"".as_slice(), b"AB|C|".as_slice()),
-        (5, b"".as_slice(), b"AB|C|".as_slice()),
-        (6, b"AB|".as_slice(), b"C|".as_slice()),
-        (7, b"AB|".as_slice(), b"C|".as_slice()),
-        (8, b"AB|C|".as_slice(), b"".as_slice()),
-    ] {
-        let disk = tape(rt.alloc(), file, &[call])?;
-        let mut opening = open_log(rt.alloc(), disk)?;
-        let (payloads, error) = read_on(&rt, rt.alloc(), &mut opening)?;
-        assert_eq!(rt; payloads.as_slice(), before, "call {call}");
-        assert_eq!(rt; error, Some(OpenError::DiskFault), "call {call}");
-        let (payloads, error) = read_on(&rt, rt.alloc(), &mut opening)?;
-        assert_eq!(rt; payloads.as_slice(), after, "call {call}");
-        assert_eq!(rt; error, None, "call {call}");
+    for (call, before, after) in AGAIN {
+        let reads = reads_again(&rt, rt.alloc(), call, before, after)?;
+        assert!(rt; reads, "call {call}");
     }
     Ok(())
 }
@@ -80,44 +111,82 @@ fn append_two<D: Disk>(log: &mut Log<D>) -> (u64, Option<AppendError>) {
     (acknowledged, None)
 }
 
+// A log of a file of which a call fails.
+fn failing(rt: &impl Abort, alloc: Global, call: u64) -> Result<Log<TapeDisk>, Fail> {
+    let mut disk = tape(alloc, b"", &[call])?;
+    create_log(&mut disk)?;
+    Ok(opened(rt, alloc, disk))
+}
+
+// Whether a log that had a fault refuses appends, by no further call.
+fn is_halted(log: &mut Log<TapeDisk>, calls: u64) -> bool {
+    let told = log.halted();
+    let halted = Err(AppendError::Halted(1));
+    let answers = (log.append(b"D", 2, 99), log.append(b"too large", 2, 0));
+    told == Some(1) && answers == (halted, halted) && log.disk().calls() == calls
+}
+
+// How many appends were acknowledged before a fault at a call, and whether the fault halts the log and a
+// crash then leaves these payloads.
+fn halts(
+    rt: &impl Abort,
+    alloc: Global,
+    call: u64,
+    closed: &[u8],
+    open: &[u8],
+) -> Result<(u64, bool), Fail> {
+    let mut log = failing(rt, alloc, call)?;
+    let (acknowledged, error) = append_two(&mut log);
+    let halted = error == Some(AppendError::DiskFault) && is_halted(&mut log, call);
+    let wrong = wrongly_left(rt, alloc, log.disk(), u64::MAX, closed, open)?;
+    Ok((acknowledged, halted && wrong.is_none()))
+}
+
 // The appends make the calls 8 to 11 and 12 to 15. Once the write of the gate was asked for, a
 // crash leaves the record or not.
+const HALTS: [(u64, u64, &[u8], &[u8]); 8] = [
+    (8, 0, b"", b""),
+    (9, 0, b"", b""),
+    (10, 0, b"", b"AB|"),
+    (11, 0, b"", b"AB|"),
+    (12, 1, b"AB|", b"AB|"),
+    (13, 1, b"AB|", b"AB|"),
+    (14, 1, b"AB|", b"AB|C|"),
+    (15, 1, b"AB|", b"AB|C|"),
+];
+
 #[test]
 fn a_fault_halts_the_log(rt: HostRuntime) -> Result<(), Fail> {
-    for (call, acknowledged, closed, open) in [
-        (8, 0, b"".as_slice(), b"".as_slice()),
-        (9, 0, b"".as_slice(), b"".as_slice()),
-        (10, 0, b"".as_slice(), b"AB|".as_slice()),
-        (11, 0, b"".as_slice(), b"AB|".as_slice()),
-        (12, 1, b"AB|".as_slice(), b"AB|".as_slice()),
-        (13, 1, b"AB|".as_slice(), b"AB|".as_slice()),
-        (14, 1, b"AB|".as_slice(), b"AB|C|".as_slice()),
-        (15, 1, b"AB|".as_slice(), b"AB|C|".as_slice()),
-    ] {
-        let mut disk = tape(rt.alloc(), b"", &[call])?;
-        create_log(&mut disk)?;
-        let mut log = opened(&rt, rt.alloc(), disk);
-        let answer = (acknowledged, Some(AppendError::DiskFault));
-        assert_eq!(rt; append_two(&mut log), answer, "call {call}");
-        assert_eq!(rt; log.halted(), Some(1));
-        assert_eq!(rt; log.append(b"D", 2, 99), Err(AppendError::Halted(1)));
-        assert_eq!(rt; log.append(b"too large", 2, 0), Err(AppendError::Halted(1)));
-        assert_eq!(rt; log.disk().calls(), call);
-        assert_left(&rt, rt.alloc(), log.disk(), u64::MAX, closed, open)?;
+    for (call, acknowledged, closed, open) in HALTS {
+        let found = halts(&rt, rt.alloc(), call, closed, open)?;
+        assert_eq!(rt; found, (acknowledged, true), "call {call}");
     }
     Ok(())
 }
 
-// One fault in a first creation, and one in the last sync of an append.
+// Whether the first append of a log halts it, and it then tells of two faults.
+fn tells_all(log: &mut Log<TapeDisk>) -> bool {
+    let before = log.halted();
+    let first = log.append(b"AB", 2, 99);
+    let then = log.halted();
+    let second = log.append(b"C", 2, 99);
+    (before, then) == (None, Some(2))
+        && (first, second) == (Err(AppendError::DiskFault), Err(AppendError::Halted(2)))
+}
+
+// A disk with one fault in a first creation of a log, and one in the last sync of an append.
+fn made_again(alloc: Global) -> Result<TapeDisk, Fail> {
+    let mut disk = tape(alloc, b"", &[2, 13])?;
+    match (create_log(&mut disk), create_log(&mut disk)) {
+        (Err(CreateError::DiskFault), Ok(())) => Ok(disk),
+        _ => Err("another answer of the creations")?,
+    }
+}
+
 #[test]
 fn a_halted_log_tells_all_faults_of_its_disk(rt: HostRuntime) -> Result<(), Fail> {
-    let mut disk = tape(rt.alloc(), b"", &[2, 13])?;
-    assert_eq!(rt; create_log(&mut disk), Err(CreateError::DiskFault));
-    assert_eq!(rt; create_log(&mut disk), Ok(()));
+    let disk = made_again(rt.alloc())?;
     let mut log = opened(&rt, rt.alloc(), disk);
-    assert_eq!(rt; log.halted(), None);
-    assert_eq!(rt; log.append(b"AB", 2, 99), Err(AppendError::DiskFault));
-    assert_eq!(rt; log.halted(), Some(2));
-    assert_eq!(rt; log.append(b"C", 2, 99), Err(AppendError::Halted(2)));
+    assert!(rt; tells_all(&mut log));
     Ok(())
 }

@@ -1,122 +1,126 @@
 use super::*;
 
+// Whether a head with one bit turned is no log from there on.
+fn refuses_turned(rt: &impl Abort, alloc: Global, at: usize, bit: u8) -> Result<bool, Memory> {
+    let mut bytes = *b"BFROGLG1\0";
+    if let Some(byte) = bytes.get_mut(at) {
+        *byte ^= bit;
+    }
+    reads_bytes(rt, alloc, &bytes, b"", Some(OpenError::NotALog(at as u64)))
+}
+
 #[test]
 fn a_head_is_no_log_where_it_ends_or_differs(rt: HostRuntime) -> Result<(), Fail> {
     let log = *b"BFROGLG1\0";
     for at in 0..=8 {
-        let (_, error) = read_all(&rt, rt.alloc(), tape(rt.alloc(), &log[..at], &[])?)?;
-        assert_eq!(rt; error, Some(OpenError::NotALog(at as u64)), "cut at {at}");
+        let error = Some(OpenError::NotALog(at as u64));
+        assert!(rt;
+            reads_bytes(&rt, rt.alloc(), &log[..at], b"", error)?,
+            "cut at {at}"
+        );
     }
     for at in 0..8 {
         for bit in [0x01, 0x80] {
-            let mut bytes = log;
-            bytes[at] ^= bit;
-            let (_, error) = read_all(&rt, rt.alloc(), tape(rt.alloc(), &bytes, &[])?)?;
-            assert_eq!(rt;
-                error,
-                Some(OpenError::NotALog(at as u64)),
-                "turned at {at}"
-            );
+            assert!(rt; refuses_turned(&rt, rt.alloc(), at, bit)?, "turned at {at}");
         }
     }
     Ok(())
 }
+
+const BROKEN: [(&[u8], &[u8], u64); 13] = [
+    (b"BFROGLG1\xa5", b"", 8),
+    (b"BFROGLG1\xa5\0\0\0", b"", 8),
+    (b"BFROGLG1\xa5\0\0\0\0", b"", 8),
+    (b"BFROGLG1\xa5\x02\0\0\0A", b"", 8),
+    (b"BFROGLG1\xa5\x02\0\0\0AB", b"", 8),
+    (b"BFROGLG1\xa5\0\0\0\x01A\0", b"", 8),
+    (b"BFROGLG1\xa5\0\0\0\x40", b"", 8),
+    (b"BFROGLG1\xa5\x01\0\0\x40\0\0", b"", 8),
+    (b"BFROGLG1\xa5\xff\xff\xff\xff", b"", 8),
+    (b"BFROGLG1\xa5\xff\xff\xff\xffA\0", b"", 8),
+    (b"BFROGLG1\xa5\x02\0\0\0AB\xa5", b"AB|", 15),
+    (b"BFROGLG1\xa5\x02\0\0\0AB\xa5\x01\0\0\0C", b"AB|", 15),
+    (b"BFROGLG1\xa5\0\0\0\0\xa5\0\0\0\0\xa5\0", b"||", 18),
+];
 
 #[test]
 fn a_chain_is_no_log_where_it_breaks(rt: HostRuntime) -> Result<(), Fail> {
-    for (bytes, wanted, at) in [
-        (b"BFROGLG1\xa5".as_slice(), b"".as_slice(), 8),
-        (b"BFROGLG1\xa5\0\0\0".as_slice(), b"".as_slice(), 8),
-        (b"BFROGLG1\xa5\0\0\0\0".as_slice(), b"".as_slice(), 8),
-        (b"BFROGLG1\xa5\x02\0\0\0A".as_slice(), b"".as_slice(), 8),
-        (b"BFROGLG1\xa5\x02\0\0\0AB".as_slice(), b"".as_slice(), 8),
-        (b"BFROGLG1\xa5\0\0\0\x01A\0".as_slice(), b"".as_slice(), 8),
-        (b"BFROGLG1\xa5\0\0\0\x40".as_slice(), b"".as_slice(), 8),
-        (
-            b"BFROGLG1\xa5\x01\0\0\x40\0\0".as_slice(),
-            b"".as_slice(),
-            8,
-        ),
-        (
-            b"BFROGLG1\xa5\xff\xff\xff\xff".as_slice(),
-            b"".as_slice(),
-            8,
-        ),
-        (
-            b"BFROGLG1\xa5\xff\xff\xff\xffA\0".as_slice(),
-            b"".as_slice(),
-            8,
-        ),
-        (
-            b"BFROGLG1\xa5\x02\0\0\0AB\xa5".as_slice(),
-            b"AB|".as_slice(),
-            15,
-        ),
-        (
-            b"BFROGLG1\xa5\x02\0\0\0AB\xa5\x01\0\0\0C".as_slice(),
-            b"AB|".as_slice(),
-            15,
-        ),
-        (
-            b"BFROGLG1\xa5\0\0\0\0\xa5\0\0\0\0\xa5\0".as_slice(),
-            b"||".as_slice(),
-            18,
-        ),
-    ] {
-        let (payloads, error) = read_all(&rt, rt.alloc(), tape(rt.alloc(), bytes, &[])?)?;
-        assert_eq!(rt; payloads.as_slice(), wanted, "{bytes:?}");
-        assert_eq!(rt; error, Some(OpenError::NotALog(at)), "{bytes:?}");
+    for (bytes, wanted, at) in BROKEN {
+        let error = Some(OpenError::NotALog(at));
+        assert!(rt;
+            reads_bytes(&rt, rt.alloc(), bytes, wanted, error)?,
+            "{bytes:?}"
+        );
     }
     Ok(())
 }
+
+const CLOSED: [(&[u8], &[u8]); 9] = [
+    (b"BFROGLG1\0", b""),
+    (b"BFROGLG1\xff", b""),
+    (b"BFROGLG1\xa4", b""),
+    (b"BFROGLG1\x01\x01\0\0\0A\0", b""),
+    (b"BFROGLG1\0\x01\0\0\0A\0", b""),
+    (b"BFROGLG1\0\xa5\xff\xff\xff\xff", b""),
+    (b"BFROGLG1\xa5\0\0\0\0\x5a\xa5", b"|"),
+    (b"BFROGLG1\xa5\x01\0\0\0A\0\xa5\x01\0\0\0B\0", b"A|"),
+    (b"BFROGLG1\xa5\x01\0\0\0A\xa5\x01\0\0\0B\0", b"A|B|"),
+];
 
 #[test]
 fn bytes_behind_a_closed_gate_mean_nothing(rt: HostRuntime) -> Result<(), Fail> {
-    for (bytes, wanted) in [
-        (b"BFROGLG1\0".as_slice(), b"".as_slice()),
-        (b"BFROGLG1\xff".as_slice(), b"".as_slice()),
-        (b"BFROGLG1\xa4".as_slice(), b"".as_slice()),
-        (b"BFROGLG1\x01\x01\0\0\0A\0".as_slice(), b"".as_slice()),
-        (b"BFROGLG1\0\x01\0\0\0A\0".as_slice(), b"".as_slice()),
-        (b"BFROGLG1\0\xa5\xff\xff\xff\xff".as_slice(), b"".as_slice()),
-        (b"BFROGLG1\xa5\0\0\0\0\x5a\xa5".as_slice(), b"|".as_slice()),
-        (
-            b"BFROGLG1\xa5\x01\0\0\0A\0\xa5\x01\0\0\0B\0".as_slice(),
-            b"A|".as_slice(),
-        ),
-        (
-            b"BFROGLG1\xa5\x01\0\0\0A\xa5\x01\0\0\0B\0".as_slice(),
-            b"A|B|".as_slice(),
-        ),
-    ] {
-        let (payloads, error) = read_all(&rt, rt.alloc(), tape(rt.alloc(), bytes, &[])?)?;
-        assert_eq!(rt; payloads.as_slice(), wanted, "{bytes:?}");
-        assert_eq!(rt; error, None, "{bytes:?}");
+    for (bytes, wanted) in CLOSED {
+        assert!(rt;
+            reads_bytes(&rt, rt.alloc(), bytes, wanted, None)?,
+            "{bytes:?}"
+        );
     }
     Ok(())
 }
 
+// What ended an opening, once it is read to its end.
+fn end_of(
+    rt: &impl Abort,
+    alloc: Global,
+    opening: &mut Opening<TapeDisk>,
+) -> Result<Option<OpenError>, Memory> {
+    let (_, error) = read_on(rt, alloc, opening)?;
+    Ok(error)
+}
+
+// Whether a chain of these bytes ends so, and again when it is read on twice, in so many calls.
+fn ends_again(
+    rt: &impl Abort,
+    alloc: Global,
+    bytes: &[u8],
+    end: Option<OpenError>,
+    calls: u64,
+) -> Result<bool, Fail> {
+    let mut opening = open_log(alloc, tape(alloc, bytes, &[])?)?;
+    let first = end_of(rt, alloc, &mut opening)?;
+    let second = reads_on(rt, alloc, &mut opening, b"", end)?;
+    let third = reads_on(rt, alloc, &mut opening, b"", end)?;
+    Ok(first == end && second && third && opening.into_disk().calls() == calls)
+}
+
+const ENDED: [(&[u8], Option<OpenError>, u64); 4] = [
+    (b"BFROGLG1\0", None, 4),
+    (b"BFROGLG1\xa5\x01\0\0\0A\0", None, 6),
+    (b"BFROGLG1\xa5", Some(OpenError::NotALog(8)), 4),
+    (
+        b"BFROGLG1\xa5\x01\0\0\0A\xa5",
+        Some(OpenError::NotALog(14)),
+        6,
+    ),
+];
+
 #[test]
 fn what_ended_a_chain_ends_it_again(rt: HostRuntime) -> Result<(), Fail> {
-    for (bytes, wanted, calls) in [
-        (b"BFROGLG1\0".as_slice(), None, 4),
-        (b"BFROGLG1\xa5\x01\0\0\0A\0".as_slice(), None, 6),
-        (b"BFROGLG1\xa5".as_slice(), Some(OpenError::NotALog(8)), 4),
-        (
-            b"BFROGLG1\xa5\x01\0\0\0A\xa5".as_slice(),
-            Some(OpenError::NotALog(14)),
-            6,
-        ),
-    ] {
-        let mut opening = open_log(rt.alloc(), tape(rt.alloc(), bytes, &[])?)?;
-        let (_, error) = read_on(&rt, rt.alloc(), &mut opening)?;
-        assert_eq!(rt; error, wanted, "{bytes:?}");
-        for _ in 0..2 {
-            let (more, error) = read_on(&rt, rt.alloc(), &mut opening)?;
-            assert_eq!(rt; more.len(), 0, "{bytes:?}");
-            assert_eq!(rt; error, wanted, "{bytes:?}");
-        }
-        assert_eq!(rt; opening.into_disk().calls(), calls, "{bytes:?}");
+    for (bytes, end, calls) in ENDED {
+        assert!(rt;
+            ends_again(&rt, rt.alloc(), bytes, end, calls)?,
+            "{bytes:?}"
+        );
     }
     Ok(())
 }

@@ -2,11 +2,8 @@ use Rattle.std.proofs.Common.{◌≡◌, Bor, Option, Some, None, ap, sym, ◌�
 use Rattle.std.specs.Option.{option_copied}
 use Rattle.bf_base.specs.declared.table.Table.{Table}
 use Rattle.bf_tree.specs.Places.{table_named}
-use Rattle.bf_bind.proofs.Lookups.{narrow_named, not_there, tables_by_name, there}
+use Rattle.bf_bind.proofs.Lookups.{narrow_named, not_there, there}
 use Rattle.bf_bind.proofs.binding.expect_table.Goals as goal
-
-pub table-requires : goal.table-requires
-table-requires c = tables_by_name c.args.catalog.now c.requires.database
 
 pub returns-in-Some-clause-table : goal.returns-in-Some-clause-table
 returns-in-Some-clause-table c =

@@ -2,11 +2,7 @@ use Rattle.std.proofs.Common.{false, true, rules, ap, ◌∙◌}
 use Rattle.bf_tree.specs.Settling.{first_of}
 use Rattle.bf_tree.proofs.Settling.{first_ahead, handed_on}
 use Rattle.bf_bind.proofs.Creating.{copied_some, stored_some, table_free, table_keyed, table_taken}
-use Rattle.bf_bind.proofs.Lookups.{tables_by_name}
 use Rattle.bf_bind.proofs.create.bind_table.Goals as goal
-
-pub table-requires : goal.table-requires
-table-requires c = tables_by_name c.args.catalog.now c.requires.database
 
 pub returns-then-is_some : goal.returns-then-is_some
 returns-then-is_some c =

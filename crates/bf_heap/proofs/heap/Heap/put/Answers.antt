@@ -1,8 +1,20 @@
-use Rattle.std.proofs.Common.{[], List, set, get_or, Some, sym, ap, ◌∙◌, arith}
+use Rattle.std.proofs.Common.{◌≡◌, ◌+◌, ◌-◌, [], ◌∷◌, ◌++◌, List, set, get_or, Some, sym, ap, subst, ◌∙◌, arith, vec_capacity}
 use Rattle.bf_heap.specs.Heaps.{Entry}
+use Rattle.bf_heap.specs.Pages.{IsPaged}
 use Rattle.bf_heap.proofs.Counts.{over_within}
+use Rattle.bf_heap.proofs.Firsts.{no_pages, kept_first}
 use Rattle.bf_heap.proofs.Puts.{row_found, spare_left, entries_replaced, kept_replaced, no_row, room_there, page_there, spare_taken, entries_put, kept_put, now_page, over_now}
 use Rattle.bf_heap.proofs.heap.Heap.put.Goals as goal
+
+-- the first row
+pub invariant_of-self : goal.invariant_of-self
+invariant_of-self c =
+    let empty = no_pages c.self.inside.pages.items _ _ c.self.inside.pages.ok.0 c.is_empty.ensures c.if-is_empty.true in
+    let popped : c.self.inside.spares.items ≡ c.pop.new.self.items ++ c.unwrap-page.result ∷ [] = rw c.unwrap-page.ensures at c.pop.ensures.items in
+    let pushed : c.push.new.self.items ≡ c.self.inside.pages.items ++ c.insert.new.self ∷ [] = rw c.unwrap.ensures at c.push.ensures.items in
+    let now_is : c.push.new.self.items ≡ c.insert.new.self ∷ [] = pushed ∙ ap (λ (ps : List (List Entry)). ps ++ c.insert.new.self ∷ []) empty in
+    subst (λ (ps : List (List Entry)). IsPaged ps c.pop.new.self.items (c.self.inside.count + 1) (c.self.inside.spare - 1) c.self.inside.over (vec_capacity c.push.new.self) (vec_capacity c.pop.new.self)) (sym now_is)
+    (kept_first c.self.inside.pages.items c.self.inside.spares.items c.pop.new.self.items c.unwrap-page.result c.insert.new.self (c.args.key, c.args.row) c.self.inside.count c.self.inside.spare c.self.inside.over _ (vec_capacity c.push.new.self) _ (vec_capacity c.pop.new.self) c.self.invariant empty popped c.insert.ensures c.push.ensures.capacity (omega (arith, c.pop.ensures.capacity)))
 
 -- the key's entry is replaced
 pub invariant_of-self-in-Ok : goal.invariant_of-self-in-Ok

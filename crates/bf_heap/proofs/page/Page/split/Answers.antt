@@ -1,11 +1,13 @@
-use Rattle.std.proofs.Common.{◌≡◌, length, drop, ap, ◌∙◌, arith}
+use Rattle.std.proofs.Common.{◌≡◌, length, drop, ap, sym, ◌∙◌, arith, rules}
 use Rattle.std.proofs.lemmas.List.{length-take-le, length-drop, length-reverse}
+use Rattle.bf_heap.specs.Pages.{rank_of_page}
+use Rattle.bf_heap.proofs.Ranks.{front_taken}
 use Rattle.bf_heap.proofs.page.Page.split.Goals as goal
 
 pub invariant_of-self : goal.invariant_of-self
 invariant_of-self c =
     let full : length c.self.inside.rows.items ≡ 64 = ap length c.self.view_is ∙ c.requires.full in
-    (omega (arith, ap length c.move_half.ensures.from, length-take-le 32 c.self.inside.rows.items (omega (arith, full))), omega (arith, c.self.invariant.1, c.move_half.ensures.kept.0))
+    (omega (arith, ap length c.move_half.ensures.from, length-take-le 32 c.self.inside.rows.items (omega (arith, full))), omega (arith, c.self.invariant.1, c.move_half.ensures.kept.0), c.self.invariant.2 ∙ sym (ap rank_of_page c.move_half.ensures.from ∙ front_taken c.self.inside.rows.items))
 
 pub invariant_of-upper : goal.invariant_of-upper
 invariant_of-upper c =
@@ -13,4 +15,5 @@ invariant_of-upper c =
     let full : length xs ≡ 64 = ap length c.self.view_is ∙ c.requires.full in (
       omega (arith, full, ap length c.reverse.ensures.items, length-reverse c.move_half.new.to.items, ap length c.move_half.ensures.to, length-reverse (drop 32 xs), length-drop 32 xs),
       omega (arith, c.upper.invariant.1, c.move_half.ensures.kept.1, c.reverse.ensures.capacity),
+      search rules,
     )

@@ -1,8 +1,8 @@
 use Rattle.std.proofs.Common.{◌≡◌, ℕ, None, Some, ap, sym, ◌∙◌}
 use Rattle.bf_tree.specs.Trees.{Cond, both}
-use Rattle.bf_query.specs.Ranges.{column_fixed}
-use Rattle.bf_query.proofs.KeyRanges.{fixed_left, fixed_right}
-use Rattle.bf_query.proofs.range.+column_fixed.Goals as goal
+use Rattle.bf_tree.specs.Fixed.{column_fixed}
+use Rattle.bf_tree.proofs.Fixing.{fixed_left, fixed_right}
+use Rattle.bf_tree.proofs.fixed.+column_fixed.Goals as goal
 
 pub returns-in-Some : goal.returns-in-Some
 returns-in-Some t c =

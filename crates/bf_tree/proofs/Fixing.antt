@@ -1,11 +1,10 @@
--- The range of keys that a condition leaves, column by column.
+-- The first conjunct that fixes a column, on either side of an AND.
 use Rattle.std.proofs.Common.{◌≡◌, ℕ, List, [], ◌∷◌, ◌++◌, slice_get, Some, None, refl}
 use Rattle.std.specs.List.{filter_map}
 use Rattle.std.proofs.lemmas.List.Elements.{filter_map-append}
 use Rattle.bf_base.specs.declared.value.Value.{Value}
 use Rattle.bf_tree.specs.Trees.{Cond, both}
-use Rattle.bf_sql.specs.Conditions.{conjuncts, value_fixed}
-use Rattle.bf_query.specs.Ranges.{column_fixed}
+use Rattle.bf_tree.specs.Fixed.{column_fixed, conjuncts, value_fixed}
 
 first_of_both : {Y : Type 0} (y : Y) (xs ys : List Y) → slice_get xs 0 ≡ Some y → slice_get (xs ++ ys) 0 ≡ Some y
 first_of_both y [] ys e = absurd cc
@@ -15,7 +14,6 @@ first_of_second : {Y : Type 0} (xs ys : List Y) → slice_get xs 0 ≡ None → 
 first_of_second [] ys e = refl
 first_of_second (x ∷ xs) ys e = absurd cc
 
--- the first conjunct that fixes a column, on either side of an AND
 pub fixed_left : (c d : Cond ℕ) (place : ℕ) (v : Value) → column_fixed place c ≡ Some v → column_fixed place (both c d) ≡ Some v
 fixed_left c d place v e = rw (filter_map-append (value_fixed place) (conjuncts c) (conjuncts d)) (first_of_both v (filter_map (value_fixed place) (conjuncts c)) (filter_map (value_fixed place) (conjuncts d)) e)
 
