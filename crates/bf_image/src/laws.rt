@@ -1,0 +1,99 @@
+//! Laws of the definitions. Each is the contract of a function that does nothing.
+
+ghost use Rattle.std.specs.Prelude.{◌≡◌, ℕ, List, filter, find, flat_map, true, length, slice_get, Bool, IsTrue};
+ghost use Rattle.std.specs.List.{Contains, count_by, list_all};
+ghost use Rattle.std.specs.Option.{option_to_list};
+ghost use Rattle.bf_base.specs.declared.granule.Granule.{Granule};
+ghost use Rattle.bf_base.specs.declared.value.Value.{Value};
+ghost use Rattle.bf_base.specs.Lists.{has, same_name};
+ghost use Rattle.bf_tree.specs.declared.migration.Migrate.{Migrate};
+ghost use Rattle.bf_tree.specs.declared.migration.Target.{Target};
+ghost use Rattle.bf_sql.specs.Database.{Database, IsDatabase, stored_at, stored_in_order, is_admitted, is_keyed};
+ghost use Rattle.bf_sql.specs.migrations.Granules.{UnitForm, anchors_of, granules_of, owner_of, rows_driven, same_granule};
+ghost use Rattle.bf_sql.specs.migrations.Images.{arm_rows, image_of, flipped};
+ghost use Rattle.bf_sql.specs.migrations.Targets.{arm_kind, arm_sources, target_table};
+ghost use Rattle.bf_image.specs.Lookup.{anchor_count, anchor_place, candidates, rows_met};
+ghost use Rattle.bf_tree.specs.declared.migration.Arm.{Arm};
+ghost use Rattle.bf_image.specs.Placed.{placed_arm, placed_rows};
+ghost use Rattle.bf_image.specs.Laws.{IsLawful, rows_of_parts, owns, swept};
+
+/// The parts of a target, granule by granule, have the rows of its image of the whole old tables,
+/// each as often; and as a table in key order they are the image.
+pub fn parts_make_the_image()
+    ensures as_often { (old : Database) (m : Migrate) (t : Target) (test : List Value → Bool)
+        → IsLawful old m → Contains m.targets t
+        → count_by test (rows_of_parts old m t) ≡ count_by test (image_of old t) }
+    ensures in_order { (old : Database) (m : Migrate) (t : Target) → IsLawful old m → Contains m.targets t
+        → stored_in_order (target_table old t) (rows_of_parts old m t)
+        ≡ stored_in_order (target_table old t) (image_of old t) }
+{}
+
+/// An image is a finite map: no two of its rows have the same key.
+pub fn an_image_has_each_key_once()
+    ensures { (old : Database) (m : Migrate) (t : Target) → IsLawful old m → Contains m.targets t
+        → IsTrue (is_keyed (stored_in_order (target_table old t) (image_of old t))) }
+{}
+
+/// No row of an image is refused by the target's columns.
+pub fn an_image_is_admitted()
+    ensures { (old : Database) (m : Migrate) (t : Target) → IsLawful old m → Contains m.targets t
+        → IsTrue (list_all (is_admitted (target_table old t)) (image_of old t)) }
+{}
+
+/// A flip to which there is no objection leaves a database.
+pub fn a_flip_leaves_a_database()
+    ensures { (old : Database) (m : Migrate) → IsLawful old m → IsDatabase (flipped old m) }
+{}
+
+/// One granule alone has a row of a target with a given key: the key's owner. Where the key has no
+/// owner, none has.
+pub fn a_key_has_one_owner()
+    ensures { (old : Database) (m : Migrate) (t : Target) (key : List Value) → IsLawful old m
+        → Contains m.targets t
+        → filter (owns old m t key) (granules_of old m) ≡ option_to_list (owner_of old m t key) }
+{}
+
+/// The owner of a key, which is defined by computing all parts, is found by look-ups: one candidate
+/// of each unit at most, and the one whose part has a row with the key.
+pub fn an_owner_is_looked_up()
+    ensures { (old : Database) (m : Migrate) (t : Target) (key : List Value) → IsLawful old m
+        → Contains m.targets t
+        → owner_of old m t key ≡ find (owns old m t key) (candidates old m t key) }
+{}
+
+/// A sweep of all anchors meets each granule, and nothing else.
+pub fn a_sweep_meets_each_granule()
+    ensures { (old : Database) (m : Migrate) (g : Granule)
+        → has same_granule (swept old m) g ≡ has same_granule (granules_of old m) g }
+{}
+
+/// A unit's anchors are as many as the old rows that it goes by, and each is found by its number.
+pub fn an_anchor_is_found()
+    ensures count { (old : Database) (unit : UnitForm)
+        → length (anchors_of old unit) ≡ anchor_count old unit }
+    ensures place { (old : Database) (unit : UnitForm) (anchor : ℕ)
+        → slice_get (anchors_of old unit) anchor ≡ anchor_place old unit anchor }
+{}
+
+/// Where an arm has a driver, a row of it meets one row of the other table at most, and a look-up
+/// by the key that ON fixes finds that row.
+pub fn a_driver_row_meets_one_row()
+    ensures { (old : Database) (m : Migrate) (t : Target) (arm : Arm) (driver : List ℕ) (at : ℕ)
+        → IsLawful old m → Contains m.targets t → Contains t.arms arm
+        → rows_driven old arm (arm_kind old arm) driver at
+        ≡ rows_met old arm (arm_kind old arm) driver at }
+{}
+
+/// An arm is bound once, with places for names, and makes the same rows.
+pub fn a_bound_arm_makes_the_same_rows()
+    ensures { (old : Database) (arm : Arm) (from join : List (List Value))
+        → arm_rows old arm from join ≡ placed_rows (placed_arm old arm) from join }
+{}
+
+/// An image reads the tables that its arms name and nothing else of the old database.
+pub fn an_image_reads_its_sources_alone()
+    ensures { (old new : Database) (t : Target)
+        → ((name : List ℕ) → has same_name (flat_map arm_sources t.arms) name ≡ true
+        → stored_at old name ≡ stored_at new name)
+        → image_of old t ≡ image_of new t }
+{}
