@@ -5,6 +5,7 @@ use Rattle.std.specs.Prelude.{option_map, slice_get}
 use Rattle.std.specs.List.{range_with_len}
 use Rattle.std.proofs.lemmas.Bool.Decides.{nat_tests}
 use Rattle.std.proofs.lemmas.List.{length-append}
+use Rattle.std.proofs.lemmas.List.FromFn.{length-range_with_len}
 use Rattle.bf_base.specs.declared.granule.Place.TheVariants.{Row, Group}
 use Rattle.bf_sql.specs.Database.{Database, table_rows}
 use Rattle.bf_sql.specs.migrations.Targets.{ArmKind, by_from, by_join, by_pair, by_group, arm_kind}
@@ -35,11 +36,7 @@ get_of_append (x ∷ xs) ys (suc i) =
 
 module _ (old : Database) where
   pub count_is : (u : UnitForm) → length (anchors_of old u) ≡ anchor_count old u
-  count_is (rows_unit driver) = length-map (range_with_len 0 (length (table_rows old driver))) Row ∙ long 0 (length (table_rows old driver))
-    where
-      long : (a n : ℕ) → length (range_with_len a n) ≡ n
-      long a zero = refl
-      long a (suc n) = omega (arith, long (a + 1) n)
+  count_is (rows_unit driver) = length-map (range_with_len 0 (length (table_rows old driver))) Row ∙ length-range_with_len 0 (length (table_rows old driver))
   count_is (values_unit target arm) = length-map (anchor_values old arm (arm_kind old arm)) Group ∙ of (arm_kind old arm)
     where
       of : (kind : ArmKind) → length (anchor_values old arm kind) ≡ anchor_count_by old arm kind

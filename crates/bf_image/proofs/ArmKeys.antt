@@ -4,6 +4,7 @@ use Rattle.std.specs.Prelude.{option_map, unwrap_or}
 use Rattle.std.specs.List.{list_all}
 use Rattle.std.proofs.lemmas.Bool.{and_parts, not-true, false≢true, eqb-true}
 use Rattle.std.proofs.lemmas.List.{append-nil, map-append}
+use Rattle.std.proofs.lemmas.Simd.{map-map}
 use Rattle.bf_base.specs.declared.value.Value.{Value}
 use Rattle.bf_base.specs.Values.{key_cmp_total}
 use Rattle.bf_base.specs.Lists.{same_name, same_key, has}
@@ -20,8 +21,8 @@ use Rattle.bf_sql.specs.migrations.Images.{is_equal_on, first_row, group_value, 
 use Rattle.bf_image.proofs.Bags.{tally, tally-same_items, turned_round}
 use Rattle.bf_image.proofs.Values.{distinct-apart, distinct-has}
 use Rattle.bf_image.proofs.Arms.{passes, made, of_match, of_pair, of_from, rows_by, single_form, as_pairs, is_one_sided, places_on, key-equal, key-itself, key-symmetric, cell_left, cell_right}
-use Rattle.bf_image.proofs.Parts.{whole_by}
-use Rattle.bf_image.proofs.Fine.{all_so, all_found, all_in, as_wide, two_sided}
+use Rattle.bf_image.proofs.Parts.{if_there, whole_by}
+use Rattle.bf_image.proofs.Fine.{all_so, all_found, has_own, joins_by_pair, as_wide, two_sided}
 use Rattle.bf_image.proofs.Keys.{cells_left, cells_right, apart_again, carried_all, all_behind}
 use Rattle.bf_image.proofs.Once.{count_if, tally_of_blocks, tally_of_map, tally_of_apart, once_in_pairs}
 
@@ -44,26 +45,21 @@ join_has_from false true true b e = absurd cc
 join_has_from false true false true e = (refl, refl)
 join_has_from false true false false e = absurd cc
 
-pair_has_join : (g j a b : Bool) → kind_by g j a b ≡ by_pair → j ≡ true
-pair_has_join true j a b e = absurd cc
-pair_has_join false true a b e = refl
-pair_has_join false false a b e = absurd cc
-
-if_some : {X : Type 0} (o : Option X) → is_some o ≡ true → (x : X) × (o ≡ Some x)
-if_some (Some x) e = (x, refl)
-if_some None e = absurd (false≢true e)
-
-if_none : {X : Type 0} (o : Option X) → not (is_some o) ≡ true → o ≡ None
-if_none None e = refl
-if_none (Some x) e = absurd (false≢true e)
-
-map_again : {X Y Z : Type 0} (f : Y → Z) (g : X → Y) (xs : List X) → map f (map g xs) ≡ map (λ x. f (g x)) xs
-map_again f g [] = refl
-map_again f g (x ∷ xs) = ap (λ zs. f (g x) ∷ zs) (map_again f g xs)
-
 tally_less : {X : Type 0} (p q ok : X → Bool) → ((x : X) → ok x ≡ true → p x ≡ q x) → (xs : List X) → list_all ok xs ≡ true → tally p xs ≤ tally q xs
 tally_less p q ok one [] all = omega arith
 tally_less p q ok one (x ∷ xs) all = omega (arith, ap count_if (one x (and_parts _ _ all).0), tally_less p q ok one xs (and_parts _ _ all).1)
+
+-- the first row of those with a value
+module _ (value : List Value → List Value) where
+  pub first_with : (v : List Value) (rows : List (List Value)) → has same_key (map value rows) v ≡ true → value (first_row (filter (λ m. same_key v (value m)) rows)) ≡ v
+  first_with v [] there = absurd (false≢true there)
+  first_with v (m ∷ rows) there = of (same_key v (value m)) refl (first_with v rows)
+    where
+      of : (b : Bool) → same_key v (value m) ≡ b → (has same_key (map value rows) v ≡ true → value (first_row (filter (λ m. same_key v (value m)) rows)) ≡ v)
+          → value (first_row (cond (same_key v (value m)) (m ∷ filter (λ m. same_key v (value m)) rows) (filter (λ m. same_key v (value m)) rows))) ≡ v
+      of true at rest = ap (λ b. value (first_row (cond b (m ∷ filter (λ m. same_key v (value m)) rows) (filter (λ m. same_key v (value m)) rows)))) at ∙ sym (key-equal v (value m) at)
+      of false at rest = ap (λ b. value (first_row (cond b (m ∷ filter (λ m. same_key v (value m)) rows) (filter (λ m. same_key v (value m)) rows)))) at
+          ∙ rest (sym (ap (λ b. b || has same_key (map value rows) v) at) ∙ there)
 
 module _ (old : Database) (is : IsDatabase old) where
   abbrev pub key_in : List ℕ → List Value → List Value
@@ -211,34 +207,19 @@ module _ (old : Database) (is : IsDatabase old) where
     abbrev value : List Value → List Value
     value = group_value old arm
 
-    -- the first row of those with a value
-    first_with : (v : List Value) (rows : List (List Value)) → has same_key (map value rows) v ≡ true → value (first_row (filter (λ m. same_key v (value m)) rows)) ≡ v
-    first_with v [] there = absurd (false≢true there)
-    first_with v (m ∷ rows) there = of (same_key v (value m)) refl (first_with v rows)
-      where
-        of : (b : Bool) → same_key v (value m) ≡ b → (has same_key (map value rows) v ≡ true → value (first_row (filter (λ m. same_key v (value m)) rows)) ≡ v)
-            → value (first_row (cond (same_key v (value m)) (m ∷ filter (λ m. same_key v (value m)) rows) (filter (λ m. same_key v (value m)) rows))) ≡ v
-        of true at rest = ap (λ b. value (first_row (cond b (m ∷ filter (λ m. same_key v (value m)) rows) (filter (λ m. same_key v (value m)) rows)))) at ∙ sym (key-equal v (value m) at)
-        of false at rest = ap (λ b. value (first_row (cond b (m ∷ filter (λ m. same_key v (value m)) rows) (filter (λ m. same_key v (value m)) rows)))) at
-            ∙ rest (sym (ap (λ b. b || has same_key (map value rows) v) at) ∙ there)
-
     group_once : Judges by_group → tally q (whole_by old arm by_group) ≤ 1
     group_once judges =
         let rows = satisfying old arm from (rows_of_join old arm.join) in
         let group : List Value → List (List Value) = λ v. filter (λ m. same_key v (value m)) rows in
         let vs : List (List Value) = distinct same_key (map value rows) in
         let count = tally_of_map q (made old arm) (map group vs) ∙ tally_of_map (λ g. q (made old arm g)) group vs in
-        let has_own : list_all (λ v. has same_key (map value rows) v) vs ≡ true =
+        let all_there : list_all (λ v. has same_key (map value rows) v) vs ≡ true =
         all_so (has same_key vs) (has same_key (map value rows)) (λ v there. sym (distinct-has same_key key-symmetric key-equal key-itself (map value rows) v) ∙ there) vs
-        (ap (λ ks. list_all (has same_key ks) vs) (sym (append-nil (map (λ v. v) vs) ∙ same_list vs)) ∙ all_in same_key key-itself (λ v. v) vs []) in
+        (has_own same_key key-itself vs) in
         let less = tally_less (λ v. q (made old arm (group v))) (same_key k) (has same_key (map value rows))
-        (λ v there. judges (group v) ∙ ap (same_key k) (map_again (cell (first_row (group v))) (place_of (arm_scope old arm)) arm.group ∙ first_with v rows there)) vs has_own in
+        (λ v there. judges (group v) ∙ ap (same_key k) (map-map (cell (first_row (group v))) (place_of (arm_scope old arm)) arm.group ∙ first_with value v rows there)) vs all_there in
         let once = tally_of_apart same_key key-equal k vs (distinct-apart same_key key-symmetric key-equal key-itself (map value rows)) in
         omega (arith, count, less, once)
-      where
-        same_list : (vs : List (List Value)) → map (λ v. v) vs ≡ vs
-        same_list [] = refl
-        same_list (v ∷ vs) = ap (λ zs. v ∷ zs) (same_list vs)
 
     pub once_by : (kind : ArmKind) → arm_kind old arm ≡ kind → two_sided old arm ≡ true → Judges kind → tally q (whole_by old arm kind) ≤ 1
     once_by by_from e sided judges = of arm.join refl
@@ -248,9 +229,9 @@ module _ (old : Database) (is : IsDatabase old) where
         of (Some j) joined = from_joined j joined sided judges (from_with_join _ _ _ (sym (ap (λ b. kind_by (nat_lt 0 (length arm.group)) b (list_all (has nat_eq (on_places old arm)) (join_key old arm)) (list_all (has nat_eq (on_places old arm)) (from_key old arm))) (ap is_some joined)) ∙ e))
     once_by by_join e sided judges =
         let both = join_has_from _ (is_some arm.join) _ _ e in
-        let (j, joined) = if_some arm.join both.0 in
+        let (j, joined) = if_there arm.join both.0 in
         join_once j joined sided judges both.1
     once_by by_pair e sided judges =
-        let (j, joined) = if_some arm.join (pair_has_join _ (is_some arm.join) _ _ e) in
+        let (j, joined) = if_there arm.join (joins_by_pair _ (is_some arm.join) _ _ e) in
         pair_once j joined sided judges
     once_by by_group e sided judges = group_once judges

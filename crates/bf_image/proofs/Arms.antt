@@ -193,6 +193,17 @@ module _ (old : Database) (arm : Arm) where
   abbrev pub group_values : List (List Value)
   group_values = in_order key_cmp (λ v. v) (distinct same_key (anchor_values old arm by_group))
 
+  -- a value of some rows is one of all
+  pub some_of_all : (k : List Value) (p : List Value → Bool) (rows : List (List Value)) → has same_key (map (group_value old arm) (filter p rows)) k ≡ true → has same_key (map (group_value old arm) rows) k ≡ true
+  some_of_all k p (row ∷ rows) there = elim (p row) as (λ b. has same_key (map (group_value old arm) (cond b (row ∷ filter p rows) (filter p rows))) k ≡ true → (same_key k (group_value old arm row) || has same_key (map (group_value old arm) rows) k) ≡ true) [
+    | true ↦ λ e. elim (cases_Bool (same_key k (group_value old arm row))) [
+      | inl is ↦ or_left _ _ is
+      | inr other ↦ or_right _ _ (some_of_all k p rows (sym (ap (λ b. b || has same_key (map (group_value old arm) (filter p rows)) k) other) ∙ e))
+    ]
+    | false ↦ λ e. or_right _ _ (some_of_all k p rows e)
+  ] there
+  some_of_all k p [] there = there
+
   pub groups_in_turn : arm.join ≡ None → SameItems (flat_map (λ v. rows_by by_group (from_with old arm by_group v) (join_with old arm v)) group_values) (rows_by by_group (table_rows old arm.from) (rows_of_join old arm.join))
   groups_in_turn alone =
       let from = table_rows old arm.from in
@@ -208,13 +219,3 @@ module _ (old : Database) (arm : Arm) where
       (values_in_order-apart key_cmp_total key_cmp-IsAntisymmetric (anchor_values old arm by_group))
       (λ k there. values_in_order-has key_cmp_total key_cmp-IsAntisymmetric (anchor_values old arm by_group) k ∙ some_of_all k passes from there)))
       (same_items_if _ _ (ap of (sym (all_of from (rows_of_join old arm.join))))))
-    where
-      some_of_all : (k : List Value) (p : List Value → Bool) (rows : List (List Value)) → has same_key (map (group_value old arm) (filter p rows)) k ≡ true → has same_key (map (group_value old arm) rows) k ≡ true
-      some_of_all k p (row ∷ rows) there = elim (p row) as (λ b. has same_key (map (group_value old arm) (cond b (row ∷ filter p rows) (filter p rows))) k ≡ true → (same_key k (group_value old arm row) || has same_key (map (group_value old arm) rows) k) ≡ true) [
-        | true ↦ λ e. elim (cases_Bool (same_key k (group_value old arm row))) [
-          | inl is ↦ or_left _ _ is
-          | inr other ↦ or_right _ _ (some_of_all k p rows (sym (ap (λ b. b || has same_key (map (group_value old arm) (filter p rows)) k) other) ∙ e))
-        ]
-        | false ↦ λ e. or_right _ _ (some_of_all k p rows e)
-      ] there
-      some_of_all k p [] there = there

@@ -1,5 +1,5 @@
 -- What is true of the arms of a MIGRATE to which there is no objection.
-use Rattle.std.proofs.Common.{◌≡◌, ℕ, Bool, true, false, not, ◌&&◌, ◌==◌, cond, if◌then◌else◌, List, [], ◌∷◌, ◌++◌, map, flat_map, find, length, Option, Some, None, is_some, refl, sym, ap, ap₂, ◌∙◌, inl, inr, append_assoc}
+use Rattle.std.proofs.Common.{◌≡◌, ℕ, Bool, true, false, not, ◌&&◌, ◌==◌, cond, if◌then◌else◌, List, [], ◌∷◌, ◌++◌, map, flat_map, find, length, Option, Some, None, is_some, refl, sym, ap, ap₂, ◌∙◌, inl, inr, append_assoc, append-nil, map-id}
 use Rattle.std.specs.Prelude.{unwrap_or, option_map}
 use Rattle.std.specs.List.{list_all}
 use Rattle.std.proofs.lemmas.Bool.{and_parts, and_from, or_parts, or_left, or_right, not-false, not_from_false, cases_Bool, false≢true}
@@ -83,6 +83,10 @@ module _ {X K : Type 0} (same : K → K → Bool) (itself : (k : K) → same k k
 
   pub all_in : (xs : List X) (behind : List K) → list_all (λ x. has same (map key xs ++ behind) (key x)) xs ≡ true
   all_in xs behind = all_in_own [] xs behind
+
+-- a list has its own items
+pub has_own : {K : Type 0} (same : K → K → Bool) → ((k : K) → same k k ≡ true) → (ks : List K) → list_all (has same ks) ks ≡ true
+has_own same itself ks = ap (λ zs. list_all (has same zs) ks) (sym (append-nil (map (λ k. k) ks) ∙ map-id ks)) ∙ all_in same itself (λ k. k) ks []
 
 -- blocks are in the whole
 module _ {X K : Type 0} (same : K → K → Bool) (itself : (k : K) → same k k ≡ true) (f : X → List K) where

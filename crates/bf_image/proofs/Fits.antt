@@ -28,7 +28,7 @@ use Rattle.bf_sql.specs.migrations.Targets.{ArmKind, by_from, by_join, by_pair, 
 use Rattle.bf_sql.specs.migrations.Images.{is_equal_on, item_over, group_value, groups_by, matches_of_join, satisfying, rows_of_join}
 use Rattle.bf_image.proofs.Arms.{passes, made, rows_by, key-equal, key-itself, key-symmetric}
 use Rattle.bf_image.proofs.Values.{distinct-has}
-use Rattle.bf_image.proofs.Fine.{all_so, all_found, all_in, all_of_blocks, all_of_map}
+use Rattle.bf_image.proofs.Fine.{all_so, all_found, has_own, all_of_blocks, all_of_map}
 use Rattle.bf_image.proofs.Within.{fits, made_fits, value_within, total_within}
 
 abbrev pub fit_all : List Admit → List Value → Bool
@@ -68,17 +68,13 @@ admitted_fit table row e = of (length row == length table.columns) refl e
     of true as_long all = columns_fit table.name table.columns row (eqb-true (length row) (length table.columns) as_long) all
     of false as_long all = absurd (false≢true all)
 
-all_kept : {X : Type 0} (p q : X → Bool) (xs : List X) → list_all p xs ≡ true → list_all p (filter q xs) ≡ true
+pub all_kept : {X : Type 0} (p q : X → Bool) (xs : List X) → list_all p xs ≡ true → list_all p (filter q xs) ≡ true
 all_kept p q [] all = refl
 all_kept p q (x ∷ xs) all = of (q x) (all_kept p q xs (and_parts _ _ all).1)
   where
     of : (b : Bool) → list_all p (filter q xs) ≡ true → list_all p (cond b (x ∷ filter q xs) (filter q xs)) ≡ true
     of true rest = and_from _ _ (and_parts _ _ all).0 rest
     of false rest = rest
-
-same_list : {X : Type 0} (xs : List X) → map (λ x. x) xs ++ [] ≡ xs
-same_list [] = refl
-same_list (x ∷ xs) = ap (λ ys. x ∷ ys) (same_list xs)
 
 module _ (old : Database) (is : IsDatabase old) where
   table_fits : (name : List ℕ) → list_all (fit_all (admits_in (scope_of (table_at old name)))) (table_rows old name) ≡ true
@@ -154,7 +150,7 @@ module _ (old : Database) (is : IsDatabase old) where
         let vs : List (List Value) = distinct same_key (map value satisfied) in
         let own : list_all (has same_key (map value satisfied)) vs ≡ true =
         all_so (has same_key vs) (has same_key (map value satisfied)) (λ v there. sym (distinct-has same_key key-symmetric key-equal key-itself (map value satisfied) v) ∙ there) vs
-        (ap (λ ks. list_all (has same_key ks) vs) (sym (same_list vs)) ∙ all_in same_key key-itself (λ v. v) vs []) in
+        (has_own same_key key-itself vs) in
         all_of_map good_group (λ g. filter (λ row. same_key g (value row)) satisfied) vs
         (all_so (has same_key (map value satisfied)) (λ g. good_group (filter (λ row. same_key g (value row)) satisfied)) (λ v there. group_of v satisfied there all_satisfied) vs own)
 

@@ -33,6 +33,7 @@ use Rattle.bf_image.proofs.Targets.{new_names}
 use Rattle.bf_image.proofs.Fine.{none_left, none_right, none_when, none_of_each, all_append, all_of_map, key_there, names_new, targets_unobjected}
 use Rattle.bf_image.proofs.Unions.{image_apart}
 use Rattle.bf_image.proofs.Owned.{find_alike}
+use Rattle.bf_image.proofs.Fits.{all_kept}
 use Rattle.bf_image.proofs.Admitted.{image_admitted, length_enumerated}
 
 name_anti : IsAntisymmetric name_cmp
@@ -61,14 +62,6 @@ kept_any p q one (x ∷ xs) some = of (p x) refl (kept_any p q one xs)
         either : (c : Bool) → list_any p (filter q xs) ≡ true → list_any p (cond c (x ∷ filter q xs) (filter q xs)) ≡ true
         either true h = or_right _ _ h
         either false h = h
-
-all_filter : {X : Type 0} (p q : X → Bool) (xs : List X) → list_all p xs ≡ true → list_all p (filter q xs) ≡ true
-all_filter p q [] all = refl
-all_filter p q (x ∷ xs) all = of (q x) (all_filter p q xs (and_parts _ _ all).1)
-  where
-    of : (b : Bool) → list_all p (filter q xs) ≡ true → list_all p (cond b (x ∷ filter q xs) (filter q xs)) ≡ true
-    of true rest = and_from _ _ (and_parts _ _ all).0 rest
-    of false rest = rest
 
 -- of the items that a test leaves, each passes what follows from the test
 all_left : {X : Type 0} (p q r : X → Bool) → ((x : X) → q x ≡ true → p x ≡ true → r x ≡ true) → (xs : List X) → list_all p xs ≡ true → list_all r (filter q xs) ≡ true
@@ -172,7 +165,7 @@ module _ (old : Database) (m : Migrate) (lawful : IsLawful old m) where
   tables = in_order name_cmp name (new ++ kept)
 
   all_in_tables : (q : Stored → Bool) → list_all q new ≡ true → list_all q old.tables ≡ true → list_all q tables ≡ true
-  all_in_tables q h g = list_all-with_placed name_cmp_total name q [] (new ++ kept) ∙ all_append q new kept h (all_filter q (λ s. not (gone s.table.name)) old.tables g)
+  all_in_tables q h g = list_all-with_placed name_cmp_total name q [] (new ++ kept) ∙ all_append q new kept h (all_kept q (λ s. not (gone s.table.name)) old.tables g)
 
   index_kept : (i : IndexRule) → not (gone i.table) ≡ true → is_on_table old i ≡ true → list_any (λ s. same_name s.table.name i.table && is_within s.table i.columns) tables ≡ true
   index_kept i stays on =

@@ -13,6 +13,11 @@ use Rattle.bf_base.proofs.Apart.{are_apart}
 use Rattle.bf_base.proofs.Order.{list_any-map}
 use Rattle.bf_sql.specs.migrations.Granules.{UnitForm, granule, same_place, same_granule}
 use Rattle.bf_image.proofs.Arms.{key-equal, key-itself}
+use Rattle.bf_image.proofs.Parts.{at_seam, one_longer}
+
+pub alone_true : (b : Bool) → (b || false) ≡ true → b ≡ true
+alone_true true e = refl
+alone_true false e = absurd (false≢true e)
 
 same_place-equal : (p q : Place) → same_place p q ≡ true → p ≡ q
 same_place-equal (Row m) (Row n) e = ap Row (eqb-true m n e)
@@ -113,21 +118,13 @@ module _ (units : List UnitForm) (own : Option UnitForm → Place → Bool) (P :
     carried_from before [] n e len fine g owned there = there
     carried_from before (u ∷ us) n e len fine g owned there =
         of (has same_granule (map (granule n) (ps u)) g) refl
-        (carried_from (before ++ u ∷ []) us (n + 1) (append_assoc before (u ∷ []) us ∙ e) (one_longer before ∙ ap (λ k. k + 1) len) fine.1 g owned)
+        (carried_from (before ++ u ∷ []) us (n + 1) (append_assoc before (u ∷ []) us ∙ e) (one_longer before u ∙ ap (λ k. k + 1) len) fine.1 g owned)
       where
-        one_longer : (bs : List UnitForm) → length (bs ++ u ∷ []) ≡ length bs + 1
-        one_longer [] = refl
-        one_longer (b ∷ bs) = omega (arith, one_longer bs)
-
-        seam : (bs : List UnitForm) → slice_get (bs ++ u ∷ us) (length bs) ≡ Some u
-        seam [] = refl
-        seam (b ∷ bs) = seam bs
-
         of : (b : Bool) → has same_granule (map (granule n) (ps u)) g ≡ b → (among ps (enumerate_from (n + 1) us) g ≡ true → among qs (enumerate_from (n + 1) us) g ≡ true) → among qs ((n, u) ∷ enumerate_from (n + 1) us) g ≡ true
         of true at rest =
             let parts = and_parts (g.unit == n) (has same_place (ps u) g.place) (sym (of_unit n (ps u) g) ∙ at) in
             let number = eqb-true g.unit n parts.0 in
-            let here : slice_get units g.unit ≡ Some u = ap₂ (λ us k. slice_get us k) (sym e) (number ∙ sym len) ∙ seam before in
+            let here : slice_get units g.unit ≡ Some u = ap₂ (λ us k. slice_get us k) (sym e) (number ∙ sym len) ∙ at_seam before u us in
             let mine = within u g.place fine.0 (ap (λ o. own o g.place) (sym here) ∙ owned) parts.1 in
             list_any-append (same_granule g) (map (granule n) (qs u)) (flat_map (λ u. map (granule u.0) (qs u.1)) (enumerate_from (n + 1) us))
             ∙ or_left _ _ (of_unit n (qs u) g ∙ and_from _ _ parts.0 mine)
@@ -177,11 +174,7 @@ same_find owns gs cs one there back = of (find owns gs) refl (find owns cs) refl
     only xs g h e is in_xs = same_granule-equal g h (single (sym (ap (λ zs. has same_granule zs g) e) ∙ kept xs in_xs))
       where
         single : (same_granule g h || false) ≡ true → same_granule g h ≡ true
-        single s = by (same_granule g h) s
-          where
-            by : (b : Bool) → (b || false) ≡ true → b ≡ true
-            by true s = refl
-            by false s = absurd (false≢true s)
+        single s = alone_true (same_granule g h) s
 
         kept : (ys : List Granule) → has same_granule ys g ≡ true → has same_granule (filter owns ys) g ≡ true
         kept [] s = s

@@ -5,7 +5,7 @@ use Rattle.std.specs.List.{list_all, filter_map, cons_option}
 use Rattle.std.specs.Option.{option_eq}
 use Rattle.std.proofs.lemmas.Bool.Decides.{nat_tests}
 use Rattle.std.proofs.lemmas.Bool.{and_parts, and_from, not-true, not_from_false, cases_Bool, false≢true, true≢false, eqb-true}
-use Rattle.std.proofs.lemmas.List.{get_or-map, get_or-append-add}
+use Rattle.std.proofs.lemmas.List.{length-map, get_or-map, get_or-append-add}
 use Rattle.std.proofs.lemmas.List.Quantifiers.{position-Some}
 use Rattle.bf_base.specs.declared.value.Value.{Value}
 use Rattle.bf_base.specs.declared.value.Value.TheVariants.{Int}
@@ -49,14 +49,10 @@ module _ (old : Database) (arm : Arm) where
   value_at : (rows : List (List Value)) (items : List Item) (k j : ℕ) → position (option_eq nat_eq (Some k)) (map place_of_item items) ≡ Some j → cell (map (item_over old arm rows) items) j ≡ cell (first_row rows) k
   value_at rows items k j e =
       let at = position-Some (option_eq nat_eq (Some k)) (map place_of_item items) j (place_of_item some_item) e in
-      let within : j < length items = omega (arith, at.0, long items) in
+      let within : j < length items = omega (arith, at.0, length-map items place_of_item) in
       let here = get_or-map place_of_item items j some_item (place_of_item some_item) within in
       get_or-map (item_over old arm rows) items j some_item (Int (pos 0)) within
       ∙ plain_value rows (get_or items j some_item) k (sym here ∙ same_some k _ at.1)
-    where
-      long : (is : List Item) → length (map place_of_item is) ≡ length is
-      long [] = refl
-      long (i ∷ is) = ap suc (long is)
 
   -- the items that give the key columns give the key
   inherited : (rows : List (List Value)) (key : List ℕ) → list_all is_some (map (λ k. position (option_eq nat_eq (Some k)) (map place_of_item arm.items)) key) ≡ true

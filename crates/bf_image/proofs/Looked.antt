@@ -5,6 +5,7 @@ use Rattle.std.specs.List.{list_any, list_all, position_or_len}
 use Rattle.std.proofs.Math.Seq.{take-append_seam}
 use Rattle.std.proofs.lemmas.Bool.{and_parts, and_from, or_from, or_left, or_right, not-true, false≢true, eqb-true, lt-ltb}
 use Rattle.std.proofs.lemmas.List.{map-append}
+use Rattle.std.proofs.lemmas.Simd.{map-map}
 use Rattle.bf_base.specs.declared.value.Value.{Value}
 use Rattle.bf_base.specs.Lists.{same_key, has}
 use Rattle.bf_base.specs.Tables.{cell}
@@ -19,11 +20,11 @@ use Rattle.bf_sql.specs.migrations.Images.{is_equal_on, first_row, group_value, 
 use Rattle.bf_sql.specs.migrations.Granules.{left_value, from_with, join_with}
 use Rattle.bf_image.proofs.Bags.{blocks_filtered}
 use Rattle.bf_image.proofs.Values.{by_value, of_one_value}
-use Rattle.bf_image.proofs.Arms.{passes, made, of_match, of_pair, of_from, rows_by, single_form, as_pairs, filters_exchanged, key-equal, key-itself, key-symmetric}
+use Rattle.bf_image.proofs.Arms.{passes, made, of_match, of_pair, of_from, rows_by, single_form, as_pairs, some_of_all, filters_exchanged, key-equal, key-itself, key-symmetric}
 use Rattle.bf_image.proofs.Fine.{as_wide, two_sided}
 use Rattle.bf_image.proofs.Keys.{cells_left, cells_right}
-use Rattle.bf_image.proofs.ArmKeys.{key_in, keys_within, join_key_is}
-use Rattle.bf_image.proofs.Found.{any_of_blocks, any_always, none_other}
+use Rattle.bf_image.proofs.ArmKeys.{first_with, key_in, keys_within, join_key_is}
+use Rattle.bf_image.proofs.Found.{alone_true, any_of_blocks, any_always, none_other}
 
 pub one_row : {X : Type 0} (xs : List X) (at : ℕ) → slice_range xs at (at + 1) ≡ take 1 (drop at xs)
 one_row xs at = let one : at + 1 - at ≡ 1 = omega arith in ap (λ n. take n (drop at xs)) one
@@ -74,10 +75,6 @@ module _ {X : Type 0} (key : X → List Value) (k : List Value) where
 
 pub all_of_slice : {X : Type 0} (p : X → Bool) (xs : List X) (at : ℕ) → list_all p xs ≡ true → list_all p (slice_range xs at (at + 1)) ≡ true
 all_of_slice p xs at all = ap (list_all p) (one_row xs at) ∙ all_of_row p xs at all
-
-alone_true : (b : Bool) → (b || false) ≡ true → b ≡ true
-alone_true true e = refl
-alone_true false e = absurd (false≢true e)
 
 module _ (old : Database) (is : IsDatabase old) (arm : Arm) (k : List Value) (p : List Value → Bool) where
   -- a row that passes has the key behind its tag
@@ -160,27 +157,6 @@ module _ (old : Database) (is : IsDatabase old) (arm : Arm) (k : List Value) (p 
   abbrev value : List Value → List Value
   value = group_value old arm
 
-  first_of : (v : List Value) (rows : List (List Value)) → has same_key (map value rows) v ≡ true → value (first_row (filter (λ m. same_key v (value m)) rows)) ≡ v
-  first_of v [] there = absurd (false≢true there)
-  first_of v (m ∷ rows) there = of (same_key v (value m)) refl (first_of v rows)
-    where
-      of : (b : Bool) → same_key v (value m) ≡ b → (has same_key (map value rows) v ≡ true → value (first_row (filter (λ m. same_key v (value m)) rows)) ≡ v) → value (first_row (cond (same_key v (value m)) (m ∷ filter (λ m. same_key v (value m)) rows) (filter (λ m. same_key v (value m)) rows))) ≡ v
-      of true at rest = ap (λ (b : Bool). value (first_row (cond b (m ∷ filter (λ m. same_key v (value m)) rows) (filter (λ m. same_key v (value m)) rows)))) at ∙ sym (key-equal v (value m) at)
-      of false at rest = ap (λ (b : Bool). value (first_row (cond b (m ∷ filter (λ m. same_key v (value m)) rows) (filter (λ m. same_key v (value m)) rows)))) at ∙ rest (sym (ap (λ b. b || has same_key (map value rows) v) at) ∙ there)
-
-  some_of_all : (v : List Value) (rows : List (List Value)) → has same_key (map value (filter (passes old arm) rows)) v ≡ true → has same_key (map value rows) v ≡ true
-  some_of_all v [] there = there
-  some_of_all v (m ∷ rows) there = of (passes old arm m) (some_of_all v rows) there
-    where
-      or_more : (b c d : Bool) → (c ≡ true → d ≡ true) → (b || c) ≡ true → (b || d) ≡ true
-      or_more true c d f e = refl
-      or_more false c d f e = f e
-
-      of : (b : Bool) → (has same_key (map value (filter (passes old arm) rows)) v ≡ true → has same_key (map value rows) v ≡ true)
-          → has same_key (map value (cond b (m ∷ filter (passes old arm) rows) (filter (passes old arm) rows))) v ≡ true → (same_key v (value m) || has same_key (map value rows) v) ≡ true
-      of true rest e = or_more (same_key v (value m)) _ _ rest e
-      of false rest e = or_right _ _ (rest e)
-
   pub group_told : Tells by_group → arm.join ≡ None → (v : List Value) → list_any p (rows_by old arm by_group (from_with old arm by_group v) (join_with old arm v)) ≡ true
       → (same_key k v ≡ true) × (has same_key (map value (table_rows old arm.from)) v ≡ true)
   group_told tells alone v some =
@@ -193,15 +169,11 @@ module _ (old : Database) (is : IsDatabase old) (arm : Arm) (k : List Value) (p 
       ap of_all cut ∙ of_one_value same_key key-symmetric key-equal key-itself value (made old arm) v satisfied in
       either (has same_key (map value satisfied) v) refl (ap (list_any p) (sym form) ∙ some)
     where
-      map_again : {X Y Z : Type 0} (f : Y → Z) (g : X → Y) (xs : List X) → map f (map g xs) ≡ map (λ x. f (g x)) xs
-      map_again f g [] = refl
-      map_again f g (x ∷ xs) = ap (λ zs. f (g x) ∷ zs) (map_again f g xs)
-
       either : (b : Bool) → has same_key (map value (filter (passes old arm) (table_rows old arm.from))) v ≡ b
           → list_any p (cond b (made old arm (filter (λ row. same_key v (value row)) (filter (passes old arm) (table_rows old arm.from))) ∷ []) []) ≡ true
           → (same_key k v ≡ true) × (has same_key (map value (table_rows old arm.from)) v ≡ true)
       either true there h =
           let group = filter (λ row. same_key v (value row)) (filter (passes old arm) (table_rows old arm.from)) in
-          let first : map (cell (first_row group)) (map (place_of (arm_scope old arm)) arm.group) ≡ v = map_again (cell (first_row group)) (place_of (arm_scope old arm)) arm.group ∙ first_of v (filter (passes old arm) (table_rows old arm.from)) there in
-          (ap (same_key k) (sym first) ∙ tells group (alone_true _ h), some_of_all v (table_rows old arm.from) there)
+          let first : map (cell (first_row group)) (map (place_of (arm_scope old arm)) arm.group) ≡ v = map-map (cell (first_row group)) (place_of (arm_scope old arm)) arm.group ∙ first_with value v (filter (passes old arm) (table_rows old arm.from)) there in
+          (ap (same_key k) (sym first) ∙ tells group (alone_true _ h), some_of_all old arm v (passes old arm) (table_rows old arm.from) there)
       either false there h = absurd (false≢true h)

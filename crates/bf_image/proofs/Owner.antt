@@ -33,13 +33,13 @@ use Rattle.bf_image.proofs.Names.{name-equal, name-itself, name-symmetric}
 use Rattle.bf_image.proofs.Values.{values_in_order-has}
 use Rattle.bf_image.proofs.Arms.{made, rows_by, key-equal, key-itself, key-symmetric}
 use Rattle.bf_image.proofs.Parts.{labelled, driven, as_driven, if_there, if_absent}
-use Rattle.bf_image.proofs.Targets.{named, named_labelled, named_blocks, one_of_name, new_names}
+use Rattle.bf_image.proofs.Targets.{named, named_labelled, named_blocks, has_at_place, one_of_name, new_names}
 use Rattle.bf_image.proofs.Fine.{all_both, two_sided, alone_in_groups, arms_ok, key_there, joins_by_join, joins_by_pair, names_new}
 use Rattle.bf_image.proofs.Keys.{key_places, key_of_made}
 use Rattle.bf_image.proofs.ArmKeys.{key_in, keys_apart}
 use Rattle.bf_image.proofs.Unions.{same_cons, keeps, arms_keep, alike, with_first, same_places, same_places_itself}
 use Rattle.bf_image.proofs.Owned.{one_owner, target_unobjected}
-use Rattle.bf_image.proofs.Found.{any_of_each, any_always, found_apart, carried, same_find}
+use Rattle.bf_image.proofs.Found.{alone_true, any_of_each, any_always, found_apart, carried, same_find}
 use Rattle.bf_image.proofs.Looked.{position_at, Tells, from_told, join_told, pair_told, group_told}
 
 module _ {X : Type 0} where
@@ -126,12 +126,7 @@ named_is t (x ∷ xs) zero less e apart = (λ h. e, none xs (ap (λ (y : Target)
     none : (ys : List Target) → has same_name (map (λ x. x.name) ys) t.name ≡ false → AllByRecursion (λ x. same_name x.name t.name ≡ true → x ≡ t) ys
     none [] h = tt
     none (y ∷ ys) h = (λ is. absurd (false≢true (sym (or_parts _ _ h).0 ∙ name-symmetric t.name y.name ∙ is)), none ys (or_parts _ _ h).1)
-named_is t (x ∷ xs) (suc k) less e apart = (λ is. absurd (false≢true (sym (not-true _ (and_parts _ _ apart).0) ∙ ap (has same_name (map (λ x. x.name) xs)) (name-equal x.name t.name is) ∙ there xs k (omega arith) e)), named_is t xs k (omega arith) e (and_parts _ _ apart).1)
-  where
-    there : (ys : List Target) (i : ℕ) → i < length ys → slice_index_or ys i t ≡ t → has same_name (map (λ x. x.name) ys) t.name ≡ true
-    there [] i less e = absurd (omega arith)
-    there (y ∷ ys) zero less e = or_left _ _ (ap (λ (z : Target). same_name t.name z.name) e ∙ name-itself t.name)
-    there (y ∷ ys) (suc i) less e = or_right _ _ (there ys i (omega arith) e)
+named_is t (x ∷ xs) (suc k) less e apart = (λ is. absurd (false≢true (sym (not-true _ (and_parts _ _ apart).0) ∙ ap (has same_name (map (λ x. x.name) xs)) (name-equal x.name t.name is) ∙ has_at_place t xs k (omega arith) e)), named_is t xs k (omega arith) e (and_parts _ _ apart).1)
 
 no_group : (v : List Value) (ns : List ℕ) → has same_place (map Row ns) (Group v) ≡ false
 no_group v [] = refl
@@ -239,12 +234,8 @@ module _ (old : Database) (m : Migrate) (lawful : IsLawful old m) (t : Target) (
 
       of_join : (j : Join) → arm.join ≡ Some j → (b : Bool) → list_any (same_name d) (j.table ∷ []) ≡ b → Tells old db arm k p by_join → list_any p (if b then rows_by old arm by_join (table_rows old arm.from) (slice_range (table_rows old d) at (at + 1)) else []) ≡ true → has_there d at ≡ true
       of_join j joined true e tells h =
-          let same = name-equal d j.table (alone (same_name d j.table) e) in
+          let same = name-equal d j.table (alone_true (same_name d j.table) e) in
           subst (λ n. has_there n at ≡ true) (sym same) (join_told old db arm k p j joined fine.1 tells (slice_range (table_rows old j.table) at (at + 1)) (subst (λ n. list_any p (rows_by old arm by_join (table_rows old arm.from) (slice_range (table_rows old n) at (at + 1))) ≡ true) same h))
-        where
-          alone : (b : Bool) → (b || false) ≡ true → b ≡ true
-          alone true e = refl
-          alone false e = absurd (false≢true e)
       of_join j joined false e tells h = absurd (false≢true h)
 
       of : (kind : ArmKind) → arm_kind old arm ≡ kind → list_any p (driven old arm (arm_kind old arm) kind d at) ≡ true → Tells old db arm k p (arm_kind old arm) → has_there d at ≡ true

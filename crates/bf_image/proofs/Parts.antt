@@ -3,7 +3,7 @@ use Rattle.std.proofs.Common.{◌≡◌, ℕ, ◌+◌, Bool, true, false, not, �
 use Rattle.std.specs.Prelude.{unwrap_or, option_map, slice_get}
 use Rattle.std.specs.List.{list_any, list_all, range_with_len, enumerate_from}
 use Rattle.std.proofs.lemmas.Bool.{and_parts, false≢true}
-use Rattle.std.proofs.lemmas.List.{map-append}
+use Rattle.std.proofs.lemmas.List.{append-nil, map-append}
 use Rattle.std.proofs.lemmas.List.Concat.{flat_map-append}
 use Rattle.std.proofs.lemmas.List.Folds.{flat_map-map}
 use Rattle.bf_base.specs.declared.value.Value.{Value}
@@ -29,11 +29,11 @@ use Rattle.bf_image.proofs.Values.{distinct-apart}
 use Rattle.bf_image.proofs.Arms.{is_one_sided, rows_by, fine_row, from_in_turn, join_in_turn, pairs_in_turn, groups_in_turn}
 
 module _ {U : Type 0} where
-  at_seam : (before : List U) (u : U) (us : List U) → slice_get (before ++ u ∷ us) (length before) ≡ Some u
+  pub at_seam : (before : List U) (u : U) (us : List U) → slice_get (before ++ u ∷ us) (length before) ≡ Some u
   at_seam [] u us = refl
   at_seam (b ∷ before) u us = at_seam before u us
 
-  one_longer : (before : List U) (u : U) → length (before ++ u ∷ []) ≡ length before + 1
+  pub one_longer : (before : List U) (u : U) → length (before ++ u ∷ []) ≡ length before + 1
   one_longer [] u = refl
   one_longer (b ∷ before) u = omega (arith, one_longer before u)
 
@@ -141,11 +141,7 @@ module _ (old : Database) (arm : Arm) where
   valued_in_turn drivers by_group fine = groups_in_turn old arm (if_absent arm.join fine)
 
   either_part : (b : Bool) (rows : List (List Value)) → cond b rows [] ++ cond (not b) rows [] ≡ rows
-  either_part true rows = end rows
-    where
-      end : (rows : List (List Value)) → rows ++ [] ≡ rows
-      end [] = refl
-      end (r ∷ rs) = ap (λ zs. r ∷ zs) (end rs)
+  either_part true rows = append-nil rows
   either_part false rows = refl
 
   -- an arm's rows, by drivers and by values

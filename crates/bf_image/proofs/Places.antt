@@ -3,6 +3,8 @@ use Rattle.std.proofs.Common.{◌≡◌, Bool, ◌&&◌, cond, if◌then◌else�
 use Rattle.std.specs.Prelude.{pos, option_map, unwrap_or}
 use Rattle.std.specs.List.{list_all, reduce}
 use Rattle.std.specs.Result.{result_unwrap_or}
+use Rattle.std.proofs.lemmas.List.Folds.{list_all-map}
+use Rattle.std.proofs.lemmas.Simd.{map-map}
 use Rattle.bf_base.specs.declared.value.Value.{Value}
 use Rattle.bf_base.specs.declared.value.Value.TheVariants.{Int}
 use Rattle.bf_base.specs.Lists.{same_key}
@@ -35,14 +37,6 @@ filter_alike : {X : Type 0} (p q : X → Bool) → ((x : X) → p x ≡ q x) →
 filter_alike p q one [] = refl
 filter_alike p q one (x ∷ xs) = ap₂ (λ b zs. cond b (x ∷ zs) zs) (one x) (filter_alike p q one xs)
 
-map_again : {X Y Z : Type 0} (f : Y → Z) (g : X → Y) (xs : List X) → map f (map g xs) ≡ map (λ x. f (g x)) xs
-map_again f g [] = refl
-map_again f g (x ∷ xs) = ap (λ zs. f (g x) ∷ zs) (map_again f g xs)
-
-all_of_mapped : {X Y : Type 0} (p : Y → Bool) (f : X → Y) (xs : List X) → list_all p (map f xs) ≡ list_all (λ x. p (f x)) xs
-all_of_mapped p f [] = refl
-all_of_mapped p f (x ∷ xs) = ap (λ b. p (f x) && b) (all_of_mapped p f xs)
-
 module _ (old : Database) (arm : Arm) where
   abbrev scope : Scope
   scope = arm_scope old arm
@@ -65,10 +59,10 @@ module _ (old : Database) (arm : Arm) where
   item_alike rows (item.Total total name) = ap value_or_nought (total_alike rows total)
 
   items_alike : (rows : List (List Value)) → map (item_over old arm rows) arm.items ≡ map (placed_over rows) (map (placed_item scope) arm.items)
-  items_alike rows = map_alike (item_over old arm rows) (λ i. placed_over rows (placed_item scope i)) (item_alike rows) arm.items ∙ sym (map_again (placed_over rows) (placed_item scope) arm.items)
+  items_alike rows = map_alike (item_over old arm rows) (λ i. placed_over rows (placed_item scope i)) (item_alike rows) arm.items ∙ sym (map-map (placed_over rows) (placed_item scope) arm.items)
 
   value_alike : (row : List Value) → group_value old arm row ≡ cells (map (place_of scope) arm.group) row
-  value_alike row = sym (map_again (cell row) (place_of scope) arm.group)
+  value_alike row = sym (map-map (cell row) (place_of scope) arm.group)
 
   groups_alike : (kind : ArmKind) (rows : List (List Value)) → groups_by old arm kind rows ≡ placed_groups (placed_arm old arm) kind rows
   groups_alike by_from rows = refl
@@ -88,7 +82,7 @@ module _ (old : Database) (arm : Arm) where
   matches_alike None from join = refl
   matches_alike (Some j) from join =
       filter_alike (λ row. list_all (is_equal_on scope row) j.on) (λ row. list_all (is_equal_at row) (map (placed_pair scope) j.on))
-      (λ row. sym (all_of_mapped (is_equal_at row) (placed_pair scope) j.on)) (flat_map (λ r. map (λ s. r ++ s) join) from)
+      (λ row. sym (list_all-map (is_equal_at row) (placed_pair scope) j.on)) (flat_map (λ r. map (λ s. r ++ s) join) from)
 
   satisfying_alike : (from join : List (List Value)) → satisfying old arm from join ≡ filter (λ row. holds_on (cell row) (cond_over (place_of scope) (condition_of arm.cond))) (placed_matches (placed_arm old arm) from join)
   satisfying_alike from join =

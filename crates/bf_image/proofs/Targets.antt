@@ -2,6 +2,7 @@
 use Rattle.std.proofs.Common.{◌≡◌, ℕ, zero, suc, ◌<◌, Bool, true, false, not, cond, List, [], ◌∷◌, ◌++◌, map, filter, flat_map, length, slice_index_or, refl, sym, ap, ap₂, ◌∙◌, inl, inr, arith}
 use Rattle.std.specs.List.{list_any, list_all, Contains}
 use Rattle.std.proofs.lemmas.Bool.{and_parts, and_from, or_parts, or_from, or_left, or_right, not-true, not_from_false, cases_Bool, false≢true}
+use Rattle.std.proofs.lemmas.List.{append-nil}
 use Rattle.std.proofs.lemmas.List.Folds.{flat_map-map, list_any-append}
 use Rattle.bf_base.specs.declared.value.Value.{Value}
 use Rattle.bf_base.specs.Lists.{same_name, has, with_before_from, with_before}
@@ -31,6 +32,12 @@ pub named_blocks : {X : Type 0} (name : List ℕ) (f : X → List (Target × Lis
 named_blocks name f xs =
     ap (map (λ p. p.1)) (filter_of_blocks (λ p. same_name p.0.name name) f xs) ∙ map_of_blocks (λ p. p.1) (λ x. filter (λ p. same_name p.0.name name) (f x)) xs
 
+-- a target's name is among the names
+pub has_at_place : (t : Target) (xs : List Target) (k : ℕ) → k < length xs → slice_index_or xs k t ≡ t → has same_name (map (λ x. x.name) xs) t.name ≡ true
+has_at_place t [] k less e = absurd (omega arith)
+has_at_place t (x ∷ xs) zero less e = or_left _ _ (ap (λ (y : Target). same_name t.name y.name) e ∙ name-itself t.name)
+has_at_place t (x ∷ xs) (suc k) less e = or_right _ _ (has_at_place t xs k (omega arith) e)
+
 -- what comes of the one target of a name
 module _ (f : Target → List (List Value)) (t : Target) where
   abbrev pub of_name : Target → List (List Value)
@@ -42,23 +49,14 @@ module _ (f : Target → List (List Value)) (t : Target) where
       let parts = or_parts (same_name t.name x.name) (has same_name (map (λ x. x.name) xs) t.name) none in
       ap₂ (λ ys zs. ys ++ zs) (ap (λ b. cond b (f x) []) (name-symmetric x.name t.name ∙ parts.0)) (none_of_name xs parts.1)
 
-  has_at_place : (xs : List Target) (k : ℕ) → k < length xs → slice_index_or xs k t ≡ t → has same_name (map (λ x. x.name) xs) t.name ≡ true
-  has_at_place [] k less e = absurd (omega arith)
-  has_at_place (x ∷ xs) zero less e = or_left _ _ (ap (λ (y : Target). same_name t.name y.name) e ∙ name-itself t.name)
-  has_at_place (x ∷ xs) (suc k) less e = or_right _ _ (has_at_place xs k (omega arith) e)
-
   pub one_of_name : (xs : List Target) (k : ℕ) → k < length xs → slice_index_or xs k t ≡ t → are_apart same_name (map (λ x. x.name) xs) ≡ true → flat_map of_name xs ≡ f t
   one_of_name [] k less e apart = absurd (omega arith)
   one_of_name (x ∷ xs) zero less e apart =
       let none : has same_name (map (λ x. x.name) xs) t.name ≡ false = ap (λ (y : Target). has same_name (map (λ x. x.name) xs) y.name) (sym e) ∙ not-true _ (and_parts _ _ apart).0 in
-      ap₂ (λ ys zs. ys ++ zs) (ap of_name e ∙ ap (λ b. cond b (f t) []) (name-itself t.name)) (none_of_name xs none) ∙ end (f t)
-    where
-      end : (rows : List (List Value)) → rows ++ [] ≡ rows
-      end [] = refl
-      end (r ∷ rs) = ap (λ zs. r ∷ zs) (end rs)
+      ap₂ (λ ys zs. ys ++ zs) (ap of_name e ∙ ap (λ b. cond b (f t) []) (name-itself t.name)) (none_of_name xs none) ∙ append-nil (f t)
   one_of_name (x ∷ xs) (suc k) less e apart = elim (cases_Bool (same_name x.name t.name)) [
     | inl is ↦
-        let there = has_at_place xs k (omega arith) e in
+        let there = has_at_place t xs k (omega arith) e in
         absurd (false≢true (sym (not-true _ (and_parts _ _ apart).0) ∙ ap (has same_name (map (λ x. x.name) xs)) (name-equal x.name t.name is) ∙ there))
     | inr other ↦ ap (λ b. cond b (f x) [] ++ flat_map of_name xs) other ∙ one_of_name xs k (omega arith) e (and_parts _ _ apart).1
   ]

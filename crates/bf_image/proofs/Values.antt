@@ -1,5 +1,5 @@
 -- Lists cut by a value of their items, and lists of different values.
-use Rattle.std.proofs.Common.{◌≡◌, ◌+◌, Bool, true, false, ◌&&◌, ◌||◌, cond, if◌then◌else◌, List, [], ◌∷◌, ◌++◌, map, filter, flat_map, fold, length, slice_range, Ordering, Some, None, refl, sym, ap, ◌∙◌, arith, is_eq}
+use Rattle.std.proofs.Common.{◌≡◌, ◌+◌, Bool, true, false, ◌&&◌, ◌||◌, cond, if◌then◌else◌, List, [], ◌∷◌, ◌++◌, map, filter, flat_map, fold, length, slice_range, Ordering, Some, None, refl, sym, ap, ◌∙◌, arith, is_eq, map-id}
 use Rattle.std.specs.Cmp.{IsTotalOrder}
 use Rattle.std.specs.FinMap.{IsAntisymmetric}
 use Rattle.std.specs.List.{list_all, range_with_len}
@@ -149,10 +149,6 @@ module _ {K : Type 0} {cmp : K → K → Ordering} (o : IsTotalOrder cmp) (anti 
   pub same-itself : (a : K) → eq_by_cmp cmp a a ≡ true
   same-itself a = ap is_eq (tied_itself o a)
 
-  map_same : (xs : List K) → map (λ x. x) xs ≡ xs
-  map_same [] = refl
-  map_same (x ∷ xs) = ap (λ zs. x ∷ zs) (map_same xs)
-
   found_itself : (zs : List K) (k : K) → look_up cmp (λ x. x) zs k ≡ cond (has (eq_by_cmp cmp) zs k) (Some k) None
   found_itself [] k = refl
   found_itself (z ∷ zs) k = elim (eq_by_cmp cmp k z) as (λ b. eq_by_cmp cmp k z ≡ b → cond (eq_by_cmp cmp z k) (Some z) (look_up cmp (λ x. x) zs k) ≡ cond (b || has (eq_by_cmp cmp) zs k) (Some k) None) [
@@ -161,11 +157,11 @@ module _ {K : Type 0} {cmp : K → K → Ordering} (o : IsTotalOrder cmp) (anti 
   ] refl
 
   in_order-apart : (xs : List K) → are_apart (eq_by_cmp cmp) xs ≡ true → rises cmp (map (λ x. x) (in_order cmp (λ x. x) xs)) ≡ true
-  in_order-apart xs apart = rises-placed_apart o (λ x. x) [] xs refl (ap (are_apart (eq_by_cmp cmp)) (map_same xs) ∙ apart)
+  in_order-apart xs apart = rises-placed_apart o (λ x. x) [] xs refl (ap (are_apart (eq_by_cmp cmp)) (map-id xs) ∙ apart)
 
   pub in_order-has : (xs : List K) (k : K) → has (eq_by_cmp cmp) (in_order cmp (λ x. x) xs) k ≡ has (eq_by_cmp cmp) xs k
   in_order-has xs k =
-      ap (λ zs. has (eq_by_cmp cmp) zs k) (sym (map_same (in_order cmp (λ x. x) xs))) ∙ has-with_placed o (λ x. x) [] xs k ∙ ap (λ zs. has (eq_by_cmp cmp) zs k) (map_same xs)
+      ap (λ zs. has (eq_by_cmp cmp) zs k) (sym (map-id (in_order cmp (λ x. x) xs))) ∙ has-with_placed o (λ x. x) [] xs k ∙ ap (λ zs. has (eq_by_cmp cmp) zs k) (map-id xs)
 
   -- lists of different values that have the same values
   pub same_values : (xs ys : List K) → are_apart (eq_by_cmp cmp) xs ≡ true → are_apart (eq_by_cmp cmp) ys ≡ true → ((k : K) → has (eq_by_cmp cmp) xs k ≡ has (eq_by_cmp cmp) ys k) → SameItems xs ys
@@ -181,16 +177,16 @@ module _ {K : Type 0} {cmp : K → K → Ordering} (o : IsTotalOrder cmp) (anti 
   pub values_in_order-apart : (xs : List K) → are_apart (eq_by_cmp cmp) (in_order cmp (λ x. x) (distinct (eq_by_cmp cmp) xs)) ≡ true
   values_in_order-apart xs =
       let apart = distinct-apart (eq_by_cmp cmp) (symmetric o) same-equal same-itself xs in
-      ap (are_apart (eq_by_cmp cmp)) (sym (map_same (in_order cmp (λ x. x) (distinct (eq_by_cmp cmp) xs)))) ∙ apart_from_rises o _ (in_order-apart (distinct (eq_by_cmp cmp) xs) apart)
+      ap (are_apart (eq_by_cmp cmp)) (sym (map-id (in_order cmp (λ x. x) (distinct (eq_by_cmp cmp) xs)))) ∙ apart_from_rises o _ (in_order-apart (distinct (eq_by_cmp cmp) xs) apart)
 
   pub values_in_order-has : (xs : List K) (k : K) → has (eq_by_cmp cmp) (in_order cmp (λ x. x) (distinct (eq_by_cmp cmp) xs)) k ≡ has (eq_by_cmp cmp) xs k
   values_in_order-has xs k = in_order-has (distinct (eq_by_cmp cmp) xs) k ∙ distinct-has (eq_by_cmp cmp) (symmetric o) same-equal same-itself xs k
 
   has-filtered : (some all : List K) (k : K) → (has (eq_by_cmp cmp) some k ≡ true → has (eq_by_cmp cmp) all k ≡ true) → has (eq_by_cmp cmp) (filter (has (eq_by_cmp cmp) some) all) k ≡ has (eq_by_cmp cmp) some k
   has-filtered some all k inside =
-      ap (λ zs. has (eq_by_cmp cmp) zs k) (sym (map_same (filter (has (eq_by_cmp cmp) some) all)))
+      ap (λ zs. has (eq_by_cmp cmp) zs k) (sym (map-id (filter (has (eq_by_cmp cmp) some) all)))
       ∙ has-filter o (λ x. x) anti (has (eq_by_cmp cmp) some) all k
-      ∙ ap (λ zs. has (eq_by_cmp cmp) zs k && has (eq_by_cmp cmp) some k) (map_same all)
+      ∙ ap (λ zs. has (eq_by_cmp cmp) zs k && has (eq_by_cmp cmp) some k) (map-id all)
       ∙ within (has (eq_by_cmp cmp) some k) (has (eq_by_cmp cmp) all k) inside
     where
       within : (b c : Bool) → (b ≡ true → c ≡ true) → (c && b) ≡ b
