@@ -14,15 +14,16 @@ use Rattle.bf_base.proofs.Parts.{list_all_always}
 use Rattle.bf_tree.specs.declared.migration.Join.{Join}
 use Rattle.bf_tree.specs.declared.migration.Arm.{Arm}
 use Rattle.bf_base.specs.Distinct.{distinct}
-use Rattle.bf_sql.specs.Database.{Database, Stored, IsDatabase, stored_at, table_at, table_rows, is_keyed, is_within}
+use Rattle.bf_sql.specs.Database.{Database, Stored, IsDatabase, stored_at, table_at, table_rows, is_keyed, is_within, no_table}
 use Rattle.bf_sql.specs.Scopes.{place_of}
 use Rattle.bf_sql.specs.migrations.Targets.{ArmKind, by_from, by_join, by_pair, by_group, kind_by, key_by, arm_kind, arm_scope, width, from_key, join_key, on_places, equalities, names_of_join}
 use Rattle.bf_sql.specs.migrations.Images.{is_equal_on, first_row, group_value, satisfying, rows_of_join}
+use Rattle.bf_image.proofs.Lists.{all_so, all_found, has_own}
 use Rattle.bf_image.proofs.Bags.{tally, tally-same_items, turned_round}
 use Rattle.bf_image.proofs.Values.{distinct-apart, distinct-has}
 use Rattle.bf_image.proofs.Arms.{passes, made, of_match, of_pair, of_from, rows_by, single_form, as_pairs, is_one_sided, places_on, key-equal, key-itself, key-symmetric, cell_left, cell_right}
 use Rattle.bf_image.proofs.Parts.{if_there, whole_by}
-use Rattle.bf_image.proofs.Fine.{all_so, all_found, has_own, joins_by_pair, as_wide, two_sided}
+use Rattle.bf_image.proofs.Fine.{joins_by_pair, as_wide, two_sided}
 use Rattle.bf_image.proofs.Keys.{cells_left, cells_right, apart_again, carried_all, all_behind}
 use Rattle.bf_image.proofs.Once.{count_if, tally_of_blocks, tally_of_map, tally_of_apart, once_in_pairs}
 
@@ -70,7 +71,7 @@ module _ (old : Database) (is : IsDatabase old) where
   keys_apart name = of (stored_at old name) refl
     where
       of : (o : Option Stored) → stored_at old name ≡ o
-          → are_apart same_key (map (λ row. map (cell row) (unwrap_or (option_map (λ s. s.table) o) (record { name = []; columns = []; key = [] })).key) (unwrap_or (option_map (λ s. s.rows) o) [])) ≡ true
+          → are_apart same_key (map (λ row. map (cell row) (unwrap_or (option_map (λ s. s.table) o) no_table).key) (unwrap_or (option_map (λ s. s.rows) o) [])) ≡ true
       of None e = refl
       of (Some s) e = apart_from_rises key_cmp_total (map (key_of s.table) s.rows) (all_found is_keyed (λ s. same_name s.table.name name) old.tables s is.rows_by_key e)
 
@@ -78,7 +79,7 @@ module _ (old : Database) (is : IsDatabase old) where
   keys_within name = of (stored_at old name) refl
     where
       of : (o : Option Stored) → stored_at old name ≡ o
-          → list_all (λ p. nat_lt p (length (unwrap_or (option_map (λ s. s.table) o) (record { name = []; columns = []; key = [] })).columns)) (unwrap_or (option_map (λ s. s.table) o) (record { name = []; columns = []; key = [] })).key ≡ true
+          → list_all (λ p. nat_lt p (length (unwrap_or (option_map (λ s. s.table) o) no_table).columns)) (unwrap_or (option_map (λ s. s.table) o) no_table).key ≡ true
       of None e = refl
       of (Some s) e = all_found (λ s. is_within s.table s.table.key) (λ s. same_name s.table.name name) old.tables s is.keys_within e
 

@@ -12,97 +12,17 @@ use Rattle.bf_tree.specs.declared.reply.Refusal.TheVariants as refusal
 use Rattle.bf_tree.specs.declared.migration.Arm.{Arm}
 use Rattle.bf_tree.specs.declared.migration.Target.{Target}
 use Rattle.bf_tree.specs.declared.migration.Migrate.{Migrate}
-use Rattle.bf_sql.specs.Database.{Database, Stored, IsDatabase, stored_at, table_at, table_rows, is_admitted}
+use Rattle.bf_sql.specs.Database.{Database, Stored, IsDatabase, stored_at, table_at, table_rows, is_admitted, no_table}
 use Rattle.bf_sql.specs.migrations.Targets.{ArmKind, by_from, by_join, by_pair, by_group, kind_by, arm_kind, arm_scope, width, equalities}
 use Rattle.bf_sql.specs.migrations.MigrationObjections.{drivers_of, driver_by, is_by_group, inherits_key, has_key, on_objections, arm_objections, target_objections, migrate_objections, is_taken}
 use Rattle.bf_sql.specs.migrations.Images.{rows_of_join}
 use Rattle.bf_sql.specs.migrations.Granules.{arms_of, left_value, right_value, anchor_values}
+use Rattle.bf_image.proofs.Lists.{none_left, none_right, none_when, none_of_each, all_both, all_so, all_found, all_of_blocks, all_of_map, all_in, each_block_within}
 use Rattle.bf_image.proofs.Names.{name-equal, name-itself, name-symmetric}
 use Rattle.bf_image.proofs.Values.{distinct-has, values_in_order-has}
 use Rattle.bf_image.proofs.Arms.{is_one_sided, fine_row, key-itself}
 use Rattle.bf_image.proofs.Parts.{is_fine, is_fine_arm}
 use Rattle.bf_image.proofs.Targets.{is_new}
-
-module _ {X : Type 0} where
-  pub none_left : (xs ys : List X) → xs ++ ys ≡ [] → xs ≡ []
-  none_left [] ys e = refl
-  none_left (x ∷ xs) ys e = absurd cc
-
-  pub none_right : (xs ys : List X) → xs ++ ys ≡ [] → ys ≡ []
-  none_right [] ys e = e
-  none_right (x ∷ xs) ys e = absurd cc
-
-  pub none_when : (test : Bool) (x : X) → when test x ≡ [] → test ≡ false
-  none_when true x e = absurd cc
-  none_when false x e = refl
-
-  -- nothing comes of the whole, so nothing comes of each
-  pub none_of_each : {Y : Type 0} (f : Y → List X) (test : Y → Bool) → ((y : Y) → f y ≡ [] → test y ≡ true) → (ys : List Y) → flat_map f ys ≡ [] → list_all test ys ≡ true
-  none_of_each f test one [] e = refl
-  none_of_each f test one (y ∷ ys) e = and_from _ _ (one y (none_left (f y) (flat_map f ys) e)) (none_of_each f test one ys (none_right (f y) (flat_map f ys) e))
-
-  pub all_both : (p q r : X → Bool) → ((x : X) → p x ≡ true → q x ≡ true → r x ≡ true) → (xs : List X) → list_all p xs ≡ true → list_all q xs ≡ true → list_all r xs ≡ true
-  all_both p q r one [] h g = refl
-  all_both p q r one (x ∷ xs) h g = and_from _ _ (one x (and_parts _ _ h).0 (and_parts _ _ g).0) (all_both p q r one xs (and_parts _ _ h).1 (and_parts _ _ g).1)
-
-  pub all_so : (p q : X → Bool) → ((x : X) → p x ≡ true → q x ≡ true) → (xs : List X) → list_all p xs ≡ true → list_all q xs ≡ true
-  all_so p q one [] h = refl
-  all_so p q one (x ∷ xs) h = and_from _ _ (one x (and_parts _ _ h).0) (all_so p q one xs (and_parts _ _ h).1)
-
-  pub all_append : (p : X → Bool) (xs ys : List X) → list_all p xs ≡ true → list_all p ys ≡ true → list_all p (xs ++ ys) ≡ true
-  all_append p [] ys h g = g
-  all_append p (x ∷ xs) ys h g = and_from _ _ (and_parts _ _ h).0 (all_append p xs ys (and_parts _ _ h).1 g)
-
-  pub all_found : (p test : X → Bool) (xs : List X) (x : X) → list_all p xs ≡ true → find test xs ≡ Some x → p x ≡ true
-  all_found p test [] x h e = absurd cc
-  all_found p test (y ∷ ys) x h e = elim (test y) as (λ b. cond b (Some y) (find test ys) ≡ Some x → p x ≡ true) [
-    | true ↦ λ found. let same : y ≡ x = cc in ap p (sym same) ∙ (and_parts _ _ h).0
-    | false ↦ λ found. all_found p test ys x (and_parts _ _ h).1 found
-  ] e
-
-pub all_of_blocks : {X Y : Type 0} (p : Y → Bool) (f : X → List Y) (xs : List X) → list_all (λ x. list_all p (f x)) xs ≡ true → list_all p (flat_map f xs) ≡ true
-all_of_blocks p f [] h = refl
-all_of_blocks p f (x ∷ xs) h = all_append p (f x) (flat_map f xs) (and_parts _ _ h).0 (all_of_blocks p f xs (and_parts _ _ h).1)
-
-pub all_of_map : {X Y : Type 0} (p : Y → Bool) (f : X → Y) (xs : List X) → list_all (λ x. p (f x)) xs ≡ true → list_all p (map f xs) ≡ true
-all_of_map p f [] h = refl
-all_of_map p f (x ∷ xs) h = and_from _ _ (and_parts _ _ h).0 (all_of_map p f xs (and_parts _ _ h).1)
-
-module _ {X K : Type 0} (same : K → K → Bool) (itself : (k : K) → same k k ≡ true) (key : X → K) where
-  -- a list has the keys of its items
-  pub all_in_own : (before xs : List X) (behind : List K) → list_all (λ x. has same (map key before ++ (map key xs ++ behind)) (key x)) xs ≡ true
-  all_in_own before [] behind = refl
-  all_in_own before (x ∷ xs) behind =
-      let here : has same (map key before ++ (key x ∷ (map key xs ++ behind))) (key x) ≡ true = list_any-append (same (key x)) (map key before) (key x ∷ (map key xs ++ behind)) ∙ or_right _ _ (or_left _ _ (itself (key x))) in
-      let moved : map key (before ++ x ∷ []) ++ (map key xs ++ behind) ≡ map key before ++ (key x ∷ (map key xs ++ behind)) = one_moved before in
-      and_from _ _ here (ap (λ ks. list_all (λ x. has same ks (key x)) xs) (sym moved) ∙ all_in_own (before ++ x ∷ []) xs behind)
-    where
-      one_moved : (ys : List X) → map key (ys ++ x ∷ []) ++ (map key xs ++ behind) ≡ map key ys ++ (key x ∷ (map key xs ++ behind))
-      one_moved [] = refl
-      one_moved (y ∷ ys) = ap (λ ks. key y ∷ ks) (one_moved ys)
-
-  pub all_in : (xs : List X) (behind : List K) → list_all (λ x. has same (map key xs ++ behind) (key x)) xs ≡ true
-  all_in xs behind = all_in_own [] xs behind
-
--- a list has its own items
-pub has_own : {K : Type 0} (same : K → K → Bool) → ((k : K) → same k k ≡ true) → (ks : List K) → list_all (has same ks) ks ≡ true
-has_own same itself ks = ap (λ zs. list_all (has same zs) ks) (sym (append-nil (map (λ k. k) ks) ∙ map-id ks)) ∙ all_in same itself (λ k. k) ks []
-
--- blocks are in the whole
-module _ {X K : Type 0} (same : K → K → Bool) (itself : (k : K) → same k k ≡ true) (f : X → List K) where
-  own_block : (before ks behind : List K) → list_all (has same (before ++ (ks ++ behind))) ks ≡ true
-  own_block before [] behind = refl
-  own_block before (k ∷ ks) behind =
-      let here : has same (before ++ (k ∷ (ks ++ behind))) k ≡ true = list_any-append (same k) before (k ∷ (ks ++ behind)) ∙ or_right _ _ (or_left _ _ (itself k)) in
-      and_from _ _ here (ap (λ zs. list_all (has same zs) ks) (sym (append_assoc before (k ∷ []) (ks ++ behind))) ∙ own_block (before ++ k ∷ []) ks behind)
-
-  blocks_from : (before : List K) (xs : List X) → list_all (λ x. list_all (has same (before ++ flat_map f xs)) (f x)) xs ≡ true
-  blocks_from before [] = refl
-  blocks_from before (x ∷ xs) =
-      and_from _ _ (own_block before (f x) (flat_map f xs)) (ap (λ zs. list_all (λ y. list_all (has same zs) (f y)) xs) (sym (append_assoc before (f x) (flat_map f xs))) ∙ blocks_from (before ++ f x) xs)
-
-  pub each_block_within : (xs : List X) → list_all (λ x. list_all (has same (flat_map f xs)) (f x)) xs ≡ true
-  each_block_within xs = blocks_from [] xs
 
 -- an arm of a kind with a JOIN has one
 pub joins_by_join : (g j a b : Bool) → kind_by g j a b ≡ by_join → j ≡ true
@@ -127,7 +47,7 @@ module _ (old : Database) (is : IsDatabase old) (arm : Arm) where
       ]
 
       of : (o : Option Stored) → stored_at old name ≡ o
-          → list_all (λ r. length r == length (unwrap_or (option_map (λ s. s.table) o) (record { name = []; columns = []; key = [] })).columns) (unwrap_or (option_map (λ s. s.rows) o) []) ≡ true
+          → list_all (λ r. length r == length (unwrap_or (option_map (λ s. s.table) o) no_table).columns) (unwrap_or (option_map (λ s. s.rows) o) []) ≡ true
       of None e = refl
       of (Some s) e =
           all_so (is_admitted s.table) (λ r. length r == length s.table.columns) (counted s) s.rows

@@ -21,14 +21,14 @@ use Rattle.bf_tree.specs.declared.migration.Item.TheVariants as item
 use Rattle.bf_tree.specs.declared.migration.Join.{Join}
 use Rattle.bf_tree.specs.declared.migration.Arm.{Arm}
 use Rattle.bf_base.specs.Distinct.{distinct}
-use Rattle.bf_sql.specs.Database.{Database, Stored, IsDatabase, stored_at, table_at, table_rows, is_fit, is_admitted}
+use Rattle.bf_sql.specs.Database.{Database, Stored, IsDatabase, stored_at, table_at, table_rows, is_fit, is_admitted, no_table}
 use Rattle.bf_sql.specs.Scopes.{Scope, scope_of, place_of, read_in, admitted_by}
 use Rattle.bf_sql.specs.migrations.Extents.{extent_of, extent_of_total, may_fail, admit_of_extent}
 use Rattle.bf_sql.specs.migrations.Targets.{ArmKind, by_from, by_join, by_pair, by_group, arm_scope, names_of_join, extent_of_item, item_admit}
 use Rattle.bf_sql.specs.migrations.Images.{is_equal_on, item_over, group_value, groups_by, matches_of_join, satisfying, rows_of_join}
+use Rattle.bf_image.proofs.Lists.{all_so, all_found, all_of_blocks, all_of_map, has_own, all_kept}
 use Rattle.bf_image.proofs.Arms.{passes, made, rows_by, key-equal, key-itself, key-symmetric}
 use Rattle.bf_image.proofs.Values.{distinct-has}
-use Rattle.bf_image.proofs.Fine.{all_so, all_found, has_own, all_of_blocks, all_of_map}
 use Rattle.bf_image.proofs.Within.{fits, made_fits, value_within, total_within}
 
 abbrev pub fit_all : List Admit → List Value → Bool
@@ -68,20 +68,12 @@ admitted_fit table row e = of (length row == length table.columns) refl e
     of true as_long all = columns_fit table.name table.columns row (eqb-true (length row) (length table.columns) as_long) all
     of false as_long all = absurd (false≢true all)
 
-pub all_kept : {X : Type 0} (p q : X → Bool) (xs : List X) → list_all p xs ≡ true → list_all p (filter q xs) ≡ true
-all_kept p q [] all = refl
-all_kept p q (x ∷ xs) all = of (q x) (all_kept p q xs (and_parts _ _ all).1)
-  where
-    of : (b : Bool) → list_all p (filter q xs) ≡ true → list_all p (cond b (x ∷ filter q xs) (filter q xs)) ≡ true
-    of true rest = and_from _ _ (and_parts _ _ all).0 rest
-    of false rest = rest
-
 module _ (old : Database) (is : IsDatabase old) where
   table_fits : (name : List ℕ) → list_all (fit_all (admits_in (scope_of (table_at old name)))) (table_rows old name) ≡ true
   table_fits name = of (stored_at old name) refl
     where
       of : (o : Option Stored) → stored_at old name ≡ o
-          → list_all (fit_all (admits_in (scope_of (unwrap_or (option_map (λ s. s.table) o) (record { name = []; columns = []; key = [] }))))) (unwrap_or (option_map (λ s. s.rows) o) []) ≡ true
+          → list_all (fit_all (admits_in (scope_of (unwrap_or (option_map (λ s. s.table) o) no_table)))) (unwrap_or (option_map (λ s. s.rows) o) []) ≡ true
       of None e = refl
       of (Some s) e = all_so (is_admitted s.table) (fit_all (admits_in (scope_of s.table))) (admitted_fit s.table) s.rows (all_found (λ s. list_all (is_admitted s.table) s.rows) (λ s. same_name s.table.name name) old.tables s is.rows_admitted e)
 

@@ -28,12 +28,12 @@ use Rattle.bf_sql.specs.migrations.Targets.{arm_kind, arm_key, item_places, key_
 use Rattle.bf_sql.specs.migrations.Images.{image_of, flipped}
 use Rattle.std.proofs.lemmas.Bool.Decides.{nat_tests}
 use Rattle.bf_image.specs.Laws.{IsLawful}
+use Rattle.bf_image.proofs.Lists.{none_left, none_right, none_when, none_of_each, all_append, all_of_map, all_kept}
 use Rattle.bf_image.proofs.Names.{name-equal}
 use Rattle.bf_image.proofs.Targets.{new_names}
-use Rattle.bf_image.proofs.Fine.{none_left, none_right, none_when, none_of_each, all_append, all_of_map, key_there, names_new, targets_unobjected}
+use Rattle.bf_image.proofs.Fine.{key_there, names_new, targets_unobjected}
 use Rattle.bf_image.proofs.Unions.{image_apart}
 use Rattle.bf_image.proofs.Owned.{find_alike}
-use Rattle.bf_image.proofs.Fits.{all_kept}
 use Rattle.bf_image.proofs.Admitted.{image_admitted, length_enumerated}
 
 name_anti : IsAntisymmetric name_cmp
@@ -51,7 +51,7 @@ all_before : {X : Type 0} (p : List X → X → Bool) (q : X → Bool) → ((bef
 all_before p q one seen [] all = refl
 all_before p q one seen (x ∷ xs) all = and_from _ _ (one seen x (and_parts _ _ all).0) (all_before p q one (seen ++ x ∷ []) xs (and_parts _ _ all).1)
 
-kept_any : {X : Type 0} (p q : X → Bool) → ((x : X) → p x ≡ true → q x ≡ true) → (xs : List X) → list_any p xs ≡ true → list_any p (filter q xs) ≡ true
+pub kept_any : {X : Type 0} (p q : X → Bool) → ((x : X) → p x ≡ true → q x ≡ true) → (xs : List X) → list_any p xs ≡ true → list_any p (filter q xs) ≡ true
 kept_any p q one [] some = some
 kept_any p q one (x ∷ xs) some = of (p x) refl (kept_any p q one xs)
   where
@@ -64,7 +64,7 @@ kept_any p q one (x ∷ xs) some = of (p x) refl (kept_any p q one xs)
         either false h = h
 
 -- of the items that a test leaves, each passes what follows from the test
-all_left : {X : Type 0} (p q r : X → Bool) → ((x : X) → q x ≡ true → p x ≡ true → r x ≡ true) → (xs : List X) → list_all p xs ≡ true → list_all r (filter q xs) ≡ true
+pub all_left : {X : Type 0} (p q r : X → Bool) → ((x : X) → q x ≡ true → p x ≡ true → r x ≡ true) → (xs : List X) → list_all p xs ≡ true → list_all r (filter q xs) ≡ true
 all_left p q r one [] all = refl
 all_left p q r one (x ∷ xs) all = of (q x) refl (all_left p q r one xs (and_parts _ _ all).1)
   where

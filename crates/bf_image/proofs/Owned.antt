@@ -25,10 +25,11 @@ use Rattle.bf_sql.specs.migrations.Targets.{target_table, arm_kind}
 use Rattle.bf_sql.specs.migrations.Images.{image_of}
 use Rattle.bf_sql.specs.migrations.Granules.{UnitForm, rows_unit, values_unit, units_of, anchors_of, anchor_values, places_in, granule, granules_of, part_in, owner_of, same_place, same_granule}
 use Rattle.bf_image.specs.Laws.{IsLawful, rows_of_parts, owns, swept}
+use Rattle.bf_image.proofs.Lists.{none_left, none_right}
 use Rattle.bf_image.proofs.Bags.{map_of_blocks}
 use Rattle.bf_image.proofs.Arms.{key-equal}
 use Rattle.bf_image.proofs.Values.{values_in_order-has}
-use Rattle.bf_image.proofs.Fine.{none_left, none_right, targets_unobjected}
+use Rattle.bf_image.proofs.Fine.{targets_unobjected}
 use Rattle.bf_image.proofs.Made.{same_rows}
 use Rattle.bf_image.proofs.Unions.{image_apart}
 

@@ -1,109 +1,197 @@
--- An image reads its sources alone.
-use Rattle.std.proofs.Common.{◌≡◌, ℕ, ◌+◌, Bool, true, nat_lt, nat_eq, List, [], ◌∷◌, ◌++◌, map, flat_map, length, Option, Some, None, is_some, refl, sym, ap, ap₂, ◌∙◌}
-use Rattle.std.specs.Prelude.{unwrap_or, option_map}
-use Rattle.std.specs.List.{list_all}
-use Rattle.std.proofs.lemmas.Bool.{and_parts, or_left, or_right}
-use Rattle.std.proofs.lemmas.List.Folds.{list_any-append}
+-- What a migration makes, over two databases that have the same tables and rows under some names.
+use Rattle.std.proofs.Common.{◌≡◌, ℕ, ◌+◌, ◌-◌, Bool, true, false, not, ◌&&◌, if◌then◌else◌, nat_lt, nat_le, List, [], ◌∷◌, ◌++◌, map, filter, flat_map, find, length, slice_range, Option, Some, None, refl, sym, ap, ap₂, ◌∙◌}
+use Rattle.std.specs.Prelude.{option_map, unwrap_or, slice_get}
+use Rattle.std.specs.List.{list_any, list_all, range_with_len, enumerate_from, Contains}
+use Rattle.std.proofs.lemmas.Bool.{and_parts, and_from}
+use Rattle.std.proofs.lemmas.List.{append-nil}
+use Rattle.bf_base.specs.declared.granule.Granule.{Granule}
+use Rattle.bf_base.specs.declared.granule.Place.{Place}
+use Rattle.bf_base.specs.declared.granule.Place.TheVariants.{Row, Group}
 use Rattle.bf_base.specs.declared.table.Table.{Table}
-use Rattle.bf_base.specs.Lists.{same_name, has}
-use Rattle.bf_tree.specs.declared.migration.Join.{Join}
+use Rattle.bf_base.specs.declared.value.Value.{Value}
+use Rattle.bf_base.specs.Distinct.{distinct}
+use Rattle.bf_base.specs.Lists.{same_name, same_key, has, in_order}
+use Rattle.bf_base.specs.Tables.{cell, key_of}
+use Rattle.bf_base.specs.Values.{key_cmp}
 use Rattle.bf_tree.specs.declared.migration.Arm.{Arm}
+use Rattle.bf_tree.specs.declared.migration.Join.{Join}
+use Rattle.bf_tree.specs.declared.migration.Migrate.{Migrate}
 use Rattle.bf_tree.specs.declared.migration.Target.{Target}
-use Rattle.bf_sql.specs.Database.{Database, Stored, stored_at, table_at, table_rows, no_table}
-use Rattle.bf_sql.specs.Conditions.{condition_of}
-use Rattle.bf_sql.specs.Scopes.{Scope, scope_of, place_of}
-use Rattle.bf_sql.specs.migrations.Targets.{ArmKind, kind_by, arm_scope, arm_kind, arm_sources, names_of_join, width, from_key, join_key, equalities}
+use Rattle.bf_sql.specs.Database.{Database, Stored, stored_at, table_rows}
+use Rattle.bf_sql.specs.Scopes.{read_in}
+use Rattle.bf_sql.specs.migrations.Granules.{UnitForm, rows_unit, values_unit, arms_of, units_of, anchor_values, from_with, join_with, rows_driven, places_in, granule, granules_of, part_at, part_of, owner_of}
 use Rattle.bf_sql.specs.migrations.Images.{arm_rows, image_of, rows_of_join}
-use Rattle.bf_tree.specs.Trees.{cond_over}
-use Rattle.bf_image.specs.Placed.{PlacedArm, placed_item, placed_pair, placed_arm, placed_rows}
-use Rattle.bf_image.proofs.Names.{name-itself}
-use Rattle.bf_image.proofs.Fine.{all_in}
-use Rattle.bf_image.proofs.Places.{placed_alike}
+use Rattle.bf_sql.specs.migrations.MigrationObjections.{sources_of, driver_by, drivers_of, is_by_row}
+use Rattle.bf_sql.specs.migrations.Targets.{ArmKind, by_from, by_join, by_pair, by_group, arm_kind, arm_scope, arm_sources, names_of_join, on_places, width}
+use Rattle.bf_image.specs.Sources.{table_under}
+use Rattle.bf_image.proofs.Bags.{blocks_equal_where}
+use Rattle.bf_image.proofs.Lists.{all_so, all_append, all_kept, all_of_blocks, all_of_map, all_in_blocks, all_with_numbers, all_distinct, all_of_contained,  each_block_within, some_of_those, filter_equal_where, looked_up_where}
+use Rattle.bf_image.proofs.Names.{name-equal, name-itself, name-symmetric}
+use Rattle.bf_image.proofs.SameTables.{is_inside, scopes, widths, places, kinds, rows_same, target_table_same, drivers_same}
+use Rattle.bf_image.proofs.Values.{distinct-has}
 
-blocks_same : {X Y : Type 0} (test : X → Bool) (f g : X → List Y) → ((x : X) → test x ≡ true → f x ≡ g x) → (xs : List X) → list_all test xs ≡ true → flat_map f xs ≡ flat_map g xs
-blocks_same test f g one [] all = refl
-blocks_same test f g one (x ∷ xs) all = ap₂ (λ ys zs. ys ++ zs) (one x (and_parts _ _ all).0) (blocks_same test f g one xs (and_parts _ _ all).1)
+-- the tables of each arm of a target are under their names
+pub arms_inside_own : (arms : List Arm) → list_all (is_inside (flat_map arm_sources arms)) arms ≡ true
+arms_inside_own arms = each_block_within same_name name-itself arm_sources arms
 
-same_list : {X : Type 0} (xs : List X) → map (λ x. x) xs ++ [] ≡ xs
-same_list [] = refl
-same_list (x ∷ xs) = ap (λ ys. x ∷ ys) (same_list xs)
+-- and those of each arm of a migration are sources
+pub arms_inside_sources : (m : Migrate) → list_all (λ t. list_all (is_inside (sources_of m)) t.arms) m.targets ≡ true
+arms_inside_sources m =
+    let named : List (List ℕ) = flat_map (λ t. flat_map arm_sources t.arms) m.targets in
+    all_so (λ t. list_all (has same_name named) (flat_map arm_sources t.arms)) (λ t. list_all (is_inside (sources_of m)) t.arms)
+    (λ t inside. all_in_blocks (has same_name (sources_of m)) arm_sources t.arms
+    (all_so (has same_name named) (has same_name (sources_of m)) (λ name there. distinct-has same_name name-symmetric name-equal name-itself named name ∙ there) (flat_map arm_sources t.arms) inside))
+    m.targets (each_block_within same_name name-itself (λ t. flat_map arm_sources t.arms) m.targets)
 
-own : (names : List (List ℕ)) → list_all (has same_name names) names ≡ true
-own names = ap (λ ns. list_all (has same_name ns) names) (sym (same_list names)) ∙ all_in same_name name-itself (λ n. n) names []
+pub target_inside : (m : Migrate) (t : Target) → Contains m.targets t → list_all (is_inside (sources_of m)) t.arms ≡ true
+target_inside m t among = all_of_contained (λ t. list_all (is_inside (sources_of m)) t.arms) m.targets t (arms_inside_sources m) among
 
-module _ (old new : Database) (arm : Arm) (same : (name : List ℕ) → has same_name (arm_sources arm) name ≡ true → stored_at old name ≡ stored_at new name) where
-  table_same : (name : List ℕ) → has same_name (arm_sources arm) name ≡ true → table_at old name ≡ table_at new name
-  table_same name there = ap (λ (o : Option Stored). unwrap_or (option_map (λ s. s.table) o) no_table) (same name there)
+module _ (a b : Database) (names : List (List ℕ)) (same : (name : List ℕ) → has same_name names name ≡ true → stored_at a name ≡ stored_at b name) where
+  pub tables_same : (name : List ℕ) → has same_name names name ≡ true → table_under a name ≡ table_under b name
+  tables_same name there = ap (option_map (λ (s : Stored). s.table)) (same name there)
 
-  from_there : has same_name (arm_sources arm) arm.from ≡ true
-  from_there = or_left _ _ (name-itself arm.from)
+  rows_under : (name : List ℕ) → has same_name names name ≡ true → table_rows a name ≡ table_rows b name
+  rows_under name there = ap (λ (o : Option Stored). unwrap_or (option_map (λ s. s.rows) o) []) (same name there)
 
-  joins_there : list_all (has same_name (arm_sources arm)) (names_of_join arm) ≡ true
-  joins_there = (and_parts (has same_name (arm_sources arm) arm.from) _ (own (arm_sources arm))).1
+  module _ (arm : Arm) (inside : is_inside names arm ≡ true) where
+    from_rows : table_rows a arm.from ≡ table_rows b arm.from
+    from_rows = rows_under arm.from (and_parts _ _ inside).0
 
-  pub scope_same : arm_scope old arm ≡ arm_scope new arm
-  scope_same = blocks_same (has same_name (arm_sources arm)) (λ name. scope_of (table_at old name)) (λ name. scope_of (table_at new name)) (λ name there. ap scope_of (table_same name there)) (arm_sources arm) (own (arm_sources arm))
+    join_rows : rows_of_join a arm.join ≡ rows_of_join b arm.join
+    join_rows = of arm.join (and_parts (has same_name names arm.from) _ inside).1
+      where
+        of : (o : Option Join) → list_all (has same_name names) (unwrap_or (option_map (λ j. j.table ∷ []) o) []) ≡ true → rows_of_join a o ≡ rows_of_join b o
+        of None there = refl
+        of (Some j) there = rows_under j.table (and_parts _ _ there).0
 
-  from_table : table_at old arm.from ≡ table_at new arm.from
-  from_table = table_same arm.from from_there
+    same_scope : arm_scope a arm ≡ arm_scope b arm
+    same_scope = scopes a b names tables_same arm inside
 
-  pub width_same : width old arm ≡ width new arm
-  width_same = ap (λ (t : Table). length t.columns) from_table
+    same_width : width a arm ≡ width b arm
+    same_width = widths a b names tables_same arm inside
 
-  pub from_key_same : from_key old arm ≡ from_key new arm
-  from_key_same = ap (λ (t : Table). t.key) from_table
+    same_places : on_places a arm ≡ on_places b arm
+    same_places = places a b names tables_same arm inside
 
-  pub join_key_same : join_key old arm ≡ join_key new arm
-  join_key_same =
-      ap (λ w. flat_map (λ name. map (λ k. w + k) (table_at old name).key) (names_of_join arm)) width_same
-      ∙ blocks_same (has same_name (arm_sources arm)) (λ name. map (λ k. width new arm + k) (table_at old name).key) (λ name. map (λ k. width new arm + k) (table_at new name).key)
-      (λ name there. ap (λ (t : Table). map (λ k. width new arm + k) t.key) (table_same name there)) (names_of_join arm) joins_there
+    arm_rows_same : (r s j k : List (List Value)) → r ≡ s → j ≡ k → arm_rows a arm r j ≡ arm_rows b arm s k
+    arm_rows_same r s j k e f = ap₂ (arm_rows a arm) e f ∙ rows_same a b names tables_same arm inside s k
 
-  abbrev kind_with : Scope → List ℕ → List ℕ → ArmKind
-  kind_with scope joins froms =
-      let on = flat_map (λ e. place_of scope e.0 ∷ place_of scope e.1 ∷ []) (equalities arm) in
-      kind_by (nat_lt 0 (length arm.group)) (is_some arm.join) (list_all (has nat_eq on) joins) (list_all (has nat_eq on) froms)
+    pub arm_image : arm_rows a arm (table_rows a arm.from) (rows_of_join a arm.join) ≡ arm_rows b arm (table_rows b arm.from) (rows_of_join b arm.join)
+    arm_image = arm_rows_same _ _ _ _ from_rows join_rows
 
-  pub kind_same : arm_kind old arm ≡ arm_kind new arm
-  kind_same =
-      ap (λ scope. kind_with scope (join_key old arm) (from_key old arm)) scope_same
-      ∙ ap₂ (λ joins froms. kind_with (arm_scope new arm) joins froms) join_key_same from_key_same
+    anchors_same : (kind : ArmKind) → anchor_values a arm kind ≡ anchor_values b arm kind
+    anchors_same by_from = refl
+    anchors_same by_join = refl
+    anchors_same by_group = λ i. map (λ row. map (read_in (same_scope i) row) arm.group) (from_rows i)
+    anchors_same by_pair = λ i.
+        map (λ row. map (cell row) (filter (λ p. nat_lt p (same_width i)) (same_places i))) (from_rows i)
+        ++ map (λ row. map (λ p. cell row (p - same_width i)) (filter (λ p. nat_le (same_width i) p) (same_places i))) (join_rows i)
 
-  abbrev placed_with : Scope → ArmKind → PlacedArm
-  placed_with scope kind = record {
-    kind = kind;
-    items = map (placed_item scope) arm.items;
-    joins = is_some arm.join;
-    on = map (placed_pair scope) (equalities arm);
-    cond = cond_over (place_of scope) (condition_of arm.cond);
-    group = map (place_of scope) arm.group;
-  }
+    from_with_same : (kind : ArmKind) (value : List Value) → from_with a arm kind value ≡ from_with b arm kind value
+    from_with_same by_from value = refl
+    from_with_same by_join value = refl
+    from_with_same by_group value = λ i. filter (λ row. same_key value (map (read_in (same_scope i) row) arm.group)) (from_rows i)
+    from_with_same by_pair value = λ i. filter (λ row. same_key value (map (cell row) (filter (λ p. nat_lt p (same_width i)) (same_places i)))) (from_rows i)
 
-  rows_same : (name : List ℕ) → has same_name (arm_sources arm) name ≡ true → table_rows old name ≡ table_rows new name
-  rows_same name there = ap (λ (o : Option Stored). unwrap_or (option_map (λ s. s.rows) o) []) (same name there)
+    join_with_same : (value : List Value) → join_with a arm value ≡ join_with b arm value
+    join_with_same value i = filter (λ row. same_key value (map (λ p. cell row (p - same_width i)) (filter (λ p. nat_le (same_width i) p) (same_places i)))) (join_rows i)
 
-  join_rows_same : (o : Option Join) → list_all (has same_name (arm_sources arm)) (unwrap_or (option_map (λ j. j.table ∷ []) o) []) ≡ true → rows_of_join old o ≡ rows_of_join new o
-  join_rows_same None there = refl
-  join_rows_same (Some j) there = rows_same j.table (and_parts _ _ there).0
+    one_row : (name : List ℕ) (at : ℕ) → has same_name names name ≡ true → slice_range (table_rows a name) at (at + 1) ≡ slice_range (table_rows b name) at (at + 1)
+    one_row name at there = ap (λ rows. slice_range rows at (at + 1)) (rows_under name there)
 
-  placed_same : placed_arm old arm ≡ placed_arm new arm
-  placed_same = ap₂ placed_with scope_same kind_same
+    driven_same : (kind : ArmKind) (driver : List ℕ) (at : ℕ) → rows_driven a arm kind driver at ≡ rows_driven b arm kind driver at
+    driven_same by_from driver at = of (same_name arm.from driver) refl
+      where
+        of : (c : Bool) → same_name arm.from driver ≡ c → (if c then arm_rows a arm (slice_range (table_rows a driver) at (at + 1)) (rows_of_join a arm.join) else []) ≡ (if c then arm_rows b arm (slice_range (table_rows b driver) at (at + 1)) (rows_of_join b arm.join) else [])
+        of true is = arm_rows_same _ _ _ _ (one_row driver at (ap (has same_name names) (sym (name-equal arm.from driver is)) ∙ (and_parts _ _ inside).0)) join_rows
+        of false is = refl
+    driven_same by_join driver at = of (list_any (same_name driver) (names_of_join arm)) refl
+      where
+        of : (c : Bool) → list_any (same_name driver) (names_of_join arm) ≡ c → (if c then arm_rows a arm (table_rows a arm.from) (slice_range (table_rows a driver) at (at + 1)) else []) ≡ (if c then arm_rows b arm (table_rows b arm.from) (slice_range (table_rows b driver) at (at + 1)) else [])
+        of true is =
+            let there = some_of_those (has same_name names) (same_name driver) (has same_name names driver) (λ name h e. ap (has same_name names) (name-equal driver name e) ∙ h) (names_of_join arm) (and_parts (has same_name names arm.from) _ inside).1 is in
+            arm_rows_same _ _ _ _ from_rows (one_row driver at there)
+        of false is = refl
+    driven_same by_pair driver at = refl
+    driven_same by_group driver at = refl
 
-  pub arm_same : arm_rows old arm (table_rows old arm.from) (rows_of_join old arm.join) ≡ arm_rows new arm (table_rows new arm.from) (rows_of_join new arm.join)
-  arm_same =
-      ap₂ (λ from join. arm_rows old arm from join) (rows_same arm.from from_there) (join_rows_same arm.join joins_there)
-      ∙ placed_alike old arm (table_rows new arm.from) (rows_of_join new arm.join)
-      ∙ ap (λ a. placed_rows a (table_rows new arm.from) (rows_of_join new arm.join)) placed_same
-      ∙ sym (placed_alike new arm (table_rows new arm.from) (rows_of_join new arm.join))
+    valued_same : (kind : ArmKind) (value : List Value) → arm_rows a arm (from_with a arm kind value) (join_with a arm value) ≡ arm_rows b arm (from_with b arm kind value) (join_with b arm value)
+    valued_same kind value = arm_rows_same _ _ _ _ (from_with_same kind value) (join_with_same value)
 
--- the images of arms, where two databases have the same sources
-pub images_same : (old new : Database) (arms : List Arm) → ((name : List ℕ) → has same_name (flat_map arm_sources arms) name ≡ true → stored_at old name ≡ stored_at new name)
-    → flat_map (λ arm. arm_rows old arm (table_rows old arm.from) (rows_of_join old arm.join)) arms ≡ flat_map (λ arm. arm_rows new arm (table_rows new arm.from) (rows_of_join new arm.join)) arms
-images_same old new [] same = refl
-images_same old new (arm ∷ arms) same =
-    ap₂ (λ ys zs. ys ++ zs)
-    (arm_same old new arm (λ name there. same name (list_any-append (same_name name) (arm_sources arm) (flat_map arm_sources arms) ∙ or_left _ _ there)))
-    (images_same old new arms (λ name there. same name (list_any-append (same_name name) (arm_sources arm) (flat_map arm_sources arms) ∙ or_right _ _ there)))
+    drivers_inside : (kind : ArmKind) → list_all (has same_name names) (driver_by kind arm) ≡ true
+    drivers_inside by_from = and_from _ _ (and_parts _ _ inside).0 refl
+    drivers_inside by_join = (and_parts (has same_name names arm.from) _ inside).1
+    drivers_inside by_pair = refl
+    drivers_inside by_group = refl
+
+    same_kind : arm_kind a arm ≡ arm_kind b arm
+    same_kind = kinds a b names tables_same arm inside
+
+  pub images_same : (arms : List Arm) → list_all (is_inside names) arms ≡ true
+      → flat_map (λ arm. arm_rows a arm (table_rows a arm.from) (rows_of_join a arm.join)) arms ≡ flat_map (λ arm. arm_rows b arm (table_rows b arm.from) (rows_of_join b arm.join)) arms
+  images_same arms all = blocks_equal_where (is_inside names) (λ arm. arm_rows a arm (table_rows a arm.from) (rows_of_join a arm.join)) (λ arm. arm_rows b arm (table_rows b arm.from) (rows_of_join b arm.join)) arm_image arms all
+
+  module _ (m : Migrate) (all : list_all (λ t. list_all (is_inside names) t.arms) m.targets ≡ true) where
+    arms_inside : list_all (λ p. is_inside names p.1) (arms_of m) ≡ true
+    arms_inside =
+        all_of_blocks (λ p. is_inside names p.1) (λ t. map (λ arm. (t, arm)) t.arms) m.targets
+        (all_so (λ t. list_all (is_inside names) t.arms) (λ t. list_all (λ p. is_inside names p.1) (map (λ arm. (t, arm)) t.arms)) (λ t its. all_of_map (λ p. is_inside names p.1) (λ arm. (t, arm)) t.arms its) m.targets all)
+
+    abbrev by_value : Database → Target × Arm → Bool
+    by_value db p = not (is_by_row (arm_kind db p.1))
+
+    abbrev unit_inside : UnitForm → Bool
+    unit_inside (rows_unit driver) = has same_name names driver
+    unit_inside (values_unit t arm) = is_inside names arm
+
+    units_same : units_of a m ≡ units_of b m
+    units_same =
+        ap₂ (λ drivers arms. map rows_unit drivers ++ map (λ p. values_unit p.0 p.1) arms) (drivers_same a b names tables_same m all)
+        (filter_equal_where (λ p. is_inside names p.1) (by_value a) (by_value b) (λ p inside. ap (λ kind. not (is_by_row kind)) (same_kind p.1 inside)) (arms_of m) arms_inside)
+
+    all_drivers_inside : list_all (has same_name names) (drivers_of a m) ≡ true
+    all_drivers_inside =
+        all_distinct same_name (has same_name names) (flat_map (λ t. flat_map (λ arm. driver_by (arm_kind a arm) arm) t.arms) m.targets)
+        (all_of_blocks (has same_name names) (λ t. flat_map (λ arm. driver_by (arm_kind a arm) arm) t.arms) m.targets
+        (all_so (λ t. list_all (is_inside names) t.arms) (λ t. list_all (has same_name names) (flat_map (λ arm. driver_by (arm_kind a arm) arm) t.arms))
+        (λ t its. all_of_blocks (has same_name names) (λ arm. driver_by (arm_kind a arm) arm) t.arms (all_so (is_inside names) (λ arm. list_all (has same_name names) (driver_by (arm_kind a arm) arm)) (λ arm inside. drivers_inside arm inside (arm_kind a arm)) t.arms its))
+        m.targets all))
+
+    units_inside : list_all unit_inside (units_of a m) ≡ true
+    units_inside =
+        all_append unit_inside (map rows_unit (drivers_of a m)) (map (λ p. values_unit p.0 p.1) (filter (by_value a) (arms_of m)))
+        (all_of_map unit_inside rows_unit (drivers_of a m) all_drivers_inside)
+        (all_of_map unit_inside (λ p. values_unit p.0 p.1) (filter (by_value a) (arms_of m)) (all_kept (λ p. is_inside names p.1) (by_value a) (arms_of m) arms_inside))
+
+    places_same : (unit : UnitForm) → unit_inside unit ≡ true → places_in a unit ≡ places_in b unit
+    places_same (rows_unit driver) there = ap (λ rows. map Row (range_with_len 0 (length rows))) (rows_under driver there)
+    places_same (values_unit t arm) inside =
+        ap (λ values. map Group (in_order key_cmp (λ v. v) (distinct same_key values))) (ap (anchor_values a arm) (same_kind arm inside) ∙ anchors_same arm inside (arm_kind b arm))
+
+    pub granules_same : granules_of a m ≡ granules_of b m
+    granules_same =
+        blocks_equal_where (λ u. unit_inside u.1) (λ u. map (granule u.0) (places_in a u.1)) (λ u. map (granule u.0) (places_in b u.1)) (λ u there. ap (map (granule u.0)) (places_same u.1 there))
+        (enumerate_from 0 (units_of a m)) (all_with_numbers unit_inside 0 (units_of a m) units_inside)
+        ∙ ap (λ units. flat_map (λ u. map (granule u.0) (places_in b u.1)) (enumerate_from 0 units)) units_same
+
+    part_at_same : (unit : UnitForm) → unit_inside unit ≡ true → (place : Place) → part_at a m unit place ≡ part_at b m unit place
+    part_at_same (rows_unit driver) there (Row at) =
+        blocks_equal_where (λ p. is_inside names p.1) (λ p. map (λ row. (p.0, row)) (rows_driven a p.1 (arm_kind a p.1) driver at)) (λ p. map (λ row. (p.0, row)) (rows_driven b p.1 (arm_kind b p.1) driver at))
+        (λ p inside. ap (map (λ row. (p.0, row))) (ap (λ kind. rows_driven a p.1 kind driver at) (same_kind p.1 inside) ∙ driven_same p.1 inside (arm_kind b p.1) driver at)) (arms_of m) arms_inside
+    part_at_same (rows_unit driver) there (Group value) = refl
+    part_at_same (values_unit t arm) inside (Row at) = refl
+    part_at_same (values_unit t arm) inside (Group value) =
+        ap (map (λ row. (t, row))) (ap (λ kind. arm_rows a arm (from_with a arm kind value) (join_with a arm value)) (same_kind arm inside) ∙ valued_same arm inside (arm_kind b arm) value)
+
+    pub part_same : (g : Granule) → part_of a m g ≡ part_of b m g
+    part_same g =
+        ap (λ part. unwrap_or part []) (looked_up_where unit_inside (λ unit. part_at a m unit g.place) (λ unit. part_at b m unit g.place) (λ unit there. part_at_same unit there g.place) (units_of a m) units_inside g.unit)
+        ∙ ap (λ units. unwrap_or (option_map (λ unit. part_at b m unit g.place) (slice_get units g.unit)) []) units_same
+
+    pub owner_same : (t : Target) (key : List Value) → list_all (is_inside names) t.arms ≡ true → owner_of a m t key ≡ owner_of b m t key
+    owner_same t key its =
+        let table = target_table_same a b names tables_same t its in
+        λ i. find (λ g. list_any (λ row. same_key key (key_of (table i) row)) (map (λ p. p.1) (filter (λ p. same_name p.0.name t.name) (part_same g i)))) (granules_same i)
 
 pub image_same : (old new : Database) (t : Target) → ((name : List ℕ) → has same_name (flat_map arm_sources t.arms) name ≡ true → stored_at old name ≡ stored_at new name) → image_of old t ≡ image_of new t
-image_same old new t same = images_same old new t.arms same
+image_same old new t same = images_same old new (flat_map arm_sources t.arms) same t.arms (arms_inside_own t.arms)

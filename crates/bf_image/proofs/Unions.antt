@@ -23,10 +23,11 @@ use Rattle.bf_sql.specs.Database.{Database, IsDatabase, table_rows}
 use Rattle.bf_sql.specs.migrations.Targets.{arm_kind, key_items, first_arm, target_table}
 use Rattle.bf_sql.specs.migrations.MigrationObjections.{tag_of, inherits_key, keeps_apart, is_by_row, target_objections}
 use Rattle.bf_sql.specs.migrations.Images.{item_over, image_of, groups_by, satisfying, rows_of_join}
+use Rattle.bf_image.proofs.Lists.{all_both}
 use Rattle.bf_image.proofs.Bags.{tally, tally-append}
 use Rattle.bf_image.proofs.Arms.{made, value-equal, key-itself}
 use Rattle.bf_image.proofs.Parts.{whole_by}
-use Rattle.bf_image.proofs.Fine.{all_both, two_sided, alone_in_groups, arms_ok, key_there}
+use Rattle.bf_image.proofs.Fine.{two_sided, alone_in_groups, arms_ok, key_there}
 use Rattle.bf_image.proofs.Keys.{key_places, key_of_made}
 use Rattle.bf_image.proofs.Once.{count_if, tally_of_blocks, tally_of_map, once_passes, apart_from_tallies}
 use Rattle.bf_image.proofs.ArmKeys.{once_by}

@@ -9,12 +9,15 @@ ghost use Rattle.bf_base.specs.Lists.{has, same_name};
 ghost use Rattle.bf_tree.specs.declared.migration.Migrate.{Migrate};
 ghost use Rattle.bf_tree.specs.declared.migration.Target.{Target};
 ghost use Rattle.bf_sql.specs.Database.{Database, IsDatabase, stored_at, stored_in_order, is_admitted, is_keyed};
-ghost use Rattle.bf_sql.specs.migrations.Granules.{UnitForm, anchors_of, granules_of, owner_of, rows_driven, same_granule};
+ghost use Rattle.bf_sql.specs.migrations.Granules.{UnitForm, anchors_of, granules_of, owner_of, part_of, rows_driven, same_granule};
 ghost use Rattle.bf_sql.specs.migrations.Images.{arm_rows, image_of, flipped};
 ghost use Rattle.bf_sql.specs.migrations.Targets.{arm_kind, arm_sources, target_table};
 ghost use Rattle.bf_image.specs.Lookup.{anchor_count, anchor_place, candidates, rows_met};
 ghost use Rattle.bf_tree.specs.declared.migration.Arm.{Arm};
 ghost use Rattle.bf_image.specs.Placed.{placed_arm, placed_rows};
+ghost use Rattle.bf_image.specs.Sources.{frozen_of, HaveSameSources, HaveSameTables};
+ghost use Rattle.bf_sql.specs.Bound.{catalog_of, without_rows};
+ghost use Rattle.bf_sql.specs.migrations.MigrationObjections.{migrate_objections, target_objections};
 ghost use Rattle.bf_image.specs.Laws.{IsLawful, rows_of_parts, owns, swept};
 
 /// The parts of a target, granule by granule, have the rows of its image of the whole old tables,
@@ -96,4 +99,44 @@ pub fn an_image_reads_its_sources_alone()
         → ((name : List ℕ) → has same_name (flat_map arm_sources t.arms) name ≡ true
         → stored_at old name ≡ stored_at new name)
         → image_of old t ≡ image_of new t }
+{}
+
+/// A migration reads the tables that its arms name and nothing else of the old database: over two
+/// databases with the same sources it has the same granules, and the same part of each; a target
+/// has the same image and becomes the same table, a key of it has the same owner, and the same
+/// stands in its way.
+pub fn a_migration_reads_its_sources_alone()
+    ensures granules { (old new : Database) (m : Migrate) → HaveSameSources m old new
+        → granules_of old m ≡ granules_of new m }
+    ensures parts { (old new : Database) (m : Migrate) (g : Granule) → HaveSameSources m old new
+        → part_of old m g ≡ part_of new m g }
+    ensures owners { (old new : Database) (m : Migrate) (t : Target) (key : List Value)
+        → HaveSameSources m old new → Contains m.targets t
+        → owner_of old m t key ≡ owner_of new m t key }
+    ensures tables { (old new : Database) (m : Migrate) (t : Target) → HaveSameSources m old new
+        → Contains m.targets t → target_table old t ≡ target_table new t }
+    ensures images { (old new : Database) (m : Migrate) (t : Target) → HaveSameSources m old new
+        → Contains m.targets t → image_of old t ≡ image_of new t }
+    ensures objections { (old new : Database) (m : Migrate) (t : Target) → HaveSameSources m old new
+        → Contains m.targets t → target_objections old t ≡ target_objections new t }
+{}
+
+/// The sources alone, which a flip may keep in place of the whole old database, are the same sources
+/// and a database, and a migration that is lawful over the whole is lawful over them.
+pub fn a_migration_may_keep_its_sources_alone()
+    ensures same { (db : Database) (m : Migrate) → HaveSameSources m (frozen_of db m) db }
+    ensures database { (db : Database) (m : Migrate) → IsDatabase db → IsDatabase (frozen_of db m) }
+    ensures lawful { (db : Database) (m : Migrate) → IsLawful db m → IsLawful (frozen_of db m) m }
+{}
+
+/// What stands in the way of a MIGRATE, the tables that its targets become, and its arms with places
+/// for names, are read off the catalog: no row is looked at.
+pub fn a_migration_is_planned_by_the_catalog_alone()
+    ensures objections { (old new : Database) (m : Migrate) → HaveSameTables old new
+        → migrate_objections old m ≡ migrate_objections new m }
+    ensures tables { (old new : Database) (t : Target) → HaveSameTables old new
+        → target_table old t ≡ target_table new t }
+    ensures arms { (old new : Database) (arm : Arm) → HaveSameTables old new
+        → placed_arm old arm ≡ placed_arm new arm }
+    ensures catalog { (db : Database) → HaveSameTables (without_rows (catalog_of db)) db }
 {}

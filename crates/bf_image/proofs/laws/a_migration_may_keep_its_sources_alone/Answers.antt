@@ -1,0 +1,5 @@
+use Rattle.bf_image.proofs.Frozen.{frozen_same, frozen_database, frozen_lawful}
+use Rattle.bf_image.proofs.laws.a_migration_may_keep_its_sources_alone.Goals as goal
+
+pub returns : goal.returns
+returns c = record { same = frozen_same; database = frozen_database; lawful = frozen_lawful }

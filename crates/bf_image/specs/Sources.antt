@@ -1,0 +1,23 @@
+-- The sources of a migration, and databases that have the same ones.
+use Rattle.std.specs.Prelude.{◌≡◌, ℕ, true, not, List, Option, option_map}
+use Rattle.bf_base.specs.declared.table.Table.{Table}
+use Rattle.bf_base.specs.Lists.{same_name, has}
+use Rattle.bf_tree.specs.declared.migration.Migrate.{Migrate}
+use Rattle.bf_sql.specs.Database.{Database, stored_at, without}
+use Rattle.bf_sql.specs.migrations.MigrationObjections.{sources_of}
+
+-- FROZEN: the sources of a migration with their rows and their indexes, and no other table
+abbrev pub frozen_of : Database → Migrate → Database
+frozen_of db m = without (λ name. not (has same_name (sources_of m) name)) db
+
+-- the same tables with the same rows under the names of a migration's sources
+abbrev pub HaveSameSources : Migrate → Database → Database → Type 0
+HaveSameSources m old new = (name : List ℕ) → has same_name (sources_of m) name ≡ true → stored_at old name ≡ stored_at new name
+
+-- the table of a name without its rows, where there is one
+abbrev pub table_under : Database → List ℕ → Option Table
+table_under db name = option_map (λ s. s.table) (stored_at db name)
+
+-- the same tables under all names, whatever their rows
+abbrev pub HaveSameTables : Database → Database → Type 0
+HaveSameTables old new = (name : List ℕ) → table_under old name ≡ table_under new name
