@@ -20,7 +20,7 @@ get_of_map f (x ∷ xs) (suc i) = get_of_map f xs i
 
 get_of_range : (a n i : ℕ) → slice_get (range_with_len a n) i ≡ (if nat_lt i n then Some (a + i) else None)
 get_of_range a zero i = let no : nat_lt i 0 ≡ false = grind (arith, nat_tests) in ap (λ b. if b then Some (a + i) else None) (sym no)
-get_of_range a (suc n) zero = let yes_ : nat_lt 0 (suc n) ≡ true = grind (arith, nat_tests) in let e : a ≡ a + 0 = omega arith in ap Some e ∙ ap (λ b. if b then Some (a + 0) else None) (sym yes_)
+get_of_range a (suc n) zero = let below : nat_lt 0 (suc n) ≡ true = grind (arith, nat_tests) in let e : a ≡ a + 0 = omega arith in ap Some e ∙ ap (λ b. if b then Some (a + 0) else None) (sym below)
 get_of_range a (suc n) (suc i) =
     let same : nat_lt i n ≡ nat_lt (suc i) (suc n) = grind (arith, nat_tests) in
     let e : a + 1 + i ≡ a + suc i = omega arith in

@@ -27,9 +27,6 @@ use Rattle.bf_image.proofs.Fine.{joins_by_pair, as_wide, two_sided}
 use Rattle.bf_image.proofs.Keys.{cells_left, cells_right, apart_again, carried_all, all_behind}
 use Rattle.bf_image.proofs.Once.{count_if, tally_of_blocks, tally_of_map, tally_of_apart, once_in_pairs}
 
-pub one_key : (k a b : List Value) → same_key k a ≡ true → same_key k b ≡ true → a ≡ b
-one_key k a b e f = sym (key-equal k a e) ∙ key-equal k b f
-
 same_from_equal : (a b : List Value) → a ≡ b → same_key a b ≡ true
 same_from_equal a b e = ap (same_key a) (sym e) ∙ key-itself a
 
@@ -172,38 +169,53 @@ module _ (old : Database) (is : IsDatabase old) where
       abbrev asked : ArmKind → List Value → List Value → Bool
       asked kind r s = on_pair (r ++ s) && asks kind (r ++ s)
 
+      its_on : (kind : ArmKind) (r s : List Value) → asked kind r s ≡ true → on_pair (r ++ s) ≡ true
+      its_on kind r s p = (and_parts (on_pair (r ++ s)) (asks kind (r ++ s)) p).0
+
+      its_key : (kind : ArmKind) (r s : List Value) → asked kind r s ≡ true → k ≡ map (cell (r ++ s)) (key_by old arm kind)
+      its_key kind r s p = key-equal k (map (cell (r ++ s)) (key_by old arm kind)) (and_parts (on_pair (r ++ s)) (asks kind (r ++ s)) p).1
+
       from_joined : Judges by_from → list_all (has nat_eq (on_places old arm)) (join_key old arm) ≡ true → tally q (whole_by old arm by_from) ≤ 1
       from_joined judges has_key =
-          let once = once_in_pairs same_key same_key (key_in arm.from) (key_in j.table) wide (λ s. true) (λ r s. of_pair old arm j (r ++ s)) q (asked by_from)
-          (λ r s e o. pair_tally by_from judges j (r ++ s))
-          (λ r r' s s' e e' o o' p p'. same_from_equal _ _ (sym (left_key r s e) ∙ one_key k _ _ (and_parts _ _ p).1 (and_parts _ _ p').1 ∙ left_key r' s' e'))
-          (λ r s s' e o o' p p'. same_from_equal _ _ (fixes_right has_key r s s' e (and_parts _ _ p).0 (and_parts _ _ p').0))
-          from join (as_wide old is arm arm.from) (list_all_always join) (keys_apart arm.from) (keys_apart j.table) in
           omega (arith, once, ap (tally q) (form by_from refl))
+        where
+          once : tally q (flat_map (λ r. flat_map (λ s. of_pair old arm j (r ++ s)) join) from) ≤ 1
+          once =
+              once_in_pairs same_key same_key (key_in arm.from) (key_in j.table) wide (λ s. true) (λ r s. of_pair old arm j (r ++ s)) q (asked by_from)
+              (λ r s e o. pair_tally by_from judges j (r ++ s))
+              (λ r r' s s' e e' o o' p p'. same_from_equal _ _ (sym (left_key r s e) ∙ sym (its_key by_from r s p) ∙ its_key by_from r' s' p' ∙ left_key r' s' e'))
+              (λ r s s' e o o' p p'. same_from_equal _ _ (fixes_right has_key r s s' e (its_on by_from r s p) (its_on by_from r s' p')))
+              from join (as_wide old is arm arm.from) (list_all_always join) (keys_apart arm.from) (keys_apart j.table)
 
       join_once : Judges by_join → list_all (has nat_eq (on_places old arm)) (from_key old arm) ≡ true → tally q (whole_by old arm by_join) ≤ 1
       join_once judges has_key =
-          let once = once_in_pairs same_key same_key (key_in j.table) (key_in arm.from) (λ s. true) wide (λ s r. of_pair old arm j (r ++ s)) q (λ s r. asked by_join r s)
-          (λ s r o e. pair_tally by_join judges j (r ++ s))
-          (λ s s' r r' o o' e e' p p'. same_from_equal _ _ (sym (right_key r s e) ∙ one_key k _ _ (and_parts _ _ p).1 (and_parts _ _ p').1 ∙ right_key r' s' e'))
-          (λ s r r' o e e' p p'. same_from_equal _ _ (fixes_left has_key r r' s e e' (and_parts _ _ p).0 (and_parts _ _ p').0))
-          join from (list_all_always join) (as_wide old is arm arm.from) (keys_apart j.table) (keys_apart arm.from) in
           omega (arith, once, ap (tally q) (form by_join refl), tally-same_items q (turned_round (λ r s. of_pair old arm j (r ++ s)) from join))
+        where
+          once : tally q (flat_map (λ s. flat_map (λ r. of_pair old arm j (r ++ s)) from) join) ≤ 1
+          once =
+              once_in_pairs same_key same_key (key_in j.table) (key_in arm.from) (λ s. true) wide (λ s r. of_pair old arm j (r ++ s)) q (λ s r. asked by_join r s)
+              (λ s r o e. pair_tally by_join judges j (r ++ s))
+              (λ s s' r r' o o' e e' p p'. same_from_equal _ _ (sym (right_key r s e) ∙ sym (its_key by_join r s p) ∙ its_key by_join r' s' p' ∙ right_key r' s' e'))
+              (λ s r r' o e e' p p'. same_from_equal _ _ (fixes_left has_key r r' s e e' (its_on by_join r s p) (its_on by_join r' s p')))
+              join from (list_all_always join) (as_wide old is arm arm.from) (keys_apart j.table) (keys_apart arm.from)
 
       both_keys : (r s : List Value) → wide r ≡ true → map (cell (r ++ s)) (from_key old arm ++ join_key old arm) ≡ key_in arm.from r ++ key_in j.table s
       both_keys r s e = map-append (cell (r ++ s)) (from_key old arm) (join_key old arm) ∙ ap₂ (λ a b. a ++ b) (left_key r s e) (right_key r s e)
 
-      pair_keys : (r r' s s' : List Value) → wide r ≡ true → wide r' ≡ true → asks by_pair (r ++ s) ≡ true → asks by_pair (r' ++ s') ≡ true → (key_in arm.from r ≡ key_in arm.from r') × (key_in j.table s ≡ key_in j.table s')
-      pair_keys r r' s s' e e' p p' = apart_again (cell r) (cell r') (from_key old arm) (key_in j.table s) (key_in j.table s') (sym (both_keys r s e) ∙ one_key k _ _ p p' ∙ both_keys r' s' e')
+      pair_keys : (r r' s s' : List Value) → wide r ≡ true → wide r' ≡ true → asked by_pair r s ≡ true → asked by_pair r' s' ≡ true → (key_in arm.from r ≡ key_in arm.from r') × (key_in j.table s ≡ key_in j.table s')
+      pair_keys r r' s s' e e' p p' = apart_again (cell r) (cell r') (from_key old arm) (key_in j.table s) (key_in j.table s') (sym (both_keys r s e) ∙ sym (its_key by_pair r s p) ∙ its_key by_pair r' s' p' ∙ both_keys r' s' e')
 
       pair_once : Judges by_pair → tally q (whole_by old arm by_pair) ≤ 1
       pair_once judges =
-          let once = once_in_pairs same_key same_key (key_in arm.from) (key_in j.table) wide (λ s. true) (λ r s. of_pair old arm j (r ++ s)) q (asked by_pair)
-          (λ r s e o. pair_tally by_pair judges j (r ++ s))
-          (λ r r' s s' e e' o o' p p'. same_from_equal _ _ (pair_keys r r' s s' e e' (and_parts _ _ p).1 (and_parts _ _ p').1).0)
-          (λ r s s' e o o' p p'. same_from_equal _ _ (pair_keys r r s s' e e (and_parts _ _ p).1 (and_parts _ _ p').1).1)
-          from join (as_wide old is arm arm.from) (list_all_always join) (keys_apart arm.from) (keys_apart j.table) in
           omega (arith, once, ap (tally q) (form by_pair refl))
+        where
+          once : tally q (flat_map (λ r. flat_map (λ s. of_pair old arm j (r ++ s)) join) from) ≤ 1
+          once =
+              once_in_pairs same_key same_key (key_in arm.from) (key_in j.table) wide (λ s. true) (λ r s. of_pair old arm j (r ++ s)) q (asked by_pair)
+              (λ r s e o. pair_tally by_pair judges j (r ++ s))
+              (λ r r' s s' e e' o o' p p'. same_from_equal _ _ (pair_keys r r' s s' e e' p p').0)
+              (λ r s s' e o o' p p'. same_from_equal _ _ (pair_keys r r s s' e e p p').1)
+              from join (as_wide old is arm arm.from) (list_all_always join) (keys_apart arm.from) (keys_apart j.table)
 
     abbrev value : List Value → List Value
     value = group_value old arm

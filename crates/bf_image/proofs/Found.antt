@@ -1,5 +1,5 @@
 -- The owner of a key is found by look-ups.
-use Rattle.std.proofs.Common.{◌≡◌, ℕ, ◌+◌, Bool, true, false, ◌&&◌, ◌||◌, ◌==◌, cond, List, [], ◌∷◌, ◌++◌, map, filter, flat_map, find, length, Option, Some, None, refl, sym, ap, ap₂, ◌∙◌, arith, append_assoc}
+use Rattle.std.proofs.Common.{◌≡◌, ℕ, ◌+◌, Bool, true, false, ◌&&◌, ◌||◌, ◌==◌, cond, List, [], ◌∷◌, ◌++◌, map, filter, flat_map, find, length, Option, Some, None, refl, sym, ap, ap₂, ◌∙◌, append_assoc}
 use Rattle.std.specs.Prelude.{slice_get}
 use Rattle.std.specs.List.{list_any, list_all, enumerate_from, AllByRecursion}
 use Rattle.std.specs.Option.{option_to_list}

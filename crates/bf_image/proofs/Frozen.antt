@@ -3,7 +3,6 @@ use Rattle.std.proofs.Common.{◌≡◌, ℕ, Bool, true, false, not, ◌&&◌, 
 use Rattle.std.specs.Prelude.{option_map}
 use Rattle.std.specs.List.{list_any, list_all}
 use Rattle.std.proofs.lemmas.Bool.{and_parts, or_parts, or_from, cases_Bool, false≢true}
-use Rattle.bf_base.specs.declared.table.Table.{Table}
 use Rattle.bf_base.specs.Lists.{same_name, has, with_before, when}
 use Rattle.bf_base.proofs.Apart.{rises-filter}
 use Rattle.bf_base.proofs.Names.{name_cmp_total}
@@ -14,15 +13,15 @@ use Rattle.bf_tree.specs.declared.migration.Migrate.{Migrate}
 use Rattle.bf_tree.specs.declared.reply.Refusal.TheVariants as refusal
 use Rattle.bf_sql.specs.Bound.{catalog_of, without_rows, table_without_rows}
 use Rattle.bf_sql.specs.Database.{Database, Stored, IsDatabase, stored_at, is_keyed, is_admitted, is_within, is_on_table}
-use Rattle.bf_sql.specs.migrations.MigrationObjections.{sources_of, drivers_of, is_taken, target_objections, migrate_objections}
+use Rattle.bf_sql.specs.migrations.MigrationObjections.{sources_of, is_taken, migrate_objections}
 use Rattle.bf_sql.specs.migrations.Targets.{arm_sources, target_table}
 use Rattle.bf_image.specs.Laws.{IsLawful}
 use Rattle.bf_image.specs.Placed.{placed_arm}
-use Rattle.bf_image.specs.Sources.{frozen_of, HaveSameSources, HaveSameTables, table_under}
+use Rattle.bf_image.specs.Sources.{frozen_of, HaveSameSources, HaveSameTables}
 use Rattle.bf_image.proofs.Flip.{all_left, kept_any}
 use Rattle.bf_image.proofs.Lists.{none_left, none_right, none_when, all_kept, has_own}
 use Rattle.bf_image.proofs.Names.{name-equal, name-itself}
-use Rattle.bf_image.proofs.SameTables.{is_inside, target_objected, targets_objected, target_table_same, drivers_same, placed_same}
+use Rattle.bf_image.proofs.SameTables.{targets_objected, target_table_same, drivers_same, placed_same}
 use Rattle.bf_image.proofs.Sources.{arms_inside_own, arms_inside_sources, tables_same}
 
 module _ (db : Database) (m : Migrate) where

@@ -1,5 +1,5 @@
 -- The key that a row of an arm's image has, and the rows that a key can come from.
-use Rattle.std.proofs.Common.{◌≡◌, ℕ, suc, ◌+◌, ◌<◌, Bool, true, false, not, ◌&&◌, ◌||◌, nat_lt, nat_eq, List, [], ◌∷◌, ◌++◌, map, length, get_or, position, Option, Some, None, is_some, refl, sym, ap, ap₂, ◌∙◌, inl, inr, arith, is_eq}
+use Rattle.std.proofs.Common.{◌≡◌, ℕ, ◌+◌, ◌<◌, Bool, true, false, not, ◌&&◌, ◌||◌, nat_lt, nat_eq, List, [], ◌∷◌, ◌++◌, map, length, get_or, position, Option, Some, None, is_some, refl, sym, ap, ap₂, ◌∙◌, inl, inr, arith, is_eq}
 use Rattle.std.specs.Prelude.{option_map, pos}
 use Rattle.std.specs.List.{list_all, filter_map, cons_option}
 use Rattle.std.specs.Option.{option_eq}

@@ -1,5 +1,5 @@
 -- What holds of each item of a list, and of the items of its blocks.
-use Rattle.std.proofs.Common.{◌≡◌, ℕ, zero, suc, ◌+◌, Bool, true, false, not, ◌&&◌, ◌||◌, cond, List, [], ◌∷◌, ◌++◌, map, filter, flat_map, fold, find, if◌then◌else◌, Some, refl, sym, ap, ap₂, ◌∙◌, append_assoc, append-nil, map-id}
+use Rattle.std.proofs.Common.{◌≡◌, ℕ, zero, suc, ◌+◌, Bool, true, false, ◌&&◌, ◌||◌, cond, List, [], ◌∷◌, ◌++◌, map, filter, flat_map, fold, find, if◌then◌else◌, Some, refl, sym, ap, ap₂, ◌∙◌, append_assoc, append-nil, map-id}
 use Rattle.std.specs.Prelude.{option_map, slice_get}
 use Rattle.std.specs.List.{list_any, list_all, enumerate_from, Contains}
 use Rattle.std.proofs.lemmas.Bool.{and_parts, and_from, or_left, or_right, false≢true}

@@ -58,13 +58,14 @@ module _ {X : Type 0} (key : X → List Value) (k : List Value) where
       of : (b : Bool) → test x ≡ b → position_or_len test (x ∷ xs) ≡ 0
       of true at = ap (λ b. cond (not b) (1 + position_or_len test xs) 0) at
       of false at = absurd (false≢true (sym (or_from _ _ at refl) ∙ some))
-  place_of_row (x ∷ xs) (suc i) apart some =
-      let rest = place_of_row xs i (and_parts _ _ apart).1 some in
-      (of (test x) refl rest.0, omega (arith, rest.1))
+  place_of_row (x ∷ xs) (suc i) apart some = further (place_of_row xs i (and_parts _ _ apart).1 some)
     where
       of : (b : Bool) → test x ≡ b → position_or_len test xs ≡ i → position_or_len test (x ∷ xs) ≡ suc i
       of true at e = absurd (false≢true (sym (none_other same_key key-equal key-itself key k x xs at (not-true _ (and_parts _ _ apart).0)) ∙ any_of_row test xs i some))
       of false at e = ap (λ b. cond (not b) (1 + position_or_len test xs) 0) at ∙ omega (arith, e)
+
+      further : (position_or_len test xs ≡ i) × (i < length xs) → (position_or_len test (x ∷ xs) ≡ suc i) × (suc i < length (x ∷ xs))
+      further rest = (of (test x) refl rest.0, omega (arith, rest.1))
 
   -- where the row at a position has a key that no other has, a look-up finds the position
   pub position_at : (xs : List X) (at : ℕ) → are_apart same_key (map key xs) ≡ true → list_any test (slice_range xs at (at + 1)) ≡ true → position test xs ≡ Some at

@@ -24,8 +24,8 @@ any_from_tally p (x ∷ xs) e = of (p x) refl (any_from_tally p xs)
 pub tally_of_blocks : {X Y : Type 0} (p : Y → Bool) (q : X → Bool) (ok : X → Bool) (f : X → List Y) → ((x : X) → ok x ≡ true → tally p (f x) ≤ count_if (q x)) → (xs : List X) → list_all ok xs ≡ true → tally p (flat_map f xs) ≤ tally q xs
 tally_of_blocks p q ok f one [] all = omega arith
 tally_of_blocks p q ok f one (x ∷ xs) all =
-    let first = one x (and_parts _ _ all).0 in
-    let rest = tally_of_blocks p q ok f one xs (and_parts _ _ all).1 in
+    let first : tally p (f x) ≤ count_if (q x) = one x (and_parts (ok x) (list_all ok xs) all).0 in
+    let rest : tally p (flat_map f xs) ≤ tally q xs = tally_of_blocks p q ok f one xs (and_parts (ok x) (list_all ok xs) all).1 in
     omega (arith, tally-append p (f x) (flat_map f xs))
 
 pub tally_of_map : {X Y : Type 0} (p : Y → Bool) (f : X → Y) (xs : List X) → tally p (map f xs) ≡ tally (λ x. p (f x)) xs

@@ -30,7 +30,7 @@ use Rattle.bf_image.specs.Laws.{IsLawful, owns}
 use Rattle.bf_image.specs.Lookup.{behind_tag, has_the_key, values_by, places_by, candidates}
 use Rattle.bf_image.proofs.Lists.{all_both}
 use Rattle.bf_image.proofs.Bags.{blocks_equal, map_of_blocks}
-use Rattle.bf_image.proofs.Names.{name-equal, name-itself, name-symmetric}
+use Rattle.bf_image.proofs.Names.{name-equal, name-symmetric}
 use Rattle.bf_image.proofs.Values.{values_in_order-has}
 use Rattle.bf_image.proofs.Arms.{made, rows_by, key-equal, key-itself, key-symmetric}
 use Rattle.bf_image.proofs.Parts.{labelled, driven, as_driven, if_there, if_absent}

@@ -2,12 +2,12 @@
 use Rattle.bf_base.specs.Tables.{fit_of}
 use Rattle.bf_base.specs.declared.table.Fit.TheVariants.{Fits}
 use Rattle.bf_base.specs.declared.value.Value.TheVariants.{Int}
-use Rattle.std.specs.Prelude.{◌^◌, pos, ◌≡◌, false, [], ◌∷◌, map, Some, None, codes, refl}
+use Rattle.std.specs.Prelude.{◌^◌, pos, ◌≡◌, false, [], ◌∷◌, ◌++◌, map, Some, None, codes, refl}
 use Rattle.bf_base.specs.declared.granule.Place.TheVariants.{Row, Group}
 use Rattle.bf_tree.specs.declared.migration.Target.{Target}
 use Rattle.bf_sql.specs.migrations.MigrationObjections.{migrate_objections}
 use Rattle.bf_sql.specs.migrations.Images.{image_of}
-use Rattle.bf_sql.specs.migrations.Granules.{granule, owner_of}
+use Rattle.bf_sql.specs.migrations.Granules.{granule, granules_of, owner_of}
 use Rattle.bf_base.specs.declared.table.Admit.TheVariants as admits
 use Rattle.bf_tree.specs.Trees.{literal, column}
 use Rattle.bf_tree.specs.declared.migration.Item.TheVariants as item
@@ -21,6 +21,7 @@ use Rattle.bf_image.specs.Laws.{IsLawful, rows_of_parts, swept}
 use Rattle.bf_sql.specs.migrations.Targets.{target_table}
 use Rattle.bf_tree.specs.declared.reply.Refusal.TheVariants as refusal
 use Rattle.bf_image.specs.Lookup.{candidates}
+use Rattle.bf_image.specs.Sources.{frozen_of}
 use Rattle.std.specs.Prelude.{slice_index_or}
 
 abbrev nothing : Target
@@ -127,6 +128,26 @@ untagged_refused = refl
 
 untagged_twice : is_keyed (stored_in_order (target_table tagged_old (slice_index_or untagged.targets 0 nothing)) (image_of tagged_old (slice_index_or untagged.targets 0 nothing))) ≡ false
 untagged_twice = refl
+
+-- beside the source stands a table of the target's name: the whole database has that against the target, and the source alone does
+-- not know of it; the image, the granules and the owners are the same
+abbrev taken_old : Database
+taken_old = record tagged_old { tables = tagged_old.tables ++ one (stored (table (codes "ph") (one (column_of (codes "id") admits.Int)) (one 0)) []) }
+
+taken_refused : migrate_objections taken_old tagged ≡ one (refusal.TableExists (codes "ph"))
+taken_refused = refl
+
+taken_frozen : frozen_of taken_old tagged ≡ tagged_old
+taken_frozen = refl
+
+taken_unseen : migrate_objections (frozen_of taken_old tagged) tagged ≡ []
+taken_unseen = refl
+
+taken_granules : granules_of taken_old tagged ≡ granules_of tagged_old tagged
+taken_granules = refl
+
+taken_image : image_of taken_old ph ≡ image_of tagged_old ph
+taken_image = refl
 
 -- ON with FROM's whole key: the rows of JOIN drive
 -- MIGRATE (CREATE TABLE o AS SELECT bid, a.v FROM a JOIN b ON aid = b.v)

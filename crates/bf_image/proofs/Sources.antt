@@ -1,13 +1,11 @@
 -- What a migration makes, over two databases that have the same tables and rows under some names.
-use Rattle.std.proofs.Common.{◌≡◌, ℕ, ◌+◌, ◌-◌, Bool, true, false, not, ◌&&◌, if◌then◌else◌, nat_lt, nat_le, List, [], ◌∷◌, ◌++◌, map, filter, flat_map, find, length, slice_range, Option, Some, None, refl, sym, ap, ap₂, ◌∙◌}
+use Rattle.std.proofs.Common.{◌≡◌, ℕ, ◌+◌, ◌-◌, Bool, true, false, not, if◌then◌else◌, nat_lt, nat_le, List, [], ◌∷◌, ◌++◌, map, filter, flat_map, find, length, slice_range, Option, Some, None, refl, sym, ap, ap₂, ◌∙◌}
 use Rattle.std.specs.Prelude.{option_map, unwrap_or, slice_get}
 use Rattle.std.specs.List.{list_any, list_all, range_with_len, enumerate_from, Contains}
 use Rattle.std.proofs.lemmas.Bool.{and_parts, and_from}
-use Rattle.std.proofs.lemmas.List.{append-nil}
 use Rattle.bf_base.specs.declared.granule.Granule.{Granule}
 use Rattle.bf_base.specs.declared.granule.Place.{Place}
 use Rattle.bf_base.specs.declared.granule.Place.TheVariants.{Row, Group}
-use Rattle.bf_base.specs.declared.table.Table.{Table}
 use Rattle.bf_base.specs.declared.value.Value.{Value}
 use Rattle.bf_base.specs.Distinct.{distinct}
 use Rattle.bf_base.specs.Lists.{same_name, same_key, has, in_order}
@@ -25,7 +23,7 @@ use Rattle.bf_sql.specs.migrations.MigrationObjections.{sources_of, driver_by, d
 use Rattle.bf_sql.specs.migrations.Targets.{ArmKind, by_from, by_join, by_pair, by_group, arm_kind, arm_scope, arm_sources, names_of_join, on_places, width}
 use Rattle.bf_image.specs.Sources.{table_under}
 use Rattle.bf_image.proofs.Bags.{blocks_equal_where}
-use Rattle.bf_image.proofs.Lists.{all_so, all_append, all_kept, all_of_blocks, all_of_map, all_in_blocks, all_with_numbers, all_distinct, all_of_contained,  each_block_within, some_of_those, filter_equal_where, looked_up_where}
+use Rattle.bf_image.proofs.Lists.{all_so, all_append, all_kept, all_of_blocks, all_of_map, all_in_blocks, all_with_numbers, all_distinct, all_of_contained, each_block_within, some_of_those, filter_equal_where, looked_up_where}
 use Rattle.bf_image.proofs.Names.{name-equal, name-itself, name-symmetric}
 use Rattle.bf_image.proofs.SameTables.{is_inside, scopes, widths, places, kinds, rows_same, target_table_same, drivers_same}
 use Rattle.bf_image.proofs.Values.{distinct-has}

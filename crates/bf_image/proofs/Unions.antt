@@ -178,20 +178,25 @@ module _ (old : Database) (is : IsDatabase old) where
 
   several_once : (a : Arm) (arms : List Arm) → list_all keeps (a ∷ arms) ≡ true → keeps_apart old (a ∷ arms) ≡ true → (k : List Value) → tally (λ row. same_key k (tagged_key (key_places old a) row)) (flat_map whole_of (a ∷ arms)) ≤ 1
   several_once a arms fine apart [] = omega (arith, tally_never (λ row. same_key [] (tagged_key (key_places old a) row)) (λ row. refl) (flat_map whole_of (a ∷ arms)))
-  several_once a arms fine apart (v ∷ k) =
-      let parts = and_parts (list_all (λ arm. is_by_row (arm_kind old arm) && is_some (tag_of arm.items)) (a ∷ arms) && list_all (λ p. not (has (option_eq int_eq) (map (λ a. tag_of a.items) p.0) (tag_of p.1.items))) (with_before (a ∷ arms))) _ apart in
-      let tags = and_parts (list_all (λ arm. is_by_row (arm_kind old arm) && is_some (tag_of arm.items)) (a ∷ arms)) _ parts.0 in
-      let all_alike : list_all (alike a) (a ∷ arms) ≡ true = and_from _ _ (same_places_itself (key_items old a)) (with_first alike a [] arms parts.1) in
-      let all_among : list_all (among (key_places old a)) (a ∷ arms) ≡ true =
-      all_both keeps (λ arm. is_by_row (arm_kind old arm) && is_some (tag_of arm.items)) (among (key_places old a)) (λ arm f t. and_from _ _ f (and_parts _ _ t).1) (a ∷ arms) fine tags.0 in
-      let ok : Arm → Bool = λ arm. among (key_places old a) arm && alike a arm in
-      let all_ok : list_all ok (a ∷ arms) ≡ true = all_both (among (key_places old a)) (alike a) ok (λ arm f t. and_from _ _ f t) (a ∷ arms) all_among all_alike in
-      let tags_apart = (all_apart (option_eq int_eq) same_tag-equal same_tag-itself (λ a. tag_of a.items) [] (a ∷ arms) tags.1).0 in
-      let less = tally_of_blocks (λ row. same_key (v ∷ k) (tagged_key (key_places old a) row)) (λ arm. is_tag v (tag_of arm.items)) ok whole_of
-      (λ arm o. let both = and_parts (among (key_places old a) arm) (alike a arm) o in
-      one_of_tags (key_places old a) arm (ap (filter_map (λ k. k)) (sym (same_places (key_items old a) (key_items old arm) both.1))) v k both.0) (a ∷ arms) all_ok in
-      let once = once_passes (option_eq int_eq) (λ a. tag_of a.items) (λ arm. is_tag v (tag_of arm.items)) ok (λ x y o o' e e'. one_tag v (tag_of x.items) (tag_of y.items) e e') (a ∷ arms) all_ok tags_apart in
-      omega (arith, less, once)
+  several_once a arms fine apart (v ∷ k) = omega (arith, bounds.0, bounds.1)
+    where
+      -- no more rows have the key than arms have its tag, and one arm at most has it
+      bounds : (tally (λ row. same_key (v ∷ k) (tagged_key (key_places old a) row)) (flat_map whole_of (a ∷ arms)) ≤ tally (λ arm. is_tag v (tag_of arm.items)) (a ∷ arms)) × (tally (λ arm. is_tag v (tag_of arm.items)) (a ∷ arms) ≤ 1)
+      bounds =
+          let of_tag : Arm → Bool = λ arm. is_tag v (tag_of arm.items) in
+          let ok : Arm → Bool = λ arm. among (key_places old a) arm && alike a arm in
+          let parts = and_parts (list_all (λ arm. is_by_row (arm_kind old arm) && is_some (tag_of arm.items)) (a ∷ arms) && list_all (λ p. not (has (option_eq int_eq) (map (λ a. tag_of a.items) p.0) (tag_of p.1.items))) (with_before (a ∷ arms))) _ apart in
+          let tags = and_parts (list_all (λ arm. is_by_row (arm_kind old arm) && is_some (tag_of arm.items)) (a ∷ arms)) _ parts.0 in
+          let all_alike : list_all (alike a) (a ∷ arms) ≡ true = and_from _ _ (same_places_itself (key_items old a)) (with_first alike a [] arms parts.1) in
+          let all_among : list_all (among (key_places old a)) (a ∷ arms) ≡ true =
+          all_both keeps (λ arm. is_by_row (arm_kind old arm) && is_some (tag_of arm.items)) (among (key_places old a)) (λ arm f t. and_from _ _ f (and_parts (is_by_row (arm_kind old arm)) (is_some (tag_of arm.items)) t).1) (a ∷ arms) fine tags.0 in
+          let all_ok : list_all ok (a ∷ arms) ≡ true = all_both (among (key_places old a)) (alike a) ok (λ arm f t. and_from _ _ f t) (a ∷ arms) all_among all_alike in
+          let tags_apart = (all_apart (option_eq int_eq) same_tag-equal same_tag-itself (λ a. tag_of a.items) [] (a ∷ arms) tags.1).0 in (
+            tally_of_blocks (λ row. same_key (v ∷ k) (tagged_key (key_places old a) row)) of_tag ok whole_of
+                (λ arm o. let both = and_parts (among (key_places old a) arm) (alike a arm) o in
+                one_of_tags (key_places old a) arm (ap (filter_map (λ k. k)) (sym (same_places (key_items old a) (key_items old arm) both.1))) v k both.0) (a ∷ arms) all_ok,
+            once_passes (option_eq int_eq) (λ a. tag_of a.items) of_tag ok (λ x y o o' e e'. one_tag v (tag_of x.items) (tag_of y.items) e e') (a ∷ arms) all_ok tags_apart,
+          )
 
   abbrev keys_of_arms : List Arm → List ℕ
   keys_of_arms arms = filter_map (λ k. k) (let keys = key_items old (first_arm arms) in if nat_lt 1 (length arms) then Some 0 ∷ keys else keys)
