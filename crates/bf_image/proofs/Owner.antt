@@ -1,9 +1,10 @@
 -- The owner of a key is the candidate whose part has a row with the key.
-use Rattle.std.proofs.Common.{◌≡◌, ℕ, zero, suc, ◌+◌, ◌<◌, ◌≤◌, Bool, true, false, not, ◌&&◌, ◌||◌, ◌==◌, nat_lt, cond, if◌then◌else◌, List, [], ◌∷◌, ◌++◌, map, filter, flat_map, find, length, position, take, drop, slice_range, Option, Some, is_some, refl, sym, ap, subst, ◌∙◌, arith}
+use Rattle.std.proofs.Common.{◌≡◌, ℕ, zero, suc, ◌+◌, ◌<◌, ◌≤◌, Bool, true, false, not, ◌&&◌, ◌||◌, ◌==◌, nat_lt, cond, if◌then◌else◌, List, [], ◌∷◌, ◌++◌, map, filter, flat_map, find, length, position, take, drop, slice_range, Option, Some, None, is_some, refl, sym, ap, subst, ◌∙◌, arith}
 use Rattle.std.specs.Prelude.{option_map, unwrap_or, slice_index_or}
 use Rattle.std.specs.List.{list_any, list_all, filter_map, range_with_len, AllByRecursion, Contains}
 use Rattle.std.specs.Option.{option_to_list}
 use Rattle.std.proofs.lemmas.Bool.{and_parts, and_from, or_parts, or_left, or_right, not-true, false≢true, eq-eqb}
+use Rattle.std.proofs.lemmas.List.{length-map}
 use Rattle.std.proofs.lemmas.Bool.Decides.{nat_tests}
 use Rattle.std.proofs.lemmas.List.Folds.{list_any-append, flat_map-map}
 use Rattle.std.proofs.lemmas.List.Quantifiers.{position-Some}
@@ -27,7 +28,7 @@ use Rattle.bf_sql.specs.migrations.MigrationObjections.{drivers_of, is_by_row, i
 use Rattle.bf_sql.specs.migrations.Images.{arm_rows, rows_of_join}
 use Rattle.bf_sql.specs.migrations.Granules.{UnitForm, rows_unit, values_unit, arms_of, units_of, rows_driven, from_with, join_with, left_value, right_value, anchor_values, places_in, granules_of, part_at, owner_of, same_place}
 use Rattle.bf_image.specs.Laws.{IsLawful, owns}
-use Rattle.bf_image.specs.Lookup.{behind_tag, has_the_key, values_by, places_by, candidates}
+use Rattle.bf_image.specs.Lookup.{behind_tag, has_the_key, row_with, values_by, places_by, candidates}
 use Rattle.bf_image.proofs.Lists.{all_both}
 use Rattle.bf_image.proofs.Bags.{blocks_equal, map_of_blocks}
 use Rattle.bf_image.proofs.Names.{name-equal, name-symmetric}
@@ -152,6 +153,26 @@ any_less p q one (x ∷ xs) some = of (p x) refl (any_less p q one xs)
     of : (b : Bool) → p x ≡ b → (list_any p xs ≡ true → list_any q xs ≡ true) → (q x || list_any q xs) ≡ true
     of true at rest = or_left _ _ (one x at)
     of false at rest = or_right _ _ (rest (sym (ap (λ b. b || list_any p xs) at) ∙ some))
+
+-- a unit has one candidate at most
+module _ (old : Database) (t : Target) (key : List Value) where
+  one_at_most : {X : Type 0} (o : Option X) → length (option_to_list o) ≤ 1
+  one_at_most None = omega arith
+  one_at_most (Some x) = omega arith
+
+  few_values : (arm : Arm) (kind : ArmKind) → length (values_by old arm key kind) ≤ 1
+  few_values arm by_from = omega arith
+  few_values arm by_join = omega arith
+  few_values arm by_group = omega arith
+  few_values arm by_pair = one_at_most (option_map (left_value old arm) (row_with old arm.from (take (length (from_key old arm)) key)))
+
+  pub few_places : (unit : UnitForm) → length (places_by old t key unit) ≤ 1
+  few_places (rows_unit driver) = one_at_most (option_map Row (position (has_the_key old driver (behind_tag t key)) (table_rows old driver)))
+  few_places (values_unit target arm) = of (same_name target.name t.name)
+    where
+      of : (b : Bool) → length (if b then map Group (values_by old arm key (arm_kind old arm)) else []) ≤ 1
+      of true = omega (arith, length-map (values_by old arm key (arm_kind old arm)) Group, few_values arm (arm_kind old arm))
+      of false = omega arith
 
 module _ (old : Database) (m : Migrate) (lawful : IsLawful old m) (t : Target) (among : Contains m.targets t) (key : List Value) where
   abbrev db : IsDatabase old

@@ -1,4 +1,4 @@
--- Words of the laws on parts and images.
+-- What the laws speak of: lawful migrations, the rows of parts, the granules that have a key, and those that a sweep meets.
 use Rattle.std.specs.Prelude.{◌≡◌, Bool, List, [], map, flat_map}
 use Rattle.std.specs.List.{list_any, enumerate_from}
 use Rattle.bf_base.specs.declared.value.Value.{Value}

@@ -26,6 +26,7 @@ use Rattle.bf_sql.specs.Totals.{total_of}
 abbrev pub is_equal_at : List Value → ℕ × ℕ → Bool
 is_equal_at row pair = is_eq (value_cmp (cell row pair.0) (cell row pair.1))
 
+-- an equality of ON, by its places
 abbrev pub placed_pair : Scope → Ref × Ref → ℕ × ℕ
 placed_pair scope pair = (place_of scope pair.0, place_of scope pair.1)
 
@@ -35,6 +36,7 @@ pub data PlacedItem : Type 0 where
   placed_value : Expr ℕ → PlacedItem
   placed_total : Aggregate (Expr ℕ) → PlacedItem
 
+-- PLACED ARM: how it makes rows, its items, whether it joins and on which places, its condition, and the places of its group columns
 pub record PlacedArm : Type 0 where
   pub kind : ArmKind
   pub items : List PlacedItem
@@ -58,18 +60,21 @@ placed_arm old arm = record {
   group = map (place_of (arm_scope old arm)) arm.group;
 }
 
+-- an item over the rows of a group
 abbrev pub placed_over : List (List Value) → PlacedItem → Value
 placed_over rows (placed_column place) = cell (first_row rows) place
 placed_over rows (placed_value e) = sure_value (cell (first_row rows)) e
 placed_over rows (placed_total total) = value_or_nought (total_of cell rows total)
 
 module _ (arm : PlacedArm) where
+  -- rows, each by itself, or those of each value of the group columns
   abbrev pub placed_groups : ArmKind → List (List Value) → List (List (List Value))
   placed_groups by_from rows = map (λ row. row ∷ []) rows
   placed_groups by_join rows = map (λ row. row ∷ []) rows
   placed_groups by_pair rows = map (λ row. row ∷ []) rows
   placed_groups by_group rows = map (λ g. filter (λ row. same_key g (cells arm.group row)) rows) (distinct same_key (map (cells arm.group) rows))
 
+  -- FROM alone, or the pairs with equal values at the places of ON, side by side
   abbrev pub placed_matches : List (List Value) → List (List Value) → List (List Value)
   placed_matches from join =
       if arm.joins then filter (λ row. list_all (is_equal_at row) arm.on) (flat_map (λ r. map (λ s. r ++ s) join) from) else from

@@ -1,24 +1,24 @@
-//! Laws of the definitions. Each is the contract of a function that does nothing.
+//! Laws of images by parts. Each is the contract of a function that does nothing.
 
-ghost use Rattle.std.specs.Prelude.{◌≡◌, ℕ, List, filter, find, flat_map, true, length, slice_get, Bool, IsTrue};
 ghost use Rattle.std.specs.List.{Contains, count_by, list_all};
 ghost use Rattle.std.specs.Option.{option_to_list};
+ghost use Rattle.std.specs.Prelude.{◌≡◌, ◌≤◌, ℕ, List, filter, find, flat_map, true, length, slice_get, Bool, IsTrue};
+ghost use Rattle.bf_base.specs.Lists.{has, same_name};
 ghost use Rattle.bf_base.specs.declared.granule.Granule.{Granule};
 ghost use Rattle.bf_base.specs.declared.value.Value.{Value};
-ghost use Rattle.bf_base.specs.Lists.{has, same_name};
+ghost use Rattle.bf_tree.specs.declared.migration.Arm.{Arm};
 ghost use Rattle.bf_tree.specs.declared.migration.Migrate.{Migrate};
 ghost use Rattle.bf_tree.specs.declared.migration.Target.{Target};
+ghost use Rattle.bf_sql.specs.Bound.{catalog_of, without_rows};
 ghost use Rattle.bf_sql.specs.Database.{Database, IsDatabase, stored_at, stored_in_order, is_admitted, is_keyed};
 ghost use Rattle.bf_sql.specs.migrations.Granules.{UnitForm, anchors_of, granules_of, owner_of, part_of, rows_driven, same_granule};
 ghost use Rattle.bf_sql.specs.migrations.Images.{arm_rows, image_of, flipped};
+ghost use Rattle.bf_sql.specs.migrations.MigrationObjections.{migrate_objections, target_objections};
 ghost use Rattle.bf_sql.specs.migrations.Targets.{arm_kind, arm_sources, target_table};
-ghost use Rattle.bf_image.specs.Lookup.{anchor_count, anchor_place, candidates, rows_met};
-ghost use Rattle.bf_tree.specs.declared.migration.Arm.{Arm};
+ghost use Rattle.bf_image.specs.Laws.{IsLawful, rows_of_parts, owns, swept};
+ghost use Rattle.bf_image.specs.Lookup.{anchor_count, anchor_place, candidates, places_by, rows_met};
 ghost use Rattle.bf_image.specs.Placed.{placed_arm, placed_rows};
 ghost use Rattle.bf_image.specs.Sources.{frozen_of, HaveSameSources, HaveSameTables};
-ghost use Rattle.bf_sql.specs.Bound.{catalog_of, without_rows};
-ghost use Rattle.bf_sql.specs.migrations.MigrationObjections.{migrate_objections, target_objections};
-ghost use Rattle.bf_image.specs.Laws.{IsLawful, rows_of_parts, owns, swept};
 
 /// The parts of a target, granule by granule, have the rows of its image of the whole old tables,
 /// each as often; and as a table in key order they are the image.
@@ -26,7 +26,8 @@ pub fn parts_make_the_image()
     ensures as_often { (old : Database) (m : Migrate) (t : Target) (test : List Value → Bool)
         → IsLawful old m → Contains m.targets t
         → count_by test (rows_of_parts old m t) ≡ count_by test (image_of old t) }
-    ensures in_order { (old : Database) (m : Migrate) (t : Target) → IsLawful old m → Contains m.targets t
+    ensures in_order { (old : Database) (m : Migrate) (t : Target) → IsLawful old m
+        → Contains m.targets t
         → stored_in_order (target_table old t) (rows_of_parts old m t)
         ≡ stored_in_order (target_table old t) (image_of old t) }
 {}
@@ -59,9 +60,11 @@ pub fn a_key_has_one_owner()
 /// The owner of a key, which is defined by computing all parts, is found by look-ups: one candidate
 /// of each unit at most, and the one whose part has a row with the key.
 pub fn an_owner_is_looked_up()
-    ensures { (old : Database) (m : Migrate) (t : Target) (key : List Value) → IsLawful old m
+    ensures owner { (old : Database) (m : Migrate) (t : Target) (key : List Value) → IsLawful old m
         → Contains m.targets t
         → owner_of old m t key ≡ find (owns old m t key) (candidates old m t key) }
+    ensures few { (old : Database) (t : Target) (key : List Value) (unit : UnitForm)
+        → length (places_by old t key unit) ≤ 1 }
 {}
 
 /// A sweep of all anchors meets each granule, and nothing else.
@@ -121,16 +124,16 @@ pub fn a_migration_reads_its_sources_alone()
         → Contains m.targets t → target_objections old t ≡ target_objections new t }
 {}
 
-/// The sources alone, which a flip may keep in place of the whole old database, are the same sources
-/// and a database, and a migration that is lawful over the whole is lawful over them.
+/// The sources alone, which a flip may keep in place of the whole old database, are a database with
+/// the same sources, and a migration that is lawful over the whole is lawful over them.
 pub fn a_migration_may_keep_its_sources_alone()
     ensures same { (db : Database) (m : Migrate) → HaveSameSources m (frozen_of db m) db }
     ensures database { (db : Database) (m : Migrate) → IsDatabase db → IsDatabase (frozen_of db m) }
     ensures lawful { (db : Database) (m : Migrate) → IsLawful db m → IsLawful (frozen_of db m) m }
 {}
 
-/// What stands in the way of a MIGRATE, the tables that its targets become, and its arms with places
-/// for names, are read off the catalog: no row is looked at.
+/// What stands in the way of a MIGRATE, the tables that its targets become, and its arms with
+/// places for names are read off the catalog: no row is looked at.
 pub fn a_migration_is_planned_by_the_catalog_alone()
     ensures objections { (old new : Database) (m : Migrate) → HaveSameTables old new
         → migrate_objections old m ≡ migrate_objections new m }
