@@ -1,5 +1,5 @@
 -- The sources of a migration alone, and the catalog alone.
-use Rattle.std.proofs.Common.{◌≡◌, ℕ, Bool, true, false, not, ◌&&◌, ◌||◌, List, [], ◌∷◌, ◌++◌, map, filter, flat_map, find, length, cond, Option, Some, None, is_some, nat_lt, refl, sym, ap, ◌∙◌, inl, inr}
+use Rattle.std.proofs.Common.{◌≡◌, ℕ, Bool, true, false, not, ◌&&◌, ◌||◌, List, [], ◌∷◌, ◌++◌, map, filter, flat_map, find, length, cond, Option, Some, None, is_some, nat_lt, refl, sym, ap, ap₂, ◌∙◌, inl, inr}
 use Rattle.std.specs.Prelude.{option_map}
 use Rattle.std.specs.List.{list_any, list_all}
 use Rattle.std.proofs.lemmas.Bool.{and_parts, or_parts, or_from, cases_Bool, false≢true}
@@ -12,17 +12,18 @@ use Rattle.bf_tree.specs.declared.migration.Target.{Target}
 use Rattle.bf_tree.specs.declared.migration.Migrate.{Migrate}
 use Rattle.bf_tree.specs.declared.reply.Refusal.TheVariants as refusal
 use Rattle.bf_sql.specs.Bound.{catalog_of, without_rows, table_without_rows}
-use Rattle.bf_sql.specs.Database.{Database, Stored, IsDatabase, stored_at, is_keyed, is_admitted, is_within, is_on_table}
+use Rattle.bf_sql.specs.Database.{Database, Stored, IsDatabase, stored_at, stored_in_order, is_keyed, is_admitted, is_within, is_on_table}
+use Rattle.bf_sql.specs.migrations.Images.{image_of}
 use Rattle.bf_sql.specs.migrations.MigrationObjections.{sources_of, is_taken, migrate_objections}
 use Rattle.bf_sql.specs.migrations.Targets.{arm_sources, target_table}
 use Rattle.bf_image.specs.Laws.{IsLawful}
 use Rattle.bf_image.specs.Placed.{placed_arm}
-use Rattle.bf_image.specs.Sources.{frozen_of, HaveSameSources, HaveSameTables}
+use Rattle.bf_image.specs.Sources.{frozen_of, HaveSameSources, HaveSameTables, tables_made}
 use Rattle.bf_image.proofs.Flip.{all_left, kept_any}
-use Rattle.bf_image.proofs.Lists.{none_left, none_right, none_when, all_kept, has_own}
+use Rattle.bf_image.proofs.Lists.{none_left, none_right, none_when, all_kept, has_own, map_equal_where}
 use Rattle.bf_image.proofs.Names.{name-equal, name-itself}
-use Rattle.bf_image.proofs.SameTables.{targets_objected, target_table_same, drivers_same, placed_same}
-use Rattle.bf_image.proofs.Sources.{arms_inside_own, arms_inside_sources, tables_same}
+use Rattle.bf_image.proofs.SameTables.{targets_objected, target_table_same, drivers_same, placed_same, is_inside}
+use Rattle.bf_image.proofs.Sources.{arms_inside_own, arms_inside_sources, tables_same, images_same}
 
 module _ (db : Database) (m : Migrate) where
   abbrev is_source : List ℕ → Bool
@@ -103,6 +104,13 @@ module _ (db : Database) (m : Migrate) where
 
   pub frozen_lawful : IsLawful db m → IsLawful (frozen_of db m) m
   frozen_lawful lawful = record { database = frozen_database lawful.database; unobjected = frozen_unobjected lawful.unobjected }
+
+  -- the tables made of the sources alone are those made of the whole
+  pub frozen_made : tables_made (frozen_of db m) m ≡ tables_made db m
+  frozen_made =
+      map_equal_where (λ t. list_all (is_inside (sources_of m)) t.arms) (λ t. stored_in_order (target_table (frozen_of db m) t) (image_of (frozen_of db m) t)) (λ t. stored_in_order (target_table db t) (image_of db t))
+      (λ t inside. ap₂ stored_in_order (target_table_same (frozen_of db m) db (sources_of m) (tables_same (frozen_of db m) db (sources_of m) frozen_same) t inside) (images_same (frozen_of db m) db (sources_of m) frozen_same t.arms inside))
+      m.targets (arms_inside_sources m)
 
 -- two databases with the same tables under all names
 module _ (old new : Database) (same : HaveSameTables old new) where

@@ -147,6 +147,10 @@ module _ {X : Type 0} (ok : X → Bool) where
   filter_equal_where f g one (x ∷ xs) all = ap₂ (λ b zs. cond b (x ∷ zs) zs) (one x (and_parts _ _ all).0) (filter_equal_where f g one xs (and_parts _ _ all).1)
 
   module _ {Y : Type 0} where
+    pub map_equal_where : (f g : X → Y) → ((x : X) → ok x ≡ true → f x ≡ g x) → (xs : List X) → list_all ok xs ≡ true → map f xs ≡ map g xs
+    map_equal_where f g one [] all = refl
+    map_equal_where f g one (x ∷ xs) all = ap₂ (λ y ys. y ∷ ys) (one x (and_parts _ _ all).0) (map_equal_where f g one xs (and_parts _ _ all).1)
+
     pub looked_up_where : (f g : X → Y) → ((x : X) → ok x ≡ true → f x ≡ g x) → (xs : List X) → list_all ok xs ≡ true → (i : ℕ) → option_map f (slice_get xs i) ≡ option_map g (slice_get xs i)
     looked_up_where f g one [] all i = refl
     looked_up_where f g one (x ∷ xs) all zero = ap Some (one x (and_parts _ _ all).0)

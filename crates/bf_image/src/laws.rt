@@ -12,13 +12,13 @@ ghost use Rattle.bf_tree.specs.declared.migration.Target.{Target};
 ghost use Rattle.bf_sql.specs.Bound.{catalog_of, without_rows};
 ghost use Rattle.bf_sql.specs.Database.{Database, IsDatabase, stored_at, stored_in_order, is_admitted, is_keyed};
 ghost use Rattle.bf_sql.specs.migrations.Granules.{UnitForm, anchors_of, granules_of, owner_of, part_of, rows_driven, same_granule};
-ghost use Rattle.bf_sql.specs.migrations.Images.{arm_rows, image_of, flipped};
+ghost use Rattle.bf_sql.specs.migrations.Images.{arm_rows, image_of, flipped, replaced};
 ghost use Rattle.bf_sql.specs.migrations.MigrationObjections.{migrate_objections, target_objections};
 ghost use Rattle.bf_sql.specs.migrations.Targets.{arm_kind, arm_sources, target_table};
 ghost use Rattle.bf_image.specs.Laws.{IsLawful, rows_of_parts, owns, swept};
 ghost use Rattle.bf_image.specs.Lookup.{anchor_count, anchor_place, candidates, places_by, rows_met};
 ghost use Rattle.bf_image.specs.Placed.{placed_arm, placed_rows};
-ghost use Rattle.bf_image.specs.Sources.{frozen_of, HaveSameSources, HaveSameTables};
+ghost use Rattle.bf_image.specs.Sources.{frozen_of, HaveSameSources, HaveSameTables, tables_made};
 
 /// The parts of a target, granule by granule, have the rows of its image of the whole old tables,
 /// each as often; and as a table in key order they are the image.
@@ -125,11 +125,14 @@ pub fn a_migration_reads_its_sources_alone()
 {}
 
 /// The sources alone, which a flip may keep in place of the whole old database, are a database with
-/// the same sources, and a migration that is lawful over the whole is lawful over them.
+/// the same sources, and a migration that is lawful over the whole is lawful over them. A flip that
+/// makes its tables of the sources alone is the flip.
 pub fn a_migration_may_keep_its_sources_alone()
     ensures same { (db : Database) (m : Migrate) → HaveSameSources m (frozen_of db m) db }
     ensures database { (db : Database) (m : Migrate) → IsDatabase db → IsDatabase (frozen_of db m) }
     ensures lawful { (db : Database) (m : Migrate) → IsLawful db m → IsLawful (frozen_of db m) m }
+    ensures flip { (db : Database) (m : Migrate)
+        → replaced db m (tables_made (frozen_of db m) m) ≡ flipped db m }
 {}
 
 /// What stands in the way of a MIGRATE, the tables that its targets become, and its arms with
