@@ -1,28 +1,28 @@
 -- Look-ups, parts and owners on worked migrations, by computing.
+use Rattle.std.specs.Prelude.{◌^◌, pos, ◌≡◌, false, [], ◌∷◌, ◌++◌, map, Some, None, codes, refl}
+use Rattle.std.specs.Prelude.{slice_index_or}
 use Rattle.bf_base.specs.Tables.{fit_of}
 use Rattle.bf_base.specs.declared.table.Fit.TheVariants.{Fits}
 use Rattle.bf_base.specs.declared.value.Value.TheVariants.{Int}
-use Rattle.std.specs.Prelude.{◌^◌, pos, ◌≡◌, false, [], ◌∷◌, ◌++◌, map, Some, None, codes, refl}
 use Rattle.bf_base.specs.declared.granule.Place.TheVariants.{Row, Group}
-use Rattle.bf_tree.specs.declared.migration.Target.{Target}
-use Rattle.bf_sql.specs.migrations.MigrationObjections.{migrate_objections}
-use Rattle.bf_sql.specs.migrations.Images.{image_of}
-use Rattle.bf_sql.specs.migrations.Granules.{granule, granules_of, owner_of}
 use Rattle.bf_base.specs.declared.table.Admit.TheVariants as admits
+use Rattle.bf_tree.specs.declared.migration.Target.{Target}
 use Rattle.bf_tree.specs.Trees.{literal, column}
 use Rattle.bf_tree.specs.declared.migration.Item.TheVariants as item
 use Rattle.bf_tree.specs.declared.migration.Migrate.{Migrate}
+use Rattle.bf_tree.specs.declared.reply.Refusal.TheVariants as refusal
+use Rattle.bf_sql.specs.migrations.MigrationObjections.{migrate_objections}
+use Rattle.bf_sql.specs.migrations.Images.{image_of}
+use Rattle.bf_sql.specs.migrations.Granules.{granule, granules_of, owner_of}
 use Rattle.bf_sql.specs.Database.{Database, is_keyed, stored_in_order}
 use Rattle.bf_sql.specs.Scopes.{unqualified}
 use Rattle.bf_sql.proofs.Spelling.{one, number, arm, target, migration, table, column_of, stored, database, qualified, join}
 use Rattle.bf_sql.proofs.GroupedTotalsMoves as totals
 use Rattle.bf_sql.proofs.JoinedPairsMoves as pairs
-use Rattle.bf_image.specs.Laws.{IsLawful, rows_of_parts, swept}
 use Rattle.bf_sql.specs.migrations.Targets.{target_table}
-use Rattle.bf_tree.specs.declared.reply.Refusal.TheVariants as refusal
+use Rattle.bf_image.specs.Laws.{IsLawful, rows_of_parts, swept}
 use Rattle.bf_image.specs.Lookup.{candidates}
 use Rattle.bf_image.specs.Sources.{frozen_of}
-use Rattle.std.specs.Prelude.{slice_index_or}
 
 abbrev nothing : Target
 nothing = record { name = []; arms = [] }

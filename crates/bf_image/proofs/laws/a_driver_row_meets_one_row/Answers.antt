@@ -1,7 +1,7 @@
-use Rattle.bf_image.proofs.Owner.{its_arm_two_sided}
-use Rattle.bf_image.proofs.Meets.{driven_met}
-use Rattle.bf_sql.specs.migrations.Targets.{arm_kind}
 use Rattle.std.proofs.Common.{refl}
+use Rattle.bf_sql.specs.migrations.Targets.{arm_kind}
+use Rattle.bf_image.proofs.finding.Owner.{its_arm_two_sided}
+use Rattle.bf_image.proofs.finding.Meets.{driven_met}
 use Rattle.bf_image.proofs.laws.a_driver_row_meets_one_row.Goals as goal
 
 pub returns : goal.returns

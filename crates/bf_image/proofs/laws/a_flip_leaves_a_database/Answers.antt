@@ -1,4 +1,4 @@
-use Rattle.bf_image.proofs.Flip.{flip_keeps}
+use Rattle.bf_image.proofs.admitting.Flip.{flip_keeps}
 use Rattle.bf_image.proofs.laws.a_flip_leaves_a_database.Goals as goal
 
 pub returns : goal.returns

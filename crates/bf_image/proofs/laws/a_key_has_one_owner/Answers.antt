@@ -1,4 +1,4 @@
-use Rattle.bf_image.proofs.Owned.{one_owner}
+use Rattle.bf_image.proofs.finding.Owned.{one_owner}
 use Rattle.bf_image.proofs.laws.a_key_has_one_owner.Goals as goal
 
 pub returns : goal.returns

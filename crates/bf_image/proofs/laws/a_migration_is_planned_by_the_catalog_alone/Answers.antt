@@ -1,4 +1,4 @@
-use Rattle.bf_image.proofs.Frozen.{objections_alike, tables_alike, arms_alike, same_as_catalog}
+use Rattle.bf_image.proofs.keeping.Frozen.{objections_alike, tables_alike, arms_alike, same_as_catalog}
 use Rattle.bf_image.proofs.laws.a_migration_is_planned_by_the_catalog_alone.Goals as goal
 
 pub returns : goal.returns

@@ -1,6 +1,6 @@
-use Rattle.bf_image.proofs.Frozen.{frozen_same, frozen_database, frozen_lawful, frozen_made}
-use Rattle.bf_sql.specs.migrations.Images.{replaced}
 use Rattle.std.proofs.Common.{ap}
+use Rattle.bf_sql.specs.migrations.Images.{replaced}
+use Rattle.bf_image.proofs.keeping.Frozen.{frozen_same, frozen_database, frozen_lawful, frozen_made}
 use Rattle.bf_image.proofs.laws.a_migration_may_keep_its_sources_alone.Goals as goal
 
 pub returns : goal.returns

@@ -1,6 +1,6 @@
 use Rattle.bf_sql.specs.migrations.MigrationObjections.{sources_of}
-use Rattle.bf_image.proofs.SameTables.{target_objected, target_table_same}
-use Rattle.bf_image.proofs.Sources.{arms_inside_sources, target_inside, tables_same, images_same, granules_same, part_same, owner_same}
+use Rattle.bf_image.proofs.keeping.SameTables.{target_objected, target_table_same}
+use Rattle.bf_image.proofs.keeping.Sources.{arms_inside_sources, target_inside, tables_same, images_same, granules_same, part_same, owner_same}
 use Rattle.bf_image.proofs.laws.a_migration_reads_its_sources_alone.Goals as goal
 
 pub returns : goal.returns

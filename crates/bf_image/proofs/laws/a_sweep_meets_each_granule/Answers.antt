@@ -1,4 +1,4 @@
-use Rattle.bf_image.proofs.Owned.{sweep_meets}
+use Rattle.bf_image.proofs.finding.Owned.{sweep_meets}
 use Rattle.bf_image.proofs.laws.a_sweep_meets_each_granule.Goals as goal
 
 pub returns : goal.returns

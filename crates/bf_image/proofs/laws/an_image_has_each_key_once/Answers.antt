@@ -1,4 +1,4 @@
-use Rattle.bf_image.proofs.Owned.{image_rises}
+use Rattle.bf_image.proofs.finding.Owned.{image_rises}
 use Rattle.bf_image.proofs.laws.an_image_has_each_key_once.Goals as goal
 
 pub returns : goal.returns

@@ -1,5 +1,5 @@
-use Rattle.bf_image.proofs.Owned.{target_unobjected}
-use Rattle.bf_image.proofs.Admitted.{image_admitted}
+use Rattle.bf_image.proofs.finding.Owned.{target_unobjected}
+use Rattle.bf_image.proofs.admitting.Admitted.{image_admitted}
 use Rattle.bf_image.proofs.laws.an_image_is_admitted.Goals as goal
 
 pub returns : goal.returns

@@ -1,4 +1,4 @@
-use Rattle.bf_image.proofs.Owner.{looked_up, few_places}
+use Rattle.bf_image.proofs.finding.Owner.{looked_up, few_places}
 use Rattle.bf_image.proofs.laws.an_owner_is_looked_up.Goals as goal
 
 pub returns : goal.returns

@@ -1,5 +1,5 @@
-use Rattle.bf_image.proofs.Made.{as_often}
-use Rattle.bf_image.proofs.Owned.{same_table}
+use Rattle.bf_image.proofs.cutting.Made.{as_often}
+use Rattle.bf_image.proofs.finding.Owned.{same_table}
 use Rattle.bf_image.proofs.laws.parts_make_the_image.Goals as goal
 
 pub returns : goal.returns

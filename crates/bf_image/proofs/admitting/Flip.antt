@@ -9,6 +9,7 @@ use Rattle.std.proofs.lemmas.Bool.{and_parts, and_from, or_parts, or_left, or_ri
 use Rattle.std.proofs.lemmas.List.{map-append}
 use Rattle.std.proofs.lemmas.List.Folds.{list_any-append}
 use Rattle.std.proofs.lemmas.List.Quantifiers.{position-Some}
+use Rattle.std.proofs.lemmas.Bool.Decides.{nat_tests}
 use Rattle.bf_base.specs.declared.table.Column.{Column}
 use Rattle.bf_base.specs.Values.{key_cmp_total}
 use Rattle.bf_base.specs.Lists.{same_name, name_cmp, has, in_order, with_before, with_before_from, when}
@@ -26,15 +27,14 @@ use Rattle.bf_sql.specs.Database.{Database, Stored, IsDatabase, stored_at, store
 use Rattle.bf_sql.specs.migrations.MigrationObjections.{sources_of, is_taken, target_objections, tag_of, keeps_apart, is_by_row}
 use Rattle.bf_sql.specs.migrations.Targets.{arm_kind, arm_key, item_places, key_items, first_arm, item_name, column_admit, target_key, target_table}
 use Rattle.bf_sql.specs.migrations.Images.{image_of, flipped}
-use Rattle.std.proofs.lemmas.Bool.Decides.{nat_tests}
 use Rattle.bf_image.specs.Laws.{IsLawful}
-use Rattle.bf_image.proofs.Lists.{none_left, none_right, none_when, none_of_each, all_append, all_of_map, all_kept}
-use Rattle.bf_image.proofs.Names.{name-equal}
-use Rattle.bf_image.proofs.Targets.{new_names}
-use Rattle.bf_image.proofs.Fine.{key_there, names_new, targets_unobjected}
-use Rattle.bf_image.proofs.Unions.{image_apart}
-use Rattle.bf_image.proofs.Owned.{find_alike}
-use Rattle.bf_image.proofs.Admitted.{image_admitted, length_enumerated}
+use Rattle.bf_image.proofs.items.Lists.{none_left, none_right, none_when, none_of_each, all_append, all_of_map, all_kept}
+use Rattle.bf_image.proofs.items.Names.{name-equal}
+use Rattle.bf_image.proofs.cutting.Targets.{new_names}
+use Rattle.bf_image.proofs.making.Unobjected.{key_there, names_new, targets_unobjected}
+use Rattle.bf_image.proofs.making.Unions.{image_apart}
+use Rattle.bf_image.proofs.finding.Owned.{find_alike}
+use Rattle.bf_image.proofs.admitting.Admitted.{image_admitted, length_enumerated}
 
 name_anti : IsAntisymmetric name_cmp
 name_anti = slice_cmp-IsAntisymmetric nat_cmp-IsAntisymmetric

@@ -32,9 +32,9 @@ use Rattle.bf_sql.specs.migrations.Extents.{Extent, numbers, texts, beyond, exte
 use Rattle.bf_sql.specs.migrations.MigrationObjections.{kind_of_item, item_kinds, failing_objections, target_objections}
 use Rattle.bf_sql.specs.migrations.Targets.{either_admit, arm_kind, arm_scope, item_admit, extent_of_item, first_arm, column_admit, target_table, item_name}
 use Rattle.bf_sql.specs.migrations.Images.{arm_rows, image_of, rows_of_join}
-use Rattle.bf_image.proofs.Lists.{none_left, none_right, none_when, none_of_each, all_both, all_so, all_of_blocks}
-use Rattle.bf_image.proofs.Fits.{fit_all, rows_fit, safe_items}
-use Rattle.bf_image.proofs.Within.{fits, is_numeric, negated_numeric, plus_numeric, minus_numeric, times_numeric, summed_numeric}
+use Rattle.bf_image.proofs.items.Lists.{none_left, none_right, none_when, none_of_each, all_both, all_so, all_of_blocks}
+use Rattle.bf_image.proofs.admitting.Fits.{fit_all, rows_fit, safe_items}
+use Rattle.bf_image.proofs.admitting.Within.{fits, is_numeric, negated_numeric, plus_numeric, minus_numeric, times_numeric, summed_numeric}
 
 abbrev pub is_kind : Kind → Admit → Bool
 is_kind k a = same_kind k (kind_admitted a)

@@ -4,7 +4,7 @@ use Rattle.std.specs.List.{list_any, list_all}
 use Rattle.std.proofs.lemmas.Bool.{and_parts, and_from, or_parts, or_from, not-true, not_from_false, false≢true}
 use Rattle.bf_base.specs.Lists.{has}
 use Rattle.bf_base.proofs.Apart.{are_apart}
-use Rattle.bf_image.proofs.Bags.{tally, tally-append}
+use Rattle.bf_image.proofs.items.Bags.{tally, tally-append}
 
 abbrev pub count_if : Bool → ℕ
 count_if b = cond b 1 0

@@ -19,11 +19,11 @@ use Rattle.bf_sql.specs.migrations.Targets.{arm_sources, target_table}
 use Rattle.bf_image.specs.Laws.{IsLawful}
 use Rattle.bf_image.specs.Placed.{placed_arm}
 use Rattle.bf_image.specs.Sources.{frozen_of, HaveSameSources, HaveSameTables, tables_made}
-use Rattle.bf_image.proofs.Flip.{all_left, kept_any}
-use Rattle.bf_image.proofs.Lists.{none_left, none_right, none_when, all_kept, has_own, map_equal_where}
-use Rattle.bf_image.proofs.Names.{name-equal, name-itself}
-use Rattle.bf_image.proofs.SameTables.{targets_objected, target_table_same, drivers_same, placed_same, is_inside}
-use Rattle.bf_image.proofs.Sources.{arms_inside_own, arms_inside_sources, tables_same, images_same}
+use Rattle.bf_image.proofs.admitting.Flip.{all_left, kept_any}
+use Rattle.bf_image.proofs.items.Lists.{none_left, none_right, none_when, all_kept, has_own, map_equal_where}
+use Rattle.bf_image.proofs.items.Names.{name-equal, name-itself}
+use Rattle.bf_image.proofs.keeping.SameTables.{targets_objected, target_table_same, drivers_same, placed_same, is_inside}
+use Rattle.bf_image.proofs.keeping.Sources.{arms_inside_own, arms_inside_sources, tables_same, images_same}
 
 module _ (db : Database) (m : Migrate) where
   abbrev is_source : List ℕ → Bool

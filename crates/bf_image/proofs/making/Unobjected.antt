@@ -17,12 +17,12 @@ use Rattle.bf_sql.specs.migrations.Targets.{ArmKind, by_from, by_join, by_pair, 
 use Rattle.bf_sql.specs.migrations.MigrationObjections.{drivers_of, driver_by, is_by_group, inherits_key, has_key, on_objections, arm_objections, target_objections, migrate_objections, is_taken}
 use Rattle.bf_sql.specs.migrations.Images.{rows_of_join}
 use Rattle.bf_sql.specs.migrations.Granules.{arms_of, left_value, right_value, anchor_values}
-use Rattle.bf_image.proofs.Lists.{none_left, none_right, none_when, none_of_each, all_both, all_so, all_found, all_of_blocks, all_of_map, all_in, each_block_within}
-use Rattle.bf_image.proofs.Names.{name-equal, name-itself, name-symmetric}
-use Rattle.bf_image.proofs.Values.{distinct-has, values_in_order-has}
-use Rattle.bf_image.proofs.Arms.{is_one_sided, fine_row, key-itself}
-use Rattle.bf_image.proofs.Parts.{is_fine, is_fine_arm}
-use Rattle.bf_image.proofs.Targets.{is_new}
+use Rattle.bf_image.proofs.items.Lists.{none_left, none_right, none_when, none_of_each, all_both, all_so, all_found, all_of_blocks, all_of_map, all_in, each_block_within}
+use Rattle.bf_image.proofs.items.Names.{name-equal, name-itself, name-symmetric}
+use Rattle.bf_image.proofs.items.Values.{distinct-has, values_in_order-has}
+use Rattle.bf_image.proofs.making.Arms.{is_one_sided, fine_row, key-itself}
+use Rattle.bf_image.proofs.cutting.Parts.{is_fine, is_fine_arm}
+use Rattle.bf_image.proofs.cutting.Targets.{is_new}
 
 -- an arm of a kind with a JOIN has one
 pub joins_by_join : (g j a b : Bool) → kind_by g j a b ≡ by_join → j ≡ true

@@ -17,11 +17,11 @@ use Rattle.bf_base.specs.Tables.{cell, key_of}
 use Rattle.bf_base.proofs.Apart.{are_apart}
 use Rattle.bf_base.proofs.Order.{list_any-map}
 use Rattle.bf_base.proofs.Parts.{flat_map-flat_map}
+use Rattle.bf_base.specs.Distinct.{distinct}
 use Rattle.bf_tree.specs.declared.migration.Join.{Join}
 use Rattle.bf_tree.specs.declared.migration.Arm.{Arm}
 use Rattle.bf_tree.specs.declared.migration.Target.{Target}
 use Rattle.bf_tree.specs.declared.migration.Migrate.{Migrate}
-use Rattle.bf_base.specs.Distinct.{distinct}
 use Rattle.bf_sql.specs.Database.{Database, IsDatabase, table_rows}
 use Rattle.bf_sql.specs.migrations.Targets.{ArmKind, by_from, by_join, by_pair, by_group, arm_kind, key_items, first_arm, from_key, names_of_join, target_table}
 use Rattle.bf_sql.specs.migrations.MigrationObjections.{drivers_of, is_by_row, is_by_group, tag_of, keeps_apart}
@@ -29,20 +29,20 @@ use Rattle.bf_sql.specs.migrations.Images.{arm_rows, rows_of_join}
 use Rattle.bf_sql.specs.migrations.Granules.{UnitForm, rows_unit, values_unit, arms_of, units_of, rows_driven, from_with, join_with, left_value, right_value, anchor_values, places_in, granules_of, part_at, owner_of, same_place}
 use Rattle.bf_image.specs.Laws.{IsLawful, owns}
 use Rattle.bf_image.specs.Lookup.{behind_tag, has_the_key, row_with, values_by, places_by, candidates}
-use Rattle.bf_image.proofs.Lists.{all_both}
-use Rattle.bf_image.proofs.Bags.{blocks_equal, map_of_blocks}
-use Rattle.bf_image.proofs.Names.{name-equal, name-symmetric}
-use Rattle.bf_image.proofs.Values.{values_in_order-has}
-use Rattle.bf_image.proofs.Arms.{made, rows_by, key-equal, key-itself, key-symmetric}
-use Rattle.bf_image.proofs.Parts.{labelled, driven, as_driven, if_there, if_absent}
-use Rattle.bf_image.proofs.Targets.{named, named_labelled, named_blocks, has_at_place, one_of_name, new_names}
-use Rattle.bf_image.proofs.Fine.{two_sided, alone_in_groups, arms_ok, key_there, joins_by_join, joins_by_pair, names_new}
-use Rattle.bf_image.proofs.Keys.{key_places, key_of_made}
-use Rattle.bf_image.proofs.ArmKeys.{key_in, keys_apart}
-use Rattle.bf_image.proofs.Unions.{same_cons, keeps, arms_keep, alike, with_first, same_places, same_places_itself}
-use Rattle.bf_image.proofs.Owned.{one_owner, target_unobjected}
-use Rattle.bf_image.proofs.Found.{alone_true, any_of_each, any_always, found_apart, carried, same_find}
-use Rattle.bf_image.proofs.Looked.{position_at, Tells, from_told, join_told, pair_told, group_told}
+use Rattle.bf_image.proofs.items.Lists.{all_both}
+use Rattle.bf_image.proofs.items.Bags.{blocks_equal, map_of_blocks}
+use Rattle.bf_image.proofs.items.Names.{name-equal, name-symmetric}
+use Rattle.bf_image.proofs.items.Values.{values_in_order-has}
+use Rattle.bf_image.proofs.making.Arms.{made, rows_by, key-equal, key-itself, key-symmetric}
+use Rattle.bf_image.proofs.cutting.Parts.{labelled, driven, as_driven, if_there, if_absent}
+use Rattle.bf_image.proofs.cutting.Targets.{named, named_labelled, named_blocks, has_at_place, one_of_name, new_names}
+use Rattle.bf_image.proofs.making.Unobjected.{two_sided, alone_in_groups, arms_ok, key_there, joins_by_join, joins_by_pair, names_new}
+use Rattle.bf_image.proofs.making.Keys.{key_places, key_of_made}
+use Rattle.bf_image.proofs.making.ArmKeys.{key_in, keys_apart}
+use Rattle.bf_image.proofs.making.Unions.{same_cons, keeps, arms_keep, alike, with_first, same_places, same_places_itself}
+use Rattle.bf_image.proofs.finding.Owned.{one_owner, target_unobjected}
+use Rattle.bf_image.proofs.finding.Found.{alone_true, any_of_each, any_always, found_apart, carried, same_find}
+use Rattle.bf_image.proofs.finding.Looked.{position_at, Tells, from_told, join_told, pair_told, group_told}
 
 module _ {X : Type 0} where
   each_from : (ok : X → Bool) (P : X → Type 0) → ((x : X) → ok x ≡ true → P x) → (xs : List X) → list_all ok xs ≡ true → AllByRecursion P xs

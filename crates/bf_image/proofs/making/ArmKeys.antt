@@ -11,21 +11,21 @@ use Rattle.bf_base.specs.Lists.{same_name, same_key, has}
 use Rattle.bf_base.specs.Tables.{cell, key_of}
 use Rattle.bf_base.proofs.Apart.{are_apart, apart_from_rises}
 use Rattle.bf_base.proofs.Parts.{list_all_always}
+use Rattle.bf_base.specs.Distinct.{distinct}
 use Rattle.bf_tree.specs.declared.migration.Join.{Join}
 use Rattle.bf_tree.specs.declared.migration.Arm.{Arm}
-use Rattle.bf_base.specs.Distinct.{distinct}
 use Rattle.bf_sql.specs.Database.{Database, Stored, IsDatabase, stored_at, table_at, table_rows, is_keyed, is_within, no_table}
 use Rattle.bf_sql.specs.Scopes.{place_of}
 use Rattle.bf_sql.specs.migrations.Targets.{ArmKind, by_from, by_join, by_pair, by_group, kind_by, key_by, arm_kind, arm_scope, width, from_key, join_key, on_places, equalities, names_of_join}
 use Rattle.bf_sql.specs.migrations.Images.{is_equal_on, first_row, group_value, satisfying, rows_of_join}
-use Rattle.bf_image.proofs.Lists.{all_so, all_found, has_own}
-use Rattle.bf_image.proofs.Bags.{tally, tally-same_items, turned_round}
-use Rattle.bf_image.proofs.Values.{distinct-apart, distinct-has}
-use Rattle.bf_image.proofs.Arms.{passes, made, of_match, of_pair, of_from, rows_by, single_form, as_pairs, is_one_sided, places_on, key-equal, key-itself, key-symmetric, cell_left, cell_right}
-use Rattle.bf_image.proofs.Parts.{if_there, whole_by}
-use Rattle.bf_image.proofs.Fine.{joins_by_pair, as_wide, two_sided}
-use Rattle.bf_image.proofs.Keys.{cells_left, cells_right, apart_again, carried_all, all_behind}
-use Rattle.bf_image.proofs.Once.{count_if, tally_of_blocks, tally_of_map, tally_of_apart, once_in_pairs}
+use Rattle.bf_image.proofs.items.Lists.{all_so, all_found, has_own}
+use Rattle.bf_image.proofs.items.Bags.{tally, tally-same_items, turned_round}
+use Rattle.bf_image.proofs.items.Values.{distinct-apart, distinct-has}
+use Rattle.bf_image.proofs.making.Arms.{passes, made, of_match, of_pair, of_from, rows_by, single_form, as_pairs, is_one_sided, places_on, key-equal, key-itself, key-symmetric, cell_left, cell_right}
+use Rattle.bf_image.proofs.cutting.Parts.{if_there, whole_by}
+use Rattle.bf_image.proofs.making.Unobjected.{joins_by_pair, as_wide, two_sided}
+use Rattle.bf_image.proofs.making.Keys.{cells_left, cells_right, apart_again, carried_all, all_behind}
+use Rattle.bf_image.proofs.items.Once.{count_if, tally_of_blocks, tally_of_map, tally_of_apart, once_in_pairs}
 
 same_from_equal : (a b : List Value) → a ≡ b → same_key a b ≡ true
 same_from_equal a b e = ap (same_key a) (sym e) ∙ key-itself a

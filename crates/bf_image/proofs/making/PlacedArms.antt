@@ -9,6 +9,7 @@ use Rattle.bf_base.specs.declared.value.Value.{Value}
 use Rattle.bf_base.specs.declared.value.Value.TheVariants.{Int}
 use Rattle.bf_base.specs.Lists.{same_key}
 use Rattle.bf_base.specs.Tables.{cell, cells}
+use Rattle.bf_base.specs.Distinct.{distinct}
 use Rattle.bf_tree.specs.declared.raw.Ref.{Ref}
 use Rattle.bf_tree.specs.Trees.{Expr, expr_over, cond_over}
 use Rattle.bf_tree.specs.Evaluation.{sure_value, holds_on}
@@ -19,7 +20,6 @@ use Rattle.bf_tree.specs.declared.migration.Item.{Item}
 use Rattle.bf_tree.specs.declared.migration.Item.TheVariants as item
 use Rattle.bf_tree.specs.declared.migration.Join.{Join}
 use Rattle.bf_tree.specs.declared.migration.Arm.{Arm}
-use Rattle.bf_base.specs.Distinct.{distinct}
 use Rattle.bf_sql.specs.Database.{Database}
 use Rattle.bf_sql.specs.Bound.{total_over}
 use Rattle.bf_sql.specs.Conditions.{condition_of}

@@ -16,22 +16,22 @@ use Rattle.bf_base.proofs.Apart.{are_apart, apart_across, apart_right, are_apart
 use Rattle.bf_base.proofs.Items.{mapped}
 use Rattle.bf_base.proofs.Order.{list_any-map}
 use Rattle.bf_base.proofs.Parts.{filter_none}
+use Rattle.bf_base.specs.Distinct.{distinct}
 use Rattle.bf_tree.specs.declared.migration.Target.{Target}
 use Rattle.bf_tree.specs.declared.migration.Migrate.{Migrate}
-use Rattle.bf_base.specs.Distinct.{distinct}
 use Rattle.bf_sql.specs.Database.{Database, Stored, stored_in_order}
 use Rattle.bf_sql.specs.migrations.MigrationObjections.{target_objections}
 use Rattle.bf_sql.specs.migrations.Targets.{target_table, arm_kind}
 use Rattle.bf_sql.specs.migrations.Images.{image_of}
 use Rattle.bf_sql.specs.migrations.Granules.{UnitForm, rows_unit, values_unit, units_of, anchors_of, anchor_values, places_in, granule, granules_of, part_in, owner_of, same_place, same_granule}
 use Rattle.bf_image.specs.Laws.{IsLawful, rows_of_parts, owns, swept}
-use Rattle.bf_image.proofs.Lists.{none_left, none_right}
-use Rattle.bf_image.proofs.Bags.{map_of_blocks}
-use Rattle.bf_image.proofs.Arms.{key-equal}
-use Rattle.bf_image.proofs.Values.{values_in_order-has}
-use Rattle.bf_image.proofs.Fine.{targets_unobjected}
-use Rattle.bf_image.proofs.Made.{same_rows}
-use Rattle.bf_image.proofs.Unions.{image_apart}
+use Rattle.bf_image.proofs.items.Lists.{none_left, none_right}
+use Rattle.bf_image.proofs.items.Bags.{map_of_blocks}
+use Rattle.bf_image.proofs.making.Arms.{key-equal}
+use Rattle.bf_image.proofs.items.Values.{values_in_order-has}
+use Rattle.bf_image.proofs.making.Unobjected.{targets_unobjected}
+use Rattle.bf_image.proofs.cutting.Made.{same_rows}
+use Rattle.bf_image.proofs.making.Unions.{image_apart}
 
 -- what comes to nothing for all comes to nothing for each
 nothing_at_each : {X Y : Type 0} (f : X → List Y) (xs : List X) → flat_map f xs ≡ [] → AllByRecursion (λ x. f x ≡ []) xs

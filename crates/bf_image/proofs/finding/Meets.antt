@@ -10,6 +10,7 @@ use Rattle.bf_base.specs.Lists.{same_key, has}
 use Rattle.bf_base.specs.Tables.{cell}
 use Rattle.bf_base.proofs.Apart.{are_apart}
 use Rattle.bf_base.proofs.Parts.{list_all_always}
+use Rattle.bf_base.specs.Lists.{same_name}
 use Rattle.bf_tree.specs.declared.raw.Ref.{Ref}
 use Rattle.bf_tree.specs.declared.migration.Join.{Join}
 use Rattle.bf_tree.specs.declared.migration.Arm.{Arm}
@@ -17,22 +18,21 @@ use Rattle.bf_sql.specs.Database.{Database, IsDatabase, table_at, table_rows}
 use Rattle.bf_sql.specs.Scopes.{Scope, place_of}
 use Rattle.bf_sql.specs.migrations.Targets.{arm_scope, width, from_key, join_key, on_places, equalities}
 use Rattle.bf_sql.specs.migrations.Images.{is_equal_on}
-use Rattle.bf_image.specs.Lookup.{has_the_key, partner, join_met, from_met}
-use Rattle.bf_image.proofs.Arms.{of_pair, of_match, is_one_sided, places_on, value-equal, key-equal, key-itself, cell_left, cell_right}
-use Rattle.bf_image.proofs.Fine.{two_sided, as_wide}
-use Rattle.bf_image.proofs.Found.{none_other}
 use Rattle.bf_sql.specs.migrations.Targets.{ArmKind, by_from, by_join, by_pair, by_group, arm_kind, names_of_join, kind_by}
 use Rattle.bf_sql.specs.migrations.Images.{arm_rows, rows_of_join}
 use Rattle.bf_sql.specs.migrations.Granules.{rows_driven}
+use Rattle.bf_image.specs.Lookup.{has_the_key, partner, join_met, from_met}
 use Rattle.bf_image.specs.Lookup.{join_rows_met, from_rows_met, rows_met}
-use Rattle.bf_image.proofs.Names.{name-equal}
-use Rattle.bf_image.proofs.Looked.{one_row, all_of_slice}
-use Rattle.bf_image.proofs.Parts.{if_there}
-use Rattle.bf_image.proofs.Arms.{rows_by, single_form, as_pairs, of_from}
-use Rattle.bf_image.proofs.Bags.{blocks_equal, blocks_equal_where}
-use Rattle.bf_image.proofs.ArmKeys.{key_in, keys_apart, keys_within, from_with_join, join_has_from}
-use Rattle.bf_base.specs.Lists.{same_name}
-use Rattle.bf_image.proofs.Keys.{cells_left, cells_right, other_side, turned_sides, all_behind}
+use Rattle.bf_image.proofs.making.Arms.{of_pair, of_match, is_one_sided, places_on, value-equal, key-equal, key-itself, cell_left, cell_right}
+use Rattle.bf_image.proofs.making.Unobjected.{two_sided, as_wide}
+use Rattle.bf_image.proofs.finding.Found.{none_other}
+use Rattle.bf_image.proofs.items.Names.{name-equal}
+use Rattle.bf_image.proofs.finding.Looked.{one_row, all_of_slice}
+use Rattle.bf_image.proofs.cutting.Parts.{if_there}
+use Rattle.bf_image.proofs.making.Arms.{rows_by, single_form, as_pairs, of_from}
+use Rattle.bf_image.proofs.items.Bags.{blocks_equal, blocks_equal_where}
+use Rattle.bf_image.proofs.making.ArmKeys.{key_in, keys_apart, keys_within, from_with_join, join_has_from}
+use Rattle.bf_image.proofs.making.Keys.{cells_left, cells_right, other_side, turned_sides, all_behind}
 
 -- an item that comes of one key alone
 module _ {X Y : Type 0} (key : X → List Value) (k : List Value) (ok : X → Bool) (h : X → List Y) (nothing : (x : X) → ok x ≡ true → same_key k (key x) ≡ false → h x ≡ []) where

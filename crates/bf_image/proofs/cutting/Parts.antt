@@ -13,20 +13,20 @@ use Rattle.bf_base.specs.Lists.{same_name, same_key, has, in_order}
 use Rattle.bf_base.proofs.Apart.{are_apart}
 use Rattle.bf_base.proofs.Items.{SameItems, through, same_items, same_items_if, turned, mapped}
 use Rattle.bf_base.proofs.Parts.{flat_map-flat_map, flat_map_of_one, list_all_always}
+use Rattle.bf_base.specs.Distinct.{distinct}
 use Rattle.bf_tree.specs.declared.migration.Join.{Join}
 use Rattle.bf_tree.specs.declared.migration.Arm.{Arm}
 use Rattle.bf_tree.specs.declared.migration.Target.{Target}
 use Rattle.bf_tree.specs.declared.migration.Migrate.{Migrate}
-use Rattle.bf_base.specs.Distinct.{distinct}
 use Rattle.bf_sql.specs.Database.{Database, table_rows}
 use Rattle.bf_sql.specs.migrations.Targets.{ArmKind, by_from, by_join, by_pair, by_group, arm_kind, arm_scope, width, equalities, names_of_join}
 use Rattle.bf_sql.specs.migrations.MigrationObjections.{drivers_of, driver_by, is_by_row}
 use Rattle.bf_sql.specs.migrations.Images.{arm_rows, rows_of_join}
 use Rattle.bf_sql.specs.migrations.Granules.{UnitForm, rows_unit, values_unit, arms_of, units_of, row_at, rows_driven, from_with, join_with, anchor_values, places_in, granule, granules_of, part_at, part_of}
-use Rattle.bf_image.proofs.Bags.{both_sides, blocks_equal, blocks_alike, both_blocks, blocks_filtered, map_of_blocks, no_blocks, turned_round}
-use Rattle.bf_image.proofs.Names.{name-equal, name-itself, name-symmetric}
-use Rattle.bf_image.proofs.Values.{distinct-apart}
-use Rattle.bf_image.proofs.Arms.{is_one_sided, rows_by, fine_row, from_in_turn, join_in_turn, pairs_in_turn, groups_in_turn}
+use Rattle.bf_image.proofs.items.Bags.{both_sides, blocks_equal, blocks_alike, both_blocks, blocks_filtered, map_of_blocks, no_blocks, turned_round}
+use Rattle.bf_image.proofs.items.Names.{name-equal, name-itself, name-symmetric}
+use Rattle.bf_image.proofs.items.Values.{distinct-apart}
+use Rattle.bf_image.proofs.making.Arms.{is_one_sided, rows_by, fine_row, from_in_turn, join_in_turn, pairs_in_turn, groups_in_turn}
 
 module _ {U : Type 0} where
   pub at_seam : (before : List U) (u : U) (us : List U) → slice_get (before ++ u ∷ us) (length before) ≡ Some u

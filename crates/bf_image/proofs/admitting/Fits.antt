@@ -13,6 +13,7 @@ use Rattle.bf_base.specs.declared.table.Column.{Column}
 use Rattle.bf_base.specs.declared.table.Table.{Table}
 use Rattle.bf_base.specs.Lists.{same_name, same_key, has}
 use Rattle.bf_base.specs.Tables.{fit_of}
+use Rattle.bf_base.specs.Distinct.{distinct}
 use Rattle.bf_tree.specs.declared.raw.Ref.{Ref}
 use Rattle.bf_tree.specs.Trees.{Expr, literal, column, negated, plus, minus, times, joined}
 use Rattle.bf_tree.specs.Evaluation.{sure_value}
@@ -20,16 +21,15 @@ use Rattle.bf_tree.specs.declared.migration.Item.{Item}
 use Rattle.bf_tree.specs.declared.migration.Item.TheVariants as item
 use Rattle.bf_tree.specs.declared.migration.Join.{Join}
 use Rattle.bf_tree.specs.declared.migration.Arm.{Arm}
-use Rattle.bf_base.specs.Distinct.{distinct}
 use Rattle.bf_sql.specs.Database.{Database, Stored, IsDatabase, stored_at, table_at, table_rows, is_fit, is_admitted, no_table}
 use Rattle.bf_sql.specs.Scopes.{Scope, scope_of, place_of, read_in, admitted_by}
 use Rattle.bf_sql.specs.migrations.Extents.{extent_of, extent_of_total, may_fail, admit_of_extent}
 use Rattle.bf_sql.specs.migrations.Targets.{ArmKind, by_from, by_join, by_pair, by_group, arm_scope, names_of_join, extent_of_item, item_admit}
 use Rattle.bf_sql.specs.migrations.Images.{is_equal_on, item_over, group_value, groups_by, matches_of_join, satisfying, rows_of_join}
-use Rattle.bf_image.proofs.Lists.{all_so, all_found, all_of_blocks, all_of_map, has_own, all_kept}
-use Rattle.bf_image.proofs.Arms.{passes, made, rows_by, key-equal, key-itself, key-symmetric}
-use Rattle.bf_image.proofs.Values.{distinct-has}
-use Rattle.bf_image.proofs.Within.{fits, made_fits, value_within, total_within}
+use Rattle.bf_image.proofs.items.Lists.{all_so, all_found, all_of_blocks, all_of_map, has_own, all_kept}
+use Rattle.bf_image.proofs.making.Arms.{passes, made, rows_by, key-equal, key-itself, key-symmetric}
+use Rattle.bf_image.proofs.items.Values.{distinct-has}
+use Rattle.bf_image.proofs.admitting.Within.{fits, made_fits, value_within, total_within}
 
 abbrev pub fit_all : List Admit → List Value → Bool
 fit_all admitted values = pointwise fits admitted values

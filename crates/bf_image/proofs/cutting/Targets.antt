@@ -14,9 +14,9 @@ use Rattle.bf_tree.specs.declared.migration.Migrate.{Migrate}
 use Rattle.bf_sql.specs.Database.{Database, table_rows}
 use Rattle.bf_sql.specs.migrations.Images.{image_of, arm_rows, rows_of_join}
 use Rattle.bf_sql.specs.migrations.Granules.{arms_of, granules_of, part_of, part_in}
-use Rattle.bf_image.proofs.Bags.{blocks_equal, filter_same_items, filter_of_blocks, map_of_blocks}
-use Rattle.bf_image.proofs.Names.{name-equal, name-itself, name-symmetric}
-use Rattle.bf_image.proofs.Parts.{labelled, whole, is_fine_arm, all_parts}
+use Rattle.bf_image.proofs.items.Bags.{blocks_equal, filter_same_items, filter_of_blocks, map_of_blocks}
+use Rattle.bf_image.proofs.items.Names.{name-equal, name-itself, name-symmetric}
+use Rattle.bf_image.proofs.cutting.Parts.{labelled, whole, is_fine_arm, all_parts}
 
 -- the rows of the table of a name
 abbrev pub named : List ℕ → List (Target × List Value) → List (List Value)

@@ -26,9 +26,9 @@ use Rattle.bf_sql.specs.migrations.MigrationObjections.{item_objections, group_o
 use Rattle.bf_sql.specs.migrations.Targets.{ArmKind, by_from, by_join, by_pair, by_group, kind_by, names_of_join, equalities, arm_sources, arm_scope, width, from_key, join_key, on_places, arm_kind, key_by, arm_key, plain_ref, is_total, item_name, key_items, extent_of_item, item_admit, either_admit, first_arm, target_table}
 use Rattle.bf_image.specs.Placed.{PlacedArm, placed_item, placed_pair, placed_arm, placed_rows}
 use Rattle.bf_image.specs.Sources.{table_under}
-use Rattle.bf_image.proofs.Bags.{blocks_equal_where}
-use Rattle.bf_image.proofs.Lists.{all_equal_where, any_equal_where, pairs_equal_where}
-use Rattle.bf_image.proofs.Places.{placed_alike}
+use Rattle.bf_image.proofs.items.Bags.{blocks_equal_where}
+use Rattle.bf_image.proofs.items.Lists.{all_equal_where, any_equal_where, pairs_equal_where}
+use Rattle.bf_image.proofs.making.PlacedArms.{placed_alike}
 
 -- the tables of an arm are under some names
 abbrev pub is_inside : List (List ℕ) → Arm → Bool

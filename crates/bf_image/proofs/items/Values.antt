@@ -13,7 +13,7 @@ use Rattle.bf_base.proofs.Items.{SameItems, through, same_items_if, turned, mapp
 use Rattle.bf_base.proofs.Order.{look_up, equal_from_test, symmetric, same_from_look_ups, has-with_placed}
 use Rattle.bf_base.proofs.Parts.{flat_map_of_one, all_not_from_none, has_either_way, filter_all}
 use Rattle.bf_base.specs.Distinct.{with_new, distinct}
-use Rattle.bf_image.proofs.Bags.{blocks_equal, blocks_equal_where, blocks_filtered, map_blocks, turned_round, in_turn}
+use Rattle.bf_image.proofs.items.Bags.{blocks_equal, blocks_equal_where, blocks_filtered, map_blocks, turned_round, in_turn}
 
 module _ {K : Type 0} (same : K → K → Bool) (symmetry : (a b : K) → same a b ≡ same b a) (equal : (a b : K) → same a b ≡ true → a ≡ b) (itself : (a : K) → same a a ≡ true) where
   one_more_apart : (seen : List K) (k : K) → are_apart same seen ≡ true → has same seen k ≡ false → are_apart same (seen ++ k ∷ []) ≡ true

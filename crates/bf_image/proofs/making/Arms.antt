@@ -14,19 +14,19 @@ use Rattle.bf_base.specs.Tables.{cell}
 use Rattle.bf_base.proofs.Items.{SameItems, through, same_items_if}
 use Rattle.bf_base.proofs.Order.{symmetric}
 use Rattle.bf_base.proofs.Parts.{flat_map-flat_map}
+use Rattle.bf_base.specs.Distinct.{distinct}
 use Rattle.bf_tree.specs.declared.raw.Ref.{Ref}
 use Rattle.bf_tree.specs.Evaluation.{holds_on}
 use Rattle.bf_tree.specs.declared.migration.Join.{Join}
 use Rattle.bf_tree.specs.declared.migration.Arm.{Arm}
-use Rattle.bf_base.specs.Distinct.{distinct}
 use Rattle.bf_sql.specs.Database.{Database, table_rows}
 use Rattle.bf_sql.specs.Conditions.{condition_of}
 use Rattle.bf_sql.specs.Scopes.{Scope, place_of, read_in}
 use Rattle.bf_sql.specs.migrations.Targets.{ArmKind, by_from, by_join, by_pair, by_group, arm_scope, width, equalities}
 use Rattle.bf_sql.specs.migrations.Images.{is_equal_on, item_over, group_value, groups_by, matches_of_join, satisfying, rows_of_join}
 use Rattle.bf_sql.specs.migrations.Granules.{left_value, right_value, from_with, join_with, anchor_values}
-use Rattle.bf_image.proofs.Bags.{blocks_equal, blocks_filtered, in_turn}
-use Rattle.bf_image.proofs.Values.{by_value, values_in_turn, values_among, pairs_by_value, pairs_by_right, same-equal, same-itself, values_in_order-apart, values_in_order-has}
+use Rattle.bf_image.proofs.items.Bags.{blocks_equal, blocks_filtered, in_turn}
+use Rattle.bf_image.proofs.items.Values.{by_value, values_in_turn, values_among, pairs_by_value, pairs_by_right, same-equal, same-itself, values_in_order-apart, values_in_order-has}
 
 pub value-equal : (v w : Value) → is_eq (value_cmp v w) ≡ true → v ≡ w
 value-equal v w e = same-equal value_cmp_total value_cmp-IsAntisymmetric v w e
