@@ -121,16 +121,16 @@ literal_given admitted (Int n) = let same : n ≤ℤ n = omega (arith, ints) in 
 literal_given admitted (Text t) = let long : nat_le (length t) (length t) ≡ true = grind (arith, nat_tests) in long
 
 column_within : (a : Admit) (v : Value) → is_held a v ≡ true → is_within (extent_of_admit a) v ≡ true
-column_within admits.Int (Int n) h = (and_parts _ _ h).1
+column_within admits.Int (Int n) h = h
 column_within admits.Int (Text t) h = absurd (false≢true h)
-column_within (admits.Checked low high) (Int n) h = of (int_le low n && int_le n high) refl (and_parts _ _ h).0
+column_within (admits.Checked low high) (Int n) h = of (int_le low n && int_le n high) refl (and_parts (is_fit (fit_of (admits.Checked low high) (Int n))) (is_int n) h).0
   where
     of : (b : Bool) → (int_le low n && int_le n high) ≡ b → is_fit (if b then Fits else OutOfRange) ≡ true → (int_le low n && int_le n high) ≡ true
     of true at e = at
     of false at e = absurd (false≢true e)
 column_within (admits.Checked low high) (Text t) h = absurd (false≢true h)
 column_within (admits.Varchar m) (Int n) h = absurd (false≢true h)
-column_within (admits.Varchar m) (Text t) h = of (nat_le (length t) m) refl (and_parts _ _ h).0
+column_within (admits.Varchar m) (Text t) h = of (nat_le (length t) m) refl (and_parts (is_fit (fit_of (admits.Varchar m) (Text t))) (is_int (pos 0)) h).0
   where
     of : (b : Bool) → nat_le (length t) m ≡ b → is_fit (if b then Fits else TooLong) ≡ true → nat_le (length t) m ≡ true
     of true at e = at
