@@ -4,3 +4,4 @@ pub mod Sums
 pub mod Told
 pub mod Totals
 pub mod Within
+mod Worked

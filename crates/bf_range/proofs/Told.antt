@@ -14,17 +14,17 @@ use Rattle.bf_range.proofs.Rows.{row_held}
 use Rattle.bf_range.proofs.Within.{value_given}
 
 answered : (e : Extent) (r : Result Value Fail) → gives_within e r ≡ true → may_fail e ≡ false → IsOk r
-answered e (Ok v) h safe = tt
+answered e (Ok v) h safe = refl
 answered (numbers a b) (Err f) h safe = absurd (false≢true h)
 answered (texts m) (Err f) h safe = absurd (false≢true h)
 answered beyond (Err f) h safe = absurd (false≢true (sym safe))
 
-by_ends : (e : Extent) (r : Result Value Fail) (low high : ℤ) → Some (low, high) ≡ ends_of e → gives_within e r ≡ true → gives_within (numbers low high) r ≡ true
-by_ends (numbers a b) r low high at h =
-    let same : numbers low high ≡ numbers a b = cc in
-    ap (λ e. gives_within e r) same ∙ h
-by_ends (texts m) r low high at h = cc
-by_ends beyond r low high at h = cc
+by_ends : (e : Extent) (r : Result Value Fail) (ends : ℤ × ℤ) → Some ends ≡ ends_of e → gives_within e r ≡ true → gives_within (numbers ends.0 ends.1) r ≡ true
+by_ends (numbers a b) r ends at h =
+    let same : ends ≡ (a, b) = cc in
+    ap (λ (p : ℤ × ℤ). gives_within (numbers p.0 p.1) r) same ∙ h
+by_ends (texts m) r ends at h = cc
+by_ends beyond r ends at h = cc
 
 by_most : (e : Extent) (r : Result Value Fail) (most : ℕ) → Some most ≡ most_bytes_of e → gives_within e r ≡ true → gives_within (texts most) r ≡ true
 by_most (numbers a b) r most at h = cc
@@ -40,7 +40,7 @@ module _ (columns : List Column) (e : Expr ℕ) where
   pub within_ends : (ends : Option (ℤ × ℤ)) → ends ≡ ends_of (extent_of (admitted_at columns) e)
       → IfSome ends (λ ends. (row : List Value) → IsRowOf columns row → GivesWithin (numbers ends.0 ends.1) (value_of (cell row) e))
   within_ends None at = tt
-  within_ends (Some (low, high)) at = λ row is. by_ends (extent_of (admitted_at columns) e) (value_of (cell row) e) low high at (row_given row is)
+  within_ends (Some ends) at = λ row is. by_ends (extent_of (admitted_at columns) e) (value_of (cell row) e) ends at (row_given row is)
 
   pub within_most : (most : Option ℕ) → most ≡ most_bytes_of (extent_of (admitted_at columns) e)
       → IfSome most (λ most. (row : List Value) → IsRowOf columns row → GivesWithin (texts most) (value_of (cell row) e))
@@ -49,8 +49,8 @@ module _ (columns : List Column) (e : Expr ℕ) where
 
   pub never_fails : (safe : Bool) → safe ≡ not (may_fail (extent_of (admitted_at columns) e)) → safe ≡ true
       → (row : List Value) → IsRowOf columns row → IsOk (value_of (cell row) e)
-  never_fails safe at yes = of (may_fail (extent_of (admitted_at columns) e)) refl
+  never_fails safe at sure = of (may_fail (extent_of (admitted_at columns) e)) refl
     where
       of : (b : Bool) → may_fail (extent_of (admitted_at columns) e) ≡ b → (row : List Value) → IsRowOf columns row → IsOk (value_of (cell row) e)
-      of false no row is = answered (extent_of (admitted_at columns) e) (value_of (cell row) e) (row_given row is) no
-      of true no row is = absurd (false≢true (sym (at ∙ ap not no) ∙ yes))
+      of false safe_extent row is = answered (extent_of (admitted_at columns) e) (value_of (cell row) e) (row_given row is) safe_extent
+      of true beyond_extent row is = absurd (false≢true (sym (at ∙ ap not beyond_extent) ∙ sure))
