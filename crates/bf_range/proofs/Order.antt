@@ -1,5 +1,5 @@
 -- The order of whole numbers under products and sums.
-use Rattle.std.proofs.Common.{◌≡◌, ℕ, suc, ◌+◌, ◌*◌, ◌≤◌, ℤ, pos, negsuc, ◌*ℤ◌, ◌≤ℤ◌, int_le, Bool, true, refl, arith}
+use Rattle.std.proofs.Common.{◌≡◌, ℕ, suc, ◌+◌, ◌*◌, ◌≤◌, ℤ, pos, negsuc, ◌*ℤ◌, ◌≤ℤ◌, int_le, true, arith}
 use Rattle.std.specs.Int.{int_min, int_max}
 use Rattle.std.proofs.lemmas.Int.{ints, clamps}
 use borrow.Author.Differences.{up, down, product_is}
@@ -52,6 +52,7 @@ pub product_between : (a b c d n m : ℤ) → a ≤ℤ n → n ≤ℤ b → c �
 product_between a b c d n m f g h k =
     let by_left = scaled_right c m d a h k in
     let by_right = scaled_right c m d b h k in
-    let across = scaled a n b m f g in
-    (least_under (a *ℤ c) (a *ℤ d) (b *ℤ c) (b *ℤ d) (a *ℤ m) (b *ℤ m) (n *ℤ m) by_left.0 by_right.0 across.0,
-      greatest_over (a *ℤ c) (a *ℤ d) (b *ℤ c) (b *ℤ d) (a *ℤ m) (b *ℤ m) (n *ℤ m) by_left.1 by_right.1 across.1)
+    let across = scaled a n b m f g in (
+      least_under (a *ℤ c) (a *ℤ d) (b *ℤ c) (b *ℤ d) (a *ℤ m) (b *ℤ m) (n *ℤ m) by_left.0 by_right.0 across.0,
+      greatest_over (a *ℤ c) (a *ℤ d) (b *ℤ c) (b *ℤ d) (a *ℤ m) (b *ℤ m) (n *ℤ m) by_left.1 by_right.1 across.1,
+    )

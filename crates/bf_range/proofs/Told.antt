@@ -1,5 +1,5 @@
 -- What the analysis tells of an expression holds on each row of the columns.
-use Rattle.std.proofs.Common.{◌≡◌, ℕ, ℤ, Bool, true, false, not, List, Option, Some, None, Result, Ok, Err, IfSome, IsOk, IsTrue, refl, sym, ap, ◌∙◌}
+use Rattle.std.proofs.Common.{◌≡◌, ℕ, ℤ, Bool, true, false, not, List, Option, Some, None, Result, Ok, Err, IfSome, IsOk, IsOkAnd, refl, sym, subst, ◌∙◌}
 use Rattle.std.proofs.lemmas.Bool.{false≢true}
 use Rattle.bf_base.specs.declared.value.Value.{Value}
 use Rattle.bf_base.specs.declared.table.Column.{Column}
@@ -9,48 +9,50 @@ use Rattle.bf_tree.specs.Trees.{Expr}
 use Rattle.bf_tree.specs.Evaluation.{value_of}
 use Rattle.bf_sql.specs.migrations.Extents.{Extent, numbers, texts, beyond, extent_of, may_fail}
 use Rattle.bf_range.specs.Seen.{admitted_at, ends_of, most_bytes_of}
-use Rattle.bf_range.specs.Within.{gives_within, GivesWithin, IsRowOf}
+use Rattle.bf_range.specs.Within.{IsRowOf, IsWithin}
 use Rattle.bf_range.proofs.Rows.{row_held}
-use Rattle.bf_range.proofs.Within.{value_given}
+use Rattle.bf_range.proofs.Within.{value_within}
 
-answered : (e : Extent) (r : Result Value Fail) → gives_within e r ≡ true → may_fail e ≡ false → IsOk r
-answered e (Ok v) h safe = refl
-answered (numbers a b) (Err f) h safe = absurd (false≢true h)
-answered (texts m) (Err f) h safe = absurd (false≢true h)
-answered beyond (Err f) h safe = absurd (false≢true (sym safe))
+answered : (e : Extent) (r : Result Value Fail) → IsOkAnd r (IsWithin e) → IsOk r
+answered e (Ok v) h = refl
+answered e (Err f) h = absurd h
 
-by_ends : (e : Extent) (r : Result Value Fail) (ends : ℤ × ℤ) → Some ends ≡ ends_of e → gives_within e r ≡ true → gives_within (numbers ends.0 ends.1) r ≡ true
+by_ends : (e : Extent) (r : Result Value Fail) (ends : ℤ × ℤ) → Some ends ≡ ends_of e → (may_fail e ≡ false → IsOkAnd r (IsWithin e)) → IsOkAnd r (IsWithin (numbers ends.0 ends.1))
 by_ends (numbers a b) r ends at h =
-    let same : ends ≡ (a, b) = cc in
-    ap (λ (p : ℤ × ℤ). gives_within (numbers p.0 p.1) r) same ∙ h
+    let same : (a, b) ≡ ends = cc in
+    subst (λ (p : ℤ × ℤ). IsOkAnd r (IsWithin (numbers p.0 p.1))) same (h refl)
 by_ends (texts m) r ends at h = cc
 by_ends beyond r ends at h = cc
 
-by_most : (e : Extent) (r : Result Value Fail) (most : ℕ) → Some most ≡ most_bytes_of e → gives_within e r ≡ true → gives_within (texts most) r ≡ true
+by_most : (e : Extent) (r : Result Value Fail) (most : ℕ) → Some most ≡ most_bytes_of e → (may_fail e ≡ false → IsOkAnd r (IsWithin e)) → IsOkAnd r (IsWithin (texts most))
 by_most (numbers a b) r most at h = cc
 by_most (texts m) r most at h =
-    let same : texts most ≡ texts m = cc in
-    ap (λ e. gives_within e r) same ∙ h
+    let same : m ≡ most = cc in
+    subst (λ (k : ℕ). IsOkAnd r (IsWithin (texts k))) same (h refl)
 by_most beyond r most at h = cc
 
 module _ (columns : List Column) (e : Expr ℕ) where
-  row_given : (row : List Value) → IsRowOf columns row → gives_within (extent_of (admitted_at columns) e) (value_of (cell row) e) ≡ true
-  row_given row is = value_given (admitted_at columns) (cell row) (row_held columns row is) e
+  abbrev extent : Extent
+  extent = extent_of (admitted_at columns) e
 
-  pub within_ends : (ends : Option (ℤ × ℤ)) → ends ≡ ends_of (extent_of (admitted_at columns) e)
-      → IfSome ends (λ ends. (row : List Value) → IsRowOf columns row → GivesWithin (numbers ends.0 ends.1) (value_of (cell row) e))
+  row_within : (row : List Value) → IsRowOf columns row → may_fail extent ≡ false → IsOkAnd (value_of (cell row) e) (IsWithin extent)
+  row_within row is safe = value_within (admitted_at columns) (cell row) (row_held columns row is) e safe
+
+  pub within_ends : (ends : Option (ℤ × ℤ)) → ends ≡ ends_of extent
+      → IfSome ends (λ ends. (row : List Value) → IsRowOf columns row → IsOkAnd (value_of (cell row) e) (IsWithin (numbers ends.0 ends.1)))
   within_ends None at = tt
-  within_ends (Some ends) at = λ row is. by_ends (extent_of (admitted_at columns) e) (value_of (cell row) e) ends at (row_given row is)
+  within_ends (Some ends) at = λ row is. by_ends extent (value_of (cell row) e) ends at (row_within row is)
 
-  pub within_most : (most : Option ℕ) → most ≡ most_bytes_of (extent_of (admitted_at columns) e)
-      → IfSome most (λ most. (row : List Value) → IsRowOf columns row → GivesWithin (texts most) (value_of (cell row) e))
+  pub within_most : (most : Option ℕ) → most ≡ most_bytes_of extent
+      → IfSome most (λ most. (row : List Value) → IsRowOf columns row → IsOkAnd (value_of (cell row) e) (IsWithin (texts most)))
   within_most None at = tt
-  within_most (Some most) at = λ row is. by_most (extent_of (admitted_at columns) e) (value_of (cell row) e) most at (row_given row is)
+  within_most (Some most) at = λ row is. by_most extent (value_of (cell row) e) most at (row_within row is)
 
-  pub never_fails : (safe : Bool) → safe ≡ not (may_fail (extent_of (admitted_at columns) e)) → safe ≡ true
-      → (row : List Value) → IsRowOf columns row → IsOk (value_of (cell row) e)
-  never_fails safe at sure = of (may_fail (extent_of (admitted_at columns) e)) refl
+  pub never_fails : (safe : Bool) → safe ≡ not (may_fail extent) → safe ≡ true → (row : List Value) → IsRowOf columns row → IsOk (value_of (cell row) e)
+  never_fails safe at sure row is =
+      let certain : may_fail extent ≡ false = of (may_fail extent) (sym at ∙ sure) in
+      answered extent (value_of (cell row) e) (row_within row is certain)
     where
-      of : (b : Bool) → may_fail (extent_of (admitted_at columns) e) ≡ b → (row : List Value) → IsRowOf columns row → IsOk (value_of (cell row) e)
-      of false safe_extent row is = answered (extent_of (admitted_at columns) e) (value_of (cell row) e) (row_given row is) safe_extent
-      of true beyond_extent row is = absurd (false≢true (sym (at ∙ ap not beyond_extent) ∙ sure))
+      of : (b : Bool) → not b ≡ true → b ≡ false
+      of false e = refl
+      of true e = absurd (false≢true e)

@@ -1,5 +1,5 @@
 -- A total over rows lies within its span, and the rows have no objection to one whose extent is not beyond.
-use Rattle.std.proofs.Common.{◌≡◌, ℕ, suc, ◌≤◌, ℤ, pos, ◌*ℤ◌, ◌≤ℤ◌, int_le, nat_le, Bool, true, false, not, ◌&&◌, if◌then◌else◌, List, [], ◌∷◌, ◌++◌, map, flat_map, length, fold, Result, Ok, Err, refl, sym, ap, ◌∙◌, arith}
+use Rattle.std.proofs.Common.{◌≡◌, ℕ, ◌≤◌, ℤ, pos, ◌*ℤ◌, ◌≤ℤ◌, int_le, nat_le, Bool, true, false, not, ◌&&◌, if◌then◌else◌, List, [], ◌∷◌, ◌++◌, flat_map, length, fold, Result, Ok, Err, refl, sym, ap, ◌∙◌, arith}
 use Rattle.std.specs.Int.{int_min, int_max}
 use Rattle.std.specs.List.{list_all, AllByRecursion}
 use Rattle.std.specs.Ordering.{is_lt}
@@ -9,7 +9,7 @@ use Rattle.std.proofs.lemmas.Bool.Decides.{nat_tests}
 use Rattle.std.proofs.lemmas.Int.{ints, clamps}
 use Rattle.std.proofs.lemmas.List.{length-map}
 use Rattle.bf_base.specs.declared.value.Value.{Value}
-use Rattle.bf_base.specs.declared.value.Value.TheVariants.{Int, Text}
+use Rattle.bf_base.specs.declared.value.Value.TheVariants.{Int}
 use Rattle.bf_base.specs.declared.table.Admit.{Admit}
 use Rattle.bf_base.specs.Lists.{when}
 use Rattle.bf_base.specs.Values.{value_cmp}
@@ -18,16 +18,15 @@ use Rattle.bf_tree.specs.Trees.{Expr}
 use Rattle.bf_tree.specs.Evaluation.{is_int, least_int, greatest_int, value_of, sure_value}
 use Rattle.bf_tree.specs.declared.items.Aggregate.{Aggregate}
 use Rattle.bf_tree.specs.declared.items.Aggregate.TheVariants.{Count, Sum, Min, Max}
-use Rattle.bf_tree.specs.declared.reply.Cell.TheVariants as cells
 use Rattle.bf_tree.specs.declared.reply.Refusal.{Refusal}
 use Rattle.bf_tree.specs.declared.reply.Refusal.TheVariants.{OutOfRange}
 use Rattle.bf_sql.specs.RowObjections.{value_objections, argument_objections, sum_objections}
 use Rattle.bf_sql.specs.Totals.{lesser, greater, or_null, exact_sum, sum_of, values_of, total_of}
 use Rattle.bf_sql.specs.migrations.Extents.{Extent, numbers, texts, beyond, extent_summed, extent_of, extent_of_total, may_fail, most_rows}
-use Rattle.bf_range.specs.Within.{is_within, gives_within, is_held, cell_within, spanned, span_of_total}
+use Rattle.bf_range.specs.Within.{is_within, is_held, cell_within, spanned, span_of_total}
 use Rattle.bf_range.proofs.Order.{tells, tests}
 use Rattle.bf_range.proofs.Sums.{sum_between, times_between, times_from_none}
-use Rattle.bf_range.proofs.Within.{value_given}
+use Rattle.bf_range.proofs.Within.{gives_within, value_given}
 
 sure_within : (e : Extent) (r : Result Value Fail) → gives_within e r ≡ true → is_within e (result_unwrap_or r (Int (pos 0))) ≡ true
 sure_within e (Ok v) h = h
@@ -74,8 +73,8 @@ sum_within low high true v vs all few =
     let low_end = sum.0 in
     let high_end = sum.1 in
     and_from _ _
-      (tests (int_min low (pos most_rows *ℤ low)) (exact_sum (v ∷ vs)) (omega (arith, ints)))
-      (tests (exact_sum (v ∷ vs)) (int_max high (pos most_rows *ℤ high)) (omega (arith, ints)))
+    (tests (int_min low (pos most_rows *ℤ low)) (exact_sum (v ∷ vs)) (omega (arith, ints)))
+    (tests (exact_sum (v ∷ vs)) (int_max high (pos most_rows *ℤ high)) (omega (arith, ints)))
 
 summed_within : (e : Extent) (vs : List Value) → list_all (is_within e) vs ≡ true → length vs ≤ most_rows → cell_within (spanned e (extent_summed e)) (or_null (sum_of vs)) ≡ true
 summed_within e [] all few = refl

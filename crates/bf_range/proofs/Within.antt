@@ -1,5 +1,5 @@
 -- The value of an expression lies within its extent.
-use Rattle.std.proofs.Common.{◌≡◌, ℕ, ◌+◌, ℤ, pos, ◌+ℤ◌, ◌-ℤ◌, ◌*ℤ◌, neg_ℤ, ◌≤ℤ◌, int_le, nat_le, Bool, true, false, ◌&&◌, if◌then◌else◌, List, ◌++◌, length, Result, Ok, Err, refl, sym, ap, ◌∙◌, arith}
+use Rattle.std.proofs.Common.{◌≡◌, ℕ, ◌+◌, ℤ, pos, ◌+ℤ◌, ◌-ℤ◌, ◌*ℤ◌, neg_ℤ, ◌≤ℤ◌, int_le, nat_le, Bool, true, false, ◌&&◌, if◌then◌else◌, List, ◌++◌, length, Result, Ok, Err, IsOkAnd, refl, sym, ap, ◌∙◌, arith}
 use Rattle.std.proofs.lemmas.Bool.{and_parts, and_from, false≢true}
 use Rattle.std.proofs.lemmas.Bool.Decides.{nat_tests}
 use Rattle.std.proofs.lemmas.Int.{ints}
@@ -15,9 +15,16 @@ use Rattle.bf_tree.specs.declared.evaluation.Fail.TheVariants as fail
 use Rattle.bf_tree.specs.Trees.{Expr, literal, column, negated, plus, minus, times, joined}
 use Rattle.bf_tree.specs.Evaluation.{◌>>=◌, is_int, least_int, greatest_int, number_of, bytes_of, exact, short, value_of}
 use Rattle.bf_sql.specs.Database.{is_fit}
-use Rattle.bf_sql.specs.migrations.Extents.{Extent, numbers, texts, beyond, extent_between, least_of, greatest_of, extent_of_admit, extent_negated, extent_plus, extent_minus, extent_times, extent_joined, extent_of}
-use Rattle.bf_range.specs.Within.{is_within, gives_within, is_held}
+use Rattle.bf_sql.specs.migrations.Extents.{may_fail, Extent, numbers, texts, beyond, extent_between, least_of, greatest_of, extent_of_admit, extent_negated, extent_plus, extent_minus, extent_times, extent_joined, extent_of}
+use Rattle.bf_range.specs.Within.{IsWithin, is_within, is_held}
 use Rattle.bf_range.proofs.Order.{tells, tests, product_between}
+
+-- a result is a value within an extent; only of what is beyond it may be a failure
+abbrev pub gives_within : Extent → Result Value Fail → Bool
+gives_within e (Ok v) = is_within e v
+gives_within (numbers low high) (Err f) = false
+gives_within (texts most) (Err f) = false
+gives_within beyond (Err f) = true
 
 beyond_given : (r : Result Value Fail) → gives_within beyond r ≡ true
 beyond_given (Ok v) = refl
@@ -85,7 +92,7 @@ minus_given beyond f r s p q = beyond_given (both (λ n m. n -ℤ m) r s)
 times_given : (e f : Extent) (r s : Result Value Fail) → gives_within e r ≡ true → gives_within f s ≡ true → gives_within (extent_times e f) (both (λ n m. n *ℤ m) r s) ≡ true
 times_given (numbers a b) (numbers c d) r s p q =
     numbers_given (λ n m. n *ℤ m) a b c d (least_of (a *ℤ c) (a *ℤ d) (b *ℤ c) (b *ℤ d)) (greatest_of (a *ℤ c) (a *ℤ d) (b *ℤ c) (b *ℤ d)) r s
-      (λ n m f g h k. product_between a b c d n m f g h k) p q
+    (λ n m f g h k. product_between a b c d n m f g h k) p q
 times_given (numbers a b) (texts n) r s p q = beyond_given (both (λ n m. n *ℤ m) r s)
 times_given (numbers a b) beyond r s p q = beyond_given (both (λ n m. n *ℤ m) r s)
 times_given (texts m) f r s p q = beyond_given (both (λ n m. n *ℤ m) r s)
@@ -136,6 +143,12 @@ column_within (admits.Varchar m) (Text t) h = of (nat_le (length t) m) refl (and
     of true at e = at
     of false at e = absurd (false≢true e)
 
+answered : (e : Extent) (r : Result Value Fail) → gives_within e r ≡ true → may_fail e ≡ false → IsOkAnd r (IsWithin e)
+answered e (Ok v) h safe = h
+answered (numbers a b) (Err f) h safe = absurd (false≢true h)
+answered (texts m) (Err f) h safe = absurd (false≢true h)
+answered beyond (Err f) h safe = absurd (false≢true (sym safe))
+
 module _ {R : Type 0} (admitted : R → Admit) (read : R → Value) (ok : (r : R) → is_held (admitted r) (read r) ≡ true) where
   -- an expression's value lies within its extent
   pub value_given : (e : Expr R) → gives_within (extent_of admitted e) (value_of read e) ≡ true
@@ -146,3 +159,7 @@ module _ {R : Type 0} (admitted : R → Admit) (read : R → Value) (ok : (r : R
   value_given (minus a b) = minus_given (extent_of admitted a) (extent_of admitted b) (value_of read a) (value_of read b) (value_given a) (value_given b)
   value_given (times a b) = times_given (extent_of admitted a) (extent_of admitted b) (value_of read a) (value_of read b) (value_given a) (value_given b)
   value_given (joined a b) = joined_given (extent_of admitted a) (extent_of admitted b) (value_of read a) (value_of read b) (value_given a) (value_given b)
+
+  -- where it is not beyond, there is a value
+  pub value_within : (e : Expr R) → may_fail (extent_of admitted e) ≡ false → IsOkAnd (value_of read e) (IsWithin (extent_of admitted e))
+  value_within e safe = answered (extent_of admitted e) (value_of read e) (value_given e) safe

@@ -1,5 +1,5 @@
 -- Worked extents.
-use Rattle.std.proofs.Common.{◌≡◌, ℕ, ℤ, pos, neg_ℤ, true, false, List, [], ◌∷◌, codes, Result, Ok, Err, refl}
+use Rattle.std.proofs.Common.{◌≡◌, ℕ, pos, neg_ℤ, true, false, List, [], ◌∷◌, codes, Err, refl}
 use Rattle.bf_base.specs.declared.value.Value.{Value}
 use Rattle.bf_base.specs.declared.value.Value.TheVariants.{Int, Text}
 use Rattle.bf_base.specs.declared.table.Admit.{Admit}
@@ -8,7 +8,6 @@ use Rattle.bf_base.specs.declared.table.Column.{Column}
 use Rattle.bf_base.specs.Tables.{cell}
 use Rattle.bf_tree.specs.declared.evaluation.Fail.TheVariants.{OutOfRange}
 use Rattle.bf_tree.specs.declared.items.Aggregate.TheVariants.{Count, Sum, Min, Max}
-use Rattle.bf_tree.specs.declared.reply.Cell.TheVariants as cells
 use Rattle.bf_tree.specs.Trees.{Expr, literal, column, negated, plus, minus, times, joined}
 use Rattle.bf_tree.specs.Evaluation.{least_int, greatest_int, value_of}
 use Rattle.bf_sql.specs.Totals.{total_of}

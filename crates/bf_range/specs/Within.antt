@@ -1,5 +1,5 @@
 -- When a value lies within an extent.
-use Rattle.std.specs.Prelude.{ℤ, Bool, true, false, ◌&&◌, List, length, int_le, nat_le, Result, Ok, Err, IsTrue}
+use Rattle.std.specs.Prelude.{Bool, true, false, ◌&&◌, List, length, int_le, nat_le, IsTrue}
 use Rattle.std.specs.List.{list_all}
 use Rattle.std.specs.Int.{int_min, int_max}
 use Rattle.bf_base.specs.declared.value.Value.{Value}
@@ -9,7 +9,6 @@ use Rattle.bf_base.specs.declared.table.Column.{Column}
 use Rattle.bf_base.specs.Tables.{fit_of}
 use Rattle.bf_tree.specs.Trees.{Expr}
 use Rattle.bf_tree.specs.Evaluation.{is_int, number_of}
-use Rattle.bf_tree.specs.declared.evaluation.Fail.{Fail}
 use Rattle.bf_tree.specs.declared.items.Aggregate.{Aggregate}
 use Rattle.bf_tree.specs.declared.items.Aggregate.TheVariants.{Count, Sum, Min, Max}
 use Rattle.bf_tree.specs.declared.reply.Cell.{Cell}
@@ -17,7 +16,7 @@ use Rattle.bf_tree.specs.declared.reply.Cell.TheVariants as cells
 use Rattle.bf_sql.specs.Database.{is_fit, is_admitted, no_table}
 use Rattle.bf_sql.specs.migrations.Extents.{Extent, numbers, texts, beyond, extent_of, extent_of_total}
 
--- a number from the least to the greatest, or a text of at most so many bytes; anything is within what is beyond
+-- a number from the least to the greatest, or a text of at most so many bytes; of what is beyond nothing is said
 abbrev pub is_within : Extent → Value → Bool
 is_within (numbers low high) (Int n) = int_le low n && int_le n high
 is_within (numbers low high) (Text t) = false
@@ -27,16 +26,6 @@ is_within beyond v = true
 
 abbrev pub IsWithin : Extent → Value → Type 0
 IsWithin e v = IsTrue (is_within e v)
-
--- a result is a value within an extent; only of what is beyond it may be a failure
-abbrev pub gives_within : Extent → Result Value Fail → Bool
-gives_within e (Ok v) = is_within e v
-gives_within (numbers low high) (Err f) = false
-gives_within (texts most) (Err f) = false
-gives_within beyond (Err f) = true
-
-abbrev pub GivesWithin : Extent → Result Value Fail → Type 0
-GivesWithin e result = IsTrue (gives_within e result)
 
 -- a total is NULL or a value within an extent
 abbrev pub cell_within : Extent → Cell → Bool

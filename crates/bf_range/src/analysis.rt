@@ -1,17 +1,15 @@
 //! How far expressions and totals can go.
 
-ghost use Rattle.std.specs.Prelude.{◌≡◌, List, [], not, IsTrue, IsOk, IfSome};
+ghost use Rattle.std.specs.Prelude.{◌≡◌, List, [], not, IsTrue, IsOk, IsOkAnd, IfSome};
 ghost use Rattle.bf_base.specs.declared.value.Value.{Value};
 ghost use Rattle.bf_base.specs.Tables.{cell};
 ghost use Rattle.bf_tree.specs.Evaluation.{value_of};
 ghost use Rattle.bf_tree.specs.Trees.{literal};
 ghost use Rattle.bf_sql.specs.migrations.Extents.{extent_of, extent_of_admit, extent_of_total, may_fail, numbers, texts};
 ghost use Rattle.bf_range.specs.Seen.{admitted_at, ends_of, most_bytes_of, seen};
-ghost use Rattle.bf_range.specs.Within.{GivesWithin, IsRowOf};
+ghost use Rattle.bf_range.specs.Within.{IsRowOf, IsWithin};
 
-use crate::extents::{
-    Extent, MOST_ROWS, concatenation, difference, negated, product, sum, summed,
-};
+use crate::extents::{Extent, MOST_ROWS, concatenation, difference, negated, product, sum, summed};
 use bf_base::{Admit, Column, Value};
 use bf_tree::{Aggregate, Expr, Node};
 
@@ -80,7 +78,7 @@ pub fn extent_of_total(total: &Aggregate, columns: &[Column]) -> Option<Extent>
 pub fn interval(expr: &Expr, columns: &[Column]) -> Option<(i64, i64)>
     ensures exact { result ≡ ends_of (extent_of (admitted_at columns.now) expr.now) }
     ensures within { IfSome result (λ ends. (row : List Value) → IsRowOf columns.now row
-        → GivesWithin (numbers ends.0 ends.1) (value_of (cell row) expr.now)) }
+        → IsOkAnd (value_of (cell row) expr.now) (IsWithin (numbers ends.0 ends.1))) }
 {
     match extent_of(expr, columns) {
         Some(Extent::Numbers(low, high)) => Some((low, high)),
@@ -93,7 +91,7 @@ pub fn interval(expr: &Expr, columns: &[Column]) -> Option<(i64, i64)>
 pub fn longest(expr: &Expr, columns: &[Column]) -> Option<u8>
     ensures exact { result ≡ most_bytes_of (extent_of (admitted_at columns.now) expr.now) }
     ensures within { IfSome result (λ most. (row : List Value) → IsRowOf columns.now row
-        → GivesWithin (texts most) (value_of (cell row) expr.now)) }
+        → IsOkAnd (value_of (cell row) expr.now) (IsWithin (texts most))) }
 {
     match extent_of(expr, columns) {
         Some(Extent::Texts(most)) => Some(most),

@@ -1,6 +1,6 @@
 //! Laws of the analysis. Each is the contract of a function that does nothing.
 
-ghost use Rattle.std.specs.Prelude.{◌≡◌, ◌≤◌, ◌++◌, ℕ, List, [], false, flat_map, length, IsTrue};
+ghost use Rattle.std.specs.Prelude.{◌≡◌, ◌≤◌, ◌++◌, ℕ, List, [], false, flat_map, length, IsOkAnd, IsTrue};
 ghost use Rattle.std.specs.List.{AllByRecursion};
 ghost use Rattle.bf_base.specs.declared.value.Value.{Value};
 ghost use Rattle.bf_base.specs.declared.table.Admit.{Admit};
@@ -14,13 +14,14 @@ ghost use Rattle.bf_sql.specs.RowObjections.{argument_objections, sum_objections
 ghost use Rattle.bf_sql.specs.Totals.{total_of};
 ghost use Rattle.bf_sql.specs.migrations.Extents.{extent_of, extent_of_total, may_fail, most_rows};
 ghost use Rattle.bf_range.specs.Seen.{admitted_at};
-ghost use Rattle.bf_range.specs.Within.{GivesWithin, IsHeld, IsRowOf, cell_within, span_of_total};
+ghost use Rattle.bf_range.specs.Within.{IsHeld, IsRowOf, IsWithin, cell_within, span_of_total};
 
 /// Where columns admit what is read of them, an expression whose extent is not beyond the values has a value, and it
 /// lies within the extent. So it does not fail.
 pub fn a_value_lies_within<R>()
     ensures { (admitted : R → Admit) (read : R → Value) → ((r : R) → IsHeld (admitted r) (read r))
-        → (e : Expr R) → GivesWithin (extent_of admitted e) (value_of read e) }
+        → (e : Expr R) → may_fail (extent_of admitted e) ≡ false
+        → IsOkAnd (value_of read e) (IsWithin (extent_of admitted e)) }
 {}
 
 /// On a row that the columns admit, each place is read as its column admits.

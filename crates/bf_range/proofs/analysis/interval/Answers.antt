@@ -1,4 +1,4 @@
-use Rattle.std.proofs.Common.{◌≡◌, Some, w64, to_z, of_z, rules}
+use Rattle.std.proofs.Common.{Some, w64, to_z, of_z, rules}
 use Rattle.bf_range.proofs.Told.{within_ends}
 use Rattle.bf_range.proofs.analysis.interval.Goals as goal
 

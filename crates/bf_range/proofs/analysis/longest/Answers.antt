@@ -1,4 +1,4 @@
-use Rattle.std.proofs.Common.{◌≡◌, Some, rules}
+use Rattle.std.proofs.Common.{Some, rules}
 use Rattle.bf_range.proofs.Told.{within_most}
 use Rattle.bf_range.proofs.analysis.longest.Goals as goal
 

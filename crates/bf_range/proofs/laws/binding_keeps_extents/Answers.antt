@@ -1,11 +1,11 @@
-use Rattle.std.proofs.Common.{◌≡◌, refl, ap, ◌∙◌}
+use Rattle.std.proofs.Common.{◌≡◌, refl, ap}
 use Rattle.bf_base.specs.declared.table.Admit.{Admit}
 use Rattle.bf_base.specs.declared.value.Value.TheVariants.{Int, Text}
 use Rattle.bf_tree.specs.Trees.{Expr, literal, column, negated, plus, minus, times, joined, expr_over}
 use Rattle.bf_tree.specs.declared.items.Aggregate.{Aggregate}
 use Rattle.bf_tree.specs.declared.items.Aggregate.TheVariants.{Count, Sum, Min, Max}
 use Rattle.bf_sql.specs.Bound.{total_over}
-use Rattle.bf_sql.specs.migrations.Extents.{extent_negated, extent_plus, extent_minus, extent_times, extent_joined, extent_summed, extent_of, extent_of_total}
+use Rattle.bf_sql.specs.migrations.Extents.{extent_negated, extent_summed, extent_of, extent_of_total}
 use Rattle.bf_range.proofs.laws.binding_keeps_extents.Goals as goal
 
 module _ {R S : Type 0} (to : R → S) (admitted : S → Admit) where
