@@ -118,10 +118,9 @@ pub(crate) fn concatenation(x: Option<Extent>, y: Option<Extent>) -> Option<Exte
     ensures { seen result ≡ extent_joined (seen x) (seen y) }
 {
     match (x, y) {
-        (Some(Extent::Texts(left)), Some(Extent::Texts(right))) => match left.checked_add(right) {
-            Some(most) => Some(Extent::Texts(most)),
-            None => None,
-        },
+        (Some(Extent::Texts(left)), Some(Extent::Texts(right))) => {
+            Some(Extent::Texts(left.checked_add(right)?))
+        }
         _ => None,
     }
 }
