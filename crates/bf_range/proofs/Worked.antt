@@ -68,7 +68,7 @@ fails_above = refl
 fails_opposite : value_of (cell (Int least_int ∷ [])) (negated n) ≡ Err OutOfRange
 fails_opposite = refl
 
--- a node of the kind that another asks for is judged by its ends alone: n - n, which is 0 on each row, counts as beyond
+-- a node is judged by the ends of its parts alone: n - n, which is 0 on each row, counts as beyond
 itself : extent_of admitted (minus n n) ≡ beyond
 itself = refl
 

@@ -49,8 +49,8 @@ abbrev pub spanned : Extent → Extent → Extent
 spanned (numbers a b) (numbers c d) = numbers (int_min a c) (int_max b d)
 spanned e f = beyond
 
--- how far a total goes over any number of rows up to the most. `extent_of_total` has a SUM of the most rows, which is further
--- from 0 than one of few rows: a SUM goes from the value of one row to that
+-- how far a total goes over any number of rows up to the most. The extent of a SUM has the ends of sums of exactly the most
+-- rows, and fewer rows may sum to less than its least or more than its greatest: so its span takes in the values of one row
 abbrev pub span_of_total : {R : Type 0} → (R → Admit) → Aggregate (Expr R) → Extent
 span_of_total admitted Count = extent_of_total admitted Count
 span_of_total admitted (Sum e) = spanned (extent_of admitted e) (extent_of_total admitted (Sum e))

@@ -60,9 +60,9 @@ pub fn extent_of(expr: &Expr, columns: &[Column]) -> Option<Extent>
     }
 }
 
-/// The same of a total over at most 1,048,576 rows: COUNT goes from 0 to that number; SUM has the ends of its argument as
-/// many times, so that a sum of few rows may lie nearer to 0; MIN and MAX go as far as their argument. `None` exactly
-/// where the total may fail by this.
+/// The same of a total over at most 1,048,576 rows: COUNT goes from 0 to that number, MIN and MAX as far as their
+/// argument, and SUM has as many times the ends of its argument. `None` exactly where the total may fail by this. A sum of
+/// fewer rows need not reach the ends: it lies between those of one row and these.
 pub fn extent_of_total(total: &Aggregate, columns: &[Column]) -> Option<Extent>
     ensures { seen result ≡ extent_of_total (admitted_at columns.now) total.now }
 {
@@ -73,8 +73,9 @@ pub fn extent_of_total(total: &Aggregate, columns: &[Column]) -> Option<Extent>
     }
 }
 
-/// The least and the greatest value that an INT expression has on rows that the columns admit, and `None` exactly where
-/// a node of it may leave the range of INT (or one of its concatenations 255 bytes), or the expression is a text.
+/// Between which numbers the value of an INT expression lies on rows that the columns admit: the least and the greatest
+/// result over the ends of its parts. `None` exactly where a node of it may leave the range of INT (or one of its
+/// concatenations 255 bytes), or the expression is a text. It takes no memory, and time linear in the nodes.
 pub fn interval(expr: &Expr, columns: &[Column]) -> Option<(i64, i64)>
     ensures exact { result ≡ ends_of (extent_of (admitted_at columns.now) expr.now) }
     ensures within { IfSome result (λ ends. (row : List Value) → IsRowOf columns.now row
@@ -86,8 +87,9 @@ pub fn interval(expr: &Expr, columns: &[Column]) -> Option<(i64, i64)>
     }
 }
 
-/// The most bytes that a text expression has on rows that the columns admit, and `None` exactly where one of its
-/// concatenations may have more than 255, or the expression is an INT.
+/// The most bytes that a text expression has on rows that the columns admit: the sum of its parts' most. `None` exactly
+/// where one of its concatenations may have more than 255, or the expression is an INT. It takes no memory, and time
+/// linear in the nodes.
 pub fn longest(expr: &Expr, columns: &[Column]) -> Option<u8>
     ensures exact { result ≡ most_bytes_of (extent_of (admitted_at columns.now) expr.now) }
     ensures within { IfSome result (λ most. (row : List Value) → IsRowOf columns.now row
@@ -100,7 +102,7 @@ pub fn longest(expr: &Expr, columns: &[Column]) -> Option<u8>
 }
 
 /// Whether no row that the columns admit makes the expression fail, as far as the ends of its parts tell: `n - n` over an
-/// INT column is judged as a difference of any two INTs.
+/// INT column is judged as a difference of any two INTs. It takes no memory, and time linear in the nodes.
 pub fn cannot_fail(expr: &Expr, columns: &[Column]) -> bool
     ensures exact { result ≡ not (may_fail (extent_of (admitted_at columns.now) expr.now)) }
     ensures never { IsTrue result → (row : List Value) → IsRowOf columns.now row
