@@ -89,15 +89,21 @@ impl LockTable {
 
     /// Frees all that an owner holds. Takes no memory.
     ///
-    /// For each name that the owner holds, logarithmic in the names that are held and in the
-    /// holders of that one.
+    /// Linear in the names that the owner holds where nobody else holds any. Else for each of them
+    /// logarithmic in the names that are held and in the holders of that one.
     pub fn free_all(&mut self, owner: u64)
         ensures freed { self.new ≡ without_owner self.old owner }
         ensures consistent { IsConsistent self.new }
     {
-        if let Some(names) = self.owned.remove(&owner) {
+        let Some(names) = self.owned.remove(&owner) else {
+            return;
+        };
+        if !self.owned.is_empty() {
             free_each(&mut self.holders, names.as_slice(), owner);
+            return;
         }
+        // Nobody else holds anything.
+        self.holders.clear();
     }
 
     /// The mode in which an owner holds a name, and `None` exactly where it holds none.
