@@ -11,7 +11,7 @@ use Rattle.bf_locks.proofs.Asked.{same_there, freed_there}
 use Rattle.bf_locks.proofs.Freed.{given_up}
 use Rattle.bf_locks.proofs.Sound.{sound_kept, sound_granted}
 use Rattle.bf_locks.proofs.Told.{IsTold, told_judged, told_put, told_after, told_consistent, told_sound, new_granted, new_first}
-use Rattle.bf_locks.proofs.table.LockTable.ask.Goals.{After-from_residual, Then-not-is_new, Joined-answer, Joined-answer-2}
+use Rattle.bf_locks.proofs.table.LockTable.ask.Goals.{After-from_residual, Joined-answer, Joined-answer-2}
 use Rattle.bf_locks.proofs.table.LockTable.ask.Goals as goal
 
 -- want of memory leaves what is held
@@ -33,32 +33,39 @@ pub returns-in_err-answer-clause-consistent : goal.returns-in_err-answer-clause-
 returns-in_err-answer-clause-consistent c = subst IsConsistent (sym (kept c)) c.self.invariant.consistent
 
 -- what is told and not new
-told_again : (c : Then-not-is_new) → IsTold c.self.inside.holders c.ask_for.new.holders c.args.owner c.args.name.now c.args.mode c.in_ok-answer.answer c.in_ok-answer.is_new
-told_again c = record {
-  ordered = c.ask_for.ensures.ordered;
-  answered = c.in_ok-answer.ensures.answer;
-  rising = c.in_ok-answer.ensures.rising;
-  granted = c.in_ok-answer.ensures.granted;
-  refused = c.in_ok-answer.ensures.refused;
-  new_where = c.in_ok-answer.ensures.new;
-  not_new = c.in_ok-answer.ensures.not_new;
-  others = c.ask_for.ensures.others;
-}
-
 pub invariant_of-self-then-not-is_new : goal.invariant_of-self-then-not-is_new
-invariant_of-self-then-not-is_new c = told_sound c.self.inside.holders c.ask_for.new.holders c.self.inside.owned c.self.invariant c.args.owner c.args.name.now c.args.mode c.in_ok-answer.answer c.in_ok-answer.is_new (told_again c) c.if-not-is_new.true
+invariant_of-self-then-not-is_new c =
+    let told : IsTold c.self.inside.holders c.ask_for.new.holders c.args.owner c.args.name.now c.args.mode c.in_ok-answer.answer c.in_ok-answer.is_new = record {
+      ordered = c.ask_for.ensures.ordered;
+      answered = c.in_ok-answer.ensures.answer;
+      rising = c.in_ok-answer.ensures.rising;
+      granted = c.in_ok-answer.ensures.granted;
+      refused = c.in_ok-answer.ensures.refused;
+      new_where = c.in_ok-answer.ensures.new;
+      not_new = c.in_ok-answer.ensures.not_new;
+      others = c.ask_for.ensures.others;
+    } in
+    told_sound c.self.inside.holders c.ask_for.new.holders c.self.inside.owned c.self.invariant c.args.owner c.args.name.now c.args.mode c.in_ok-answer.answer c.in_ok-answer.is_new told c.if-not-is_new.true
 
-pub returns-then-not-is_new-clause-judged : goal.returns-then-not-is_new-clause-judged
-returns-then-not-is_new-clause-judged c =
-    subst (λ m. IsJudged m c.args.owner c.args.name.now c.args.mode c.in_ok-answer.answer) c.self.view_is (told_judged c.self.inside.holders c.ask_for.new.holders c.self.inside.owned c.self.invariant c.args.owner c.args.name.now c.args.mode c.in_ok-answer.answer c.in_ok-answer.is_new (told_again c))
-
-pub returns-then-not-is_new-clause-after : goal.returns-then-not-is_new-clause-after
-returns-then-not-is_new-clause-after c =
-    told_after c.self.inside.holders c.ask_for.new.holders c.self.inside.owned c.self.invariant c.args.owner c.args.name.now c.args.mode c.in_ok-answer.answer c.in_ok-answer.is_new (told_again c)
-    ∙ ap (λ m. after m c.args.owner c.args.name.now c.args.mode c.in_ok-answer.answer) c.self.view_is
-
-pub returns-then-not-is_new-clause-consistent : goal.returns-then-not-is_new-clause-consistent
-returns-then-not-is_new-clause-consistent c = told_consistent c.self.inside.holders c.ask_for.new.holders c.self.inside.owned c.self.invariant c.args.owner c.args.name.now c.args.mode c.in_ok-answer.answer c.in_ok-answer.is_new (told_again c)
+pub returns-then-not-is_new : goal.returns-then-not-is_new
+returns-then-not-is_new c =
+    let told : IsTold c.self.inside.holders c.ask_for.new.holders c.args.owner c.args.name.now c.args.mode c.in_ok-answer.answer c.in_ok-answer.is_new = record {
+      ordered = c.ask_for.ensures.ordered;
+      answered = c.in_ok-answer.ensures.answer;
+      rising = c.in_ok-answer.ensures.rising;
+      granted = c.in_ok-answer.ensures.granted;
+      refused = c.in_ok-answer.ensures.refused;
+      new_where = c.in_ok-answer.ensures.new;
+      not_new = c.in_ok-answer.ensures.not_new;
+      others = c.ask_for.ensures.others;
+    } in
+    record {
+      judged = subst (λ m. IsJudged m c.args.owner c.args.name.now c.args.mode c.in_ok-answer.answer) c.self.view_is (told_judged c.self.inside.holders c.ask_for.new.holders c.self.inside.owned c.self.invariant c.args.owner c.args.name.now c.args.mode c.in_ok-answer.answer c.in_ok-answer.is_new told);
+      after = told_after c.self.inside.holders c.ask_for.new.holders c.self.inside.owned c.self.invariant c.args.owner c.args.name.now c.args.mode c.in_ok-answer.answer c.in_ok-answer.is_new told
+          ∙ ap (λ m. after m c.args.owner c.args.name.now c.args.mode c.in_ok-answer.answer) c.self.view_is;
+      memory = tt;
+      consistent = told_consistent c.self.inside.holders c.ask_for.new.holders c.self.inside.owned c.self.invariant c.args.owner c.args.name.now c.args.mode c.in_ok-answer.answer c.in_ok-answer.is_new told;
+    }
 
 -- what is told and new: a grant, and the name comes on the owner's list
 told_new : (c : Joined-answer) → IsTold c.self.inside.holders c.ask_for.new.holders c.args.owner c.args.name.now c.args.mode c.in_ok-answer.answer c.in_ok-answer.is_new
