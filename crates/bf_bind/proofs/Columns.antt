@@ -6,7 +6,7 @@ use Rattle.std.specs.Option.{option_map}
 use Rattle.std.proofs.lemmas.Bool.{cases_Bool}
 use Rattle.std.proofs.lemmas.Iterator.Adapters.{position_from-zero}
 use Rattle.std.proofs.lemmas.List.Quantifiers.{position-Some}
-use Rattle.std.proofs.lemmas.List.{get_or_append_left, get_or-append-add, get_or_past, length-map, map-append}
+use Rattle.std.proofs.lemmas.List.{drop-map, get_or_append_left, get_or-append-add, get_or_past, length-map, map-append}
 use Rattle.std.proofs.lemmas.List.Folds.{list_any-append}
 use Rattle.bf_base.specs.Names.{is_name}
 use Rattle.bf_base.specs.declared.table.Admit.{Admit}
@@ -160,6 +160,11 @@ column_at-table table i column in_range is =
 -- the first column that a ref means in a table
 pub first_meant-table : (table : Table) (ref : Ref) → first_meant (scope_of table) ref ≡ option_map (column_at (scope_of table)) (position (λ (c : Column). means ref (table.name, c)) table.columns)
 first_meant-table table ref = ap (option_map (column_at (scope_of table))) (position-map (means ref) (λ (c : Column). (table.name, c)) table.columns)
+
+-- whether a ref means a column of a table from a place on
+pub any_from-table : (table : Table) (ref : Ref) (n : ℕ) → list_any (means ref) (drop n (scope_of table)) ≡ list_any (λ (c : Column). means ref (table.name, c)) (drop n table.columns)
+any_from-table table ref n =
+    ap (list_any (means ref)) (drop-map (λ (c : Column). (table.name, c)) n table.columns) ∙ list_any-map (means ref) (λ (c : Column). (table.name, c)) (drop n table.columns)
 
 module _ (scope : Scope) (ref : Ref) where
   place_found-in : (o : Option ℕ) (found : ColumnPlace) → option_map (column_at scope) o ≡ Some found → (o ≡ Some found.place) × (found ≡ column_at scope found.place)

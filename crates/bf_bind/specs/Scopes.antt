@@ -10,6 +10,6 @@ scope_over from None = scope_of from
 scope_over from (Some join) = scope_of from ++ scope_of join
 
 -- neither has more columns than a table may have
-pub record AreNarrow (from : Table) (join : Option Table) : Type 0 where
-  pub from : length from.columns ≤ most_columns
-  pub join : IfSome join (λ table. length table.columns ≤ most_columns)
+pub record AreNarrow (one : Table) (other : Option Table) : Type 0 where
+  pub from : length one.columns ≤ most_columns
+  pub join : IfSome other (λ table. length table.columns ≤ most_columns)

@@ -138,7 +138,8 @@ fn first_in(table: &Table, reference: &Ref) -> Option<ColumnPlace>
 
 /// Whether a ref means a column of a table from a place on.
 fn is_meant_from(table: &Table, reference: &Ref, from: usize) -> bool
-    ensures { result ≡ list_any (means reference.now) (drop from (scope_of table.now)) }
+    ensures { result ≡ list_any (λ column. means reference.now (table.now.name, column))
+        (drop from table.now.columns) }
 {
     table
         .columns
