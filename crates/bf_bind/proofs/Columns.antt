@@ -18,7 +18,7 @@ use Rattle.bf_base.specs.Tables.{kind_admitted}
 use Rattle.bf_base.proofs.Order.{list_any-map}
 use Rattle.bf_tree.specs.declared.raw.Ref.{Ref}
 use Rattle.bf_sql.specs.Objections.{column_names}
-use Rattle.bf_sql.specs.Scopes.{Scope, scope_of, is_qualified_by, places_of, unqualified, qualifier_objections, ref_objections}
+use Rattle.bf_sql.specs.Scopes.{Scope, scope_of, places_of, unqualified, qualifier_objections, ref_objections}
 use Rattle.bf_tree.specs.declared.reply.Refusal.TheVariants as refusal
 use Rattle.bf_bind.specs.Parts.{column_at, column_of, first_meant, means}
 use Rattle.bf_bind.specs.declared.scope.ColumnPlace.{ColumnPlace}

@@ -1,12 +1,12 @@
 -- What a ref means among the columns of one table or of two.
-use Rattle.std.proofs.Common.{◌≡◌, ℕ, ◌-◌, Bool, true, false, ◌||◌, Bor, List, ◌++◌, length, drop, Option, Some, None, refl, sym, ap, ◌∙◌}
+use Rattle.std.proofs.Common.{◌≡◌, ℕ, ◌-◌, Bool, true, false, ◌||◌, Bor, ◌++◌, length, drop, Option, Some, None, ap, ◌∙◌}
 use Rattle.std.specs.List.{list_any}
 use Rattle.std.specs.Option.{option_copied, option_map}
 use Rattle.std.proofs.lemmas.List.{length-map}
 use Rattle.bf_base.specs.declared.table.Column.{Column}
 use Rattle.bf_base.specs.declared.table.Table.{Table}
 use Rattle.bf_tree.specs.declared.raw.Ref.{Ref}
-use Rattle.bf_sql.specs.Scopes.{Scope, scope_of}
+use Rattle.bf_sql.specs.Scopes.{scope_of}
 use Rattle.bf_bind.specs.Parts.{first_meant, means}
 use Rattle.bf_bind.specs.Scopes.{scope_over}
 use Rattle.bf_bind.specs.declared.scope.ColumnPlace.{ColumnPlace}

@@ -1,4 +1,4 @@
-use Rattle.std.proofs.Common.{◌≡◌, ℕ, ◌-◌, Bool, true, false, List, length, Option, Some, None, refl, sym, ap, drop, ◌∙◌}
+use Rattle.std.proofs.Common.{ℕ, ◌-◌, List, length, sym, ap, drop, ◌∙◌}
 use Rattle.std.specs.List.{list_any}
 use Rattle.std.specs.Option.{option_copied}
 use Rattle.bf_base.specs.declared.table.Column.{Column}
