@@ -66,8 +66,9 @@ impl LockTable {
     /// the join; `Die` of the oldest that conflicts where that is older; else `Wait` for all that
     /// conflict. `Wait`, `Die` and `Memory` change nothing.
     ///
-    /// One search, logarithmic in the names that are held, and one or two passes over the holders of
-    /// this one. A name with one holder takes no allocation but its two copies.
+    /// A copy of the name and one search, logarithmic in the names that are held, and one or two
+    /// passes over the holders of this one; where the owner held it in no mode, one more copy. A
+    /// name takes an allocation for its holders only where there are several.
     pub fn ask(&mut self, owner: u64, name: &LockName, mode: Mode) -> Result<LockAnswer, Memory>
         ensures judged { IfOk result (λ answer. IsJudged self.old owner name.now mode answer) }
         ensures after { IfOk result (λ answer.
