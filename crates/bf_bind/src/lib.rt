@@ -1,5 +1,6 @@
 //! Statements bound in a catalog: their tables and columns are looked up, and the first objection
-//! of the catalog stands in the action. Rows are not looked at.
+//! of the catalog stands in the action. Rows are not looked at. Refs, and what is made of them, are
+//! bound over the columns of one table or of two.
 #![tactic(auto)]
 
 pub mod binding;

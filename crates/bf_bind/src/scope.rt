@@ -19,8 +19,8 @@ use std::alloc::Global;
 use std::marker::Model;
 
 /// The tables that refs are looked up in: the columns of one, then those of the other if there is
-/// one. Contracts see the columns in this order, each with its table's name; so the place of a column
-/// is that in a row of the one table with a row of the other behind it.
+/// one, 16 of each at most. Contracts see the columns in this order, each with its table's name. The
+/// place of a column is that in a row of the one table with a row of the other behind it.
 #[derive(Drop)]
 pub struct Scope<'a> {
     from: &'a Table,
@@ -39,7 +39,8 @@ impl<'a> Model for Scope<'a> {
     ghost invariant = { λ scope. AreNarrow scope.from.now (option_copied scope.join) };
 }
 
-/// A column of a scope: its place, counted from 0, and the kind of its values.
+/// A column of a scope: its place, counted from 0 over all columns of the scope, and the kind of its
+/// values.
 #[derive(Clone, Copy)]
 pub struct ColumnPlace {
     pub place: u8,
@@ -194,6 +195,7 @@ impl<'a> Scope<'a> {
             return Some(found);
         }
         let found = first_in(self.join?, reference)?;
+        // It stands behind the columns of the first table.
         Some(ColumnPlace {
             place: self.from.columns.as_slice().len() as u8 + found.place,
             kind: found.kind,
