@@ -14,4 +14,4 @@ pub mod stand;
 pub use machine::Machine;
 pub use scripts::migrates_nothing;
 pub use serving::in_order;
-pub use stand::{Ending, Stand};
+pub use stand::{Ending, Stand, Step};

@@ -1,9 +1,9 @@
 //! Sessions served on one thread, in an order that is given, and then to their ends.
 
-ghost use Rattle.std.specs.Prelude.{◌≡◌, ◌≢◌, ◌⊎◌, ℕ, ◌<◌, ◌≤◌, [], IfOk, IfSome, OnOk, None, Ok, false, length};
+ghost use Rattle.std.specs.Prelude.{◌≡◌, ◌≢◌, ◌⊎◌, ℕ, ◌<◌, ◌≤◌, [], IfOk, IfSome, OnErr, OnOk, None, Ok, false, length};
 ghost use Rattle.bf_sql.specs.Database.{empty_database};
 ghost use Rattle.bf_machine.specs.declared.stand.Stand.TheVariants.{Begin, Statement};
-ghost use Rattle.bf_machine.specs.interleaving.Calls.{CanRefuse, HasSessionEnded, IsPlace, StandsAs};
+ghost use Rattle.bf_machine.specs.interleaving.Calls.{CanExec, CanRefuse, HasReplied, HasSessionEnded, IsPlace, StandsAs};
 ghost use Rattle.bf_machine.specs.interleaving.Events.{Begins, Reaches};
 ghost use Rattle.bf_machine.specs.interleaving.Kept.{IsKept};
 ghost use Rattle.bf_machine.specs.interleaving.Machines.{Open, open_at};
@@ -11,7 +11,7 @@ ghost use Rattle.bf_machine.specs.interleaving.Serving.{CanGo, CannotGo, HasLock
 ghost use Rattle.bf_machine.specs.declared.serving.Turn.TheVariants.{Served};
 
 use crate::machine::Machine;
-use crate::stand::Stand;
+use crate::stand::{Stand, Step};
 use bf_base::Memory;
 use bf_bind::bind;
 use bf_locks::{LockAnswer, LockName, Mode};
@@ -87,8 +87,9 @@ pub fn bind_next(
     requires kept { IsKept empty_database machine.now }
     requires servable { IsServable machine.now.script }
     requires stands { StandsAs machine.now session (Statement place) }
-    ensures { IfOk result (λ bound.
+    ensures next { IfOk result (λ bound.
         ((o : Open) × IsBoundNext machine.now session o bound) ⊎ CanRefuse machine.now session) }
+    ensures number { IfOk result (λ bound. bound.catalog ≡ machine.now.db.number) }
 {
     let sessions = machine.script().sessions.as_slice();
     let statement = &sessions[session as usize - 1].statements.as_slice()[place as usize - 1];
@@ -98,6 +99,23 @@ pub fn bind_next(
         machine.catalog(),
         machine.is_in_block(session),
     )
+}
+
+/// Replies to a session's next statement, as it is bound in the present catalog.
+///
+/// # Errors
+/// Where memory runs out, or 2 ^ 32 rows or more change. The machine is as it was then.
+fn reply_to(machine: &mut Machine, session: u32, bound: &Bound) -> Result<(), Memory>
+    requires place { IsPlace machine.old.script session }
+    requires can { CanExec machine.old session bound.now }
+    requires present { bound.now.catalog ≡ machine.old.db.number }
+    ensures replied { OnOk result (HasReplied machine.old session bound.now machine.new) }
+    ensures err { OnErr result (machine.new ≡ machine.old) }
+{
+    match machine.exec(session, bound)? {
+        Step::Replied => Ok(()),
+        Step::Stale(_) => unreachable!(),
+    }
 }
 
 /// Gives the next statement of a session's open group its reply: asks for the locks of its footprint
@@ -119,7 +137,7 @@ fn serve_in_group(
         Turn::Served => {}
         turn => return Ok(turn),
     }
-    machine.exec(session, bound)?;
+    reply_to(machine, session, bound)?;
     end_if_answered(machine, session)?;
     Ok(Turn::Served)
 }
@@ -137,7 +155,7 @@ fn serve(alloc: Global, machine: &mut Machine, session: u32, place: u32) -> Resu
     if machine.start(session).is_some() {
         return serve_in_group(alloc, machine, session, &bound);
     }
-    machine.exec(session, &bound)?;
+    reply_to(machine, session, &bound)?;
     Ok(Turn::Served)
 }
 

@@ -26,9 +26,9 @@ use Rattle.bf_machine.specs.declared.so_far.Began.{Began as BeganGroup}
 use Rattle.bf_machine.specs.declared.so_far.OpenGroup.{OpenGroup}
 use Rattle.bf_machine.specs.declared.so_far.Pending.{Pending as PendingChange}
 use Rattle.bf_machine.specs.declared.so_far.SessionSoFar.{SessionSoFar}
-use Rattle.bf_machine.specs.interleaving.Calls.{CanExec}
+use Rattle.bf_machine.specs.interleaving.Calls.{CanExec, HasReplied, IsToExec}
 use Rattle.bf_machine.specs.interleaving.Answering.{CanAnswer, IsAnswer, IsNext}
-use Rattle.bf_machine.specs.interleaving.Events.{Executes, Refuses, rest_of, stands_inside, stepped, text_of}
+use Rattle.bf_machine.specs.interleaving.Events.{Executes, Refuses, rest_of, stands_inside, stepped, text_of, with_open}
 use Rattle.bf_machine.specs.interleaving.Groups.{HasRun, NewIndex, NewTable, Pending, Rows, answered_by, pending_behind, reply_on}
 use Rattle.bf_machine.specs.interleaving.Kept.{IsKept, IsOpenGroup}
 use Rattle.bf_machine.specs.interleaving.Machines.{Machine, Open, open_at, told_at}
@@ -39,6 +39,7 @@ use Rattle.bf_machine.proofs.interleaving.Running.{nothing_left, stays_open}
 use Rattle.bf_machine.proofs.interleaving.Telling.{length-part}
 use Rattle.bf_machine.proofs.interleaving.Texts.{IsText, are_texts}
 use Rattle.bf_machine.proofs.keeping.Ending.{all_told, left_size, room_for_reply, there}
+use Rattle.bf_machine.proofs.keeping.Numbers.{bound_still}
 use Rattle.bf_machine.proofs.keeping.Exchanging.{exchanged_sound, seen_same, seen_with_open, seen_with_told}
 use Rattle.bf_machine.proofs.keeping.Places.{open_there, told_there}
 
@@ -70,6 +71,25 @@ module _ (locks : Locks) (owner : ℕ) (db : Database) (ss : List Statement) whe
 pub on_err : {A E : Type 0} (r : Result A E) (P : Type 0) → P → OnErr r P
 on_err (Ok a) P p = tt
 on_err (Err e) P p = p
+
+-- where the catalog has the number that it had when a statement was bound, the statement is bound so now
+executes_as_bound : (m : Machine) → IsKept empty_database m → (s : ℕ) (bound : Bound) → IsToExec m s bound → bound.catalog ≡ m.db.number
+    → (next : Machine) × (by : Executes m s next) × (by.bound ≡ bound)
+executes_as_bound m kept s bound there number =
+    let by : Executes m s (with_open m s (Some (stepped m s there.o there.statement bound))) = record {
+      current = there.current;
+      o = there.o;
+      is = there.is;
+      statement = there.statement;
+      later = there.later;
+      left = there.left;
+      goes_on = there.goes_on;
+      bound = bound;
+      bound_so = bound_still empty_database m kept there.prefix (stands_inside there.o.replies) there.statement bound there.bound_so number;
+      held = there.held;
+      goes = refl;
+    } in
+    (with_open m s (Some (stepped m s there.o there.statement bound)), by, refl)
 
 some_there : (ss : List Statement) → list_any ends_block ss ≡ true → 1 ≤ length ss
 some_there [] any = absurd (false≢true any)
@@ -108,8 +128,11 @@ module _ (script : Script) (retries : ℕ) (db : Database) (locks : Locks) (bega
         let clash : None ≡ Some o = sym by.closed ∙ group_there in
         cc
 
-    pub executes_there : (bound : Bound) → CanExec m s bound → (next : Machine) × (by : Executes m s next) × (by.bound ≡ bound)
-    executes_there bound can = elim can as (λ _. (next : Machine) × (by : Executes m s next) × (by.bound ≡ bound)) [ inl there ↦ there | inr refused ↦ absurd (not_refused refused.0 refused.1) ]
+    executes_there : (bound : Bound) → bound.catalog ≡ db.number → CanExec m s bound → (next : Machine) × (by : Executes m s next) × (by.bound ≡ bound)
+    executes_there bound number can = elim can as (λ _. (next : Machine) × (by : Executes m s next) × (by.bound ≡ bound)) [
+      | inl there ↦ executes_as_bound m sound.kept s bound there number
+      | inr refused ↦ absurd (not_refused refused.0 refused.1)
+    ]
 
     -- what is pending is seen as before
     module _ (p : PendingChange) (alike : pending_seen p ≡ pending_seen g.pending) (y : SessionSoFar) (opened : y.«open» ≡ Some (record g { pending = p })) (replies : y.replies.items ≡ x.replies.items)
@@ -213,13 +236,13 @@ module _ (script : Script) (retries : ℕ) (db : Database) (locks : Locks) (bega
     all_before = told_there script retries db locks began sessions history.items x s low high at ∙ ap (told_before x.replies.items) is
 
     -- nothing is executed there
-    pub not_executed : (next : Machine) → Executes m s next → ⊥
-    not_executed next by =
-        let clash : None ≡ Some by.o = sym none_there ∙ by.is in
-        cc
-
-    pub refuses_there : (bound : Bound) → CanExec m s bound → (next : Machine) × Refuses m s next
-    refuses_there bound can = elim can as (λ _. (next : Machine) × Refuses m s next) [ inl there ↦ absurd (not_executed there.0 there.1) | inr refused ↦ refused ]
+    refuses_there : (bound : Bound) → CanExec m s bound → (next : Machine) × Refuses m s next
+    refuses_there bound can = elim can as (λ _. (next : Machine) × Refuses m s next) [
+      | inl there ↦
+          let clash : None ≡ Some there.o = sym none_there ∙ there.is in
+          absurd cc
+      | inr refused ↦ refused
+    ]
 
     module _ (next : Machine) (by : Refuses m s next) where
       pub has_room_to_refuse : length x.replies.items < vec_capacity x.replies
@@ -266,19 +289,19 @@ module _ (script : Script) (retries : ℕ) (db : Database) (locks : Locks) (bega
   abbrev session_of : Vec Reply → Option OpenGroup → SessionSoFar
   session_of replies after = record { replies = replies; «open» = after; latest = x.latest }
 
-  module _ (bound : Bound) (can : CanExec m s bound) where
+  module _ (bound : Bound) (can : CanExec m s bound) (number : bound.catalog ≡ db.number) where
     pub may_reply : IfSome x.«open» (λ g. CanAnswer db (pending_seen g.pending) bound)
     may_reply =
         let P : Option OpenGroup → Type 0 = λ (o : Option OpenGroup). IfSome o (λ g. CanAnswer db (pending_seen g.pending) bound) in
         by_open (P x.«open») (λ is. subst P (sym is) tt) (λ g is.
-        let there = executes_there g is bound can in
+        let there = executes_there g is bound number can in
         let answers : CanAnswer db (pending_seen g.pending) bound = subst (CanAnswer db (pending_seen g.pending)) there.2 (can_answer g is there.0 there.1) in
         subst P (sym is) answers)
 
     pub room_for_next : length x.replies.items < vec_capacity x.replies
     room_for_next =
         by_open (length x.replies.items < vec_capacity x.replies) (λ is. let there = refuses_there is bound can in has_room_to_refuse is there.0 there.1)
-        (λ g is. let there = executes_there g is bound can in has_room g is there.0 there.1)
+        (λ g is. let there = executes_there g is bound number can in has_room g is there.0 there.1)
 
     -- there is a reply
     module _ (r : Reply) (after : Option OpenGroup) (refused : x.«open» ≡ None → (after ≡ None) × (r ≡ reply.Refused NoTransaction))
@@ -291,21 +314,21 @@ module _ (script : Script) (retries : ℕ) (db : Database) (locks : Locks) (bega
       more_is : r ≡ reply.Refused NoTransaction → replies.items ≡ x.replies.items ++ reply.Refused NoTransaction ∷ []
       more_is same = items ∙ ap (λ (r : Reply). x.replies.items ++ r ∷ []) same
 
-      pub replied : Executes m s (then y) ⊎ Refuses m s (then y)
+      pub replied : HasReplied m s bound (then y)
       replied =
-          by_open (Executes m s (then y) ⊎ Refuses m s (then y))
+          by_open (HasReplied m s bound (then y))
           (λ is.
           let there = refuses_there is bound can in
           let so = refused is in
           inr (refuses is there.0 there.1 y so.0 (more_is so.1) refl capacity))
           (λ g is.
-          let there = executes_there g is bound can in
+          let there = executes_there g is bound number can in
           let so = answered g is in
           let by = there.1 in
           let block = stands_inside (drop (g.first - 1) x.replies.items) in
           let means : IsAnswer db (pending_seen g.pending) by.bound block by.statement r (pending_seen so.0) =
           subst (λ (b : Bound). IsAnswer db (pending_seen g.pending) b block by.statement r (pending_seen so.0)) (sym there.2) (so.2 block by.statement) in
-          inl (executes g is there.0 by so.0 r means y so.1 items refl capacity))
+          inl (executes g is there.0 by so.0 r means y so.1 items refl capacity, there.2))
 
       pub replied_sound : IsSound script retries db locks began (slice_set sessions (s - 1) y) history commits transcripts
       replied_sound =
@@ -315,7 +338,7 @@ module _ (script : Script) (retries : ℕ) (db : Database) (locks : Locks) (bega
           let so = refused is in
           refused_sound is there.0 there.1 y so.0 (more_is so.1) refl capacity)
           (λ g is.
-          let there = executes_there g is bound can in
+          let there = executes_there g is bound number can in
           let so = answered g is in
           let by = there.1 in
           let block = stands_inside (drop (g.first - 1) x.replies.items) in

@@ -12,6 +12,7 @@ use Rattle.bf_sql.specs.Groups.{session_at}
 use Rattle.bf_machine.specs.interleaving.Machines.{Machine}
 use Rattle.bf_machine.specs.interleaving.Serving.{is_in_block}
 use Rattle.bf_live.proofs.statements.Bare.{bare_is_database}
+use Rattle.bf_machine.proofs.keeping.Numbers.{bound_number}
 use Rattle.bf_machine.proofs.served.Binding.{in_ok, next_bound, next_limits, next_planned, next_within, session_read}
 use Rattle.bf_machine.proofs.serving.bind_next.Goals as goal
 
@@ -55,8 +56,8 @@ bind-requires-clause-limits c =
     subst (λ (catalog : Catalog). KeepsLimits catalog c.index-as_slice-place.result) (sym c.catalog.ensures.catalog)
     (next_limits m c.requires.kept c.requires.servable s c.args.place c.requires.place c.requires.stands c.index-as_slice-place.result here)
 
-pub returns : goal.returns
-returns c =
+pub returns-clause-next : goal.returns-clause-next
+returns-clause-next c =
     let m : Machine = c.args.machine.now in
     let s = c.args.session in
     let st = c.index-as_slice-place.result in
@@ -73,3 +74,11 @@ returns c =
     (subst (λ (b : Bool). bound_of (without_rows c.catalog.result.now) b st ≡ Some bound) c.is_in_block.ensures so) in
     next_bound m c.requires.kept c.requires.servable s c.args.place c.requires.place c.requires.stands st here bound there)
     c.bind.ensures
+
+pub returns-clause-number : goal.returns-clause-number
+returns-clause-number c =
+    let m : Machine = c.args.machine.now in
+    let catalog : c.catalog.result.now ≡ catalog_of m.db = c.catalog.ensures.catalog in
+    in_ok c.bind.result
+    (λ bound so. bound_number (without_rows c.catalog.result.now) c.is_in_block.result c.index-as_slice-place.result bound so
+    ∙ ap (λ (catalog : Catalog). catalog.number) catalog) c.bind.ensures

@@ -8,11 +8,11 @@ use Rattle.bf_machine.proofs.serving.serve.Goals as goal
 pub returns-in_err-bound-clause-reaches : goal.returns-in_err-bound-clause-reaches
 returns-in_err-bound-clause-reaches c = at_once
 
-pub returns-in_err-exec-clause-reaches : goal.returns-in_err-exec-clause-reaches
-returns-in_err-exec-clause-reaches c = subst (Reaches empty_database c.args.machine.now) (sym c.in_err-exec.ensures.err) at_once
+pub returns-in_err-reply_to-clause-reaches : goal.returns-in_err-reply_to-clause-reaches
+returns-in_err-reply_to-clause-reaches c = subst (Reaches empty_database c.args.machine.now) (sym c.in_err-reply_to.ensures.err) at_once
 
 pub returns-clause-reaches : goal.returns-clause-reaches
-returns-clause-reaches c = (replies_now c.args.machine.now c.args.session c.requires.kept c.exec.new.self c.in_ok-exec.ensures.replied).0
+returns-clause-reaches c = (replies_now c.args.machine.now c.args.session c.requires.kept c.in_ok-bound.bound c.reply_to.new.machine c.in_ok-reply_to.ensures.replied).0
 
 pub returns-clause-turn : goal.returns-clause-turn
-returns-clause-turn c = (replies_now c.args.machine.now c.args.session c.requires.kept c.exec.new.self c.in_ok-exec.ensures.replied).1
+returns-clause-turn c = (replies_now c.args.machine.now c.args.session c.requires.kept c.in_ok-bound.bound c.reply_to.new.machine c.in_ok-reply_to.ensures.replied).1

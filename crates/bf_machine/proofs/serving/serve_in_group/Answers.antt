@@ -10,7 +10,7 @@ use Rattle.bf_machine.specs.interleaving.Serving.{HasLocked, unanswered}
 use Rattle.bf_machine.proofs.interleaving.Reaching.{reached_keeps_all}
 use Rattle.bf_machine.proofs.served.Events.{serves_both}
 use Rattle.bf_machine.proofs.served.Goes.{reaches_both}
-use Rattle.bf_machine.proofs.served.Replying.{can_reply, has_replied}
+use Rattle.bf_machine.proofs.served.Replying.{can_reply, has_replied, is_present}
 use Rattle.bf_machine.proofs.serving.serve_in_group.Goals as goal
 
 pub footprint-requires : goal.footprint-requires
@@ -21,14 +21,23 @@ footprint-requires c =
 pub returns-in_err-locks-clause-reaches : goal.returns-in_err-locks-clause-reaches
 returns-in_err-locks-clause-reaches c = at_once
 
-pub exec-requires-clause-can : goal.exec-requires-clause-can
-exec-requires-clause-can c =
+pub reply_to-requires-clause-can : goal.reply_to-requires-clause-can
+reply_to-requires-clause-can c =
     let m : Machine = c.args.machine.now in
     let s = c.args.session in
     let next = c.requires.next in
     let locked : HasLocked m s (footprint_of c.args.bound.now) c.lock_all.new.machine =
     subst (λ (fs : List Lock). HasLocked m s fs c.lock_all.new.machine) (c.as_slice.ensures.value ∙ c.in_ok-locks.ensures) (c.in_ok-turn.ensures.locked (ap Ok c.in-Served.is)) in
-    can_reply m s next.0 c.args.bound.now next.1 c.lock_all.new.machine locked
+    can_reply m s next.0 c.args.bound.now next.1 c.lock_all.new.machine locked c.requires.kept
+
+pub reply_to-requires-clause-present : goal.reply_to-requires-clause-present
+reply_to-requires-clause-present c =
+    let m : Machine = c.args.machine.now in
+    let s = c.args.session in
+    let next = c.requires.next in
+    let locked : HasLocked m s (footprint_of c.args.bound.now) c.lock_all.new.machine =
+    subst (λ (fs : List Lock). HasLocked m s fs c.lock_all.new.machine) (c.as_slice.ensures.value ∙ c.in_ok-locks.ensures) (c.in_ok-turn.ensures.locked (ap Ok c.in-Served.is)) in
+    is_present m s next.0 c.args.bound.now next.1 c.lock_all.new.machine locked
 
 pub end_if_answered-requires-clause-kept : goal.end_if_answered-requires-clause-kept
 end_if_answered-requires-clause-kept c =
@@ -38,8 +47,8 @@ end_if_answered-requires-clause-kept c =
     let locked : HasLocked m s (footprint_of c.args.bound.now) c.lock_all.new.machine =
     subst (λ (fs : List Lock). HasLocked m s fs c.lock_all.new.machine) (c.as_slice.ensures.value ∙ c.in_ok-locks.ensures) (c.in_ok-turn.ensures.locked (ap Ok c.in-Served.is)) in
     let kept = reached_keeps_all empty_database m c.lock_all.new.machine c.requires.kept c.in_ok-turn.ensures.reaches in
-    let replied = has_replied m s next.0 c.args.bound.now next.1 c.lock_all.new.machine locked kept c.exec.new.self c.in_ok-exec.ensures.replied in
-    reached_keeps_all empty_database m c.exec.new.self c.requires.kept (one_more c.in_ok-turn.ensures.reaches replied.0)
+    let replied = has_replied m s next.0 c.args.bound.now next.1 c.lock_all.new.machine locked kept c.reply_to.new.machine c.in_ok-reply_to.ensures.replied in
+    reached_keeps_all empty_database m c.reply_to.new.machine c.requires.kept (one_more c.in_ok-turn.ensures.reaches replied.0)
 
 pub returns-in_err-end_if_answered-clause-reaches : goal.returns-in_err-end_if_answered-clause-reaches
 returns-in_err-end_if_answered-clause-reaches c =
@@ -49,8 +58,8 @@ returns-in_err-end_if_answered-clause-reaches c =
     let locked : HasLocked m s (footprint_of c.args.bound.now) c.lock_all.new.machine =
     subst (λ (fs : List Lock). HasLocked m s fs c.lock_all.new.machine) (c.as_slice.ensures.value ∙ c.in_ok-locks.ensures) (c.in_ok-turn.ensures.locked (ap Ok c.in-Served.is)) in
     let kept = reached_keeps_all empty_database m c.lock_all.new.machine c.requires.kept c.in_ok-turn.ensures.reaches in
-    let replied = has_replied m s next.0 c.args.bound.now next.1 c.lock_all.new.machine locked kept c.exec.new.self c.in_ok-exec.ensures.replied in
-    reaches_both empty_database m c.exec.new.self c.end_if_answered.new.machine (one_more c.in_ok-turn.ensures.reaches replied.0) c.end_if_answered.ensures.reaches
+    let replied = has_replied m s next.0 c.args.bound.now next.1 c.lock_all.new.machine locked kept c.reply_to.new.machine c.in_ok-reply_to.ensures.replied in
+    reaches_both empty_database m c.reply_to.new.machine c.end_if_answered.new.machine (one_more c.in_ok-turn.ensures.reaches replied.0) c.end_if_answered.ensures.reaches
 
 pub returns-clause-reaches : goal.returns-clause-reaches
 returns-clause-reaches c =
@@ -60,8 +69,8 @@ returns-clause-reaches c =
     let locked : HasLocked m s (footprint_of c.args.bound.now) c.lock_all.new.machine =
     subst (λ (fs : List Lock). HasLocked m s fs c.lock_all.new.machine) (c.as_slice.ensures.value ∙ c.in_ok-locks.ensures) (c.in_ok-turn.ensures.locked (ap Ok c.in-Served.is)) in
     let kept = reached_keeps_all empty_database m c.lock_all.new.machine c.requires.kept c.in_ok-turn.ensures.reaches in
-    let replied = has_replied m s next.0 c.args.bound.now next.1 c.lock_all.new.machine locked kept c.exec.new.self c.in_ok-exec.ensures.replied in
-    reaches_both empty_database m c.exec.new.self c.end_if_answered.new.machine (one_more c.in_ok-turn.ensures.reaches replied.0) c.end_if_answered.ensures.reaches
+    let replied = has_replied m s next.0 c.args.bound.now next.1 c.lock_all.new.machine locked kept c.reply_to.new.machine c.in_ok-reply_to.ensures.replied in
+    reaches_both empty_database m c.reply_to.new.machine c.end_if_answered.new.machine (one_more c.in_ok-turn.ensures.reaches replied.0) c.end_if_answered.ensures.reaches
 
 pub returns-clause-turn : goal.returns-clause-turn
 returns-clause-turn c =
@@ -71,10 +80,10 @@ returns-clause-turn c =
     let locked : HasLocked m s (footprint_of c.args.bound.now) c.lock_all.new.machine =
     subst (λ (fs : List Lock). HasLocked m s fs c.lock_all.new.machine) (c.as_slice.ensures.value ∙ c.in_ok-locks.ensures) (c.in_ok-turn.ensures.locked (ap Ok c.in-Served.is)) in
     let kept = reached_keeps_all empty_database m c.lock_all.new.machine c.requires.kept c.in_ok-turn.ensures.reaches in
-    let replied = has_replied m s next.0 c.args.bound.now next.1 c.lock_all.new.machine locked kept c.exec.new.self c.in_ok-exec.ensures.replied in
+    let replied = has_replied m s next.0 c.args.bound.now next.1 c.lock_all.new.machine locked kept c.reply_to.new.machine c.in_ok-reply_to.ensures.replied in
     let less : unanswered c.end_if_answered.new.machine s < unanswered m s = omega (arith, replied.2, c.in_ok-end_if_answered.ensures.replies) in
     record {
-      serves = serves_both m s c.exec.new.self c.end_if_answered.new.machine replied.1 c.in_ok-end_if_answered.ensures.serves;
+      serves = serves_both m s c.reply_to.new.machine c.end_if_answered.new.machine replied.1 c.in_ok-end_if_answered.ensures.serves;
       no_more = omega (arith, less);
       goes = inl less;
     }
