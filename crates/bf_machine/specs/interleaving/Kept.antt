@@ -1,5 +1,5 @@
 -- WHAT EVERY EVENT KEEPS of a machine whose sessions take turns.
-use Rattle.std.specs.Prelude.{◌≡◌, ◌≢◌, ◌⊎◌, ℕ, ◌+◌, ◌<◌, ◌≤◌, Bool, true, false, List, [], ◌∷◌, length, map, take, Option, Some, None, Contains, slice_index_or}
+use Rattle.std.specs.Prelude.{◌≡◌, ◌≢◌, ◌⊎◌, ℕ, ◌+◌, ◌<◌, ◌≤◌, Bool, true, false, List, [], ◌∷◌, ◌++◌, length, map, take, Option, Some, None, Contains, slice_index_or}
 use Rattle.std.specs.FinMap as fin
 use Rattle.std.specs.List.{AllByRecursion}
 use Rattle.bf_locks.specs.declared.mode.Mode.{Mode}
@@ -79,9 +79,9 @@ module _ (start : Database) (script : Script) (began : List Began) (history : Li
     pub older : h < own
     pub clash : Clash start script history s group other theirs
 
-  -- the causes of a machine without a log: a group ends by a death where it has died once more than the retries
+  -- the causes of a machine without a log: a group ends by the last of its deaths, where it has died once more than the retries
   abbrev pub IsAllowed : ℕ → ℕ → Group → Cause → Type 0
-  IsAllowed retries s group (Died h) = (died : DiedFor s group h) × (length died.has.deaths ≡ retries + 1)
+  IsAllowed retries s group (Died h) = (died : DiedFor s group h) × (before : List ℕ) × (died.has.deaths ≡ before ++ h ∷ []) × (length before ≡ retries)
   IsAllowed retries s group other = ⊥
 
 module _ (start : Database) (m : Machine) where
