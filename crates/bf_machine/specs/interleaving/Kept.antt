@@ -7,6 +7,7 @@ use Rattle.bf_locks.specs.declared.name.LockName.{LockName}
 use Rattle.bf_locks.specs.Locks.{held, IsConsistent}
 use Rattle.bf_locks.specs.Modes.{are_compatible, join_of}
 use Rattle.bf_tree.specs.declared.history.Entry.{Entry}
+use Rattle.bf_tree.specs.declared.history.Outcome.{Outcome}
 use Rattle.bf_tree.specs.declared.reply.Cause.{Cause}
 use Rattle.bf_tree.specs.declared.reply.Cause.TheVariants.{Died}
 use Rattle.bf_tree.specs.declared.reply.Reply.{Reply}
@@ -15,7 +16,7 @@ use Rattle.bf_tree.specs.declared.script.Session.{Session}
 use Rattle.bf_tree.specs.declared.statement.Statement.{Statement}
 use Rattle.bf_sql.specs.Database.{Database, IsDatabase}
 use Rattle.bf_sql.specs.Groups.{session_at, groups_in, statements_in}
-use Rattle.bf_sql.specs.History.{IsLegalHistory, replayed}
+use Rattle.bf_sql.specs.History.{IsEndedBy, IsLegalHistory, replayed}
 use Rattle.bf_machine.specs.InOrder.{none_open}
 use Rattle.bf_machine.specs.interleaving.Groups.{footprint_in, HasRun}
 use Rattle.bf_machine.specs.interleaving.Machines.{Group, Began, Open, Machine, open_at, told_at, began_at, answered_in, has_open, transcripts_of}
@@ -56,6 +57,14 @@ pub record HasStart (began : List Began) (s : ℕ) (group : Group) (n : ℕ) : T
 -- a group has ended: it stands in the history, or its statements have a cause as their reply
 abbrev pub HasEnded : Machine → ℕ → Group → Type 0
 HasEnded m s group = group.1 ≤ length (told_at m s)
+
+-- a group stands in the history: an entry of its session has its first and its last statement
+abbrev pub StandsInHistory : Machine → ℕ → Group → Type 0
+StandsInHistory m s group = (outcome : Outcome) × Contains m.history (record { session = s; first = group.0; last = group.1; outcome = outcome })
+
+-- each of its statements has a cause as its reply
+abbrev pub IsToldACause : Machine → ℕ → Group → Type 0
+IsToldACause m s group = (cause : Cause) × IsEndedBy m.script m.told s group cause
 
 -- session s is of the current phase or of an earlier one: all sessions of phases before its own have ended
 abbrev pub IsCurrent : Machine → ℕ → Type 0
