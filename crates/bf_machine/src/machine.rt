@@ -5,12 +5,12 @@ mod stands;
 mod statements;
 mod turns;
 
-ghost use Rattle.std.specs.Prelude.{◌≡◌, ◌↔◌, ◌-◌, ◌≤◌, IfOk, None, OnOk, length, slice_get, true};
+ghost use Rattle.std.specs.Prelude.{◌≡◌, ◌↔◌, IfOk, None, OnOk, length, true};
 ghost use Rattle.std.specs.Option.{option_map};
 ghost use Rattle.bf_sql.specs.Bound.{catalog_of};
 ghost use Rattle.bf_sql.specs.Database.{IsDatabase, empty_database};
 ghost use Rattle.bf_sql.specs.History.{replayed};
-ghost use Rattle.bf_machine.specs.interleaving.Calls.{IsCovered, IsPlace, next_place, replies_at};
+ghost use Rattle.bf_machine.specs.interleaving.Calls.{IsCovered, IsPlace, next_place, reply_at};
 ghost use Rattle.bf_machine.specs.interleaving.Serving.{is_answered, is_in_block};
 ghost use Rattle.bf_machine.specs.interleaving.Kept.{IsKept, TranscriptsLegal, fresh};
 ghost use Rattle.bf_machine.specs.interleaving.Machines.{open_at, transcripts_of};
@@ -117,14 +117,11 @@ impl Machine {
     /// The reply to a statement of a session, both counted from 1, as it stands now, that of an open
     /// group included. `None` exactly where the statement has no reply.
     pub fn reply(&self, session: u32, statement: u32) -> Option<&Reply>
-        requires session { IsPlace self.now.script session }
-        requires statement { 1 ≤ statement }
-        ensures { option_map (λ reply. reply.now) result
-            ≡ slice_get (replies_at self.now session) (statement - 1) }
+        requires { IsPlace self.now.script session }
+        ensures { option_map (λ reply. reply.now) result ≡ reply_at self.now session statement }
     {
-        let place = session as usize - 1;
-        let so_far = &self.sessions[place];
-        so_far.replies.get(statement as usize - 1)
+        let so_far = &self.sessions[session as usize - 1];
+        so_far.replies.get(statement.checked_sub(1)? as usize)
     }
 
     /// The number of a session's next statement, and `None` exactly at its end.

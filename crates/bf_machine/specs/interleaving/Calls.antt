@@ -1,5 +1,5 @@
 -- THE CONDITIONS of the machine's calls on a session, counted from 1, and where it stands by them.
-use Rattle.std.specs.Prelude.{◌≡◌, ◌⊎◌, ℕ, ◌+◌, ◌≤◌, ◌==◌, false, List, [], ◌∷◌, ◌++◌, length, take, Option, Some, None, Contains, IsSomeAnd, nat_lt, if◌then◌else◌}
+use Rattle.std.specs.Prelude.{◌≡◌, ◌⊎◌, ℕ, ◌+◌, ◌-◌, ◌≤◌, ◌==◌, false, List, [], ◌∷◌, ◌++◌, length, take, Option, Some, None, Contains, IsSomeAnd, nat_lt, slice_get, if◌then◌else◌}
 use Rattle.bf_locks.specs.declared.mode.Mode.{Mode}
 use Rattle.bf_locks.specs.declared.name.LockName.{LockName}
 use Rattle.bf_tree.specs.declared.bound.Bound.{Bound}
@@ -31,6 +31,10 @@ module _ (m : Machine) (s : ℕ) where
 
   abbrev pub statements_at : List Statement
   statements_at = (session_at m.script s).statements
+
+  -- the reply to statement n, counted from 1
+  abbrev pub reply_at : ℕ → Option Reply
+  reply_at n = if n == 0 then None else slice_get replies_at (n - 1)
 
   -- the number of the next statement
   abbrev pub next_place : Option ℕ
