@@ -15,7 +15,7 @@ use Rattle.bf_tree.specs.declared.reply.Reply.TheVariants as reply
 use Rattle.bf_tree.specs.declared.script.Script.{Script}
 use Rattle.bf_tree.specs.declared.statement.Statement.{Statement}
 use Rattle.bf_sql.specs.Bound.{bound_of}
-use Rattle.bf_sql.specs.Database.{Database, IsDatabase, empty_database}
+use Rattle.bf_sql.specs.Database.{Database, IsDatabase}
 use Rattle.bf_sql.specs.Footprints.{footprint_of}
 use Rattle.bf_sql.specs.Groups.{ends_block, groups_in, has_statement, session_at, statements_in}
 use Rattle.bf_txn.specs.declared.write.Write.{Write}
@@ -75,8 +75,8 @@ some_there : (ss : List Statement) → list_any ends_block ss ≡ true → 1 ≤
 some_there [] any = absurd (false≢true any)
 some_there (s ∷ ss) any = omega arith
 
-module _ (script : Script) (retries : ℕ) (db : Database) (locks : Locks) (began : List BeganGroup) (sessions : List SessionSoFar) (history : Vec Entry) (commits : ℕ) (transcripts : Vec (List Reply))
-    (sound : IsSound script retries db locks began sessions history commits transcripts)
+module _ {opening : Database} {given : Script} (script : Script) (retries : ℕ) (db : Database) (locks : Locks) (began : List BeganGroup) (sessions : List SessionSoFar) (history : Vec Entry) (commits : ℕ) (transcripts : Vec (List Reply))
+    (sound : IsSound opening given script retries db locks began sessions history commits transcripts)
     (s : ℕ) (low : 1 ≤ s) (high : s ≤ length sessions) (x : SessionSoFar) (at : slice_index_or sessions (s - 1) x ≡ x) where
   abbrev m : Machine
   m = seen script retries db locks began sessions history.items
@@ -92,7 +92,7 @@ module _ (script : Script) (retries : ℕ) (db : Database) (locks : Locks) (bega
     group_there : open_at m s ≡ Some o
     group_there = there script retries db locks began sessions history commits transcripts sound s low high x at g is
 
-    own : IsOpenGroup empty_database m s o
+    own : IsOpenGroup opening m s o
     own = sound.kept.open_groups_replay.each s o group_there
 
     -- the replies before the group's are there
@@ -199,10 +199,10 @@ module _ (script : Script) (retries : ℕ) (db : Database) (locks : Locks) (bega
           goes = seen_with_open script retries db locks began sessions history.items s x at y told_before_is (Some (stepped m s o by.statement by.bound)) open_stepped;
         }
 
-        pub executed_sound : IsSound script retries db locks began (slice_set sessions (s - 1) y) history commits transcripts
+        pub executed_sound : IsSound opening given script retries db locks began (slice_set sessions (s - 1) y) history commits transcripts
         executed_sound =
             exchanged_sound script retries db locks began sessions history commits transcripts sound s low high x at y (ap is_some opened ∙ sym (ap is_some is)) latest capacity
-            (exec_keeps_all empty_database m sound.kept s (are_texts script) (then y) executes)
+            (exec_keeps_all opening m sound.kept s (are_texts script) (then y) executes)
 
   -- IN NO GROUP
   module _ (is : x.«open» ≡ None) where
@@ -250,10 +250,10 @@ module _ (script : Script) (retries : ℕ) (db : Database) (locks : Locks) (bega
           goes = seen_with_told script retries db locks began sessions history.items s x at y open_as_before (told_at m s ++ reply.Refused NoTransaction ∷ []) told_more_is;
         }
 
-        pub refused_sound : IsSound script retries db locks began (slice_set sessions (s - 1) y) history commits transcripts
+        pub refused_sound : IsSound opening given script retries db locks began (slice_set sessions (s - 1) y) history commits transcripts
         refused_sound =
             exchanged_sound script retries db locks began sessions history commits transcripts sound s low high x at y (ap is_some closed ∙ sym (ap is_some is)) latest capacity
-            (refuse_keeps_all empty_database m sound.kept (are_texts script) s (then y) refuses)
+            (refuse_keeps_all opening m sound.kept (are_texts script) s (then y) refuses)
 
   -- IN EITHER: what the session's open group is behind the reply, or behind none
   by_open : (P : Type 0) → (x.«open» ≡ None → P) → ((g : OpenGroup) → x.«open» ≡ Some g → P) → P
@@ -307,9 +307,9 @@ module _ (script : Script) (retries : ℕ) (db : Database) (locks : Locks) (bega
           subst (λ (b : Bound). IsAnswer db (pending_seen g.pending) b block by.statement r (pending_seen so.0)) (sym there.2) (so.2 block by.statement) in
           inl (executes g is there.0 by so.0 r means y so.1 items refl capacity))
 
-      pub replied_sound : IsSound script retries db locks began (slice_set sessions (s - 1) y) history commits transcripts
+      pub replied_sound : IsSound opening given script retries db locks began (slice_set sessions (s - 1) y) history commits transcripts
       replied_sound =
-          by_open (IsSound script retries db locks began (slice_set sessions (s - 1) y) history commits transcripts)
+          by_open (IsSound opening given script retries db locks began (slice_set sessions (s - 1) y) history commits transcripts)
           (λ is.
           let there = refuses_there is bound can in
           let so = refused is in
@@ -345,7 +345,7 @@ module _ (script : Script) (retries : ℕ) (db : Database) (locks : Locks) (bega
     pub seen_unanswered : then z ≡ m
     seen_unanswered = seen_same script retries db locks began sessions history.items s x at z open_still told_still
 
-    pub unanswered_sound : IsSound script retries db locks began (slice_set sessions (s - 1) z) history commits transcripts
+    pub unanswered_sound : IsSound opening given script retries db locks began (slice_set sessions (s - 1) z) history commits transcripts
     unanswered_sound =
         exchanged_sound script retries db locks began sessions history commits transcripts sound s low high x at z as_open refl (omega arith)
-        (subst (IsKept empty_database) (sym seen_unanswered) sound.kept)
+        (subst (IsKept opening) (sym seen_unanswered) sound.kept)

@@ -2,7 +2,7 @@
 use Rattle.std.proofs.Common.{◌≡◌, ◌⊎◌, ℕ, ◌<◌, Some, None, refl, sym, ap, subst, ◌∙◌, arith, inl, inr}
 use Rattle.std.proofs.lemmas.Option.{same_Some}
 use Rattle.bf_tree.specs.declared.bound.Bound.{Bound}
-use Rattle.bf_sql.specs.Database.{empty_database}
+use Rattle.bf_sql.specs.Database.{Database}
 use Rattle.bf_sql.specs.Footprints.{footprint_of}
 use Rattle.bf_live.specs.OpenGroups.{Holds}
 use Rattle.bf_machine.specs.interleaving.Calls.{CanExec}
@@ -52,9 +52,9 @@ module _ (m : Machine) (s : ℕ) (o : Open) (bound : Bound) (next : IsBoundNext 
   is_open_now : open_at now s ≡ Some o
   is_open_now = ap (λ (k : Machine). open_at k s) locked.3 ∙ next.to_lock.is
 
-  pub has_replied : (kept : IsKept empty_database now) (then : Machine) → Executes now s then ⊎ Refuses now s then
-      → Event empty_database now then × Serves m s then × (unanswered then s < unanswered m s)
-  has_replied kept then by = elim by as (λ _. Event empty_database now then × Serves m s then × (unanswered then s < unanswered m s)) [
+  pub has_replied : {start : Database} (kept : IsKept start now) (then : Machine) → Executes now s then ⊎ Refuses now s then
+      → Event start now then × Serves m s then × (unanswered then s < unanswered m s)
+  has_replied {start = start} kept then by = elim by as (λ _. Event start now then × Serves m s then × (unanswered then s < unanswered m s)) [
     | inl executed ↦
         let goes = exec_goes_on now kept s then executed in
         (executes s executed, serves_both m s now then serves_now goes.0, omega (arith, goes.1, same_unanswered))
@@ -64,8 +64,8 @@ module _ (m : Machine) (s : ℕ) (o : Open) (bound : Bound) (next : IsBoundNext 
   ]
 
 -- a reply in whatever group, or in none
-pub replies_now : (m : Machine) (s : ℕ) → IsKept empty_database m → (then : Machine) → Executes m s then ⊎ Refuses m s then → Reaches empty_database m then × HasGoneOn m s then
-replies_now m s kept then by = elim by as (λ _. Reaches empty_database m then × HasGoneOn m s then) [
+pub replies_now : {start : Database} (m : Machine) (s : ℕ) → IsKept start m → (then : Machine) → Executes m s then ⊎ Refuses m s then → Reaches start m then × HasGoneOn m s then
+replies_now {start = start} m s kept then by = elim by as (λ _. Reaches start m then × HasGoneOn m s then) [
   | inl executed ↦ let goes = exec_goes_on m kept s then executed in (one_more at_once (executes s executed), record { serves = goes.0; no_more = omega (arith, goes.1); goes = inl goes.1 })
   | inr refused ↦ let goes = refuse_goes_on m kept s then refused in (one_more at_once (refuses s refused), record { serves = goes.0; no_more = omega (arith, goes.1); goes = inl goes.1 })
 ]

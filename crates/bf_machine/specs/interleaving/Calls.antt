@@ -6,7 +6,7 @@ use Rattle.bf_tree.specs.declared.bound.Bound.{Bound}
 use Rattle.bf_tree.specs.declared.reply.Reply.{Reply}
 use Rattle.bf_tree.specs.declared.script.Script.{Script}
 use Rattle.bf_tree.specs.declared.statement.Statement.{Statement}
-use Rattle.bf_sql.specs.Database.{empty_database}
+use Rattle.bf_sql.specs.Database.{Database}
 use Rattle.bf_sql.specs.Groups.{ends_block, groups_in, session_at}
 use Rattle.bf_sql.specs.History.{replayed}
 use Rattle.bf_live.specs.OpenGroups.{HoldsIn}
@@ -57,7 +57,7 @@ module _ (m : Machine) (s : ℕ) where
   CanExec bound = ((next : Machine) × (by : Executes m s next) × (by.bound ≡ bound)) ⊎ CanRefuse
 
   -- LOCK, before the answer is known
-  pub record CanAsk (name : LockName) (mode : Mode) : Type 0 where
+  pub record CanAsk (start : Database) (name : LockName) (mode : Mode) : Type 0 where
     pub current : IsCurrent m s
     pub o : Open
     pub is : open_at m s ≡ Some o
@@ -65,7 +65,7 @@ module _ (m : Machine) (s : ℕ) where
     pub later : List Statement
     pub left : rest_of m s o ≡ statement ∷ later
     pub prefix : ℕ
-    pub asks : Contains (footprint_in (replayed m.script empty_database (take prefix m.history)).1 (stands_inside o.replies) statement) (name, mode)
+    pub asks : Contains (footprint_in (replayed m.script start (take prefix m.history)).1 (stands_inside o.replies) statement) (name, mode)
 
   -- the next statement has this number, and does not end its group
   pub record GoesOn (n : ℕ) : Type 0 where

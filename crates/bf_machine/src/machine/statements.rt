@@ -13,13 +13,14 @@ ghost use Rattle.bf_machine.specs.interleaving.Seen.{pending_seen};
 
 use crate::answer::answer;
 use crate::machine::Machine;
+use crate::opened::Opened;
 use crate::so_far::OpenGroup;
 use bf_base::Memory;
 use bf_live::LiveTables;
 use bf_tree::{Bound, Refusal, Reply};
 use std::alloc::Global;
 
-impl Machine {
+impl<N: Opened> Machine<N> {
     /// Replies to a session's next statement, as it is bound in the present catalog, on what its group
     /// sees. What it writes stays with the group. A COMMIT or ROLLBACK in no group is refused. It
     /// costs what the statement reads and writes of its table.

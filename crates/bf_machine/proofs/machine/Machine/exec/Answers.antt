@@ -11,7 +11,7 @@ use Rattle.bf_machine.proofs.keeping.Executing.{may_reply, on_err, replied, repl
 use Rattle.bf_machine.proofs.machine.Machine.exec.Goals as goal
 
 pub reply_in-requires : goal.reply_in-requires
-reply_in-requires c =
+reply_in-requires g c =
     let i = c.self.inside in
     let s = c.args.session in
     let x : SessionSoFar = c.index_mut-so_far.result.now in
@@ -23,7 +23,7 @@ reply_in-requires c =
     c.args.bound.now can
 
 pub push_reserved-requires : goal.push_reserved-requires
-push_reserved-requires c =
+push_reserved-requires g c =
     let i = c.self.inside in
     let s = c.args.session in
     let x : SessionSoFar = c.index_mut-so_far.result.now in
@@ -39,7 +39,7 @@ push_reserved-requires c =
     )
 
 pub invariant_of-self : goal.invariant_of-self
-invariant_of-self c =
+invariant_of-self g c =
     let i = c.self.inside in
     let s = c.args.session in
     let x : SessionSoFar = c.index_mut-so_far.result.now in
@@ -50,7 +50,7 @@ invariant_of-self c =
     (λ g is. let so = c.in_err-reply.ensures.answered g is in (so.0, so.1, so.3))
 
 pub returns-in_err-reply-clause-err : goal.returns-in_err-reply-clause-err
-returns-in_err-reply-clause-err c =
+returns-in_err-reply-clause-err g c =
     let i = c.self.inside in
     let s = c.args.session in
     let x : SessionSoFar = c.index_mut-so_far.result.now in
@@ -63,7 +63,7 @@ returns-in_err-reply-clause-err c =
     ∙ c.self.view_is)
 
 pub invariant_of-self-2 : goal.invariant_of-self-2
-invariant_of-self-2 c =
+invariant_of-self-2 g c =
     let i = c.self.inside in
     let s = c.args.session in
     let x : SessionSoFar = c.index_mut-so_far.result.now in
@@ -76,7 +76,7 @@ invariant_of-self-2 c =
     (λ g is. let so = c.in_ok-reply.ensures.answered g is in (so.0, so.1, so.2)) c.push_reserved.new.self c.push_reserved.ensures.items (omega (arith, c.push_reserved.ensures.capacity))
 
 pub returns-clause-replied : goal.returns-clause-replied
-returns-clause-replied c =
+returns-clause-replied g c =
     let i = c.self.inside in
     let s = c.args.session in
     let x : SessionSoFar = c.index_mut-so_far.result.now in
