@@ -194,7 +194,7 @@ const TO_BEGIN: Look = Look {
 fn look_at_the_first<N: Opened, R: Abort>(rt: &R, machine: Machine<N>) -> Result<(), Fail> {
     assert_eq!(rt; machine.session_count(), 5);
     assert_eq!(rt; machine.script().phases, 2);
-    assert_eq!(rt; machine.catalog().number, 0);
+    assert_eq!(rt; machine.catalog().number(), 0);
     assert_eq!(rt; look_at(&machine, 1), Some(TO_BEGIN));
     assert_eq!(rt;
         look_at(&machine, 2),
@@ -207,7 +207,7 @@ fn look_at_the_first<N: Opened, R: Abort>(rt: &R, machine: Machine<N>) -> Result
     assert!(rt; !covers(&machine, 1, &LockName::Catalog, Mode::IS));
     assert!(rt; reply_at(&machine, 1, 1).is_none());
     let (live, transcripts, history) = machine.into_parts();
-    assert_eq!(rt; live.catalog().number, 0);
+    assert_eq!(rt; live.catalog().number(), 0);
     assert_eq!(rt; transcripts.sessions.len(), 5);
     assert!(rt; history.entries.is_empty());
     Ok(())
@@ -473,7 +473,7 @@ fn bind_again<N: Opened, R: Abort>(rt: &R, alloc: Global, machine: Machine<N>) -
         return Err(Fail::new("bound"));
     };
     assert_eq!(rt;
-        (before.catalog, behind.catalog, machine.catalog().number),
+        (before.catalog, behind.catalog, machine.catalog().number()),
         (1, 2, 2)
     );
     assert!(rt; are_made(alloc, &mut machine, &READ)?);
