@@ -1,6 +1,6 @@
 -- No event changes the script, so it stays one that is served.
 use Rattle.std.proofs.Common.{◌≡◌, ◌⊎◌, ℕ, sym, ap, subst}
-use Rattle.bf_sql.specs.Database.{empty_database}
+use Rattle.bf_sql.specs.Database.{Database}
 use Rattle.bf_machine.specs.interleaving.Events.{Event, Executes, Refuses, at_once, one_more}
 use Rattle.bf_machine.specs.interleaving.Kept.{IsKept}
 use Rattle.bf_machine.specs.interleaving.Machines.{Machine}
@@ -12,8 +12,8 @@ module _ (m next : Machine) (was : IsServable m.script) where
   pub still_served : next ≡ m → IsServable next.script
   still_served same = subst (λ (k : Machine). IsServable k.script) (sym same) was
 
-  pub served_behind : Event empty_database m next → IsServable next.script
-  served_behind event = subst IsServable (sym (reached_script empty_database m next (one_more at_once event))) was
+  pub served_behind : {start : Database} → Event start m next → IsServable next.script
+  served_behind {start = start} event = subst IsServable (sym (reached_script start m next (one_more at_once event))) was
 
-  pub served_behind_reply : (s : ℕ) → IsKept empty_database m → Executes m s next ⊎ Refuses m s next → IsServable next.script
-  served_behind_reply s kept by = subst IsServable (sym (reached_script empty_database m next (replies_now m s kept next by).0)) was
+  pub served_behind_reply : {start : Database} (s : ℕ) → IsKept start m → Executes m s next ⊎ Refuses m s next → IsServable next.script
+  served_behind_reply {start = start} s kept by = subst IsServable (sym (reached_script start m next (replies_now m s kept next by).0)) was

@@ -15,7 +15,7 @@ use Rattle.bf_tree.specs.declared.reply.Reply.TheVariants as reply
 use Rattle.bf_tree.specs.declared.script.Script.{Script}
 use Rattle.bf_tree.specs.declared.statement.Statement.{Statement}
 use Rattle.bf_sql.specs.Bound.{bound_of}
-use Rattle.bf_sql.specs.Database.{Database, IsDatabase, empty_database}
+use Rattle.bf_sql.specs.Database.{Database, IsDatabase}
 use Rattle.bf_sql.specs.Footprints.{footprint_of}
 use Rattle.bf_sql.specs.Groups.{ends_block, groups_in, has_statement, session_at, statements_in}
 use Rattle.bf_txn.specs.declared.write.Write.{Write}
@@ -73,9 +73,9 @@ on_err (Ok a) P p = tt
 on_err (Err e) P p = p
 
 -- where the catalog has the number that it had when a statement was bound, the statement is bound so now
-executes_as_bound : (m : Machine) → IsKept empty_database m → (s : ℕ) (bound : Bound) → IsToExec m s bound → bound.catalog ≡ m.db.number
+executes_as_bound : (start : Database) (m : Machine) → IsKept start m → (s : ℕ) (bound : Bound) → IsToExec m s start bound → bound.catalog ≡ m.db.number
     → (next : Machine) × (by : Executes m s next) × (by.bound ≡ bound)
-executes_as_bound m kept s bound there number =
+executes_as_bound start m kept s bound there number =
     let by : Executes m s (with_open m s (Some (stepped m s there.o there.statement bound))) = record {
       current = there.current;
       o = there.o;
@@ -85,7 +85,7 @@ executes_as_bound m kept s bound there number =
       left = there.left;
       goes_on = there.goes_on;
       bound = bound;
-      bound_so = bound_still empty_database m kept there.prefix (stands_inside there.o.replies) there.statement bound there.bound_so number;
+      bound_so = bound_still start m kept there.prefix (stands_inside there.o.replies) there.statement bound there.bound_so number;
       held = there.held;
       goes = refl;
     } in
@@ -95,8 +95,8 @@ some_there : (ss : List Statement) → list_any ends_block ss ≡ true → 1 ≤
 some_there [] any = absurd (false≢true any)
 some_there (s ∷ ss) any = omega arith
 
-module _ (script : Script) (retries : ℕ) (db : Database) (locks : Locks) (began : List BeganGroup) (sessions : List SessionSoFar) (history : Vec Entry) (commits : ℕ) (transcripts : Vec (List Reply))
-    (sound : IsSound script retries db locks began sessions history commits transcripts)
+module _ {opening : Database} {given : Script} (script : Script) (retries : ℕ) (db : Database) (locks : Locks) (began : List BeganGroup) (sessions : List SessionSoFar) (history : Vec Entry) (commits : ℕ) (transcripts : Vec (List Reply))
+    (sound : IsSound opening given script retries db locks began sessions history commits transcripts)
     (s : ℕ) (low : 1 ≤ s) (high : s ≤ length sessions) (x : SessionSoFar) (at : slice_index_or sessions (s - 1) x ≡ x) where
   abbrev m : Machine
   m = seen script retries db locks began sessions history.items
@@ -112,7 +112,7 @@ module _ (script : Script) (retries : ℕ) (db : Database) (locks : Locks) (bega
     group_there : open_at m s ≡ Some o
     group_there = there script retries db locks began sessions history commits transcripts sound s low high x at g is
 
-    own : IsOpenGroup empty_database m s o
+    own : IsOpenGroup opening m s o
     own = sound.kept.open_groups_replay.each s o group_there
 
     -- the replies before the group's are there
@@ -128,9 +128,9 @@ module _ (script : Script) (retries : ℕ) (db : Database) (locks : Locks) (bega
         let clash : None ≡ Some o = sym by.closed ∙ group_there in
         cc
 
-    executes_there : (bound : Bound) → bound.catalog ≡ db.number → CanExec m s bound → (next : Machine) × (by : Executes m s next) × (by.bound ≡ bound)
+    executes_there : (bound : Bound) → bound.catalog ≡ db.number → CanExec m s opening bound → (next : Machine) × (by : Executes m s next) × (by.bound ≡ bound)
     executes_there bound number can = elim can as (λ _. (next : Machine) × (by : Executes m s next) × (by.bound ≡ bound)) [
-      | inl there ↦ executes_as_bound m sound.kept s bound there number
+      | inl there ↦ executes_as_bound opening m sound.kept s bound there number
       | inr refused ↦ absurd (not_refused refused.0 refused.1)
     ]
 
@@ -222,10 +222,10 @@ module _ (script : Script) (retries : ℕ) (db : Database) (locks : Locks) (bega
           goes = seen_with_open script retries db locks began sessions history.items s x at y told_before_is (Some (stepped m s o by.statement by.bound)) open_stepped;
         }
 
-        pub executed_sound : IsSound script retries db locks began (slice_set sessions (s - 1) y) history commits transcripts
+        pub executed_sound : IsSound opening given script retries db locks began (slice_set sessions (s - 1) y) history commits transcripts
         executed_sound =
             exchanged_sound script retries db locks began sessions history commits transcripts sound s low high x at y (ap is_some opened ∙ sym (ap is_some is)) latest capacity
-            (exec_keeps_all empty_database m sound.kept s (are_texts script) (then y) executes)
+            (exec_keeps_all opening m sound.kept s (are_texts script) (then y) executes)
 
   -- IN NO GROUP
   module _ (is : x.«open» ≡ None) where
@@ -236,7 +236,7 @@ module _ (script : Script) (retries : ℕ) (db : Database) (locks : Locks) (bega
     all_before = told_there script retries db locks began sessions history.items x s low high at ∙ ap (told_before x.replies.items) is
 
     -- nothing is executed there
-    refuses_there : (bound : Bound) → CanExec m s bound → (next : Machine) × Refuses m s next
+    refuses_there : (bound : Bound) → CanExec m s opening bound → (next : Machine) × Refuses m s next
     refuses_there bound can = elim can as (λ _. (next : Machine) × Refuses m s next) [
       | inl there ↦
           let clash : None ≡ Some there.o = sym none_there ∙ there.is in
@@ -273,10 +273,10 @@ module _ (script : Script) (retries : ℕ) (db : Database) (locks : Locks) (bega
           goes = seen_with_told script retries db locks began sessions history.items s x at y open_as_before (told_at m s ++ reply.Refused NoTransaction ∷ []) told_more_is;
         }
 
-        pub refused_sound : IsSound script retries db locks began (slice_set sessions (s - 1) y) history commits transcripts
+        pub refused_sound : IsSound opening given script retries db locks began (slice_set sessions (s - 1) y) history commits transcripts
         refused_sound =
             exchanged_sound script retries db locks began sessions history commits transcripts sound s low high x at y (ap is_some closed ∙ sym (ap is_some is)) latest capacity
-            (refuse_keeps_all empty_database m sound.kept (are_texts script) s (then y) refuses)
+            (refuse_keeps_all opening m sound.kept (are_texts script) s (then y) refuses)
 
   -- IN EITHER: what the session's open group is behind the reply, or behind none
   by_open : (P : Type 0) → (x.«open» ≡ None → P) → ((g : OpenGroup) → x.«open» ≡ Some g → P) → P
@@ -289,7 +289,7 @@ module _ (script : Script) (retries : ℕ) (db : Database) (locks : Locks) (bega
   abbrev session_of : Vec Reply → Option OpenGroup → SessionSoFar
   session_of replies after = record { replies = replies; «open» = after; latest = x.latest }
 
-  module _ (bound : Bound) (can : CanExec m s bound) (number : bound.catalog ≡ db.number) where
+  module _ (bound : Bound) (can : CanExec m s opening bound) (number : bound.catalog ≡ db.number) where
     pub may_reply : IfSome x.«open» (λ g. CanAnswer db (pending_seen g.pending) bound)
     may_reply =
         let P : Option OpenGroup → Type 0 = λ (o : Option OpenGroup). IfSome o (λ g. CanAnswer db (pending_seen g.pending) bound) in
@@ -330,9 +330,9 @@ module _ (script : Script) (retries : ℕ) (db : Database) (locks : Locks) (bega
           subst (λ (b : Bound). IsAnswer db (pending_seen g.pending) b block by.statement r (pending_seen so.0)) (sym there.2) (so.2 block by.statement) in
           inl (executes g is there.0 by so.0 r means y so.1 items refl capacity, there.2))
 
-      pub replied_sound : IsSound script retries db locks began (slice_set sessions (s - 1) y) history commits transcripts
+      pub replied_sound : IsSound opening given script retries db locks began (slice_set sessions (s - 1) y) history commits transcripts
       replied_sound =
-          by_open (IsSound script retries db locks began (slice_set sessions (s - 1) y) history commits transcripts)
+          by_open (IsSound opening given script retries db locks began (slice_set sessions (s - 1) y) history commits transcripts)
           (λ is.
           let there = refuses_there is bound can in
           let so = refused is in
@@ -368,7 +368,7 @@ module _ (script : Script) (retries : ℕ) (db : Database) (locks : Locks) (bega
     pub seen_unanswered : then z ≡ m
     seen_unanswered = seen_same script retries db locks began sessions history.items s x at z open_still told_still
 
-    pub unanswered_sound : IsSound script retries db locks began (slice_set sessions (s - 1) z) history commits transcripts
+    pub unanswered_sound : IsSound opening given script retries db locks began (slice_set sessions (s - 1) z) history commits transcripts
     unanswered_sound =
         exchanged_sound script retries db locks began sessions history commits transcripts sound s low high x at z as_open refl (omega arith)
-        (subst (IsKept empty_database) (sym seen_unanswered) sound.kept)
+        (subst (IsKept opening) (sym seen_unanswered) sound.kept)

@@ -12,7 +12,7 @@ use Rattle.bf_tree.specs.declared.script.Script.{Script}
 use Rattle.bf_tree.specs.declared.script.Session.{Session}
 use Rattle.bf_tree.specs.declared.statement.Statement.{Statement}
 use Rattle.bf_sql.specs.Bound.{bound_of, catalog_of, is_planned, without_rows}
-use Rattle.bf_sql.specs.Database.{empty_database}
+use Rattle.bf_sql.specs.Database.{Database}
 use Rattle.bf_sql.specs.Footprints.{catalog_change, footprint_of}
 use Rattle.bf_sql.specs.Groups.{no_session, session_at}
 use Rattle.bf_live.proofs.statements.Bare.{same_bound}
@@ -64,7 +64,7 @@ pub session_read : (script : Script) (s : ℕ) → IsPlace script s → (x : Ses
 session_read script s place x =
     by_default script.sessions (s - 1) x no_session (omega (arith, place.0, place.1)) ∙ from_one no_session no_session script.sessions s place.0
 
-module _ (m : Machine) (kept : IsKept empty_database m) (servable : IsServable m.script) (s n : ℕ) (place : IsPlace m.script s) (at : StandsAs m s (stand.Statement n)) where
+module _ {start : Database} (m : Machine) (kept : IsKept start m) (servable : IsServable m.script) (s n : ℕ) (place : IsPlace m.script s) (at : StandsAs m s (stand.Statement n)) where
   -- it is one of the session's
   pub next_within : (1 ≤ n) × (n - 1 < length (session_at m.script s).statements)
   next_within = elim at as (λ _. (1 ≤ n) × (n - 1 < length (session_at m.script s).statements)) [

@@ -5,7 +5,7 @@ use Rattle.std.proofs.lemmas.Option.{same_Some}
 use Rattle.bf_tree.specs.declared.bound.Bound.{Bound}
 use Rattle.bf_tree.specs.declared.history.Entry.{Entry}
 use Rattle.bf_sql.specs.Bound.{bound_of}
-use Rattle.bf_sql.specs.Database.{Database, empty_database}
+use Rattle.bf_sql.specs.Database.{Database}
 use Rattle.bf_sql.specs.Footprints.{footprint_of}
 use Rattle.bf_sql.specs.History.{replayed}
 use Rattle.bf_live.specs.OpenGroups.{Holds}
@@ -26,10 +26,10 @@ module _ (m : Machine) (s : ℕ) (o : Open) (bound : Bound) (next : IsBoundNext 
   held = subst (λ (p : Open). Holds locked.2 p.start (footprint_of bound)) (same_Some locked.0 o (sym locked.1 ∙ next.to_lock.is)) locked.4
 
   -- it is bound in the catalog behind the whole history
-  to_exec : IsKept empty_database m → IsToExec under s bound
-  to_exec kept =
-      let present : m.db ≡ (replayed m.script empty_database (take (length m.history) m.history)).1 =
-      kept.history_legal.replay ∙ ap (λ (es : List Entry). (replayed m.script empty_database es).1) (sym (take-length m.history)) in
+  to_exec : (start : Database) → IsKept start m → IsToExec under s start bound
+  to_exec start kept =
+      let present : m.db ≡ (replayed m.script start (take (length m.history) m.history)).1 =
+      kept.history_legal.replay ∙ ap (λ (es : List Entry). (replayed m.script start es).1) (sym (take-length m.history)) in
       record {
         current = next.to_lock.current;
         o = o;
@@ -43,8 +43,8 @@ module _ (m : Machine) (s : ℕ) (o : Open) (bound : Bound) (next : IsBoundNext 
         held = held;
       }
 
-  pub can_reply : IsKept empty_database m → CanExec now s bound
-  can_reply kept = subst (λ (k : Machine). CanExec k s bound) (sym locked.3) (inl (to_exec kept))
+  pub can_reply : (start : Database) → IsKept start m → CanExec now s start bound
+  can_reply start kept = subst (λ (k : Machine). CanExec k s start bound) (sym locked.3) (inl (to_exec start kept))
 
   -- and the catalog has not changed since
   pub is_present : bound.catalog ≡ now.db.number
@@ -61,9 +61,9 @@ module _ (m : Machine) (s : ℕ) (o : Open) (bound : Bound) (next : IsBoundNext 
   is_open_now : open_at now s ≡ Some o
   is_open_now = ap (λ (k : Machine). open_at k s) locked.3 ∙ next.to_lock.is
 
-  pub has_replied : (kept : IsKept empty_database now) (then : Machine) → HasReplied now s bound then
-      → Event empty_database now then × Serves m s then × (unanswered then s < unanswered m s)
-  has_replied kept then by = elim by as (λ _. Event empty_database now then × Serves m s then × (unanswered then s < unanswered m s)) [
+  pub has_replied : {start : Database} (kept : IsKept start now) (then : Machine) → HasReplied now s bound then
+      → Event start now then × Serves m s then × (unanswered then s < unanswered m s)
+  has_replied {start = start} kept then by = elim by as (λ _. Event start now then × Serves m s then × (unanswered then s < unanswered m s)) [
     | inl executed ↦
         let goes = exec_goes_on now kept s then executed.0 in
         (executes s executed.0, serves_both m s now then serves_now goes.0, omega (arith, goes.1, same_unanswered))
@@ -73,8 +73,8 @@ module _ (m : Machine) (s : ℕ) (o : Open) (bound : Bound) (next : IsBoundNext 
   ]
 
 -- a reply in whatever group, or in none
-pub replies_now : (m : Machine) (s : ℕ) → IsKept empty_database m → (bound : Bound) (then : Machine) → HasReplied m s bound then → Reaches empty_database m then × HasGoneOn m s then
-replies_now m s kept bound then by = elim by as (λ _. Reaches empty_database m then × HasGoneOn m s then) [
+pub replies_now : {start : Database} (m : Machine) (s : ℕ) → IsKept start m → (bound : Bound) (then : Machine) → HasReplied m s bound then → Reaches start m then × HasGoneOn m s then
+replies_now {start = start} m s kept bound then by = elim by as (λ _. Reaches start m then × HasGoneOn m s then) [
   | inl executed ↦ let goes = exec_goes_on m kept s then executed.0 in (one_more at_once (executes s executed.0), record { serves = goes.0; no_more = omega (arith, goes.1); goes = inl goes.1 })
   | inr refused ↦ let goes = refuse_goes_on m kept s then refused in (one_more at_once (refuses s refused), record { serves = goes.0; no_more = omega (arith, goes.1); goes = inl goes.1 })
 ]

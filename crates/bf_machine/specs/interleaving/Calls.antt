@@ -7,7 +7,7 @@ use Rattle.bf_tree.specs.declared.reply.Reply.{Reply}
 use Rattle.bf_tree.specs.declared.script.Script.{Script}
 use Rattle.bf_tree.specs.declared.statement.Statement.{Statement}
 use Rattle.bf_sql.specs.Bound.{bound_of}
-use Rattle.bf_sql.specs.Database.{empty_database}
+use Rattle.bf_sql.specs.Database.{Database}
 use Rattle.bf_sql.specs.Footprints.{footprint_of}
 use Rattle.bf_sql.specs.Groups.{ends_block, groups_in, session_at}
 use Rattle.bf_sql.specs.History.{replayed}
@@ -61,7 +61,7 @@ module _ (m : Machine) (s : ℕ) where
   CanRefuse = (next : Machine) × Refuses m s next
 
   -- the next statement of an open group, as it is bound after some prefix of the history, whose footprint is held
-  pub record IsToExec (bound : Bound) : Type 0 where
+  pub record IsToExec (start : Database) (bound : Bound) : Type 0 where
     pub current : IsCurrent m s
     pub o : Open
     pub is : open_at m s ≡ Some o
@@ -70,12 +70,12 @@ module _ (m : Machine) (s : ℕ) where
     pub left : rest_of m s o ≡ statement ∷ later
     pub goes_on : ends_block statement ≡ false
     pub prefix : ℕ
-    pub bound_so : bound_of (replayed m.script empty_database (take prefix m.history)).1 (stands_inside o.replies) statement ≡ Some bound
+    pub bound_so : bound_of (replayed m.script start (take prefix m.history)).1 (stands_inside o.replies) statement ≡ Some bound
     pub held : Holds m.locks o.start (footprint_of bound)
 
   -- EXEC of it, or of a COMMIT or ROLLBACK in no group
-  abbrev pub CanExec : Bound → Type 0
-  CanExec bound = IsToExec bound ⊎ CanRefuse
+  abbrev pub CanExec : Database → Bound → Type 0
+  CanExec start bound = IsToExec start bound ⊎ CanRefuse
 
   -- how it goes: by the number of the catalog in which it is bound, and of the present one
   abbrev pub step_of : Bound → Step
@@ -86,7 +86,7 @@ module _ (m : Machine) (s : ℕ) where
   HasReplied bound next = ((by : Executes m s next) × (by.bound ≡ bound)) ⊎ Refuses m s next
 
   -- LOCK, before the answer is known
-  pub record CanAsk (name : LockName) (mode : Mode) : Type 0 where
+  pub record CanAsk (start : Database) (name : LockName) (mode : Mode) : Type 0 where
     pub current : IsCurrent m s
     pub o : Open
     pub is : open_at m s ≡ Some o
@@ -94,7 +94,7 @@ module _ (m : Machine) (s : ℕ) where
     pub later : List Statement
     pub left : rest_of m s o ≡ statement ∷ later
     pub prefix : ℕ
-    pub asks : Contains (footprint_in (replayed m.script empty_database (take prefix m.history)).1 (stands_inside o.replies) statement) (name, mode)
+    pub asks : Contains (footprint_in (replayed m.script start (take prefix m.history)).1 (stands_inside o.replies) statement) (name, mode)
 
   -- the next statement has this number, and does not end its group
   pub record GoesOn (n : ℕ) : Type 0 where

@@ -13,6 +13,7 @@ ghost use Rattle.bf_machine.specs.interleaving.Seen.{pending_seen};
 
 use crate::answer::answer;
 use crate::machine::Machine;
+use crate::opened::Opened;
 use crate::so_far::OpenGroup;
 use crate::stand::Step;
 use bf_base::Memory;
@@ -20,7 +21,7 @@ use bf_live::LiveTables;
 use bf_tree::{Bound, Refusal, Reply};
 use std::alloc::Global;
 
-impl Machine {
+impl<N: Opened> Machine<N> {
     /// Replies to a session's next statement, as it is bound, on what its group sees. What it writes
     /// stays with the group. A COMMIT or ROLLBACK in no group is refused. Where the catalog has
     /// changed since the statement was bound, nothing is done. It costs what the statement reads and
@@ -30,7 +31,7 @@ impl Machine {
     /// Where memory runs out, or 2 ^ 32 rows or more change. The machine is as it was then.
     pub fn exec(&mut self, session: u32, bound: &Bound) -> Result<Step, Memory>
         requires place { IsPlace self.old.script session }
-        requires can { CanExec self.old session bound.now }
+        requires can { CanExec self.old session N.opening bound.now }
         ensures step { IfOk result (λ step. step ≡ step_of self.old bound.now) }
         ensures stale { bound.now.catalog ≢ self.old.db.number → self.new ≡ self.old }
         ensures replied { result ≡ Ok Replied → HasReplied self.old session bound.now self.new }

@@ -17,7 +17,7 @@ use Rattle.bf_machine.proofs.served.Binding.{in_ok, next_bound, next_limits, nex
 use Rattle.bf_machine.proofs.serving.bind_next.Goals as goal
 
 pub bounds-as_slice-place : goal.bounds-as_slice-place
-bounds-as_slice-place c =
+bounds-as_slice-place g c =
     let m : Machine = c.args.machine.now in
     let s = c.args.session in
     let sessions : c.as_slice-sessions.result.now ≡ m.script.sessions = c.as_slice-sessions.ensures ∙ ap (λ (script : Script). script.sessions) c.script.ensures.script in
@@ -28,7 +28,7 @@ bounds-as_slice-place c =
     subst (λ (ss : List Statement). c.args.place - 1 < length ss) (sym text) within.1
 
 pub bind-requires-clause-alone : goal.bind-requires-clause-alone
-bind-requires-clause-alone c =
+bind-requires-clause-alone g c =
     let m : Machine = c.args.machine.now in
     let s = c.args.session in
     let sessions : c.as_slice-sessions.result.now ≡ m.script.sessions = c.as_slice-sessions.ensures ∙ ap (λ (script : Script). script.sessions) c.script.ensures.script in
@@ -40,11 +40,11 @@ bind-requires-clause-alone c =
     next_planned m c.requires.kept c.requires.servable s c.args.place c.requires.place c.requires.stands c.index-as_slice-place.result here c.is_in_block.result
 
 pub bind-requires-clause-database : goal.bind-requires-clause-database
-bind-requires-clause-database c =
+bind-requires-clause-database g c =
     subst (λ (catalog : Catalog). IsDatabase (without_rows catalog)) (sym c.catalog.ensures.catalog) (bare_is_database c.args.machine.now.db c.catalog.ensures.database)
 
 pub bind-requires-clause-limits : goal.bind-requires-clause-limits
-bind-requires-clause-limits c =
+bind-requires-clause-limits g c =
     let m : Machine = c.args.machine.now in
     let s = c.args.session in
     let sessions : c.as_slice-sessions.result.now ≡ m.script.sessions = c.as_slice-sessions.ensures ∙ ap (λ (script : Script). script.sessions) c.script.ensures.script in
@@ -57,7 +57,7 @@ bind-requires-clause-limits c =
     (next_limits m c.requires.kept c.requires.servable s c.args.place c.requires.place c.requires.stands c.index-as_slice-place.result here)
 
 pub returns-clause-next : goal.returns-clause-next
-returns-clause-next c =
+returns-clause-next g c =
     let m : Machine = c.args.machine.now in
     let s = c.args.session in
     let st = c.index-as_slice-place.result in
@@ -76,7 +76,7 @@ returns-clause-next c =
     c.bind.ensures
 
 pub returns-clause-number : goal.returns-clause-number
-returns-clause-number c =
+returns-clause-number g c =
     let m : Machine = c.args.machine.now in
     let catalog : c.catalog.result.now ≡ catalog_of m.db = c.catalog.ensures.catalog in
     in_ok c.bind.result

@@ -4,7 +4,7 @@ use Rattle.bf_machine.specs.interleaving.Serving.{HasLocked, IsServable}
 use Rattle.machine_tests.proofs.acts.ask_for.Given as goal
 
 abbrev pub invariant-loop-name : goal.invariant-loop-name
-invariant-loop-name l = record {
+invariant-loop-name g l = record {
   servable : IsServable l.machine.script;
   locked : HasLocked l.fn.machine l.session (take l.name-index l.locks) l.machine;
 }

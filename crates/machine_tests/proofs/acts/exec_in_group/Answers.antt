@@ -13,12 +13,12 @@ use Rattle.machine_tests.proofs.Served.{served_behind_reply, still_served}
 use Rattle.machine_tests.proofs.acts.exec_in_group.Goals as goal
 
 pub footprint-requires : goal.footprint-requires
-footprint-requires c =
+footprint-requires g c =
     let next = c.requires.next in
     bound_has_keys c.args.machine.now.db _ next.1.to_lock.statement c.args.bound.now (record { database = c.requires.kept.history_legal.database; is = next.1.bound_so })
 
 pub exec-requires-clause-can : goal.exec-requires-clause-can
-exec-requires-clause-can c =
+exec-requires-clause-can g c =
     let m : Machine = c.args.machine.now in
     let s = c.args.session in
     let next = c.requires.next in
@@ -38,7 +38,7 @@ exec-requires-clause-can c =
     can_reply m s o c.args.bound.now next.1 m locked
 
 pub returns-in_err-exec : goal.returns-in_err-exec
-returns-in_err-exec c = still_served c.args.machine.now c.exec.new.self c.requires.servable c.in_err-exec.ensures.err
+returns-in_err-exec g c = still_served c.args.machine.now c.exec.new.self c.requires.servable c.in_err-exec.ensures.err
 
 pub returns : goal.returns
-returns c = served_behind_reply c.args.machine.now c.exec.new.self c.requires.servable c.args.session c.requires.kept c.in_ok-exec.ensures.replied
+returns g c = served_behind_reply c.args.machine.now c.exec.new.self c.requires.servable c.args.session c.requires.kept c.in_ok-exec.ensures.replied
