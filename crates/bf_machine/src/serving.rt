@@ -5,8 +5,8 @@ ghost use Rattle.bf_machine.specs.declared.stand.Stand.TheVariants.{Begin, State
 ghost use Rattle.bf_machine.specs.interleaving.Calls.{CanExec, CanRefuse, HasReplied, HasSessionEnded, IsPlace, StandsAs};
 ghost use Rattle.bf_machine.specs.interleaving.Events.{Begins, Reaches};
 ghost use Rattle.bf_machine.specs.interleaving.Kept.{IsKept};
-ghost use Rattle.bf_machine.specs.interleaving.Machines.{Open, open_at};
-ghost use Rattle.bf_machine.specs.interleaving.Serving.{CanGo, CannotGo, HasLocked, IsAlone, IsBoundNext, IsInSequence, IsServable, IsToLock, IsTurn, IsYoungest, Serves, can_go, deaths_at, unanswered};
+ghost use Rattle.bf_machine.specs.interleaving.Machines.{Machine as Seen, Open, open_at};
+ghost use Rattle.bf_machine.specs.interleaving.Serving.{CanGo, CannotGo, HasLocked, IsAlone, IsBoundNext, IsInSequence, IsServable, IsToLock, IsTurn, IsTurnOf, IsYoungest, Serves, Turned, can_go, deaths_at, unanswered};
 ghost use Rattle.bf_machine.specs.declared.serving.Turn.TheVariants.{Served};
 
 use crate::machine::Machine;
@@ -229,7 +229,8 @@ fn turn_of<N: Opened>(
     requires count { count ≡ length machine.old.script.sessions }
     requires kept { IsKept N.opening machine.old }
     requires servable { IsServable machine.old.script }
-    ensures { Reaches N.opening machine.old machine.new }
+    ensures reaches { Reaches N.opening machine.old machine.new }
+    ensures turn { OnOk result (IsTurnOf N.opening machine.old session machine.new) }
 {
     if session == 0 || count < session {
         return Ok(());
@@ -326,6 +327,9 @@ pub fn in_order<N: Opened>(
 ) -> Result<(), Memory>
     requires servable { IsServable machine.old.script }
     ensures reaches { Reaches N.opening machine.old machine.new }
+    ensures turns { OnOk result ((behind : Seen)
+        × Turned N.opening machine.old order.now behind
+        × Reaches N.opening behind machine.new) }
     ensures answered { OnOk result
         ((s : ℕ) → IsPlace machine.new.script s → HasSessionEnded machine.new s) }
     ensures no_death { OnOk result (order.now ≡ [] → ((s : ℕ) → open_at machine.old s ≡ None)

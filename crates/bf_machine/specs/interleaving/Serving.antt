@@ -23,7 +23,7 @@ use Rattle.bf_machine.specs.declared.serving.Turn.{Turn}
 use Rattle.bf_machine.specs.declared.serving.Turn.TheVariants as turn
 use Rattle.bf_machine.specs.declared.stand.Stand.{Stand}
 use Rattle.bf_machine.specs.declared.stand.Stand.TheVariants as stand
-use Rattle.bf_machine.specs.interleaving.Calls.{HasSessionEnded, StandsAs, replies_at, statements_at}
+use Rattle.bf_machine.specs.interleaving.Calls.{HasSessionEnded, IsPlace, StandsAs, replies_at, statements_at}
 use Rattle.bf_machine.specs.interleaving.Events.{Reaches, died, rest_of, stands_inside, text_of}
 use Rattle.bf_machine.specs.interleaving.Groups.{footprint_in}
 use Rattle.bf_machine.specs.interleaving.Kept.{IsCurrent}
@@ -127,6 +127,16 @@ module _ (m : Machine) (s : ℕ) where
   IsTurn start turn.Served next = HasGoneOn next
   IsTurn start turn.Waited next = (others : List ℕ) × (asked : IsAsked start (Wait others)) × (next ≡ asked.now)
   IsTurn start turn.Died next = (older : ℕ) × (asked : IsAsked start (Die older)) × (next ≡ died asked.now s asked.o older)
+
+-- the turn of one number of an order: its session's, and where there is none nothing
+pub record IsTurnOf (start : Database) (m : Machine) (n : ℕ) (next : Machine) : Type 0 where
+  pub turn : IsPlace m.script n → (how : Turn) × IsTurn m n start how next
+  pub passed : (IsPlace m.script n → ⊥) → next ≡ m
+
+-- TURNED: the turns of the numbers of an order, one after the other
+pub data Turned (start : Database) (m : Machine) : List ℕ → Machine → Type 0 where
+  no_turn : Turned start m [] m
+  one_turn : {ns : List ℕ} {now next : Machine} (n : ℕ) → Turned start m ns now → IsTurnOf start now n next → Turned start m (ns ++ n ∷ []) next
 
 -- the entries are of one session after the other, from one on
 abbrev pub SessionsRiseFrom : ℕ → List Entry → Type 0

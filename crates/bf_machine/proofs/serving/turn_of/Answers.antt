@@ -1,6 +1,7 @@
 -- A number of no session is passed over.
+use Rattle.std.proofs.Common.{refl, arith}
 use Rattle.bf_machine.specs.interleaving.Events.{at_once}
 use Rattle.bf_machine.proofs.serving.turn_of.Goals as goal
 
-pub returns-then-session-eq0 : goal.returns-then-session-eq0
-returns-then-session-eq0 g c = at_once
+pub returns-then-session-eq0-clause-reaches : goal.returns-then-session-eq0-clause-reaches
+returns-then-session-eq0-clause-reaches g c = at_once
