@@ -49,7 +49,7 @@ module _ {X : Type 0} (d : X) where
   of_drop (suc i) k [] = refl
   of_drop (suc i) k (x ∷ xs) = let next : suc i + k ≡ suc (i + k) = omega arith in rw next (of_drop i k xs)
 
-  of_part : (first last k : ℕ) (xs : List X) (x : X) (rest : List X) → 1 ≤ first → drop k (part first last xs) ≡ x ∷ rest → slice_index_or xs (first + k - 1) d ≡ x
+  pub of_part : (first last k : ℕ) (xs : List X) (x : X) (rest : List X) → 1 ≤ first → drop k (part first last xs) ≡ x ∷ rest → slice_index_or xs (first + k - 1) d ≡ x
   of_part first last k xs x rest low is =
       let at : first - 1 + k ≡ first + k - 1 = omega (arith, low) in
       ap (λ (n : ℕ). slice_index_or xs n d) (sym at) ∙ (sym (of_drop (first - 1) k xs) ∙ of_take (last - (first - 1)) k (drop (first - 1) xs) x rest is)
