@@ -1,6 +1,6 @@
 -- A script that is read is narrow, and this one migrates nothing.
 use Rattle.std.proofs.Common.{◌∙◌, sym}
-use Rattle.machine_tests.proofs.Parsed.{script_narrow}
+use Rattle.bf_run.proofs.Parsed.{script_narrow}
 use Rattle.machine_tests.proofs.runs.script_of.Goals as goal
 
 pub returns : goal.returns
