@@ -11,6 +11,7 @@ use Rattle.bf_tree.specs.declared.history.Entry.{Entry}
 use Rattle.bf_tree.specs.declared.reply.Cause.{Cause}
 use Rattle.bf_tree.specs.declared.reply.Reply.{Reply}
 use Rattle.bf_tree.specs.declared.reply.Reply.TheVariants.{Begun, Ended}
+use Rattle.bf_sql.specs.Database.{Database}
 use Rattle.bf_sql.specs.Groups.{ends_block, groups_in, has_statement, is_stray, session_at, statements_in}
 use Rattle.bf_sql.specs.History.{IsApart, IsEndedBy, is_whole_group, replies_to, stands_in}
 use Rattle.bf_machine.specs.InOrder.{none_open}
@@ -131,7 +132,7 @@ module _ (start : Database) (m : Machine) (kept : IsKept start m) (s : ℕ) (gro
             (caused.1, subst (λ (g : Group). IsEndedBy m.script m.told s g caused.1) same caused.4)
       ]
 
-  ends_as : HasEnded m s group → StandsInHistory m s group ⊎ IsToldACause m s group
+  pub ends_as : HasEnded m s group → StandsInHistory m s group ⊎ IsToldACause m s group
   ends_as has_ended = elim (cases_Bool (list_any (stands_in s group.0) m.history)) as (λ _. StandsInHistory m s group ⊎ IsToldACause m s group) [
     | inl entered ↦ inl (own_entry (some_passes (stands_in s group.0) m.history entered))
     | inr out ↦
@@ -155,7 +156,7 @@ module _ (start : Database) (m : Machine) (kept : IsKept start m) (s : ℕ) (gro
       placed zero has_ended = absurd (omega (arith, has_ended, bounds.0, bounds.1))
       placed (suc s) has_ended = omega arith
 
-  ended_by : StandsInHistory m s group ⊎ IsToldACause m s group → HasEnded m s group
+  pub ended_by : StandsInHistory m s group ⊎ IsToldACause m s group → HasEnded m s group
   ended_by so = elim so as (λ _. HasEnded m s group) [
     | inl entered ↦ all_at (λ (e : Entry). e.last ≤ length (told_at m e.session)) m.history kept.history_legal.placed _ entered.1
     | inr caused ↦

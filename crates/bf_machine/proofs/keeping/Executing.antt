@@ -315,6 +315,7 @@ module _ {opening : Database} {given : Script} (script : Script) (retries : ℕ)
       more_is same = items ∙ ap (λ (r : Reply). x.replies.items ++ r ∷ []) same
 
       pub replied : HasReplied m s bound (then y)
+      unfolding executes executes_there
       replied =
           by_open (HasReplied m s bound (then y))
           (λ is.

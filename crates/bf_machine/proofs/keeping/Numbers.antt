@@ -137,7 +137,7 @@ bound_number db in_block s bound is = of_number db.number (changes_schema in_blo
 pub bound_still : (start : Database) (m : Machine) → IsKept start m → (k : ℕ) (in_block : Bool) (s : Statement) (bound : Bound)
     → bound_of (at m.script start m.history k) in_block s ≡ Some bound → bound.catalog ≡ m.db.number → bound_of m.db in_block s ≡ Some bound
 bound_still start m kept k in_block s bound is number =
-    let then = at m.script start m.history k in
-    let follows : Follows then m.db = subst (Follows then) (sym kept.history_legal.replay) (whole_follows m.script start m.history k) in
-    let same : catalog_of then ≡ catalog_of m.db = same_number then m.db follows (sym (bound_number then in_block s bound is) ∙ number) in
-    sym (bound_in_catalog then m.db same in_block s) ∙ is
+    let earlier = at m.script start m.history k in
+    let follows : Follows earlier m.db = subst (Follows earlier) (sym kept.history_legal.replay) (whole_follows m.script start m.history k) in
+    let same : catalog_of earlier ≡ catalog_of m.db = same_number earlier m.db follows (sym (bound_number earlier in_block s bound is) ∙ number) in
+    sym (bound_in_catalog earlier m.db same in_block s) ∙ is

@@ -24,6 +24,10 @@ use Rattle.bf_machine.specs.interleaving.Machines.{Group, Machine, Open, open_at
 abbrev pub IsPlace : Script → ℕ → Type 0
 IsPlace script s = (1 ≤ s) × (s ≤ length script.sessions)
 
+-- EXEC: how it goes, by the number of the catalog in which a statement is bound, and of the present one
+abbrev pub step_of : Machine → Bound → Step
+step_of m bound = if bound.catalog == m.db.number then Replied else Stale m.db.number
+
 module _ (m : Machine) (s : ℕ) where
   -- the replies as they stand, those of an open group included
   abbrev pub replies_at : List Reply
@@ -73,13 +77,9 @@ module _ (m : Machine) (s : ℕ) where
     pub bound_so : bound_of (replayed m.script start (take prefix m.history)).1 (stands_inside o.replies) statement ≡ Some bound
     pub held : Holds m.locks o.start (footprint_of bound)
 
-  -- EXEC of it, or of a COMMIT or ROLLBACK in no group
+  -- EXEC can come there, or at a COMMIT or ROLLBACK in no group
   abbrev pub CanExec : Database → Bound → Type 0
   CanExec start bound = IsToExec start bound ⊎ CanRefuse
-
-  -- how it goes: by the number of the catalog in which it is bound, and of the present one
-  abbrev pub step_of : Bound → Step
-  step_of bound = if bound.catalog == m.db.number then Replied else Stale m.db.number
 
   -- it has its reply, as it is bound
   abbrev pub HasReplied : Bound → Machine → Type 0
