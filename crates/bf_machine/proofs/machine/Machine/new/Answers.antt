@@ -1,6 +1,7 @@
 -- Nothing has begun.
 use Rattle.std.proofs.Common.{◌≡◌, ◌^◌, ◌<◌, ◌≤◌, List, length, vec_capacity, subst, arith}
 use Rattle.bf_tree.specs.declared.script.Session.{Session}
+use Rattle.bf_sql.specs.Database.{Database}
 use Rattle.bf_machine.specs.interleaving.Kept.{fresh}
 use Rattle.bf_machine.specs.interleaving.Seen.{AreNew, IsSound, seen}
 use Rattle.bf_machine.proofs.keeping.Fresh.{new_is_sound, seen_new}
