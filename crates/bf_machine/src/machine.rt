@@ -7,6 +7,7 @@ mod turns;
 
 ghost use Rattle.std.specs.Prelude.{◌≡◌, ◌↔◌, IfOk, None, OnOk, length, true};
 ghost use Rattle.std.specs.Option.{option_map};
+ghost use Rattle.bf_tree.specs.Limits.{HasNarrowTables};
 ghost use Rattle.bf_sql.specs.Bound.{catalog_of};
 ghost use Rattle.bf_sql.specs.Database.{IsDatabase};
 ghost use Rattle.bf_sql.specs.History.{replayed};
@@ -64,8 +65,8 @@ impl<N: Opened> Model for Machine<N> {
 }
 
 impl<N: Opened> Machine<N> {
-    /// A machine over live tables, in which nothing has begun. It makes room for the reply to each
-    /// statement.
+    /// A machine over live tables, none of which is wide, in which nothing has begun. It makes room for
+    /// the reply to each statement.
     ///
     /// # Errors
     /// Where memory runs out, or 2 ^ 32 - 1 sessions or more, or statements of a session, stand in the
@@ -78,6 +79,7 @@ impl<N: Opened> Machine<N> {
     ) -> Result<Machine<N>, Memory>
         requires opening { live ≡ N.opening }
         requires script { script ≡ N.script }
+        requires narrow { HasNarrowTables (catalog_of live) }
         ensures { IfOk result (λ machine. machine ≡ fresh N.opening script retries) }
     {
         // Its contract says that the live tables are a database.
@@ -117,10 +119,12 @@ impl<N: Opened> Machine<N> {
         self.sessions.len() as u32
     }
 
-    /// The catalog, which is that behind the whole history.
+    /// The catalog, which is that behind the whole history. The tables of the opening database are
+    /// narrow.
     pub fn catalog(&self) -> &Catalog
         ensures catalog { result.now ≡ catalog_of self.now.db }
         ensures database { IsDatabase self.now.db }
+        ensures narrow { HasNarrowTables (catalog_of N.opening) }
         ensures replay { self.now.db
             ≡ (replayed self.now.script N.opening self.now.history).1 }
     {

@@ -234,6 +234,7 @@ module _ {N : Type 0} {opening : Database} {given : Script} (i : Inside N) (soun
       pub lives_sound : SoundWith i locks i.began.items i.sessions.items opening given
       lives_sound = record {
         is_given = sound.is_given;
+        narrow = sound.narrow;
         kept = subst (λ (locks : Locks). IsKept opening (record m { locks = locks })) (sym held_then) (locks_kept answer refl judged);
         counted = sound.counted;
         sessions_numbered = sound.sessions_numbered;
@@ -275,6 +276,7 @@ module _ {N : Type 0} {opening : Database} {given : Script} (i : Inside N) (soun
         pub unchanged_sound : SoundWith i locks began i.sessions.items opening given
         unchanged_sound = record {
           is_given = sound.is_given;
+          narrow = sound.narrow;
           kept = subst (IsKept opening) (sym seen_unchanged) sound.kept;
           counted = sound.counted;
           sessions_numbered = sound.sessions_numbered;
@@ -383,6 +385,7 @@ module _ {N : Type 0} {opening : Database} {given : Script} (i : Inside N) (soun
             let last : x.latest ≡ y.latest = sym (latest ∙ ap (λ (z : SessionSoFar). z.latest) same_there) in
             let fewer = one_closed i.sessions.items (s - 1) x y below at (ap is_some is) (ap is_some closed) in record {
               is_given = sound.is_given;
+              narrow = sound.narrow;
               kept = died_kept;
               counted = sound.counted;
               sessions_numbered = sound.sessions_numbered;

@@ -132,6 +132,7 @@ module _ {opening : Database} {given : Script} (script : Script) (retries : ℕ)
           let count = one_closed sessions (s - 1) x y below at (ap is_some is) (ap is_some closed) in
           let sizes : length entries.items ≡ length history.items + 1 = ap (λ (es : List Entry). length es) items ∙ length-append history.items (e ∷ []) in record {
             is_given = sound.is_given;
+            narrow = sound.narrow;
             kept = subst (λ (es : List Entry). IsKept opening (seen script retries next (without_owner locks g.start) began (slice_set sessions (s - 1) y) es)) (sym items)
                 (subst (IsKept opening) (sym seen_ended) kept);
             counted = counted ∙ (sym (commits_more 0 history.items e) ∙ ap (commits_behind 0) (sym items));

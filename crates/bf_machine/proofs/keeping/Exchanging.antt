@@ -74,6 +74,7 @@ module _ {opening : Database} {given : Script} (script : Script) (retries : ℕ)
   exchanged_sound kept =
       let was = sound.roomy (s - 1) x below at in record {
         is_given = sound.is_given;
+        narrow = sound.narrow;
         kept = kept;
         counted = sound.counted;
         sessions_numbered = sound.sessions_numbered;

@@ -3,10 +3,12 @@ use Rattle.std.proofs.Common.{◌≡◌, ℕ, zero, suc, ◌+◌, ◌^◌, ◌<�
 use Rattle.std.specs.Prelude.{count_by, is_some, slice_index_or}
 use Rattle.std.specs.FinMap as fin
 use Rattle.std.specs.Global.{Vec}
+use Rattle.bf_tree.specs.Limits.{HasNarrowTables}
 use Rattle.bf_tree.specs.declared.history.Entry.{Entry}
 use Rattle.bf_tree.specs.declared.reply.Reply.{Reply}
 use Rattle.bf_tree.specs.declared.script.Script.{Script}
 use Rattle.bf_tree.specs.declared.script.Session.{Session}
+use Rattle.bf_sql.specs.Bound.{catalog_of}
 use Rattle.bf_sql.specs.Database.{Database, IsDatabase}
 use Rattle.bf_sql.specs.Groups.{no_session, session_at}
 use Rattle.bf_machine.specs.declared.so_far.SessionSoFar.{SessionSoFar}
@@ -76,10 +78,11 @@ seen_new start script retries sessions all =
     (opens_new script.sessions sessions all) (told_new script.sessions sessions all)
 
 pub new_is_sound : (start : Database) (given script : Script) (retries : ℕ) (sessions : List SessionSoFar) (history : Vec Entry) (transcripts : Vec (List Reply))
-    → IsDatabase start → script ≡ given → AreNew script.sessions sessions → history.items ≡ [] → length script.sessions < 2 ^ 32 → transcripts.items ≡ [] → length sessions ≤ vec_capacity transcripts
+    → IsDatabase start → HasNarrowTables (catalog_of start) → script ≡ given → AreNew script.sessions sessions → history.items ≡ [] → length script.sessions < 2 ^ 32 → transcripts.items ≡ [] → length sessions ≤ vec_capacity transcripts
     → IsSound start given script retries start fin.empty [] sessions history 0 transcripts
-new_is_sound start given script retries sessions history transcripts database same all none numbers empty room = record {
+new_is_sound start given script retries sessions history transcripts database narrow same all none numbers empty room = record {
   is_given = same;
+  narrow = narrow;
   kept = rw none (subst (IsKept start) (sym (seen_new start script retries sessions all)) (new_is_kept start script retries database));
   counted = rw none refl;
   sessions_numbered = numbers;

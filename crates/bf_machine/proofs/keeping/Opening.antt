@@ -94,6 +94,7 @@ module _ {opening : Database} {given : Script} (script : Script) (retries : ℕ)
   reserved_sound entries items capacity =
       let size : length entries.items ≡ length history.items = ap (λ (es : List Entry). length es) items in record {
         is_given = sound.is_given;
+        narrow = sound.narrow;
         kept = rw items sound.kept;
         counted = rw items sound.counted;
         sessions_numbered = sound.sessions_numbered;
@@ -269,6 +270,7 @@ module _ {opening : Database} {given : Script} (script : Script) (retries : ℕ)
               let as_many : length sessions_then ≡ length sessions = length-set sessions (s - 1) y in
               let entries_size : length entries.items ≡ length history.items = ap (λ (es : List Entry). length es) items in record {
                 is_given = sound.is_given;
+                narrow = sound.narrow;
                 kept = rw items kept;
                 counted = rw items sound.counted;
                 sessions_numbered = sound.sessions_numbered;

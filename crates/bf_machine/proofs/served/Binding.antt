@@ -5,7 +5,7 @@ use Rattle.std.specs.Option.{option_map_or}
 use Rattle.std.specs.List.{slice_index_or}
 use Rattle.bf_base.specs.Lists.{part}
 use Rattle.bf_base.specs.declared.memory.Memory.{Memory}
-use Rattle.bf_tree.specs.Limits.{KeepsLimits, is_narrow_statement}
+use Rattle.bf_tree.specs.Limits.{HasNarrowTables, KeepsLimits, is_narrow_statement}
 use Rattle.bf_tree.specs.declared.bound.Bound.{Bound}
 use Rattle.bf_tree.specs.declared.reply.Reply.{Reply}
 use Rattle.bf_tree.specs.declared.script.Script.{Script}
@@ -92,8 +92,8 @@ module _ {start : Database} (m : Machine) (kept : IsKept start m) (servable : Is
     pub next_planned : (in_block : Bool) → is_planned in_block statement ≡ false
     next_planned in_block = not_planned m kept servable in_block statement plain
 
-    pub next_limits : KeepsLimits (catalog_of m.db) statement
-    next_limits = keeps_limits m kept servable s statement narrow
+    pub next_limits : HasNarrowTables (catalog_of start) → KeepsLimits (catalog_of m.db) statement
+    next_limits opening = keeps_limits m kept servable opening s statement narrow
 
     -- and bound so
     pub next_bound : (bound : Bound) → bound_of (without_rows (catalog_of m.db)) (is_in_block m s) statement ≡ Some bound → ((o : Open) × IsBoundNext m s o bound) ⊎ CanRefuse m s

@@ -124,12 +124,12 @@ module _ (script : Script) (servable : IsServable script) where
       (narrow_settled commit db e.outcome (statements_of script e) (plain_text e.session (e.first, e.last)) (few_text e.session (e.first, e.last)) narrow)
 
 module _ {start : Database} (m : Machine) (kept : IsKept start m) (servable : IsServable m.script) where
-  pub narrow_now : IsNarrow m.db
-  narrow_now = subst IsNarrow (sym kept.history_legal.replay) (narrow_replayed m.script servable 0 start m.history refl)
+  pub narrow_now : IsNarrow start → IsNarrow m.db
+  narrow_now opening = subst IsNarrow (sym kept.history_legal.replay) (narrow_replayed m.script servable 0 start m.history opening)
 
   -- a statement of the script keeps the limits, and is bound and not planned
-  pub keeps_limits : (s : ℕ) (statement : Statement) → is_narrow_statement statement ≡ true → KeepsLimits (catalog_of m.db) statement
-  keeps_limits s statement few = record { tables = narrow_now; declared = grind (arith, nat_tests, few) }
+  pub keeps_limits : IsNarrow start → (s : ℕ) (statement : Statement) → is_narrow_statement statement ≡ true → KeepsLimits (catalog_of m.db) statement
+  keeps_limits opening s statement few = record { tables = narrow_now opening; declared = grind (arith, nat_tests, few) }
 
   pub not_planned : (in_block : Bool) (statement : Statement) → is_plain statement ≡ true → is_planned in_block statement ≡ false
   not_planned true statement plain = refl

@@ -54,7 +54,7 @@ bind-requires-clause-limits g c =
     let here : slice_index_or (session_at m.script s).statements (c.args.place - 1) c.index-as_slice-place.result ≡ c.index-as_slice-place.result =
     sym (c.index-as_slice-place.is ∙ ap (λ (ss : List Statement). slice_index_or ss (c.args.place - 1) c.index-as_slice-place.result) text) in
     subst (λ (catalog : Catalog). KeepsLimits catalog c.index-as_slice-place.result) (sym c.catalog.ensures.catalog)
-    (next_limits m c.requires.kept c.requires.servable s c.args.place c.requires.place c.requires.stands c.index-as_slice-place.result here)
+    (next_limits m c.requires.kept c.requires.servable s c.args.place c.requires.place c.requires.stands c.index-as_slice-place.result here c.catalog.ensures.narrow)
 
 pub returns-clause-next : goal.returns-clause-next
 returns-clause-next g c =

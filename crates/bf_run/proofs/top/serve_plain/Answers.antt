@@ -7,6 +7,8 @@ use Rattle.bf_tree.specs.declared.history.Entry.{Entry}
 use Rattle.bf_tree.specs.declared.history.Sweep.TheVariants.{Never}
 use Rattle.bf_tree.specs.declared.reply.Reply.{Reply}
 use Rattle.bf_tree.specs.declared.script.Script.{Script}
+use Rattle.bf_tree.specs.Limits.{HasNarrowTables}
+use Rattle.bf_sql.specs.Bound.{catalog_of}
 use Rattle.bf_sql.specs.Database.{Database, IsDatabase, empty_database}
 use Rattle.bf_text.specs.Report.{report_text}
 use Rattle.bf_machine.specs.InOrder.{IsRunInOrder}
@@ -27,6 +29,10 @@ empty_is_database = record { tables_by_name = refl; indexes_by_name = refl; rows
 in_ok : {P Q : Vec ℕ → Type 0} (r : Result (Vec ℕ) Memory) → ((text : Vec ℕ) → P text → Q text) → IfOk r P → IfOk r Q
 in_ok (Ok text) weaker so = weaker text so
 in_ok (Err memory) weaker so = so
+
+-- there is no table that could be wide
+pub new-machine-requires-clause-narrow : goal.new-machine-requires-clause-narrow
+new-machine-requires-clause-narrow g c = subst (λ (db : Database). HasNarrowTables (catalog_of db)) (sym c.new.ensures) refl
 
 pub returns : goal.returns
 returns g c =

@@ -17,7 +17,7 @@ invariant_of-result g c =
     let room : length sessions ≤ vec_capacity c.in_ok-transcripts.transcripts = omega (arith, c.in_ok-transcripts.ensures.exact, c.len-2.ensures, c.in_ok-sessions.sessions.ok.0) in
     let sound : IsSound start g.N.Opened.script script c.args.retries start c.new.result c.new-2.result.items sessions c.new-3.result 0 c.in_ok-transcripts.transcripts =
     rw (c.new.ensures.empty, c.new-2.ensures.items)
-    (new_is_sound start g.N.Opened.script script c.args.retries sessions c.new-3.result c.in_ok-transcripts.transcripts c.catalog.ensures.database c.requires.script
+    (new_is_sound start g.N.Opened.script script c.args.retries sessions c.new-3.result c.in_ok-transcripts.transcripts c.catalog.ensures.database c.requires.narrow c.requires.script
     all c.new-3.ensures.items numbers c.in_ok-transcripts.ensures.items room) in
     subst (λ (opening : Database). IsSound opening g.N.Opened.script script c.args.retries start c.new.result c.new-2.result.items sessions c.new-3.result 0 c.in_ok-transcripts.transcripts)
     c.requires.opening sound
