@@ -19,4 +19,5 @@ pub mod Dying
 pub mod Reaching
 pub mod Standing
 pub mod Progress
+pub mod EndsAs
 pub mod Worked

@@ -12,6 +12,8 @@ pub mod Standing
 pub mod Stands
 pub mod Current
 pub mod Exchanging
+pub mod Catalogs
+pub mod Numbers
 pub mod Executing
 pub mod Lasts
 pub mod Opening

@@ -1,6 +1,6 @@
 //! Laws of a machine whose sessions take turns. Each is the contract of a function that does nothing.
 
-ghost use Rattle.std.specs.Prelude.{◌≡◌, ℕ, ◌<◌, ◌≤◌, List, Some, IsTrue};
+ghost use Rattle.std.specs.Prelude.{◌≡◌, ◌↔◌, ◌⊎◌, ℕ, ◌<◌, ◌≤◌, List, Some, IsTrue};
 ghost use Rattle.bf_locks.specs.declared.answer.LockAnswer.{LockAnswer};
 ghost use Rattle.bf_locks.specs.declared.answer.LockAnswer.TheVariants.{Die, Granted, Wait};
 ghost use Rattle.bf_locks.specs.declared.mode.Mode.{Mode};
@@ -14,7 +14,7 @@ ghost use Rattle.bf_machine.specs.Runnable.{phases_rise_from};
 ghost use Rattle.bf_machine.specs.interleaving.Calls.{HasSessionEnded, IsPlace};
 ghost use Rattle.bf_machine.specs.interleaving.Events.{Aborts, Asks, Begins, Commits, Executes, LastHasEnded, Reaches, Refuses};
 ghost use Rattle.bf_machine.specs.interleaving.Examples.{YoungerIsRefused};
-ghost use Rattle.bf_machine.specs.interleaving.Kept.{HasEnded, HasStart, IsKept, TranscriptsLegal, fresh};
+ghost use Rattle.bf_machine.specs.interleaving.Kept.{HasEnded, HasStart, IsKept, IsToldACause, StandsInHistory, TranscriptsLegal, fresh};
 ghost use Rattle.bf_machine.specs.interleaving.Machines.{Group, Machine, Open, open_at, transcripts_of};
 ghost use Rattle.bf_machine.specs.interleaving.Serving.{IsInSequence};
 
@@ -22,19 +22,28 @@ ghost use Rattle.bf_machine.specs.interleaving.Serving.{IsInSequence};
 /// behind each begin, refusal of a stray COMMIT or ROLLBACK, statement, grant, wait, death, commit and abort. So
 /// they do in each machine that events reach, in whatever order they come.
 pub fn events_keep_all()
-    ensures new { (start : Database) (script : Script) (retries : ℕ) → IsDatabase start → IsKept start (fresh start script retries) }
-    ensures begins { (start : Database) (m next : Machine) (s : ℕ) → IsKept start m → Begins m s next → IsKept start next }
-    ensures refuses { (start : Database) (m next : Machine) (s : ℕ) → IsKept start m → Refuses m s next → IsKept start next }
-    ensures executes { (start : Database) (m next : Machine) (s : ℕ) → IsKept start m → Executes m s next → IsKept start next }
+    ensures new { (start : Database) (script : Script) (retries : ℕ) → IsDatabase start
+        → IsKept start (fresh start script retries) }
+    ensures begins { (start : Database) (m next : Machine) (s : ℕ) → IsKept start m
+        → Begins m s next → IsKept start next }
+    ensures refuses { (start : Database) (m next : Machine) (s : ℕ) → IsKept start m
+        → Refuses m s next → IsKept start next }
+    ensures executes { (start : Database) (m next : Machine) (s : ℕ) → IsKept start m
+        → Executes m s next → IsKept start next }
     ensures granted { (start : Database) (m next : Machine) (s : ℕ) (name : LockName) (mode : Mode)
         → IsKept start m → Asks m s start name mode Granted next → IsKept start next }
-    ensures waits { (start : Database) (m next : Machine) (s : ℕ) (name : LockName) (mode : Mode) (owners : List ℕ)
+    ensures waits { (start : Database) (m next : Machine) (s : ℕ) (name : LockName) (mode : Mode)
+        (owners : List ℕ)
         → IsKept start m → Asks m s start name mode (Wait owners) next → IsKept start next }
-    ensures dies { (start : Database) (m next : Machine) (s : ℕ) (name : LockName) (mode : Mode) (older : ℕ)
+    ensures dies { (start : Database) (m next : Machine) (s : ℕ) (name : LockName) (mode : Mode)
+        (older : ℕ)
         → IsKept start m → Asks m s start name mode (Die older) next → IsKept start next }
-    ensures commits { (start : Database) (m next : Machine) (s : ℕ) → IsKept start m → Commits m s next → IsKept start next }
-    ensures aborts { (start : Database) (m next : Machine) (s : ℕ) → IsKept start m → Aborts m s next → IsKept start next }
-    ensures reaches { (start : Database) (script : Script) (retries : ℕ) (m : Machine) → IsDatabase start → Reaches start (fresh start script retries) m → IsKept start m }
+    ensures commits { (start : Database) (m next : Machine) (s : ℕ) → IsKept start m
+        → Commits m s next → IsKept start next }
+    ensures aborts { (start : Database) (m next : Machine) (s : ℕ) → IsKept start m
+        → Aborts m s next → IsKept start next }
+    ensures reaches { (start : Database) (script : Script) (retries : ℕ) (m : Machine)
+        → IsDatabase start → Reaches start (fresh start script retries) m → IsKept start m }
 {}
 
 /// The transcripts as they stand, with the replies of open groups in their places, and the history are legal.
@@ -42,17 +51,32 @@ pub fn transcripts_are_legal()
     ensures { (start : Database) (m : Machine) → IsKept start m → TranscriptsLegal start m }
 {}
 
+/// A group that has begun has ended exactly where it stands in the history, or each of its statements has a cause as
+/// its reply.
+pub fn a_group_ends_in_the_history_or_by_a_cause()
+    ensures { (start : Database) (m : Machine) (s : ℕ) (group : Group) (n : ℕ)
+        → IsKept start m → HasStart m.began s group n
+        → (HasEnded m s group ↔ (StandsInHistory m s group ⊎ IsToldACause m s group)) }
+{}
+
 /// Some session can go on. Where one group alone is open, it is granted each lock that it asks for; the youngest
 /// open group never waits; and the oldest group that has begun and not ended may begin again.
 pub fn some_session_goes_on()
-    ensures alone { (start : Database) (m : Machine) (s : ℕ) (o : Open) (name : LockName) (mode : Mode) (answer : LockAnswer)
-        → IsKept start m → open_at m s ≡ Some o → ((t : ℕ) (other : Open) → open_at m t ≡ Some other → other.start ≡ o.start)
+    ensures alone { (start : Database) (m : Machine) (s : ℕ) (o : Open) (name : LockName)
+        (mode : Mode) (answer : LockAnswer)
+        → IsKept start m → open_at m s ≡ Some o
+        → ((t : ℕ) (other : Open) → open_at m t ≡ Some other → other.start ≡ o.start)
         → IsJudged m.locks o.start name mode answer → answer ≡ Granted }
-    ensures youngest { (start : Database) (m : Machine) (s : ℕ) (o : Open) (name : LockName) (mode : Mode) (others : List ℕ)
-        → IsKept start m → open_at m s ≡ Some o → ((t : ℕ) (other : Open) → open_at m t ≡ Some other → other.start ≤ o.start)
+    ensures youngest { (start : Database) (m : Machine) (s : ℕ) (o : Open) (name : LockName)
+        (mode : Mode) (others : List ℕ)
+        → IsKept start m → open_at m s ≡ Some o
+        → ((t : ℕ) (other : Open) → open_at m t ≡ Some other → other.start ≤ o.start)
         → IsJudged m.locks o.start name mode (Wait others) → ⊥ }
-    ensures oldest { (start : Database) (m : Machine) (s : ℕ) (group : Group) (n : ℕ) (has : HasStart m.began s group n)
-        → IsKept start m → ((t : ℕ) (other : Group) (k : ℕ) → HasStart m.began t other k → k < n → HasEnded m t other)
+    ensures oldest { (start : Database) (m : Machine) (s : ℕ) (group : Group) (n : ℕ)
+        (has : HasStart m.began s group n)
+        → IsKept start m
+        → ((t : ℕ) (other : Group) (k : ℕ) → HasStart m.began t other k → k < n
+        → HasEnded m t other)
         → LastHasEnded m s has.deaths }
 {}
 
@@ -65,8 +89,8 @@ pub fn a_younger_session_is_refused()
 /// Sessions in sequence run in order. Nothing has happened in a new machine, so it is in sequence; and once each session
 /// of one that is in sequence has ended, its transcripts and history are those of a run in the order of the text.
 pub fn sessions_in_sequence_run_in_order()
-    ensures new { (script : Script) (retries : ℕ) → IsTrue (phases_rise_from 0 script.sessions)
-        → IsInSequence (fresh empty_database script retries) }
+    ensures new { (start : Database) (script : Script) (retries : ℕ) → IsTrue (phases_rise_from 0 script.sessions)
+        → IsInSequence (fresh start script retries) }
     ensures ran { (m : Machine) → IsKept empty_database m → IsInSequence m
         → ((s : ℕ) → IsPlace m.script s → HasSessionEnded m s)
         → IsRunInOrder m.script (transcripts_of m) m.history Never }

@@ -6,12 +6,14 @@ mod answer;
 pub mod interleaving_laws;
 pub mod machine;
 mod on_table;
+pub mod opened;
 pub mod scripts;
 pub mod serving;
 pub mod so_far;
 pub mod stand;
 
 pub use machine::Machine;
+pub use opened::Opened;
 pub use scripts::migrates_nothing;
 pub use serving::in_order;
-pub use stand::{Ending, Stand};
+pub use stand::{Ending, Stand, Step};

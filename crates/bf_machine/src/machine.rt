@@ -5,29 +5,31 @@ mod stands;
 mod statements;
 mod turns;
 
-ghost use Rattle.std.specs.Prelude.{◌≡◌, ◌↔◌, ◌-◌, ◌≤◌, IfOk, None, OnOk, length, slice_get, true};
+ghost use Rattle.std.specs.Prelude.{◌≡◌, ◌↔◌, IfOk, None, OnOk, length, true};
 ghost use Rattle.std.specs.Option.{option_map};
+ghost use Rattle.bf_tree.specs.Limits.{HasNarrowTables};
 ghost use Rattle.bf_sql.specs.Bound.{catalog_of};
-ghost use Rattle.bf_sql.specs.Database.{IsDatabase, empty_database};
+ghost use Rattle.bf_sql.specs.Database.{IsDatabase};
 ghost use Rattle.bf_sql.specs.History.{replayed};
-ghost use Rattle.bf_machine.specs.interleaving.Calls.{IsCovered, IsPlace, next_place, replies_at};
+ghost use Rattle.bf_machine.specs.interleaving.Calls.{IsCovered, IsPlace, next_place, reply_at};
 ghost use Rattle.bf_machine.specs.interleaving.Serving.{is_answered, is_in_block};
 ghost use Rattle.bf_machine.specs.interleaving.Kept.{IsKept, TranscriptsLegal, fresh};
 ghost use Rattle.bf_machine.specs.interleaving.Machines.{open_at, transcripts_of};
 
+use crate::opened::Opened;
 use crate::so_far::{Began, SessionSoFar, all_replies, sessions_so_far};
 use bf_base::{Memory, Sequence, next_number};
 use bf_live::LiveTables;
 use bf_locks::{LockName, LockTable, Mode, join};
 use bf_tree::{Catalog, Entry, History, Reply, Script, Transcripts};
 use std::alloc::Global;
-use std::marker::Model;
+use std::marker::{Model, PhantomData};
 
 /// Sessions that take turns over live tables, under locks. Contracts see the script, how often a
 /// group may begin again, the database, the locks, the groups that have begun, those that are open,
-/// the replies before them, and the history.
+/// the replies before them, and the history. The type names what the run began with.
 #[derive(Drop)]
-pub struct Machine {
+pub struct Machine<N: Opened> {
     alloc: Global,
     script: Script,
     retries: u16,
@@ -41,9 +43,10 @@ pub struct Machine {
     commits: u64,
     /// Empty, with room for the transcript of each session.
     transcripts: Vec<Sequence<Reply>>,
+    opened: PhantomData<N>,
 }
 
-impl Model for Machine {
+impl<N: Opened> Model for Machine<N> {
     ghost use Rattle.bf_machine.specs.interleaving.Machines.{Machine as Seen};
     ghost use Rattle.std.specs.Coded.{codes};
     ghost use Rattle.bf_tree.specs.contracts.raw.RawExpr as exprs;
@@ -58,19 +61,29 @@ impl Model for Machine {
 
     ghost view = { λ m. seen m.script m.retries m.live m.locks m.began.items m.sessions.items m.history.items };
 
-    ghost invariant = { λ m. IsSound m.script m.retries m.live m.locks m.began.items m.sessions.items m.history m.commits m.transcripts };
+    ghost invariant = { λ m. IsSound N.opening N.script m.script m.retries m.live m.locks m.began.items m.sessions.items m.history m.commits m.transcripts };
 }
 
-impl Machine {
-    /// A machine over the empty database, in which nothing has begun. It makes room for the reply to
-    /// each statement.
+impl<N: Opened> Machine<N> {
+    /// A machine over live tables, none of which is wide, in which nothing has begun. It makes room for
+    /// the reply to each statement.
     ///
     /// # Errors
     /// Where memory runs out, or 2 ^ 32 - 1 sessions or more, or statements of a session, stand in the
-    /// script.
-    pub fn new(alloc: Global, script: Script, retries: u16) -> Result<Machine, Memory>
-        ensures { IfOk result (λ machine. machine ≡ fresh empty_database script retries) }
+    /// script. The live tables and the script are dropped then.
+    pub fn new(
+        alloc: Global,
+        live: LiveTables,
+        script: Script,
+        retries: u16,
+    ) -> Result<Machine<N>, Memory>
+        requires opening { live ≡ N.opening }
+        requires script { script ≡ N.script }
+        requires narrow { HasNarrowTables (catalog_of live) }
+        ensures { IfOk result (λ machine. machine ≡ fresh N.opening script retries) }
     {
+        // Its contract says that the live tables are a database.
+        let _ = live.catalog();
         next_number(script.sessions.len())?;
         let sessions = sessions_so_far(alloc, script.sessions.as_slice())?;
         let transcripts = Vec::with_capacity(alloc, sessions.len())?;
@@ -78,20 +91,22 @@ impl Machine {
             alloc,
             script,
             retries,
-            live: LiveTables::new(alloc),
+            live,
             locks: LockTable::new(alloc),
             began: Vec::new(alloc),
             sessions,
             history: Vec::new(alloc),
             commits: 0,
             transcripts,
+            opened: PhantomData,
         })
     }
 
     /// The script.
     pub fn script(&self) -> &Script
         ensures script { result.now ≡ self.now.script }
-        ensures kept { IsKept empty_database self.now }
+        ensures opened { result.now ≡ N.script }
+        ensures kept { IsKept N.opening self.now }
     {
         &self.script
     }
@@ -99,17 +114,19 @@ impl Machine {
     /// How many sessions the script has.
     pub fn session_count(&self) -> u32
         ensures count { result ≡ length self.now.script.sessions }
-        ensures kept { IsKept empty_database self.now }
+        ensures kept { IsKept N.opening self.now }
     {
         self.sessions.len() as u32
     }
 
-    /// The catalog, which is that behind the whole history.
+    /// The catalog, which is that behind the whole history. The tables of the opening database are
+    /// narrow.
     pub fn catalog(&self) -> &Catalog
         ensures catalog { result.now ≡ catalog_of self.now.db }
         ensures database { IsDatabase self.now.db }
+        ensures narrow { HasNarrowTables (catalog_of N.opening) }
         ensures replay { self.now.db
-            ≡ (replayed self.now.script empty_database self.now.history).1 }
+            ≡ (replayed self.now.script N.opening self.now.history).1 }
     {
         self.live.catalog()
     }
@@ -117,14 +134,11 @@ impl Machine {
     /// The reply to a statement of a session, both counted from 1, as it stands now, that of an open
     /// group included. `None` exactly where the statement has no reply.
     pub fn reply(&self, session: u32, statement: u32) -> Option<&Reply>
-        requires session { IsPlace self.now.script session }
-        requires statement { 1 ≤ statement }
-        ensures { option_map (λ reply. reply.now) result
-            ≡ slice_get (replies_at self.now session) (statement - 1) }
+        requires { IsPlace self.now.script session }
+        ensures { option_map (λ reply. reply.now) result ≡ reply_at self.now session statement }
     {
-        let place = session as usize - 1;
-        let so_far = &self.sessions[place];
-        so_far.replies.get(statement as usize - 1)
+        let so_far = &self.sessions[session as usize - 1];
+        so_far.replies.get(statement.checked_sub(1)? as usize)
     }
 
     /// The number of a session's next statement, and `None` exactly at its end.
@@ -207,7 +221,7 @@ impl Machine {
         ensures live { result.0 ≡ self.db }
         ensures transcripts { result.1.sessions ≡ transcripts_of self }
         ensures history { result.2.entries ≡ self.history }
-        ensures legal { TranscriptsLegal empty_database self }
+        ensures legal { TranscriptsLegal N.opening self }
     {
         let sessions = all_replies(self.sessions, self.transcripts);
         (

@@ -1,17 +1,17 @@
 //! Sessions served on one thread, in an order that is given, and then to their ends.
 
-ghost use Rattle.std.specs.Prelude.{◌≡◌, ◌≢◌, ◌⊎◌, ℕ, ◌<◌, ◌≤◌, [], IfOk, IfSome, OnOk, None, Ok, false, length};
-ghost use Rattle.bf_sql.specs.Database.{empty_database};
+ghost use Rattle.std.specs.Prelude.{◌≡◌, ◌≢◌, ◌⊎◌, ℕ, ◌<◌, ◌≤◌, [], IfOk, IfSome, OnErr, OnOk, None, Ok, false, length};
 ghost use Rattle.bf_machine.specs.declared.stand.Stand.TheVariants.{Begin, Statement};
-ghost use Rattle.bf_machine.specs.interleaving.Calls.{CanRefuse, HasSessionEnded, IsPlace, StandsAs};
+ghost use Rattle.bf_machine.specs.interleaving.Calls.{CanExec, CanRefuse, HasReplied, HasSessionEnded, IsPlace, StandsAs};
 ghost use Rattle.bf_machine.specs.interleaving.Events.{Begins, Reaches};
 ghost use Rattle.bf_machine.specs.interleaving.Kept.{IsKept};
-ghost use Rattle.bf_machine.specs.interleaving.Machines.{Open, open_at};
-ghost use Rattle.bf_machine.specs.interleaving.Serving.{CanGo, CannotGo, HasLocked, IsAlone, IsBoundNext, IsInSequence, IsServable, IsToLock, IsTurn, IsYoungest, Serves, can_go, deaths_at, unanswered};
+ghost use Rattle.bf_machine.specs.interleaving.Machines.{Machine as Seen, Open, open_at};
+ghost use Rattle.bf_machine.specs.interleaving.Serving.{CanGo, CannotGo, HasLocked, IsAlone, IsBoundNext, IsInSequence, IsServable, IsToLock, IsTurn, IsTurnOf, IsYoungest, Serves, Turned, can_go, deaths_at, unanswered};
 ghost use Rattle.bf_machine.specs.declared.serving.Turn.TheVariants.{Served};
 
 use crate::machine::Machine;
-use crate::stand::Stand;
+use crate::opened::Opened;
+use crate::stand::{Stand, Step};
 use bf_base::Memory;
 use bf_bind::bind;
 use bf_locks::{LockAnswer, LockName, Mode};
@@ -33,13 +33,18 @@ pub enum Turn {
 }
 
 /// Asks for locks, one after the other, until one is not granted.
-fn lock_all(machine: &mut Machine, session: u32, locks: &[(LockName, Mode)]) -> Result<Turn, Memory>
+fn lock_all<N: Opened>(
+    machine: &mut Machine<N>,
+    session: u32,
+    locks: &[(LockName, Mode)],
+) -> Result<Turn, Memory>
     requires place { IsPlace machine.old.script session }
-    requires kept { IsKept empty_database machine.old }
+    requires kept { IsKept N.opening machine.old }
     requires next { (o : Open) × IsToLock machine.old session o locks.now }
-    ensures reaches { Reaches empty_database machine.old machine.new }
+    ensures reaches { Reaches N.opening machine.old machine.new }
     ensures locked { result ≡ Ok Served → HasLocked machine.old session locks.now machine.new }
-    ensures turn { IfOk result (λ turn. turn ≢ Served → IsTurn machine.old session turn machine.new) }
+    ensures turn { IfOk result (λ turn. turn ≢ Served
+        → IsTurn machine.old session N.opening turn machine.new) }
 {
     for (name, mode) in locks {
         match machine.lock(session, name, *mode)? {
@@ -52,10 +57,10 @@ fn lock_all(machine: &mut Machine, session: u32, locks: &[(LockName, Mode)]) -> 
 }
 
 /// Ends a session's open group where each statement of it has its reply.
-fn end_if_answered(machine: &mut Machine, session: u32) -> Result<(), Memory>
+fn end_if_answered<N: Opened>(machine: &mut Machine<N>, session: u32) -> Result<(), Memory>
     requires place { IsPlace machine.old.script session }
-    requires kept { IsKept empty_database machine.old }
-    ensures reaches { Reaches empty_database machine.old machine.new }
+    requires kept { IsKept N.opening machine.old }
+    ensures reaches { Reaches N.opening machine.old machine.new }
     ensures serves { OnOk result (Serves machine.old session machine.new) }
     ensures replies { OnOk result
         (unanswered machine.new session ≡ unanswered machine.old session) }
@@ -77,18 +82,19 @@ fn end_if_answered(machine: &mut Machine, session: u32) -> Result<(), Memory>
 ///
 /// # Errors
 /// Where memory runs out.
-pub fn bind_next(
+pub fn bind_next<N: Opened>(
     alloc: Global,
-    machine: &Machine,
+    machine: &Machine<N>,
     session: u32,
     place: u32,
 ) -> Result<Bound, Memory>
     requires place { IsPlace machine.now.script session }
-    requires kept { IsKept empty_database machine.now }
+    requires kept { IsKept N.opening machine.now }
     requires servable { IsServable machine.now.script }
     requires stands { StandsAs machine.now session (Statement place) }
-    ensures { IfOk result (λ bound.
+    ensures next { IfOk result (λ bound.
         ((o : Open) × IsBoundNext machine.now session o bound) ⊎ CanRefuse machine.now session) }
+    ensures number { IfOk result (λ bound. bound.catalog ≡ machine.now.db.number) }
 {
     let sessions = machine.script().sessions.as_slice();
     let statement = &sessions[session as usize - 1].statements.as_slice()[place as usize - 1];
@@ -100,52 +106,74 @@ pub fn bind_next(
     )
 }
 
+/// Replies to a session's next statement, as it is bound in the present catalog.
+///
+/// # Errors
+/// Where memory runs out, or 2 ^ 32 rows or more change. The machine is as it was then.
+fn reply_to<N: Opened>(machine: &mut Machine<N>, session: u32, bound: &Bound) -> Result<(), Memory>
+    requires place { IsPlace machine.old.script session }
+    requires can { CanExec machine.old session N.opening bound.now }
+    requires present { bound.now.catalog ≡ machine.old.db.number }
+    ensures replied { OnOk result (HasReplied machine.old session bound.now machine.new) }
+    ensures err { OnErr result (machine.new ≡ machine.old) }
+{
+    match machine.exec(session, bound)? {
+        Step::Replied => Ok(()),
+        Step::Stale(_) => unreachable!(),
+    }
+}
+
 /// Gives the next statement of a session's open group its reply: asks for the locks of its footprint
 /// in their order, and ends the group where it is the last.
-fn serve_in_group(
+fn serve_in_group<N: Opened>(
     alloc: Global,
-    machine: &mut Machine,
+    machine: &mut Machine<N>,
     session: u32,
     bound: &Bound,
 ) -> Result<Turn, Memory>
     requires place { IsPlace machine.old.script session }
-    requires kept { IsKept empty_database machine.old }
+    requires kept { IsKept N.opening machine.old }
     requires next { (o : Open) × IsBoundNext machine.old session o bound.now }
-    ensures reaches { Reaches empty_database machine.old machine.new }
-    ensures turn { IfOk result (λ turn. IsTurn machine.old session turn machine.new) }
+    ensures reaches { Reaches N.opening machine.old machine.new }
+    ensures turn { IfOk result (λ turn. IsTurn machine.old session N.opening turn machine.new) }
 {
     let locks = footprint(alloc, bound)?;
     match lock_all(machine, session, locks.as_slice())? {
         Turn::Served => {}
         turn => return Ok(turn),
     }
-    machine.exec(session, bound)?;
+    reply_to(machine, session, bound)?;
     end_if_answered(machine, session)?;
     Ok(Turn::Served)
 }
 
 /// Gives a session's next statement its reply, or asks for its locks until one is not granted.
-fn serve(alloc: Global, machine: &mut Machine, session: u32, place: u32) -> Result<Turn, Memory>
+fn serve<N: Opened>(
+    alloc: Global,
+    machine: &mut Machine<N>,
+    session: u32,
+    place: u32,
+) -> Result<Turn, Memory>
     requires place { IsPlace machine.old.script session }
-    requires kept { IsKept empty_database machine.old }
+    requires kept { IsKept N.opening machine.old }
     requires servable { IsServable machine.old.script }
     requires stands { StandsAs machine.old session (Statement place) }
-    ensures reaches { Reaches empty_database machine.old machine.new }
-    ensures turn { IfOk result (λ turn. IsTurn machine.old session turn machine.new) }
+    ensures reaches { Reaches N.opening machine.old machine.new }
+    ensures turn { IfOk result (λ turn. IsTurn machine.old session N.opening turn machine.new) }
 {
     let bound = bind_next(alloc, machine, session, place)?;
     if machine.start(session).is_some() {
         return serve_in_group(alloc, machine, session, &bound);
     }
-    machine.exec(session, &bound)?;
+    reply_to(machine, session, &bound)?;
     Ok(Turn::Served)
 }
 
 /// Begins a session's next group where it is to begin, and tells where the session stands then.
-fn begin_if_due(machine: &mut Machine, session: u32) -> Result<Stand, Memory>
+fn begin_if_due<N: Opened>(machine: &mut Machine<N>, session: u32) -> Result<Stand, Memory>
     requires place { IsPlace machine.old.script session }
-    requires kept { IsKept empty_database machine.old }
-    ensures reaches { Reaches empty_database machine.old machine.new }
+    requires kept { IsKept N.opening machine.old }
+    ensures reaches { Reaches N.opening machine.old machine.new }
     ensures begins { OnOk result
         ((machine.new ≡ machine.old) ⊎ Begins machine.old session machine.new) }
     ensures stands { IfOk result (λ stand. StandsAs machine.new session stand) }
@@ -162,12 +190,16 @@ fn begin_if_due(machine: &mut Machine, session: u32) -> Result<Stand, Memory>
 
 /// One turn of a session: drives its next statement until it has its reply, waits or dies. A group
 /// begins with its first statement's turn and, but for its COMMIT or ROLLBACK, ends with its last one's.
-fn take_turn(alloc: Global, machine: &mut Machine, session: u32) -> Result<Turn, Memory>
+fn take_turn<N: Opened>(
+    alloc: Global,
+    machine: &mut Machine<N>,
+    session: u32,
+) -> Result<Turn, Memory>
     requires place { IsPlace machine.old.script session }
-    requires kept { IsKept empty_database machine.old }
+    requires kept { IsKept N.opening machine.old }
     requires servable { IsServable machine.old.script }
-    ensures reaches { Reaches empty_database machine.old machine.new }
-    ensures turn { IfOk result (λ turn. IsTurn machine.old session turn machine.new) }
+    ensures reaches { Reaches N.opening machine.old machine.new }
+    ensures turn { IfOk result (λ turn. IsTurn machine.old session N.opening turn machine.new) }
 {
     match begin_if_due(machine, session)? {
         Stand::Statement(place) => serve(alloc, machine, session, place),
@@ -184,11 +216,17 @@ fn take_turn(alloc: Global, machine: &mut Machine, session: u32) -> Result<Turn,
 }
 
 /// A turn of the session of a number, if it is one of so many.
-fn turn_of(alloc: Global, machine: &mut Machine, count: u32, session: u32) -> Result<(), Memory>
+fn turn_of<N: Opened>(
+    alloc: Global,
+    machine: &mut Machine<N>,
+    count: u32,
+    session: u32,
+) -> Result<(), Memory>
     requires count { count ≡ length machine.old.script.sessions }
-    requires kept { IsKept empty_database machine.old }
+    requires kept { IsKept N.opening machine.old }
     requires servable { IsServable machine.old.script }
-    ensures { Reaches empty_database machine.old machine.new }
+    ensures reaches { Reaches N.opening machine.old machine.new }
+    ensures turn { OnOk result (IsTurnOf N.opening machine.old session machine.new) }
 {
     if session == 0 || count < session {
         return Ok(());
@@ -199,7 +237,7 @@ fn turn_of(alloc: Global, machine: &mut Machine, count: u32, session: u32) -> Re
 
 /// The session whose open group is the youngest, and `None` exactly where none is open. It looks at
 /// each session.
-fn youngest(machine: &Machine) -> Option<u32>
+fn youngest<N: Opened>(machine: &Machine<N>) -> Option<u32>
     ensures none { result ≡ None → (s : ℕ) → open_at machine.now s ≡ None }
     ensures place { IfSome result (IsPlace machine.now.script) }
     ensures youngest { IfSome result (IsYoungest machine.now) }
@@ -218,7 +256,7 @@ fn youngest(machine: &Machine) -> Option<u32>
 }
 
 /// The first session of which a call can come, and `None` exactly where there is none.
-fn first_to_go(machine: &Machine) -> Option<u32>
+fn first_to_go<N: Opened>(machine: &Machine<N>) -> Option<u32>
     ensures none { result ≡ None
         → (s : ℕ) → IsPlace machine.now.script s → CannotGo machine.now s }
     ensures place { IfSome result (IsPlace machine.now.script) }
@@ -235,10 +273,10 @@ fn first_to_go(machine: &Machine) -> Option<u32>
 }
 
 /// Drives the open groups to their ends, the youngest first. No group begins.
-fn end_open_groups(alloc: Global, machine: &mut Machine) -> Result<(), Memory>
-    requires kept { IsKept empty_database machine.old }
+fn end_open_groups<N: Opened>(alloc: Global, machine: &mut Machine<N>) -> Result<(), Memory>
+    requires kept { IsKept N.opening machine.old }
     requires servable { IsServable machine.old.script }
-    ensures reaches { Reaches empty_database machine.old machine.new }
+    ensures reaches { Reaches N.opening machine.old machine.new }
     ensures closed { OnOk result ((s : ℕ) → open_at machine.new s ≡ None) }
     ensures nothing { ((s : ℕ) → open_at machine.old s ≡ None) → machine.new ≡ machine.old }
     ensures alone { OnOk result ((s : ℕ) → IsAlone machine.old s
@@ -252,11 +290,11 @@ fn end_open_groups(alloc: Global, machine: &mut Machine) -> Result<(), Memory>
 }
 
 /// Drives sessions of which no group is open to their ends, one group after the other.
-fn end_sessions(alloc: Global, machine: &mut Machine) -> Result<(), Memory>
-    requires kept { IsKept empty_database machine.old }
+fn end_sessions<N: Opened>(alloc: Global, machine: &mut Machine<N>) -> Result<(), Memory>
+    requires kept { IsKept N.opening machine.old }
     requires servable { IsServable machine.old.script }
     requires closed { (s : ℕ) → open_at machine.old s ≡ None }
-    ensures reaches { Reaches empty_database machine.old machine.new }
+    ensures reaches { Reaches N.opening machine.old machine.new }
     ensures ended { OnOk result
         ((s : ℕ) → IsPlace machine.new.script s → HasSessionEnded machine.new s) }
     ensures deaths { OnOk result ((n : ℕ) → deaths_at machine.new n ≡ deaths_at machine.old n) }
@@ -278,9 +316,16 @@ fn end_sessions(alloc: Global, machine: &mut Machine) -> Result<(), Memory>
 /// # Errors
 /// Where memory runs out. The machine stands after some of the turns then, and maybe in the midst of
 /// one: its group has begun, holds some of its locks, or has its last reply and has not ended.
-pub fn in_order(alloc: Global, machine: &mut Machine, order: &[u32]) -> Result<(), Memory>
+pub fn in_order<N: Opened>(
+    alloc: Global,
+    machine: &mut Machine<N>,
+    order: &[u32],
+) -> Result<(), Memory>
     requires servable { IsServable machine.old.script }
-    ensures reaches { Reaches empty_database machine.old machine.new }
+    ensures reaches { Reaches N.opening machine.old machine.new }
+    ensures turns { OnOk result ((behind : Seen)
+        × Turned N.opening machine.old order.now behind
+        × Reaches N.opening behind machine.new) }
     ensures answered { OnOk result
         ((s : ℕ) → IsPlace machine.new.script s → HasSessionEnded machine.new s) }
     ensures no_death { OnOk result (order.now ≡ [] → ((s : ℕ) → open_at machine.old s ≡ None)

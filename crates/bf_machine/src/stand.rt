@@ -1,4 +1,4 @@
-//! Where a session stands, and how a group ends.
+//! Where a session stands, how a statement went, and how a group ends.
 
 ghost use Rattle.std.specs.Prelude.{◌≡◌};
 ghost use Rattle.bf_machine.specs.interleaving.Serving.{can_go};
@@ -34,6 +34,15 @@ impl Stand {
             Stand::Ended | Stand::Later | Stand::Named(_) => false,
         }
     }
+}
+
+/// How a statement went.
+#[derive(Clone, Copy, Debug, PartialEq, Eq)]
+pub enum Step {
+    /// It has its reply.
+    Replied,
+    /// The catalog has changed since it was bound, and has this number now: it is to be bound again.
+    Stale(u64),
 }
 
 /// How a group ended that was to commit.

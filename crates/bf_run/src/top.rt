@@ -2,6 +2,7 @@
 
 ghost use Rattle.std.specs.Prelude.{◌≡◌, IfOk, IsTrue, map};
 ghost use Rattle.std.specs.Option.{option_map};
+ghost use Rattle.bf_sql.specs.Database.{empty_database};
 ghost use Rattle.bf_machine.specs.InOrder.{IsRunInOrder};
 ghost use Rattle.bf_machine.specs.Runnable.{phases_rise_from};
 ghost use Rattle.bf_machine.specs.interleaving.Serving.{IsServable};
@@ -14,11 +15,13 @@ use bf_base::{LONGEST_SCRIPT, Memory};
 use bf_form::read_script;
 use bf_io::{ReadError, Sink, Source, read_all, write_whole};
 use bf_lex::{ScriptError, ScriptFault, ScriptKind};
-use bf_machine::{Machine, in_order, migrates_nothing};
+use bf_live::LiveTables;
+use bf_machine::{Machine, Opened, in_order, migrates_nothing};
 use bf_parse::script;
 use bf_text::report;
 use bf_tree::{Script, Sweep};
 use std::alloc::Global;
+use std::marker::Brand;
 
 /// The status of a text that is no script, and what is written of its first fault.
 fn answer_fault(alloc: Global, fault: ScriptFault) -> Result<(Status, Vec<u8>), Memory>
@@ -31,16 +34,27 @@ fn answer_fault(alloc: Global, fault: ScriptFault) -> Result<(Status, Vec<u8>), 
 /// How often a group begins again after a death. None dies where sessions run one after the other.
 const RETRIES: u16 = 0;
 
+/// The report of a run of a plain script over the empty database, by a machine whose type names both.
+fn serve_plain<N: Opened>(alloc: Global, script: Script) -> Result<Vec<u8>, Memory>
+    requires opening { N.opening ≡ empty_database }
+    requires script { script ≡ N.script }
+    requires servable { IsServable script }
+    requires phases { IsTrue (phases_rise_from 0 script.sessions) }
+    ensures { IfOk result (λ text. Tells (IsRunInOrder script) text.items) }
+{
+    let mut machine: Machine<N> = Machine::new(alloc, LiveTables::new(alloc), script, RETRIES)?;
+    in_order(alloc, &mut machine, &[])?;
+    let (_, transcripts, history) = machine.into_parts();
+    report(alloc, &transcripts, &history, None, &Sweep::Never)
+}
+
 /// The report of a run of a plain script, whose sessions are served one after the other.
 fn plain_report(alloc: Global, script: Script) -> Result<Vec<u8>, Memory>
     requires servable { IsServable script }
     requires phases { IsTrue (phases_rise_from 0 script.sessions) }
     ensures { IfOk result (λ text. Tells (IsRunInOrder script) text.items) }
 {
-    let mut machine = Machine::new(alloc, script, RETRIES)?;
-    in_order(alloc, &mut machine, &[])?;
-    let (_, transcripts, history) = machine.into_parts();
-    report(alloc, &transcripts, &history, None, &Sweep::Never)
+    serve_plain::<Brand>(alloc, script)
 }
 
 /// The report of a run of a text of the form that migrates one table lazily, if it is one.

@@ -1,2 +1,2 @@
-pub mod Parsed
+pub mod Bindings
 pub mod Served

@@ -2,17 +2,17 @@
 
 ghost use Rattle.std.specs.Prelude.{◌⊎◌, ◌≡◌, IfSome, true};
 ghost use Rattle.std.specs.List.{All};
-ghost use Rattle.bf_sql.specs.Database.{empty_database};
 ghost use Rattle.bf_machine.specs.declared.stand.Stand.TheVariants.{Statement};
 ghost use Rattle.bf_machine.specs.interleaving.Calls.{IsCovered, IsPlace, StandsAs};
 ghost use Rattle.bf_machine.specs.interleaving.Kept.{IsKept};
 ghost use Rattle.bf_machine.specs.interleaving.Machines.{Open};
 ghost use Rattle.bf_machine.specs.interleaving.Serving.{IsBoundNext, IsServable, IsToLock};
+ghost use Rattle.machine_tests.specs.Behind.{IsBehind};
 
 use bf_base::Memory;
 use bf_locks::{LockAnswer, LockName, Mode};
 use bf_machine::serving::bind_next;
-use bf_machine::{Ending, Machine, Stand};
+use bf_machine::{Ending, Machine, Opened, Stand, Step};
 use bf_sql::footprint;
 use bf_tree::{Bound, Reply};
 use std::alloc::Global;
@@ -35,6 +35,8 @@ pub enum Seen {
     /// Its condition does not hold.
     Idle,
     Done,
+    /// The catalog has this number now, and had another when the statement was bound.
+    Stale(u64),
     Granted,
     /// The oldest for which it waits.
     Waited(u64),
@@ -52,15 +54,15 @@ pub struct Look {
     pub is_answered: bool,
 }
 
-fn is_session(machine: &Machine, session: u32) -> bool
+fn is_session<N: Opened>(machine: &Machine<N>, session: u32) -> bool
     ensures { result ≡ true → IsPlace machine.now.script session }
 {
     1 <= session && session <= machine.session_count()
 }
 
 /// Where a session stands, and `None` where it is none of the script's.
-fn stand_of(machine: &Machine, session: u32) -> Option<Stand>
-    ensures kept { IsKept empty_database machine.now }
+pub fn stand_of<N: Opened>(machine: &Machine<N>, session: u32) -> Option<Stand>
+    ensures kept { IsKept N.opening machine.now }
     ensures place { IfSome result (λ stand. IsPlace machine.now.script session) }
     ensures stands { IfSome result (StandsAs machine.now session) }
 {
@@ -71,7 +73,7 @@ fn stand_of(machine: &Machine, session: u32) -> Option<Stand>
     Some(machine.stand(session))
 }
 
-pub fn look_at(machine: &Machine, session: u32) -> Option<Look> {
+pub fn look_at<N: Opened>(machine: &Machine<N>, session: u32) -> Option<Look> {
     if !is_session(machine, session) {
         return None;
     }
@@ -84,31 +86,20 @@ pub fn look_at(machine: &Machine, session: u32) -> Option<Look> {
     })
 }
 
-pub fn reply_at(machine: &Machine, session: u32, statement: u32) -> Option<&Reply> {
-    if !is_session(machine, session) || statement == 0 {
+pub fn reply_at<N: Opened>(machine: &Machine<N>, session: u32, statement: u32) -> Option<&Reply> {
+    if !is_session(machine, session) {
         return None;
     }
     machine.reply(session, statement)
 }
 
-pub fn covers(machine: &Machine, session: u32, name: &LockName, mode: Mode) -> bool {
+pub fn covers<N: Opened>(machine: &Machine<N>, session: u32, name: &LockName, mode: Mode) -> bool {
     is_session(machine, session) && machine.covers(session, name, mode)
 }
 
-/// The statement at which a session stands, as it is bound in the present catalog, and `None` where
-/// it stands at none.
-pub fn bound_next(alloc: Global, machine: &Machine, session: u32) -> Result<Option<Bound>, Memory>
-    requires { IsServable machine.now.script }
-{
-    let Some(Stand::Statement(place)) = stand_of(machine, session) else {
-        return Ok(None);
-    };
-    Ok(Some(bind_next(alloc, machine, session, place)?))
-}
-
-fn begin(machine: &mut Machine, session: u32) -> Result<Seen, Memory>
+fn begin<N: Opened>(machine: &mut Machine<N>, session: u32) -> Result<Seen, Memory>
     requires { IsServable machine.old.script }
-    ensures { IsServable machine.new.script }
+    ensures { IsBehind N.opening machine.old machine.new }
 {
     let Some(Stand::Begin) = stand_of(machine, session) else {
         return Ok(Seen::Idle);
@@ -118,12 +109,16 @@ fn begin(machine: &mut Machine, session: u32) -> Result<Seen, Memory>
 }
 
 /// Asks for locks, one after the other, until one is not granted.
-fn ask_for(machine: &mut Machine, session: u32, locks: &[(LockName, Mode)]) -> Result<Seen, Memory>
+fn ask_for<N: Opened>(
+    machine: &mut Machine<N>,
+    session: u32,
+    locks: &[(LockName, Mode)],
+) -> Result<Seen, Memory>
     requires place { IsPlace machine.old.script session }
-    requires kept { IsKept empty_database machine.old }
+    requires kept { IsKept N.opening machine.old }
     requires next { (o : Open) × IsToLock machine.old session o locks.now }
     requires servable { IsServable machine.old.script }
-    ensures { IsServable machine.new.script }
+    ensures { IsBehind N.opening machine.old machine.new }
 {
     for (name, mode) in locks {
         match machine.lock(session, name, *mode)? {
@@ -139,29 +134,34 @@ fn ask_for(machine: &mut Machine, session: u32, locks: &[(LockName, Mode)]) -> R
 }
 
 /// Asks for the locks of the next statement of a session's open group.
-fn ask_in_group(
+fn ask_in_group<N: Opened>(
     alloc: Global,
-    machine: &mut Machine,
+    machine: &mut Machine<N>,
     session: u32,
     bound: &Bound,
 ) -> Result<Seen, Memory>
     requires place { IsPlace machine.old.script session }
-    requires kept { IsKept empty_database machine.old }
+    requires kept { IsKept N.opening machine.old }
     requires next { (o : Open) × IsBoundNext machine.old session o bound.now }
     requires servable { IsServable machine.old.script }
-    ensures { IsServable machine.new.script }
+    ensures { IsBehind N.opening machine.old machine.new }
 {
     let locks = footprint(alloc, bound)?;
     ask_for(machine, session, locks.as_slice())
 }
 
 /// Asks for the locks of the statement at which a session stands, where a group of it is open.
-fn ask_at(alloc: Global, machine: &mut Machine, session: u32, place: u32) -> Result<Seen, Memory>
+fn ask_at<N: Opened>(
+    alloc: Global,
+    machine: &mut Machine<N>,
+    session: u32,
+    place: u32,
+) -> Result<Seen, Memory>
     requires place { IsPlace machine.old.script session }
-    requires kept { IsKept empty_database machine.old }
+    requires kept { IsKept N.opening machine.old }
     requires servable { IsServable machine.old.script }
     requires stands { StandsAs machine.old session (Statement place) }
-    ensures { IsServable machine.new.script }
+    ensures { IsBehind N.opening machine.old machine.new }
 {
     if machine.start(session).is_none() {
         return Ok(Seen::Idle);
@@ -170,9 +170,9 @@ fn ask_at(alloc: Global, machine: &mut Machine, session: u32, place: u32) -> Res
     ask_in_group(alloc, machine, session, &bound)
 }
 
-fn ask(alloc: Global, machine: &mut Machine, session: u32) -> Result<Seen, Memory>
+fn ask<N: Opened>(alloc: Global, machine: &mut Machine<N>, session: u32) -> Result<Seen, Memory>
     requires { IsServable machine.old.script }
-    ensures { IsServable machine.new.script }
+    ensures { IsBehind N.opening machine.old machine.new }
 {
     let Some(Stand::Statement(place)) = stand_of(machine, session) else {
         return Ok(Seen::Idle);
@@ -180,8 +180,16 @@ fn ask(alloc: Global, machine: &mut Machine, session: u32) -> Result<Seen, Memor
     ask_at(alloc, machine, session, place)
 }
 
+/// What is seen of a statement's step.
+fn seen_of(step: Step) -> Seen {
+    match step {
+        Step::Replied => Seen::Done,
+        Step::Stale(number) => Seen::Stale(number),
+    }
+}
+
 /// Whether a session's open group holds locks.
-fn are_covered(machine: &Machine, session: u32, locks: &[(LockName, Mode)]) -> bool
+pub fn are_covered<N: Opened>(machine: &Machine<N>, session: u32, locks: &[(LockName, Mode)]) -> bool
     requires { IsPlace machine.now.script session }
     ensures { result ≡ true
         → All (λ lock. IsCovered machine.now session lock.0 lock.1) locks.now }
@@ -195,45 +203,48 @@ fn are_covered(machine: &Machine, session: u32, locks: &[(LockName, Mode)]) -> b
 }
 
 /// Replies to the next statement of a session's open group, where it holds the locks.
-fn exec_in_group(
+fn exec_in_group<N: Opened>(
     alloc: Global,
-    machine: &mut Machine,
+    machine: &mut Machine<N>,
     session: u32,
     bound: &Bound,
 ) -> Result<Seen, Memory>
     requires place { IsPlace machine.old.script session }
-    requires kept { IsKept empty_database machine.old }
+    requires kept { IsKept N.opening machine.old }
     requires next { (o : Open) × IsBoundNext machine.old session o bound.now }
     requires servable { IsServable machine.old.script }
-    ensures { IsServable machine.new.script }
+    ensures { IsBehind N.opening machine.old machine.new }
 {
     let locks = footprint(alloc, bound)?;
     if !are_covered(machine, session, locks.as_slice()) {
         return Ok(Seen::Idle);
     }
-    machine.exec(session, bound)?;
-    Ok(Seen::Done)
+    Ok(seen_of(machine.exec(session, bound)?))
 }
 
 /// Replies to the statement at which a session stands.
-fn exec_at(alloc: Global, machine: &mut Machine, session: u32, place: u32) -> Result<Seen, Memory>
+fn exec_at<N: Opened>(
+    alloc: Global,
+    machine: &mut Machine<N>,
+    session: u32,
+    place: u32,
+) -> Result<Seen, Memory>
     requires place { IsPlace machine.old.script session }
-    requires kept { IsKept empty_database machine.old }
+    requires kept { IsKept N.opening machine.old }
     requires servable { IsServable machine.old.script }
     requires stands { StandsAs machine.old session (Statement place) }
-    ensures { IsServable machine.new.script }
+    ensures { IsBehind N.opening machine.old machine.new }
 {
     let bound = bind_next(alloc, machine, session, place)?;
     if machine.start(session).is_some() {
         return exec_in_group(alloc, machine, session, &bound);
     }
-    machine.exec(session, &bound)?;
-    Ok(Seen::Done)
+    Ok(seen_of(machine.exec(session, &bound)?))
 }
 
-fn exec(alloc: Global, machine: &mut Machine, session: u32) -> Result<Seen, Memory>
+fn exec<N: Opened>(alloc: Global, machine: &mut Machine<N>, session: u32) -> Result<Seen, Memory>
     requires { IsServable machine.old.script }
-    ensures { IsServable machine.new.script }
+    ensures { IsBehind N.opening machine.old machine.new }
 {
     let Some(Stand::Statement(place)) = stand_of(machine, session) else {
         return Ok(Seen::Idle);
@@ -241,9 +252,9 @@ fn exec(alloc: Global, machine: &mut Machine, session: u32) -> Result<Seen, Memo
     exec_at(alloc, machine, session, place)
 }
 
-fn commit(machine: &mut Machine, session: u32) -> Result<Seen, Memory>
+fn commit<N: Opened>(machine: &mut Machine<N>, session: u32) -> Result<Seen, Memory>
     requires { IsServable machine.old.script }
-    ensures { IsServable machine.new.script }
+    ensures { IsBehind N.opening machine.old machine.new }
 {
     let Some(Stand::Commit) = stand_of(machine, session) else {
         return Ok(Seen::Idle);
@@ -254,9 +265,9 @@ fn commit(machine: &mut Machine, session: u32) -> Result<Seen, Memory>
     }
 }
 
-fn abort(machine: &mut Machine, session: u32) -> Seen
+fn abort<N: Opened>(machine: &mut Machine<N>, session: u32) -> Seen
     requires { IsServable machine.old.script }
-    ensures { IsServable machine.new.script }
+    ensures { IsBehind N.opening machine.old machine.new }
 {
     let Some(Stand::Abort) = stand_of(machine, session) else {
         return Seen::Idle;
@@ -265,9 +276,9 @@ fn abort(machine: &mut Machine, session: u32) -> Seen
     Seen::Done
 }
 
-fn finish(machine: &mut Machine, session: u32) -> Seen
+fn finish<N: Opened>(machine: &mut Machine<N>, session: u32) -> Seen
     requires { IsServable machine.old.script }
-    ensures { IsServable machine.new.script }
+    ensures { IsBehind N.opening machine.old machine.new }
 {
     let Some(Stand::Ended) = stand_of(machine, session) else {
         return Seen::Idle;
@@ -276,10 +287,10 @@ fn finish(machine: &mut Machine, session: u32) -> Seen
     Seen::Done
 }
 
-/// Makes a call, where its condition holds. The script stays one that is served.
-pub fn make(alloc: Global, machine: &mut Machine, act: Act) -> Result<Seen, Memory>
+/// Makes a call, where its condition holds.
+pub fn make<N: Opened>(alloc: Global, machine: &mut Machine<N>, act: Act) -> Result<Seen, Memory>
     requires { IsServable machine.old.script }
-    ensures { IsServable machine.new.script }
+    ensures { IsBehind N.opening machine.old machine.new }
 {
     match act {
         Act::Begin(session) => begin(machine, session),

@@ -1,16 +1,69 @@
 //! The calls of a machine, one by one.
 
+ghost use Rattle.std.specs.Prelude.{◌≡◌};
+ghost use Rattle.bf_sql.specs.Database.{empty_database};
 ghost use Rattle.bf_machine.specs.interleaving.Serving.{IsServable};
+ghost use Rattle.machine_tests.specs.Behind.{IsBehind};
 
-use crate::acts::{Act, Look, Seen, bound_next, covers, look_at, make, reply_at, session_of};
-use crate::runs::machine_of;
+use crate::acts::{Act, Look, Seen, covers, look_at, make, reply_at, session_of};
+use crate::runs::script_of;
+use crate::stale::exec_as_before;
 use bf_base::{Key, Name, Value};
+use bf_live::LiveTables;
 use bf_locks::{LockName, Mode};
-use bf_machine::{Machine, Stand};
+use bf_machine::{Machine, Opened, Stand, Step};
 use bf_text::report;
-use bf_tree::{Cause, Reply, Sweep};
+use bf_tree::{Cause, Reply, Script, Sweep};
 use std::alloc::Global;
+use std::marker::Brand;
+use std::process::Abort;
 use std::test::Fail;
+
+/// What is tried with a machine in which nothing has begun.
+#[derive(Clone, Copy, Debug)]
+enum Trial {
+    Calls,
+    Fresh,
+    Block,
+    Covered,
+    LastDeath,
+    Death,
+    SchemaChange,
+}
+
+fn try_in<N: Opened, R: Abort>(
+    rt: &R,
+    alloc: Global,
+    script: Script,
+    retries: u16,
+    trial: Trial,
+) -> Result<(), Fail>
+    requires opening { N.opening ≡ empty_database }
+    requires script { script ≡ N.script }
+    requires servable { IsServable script }
+{
+    let machine: Machine<N> = Machine::new(alloc, LiveTables::new(alloc), script, retries)?;
+    match trial {
+        Trial::Calls => make_calls(rt, alloc, machine),
+        Trial::Fresh => look_at_the_first(rt, machine),
+        Trial::Block => look_behind_each(rt, alloc, machine),
+        Trial::Covered => cover(rt, alloc, machine),
+        Trial::LastDeath => die_for_good(rt, alloc, machine),
+        Trial::Death => die_once(rt, alloc, machine),
+        Trial::SchemaChange => bind_again(rt, alloc, machine),
+    }
+}
+
+/// Makes a machine over the script of a text and the empty database, and tries it.
+fn tried<R: Abort>(
+    rt: &R,
+    alloc: Global,
+    text: &[u8],
+    retries: u16,
+    trial: Trial,
+) -> Result<(), Fail> {
+    try_in::<Brand, R>(rt, alloc, script_of(alloc, text)?, retries, trial)
+}
 
 /// A session that makes a row, then three that each have a block with it, and one without statements.
 const SCRIPT: &[u8] = b"PHASE; SESSION; CREATE TABLE t (id INT, n INT, PRIMARY KEY (id)); \
@@ -69,13 +122,13 @@ const BLOCKS: [(Act, Seen, Stand); 28] = [
 
 /// Whether calls are made one after the other, and what comes of each, and where its session stands then,
 /// is what is told.
-fn are_made(
+fn are_made<N: Opened>(
     alloc: Global,
-    machine: &mut Machine,
+    machine: &mut Machine<N>,
     calls: &[(Act, Seen, Stand)],
 ) -> Result<bool, Fail>
     requires { IsServable machine.old.script }
-    ensures { IsServable machine.new.script }
+    ensures { IsBehind N.opening machine.old machine.new }
 {
     for (call, seen, stand) in calls {
         if make(alloc, machine, *call)? != *seen {
@@ -92,9 +145,9 @@ fn are_made(
 }
 
 /// Makes calls one after the other, whatever comes of each.
-fn make_all(alloc: Global, machine: &mut Machine, calls: &[Act]) -> Result<(), Fail>
+pub fn make_all<N: Opened>(alloc: Global, machine: &mut Machine<N>, calls: &[Act]) -> Result<(), Fail>
     requires { IsServable machine.old.script }
-    ensures { IsServable machine.new.script }
+    ensures { IsBehind N.opening machine.old machine.new }
 {
     for call in calls {
         make(alloc, machine, *call)?;
@@ -102,10 +155,10 @@ fn make_all(alloc: Global, machine: &mut Machine, calls: &[Act]) -> Result<(), F
     Ok(())
 }
 
-#[test]
-fn calls_are_made_where_they_can_come(rt: HostRuntime) -> Result<(), Fail> {
-    let alloc = rt.alloc();
-    let mut machine = machine_of(alloc, SCRIPT, 1)?;
+fn make_calls<N: Opened, R: Abort>(rt: &R, alloc: Global, machine: Machine<N>) -> Result<(), Fail>
+    requires { IsServable machine.script }
+{
+    let mut machine = machine;
     assert!(rt; are_made(alloc, &mut machine, &SETUP)?);
     assert!(rt; are_made(alloc, &mut machine, &BLOCKS)?);
     let (_, transcripts, history) = machine.into_parts();
@@ -117,6 +170,11 @@ entry 3 session 3 from 1 to 3 rolled back\nentry 4 session 4 from 1 to 2 rolled 
 entry 5 session 2 from 1 to 3 committed 3\nend commits 3 migration none\n";
     assert!(rt; text.as_slice() == told.as_bytes());
     Ok(())
+}
+
+#[test]
+fn calls_are_made_where_they_can_come(rt: HostRuntime) -> Result<(), Fail> {
+    tried(&rt, rt.alloc(), SCRIPT, 1, Trial::Calls)
 }
 
 const ENDED: Look = Look {
@@ -135,13 +193,10 @@ const TO_BEGIN: Look = Look {
     is_answered: false,
 };
 
-#[test]
-fn nothing_has_begun_in_a_new_machine(rt: HostRuntime) -> Result<(), Fail> {
-    let alloc = rt.alloc();
-    let machine = machine_of(alloc, SCRIPT, 0)?;
+fn look_at_the_first<N: Opened, R: Abort>(rt: &R, machine: Machine<N>) -> Result<(), Fail> {
     assert_eq!(rt; machine.session_count(), 5);
     assert_eq!(rt; machine.script().phases, 2);
-    assert_eq!(rt; machine.catalog().number, 0);
+    assert_eq!(rt; machine.catalog().number(), 0);
     assert_eq!(rt; look_at(&machine, 1), Some(TO_BEGIN));
     assert_eq!(rt;
         look_at(&machine, 2),
@@ -152,12 +207,17 @@ fn nothing_has_begun_in_a_new_machine(rt: HostRuntime) -> Result<(), Fail> {
     );
     assert_eq!(rt; look_at(&machine, 5), Some(ENDED));
     assert!(rt; !covers(&machine, 1, &LockName::Catalog, Mode::IS));
-    assert!(rt; reply_at(&machine, 1, 1).is_none());
+    assert!(rt; reply_at(&machine, 1, 0).is_none() && reply_at(&machine, 1, 1).is_none());
     let (live, transcripts, history) = machine.into_parts();
-    assert_eq!(rt; live.catalog().number, 0);
+    assert_eq!(rt; live.catalog().number(), 0);
     assert_eq!(rt; transcripts.sessions.len(), 5);
     assert!(rt; history.entries.is_empty());
     Ok(())
+}
+
+#[test]
+fn nothing_has_begun_in_a_new_machine(rt: HostRuntime) -> Result<(), Fail> {
+    tried(&rt, rt.alloc(), SCRIPT, 0, Trial::Fresh)
 }
 
 /// The second session's block, and what it looks like behind each call.
@@ -212,10 +272,14 @@ const BLOCK: [(Act, Look); 5] = [
     ),
 ];
 
-#[test]
-fn a_block_is_looked_at_behind_each_call(rt: HostRuntime) -> Result<(), Fail> {
-    let alloc = rt.alloc();
-    let mut machine = machine_of(alloc, SCRIPT, 0)?;
+fn look_behind_each<N: Opened, R: Abort>(
+    rt: &R,
+    alloc: Global,
+    machine: Machine<N>,
+) -> Result<(), Fail>
+    requires { IsServable machine.script }
+{
+    let mut machine = machine;
     assert!(rt; are_made(alloc, &mut machine, &SETUP)?);
     for (call, behind) in &BLOCK {
         make(alloc, &mut machine, *call)?;
@@ -228,15 +292,20 @@ fn a_block_is_looked_at_behind_each_call(rt: HostRuntime) -> Result<(), Fail> {
     Ok(())
 }
 
+#[test]
+fn a_block_is_looked_at_behind_each_call(rt: HostRuntime) -> Result<(), Fail> {
+    tried(&rt, rt.alloc(), SCRIPT, 0, Trial::Block)
+}
+
 fn key_of_one(alloc: Global) -> Result<LockName, Fail> {
     let key = Key::of(vec![in alloc; Value::Int(1)]?);
     Ok(LockName::One(Name::of(alloc, b"t")?, key))
 }
 
 /// Whether a session's open group covers the catalog, the table and the key of its row in these modes.
-fn covers_all(
+fn covers_all<N: Opened>(
     alloc: Global,
-    machine: &Machine,
+    machine: &Machine<N>,
     session: u32,
     modes: [Mode; 3],
 ) -> Result<bool, Fail> {
@@ -260,10 +329,10 @@ const COVERED: [([Mode; 3], bool); 6] = [
     ([Mode::X, Mode::IX, Mode::X], false),
 ];
 
-#[test]
-fn what_is_held_covers_what_is_below_it(rt: HostRuntime) -> Result<(), Fail> {
-    let alloc = rt.alloc();
-    let mut machine = machine_of(alloc, SCRIPT, 0)?;
+fn cover<N: Opened, R: Abort>(rt: &R, alloc: Global, machine: Machine<N>) -> Result<(), Fail>
+    requires { IsServable machine.script }
+{
+    let mut machine = machine;
     assert!(rt; are_made(alloc, &mut machine, &SETUP)?);
     make_all(
         alloc,
@@ -280,6 +349,11 @@ fn what_is_held_covers_what_is_below_it(rt: HostRuntime) -> Result<(), Fail> {
     Ok(())
 }
 
+#[test]
+fn what_is_held_covers_what_is_below_it(rt: HostRuntime) -> Result<(), Fail> {
+    tried(&rt, rt.alloc(), SCRIPT, 0, Trial::Covered)
+}
+
 /// The third session dies for the second one, once more than it may begin again.
 const LAST_DEATH: [(Act, Seen, Stand); 8] = [
     (Act::Begin(2), Seen::Done, Stand::Statement(1)),
@@ -292,10 +366,10 @@ const LAST_DEATH: [(Act, Seen, Stand); 8] = [
     (Act::Commit(2), Seen::Committed(3), Stand::Statement(4)),
 ];
 
-#[test]
-fn each_statement_is_told_the_last_death(rt: HostRuntime) -> Result<(), Fail> {
-    let alloc = rt.alloc();
-    let mut machine = machine_of(alloc, SCRIPT, 0)?;
+fn die_for_good<N: Opened, R: Abort>(rt: &R, alloc: Global, machine: Machine<N>) -> Result<(), Fail>
+    requires { IsServable machine.script }
+{
+    let mut machine = machine;
     assert!(rt; are_made(alloc, &mut machine, &SETUP)?);
     assert!(rt; are_made(alloc, &mut machine, &LAST_DEATH)?);
     assert_eq!(rt; look_at(&machine, 3), Some(ENDED));
@@ -309,6 +383,11 @@ fn each_statement_is_told_the_last_death(rt: HostRuntime) -> Result<(), Fail> {
     Ok(())
 }
 
+#[test]
+fn each_statement_is_told_the_last_death(rt: HostRuntime) -> Result<(), Fail> {
+    tried(&rt, rt.alloc(), SCRIPT, 0, Trial::LastDeath)
+}
+
 /// The third session dies at its UPDATE for the second one, and may begin again.
 const DEATH: [Act; 6] = [
     Act::Begin(2),
@@ -319,10 +398,10 @@ const DEATH: [Act; 6] = [
     Act::Ask(3),
 ];
 
-#[test]
-fn a_block_that_died_has_its_number_again(rt: HostRuntime) -> Result<(), Fail> {
-    let alloc = rt.alloc();
-    let mut machine = machine_of(alloc, SCRIPT, 1)?;
+fn die_once<N: Opened, R: Abort>(rt: &R, alloc: Global, machine: Machine<N>) -> Result<(), Fail>
+    requires { IsServable machine.script }
+{
+    let mut machine = machine;
     assert!(rt; are_made(alloc, &mut machine, &SETUP)?);
     make_all(alloc, &mut machine, &DEATH)?;
     assert_eq!(rt;
@@ -349,6 +428,11 @@ fn a_block_that_died_has_its_number_again(rt: HostRuntime) -> Result<(), Fail> {
     Ok(())
 }
 
+#[test]
+fn a_block_that_died_has_its_number_again(rt: HostRuntime) -> Result<(), Fail> {
+    tried(&rt, rt.alloc(), SCRIPT, 1, Trial::Death)
+}
+
 /// A table, then a session that reads it beside one that makes another table.
 const READ_AND_CREATE: &[u8] = b"PHASE; SESSION; CREATE TABLE t (id INT, PRIMARY KEY (id)); \
 PHASE; SESSION; SELECT * FROM t; SESSION; CREATE TABLE u (id INT, PRIMARY KEY (id));";
@@ -362,12 +446,13 @@ const FIRST_TABLE: [(Act, Seen, Stand); 5] = [
     (Act::Begin(2), Seen::Done, Stand::Statement(1)),
 ];
 
-const SECOND_TABLE: [(Act, Seen, Stand); 5] = [
-    (Act::Begin(3), Seen::Done, Stand::Statement(1)),
-    (Act::Ask(3), Seen::Granted, Stand::Statement(1)),
-    (Act::Exec(3), Seen::Done, Stand::Commit),
-    (Act::Commit(3), Seen::Committed(2), Stand::Ended),
-    (Act::Ask(2), Seen::Granted, Stand::Statement(1)),
+/// The second table comes behind the binding of the SELECT, and then the reader's locks.
+const SECOND_TABLE: [Act; 5] = [
+    Act::Begin(3),
+    Act::Ask(3),
+    Act::Exec(3),
+    Act::Commit(3),
+    Act::Ask(2),
 ];
 
 const READ: [(Act, Seen, Stand); 2] = [
@@ -375,26 +460,25 @@ const READ: [(Act, Seen, Stand); 2] = [
     (Act::Commit(2), Seen::Committed(3), Stand::Ended),
 ];
 
-#[test]
-fn a_statement_is_bound_again_behind_a_schema_change(rt: HostRuntime) -> Result<(), Fail> {
-    let alloc = rt.alloc();
-    let mut machine = machine_of(alloc, READ_AND_CREATE, 0)?;
+fn bind_again<N: Opened, R: Abort>(rt: &R, alloc: Global, machine: Machine<N>) -> Result<(), Fail>
+    requires { IsServable machine.script }
+{
+    let mut machine = machine;
     assert!(rt; are_made(alloc, &mut machine, &FIRST_TABLE)?);
-    let before = bound_next(alloc, &machine, 2)?;
-    assert!(rt; are_made(alloc, &mut machine, &SECOND_TABLE)?);
+    assert_eq!(rt; machine.catalog().number(), 1);
+    let step = exec_as_before(alloc, &mut machine, 2, &SECOND_TABLE)?;
     let table = LockName::Whole(Name::of(alloc, b"t")?);
     assert!(rt;
         covers(&machine, 2, &LockName::Catalog, Mode::S) && covers(&machine, 2, &table, Mode::S)
     );
-    let behind = bound_next(alloc, &machine, 2)?;
-    let (Some(before), Some(behind)) = (before, behind) else {
-        return Err(Fail::new("bound"));
-    };
-    assert_eq!(rt;
-        (before.catalog, behind.catalog, machine.catalog().number),
-        (1, 2, 2)
-    );
+    assert_eq!(rt; step, Some(Step::Stale(2)));
+    assert!(rt; reply_at(&machine, 2, 1).is_none());
     assert!(rt; are_made(alloc, &mut machine, &READ)?);
     assert!(rt; matches!(reply_at(&machine, 2, 1), Some(Reply::Rows(rows)) if rows.is_empty()));
     Ok(())
+}
+
+#[test]
+fn a_statement_is_bound_again_where_the_catalog_has_changed(rt: HostRuntime) -> Result<(), Fail> {
+    tried(&rt, rt.alloc(), READ_AND_CREATE, 0, Trial::SchemaChange)
 }

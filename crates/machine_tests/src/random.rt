@@ -2,14 +2,10 @@
 //! each as a session and a phase of its own, and gives the same replies.
 
 use crate::plays::{Lines, PLAYS, Play, put_session};
-use crate::runs::machine_of;
-use bf_machine::in_order;
+use crate::runs::{Told, run};
 use bf_tree::{Cause, Entry, History, Refusal, Reply, Transcripts};
 use std::alloc::Global;
 use std::test::Fail;
-
-/// The replies to each session, and the history.
-type Told = (Transcripts, History);
 
 /// The next number below a limit, of a linear congruential generator.
 fn draw(seed: &mut u64, limit: u64) -> u32 {
@@ -30,13 +26,6 @@ fn random_order(alloc: Global, seed: &mut u64, play: &Play) -> Result<Vec<u32>, 
         order.push(draw(seed, limit))?;
     }
     Ok(order)
-}
-
-fn run(alloc: Global, text: &[u8], retries: u16, order: &[u32]) -> Result<Told, Fail> {
-    let mut machine = machine_of(alloc, text, retries)?;
-    in_order(alloc, &mut machine, order)?;
-    let (_, transcripts, history) = machine.into_parts();
-    Ok((transcripts, history))
 }
 
 /// The statements of an entry.

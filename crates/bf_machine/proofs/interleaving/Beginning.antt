@@ -127,7 +127,7 @@ module _ (start : Database) (m : Machine) (kept : IsKept start m) (texts : AreTe
   }
 
   allowed_then : (t : ℕ) (g : Group) (cause : Cause) → IsAllowed start m.script m.began m.history m.retries t g cause → IsAllowed start m.script (more m.began b) m.history m.retries t g cause
-  allowed_then t g (Died h) was = (died_then t g h was.0, was.1)
+  allowed_then t g (Died h) was = (died_then t g h was.0, was.1, was.2, was.3)
   allowed_then t g other was = was
 
   apart_then : (a : Told) → IsApart m.script (IsAllowed start m.script m.began m.history m.retries) m.told a → IsApart m.script (IsAllowed start m.script (more m.began b) m.history m.retries) m.told a

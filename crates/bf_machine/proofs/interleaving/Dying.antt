@@ -411,6 +411,8 @@ module _ (start : Database) (m : Machine) (kept : IsKept start m) (texts : AreTe
           clash = was.clash;
         },
         allowed.1,
+        allowed.2,
+        allowed.3,
       )
   allowed_then t g other has_ended allowed = allowed
 
@@ -439,7 +441,9 @@ module _ (start : Database) (m : Machine) (kept : IsKept start m) (texts : AreTe
           older = subst (λ (n : ℕ). h < n) (kept.locks_consistent.once s o.group named.died.own o.start named.died.has has) named.died.older;
           clash = named.died.clash;
         },
-        omega (arith, count, length-append (deaths_of m s o) (h ∷ []), ap (λ (ds : List ℕ). length ds) deaths_are),
+        deaths_of m s o,
+        refl,
+        ap (λ (ds : List ℕ). length ds) deaths_are ∙ count,
       ) in
       let told : replies_to after.told s o.group ≡ told_all =
       ap (part o.group.0 o.group.1) (told_here m s answers place.0 place.1)

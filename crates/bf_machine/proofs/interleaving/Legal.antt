@@ -157,7 +157,7 @@ module _ (start : Database) (m : Machine) (kept : IsKept start m) (texts : AreTe
   AllowedThen = IsAllowed start m.script m.began (m.history ++ e ∷ []) m.retries
 
   allowed_still : (t : ℕ) (g : Group) (cause : Cause) → Allowed t g cause → AllowedThen t g cause
-  allowed_still t g (Died h) allowed = (died_more start m.script m.history e m.began t g h allowed.0, allowed.1)
+  allowed_still t g (Died h) allowed = (died_more start m.script m.history e m.began t g h allowed.0, allowed.1, allowed.2, allowed.3)
   allowed_still t g other allowed = allowed
 
   abbrev kept_by : List Entry → Told → Bool

@@ -12,7 +12,7 @@ use Rattle.bf_tree.specs.declared.reply.Reply.{Reply}
 use Rattle.bf_tree.specs.declared.reply.Reply.TheVariants as reply
 use Rattle.bf_tree.specs.declared.script.Script.{Script}
 use Rattle.bf_tree.specs.declared.statement.Statement.TheVariants.{Commit}
-use Rattle.bf_sql.specs.Database.{Database, IsDatabase, empty_database}
+use Rattle.bf_sql.specs.Database.{Database, IsDatabase}
 use Rattle.bf_sql.specs.Groups.{commits as commits_text}
 use Rattle.bf_sql.specs.History.{commits_with}
 use Rattle.bf_live.specs.OpenGroups.{Answered}
@@ -71,8 +71,8 @@ sessions_stay sessions i x at g is p same =
     ap (λ (h : OpenGroup). record x { «open» = Some h }) group ∙ ap (λ (o : Option OpenGroup). record x { «open» = o }) (sym is) in
     ap (slice_set sessions i) (session ∙ sym at) ∙ set-get_or sessions i x
 
-module _ (script : Script) (retries : ℕ) (db : Database) (locks : Locks) (began : List BeganGroup) (sessions : List SessionSoFar) (history : Vec Entry) (commits : ℕ) (transcripts : Vec (List Reply))
-    (sound : IsSound script retries db locks began sessions history commits transcripts)
+module _ {opening : Database} {given : Script} (script : Script) (retries : ℕ) (db : Database) (locks : Locks) (began : List BeganGroup) (sessions : List SessionSoFar) (history : Vec Entry) (commits : ℕ) (transcripts : Vec (List Reply))
+    (sound : IsSound opening given script retries db locks began sessions history commits transcripts)
     (s : ℕ) (low : 1 ≤ s) (high : s ≤ length sessions) (x : SessionSoFar) (at : slice_index_or sessions (s - 1) x ≡ x) (g : OpenGroup) (is : x.«open» ≡ Some g) where
   abbrev m : Machine
   m = seen script retries db locks began sessions history.items
@@ -110,8 +110,8 @@ module _ (script : Script) (retries : ℕ) (db : Database) (locks : Locks) (bega
       goes = goes;
     }
 
-    commit_kept : IsKept empty_database (committed m s o)
-    commit_kept = commit_keeps_all empty_database m sound.kept (are_texts script) s (committed m s o) (commits_so (committed m s o) refl)
+    commit_kept : IsKept opening (committed m s o)
+    commit_kept = commit_keeps_all opening m sound.kept (are_texts script) s (committed m s o) (commits_so (committed m s o) refl)
 
     abbrev n : ℕ
     n = commits_behind 0 history.items + 1
@@ -139,10 +139,10 @@ module _ (script : Script) (retries : ℕ) (db : Database) (locks : Locks) (bega
           last_told script retries db locks began sessions history commits transcripts sound s low high x at g is
           Commit (reply.Committed n) left_to_commit y.replies.items told_number
 
-      pub commit_sound : IsSound script retries live free began (slice_set sessions (s - 1) y) entries (commits + 1) transcripts
+      pub commit_sound : IsSound opening given script retries live free began (slice_set sessions (s - 1) y) entries (commits + 1) transcripts
       commit_sound =
-          subst (λ (locks : Locks). IsSound script retries live locks began (slice_set sessions (s - 1) y) entries (commits + 1) transcripts) (sym freed)
-          (subst (λ (db : Database). IsSound script retries db (without_owner locks g.start) began (slice_set sessions (s - 1) y) entries (commits + 1) transcripts) (sym settled)
+          subst (λ (locks : Locks). IsSound opening given script retries live locks began (slice_set sessions (s - 1) y) entries (commits + 1) transcripts) (sym freed)
+          (subst (λ (db : Database). IsSound opening given script retries db (without_owner locks g.start) began (slice_set sessions (s - 1) y) entries (commits + 1) transcripts) (sym settled)
           (ended_sound script retries db locks began sessions history commits transcripts sound s low high x at g is
           answers y closed replies (left_by db (pending_seen g.pending)) (entry_of m s o (Committed n)) (commits + 1) latest (omega (arith, capacity)) entries with_entry space commit_kept count))
 

@@ -16,7 +16,8 @@ use Rattle.bf_tree.specs.declared.reply.Cause.TheVariants.{Died}
 use Rattle.bf_tree.specs.declared.reply.Reply.{Reply}
 use Rattle.bf_tree.specs.declared.reply.Reply.TheVariants.{Ended}
 use Rattle.bf_tree.specs.declared.statement.Statement.{Statement}
-use Rattle.bf_sql.specs.Database.{empty_database}
+use Rattle.bf_tree.specs.declared.script.Script.{Script}
+use Rattle.bf_sql.specs.Database.{Database}
 use Rattle.bf_sql.specs.Groups.{session_at}
 use Rattle.bf_sql.specs.History.{replayed}
 use Rattle.bf_machine.specs.declared.machine.Machine.TheInside.{Inside}
@@ -112,15 +113,15 @@ module _ (began : List Began) (s : ℕ) (group : Group) (n : ℕ) (has : HasStar
     }
 
 -- the machine with other locks, other groups that have begun and other sessions
-module _ (i : Inside) (locks : Locks) (began : List BeganGroup) (sessions : List SessionSoFar) where
-  abbrev pub SoundWith : Type 0
-  SoundWith = IsSound i.script i.retries i.live locks began sessions i.history i.commits i.transcripts
+module _ {N : Type 0} (i : Inside N) (locks : Locks) (began : List BeganGroup) (sessions : List SessionSoFar) where
+  abbrev pub SoundWith : Database → Script → Type 0
+  SoundWith opening given = IsSound opening given i.script i.retries i.live locks began sessions i.history i.commits i.transcripts
 
   abbrev pub seen_with : Machine
   seen_with = seen i.script i.retries i.live locks began sessions i.history.items
 
 -- THE OPEN GROUP g of a session, of which the code has x
-module _ (i : Inside) (sound : SoundWith i i.locks i.began.items i.sessions.items) (before : Machine)
+module _ {N : Type 0} {opening : Database} {given : Script} (i : Inside N) (sound : SoundWith i i.locks i.began.items i.sessions.items opening given) (before : Machine)
     (view : seen_with i i.locks i.began.items i.sessions.items ≡ before)
     (s : ℕ) (place : IsPlace before.script s) (x : SessionSoFar) (at : slice_index_or i.sessions.items (s - 1) x ≡ x) (g : OpenGroup)
     (is : x.«open» ≡ Some g) where
@@ -148,7 +149,7 @@ module _ (i : Inside) (sound : SoundWith i i.locks i.began.items i.sessions.item
       told_there i.script i.retries i.live i.locks i.began.items i.sessions.items i.history.items x s low high at
       ∙ ap (told_before x.replies.items) is
 
-  own : IsOpenGroup empty_database m s o
+  own : IsOpenGroup opening m s o
   own = sound.kept.open_groups_replay.each s o there
 
   pub bounds : (1 ≤ g.first) × (g.first ≤ g.last) × (g.last ≤ length (session_at i.script s).statements)
@@ -184,17 +185,17 @@ module _ (i : Inside) (sound : SoundWith i i.locks i.began.items i.sessions.item
         omega (arith, here, same, bounds.0, bounds.1, bounds.2, at_most (nat_lt i.retries deaths) (g.last + 1 - g.first) count counted)
 
   -- THE ANSWER to what may be asked, and the locks behind it
-  module _ (name : LockName) (mode : Mode) (can : CanAsk before s name mode) (answer : LockAnswer)
+  module _ (name : LockName) (mode : Mode) (can : CanAsk before s opening name mode) (answer : LockAnswer)
       (judged : IsJudged i.locks g.start name mode answer)
       (locks : Locks) (held_then : locks ≡ after i.locks g.start name mode answer) where
     abbrev AsksFor : Statement → ℕ → Open → Type 0
     AsksFor statement prefix p =
-        Contains (footprint_in (replayed m.script empty_database (take prefix m.history)).1 (stands_inside p.replies) statement) (name, mode)
+        Contains (footprint_in (replayed m.script opening (take prefix m.history)).1 (stands_inside p.replies) statement) (name, mode)
 
     asks_seen : (a : LockAnswer) → IsJudged i.locks g.start name mode a → (next : Machine) → next ≡ asked m s o name mode a
-        → Asks m s empty_database name mode a next
+        → Asks m s opening name mode a next
     asks_seen a judged next goes =
-        let seen_so : CanAsk m s name mode = subst (λ (m : Machine). CanAsk m s name mode) (sym view) can in
+        let seen_so : CanAsk m s opening name mode = subst (λ (m : Machine). CanAsk m s opening name mode) (sym view) can in
         let same : seen_so.o ≡ o = same_Some seen_so.o o (sym seen_so.is ∙ there) in
         record {
           current = seen_so.current;
@@ -209,19 +210,19 @@ module _ (i : Inside) (sound : SoundWith i i.locks i.began.items i.sessions.item
           goes = goes;
         }
 
-    asks_so : (a : LockAnswer) → answer ≡ a → (next : Machine) → next ≡ asked m s o name mode a → Asks before s empty_database name mode answer next
+    asks_so : (a : LockAnswer) → answer ≡ a → (next : Machine) → next ≡ asked m s o name mode a → Asks before s opening name mode answer next
     asks_so a is next goes =
         let asks = asks_seen a (subst (IsJudged i.locks g.start name mode) is judged) next goes in
-        subst (λ (m : Machine). Asks m s empty_database name mode answer next) view
-        (subst (λ (a : LockAnswer). Asks m s empty_database name mode a next) (sym is) asks)
+        subst (λ (m : Machine). Asks m s opening name mode answer next) view
+        (subst (λ (a : LockAnswer). Asks m s opening name mode a next) (sym is) asks)
 
     -- A GRANT AND A WAIT change the locks alone
     module _ (lives : (h : ℕ) → answer ≡ Die h → ⊥) where
       locks_kept : (a : LockAnswer) → answer ≡ a → IsJudged i.locks g.start name mode a
-          → IsKept empty_database (record m { locks = after i.locks g.start name mode a })
+          → IsKept opening (record m { locks = after i.locks g.start name mode a })
       locks_kept Granted is judged =
           let next : Machine = asked m s o name mode Granted in
-          grant_keeps_all empty_database m sound.kept s name mode next (asks_seen Granted judged next refl)
+          grant_keeps_all opening m sound.kept s name mode next (asks_seen Granted judged next refl)
       locks_kept (Wait owners) is judged = sound.kept
       locks_kept (Die h) is judged = absurd (lives h is)
 
@@ -230,9 +231,11 @@ module _ (i : Inside) (sound : SoundWith i i.locks i.began.items i.sessions.item
       asked_is (Wait owners) is = refl
       asked_is (Die h) is = absurd (lives h is)
 
-      pub lives_sound : SoundWith i locks i.began.items i.sessions.items
+      pub lives_sound : SoundWith i locks i.began.items i.sessions.items opening given
       lives_sound = record {
-        kept = subst (λ (locks : Locks). IsKept empty_database (record m { locks = locks })) (sym held_then) (locks_kept answer refl judged);
+        is_given = sound.is_given;
+        narrow = sound.narrow;
+        kept = subst (λ (locks : Locks). IsKept opening (record m { locks = locks })) (sym held_then) (locks_kept answer refl judged);
         counted = sound.counted;
         sessions_numbered = sound.sessions_numbered;
         roomy = sound.roomy;
@@ -241,7 +244,7 @@ module _ (i : Inside) (sound : SoundWith i i.locks i.began.items i.sessions.item
         transcripts_room = sound.transcripts_room;
       }
 
-      pub lives_asks : Asks before s empty_database name mode answer (seen_with i locks i.began.items i.sessions.items)
+      pub lives_asks : Asks before s opening name mode answer (seen_with i locks i.began.items i.sessions.items)
       lives_asks =
           asks_so answer refl (seen_with i locks i.began.items i.sessions.items)
           (ap (λ (locks : Locks). record m { locks = locks }) held_then ∙ asked_is answer refl)
@@ -270,9 +273,11 @@ module _ (i : Inside) (sound : SoundWith i i.locks i.began.items i.sessions.item
         pub unchanged : seen_with i locks began i.sessions.items ≡ before
         unchanged = seen_unchanged ∙ view
 
-        pub unchanged_sound : SoundWith i locks began i.sessions.items
+        pub unchanged_sound : SoundWith i locks began i.sessions.items opening given
         unchanged_sound = record {
-          kept = subst (IsKept empty_database) (sym seen_unchanged) sound.kept;
+          is_given = sound.is_given;
+          narrow = sound.narrow;
+          kept = subst (IsKept opening) (sym seen_unchanged) sound.kept;
           counted = sound.counted;
           sessions_numbered = sound.sessions_numbered;
           roomy = λ j z within is.
@@ -357,7 +362,7 @@ module _ (i : Inside) (sound : SoundWith i i.locks i.began.items i.sessions.item
             ap₂ (λ (locks : Locks) (bs : List Began). record (seen_with i free began sessions) { locks = locks; began = bs }) locks_then began_then
             ∙ ap₂ (λ (opens : List (Option Open)) (told : List (List Reply)). record (died m s o h) { opens = opens; told = told }) opens_are told_are
 
-        pub died_asks : Asks before s empty_database name mode answer (seen_with i free began sessions)
+        pub died_asks : Asks before s opening name mode answer (seen_with i free began sessions)
         died_asks = asks_so (Die h) dies (seen_with i free began sessions) seen_died
 
         latest_stays : (t k : ℕ) → IsLatest (map began_seen i.began.items) t k → IsLatest (map began_seen began) t k
@@ -365,20 +370,22 @@ module _ (i : Inside) (sound : SoundWith i i.locks i.began.items i.sessions.item
             subst (λ (bs : List Began). IsLatest bs t k) (sym began_then)
             (latest_then (map began_seen i.began.items) s o.group g.start has (deaths_of m s o ++ h ∷ []) t k was)
 
-        died_kept : IsKept empty_database (seen_with i free began sessions)
+        died_kept : IsKept opening (seen_with i free began sessions)
         died_kept =
             let fate = subst (IsJudged i.locks g.start name mode) dies judged in
             let next : Machine = died m s o h in
-            subst (IsKept empty_database) (sym seen_died)
-            (death_keeps_all empty_database m sound.kept (are_texts i.script) s name mode h next (asks_seen (Die h) fate next refl))
+            subst (IsKept opening) (sym seen_died)
+            (death_keeps_all opening m sound.kept (are_texts i.script) s name mode h next (asks_seen (Die h) fate next refl))
 
-        pub died_sound : SoundWith i free began sessions
+        pub died_sound : SoundWith i free began sessions opening given
         died_sound =
             let below : s - 1 < length i.sessions.items = omega (arith, low, high) in
             let was = sound.roomy (s - 1) x below at in
             let same : vec_capacity y.replies ≡ vec_capacity x.replies = capacity ∙ ap (λ (z : SessionSoFar). vec_capacity z.replies) same_there in
             let last : x.latest ≡ y.latest = sym (latest ∙ ap (λ (z : SessionSoFar). z.latest) same_there) in
             let fewer = one_closed i.sessions.items (s - 1) x y below at (ap is_some is) (ap is_some closed) in record {
+              is_given = sound.is_given;
+              narrow = sound.narrow;
               kept = died_kept;
               counted = sound.counted;
               sessions_numbered = sound.sessions_numbered;

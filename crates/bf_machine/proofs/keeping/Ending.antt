@@ -13,7 +13,7 @@ use Rattle.bf_tree.specs.declared.reply.Reply.TheVariants as reply
 use Rattle.bf_tree.specs.declared.script.Script.{Script}
 use Rattle.bf_tree.specs.declared.statement.Statement.{Statement}
 use Rattle.bf_tree.specs.declared.statement.Statement.TheVariants.{Rollback}
-use Rattle.bf_sql.specs.Database.{Database, empty_database}
+use Rattle.bf_sql.specs.Database.{Database}
 use Rattle.bf_sql.specs.Groups.{commits as commits_text, session_at}
 use Rattle.bf_sql.specs.History.{commits_with}
 use Rattle.bf_machine.specs.declared.so_far.Began.{Began as BeganGroup}
@@ -33,8 +33,8 @@ commits_more : (n : ℕ) (es : List Entry) (e : Entry) → commits_behind n (es 
 commits_more n [] e = refl
 commits_more n (d ∷ es) e = commits_more (commits_with n d.outcome) es e
 
-module _ (script : Script) (retries : ℕ) (db : Database) (locks : Locks) (began : List BeganGroup) (sessions : List SessionSoFar) (history : Vec Entry) (commits : ℕ) (transcripts : Vec (List Reply))
-    (sound : IsSound script retries db locks began sessions history commits transcripts)
+module _ {opening : Database} {given : Script} (script : Script) (retries : ℕ) (db : Database) (locks : Locks) (began : List BeganGroup) (sessions : List SessionSoFar) (history : Vec Entry) (commits : ℕ) (transcripts : Vec (List Reply))
+    (sound : IsSound opening given script retries db locks began sessions history commits transcripts)
     (s : ℕ) (low : 1 ≤ s) (high : s ≤ length sessions) (x : SessionSoFar) (at : slice_index_or sessions (s - 1) x ≡ x) (g : OpenGroup) (is : x.«open» ≡ Some g) where
   abbrev m : Machine
   m = seen script retries db locks began sessions history.items
@@ -51,7 +51,7 @@ module _ (script : Script) (retries : ℕ) (db : Database) (locks : Locks) (bega
   pub all_told : told_at m s ++ o.replies ≡ x.replies.items
   all_told = ap (λ (rs : List Reply). rs ++ drop (g.first - 1) x.replies.items) told_is ∙ take-append-drop (g.first - 1) x.replies.items
 
-  own : IsOpenGroup empty_database m s o
+  own : IsOpenGroup opening m s o
   own = sound.kept.open_groups_replay.each s o there
 
   bounds : (1 ≤ g.first) × (g.first ≤ g.last) × (g.last ≤ length (session_at script s).statements)
@@ -123,16 +123,18 @@ module _ (script : Script) (retries : ℕ) (db : Database) (locks : Locks) (bega
 
     -- and the machine keeps what it kept
     module _ (commits_then : ℕ) (latest : y.latest ≡ x.latest) (capacity : vec_capacity x.replies ≤ vec_capacity y.replies) (entries : Vec Entry) (items : entries.items ≡ history.items ++ e ∷ [])
-        (space : vec_capacity entries ≡ vec_capacity history) (kept : IsKept empty_database (record (ended m s o (o.replies ++ answers)) { db = next; history = history.items ++ e ∷ [] }))
+        (space : vec_capacity entries ≡ vec_capacity history) (kept : IsKept opening (record (ended m s o (o.replies ++ answers)) { db = next; history = history.items ++ e ∷ [] }))
         (counted : commits_then ≡ commits_with (commits_behind 0 history.items) e.outcome) where
-      pub ended_sound : IsSound script retries next (without_owner locks g.start) began (slice_set sessions (s - 1) y) entries commits_then transcripts
+      pub ended_sound : IsSound opening given script retries next (without_owner locks g.start) began (slice_set sessions (s - 1) y) entries commits_then transcripts
       ended_sound =
           let below : s - 1 < length sessions = omega (arith, low, high) in
           let was = sound.roomy (s - 1) x below at in
           let count = one_closed sessions (s - 1) x y below at (ap is_some is) (ap is_some closed) in
           let sizes : length entries.items ≡ length history.items + 1 = ap (λ (es : List Entry). length es) items ∙ length-append history.items (e ∷ []) in record {
-            kept = subst (λ (es : List Entry). IsKept empty_database (seen script retries next (without_owner locks g.start) began (slice_set sessions (s - 1) y) es)) (sym items)
-                (subst (IsKept empty_database) (sym seen_ended) kept);
+            is_given = sound.is_given;
+            narrow = sound.narrow;
+            kept = subst (λ (es : List Entry). IsKept opening (seen script retries next (without_owner locks g.start) began (slice_set sessions (s - 1) y) es)) (sym items)
+                (subst (IsKept opening) (sym seen_ended) kept);
             counted = counted ∙ (sym (commits_more 0 history.items e) ∙ ap (commits_behind 0) (sym items));
             sessions_numbered = sound.sessions_numbered;
             roomy = roomy_then script (map began_seen began) sessions (s - 1) x y below at sound.roomy capacity (subst (IsLatest (map began_seen began) (s - 1 + 1)) (sym latest) was.latest);
@@ -159,8 +161,8 @@ module _ (script : Script) (retries : ℕ) (db : Database) (locks : Locks) (bega
       goes = goes;
     }
 
-    pub abort_kept : IsKept empty_database (rolled_back m s o)
-    abort_kept = abort_keeps_all empty_database m sound.kept (are_texts script) s (rolled_back m s o) (aborted (rolled_back m s o) refl)
+    pub abort_kept : IsKept opening (rolled_back m s o)
+    abort_kept = abort_keeps_all opening m sound.kept (are_texts script) s (rolled_back m s o) (aborted (rolled_back m s o) refl)
 
     -- so does the machine behind it
     module _ (y : SessionSoFar) (closed : y.«open» ≡ None) (latest : y.latest ≡ x.latest) (capacity : vec_capacity y.replies ≡ vec_capacity x.replies)
@@ -173,9 +175,9 @@ module _ (script : Script) (retries : ℕ) (db : Database) (locks : Locks) (bega
       replies : y.replies.items ≡ x.replies.items ++ answers
       replies = last_told Rollback reply.RolledBack left_to_abort y.replies.items told
 
-      pub abort_sound : IsSound script retries db free began (slice_set sessions (s - 1) y) entries commits transcripts
+      pub abort_sound : IsSound opening given script retries db free began (slice_set sessions (s - 1) y) entries commits transcripts
       abort_sound =
-          subst (λ (locks : Locks). IsSound script retries db locks began (slice_set sessions (s - 1) y) entries commits transcripts) (sym freed)
+          subst (λ (locks : Locks). IsSound opening given script retries db locks began (slice_set sessions (s - 1) y) entries commits transcripts) (sym freed)
           (ended_sound answers y closed replies db (entry_of m s o RolledBack) commits latest (omega (arith, capacity)) entries items space abort_kept sound.counted)
 
       pub abort_seen : Aborts m s (seen script retries db free began (slice_set sessions (s - 1) y) entries.items)

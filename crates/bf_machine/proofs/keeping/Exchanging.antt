@@ -9,7 +9,7 @@ use Rattle.bf_locks.specs.Locks.{Locks}
 use Rattle.bf_tree.specs.declared.history.Entry.{Entry}
 use Rattle.bf_tree.specs.declared.reply.Reply.{Reply}
 use Rattle.bf_tree.specs.declared.script.Script.{Script}
-use Rattle.bf_sql.specs.Database.{Database, empty_database}
+use Rattle.bf_sql.specs.Database.{Database}
 use Rattle.bf_machine.specs.declared.so_far.Began.{Began as BeganGroup}
 use Rattle.bf_machine.specs.declared.so_far.SessionSoFar.{SessionSoFar}
 use Rattle.bf_machine.specs.interleaving.Events.{with_open}
@@ -50,8 +50,8 @@ module _ (script : Script) (retries : ℕ) (db : Database) (locks : Locks) (bega
       ap₂ with_lists (opens_same opens) (told_then sessions (s - 1) y ∙ ap (λ (rs : List Reply). slice_set (map told_seen sessions) (s - 1) rs) told)
 
 -- the machine stays sound where as many groups are open
-module _ (script : Script) (retries : ℕ) (db : Database) (locks : Locks) (began : List BeganGroup) (sessions : List SessionSoFar) (history : Vec Entry) (commits : ℕ) (transcripts : Vec (List Reply))
-    (sound : IsSound script retries db locks began sessions history commits transcripts)
+module _ {opening : Database} {given : Script} (script : Script) (retries : ℕ) (db : Database) (locks : Locks) (began : List BeganGroup) (sessions : List SessionSoFar) (history : Vec Entry) (commits : ℕ) (transcripts : Vec (List Reply))
+    (sound : IsSound opening given script retries db locks began sessions history commits transcripts)
     (s : ℕ) (low : 1 ≤ s) (high : s ≤ length sessions) (x : SessionSoFar) (at : slice_index_or sessions (s - 1) x ≡ x)
     (y : SessionSoFar) (alike : is_open y ≡ is_open x) (latest : y.latest ≡ x.latest) (capacity : vec_capacity x.replies ≤ vec_capacity y.replies) where
   below : s - 1 < length sessions
@@ -69,10 +69,12 @@ module _ (script : Script) (retries : ℕ) (db : Database) (locks : Locks) (bega
       let same : counts y ≡ counts x = ap (λ (b : Bool). cond b 1 0) alike in
       omega (arith, changed, mine, same)
 
-  pub exchanged_sound : IsKept empty_database (seen script retries db locks began (slice_set sessions (s - 1) y) history.items)
-      → IsSound script retries db locks began (slice_set sessions (s - 1) y) history commits transcripts
+  pub exchanged_sound : IsKept opening (seen script retries db locks began (slice_set sessions (s - 1) y) history.items)
+      → IsSound opening given script retries db locks began (slice_set sessions (s - 1) y) history commits transcripts
   exchanged_sound kept =
       let was = sound.roomy (s - 1) x below at in record {
+        is_given = sound.is_given;
+        narrow = sound.narrow;
         kept = kept;
         counted = sound.counted;
         sessions_numbered = sound.sessions_numbered;

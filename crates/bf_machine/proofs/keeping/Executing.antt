@@ -1,5 +1,5 @@
 -- The next statement of a session: it is answered in the open group, or a COMMIT or ROLLBACK is refused in none.
-use Rattle.std.proofs.Common.{◌≡◌, ◌⊎◌, ℕ, suc, ◌+◌, ◌-◌, ◌<◌, ◌≤◌, Bool, true, false, not, List, [], ◌∷◌, ◌++◌, length, take, drop, Option, Some, None, refl, sym, ap, ap₂, subst, ◌∙◌, arith, inl, inr, option_map, length-append, vec_capacity}
+use Rattle.std.proofs.Common.{◌≡◌, ℕ, suc, ◌+◌, ◌-◌, ◌<◌, ◌≤◌, Bool, true, false, not, List, [], ◌∷◌, ◌++◌, length, take, drop, Option, Some, None, refl, sym, ap, ap₂, subst, ◌∙◌, arith, inl, inr, option_map, length-append, vec_capacity}
 use Rattle.std.specs.Prelude.{Err, IfSome, Ok, OnErr, Result, is_some, slice_index_or, slice_set}
 use Rattle.std.specs.Global.{Vec}
 use Rattle.std.specs.List.{list_any}
@@ -15,7 +15,7 @@ use Rattle.bf_tree.specs.declared.reply.Reply.TheVariants as reply
 use Rattle.bf_tree.specs.declared.script.Script.{Script}
 use Rattle.bf_tree.specs.declared.statement.Statement.{Statement}
 use Rattle.bf_sql.specs.Bound.{bound_of}
-use Rattle.bf_sql.specs.Database.{Database, IsDatabase, empty_database}
+use Rattle.bf_sql.specs.Database.{Database, IsDatabase}
 use Rattle.bf_sql.specs.Footprints.{footprint_of}
 use Rattle.bf_sql.specs.Groups.{ends_block, groups_in, has_statement, session_at, statements_in}
 use Rattle.bf_txn.specs.declared.write.Write.{Write}
@@ -26,9 +26,9 @@ use Rattle.bf_machine.specs.declared.so_far.Began.{Began as BeganGroup}
 use Rattle.bf_machine.specs.declared.so_far.OpenGroup.{OpenGroup}
 use Rattle.bf_machine.specs.declared.so_far.Pending.{Pending as PendingChange}
 use Rattle.bf_machine.specs.declared.so_far.SessionSoFar.{SessionSoFar}
-use Rattle.bf_machine.specs.interleaving.Calls.{CanExec}
+use Rattle.bf_machine.specs.interleaving.Calls.{CanExec, HasReplied, IsToExec}
 use Rattle.bf_machine.specs.interleaving.Answering.{CanAnswer, IsAnswer, IsNext}
-use Rattle.bf_machine.specs.interleaving.Events.{Executes, Refuses, rest_of, stands_inside, stepped, text_of}
+use Rattle.bf_machine.specs.interleaving.Events.{Executes, Refuses, rest_of, stands_inside, stepped, text_of, with_open}
 use Rattle.bf_machine.specs.interleaving.Groups.{HasRun, NewIndex, NewTable, Pending, Rows, answered_by, pending_behind, reply_on}
 use Rattle.bf_machine.specs.interleaving.Kept.{IsKept, IsOpenGroup}
 use Rattle.bf_machine.specs.interleaving.Machines.{Machine, Open, open_at, told_at}
@@ -39,6 +39,7 @@ use Rattle.bf_machine.proofs.interleaving.Running.{nothing_left, stays_open}
 use Rattle.bf_machine.proofs.interleaving.Telling.{length-part}
 use Rattle.bf_machine.proofs.interleaving.Texts.{IsText, are_texts}
 use Rattle.bf_machine.proofs.keeping.Ending.{all_told, left_size, room_for_reply, there}
+use Rattle.bf_machine.proofs.keeping.Numbers.{bound_still}
 use Rattle.bf_machine.proofs.keeping.Exchanging.{exchanged_sound, seen_same, seen_with_open, seen_with_told}
 use Rattle.bf_machine.proofs.keeping.Places.{open_there, told_there}
 
@@ -71,12 +72,31 @@ pub on_err : {A E : Type 0} (r : Result A E) (P : Type 0) → P → OnErr r P
 on_err (Ok a) P p = tt
 on_err (Err e) P p = p
 
+-- where the catalog has the number that it had when a statement was bound, the statement is bound so now
+executes_as_bound : (start : Database) (m : Machine) → IsKept start m → (s : ℕ) (bound : Bound) → IsToExec m s start bound → bound.catalog ≡ m.db.number
+    → (next : Machine) × (by : Executes m s next) × (by.bound ≡ bound)
+executes_as_bound start m kept s bound there number =
+    let by : Executes m s (with_open m s (Some (stepped m s there.o there.statement bound))) = record {
+      current = there.current;
+      o = there.o;
+      is = there.is;
+      statement = there.statement;
+      later = there.later;
+      left = there.left;
+      goes_on = there.goes_on;
+      bound = bound;
+      bound_so = bound_still start m kept there.prefix (stands_inside there.o.replies) there.statement bound there.bound_so number;
+      held = there.held;
+      goes = refl;
+    } in
+    (with_open m s (Some (stepped m s there.o there.statement bound)), by, refl)
+
 some_there : (ss : List Statement) → list_any ends_block ss ≡ true → 1 ≤ length ss
 some_there [] any = absurd (false≢true any)
 some_there (s ∷ ss) any = omega arith
 
-module _ (script : Script) (retries : ℕ) (db : Database) (locks : Locks) (began : List BeganGroup) (sessions : List SessionSoFar) (history : Vec Entry) (commits : ℕ) (transcripts : Vec (List Reply))
-    (sound : IsSound script retries db locks began sessions history commits transcripts)
+module _ {opening : Database} {given : Script} (script : Script) (retries : ℕ) (db : Database) (locks : Locks) (began : List BeganGroup) (sessions : List SessionSoFar) (history : Vec Entry) (commits : ℕ) (transcripts : Vec (List Reply))
+    (sound : IsSound opening given script retries db locks began sessions history commits transcripts)
     (s : ℕ) (low : 1 ≤ s) (high : s ≤ length sessions) (x : SessionSoFar) (at : slice_index_or sessions (s - 1) x ≡ x) where
   abbrev m : Machine
   m = seen script retries db locks began sessions history.items
@@ -92,7 +112,7 @@ module _ (script : Script) (retries : ℕ) (db : Database) (locks : Locks) (bega
     group_there : open_at m s ≡ Some o
     group_there = there script retries db locks began sessions history commits transcripts sound s low high x at g is
 
-    own : IsOpenGroup empty_database m s o
+    own : IsOpenGroup opening m s o
     own = sound.kept.open_groups_replay.each s o group_there
 
     -- the replies before the group's are there
@@ -108,8 +128,11 @@ module _ (script : Script) (retries : ℕ) (db : Database) (locks : Locks) (bega
         let clash : None ≡ Some o = sym by.closed ∙ group_there in
         cc
 
-    pub executes_there : (bound : Bound) → CanExec m s bound → (next : Machine) × (by : Executes m s next) × (by.bound ≡ bound)
-    executes_there bound can = elim can as (λ _. (next : Machine) × (by : Executes m s next) × (by.bound ≡ bound)) [ inl there ↦ there | inr refused ↦ absurd (not_refused refused.0 refused.1) ]
+    executes_there : (bound : Bound) → bound.catalog ≡ db.number → CanExec m s opening bound → (next : Machine) × (by : Executes m s next) × (by.bound ≡ bound)
+    executes_there bound number can = elim can as (λ _. (next : Machine) × (by : Executes m s next) × (by.bound ≡ bound)) [
+      | inl there ↦ executes_as_bound opening m sound.kept s bound there number
+      | inr refused ↦ absurd (not_refused refused.0 refused.1)
+    ]
 
     -- what is pending is seen as before
     module _ (p : PendingChange) (alike : pending_seen p ≡ pending_seen g.pending) (y : SessionSoFar) (opened : y.«open» ≡ Some (record g { pending = p })) (replies : y.replies.items ≡ x.replies.items)
@@ -199,10 +222,10 @@ module _ (script : Script) (retries : ℕ) (db : Database) (locks : Locks) (bega
           goes = seen_with_open script retries db locks began sessions history.items s x at y told_before_is (Some (stepped m s o by.statement by.bound)) open_stepped;
         }
 
-        pub executed_sound : IsSound script retries db locks began (slice_set sessions (s - 1) y) history commits transcripts
+        pub executed_sound : IsSound opening given script retries db locks began (slice_set sessions (s - 1) y) history commits transcripts
         executed_sound =
             exchanged_sound script retries db locks began sessions history commits transcripts sound s low high x at y (ap is_some opened ∙ sym (ap is_some is)) latest capacity
-            (exec_keeps_all empty_database m sound.kept s (are_texts script) (then y) executes)
+            (exec_keeps_all opening m sound.kept s (are_texts script) (then y) executes)
 
   -- IN NO GROUP
   module _ (is : x.«open» ≡ None) where
@@ -213,13 +236,13 @@ module _ (script : Script) (retries : ℕ) (db : Database) (locks : Locks) (bega
     all_before = told_there script retries db locks began sessions history.items x s low high at ∙ ap (told_before x.replies.items) is
 
     -- nothing is executed there
-    pub not_executed : (next : Machine) → Executes m s next → ⊥
-    not_executed next by =
-        let clash : None ≡ Some by.o = sym none_there ∙ by.is in
-        cc
-
-    pub refuses_there : (bound : Bound) → CanExec m s bound → (next : Machine) × Refuses m s next
-    refuses_there bound can = elim can as (λ _. (next : Machine) × Refuses m s next) [ inl there ↦ absurd (not_executed there.0 there.1) | inr refused ↦ refused ]
+    refuses_there : (bound : Bound) → CanExec m s opening bound → (next : Machine) × Refuses m s next
+    refuses_there bound can = elim can as (λ _. (next : Machine) × Refuses m s next) [
+      | inl there ↦
+          let clash : None ≡ Some there.o = sym none_there ∙ there.is in
+          absurd cc
+      | inr refused ↦ refused
+    ]
 
     module _ (next : Machine) (by : Refuses m s next) where
       pub has_room_to_refuse : length x.replies.items < vec_capacity x.replies
@@ -250,10 +273,10 @@ module _ (script : Script) (retries : ℕ) (db : Database) (locks : Locks) (bega
           goes = seen_with_told script retries db locks began sessions history.items s x at y open_as_before (told_at m s ++ reply.Refused NoTransaction ∷ []) told_more_is;
         }
 
-        pub refused_sound : IsSound script retries db locks began (slice_set sessions (s - 1) y) history commits transcripts
+        pub refused_sound : IsSound opening given script retries db locks began (slice_set sessions (s - 1) y) history commits transcripts
         refused_sound =
             exchanged_sound script retries db locks began sessions history commits transcripts sound s low high x at y (ap is_some closed ∙ sym (ap is_some is)) latest capacity
-            (refuse_keeps_all empty_database m sound.kept (are_texts script) s (then y) refuses)
+            (refuse_keeps_all opening m sound.kept (are_texts script) s (then y) refuses)
 
   -- IN EITHER: what the session's open group is behind the reply, or behind none
   by_open : (P : Type 0) → (x.«open» ≡ None → P) → ((g : OpenGroup) → x.«open» ≡ Some g → P) → P
@@ -266,19 +289,19 @@ module _ (script : Script) (retries : ℕ) (db : Database) (locks : Locks) (bega
   abbrev session_of : Vec Reply → Option OpenGroup → SessionSoFar
   session_of replies after = record { replies = replies; «open» = after; latest = x.latest }
 
-  module _ (bound : Bound) (can : CanExec m s bound) where
+  module _ (bound : Bound) (can : CanExec m s opening bound) (number : bound.catalog ≡ db.number) where
     pub may_reply : IfSome x.«open» (λ g. CanAnswer db (pending_seen g.pending) bound)
     may_reply =
         let P : Option OpenGroup → Type 0 = λ (o : Option OpenGroup). IfSome o (λ g. CanAnswer db (pending_seen g.pending) bound) in
         by_open (P x.«open») (λ is. subst P (sym is) tt) (λ g is.
-        let there = executes_there g is bound can in
+        let there = executes_there g is bound number can in
         let answers : CanAnswer db (pending_seen g.pending) bound = subst (CanAnswer db (pending_seen g.pending)) there.2 (can_answer g is there.0 there.1) in
         subst P (sym is) answers)
 
     pub room_for_next : length x.replies.items < vec_capacity x.replies
     room_for_next =
         by_open (length x.replies.items < vec_capacity x.replies) (λ is. let there = refuses_there is bound can in has_room_to_refuse is there.0 there.1)
-        (λ g is. let there = executes_there g is bound can in has_room g is there.0 there.1)
+        (λ g is. let there = executes_there g is bound number can in has_room g is there.0 there.1)
 
     -- there is a reply
     module _ (r : Reply) (after : Option OpenGroup) (refused : x.«open» ≡ None → (after ≡ None) × (r ≡ reply.Refused NoTransaction))
@@ -291,31 +314,32 @@ module _ (script : Script) (retries : ℕ) (db : Database) (locks : Locks) (bega
       more_is : r ≡ reply.Refused NoTransaction → replies.items ≡ x.replies.items ++ reply.Refused NoTransaction ∷ []
       more_is same = items ∙ ap (λ (r : Reply). x.replies.items ++ r ∷ []) same
 
-      pub replied : Executes m s (then y) ⊎ Refuses m s (then y)
+      pub replied : HasReplied m s bound (then y)
+      unfolding executes executes_there
       replied =
-          by_open (Executes m s (then y) ⊎ Refuses m s (then y))
+          by_open (HasReplied m s bound (then y))
           (λ is.
           let there = refuses_there is bound can in
           let so = refused is in
           inr (refuses is there.0 there.1 y so.0 (more_is so.1) refl capacity))
           (λ g is.
-          let there = executes_there g is bound can in
+          let there = executes_there g is bound number can in
           let so = answered g is in
           let by = there.1 in
           let block = stands_inside (drop (g.first - 1) x.replies.items) in
           let means : IsAnswer db (pending_seen g.pending) by.bound block by.statement r (pending_seen so.0) =
           subst (λ (b : Bound). IsAnswer db (pending_seen g.pending) b block by.statement r (pending_seen so.0)) (sym there.2) (so.2 block by.statement) in
-          inl (executes g is there.0 by so.0 r means y so.1 items refl capacity))
+          inl (executes g is there.0 by so.0 r means y so.1 items refl capacity, there.2))
 
-      pub replied_sound : IsSound script retries db locks began (slice_set sessions (s - 1) y) history commits transcripts
+      pub replied_sound : IsSound opening given script retries db locks began (slice_set sessions (s - 1) y) history commits transcripts
       replied_sound =
-          by_open (IsSound script retries db locks began (slice_set sessions (s - 1) y) history commits transcripts)
+          by_open (IsSound opening given script retries db locks began (slice_set sessions (s - 1) y) history commits transcripts)
           (λ is.
           let there = refuses_there is bound can in
           let so = refused is in
           refused_sound is there.0 there.1 y so.0 (more_is so.1) refl capacity)
           (λ g is.
-          let there = executes_there g is bound can in
+          let there = executes_there g is bound number can in
           let so = answered g is in
           let by = there.1 in
           let block = stands_inside (drop (g.first - 1) x.replies.items) in
@@ -345,7 +369,7 @@ module _ (script : Script) (retries : ℕ) (db : Database) (locks : Locks) (bega
     pub seen_unanswered : then z ≡ m
     seen_unanswered = seen_same script retries db locks began sessions history.items s x at z open_still told_still
 
-    pub unanswered_sound : IsSound script retries db locks began (slice_set sessions (s - 1) z) history commits transcripts
+    pub unanswered_sound : IsSound opening given script retries db locks began (slice_set sessions (s - 1) z) history commits transcripts
     unanswered_sound =
         exchanged_sound script retries db locks began sessions history commits transcripts sound s low high x at z as_open refl (omega arith)
-        (subst (IsKept empty_database) (sym seen_unanswered) sound.kept)
+        (subst (IsKept opening) (sym seen_unanswered) sound.kept)

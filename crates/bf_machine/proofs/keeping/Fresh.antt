@@ -3,13 +3,14 @@ use Rattle.std.proofs.Common.{◌≡◌, ℕ, zero, suc, ◌+◌, ◌^◌, ◌<�
 use Rattle.std.specs.Prelude.{count_by, is_some, slice_index_or}
 use Rattle.std.specs.FinMap as fin
 use Rattle.std.specs.Global.{Vec}
+use Rattle.bf_tree.specs.Limits.{HasNarrowTables}
 use Rattle.bf_tree.specs.declared.history.Entry.{Entry}
 use Rattle.bf_tree.specs.declared.reply.Reply.{Reply}
 use Rattle.bf_tree.specs.declared.script.Script.{Script}
 use Rattle.bf_tree.specs.declared.script.Session.{Session}
-use Rattle.bf_sql.specs.Database.{empty_database}
+use Rattle.bf_sql.specs.Bound.{catalog_of}
+use Rattle.bf_sql.specs.Database.{Database, IsDatabase}
 use Rattle.bf_sql.specs.Groups.{no_session, session_at}
-use Rattle.bf_live.proofs.keeps.Statements.{empty_is_database}
 use Rattle.bf_machine.specs.declared.so_far.SessionSoFar.{SessionSoFar}
 use Rattle.bf_machine.specs.interleaving.Kept.{IsKept, fresh, no_group, no_replies}
 use Rattle.bf_machine.specs.interleaving.Machines.{Began, Open, began_at}
@@ -70,17 +71,19 @@ item_new (s ∷ sessions) [] all i so_far below at = absurd all
 item_new (s ∷ sessions) (x ∷ made) all zero so_far below at = subst (IsNew s) at all.0
 item_new (s ∷ sessions) (x ∷ made) all (suc i) so_far below at = item_new sessions made all.1 i so_far (omega (arith, below)) at
 
-pub seen_new : (script : Script) (retries : ℕ) (sessions : List SessionSoFar) → AreNew script.sessions sessions
-    → seen script retries empty_database fin.empty [] sessions [] ≡ fresh empty_database script retries
-seen_new script retries sessions all =
-    ap₂ (λ (opens : List (Option Open)) (told : List (List Reply)). record (fresh empty_database script retries) { opens = opens; told = told })
+pub seen_new : (start : Database) (script : Script) (retries : ℕ) (sessions : List SessionSoFar) → AreNew script.sessions sessions
+    → seen script retries start fin.empty [] sessions [] ≡ fresh start script retries
+seen_new start script retries sessions all =
+    ap₂ (λ (opens : List (Option Open)) (told : List (List Reply)). record (fresh start script retries) { opens = opens; told = told })
     (opens_new script.sessions sessions all) (told_new script.sessions sessions all)
 
-pub new_is_sound : (script : Script) (retries : ℕ) (sessions : List SessionSoFar) (history : Vec Entry) (transcripts : Vec (List Reply))
-    → AreNew script.sessions sessions → history.items ≡ [] → length script.sessions < 2 ^ 32 → transcripts.items ≡ [] → length sessions ≤ vec_capacity transcripts
-    → IsSound script retries empty_database fin.empty [] sessions history 0 transcripts
-new_is_sound script retries sessions history transcripts all none numbers empty room = record {
-  kept = rw none (subst (IsKept empty_database) (sym (seen_new script retries sessions all)) (new_is_kept empty_database script retries empty_is_database));
+pub new_is_sound : (start : Database) (given script : Script) (retries : ℕ) (sessions : List SessionSoFar) (history : Vec Entry) (transcripts : Vec (List Reply))
+    → IsDatabase start → HasNarrowTables (catalog_of start) → script ≡ given → AreNew script.sessions sessions → history.items ≡ [] → length script.sessions < 2 ^ 32 → transcripts.items ≡ [] → length sessions ≤ vec_capacity transcripts
+    → IsSound start given script retries start fin.empty [] sessions history 0 transcripts
+new_is_sound start given script retries sessions history transcripts database narrow same all none numbers empty room = record {
+  is_given = same;
+  narrow = narrow;
+  kept = rw none (subst (IsKept start) (sym (seen_new start script retries sessions all)) (new_is_kept start script retries database));
   counted = rw none refl;
   sessions_numbered = numbers;
   roomy = λ i so_far below at.

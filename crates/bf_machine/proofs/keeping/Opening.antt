@@ -12,7 +12,7 @@ use Rattle.bf_tree.specs.declared.history.Entry.{Entry}
 use Rattle.bf_tree.specs.declared.reply.Reply.{Reply}
 use Rattle.bf_tree.specs.declared.script.Script.{Script}
 use Rattle.bf_tree.specs.declared.script.Session.{Session}
-use Rattle.bf_sql.specs.Database.{Database, empty_database}
+use Rattle.bf_sql.specs.Database.{Database}
 use Rattle.bf_sql.specs.Groups.{no_session, session_at}
 use Rattle.bf_txn.specs.declared.write.Write.{Write}
 use Rattle.bf_machine.specs.declared.so_far.Began.{Began as BeganGroup}
@@ -84,15 +84,17 @@ module _ (began : List Began) (s : ℕ) (group : Group) where
     has = λ some. (group, start_new began new);
   }
 
-module _ (script : Script) (retries : ℕ) (db : Database) (locks : Locks) (began : List BeganGroup) (sessions : List SessionSoFar) (history : Vec Entry) (commits : ℕ) (transcripts : Vec (List Reply))
-    (sound : IsSound script retries db locks began sessions history commits transcripts) where
+module _ {opening : Database} {given : Script} (script : Script) (retries : ℕ) (db : Database) (locks : Locks) (began : List BeganGroup) (sessions : List SessionSoFar) (history : Vec Entry) (commits : ℕ) (transcripts : Vec (List Reply))
+    (sound : IsSound opening given script retries db locks began sessions history commits transcripts) where
   abbrev m : Machine
   m = seen script retries db locks began sessions history.items
 
   -- more room for entries
-  pub reserved_sound : (entries : Vec Entry) → entries.items ≡ history.items → vec_capacity history ≤ vec_capacity entries → IsSound script retries db locks began sessions entries commits transcripts
+  pub reserved_sound : (entries : Vec Entry) → entries.items ≡ history.items → vec_capacity history ≤ vec_capacity entries → IsSound opening given script retries db locks began sessions entries commits transcripts
   reserved_sound entries items capacity =
       let size : length entries.items ≡ length history.items = ap (λ (es : List Entry). length es) items in record {
+        is_given = sound.is_given;
+        narrow = sound.narrow;
         kept = rw items sound.kept;
         counted = rw items sound.counted;
         sessions_numbered = sound.sessions_numbered;
@@ -261,12 +263,14 @@ module _ (script : Script) (retries : ℕ) (db : Database) (locks : Locks) (bega
         -- and the machine is sound
         module _ (entries : Vec Entry) (items : entries.items ≡ history.items) (reserved : length history.items + length sessions ≤ vec_capacity entries)
             (capacity : vec_capacity x.replies ≤ vec_capacity y.replies) where
-          assembled : (began_then : List BeganGroup) → IsKept empty_database (seen script retries db locks began_then sessions_then history.items)
+          assembled : (began_then : List BeganGroup) → IsKept opening (seen script retries db locks began_then sessions_then history.items)
               → ((j : ℕ) (z : SessionSoFar) → j < length sessions_then → slice_index_or sessions_then j z ≡ z → IsRoomy script (map began_seen began_then) (j + 1) z)
-              → IsSound script retries db locks began_then sessions_then entries commits transcripts
+              → IsSound opening given script retries db locks began_then sessions_then entries commits transcripts
           assembled began_then kept roomy =
               let as_many : length sessions_then ≡ length sessions = length-set sessions (s - 1) y in
               let entries_size : length entries.items ≡ length history.items = ap (λ (es : List Entry). length es) items in record {
+                is_given = sound.is_given;
+                narrow = sound.narrow;
                 kept = rw items kept;
                 counted = rw items sound.counted;
                 sessions_numbered = sound.sessions_numbered;
@@ -277,9 +281,9 @@ module _ (script : Script) (retries : ℕ) (db : Database) (locks : Locks) (bega
               }
 
           pub again_sound : Begins m s (seen script retries db locks began sessions_then history.items) → y.latest ≡ x.latest
-              → IsSound script retries db locks began sessions_then entries commits transcripts
+              → IsSound opening given script retries db locks began sessions_then entries commits transcripts
           again_sound begins latest =
-              assembled began (begins_keeps_all empty_database m sound.kept (are_texts script) s _ begins)
+              assembled began (begins_keeps_all opening m sound.kept (are_texts script) s _ begins)
               (roomy_then script m.began sessions (s - 1) x y below at sound.roomy capacity (subst (IsLatest m.began (s - 1 + 1)) (sym latest) (sound.roomy (s - 1) x below at).latest))
 
           roomy_begun : (latest : y.latest ≡ length m.began + 1) (j : ℕ) (z : SessionSoFar) → j < length sessions_then → slice_index_or sessions_then j z ≡ z
@@ -303,9 +307,9 @@ module _ (script : Script) (retries : ℕ) (db : Database) (locks : Locks) (bega
           ]
 
           pub begun_sound : (began_then : List BeganGroup) → map began_seen began_then ≡ more m.began s by.group → Begins m s (seen script retries db locks began_then sessions_then history.items)
-              → y.latest ≡ length m.began + 1 → IsSound script retries db locks began_then sessions_then entries commits transcripts
+              → y.latest ≡ length m.began + 1 → IsSound opening given script retries db locks began_then sessions_then entries commits transcripts
           begun_sound began_then is begins latest =
-              assembled began_then (begins_keeps_all empty_database m sound.kept (are_texts script) s _ begins)
+              assembled began_then (begins_keeps_all opening m sound.kept (are_texts script) s _ begins)
               (subst (λ (bs : List Began). (j : ℕ) (z : SessionSoFar) → j < length sessions_then → slice_index_or sessions_then j z ≡ z → IsRoomy script bs (j + 1) z) (sym is) (roomy_begun latest))
 
       -- ALL OF IT, as the code has it
@@ -315,7 +319,7 @@ module _ (script : Script) (retries : ℕ) (db : Database) (locks : Locks) (bega
         next_of began_then = seen script retries db locks began_then (slice_set sessions (s - 1) y) entries.items
 
         abbrev SoundWith : List BeganGroup → Type 0
-        SoundWith began_then = IsSound script retries db locks began_then (slice_set sessions (s - 1) y) entries commits transcripts
+        SoundWith began_then = IsSound opening given script retries db locks began_then (slice_set sessions (s - 1) y) entries commits transcripts
 
         same_items : y.replies.items ≡ x.replies.items
         same_items = ap (λ (v : Vec Reply). v.items) replies

@@ -30,9 +30,9 @@ inside_behind (r ∷ rs) = let some : nat_le 1 (length (r ∷ rs)) ≡ true = gr
 block_of : (first : ℕ) (rs : List Reply) → 1 ≤ first → nat_le first (length rs) ≡ nat_le 1 (length (drop (first - 1) rs))
 block_of first rs low = let size = length-drop (first - 1) rs in grind (arith, nat_tests)
 
-module _ {script : Script} {retries : ℕ} {db : Database} {locks : Locks} {began : List BeganGroup}
+module _ {opening : Database} {given : Script} {script : Script} {retries : ℕ} {db : Database} {locks : Locks} {began : List BeganGroup}
     {sessions : List SessionSoFar} {history : Vec Entry} {commits : ℕ} {transcripts : Vec (List Reply)}
-    {now : Machine} {s : ℕ} {x : SessionSoFar} (session : IsThere script retries db locks began sessions history commits transcripts now s x) where
+    {now : Machine} {s : ℕ} {x : SessionSoFar} (session : IsThere opening given script retries db locks began sessions history commits transcripts now s x) where
   abbrev m : Machine
   m = seen script retries db locks began sessions history.items
 

@@ -12,7 +12,7 @@ use Rattle.bf_tree.specs.declared.script.Script.{Script}
 use Rattle.bf_tree.specs.declared.script.Session.{Session}
 use Rattle.bf_tree.specs.declared.statement.Statement.{Statement}
 use Rattle.bf_tree.specs.declared.statement.Statement.TheVariants.{Begin, Commit, Rollback}
-use Rattle.bf_sql.specs.Database.{Database, empty_database}
+use Rattle.bf_sql.specs.Database.{Database}
 use Rattle.bf_sql.specs.Groups.{ends_block, groups_in, no_session, session_at}
 use Rattle.bf_machine.specs.declared.so_far.Began.{Began as BeganGroup}
 use Rattle.bf_machine.specs.declared.so_far.OpenGroup.{OpenGroup}
@@ -64,33 +64,33 @@ began_there began (suc n) b low high at =
     some_there (c ∷ began) (suc n) b below at = some_there began n b (omega (arith, below)) at
 
 -- A SESSION at its place, in the fields of a machine, and the machine as it is seen
-pub record IsThere (script : Script) (retries : ℕ) (db : Database) (locks : Locks) (began : List BeganGroup)
+pub record IsThere (opening : Database) (given : Script) (script : Script) (retries : ℕ) (db : Database) (locks : Locks) (began : List BeganGroup)
     (sessions : List SessionSoFar) (history : Vec Entry) (commits : ℕ) (transcripts : Vec (List Reply))
     (now : Machine) (s : ℕ) (x : SessionSoFar) : Type 0 where
-  pub sound : IsSound script retries db locks began sessions history commits transcripts
+  pub sound : IsSound opening given script retries db locks began sessions history commits transcripts
   pub view : seen script retries db locks began sessions history.items ≡ now
   pub place : IsPlace now.script s
   pub is : x ≡ slice_index_or sessions (s - 1) x
 
-pub is_there : {script : Script} {retries : ℕ} {db : Database} {locks : Locks} {began : List BeganGroup}
+pub is_there : {opening : Database} {given : Script} {script : Script} {retries : ℕ} {db : Database} {locks : Locks} {began : List BeganGroup}
     {sessions : List SessionSoFar} {history : Vec Entry} {commits : ℕ} {transcripts : Vec (List Reply)}
     {now : Machine} {s : ℕ} {x : SessionSoFar}
-    → IsSound script retries db locks began sessions history commits transcripts → seen script retries db locks began sessions history.items ≡ now
+    → IsSound opening given script retries db locks began sessions history commits transcripts → seen script retries db locks began sessions history.items ≡ now
     → IsPlace now.script s
-    → x ≡ slice_index_or sessions (s - 1) x → IsThere script retries db locks began sessions history commits transcripts now s x
+    → x ≡ slice_index_or sessions (s - 1) x → IsThere opening given script retries db locks began sessions history commits transcripts now s x
 is_there sound view place is = record { sound = sound; view = view; place = place; is = is }
 
-module _ {script : Script} {retries : ℕ} {db : Database} {locks : Locks} {began : List BeganGroup}
+module _ {opening : Database} {given : Script} {script : Script} {retries : ℕ} {db : Database} {locks : Locks} {began : List BeganGroup}
     {sessions : List SessionSoFar} {history : Vec Entry} {commits : ℕ} {transcripts : Vec (List Reply)}
-    {now : Machine} {s : ℕ} {x : SessionSoFar} (session : IsThere script retries db locks began sessions history commits transcripts now s x) where
+    {now : Machine} {s : ℕ} {x : SessionSoFar} (session : IsThere opening given script retries db locks began sessions history commits transcripts now s x) where
   abbrev m : Machine
   m = seen script retries db locks began sessions history.items
 
   abbrev own : List Statement
   own = (session_at now.script s).statements
 
-  kept : IsKept empty_database now
-  kept = subst (IsKept empty_database) session.view session.sound.kept
+  kept : IsKept opening now
+  kept = subst (IsKept opening) session.view session.sound.kept
 
   began_is : map began_seen began ≡ now.began
   began_is = ap (λ (m : Machine). m.began) session.view
@@ -144,7 +144,7 @@ module _ {script : Script} {retries : ℕ} {db : Database} {locks : Locks} {bega
     open_is : open_at now s ≡ Some o
     open_is = opened ∙ ap (option_map (group_seen x.replies.items)) is
 
-    group : IsOpenGroup empty_database now s o
+    group : IsOpenGroup opening now s o
     group = kept.open_groups_replay.each s o open_is
 
     counts : length (told_at now s) + length o.replies ≡ length x.replies.items
@@ -190,7 +190,7 @@ module _ {script : Script} {retries : ℕ} {db : Database} {locks : Locks} {bega
   pub not_ended : (y : Session) → y.statements ≡ own → has_ended y x ≡ false → HasSessionEnded now s → ⊥
   not_ended y same not_yet is =
       let within : length (told_seen x) ≤ length y.statements =
-      subst (λ (ss : List Statement). length (told_seen x) ≤ length ss) (sym same) (subst (λ (rs : List Reply). length rs ≤ length own) told (told_within empty_database now kept s)) in
+      subst (λ (ss : List Statement). length (told_seen x) ≤ length ss) (sym same) (subst (λ (rs : List Reply). length rs ≤ length own) told (told_within opening now kept s)) in
       let full : length y.statements ≤ length (told_seen x) =
       subst (λ (ss : List Statement). length ss ≤ length (told_seen x)) (sym same) (subst (λ (rs : List Reply). length own ≤ length rs) told is.0) in
       false≢true (sym not_yet ∙ has_ended_so y x within (full, sym opened ∙ is.1))
@@ -211,13 +211,13 @@ module _ {script : Script} {retries : ℕ} {db : Database} {locks : Locks} {bega
         left = rest_from own (length x.replies.items) statement (omega (arith, less, (bounds g is).2)) here
 
         pub commit_here : statement ≡ Commit → CanCommit now s
-        commit_here = commit_next empty_database now kept s current (o g is) (open_is g is) (length x.replies.items) (so_many g is) statement _ less left
+        commit_here = commit_next opening now kept s current (o g is) (open_is g is) (length x.replies.items) (so_many g is) statement _ less left
 
         pub abort_here : statement ≡ Rollback → CanAbort now s
-        abort_here = abort_next empty_database now kept s current (o g is) (open_is g is) (length x.replies.items) (so_many g is) statement _ less left
+        abort_here = abort_next opening now kept s current (o g is) (open_is g is) (length x.replies.items) (so_many g is) statement _ less left
 
         pub goes_on_here : ends_block statement ≡ false → GoesOn now s (length x.replies.items + 1)
-        goes_on_here = goes_on_next empty_database now kept s current (o g is) (open_is g is) (length x.replies.items) (so_many g is) statement _ less left
+        goes_on_here = goes_on_next opening now kept s current (o g is) (open_is g is) (length x.replies.items) (so_many g is) statement _ less left
 
       -- or at its end
       module _ (full : g.last ≤ length x.replies.items) (here : slice_index_or own (g.first - 1) statement ≡ statement) where
@@ -225,10 +225,10 @@ module _ {script : Script} {retries : ℕ} {db : Database} {locks : Locks} {bega
         begins = rest_from own (g.first - 1) statement (omega (arith, bounds g is)) here
 
         pub commit_at_end : (statement ≡ Begin → ⊥) → CanCommit now s
-        commit_at_end = commit_end empty_database now kept s current (o g is) (open_is g is) (length x.replies.items) (so_many g is) statement _ full begins
+        commit_at_end = commit_end opening now kept s current (o g is) (open_is g is) (length x.replies.items) (so_many g is) statement _ full begins
 
         pub abort_at_end : statement ≡ Begin → CanAbort now s
-        abort_at_end = abort_end empty_database now kept s current (o g is) (open_is g is) (length x.replies.items) (so_many g is) statement _ full begins
+        abort_at_end = abort_end opening now kept s current (o g is) (open_is g is) (length x.replies.items) (so_many g is) statement _ full begins
 
     module _ (closed : open_at now s ≡ None) where
       pub told_count : length x.replies.items ≡ length (told_at now s)
@@ -242,15 +242,15 @@ module _ {script : Script} {retries : ℕ} {db : Database} {locks : Locks} {bega
         rest = ap (λ (n : ℕ). drop n own) (sym told_count) ∙ rest_from own (length x.replies.items) statement below here
 
         pub refuse_here : ends_block statement ≡ true → CanRefuse now s
-        refuse_here = refuse_next empty_database now kept s current closed statement _ rest session.place
+        refuse_here = refuse_next opening now kept s current closed statement _ rest session.place
 
         pub group_here : ends_block statement ≡ false → (g : Group) × Contains (groups_in now.script s) g × (g.0 ≡ length (told_at now s) + 1)
-        group_here = group_next empty_database now kept s current closed statement _ rest
+        group_here = group_next opening now kept s current closed statement _ rest
 
       -- BEFORE A GROUP
       module _ (next : (g : Group) × Contains (groups_in now.script s) g × (g.0 ≡ length (told_at now s) + 1)) where
         pub begin_first : x.latest ≡ 0 → CanBegin now s
-        begin_first = begins_first empty_database now kept s current closed next.0 next.1 next.2 x.latest room.latest
+        begin_first = begins_first opening now kept s current closed next.0 next.1 next.2 x.latest room.latest
 
         module _ (some : 0 < x.latest) where
           pub latest_within : x.latest ≤ length began
@@ -262,7 +262,7 @@ module _ {script : Script} {retries : ℕ} {db : Database} {locks : Locks} {bega
 
             pub begin_other : b.first ≢ length x.replies.items + 1 → CanBegin now s
             begin_other other =
-                begins_other empty_database now kept s current closed next.0 next.1 next.2 x.latest room.latest some (began_seen b) b_is
+                begins_other opening now kept s current closed next.0 next.1 next.2 x.latest room.latest some (began_seen b) b_is
                 (λ same. other (same ∙ ap (λ (n : ℕ). n + 1) (sym told_count)))
 
             module _ (again : b.first ≡ length x.replies.items + 1) where
@@ -271,7 +271,7 @@ module _ {script : Script} {retries : ℕ} {db : Database} {locks : Locks} {bega
 
               pub begin_unnamed : slice_get b.deaths.items (length b.deaths.items - 1) ≡ None → CanBegin now s
               begin_unnamed none =
-                  begins_unnamed empty_database now kept s current closed next.0 next.1 next.2 x.latest room.latest some (began_seen b) b_is again_so (none_last b.deaths.items none)
+                  begins_unnamed opening now kept s current closed next.0 next.1 next.2 x.latest room.latest some (began_seen b) b_is again_so (none_last b.deaths.items none)
 
               module _ {h : ℕ} (last : slice_get b.deaths.items (length b.deaths.items - 1) ≡ Some h) where
                 split : (before : List ℕ) × (b.deaths.items ≡ before ++ h ∷ [])
@@ -279,7 +279,7 @@ module _ {script : Script} {retries : ℕ} {db : Database} {locks : Locks} {bega
 
                 pub named_start : (1 ≤ h) × (h ≤ length began)
                 named_start =
-                    let within = named_within empty_database now kept s current closed next.0 next.1 next.2 x.latest room.latest some (began_seen b) b_is again_so split.0 h split.1 in
+                    let within = named_within opening now kept s current closed next.0 next.1 next.2 x.latest room.latest some (began_seen b) b_is again_so split.0 h split.1 in
                     (within.0, omega (arith, within.1, began_count))
 
                 module _ {n : BeganGroup} (n_at : n ≡ slice_index_or began (h - 1) n) where
@@ -287,7 +287,7 @@ module _ {script : Script} {retries : ℕ} {db : Database} {locks : Locks} {bega
                   n_is = ap (λ (bs : List Began). began_at bs h) (sym began_is) ∙ began_there began h n named_start.0 named_start.1 (sym n_at)
 
                   pub named_session : IsPlace now.script n.session
-                  named_session = named_place empty_database now kept s current closed next.0 next.1 next.2 x.latest room.latest some (began_seen b) b_is again_so split.0 h split.1 (began_seen n) n_is
+                  named_session = named_place opening now kept s current closed next.0 next.1 next.2 x.latest room.latest some (began_seen b) b_is again_so split.0 h split.1 (began_seen n) n_is
 
                   pub named_within_sessions : n.session ≤ length sessions
                   named_within_sessions = omega (arith, named_session.1, sizes)
@@ -295,10 +295,10 @@ module _ {script : Script} {retries : ℕ} {db : Database} {locks : Locks} {bega
                   module _ (z : SessionSoFar) (z_told : told_at now n.session ≡ told_seen z) where
                     pub begin_behind : n.first ≤ length (told_seen z) → CanBegin now s
                     begin_behind ended =
-                        begins_behind empty_database now kept s current closed next.0 next.1 next.2 x.latest room.latest some (began_seen b) b_is again_so split.0 h split.1 (began_seen n) n_is
+                        begins_behind opening now kept s current closed next.0 next.1 next.2 x.latest room.latest some (began_seen b) b_is again_so split.0 h split.1 (began_seen n) n_is
                         (subst (λ (rs : List Reply). n.first ≤ length rs) (sym z_told) ended)
 
                     pub wait_for : length (told_seen z) < n.first → IsNamed now s h
                     wait_for goes_on =
-                        waits_for empty_database now kept s current closed next.0 next.1 next.2 x.latest room.latest some (began_seen b) b_is again_so split.0 h split.1 (began_seen n) n_is
+                        waits_for opening now kept s current closed next.0 next.1 next.2 x.latest room.latest some (began_seen b) b_is again_so split.0 h split.1 (began_seen n) n_is
                         (subst (λ (rs : List Reply). length rs < n.first) (sym z_told) goes_on)

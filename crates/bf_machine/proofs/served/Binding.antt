@@ -5,14 +5,14 @@ use Rattle.std.specs.Option.{option_map_or}
 use Rattle.std.specs.List.{slice_index_or}
 use Rattle.bf_base.specs.Lists.{part}
 use Rattle.bf_base.specs.declared.memory.Memory.{Memory}
-use Rattle.bf_tree.specs.Limits.{KeepsLimits, is_narrow_statement}
+use Rattle.bf_tree.specs.Limits.{HasNarrowTables, KeepsLimits, is_narrow_statement}
 use Rattle.bf_tree.specs.declared.bound.Bound.{Bound}
 use Rattle.bf_tree.specs.declared.reply.Reply.{Reply}
 use Rattle.bf_tree.specs.declared.script.Script.{Script}
 use Rattle.bf_tree.specs.declared.script.Session.{Session}
 use Rattle.bf_tree.specs.declared.statement.Statement.{Statement}
 use Rattle.bf_sql.specs.Bound.{bound_of, catalog_of, is_planned, without_rows}
-use Rattle.bf_sql.specs.Database.{empty_database}
+use Rattle.bf_sql.specs.Database.{Database}
 use Rattle.bf_sql.specs.Footprints.{catalog_change, footprint_of}
 use Rattle.bf_sql.specs.Groups.{no_session, session_at}
 use Rattle.bf_live.proofs.statements.Bare.{same_bound}
@@ -49,7 +49,7 @@ module _ {X : Type 0} (d : X) where
   of_drop (suc i) k [] = refl
   of_drop (suc i) k (x ∷ xs) = let next : suc i + k ≡ suc (i + k) = omega arith in rw next (of_drop i k xs)
 
-  of_part : (first last k : ℕ) (xs : List X) (x : X) (rest : List X) → 1 ≤ first → drop k (part first last xs) ≡ x ∷ rest → slice_index_or xs (first + k - 1) d ≡ x
+  pub of_part : (first last k : ℕ) (xs : List X) (x : X) (rest : List X) → 1 ≤ first → drop k (part first last xs) ≡ x ∷ rest → slice_index_or xs (first + k - 1) d ≡ x
   of_part first last k xs x rest low is =
       let at : first - 1 + k ≡ first + k - 1 = omega (arith, low) in
       ap (λ (n : ℕ). slice_index_or xs n d) (sym at) ∙ (sym (of_drop (first - 1) k xs) ∙ of_take (last - (first - 1)) k (drop (first - 1) xs) x rest is)
@@ -64,7 +64,7 @@ pub session_read : (script : Script) (s : ℕ) → IsPlace script s → (x : Ses
 session_read script s place x =
     by_default script.sessions (s - 1) x no_session (omega (arith, place.0, place.1)) ∙ from_one no_session no_session script.sessions s place.0
 
-module _ (m : Machine) (kept : IsKept empty_database m) (servable : IsServable m.script) (s n : ℕ) (place : IsPlace m.script s) (at : StandsAs m s (stand.Statement n)) where
+module _ {start : Database} (m : Machine) (kept : IsKept start m) (servable : IsServable m.script) (s n : ℕ) (place : IsPlace m.script s) (at : StandsAs m s (stand.Statement n)) where
   -- it is one of the session's
   pub next_within : (1 ≤ n) × (n - 1 < length (session_at m.script s).statements)
   next_within = elim at as (λ _. (1 ≤ n) × (n - 1 < length (session_at m.script s).statements)) [
@@ -92,8 +92,8 @@ module _ (m : Machine) (kept : IsKept empty_database m) (servable : IsServable m
     pub next_planned : (in_block : Bool) → is_planned in_block statement ≡ false
     next_planned in_block = not_planned m kept servable in_block statement plain
 
-    pub next_limits : KeepsLimits (catalog_of m.db) statement
-    next_limits = keeps_limits m kept servable s statement narrow
+    pub next_limits : HasNarrowTables (catalog_of start) → KeepsLimits (catalog_of m.db) statement
+    next_limits opening = keeps_limits m kept servable opening s statement narrow
 
     -- and bound so
     pub next_bound : (bound : Bound) → bound_of (without_rows (catalog_of m.db)) (is_in_block m s) statement ≡ Some bound → ((o : Open) × IsBoundNext m s o bound) ⊎ CanRefuse m s

@@ -8,7 +8,7 @@ use Rattle.bf_locks.specs.declared.mode.Mode.{Mode}
 use Rattle.bf_locks.specs.declared.name.LockName.{LockName}
 use Rattle.bf_tree.specs.declared.reply.Reply.{Reply}
 use Rattle.bf_tree.specs.declared.script.Script.{Script}
-use Rattle.bf_sql.specs.Database.{Database, empty_database}
+use Rattle.bf_sql.specs.Database.{Database}
 use Rattle.bf_sql.specs.Groups.{session_at}
 use Rattle.bf_machine.specs.declared.serving.Turn.{Turn}
 use Rattle.bf_machine.specs.declared.serving.Turn.TheVariants as turn
@@ -72,12 +72,12 @@ module _ (m : Machine) (s : ℕ) (o : Open) (is : open_at m s ≡ Some o) (older
       let place = has_place m s o is in
       (set_other None None m.opens s t None place.0 apart, set_other [] [] m.told s t (told_at m s ++ told_at_death m s o older) place.0 apart)
 
-module _ (m : Machine) (kept : IsKept empty_database m) (s : ℕ) (t : Turn) (next : Machine) (taken : IsTurn m s t next) where
+module _ {start : Database} (m : Machine) (kept : IsKept start m) (s : ℕ) (t : Turn) (next : Machine) (taken : IsTurn m s start t next) where
   -- the one open group, or the only session that goes on, is served
   alone_is_served : IsAlone m s → (CannotGo m s → ⊥) → HasGoneOn m s next
   alone_is_served alone goes_on = by_turn t taken
     where
-      by_turn : (t : Turn) → IsTurn m s t next → HasGoneOn m s next
+      by_turn : (t : Turn) → IsTurn m s start t next → HasGoneOn m s next
       by_turn turn.Passed taken = absurd (goes_on taken.0)
       by_turn turn.Served taken = taken
       by_turn turn.Waited taken = absurd (alone_waits_not m kept s alone taken.0 taken.1)
@@ -117,7 +117,7 @@ module _ (m : Machine) (kept : IsKept empty_database m) (s : ℕ) (t : Turn) (ne
     pub youngest_leaves_less : IsPlace m.script s → total (left_open next) (length m.script.sessions) < total (left_open m) (length m.script.sessions)
     youngest_leaves_less place = by_turn t taken
       where
-        by_turn : (t : Turn) → IsTurn m s t next → total (left_open next) (length m.script.sessions) < total (left_open m) (length m.script.sessions)
+        by_turn : (t : Turn) → IsTurn m s start t next → total (left_open next) (length m.script.sessions) < total (left_open m) (length m.script.sessions)
         by_turn turn.Passed taken = absurd (open_can m kept s youngest.0 youngest.1 taken.0)
         by_turn turn.Served taken =
             by_beside taken.serves.beside
@@ -146,7 +146,7 @@ serves_less m next s place serves less =
     s place.0 less (length m.script.sessions) place.1
 
 -- where nothing is open, a session's turn and the end of its group
-pub served_to_end : (m : Machine) → IsKept empty_database m → (s : ℕ) → ((u : ℕ) → open_at m u ≡ None) → CanGo m s → (t : Turn) (next : Machine) → IsTurn m s t next → (then : Machine)
+pub served_to_end : {start : Database} (m : Machine) → IsKept start m → (s : ℕ) → ((u : ℕ) → open_at m u ≡ None) → CanGo m s → (t : Turn) (next : Machine) → IsTurn m s start t next → (then : Machine)
     → ((u : ℕ) → IsAlone next u → Serves next u then × (unanswered then u ≤ unanswered next u)) → Serves m s then × (unanswered then s < unanswered m s)
 served_to_end m kept s closed goes t next taken then rest =
     let gone = alone_goes_on m kept s t next taken (λ u apart. closed u) goes in

@@ -7,7 +7,7 @@ use Rattle.bf_locks.specs.Locks.{Locks}
 use Rattle.bf_tree.specs.declared.history.Entry.{Entry}
 use Rattle.bf_tree.specs.declared.reply.Reply.{Reply}
 use Rattle.bf_tree.specs.declared.statement.Statement.{Statement}
-use Rattle.bf_sql.specs.Database.{Database, empty_database}
+use Rattle.bf_sql.specs.Database.{Database}
 use Rattle.bf_sql.specs.Groups.{session_at}
 use Rattle.bf_machine.specs.interleaving.Calls.{replies_at, statements_at}
 use Rattle.bf_machine.specs.interleaving.Events.{Begins, ended, opened, rest_of, text_of, with_open}
@@ -89,8 +89,8 @@ module _ (m : Machine) (s : ℕ) where
   ]
 
 -- a session's open group
-module _ (m : Machine) (kept : IsKept empty_database m) (texts : AreTexts m.script) (s : ℕ) (o : Open) (is : open_at m s ≡ Some o) where
-  pub own : IsOpenGroup empty_database m s o
+module _ {start : Database} (m : Machine) (kept : IsKept start m) (texts : AreTexts m.script) (s : ℕ) (o : Open) (is : open_at m s ≡ Some o) where
+  pub own : IsOpenGroup start m s o
   own = kept.open_groups_replay.each s o is
 
   pub replies_are : replies_at m s ≡ told_at m s ++ o.replies

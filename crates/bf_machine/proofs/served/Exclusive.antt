@@ -5,7 +5,7 @@ use Rattle.std.specs.List.{list_any, slice_index_or}
 use Rattle.std.proofs.lemmas.Bool.{and_parts, false≢true}
 use Rattle.std.proofs.lemmas.Bool.Decides.{nat_tests}
 use Rattle.std.proofs.lemmas.Option.{same_Some}
-use Rattle.bf_sql.specs.Database.{empty_database}
+use Rattle.bf_sql.specs.Database.{Database}
 use Rattle.bf_sql.specs.Groups.{ends_block, groups_in, has_statement, is_stray, statements_in}
 use Rattle.bf_machine.specs.declared.stand.Stand.{Stand}
 use Rattle.bf_machine.specs.declared.stand.Stand.TheVariants as stand
@@ -28,7 +28,7 @@ stray_in_none m s g whole stray from to =
     let both : false ≡ true = ap not (sym there) ∙ parts.1 in
     false≢true both
 
-module _ (m : Machine) (kept : IsKept empty_database m) (s : ℕ) where
+module _ {start : Database} (m : Machine) (kept : IsKept start m) (s : ℕ) where
   -- what stands against each
   record IsFree : Type 0 where
     pub current : IsCurrent m s

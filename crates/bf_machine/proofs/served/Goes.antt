@@ -13,7 +13,7 @@ use Rattle.bf_tree.specs.declared.reply.Reply.TheVariants as reply
 use Rattle.bf_tree.specs.declared.script.Script.{Script}
 use Rattle.bf_tree.specs.declared.statement.Statement.{Statement}
 use Rattle.bf_tree.specs.declared.statement.Statement.TheVariants.{Commit, Rollback}
-use Rattle.bf_sql.specs.Database.{Database, empty_database}
+use Rattle.bf_sql.specs.Database.{Database}
 use Rattle.bf_sql.specs.Groups.{ends_block, groups_in, has_statement, session_at, statements_in}
 use Rattle.bf_machine.specs.interleaving.Calls.{replies_at, statements_at}
 use Rattle.bf_machine.specs.interleaving.Events.{Aborts, Begins, Commits, Executes, Reaches, Refuses, at_once, begun, begun_again, commits_behind, entry_of, one_more, opened, rest_of, stepped, text_of, with_open}
@@ -42,7 +42,7 @@ pub reaches_both : (start : Database) (m now next : Machine) → Reaches start m
 reaches_both start m now _ one at_once = one
 reaches_both start m now _ one (one_more {now = then} {next = next} before event) = one_more (reaches_both start m now then one before) event
 
-module _ (m : Machine) (kept : IsKept empty_database m) (s : ℕ) where
+module _ {start : Database} (m : Machine) (kept : IsKept start m) (s : ℕ) where
   -- EXEC
   pub exec_goes_on : (next : Machine) → Executes m s next → Serves m s next × (unanswered next s < unanswered m s)
   exec_goes_on next by =

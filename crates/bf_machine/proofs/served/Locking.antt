@@ -15,7 +15,7 @@ use Rattle.bf_locks.specs.Locks.{IsJudged, Locks, after as locks_after, held}
 use Rattle.bf_locks.specs.Modes.{covers, join_of}
 use Rattle.bf_locks.proofs.Held.{held_granted}
 use Rattle.bf_tree.specs.declared.history.Entry.{Entry}
-use Rattle.bf_sql.specs.Database.{Database, empty_database}
+use Rattle.bf_sql.specs.Database.{Database}
 use Rattle.bf_sql.specs.Footprints.{Lock}
 use Rattle.bf_sql.specs.History.{replayed}
 use Rattle.bf_live.specs.OpenGroups.{Holds, HoldsIn}
@@ -59,16 +59,16 @@ held_more locks owner held name mode was =
     one then zero d within = granted_is_held locks owner name mode
     one then (suc k) d within = absurd (omega (arith, within))
 
-module _ (m : Machine) (kept : IsKept empty_database m) (s : ℕ) (o : Open) (footprint : List Lock) (next : IsToLock m s o footprint) where
+module _ {start : Database} (m : Machine) (kept : IsKept start m) (s : ℕ) (o : Open) (footprint : List Lock) (next : IsToLock m s o footprint) where
   abbrev under : Locks → Machine
   under locks = record m { locks = locks }
 
   -- each of them may be asked for
-  pub can_ask : (locks : Locks) (name : LockName) (mode : Mode) → Contains footprint (name, mode) → CanAsk (under locks) s name mode
+  pub can_ask : (locks : Locks) (name : LockName) (mode : Mode) → Contains footprint (name, mode) → CanAsk (under locks) s start name mode
   can_ask locks name mode among =
-      let behind : (replayed m.script empty_database (take (length m.history) m.history)).1 ≡ m.db =
-      ap (λ (es : List Entry). (replayed m.script empty_database es).1) (take_all (length m.history) m.history (omega arith)) ∙ sym kept.history_legal.replay in
-      let whole : footprint ≡ footprint_in (replayed m.script empty_database (take (length m.history) m.history)).1 (stands_inside o.replies) next.statement =
+      let behind : (replayed m.script start (take (length m.history) m.history)).1 ≡ m.db =
+      ap (λ (es : List Entry). (replayed m.script start es).1) (take_all (length m.history) m.history (omega arith)) ∙ sym kept.history_legal.replay in
+      let whole : footprint ≡ footprint_in (replayed m.script start (take (length m.history) m.history)).1 (stands_inside o.replies) next.statement =
       sym (ap (λ (db : Database). footprint_in db (stands_inside o.replies) next.statement) behind ∙ next.footprint) in record {
         current = next.current;
         o = o;
@@ -80,21 +80,21 @@ module _ (m : Machine) (kept : IsKept empty_database m) (s : ℕ) (o : Open) (fo
         asks = subst (λ (fs : List Lock). Contains fs (name, mode)) whole among;
       }
 
-  same_group : (locks : Locks) (name : LockName) (mode : Mode) (answer : LockAnswer) (then : Machine) (by : Asks (under locks) s empty_database name mode answer then) → by.o ≡ o
+  same_group : (locks : Locks) (name : LockName) (mode : Mode) (answer : LockAnswer) (then : Machine) (by : Asks (under locks) s start name mode answer then) → by.o ≡ o
   same_group locks name mode answer then by = same_Some by.o o (sym by.is ∙ next.is)
 
   -- those that are granted are held
-  pub one_locked : (held : List Lock) (name : LockName) (mode : Mode) (now then : Machine) → HasLocked m s held now → Asks now s empty_database name mode Granted then → HasLocked m s (held ++ (name, mode) ∷ []) then
+  pub one_locked : (held : List Lock) (name : LockName) (mode : Mode) (now then : Machine) → HasLocked m s held now → Asks now s start name mode Granted then → HasLocked m s (held ++ (name, mode) ∷ []) then
   one_locked held name mode now then locked by =
       let same : locked.0 ≡ o = same_Some locked.0 o (sym locked.1 ∙ next.is) in
-      let asked : Asks (under locked.2) s empty_database name mode Granted then = subst (λ (now : Machine). Asks now s empty_database name mode Granted then) locked.3 by in
+      let asked : Asks (under locked.2) s start name mode Granted then = subst (λ (now : Machine). Asks now s start name mode Granted then) locked.3 by in
       let own : asked.o ≡ o = same_group locked.2 name mode Granted then asked in
       let was : Holds locked.2 o.start held = subst (λ (p : Open). Holds locked.2 p.start held) same locked.4 in
       let locks = locks_after locked.2 o.start name mode Granted in
       let goes : then ≡ under locks = asked.goes ∙ ap (λ (p : Open). under (locks_after locked.2 p.start name mode Granted)) own in
       (o, next.is, locks, goes, held_more locked.2 o.start held name mode was)
 
-  abbrev asked_by : (locks : Locks) (name : LockName) (mode : Mode) (answer : LockAnswer) → Reaches empty_database m (under locks) → IsJudged locks o.start name mode answer → IsAsked m s answer
+  abbrev asked_by : (locks : Locks) (name : LockName) (mode : Mode) (answer : LockAnswer) → Reaches start m (under locks) → IsJudged locks o.start name mode answer → IsAsked m s start answer
   asked_by locks name mode answer reached judged = record {
     now = under locks;
     serves = serves_locks m s locks;
@@ -107,16 +107,16 @@ module _ (m : Machine) (kept : IsKept empty_database m) (s : ℕ) (o : Open) (fo
     judged = judged;
   }
 
-  pub has_asked : (held : List Lock) (name : LockName) (mode : Mode) (answer : LockAnswer) (now then : Machine) → HasLocked m s held now → Reaches empty_database m now → Asks now s empty_database name mode answer then
-      → (asked : IsAsked m s answer) × (asked.now ≡ now) × (asked.o ≡ o)
+  pub has_asked : (held : List Lock) (name : LockName) (mode : Mode) (answer : LockAnswer) (now then : Machine) → HasLocked m s held now → Reaches start m now → Asks now s start name mode answer then
+      → (asked : IsAsked m s start answer) × (asked.now ≡ now) × (asked.o ≡ o)
   has_asked held name mode answer now then locked reached by =
-      let asked : Asks (under locked.2) s empty_database name mode answer then = subst (λ (now : Machine). Asks now s empty_database name mode answer then) locked.3 by in
+      let asked : Asks (under locked.2) s start name mode answer then = subst (λ (now : Machine). Asks now s start name mode answer then) locked.3 by in
       let own : asked.o ≡ o = same_group locked.2 name mode answer then asked in
-      (asked_by locked.2 name mode answer (subst (Reaches empty_database m) locked.3 reached) (subst (λ (p : Open). IsJudged locked.2 p.start name mode answer) own asked.judged), sym locked.3, refl)
+      (asked_by locked.2 name mode answer (subst (Reaches start m) locked.3 reached) (subst (λ (p : Open). IsJudged locked.2 p.start name mode answer) own asked.judged), sym locked.3, refl)
 
   -- a death ends the group that asked
-  pub dies_as : (held : List Lock) (name : LockName) (mode : Mode) (older : ℕ) (now then : Machine) → HasLocked m s held now → (by : Asks now s empty_database name mode (Die older) then)
-      → (asked : IsAsked m s (Die older)) → asked.now ≡ now → asked.o ≡ o → then ≡ died asked.now s asked.o older
+  pub dies_as : (held : List Lock) (name : LockName) (mode : Mode) (older : ℕ) (now then : Machine) → HasLocked m s held now → (by : Asks now s start name mode (Die older) then)
+      → (asked : IsAsked m s start (Die older)) → asked.now ≡ now → asked.o ≡ o → then ≡ died asked.now s asked.o older
   dies_as held name mode older now then locked by asked same own =
       let is : open_at now s ≡ Some o = ap (λ (k : Machine). open_at k s) locked.3 ∙ next.is in
       let group : by.o ≡ o = same_Some by.o o (sym by.is ∙ is) in

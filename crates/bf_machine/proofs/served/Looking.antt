@@ -1,7 +1,7 @@
 -- The youngest open group of the sessions that were looked at.
 use Rattle.std.proofs.Common.{◌≡◌, ℕ, zero, suc, ◌≤◌, length, Option, Some, None, refl, arith}
 use Rattle.std.specs.Prelude.{IfSome}
-use Rattle.bf_sql.specs.Database.{empty_database}
+use Rattle.bf_sql.specs.Database.{Database}
 use Rattle.bf_machine.specs.interleaving.Calls.{IsPlace}
 use Rattle.bf_machine.specs.interleaving.Kept.{HasStart, IsKept}
 use Rattle.bf_machine.specs.interleaving.Machines.{Machine, Open, open_at}
@@ -20,7 +20,7 @@ module _ (m : Machine) where
     pub most : (t : ℕ) (other : Open) → 1 ≤ t → t ≤ n → open_at m t ≡ Some other → other.start ≤ latest
 
   -- when each session was looked at
-  module _ (kept : IsKept empty_database m) (latest : ℕ) where
+  module _ {opening : Database} (kept : IsKept opening m) (latest : ℕ) where
     within : (s : ℕ) (o : Open) → open_at m s ≡ Some o → IsPlace m.script s
     within s o is = let place = has_place m s o is in (place.0, omega (arith, place.1, kept.shaped.opens))
 

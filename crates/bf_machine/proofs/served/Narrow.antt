@@ -17,7 +17,7 @@ use Rattle.bf_tree.specs.declared.script.Session.{Session}
 use Rattle.bf_tree.specs.declared.statement.Statement.{Statement}
 use Rattle.bf_tree.specs.declared.statement.Statement.TheVariants.{CreateTable, CreateIndex, Insert, Select, Update, Delete, Begin, Commit, Rollback, Migrate}
 use Rattle.bf_sql.specs.Bound.{catalog_of, is_planned}
-use Rattle.bf_sql.specs.Database.{Database, Stored, empty_database, with_rows}
+use Rattle.bf_sql.specs.Database.{Database, Stored, with_rows}
 use Rattle.bf_sql.specs.Groups.{no_session, session_at, statements_in, statements_of}
 use Rattle.bf_sql.specs.History.{commits_with, replayed_behind, run_group, settled}
 use Rattle.bf_sql.specs.Meaning.{created_table, effect, executed, unless_refused}
@@ -123,13 +123,13 @@ module _ (script : Script) (servable : IsServable script) where
       narrow_replayed commit (settled commit db e.outcome (statements_of script e)).1 history
       (narrow_settled commit db e.outcome (statements_of script e) (plain_text e.session (e.first, e.last)) (few_text e.session (e.first, e.last)) narrow)
 
-module _ (m : Machine) (kept : IsKept empty_database m) (servable : IsServable m.script) where
-  pub narrow_now : IsNarrow m.db
-  narrow_now = subst IsNarrow (sym kept.history_legal.replay) (narrow_replayed m.script servable 0 empty_database m.history refl)
+module _ {start : Database} (m : Machine) (kept : IsKept start m) (servable : IsServable m.script) where
+  pub narrow_now : IsNarrow start → IsNarrow m.db
+  narrow_now opening = subst IsNarrow (sym kept.history_legal.replay) (narrow_replayed m.script servable 0 start m.history opening)
 
   -- a statement of the script keeps the limits, and is bound and not planned
-  pub keeps_limits : (s : ℕ) (statement : Statement) → is_narrow_statement statement ≡ true → KeepsLimits (catalog_of m.db) statement
-  keeps_limits s statement few = record { tables = narrow_now; declared = grind (arith, nat_tests, few) }
+  pub keeps_limits : IsNarrow start → (s : ℕ) (statement : Statement) → is_narrow_statement statement ≡ true → KeepsLimits (catalog_of m.db) statement
+  keeps_limits opening s statement few = record { tables = narrow_now opening; declared = grind (arith, nat_tests, few) }
 
   pub not_planned : (in_block : Bool) (statement : Statement) → is_plain statement ≡ true → is_planned in_block statement ≡ false
   not_planned true statement plain = refl

@@ -1,5 +1,5 @@
 -- Sessions that were served in sequence to their ends ran in order.
-use Rattle.std.proofs.Common.{◌≡◌, ◌≢◌, ℕ, zero, suc, ◌+◌, ◌-◌, ◌<◌, ◌≤◌, Bool, true, false, cond, not, ◌&&◌, ◌||◌, List, [], ◌∷◌, ◌++◌, length, map, filter, zip, Option, Some, None, refl, sym, ap, ap₂, subst, ◌∙◌, arith, inl, inr}
+use Rattle.std.proofs.Common.{◌≡◌, ◌≢◌, ℕ, zero, suc, ◌+◌, ◌-◌, ◌<◌, ◌≤◌, Bool, true, false, cond, not, ◌&&◌, ◌||◌, List, [], ◌∷◌, ◌++◌, length, map, filter, zip, Option, Some, None, refl, sym, ap, ap₂, subst, ◌∙◌, arith, inl, inr, length-append}
 use Rattle.std.specs.Prelude.{Contains, find, nat_le, nat_lt, ◌==◌}
 use Rattle.std.specs.Option.{option_map_or}
 use Rattle.std.specs.List.{AllByRecursion, list_all, list_any, slice_index_or}
@@ -17,7 +17,7 @@ use Rattle.bf_tree.specs.declared.reply.Reply.{Reply}
 use Rattle.bf_tree.specs.declared.script.Script.{Script}
 use Rattle.bf_tree.specs.declared.script.Session.{Session}
 use Rattle.bf_tree.specs.declared.statement.Statement.{Statement}
-use Rattle.bf_sql.specs.Database.{empty_database}
+use Rattle.bf_sql.specs.Database.{Database, empty_database}
 use Rattle.bf_sql.specs.Groups.{ends_block, groups_in, has_statement, no_session, outcomes_from, session_at, statements_in, statements_of}
 use Rattle.bf_sql.specs.History.{IsApart, IsLegalHistory, is_whole_group, may_precede, stands_in}
 use Rattle.bf_machine.specs.InOrder.{IsRunInOrder, NoCause, entries_in_order, entry_of, groups_in_order, none_open}
@@ -222,18 +222,18 @@ module _ (script : Script) where
       let same : ◌≡◌ {A = Group} (e.first, e.last) found.item = ap₂ (λ (a b : ℕ). (a, b)) one other in
       subst (Contains {X = Group} (groups_in script e.session)) (sym same) found.there
 
-module _ (m : Machine) (kept : IsKept empty_database m) where
+module _ {start : Database} (m : Machine) (kept : IsKept start m) where
   abbrev kept_apart : Told → Bool
   kept_apart a = not (list_any (stands_in a.0 a.1) m.history || list_any (λ (h : Group). none_open a.0 h && has_statement a.1 h) (groups_in m.script a.0))
 
   -- a reply that is told, where no entry has it
   told_apart : (s j : ℕ) → 1 ≤ s → 1 ≤ j → j ≤ length (told_at m s) → list_any (stands_in s j) m.history ≡ false
-      → (r : Reply) × IsApart m.script (AllowedNow empty_database m) m.told (s, j, r)
+      → (r : Reply) × IsApart m.script (AllowedNow start m) m.told (s, j, r)
   told_apart s j low from to none =
       let told : slice_index_or m.told (s - 1) [] ≡ told_at m s = from_one [] [] m.told s low in
       let size : length (slice_index_or m.told (s - 1) []) ≡ length (told_at m s) = ap (λ (rs : List Reply). length rs) told in
       let back : 1 + (s - 1) ≡ s = omega (arith, low) in
-      let P : Told → Type 0 = IsApart m.script (AllowedNow empty_database m) m.told in
+      let P : Told → Type 0 = IsApart m.script (AllowedNow start m) m.told in
       let at = told_there P kept_apart 1 m.told kept.history_legal.legal.others (s - 1) j from (omega (arith, size, to)) in
       let here : kept_apart (s, j, at.0) ≡ true → P (s, j, at.0) = subst (λ (t : ℕ). kept_apart (t, j, at.0) ≡ true → P (t, j, at.0)) back at.1 in
       let stays : kept_apart (s, j, at.0) ≡ true = rw (none, none_is_open s j (groups_in m.script s)) refl in
@@ -284,8 +284,8 @@ module _ (m : Machine) (kept : IsKept empty_database m) (sequence : IsInSequence
   no_cause s group (Died h) allowed =
       let has = allowed.0.has in
       let alive : deaths_at m allowed.0.own ≡ has.deaths = ap (λ (found : Option Began). option_map_or (λ (b : Began). b.deaths) found []) has.is in
-      let size : length has.deaths ≡ 0 = ap (λ (ds : List ℕ). length ds) (sym alive ∙ sequence.no_death allowed.0.own) in
-      omega (arith, size, allowed.1)
+      let size : length (allowed.1 ++ h ∷ []) ≡ 0 = ap (λ (ds : List ℕ). length ds) (sym allowed.2 ∙ (sym alive ∙ sequence.no_death allowed.0.own)) in
+      omega (arith, size, length-append allowed.1 (h ∷ []))
   no_cause s group other allowed = allowed
 
   -- each group of the text has its entry

@@ -1,15 +1,20 @@
 -- A statement whose locks are held has its reply.
-use Rattle.std.proofs.Common.{◌≡◌, ◌⊎◌, ℕ, ◌<◌, Some, None, refl, sym, ap, subst, ◌∙◌, arith, inl, inr}
+use Rattle.std.proofs.Common.{◌≡◌, ℕ, ◌<◌, List, length, take, Some, None, sym, ap, subst, ◌∙◌, arith, inl, inr}
+use Rattle.std.proofs.Math.Seq.{take-length}
 use Rattle.std.proofs.lemmas.Option.{same_Some}
 use Rattle.bf_tree.specs.declared.bound.Bound.{Bound}
-use Rattle.bf_sql.specs.Database.{empty_database}
+use Rattle.bf_tree.specs.declared.history.Entry.{Entry}
+use Rattle.bf_sql.specs.Bound.{bound_of}
+use Rattle.bf_sql.specs.Database.{Database}
 use Rattle.bf_sql.specs.Footprints.{footprint_of}
+use Rattle.bf_sql.specs.History.{replayed}
 use Rattle.bf_live.specs.OpenGroups.{Holds}
-use Rattle.bf_machine.specs.interleaving.Calls.{CanExec}
-use Rattle.bf_machine.specs.interleaving.Events.{Event, Executes, Reaches, Refuses, at_once, executes, one_more, refuses, stepped, with_open}
+use Rattle.bf_machine.specs.interleaving.Calls.{CanExec, HasReplied, IsToExec}
+use Rattle.bf_machine.specs.interleaving.Events.{Event, Reaches, at_once, executes, one_more, refuses, stands_inside}
 use Rattle.bf_machine.specs.interleaving.Kept.{IsKept}
 use Rattle.bf_machine.specs.interleaving.Machines.{Machine, Open, open_at}
 use Rattle.bf_machine.specs.interleaving.Serving.{HasGoneOn, HasLocked, IsBoundNext, Serves, unanswered}
+use Rattle.bf_machine.proofs.keeping.Numbers.{bound_number}
 use Rattle.bf_machine.proofs.served.Events.{serves_both, serves_locks}
 use Rattle.bf_machine.proofs.served.Goes.{exec_goes_on, refuse_goes_on}
 
@@ -17,29 +22,33 @@ module _ (m : Machine) (s : ℕ) (o : Open) (bound : Bound) (next : IsBoundNext 
   abbrev under : Machine
   under = record m { locks = locked.2 }
 
-  abbrev replied : Machine
-  replied = with_open under s (Some (stepped under s o next.to_lock.statement bound))
-
   held : Holds locked.2 o.start (footprint_of bound)
   held = subst (λ (p : Open). Holds locked.2 p.start (footprint_of bound)) (same_Some locked.0 o (sym locked.1 ∙ next.to_lock.is)) locked.4
 
-  abbrev executes_so : Executes under s replied
-  executes_so = record {
-    current = next.to_lock.current;
-    o = o;
-    is = next.to_lock.is;
-    statement = next.to_lock.statement;
-    later = next.to_lock.later;
-    left = next.to_lock.left;
-    goes_on = next.goes_on;
-    bound = bound;
-    bound_so = next.bound_so;
-    held = held;
-    goes = refl;
-  }
+  -- it is bound in the catalog behind the whole history
+  to_exec : (start : Database) → IsKept start m → IsToExec under s start bound
+  to_exec start kept =
+      let present : m.db ≡ (replayed m.script start (take (length m.history) m.history)).1 =
+      kept.history_legal.replay ∙ ap (λ (es : List Entry). (replayed m.script start es).1) (sym (take-length m.history)) in
+      record {
+        current = next.to_lock.current;
+        o = o;
+        is = next.to_lock.is;
+        statement = next.to_lock.statement;
+        later = next.to_lock.later;
+        left = next.to_lock.left;
+        goes_on = next.goes_on;
+        prefix = length m.history;
+        bound_so = subst (λ (db : Database). bound_of db (stands_inside o.replies) next.to_lock.statement ≡ Some bound) present next.bound_so;
+        held = held;
+      }
 
-  pub can_reply : CanExec now s bound
-  can_reply = subst (λ (k : Machine). CanExec k s bound) (sym locked.3) (inl (replied, executes_so, refl))
+  pub can_reply : (start : Database) → IsKept start m → CanExec now s start bound
+  can_reply start kept = subst (λ (k : Machine). CanExec k s start bound) (sym locked.3) (inl (to_exec start kept))
+
+  -- and the catalog has not changed since
+  pub is_present : bound.catalog ≡ now.db.number
+  is_present = bound_number m.db (stands_inside o.replies) next.to_lock.statement bound next.bound_so ∙ ap (λ (k : Machine). k.db.number) (sym locked.3)
 
   -- its group goes on
   pub serves_now : Serves m s now
@@ -52,20 +61,20 @@ module _ (m : Machine) (s : ℕ) (o : Open) (bound : Bound) (next : IsBoundNext 
   is_open_now : open_at now s ≡ Some o
   is_open_now = ap (λ (k : Machine). open_at k s) locked.3 ∙ next.to_lock.is
 
-  pub has_replied : (kept : IsKept empty_database now) (then : Machine) → Executes now s then ⊎ Refuses now s then
-      → Event empty_database now then × Serves m s then × (unanswered then s < unanswered m s)
-  has_replied kept then by = elim by as (λ _. Event empty_database now then × Serves m s then × (unanswered then s < unanswered m s)) [
+  pub has_replied : {start : Database} (kept : IsKept start now) (then : Machine) → HasReplied now s bound then
+      → Event start now then × Serves m s then × (unanswered then s < unanswered m s)
+  has_replied {start = start} kept then by = elim by as (λ _. Event start now then × Serves m s then × (unanswered then s < unanswered m s)) [
     | inl executed ↦
-        let goes = exec_goes_on now kept s then executed in
-        (executes s executed, serves_both m s now then serves_now goes.0, omega (arith, goes.1, same_unanswered))
+        let goes = exec_goes_on now kept s then executed.0 in
+        (executes s executed.0, serves_both m s now then serves_now goes.0, omega (arith, goes.1, same_unanswered))
     | inr refused ↦
         let clash : None ≡ Some o = sym refused.closed ∙ is_open_now in
         absurd cc
   ]
 
 -- a reply in whatever group, or in none
-pub replies_now : (m : Machine) (s : ℕ) → IsKept empty_database m → (then : Machine) → Executes m s then ⊎ Refuses m s then → Reaches empty_database m then × HasGoneOn m s then
-replies_now m s kept then by = elim by as (λ _. Reaches empty_database m then × HasGoneOn m s then) [
-  | inl executed ↦ let goes = exec_goes_on m kept s then executed in (one_more at_once (executes s executed), record { serves = goes.0; no_more = omega (arith, goes.1); goes = inl goes.1 })
+pub replies_now : {start : Database} (m : Machine) (s : ℕ) → IsKept start m → (bound : Bound) (then : Machine) → HasReplied m s bound then → Reaches start m then × HasGoneOn m s then
+replies_now {start = start} m s kept bound then by = elim by as (λ _. Reaches start m then × HasGoneOn m s then) [
+  | inl executed ↦ let goes = exec_goes_on m kept s then executed.0 in (one_more at_once (executes s executed.0), record { serves = goes.0; no_more = omega (arith, goes.1); goes = inl goes.1 })
   | inr refused ↦ let goes = refuse_goes_on m kept s then refused in (one_more at_once (refuses s refused), record { serves = goes.0; no_more = omega (arith, goes.1); goes = inl goes.1 })
 ]

@@ -7,7 +7,7 @@ use Rattle.std.proofs.lemmas.Bool.{cases_Bool}
 use Rattle.std.proofs.lemmas.Bool.Decides.{nat_tests}
 use Rattle.bf_tree.specs.declared.script.Script.{Script}
 use Rattle.bf_tree.specs.declared.script.Session.{Session}
-use Rattle.bf_sql.specs.Database.{empty_database}
+use Rattle.bf_sql.specs.Database.{Database}
 use Rattle.bf_sql.specs.Groups.{groups_in, no_session, session_at}
 use Rattle.bf_machine.specs.declared.stand.Stand.{Stand}
 use Rattle.bf_machine.specs.declared.stand.Stand.TheVariants as stand
@@ -46,7 +46,7 @@ pub last_there : (before : List ℕ) (h : ℕ) → Contains (before ++ h ∷ [])
 last_there [] h = (0, omega arith, refl)
 last_there (x ∷ before) h = let there = last_there before h in (suc there.0, omega (arith, there.1), there.2)
 
-module _ (m : Machine) (kept : IsKept empty_database m) (texts : AreTexts m.script) where
+module _ {start : Database} (m : Machine) (kept : IsKept start m) (texts : AreTexts m.script) where
   -- a group's session is one of the script
   pub group_place : (s : ℕ) (group : Group) → Contains (groups_in m.script s) group → IsPlace m.script s
   group_place s group whole = elim (place_or_none m.script s) as (λ _. IsPlace m.script s) [
@@ -65,7 +65,7 @@ module _ (m : Machine) (kept : IsKept empty_database m) (texts : AreTexts m.scri
       let died = (kept.causes_allowed.deaths named.start _ named.has.is).each h among in
       let size : length named.before + 1 ≡ length deaths = sym (ap (λ (ds : List ℕ). length ds) named.named ∙ length-append named.before (h ∷ [])) in
       let at : slice_index_or deaths (length named.before) 0 ≡ h = ap (λ (ds : List ℕ). slice_index_or ds (length named.before) 0) named.named ∙ last_of named.before h in
-      let ended = oldest_may_begin empty_database m kept s named.group named.start named.has (λ t other k has less. older t k other has less) in
+      let ended = oldest_may_begin start m kept s named.group named.start named.has (λ t other k has less. older t k other has less) in
       named.goes_on died.other died.theirs died.named
       (ended (length named.before) died.other died.theirs size (subst (λ (k : ℕ). HasStart m.began died.other died.theirs k) (sym at) died.named))
 
@@ -79,7 +79,7 @@ module _ (m : Machine) (kept : IsKept empty_database m) (texts : AreTexts m.scri
     -- a group that has begun and not ended, where each older one has ended
     module _ (s k : ℕ) (group : Group) (has : HasStart m.began s group k) (goes_on : HasEnded m s group → ⊥)
         (older : (t j : ℕ) (other : Group) → HasStart m.began t other j → j < k → HasEnded m t other) where
-      abbrev begun : HasBegun empty_database m s group
+      abbrev begun : HasBegun start m s group
       begun = kept.locks_consistent.begun s group k has
 
       first : group.0 ≡ length (told_at m s) + 1

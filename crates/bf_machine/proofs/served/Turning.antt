@@ -5,7 +5,7 @@ use Rattle.bf_locks.specs.declared.answer.LockAnswer.{LockAnswer}
 use Rattle.bf_locks.specs.declared.answer.LockAnswer.TheVariants.{Die, Wait}
 use Rattle.bf_tree.specs.declared.reply.Reply.{Reply}
 use Rattle.bf_tree.specs.declared.statement.Statement.{Statement}
-use Rattle.bf_sql.specs.Database.{empty_database}
+use Rattle.bf_sql.specs.Database.{Database}
 use Rattle.bf_sql.specs.Groups.{session_at}
 use Rattle.bf_machine.specs.declared.serving.Turn.{Turn}
 use Rattle.bf_machine.specs.declared.serving.Turn.TheVariants as turn
@@ -20,7 +20,7 @@ use Rattle.bf_machine.proofs.served.Events.{begin_serves, serves_both}
 use Rattle.bf_machine.proofs.served.Exclusive.{open_can}
 use Rattle.bf_machine.proofs.served.Goes.{begin_adds_none, begin_opens, reaches_both}
 
-module _ (m : Machine) (s : ℕ) (place : IsPlace m.script s) (kept : IsKept empty_database m) (now : Machine) (kept_now : IsKept empty_database now) (by : Begins m s now) where
+module _ {start : Database} (m : Machine) (s : ℕ) (place : IsPlace m.script s) (kept : IsKept start m) (now : Machine) (kept_now : IsKept start now) (by : Begins m s now) where
   within : (1 ≤ s) × (s ≤ length m.opens)
   within = (place.0, omega (arith, place.1, kept.shaped.opens))
 
@@ -57,11 +57,11 @@ module _ (m : Machine) (s : ℕ) (place : IsPlace m.script s) (kept : IsKept emp
     ];
   }
 
-  abbrev asked_from : (answer : LockAnswer) → IsAsked now s answer → IsAsked m s answer
+  abbrev asked_from : (answer : LockAnswer) → IsAsked now s start answer → IsAsked m s start answer
   asked_from answer asked = record {
     now = asked.now;
     serves = serves_both m s now asked.now begins_serves asked.serves;
-    reached = reaches_both empty_database m now asked.now (one_more at_once (begins s by)) asked.reached;
+    reached = reaches_both start m now asked.now (one_more at_once (begins s by)) asked.reached;
     o = asked.o;
     is = asked.is;
     same = λ p is. absurd (not_open p is);
@@ -70,16 +70,16 @@ module _ (m : Machine) (s : ℕ) (place : IsPlace m.script s) (kept : IsKept emp
     judged = asked.judged;
   }
 
-  turn_behind : (t : Turn) (next : Machine) → IsTurn now s t next → IsTurn m s t next
+  turn_behind : (t : Turn) (next : Machine) → IsTurn now s start t next → IsTurn m s start t next
   turn_behind turn.Passed next taken = absurd (open_can now kept_now s opened_now.0 opened_now.1 taken.0)
   turn_behind turn.Served next taken = gone_on next taken
   turn_behind turn.Waited next taken = (taken.0, asked_from (Wait taken.0) taken.1, taken.2)
   turn_behind turn.Died next taken = (taken.0, asked_from (Die taken.0) taken.1, taken.2)
 
 -- or where none was to begin
-pub turn_from : (m : Machine) (s : ℕ) → IsPlace m.script s → IsKept empty_database m → (now : Machine) → IsKept empty_database now → (now ≡ m) ⊎ Begins m s now
-    → (t : Turn) (next : Machine) → IsTurn now s t next → IsTurn m s t next
-turn_from m s place kept now kept_now begun t next taken = elim begun as (λ _. IsTurn m s t next) [
-  | inl same ↦ subst (λ (k : Machine). IsTurn k s t next) same taken
+pub turn_from : {start : Database} (m : Machine) (s : ℕ) → IsPlace m.script s → IsKept start m → (now : Machine) → IsKept start now → (now ≡ m) ⊎ Begins m s now
+    → (t : Turn) (next : Machine) → IsTurn now s start t next → IsTurn m s start t next
+turn_from {start = start} m s place kept now kept_now begun t next taken = elim begun as (λ _. IsTurn m s start t next) [
+  | inl same ↦ subst (λ (k : Machine). IsTurn k s start t next) same taken
   | inr by ↦ turn_behind m s place kept now kept_now by t next taken
 ]

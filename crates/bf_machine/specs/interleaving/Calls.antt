@@ -1,17 +1,21 @@
 -- THE CONDITIONS of the machine's calls on a session, counted from 1, and where it stands by them.
-use Rattle.std.specs.Prelude.{◌≡◌, ◌⊎◌, ℕ, ◌+◌, ◌≤◌, false, List, [], ◌∷◌, ◌++◌, length, take, Option, Some, None, Contains, IsSomeAnd, nat_lt, if◌then◌else◌}
+use Rattle.std.specs.Prelude.{◌≡◌, ◌⊎◌, ℕ, ◌+◌, ◌-◌, ◌≤◌, ◌==◌, false, List, [], ◌∷◌, ◌++◌, length, take, Option, Some, None, Contains, IsSomeAnd, nat_lt, slice_get, if◌then◌else◌}
 use Rattle.bf_locks.specs.declared.mode.Mode.{Mode}
 use Rattle.bf_locks.specs.declared.name.LockName.{LockName}
 use Rattle.bf_tree.specs.declared.bound.Bound.{Bound}
 use Rattle.bf_tree.specs.declared.reply.Reply.{Reply}
 use Rattle.bf_tree.specs.declared.script.Script.{Script}
 use Rattle.bf_tree.specs.declared.statement.Statement.{Statement}
-use Rattle.bf_sql.specs.Database.{empty_database}
+use Rattle.bf_sql.specs.Bound.{bound_of}
+use Rattle.bf_sql.specs.Database.{Database}
+use Rattle.bf_sql.specs.Footprints.{footprint_of}
 use Rattle.bf_sql.specs.Groups.{ends_block, groups_in, session_at}
 use Rattle.bf_sql.specs.History.{replayed}
-use Rattle.bf_live.specs.OpenGroups.{HoldsIn}
+use Rattle.bf_live.specs.OpenGroups.{Holds, HoldsIn}
 use Rattle.bf_machine.specs.declared.stand.Stand.{Stand}
 use Rattle.bf_machine.specs.declared.stand.Stand.TheVariants as stand
+use Rattle.bf_machine.specs.declared.stand.Step.{Step}
+use Rattle.bf_machine.specs.declared.stand.Step.TheVariants.{Replied, Stale}
 use Rattle.bf_machine.specs.interleaving.Events.{Aborts, Begins, Commits, Executes, Refuses, rest_of, stands_inside}
 use Rattle.bf_machine.specs.interleaving.Groups.{footprint_in}
 use Rattle.bf_machine.specs.interleaving.Kept.{HasEnded, HasStart, IsCurrent}
@@ -20,6 +24,10 @@ use Rattle.bf_machine.specs.interleaving.Machines.{Group, Machine, Open, open_at
 abbrev pub IsPlace : Script → ℕ → Type 0
 IsPlace script s = (1 ≤ s) × (s ≤ length script.sessions)
 
+-- EXEC: how it goes, by the number of the catalog in which a statement is bound, and of the present one
+abbrev pub step_of : Machine → Bound → Step
+step_of m bound = if bound.catalog == m.db.number then Replied else Stale m.db.number
+
 module _ (m : Machine) (s : ℕ) where
   -- the replies as they stand, those of an open group included
   abbrev pub replies_at : List Reply
@@ -27,6 +35,10 @@ module _ (m : Machine) (s : ℕ) where
 
   abbrev pub statements_at : List Statement
   statements_at = (session_at m.script s).statements
+
+  -- the reply to statement n, counted from 1
+  abbrev pub reply_at : ℕ → Option Reply
+  reply_at n = if n == 0 then None else slice_get replies_at (n - 1)
 
   -- the number of the next statement
   abbrev pub next_place : Option ℕ
@@ -52,12 +64,29 @@ module _ (m : Machine) (s : ℕ) where
   abbrev pub CanRefuse : Type 0
   CanRefuse = (next : Machine) × Refuses m s next
 
-  -- EXEC of an open group's next statement as it is bound, or of a COMMIT or ROLLBACK in no group
-  abbrev pub CanExec : Bound → Type 0
-  CanExec bound = ((next : Machine) × (by : Executes m s next) × (by.bound ≡ bound)) ⊎ CanRefuse
+  -- the next statement of an open group, as it is bound after some prefix of the history, whose footprint is held
+  pub record IsToExec (start : Database) (bound : Bound) : Type 0 where
+    pub current : IsCurrent m s
+    pub o : Open
+    pub is : open_at m s ≡ Some o
+    pub statement : Statement
+    pub later : List Statement
+    pub left : rest_of m s o ≡ statement ∷ later
+    pub goes_on : ends_block statement ≡ false
+    pub prefix : ℕ
+    pub bound_so : bound_of (replayed m.script start (take prefix m.history)).1 (stands_inside o.replies) statement ≡ Some bound
+    pub held : Holds m.locks o.start (footprint_of bound)
+
+  -- EXEC can come there, or at a COMMIT or ROLLBACK in no group
+  abbrev pub CanExec : Database → Bound → Type 0
+  CanExec start bound = IsToExec start bound ⊎ CanRefuse
+
+  -- it has its reply, as it is bound
+  abbrev pub HasReplied : Bound → Machine → Type 0
+  HasReplied bound next = ((by : Executes m s next) × (by.bound ≡ bound)) ⊎ Refuses m s next
 
   -- LOCK, before the answer is known
-  pub record CanAsk (name : LockName) (mode : Mode) : Type 0 where
+  pub record CanAsk (start : Database) (name : LockName) (mode : Mode) : Type 0 where
     pub current : IsCurrent m s
     pub o : Open
     pub is : open_at m s ≡ Some o
@@ -65,7 +94,7 @@ module _ (m : Machine) (s : ℕ) where
     pub later : List Statement
     pub left : rest_of m s o ≡ statement ∷ later
     pub prefix : ℕ
-    pub asks : Contains (footprint_in (replayed m.script empty_database (take prefix m.history)).1 (stands_inside o.replies) statement) (name, mode)
+    pub asks : Contains (footprint_in (replayed m.script start (take prefix m.history)).1 (stands_inside o.replies) statement) (name, mode)
 
   -- the next statement has this number, and does not end its group
   pub record GoesOn (n : ℕ) : Type 0 where

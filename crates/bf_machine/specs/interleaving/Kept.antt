@@ -1,5 +1,5 @@
 -- WHAT EVERY EVENT KEEPS of a machine whose sessions take turns.
-use Rattle.std.specs.Prelude.{◌≡◌, ◌≢◌, ◌⊎◌, ℕ, ◌+◌, ◌<◌, ◌≤◌, Bool, true, false, List, [], ◌∷◌, length, map, take, Option, Some, None, Contains, slice_index_or}
+use Rattle.std.specs.Prelude.{◌≡◌, ◌≢◌, ◌⊎◌, ℕ, ◌+◌, ◌<◌, ◌≤◌, Bool, true, false, List, [], ◌∷◌, ◌++◌, length, map, take, Option, Some, None, Contains, slice_index_or}
 use Rattle.std.specs.FinMap as fin
 use Rattle.std.specs.List.{AllByRecursion}
 use Rattle.bf_locks.specs.declared.mode.Mode.{Mode}
@@ -7,6 +7,7 @@ use Rattle.bf_locks.specs.declared.name.LockName.{LockName}
 use Rattle.bf_locks.specs.Locks.{held, IsConsistent}
 use Rattle.bf_locks.specs.Modes.{are_compatible, join_of}
 use Rattle.bf_tree.specs.declared.history.Entry.{Entry}
+use Rattle.bf_tree.specs.declared.history.Outcome.{Outcome}
 use Rattle.bf_tree.specs.declared.reply.Cause.{Cause}
 use Rattle.bf_tree.specs.declared.reply.Cause.TheVariants.{Died}
 use Rattle.bf_tree.specs.declared.reply.Reply.{Reply}
@@ -15,7 +16,7 @@ use Rattle.bf_tree.specs.declared.script.Session.{Session}
 use Rattle.bf_tree.specs.declared.statement.Statement.{Statement}
 use Rattle.bf_sql.specs.Database.{Database, IsDatabase}
 use Rattle.bf_sql.specs.Groups.{session_at, groups_in, statements_in}
-use Rattle.bf_sql.specs.History.{IsLegalHistory, replayed}
+use Rattle.bf_sql.specs.History.{IsEndedBy, IsLegalHistory, replayed}
 use Rattle.bf_machine.specs.InOrder.{none_open}
 use Rattle.bf_machine.specs.interleaving.Groups.{footprint_in, HasRun}
 use Rattle.bf_machine.specs.interleaving.Machines.{Group, Began, Open, Machine, open_at, told_at, began_at, answered_in, has_open, transcripts_of}
@@ -57,6 +58,14 @@ pub record HasStart (began : List Began) (s : ℕ) (group : Group) (n : ℕ) : T
 abbrev pub HasEnded : Machine → ℕ → Group → Type 0
 HasEnded m s group = group.1 ≤ length (told_at m s)
 
+-- a group stands in the history: an entry of its session has its first and its last statement
+abbrev pub StandsInHistory : Machine → ℕ → Group → Type 0
+StandsInHistory m s group = (outcome : Outcome) × Contains m.history (record { session = s; first = group.0; last = group.1; outcome = outcome })
+
+-- each of its statements has a cause as its reply
+abbrev pub IsToldACause : Machine → ℕ → Group → Type 0
+IsToldACause m s group = (cause : Cause) × IsEndedBy m.script m.told s group cause
+
 -- session s is of the current phase or of an earlier one: all sessions of phases before its own have ended
 abbrev pub IsCurrent : Machine → ℕ → Type 0
 IsCurrent m s = (t : ℕ) → phase_of m.script t < phase_of m.script s → (length (session_at m.script t).statements ≤ length (told_at m t)) × (open_at m t ≡ None)
@@ -79,9 +88,9 @@ module _ (start : Database) (script : Script) (began : List Began) (history : Li
     pub older : h < own
     pub clash : Clash start script history s group other theirs
 
-  -- the causes of a machine without a log: a group ends by a death where it has died once more than the retries
+  -- the causes of a machine without a log: a group ends by the last of its deaths, where it has died once more than the retries
   abbrev pub IsAllowed : ℕ → ℕ → Group → Cause → Type 0
-  IsAllowed retries s group (Died h) = (died : DiedFor s group h) × (length died.has.deaths ≡ retries + 1)
+  IsAllowed retries s group (Died h) = (died : DiedFor s group h) × (before : List ℕ) × (died.has.deaths ≡ before ++ h ∷ []) × (length before ≡ retries)
   IsAllowed retries s group other = ⊥
 
 module _ (start : Database) (m : Machine) where

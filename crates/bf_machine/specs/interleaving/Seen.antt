@@ -2,13 +2,15 @@
 use Rattle.std.specs.Prelude.{◌≡◌, ℕ, ◌+◌, ◌-◌, ◌<◌, ◌≤◌, ◌^◌, Bool, List, [], ◌∷◌, map, length, take, drop, Option, Some, None, option_map, count_by, is_some, slice_index_or, vec_capacity, if◌then◌else◌}
 use Rattle.std.specs.Global.{Vec}
 use Rattle.bf_locks.specs.Locks.{Locks}
+use Rattle.bf_tree.specs.Limits.{HasNarrowTables}
 use Rattle.bf_tree.specs.declared.history.Entry.{Entry}
 use Rattle.bf_tree.specs.declared.reply.Reply.{Reply}
 use Rattle.bf_tree.specs.declared.script.Script.{Script}
 use Rattle.bf_tree.specs.declared.script.Session.{Session}
 use Rattle.bf_tree.specs.declared.statement.Statement.{Statement}
 use Rattle.bf_tree.specs.declared.statement.Statement.TheVariants.{Begin}
-use Rattle.bf_sql.specs.Database.{Database, empty_database}
+use Rattle.bf_sql.specs.Bound.{catalog_of}
+use Rattle.bf_sql.specs.Database.{Database}
 use Rattle.bf_sql.specs.Groups.{ends_block, session_at}
 use Rattle.bf_machine.specs.declared.so_far.Began.{Began as BeganGroup}
 use Rattle.bf_machine.specs.declared.so_far.OpenGroup.{OpenGroup}
@@ -69,9 +71,12 @@ pub record IsRoomy (script : Script) (began : List Began) (s : ℕ) (so_far : Se
   pub numbers : length (session_at script s).statements < 2 ^ 32
   pub latest : IsLatest began s so_far.latest
 
--- SOUND: what is seen is kept; the commits are counted; and there is room for each reply, and for the entry of each open group
-pub record IsSound (script : Script) (retries : ℕ) (db : Database) (locks : Locks) (began : List BeganGroup) (sessions : List SessionSoFar) (history : Vec Entry) (commits : ℕ) (transcripts : Vec (List Reply)) : Type 0 where
-  pub kept : IsKept empty_database (seen script retries db locks began sessions history.items)
+-- SOUND: the script is the one that the run began with, and the tables that it began with are narrow; what is seen is kept,
+-- from the opening database on; the commits are counted; and there is room for each reply, and for the entry of each open group
+pub record IsSound (opening : Database) (given : Script) (script : Script) (retries : ℕ) (db : Database) (locks : Locks) (began : List BeganGroup) (sessions : List SessionSoFar) (history : Vec Entry) (commits : ℕ) (transcripts : Vec (List Reply)) : Type 0 where
+  pub is_given : script ≡ given
+  pub narrow : HasNarrowTables (catalog_of opening)
+  pub kept : IsKept opening (seen script retries db locks began sessions history.items)
   pub counted : commits ≡ commits_behind 0 history.items
   pub sessions_numbered : length script.sessions < 2 ^ 32
   pub roomy : (i : ℕ) (so_far : SessionSoFar) → i < length sessions → slice_index_or sessions i so_far ≡ so_far → IsRoomy script (map began_seen began) (i + 1) so_far

@@ -12,7 +12,7 @@ use Rattle.bf_tree.specs.declared.bound.Bound.{Bound}
 use Rattle.bf_tree.specs.declared.history.Entry.{Entry}
 use Rattle.bf_tree.specs.declared.script.Script.{Script}
 use Rattle.bf_tree.specs.declared.statement.Statement.{Statement}
-use Rattle.bf_sql.specs.Database.{empty_database}
+use Rattle.bf_sql.specs.Database.{Database}
 use Rattle.bf_sql.specs.Bound.{bound_of}
 use Rattle.bf_sql.specs.Footprints.{Lock, footprint_of}
 use Rattle.bf_sql.specs.Groups.{ends_block}
@@ -23,7 +23,7 @@ use Rattle.bf_machine.specs.declared.serving.Turn.{Turn}
 use Rattle.bf_machine.specs.declared.serving.Turn.TheVariants as turn
 use Rattle.bf_machine.specs.declared.stand.Stand.{Stand}
 use Rattle.bf_machine.specs.declared.stand.Stand.TheVariants as stand
-use Rattle.bf_machine.specs.interleaving.Calls.{HasSessionEnded, StandsAs, replies_at, statements_at}
+use Rattle.bf_machine.specs.interleaving.Calls.{HasSessionEnded, IsPlace, StandsAs, replies_at, statements_at}
 use Rattle.bf_machine.specs.interleaving.Events.{Reaches, died, rest_of, stands_inside, text_of}
 use Rattle.bf_machine.specs.interleaving.Groups.{footprint_in}
 use Rattle.bf_machine.specs.interleaving.Kept.{IsCurrent}
@@ -76,10 +76,10 @@ module _ (m : Machine) (s : ℕ) where
     pub goes : (unanswered next s < unanswered m s) ⊎ ((o : Open) × (open_at m s ≡ Some o) × (rest_of m s o ≡ []) × (open_at next s ≡ None))
 
   -- ASKED: the session's open group, as it stands by then, asks for a lock and has this answer
-  pub record IsAsked (answer : LockAnswer) : Type 0 where
+  pub record IsAsked (start : Database) (answer : LockAnswer) : Type 0 where
     pub now : Machine
     pub serves : Serves now
-    pub reached : Reaches empty_database m now
+    pub reached : Reaches start m now
     pub o : Open
     pub is : open_at now s ≡ Some o
     pub same : (p : Open) → open_at m s ≡ Some p → p.start ≡ o.start
@@ -122,11 +122,21 @@ module _ (m : Machine) (s : ℕ) where
   CannotGo = (at : Stand) × StandsAs m s at × (can_go at ≡ false)
 
   -- TURN: how it ended, and what it made
-  abbrev pub IsTurn : Turn → Machine → Type 0
-  IsTurn turn.Passed next = CannotGo × (next ≡ m)
-  IsTurn turn.Served next = HasGoneOn next
-  IsTurn turn.Waited next = (others : List ℕ) × (asked : IsAsked (Wait others)) × (next ≡ asked.now)
-  IsTurn turn.Died next = (older : ℕ) × (asked : IsAsked (Die older)) × (next ≡ died asked.now s asked.o older)
+  abbrev pub IsTurn : Database → Turn → Machine → Type 0
+  IsTurn start turn.Passed next = CannotGo × (next ≡ m)
+  IsTurn start turn.Served next = HasGoneOn next
+  IsTurn start turn.Waited next = (others : List ℕ) × (asked : IsAsked start (Wait others)) × (next ≡ asked.now)
+  IsTurn start turn.Died next = (older : ℕ) × (asked : IsAsked start (Die older)) × (next ≡ died asked.now s asked.o older)
+
+-- the turn of one number of an order: its session's, and where there is none nothing
+pub record IsTurnOf (start : Database) (m : Machine) (n : ℕ) (next : Machine) : Type 0 where
+  pub turn : IsPlace m.script n → (how : Turn) × IsTurn m n start how next
+  pub passed : (IsPlace m.script n → ⊥) → next ≡ m
+
+-- TURNED: the turns of the numbers of an order, one after the other
+pub data Turned (start : Database) (m : Machine) : List ℕ → Machine → Type 0 where
+  no_turn : Turned start m [] m
+  one_turn : {ns : List ℕ} {now next : Machine} (n : ℕ) → Turned start m ns now → IsTurnOf start now n next → Turned start m (ns ++ n ∷ []) next
 
 -- the entries are of one session after the other, from one on
 abbrev pub SessionsRiseFrom : ℕ → List Entry → Type 0

@@ -7,12 +7,13 @@ ghost use Rattle.bf_machine.specs.interleaving.Events.{Aborts, Commits, commits_
 
 use crate::answer::settle;
 use crate::machine::Machine;
+use crate::opened::Opened;
 use crate::so_far::SessionSoFar;
 use crate::stand::Ending;
 use bf_base::Memory;
 use bf_tree::{Entry, Outcome, Reply};
 
-impl Machine {
+impl<N: Opened> Machine<N> {
     /// Commits a session's open group: what it was to leave becomes part of the live tables, its
     /// locks are freed, and its entry comes last. It costs what [`bf_live::LiveTables::commit`] does,
     /// and the freeing of the locks.

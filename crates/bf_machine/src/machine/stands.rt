@@ -9,6 +9,7 @@ ghost use Rattle.bf_machine.specs.interleaving.Kept.{IsCurrent};
 ghost use Rattle.bf_machine.specs.interleaving.Machines.{Group, open_at, told_at};
 
 use crate::machine::Machine;
+use crate::opened::Opened;
 use crate::so_far::SessionSoFar;
 use crate::stand::Stand;
 use bf_tree::{Session, Statement};
@@ -33,7 +34,7 @@ fn has_ended(session: &Session, so_far: &SessionSoFar) -> bool
     so_far.open.is_none() && so_far.replies.len() == session.statements.len()
 }
 
-impl Machine {
+impl<N: Opened> Machine<N> {
     /// Where a session stands: which call is its next, if one is. It costs a look at each session,
     /// and takes no memory.
     pub fn stand(&self, session: u32) -> Stand

@@ -1,43 +1,51 @@
 //! Statements of open groups.
 
-ghost use Rattle.std.specs.Prelude.{◌≡◌, ◌⊎◌, Bool, IfOk, IfSome, None, OnErr, OnOk, Some};
+ghost use Rattle.std.specs.Prelude.{◌≡◌, ◌≢◌, ◌⊎◌, Bool, IfOk, IfSome, None, Ok, OnErr, Some};
 ghost use Rattle.bf_tree.specs.declared.reply.Refusal.TheVariants.{NoTransaction};
 ghost use Rattle.bf_tree.specs.declared.reply.Reply.TheVariants.{Refused};
 ghost use Rattle.bf_tree.specs.declared.statement.Statement.{Statement};
 ghost use Rattle.bf_machine.specs.declared.so_far.OpenGroup.{OpenGroup as Group};
 ghost use Rattle.bf_machine.specs.declared.so_far.Pending.{Pending as Change};
+ghost use Rattle.bf_machine.specs.declared.stand.Step.TheVariants.{Replied};
 ghost use Rattle.bf_machine.specs.interleaving.Answering.{CanAnswer, IsAnswer};
-ghost use Rattle.bf_machine.specs.interleaving.Calls.{CanExec, IsPlace};
-ghost use Rattle.bf_machine.specs.interleaving.Events.{Executes, Refuses};
+ghost use Rattle.bf_machine.specs.interleaving.Calls.{CanExec, HasReplied, IsPlace, step_of};
 ghost use Rattle.bf_machine.specs.interleaving.Seen.{pending_seen};
 
 use crate::answer::answer;
 use crate::machine::Machine;
+use crate::opened::Opened;
 use crate::so_far::OpenGroup;
+use crate::stand::Step;
 use bf_base::Memory;
 use bf_live::LiveTables;
 use bf_tree::{Bound, Refusal, Reply};
 use std::alloc::Global;
 
-impl Machine {
-    /// Replies to a session's next statement, as it is bound in the present catalog, on what its group
-    /// sees. What it writes stays with the group. A COMMIT or ROLLBACK in no group is refused. It
-    /// costs what the statement reads and writes of its table.
+impl<N: Opened> Machine<N> {
+    /// Replies to a session's next statement, as it is bound, on what its group sees. What it writes
+    /// stays with the group. A COMMIT or ROLLBACK in no group is refused. Where the catalog has
+    /// changed since the statement was bound, nothing is done. It costs what the statement reads and
+    /// writes of its table.
     ///
     /// # Errors
     /// Where memory runs out, or 2 ^ 32 rows or more change. The machine is as it was then.
-    pub fn exec(&mut self, session: u32, bound: &Bound) -> Result<(), Memory>
+    pub fn exec(&mut self, session: u32, bound: &Bound) -> Result<Step, Memory>
         requires place { IsPlace self.old.script session }
-        requires can { CanExec self.old session bound.now }
-        ensures replied { OnOk result
-            (Executes self.old session self.new ⊎ Refuses self.old session self.new) }
+        requires can { CanExec self.old session N.opening bound.now }
+        ensures step { IfOk result (λ step. step ≡ step_of self.old bound.now) }
+        ensures stale { bound.now.catalog ≢ self.old.db.number → self.new ≡ self.old }
+        ensures replied { result ≡ Ok Replied → HasReplied self.old session bound.now self.new }
         ensures err { OnErr result (self.new ≡ self.old) }
     {
+        let number = self.live.catalog().number();
+        if bound.catalog != number {
+            return Ok(Step::Stale(number));
+        }
         let place = session as usize - 1;
         let so_far = &mut self.sessions[place];
         let reply = reply_in(self.alloc, &self.live, &mut so_far.open, bound)?;
         so_far.replies.push_reserved(reply);
-        Ok(())
+        Ok(Step::Replied)
     }
 }
 

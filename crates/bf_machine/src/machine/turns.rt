@@ -1,13 +1,13 @@
 //! Groups that begin, and ask for locks.
 
 ghost use Rattle.std.specs.Prelude.{◌≡◌, ◌⊎◌, ◌-◌, ◌<◌, ◌≤◌, [], IfOk, IfSome, None, OnErr, OnOk, Some, length, slice_index_or};
-ghost use Rattle.bf_sql.specs.Database.{empty_database};
 ghost use Rattle.bf_machine.specs.declared.so_far.Began.{Began as Group};
 ghost use Rattle.bf_machine.specs.declared.so_far.Pending.TheVariants.{Rows};
 ghost use Rattle.bf_machine.specs.interleaving.Calls.{CanAsk, CanBegin, IsPlace};
 ghost use Rattle.bf_machine.specs.interleaving.Events.{Asks, Begins};
 
 use crate::machine::Machine;
+use crate::opened::Opened;
 use crate::so_far::{
     Began, OpenGroup, Pending, SessionSoFar, close_at_death, last_of_group, told_count,
 };
@@ -16,7 +16,7 @@ use bf_locks::{LockAnswer, LockName, Mode};
 use bf_txn::Workspace;
 use std::alloc::Global;
 
-impl Machine {
+impl<N: Opened> Machine<N> {
     /// Begins a session's next group, and makes room for its entry. A group that begins for the first
     /// time draws the next start number; one that died begins again at its first statement, with its
     /// own. Linear in the group's statements.
@@ -60,9 +60,9 @@ impl Machine {
     /// Where memory runs out. The machine is as it was then.
     pub fn lock(&mut self, session: u32, name: &LockName, mode: Mode) -> Result<LockAnswer, Memory>
         requires place { IsPlace self.old.script session }
-        requires can { CanAsk self.old session name.now mode }
+        requires can { CanAsk self.old session N.opening name.now mode }
         ensures asks { IfOk result (λ answer.
-            Asks self.old session empty_database name.now mode answer self.new) }
+            Asks self.old session N.opening name.now mode answer self.new) }
         ensures err { OnErr result (self.new ≡ self.old) }
     {
         let place = session as usize - 1;

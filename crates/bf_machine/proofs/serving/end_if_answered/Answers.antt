@@ -1,21 +1,20 @@
 -- A group whose statements have their replies ends.
 use Rattle.std.proofs.Common.{refl, sym, subst}
-use Rattle.bf_sql.specs.Database.{empty_database}
 use Rattle.bf_machine.specs.interleaving.Events.{Reaches, aborts, at_once, commits_now, one_more}
 use Rattle.bf_machine.proofs.served.Events.{serves_not}
 use Rattle.bf_machine.proofs.serving.end_if_answered.Goals as goal
 
 pub returns-then-not-is_answered-clause-reaches : goal.returns-then-not-is_answered-clause-reaches
-returns-then-not-is_answered-clause-reaches c = at_once
+returns-then-not-is_answered-clause-reaches g c = at_once
 
 pub returns-in_err-commit-in-Commit-clause-reaches : goal.returns-in_err-commit-in-Commit-clause-reaches
-returns-in_err-commit-in-Commit-clause-reaches c = subst (Reaches empty_database c.args.machine.now) (sym c.in_err-commit-in-Commit.ensures.err) at_once
+returns-in_err-commit-in-Commit-clause-reaches g c = subst (Reaches g.N.Opened.opening c.args.machine.now) (sym c.in_err-commit-in-Commit.ensures.err) at_once
 
 pub returns-in_ok-commit-in-Commit-clause-reaches : goal.returns-in_ok-commit-in-Commit-clause-reaches
-returns-in_ok-commit-in-Commit-clause-reaches c = one_more at_once (commits_now c.args.session c.in_ok-commit-in-Commit.ensures.commits)
+returns-in_ok-commit-in-Commit-clause-reaches g c = one_more at_once (commits_now c.args.session c.in_ok-commit-in-Commit.ensures.commits)
 
 pub returns-in-Abort-clause-reaches : goal.returns-in-Abort-clause-reaches
-returns-in-Abort-clause-reaches c = one_more at_once (aborts c.args.session c.abort.ensures)
+returns-in-Abort-clause-reaches g c = one_more at_once (aborts c.args.session c.abort.ensures)
 
 pub returns-in_default : goal.returns-in_default
-returns-in_default c = record { reaches = at_once; serves = serves_not c.args.machine.now c.args.session; replies = refl }
+returns-in_default g c = record { reaches = at_once; serves = serves_not c.args.machine.now c.args.session; replies = refl }

@@ -2,7 +2,6 @@
 use Rattle.std.proofs.Common.{◌≡◌, ◌≢◌, ℕ, ◌<◌, ◌≤◌, Some, None, length, refl, sym, ap, subst, ◌∙◌, arith, inl, inr}
 use Rattle.std.proofs.lemmas.Bool.{cases_eq}
 use Rattle.bf_tree.specs.declared.script.Script.{Script}
-use Rattle.bf_sql.specs.Database.{empty_database}
 use Rattle.bf_machine.specs.interleaving.Events.{at_once}
 use Rattle.bf_machine.specs.interleaving.Kept.{IsKept}
 use Rattle.bf_machine.specs.interleaving.Machines.{Machine, open_at}
@@ -16,7 +15,7 @@ use Rattle.bf_machine.proofs.served.Totals.{total}
 use Rattle.bf_machine.proofs.serving.end_open_groups.Goals as goal
 
 pub loop-session-init : goal.loop-session-init
-loop-session-init c = record {
+loop-session-init g c = record {
   reaches = at_once;
   nothing = λ none. refl;
   alone = λ s alone. serves_not c.args.machine.now s;
@@ -24,27 +23,27 @@ loop-session-init c = record {
 }
 
 pub take_turn-requires-clause-kept : goal.take_turn-requires-clause-kept
-take_turn-requires-clause-kept c = reached_keeps_all empty_database c.args.machine.now c.loop-session.machine c.requires.kept c.loop-session.invariant.reaches
+take_turn-requires-clause-kept g c = reached_keeps_all g.N.Opened.opening c.args.machine.now c.loop-session.machine c.requires.kept c.loop-session.invariant.reaches
 
 pub take_turn-requires-clause-servable : goal.take_turn-requires-clause-servable
-take_turn-requires-clause-servable c = subst IsServable (sym (reached_script empty_database c.args.machine.now c.loop-session.machine c.loop-session.invariant.reaches)) c.requires.servable
+take_turn-requires-clause-servable g c = subst IsServable (sym (reached_script g.N.Opened.opening c.args.machine.now c.loop-session.machine c.loop-session.invariant.reaches)) c.requires.servable
 
 pub loop-session-smaller : goal.loop-session-smaller
-loop-session-smaller c =
+loop-session-smaller g c =
     let now : Machine = c.loop-session.machine in
     let next : Machine = c.take_turn.new.machine in
-    let kept : IsKept empty_database now = reached_keeps_all empty_database c.args.machine.now now c.requires.kept c.loop-session.invariant.reaches in
-    let script : next.script ≡ now.script = reached_script empty_database now next c.in_ok-take_turn.ensures.reaches in
+    let kept : IsKept g.N.Opened.opening now = reached_keeps_all g.N.Opened.opening c.args.machine.now now c.requires.kept c.loop-session.invariant.reaches in
+    let script : next.script ≡ now.script = reached_script g.N.Opened.opening now next c.in_ok-take_turn.ensures.reaches in
     let less = youngest_leaves_less now kept c.in-Some.session c.in_ok-take_turn.field-0 next c.in_ok-take_turn.ensures.turn c.in-Some.ensures.youngest script c.in-Some.ensures.place in
     subst (λ (k : Script). total (left_open next) (length k.sessions) < total (left_open now) (length now.script.sessions)) (sym script) less
 
 pub loop-session-preserved : goal.loop-session-preserved
-loop-session-preserved c =
+loop-session-preserved g c =
     let m : Machine = c.args.machine.now in
     let now : Machine = c.loop-session.machine in
     let next : Machine = c.take_turn.new.machine in
     let s = c.in-Some.session in
-    let kept : IsKept empty_database now = reached_keeps_all empty_database m now c.requires.kept c.loop-session.invariant.reaches in
+    let kept : IsKept g.N.Opened.opening now = reached_keeps_all g.N.Opened.opening m now c.requires.kept c.loop-session.invariant.reaches in
     let youngest = c.in-Some.ensures.youngest in
     let goes_on : (u : ℕ) → IsAlone m u → (u ≡ s) × HasGoneOn now s next = λ u alone.
     let before = c.loop-session.invariant.alone u alone in
@@ -57,7 +56,7 @@ loop-session-preserved c =
           absurd cc
     ] in
     record {
-      reaches = reaches_both empty_database m now next c.loop-session.invariant.reaches c.in_ok-take_turn.ensures.reaches;
+      reaches = reaches_both g.N.Opened.opening m now next c.loop-session.invariant.reaches c.in_ok-take_turn.ensures.reaches;
       nothing = λ none.
           let clash : None ≡ Some youngest.0 = sym (none s) ∙ (ap (λ (k : Machine). open_at k s) (sym (c.loop-session.invariant.nothing none)) ∙ youngest.1) in
           absurd cc;
@@ -71,5 +70,5 @@ loop-session-preserved c =
     }
 
 pub returns-in_err-take_turn-clause-reaches : goal.returns-in_err-take_turn-clause-reaches
-returns-in_err-take_turn-clause-reaches c =
-    reaches_both empty_database c.args.machine.now c.loop-session.machine c.take_turn.new.machine c.loop-session.invariant.reaches c.take_turn.ensures.reaches
+returns-in_err-take_turn-clause-reaches g c =
+    reaches_both g.N.Opened.opening c.args.machine.now c.loop-session.machine c.take_turn.new.machine c.loop-session.invariant.reaches c.take_turn.ensures.reaches

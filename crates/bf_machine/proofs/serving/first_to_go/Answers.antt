@@ -5,7 +5,7 @@ use Rattle.bf_machine.specs.interleaving.Serving.{CannotGo}
 use Rattle.bf_machine.proofs.serving.first_to_go.Goals as goal
 
 pub loop-place-preserved : goal.loop-place-preserved
-loop-place-preserved c =
+loop-place-preserved g c =
     let m = c.args.machine.now in
     let next = c.loop-place.place + 1 in
     λ s low high. elim (cases_eq s next) as (λ _. CannotGo m s) [

@@ -4,4 +4,4 @@ use Rattle.bf_machine.specs.interleaving.Serving.{CannotGo}
 use Rattle.bf_machine.proofs.serving.first_to_go.Given as goal
 
 abbrev pub invariant-loop-place : goal.invariant-loop-place
-invariant-loop-place l = (s : ℕ) → 1 ≤ s → s ≤ l.place → CannotGo l.machine s
+invariant-loop-place g l = (s : ℕ) → 1 ≤ s → s ≤ l.place → CannotGo l.machine s

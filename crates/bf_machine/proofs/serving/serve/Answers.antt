@@ -1,18 +1,17 @@
 -- A statement in no group is refused, and else its group is served.
 use Rattle.std.proofs.Common.{sym, subst}
-use Rattle.bf_sql.specs.Database.{empty_database}
 use Rattle.bf_machine.specs.interleaving.Events.{Reaches, at_once}
 use Rattle.bf_machine.proofs.served.Replying.{replies_now}
 use Rattle.bf_machine.proofs.serving.serve.Goals as goal
 
 pub returns-in_err-bound-clause-reaches : goal.returns-in_err-bound-clause-reaches
-returns-in_err-bound-clause-reaches c = at_once
+returns-in_err-bound-clause-reaches g c = at_once
 
-pub returns-in_err-exec-clause-reaches : goal.returns-in_err-exec-clause-reaches
-returns-in_err-exec-clause-reaches c = subst (Reaches empty_database c.args.machine.now) (sym c.in_err-exec.ensures.err) at_once
+pub returns-in_err-reply_to-clause-reaches : goal.returns-in_err-reply_to-clause-reaches
+returns-in_err-reply_to-clause-reaches g c = subst (Reaches g.N.Opened.opening c.args.machine.now) (sym c.in_err-reply_to.ensures.err) at_once
 
 pub returns-clause-reaches : goal.returns-clause-reaches
-returns-clause-reaches c = (replies_now c.args.machine.now c.args.session c.requires.kept c.exec.new.self c.in_ok-exec.ensures.replied).0
+returns-clause-reaches g c = (replies_now c.args.machine.now c.args.session c.requires.kept c.in_ok-bound.bound c.reply_to.new.machine c.in_ok-reply_to.ensures.replied).0
 
 pub returns-clause-turn : goal.returns-clause-turn
-returns-clause-turn c = (replies_now c.args.machine.now c.args.session c.requires.kept c.exec.new.self c.in_ok-exec.ensures.replied).1
+returns-clause-turn g c = (replies_now c.args.machine.now c.args.session c.requires.kept c.in_ok-bound.bound c.reply_to.new.machine c.in_ok-reply_to.ensures.replied).1

@@ -4,7 +4,7 @@ use Rattle.bf_machine.proofs.served.Looking.{IsSought, none_open, youngest_found
 use Rattle.bf_machine.proofs.serving.youngest.Goals as goal
 
 pub returns-clause-none : goal.returns-clause-none
-returns-clause-none c =
+returns-clause-none g c =
     let m = c.args.machine.now in
     let l = c.loop-place in
     let all : l.place ≡ length m.script.sessions = omega (arith, c.loop-place-test.false, l.auto.place-end, c.session_count-place-end.ensures.count) in
@@ -12,7 +12,7 @@ returns-clause-none c =
     (subst (IsSought m (length m.script.sessions) l.latest) none (subst (λ n. IsSought m n l.latest l.youngest) all l.invariant))
 
 pub returns-clause-youngest : goal.returns-clause-youngest
-returns-clause-youngest c =
+returns-clause-youngest g c =
     let m = c.args.machine.now in
     let l = c.loop-place in
     let all : l.place ≡ length m.script.sessions = omega (arith, c.loop-place-test.false, l.auto.place-end, c.session_count-place-end.ensures.count) in

@@ -3,4 +3,4 @@ use Rattle.bf_machine.proofs.served.Looking.{IsSought}
 use Rattle.bf_machine.proofs.serving.youngest.Given as goal
 
 abbrev pub invariant-loop-place : goal.invariant-loop-place
-invariant-loop-place l = IsSought l.machine l.place l.latest l.youngest
+invariant-loop-place g l = IsSought l.machine l.place l.latest l.youngest

@@ -4,4 +4,4 @@ use Rattle.machine_tests.proofs.Served.{served_behind}
 use Rattle.machine_tests.proofs.acts.abort.Goals as goal
 
 pub returns : goal.returns
-returns c = served_behind c.args.machine.now c.abort.new.self c.requires (aborts c.args.session c.abort.ensures)
+returns g c = served_behind c.args.machine.now c.abort.new.self c.requires (aborts c.args.session c.abort.ensures)

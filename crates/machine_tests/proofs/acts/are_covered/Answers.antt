@@ -13,7 +13,7 @@ one_lock P lock here zero d within = here
 one_lock P lock here (suc k) d within = absurd (omega (arith, within))
 
 pub loop-name-preserved : goal.loop-name-preserved
-loop-name-preserved c =
+loop-name-preserved g c =
     let m : Machine = c.args.machine.now in
     let lock : Lock = c.loop-name-item.result in
     let P : Lock → Type 0 = λ lock. IsCovered m c.args.session lock.0 lock.1 in
@@ -23,6 +23,6 @@ loop-name-preserved c =
     subst (All P) (sym more) (All-append P before (lock ∷ []) c.loop-name.invariant (one_lock P lock (c.covers.ensures.0 c.if-not-covers.false)))
 
 pub returns : goal.returns
-returns c = λ yes.
+returns g c = λ yes.
     let all : take c.loop-name.name-index c.args.locks.now ≡ c.args.locks.now = take_all c.loop-name.name-index c.args.locks.now (omega (arith, c.loop-name-test.false)) in
     subst (All (λ (lock : Lock). IsCovered c.args.machine.now c.args.session lock.0 lock.1)) all c.loop-name.invariant

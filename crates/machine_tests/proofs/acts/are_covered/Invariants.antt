@@ -6,4 +6,4 @@ use Rattle.bf_machine.specs.interleaving.Calls.{IsCovered}
 use Rattle.machine_tests.proofs.acts.are_covered.Given as goal
 
 abbrev pub invariant-loop-name : goal.invariant-loop-name
-invariant-loop-name l = All (λ (lock : Lock). IsCovered l.machine l.session lock.0 lock.1) (take l.name-index l.locks)
+invariant-loop-name g l = All (λ (lock : Lock). IsCovered l.machine l.session lock.0 lock.1) (take l.name-index l.locks)

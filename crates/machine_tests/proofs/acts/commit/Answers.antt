@@ -4,10 +4,10 @@ use Rattle.machine_tests.proofs.Served.{served_behind, still_served}
 use Rattle.machine_tests.proofs.acts.commit.Goals as goal
 
 pub returns-in_err-number : goal.returns-in_err-number
-returns-in_err-number c = still_served c.args.machine.now c.commit.new.self c.requires c.in_err-number.ensures.err
+returns-in_err-number g c = still_served c.args.machine.now c.commit.new.self c.requires c.in_err-number.ensures.err
 
 pub returns-in-Committed : goal.returns-in-Committed
-returns-in-Committed c = served_behind c.args.machine.now c.commit.new.self c.requires (commits_now c.args.session c.in_ok-number.ensures.commits)
+returns-in-Committed g c = served_behind c.args.machine.now c.commit.new.self c.requires (commits_now c.args.session c.in_ok-number.ensures.commits)
 
 pub returns-in-Ended : goal.returns-in-Ended
-returns-in-Ended c = served_behind c.args.machine.now c.commit.new.self c.requires (commits_now c.args.session c.in_ok-number.ensures.commits)
+returns-in-Ended g c = served_behind c.args.machine.now c.commit.new.self c.requires (commits_now c.args.session c.in_ok-number.ensures.commits)

@@ -11,7 +11,7 @@ use Rattle.bf_machine.proofs.keeping.Ending.{abort_seen, abort_sound, room_for_r
 use Rattle.bf_machine.proofs.machine.Machine.abort.Goals as goal
 
 pub close-requires : goal.close-requires
-close-requires c =
+close-requires g c =
     let i = c.self.inside in
     let s = c.args.session in
     let x : SessionSoFar = c.index_mut-so_far.result.now in
@@ -21,7 +21,7 @@ close-requires c =
     s place.0 high x (sym c.index_mut-so_far.ensures.value) c.in-Some.group c.in-Some.is
 
 pub invariant_of-self : goal.invariant_of-self
-invariant_of-self c =
+invariant_of-self g c =
     let i = c.self.inside in
     let s = c.args.session in
     let x : SessionSoFar = c.index_mut-so_far.result.now in
@@ -37,7 +37,7 @@ invariant_of-self c =
     c.free_all.new.self c.free_all.ensures.freed pushed.new.self pushed.ensures.items pushed.ensures.capacity
 
 pub returns : goal.returns
-returns c =
+returns g c =
     let i = c.self.inside in
     let s = c.args.session in
     let x : SessionSoFar = c.index_mut-so_far.result.now in

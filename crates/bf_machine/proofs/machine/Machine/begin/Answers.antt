@@ -15,7 +15,7 @@ use Rattle.bf_machine.proofs.keeping.Opening.{again_all, begun_all, latest_withi
 use Rattle.bf_machine.proofs.machine.Machine.begin.Goals as goal
 
 pub overflow_cast-first : goal.overflow_cast-first
-overflow_cast-first c =
+overflow_cast-first g c =
     let i = c.self.inside in
     let s = c.args.session in
     let x : SessionSoFar = c.index-so_far.result.now in
@@ -29,7 +29,7 @@ overflow_cast-first c =
     omega (arith, size.0, c.len-2.ensures, x.replies.ok.0)
 
 pub overflow_add-first : goal.overflow_add-first
-overflow_add-first c =
+overflow_add-first g c =
     let i = c.self.inside in
     let s = c.args.session in
     let x : SessionSoFar = c.index-so_far.result.now in
@@ -43,7 +43,7 @@ overflow_add-first c =
     omega (arith, size.0, c.len-2.ensures, x.replies.ok.0)
 
 pub last_again-requires : goal.last_again-requires
-last_again-requires c =
+last_again-requires g c =
     let i = c.self.inside in
     let s = c.args.session in
     let x : SessionSoFar = c.index-so_far.result.now in
@@ -57,7 +57,7 @@ last_again-requires c =
     rw c.deref.ensures.value low
 
 pub invariant_of-self-in-Some : goal.invariant_of-self-in-Some
-invariant_of-self-in-Some c =
+invariant_of-self-in-Some g c =
     let i = c.self.inside in
     let s = c.args.session in
     let x : SessionSoFar = c.index-so_far.result.now in
@@ -84,7 +84,7 @@ invariant_of-self-in-Some c =
     all.1
 
 pub returns-in-Some-clause-begins : goal.returns-in-Some-clause-begins
-returns-in-Some-clause-begins c =
+returns-in-Some-clause-begins g c =
     let i = c.self.inside in
     let s = c.args.session in
     let x : SessionSoFar = c.index-so_far.result.now in
@@ -112,7 +112,7 @@ returns-in-Some-clause-begins c =
     subst (λ (m : Machine). Begins m s next) c.self.view_is all.0
 
 pub last_of_group-last-requires-clause-within : goal.last_of_group-last-requires-clause-within
-last_of_group-last-requires-clause-within c =
+last_of_group-last-requires-clause-within g c =
     let i = c.self.inside in
     let s = c.args.session in
     let x : SessionSoFar = c.index-so_far.result.now in
@@ -133,7 +133,7 @@ last_of_group-last-requires-clause-within c =
     omega (arith, there_is, size, c.len-2.ensures, x.replies.ok.0)
 
 pub last_of_group-last-requires-clause-numbers : goal.last_of_group-last-requires-clause-numbers
-last_of_group-last-requires-clause-numbers c =
+last_of_group-last-requires-clause-numbers g c =
     let i = c.self.inside in
     let s = c.args.session in
     let x : SessionSoFar = c.index-so_far.result.now in
@@ -154,14 +154,14 @@ last_of_group-last-requires-clause-numbers c =
     omega (arith, fits.1, size)
 
 pub invariant_of-self-in_err-push : goal.invariant_of-self-in_err-push
-invariant_of-self-in_err-push c =
+invariant_of-self-in_err-push g c =
     let i = c.self.inside in
     rw c.in_err-push.ensures.items
     (reserved_sound i.script i.retries i.live i.locks i.began.items i.sessions.items i.history i.commits i.transcripts c.self.invariant c.reserve.new.self c.in_ok-reserve.ensures.items
     c.in_ok-reserve.ensures.capacity)
 
 pub invariant_of-self-2 : goal.invariant_of-self-2
-invariant_of-self-2 c =
+invariant_of-self-2 g c =
     let i = c.self.inside in
     let s = c.args.session in
     let x : SessionSoFar = c.index-so_far.result.now in
@@ -199,7 +199,7 @@ invariant_of-self-2 c =
     all.1
 
 pub returns-clause-begins : goal.returns-clause-begins
-returns-clause-begins c =
+returns-clause-begins g c =
     let i = c.self.inside in
     let s = c.args.session in
     let x : SessionSoFar = c.index-so_far.result.now in

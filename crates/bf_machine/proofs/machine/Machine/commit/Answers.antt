@@ -13,7 +13,7 @@ use Rattle.bf_machine.proofs.keeping.Committing.{can_settle, commit_seen, commit
 use Rattle.bf_machine.proofs.machine.Machine.commit.Goals as goal
 
 pub settle-requires : goal.settle-requires
-settle-requires c =
+settle-requires g c =
     let i = c.self.inside in
     let s = c.args.session in
     let x : SessionSoFar = c.index_mut-so_far.result.now in
@@ -23,7 +23,7 @@ settle-requires c =
     s place.0 high x (sym c.index_mut-so_far.ensures.value) c.in-Some.group (sym c.take.ensures.value ∙ c.in-Some.is)
 
 pub overflow_add-number : goal.overflow_add-number
-overflow_add-number c =
+overflow_add-number g c =
     let i = c.self.inside in
     let s = c.args.session in
     let x : SessionSoFar = c.index_mut-so_far.result.now in
@@ -35,7 +35,7 @@ overflow_add-number c =
     omega (arith, fits, i.history.ok.1)
 
 pub close-requires : goal.close-requires
-close-requires c =
+close-requires g c =
     let i = c.self.inside in
     let s = c.args.session in
     let x : SessionSoFar = c.index_mut-so_far.result.now in
@@ -45,7 +45,7 @@ close-requires c =
     s place.0 high x (sym c.index_mut-so_far.ensures.value) c.in-Some.group (sym c.take.ensures.value ∙ c.in-Some.is)
 
 pub invariant_of-self-2 : goal.invariant_of-self-2
-invariant_of-self-2 c =
+invariant_of-self-2 g c =
     let i = c.self.inside in
     let s = c.args.session in
     let x : SessionSoFar = c.index_mut-so_far.result.now in
@@ -61,7 +61,7 @@ invariant_of-self-2 c =
     c.free_all.new.self c.free_all.ensures.freed c.settle.new.live c.in_default-settle.ensures.ok pushed.new.self pushed.ensures.items pushed.ensures.capacity
 
 pub returns-clause-commits : goal.returns-clause-commits
-returns-clause-commits c =
+returns-clause-commits g c =
     let i = c.self.inside in
     let s = c.args.session in
     let x : SessionSoFar = c.index_mut-so_far.result.now in
@@ -79,18 +79,18 @@ returns-clause-commits c =
     c.free_all.new.self c.free_all.ensures.freed c.settle.new.live c.in_default-settle.ensures.ok pushed.new.self pushed.ensures.items pushed.ensures.capacity)
 
 pub invariant_of-self : goal.invariant_of-self
-invariant_of-self c =
+invariant_of-self g c =
     let i = c.self.inside in
     let s = c.args.session in
     let x : SessionSoFar = c.index_mut-so_far.result.now in
     let stays =
     sessions_stay i.sessions.items (s - 1) x (sym c.index_mut-so_far.ensures.value) c.in-Some.group
     (sym c.take.ensures.value ∙ c.in-Some.is) c.settle.new.pending c.in-Err.ensures.kept in
-    subst (λ (sessions : List SessionSoFar). IsSound i.script i.retries c.settle.new.live i.locks i.began.items sessions i.history i.commits i.transcripts) (sym stays)
-    (subst (λ (db : Database). IsSound i.script i.retries db i.locks i.began.items i.sessions.items i.history i.commits i.transcripts) (sym c.in-Err.ensures.err) c.self.invariant)
+    subst (λ (sessions : List SessionSoFar). IsSound g.N.Opened.opening g.N.Opened.script i.script i.retries c.settle.new.live i.locks i.began.items sessions i.history i.commits i.transcripts) (sym stays)
+    (subst (λ (db : Database). IsSound g.N.Opened.opening g.N.Opened.script i.script i.retries db i.locks i.began.items i.sessions.items i.history i.commits i.transcripts) (sym c.in-Err.ensures.err) c.self.invariant)
 
 pub returns-in-Err-clause-err : goal.returns-in-Err-clause-err
-returns-in-Err-clause-err c =
+returns-in-Err-clause-err g c =
     let i = c.self.inside in
     let s = c.args.session in
     let x : SessionSoFar = c.index_mut-so_far.result.now in

@@ -1,45 +1,47 @@
 -- The next statement has its reply, and what is pending is seen as before where it has none.
-use Rattle.std.proofs.Common.{◌⊎◌, ◌-◌, ◌≤◌, length, subst, sym, ◌∙◌, arith}
+use Rattle.std.proofs.Common.{◌≡◌, ◌-◌, ◌≤◌, length, subst, sym, ap, ◌∙◌, arith}
 use Rattle.std.specs.Prelude.{slice_set}
 use Rattle.std.proofs.lemmas.List.{length-map}
+use Rattle.bf_tree.specs.declared.catalog.Catalog.{Catalog}
 use Rattle.bf_machine.specs.declared.so_far.SessionSoFar.{SessionSoFar}
-use Rattle.bf_machine.specs.interleaving.Calls.{CanExec, IsPlace}
-use Rattle.bf_machine.specs.interleaving.Events.{Executes, Refuses}
+use Rattle.bf_machine.specs.interleaving.Calls.{CanExec, HasReplied, IsPlace}
 use Rattle.bf_machine.specs.interleaving.Machines.{Machine}
 use Rattle.bf_machine.specs.interleaving.Seen.{open_seen, seen}
 use Rattle.bf_machine.proofs.keeping.Executing.{may_reply, on_err, replied, replied_sound, room_for_next, seen_unanswered, unanswered_sound}
 use Rattle.bf_machine.proofs.machine.Machine.exec.Goals as goal
 
 pub reply_in-requires : goal.reply_in-requires
-reply_in-requires c =
+reply_in-requires g c =
     let i = c.self.inside in
     let s = c.args.session in
     let x : SessionSoFar = c.index_mut-so_far.result.now in
     let m : Machine = seen i.script i.retries i.live i.locks i.began.items i.sessions.items i.history.items in
     let place : IsPlace i.script s = subst (λ (m : Machine). IsPlace m.script s) (sym c.self.view_is) c.requires.place in
     let high : s ≤ length i.sessions.items = omega (arith, place.1, c.self.invariant.kept.shaped.opens, length-map i.sessions.items open_seen) in
-    let can : CanExec m s c.args.bound.now = subst (λ (m : Machine). CanExec m s c.args.bound.now) (sym c.self.view_is) c.requires.can in
+    let can : CanExec m s g.N.Opened.opening c.args.bound.now = subst (λ (m : Machine). CanExec m s g.N.Opened.opening c.args.bound.now) (sym c.self.view_is) c.requires.can in
+    let number : c.args.bound.now.catalog ≡ i.live.number = c.if-bound-number.false ∙ (c.number-number.ensures ∙ ap (λ (catalog : Catalog). catalog.number) c.catalog.ensures.catalog) in
     may_reply i.script i.retries i.live i.locks i.began.items i.sessions.items i.history i.commits i.transcripts c.self.invariant s place.0 high x (sym c.index_mut-so_far.ensures.value)
-    c.args.bound.now can
+    c.args.bound.now can number
 
 pub push_reserved-requires : goal.push_reserved-requires
-push_reserved-requires c =
+push_reserved-requires g c =
     let i = c.self.inside in
     let s = c.args.session in
     let x : SessionSoFar = c.index_mut-so_far.result.now in
     let m : Machine = seen i.script i.retries i.live i.locks i.began.items i.sessions.items i.history.items in
     let place : IsPlace i.script s = subst (λ (m : Machine). IsPlace m.script s) (sym c.self.view_is) c.requires.place in
     let high : s ≤ length i.sessions.items = omega (arith, place.1, c.self.invariant.kept.shaped.opens, length-map i.sessions.items open_seen) in
-    let can : CanExec m s c.args.bound.now = subst (λ (m : Machine). CanExec m s c.args.bound.now) (sym c.self.view_is) c.requires.can in
+    let can : CanExec m s g.N.Opened.opening c.args.bound.now = subst (λ (m : Machine). CanExec m s g.N.Opened.opening c.args.bound.now) (sym c.self.view_is) c.requires.can in
+    let number : c.args.bound.now.catalog ≡ i.live.number = c.if-bound-number.false ∙ (c.number-number.ensures ∙ ap (λ (catalog : Catalog). catalog.number) c.catalog.ensures.catalog) in
     omega (
       arith,
       x.replies.ok.0,
       room_for_next i.script i.retries i.live i.locks i.began.items i.sessions.items i.history i.commits i.transcripts c.self.invariant s place.0 high x
-          (sym c.index_mut-so_far.ensures.value) c.args.bound.now can,
+          (sym c.index_mut-so_far.ensures.value) c.args.bound.now can number,
     )
 
 pub invariant_of-self : goal.invariant_of-self
-invariant_of-self c =
+invariant_of-self g c =
     let i = c.self.inside in
     let s = c.args.session in
     let x : SessionSoFar = c.index_mut-so_far.result.now in
@@ -50,7 +52,7 @@ invariant_of-self c =
     (λ g is. let so = c.in_err-reply.ensures.answered g is in (so.0, so.1, so.3))
 
 pub returns-in_err-reply-clause-err : goal.returns-in_err-reply-clause-err
-returns-in_err-reply-clause-err c =
+returns-in_err-reply-clause-err g c =
     let i = c.self.inside in
     let s = c.args.session in
     let x : SessionSoFar = c.index_mut-so_far.result.now in
@@ -63,30 +65,32 @@ returns-in_err-reply-clause-err c =
     ∙ c.self.view_is)
 
 pub invariant_of-self-2 : goal.invariant_of-self-2
-invariant_of-self-2 c =
+invariant_of-self-2 g c =
     let i = c.self.inside in
     let s = c.args.session in
     let x : SessionSoFar = c.index_mut-so_far.result.now in
     let m : Machine = seen i.script i.retries i.live i.locks i.began.items i.sessions.items i.history.items in
     let place : IsPlace i.script s = subst (λ (m : Machine). IsPlace m.script s) (sym c.self.view_is) c.requires.place in
     let high : s ≤ length i.sessions.items = omega (arith, place.1, c.self.invariant.kept.shaped.opens, length-map i.sessions.items open_seen) in
-    let can : CanExec m s c.args.bound.now = subst (λ (m : Machine). CanExec m s c.args.bound.now) (sym c.self.view_is) c.requires.can in
+    let can : CanExec m s g.N.Opened.opening c.args.bound.now = subst (λ (m : Machine). CanExec m s g.N.Opened.opening c.args.bound.now) (sym c.self.view_is) c.requires.can in
+    let number : c.args.bound.now.catalog ≡ i.live.number = c.if-bound-number.false ∙ (c.number-number.ensures ∙ ap (λ (catalog : Catalog). catalog.number) c.catalog.ensures.catalog) in
     replied_sound i.script i.retries i.live i.locks i.began.items i.sessions.items i.history i.commits i.transcripts c.self.invariant s place.0 high x
-    (sym c.index_mut-so_far.ensures.value) c.args.bound.now can c.in_ok-reply.reply c.reply_in.new.group c.in_ok-reply.ensures.refused
+    (sym c.index_mut-so_far.ensures.value) c.args.bound.now can number c.in_ok-reply.reply c.reply_in.new.group c.in_ok-reply.ensures.refused
     (λ g is. let so = c.in_ok-reply.ensures.answered g is in (so.0, so.1, so.2)) c.push_reserved.new.self c.push_reserved.ensures.items (omega (arith, c.push_reserved.ensures.capacity))
 
 pub returns-clause-replied : goal.returns-clause-replied
-returns-clause-replied c =
+returns-clause-replied g c = λ was.
     let i = c.self.inside in
     let s = c.args.session in
     let x : SessionSoFar = c.index_mut-so_far.result.now in
     let m : Machine = seen i.script i.retries i.live i.locks i.began.items i.sessions.items i.history.items in
     let place : IsPlace i.script s = subst (λ (m : Machine). IsPlace m.script s) (sym c.self.view_is) c.requires.place in
     let high : s ≤ length i.sessions.items = omega (arith, place.1, c.self.invariant.kept.shaped.opens, length-map i.sessions.items open_seen) in
-    let can : CanExec m s c.args.bound.now = subst (λ (m : Machine). CanExec m s c.args.bound.now) (sym c.self.view_is) c.requires.can in
+    let can : CanExec m s g.N.Opened.opening c.args.bound.now = subst (λ (m : Machine). CanExec m s g.N.Opened.opening c.args.bound.now) (sym c.self.view_is) c.requires.can in
+    let number : c.args.bound.now.catalog ≡ i.live.number = c.if-bound-number.false ∙ (c.number-number.ensures ∙ ap (λ (catalog : Catalog). catalog.number) c.catalog.ensures.catalog) in
     let y : SessionSoFar = record { replies = c.push_reserved.new.self; «open» = c.reply_in.new.group; latest = x.latest } in
     let next : Machine = seen i.script i.retries i.live i.locks i.began.items (slice_set i.sessions.items (s - 1) y) i.history.items in
-    subst (λ (m : Machine). Executes m s next ⊎ Refuses m s next) c.self.view_is
+    subst (λ (m : Machine). HasReplied m s c.args.bound.now next) c.self.view_is
     (replied i.script i.retries i.live i.locks i.began.items i.sessions.items i.history i.commits i.transcripts c.self.invariant s place.0 high x
-    (sym c.index_mut-so_far.ensures.value) c.args.bound.now can c.in_ok-reply.reply c.reply_in.new.group c.in_ok-reply.ensures.refused
+    (sym c.index_mut-so_far.ensures.value) c.args.bound.now can number c.in_ok-reply.reply c.reply_in.new.group c.in_ok-reply.ensures.refused
     (λ g is. let so = c.in_ok-reply.ensures.answered g is in (so.0, so.1, so.2)) c.push_reserved.new.self c.push_reserved.ensures.items (omega (arith, c.push_reserved.ensures.capacity)))

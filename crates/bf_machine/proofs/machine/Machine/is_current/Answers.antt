@@ -6,7 +6,6 @@ use Rattle.std.proofs.lemmas.Iterator.{YieldsList-from_slice, YieldsList-from_zi
 use Rattle.std.proofs.lemmas.Iterator.Search.{all_from_yields_List}
 use Rattle.std.proofs.lemmas.List.{length-map}
 use Rattle.bf_tree.specs.declared.script.Session.{Session}
-use Rattle.bf_sql.specs.Database.{empty_database}
 use Rattle.bf_sql.specs.Groups.{session_at}
 use Rattle.bf_machine.specs.interleaving.Calls.{IsPlace}
 use Rattle.bf_machine.specs.interleaving.Kept.{IsCurrent}
@@ -18,7 +17,7 @@ use Rattle.bf_machine.proofs.keeping.Told.{told_within}
 use Rattle.bf_machine.proofs.machine.Machine.is_current.Goals as goal
 
 pub returns : goal.returns
-returns c =
+returns g c =
     let i = c.self.inside in
     let s = c.args.session in
     let m : Machine = seen i.script i.retries i.live i.locks i.began.items i.sessions.items i.history.items in
@@ -36,6 +35,6 @@ returns c =
       λ holds. subst (λ (m : Machine). IsCurrent m s) c.self.view_is
           (current_from i.script i.retries i.live i.locks i.began.items i.sessions.items i.history.items sizes s (sym same ∙ holds)),
       λ current. same
-          ∙ past_from i.script i.retries i.live i.locks i.began.items i.sessions.items i.history.items sizes s (told_within empty_database m c.self.invariant.kept)
+          ∙ past_from i.script i.retries i.live i.locks i.began.items i.sessions.items i.history.items sizes s (told_within g.N.Opened.opening m c.self.invariant.kept)
           (subst (λ (m : Machine). IsCurrent m s) (sym c.self.view_is) current),
     )

@@ -5,18 +5,18 @@ use Rattle.bf_machine.proofs.keeping.Stands.{begin_behind, begin_first, begin_ot
 use Rattle.bf_machine.proofs.machine.Machine.stand_before_group.Goals as goal
 
 pub returns-then-so_far-eq0 : goal.returns-then-so_far-eq0
-returns-then-so_far-eq0 c =
+returns-then-so_far-eq0 g c =
     let there = is_there c.self.invariant c.self.view_is c.requires.place c.index-so_far.ensures in
     begin_first there c.requires.current c.requires.closed c.requires.next c.if-so_far-eq0.true
 
 pub index-began-requires : goal.index-began-requires
-index-began-requires c =
+index-began-requires g c =
     let there = is_there c.self.invariant c.self.view_is c.requires.place c.index-so_far.ensures in
     let some : 0 < c.index-so_far.result.now.latest = omega (arith, c.if-so_far-eq0.false) in
     omega (arith, some, latest_within there c.requires.current c.requires.closed c.requires.next some, c.self.inside.began.ok.0)
 
 pub returns-then-began-len : goal.returns-then-began-len
-returns-then-began-len c =
+returns-then-began-len g c =
     let there = is_there c.self.invariant c.self.view_is c.requires.place c.index-so_far.ensures in
     let some : 0 < c.index-so_far.result.now.latest = omega (arith, c.if-so_far-eq0.false) in
     let count : c.len.result ≡ length c.index-so_far.result.now.replies.items =
@@ -24,7 +24,7 @@ returns-then-began-len c =
     begin_other there c.requires.current c.requires.closed c.requires.next some c.index-began.ensures (λ same. omega (arith, same, count, c.if-began-len.true))
 
 pub returns-in_default : goal.returns-in_default
-returns-in_default c =
+returns-in_default g c =
     let there = is_there c.self.invariant c.self.view_is c.requires.place c.index-so_far.ensures in
     let some : 0 < c.index-so_far.result.now.latest = omega (arith, c.if-so_far-eq0.false) in
     let count : c.len.result ≡ length c.index-so_far.result.now.replies.items =
@@ -34,7 +34,7 @@ returns-in_default c =
     begin_unnamed there c.requires.current c.requires.closed c.requires.next some c.index-began.ensures again (sym (c.in_default.ensures.value ∙ deaths))
 
 pub overflow_sub-older : goal.overflow_sub-older
-overflow_sub-older c =
+overflow_sub-older g c =
     let there = is_there c.self.invariant c.self.view_is c.requires.place c.index-so_far.ensures in
     let some : 0 < c.index-so_far.result.now.latest = omega (arith, c.if-so_far-eq0.false) in
     let count : c.len.result ≡ length c.index-so_far.result.now.replies.items =
@@ -45,7 +45,7 @@ overflow_sub-older c =
     (named_start there c.requires.current c.requires.closed c.requires.next some c.index-began.ensures again last).0
 
 pub index-named-requires : goal.index-named-requires
-index-named-requires c =
+index-named-requires g c =
     let there = is_there c.self.invariant c.self.view_is c.requires.place c.index-so_far.ensures in
     let some : 0 < c.index-so_far.result.now.latest = omega (arith, c.if-so_far-eq0.false) in
     let count : c.len.result ≡ length c.index-so_far.result.now.replies.items =
@@ -57,7 +57,7 @@ index-named-requires c =
     omega (arith, within.0, within.1, c.self.inside.began.ok.0)
 
 pub overflow_sub-named : goal.overflow_sub-named
-overflow_sub-named c =
+overflow_sub-named g c =
     let there = is_there c.self.invariant c.self.view_is c.requires.place c.index-so_far.ensures in
     let some : 0 < c.index-so_far.result.now.latest = omega (arith, c.if-so_far-eq0.false) in
     let count : c.len.result ≡ length c.index-so_far.result.now.replies.items =
@@ -68,7 +68,7 @@ overflow_sub-named c =
     (named_session there c.requires.current c.requires.closed c.requires.next some c.index-began.ensures again last c.index-named.ensures).0
 
 pub index-requires : goal.index-requires
-index-requires c =
+index-requires g c =
     let there = is_there c.self.invariant c.self.view_is c.requires.place c.index-so_far.ensures in
     let some : 0 < c.index-so_far.result.now.latest = omega (arith, c.if-so_far-eq0.false) in
     let count : c.len.result ≡ length c.index-so_far.result.now.replies.items =
@@ -81,7 +81,7 @@ index-requires c =
     omega (arith, place.0, within, c.self.inside.sessions.ok.0)
 
 pub count_told-requires : goal.count_told-requires
-count_told-requires c =
+count_told-requires g c =
     let there = is_there c.self.invariant c.self.view_is c.requires.place c.index-so_far.ensures in
     let some : 0 < c.index-so_far.result.now.latest = omega (arith, c.if-so_far-eq0.false) in
     let count : c.len.result ≡ length c.index-so_far.result.now.replies.items =
@@ -94,7 +94,7 @@ count_told-requires c =
     well_opened named
 
 pub returns-then-count_told-named : goal.returns-then-count_told-named
-returns-then-count_told-named c =
+returns-then-count_told-named g c =
     let there = is_there c.self.invariant c.self.view_is c.requires.place c.index-so_far.ensures in
     let some : 0 < c.index-so_far.result.now.latest = omega (arith, c.if-so_far-eq0.false) in
     let count : c.len.result ≡ length c.index-so_far.result.now.replies.items =
@@ -108,7 +108,7 @@ returns-then-count_told-named c =
     c.index.result.now (told named) (omega (arith, c.if-count_told-named.true, c.count_told.ensures))
 
 pub returns : goal.returns
-returns c =
+returns g c =
     let there = is_there c.self.invariant c.self.view_is c.requires.place c.index-so_far.ensures in
     let some : 0 < c.index-so_far.result.now.latest = omega (arith, c.if-so_far-eq0.false) in
     let count : c.len.result ≡ length c.index-so_far.result.now.replies.items =

@@ -6,7 +6,7 @@ use Rattle.bf_machine.proofs.keeping.Stands.{group_here, is_there, numbers, own_
 use Rattle.bf_machine.proofs.machine.Machine.stand_between_groups.Goals as goal
 
 pub stand_before_group-requires : goal.stand_before_group-requires
-stand_before_group-requires c =
+stand_before_group-requires g c =
     let there = is_there c.self.invariant c.self.view_is c.requires.place c.index.ensures in
     let own = own_there there c.as_slice.ensures c.index-as_slice-place.is c.as_slice-statements.ensures in
     let count : c.len-answered.result ≡ length c.index.result.now.replies.items =
@@ -24,7 +24,7 @@ stand_before_group-requires c =
     }
 
 pub overflow_cast-result : goal.overflow_cast-result
-overflow_cast-result c =
+overflow_cast-result g c =
     let there = is_there c.self.invariant c.self.view_is c.requires.place c.index.ensures in
     let count : c.len-answered.result ≡ length c.index.result.now.replies.items =
     omega (arith, c.len-answered.ensures, c.index.result.now.replies.ok.0) in
@@ -34,7 +34,7 @@ overflow_cast-result c =
     omega (arith, count, below, numbers there)
 
 pub overflow_add-result : goal.overflow_add-result
-overflow_add-result c =
+overflow_add-result g c =
     let there = is_there c.self.invariant c.self.view_is c.requires.place c.index.ensures in
     let count : c.len-answered.result ≡ length c.index.result.now.replies.items =
     omega (arith, c.len-answered.ensures, c.index.result.now.replies.ok.0) in
@@ -44,7 +44,7 @@ overflow_add-result c =
     omega (arith, count, below, numbers there)
 
 pub returns-in-Commit : goal.returns-in-Commit
-returns-in-Commit c =
+returns-in-Commit g c =
     let there = is_there c.self.invariant c.self.view_is c.requires.place c.index.ensures in
     let own = own_there there c.as_slice.ensures c.index-as_slice-place.is c.as_slice-statements.ensures in
     let count : c.len-answered.result ≡ length c.index.result.now.replies.items =

@@ -8,7 +8,7 @@ use Rattle.bf_machine.proofs.keeping.Stands.{abort_at_end, abort_here, bounds, c
 use Rattle.bf_machine.proofs.machine.Machine.stand_in_group.Goals as goal
 
 pub bounds-statements-answered : goal.bounds-statements-answered
-bounds-statements-answered c =
+bounds-statements-answered g c =
     let there = is_there c.self.invariant c.self.view_is c.requires.place c.index-so_far.ensures in
     let own = own_there there c.as_slice.ensures c.index-as_slice-place.is c.as_slice-statements.ensures in
     let count : c.len-answered.result ≡ length c.index-so_far.result.now.replies.items =
@@ -19,7 +19,7 @@ bounds-statements-answered c =
     omega (arith, c.if-answered-group.true, count, size, limits.2)
 
 pub returns-in-Commit : goal.returns-in-Commit
-returns-in-Commit c =
+returns-in-Commit g c =
     let there = is_there c.self.invariant c.self.view_is c.requires.place c.index-so_far.ensures in
     let own = own_there there c.as_slice.ensures c.index-as_slice-place.is c.as_slice-statements.ensures in
     let count : c.len-answered.result ≡ length c.index-so_far.result.now.replies.items =
@@ -29,7 +29,7 @@ returns-in-Commit c =
     commit_here there c.requires.current c.in-Some.group c.in-Some.is less here c.in-Commit.is
 
 pub returns-in-Rollback : goal.returns-in-Rollback
-returns-in-Rollback c =
+returns-in-Rollback g c =
     let there = is_there c.self.invariant c.self.view_is c.requires.place c.index-so_far.ensures in
     let own = own_there there c.as_slice.ensures c.index-as_slice-place.is c.as_slice-statements.ensures in
     let count : c.len-answered.result ≡ length c.index-so_far.result.now.replies.items =
@@ -39,7 +39,7 @@ returns-in-Rollback c =
     abort_here there c.requires.current c.in-Some.group c.in-Some.is less here c.in-Rollback.is
 
 pub returns-in_default-statements : goal.returns-in_default-statements
-returns-in_default-statements c =
+returns-in_default-statements g c =
     let there = is_there c.self.invariant c.self.view_is c.requires.place c.index-so_far.ensures in
     let own = own_there there c.as_slice.ensures c.index-as_slice-place.is c.as_slice-statements.ensures in
     let count : c.len-answered.result ≡ length c.index-so_far.result.now.replies.items =
@@ -50,12 +50,12 @@ returns-in_default-statements c =
     inl (subst (λ (n : ℕ). GoesOn c.args.self.now c.args.session (n + 1)) (sym count) (goes_on_here there c.requires.current c.in-Some.group c.in-Some.is less here goes_on))
 
 pub overflow_sub-group : goal.overflow_sub-group
-overflow_sub-group c =
+overflow_sub-group g c =
     let there = is_there c.self.invariant c.self.view_is c.requires.place c.index-so_far.ensures in
     (bounds there c.in-Some.group c.in-Some.is).0
 
 pub bounds-statements-group : goal.bounds-statements-group
-bounds-statements-group c =
+bounds-statements-group g c =
     let there = is_there c.self.invariant c.self.view_is c.requires.place c.index-so_far.ensures in
     let own = own_there there c.as_slice.ensures c.index-as_slice-place.is c.as_slice-statements.ensures in
     let limits = bounds there c.in-Some.group c.in-Some.is in
@@ -64,7 +64,7 @@ bounds-statements-group c =
     omega (arith, size, limits.0, limits.1, limits.2)
 
 pub returns-in-Begin : goal.returns-in-Begin
-returns-in-Begin c =
+returns-in-Begin g c =
     let there = is_there c.self.invariant c.self.view_is c.requires.place c.index-so_far.ensures in
     let own = own_there there c.as_slice.ensures c.index-as_slice-place.is c.as_slice-statements.ensures in
     let count : c.len-answered.result ≡ length c.index-so_far.result.now.replies.items =
@@ -74,7 +74,7 @@ returns-in-Begin c =
     abort_at_end there c.requires.current c.in-Some.group c.in-Some.is full here c.in-Begin.is
 
 pub returns-in_default-statements-2 : goal.returns-in_default-statements-2
-returns-in_default-statements-2 c =
+returns-in_default-statements-2 g c =
     let there = is_there c.self.invariant c.self.view_is c.requires.place c.index-so_far.ensures in
     let own = own_there there c.as_slice.ensures c.index-as_slice-place.is c.as_slice-statements.ensures in
     let count : c.len-answered.result ≡ length c.index-so_far.result.now.replies.items =

@@ -1,0 +1,22 @@
+//! What a run began with.
+
+use std::marker::Brand;
+
+/// What a run began with: the database and the script. It has no functions; contracts alone read it.
+pub trait Opened {
+    ghost use Rattle.bf_tree.specs.declared.script.Script.{Script};
+    ghost use Rattle.bf_sql.specs.Database.{Database};
+
+    ghost opening: { Database };
+
+    ghost script: { Script };
+}
+
+impl Opened for Brand {
+    ghost use Rattle.std.specs.Prelude.{[]};
+    ghost use Rattle.bf_sql.specs.Database.{empty_database};
+
+    ghost opening = { empty_database };
+
+    ghost script = { record { phases = 0; sessions = [] } };
+}
