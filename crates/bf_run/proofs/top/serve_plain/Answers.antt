@@ -1,5 +1,5 @@
 -- A new machine is in sequence, stays so while its sessions are served, and ran in order.
-use Rattle.std.proofs.Common.{◌≡◌, ℕ, [], List, None, refl, sym, ap, ap₂, subst, ◌∙◌}
+use Rattle.std.proofs.Common.{◌≡◌, ℕ, List, None, refl, sym, ap, ap₂, subst, ◌∙◌}
 use Rattle.std.specs.Prelude.{Result, Ok, Err, IfOk}
 use Rattle.std.specs.Global.{Vec}
 use Rattle.bf_base.specs.declared.memory.Memory.{Memory}
