@@ -1,9 +1,10 @@
 //! What a session has come to, and the groups that have begun.
 
-ghost use Rattle.std.specs.Prelude.{◌≡◌, ◌+◌, ◌-◌, ◌<◌, ◌≤◌, ◌++◌, [], IfOk, None, if◌then◌else◌, length, map, nat_lt, replicate, take, vec_capacity, vec_len};
+ghost use Rattle.std.specs.Prelude.{◌≡◌, ℕ, ◌+◌, ◌-◌, ◌<◌, ◌≤◌, ◌&&◌, ◌++◌, [], IfOk, None, if◌then◌else◌, length, map, nat_le, nat_lt, replicate, take, vec_capacity, vec_len};
+ghost use Rattle.std.specs.Option.{is_none};
 ghost use Rattle.bf_tree.specs.declared.reply.Cause.TheVariants.{Died};
 ghost use Rattle.bf_tree.specs.declared.reply.Reply.TheVariants.{Ended};
-ghost use Rattle.bf_machine.specs.interleaving.Seen.{AreNew, last_from};
+ghost use Rattle.bf_machine.specs.interleaving.Seen.{AreNew, HasEndedAt, last_from};
 
 use bf_base::{Memory, Sequence, Table, next_number};
 use bf_tree::{Cause, IndexRule, Reply, Session, Statement};
@@ -67,6 +68,36 @@ pub(crate) fn sessions_so_far(
         })?;
     }
     Ok(made)
+}
+
+/// Whether each statement of a session has its reply, and no group of it is open.
+pub(crate) fn has_ended(session: &Session, so_far: &SessionSoFar) -> bool
+    ensures { result ≡ (is_none so_far.now.open
+        && nat_le (length session.now.statements) (length so_far.now.replies.items)) }
+{
+    so_far.open.is_none() && session.statements.len() <= so_far.replies.len()
+}
+
+/// The first place from one on, both counted from 0, of a session that has not ended, or how many
+/// sessions there are. It looks at each that it passes, and at no other.
+pub(crate) fn first_left_from(
+    sessions: &[Session],
+    so_far: &[SessionSoFar],
+    from: usize,
+) -> usize
+    requires each { length sessions.now ≡ length so_far.now }
+    requires from { from ≤ length so_far.now }
+    ensures from { from ≤ result }
+    ensures within { result ≤ length so_far.now }
+    ensures ended { (i : ℕ) → from ≤ i → i < result → HasEndedAt sessions.now so_far.now i }
+    ensures left { result < length so_far.now → HasEndedAt sessions.now so_far.now result → ⊥ }
+{
+    for place in from..so_far.len() {
+        if !has_ended(&sessions[place], &so_far[place]) {
+            return place;
+        }
+    }
+    so_far.len()
 }
 
 /// The replies of sessions, put into an empty list that has room for them. Takes no memory.

@@ -238,6 +238,7 @@ module _ {N : Type 0} {opening : Database} {given : Script} (i : Inside N) (soun
         kept = subst (λ (locks : Locks). IsKept opening (record m { locks = locks })) (sym held_then) (locks_kept answer refl judged);
         counted = sound.counted;
         sessions_numbered = sound.sessions_numbered;
+        phases = sound.phases;
         roomy = sound.roomy;
         room = sound.room;
         no_transcripts = sound.no_transcripts;
@@ -280,6 +281,7 @@ module _ {N : Type 0} {opening : Database} {given : Script} (i : Inside N) (soun
           kept = subst (IsKept opening) (sym seen_unchanged) sound.kept;
           counted = sound.counted;
           sessions_numbered = sound.sessions_numbered;
+          phases = sound.phases;
           roomy = λ j z within is.
               let was = sound.roomy j z within is in
               record {
@@ -389,6 +391,7 @@ module _ {N : Type 0} {opening : Database} {given : Script} (i : Inside N) (soun
               kept = died_kept;
               counted = sound.counted;
               sessions_numbered = sound.sessions_numbered;
+              phases = sound.phases;
               roomy = roomy_then i.script (map began_seen began) i.sessions.items (s - 1) x y below at
                   (λ j z within is.
                   let old = sound.roomy j z within is in

@@ -25,7 +25,6 @@ use Rattle.bf_machine.proofs.interleaving.Texts.{are_texts}
 use Rattle.bf_machine.proofs.keeping.Current.{closed_seen, has_ended, has_ended_so}
 use Rattle.bf_machine.proofs.keeping.Places.{open_there, told_there}
 use Rattle.bf_machine.proofs.keeping.Standing.{abort_end, abort_next, began_within, begins_behind, begins_first, begins_other, begins_unnamed, commit_end, commit_next, goes_on_next, group_next, last_split, named_place, named_within, none_last, refuse_next, waits_for}
-use Rattle.bf_machine.proofs.keeping.Told.{told_within}
 
 -- an item of a list is read whatever stands for one that is not there
 pub item_is : {X : Type 0} (xs : List X) (i : ℕ) (x d : X) → i < length xs → slice_index_or xs i x ≡ x → slice_index_or xs i d ≡ x
@@ -189,11 +188,9 @@ module _ {opening : Database} {given : Script} {script : Script} {retries : ℕ}
   -- it has ended only where it is read so
   pub not_ended : (y : Session) → y.statements ≡ own → has_ended y x ≡ false → HasSessionEnded now s → ⊥
   not_ended y same not_yet is =
-      let within : length (told_seen x) ≤ length y.statements =
-      subst (λ (ss : List Statement). length (told_seen x) ≤ length ss) (sym same) (subst (λ (rs : List Reply). length rs ≤ length own) told (told_within opening now kept s)) in
       let full : length y.statements ≤ length (told_seen x) =
       subst (λ (ss : List Statement). length ss ≤ length (told_seen x)) (sym same) (subst (λ (rs : List Reply). length own ≤ length rs) told is.0) in
-      false≢true (sym not_yet ∙ has_ended_so y x within (full, sym opened ∙ is.1))
+      false≢true (sym not_yet ∙ has_ended_so y x (full, sym opened ∙ is.1))
 
   pub some_left : (y : Session) → y.statements ≡ own → has_ended y x ≡ false → is_some x.«open» ≡ false → length (told_at now s) < length own
   some_left y same not_yet none = elim (cases_Bool (nat_lt (length (told_at now s)) (length own))) as (λ _. length (told_at now s) < length own) [
