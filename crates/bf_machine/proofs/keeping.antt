@@ -12,6 +12,7 @@ pub mod Standing
 pub mod Stands
 pub mod Current
 pub mod FirstLeft
+pub mod Passing
 pub mod Exchanging
 pub mod Catalogs
 pub mod Numbers

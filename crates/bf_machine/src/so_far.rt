@@ -72,7 +72,7 @@ pub(crate) fn sessions_so_far(
 
 /// Whether each statement of a session has its reply, and no group of it is open.
 pub(crate) fn has_ended(session: &Session, so_far: &SessionSoFar) -> bool
-    ensures { result ≡ (is_none so_far.now.open
+    ensures { result ≡ (is_none so_far.now.«open»
         && nat_le (length session.now.statements) (length so_far.now.replies.items)) }
 {
     so_far.open.is_none() && session.statements.len() <= so_far.replies.len()

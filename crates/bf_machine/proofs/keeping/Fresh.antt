@@ -1,5 +1,5 @@
 -- A machine in which nothing has begun.
-use Rattle.std.proofs.Common.{◌≡◌, ℕ, zero, suc, ◌+◌, ◌^◌, ◌<◌, ◌≤◌, List, [], ◌∷◌, ◌++◌, length, map, Option, Some, false, refl, sym, ap, ap₂, subst, ◌∙◌, arith, vec_capacity, option_map}
+use Rattle.std.proofs.Common.{◌≡◌, ℕ, zero, suc, ◌+◌, ◌^◌, ◌<◌, ◌≤◌, true, List, [], ◌∷◌, ◌++◌, length, map, Option, Some, false, refl, sym, ap, ap₂, subst, ◌∙◌, arith, vec_capacity, option_map}
 use Rattle.std.specs.Prelude.{count_by, is_some, slice_index_or}
 use Rattle.std.specs.FinMap as fin
 use Rattle.std.specs.Global.{Vec}
@@ -11,6 +11,7 @@ use Rattle.bf_tree.specs.declared.script.Session.{Session}
 use Rattle.bf_sql.specs.Bound.{catalog_of}
 use Rattle.bf_sql.specs.Database.{Database, IsDatabase}
 use Rattle.bf_sql.specs.Groups.{no_session, session_at}
+use Rattle.bf_machine.specs.Runnable.{phases_rise_from}
 use Rattle.bf_machine.specs.declared.so_far.SessionSoFar.{SessionSoFar}
 use Rattle.bf_machine.specs.interleaving.Kept.{IsKept, fresh, no_group, no_replies}
 use Rattle.bf_machine.specs.interleaving.Machines.{Began, Open, began_at}

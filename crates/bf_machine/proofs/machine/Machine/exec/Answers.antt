@@ -17,10 +17,10 @@ reply_in-requires g c =
     let x : SessionSoFar = c.index_mut-so_far.result.now in
     let m : Machine = seen i.script i.retries i.live i.locks i.began.items i.sessions.items i.history.items in
     let place : IsPlace i.script s = subst (λ (m : Machine). IsPlace m.script s) (sym c.self.view_is) c.requires.place in
-    let high : s ≤ length i.sessions.items = omega (arith, place.1, c.self.invariant.kept.shaped.opens, length-map i.sessions.items open_seen) in
+    let high : s ≤ length i.sessions.items = omega (arith, place.1, c.self.invariant.0.kept.shaped.opens, length-map i.sessions.items open_seen) in
     let can : CanExec m s g.N.Opened.opening c.args.bound.now = subst (λ (m : Machine). CanExec m s g.N.Opened.opening c.args.bound.now) (sym c.self.view_is) c.requires.can in
     let number : c.args.bound.now.catalog ≡ i.live.number = c.if-bound-number.false ∙ (c.number-number.ensures ∙ ap (λ (catalog : Catalog). catalog.number) c.catalog.ensures.catalog) in
-    may_reply i.script i.retries i.live i.locks i.began.items i.sessions.items i.history i.commits i.transcripts c.self.invariant s place.0 high x (sym c.index_mut-so_far.ensures.value)
+    may_reply i.script i.retries i.live i.locks i.began.items i.sessions.items i.history i.commits i.transcripts c.self.invariant.0 s place.0 high x (sym c.index_mut-so_far.ensures.value)
     c.args.bound.now can number
 
 pub push_reserved-requires : goal.push_reserved-requires
@@ -30,13 +30,13 @@ push_reserved-requires g c =
     let x : SessionSoFar = c.index_mut-so_far.result.now in
     let m : Machine = seen i.script i.retries i.live i.locks i.began.items i.sessions.items i.history.items in
     let place : IsPlace i.script s = subst (λ (m : Machine). IsPlace m.script s) (sym c.self.view_is) c.requires.place in
-    let high : s ≤ length i.sessions.items = omega (arith, place.1, c.self.invariant.kept.shaped.opens, length-map i.sessions.items open_seen) in
+    let high : s ≤ length i.sessions.items = omega (arith, place.1, c.self.invariant.0.kept.shaped.opens, length-map i.sessions.items open_seen) in
     let can : CanExec m s g.N.Opened.opening c.args.bound.now = subst (λ (m : Machine). CanExec m s g.N.Opened.opening c.args.bound.now) (sym c.self.view_is) c.requires.can in
     let number : c.args.bound.now.catalog ≡ i.live.number = c.if-bound-number.false ∙ (c.number-number.ensures ∙ ap (λ (catalog : Catalog). catalog.number) c.catalog.ensures.catalog) in
     omega (
       arith,
       x.replies.ok.0,
-      room_for_next i.script i.retries i.live i.locks i.began.items i.sessions.items i.history i.commits i.transcripts c.self.invariant s place.0 high x
+      room_for_next i.script i.retries i.live i.locks i.began.items i.sessions.items i.history i.commits i.transcripts c.self.invariant.0 s place.0 high x
           (sym c.index_mut-so_far.ensures.value) c.args.bound.now can number,
     )
 
@@ -46,8 +46,8 @@ invariant_of-self g c =
     let s = c.args.session in
     let x : SessionSoFar = c.index_mut-so_far.result.now in
     let place : IsPlace i.script s = subst (λ (m : Machine). IsPlace m.script s) (sym c.self.view_is) c.requires.place in
-    let high : s ≤ length i.sessions.items = omega (arith, place.1, c.self.invariant.kept.shaped.opens, length-map i.sessions.items open_seen) in
-    unanswered_sound i.script i.retries i.live i.locks i.began.items i.sessions.items i.history i.commits i.transcripts c.self.invariant s place.0 high x
+    let high : s ≤ length i.sessions.items = omega (arith, place.1, c.self.invariant.0.kept.shaped.opens, length-map i.sessions.items open_seen) in
+    unanswered_sound i.script i.retries i.live i.locks i.began.items i.sessions.items i.history i.commits i.transcripts c.self.invariant.0 s place.0 high x
     (sym c.index_mut-so_far.ensures.value) c.reply_in.new.group (λ is. (c.in_err-reply.ensures.refused is).0)
     (λ g is. let so = c.in_err-reply.ensures.answered g is in (so.0, so.1, so.3))
 
@@ -57,9 +57,9 @@ returns-in_err-reply-clause-err g c =
     let s = c.args.session in
     let x : SessionSoFar = c.index_mut-so_far.result.now in
     let place : IsPlace i.script s = subst (λ (m : Machine). IsPlace m.script s) (sym c.self.view_is) c.requires.place in
-    let high : s ≤ length i.sessions.items = omega (arith, place.1, c.self.invariant.kept.shaped.opens, length-map i.sessions.items open_seen) in
+    let high : s ≤ length i.sessions.items = omega (arith, place.1, c.self.invariant.0.kept.shaped.opens, length-map i.sessions.items open_seen) in
     on_err c.from_residual.result _
-    (seen_unanswered i.script i.retries i.live i.locks i.began.items i.sessions.items i.history i.commits i.transcripts c.self.invariant s place.0 high x
+    (seen_unanswered i.script i.retries i.live i.locks i.began.items i.sessions.items i.history i.commits i.transcripts c.self.invariant.0 s place.0 high x
     (sym c.index_mut-so_far.ensures.value) c.reply_in.new.group (λ is. (c.in_err-reply.ensures.refused is).0)
     (λ g is. let so = c.in_err-reply.ensures.answered g is in (so.0, so.1, so.3))
     ∙ c.self.view_is)
@@ -71,10 +71,10 @@ invariant_of-self-2 g c =
     let x : SessionSoFar = c.index_mut-so_far.result.now in
     let m : Machine = seen i.script i.retries i.live i.locks i.began.items i.sessions.items i.history.items in
     let place : IsPlace i.script s = subst (λ (m : Machine). IsPlace m.script s) (sym c.self.view_is) c.requires.place in
-    let high : s ≤ length i.sessions.items = omega (arith, place.1, c.self.invariant.kept.shaped.opens, length-map i.sessions.items open_seen) in
+    let high : s ≤ length i.sessions.items = omega (arith, place.1, c.self.invariant.0.kept.shaped.opens, length-map i.sessions.items open_seen) in
     let can : CanExec m s g.N.Opened.opening c.args.bound.now = subst (λ (m : Machine). CanExec m s g.N.Opened.opening c.args.bound.now) (sym c.self.view_is) c.requires.can in
     let number : c.args.bound.now.catalog ≡ i.live.number = c.if-bound-number.false ∙ (c.number-number.ensures ∙ ap (λ (catalog : Catalog). catalog.number) c.catalog.ensures.catalog) in
-    replied_sound i.script i.retries i.live i.locks i.began.items i.sessions.items i.history i.commits i.transcripts c.self.invariant s place.0 high x
+    replied_sound i.script i.retries i.live i.locks i.began.items i.sessions.items i.history i.commits i.transcripts c.self.invariant.0 s place.0 high x
     (sym c.index_mut-so_far.ensures.value) c.args.bound.now can number c.in_ok-reply.reply c.reply_in.new.group c.in_ok-reply.ensures.refused
     (λ g is. let so = c.in_ok-reply.ensures.answered g is in (so.0, so.1, so.2)) c.push_reserved.new.self c.push_reserved.ensures.items (omega (arith, c.push_reserved.ensures.capacity))
 
@@ -85,12 +85,12 @@ returns-clause-replied g c = λ was.
     let x : SessionSoFar = c.index_mut-so_far.result.now in
     let m : Machine = seen i.script i.retries i.live i.locks i.began.items i.sessions.items i.history.items in
     let place : IsPlace i.script s = subst (λ (m : Machine). IsPlace m.script s) (sym c.self.view_is) c.requires.place in
-    let high : s ≤ length i.sessions.items = omega (arith, place.1, c.self.invariant.kept.shaped.opens, length-map i.sessions.items open_seen) in
+    let high : s ≤ length i.sessions.items = omega (arith, place.1, c.self.invariant.0.kept.shaped.opens, length-map i.sessions.items open_seen) in
     let can : CanExec m s g.N.Opened.opening c.args.bound.now = subst (λ (m : Machine). CanExec m s g.N.Opened.opening c.args.bound.now) (sym c.self.view_is) c.requires.can in
     let number : c.args.bound.now.catalog ≡ i.live.number = c.if-bound-number.false ∙ (c.number-number.ensures ∙ ap (λ (catalog : Catalog). catalog.number) c.catalog.ensures.catalog) in
     let y : SessionSoFar = record { replies = c.push_reserved.new.self; «open» = c.reply_in.new.group; latest = x.latest } in
     let next : Machine = seen i.script i.retries i.live i.locks i.began.items (slice_set i.sessions.items (s - 1) y) i.history.items in
     subst (λ (m : Machine). HasReplied m s c.args.bound.now next) c.self.view_is
-    (replied i.script i.retries i.live i.locks i.began.items i.sessions.items i.history i.commits i.transcripts c.self.invariant s place.0 high x
+    (replied i.script i.retries i.live i.locks i.began.items i.sessions.items i.history i.commits i.transcripts c.self.invariant.0 s place.0 high x
     (sym c.index_mut-so_far.ensures.value) c.args.bound.now can number c.in_ok-reply.reply c.reply_in.new.group c.in_ok-reply.ensures.refused
     (λ g is. let so = c.in_ok-reply.ensures.answered g is in (so.0, so.1, so.2)) c.push_reserved.new.self c.push_reserved.ensures.items (omega (arith, c.push_reserved.ensures.capacity)))

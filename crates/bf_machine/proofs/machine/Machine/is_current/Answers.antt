@@ -22,7 +22,7 @@ returns g c =
     let s = c.args.session in
     let m : Machine = seen i.script i.retries i.live i.locks i.began.items i.sessions.items i.history.items in
     let place : IsPlace i.script s = subst (λ (m : Machine). IsPlace m.script s) (sym c.self.view_is) c.requires in
-    let sizes : length i.script.sessions ≡ length i.sessions.items = sym c.self.invariant.kept.shaped.opens ∙ length-map i.sessions.items open_seen in
+    let sizes : length i.script.sessions ≡ length i.sessions.items = sym c.self.invariant.0.kept.shaped.opens ∙ length-map i.sessions.items open_seen in
     let phase = c.index-sessions-session.result.phase in
     let all : c.all.result ≡ list_all (is_past phase) (zip i.script.sessions i.sessions.items) =
     all_from_yields_List (is_past phase) c.all.new.self _ c.all.result c.all.ensures.ran
@@ -35,6 +35,6 @@ returns g c =
       λ holds. subst (λ (m : Machine). IsCurrent m s) c.self.view_is
           (current_from i.script i.retries i.live i.locks i.began.items i.sessions.items i.history.items sizes s (sym same ∙ holds)),
       λ current. same
-          ∙ past_from i.script i.retries i.live i.locks i.began.items i.sessions.items i.history.items sizes s (told_within g.N.Opened.opening m c.self.invariant.kept)
+          ∙ past_from i.script i.retries i.live i.locks i.began.items i.sessions.items i.history.items sizes s (told_within g.N.Opened.opening m c.self.invariant.0.kept)
           (subst (λ (m : Machine). IsCurrent m s) (sym c.self.view_is) current),
     )

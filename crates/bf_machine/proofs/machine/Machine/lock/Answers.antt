@@ -7,34 +7,34 @@ use Rattle.bf_machine.proofs.machine.Machine.lock.Goals as goal
 pub index_mut-requires : goal.index_mut-requires
 index_mut-requires g c =
     let within =
-    start_within c.self.inside c.self.invariant c.args.self.now c.self.view_is c.args.session c.requires.place c.index.result.now
+    start_within c.self.inside c.self.invariant.0 c.args.self.now c.self.view_is c.args.session c.requires.place c.index.result.now
     (sym c.index.ensures) c.in-Some.group c.in-Some.is in
     omega (arith, within.0, within.1, c.self.inside.began.ok.0)
 
 pub told_count-told-requires-clause-first : goal.told_count-told-requires-clause-first
 told_count-told-requires-clause-first g c =
-    (bounds c.self.inside c.self.invariant c.args.self.now c.self.view_is c.args.session c.requires.place c.index.result.now
+    (bounds c.self.inside c.self.invariant.0 c.args.self.now c.self.view_is c.args.session c.requires.place c.index.result.now
     (sym c.index.ensures) c.in-Some.group c.in-Some.is).0
 
 pub told_count-told-requires-clause-last : goal.told_count-told-requires-clause-last
 told_count-told-requires-clause-last g c =
-    (bounds c.self.inside c.self.invariant c.args.self.now c.self.view_is c.args.session c.requires.place c.index.result.now
+    (bounds c.self.inside c.self.invariant.0 c.args.self.now c.self.view_is c.args.session c.requires.place c.index.result.now
     (sym c.index.ensures) c.in-Some.group c.in-Some.is).1
 
 pub close_at_death-requires-clause-first : goal.close_at_death-requires-clause-first
 close_at_death-requires-clause-first g c =
-    (bounds c.self.inside c.self.invariant c.args.self.now c.self.view_is c.args.session c.requires.place c.index.result.now
+    (bounds c.self.inside c.self.invariant.0 c.args.self.now c.self.view_is c.args.session c.requires.place c.index.result.now
     (sym c.index.ensures) c.in-Some.group c.in-Some.is).0
 
 pub close_at_death-requires-clause-room : goal.close_at_death-requires-clause-room
 close_at_death-requires-clause-room g c =
-    room_for_all c.self.inside c.self.invariant c.args.self.now c.self.view_is c.args.session c.requires.place c.index.result.now
+    room_for_all c.self.inside c.self.invariant.0 c.args.self.now c.self.view_is c.args.session c.requires.place c.index.result.now
     (sym c.index.ensures) c.in-Some.group c.in-Some.is
     c.index_mut-2.result.now (sym c.index_mut-2.ensures.value) c.len.result c.told_count-told.result c.told_count-told.ensures
 
 pub invariant_of-self-in_default-answer : goal.invariant_of-self-in_default-answer
 invariant_of-self-in_default-answer g c =
-    lives_sound c.self.inside c.self.invariant c.args.self.now c.self.view_is c.args.session c.requires.place c.index.result.now
+    lives_sound c.self.inside c.self.invariant.0 c.args.self.now c.self.view_is c.args.session c.requires.place c.index.result.now
     (sym c.index.ensures) c.in-Some.group c.in-Some.is
     c.args.name.now c.args.mode c.requires.can c.in_ok-answer.answer c.in_ok-answer.ensures.judged c.ask.new.self c.in_ok-answer.ensures.after
     c.in_default-answer.not-Die
@@ -42,7 +42,7 @@ invariant_of-self-in_default-answer g c =
 pub returns-in_default-answer : goal.returns-in_default-answer
 returns-in_default-answer g c =
     let asks =
-    lives_asks c.self.inside c.self.invariant c.args.self.now c.self.view_is c.args.session c.requires.place c.index.result.now
+    lives_asks c.self.inside c.self.invariant.0 c.args.self.now c.self.view_is c.args.session c.requires.place c.index.result.now
     (sym c.index.ensures) c.in-Some.group c.in-Some.is
     c.args.name.now c.args.mode c.requires.can c.in_ok-answer.answer c.in_ok-answer.ensures.judged c.ask.new.self c.in_ok-answer.ensures.after
     c.in_default-answer.not-Die in
@@ -50,7 +50,7 @@ returns-in_default-answer g c =
 
 pub invariant_of-self-in_err-push : goal.invariant_of-self-in_err-push
 invariant_of-self-in_err-push g c =
-    unchanged_sound c.self.inside c.self.invariant c.args.self.now c.self.view_is c.args.session c.requires.place c.index.result.now
+    unchanged_sound c.self.inside c.self.invariant.0 c.args.self.now c.self.view_is c.args.session c.requires.place c.index.result.now
     (sym c.index.ensures) c.in-Some.group c.in-Some.is
     c.args.name.now c.args.mode c.requires.can c.in_ok-answer.answer c.in_ok-answer.ensures.judged c.ask.new.self c.in_ok-answer.ensures.after
     c.in-Die.older c.in-Die.is c.index_mut.result.now (sym c.index_mut.ensures.value) c.push.new.self c.in_err-push.ensures.items
@@ -58,7 +58,7 @@ invariant_of-self-in_err-push g c =
 pub returns-in_err-push-clause-err : goal.returns-in_err-push-clause-err
 returns-in_err-push-clause-err g c =
     let same =
-    unchanged c.self.inside c.self.invariant c.args.self.now c.self.view_is c.args.session c.requires.place c.index.result.now
+    unchanged c.self.inside c.self.invariant.0 c.args.self.now c.self.view_is c.args.session c.requires.place c.index.result.now
     (sym c.index.ensures) c.in-Some.group c.in-Some.is
     c.args.name.now c.args.mode c.requires.can c.in_ok-answer.answer c.in_ok-answer.ensures.judged c.ask.new.self c.in_ok-answer.ensures.after
     c.in-Die.older c.in-Die.is c.index_mut.result.now (sym c.index_mut.ensures.value) c.push.new.self c.in_err-push.ensures.items in
@@ -70,7 +70,7 @@ invariant_of-self-2 g c =
     let group = c.in-Some.group in
     let counted = c.told_count-told.ensures ∙ ap (λ (n : ℕ). if nat_lt c.self.inside.retries n then group.last + 1 - group.first else 0) size in
     let by = c.close_at_death.ensures in
-    died_sound c.self.inside c.self.invariant c.args.self.now c.self.view_is c.args.session c.requires.place c.index.result.now
+    died_sound c.self.inside c.self.invariant.0 c.args.self.now c.self.view_is c.args.session c.requires.place c.index.result.now
     (sym c.index.ensures) c.in-Some.group c.in-Some.is
     c.args.name.now c.args.mode c.requires.can c.in_ok-answer.answer c.in_ok-answer.ensures.judged c.ask.new.self c.in_ok-answer.ensures.after
     c.in-Die.older c.in-Die.is c.index_mut.result.now
@@ -84,7 +84,7 @@ returns-clause-asks g c =
     let group = c.in-Some.group in
     let counted = c.told_count-told.ensures ∙ ap (λ (n : ℕ). if nat_lt c.self.inside.retries n then group.last + 1 - group.first else 0) size in
     let by = c.close_at_death.ensures in
-    died_asks c.self.inside c.self.invariant c.args.self.now c.self.view_is c.args.session c.requires.place c.index.result.now
+    died_asks c.self.inside c.self.invariant.0 c.args.self.now c.self.view_is c.args.session c.requires.place c.index.result.now
     (sym c.index.ensures) c.in-Some.group c.in-Some.is
     c.args.name.now c.args.mode c.requires.can c.in_ok-answer.answer c.in_ok-answer.ensures.judged c.ask.new.self c.in_ok-answer.ensures.after
     c.in-Die.older c.in-Die.is c.index_mut.result.now
