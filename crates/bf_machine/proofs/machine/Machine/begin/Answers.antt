@@ -12,6 +12,8 @@ use Rattle.bf_machine.specs.interleaving.Events.{Begins}
 use Rattle.bf_machine.specs.interleaving.Machines.{Machine}
 use Rattle.bf_machine.specs.interleaving.Seen.{last_from, open_seen, seen}
 use Rattle.bf_machine.proofs.keeping.Opening.{again_all, begun_all, latest_within, reserved_sound, same_item, session_there, size_fits, within}
+use Rattle.bf_machine.proofs.keeping.FirstLeft.{same_first}
+use Rattle.bf_machine.proofs.keeping.Passing.{begin_first}
 use Rattle.bf_machine.proofs.machine.Machine.begin.Goals as goal
 
 pub overflow_cast-first : goal.overflow_cast-first
@@ -81,7 +83,8 @@ invariant_of-self-in-Some g c =
     c.reserve.new.self c.in_ok-reserve.ensures.items room y (c.open_group.ensures.replies ∙ ap (λ (z : SessionSoFar). z.replies) same) first starts
     found.0 b (found.2 ∙ ap (λ (bs : List BeganGroup). slice_index_or bs (x.latest - 1) b) c.deref.ensures.value) found.3 c.in-Some.last found.4
     c.open_group.ensures.opened c.open_group.ensures.latest in
-    all.1
+    let next : Machine = seen i.script i.retries i.live i.locks i.began.items (slice_set i.sessions.items (s - 1) y) c.reserve.new.self.items in
+    (all.1, begin_first m c.self.invariant.0.kept s next place all.0 (i.first_left + 1) c.self.invariant.1)
 
 pub returns-in-Some-clause-begins : goal.returns-in-Some-clause-begins
 returns-in-Some-clause-begins g c =
@@ -155,10 +158,12 @@ last_of_group-last-requires-clause-numbers g c =
 
 pub invariant_of-self-in_err-push : goal.invariant_of-self-in_err-push
 invariant_of-self-in_err-push g c =
-    let i = c.self.inside in
-    rw c.in_err-push.ensures.items
+    let i = c.self.inside in (
+      rw c.in_err-push.ensures.items
     (reserved_sound i.script i.retries i.live i.locks i.began.items i.sessions.items i.history i.commits i.transcripts c.self.invariant.0 c.reserve.new.self c.in_ok-reserve.ensures.items
-    c.in_ok-reserve.ensures.capacity)
+    c.in_ok-reserve.ensures.capacity),
+      same_first i.script i.retries i.live i.live i.locks i.locks i.began.items _ i.sessions.items i.history.items _ (i.first_left + 1) c.self.invariant.1,
+    )
 
 pub invariant_of-self-2 : goal.invariant_of-self-2
 invariant_of-self-2 g c =
@@ -196,7 +201,8 @@ invariant_of-self-2 g c =
     c.self.invariant.0 s place.0 high x (sym c.index-so_far.ensures) can.0 can.1
     c.reserve.new.self c.in_ok-reserve.ensures.items room y (c.open_group-2.ensures.replies ∙ ap (λ (z : SessionSoFar). z.replies) same) first starts
     another last last_so c.new.result c.new.ensures.items began pushed c.len-start.result start c.open_group-2.ensures.opened c.open_group-2.ensures.latest in
-    all.1
+    let next : Machine = seen i.script i.retries i.live i.locks began (slice_set i.sessions.items (s - 1) y) c.reserve.new.self.items in
+    (all.1, begin_first m c.self.invariant.0.kept s next place all.0 (i.first_left + 1) c.self.invariant.1)
 
 pub returns-clause-begins : goal.returns-clause-begins
 returns-clause-begins g c =
