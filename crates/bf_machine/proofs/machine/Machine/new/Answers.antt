@@ -1,12 +1,22 @@
 -- Nothing has begun.
-use Rattle.std.proofs.Common.{◌≡◌, ◌+◌, ◌^◌, ◌<◌, ◌≤◌, List, length, vec_capacity, sym, subst, arith}
+use Rattle.std.proofs.Common.{◌≡◌, ◌+◌, ◌^◌, ◌<◌, ◌≤◌, List, length, vec_capacity, sym, ap, subst, arith}
 use Rattle.bf_tree.specs.declared.script.Session.{Session}
 use Rattle.bf_sql.specs.Database.{Database}
+use Rattle.bf_machine.specs.declared.so_far.SessionSoFar.{SessionSoFar}
 use Rattle.bf_machine.specs.interleaving.Kept.{fresh}
 use Rattle.bf_machine.specs.interleaving.Seen.{AreNew, IsSound, seen}
 use Rattle.bf_machine.proofs.keeping.Fresh.{new_is_sound, new_length, seen_new}
 use Rattle.bf_machine.proofs.keeping.FirstLeft.{first_moves}
 use Rattle.bf_machine.proofs.machine.Machine.new.Goals as goal
+
+pub first_left_from-first_left-requires-clause-each : goal.first_left_from-first_left-requires-clause-each
+first_left_from-first_left-requires-clause-each g c =
+    let script = c.args.script in
+    let sessions = c.in_ok-sessions.sessions.items in
+    let all : AreNew script.sessions sessions = subst (λ (ss : List Session). AreNew ss sessions) c.as_slice.ensures c.in_ok-sessions.ensures in
+    let own = ap (λ (xs : List Session). length xs) c.as_slice-2.ensures in
+    let made = ap (λ (ys : List SessionSoFar). length ys) c.deref.ensures.value in
+    omega (arith, own, made, new_length script.sessions sessions all)
 
 pub invariant_of-result : goal.invariant_of-result
 invariant_of-result g c =
