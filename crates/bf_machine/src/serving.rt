@@ -110,11 +110,7 @@ pub fn bind_next<N: Opened>(
 ///
 /// # Errors
 /// Where memory runs out, or 2 ^ 32 rows or more change. The machine is as it was then.
-fn reply_to<N: Opened>(
-    machine: &mut Machine<N>,
-    session: u32,
-    bound: &Bound,
-) -> Result<(), Memory>
+fn reply_to<N: Opened>(machine: &mut Machine<N>, session: u32, bound: &Bound) -> Result<(), Memory>
     requires place { IsPlace machine.old.script session }
     requires can { CanExec machine.old session N.opening bound.now }
     requires present { bound.now.catalog ≡ machine.old.db.number }

@@ -1,5 +1,5 @@
 -- How a group has ended: it stands in the history, or its statements are told a cause.
-use Rattle.std.proofs.Common.{◌≡◌, ◌⊎◌, ℕ, zero, suc, ◌+◌, ◌-◌, ◌<◌, ◌≤◌, Bool, true, false, not, ◌&&◌, ◌||◌, ◌==◌, cond, List, [], ◌∷◌, ◌++◌, length, map, filter, Some, refl, sym, ap, subst, ◌∙◌, arith, inl, inr}
+use Rattle.std.proofs.Common.{◌≡◌, ◌⊎◌, ℕ, zero, suc, ◌+◌, ◌-◌, ◌<◌, ◌≤◌, Bool, true, false, not, ◌&&◌, ◌||◌, ◌==◌, cond, List, [], ◌∷◌, length, filter, Some, refl, sym, ap, subst, ◌∙◌, arith, inl, inr}
 use Rattle.std.specs.Prelude.{Contains, find}
 use Rattle.std.specs.List.{AllByRecursion, list_all, list_any, slice_index_or}
 use Rattle.std.proofs.lemmas.Bool.{and_parts, cases_Bool, false≢true}
@@ -8,14 +8,13 @@ use Rattle.std.proofs.lemmas.List.{length-map}
 use Rattle.std.proofs.lemmas.List.Elements.{filter-append}
 use Rattle.std.proofs.lemmas.Option.{same_Some}
 use Rattle.bf_tree.specs.declared.history.Entry.{Entry}
-use Rattle.bf_tree.specs.declared.reply.Cause.{Cause}
 use Rattle.bf_tree.specs.declared.reply.Reply.{Reply}
 use Rattle.bf_tree.specs.declared.reply.Reply.TheVariants.{Begun, Ended}
 use Rattle.bf_sql.specs.Database.{Database}
-use Rattle.bf_sql.specs.Groups.{ends_block, groups_in, has_statement, is_stray, session_at, statements_in}
+use Rattle.bf_sql.specs.Groups.{ends_block, groups_in, has_statement, session_at, statements_in}
 use Rattle.bf_sql.specs.History.{IsApart, IsEndedBy, is_whole_group, replies_to, stands_in}
 use Rattle.bf_machine.specs.InOrder.{none_open}
-use Rattle.bf_machine.specs.interleaving.Kept.{AllowedNow, HasEnded, HasStart, IsKept, IsToldACause, StandsInHistory}
+use Rattle.bf_machine.specs.interleaving.Kept.{AllowedNow, HasEnded, IsKept, IsToldACause, StandsInHistory}
 use Rattle.bf_machine.specs.interleaving.Machines.{Group, Machine, told_at}
 use Rattle.bf_machine.proofs.interleaving.Answers.{Told, all_of_back, all_of_front, told_from, told_in}
 use Rattle.bf_machine.proofs.interleaving.Places.{from_one}

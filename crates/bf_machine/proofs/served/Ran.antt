@@ -1,5 +1,5 @@
 -- Sessions that were served in sequence to their ends ran in order.
-use Rattle.std.proofs.Common.{◌≡◌, ◌≢◌, ℕ, zero, suc, ◌+◌, ◌-◌, ◌<◌, ◌≤◌, Bool, true, false, cond, not, ◌&&◌, ◌||◌, List, [], ◌∷◌, ◌++◌, length, map, filter, zip, Option, Some, None, refl, sym, ap, ap₂, subst, ◌∙◌, arith, inl, inr}
+use Rattle.std.proofs.Common.{◌≡◌, ◌≢◌, ℕ, zero, suc, ◌+◌, ◌-◌, ◌<◌, ◌≤◌, Bool, true, false, cond, not, ◌&&◌, ◌||◌, List, [], ◌∷◌, ◌++◌, length, map, filter, zip, Option, Some, None, refl, sym, ap, ap₂, subst, ◌∙◌, arith, inl, inr, length-append}
 use Rattle.std.specs.Prelude.{Contains, find, nat_le, nat_lt, ◌==◌}
 use Rattle.std.specs.Option.{option_map_or}
 use Rattle.std.specs.List.{AllByRecursion, list_all, list_any, slice_index_or}
@@ -284,8 +284,8 @@ module _ (m : Machine) (kept : IsKept empty_database m) (sequence : IsInSequence
   no_cause s group (Died h) allowed =
       let has = allowed.0.has in
       let alive : deaths_at m allowed.0.own ≡ has.deaths = ap (λ (found : Option Began). option_map_or (λ (b : Began). b.deaths) found []) has.is in
-      let size : length has.deaths ≡ 0 = ap (λ (ds : List ℕ). length ds) (sym alive ∙ sequence.no_death allowed.0.own) in
-      omega (arith, size, allowed.1)
+      let size : length (allowed.1 ++ h ∷ []) ≡ 0 = ap (λ (ds : List ℕ). length ds) (sym allowed.2 ∙ (sym alive ∙ sequence.no_death allowed.0.own)) in
+      omega (arith, size, length-append allowed.1 (h ∷ []))
   no_cause s group other allowed = allowed
 
   -- each group of the text has its entry

@@ -84,8 +84,7 @@ pub returns-clause-turns : goal.returns-clause-turns
 returns-clause-turns g c =
     let now : Machine = c.loop-session.machine in
     let all : take c.loop-session.session-index c.args.order.now ≡ c.args.order.now = take_all c.loop-session.session-index c.args.order.now (omega (arith, c.loop-session-test.false)) in
-    anyhow c.end_sessions.result
-    (
+    anyhow c.end_sessions.result (
       now,
       subst (λ (ns : List ℕ). Turned g.N.Opened.opening c.args.machine.now ns now) all c.loop-session.invariant.turned,
       reaches_both g.N.Opened.opening now c.end_open_groups.new.machine c.end_sessions.new.machine c.in_ok-end_open_groups.ensures.reaches c.end_sessions.ensures.reaches,

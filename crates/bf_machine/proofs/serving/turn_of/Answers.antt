@@ -1,5 +1,4 @@
 -- A number of no session is passed over.
-use Rattle.std.proofs.Common.{refl, arith}
 use Rattle.bf_machine.specs.interleaving.Events.{at_once}
 use Rattle.bf_machine.proofs.serving.turn_of.Goals as goal
 
