@@ -1,5 +1,6 @@
 pub mod Events
 pub mod Goes
+pub mod Later
 pub mod Looking
 pub mod Totals
 pub mod Stuck
