@@ -80,11 +80,7 @@ pub(crate) fn has_ended(session: &Session, so_far: &SessionSoFar) -> bool
 
 /// The first place from one on, both counted from 0, of a session that has not ended, or how many
 /// sessions there are. It looks at each that it passes, and at no other.
-pub(crate) fn first_left_from(
-    sessions: &[Session],
-    so_far: &[SessionSoFar],
-    from: usize,
-) -> usize
+pub(crate) fn first_left_from(sessions: &[Session], so_far: &[SessionSoFar], from: usize) -> usize
     requires each { length sessions.now ≡ length so_far.now }
     requires from { from ≤ length so_far.now }
     ensures from { from ≤ result }

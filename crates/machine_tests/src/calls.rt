@@ -1,7 +1,8 @@
 //! The calls of a machine, one by one.
 
-ghost use Rattle.std.specs.Prelude.{◌≡◌};
+ghost use Rattle.std.specs.Prelude.{◌≡◌, IsTrue};
 ghost use Rattle.bf_sql.specs.Database.{empty_database};
+ghost use Rattle.bf_machine.specs.Runnable.{phases_rise_from};
 ghost use Rattle.bf_machine.specs.interleaving.Serving.{IsServable};
 ghost use Rattle.machine_tests.specs.Behind.{IsBehind};
 
@@ -41,6 +42,7 @@ fn try_in<N: Opened, R: Abort>(
     requires opening { N.opening ≡ empty_database }
     requires script { script ≡ N.script }
     requires servable { IsServable script }
+    requires phases { IsTrue (phases_rise_from 0 script.sessions) }
 {
     let machine: Machine<N> = Machine::new(alloc, LiveTables::new(alloc), script, retries)?;
     match trial {

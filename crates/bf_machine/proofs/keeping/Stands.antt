@@ -17,13 +17,14 @@ use Rattle.bf_sql.specs.Groups.{ends_block, groups_in, no_session, session_at}
 use Rattle.bf_machine.specs.declared.so_far.Began.{Began as BeganGroup}
 use Rattle.bf_machine.specs.declared.so_far.OpenGroup.{OpenGroup}
 use Rattle.bf_machine.specs.declared.so_far.SessionSoFar.{SessionSoFar}
-use Rattle.bf_machine.specs.interleaving.Calls.{CanAbort, CanBegin, CanCommit, CanRefuse, GoesOn, HasSessionEnded, IsNamed, IsPlace}
+use Rattle.bf_machine.specs.interleaving.Calls.{CanAbort, CanBegin, CanCommit, CanRefuse, GoesOn, HasSessionEnded, IsNamed, IsPlace, replies_at}
 use Rattle.bf_machine.specs.interleaving.Kept.{IsCurrent, IsKept, IsOpenGroup}
-use Rattle.bf_machine.specs.interleaving.Machines.{Began, Group, Machine, Open, began_at, open_at, told_at}
+use Rattle.bf_machine.specs.interleaving.Machines.{Began, Group, Machine, Open, began_at, open_at, told_at, with_replies}
 use Rattle.bf_machine.specs.interleaving.Seen.{IsRoomy, IsSound, began_seen, group_seen, open_seen, seen, told_before, told_seen}
 use Rattle.bf_machine.proofs.interleaving.Texts.{are_texts}
 use Rattle.bf_machine.proofs.keeping.Current.{closed_seen, has_ended, has_ended_so}
 use Rattle.bf_machine.proofs.keeping.Places.{open_there, told_there}
+use Rattle.bf_machine.proofs.keeping.Sessions.{replies_joined}
 use Rattle.bf_machine.proofs.keeping.Standing.{abort_end, abort_next, began_within, begins_behind, begins_first, begins_other, begins_unnamed, commit_end, commit_next, goes_on_next, group_next, last_split, named_place, named_within, none_last, refuse_next, waits_for}
 
 -- an item of a list is read whatever stands for one that is not there
@@ -121,6 +122,9 @@ module _ {opening : Database} {given : Script} {script : Script} {retries : ℕ}
 
   pub told : told_at now s ≡ told_seen x
   told = subst (λ (m : Machine). told_at m s ≡ told_seen x) session.view (told_there script retries db locks began sessions history.items x s low high at)
+
+  pub all_replies_there : replies_at now s ≡ x.replies.items
+  all_replies_there = ap₂ (λ (rs : List Reply) (o : Option Open). with_replies rs o) told opened ∙ replies_joined x.replies.items x.«open»
 
   -- its statements, as the code reads them
   pub own_there : {xs : List Session} {y : Session} {ss : List Statement} → xs ≡ script.sessions → y ≡ slice_index_or xs (s - 1) y

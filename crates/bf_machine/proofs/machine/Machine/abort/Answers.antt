@@ -61,9 +61,9 @@ invariant_of-self g c =
     c.as_slice.ensures c.deref.ensures.value sizes i.first_left c.first_left_from-self-inside.result passed.from passed.within passed.ended passed.left
     (λ t above below. abort_passes m c.self.invariant.0.kept s next t (c.self.invariant.1.before t above below) aborts) in (
       abort_sound i.script i.retries i.live i.locks i.began.items i.sessions.items i.history i.commits i.transcripts c.self.invariant.0
-    s place.0 high x (sym c.index_mut-so_far.ensures.value) c.in-Some.group c.in-Some.is can.0 can.1
-    c.close.new.so_far ends.closed ends.latest ends.capacity ends.replies
-    c.free_all.new.self c.free_all.ensures.freed pushed.new.self pushed.ensures.items pushed.ensures.capacity,
+          s place.0 high x (sym c.index_mut-so_far.ensures.value) c.in-Some.group c.in-Some.is can.0 can.1
+          c.close.new.so_far ends.closed ends.latest ends.capacity ends.replies
+          c.free_all.new.self c.free_all.ensures.freed pushed.new.self pushed.ensures.items pushed.ensures.capacity,
       first,
     )
 

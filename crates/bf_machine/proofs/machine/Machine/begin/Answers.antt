@@ -160,8 +160,8 @@ pub invariant_of-self-in_err-push : goal.invariant_of-self-in_err-push
 invariant_of-self-in_err-push g c =
     let i = c.self.inside in (
       rw c.in_err-push.ensures.items
-    (reserved_sound i.script i.retries i.live i.locks i.began.items i.sessions.items i.history i.commits i.transcripts c.self.invariant.0 c.reserve.new.self c.in_ok-reserve.ensures.items
-    c.in_ok-reserve.ensures.capacity),
+          (reserved_sound i.script i.retries i.live i.locks i.began.items i.sessions.items i.history i.commits i.transcripts c.self.invariant.0 c.reserve.new.self c.in_ok-reserve.ensures.items
+          c.in_ok-reserve.ensures.capacity),
       same_first i.script i.retries i.live i.live i.locks i.locks i.began.items _ i.sessions.items i.history.items _ (i.first_left + 1) c.self.invariant.1,
     )
 

@@ -85,9 +85,9 @@ invariant_of-self-2 g c =
     c.as_slice.ensures c.deref.ensures.value sizes i.first_left c.first_left_from-self-inside.result passed.from passed.within passed.ended passed.left
     (λ t above below. commit_passes m c.self.invariant.0.kept s next t (c.self.invariant.1.before t above below) commits) in (
       commit_sound i.script i.retries i.live i.locks i.began.items i.sessions.items i.history i.commits i.transcripts c.self.invariant.0
-    s place.0 high x (sym c.index_mut-so_far.ensures.value) c.in-Some.group (sym c.take.ensures.value ∙ c.in-Some.is) can.0 can.1
-    c.close.new.so_far ends.closed ends.latest ends.capacity ends.replies
-    c.free_all.new.self c.free_all.ensures.freed c.settle.new.live c.in_default-settle.ensures.ok pushed.new.self pushed.ensures.items pushed.ensures.capacity,
+          s place.0 high x (sym c.index_mut-so_far.ensures.value) c.in-Some.group (sym c.take.ensures.value ∙ c.in-Some.is) can.0 can.1
+          c.close.new.so_far ends.closed ends.latest ends.capacity ends.replies
+          c.free_all.new.self c.free_all.ensures.freed c.settle.new.live c.in_default-settle.ensures.ok pushed.new.self pushed.ensures.items pushed.ensures.capacity,
       first,
     )
 
@@ -116,12 +116,11 @@ invariant_of-self g c =
     let x : SessionSoFar = c.index_mut-so_far.result.now in
     let stays =
     sessions_stay i.sessions.items (s - 1) x (sym c.index_mut-so_far.ensures.value) c.in-Some.group
-    (sym c.take.ensures.value ∙ c.in-Some.is) c.settle.new.pending c.in-Err.ensures.kept in
-    (
+    (sym c.take.ensures.value ∙ c.in-Some.is) c.settle.new.pending c.in-Err.ensures.kept in (
       subst (λ (sessions : List SessionSoFar). IsSound g.N.Opened.opening g.N.Opened.script i.script i.retries c.settle.new.live i.locks i.began.items sessions i.history i.commits i.transcripts) (sym stays)
-      (subst (λ (db : Database). IsSound g.N.Opened.opening g.N.Opened.script i.script i.retries db i.locks i.began.items i.sessions.items i.history i.commits i.transcripts) (sym c.in-Err.ensures.err) c.self.invariant.0),
+          (subst (λ (db : Database). IsSound g.N.Opened.opening g.N.Opened.script i.script i.retries db i.locks i.began.items i.sessions.items i.history i.commits i.transcripts) (sym c.in-Err.ensures.err) c.self.invariant.0),
       subst (λ (sessions : List SessionSoFar). IsFirstLeft (seen i.script i.retries c.settle.new.live i.locks i.began.items sessions i.history.items) (i.first_left + 1)) (sym stays)
-      (same_first i.script i.retries i.live c.settle.new.live i.locks i.locks i.began.items i.began.items i.sessions.items i.history.items i.history.items (i.first_left + 1) c.self.invariant.1),
+          (same_first i.script i.retries i.live c.settle.new.live i.locks i.locks i.began.items i.began.items i.sessions.items i.history.items i.history.items (i.first_left + 1) c.self.invariant.1),
     )
 
 pub returns-in-Err-clause-err : goal.returns-in-Err-clause-err

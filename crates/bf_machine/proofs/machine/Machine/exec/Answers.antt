@@ -57,8 +57,8 @@ invariant_of-self g c =
     (sym c.index_mut-so_far.ensures.value) c.reply_in.new.group (λ is. (c.in_err-reply.ensures.refused is).0)
     (λ g is. let so = c.in_err-reply.ensures.answered g is in (so.0, so.1, so.3)) in (
       unanswered_sound i.script i.retries i.live i.locks i.began.items i.sessions.items i.history i.commits i.transcripts c.self.invariant.0 s place.0 high x
-    (sym c.index_mut-so_far.ensures.value) c.reply_in.new.group (λ is. (c.in_err-reply.ensures.refused is).0)
-    (λ g is. let so = c.in_err-reply.ensures.answered g is in (so.0, so.1, so.3)),
+          (sym c.index_mut-so_far.ensures.value) c.reply_in.new.group (λ is. (c.in_err-reply.ensures.refused is).0)
+          (λ g is. let so = c.in_err-reply.ensures.answered g is in (so.0, so.1, so.3)),
       subst (λ (m : Machine). IsFirstLeft m (i.first_left + 1)) (sym still) c.self.invariant.1,
     )
 
@@ -112,8 +112,8 @@ invariant_of-self-2 g c =
     c.as_slice.ensures c.deref.ensures.value sizes i.first_left c.first_left_from-self-inside.result passed.from passed.within passed.ended passed.left
     (λ t above below. reply_passes m c.self.invariant.0.kept s next t (c.self.invariant.1.before t above below) c.args.bound.now by) in (
       replied_sound i.script i.retries i.live i.locks i.began.items i.sessions.items i.history i.commits i.transcripts c.self.invariant.0 s place.0 high x
-    (sym c.index_mut-so_far.ensures.value) c.args.bound.now can number c.in_ok-reply.reply c.reply_in.new.group c.in_ok-reply.ensures.refused
-    (λ g is. let so = c.in_ok-reply.ensures.answered g is in (so.0, so.1, so.2)) c.push_reserved.new.self c.push_reserved.ensures.items (omega (arith, c.push_reserved.ensures.capacity)),
+          (sym c.index_mut-so_far.ensures.value) c.args.bound.now can number c.in_ok-reply.reply c.reply_in.new.group c.in_ok-reply.ensures.refused
+          (λ g is. let so = c.in_ok-reply.ensures.answered g is in (so.0, so.1, so.2)) c.push_reserved.new.self c.push_reserved.ensures.items (omega (arith, c.push_reserved.ensures.capacity)),
       first,
     )
 

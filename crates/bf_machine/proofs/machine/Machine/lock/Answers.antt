@@ -41,9 +41,9 @@ pub invariant_of-self-in_default-answer : goal.invariant_of-self-in_default-answ
 invariant_of-self-in_default-answer g c =
     let i = c.self.inside in (
       lives_sound c.self.inside c.self.invariant.0 c.args.self.now c.self.view_is c.args.session c.requires.place c.index.result.now
-    (sym c.index.ensures) c.in-Some.group c.in-Some.is
-    c.args.name.now c.args.mode c.requires.can c.in_ok-answer.answer c.in_ok-answer.ensures.judged c.ask.new.self c.in_ok-answer.ensures.after
-    c.in_default-answer.not-Die,
+          (sym c.index.ensures) c.in-Some.group c.in-Some.is
+          c.args.name.now c.args.mode c.requires.can c.in_ok-answer.answer c.in_ok-answer.ensures.judged c.ask.new.self c.in_ok-answer.ensures.after
+          c.in_default-answer.not-Die,
       same_first i.script i.retries i.live i.live i.locks c.ask.new.self i.began.items i.began.items i.sessions.items i.history.items i.history.items (i.first_left + 1) c.self.invariant.1,
     )
 
@@ -60,9 +60,9 @@ pub invariant_of-self-in_err-push : goal.invariant_of-self-in_err-push
 invariant_of-self-in_err-push g c =
     let i = c.self.inside in (
       unchanged_sound c.self.inside c.self.invariant.0 c.args.self.now c.self.view_is c.args.session c.requires.place c.index.result.now
-    (sym c.index.ensures) c.in-Some.group c.in-Some.is
-    c.args.name.now c.args.mode c.requires.can c.in_ok-answer.answer c.in_ok-answer.ensures.judged c.ask.new.self c.in_ok-answer.ensures.after
-    c.in-Die.older c.in-Die.is c.index_mut.result.now (sym c.index_mut.ensures.value) c.push.new.self c.in_err-push.ensures.items,
+          (sym c.index.ensures) c.in-Some.group c.in-Some.is
+          c.args.name.now c.args.mode c.requires.can c.in_ok-answer.answer c.in_ok-answer.ensures.judged c.ask.new.self c.in_ok-answer.ensures.after
+          c.in-Die.older c.in-Die.is c.index_mut.result.now (sym c.index_mut.ensures.value) c.push.new.self c.in_err-push.ensures.items,
       same_first i.script i.retries i.live i.live i.locks c.ask.new.self i.began.items _ i.sessions.items i.history.items i.history.items (i.first_left + 1) c.self.invariant.1,
     )
 
@@ -110,12 +110,12 @@ invariant_of-self-2 g c =
     c.told_count-told.result counted
     c.index_mut-2.result.now c.close_at_death.new.so_far (sym c.index_mut-2.ensures.value) by.closed by.latest by.capacity by.replies t (c.self.invariant.1.before t above below)) in (
       died_sound c.self.inside c.self.invariant.0 c.args.self.now c.self.view_is c.args.session c.requires.place c.index.result.now
-    (sym c.index.ensures) c.in-Some.group c.in-Some.is
-    c.args.name.now c.args.mode c.requires.can c.in_ok-answer.answer c.in_ok-answer.ensures.judged c.ask.new.self c.in_ok-answer.ensures.after
-    c.in-Die.older c.in-Die.is c.index_mut.result.now
-    (sym c.index_mut.ensures.value) c.push.new.self c.in_ok-push.ensures.items c.free_all.new.self c.free_all.ensures.freed
-    c.told_count-told.result counted
-    c.index_mut-2.result.now c.close_at_death.new.so_far (sym c.index_mut-2.ensures.value) by.closed by.latest by.capacity by.replies,
+          (sym c.index.ensures) c.in-Some.group c.in-Some.is
+          c.args.name.now c.args.mode c.requires.can c.in_ok-answer.answer c.in_ok-answer.ensures.judged c.ask.new.self c.in_ok-answer.ensures.after
+          c.in-Die.older c.in-Die.is c.index_mut.result.now
+          (sym c.index_mut.ensures.value) c.push.new.self c.in_ok-push.ensures.items c.free_all.new.self c.free_all.ensures.freed
+          c.told_count-told.result counted
+          c.index_mut-2.result.now c.close_at_death.new.so_far (sym c.index_mut-2.ensures.value) by.closed by.latest by.capacity by.replies,
       first,
     )
 

@@ -36,7 +36,7 @@ invariant_of-result g c =
     c.as_slice-2.ensures c.deref.ensures.value (sym (new_length script.sessions sessions all)) 0 c.first_left_from-first_left.result passed.from passed.within passed.ended passed.left
     (λ t above below. absurd (omega (arith, above, below))) in (
       subst (λ (opening : Database). IsSound opening g.N.Opened.script script c.args.retries start c.new.result c.new-2.result.items sessions c.new-3.result 0 c.in_ok-transcripts.transcripts)
-    c.requires.opening sound,
+          c.requires.opening sound,
       first,
     )
 
