@@ -10,4 +10,6 @@ mod fixtures;
 #[cfg(test)]
 mod footprints;
 #[cfg(test)]
+mod scopes;
+#[cfg(test)]
 mod statements;

@@ -83,7 +83,7 @@ fn names(alloc: Global, all: &[&str]) -> Result<Sequence<Name>, Fail> {
     Ok(Sequence::of(names))
 }
 
-fn reference(alloc: Global, table: Option<&str>, column: &str) -> Result<Ref, Fail> {
+pub fn reference(alloc: Global, table: Option<&str>, column: &str) -> Result<Ref, Fail> {
     let column = name(alloc, column.as_bytes())?;
     let table = match table {
         Some(table) => Some(name(alloc, table.as_bytes())?),

@@ -1,5 +1,5 @@
 -- A new machine is in sequence, stays so while its sessions are served, and ran in order.
-use Rattle.std.proofs.Common.{◌≡◌, ℕ, [], List, None, refl, sym, ap, ap₂, subst, ◌∙◌}
+use Rattle.std.proofs.Common.{◌≡◌, ℕ, List, None, refl, sym, ap, ap₂, subst, ◌∙◌}
 use Rattle.std.specs.Prelude.{Result, Ok, Err, IfOk}
 use Rattle.std.specs.Global.{Vec}
 use Rattle.bf_base.specs.declared.memory.Memory.{Memory}
@@ -31,8 +31,8 @@ in_ok (Ok text) weaker so = weaker text so
 in_ok (Err memory) weaker so = so
 
 -- there is no table that could be wide
-pub new-machine-requires-clause-narrow : goal.new-machine-requires-clause-narrow
-new-machine-requires-clause-narrow g c = subst (λ (db : Database). HasNarrowTables (catalog_of db)) (sym c.new.ensures) refl
+pub new-requires-2-clause-narrow : goal.new-requires-2-clause-narrow
+new-requires-2-clause-narrow g c = subst (λ (db : Database). HasNarrowTables (catalog_of db)) (sym c.new.ensures) refl
 
 pub returns : goal.returns
 returns g c =
