@@ -1,6 +1,5 @@
 pub mod Events
 pub mod Goes
-pub mod Later
 pub mod Looking
 pub mod Totals
 pub mod Stuck

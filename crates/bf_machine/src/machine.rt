@@ -5,20 +5,19 @@ mod stands;
 mod statements;
 mod turns;
 
-ghost use Rattle.std.specs.Prelude.{◌≡◌, ◌↔◌, IfOk, IsTrue, None, OnOk, length, true};
+ghost use Rattle.std.specs.Prelude.{◌≡◌, ◌↔◌, IfOk, None, OnOk, length, true};
 ghost use Rattle.std.specs.Option.{option_map};
 ghost use Rattle.bf_tree.specs.Limits.{HasNarrowTables};
 ghost use Rattle.bf_sql.specs.Bound.{catalog_of};
 ghost use Rattle.bf_sql.specs.Database.{IsDatabase};
 ghost use Rattle.bf_sql.specs.History.{replayed};
-ghost use Rattle.bf_machine.specs.Runnable.{phases_rise_from};
-ghost use Rattle.bf_machine.specs.interleaving.Calls.{IsCovered, IsFirstLeft, IsPlace, next_place, reply_at};
+ghost use Rattle.bf_machine.specs.interleaving.Calls.{IsCovered, IsPlace, next_place, reply_at};
 ghost use Rattle.bf_machine.specs.interleaving.Serving.{is_answered, is_in_block};
 ghost use Rattle.bf_machine.specs.interleaving.Kept.{IsKept, TranscriptsLegal, fresh};
 ghost use Rattle.bf_machine.specs.interleaving.Machines.{open_at, transcripts_of};
 
 use crate::opened::Opened;
-use crate::so_far::{Began, SessionSoFar, all_replies, first_left_from, sessions_so_far};
+use crate::so_far::{Began, SessionSoFar, all_replies, least_left, sessions_so_far};
 use bf_base::{Memory, Sequence, next_number};
 use bf_live::LiveTables;
 use bf_locks::{LockName, LockTable, Mode, join};
@@ -39,8 +38,9 @@ pub struct Machine<N: Opened> {
     /// By start number, from 1 on.
     began: Vec<Began>,
     sessions: Vec<SessionSoFar>,
-    /// The place, from 0 on, of the first session that has not ended, or how many sessions there are.
-    first_left: usize,
+    /// The place, from 0 on, of a session that has not ended, of the earliest phase of those that have
+    /// not. `None` where all have ended.
+    least_left: Option<usize>,
     history: Vec<Entry>,
     /// How many entries are commits.
     commits: u64,
@@ -60,19 +60,18 @@ impl<N: Opened> Model for Machine<N> {
 
     ghost coded = { Prim.hlevel (codes, exprs.the_row.coded, conds.the_row.coded, tables.the_row.coded) };
 
-    ghost use Rattle.std.specs.Prelude.{◌+◌};
-    ghost use Rattle.bf_machine.specs.interleaving.Calls.{IsFirstLeft};
-    ghost use Rattle.bf_machine.specs.interleaving.Seen.{IsSound, seen};
+    ghost use Rattle.std.specs.Prelude.{length};
+    ghost use Rattle.bf_machine.specs.interleaving.Seen.{IsLeastLeft, IsSound, seen};
 
     ghost view = { λ m. seen m.script m.retries m.live m.locks m.began.items m.sessions.items m.history.items };
 
     ghost invariant = { λ m. IsSound N.opening N.script m.script m.retries m.live m.locks m.began.items m.sessions.items m.history m.commits m.transcripts
-        × IsFirstLeft (seen m.script m.retries m.live m.locks m.began.items m.sessions.items m.history.items) (m.first_left + 1) };
+        × IsLeastLeft m.script.sessions m.sessions.items (length m.sessions.items) m.least_left };
 }
 
 impl<N: Opened> Machine<N> {
     /// A machine over live tables, none of which is wide, in which nothing has begun. It makes room for
-    /// the reply to each statement. No session stands in an earlier phase than the one before it.
+    /// the reply to each statement.
     ///
     /// # Errors
     /// Where memory runs out, or 2 ^ 32 - 1 sessions or more, or statements of a session, stand in the
@@ -86,7 +85,6 @@ impl<N: Opened> Machine<N> {
         requires opening { live ≡ N.opening }
         requires script { script ≡ N.script }
         requires narrow { HasNarrowTables (catalog_of live) }
-        requires phases { IsTrue (phases_rise_from 0 script.sessions) }
         ensures { IfOk result (λ machine. machine ≡ fresh N.opening script retries) }
     {
         // Its contract says that the live tables are a database.
@@ -94,7 +92,7 @@ impl<N: Opened> Machine<N> {
         next_number(script.sessions.len())?;
         let sessions = sessions_so_far(alloc, script.sessions.as_slice())?;
         let transcripts = Vec::with_capacity(alloc, sessions.len())?;
-        let first_left = first_left_from(script.sessions.as_slice(), &sessions, 0);
+        let least_left = least_left(script.sessions.as_slice(), &sessions);
         Ok(Machine {
             alloc,
             script,
@@ -103,7 +101,7 @@ impl<N: Opened> Machine<N> {
             locks: LockTable::new(alloc),
             began: Vec::new(alloc),
             sessions,
-            first_left,
+            least_left,
             history: Vec::new(alloc),
             commits: 0,
             transcripts,
@@ -126,15 +124,6 @@ impl<N: Opened> Machine<N> {
         ensures kept { IsKept N.opening self.now }
     {
         self.sessions.len() as u32
-    }
-
-    /// The number of the first session that has not ended, or one more than there are.
-    pub fn first_left(&self) -> u32
-        ensures first { IsFirstLeft self.now result }
-        ensures phases { IsTrue (phases_rise_from 0 self.now.script.sessions) }
-        ensures kept { IsKept N.opening self.now }
-    {
-        self.first_left as u32 + 1
     }
 
     /// The catalog, which is that behind the whole history. The tables of the opening database are

@@ -236,7 +236,7 @@ fn turn_of<N: Opened>(
 }
 
 /// The session whose open group is the youngest, and `None` exactly where none is open. It looks at
-/// the sessions of the current phase from the first on that has not ended: groups are open there alone.
+/// each session.
 fn youngest<N: Opened>(machine: &Machine<N>) -> Option<u32>
     ensures none { result ≡ None → (s : ℕ) → open_at machine.now s ≡ None }
     ensures place { IfSome result (IsPlace machine.now.script) }
@@ -244,10 +244,7 @@ fn youngest<N: Opened>(machine: &Machine<N>) -> Option<u32>
 {
     let mut youngest = None;
     let mut latest = 0;
-    for place in machine.first_left() - 1..machine.session_count() {
-        if !machine.is_current(place + 1) {
-            return youngest;
-        }
+    for place in 0..machine.session_count() {
         if let Some(start) = machine.start(place + 1)
             && start > latest
         {
@@ -258,8 +255,7 @@ fn youngest<N: Opened>(machine: &Machine<N>) -> Option<u32>
     youngest
 }
 
-/// The first session of which a call can come, and `None` exactly where there is none. It looks at
-/// the sessions of the current phase from the first on that has not ended, at most.
+/// The first session of which a call can come, and `None` exactly where there is none.
 fn first_to_go<N: Opened>(machine: &Machine<N>) -> Option<u32>
     ensures none { result ≡ None
         → (s : ℕ) → IsPlace machine.now.script s → CannotGo machine.now s }
@@ -268,10 +264,7 @@ fn first_to_go<N: Opened>(machine: &Machine<N>) -> Option<u32>
     ensures first { IfSome result (λ first.
         (s : ℕ) → 1 ≤ s → s < first → CannotGo machine.now s) }
 {
-    for place in machine.first_left() - 1..machine.session_count() {
-        if !machine.is_current(place + 1) {
-            return None;
-        }
+    for place in 0..machine.session_count() {
         if machine.stand(place + 1).can_go() {
             return Some(place + 1);
         }
@@ -318,8 +311,7 @@ fn end_sessions<N: Opened>(alloc: Global, machine: &mut Machine<N>) -> Result<()
 /// session: its next statement is driven until it has its reply, or waits, or dies. A number of no
 /// session, and a session that has ended, is of a later phase or waits for the end of another group,
 /// is passed over. Then all that is left is driven, the youngest open group first, and where none is
-/// open the first session that can go on. Linear in the turns, each of which looks at the sessions of
-/// the current phase at most.
+/// open the first session that can go on. Linear in the turns, each of which looks at every session.
 ///
 /// # Errors
 /// Where memory runs out. The machine stands after some of the turns then, and maybe in the midst of

@@ -1,8 +1,7 @@
 //! The calls of a machine, one by one.
 
-ghost use Rattle.std.specs.Prelude.{◌≡◌, IsTrue};
+ghost use Rattle.std.specs.Prelude.{◌≡◌};
 ghost use Rattle.bf_sql.specs.Database.{empty_database};
-ghost use Rattle.bf_machine.specs.Runnable.{phases_rise_from};
 ghost use Rattle.bf_machine.specs.interleaving.Serving.{IsServable};
 ghost use Rattle.machine_tests.specs.Behind.{IsBehind};
 
@@ -42,7 +41,6 @@ fn try_in<N: Opened, R: Abort>(
     requires opening { N.opening ≡ empty_database }
     requires script { script ≡ N.script }
     requires servable { IsServable script }
-    requires phases { IsTrue (phases_rise_from 0 script.sessions) }
 {
     let machine: Machine<N> = Machine::new(alloc, LiveTables::new(alloc), script, retries)?;
     match trial {
@@ -147,11 +145,7 @@ fn are_made<N: Opened>(
 }
 
 /// Makes calls one after the other, whatever comes of each.
-pub fn make_all<N: Opened>(
-    alloc: Global,
-    machine: &mut Machine<N>,
-    calls: &[Act],
-) -> Result<(), Fail>
+pub fn make_all<N: Opened>(alloc: Global, machine: &mut Machine<N>, calls: &[Act]) -> Result<(), Fail>
     requires { IsServable machine.old.script }
     ensures { IsBehind N.opening machine.old machine.new }
 {

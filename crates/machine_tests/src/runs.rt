@@ -1,8 +1,7 @@
 //! Scripts whose sessions take turns in an order that is given.
 
-ghost use Rattle.std.specs.Prelude.{◌≡◌, IfOk, IsTrue};
+ghost use Rattle.std.specs.Prelude.{◌≡◌, IfOk};
 ghost use Rattle.bf_sql.specs.Database.{empty_database};
-ghost use Rattle.bf_machine.specs.Runnable.{phases_rise_from};
 ghost use Rattle.bf_machine.specs.interleaving.Serving.{IsServable};
 
 use bf_live::LiveTables;
@@ -26,10 +25,9 @@ pub fn joined(alloc: Global, pieces: &[&str]) -> Result<Vec<u8>, Fail> {
     Ok(text)
 }
 
-/// The script of a text. No MIGRATE stands in it, and its phases rise.
+/// The script of a text. No MIGRATE stands in it.
 pub fn script_of(alloc: Global, text: &[u8]) -> Result<Script, Fail>
-    ensures servable { IfOk result IsServable }
-    ensures phases { IfOk result (λ script. IsTrue (phases_rise_from 0 script.sessions)) }
+    ensures { IfOk result IsServable }
 {
     let script = script(alloc, text)?;
     if !migrates_nothing(&script) {
@@ -48,7 +46,6 @@ fn serve<N: Opened>(
     requires opening { N.opening ≡ empty_database }
     requires script { script ≡ N.script }
     requires servable { IsServable script }
-    requires phases { IsTrue (phases_rise_from 0 script.sessions) }
 {
     let mut machine: Machine<N> = Machine::new(alloc, LiveTables::new(alloc), script, retries)?;
     in_order(alloc, &mut machine, order)?;

@@ -24,7 +24,7 @@ use Rattle.bf_machine.specs.declared.machine.Machine.TheInside.{Inside}
 use Rattle.bf_machine.specs.declared.so_far.Began.{Began as BeganGroup}
 use Rattle.bf_machine.specs.declared.so_far.OpenGroup.{OpenGroup}
 use Rattle.bf_machine.specs.declared.so_far.SessionSoFar.{SessionSoFar}
-use Rattle.bf_machine.specs.interleaving.Calls.{CanAsk, HasSessionEnded, IsPlace}
+use Rattle.bf_machine.specs.interleaving.Calls.{CanAsk, IsPlace}
 use Rattle.bf_machine.specs.interleaving.Events.{Asks, asked, deaths_of, died, rest_of, stands_inside, text_of, told_at_death, with_death}
 use Rattle.bf_machine.specs.interleaving.Groups.{footprint_in}
 use Rattle.bf_machine.specs.interleaving.Kept.{HasStart, IsKept, IsOpenGroup}
@@ -35,7 +35,6 @@ use Rattle.bf_machine.proofs.interleaving.Going.{grant_keeps_all}
 use Rattle.bf_machine.proofs.interleaving.Places.{set_other, set_same, some_within}
 use Rattle.bf_machine.proofs.interleaving.Telling.{length-part}
 use Rattle.bf_machine.proofs.interleaving.Texts.{are_texts}
-use Rattle.bf_machine.proofs.keeping.Passing.{death_passes}
 use Rattle.bf_machine.proofs.keeping.Places.{one_closed, open_there, opens_then, roomy_then, told_then, told_there}
 use Rattle.bf_machine.proofs.keeping.Sessions.{item_of}
 
@@ -239,7 +238,6 @@ module _ {N : Type 0} {opening : Database} {given : Script} (i : Inside N) (soun
         kept = subst (λ (locks : Locks). IsKept opening (record m { locks = locks })) (sym held_then) (locks_kept answer refl judged);
         counted = sound.counted;
         sessions_numbered = sound.sessions_numbered;
-        phases = sound.phases;
         roomy = sound.roomy;
         room = sound.room;
         no_transcripts = sound.no_transcripts;
@@ -282,7 +280,6 @@ module _ {N : Type 0} {opening : Database} {given : Script} (i : Inside N) (soun
           kept = subst (IsKept opening) (sym seen_unchanged) sound.kept;
           counted = sound.counted;
           sessions_numbered = sound.sessions_numbered;
-          phases = sound.phases;
           roomy = λ j z within is.
               let was = sound.roomy j z within is in
               record {
@@ -365,10 +362,6 @@ module _ {N : Type 0} {opening : Database} {given : Script} (i : Inside N) (soun
             ap₂ (λ (locks : Locks) (bs : List Began). record (seen_with i free began sessions) { locks = locks; began = bs }) locks_then began_then
             ∙ ap₂ (λ (opens : List (Option Open)) (told : List (List Reply)). record (died m s o h) { opens = opens; told = told }) opens_are told_are
 
-        -- sessions that have ended before it have ended
-        pub died_passes : (t : ℕ) → HasSessionEnded m t → HasSessionEnded (seen_with i free began sessions) t
-        died_passes t ended = death_passes m sound.kept s (seen_with i free began sessions) t ended o there h seen_died
-
         pub died_asks : Asks before s opening name mode answer (seen_with i free began sessions)
         died_asks = asks_so (Die h) dies (seen_with i free began sessions) seen_died
 
@@ -396,7 +389,6 @@ module _ {N : Type 0} {opening : Database} {given : Script} (i : Inside N) (soun
               kept = died_kept;
               counted = sound.counted;
               sessions_numbered = sound.sessions_numbered;
-              phases = sound.phases;
               roomy = roomy_then i.script (map began_seen began) i.sessions.items (s - 1) x y below at
                   (λ j z within is.
                   let old = sound.roomy j z within is in

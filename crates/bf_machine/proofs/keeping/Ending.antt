@@ -137,7 +137,6 @@ module _ {opening : Database} {given : Script} (script : Script) (retries : ℕ)
                 (subst (IsKept opening) (sym seen_ended) kept);
             counted = counted ∙ (sym (commits_more 0 history.items e) ∙ ap (commits_behind 0) (sym items));
             sessions_numbered = sound.sessions_numbered;
-            phases = sound.phases;
             roomy = roomy_then script (map began_seen began) sessions (s - 1) x y below at sound.roomy capacity (subst (IsLatest (map began_seen began) (s - 1 + 1)) (sym latest) was.latest);
             room = omega (arith, sound.room, count, sizes, space);
             no_transcripts = sound.no_transcripts;

@@ -78,7 +78,6 @@ module _ {opening : Database} {given : Script} (script : Script) (retries : ℕ)
         kept = kept;
         counted = sound.counted;
         sessions_numbered = sound.sessions_numbered;
-        phases = sound.phases;
         roomy = roomy_then script (map began_seen began) sessions (s - 1) x y below at sound.roomy capacity (subst (IsLatest (map began_seen began) (s - 1 + 1)) (sym latest) was.latest);
         room = omega (arith, sound.room, as_many);
         no_transcripts = sound.no_transcripts;

@@ -1,5 +1,5 @@
 -- A machine in which nothing has begun.
-use Rattle.std.proofs.Common.{◌≡◌, ℕ, zero, suc, ◌+◌, ◌^◌, ◌<◌, ◌≤◌, true, List, [], ◌∷◌, ◌++◌, length, map, Option, Some, false, refl, sym, ap, ap₂, subst, ◌∙◌, arith, vec_capacity, option_map}
+use Rattle.std.proofs.Common.{◌≡◌, ℕ, zero, suc, ◌+◌, ◌^◌, ◌<◌, ◌≤◌, List, [], ◌∷◌, ◌++◌, length, map, Option, Some, false, refl, sym, ap, ap₂, subst, ◌∙◌, arith, vec_capacity, option_map}
 use Rattle.std.specs.Prelude.{count_by, is_some, slice_index_or}
 use Rattle.std.specs.FinMap as fin
 use Rattle.std.specs.Global.{Vec}
@@ -11,7 +11,6 @@ use Rattle.bf_tree.specs.declared.script.Session.{Session}
 use Rattle.bf_sql.specs.Bound.{catalog_of}
 use Rattle.bf_sql.specs.Database.{Database, IsDatabase}
 use Rattle.bf_sql.specs.Groups.{no_session, session_at}
-use Rattle.bf_machine.specs.Runnable.{phases_rise_from}
 use Rattle.bf_machine.specs.declared.so_far.SessionSoFar.{SessionSoFar}
 use Rattle.bf_machine.specs.interleaving.Kept.{IsKept, fresh, no_group, no_replies}
 use Rattle.bf_machine.specs.interleaving.Machines.{Began, Open, began_at}
@@ -79,15 +78,14 @@ seen_new start script retries sessions all =
     (opens_new script.sessions sessions all) (told_new script.sessions sessions all)
 
 pub new_is_sound : (start : Database) (given script : Script) (retries : ℕ) (sessions : List SessionSoFar) (history : Vec Entry) (transcripts : Vec (List Reply))
-    → IsDatabase start → HasNarrowTables (catalog_of start) → script ≡ given → AreNew script.sessions sessions → history.items ≡ [] → length script.sessions + 1 < 2 ^ 32 → phases_rise_from 0 script.sessions ≡ true → transcripts.items ≡ [] → length sessions ≤ vec_capacity transcripts
+    → IsDatabase start → HasNarrowTables (catalog_of start) → script ≡ given → AreNew script.sessions sessions → history.items ≡ [] → length script.sessions < 2 ^ 32 → transcripts.items ≡ [] → length sessions ≤ vec_capacity transcripts
     → IsSound start given script retries start fin.empty [] sessions history 0 transcripts
-new_is_sound start given script retries sessions history transcripts database narrow same all none numbers rise empty room = record {
+new_is_sound start given script retries sessions history transcripts database narrow same all none numbers empty room = record {
   is_given = same;
   narrow = narrow;
   kept = rw none (subst (IsKept start) (sym (seen_new start script retries sessions all)) (new_is_kept start script retries database));
   counted = rw none refl;
   sessions_numbered = numbers;
-  phases = rise;
   roomy = λ i so_far below at.
       let new = item_new script.sessions sessions all i so_far below at in
       let own : session_at script (i + 1) ≡ slice_index_or script.sessions i no_session = session_next script i in record {

@@ -98,7 +98,6 @@ module _ {opening : Database} {given : Script} (script : Script) (retries : ℕ)
         kept = rw items sound.kept;
         counted = rw items sound.counted;
         sessions_numbered = sound.sessions_numbered;
-        phases = sound.phases;
         roomy = sound.roomy;
         room = omega (arith, sound.room, size, capacity);
         no_transcripts = sound.no_transcripts;
@@ -275,7 +274,6 @@ module _ {opening : Database} {given : Script} (script : Script) (retries : ℕ)
                 kept = rw items kept;
                 counted = rw items sound.counted;
                 sessions_numbered = sound.sessions_numbered;
-                phases = sound.phases;
                 roomy = roomy;
                 room = omega (arith, count_by-le-length is_open sessions_then, as_many, entries_size, reserved);
                 no_transcripts = sound.no_transcripts;

@@ -1,15 +1,12 @@
 -- The youngest open group of the sessions that were looked at.
-use Rattle.std.proofs.Common.{◌≡◌, ℕ, zero, suc, ◌+◌, ◌<◌, ◌≤◌, true, length, Option, Some, None, refl, sym, ◌∙◌, arith, inl, inr}
+use Rattle.std.proofs.Common.{◌≡◌, ℕ, zero, suc, ◌≤◌, length, Option, Some, None, refl, arith}
 use Rattle.std.specs.Prelude.{IfSome}
-use Rattle.std.proofs.lemmas.Bool.{cases_lt}
 use Rattle.bf_sql.specs.Database.{Database}
-use Rattle.bf_machine.specs.Runnable.{phases_rise_from}
 use Rattle.bf_machine.specs.interleaving.Calls.{IsPlace}
-use Rattle.bf_machine.specs.interleaving.Kept.{HasStart, IsCurrent, IsKept}
+use Rattle.bf_machine.specs.interleaving.Kept.{HasStart, IsKept}
 use Rattle.bf_machine.specs.interleaving.Machines.{Machine, Open, open_at}
 use Rattle.bf_machine.specs.interleaving.Serving.{IsYoungest}
 use Rattle.bf_machine.proofs.interleaving.Others.{has_place}
-use Rattle.bf_machine.proofs.served.Later.{closed_behind}
 
 module _ (m : Machine) where
   -- the session that is kept has an open group, which began last; with none the number is 0
@@ -21,24 +18,6 @@ module _ (m : Machine) where
   pub record IsSought (n latest : ℕ) (youngest : Option ℕ) : Type 0 where
     pub found : IsFound n latest youngest
     pub most : (t : ℕ) (other : Open) → 1 ≤ t → t ≤ n → open_at m t ≡ Some other → other.start ≤ latest
-
-  found_so_far : (n all latest : ℕ) (youngest : Option ℕ) → n ≤ all → IsFound n latest youngest → IsFound all latest youngest
-  found_so_far n all latest None more found = found
-  found_so_far n all latest (Some s) more (low, high, o, is, start) = (low, omega (arith, high, more), o, is, start)
-
-  -- those behind a session that is not current need no look
-  pub all_sought : {opening : Database} → IsKept opening m → phases_rise_from 0 m.script.sessions ≡ true → (n latest : ℕ) (youngest : Option ℕ) → n < length m.script.sessions
-      → (IsCurrent m (n + 1) → ⊥) → IsSought n latest youngest → IsSought (length m.script.sessions) latest youngest
-  all_sought kept rise n latest youngest below later sought = record {
-    found = found_so_far n (length m.script.sessions) latest youngest (omega (arith, below)) sought.found;
-    most = λ t other low high is. elim (cases_lt n t) as (λ _. other.start ≤ latest) [
-      | inl behind ↦
-          let none = closed_behind m kept rise (n + 1) (omega arith, omega (arith, below)) later t (low, high) (omega (arith, behind)) (open_at m t) refl in
-          let clash : Some other ≡ None = sym is ∙ none in
-          absurd cc
-      | inr before ↦ sought.most t other low before is
-    ];
-  }
 
   -- when each session was looked at
   module _ {opening : Database} (kept : IsKept opening m) (latest : ℕ) where

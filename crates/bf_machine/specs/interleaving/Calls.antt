@@ -1,5 +1,5 @@
 -- THE CONDITIONS of the machine's calls on a session, counted from 1, and where it stands by them.
-use Rattle.std.specs.Prelude.{◌≡◌, ◌⊎◌, ℕ, ◌+◌, ◌-◌, ◌<◌, ◌≤◌, ◌==◌, false, List, [], ◌∷◌, ◌++◌, length, take, Option, Some, None, Contains, IsSomeAnd, nat_lt, slice_get, if◌then◌else◌}
+use Rattle.std.specs.Prelude.{◌≡◌, ◌⊎◌, ℕ, ◌+◌, ◌-◌, ◌≤◌, ◌==◌, false, List, [], ◌∷◌, ◌++◌, length, take, Option, Some, None, Contains, IsSomeAnd, nat_lt, slice_get, if◌then◌else◌}
 use Rattle.bf_locks.specs.declared.mode.Mode.{Mode}
 use Rattle.bf_locks.specs.declared.name.LockName.{LockName}
 use Rattle.bf_tree.specs.declared.bound.Bound.{Bound}
@@ -129,10 +129,3 @@ module _ (m : Machine) (s : ℕ) where
   StandsAs (stand.Statement n) = GoesOn n ⊎ (CanRefuse × (n ≡ length (told_at m s) + 1))
   StandsAs stand.Commit = CanCommit
   StandsAs stand.Abort = CanAbort
-
--- FIRST LEFT: session n is the first that has not ended, or n is one more than there are
-pub record IsFirstLeft (m : Machine) (n : ℕ) : Type 0 where
-  pub low : 1 ≤ n
-  pub high : n ≤ length m.script.sessions + 1
-  pub before : (s : ℕ) → 1 ≤ s → s < n → HasSessionEnded m s
-  pub left : n ≤ length m.script.sessions → HasSessionEnded m n → ⊥

@@ -1,5 +1,5 @@
 -- THE MACHINE OF THE CODE, as it is seen, and what else its type keeps.
-use Rattle.std.specs.Prelude.{◌≡◌, ℕ, ◌+◌, ◌-◌, ◌<◌, ◌≤◌, ◌^◌, Bool, List, [], ◌∷◌, map, length, take, drop, Option, Some, None, IsTrue, option_map, count_by, is_some, slice_index_or, vec_capacity, if◌then◌else◌}
+use Rattle.std.specs.Prelude.{◌≡◌, ℕ, ◌+◌, ◌-◌, ◌<◌, ◌≤◌, ◌^◌, ◌⊎◌, Bool, List, [], ◌∷◌, map, length, take, drop, Option, Some, None, option_map, count_by, is_some, slice_index_or, vec_capacity, if◌then◌else◌}
 use Rattle.std.specs.Global.{Vec}
 use Rattle.bf_locks.specs.Locks.{Locks}
 use Rattle.bf_tree.specs.Limits.{HasNarrowTables}
@@ -12,7 +12,6 @@ use Rattle.bf_tree.specs.declared.statement.Statement.TheVariants.{Begin}
 use Rattle.bf_sql.specs.Bound.{catalog_of}
 use Rattle.bf_sql.specs.Database.{Database}
 use Rattle.bf_sql.specs.Groups.{ends_block, no_session, session_at}
-use Rattle.bf_machine.specs.Runnable.{phases_rise_from}
 use Rattle.bf_machine.specs.declared.so_far.Began.{Began as BeganGroup}
 use Rattle.bf_machine.specs.declared.so_far.OpenGroup.{OpenGroup}
 use Rattle.bf_machine.specs.declared.so_far.Pending.{Pending as PendingChange}
@@ -63,6 +62,14 @@ HasEndedAt sessions so_far i =
     (length (slice_index_or sessions i no_session).statements ≤ length (slice_index_or (map told_seen so_far) i []))
     × (slice_index_or (map open_seen so_far) i None ≡ None)
 
+-- LEAST LEFT of the sessions before place n: the place of one that has not ended, where each of them has ended or is of its
+-- phase or a later one; none where all have ended
+pub record IsLeastLeft (sessions : List Session) (so_far : List SessionSoFar) (n : ℕ) (found : Option ℕ) : Type 0 where
+  pub left : (p : ℕ) → found ≡ Some p → (p < n) × (HasEndedAt sessions so_far p → ⊥)
+  pub least : (i : ℕ) → i < n
+      → HasEndedAt sessions so_far i
+      ⊎ ((p : ℕ) × (found ≡ Some p) × ((slice_index_or sessions p no_session).phase ≤ (slice_index_or sessions i no_session).phase))
+
 -- whether a group is open in a session
 abbrev pub is_open : SessionSoFar → Bool
 is_open so_far = is_some so_far.open
@@ -78,16 +85,14 @@ pub record IsRoomy (script : Script) (began : List Began) (s : ℕ) (so_far : Se
   pub numbers : length (session_at script s).statements < 2 ^ 32
   pub latest : IsLatest began s so_far.latest
 
--- SOUND: the script is the one that the run began with, with phases that rise, and the tables that it began with are narrow; what
--- is seen is kept, from the opening database on; the commits are counted; and there is room for each reply, and for the entry of
--- each open group
+-- SOUND: the script is the one that the run began with, and the tables that it began with are narrow; what is seen is kept,
+-- from the opening database on; the commits are counted; and there is room for each reply, and for the entry of each open group
 pub record IsSound (opening : Database) (given : Script) (script : Script) (retries : ℕ) (db : Database) (locks : Locks) (began : List BeganGroup) (sessions : List SessionSoFar) (history : Vec Entry) (commits : ℕ) (transcripts : Vec (List Reply)) : Type 0 where
   pub is_given : script ≡ given
   pub narrow : HasNarrowTables (catalog_of opening)
   pub kept : IsKept opening (seen script retries db locks began sessions history.items)
   pub counted : commits ≡ commits_behind 0 history.items
-  pub sessions_numbered : length script.sessions + 1 < 2 ^ 32
-  pub phases : IsTrue (phases_rise_from 0 script.sessions)
+  pub sessions_numbered : length script.sessions < 2 ^ 32
   pub roomy : (i : ℕ) (so_far : SessionSoFar) → i < length sessions → slice_index_or sessions i so_far ≡ so_far → IsRoomy script (map began_seen began) (i + 1) so_far
   pub room : count_by is_open sessions + length history.items ≤ vec_capacity history
   pub no_transcripts : transcripts.items ≡ []

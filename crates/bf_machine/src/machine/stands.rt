@@ -9,7 +9,7 @@ ghost use Rattle.bf_machine.specs.interleaving.Machines.{Group, open_at, told_at
 
 use crate::machine::Machine;
 use crate::opened::Opened;
-use crate::so_far::{SessionSoFar, has_ended};
+use crate::so_far::{SessionSoFar, has_ended, is_no_later};
 use crate::stand::Stand;
 use bf_tree::Statement;
 
@@ -48,16 +48,16 @@ impl<N: Opened> Machine<N> {
     }
 
     /// Whether the sessions of phases before a session's have ended. It costs a constant time: the
-    /// phases rise, so the first session that has not ended stands in the earliest that has not.
+    /// machine keeps a session of the earliest phase that is left.
     pub fn is_current(&self, session: u32) -> bool
         requires { IsPlace self.now.script session }
         ensures { (result ≡ true) ↔ IsCurrent self.now session }
     {
         let sessions = self.script.sessions.as_slice();
-        if self.first_left == sessions.len() {
-            return true;
+        match self.least_left {
+            Some(least) => is_no_later(sessions, session as usize - 1, least),
+            None => true,
         }
-        sessions[session as usize - 1].phase <= sessions[self.first_left].phase
     }
 
     /// Where a session stands that has an open group: at the group's next statement, or at its end.

@@ -7,13 +7,14 @@ use Rattle.bf_tree.specs.declared.statement.Statement.{Statement}
 use Rattle.bf_sql.specs.Groups.{session_at}
 use Rattle.bf_machine.specs.declared.so_far.Began.{Began as BeganGroup}
 use Rattle.bf_machine.specs.declared.so_far.SessionSoFar.{SessionSoFar}
+use Rattle.bf_machine.specs.declared.stand.Stand.TheVariants as stand
 use Rattle.bf_machine.specs.interleaving.Calls.{CanBegin, IsPlace}
 use Rattle.bf_machine.specs.interleaving.Events.{Begins}
 use Rattle.bf_machine.specs.interleaving.Machines.{Machine}
 use Rattle.bf_machine.specs.interleaving.Seen.{last_from, open_seen, seen}
 use Rattle.bf_machine.proofs.keeping.Opening.{again_all, begun_all, latest_within, reserved_sound, same_item, session_there, size_fits, within}
-use Rattle.bf_machine.proofs.keeping.FirstLeft.{same_first}
-use Rattle.bf_machine.proofs.keeping.Passing.{begin_first}
+use Rattle.bf_machine.proofs.keeping.LeastLeft.{goes_on_at, least_stays, open_then}
+use Rattle.bf_machine.proofs.served.Exclusive.{goes_has_not_ended}
 use Rattle.bf_machine.proofs.machine.Machine.begin.Goals as goal
 
 pub overflow_cast-first : goal.overflow_cast-first
@@ -83,8 +84,11 @@ invariant_of-self-in-Some g c =
     c.reserve.new.self c.in_ok-reserve.ensures.items room y (c.open_group.ensures.replies ∙ ap (λ (z : SessionSoFar). z.replies) same) first starts
     found.0 b (found.2 ∙ ap (λ (bs : List BeganGroup). slice_index_or bs (x.latest - 1) b) c.deref.ensures.value) found.3 c.in-Some.last found.4
     c.open_group.ensures.opened c.open_group.ensures.latest in
-    let next : Machine = seen i.script i.retries i.live i.locks i.began.items (slice_set i.sessions.items (s - 1) y) c.reserve.new.self.items in
-    (all.1, begin_first m c.self.invariant.0.kept s next place all.0 (i.first_left + 1) c.self.invariant.1)
+    let goes_on = goes_on_at i.script i.retries i.live i.locks i.began.items i.sessions.items i.history.items s place.0 (goes_has_not_ended m c.self.invariant.0.kept s (stand.Begin, can, refl)) in (
+      all.1,
+      least_stays i.script.sessions i.sessions.items (s - 1) y i.least_left c.self.invariant.1 goes_on
+          (λ is. open_then i.script.sessions i.sessions.items (s - 1) y below _ c.open_group.ensures.opened),
+    )
 
 pub returns-in-Some-clause-begins : goal.returns-in-Some-clause-begins
 returns-in-Some-clause-begins g c =
@@ -162,7 +166,7 @@ invariant_of-self-in_err-push g c =
       rw c.in_err-push.ensures.items
           (reserved_sound i.script i.retries i.live i.locks i.began.items i.sessions.items i.history i.commits i.transcripts c.self.invariant.0 c.reserve.new.self c.in_ok-reserve.ensures.items
           c.in_ok-reserve.ensures.capacity),
-      same_first i.script i.retries i.live i.live i.locks i.locks i.began.items _ i.sessions.items i.history.items _ (i.first_left + 1) c.self.invariant.1,
+      c.self.invariant.1,
     )
 
 pub invariant_of-self-2 : goal.invariant_of-self-2
@@ -201,8 +205,11 @@ invariant_of-self-2 g c =
     c.self.invariant.0 s place.0 high x (sym c.index-so_far.ensures) can.0 can.1
     c.reserve.new.self c.in_ok-reserve.ensures.items room y (c.open_group-2.ensures.replies ∙ ap (λ (z : SessionSoFar). z.replies) same) first starts
     another last last_so c.new.result c.new.ensures.items began pushed c.len-start.result start c.open_group-2.ensures.opened c.open_group-2.ensures.latest in
-    let next : Machine = seen i.script i.retries i.live i.locks began (slice_set i.sessions.items (s - 1) y) c.reserve.new.self.items in
-    (all.1, begin_first m c.self.invariant.0.kept s next place all.0 (i.first_left + 1) c.self.invariant.1)
+    let goes_on = goes_on_at i.script i.retries i.live i.locks i.began.items i.sessions.items i.history.items s place.0 (goes_has_not_ended m c.self.invariant.0.kept s (stand.Begin, can, refl)) in (
+      all.1,
+      least_stays i.script.sessions i.sessions.items (s - 1) y i.least_left c.self.invariant.1 goes_on
+          (λ is. open_then i.script.sessions i.sessions.items (s - 1) y below _ c.open_group-2.ensures.opened),
+    )
 
 pub returns-clause-begins : goal.returns-clause-begins
 returns-clause-begins g c =

@@ -5,14 +5,13 @@ use Rattle.std.proofs.lemmas.List.{length-map, length-set}
 use Rattle.bf_tree.specs.declared.script.Session.{Session}
 use Rattle.bf_sql.specs.Database.{Database}
 use Rattle.bf_machine.specs.declared.so_far.SessionSoFar.{SessionSoFar}
-use Rattle.bf_machine.specs.interleaving.Calls.{CanCommit, IsFirstLeft, IsPlace}
+use Rattle.bf_machine.specs.interleaving.Calls.{CanCommit, IsPlace}
 use Rattle.bf_machine.specs.interleaving.Events.{Commits}
 use Rattle.bf_machine.specs.interleaving.Machines.{Machine}
-use Rattle.bf_machine.specs.interleaving.Seen.{IsSound, open_seen, seen}
+use Rattle.bf_machine.specs.interleaving.Seen.{IsLeastLeft, IsSound, open_seen, seen}
 use Rattle.bf_machine.proofs.keeping.Ending.{room_for_reply}
 use Rattle.bf_machine.proofs.keeping.Committing.{can_settle, commit_seen, commit_sound, number_fits, sessions_stay}
-use Rattle.bf_machine.proofs.keeping.FirstLeft.{first_moves, same_first}
-use Rattle.bf_machine.proofs.keeping.Passing.{commit_passes}
+use Rattle.bf_machine.proofs.keeping.LeastLeft.{goes_on_at, least_behind, open_goes_on}
 use Rattle.bf_machine.proofs.machine.Machine.commit.Goals as goal
 
 pub settle-requires : goal.settle-requires
@@ -47,18 +46,19 @@ close-requires g c =
     room_for_reply i.script i.retries i.live i.locks i.began.items i.sessions.items i.history i.commits i.transcripts c.self.invariant.0
     s place.0 high x (sym c.index_mut-so_far.ensures.value) c.in-Some.group (sym c.take.ensures.value ∙ c.in-Some.is)
 
-pub first_left_from-self-inside-requires-clause-each : goal.first_left_from-self-inside-requires-clause-each
-first_left_from-self-inside-requires-clause-each g c =
+pub least_left_behind-self-inside-requires-clause-each : goal.least_left_behind-self-inside-requires-clause-each
+least_left_behind-self-inside-requires-clause-each g c =
     let i = c.self.inside in
     let script = ap (λ (xs : List Session). length xs) c.as_slice.ensures in
     let sessions = ap (λ (ys : List SessionSoFar). length ys) c.deref.ensures.value in
     omega (arith, script, sessions, c.self.invariant.0.kept.shaped.opens, length-map i.sessions.items open_seen, length-set i.sessions.items (c.args.session - 1) c.close.new.so_far)
 
-pub first_left_from-self-inside-requires-clause-from : goal.first_left_from-self-inside-requires-clause-from
-first_left_from-self-inside-requires-clause-from g c =
+pub least_left_behind-self-inside-requires-clause-place : goal.least_left_behind-self-inside-requires-clause-place
+least_left_behind-self-inside-requires-clause-place g c =
     let i = c.self.inside in
+    let place : IsPlace i.script c.args.session = subst (λ (m : Machine). IsPlace m.script c.args.session) (sym c.self.view_is) c.requires.place in
     let sessions = ap (λ (ys : List SessionSoFar). length ys) c.deref.ensures.value in
-    omega (arith, sessions, c.self.invariant.1.high, c.self.invariant.0.kept.shaped.opens, length-map i.sessions.items open_seen, length-set i.sessions.items (c.args.session - 1) c.close.new.so_far)
+    omega (arith, place.0, place.1, sessions, c.self.invariant.0.kept.shaped.opens, length-map i.sessions.items open_seen, length-set i.sessions.items (c.args.session - 1) c.close.new.so_far)
 
 pub invariant_of-self-2 : goal.invariant_of-self-2
 invariant_of-self-2 g c =
@@ -71,24 +71,15 @@ invariant_of-self-2 g c =
     let can : CanCommit m s = subst (λ (m : Machine). CanCommit m s) (sym c.self.view_is) c.requires.can in
     let ends = c.close.ensures in
     let pushed = c.push_reserved in
-    let next : Machine = seen i.script i.retries c.settle.new.live c.free_all.new.self i.began.items (slice_set i.sessions.items (s - 1) c.close.new.so_far) pushed.new.self.items in
-    let commits : Commits m s next =
-    commit_seen i.script i.retries i.live i.locks i.began.items i.sessions.items i.history i.commits i.transcripts c.self.invariant.0
-    s place.0 high x (sym c.index_mut-so_far.ensures.value) c.in-Some.group (sym c.take.ensures.value ∙ c.in-Some.is) can.0 can.1
-    c.close.new.so_far ends.closed ends.latest ends.capacity ends.replies
-    c.free_all.new.self c.free_all.ensures.freed c.settle.new.live c.in_default-settle.ensures.ok pushed.new.self pushed.ensures.items pushed.ensures.capacity in
-    let sizes : length i.script.sessions ≡ length (slice_set i.sessions.items (s - 1) c.close.new.so_far) =
-    omega (arith, c.self.invariant.0.kept.shaped.opens, length-map i.sessions.items open_seen, length-set i.sessions.items (s - 1) c.close.new.so_far) in
-    let passed = c.first_left_from-self-inside.ensures in
-    let first =
-    first_moves i.script i.retries c.settle.new.live c.free_all.new.self i.began.items (slice_set i.sessions.items (s - 1) c.close.new.so_far) pushed.new.self.items
-    c.as_slice.ensures c.deref.ensures.value sizes i.first_left c.first_left_from-self-inside.result passed.from passed.within passed.ended passed.left
-    (λ t above below. commit_passes m c.self.invariant.0.kept s next t (c.self.invariant.1.before t above below) commits) in (
+    let goes_on = goes_on_at i.script i.retries i.live i.locks i.began.items i.sessions.items i.history.items s place.0 (open_goes_on m s can.1.o can.1.is) in
+    let least =
+    least_behind i.script.sessions i.sessions.items (s - 1) c.close.new.so_far i.least_left c.self.invariant.1 goes_on
+    c.as_slice.ensures c.deref.ensures.value c.least_left_behind-self-inside.result c.least_left_behind-self-inside.ensures in (
       commit_sound i.script i.retries i.live i.locks i.began.items i.sessions.items i.history i.commits i.transcripts c.self.invariant.0
           s place.0 high x (sym c.index_mut-so_far.ensures.value) c.in-Some.group (sym c.take.ensures.value ∙ c.in-Some.is) can.0 can.1
           c.close.new.so_far ends.closed ends.latest ends.capacity ends.replies
           c.free_all.new.self c.free_all.ensures.freed c.settle.new.live c.in_default-settle.ensures.ok pushed.new.self pushed.ensures.items pushed.ensures.capacity,
-      first,
+      least,
     )
 
 pub returns-clause-commits : goal.returns-clause-commits
@@ -119,8 +110,7 @@ invariant_of-self g c =
     (sym c.take.ensures.value ∙ c.in-Some.is) c.settle.new.pending c.in-Err.ensures.kept in (
       subst (λ (sessions : List SessionSoFar). IsSound g.N.Opened.opening g.N.Opened.script i.script i.retries c.settle.new.live i.locks i.began.items sessions i.history i.commits i.transcripts) (sym stays)
           (subst (λ (db : Database). IsSound g.N.Opened.opening g.N.Opened.script i.script i.retries db i.locks i.began.items i.sessions.items i.history i.commits i.transcripts) (sym c.in-Err.ensures.err) c.self.invariant.0),
-      subst (λ (sessions : List SessionSoFar). IsFirstLeft (seen i.script i.retries c.settle.new.live i.locks i.began.items sessions i.history.items) (i.first_left + 1)) (sym stays)
-          (same_first i.script i.retries i.live c.settle.new.live i.locks i.locks i.began.items i.began.items i.sessions.items i.history.items i.history.items (i.first_left + 1) c.self.invariant.1),
+      subst (λ (sessions : List SessionSoFar). IsLeastLeft i.script.sessions sessions (length sessions) i.least_left) (sym stays) c.self.invariant.1,
     )
 
 pub returns-in-Err-clause-err : goal.returns-in-Err-clause-err

@@ -5,12 +5,11 @@ use Rattle.std.proofs.lemmas.List.{length-map, length-set}
 use Rattle.bf_tree.specs.declared.catalog.Catalog.{Catalog}
 use Rattle.bf_tree.specs.declared.script.Session.{Session}
 use Rattle.bf_machine.specs.declared.so_far.SessionSoFar.{SessionSoFar}
-use Rattle.bf_machine.specs.interleaving.Calls.{CanExec, HasReplied, IsFirstLeft, IsPlace}
+use Rattle.bf_machine.specs.interleaving.Calls.{CanExec, HasReplied, HasSessionEnded, IsPlace}
 use Rattle.bf_machine.specs.interleaving.Machines.{Machine}
 use Rattle.bf_machine.specs.interleaving.Seen.{open_seen, seen}
 use Rattle.bf_machine.proofs.keeping.Executing.{may_reply, on_err, replied, replied_sound, room_for_next, seen_unanswered, unanswered_sound}
-use Rattle.bf_machine.proofs.keeping.FirstLeft.{first_moves}
-use Rattle.bf_machine.proofs.keeping.Passing.{reply_passes}
+use Rattle.bf_machine.proofs.keeping.LeastLeft.{exec_goes_on, goes_on_at, least_behind, least_stays}
 use Rattle.bf_machine.proofs.machine.Machine.exec.Goals as goal
 
 pub reply_in-requires : goal.reply_in-requires
@@ -50,6 +49,9 @@ invariant_of-self g c =
     let x : SessionSoFar = c.index_mut-so_far.result.now in
     let place : IsPlace i.script s = subst (λ (m : Machine). IsPlace m.script s) (sym c.self.view_is) c.requires.place in
     let high : s ≤ length i.sessions.items = omega (arith, place.1, c.self.invariant.0.kept.shaped.opens, length-map i.sessions.items open_seen) in
+    let m : Machine = seen i.script i.retries i.live i.locks i.began.items i.sessions.items i.history.items in
+    let can : CanExec m s g.N.Opened.opening c.args.bound.now = subst (λ (m : Machine). CanExec m s g.N.Opened.opening c.args.bound.now) (sym c.self.view_is) c.requires.can in
+    let goes = exec_goes_on i.script i.retries i.live i.locks i.began.items i.sessions.items i.history.items c.self.invariant.0.kept s g.N.Opened.opening c.args.bound.now can in
     let z : SessionSoFar = record { replies = x.replies; «open» = c.reply_in.new.group; latest = x.latest } in
     let still : seen i.script i.retries i.live i.locks i.began.items (slice_set i.sessions.items (s - 1) z) i.history.items
     ≡ seen i.script i.retries i.live i.locks i.began.items i.sessions.items i.history.items =
@@ -59,7 +61,9 @@ invariant_of-self g c =
       unanswered_sound i.script i.retries i.live i.locks i.began.items i.sessions.items i.history i.commits i.transcripts c.self.invariant.0 s place.0 high x
           (sym c.index_mut-so_far.ensures.value) c.reply_in.new.group (λ is. (c.in_err-reply.ensures.refused is).0)
           (λ g is. let so = c.in_err-reply.ensures.answered g is in (so.0, so.1, so.3)),
-      subst (λ (m : Machine). IsFirstLeft m (i.first_left + 1)) (sym still) c.self.invariant.1,
+      least_stays i.script.sessions i.sessions.items (s - 1) z i.least_left c.self.invariant.1 (goes_on_at i.script i.retries i.live i.locks i.began.items i.sessions.items i.history.items s place.0 goes)
+          (λ is. goes_on_at i.script i.retries i.live i.locks i.began.items (slice_set i.sessions.items (s - 1) z) i.history.items s place.0
+          (subst (λ (m : Machine). HasSessionEnded m s → ⊥) (sym still) goes)),
     )
 
 pub returns-in_err-reply-clause-err : goal.returns-in_err-reply-clause-err
@@ -75,18 +79,19 @@ returns-in_err-reply-clause-err g c =
     (λ g is. let so = c.in_err-reply.ensures.answered g is in (so.0, so.1, so.3))
     ∙ c.self.view_is)
 
-pub first_left_from-self-inside-requires-clause-each : goal.first_left_from-self-inside-requires-clause-each
-first_left_from-self-inside-requires-clause-each g c =
+pub least_left_behind-self-inside-requires-clause-each : goal.least_left_behind-self-inside-requires-clause-each
+least_left_behind-self-inside-requires-clause-each g c =
     let i = c.self.inside in
     let script = ap (λ (xs : List Session). length xs) c.as_slice.ensures in
     let sessions = ap (λ (ys : List SessionSoFar). length ys) c.deref.ensures.value in
     omega (arith, script, sessions, c.self.invariant.0.kept.shaped.opens, length-map i.sessions.items open_seen, length-set i.sessions.items (c.args.session - 1) (record { replies = c.push_reserved.new.self; «open» = c.reply_in.new.group; latest = c.index_mut-so_far.result.now.latest }))
 
-pub first_left_from-self-inside-requires-clause-from : goal.first_left_from-self-inside-requires-clause-from
-first_left_from-self-inside-requires-clause-from g c =
+pub least_left_behind-self-inside-requires-clause-place : goal.least_left_behind-self-inside-requires-clause-place
+least_left_behind-self-inside-requires-clause-place g c =
     let i = c.self.inside in
+    let place : IsPlace i.script c.args.session = subst (λ (m : Machine). IsPlace m.script c.args.session) (sym c.self.view_is) c.requires.place in
     let sessions = ap (λ (ys : List SessionSoFar). length ys) c.deref.ensures.value in
-    omega (arith, sessions, c.self.invariant.1.high, c.self.invariant.0.kept.shaped.opens, length-map i.sessions.items open_seen, length-set i.sessions.items (c.args.session - 1) (record { replies = c.push_reserved.new.self; «open» = c.reply_in.new.group; latest = c.index_mut-so_far.result.now.latest }))
+    omega (arith, place.0, place.1, sessions, c.self.invariant.0.kept.shaped.opens, length-map i.sessions.items open_seen, length-set i.sessions.items (c.args.session - 1) (record { replies = c.push_reserved.new.self; «open» = c.reply_in.new.group; latest = c.index_mut-so_far.result.now.latest }))
 
 pub invariant_of-self-2 : goal.invariant_of-self-2
 invariant_of-self-2 g c =
@@ -99,22 +104,14 @@ invariant_of-self-2 g c =
     let can : CanExec m s g.N.Opened.opening c.args.bound.now = subst (λ (m : Machine). CanExec m s g.N.Opened.opening c.args.bound.now) (sym c.self.view_is) c.requires.can in
     let number : c.args.bound.now.catalog ≡ i.live.number = c.if-bound-number.false ∙ (c.number-number.ensures ∙ ap (λ (catalog : Catalog). catalog.number) c.catalog.ensures.catalog) in
     let y : SessionSoFar = record { replies = c.push_reserved.new.self; «open» = c.reply_in.new.group; latest = x.latest } in
-    let next : Machine = seen i.script i.retries i.live i.locks i.began.items (slice_set i.sessions.items (s - 1) y) i.history.items in
-    let by : HasReplied m s c.args.bound.now next =
-    replied i.script i.retries i.live i.locks i.began.items i.sessions.items i.history i.commits i.transcripts c.self.invariant.0 s place.0 high x
-    (sym c.index_mut-so_far.ensures.value) c.args.bound.now can number c.in_ok-reply.reply c.reply_in.new.group c.in_ok-reply.ensures.refused
-    (λ g is. let so = c.in_ok-reply.ensures.answered g is in (so.0, so.1, so.2)) c.push_reserved.new.self c.push_reserved.ensures.items (omega (arith, c.push_reserved.ensures.capacity)) in
-    let sizes : length i.script.sessions ≡ length (slice_set i.sessions.items (s - 1) y) =
-    omega (arith, c.self.invariant.0.kept.shaped.opens, length-map i.sessions.items open_seen, length-set i.sessions.items (s - 1) y) in
-    let passed = c.first_left_from-self-inside.ensures in
-    let first =
-    first_moves i.script i.retries i.live i.locks i.began.items (slice_set i.sessions.items (s - 1) y) i.history.items
-    c.as_slice.ensures c.deref.ensures.value sizes i.first_left c.first_left_from-self-inside.result passed.from passed.within passed.ended passed.left
-    (λ t above below. reply_passes m c.self.invariant.0.kept s next t (c.self.invariant.1.before t above below) c.args.bound.now by) in (
+    let goes_on = goes_on_at i.script i.retries i.live i.locks i.began.items i.sessions.items i.history.items s place.0 (exec_goes_on i.script i.retries i.live i.locks i.began.items i.sessions.items i.history.items c.self.invariant.0.kept s g.N.Opened.opening c.args.bound.now can) in
+    let least =
+    least_behind i.script.sessions i.sessions.items (s - 1) y i.least_left c.self.invariant.1 goes_on
+    c.as_slice.ensures c.deref.ensures.value c.least_left_behind-self-inside.result c.least_left_behind-self-inside.ensures in (
       replied_sound i.script i.retries i.live i.locks i.began.items i.sessions.items i.history i.commits i.transcripts c.self.invariant.0 s place.0 high x
           (sym c.index_mut-so_far.ensures.value) c.args.bound.now can number c.in_ok-reply.reply c.reply_in.new.group c.in_ok-reply.ensures.refused
           (λ g is. let so = c.in_ok-reply.ensures.answered g is in (so.0, so.1, so.2)) c.push_reserved.new.self c.push_reserved.ensures.items (omega (arith, c.push_reserved.ensures.capacity)),
-      first,
+      least,
     )
 
 pub returns-clause-replied : goal.returns-clause-replied

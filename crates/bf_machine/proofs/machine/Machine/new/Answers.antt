@@ -4,13 +4,12 @@ use Rattle.bf_tree.specs.declared.script.Session.{Session}
 use Rattle.bf_sql.specs.Database.{Database}
 use Rattle.bf_machine.specs.declared.so_far.SessionSoFar.{SessionSoFar}
 use Rattle.bf_machine.specs.interleaving.Kept.{fresh}
-use Rattle.bf_machine.specs.interleaving.Seen.{AreNew, IsSound, seen}
+use Rattle.bf_machine.specs.interleaving.Seen.{AreNew, IsLeastLeft, IsSound, seen}
 use Rattle.bf_machine.proofs.keeping.Fresh.{new_is_sound, new_length, seen_new}
-use Rattle.bf_machine.proofs.keeping.FirstLeft.{first_moves}
 use Rattle.bf_machine.proofs.machine.Machine.new.Goals as goal
 
-pub first_left_from-first_left-requires-clause-each : goal.first_left_from-first_left-requires-clause-each
-first_left_from-first_left-requires-clause-each g c =
+pub least_left-least_left-requires-clause-each : goal.least_left-least_left-requires-clause-each
+least_left-least_left-requires-clause-each g c =
     let script = c.args.script in
     let sessions = c.in_ok-sessions.sessions.items in
     let all : AreNew script.sessions sessions = subst (λ (ss : List Session). AreNew ss sessions) c.as_slice.ensures c.in_ok-sessions.ensures in
@@ -24,20 +23,18 @@ invariant_of-result g c =
     let start = c.args.live in
     let sessions = c.in_ok-sessions.sessions.items in
     let all : AreNew script.sessions sessions = subst (λ (ss : List Session). AreNew ss sessions) c.as_slice.ensures c.in_ok-sessions.ensures in
-    let numbers : length script.sessions + 1 < 2 ^ 32 = omega (arith, c.in_ok-next_number.ensures.fits, c.len.ensures) in
+    let numbers : length script.sessions < 2 ^ 32 = omega (arith, c.in_ok-next_number.ensures.fits, c.len.ensures) in
     let room : length sessions ≤ vec_capacity c.in_ok-transcripts.transcripts = omega (arith, c.in_ok-transcripts.ensures.exact, c.len-2.ensures, c.in_ok-sessions.sessions.ok.0) in
     let sound : IsSound start g.N.Opened.script script c.args.retries start c.new.result c.new-2.result.items sessions c.new-3.result 0 c.in_ok-transcripts.transcripts =
     rw (c.new.ensures.empty, c.new-2.ensures.items)
     (new_is_sound start g.N.Opened.script script c.args.retries sessions c.new-3.result c.in_ok-transcripts.transcripts c.catalog.ensures.database c.requires.narrow c.requires.script
-    all c.new-3.ensures.items numbers c.requires.phases c.in_ok-transcripts.ensures.items room) in
-    let passed = c.first_left_from-first_left.ensures in
-    let first =
-    first_moves script c.args.retries start c.new.result c.new-2.result.items sessions c.new-3.result.items
-    c.as_slice-2.ensures c.deref.ensures.value (sym (new_length script.sessions sessions all)) 0 c.first_left_from-first_left.result passed.from passed.within passed.ended passed.left
-    (λ t above below. absurd (omega (arith, above, below))) in (
+    all c.new-3.ensures.items numbers c.in_ok-transcripts.ensures.items room) in
+    let least : IsLeastLeft script.sessions sessions (length sessions) c.least_left-least_left.result =
+    subst (λ (ys : List SessionSoFar). IsLeastLeft script.sessions ys (length ys) c.least_left-least_left.result) c.deref.ensures.value
+    (subst (λ (xs : List Session). IsLeastLeft xs c.deref.result.now (length c.deref.result.now) c.least_left-least_left.result) c.as_slice-2.ensures c.least_left-least_left.ensures) in (
       subst (λ (opening : Database). IsSound opening g.N.Opened.script script c.args.retries start c.new.result c.new-2.result.items sessions c.new-3.result 0 c.in_ok-transcripts.transcripts)
           c.requires.opening sound,
-      first,
+      least,
     )
 
 pub returns : goal.returns
