@@ -8,8 +8,8 @@ use Rattle.bf_machine.specs.interleaving.Seen.{AreNew, IsLeastLeft, IsSound, see
 use Rattle.bf_machine.proofs.keeping.Fresh.{new_is_sound, new_length, seen_new}
 use Rattle.bf_machine.proofs.machine.Machine.new.Goals as goal
 
-pub least_left-least_left-requires-clause-each : goal.least_left-least_left-requires-clause-each
-least_left-least_left-requires-clause-each g c =
+pub least_left-least_left-requires : goal.least_left-least_left-requires
+least_left-least_left-requires g c =
     let script = c.args.script in
     let sessions = c.in_ok-sessions.sessions.items in
     let all : AreNew script.sessions sessions = subst (λ (ss : List Session). AreNew ss sessions) c.as_slice.ensures c.in_ok-sessions.ensures in
