@@ -11,6 +11,7 @@ pub mod Ends
 pub mod Standing
 pub mod Stands
 pub mod Current
+pub mod LeastLeft
 pub mod Exchanging
 pub mod Catalogs
 pub mod Numbers

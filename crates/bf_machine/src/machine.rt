@@ -17,7 +17,7 @@ ghost use Rattle.bf_machine.specs.interleaving.Kept.{IsKept, TranscriptsLegal, f
 ghost use Rattle.bf_machine.specs.interleaving.Machines.{open_at, transcripts_of};
 
 use crate::opened::Opened;
-use crate::so_far::{Began, SessionSoFar, all_replies, sessions_so_far};
+use crate::so_far::{Began, SessionSoFar, all_replies, least_left, sessions_so_far};
 use bf_base::{Memory, Sequence, next_number};
 use bf_live::LiveTables;
 use bf_locks::{LockName, LockTable, Mode, join};
@@ -38,6 +38,9 @@ pub struct Machine<N: Opened> {
     /// By start number, from 1 on.
     began: Vec<Began>,
     sessions: Vec<SessionSoFar>,
+    /// The place, from 0 on, of a session that has not ended, of the earliest phase of those that have
+    /// not. `None` where all have ended.
+    least_left: Option<usize>,
     history: Vec<Entry>,
     /// How many entries are commits.
     commits: u64,
@@ -57,11 +60,13 @@ impl<N: Opened> Model for Machine<N> {
 
     ghost coded = { Prim.hlevel (codes, exprs.the_row.coded, conds.the_row.coded, tables.the_row.coded) };
 
-    ghost use Rattle.bf_machine.specs.interleaving.Seen.{IsSound, seen};
+    ghost use Rattle.std.specs.Prelude.{length};
+    ghost use Rattle.bf_machine.specs.interleaving.Seen.{IsLeastLeft, IsSound, seen};
 
     ghost view = { λ m. seen m.script m.retries m.live m.locks m.began.items m.sessions.items m.history.items };
 
-    ghost invariant = { λ m. IsSound N.opening N.script m.script m.retries m.live m.locks m.began.items m.sessions.items m.history m.commits m.transcripts };
+    ghost invariant = { λ m. IsSound N.opening N.script m.script m.retries m.live m.locks m.began.items m.sessions.items m.history m.commits m.transcripts
+        × IsLeastLeft m.script.sessions m.sessions.items (length m.sessions.items) m.least_left };
 }
 
 impl<N: Opened> Machine<N> {
@@ -87,6 +92,7 @@ impl<N: Opened> Machine<N> {
         next_number(script.sessions.len())?;
         let sessions = sessions_so_far(alloc, script.sessions.as_slice())?;
         let transcripts = Vec::with_capacity(alloc, sessions.len())?;
+        let least_left = least_left(script.sessions.as_slice(), &sessions);
         Ok(Machine {
             alloc,
             script,
@@ -95,6 +101,7 @@ impl<N: Opened> Machine<N> {
             locks: LockTable::new(alloc),
             began: Vec::new(alloc),
             sessions,
+            least_left,
             history: Vec::new(alloc),
             commits: 0,
             transcripts,

@@ -1,9 +1,11 @@
 //! What a session has come to, and the groups that have begun.
 
-ghost use Rattle.std.specs.Prelude.{◌≡◌, ◌+◌, ◌-◌, ◌<◌, ◌≤◌, ◌++◌, [], IfOk, None, if◌then◌else◌, length, map, nat_lt, replicate, take, vec_capacity, vec_len};
+ghost use Rattle.std.specs.Prelude.{◌≡◌, ◌⊎◌, ◌+◌, ◌-◌, ◌<◌, ◌≤◌, ◌&&◌, ◌++◌, [], IfOk, None, Some, if◌then◌else◌, length, map, nat_le, nat_lt, replicate, slice_index_or, take, vec_capacity, vec_len};
+ghost use Rattle.std.specs.Option.{is_none};
 ghost use Rattle.bf_tree.specs.declared.reply.Cause.TheVariants.{Died};
 ghost use Rattle.bf_tree.specs.declared.reply.Reply.TheVariants.{Ended};
-ghost use Rattle.bf_machine.specs.interleaving.Seen.{AreNew, last_from};
+ghost use Rattle.bf_sql.specs.Groups.{no_session};
+ghost use Rattle.bf_machine.specs.interleaving.Seen.{AreNew, HasEndedAt, IsLeastLeft, last_from};
 
 use bf_base::{Memory, Sequence, Table, next_number};
 use bf_tree::{Cause, IndexRule, Reply, Session, Statement};
@@ -67,6 +69,88 @@ pub(crate) fn sessions_so_far(
         })?;
     }
     Ok(made)
+}
+
+/// Whether each statement of a session has its reply, and no group of it is open.
+pub(crate) fn has_ended(session: &Session, so_far: &SessionSoFar) -> bool
+    ensures { result ≡ (is_none so_far.now.«open»
+        && nat_le (length session.now.statements) (length so_far.now.replies.items)) }
+{
+    so_far.open.is_none() && session.statements.len() <= so_far.replies.len()
+}
+
+/// Whether the session at a place is of the phase of another's or of an earlier one.
+pub(crate) fn is_no_later(sessions: &[Session], place: usize, other: usize) -> bool
+    requires place { place < length sessions.now }
+    requires other { other < length sessions.now }
+    ensures { result ≡ nat_le (slice_index_or sessions.now place no_session).phase
+        (slice_index_or sessions.now other no_session).phase }
+{
+    sessions[place].phase <= sessions[other].phase
+}
+
+/// The place of the least session left, of those up to one place, by that of those before it: it
+/// stays where the session at the place has ended, or is of no earlier phase.
+fn least_with(
+    sessions: &[Session],
+    so_far: &[SessionSoFar],
+    before: Option<usize>,
+    place: usize,
+) -> Option<usize>
+    requires each { length sessions.now ≡ length so_far.now }
+    requires place { place < length so_far.now }
+    requires before { IsLeastLeft sessions.now so_far.now place before }
+    ensures { IsLeastLeft sessions.now so_far.now (place + 1) result }
+{
+    if has_ended(&sessions[place], &so_far[place]) {
+        return before;
+    }
+    let Some(least) = before else {
+        return Some(place);
+    };
+    if is_no_later(sessions, least, place) {
+        return before;
+    }
+    Some(place)
+}
+
+/// The place of a session that has not ended and is of the earliest phase of those that have not, and
+/// `None` where all have ended. It looks at each session once.
+pub(crate) fn least_left(sessions: &[Session], so_far: &[SessionSoFar]) -> Option<usize>
+    requires each { length sessions.now ≡ length so_far.now }
+    ensures { IsLeastLeft sessions.now so_far.now (length so_far.now) result }
+{
+    let mut least = None;
+    for place in 0..so_far.len() {
+        least = least_with(sessions, so_far, least, place);
+    }
+    least
+}
+
+/// The place of the least session left behind an event of the session at a place, by the one before
+/// it, which stays but where it is that session and has ended now: then each session is looked at.
+pub(crate) fn least_left_behind(
+    sessions: &[Session],
+    so_far: &[SessionSoFar],
+    before: Option<usize>,
+    place: usize,
+) -> Option<usize>
+    requires each { length sessions.now ≡ length so_far.now }
+    requires place { place < length so_far.now }
+    ensures { IsLeastLeft sessions.now so_far.now (length so_far.now) result
+        ⊎ ((result ≡ before)
+        × (before ≡ Some place → HasEndedAt sessions.now so_far.now place → ⊥)) }
+{
+    let Some(least) = before else {
+        return before;
+    };
+    if least != place {
+        return before;
+    }
+    if !has_ended(&sessions[place], &so_far[place]) {
+        return before;
+    }
+    least_left(sessions, so_far)
 }
 
 /// The replies of sessions, put into an empty list that has room for them. Takes no memory.

@@ -17,15 +17,15 @@ use Rattle.bf_sql.specs.Groups.{ends_block, groups_in, no_session, session_at}
 use Rattle.bf_machine.specs.declared.so_far.Began.{Began as BeganGroup}
 use Rattle.bf_machine.specs.declared.so_far.OpenGroup.{OpenGroup}
 use Rattle.bf_machine.specs.declared.so_far.SessionSoFar.{SessionSoFar}
-use Rattle.bf_machine.specs.interleaving.Calls.{CanAbort, CanBegin, CanCommit, CanRefuse, GoesOn, HasSessionEnded, IsNamed, IsPlace}
+use Rattle.bf_machine.specs.interleaving.Calls.{CanAbort, CanBegin, CanCommit, CanRefuse, GoesOn, HasSessionEnded, IsNamed, IsPlace, replies_at}
 use Rattle.bf_machine.specs.interleaving.Kept.{IsCurrent, IsKept, IsOpenGroup}
-use Rattle.bf_machine.specs.interleaving.Machines.{Began, Group, Machine, Open, began_at, open_at, told_at}
+use Rattle.bf_machine.specs.interleaving.Machines.{Began, Group, Machine, Open, began_at, open_at, told_at, with_replies}
 use Rattle.bf_machine.specs.interleaving.Seen.{IsRoomy, IsSound, began_seen, group_seen, open_seen, seen, told_before, told_seen}
 use Rattle.bf_machine.proofs.interleaving.Texts.{are_texts}
 use Rattle.bf_machine.proofs.keeping.Current.{closed_seen, has_ended, has_ended_so}
 use Rattle.bf_machine.proofs.keeping.Places.{open_there, told_there}
+use Rattle.bf_machine.proofs.keeping.Sessions.{replies_joined}
 use Rattle.bf_machine.proofs.keeping.Standing.{abort_end, abort_next, began_within, begins_behind, begins_first, begins_other, begins_unnamed, commit_end, commit_next, goes_on_next, group_next, last_split, named_place, named_within, none_last, refuse_next, waits_for}
-use Rattle.bf_machine.proofs.keeping.Told.{told_within}
 
 -- an item of a list is read whatever stands for one that is not there
 pub item_is : {X : Type 0} (xs : List X) (i : ℕ) (x d : X) → i < length xs → slice_index_or xs i x ≡ x → slice_index_or xs i d ≡ x
@@ -123,6 +123,9 @@ module _ {opening : Database} {given : Script} {script : Script} {retries : ℕ}
   pub told : told_at now s ≡ told_seen x
   told = subst (λ (m : Machine). told_at m s ≡ told_seen x) session.view (told_there script retries db locks began sessions history.items x s low high at)
 
+  pub all_replies_there : replies_at now s ≡ x.replies.items
+  all_replies_there = ap₂ (λ (rs : List Reply) (o : Option Open). with_replies rs o) told opened ∙ replies_joined x.replies.items x.«open»
+
   -- its statements, as the code reads them
   pub own_there : {xs : List Session} {y : Session} {ss : List Statement} → xs ≡ script.sessions → y ≡ slice_index_or xs (s - 1) y
       → ss ≡ (slice_index_or xs (s - 1) y).statements → ss ≡ own
@@ -189,11 +192,9 @@ module _ {opening : Database} {given : Script} {script : Script} {retries : ℕ}
   -- it has ended only where it is read so
   pub not_ended : (y : Session) → y.statements ≡ own → has_ended y x ≡ false → HasSessionEnded now s → ⊥
   not_ended y same not_yet is =
-      let within : length (told_seen x) ≤ length y.statements =
-      subst (λ (ss : List Statement). length (told_seen x) ≤ length ss) (sym same) (subst (λ (rs : List Reply). length rs ≤ length own) told (told_within opening now kept s)) in
       let full : length y.statements ≤ length (told_seen x) =
       subst (λ (ss : List Statement). length ss ≤ length (told_seen x)) (sym same) (subst (λ (rs : List Reply). length own ≤ length rs) told is.0) in
-      false≢true (sym not_yet ∙ has_ended_so y x within (full, sym opened ∙ is.1))
+      false≢true (sym not_yet ∙ has_ended_so y x (full, sym opened ∙ is.1))
 
   pub some_left : (y : Session) → y.statements ≡ own → has_ended y x ≡ false → is_some x.«open» ≡ false → length (told_at now s) < length own
   some_left y same not_yet none = elim (cases_Bool (nat_lt (length (told_at now s)) (length own))) as (λ _. length (told_at now s) < length own) [

@@ -1,5 +1,5 @@
 -- THE MACHINE OF THE CODE, as it is seen, and what else its type keeps.
-use Rattle.std.specs.Prelude.{◌≡◌, ℕ, ◌+◌, ◌-◌, ◌<◌, ◌≤◌, ◌^◌, Bool, List, [], ◌∷◌, map, length, take, drop, Option, Some, None, option_map, count_by, is_some, slice_index_or, vec_capacity, if◌then◌else◌}
+use Rattle.std.specs.Prelude.{◌≡◌, ℕ, ◌+◌, ◌-◌, ◌<◌, ◌≤◌, ◌^◌, ◌⊎◌, Bool, List, [], ◌∷◌, map, length, take, drop, Option, Some, None, option_map, count_by, is_some, slice_index_or, vec_capacity, if◌then◌else◌}
 use Rattle.std.specs.Global.{Vec}
 use Rattle.bf_locks.specs.Locks.{Locks}
 use Rattle.bf_tree.specs.Limits.{HasNarrowTables}
@@ -11,7 +11,7 @@ use Rattle.bf_tree.specs.declared.statement.Statement.{Statement}
 use Rattle.bf_tree.specs.declared.statement.Statement.TheVariants.{Begin}
 use Rattle.bf_sql.specs.Bound.{catalog_of}
 use Rattle.bf_sql.specs.Database.{Database}
-use Rattle.bf_sql.specs.Groups.{ends_block, session_at}
+use Rattle.bf_sql.specs.Groups.{ends_block, no_session, session_at}
 use Rattle.bf_machine.specs.declared.so_far.Began.{Began as BeganGroup}
 use Rattle.bf_machine.specs.declared.so_far.OpenGroup.{OpenGroup}
 use Rattle.bf_machine.specs.declared.so_far.Pending.{Pending as PendingChange}
@@ -55,6 +55,20 @@ seen script retries db locks began sessions history = record {
   told = map told_seen sessions;
   history = history;
 }
+
+-- the session at a place, counted from 0, has ended
+abbrev pub HasEndedAt : List Session → List SessionSoFar → ℕ → Type 0
+HasEndedAt sessions so_far i =
+    (length (slice_index_or sessions i no_session).statements ≤ length (slice_index_or (map told_seen so_far) i []))
+    × (slice_index_or (map open_seen so_far) i None ≡ None)
+
+-- LEAST LEFT of the sessions before place n: the place of one that has not ended, where each of them has ended or is of its
+-- phase or a later one; none where all have ended
+pub record IsLeastLeft (sessions : List Session) (so_far : List SessionSoFar) (n : ℕ) (found : Option ℕ) : Type 0 where
+  pub left : (p : ℕ) → found ≡ Some p → (p < n) × (HasEndedAt sessions so_far p → ⊥)
+  pub least : (i : ℕ) → i < n
+      → HasEndedAt sessions so_far i
+      ⊎ ((p : ℕ) × (found ≡ Some p) × ((slice_index_or sessions p no_session).phase ≤ (slice_index_or sessions i no_session).phase))
 
 -- whether a group is open in a session
 abbrev pub is_open : SessionSoFar → Bool

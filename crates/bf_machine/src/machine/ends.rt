@@ -8,7 +8,7 @@ ghost use Rattle.bf_machine.specs.interleaving.Events.{Aborts, Commits, commits_
 use crate::answer::settle;
 use crate::machine::Machine;
 use crate::opened::Opened;
-use crate::so_far::SessionSoFar;
+use crate::so_far::{SessionSoFar, least_left_behind};
 use crate::stand::Ending;
 use bf_base::Memory;
 use bf_tree::{Entry, Outcome, Reply};
@@ -48,6 +48,12 @@ impl<N: Opened> Machine<N> {
             outcome: Outcome::Committed(number),
         });
         self.commits = number;
+        self.least_left = least_left_behind(
+            self.script.sessions.as_slice(),
+            &self.sessions,
+            self.least_left,
+            place,
+        );
         Ok(Ending::Committed(number))
     }
 
@@ -72,6 +78,12 @@ impl<N: Opened> Machine<N> {
             last,
             outcome: Outcome::RolledBack,
         });
+        self.least_left = least_left_behind(
+            self.script.sessions.as_slice(),
+            &self.sessions,
+            self.least_left,
+            place,
+        );
     }
 }
 

@@ -1,7 +1,6 @@
 //! Where a session stands.
 
-ghost use Rattle.std.specs.Prelude.{◌≡◌, ◌↔◌, ◌≤◌, ◌<◌, ◌+◌, ◌==◌, ◌&&◌, Contains, IfSome, IsTrue, None, is_some, length, true};
-ghost use Rattle.std.specs.Option.{is_none};
+ghost use Rattle.std.specs.Prelude.{◌≡◌, ◌↔◌, ◌≤◌, ◌<◌, ◌+◌, Contains, IfSome, IsTrue, None, is_some, length, true};
 ghost use Rattle.bf_sql.specs.Groups.{groups_in};
 ghost use Rattle.bf_machine.specs.interleaving.Seen.{told_seen};
 ghost use Rattle.bf_machine.specs.interleaving.Calls.{IsPlace, StandsAs, statements_at};
@@ -10,9 +9,9 @@ ghost use Rattle.bf_machine.specs.interleaving.Machines.{Group, open_at, told_at
 
 use crate::machine::Machine;
 use crate::opened::Opened;
-use crate::so_far::SessionSoFar;
+use crate::so_far::{SessionSoFar, has_ended, is_no_later};
 use crate::stand::Stand;
-use bf_tree::{Session, Statement};
+use bf_tree::Statement;
 
 /// How many statements of a session have the replies that stay, whatever becomes of its open group.
 fn count_told(so_far: &SessionSoFar) -> usize
@@ -26,17 +25,9 @@ fn count_told(so_far: &SessionSoFar) -> usize
     }
 }
 
-/// Whether each statement of a session has its reply, and no group of it is open.
-fn has_ended(session: &Session, so_far: &SessionSoFar) -> bool
-    ensures { result ≡ (is_none so_far.now.open
-        && (length so_far.now.replies.items == length session.now.statements)) }
-{
-    so_far.open.is_none() && so_far.replies.len() == session.statements.len()
-}
-
 impl<N: Opened> Machine<N> {
-    /// Where a session stands: which call is its next, if one is. It costs a look at each session,
-    /// and takes no memory.
+    /// Where a session stands: which call is its next, if one is. It costs a constant time, and takes
+    /// no memory.
     pub fn stand(&self, session: u32) -> Stand
         requires { IsPlace self.now.script session }
         ensures { StandsAs self.now session result }
@@ -56,15 +47,17 @@ impl<N: Opened> Machine<N> {
         }
     }
 
-    /// Whether the sessions of phases before a session's have ended.
-    fn is_current(&self, session: u32) -> bool
+    /// Whether the sessions of phases before a session's have ended. It costs a constant time: the
+    /// machine keeps a session of the earliest phase that is left.
+    pub fn is_current(&self, session: u32) -> bool
         requires { IsPlace self.now.script session }
         ensures { (result ≡ true) ↔ IsCurrent self.now session }
     {
         let sessions = self.script.sessions.as_slice();
-        let phase = sessions[session as usize - 1].phase;
-        let mut others = sessions.iter().zip(self.sessions.iter());
-        others.all(|(other, so_far)| phase <= other.phase || has_ended(other, so_far))
+        match self.least_left {
+            Some(least) => is_no_later(sessions, session as usize - 1, least),
+            None => true,
+        }
     }
 
     /// Where a session stands that has an open group: at the group's next statement, or at its end.

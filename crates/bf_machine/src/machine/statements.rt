@@ -14,7 +14,7 @@ ghost use Rattle.bf_machine.specs.interleaving.Seen.{pending_seen};
 use crate::answer::answer;
 use crate::machine::Machine;
 use crate::opened::Opened;
-use crate::so_far::OpenGroup;
+use crate::so_far::{OpenGroup, least_left_behind};
 use crate::stand::Step;
 use bf_base::Memory;
 use bf_live::LiveTables;
@@ -45,6 +45,12 @@ impl<N: Opened> Machine<N> {
         let so_far = &mut self.sessions[place];
         let reply = reply_in(self.alloc, &self.live, &mut so_far.open, bound)?;
         so_far.replies.push_reserved(reply);
+        self.least_left = least_left_behind(
+            self.script.sessions.as_slice(),
+            &self.sessions,
+            self.least_left,
+            place,
+        );
         Ok(Step::Replied)
     }
 }

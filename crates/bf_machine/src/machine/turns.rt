@@ -9,7 +9,8 @@ ghost use Rattle.bf_machine.specs.interleaving.Events.{Asks, Begins};
 use crate::machine::Machine;
 use crate::opened::Opened;
 use crate::so_far::{
-    Began, OpenGroup, Pending, SessionSoFar, close_at_death, last_of_group, told_count,
+    Began, OpenGroup, Pending, SessionSoFar, close_at_death, last_of_group, least_left_behind,
+    told_count,
 };
 use bf_base::Memory;
 use bf_locks::{LockAnswer, LockName, Mode};
@@ -79,6 +80,12 @@ impl<N: Opened> Machine<N> {
         let told = told_count(first, last, deaths.len(), self.retries);
         close_at_death(&mut self.sessions[place], first, told, *older);
         self.locks.free_all(start);
+        self.least_left = least_left_behind(
+            self.script.sessions.as_slice(),
+            &self.sessions,
+            self.least_left,
+            place,
+        );
         Ok(answer)
     }
 }

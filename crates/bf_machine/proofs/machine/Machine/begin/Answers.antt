@@ -7,11 +7,14 @@ use Rattle.bf_tree.specs.declared.statement.Statement.{Statement}
 use Rattle.bf_sql.specs.Groups.{session_at}
 use Rattle.bf_machine.specs.declared.so_far.Began.{Began as BeganGroup}
 use Rattle.bf_machine.specs.declared.so_far.SessionSoFar.{SessionSoFar}
+use Rattle.bf_machine.specs.declared.stand.Stand.TheVariants as stand
 use Rattle.bf_machine.specs.interleaving.Calls.{CanBegin, IsPlace}
 use Rattle.bf_machine.specs.interleaving.Events.{Begins}
 use Rattle.bf_machine.specs.interleaving.Machines.{Machine}
 use Rattle.bf_machine.specs.interleaving.Seen.{last_from, open_seen, seen}
 use Rattle.bf_machine.proofs.keeping.Opening.{again_all, begun_all, latest_within, reserved_sound, same_item, session_there, size_fits, within}
+use Rattle.bf_machine.proofs.keeping.LeastLeft.{goes_on_at, least_stays, open_then}
+use Rattle.bf_machine.proofs.served.Exclusive.{goes_has_not_ended}
 use Rattle.bf_machine.proofs.machine.Machine.begin.Goals as goal
 
 pub overflow_cast-first : goal.overflow_cast-first
@@ -21,11 +24,11 @@ overflow_cast-first g c =
     let x : SessionSoFar = c.index-so_far.result.now in
     let m : Machine = seen i.script i.retries i.live i.locks i.began.items i.sessions.items i.history.items in
     let place : IsPlace i.script s = subst (λ (m : Machine). IsPlace m.script s) (sym c.self.view_is) c.requires.place in
-    let high : s ≤ length i.sessions.items = omega (arith, place.1, c.self.invariant.kept.shaped.opens, length-map i.sessions.items open_seen) in
+    let high : s ≤ length i.sessions.items = omega (arith, place.1, c.self.invariant.0.kept.shaped.opens, length-map i.sessions.items open_seen) in
     let can : CanBegin m s = subst (λ (m : Machine). CanBegin m s) (sym c.self.view_is) c.requires.can in
     let size =
     size_fits i.script i.retries i.live i.locks i.began.items i.sessions.items i.history i.commits i.transcripts
-    c.self.invariant s place.0 high x (sym c.index-so_far.ensures) can.0 can.1 in
+    c.self.invariant.0 s place.0 high x (sym c.index-so_far.ensures) can.0 can.1 in
     omega (arith, size.0, c.len-2.ensures, x.replies.ok.0)
 
 pub overflow_add-first : goal.overflow_add-first
@@ -35,11 +38,11 @@ overflow_add-first g c =
     let x : SessionSoFar = c.index-so_far.result.now in
     let m : Machine = seen i.script i.retries i.live i.locks i.began.items i.sessions.items i.history.items in
     let place : IsPlace i.script s = subst (λ (m : Machine). IsPlace m.script s) (sym c.self.view_is) c.requires.place in
-    let high : s ≤ length i.sessions.items = omega (arith, place.1, c.self.invariant.kept.shaped.opens, length-map i.sessions.items open_seen) in
+    let high : s ≤ length i.sessions.items = omega (arith, place.1, c.self.invariant.0.kept.shaped.opens, length-map i.sessions.items open_seen) in
     let can : CanBegin m s = subst (λ (m : Machine). CanBegin m s) (sym c.self.view_is) c.requires.can in
     let size =
     size_fits i.script i.retries i.live i.locks i.began.items i.sessions.items i.history i.commits i.transcripts
-    c.self.invariant s place.0 high x (sym c.index-so_far.ensures) can.0 can.1 in
+    c.self.invariant.0 s place.0 high x (sym c.index-so_far.ensures) can.0 can.1 in
     omega (arith, size.0, c.len-2.ensures, x.replies.ok.0)
 
 pub last_again-requires : goal.last_again-requires
@@ -49,11 +52,11 @@ last_again-requires g c =
     let x : SessionSoFar = c.index-so_far.result.now in
     let m : Machine = seen i.script i.retries i.live i.locks i.began.items i.sessions.items i.history.items in
     let place : IsPlace i.script s = subst (λ (m : Machine). IsPlace m.script s) (sym c.self.view_is) c.requires.place in
-    let high : s ≤ length i.sessions.items = omega (arith, place.1, c.self.invariant.kept.shaped.opens, length-map i.sessions.items open_seen) in
+    let high : s ≤ length i.sessions.items = omega (arith, place.1, c.self.invariant.0.kept.shaped.opens, length-map i.sessions.items open_seen) in
     let can : CanBegin m s = subst (λ (m : Machine). CanBegin m s) (sym c.self.view_is) c.requires.can in
     let low =
     latest_within i.script i.retries i.live i.locks i.began.items i.sessions.items i.history i.commits i.transcripts
-    c.self.invariant s place.0 high x (sym c.index-so_far.ensures) in
+    c.self.invariant.0 s place.0 high x (sym c.index-so_far.ensures) in
     rw c.deref.ensures.value low
 
 pub invariant_of-self-in-Some : goal.invariant_of-self-in-Some
@@ -63,7 +66,7 @@ invariant_of-self-in-Some g c =
     let x : SessionSoFar = c.index-so_far.result.now in
     let m : Machine = seen i.script i.retries i.live i.locks i.began.items i.sessions.items i.history.items in
     let place : IsPlace i.script s = subst (λ (m : Machine). IsPlace m.script s) (sym c.self.view_is) c.requires.place in
-    let high : s ≤ length i.sessions.items = omega (arith, place.1, c.self.invariant.kept.shaped.opens, length-map i.sessions.items open_seen) in
+    let high : s ≤ length i.sessions.items = omega (arith, place.1, c.self.invariant.0.kept.shaped.opens, length-map i.sessions.items open_seen) in
     let can : CanBegin m s = subst (λ (m : Machine). CanBegin m s) (sym c.self.view_is) c.requires.can in
     let room : length i.history.items + length i.sessions.items ≤ vec_capacity c.reserve.new.self =
     omega (arith, c.in_ok-reserve.ensures.ok, c.in_ok-reserve.ensures.len, c.len.ensures, i.history.ok.0, i.sessions.ok.0) in
@@ -77,11 +80,15 @@ invariant_of-self-in-Some g c =
     let b : BeganGroup = found.1 in
     let all =
     again_all i.script i.retries i.live i.locks i.began.items i.sessions.items i.history i.commits i.transcripts
-    c.self.invariant s place.0 high x (sym c.index-so_far.ensures) can.0 can.1
+    c.self.invariant.0 s place.0 high x (sym c.index-so_far.ensures) can.0 can.1
     c.reserve.new.self c.in_ok-reserve.ensures.items room y (c.open_group.ensures.replies ∙ ap (λ (z : SessionSoFar). z.replies) same) first starts
     found.0 b (found.2 ∙ ap (λ (bs : List BeganGroup). slice_index_or bs (x.latest - 1) b) c.deref.ensures.value) found.3 c.in-Some.last found.4
     c.open_group.ensures.opened c.open_group.ensures.latest in
-    all.1
+    let goes_on = goes_on_at i.script i.retries i.live i.locks i.began.items i.sessions.items i.history.items s place.0 (goes_has_not_ended m c.self.invariant.0.kept s (stand.Begin, can, refl)) in (
+      all.1,
+      least_stays i.script.sessions i.sessions.items (s - 1) y i.least_left c.self.invariant.1 goes_on
+          (λ is. open_then i.script.sessions i.sessions.items (s - 1) y below _ c.open_group.ensures.opened),
+    )
 
 pub returns-in-Some-clause-begins : goal.returns-in-Some-clause-begins
 returns-in-Some-clause-begins g c =
@@ -90,7 +97,7 @@ returns-in-Some-clause-begins g c =
     let x : SessionSoFar = c.index-so_far.result.now in
     let m : Machine = seen i.script i.retries i.live i.locks i.began.items i.sessions.items i.history.items in
     let place : IsPlace i.script s = subst (λ (m : Machine). IsPlace m.script s) (sym c.self.view_is) c.requires.place in
-    let high : s ≤ length i.sessions.items = omega (arith, place.1, c.self.invariant.kept.shaped.opens, length-map i.sessions.items open_seen) in
+    let high : s ≤ length i.sessions.items = omega (arith, place.1, c.self.invariant.0.kept.shaped.opens, length-map i.sessions.items open_seen) in
     let can : CanBegin m s = subst (λ (m : Machine). CanBegin m s) (sym c.self.view_is) c.requires.can in
     let room : length i.history.items + length i.sessions.items ≤ vec_capacity c.reserve.new.self =
     omega (arith, c.in_ok-reserve.ensures.ok, c.in_ok-reserve.ensures.len, c.len.ensures, i.history.ok.0, i.sessions.ok.0) in
@@ -104,7 +111,7 @@ returns-in-Some-clause-begins g c =
     let b : BeganGroup = found.1 in
     let all =
     again_all i.script i.retries i.live i.locks i.began.items i.sessions.items i.history i.commits i.transcripts
-    c.self.invariant s place.0 high x (sym c.index-so_far.ensures) can.0 can.1
+    c.self.invariant.0 s place.0 high x (sym c.index-so_far.ensures) can.0 can.1
     c.reserve.new.self c.in_ok-reserve.ensures.items room y (c.open_group.ensures.replies ∙ ap (λ (z : SessionSoFar). z.replies) same) first starts
     found.0 b (found.2 ∙ ap (λ (bs : List BeganGroup). slice_index_or bs (x.latest - 1) b) c.deref.ensures.value) found.3 c.in-Some.last found.4
     c.open_group.ensures.opened c.open_group.ensures.latest in
@@ -118,7 +125,7 @@ last_of_group-last-requires-clause-within g c =
     let x : SessionSoFar = c.index-so_far.result.now in
     let m : Machine = seen i.script i.retries i.live i.locks i.began.items i.sessions.items i.history.items in
     let place : IsPlace i.script s = subst (λ (m : Machine). IsPlace m.script s) (sym c.self.view_is) c.requires.place in
-    let high : s ≤ length i.sessions.items = omega (arith, place.1, c.self.invariant.kept.shaped.opens, length-map i.sessions.items open_seen) in
+    let high : s ≤ length i.sessions.items = omega (arith, place.1, c.self.invariant.0.kept.shaped.opens, length-map i.sessions.items open_seen) in
     let can : CanBegin m s = subst (λ (m : Machine). CanBegin m s) (sym c.self.view_is) c.requires.can in
     let own : Session = c.index-as_slice-place.result in
     let there : own ≡ slice_index_or i.script.sessions (s - 1) own =
@@ -128,7 +135,7 @@ last_of_group-last-requires-clause-within g c =
     ∙ (ap (λ (a : Session). a.statements) (sym c.index-as_slice-place.is) ∙ ap (λ (a : Session). a.statements) (session_there i.script s own place.0 place.1 there)) in
     let there_is =
     within i.script i.retries i.live i.locks i.began.items i.sessions.items i.history i.commits i.transcripts
-    c.self.invariant s place.0 high x (sym c.index-so_far.ensures) can.0 can.1 in
+    c.self.invariant.0 s place.0 high x (sym c.index-so_far.ensures) can.0 can.1 in
     let size : length c.as_slice-statements.result.now ≡ length (session_at i.script s).statements = ap (λ (ss : List Statement). length ss) statements in
     omega (arith, there_is, size, c.len-2.ensures, x.replies.ok.0)
 
@@ -139,7 +146,7 @@ last_of_group-last-requires-clause-numbers g c =
     let x : SessionSoFar = c.index-so_far.result.now in
     let m : Machine = seen i.script i.retries i.live i.locks i.began.items i.sessions.items i.history.items in
     let place : IsPlace i.script s = subst (λ (m : Machine). IsPlace m.script s) (sym c.self.view_is) c.requires.place in
-    let high : s ≤ length i.sessions.items = omega (arith, place.1, c.self.invariant.kept.shaped.opens, length-map i.sessions.items open_seen) in
+    let high : s ≤ length i.sessions.items = omega (arith, place.1, c.self.invariant.0.kept.shaped.opens, length-map i.sessions.items open_seen) in
     let can : CanBegin m s = subst (λ (m : Machine). CanBegin m s) (sym c.self.view_is) c.requires.can in
     let own : Session = c.index-as_slice-place.result in
     let there : own ≡ slice_index_or i.script.sessions (s - 1) own =
@@ -149,16 +156,18 @@ last_of_group-last-requires-clause-numbers g c =
     ∙ (ap (λ (a : Session). a.statements) (sym c.index-as_slice-place.is) ∙ ap (λ (a : Session). a.statements) (session_there i.script s own place.0 place.1 there)) in
     let fits =
     size_fits i.script i.retries i.live i.locks i.began.items i.sessions.items i.history i.commits i.transcripts
-    c.self.invariant s place.0 high x (sym c.index-so_far.ensures) can.0 can.1 in
+    c.self.invariant.0 s place.0 high x (sym c.index-so_far.ensures) can.0 can.1 in
     let size : length c.as_slice-statements.result.now ≡ length (session_at i.script s).statements = ap (λ (ss : List Statement). length ss) statements in
     omega (arith, fits.1, size)
 
 pub invariant_of-self-in_err-push : goal.invariant_of-self-in_err-push
 invariant_of-self-in_err-push g c =
-    let i = c.self.inside in
-    rw c.in_err-push.ensures.items
-    (reserved_sound i.script i.retries i.live i.locks i.began.items i.sessions.items i.history i.commits i.transcripts c.self.invariant c.reserve.new.self c.in_ok-reserve.ensures.items
-    c.in_ok-reserve.ensures.capacity)
+    let i = c.self.inside in (
+      rw c.in_err-push.ensures.items
+          (reserved_sound i.script i.retries i.live i.locks i.began.items i.sessions.items i.history i.commits i.transcripts c.self.invariant.0 c.reserve.new.self c.in_ok-reserve.ensures.items
+          c.in_ok-reserve.ensures.capacity),
+      c.self.invariant.1,
+    )
 
 pub invariant_of-self-2 : goal.invariant_of-self-2
 invariant_of-self-2 g c =
@@ -167,7 +176,7 @@ invariant_of-self-2 g c =
     let x : SessionSoFar = c.index-so_far.result.now in
     let m : Machine = seen i.script i.retries i.live i.locks i.began.items i.sessions.items i.history.items in
     let place : IsPlace i.script s = subst (λ (m : Machine). IsPlace m.script s) (sym c.self.view_is) c.requires.place in
-    let high : s ≤ length i.sessions.items = omega (arith, place.1, c.self.invariant.kept.shaped.opens, length-map i.sessions.items open_seen) in
+    let high : s ≤ length i.sessions.items = omega (arith, place.1, c.self.invariant.0.kept.shaped.opens, length-map i.sessions.items open_seen) in
     let can : CanBegin m s = subst (λ (m : Machine). CanBegin m s) (sym c.self.view_is) c.requires.can in
     let room : length i.history.items + length i.sessions.items ≤ vec_capacity c.reserve.new.self =
     omega (arith, c.in_ok-reserve.ensures.ok, c.in_ok-reserve.ensures.len, c.len.ensures, i.history.ok.0, i.sessions.ok.0) in
@@ -193,10 +202,14 @@ invariant_of-self-2 g c =
     let start : c.len-start.result ≡ length began = omega (arith, c.len-start.ensures, c.push.new.self.ok.0) in
     let all =
     begun_all i.script i.retries i.live i.locks i.began.items i.sessions.items i.history i.commits i.transcripts
-    c.self.invariant s place.0 high x (sym c.index-so_far.ensures) can.0 can.1
+    c.self.invariant.0 s place.0 high x (sym c.index-so_far.ensures) can.0 can.1
     c.reserve.new.self c.in_ok-reserve.ensures.items room y (c.open_group-2.ensures.replies ∙ ap (λ (z : SessionSoFar). z.replies) same) first starts
     another last last_so c.new.result c.new.ensures.items began pushed c.len-start.result start c.open_group-2.ensures.opened c.open_group-2.ensures.latest in
-    all.1
+    let goes_on = goes_on_at i.script i.retries i.live i.locks i.began.items i.sessions.items i.history.items s place.0 (goes_has_not_ended m c.self.invariant.0.kept s (stand.Begin, can, refl)) in (
+      all.1,
+      least_stays i.script.sessions i.sessions.items (s - 1) y i.least_left c.self.invariant.1 goes_on
+          (λ is. open_then i.script.sessions i.sessions.items (s - 1) y below _ c.open_group-2.ensures.opened),
+    )
 
 pub returns-clause-begins : goal.returns-clause-begins
 returns-clause-begins g c =
@@ -205,7 +218,7 @@ returns-clause-begins g c =
     let x : SessionSoFar = c.index-so_far.result.now in
     let m : Machine = seen i.script i.retries i.live i.locks i.began.items i.sessions.items i.history.items in
     let place : IsPlace i.script s = subst (λ (m : Machine). IsPlace m.script s) (sym c.self.view_is) c.requires.place in
-    let high : s ≤ length i.sessions.items = omega (arith, place.1, c.self.invariant.kept.shaped.opens, length-map i.sessions.items open_seen) in
+    let high : s ≤ length i.sessions.items = omega (arith, place.1, c.self.invariant.0.kept.shaped.opens, length-map i.sessions.items open_seen) in
     let can : CanBegin m s = subst (λ (m : Machine). CanBegin m s) (sym c.self.view_is) c.requires.can in
     let room : length i.history.items + length i.sessions.items ≤ vec_capacity c.reserve.new.self =
     omega (arith, c.in_ok-reserve.ensures.ok, c.in_ok-reserve.ensures.len, c.len.ensures, i.history.ok.0, i.sessions.ok.0) in
@@ -231,7 +244,7 @@ returns-clause-begins g c =
     let start : c.len-start.result ≡ length began = omega (arith, c.len-start.ensures, c.push.new.self.ok.0) in
     let all =
     begun_all i.script i.retries i.live i.locks i.began.items i.sessions.items i.history i.commits i.transcripts
-    c.self.invariant s place.0 high x (sym c.index-so_far.ensures) can.0 can.1
+    c.self.invariant.0 s place.0 high x (sym c.index-so_far.ensures) can.0 can.1
     c.reserve.new.self c.in_ok-reserve.ensures.items room y (c.open_group-2.ensures.replies ∙ ap (λ (z : SessionSoFar). z.replies) same) first starts
     another last last_so c.new.result c.new.ensures.items began pushed c.len-start.result start c.open_group-2.ensures.opened c.open_group-2.ensures.latest in
     let next : Machine = seen i.script i.retries i.live i.locks began (slice_set i.sessions.items (s - 1) y) c.reserve.new.self.items in

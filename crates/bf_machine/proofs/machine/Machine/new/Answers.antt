@@ -1,11 +1,21 @@
 -- Nothing has begun.
-use Rattle.std.proofs.Common.{◌≡◌, ◌^◌, ◌<◌, ◌≤◌, List, length, vec_capacity, subst, arith}
+use Rattle.std.proofs.Common.{◌≡◌, ◌+◌, ◌^◌, ◌<◌, ◌≤◌, List, length, vec_capacity, sym, ap, subst, arith}
 use Rattle.bf_tree.specs.declared.script.Session.{Session}
 use Rattle.bf_sql.specs.Database.{Database}
+use Rattle.bf_machine.specs.declared.so_far.SessionSoFar.{SessionSoFar}
 use Rattle.bf_machine.specs.interleaving.Kept.{fresh}
-use Rattle.bf_machine.specs.interleaving.Seen.{AreNew, IsSound, seen}
-use Rattle.bf_machine.proofs.keeping.Fresh.{new_is_sound, seen_new}
+use Rattle.bf_machine.specs.interleaving.Seen.{AreNew, IsLeastLeft, IsSound, seen}
+use Rattle.bf_machine.proofs.keeping.Fresh.{new_is_sound, new_length, seen_new}
 use Rattle.bf_machine.proofs.machine.Machine.new.Goals as goal
+
+pub least_left-least_left-requires : goal.least_left-least_left-requires
+least_left-least_left-requires g c =
+    let script = c.args.script in
+    let sessions = c.in_ok-sessions.sessions.items in
+    let all : AreNew script.sessions sessions = subst (λ (ss : List Session). AreNew ss sessions) c.as_slice.ensures c.in_ok-sessions.ensures in
+    let own = ap (λ (xs : List Session). length xs) c.as_slice-2.ensures in
+    let made = ap (λ (ys : List SessionSoFar). length ys) c.deref.ensures.value in
+    omega (arith, own, made, new_length script.sessions sessions all)
 
 pub invariant_of-result : goal.invariant_of-result
 invariant_of-result g c =
@@ -19,8 +29,13 @@ invariant_of-result g c =
     rw (c.new.ensures.empty, c.new-2.ensures.items)
     (new_is_sound start g.N.Opened.script script c.args.retries sessions c.new-3.result c.in_ok-transcripts.transcripts c.catalog.ensures.database c.requires.narrow c.requires.script
     all c.new-3.ensures.items numbers c.in_ok-transcripts.ensures.items room) in
-    subst (λ (opening : Database). IsSound opening g.N.Opened.script script c.args.retries start c.new.result c.new-2.result.items sessions c.new-3.result 0 c.in_ok-transcripts.transcripts)
-    c.requires.opening sound
+    let least : IsLeastLeft script.sessions sessions (length sessions) c.least_left-least_left.result =
+    subst (λ (ys : List SessionSoFar). IsLeastLeft script.sessions ys (length ys) c.least_left-least_left.result) c.deref.ensures.value
+    (subst (λ (xs : List Session). IsLeastLeft xs c.deref.result.now (length c.deref.result.now) c.least_left-least_left.result) c.as_slice-2.ensures c.least_left-least_left.ensures) in (
+      subst (λ (opening : Database). IsSound opening g.N.Opened.script script c.args.retries start c.new.result c.new-2.result.items sessions c.new-3.result 0 c.in_ok-transcripts.transcripts)
+          c.requires.opening sound,
+      least,
+    )
 
 pub returns : goal.returns
 returns g c =

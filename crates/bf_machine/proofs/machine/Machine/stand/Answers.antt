@@ -8,7 +8,7 @@ use Rattle.bf_machine.proofs.machine.Machine.stand.Goals as goal
 
 pub returns-then-not-is_current : goal.returns-then-not-is_current
 returns-then-not-is_current g c =
-    let there = is_there c.self.invariant c.self.view_is c.requires c.index-so_far.ensures in
+    let there = is_there c.self.invariant.0 c.self.view_is c.requires c.index-so_far.ensures in
     let y : Session = c.index-as_slice-place.result in
     let own = own_there there c.as_slice.ensures c.index-as_slice-place.is (ap (λ (x : Session). x.statements) c.index-as_slice-place.is) in
     let not_yet : has_ended y c.index-so_far.result.now ≡ false = sym c.has_ended.ensures ∙ c.if-has_ended.false in
@@ -16,17 +16,17 @@ returns-then-not-is_current g c =
 
 pub stand_in_group-requires-clause-opened : goal.stand_in_group-requires-clause-opened
 stand_in_group-requires-clause-opened g c =
-    let there = is_there c.self.invariant c.self.view_is c.requires c.index-so_far.ensures in
+    let there = is_there c.self.invariant.0 c.self.view_is c.requires c.index-so_far.ensures in
     some_open there (sym c.is_some.ensures ∙ c.if-is_some.true)
 
 pub stand_between_groups-requires-clause-closed : goal.stand_between_groups-requires-clause-closed
 stand_between_groups-requires-clause-closed g c =
-    let there = is_there c.self.invariant c.self.view_is c.requires c.index-so_far.ensures in
+    let there = is_there c.self.invariant.0 c.self.view_is c.requires c.index-so_far.ensures in
     none_open there (sym c.is_some.ensures ∙ c.if-is_some.false)
 
 pub stand_between_groups-requires-clause-left : goal.stand_between_groups-requires-clause-left
 stand_between_groups-requires-clause-left g c =
-    let there = is_there c.self.invariant c.self.view_is c.requires c.index-so_far.ensures in
+    let there = is_there c.self.invariant.0 c.self.view_is c.requires c.index-so_far.ensures in
     let y : Session = c.index-as_slice-place.result in
     let own = own_there there c.as_slice.ensures c.index-as_slice-place.is (ap (λ (x : Session). x.statements) c.index-as_slice-place.is) in
     let not_yet : has_ended y c.index-so_far.result.now ≡ false = sym c.has_ended.ensures ∙ c.if-has_ended.false in

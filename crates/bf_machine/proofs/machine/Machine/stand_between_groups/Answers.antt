@@ -7,7 +7,7 @@ use Rattle.bf_machine.proofs.machine.Machine.stand_between_groups.Goals as goal
 
 pub stand_before_group-requires : goal.stand_before_group-requires
 stand_before_group-requires g c =
-    let there = is_there c.self.invariant c.self.view_is c.requires.place c.index.ensures in
+    let there = is_there c.self.invariant.0 c.self.view_is c.requires.place c.index.ensures in
     let own = own_there there c.as_slice.ensures c.index-as_slice-place.is c.as_slice-statements.ensures in
     let count : c.len-answered.result ≡ length c.index.result.now.replies.items =
     omega (arith, c.len-answered.ensures, c.index.result.now.replies.ok.0) in
@@ -25,7 +25,7 @@ stand_before_group-requires g c =
 
 pub overflow_cast-result : goal.overflow_cast-result
 overflow_cast-result g c =
-    let there = is_there c.self.invariant c.self.view_is c.requires.place c.index.ensures in
+    let there = is_there c.self.invariant.0 c.self.view_is c.requires.place c.index.ensures in
     let count : c.len-answered.result ≡ length c.index.result.now.replies.items =
     omega (arith, c.len-answered.ensures, c.index.result.now.replies.ok.0) in
     let told = told_count there c.requires.current c.requires.closed in
@@ -35,7 +35,7 @@ overflow_cast-result g c =
 
 pub overflow_add-result : goal.overflow_add-result
 overflow_add-result g c =
-    let there = is_there c.self.invariant c.self.view_is c.requires.place c.index.ensures in
+    let there = is_there c.self.invariant.0 c.self.view_is c.requires.place c.index.ensures in
     let count : c.len-answered.result ≡ length c.index.result.now.replies.items =
     omega (arith, c.len-answered.ensures, c.index.result.now.replies.ok.0) in
     let told = told_count there c.requires.current c.requires.closed in
@@ -45,7 +45,7 @@ overflow_add-result g c =
 
 pub returns-in-Commit : goal.returns-in-Commit
 returns-in-Commit g c =
-    let there = is_there c.self.invariant c.self.view_is c.requires.place c.index.ensures in
+    let there = is_there c.self.invariant.0 c.self.view_is c.requires.place c.index.ensures in
     let own = own_there there c.as_slice.ensures c.index-as_slice-place.is c.as_slice-statements.ensures in
     let count : c.len-answered.result ≡ length c.index.result.now.replies.items =
     omega (arith, c.len-answered.ensures, c.index.result.now.replies.ok.0) in

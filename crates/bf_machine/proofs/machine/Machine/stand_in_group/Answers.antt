@@ -9,7 +9,7 @@ use Rattle.bf_machine.proofs.machine.Machine.stand_in_group.Goals as goal
 
 pub bounds-statements-answered : goal.bounds-statements-answered
 bounds-statements-answered g c =
-    let there = is_there c.self.invariant c.self.view_is c.requires.place c.index-so_far.ensures in
+    let there = is_there c.self.invariant.0 c.self.view_is c.requires.place c.index-so_far.ensures in
     let own = own_there there c.as_slice.ensures c.index-as_slice-place.is c.as_slice-statements.ensures in
     let count : c.len-answered.result ≡ length c.index-so_far.result.now.replies.items =
     omega (arith, c.len-answered.ensures, c.index-so_far.result.now.replies.ok.0) in
@@ -20,7 +20,7 @@ bounds-statements-answered g c =
 
 pub returns-in-Commit : goal.returns-in-Commit
 returns-in-Commit g c =
-    let there = is_there c.self.invariant c.self.view_is c.requires.place c.index-so_far.ensures in
+    let there = is_there c.self.invariant.0 c.self.view_is c.requires.place c.index-so_far.ensures in
     let own = own_there there c.as_slice.ensures c.index-as_slice-place.is c.as_slice-statements.ensures in
     let count : c.len-answered.result ≡ length c.index-so_far.result.now.replies.items =
     omega (arith, c.len-answered.ensures, c.index-so_far.result.now.replies.ok.0) in
@@ -30,7 +30,7 @@ returns-in-Commit g c =
 
 pub returns-in-Rollback : goal.returns-in-Rollback
 returns-in-Rollback g c =
-    let there = is_there c.self.invariant c.self.view_is c.requires.place c.index-so_far.ensures in
+    let there = is_there c.self.invariant.0 c.self.view_is c.requires.place c.index-so_far.ensures in
     let own = own_there there c.as_slice.ensures c.index-as_slice-place.is c.as_slice-statements.ensures in
     let count : c.len-answered.result ≡ length c.index-so_far.result.now.replies.items =
     omega (arith, c.len-answered.ensures, c.index-so_far.result.now.replies.ok.0) in
@@ -40,7 +40,7 @@ returns-in-Rollback g c =
 
 pub returns-in_default-statements : goal.returns-in_default-statements
 returns-in_default-statements g c =
-    let there = is_there c.self.invariant c.self.view_is c.requires.place c.index-so_far.ensures in
+    let there = is_there c.self.invariant.0 c.self.view_is c.requires.place c.index-so_far.ensures in
     let own = own_there there c.as_slice.ensures c.index-as_slice-place.is c.as_slice-statements.ensures in
     let count : c.len-answered.result ≡ length c.index-so_far.result.now.replies.items =
     omega (arith, c.len-answered.ensures, c.index-so_far.result.now.replies.ok.0) in
@@ -51,12 +51,12 @@ returns-in_default-statements g c =
 
 pub overflow_sub-group : goal.overflow_sub-group
 overflow_sub-group g c =
-    let there = is_there c.self.invariant c.self.view_is c.requires.place c.index-so_far.ensures in
+    let there = is_there c.self.invariant.0 c.self.view_is c.requires.place c.index-so_far.ensures in
     (bounds there c.in-Some.group c.in-Some.is).0
 
 pub bounds-statements-group : goal.bounds-statements-group
 bounds-statements-group g c =
-    let there = is_there c.self.invariant c.self.view_is c.requires.place c.index-so_far.ensures in
+    let there = is_there c.self.invariant.0 c.self.view_is c.requires.place c.index-so_far.ensures in
     let own = own_there there c.as_slice.ensures c.index-as_slice-place.is c.as_slice-statements.ensures in
     let limits = bounds there c.in-Some.group c.in-Some.is in
     let size : length c.as_slice-statements.result.now ≡ length (session_at c.args.self.now.script c.args.session).statements =
@@ -65,7 +65,7 @@ bounds-statements-group g c =
 
 pub returns-in-Begin : goal.returns-in-Begin
 returns-in-Begin g c =
-    let there = is_there c.self.invariant c.self.view_is c.requires.place c.index-so_far.ensures in
+    let there = is_there c.self.invariant.0 c.self.view_is c.requires.place c.index-so_far.ensures in
     let own = own_there there c.as_slice.ensures c.index-as_slice-place.is c.as_slice-statements.ensures in
     let count : c.len-answered.result ≡ length c.index-so_far.result.now.replies.items =
     omega (arith, c.len-answered.ensures, c.index-so_far.result.now.replies.ok.0) in
@@ -75,7 +75,7 @@ returns-in-Begin g c =
 
 pub returns-in_default-statements-2 : goal.returns-in_default-statements-2
 returns-in_default-statements-2 g c =
-    let there = is_there c.self.invariant c.self.view_is c.requires.place c.index-so_far.ensures in
+    let there = is_there c.self.invariant.0 c.self.view_is c.requires.place c.index-so_far.ensures in
     let own = own_there there c.as_slice.ensures c.index-as_slice-place.is c.as_slice-statements.ensures in
     let count : c.len-answered.result ≡ length c.index-so_far.result.now.replies.items =
     omega (arith, c.len-answered.ensures, c.index-so_far.result.now.replies.ok.0) in
