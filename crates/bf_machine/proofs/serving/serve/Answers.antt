@@ -11,7 +11,7 @@ pub returns-in_err-reply_to-clause-reaches : goal.returns-in_err-reply_to-clause
 returns-in_err-reply_to-clause-reaches g c = subst (Reaches g.N.Opened.opening c.args.machine.now) (sym c.in_err-reply_to.ensures.err) at_once
 
 pub returns-clause-reaches : goal.returns-clause-reaches
-returns-clause-reaches g c = (replies_now c.args.machine.now c.args.session c.requires.kept c.in_ok-bound.bound c.reply_to.new.machine c.in_ok-reply_to.ensures.replied).0
+returns-clause-reaches g c = (replies_now c.args.machine.now c.args.session c.requires.kept c.in_ok-bound.bound c.reply_to.new.machine c.in_ok-reply_to.ensures.replied).reached
 
 pub returns-clause-turn : goal.returns-clause-turn
-returns-clause-turn g c = (replies_now c.args.machine.now c.args.session c.requires.kept c.in_ok-bound.bound c.reply_to.new.machine c.in_ok-reply_to.ensures.replied).1
+returns-clause-turn g c = replies_now c.args.machine.now c.args.session c.requires.kept c.in_ok-bound.bound c.reply_to.new.machine c.in_ok-reply_to.ensures.replied
