@@ -6,7 +6,7 @@ ghost use Rattle.bf_machine.specs.interleaving.Calls.{CanExec, CanRefuse, HasRep
 ghost use Rattle.bf_machine.specs.interleaving.Events.{Begins, Reaches};
 ghost use Rattle.bf_machine.specs.interleaving.Kept.{IsKept};
 ghost use Rattle.bf_machine.specs.interleaving.Machines.{Machine as Seen, Open, open_at};
-ghost use Rattle.bf_machine.specs.interleaving.Serving.{CanGo, CannotGo, Driven, HasLocked, IsAlone, IsBoundNext, IsInSequence, IsServable, IsToLock, IsTurn, IsTurnOf, IsYoungest, Serves, Turned, can_go, deaths_at, unanswered};
+ghost use Rattle.bf_machine.specs.interleaving.Serving.{CanGo, CannotGo, Driven, HasLocked, HasMore, IsAlone, IsBoundNext, IsInSequence, IsServable, IsToLock, IsTurn, IsTurnOf, IsYoungest, Serves, Turned, can_go, deaths_at, unanswered};
 ghost use Rattle.bf_machine.specs.declared.serving.Turn.TheVariants.{Served};
 
 use crate::machine::Machine;
@@ -64,6 +64,7 @@ fn end_if_answered<N: Opened>(machine: &mut Machine<N>, session: u32) -> Result<
     ensures serves { OnOk result (Serves machine.old session machine.new) }
     ensures replies { OnOk result
         (unanswered machine.new session ≡ unanswered machine.old session) }
+    ensures more { OnOk result (HasMore machine.new session) }
 {
     if !machine.is_answered(session) {
         return Ok(());

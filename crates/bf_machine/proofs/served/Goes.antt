@@ -20,7 +20,7 @@ use Rattle.bf_machine.specs.interleaving.Events.{Aborts, Begins, Commits, Event,
 use Rattle.bf_machine.specs.interleaving.Groups.{left_by}
 use Rattle.bf_machine.specs.interleaving.Kept.{IsKept}
 use Rattle.bf_machine.specs.interleaving.Machines.{Machine, Open, open_at, told_at, with_replies}
-use Rattle.bf_machine.specs.interleaving.Serving.{HasGoneOn, Serves, is_answered, unanswered}
+use Rattle.bf_machine.specs.interleaving.Serving.{HasGoneOn, HasMore, Serves, is_answered, unanswered}
 use Rattle.bf_machine.proofs.interleaving.Others.{has_place}
 use Rattle.bf_machine.proofs.interleaving.Places.{set_same, set_other}
 use Rattle.bf_machine.proofs.interleaving.Telling.{length-part}
@@ -41,6 +41,10 @@ drop-all (suc n) (x ∷ xs) within = drop-all n xs (omega (arith, within))
 pub reaches_both : (start : Database) (m now next : Machine) → Reaches start m now → Reaches start now next → Reaches start m next
 reaches_both start m now _ one at_once = one
 reaches_both start m now _ one (one_more {now = then} {next = next} before event) = one_more (reaches_both start m now then one before) event
+
+-- where no group is open, none has all its replies
+pub closed_more : (m : Machine) (s : ℕ) → open_at m s ≡ None → HasMore m s
+closed_more m s closed o is none = let clash : None ≡ Some o = sym closed ∙ is in cc
 
 module _ {start : Database} (m : Machine) (kept : IsKept start m) (s : ℕ) where
   -- EXEC
@@ -125,6 +129,7 @@ module _ {start : Database} (m : Machine) (kept : IsKept start m) (s : ℕ) wher
     end_goes_on event = record {
       serves = end_serves m kept (are_texts m.script) s o is r db e same;
       reached = one_more at_once event;
+      more = closed_more after s closed_after;
       goes = elim left as (λ _. (unanswered m s ≡ unanswered after s + 1) ⊎ ((o : Open) × (open_at m s ≡ Some o) × (rest_of m s o ≡ []) × (open_at after s ≡ None) × (unanswered after s ≡ unanswered m s))) [
         | inl nothing ↦ inr (o, is, nothing, closed_after, end_adds_none nothing)
         | inr one ↦

@@ -1,5 +1,7 @@
 -- A statement whose locks are held has its reply.
-use Rattle.std.proofs.Common.{◌≡◌, ℕ, ◌+◌, List, length, take, Some, None, sym, ap, subst, ◌∙◌, arith, inl, inr}
+use Rattle.std.proofs.Common.{◌≡◌, ℕ, ◌+◌, List, false, length, take, Option, Some, None, refl, sym, ap, subst, ◌∙◌, arith, inl, inr}
+use Rattle.std.specs.Prelude.{is_some}
+use Rattle.std.specs.Option.{option_map}
 use Rattle.std.proofs.Math.Seq.{take-length}
 use Rattle.std.proofs.lemmas.Option.{same_Some}
 use Rattle.bf_tree.specs.declared.bound.Bound.{Bound}
@@ -16,7 +18,7 @@ use Rattle.bf_machine.specs.interleaving.Machines.{Machine, Open, open_at}
 use Rattle.bf_machine.specs.interleaving.Serving.{HasGoneOn, HasLocked, IsBoundNext, Serves, unanswered}
 use Rattle.bf_machine.proofs.keeping.Numbers.{bound_number}
 use Rattle.bf_machine.proofs.served.Events.{serves_both, serves_locks}
-use Rattle.bf_machine.proofs.served.Goes.{exec_goes_on, refuse_goes_on}
+use Rattle.bf_machine.proofs.served.Goes.{closed_more, exec_goes_on, refuse_goes_on}
 
 module _ (m : Machine) (s : ℕ) (o : Open) (bound : Bound) (next : IsBoundNext m s o bound) (now : Machine) (locked : HasLocked m s (footprint_of bound) now) where
   abbrev under : Machine
@@ -72,9 +74,18 @@ module _ (m : Machine) (s : ℕ) (o : Open) (bound : Bound) (next : IsBoundNext 
         absurd cc
   ]
 
--- a reply in whatever group, or in none
-pub replies_now : {start : Database} (m : Machine) (s : ℕ) → IsKept start m → (bound : Bound) (then : Machine) → HasReplied m s bound then → HasGoneOn m s start then
-replies_now {start = start} m s kept bound then by = elim by as (λ _. HasGoneOn m s start then) [
-  | inl executed ↦ let goes = exec_goes_on m kept s then executed.0 in record { serves = goes.0; reached = one_more at_once (executes s executed.0); goes = inl goes.1 }
-  | inr refused ↦ let goes = refuse_goes_on m kept s then refused in record { serves = goes.0; reached = one_more at_once (refuses s refused); goes = inl goes.1 }
+-- a reply in no group is a refusal
+pub refused_now : {start : Database} (m : Machine) (s : ℕ) → IsKept start m → open_at m s ≡ None → (bound : Bound) (then : Machine) → HasReplied m s bound then → HasGoneOn m s start then
+refused_now {start = start} m s kept closed bound then by = elim by as (λ _. HasGoneOn m s start then) [
+  | inl executed ↦
+      let clash : None ≡ Some executed.0.o = sym closed ∙ executed.0.is in
+      absurd cc
+  | inr refused ↦
+      let goes = refuse_goes_on m kept s then refused in
+      let none : open_at then s ≡ None = ap (λ (k : Machine). open_at k s) refused.goes ∙ refused.closed in
+      record { serves = goes.0; reached = one_more at_once (refuses s refused); more = closed_more then s none; goes = inl goes.1 }
 ]
+
+pub none_started : (o : Option Open) → is_some (option_map (λ (o : Open). o.start) o) ≡ false → o ≡ None
+none_started None none = refl
+none_started (Some o) none = absurd cc

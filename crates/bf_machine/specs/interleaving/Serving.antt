@@ -49,6 +49,10 @@ deaths_at m n = option_map_or (λ (b : Began). b.deaths) (began_at m.began n) []
 abbrev pub unanswered : Machine → ℕ → ℕ
 unanswered m s = length (statements_at m s) - length (replies_at m s)
 
+-- an open group has a statement left, as it ends with the reply to its last one
+abbrev pub HasMore : Machine → ℕ → Type 0
+HasMore m s = (o : Open) → open_at m s ≡ Some o → rest_of m s o ≡ [] → ⊥
+
 module _ (m : Machine) (s : ℕ) where
   -- whether the next statement stands in an open block
   abbrev pub is_in_block : Bool
@@ -69,10 +73,11 @@ module _ (m : Machine) (s : ℕ) where
     pub deaths : (n : ℕ) → deaths_at next n ≡ deaths_at m n
     pub entries : (more : List Entry) × AllByRecursion (λ e. e.session ≡ s) more × (next.history ≡ m.history ++ more)
 
-  -- exactly one statement more has its reply, or only its open group has ended, which had all its replies
+  -- exactly one statement more has its reply, or only its open group has ended, which had all its replies; no group is left open that has all
   pub record HasGoneOn (start : Database) (next : Machine) : Type 0 where
     pub serves : Serves next
     pub reached : Reaches start m next
+    pub more : HasMore next s
     pub goes : (unanswered m s ≡ unanswered next s + 1)
         ⊎ ((o : Open) × (open_at m s ≡ Some o) × (rest_of m s o ≡ []) × (open_at next s ≡ None) × (unanswered next s ≡ unanswered m s))
 

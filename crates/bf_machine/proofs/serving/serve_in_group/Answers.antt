@@ -84,5 +84,6 @@ returns-clause-turn g c =
     record {
       serves = serves_both m s c.reply_to.new.machine c.end_if_answered.new.machine replied.1 c.in_ok-end_if_answered.ensures.serves;
       reached = reaches_both g.N.Opened.opening m c.reply_to.new.machine c.end_if_answered.new.machine reached c.in_ok-end_if_answered.ensures.reaches;
+      more = c.in_ok-end_if_answered.ensures.more;
       goes = inl (omega (arith, replied.2, c.in_ok-end_if_answered.ensures.replies));
     }
