@@ -4,6 +4,7 @@ pub mod Looking
 pub mod Totals
 pub mod Stuck
 pub mod Judged
+pub mod Left
 pub mod Sequence
 pub mod Narrow
 pub mod Whole

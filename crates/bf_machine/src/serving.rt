@@ -6,7 +6,7 @@ ghost use Rattle.bf_machine.specs.interleaving.Calls.{CanExec, CanRefuse, HasRep
 ghost use Rattle.bf_machine.specs.interleaving.Events.{Begins, Reaches};
 ghost use Rattle.bf_machine.specs.interleaving.Kept.{IsKept};
 ghost use Rattle.bf_machine.specs.interleaving.Machines.{Machine as Seen, Open, open_at};
-ghost use Rattle.bf_machine.specs.interleaving.Serving.{CanGo, CannotGo, HasLocked, IsAlone, IsBoundNext, IsInSequence, IsServable, IsToLock, IsTurn, IsTurnOf, IsYoungest, Serves, Turned, can_go, deaths_at, unanswered};
+ghost use Rattle.bf_machine.specs.interleaving.Serving.{CanGo, CannotGo, Driven, HasLocked, HasMore, IsAlone, IsBoundNext, IsInSequence, IsServable, IsToLock, IsTurn, IsTurnOf, IsYoungest, Serves, Turned, can_go, deaths_at, unanswered};
 ghost use Rattle.bf_machine.specs.declared.serving.Turn.TheVariants.{Served};
 
 use crate::machine::Machine;
@@ -64,6 +64,7 @@ fn end_if_answered<N: Opened>(machine: &mut Machine<N>, session: u32) -> Result<
     ensures serves { OnOk result (Serves machine.old session machine.new) }
     ensures replies { OnOk result
         (unanswered machine.new session ≡ unanswered machine.old session) }
+    ensures more { OnOk result (HasMore machine.new session) }
 {
     if !machine.is_answered(session) {
         return Ok(());
@@ -278,6 +279,7 @@ fn end_open_groups<N: Opened>(alloc: Global, machine: &mut Machine<N>) -> Result
     requires servable { IsServable machine.old.script }
     ensures reaches { Reaches N.opening machine.old machine.new }
     ensures closed { OnOk result ((s : ℕ) → open_at machine.new s ≡ None) }
+    ensures driven { OnOk result (Driven N.opening machine.old machine.new) }
     ensures nothing { ((s : ℕ) → open_at machine.old s ≡ None) → machine.new ≡ machine.old }
     ensures alone { OnOk result ((s : ℕ) → IsAlone machine.old s
         → Serves machine.old s machine.new
@@ -295,6 +297,7 @@ fn end_sessions<N: Opened>(alloc: Global, machine: &mut Machine<N>) -> Result<()
     requires servable { IsServable machine.old.script }
     requires closed { (s : ℕ) → open_at machine.old s ≡ None }
     ensures reaches { Reaches N.opening machine.old machine.new }
+    ensures driven { OnOk result (Driven N.opening machine.old machine.new) }
     ensures ended { OnOk result
         ((s : ℕ) → IsPlace machine.new.script s → HasSessionEnded machine.new s) }
     ensures deaths { OnOk result ((n : ℕ) → deaths_at machine.new n ≡ deaths_at machine.old n) }
@@ -325,7 +328,7 @@ pub fn in_order<N: Opened>(
     ensures reaches { Reaches N.opening machine.old machine.new }
     ensures turns { OnOk result ((behind : Seen)
         × Turned N.opening machine.old order.now behind
-        × Reaches N.opening behind machine.new) }
+        × Driven N.opening behind machine.new) }
     ensures answered { OnOk result
         ((s : ℕ) → IsPlace machine.new.script s → HasSessionEnded machine.new s) }
     ensures no_death { OnOk result (order.now ≡ [] → ((s : ℕ) → open_at machine.old s ≡ None)

@@ -16,7 +16,7 @@ use Rattle.bf_machine.specs.interleaving.Calls.{IsPlace, replies_at, statements_
 use Rattle.bf_machine.specs.interleaving.Events.{Event, Reaches, aborts, asked, asks, at_once, begins, commits_now, died, executes, finishes, one_more, refuses, told_at_death}
 use Rattle.bf_machine.specs.interleaving.Kept.{IsKept}
 use Rattle.bf_machine.specs.interleaving.Machines.{Machine, Open, open_at, told_at, with_replies}
-use Rattle.bf_machine.specs.interleaving.Serving.{CanGo, CannotGo, HasGoneOn, IsAlone, IsBeside, IsTurn, IsYoungest, Serves, unanswered}
+use Rattle.bf_machine.specs.interleaving.Serving.{CanGo, CannotGo, Driven, HasGoneOn, IsAlone, IsBeside, IsTurn, IsYoungest, Serves, at_rest, one_driven, unanswered}
 use Rattle.bf_machine.proofs.interleaving.Others.{has_place}
 use Rattle.bf_machine.proofs.interleaving.Places.{set_other, set_same}
 use Rattle.bf_machine.proofs.served.Events.{serves_both}
@@ -62,6 +62,10 @@ module _ (m next : Machine) (t : ℕ) (script : next.script ≡ m.script) (same 
       ap (λ (n : ℕ). option_map_or (λ (_ : Open). 1 + n) (open_at next t) 0) same_unanswered
       ∙ ap (λ (o : Option Open). option_map_or (λ (_ : Open). 1 + unanswered m t) o 0) same.0
 
+-- a turn that has gone on leaves no more of its session's statements
+pub no_more_left : (m : Machine) (s : ℕ) (start : Database) (next : Machine) → HasGoneOn m s start next → unanswered next s ≤ unanswered m s
+no_more_left m s start next gone = elim gone.goes as (λ _. unanswered next s ≤ unanswered m s) [ inl one ↦ omega (arith, one) | inr ended ↦ omega (arith, ended.4) ]
+
 -- a death closes the session and leaves the others
 module _ (m : Machine) (s : ℕ) (o : Open) (is : open_at m s ≡ Some o) (older : ℕ) where
   died_closed : open_at (died m s o older) s ≡ None
@@ -74,19 +78,19 @@ module _ (m : Machine) (s : ℕ) (o : Open) (is : open_at m s ≡ Some o) (older
 
 module _ {start : Database} (m : Machine) (kept : IsKept start m) (s : ℕ) (t : Turn) (next : Machine) (taken : IsTurn m s start t next) where
   -- the one open group, or the only session that goes on, is served
-  alone_is_served : IsAlone m s → (CannotGo m s → ⊥) → HasGoneOn m s next
+  alone_is_served : IsAlone m s → (CannotGo m s → ⊥) → HasGoneOn m s start next
   alone_is_served alone goes_on = by_turn t taken
     where
-      by_turn : (t : Turn) → IsTurn m s start t next → HasGoneOn m s next
+      by_turn : (t : Turn) → IsTurn m s start t next → HasGoneOn m s start next
       by_turn turn.Passed taken = absurd (goes_on taken.0)
       by_turn turn.Served taken = taken
       by_turn turn.Waited taken = absurd (alone_waits_not m kept s alone taken.0 taken.1)
       by_turn turn.Died taken = absurd (alone_dies_not m kept s alone taken.0 taken.1)
 
-  pub alone_open_goes_on : IsAlone m s → (o : Open) → open_at m s ≡ Some o → HasGoneOn m s next
+  pub alone_open_goes_on : IsAlone m s → (o : Open) → open_at m s ≡ Some o → HasGoneOn m s start next
   alone_open_goes_on alone o is = alone_is_served alone (open_can m kept s o is)
 
-  pub alone_goes_on : IsAlone m s → CanGo m s → HasGoneOn m s next
+  pub alone_goes_on : IsAlone m s → CanGo m s → HasGoneOn m s start next
   alone_goes_on alone goes = alone_is_served alone (one_or_other m kept s goes)
 
   -- the youngest open group goes on or ends
@@ -121,7 +125,7 @@ module _ {start : Database} (m : Machine) (kept : IsKept start m) (s : ℕ) (t :
         by_turn turn.Passed taken = absurd (open_can m kept s youngest.0 youngest.1 taken.0)
         by_turn turn.Served taken =
             by_beside taken.serves.beside
-            (elim taken.goes as (λ _. left_open next s < left_open m s) [ inl less ↦ answered_less less | inr ended ↦ closed_less ended.3 ]) place
+            (elim taken.goes as (λ _. left_open next s < left_open m s) [ inl one ↦ answered_less (omega (arith, one)) | inr ended ↦ closed_less ended.3 ]) place
         by_turn turn.Waited taken = absurd (youngest_goes_on m kept s youngest taken.0 taken.1)
         by_turn turn.Died taken =
             let asked = taken.1 in
@@ -152,12 +156,17 @@ served_to_end m kept s closed goes t next taken then rest =
     let gone = alone_goes_on m kept s t next taken (λ u apart. closed u) goes in
     let more = rest s (λ u apart. (gone.serves.beside u apart).0 ∙ closed u) in
     let less : unanswered next s < unanswered m s = elim gone.goes as (λ _. unanswered next s < unanswered m s) [
-      | inl less ↦ less
+      | inl one ↦ omega (arith, one)
       | inr ended ↦
           let clash : None ≡ Some ended.0 = sym (closed s) ∙ ended.1 in
           absurd cc
     ] in
     (serves_both m s next then gone.serves more.0, omega (arith, less, more.1))
+
+-- those that are next, behind others that were
+pub driven_both : (start : Database) (m now next : Machine) → Driven start m now → Driven start now next → Driven start m next
+driven_both start m now _ one at_rest = one
+driven_both start m now _ one (one_driven {now = then} {next = next} s before is how turn) = one_driven s (driven_both start m now then one before) is how turn
 
 pub none_of : (o : Option ℕ) → ((x : ℕ) → o ≡ Some x → ⊥) → o ≡ None
 none_of None not_some = refl

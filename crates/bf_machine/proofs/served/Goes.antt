@@ -16,11 +16,11 @@ use Rattle.bf_tree.specs.declared.statement.Statement.TheVariants.{Commit, Rollb
 use Rattle.bf_sql.specs.Database.{Database}
 use Rattle.bf_sql.specs.Groups.{ends_block, groups_in, has_statement, session_at, statements_in}
 use Rattle.bf_machine.specs.interleaving.Calls.{replies_at, statements_at}
-use Rattle.bf_machine.specs.interleaving.Events.{Aborts, Begins, Commits, Executes, Reaches, Refuses, at_once, begun, begun_again, commits_behind, entry_of, one_more, opened, rest_of, stepped, text_of, with_open}
+use Rattle.bf_machine.specs.interleaving.Events.{Aborts, Begins, Commits, Event, Executes, Reaches, Refuses, aborts, at_once, begun, begun_again, commits_behind, commits_now, entry_of, one_more, opened, rest_of, stepped, text_of, with_open}
 use Rattle.bf_machine.specs.interleaving.Groups.{left_by}
 use Rattle.bf_machine.specs.interleaving.Kept.{IsKept}
 use Rattle.bf_machine.specs.interleaving.Machines.{Machine, Open, open_at, told_at, with_replies}
-use Rattle.bf_machine.specs.interleaving.Serving.{HasGoneOn, Serves, is_answered, unanswered}
+use Rattle.bf_machine.specs.interleaving.Serving.{HasGoneOn, HasMore, Serves, is_answered, unanswered}
 use Rattle.bf_machine.proofs.interleaving.Others.{has_place}
 use Rattle.bf_machine.proofs.interleaving.Places.{set_same, set_other}
 use Rattle.bf_machine.proofs.interleaving.Telling.{length-part}
@@ -42,11 +42,15 @@ pub reaches_both : (start : Database) (m now next : Machine) → Reaches start m
 reaches_both start m now _ one at_once = one
 reaches_both start m now _ one (one_more {now = then} {next = next} before event) = one_more (reaches_both start m now then one before) event
 
+-- where no group is open, none has all its replies
+pub closed_more : (m : Machine) (s : ℕ) → open_at m s ≡ None → HasMore m s
+closed_more m s closed o is none = let clash : None ≡ Some o = sym closed ∙ is in cc
+
 module _ {start : Database} (m : Machine) (kept : IsKept start m) (s : ℕ) where
   -- EXEC
-  pub exec_goes_on : (next : Machine) → Executes m s next → Serves m s next × (unanswered next s < unanswered m s)
+  pub exec_goes_on : (next : Machine) → Executes m s next → Serves m s next × (unanswered m s ≡ unanswered next s + 1)
   exec_goes_on next by =
-      subst (λ (next : Machine). Serves m s next × (unanswered next s < unanswered m s)) (sym by.goes)
+      subst (λ (next : Machine). Serves m s next × (unanswered m s ≡ unanswered next s + 1)) (sym by.goes)
       (serves_open m s place.0 (Some then), omega (arith, below, size))
     where
       place : (1 ≤ s) × (s ≤ length m.opens)
@@ -68,9 +72,9 @@ module _ {start : Database} (m : Machine) (kept : IsKept start m) (s : ℕ) wher
           omega (arith, one, other, length-append (told_at m s) then.replies, length-append (told_at m s) by.o.replies, more)
 
   -- EXEC of a COMMIT or ROLLBACK in no group
-  pub refuse_goes_on : (next : Machine) → Refuses m s next → Serves m s next × (unanswered next s < unanswered m s)
+  pub refuse_goes_on : (next : Machine) → Refuses m s next → Serves m s next × (unanswered m s ≡ unanswered next s + 1)
   refuse_goes_on next by =
-      subst (λ (next : Machine). Serves m s next × (unanswered next s < unanswered m s)) (sym by.goes)
+      subst (λ (next : Machine). Serves m s next × (unanswered m s ≡ unanswered next s + 1)) (sym by.goes)
       (serves, omega (arith, below, size))
     where
       refused : List Reply
@@ -118,12 +122,16 @@ module _ {start : Database} (m : Machine) (kept : IsKept start m) (s : ℕ) wher
     size_after : length (replies_at after s) ≡ length (replies_at m s) + length (rest_of m s o)
     size_after = end_answers m kept (are_texts m.script) s o is r db e same
 
-    end_goes_on : HasGoneOn m s after
-    end_goes_on = record {
+    end_adds_none : rest_of m s o ≡ [] → unanswered after s ≡ unanswered m s
+    end_adds_none none = let nothing = ap (λ (ss : List Statement). length ss) none in omega (arith, size_after, nothing)
+
+    end_goes_on : Event start m after → HasGoneOn m s start after
+    end_goes_on event = record {
       serves = end_serves m kept (are_texts m.script) s o is r db e same;
-      no_more = omega (arith, size_after);
-      goes = elim left as (λ _. (unanswered after s < unanswered m s) ⊎ ((o : Open) × (open_at m s ≡ Some o) × (rest_of m s o ≡ []) × (open_at after s ≡ None))) [
-        | inl nothing ↦ inr (o, is, nothing, closed_after)
+      reached = one_more at_once event;
+      more = closed_more after s closed_after;
+      goes = elim left as (λ _. (unanswered m s ≡ unanswered after s + 1) ⊎ ((o : Open) × (open_at m s ≡ Some o) × (rest_of m s o ≡ []) × (open_at after s ≡ None) × (unanswered after s ≡ unanswered m s))) [
+        | inl nothing ↦ inr (o, is, nothing, closed_after, end_adds_none nothing)
         | inr one ↦
             let below = left_below m kept (are_texts m.script) s o is c [] one in
             let some : length (rest_of m s o) ≡ 1 = ap (λ (ss : List Statement). length ss) one in
@@ -131,16 +139,15 @@ module _ {start : Database} (m : Machine) (kept : IsKept start m) (s : ℕ) wher
       ];
     }
 
-    end_adds_none : rest_of m s o ≡ [] → unanswered after s ≡ unanswered m s
-    end_adds_none none = let nothing = ap (λ (ss : List Statement). length ss) none in omega (arith, size_after, nothing)
-
-  pub commit_goes_on : (next : Machine) → Commits m s next → HasGoneOn m s next
+  pub commit_goes_on : (next : Machine) → Commits m s next → HasGoneOn m s start next
   commit_goes_on next by =
       let n = commits_behind 0 m.history + 1 in
-      subst (HasGoneOn m s) (sym by.goes) (end_goes_on by.o by.is Commit by.left (reply.Committed n) (left_by m.db by.o.pending) (entry_of m s by.o (Committed n)) refl)
+      subst (HasGoneOn m s start) (sym by.goes)
+      (end_goes_on by.o by.is Commit by.left (reply.Committed n) (left_by m.db by.o.pending) (entry_of m s by.o (Committed n)) refl (subst (Event start m) by.goes (commits_now s by)))
 
-  pub abort_goes_on : (next : Machine) → Aborts m s next → HasGoneOn m s next
-  abort_goes_on next by = subst (HasGoneOn m s) (sym by.goes) (end_goes_on by.o by.is Rollback by.left reply.RolledBack m.db (entry_of m s by.o RolledBack) refl)
+  pub abort_goes_on : (next : Machine) → Aborts m s next → HasGoneOn m s start next
+  abort_goes_on next by =
+      subst (HasGoneOn m s start) (sym by.goes) (end_goes_on by.o by.is Rollback by.left reply.RolledBack m.db (entry_of m s by.o RolledBack) refl (subst (Event start m) by.goes (aborts s by)))
 
   -- and where each statement had its reply
   module _ (answered : is_answered m s ≡ true) where

@@ -94,25 +94,29 @@ module _ {start : Database} (m : Machine) (kept : IsKept start m) (s : ℕ) (o :
       let goes : then ≡ under locks = asked.goes ∙ ap (λ (p : Open). under (locks_after locked.2 p.start name mode Granted)) own in
       (o, next.is, locks, goes, held_more locked.2 o.start held name mode was)
 
-  abbrev asked_by : (locks : Locks) (name : LockName) (mode : Mode) (answer : LockAnswer) → Reaches start m (under locks) → IsJudged locks o.start name mode answer → IsAsked m s start answer
-  asked_by locks name mode answer reached judged = record {
+  abbrev asked_by : (locks : Locks) (name : LockName) (mode : Mode) (answer : LockAnswer) → Reaches start m (under locks) → Contains footprint (name, mode) → IsJudged locks o.start name mode answer → IsAsked m s start answer
+  asked_by locks name mode answer reached among judged = record {
     now = under locks;
     serves = serves_locks m s locks;
     reached = reached;
     o = o;
     is = next.is;
     same = λ p is. ap (λ (q : Open). q.start) (same_Some p o (sym is ∙ next.is));
+    statement = next.statement;
+    later = next.later;
+    left = next.left;
     name = name;
     mode = mode;
+    asks = subst (λ (fs : List Lock). Contains fs (name, mode)) (sym next.footprint) among;
     judged = judged;
   }
 
-  pub has_asked : (held : List Lock) (name : LockName) (mode : Mode) (answer : LockAnswer) (now then : Machine) → HasLocked m s held now → Reaches start m now → Asks now s start name mode answer then
+  pub has_asked : (held : List Lock) (name : LockName) (mode : Mode) (answer : LockAnswer) (now then : Machine) → HasLocked m s held now → Reaches start m now → Contains footprint (name, mode) → Asks now s start name mode answer then
       → (asked : IsAsked m s start answer) × (asked.now ≡ now) × (asked.o ≡ o)
-  has_asked held name mode answer now then locked reached by =
+  has_asked held name mode answer now then locked reached among by =
       let asked : Asks (under locked.2) s start name mode answer then = subst (λ (now : Machine). Asks now s start name mode answer then) locked.3 by in
       let own : asked.o ≡ o = same_group locked.2 name mode answer then asked in
-      (asked_by locked.2 name mode answer (subst (Reaches start m) locked.3 reached) (subst (λ (p : Open). IsJudged locked.2 p.start name mode answer) own asked.judged), sym locked.3, refl)
+      (asked_by locked.2 name mode answer (subst (Reaches start m) locked.3 reached) among (subst (λ (p : Open). IsJudged locked.2 p.start name mode answer) own asked.judged), sym locked.3, refl)
 
   -- a death ends the group that asked
   pub dies_as : (held : List Lock) (name : LockName) (mode : Mode) (older : ℕ) (now then : Machine) → HasLocked m s held now → (by : Asks now s start name mode (Die older) then)

@@ -1,5 +1,7 @@
 -- A statement whose locks are held has its reply.
-use Rattle.std.proofs.Common.{◌≡◌, ℕ, ◌<◌, List, length, take, Some, None, sym, ap, subst, ◌∙◌, arith, inl, inr}
+use Rattle.std.proofs.Common.{◌≡◌, ℕ, ◌+◌, List, false, length, take, Option, Some, None, refl, sym, ap, subst, ◌∙◌, arith, inl, inr}
+use Rattle.std.specs.Prelude.{is_some}
+use Rattle.std.specs.Option.{option_map}
 use Rattle.std.proofs.Math.Seq.{take-length}
 use Rattle.std.proofs.lemmas.Option.{same_Some}
 use Rattle.bf_tree.specs.declared.bound.Bound.{Bound}
@@ -10,13 +12,13 @@ use Rattle.bf_sql.specs.Footprints.{footprint_of}
 use Rattle.bf_sql.specs.History.{replayed}
 use Rattle.bf_live.specs.OpenGroups.{Holds}
 use Rattle.bf_machine.specs.interleaving.Calls.{CanExec, HasReplied, IsToExec}
-use Rattle.bf_machine.specs.interleaving.Events.{Event, Reaches, at_once, executes, one_more, refuses, stands_inside}
+use Rattle.bf_machine.specs.interleaving.Events.{Event, at_once, executes, one_more, refuses, stands_inside}
 use Rattle.bf_machine.specs.interleaving.Kept.{IsKept}
 use Rattle.bf_machine.specs.interleaving.Machines.{Machine, Open, open_at}
 use Rattle.bf_machine.specs.interleaving.Serving.{HasGoneOn, HasLocked, IsBoundNext, Serves, unanswered}
 use Rattle.bf_machine.proofs.keeping.Numbers.{bound_number}
 use Rattle.bf_machine.proofs.served.Events.{serves_both, serves_locks}
-use Rattle.bf_machine.proofs.served.Goes.{exec_goes_on, refuse_goes_on}
+use Rattle.bf_machine.proofs.served.Goes.{closed_more, exec_goes_on, refuse_goes_on}
 
 module _ (m : Machine) (s : ℕ) (o : Open) (bound : Bound) (next : IsBoundNext m s o bound) (now : Machine) (locked : HasLocked m s (footprint_of bound) now) where
   abbrev under : Machine
@@ -62,8 +64,8 @@ module _ (m : Machine) (s : ℕ) (o : Open) (bound : Bound) (next : IsBoundNext 
   is_open_now = ap (λ (k : Machine). open_at k s) locked.3 ∙ next.to_lock.is
 
   pub has_replied : {start : Database} (kept : IsKept start now) (then : Machine) → HasReplied now s bound then
-      → Event start now then × Serves m s then × (unanswered then s < unanswered m s)
-  has_replied {start = start} kept then by = elim by as (λ _. Event start now then × Serves m s then × (unanswered then s < unanswered m s)) [
+      → Event start now then × Serves m s then × (unanswered m s ≡ unanswered then s + 1)
+  has_replied {start = start} kept then by = elim by as (λ _. Event start now then × Serves m s then × (unanswered m s ≡ unanswered then s + 1)) [
     | inl executed ↦
         let goes = exec_goes_on now kept s then executed.0 in
         (executes s executed.0, serves_both m s now then serves_now goes.0, omega (arith, goes.1, same_unanswered))
@@ -72,9 +74,18 @@ module _ (m : Machine) (s : ℕ) (o : Open) (bound : Bound) (next : IsBoundNext 
         absurd cc
   ]
 
--- a reply in whatever group, or in none
-pub replies_now : {start : Database} (m : Machine) (s : ℕ) → IsKept start m → (bound : Bound) (then : Machine) → HasReplied m s bound then → Reaches start m then × HasGoneOn m s then
-replies_now {start = start} m s kept bound then by = elim by as (λ _. Reaches start m then × HasGoneOn m s then) [
-  | inl executed ↦ let goes = exec_goes_on m kept s then executed.0 in (one_more at_once (executes s executed.0), record { serves = goes.0; no_more = omega (arith, goes.1); goes = inl goes.1 })
-  | inr refused ↦ let goes = refuse_goes_on m kept s then refused in (one_more at_once (refuses s refused), record { serves = goes.0; no_more = omega (arith, goes.1); goes = inl goes.1 })
+-- a reply in no group is a refusal
+pub refused_now : {start : Database} (m : Machine) (s : ℕ) → IsKept start m → open_at m s ≡ None → (bound : Bound) (then : Machine) → HasReplied m s bound then → HasGoneOn m s start then
+refused_now {start = start} m s kept closed bound then by = elim by as (λ _. HasGoneOn m s start then) [
+  | inl executed ↦
+      let clash : None ≡ Some executed.0.o = sym closed ∙ executed.0.is in
+      absurd cc
+  | inr refused ↦
+      let goes = refuse_goes_on m kept s then refused in
+      let none : open_at then s ≡ None = ap (λ (k : Machine). open_at k s) refused.goes ∙ refused.closed in
+      record { serves = goes.0; reached = one_more at_once (refuses s refused); more = closed_more then s none; goes = inl goes.1 }
 ]
+
+pub none_started : (o : Option Open) → is_some (option_map (λ (o : Open). o.start) o) ≡ false → o ≡ None
+none_started None none = refl
+none_started (Some o) none = absurd cc

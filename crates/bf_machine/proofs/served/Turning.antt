@@ -1,5 +1,5 @@
 -- A turn is taken behind the begin of a group.
-use Rattle.std.proofs.Common.{◌≡◌, ◌⊎◌, ℕ, ◌<◌, ◌≤◌, List, [], length, drop, Some, None, sym, ap, subst, ◌∙◌, arith, inl, inr}
+use Rattle.std.proofs.Common.{◌≡◌, ◌⊎◌, ℕ, ◌+◌, ◌≤◌, List, [], length, drop, Some, None, sym, ap, subst, ◌∙◌, arith, inl, inr}
 use Rattle.std.proofs.lemmas.Option.{same_Some}
 use Rattle.bf_locks.specs.declared.answer.LockAnswer.{LockAnswer}
 use Rattle.bf_locks.specs.declared.answer.LockAnswer.TheVariants.{Die, Wait}
@@ -47,12 +47,13 @@ module _ {start : Database} (m : Machine) (s : ℕ) (place : IsPlace m.script s)
       let size : length (text_of now s o) ≡ 0 = ap (λ (ss : List Statement). length ss) empty in
       omega (arith, size, length-part o.group.0 o.group.1 (session_at now.script s).statements, bounds.0, bounds.1, bounds.2)
 
-  gone_on : (next : Machine) → HasGoneOn now s next → HasGoneOn m s next
+  gone_on : (next : Machine) → HasGoneOn now s start next → HasGoneOn m s start next
   gone_on next goes = record {
     serves = serves_both m s now next begins_serves goes.serves;
-    no_more = omega (arith, goes.no_more, same_left);
-    goes = elim goes.goes as (λ _. (unanswered next s < unanswered m s) ⊎ ((o : Open) × (open_at m s ≡ Some o) × (rest_of m s o ≡ []) × (open_at next s ≡ None))) [
-      | inl less ↦ inl (omega (arith, less, same_left))
+    reached = reaches_both start m now next (one_more at_once (begins s by)) goes.reached;
+    more = goes.more;
+    goes = elim goes.goes as (λ _. (unanswered m s ≡ unanswered next s + 1) ⊎ ((o : Open) × (open_at m s ≡ Some o) × (rest_of m s o ≡ []) × (open_at next s ≡ None) × (unanswered next s ≡ unanswered m s))) [
+      | inl one ↦ inl (omega (arith, one, same_left))
       | inr ended ↦ absurd (some_left ended.0 ended.1 ended.2)
     ];
   }
@@ -65,8 +66,12 @@ module _ {start : Database} (m : Machine) (s : ℕ) (place : IsPlace m.script s)
     o = asked.o;
     is = asked.is;
     same = λ p is. absurd (not_open p is);
+    statement = asked.statement;
+    later = asked.later;
+    left = asked.left;
     name = asked.name;
     mode = asked.mode;
+    asks = asked.asks;
     judged = asked.judged;
   }
 

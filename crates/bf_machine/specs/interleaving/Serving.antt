@@ -1,5 +1,5 @@
 -- SERVING sessions on one thread: what a turn of a session makes of a machine.
-use Rattle.std.specs.Prelude.{◌≡◌, ◌≢◌, ◌⊎◌, ℕ, ◌-◌, ◌<◌, ◌≤◌, Bool, true, false, List, [], ◌∷◌, ◌++◌, length, Some, None, nat_le, IsTrue}
+use Rattle.std.specs.Prelude.{◌≡◌, ◌≢◌, ◌⊎◌, ℕ, ◌+◌, ◌-◌, ◌<◌, ◌≤◌, Bool, true, false, List, [], ◌∷◌, ◌++◌, length, Some, None, Contains, nat_le, IsTrue}
 use Rattle.std.specs.Option.{option_map_or}
 use Rattle.std.specs.List.{AllByRecursion}
 use Rattle.bf_locks.specs.declared.answer.LockAnswer.{LockAnswer}
@@ -49,6 +49,10 @@ deaths_at m n = option_map_or (λ (b : Began). b.deaths) (began_at m.began n) []
 abbrev pub unanswered : Machine → ℕ → ℕ
 unanswered m s = length (statements_at m s) - length (replies_at m s)
 
+-- an open group has a statement left, as it ends with the reply to its last one
+abbrev pub HasMore : Machine → ℕ → Type 0
+HasMore m s = (o : Open) → open_at m s ≡ Some o → rest_of m s o ≡ [] → ⊥
+
 module _ (m : Machine) (s : ℕ) where
   -- whether the next statement stands in an open block
   abbrev pub is_in_block : Bool
@@ -69,13 +73,15 @@ module _ (m : Machine) (s : ℕ) where
     pub deaths : (n : ℕ) → deaths_at next n ≡ deaths_at m n
     pub entries : (more : List Entry) × AllByRecursion (λ e. e.session ≡ s) more × (next.history ≡ m.history ++ more)
 
-  -- a statement more has its reply, or its open group has ended that had all its replies
-  pub record HasGoneOn (next : Machine) : Type 0 where
+  -- exactly one statement more has its reply, or only its open group has ended, which had all its replies; no group is left open that has all
+  pub record HasGoneOn (start : Database) (next : Machine) : Type 0 where
     pub serves : Serves next
-    pub no_more : unanswered next s ≤ unanswered m s
-    pub goes : (unanswered next s < unanswered m s) ⊎ ((o : Open) × (open_at m s ≡ Some o) × (rest_of m s o ≡ []) × (open_at next s ≡ None))
+    pub reached : Reaches start m next
+    pub more : HasMore next s
+    pub goes : (unanswered m s ≡ unanswered next s + 1)
+        ⊎ ((o : Open) × (open_at m s ≡ Some o) × (rest_of m s o ≡ []) × (open_at next s ≡ None) × (unanswered next s ≡ unanswered m s))
 
-  -- ASKED: the session's open group, as it stands by then, asks for a lock and has this answer
+  -- ASKED: the session's open group, as it stands by then, asks for a lock of its next statement's footprint, and has this answer
   pub record IsAsked (start : Database) (answer : LockAnswer) : Type 0 where
     pub now : Machine
     pub serves : Serves now
@@ -83,8 +89,12 @@ module _ (m : Machine) (s : ℕ) where
     pub o : Open
     pub is : open_at now s ≡ Some o
     pub same : (p : Open) → open_at m s ≡ Some p → p.start ≡ o.start
+    pub statement : Statement
+    pub later : List Statement
+    pub left : rest_of now s o ≡ statement ∷ later
     pub name : LockName
     pub mode : Mode
+    pub asks : Contains (footprint_in now.db (stands_inside o.replies) statement) (name, mode)
     pub judged : IsJudged now.locks o.start name mode answer
 
   -- the next statement, which has these locks in its footprint
@@ -124,7 +134,7 @@ module _ (m : Machine) (s : ℕ) where
   -- TURN: how it ended, and what it made
   abbrev pub IsTurn : Database → Turn → Machine → Type 0
   IsTurn start turn.Passed next = CannotGo × (next ≡ m)
-  IsTurn start turn.Served next = HasGoneOn next
+  IsTurn start turn.Served next = HasGoneOn start next
   IsTurn start turn.Waited next = (others : List ℕ) × (asked : IsAsked start (Wait others)) × (next ≡ asked.now)
   IsTurn start turn.Died next = (older : ℕ) × (asked : IsAsked start (Die older)) × (next ≡ died asked.now s asked.o older)
 
@@ -137,6 +147,15 @@ pub record IsTurnOf (start : Database) (m : Machine) (n : ℕ) (next : Machine) 
 pub data Turned (start : Database) (m : Machine) : List ℕ → Machine → Type 0 where
   no_turn : Turned start m [] m
   one_turn : {ns : List ℕ} {now next : Machine} (n : ℕ) → Turned start m ns now → IsTurnOf start now n next → Turned start m (ns ++ n ∷ []) next
+
+-- the session whose turn is next where all that is left is driven: that of the youngest open group, or where none is open the first of which a call can come
+abbrev pub IsNextDriven : Machine → ℕ → Type 0
+IsNextDriven m s = IsYoungest m s ⊎ (((t : ℕ) → open_at m t ≡ None) × CanGo m s × ((t : ℕ) → 1 ≤ t → t < s → CannotGo m t))
+
+-- DRIVEN: turns one after the other, each of the session that is next
+pub data Driven (start : Database) (m : Machine) : Machine → Type 0 where
+  at_rest : Driven start m m
+  one_driven : {now next : Machine} (s : ℕ) → Driven start m now → IsNextDriven now s → (how : Turn) → IsTurn now s start how next → Driven start m next
 
 -- the entries are of one session after the other, from one on
 abbrev pub SessionsRiseFrom : ℕ → List Entry → Type 0

@@ -1,13 +1,13 @@
 -- The first session that can go on is served until its group has ended; where none can, each has ended.
-use Rattle.std.proofs.Common.{◌<◌, length, refl, sym, subst, ◌∙◌}
+use Rattle.std.proofs.Common.{◌<◌, length, refl, sym, subst, ◌∙◌, inr}
 use Rattle.bf_tree.specs.declared.script.Script.{Script}
 use Rattle.bf_machine.specs.interleaving.Events.{at_once}
 use Rattle.bf_machine.specs.interleaving.Kept.{IsKept}
 use Rattle.bf_machine.specs.interleaving.Machines.{Machine}
-use Rattle.bf_machine.specs.interleaving.Serving.{IsServable, unanswered}
+use Rattle.bf_machine.specs.interleaving.Serving.{IsServable, at_rest, one_driven, unanswered}
 use Rattle.bf_machine.proofs.interleaving.Reaching.{reached_keeps_all}
 use Rattle.bf_machine.proofs.interleaving.Texts.{are_texts}
-use Rattle.bf_machine.proofs.served.Ending.{none_of, reached_script, served_to_end, serves_less}
+use Rattle.bf_machine.proofs.served.Ending.{driven_both, none_of, reached_script, served_to_end, serves_less}
 use Rattle.bf_machine.proofs.served.Exclusive.{goes_has_not_ended}
 use Rattle.bf_machine.proofs.served.Goes.{reaches_both}
 use Rattle.bf_machine.proofs.served.Sequence.{stays_in_sequence}
@@ -16,7 +16,7 @@ use Rattle.bf_machine.proofs.served.Totals.{total}
 use Rattle.bf_machine.proofs.serving.end_sessions.Goals as goal
 
 pub loop-session-init : goal.loop-session-init
-loop-session-init g c = record { reaches = at_once; closed = c.requires.closed; deaths = λ n. refl; sequence = λ sequence. sequence }
+loop-session-init g c = record { reaches = at_once; driven = at_rest; closed = c.requires.closed; deaths = λ n. refl; sequence = λ sequence. sequence }
 
 pub take_turn-requires-clause-kept : goal.take_turn-requires-clause-kept
 take_turn-requires-clause-kept g c = reached_keeps_all g.N.Opened.opening c.args.machine.now c.loop-session.machine c.requires.kept c.loop-session.invariant.reaches
@@ -61,6 +61,9 @@ loop-session-preserved g c =
     let served = served_to_end now kept c.in-Some.session c.loop-session.invariant.closed goes c.in_ok-take_turn.field-0 next c.in_ok-take_turn.ensures.turn then c.in_ok-end_open_groups.ensures.alone in
     record {
       reaches = reaches_both g.N.Opened.opening m next then (reaches_both g.N.Opened.opening m now next c.loop-session.invariant.reaches c.in_ok-take_turn.ensures.reaches) c.in_ok-end_open_groups.ensures.reaches;
+      driven = driven_both g.N.Opened.opening m next then
+          (one_driven c.in-Some.session c.loop-session.invariant.driven (inr (c.loop-session.invariant.closed, goes, c.in-Some.ensures.first)) c.in_ok-take_turn.field-0 c.in_ok-take_turn.ensures.turn)
+          c.in_ok-end_open_groups.ensures.driven;
       closed = c.in_ok-end_open_groups.ensures.closed;
       deaths = λ n. served.0.deaths n ∙ c.loop-session.invariant.deaths n;
       sequence = λ sequence.

@@ -8,17 +8,13 @@ use Rattle.bf_machine.specs.interleaving.Events.{at_once}
 use Rattle.bf_machine.specs.interleaving.Machines.{Machine, open_at}
 use Rattle.bf_machine.specs.interleaving.Serving.{IsInSequence, IsServable, Turned, deaths_at, no_turn, one_turn}
 use Rattle.bf_machine.proofs.interleaving.Reaching.{reached_keeps_all}
-use Rattle.bf_machine.proofs.served.Ending.{reached_script}
+use Rattle.bf_machine.proofs.served.Ending.{driven_both, reached_script}
 use Rattle.bf_machine.proofs.served.Goes.{reaches_both}
 use Rattle.bf_machine.proofs.serving.in_order.Goals as goal
 
 on_ok : {P Q : Type 0} {A : Type 0} (r : Result A Memory) → (P → Q) → OnOk r P → OnOk r Q
 on_ok (Ok x) weaker so = weaker so
 on_ok (Err memory) weaker so = so
-
-anyhow : {P : Type 0} {A : Type 0} (r : Result A Memory) → P → OnOk r P
-anyhow (Ok x) so = so
-anyhow (Err memory) so = tt
 
 pub loop-session-init : goal.loop-session-init
 loop-session-init g c = record { reaches = at_once; turned = no_turn; nothing = λ empty. refl }
@@ -84,11 +80,13 @@ pub returns-clause-turns : goal.returns-clause-turns
 returns-clause-turns g c =
     let now : Machine = c.loop-session.machine in
     let all : take c.loop-session.session-index c.args.order.now ≡ c.args.order.now = take_all c.loop-session.session-index c.args.order.now (omega (arith, c.loop-session-test.false)) in
-    anyhow c.end_sessions.result (
+    on_ok c.end_sessions.result
+    (λ driven. (
       now,
       subst (λ (ns : List ℕ). Turned g.N.Opened.opening c.args.machine.now ns now) all c.loop-session.invariant.turned,
-      reaches_both g.N.Opened.opening now c.end_open_groups.new.machine c.end_sessions.new.machine c.in_ok-end_open_groups.ensures.reaches c.end_sessions.ensures.reaches,
-    )
+      driven_both g.N.Opened.opening now c.end_open_groups.new.machine c.end_sessions.new.machine c.in_ok-end_open_groups.ensures.driven driven,
+    ))
+    c.end_sessions.ensures.driven
 
 pub returns-clause-no_death : goal.returns-clause-no_death
 returns-clause-no_death g c =

@@ -32,7 +32,7 @@ returns-in-Wait-clause-turn g c = λ other.
     let by : Asks c.loop-name.machine c.args.session g.N.Opened.opening lock.0 lock.1 (Wait others) c.lock.new.self =
     subst (λ (answer : LockAnswer). Asks c.loop-name.machine c.args.session g.N.Opened.opening lock.0 lock.1 answer c.lock.new.self) c.in-Wait.is c.in_ok-lock.ensures.asks in
     let asked = has_asked c.args.machine.now c.requires.kept c.args.session c.requires.next.0 c.args.locks.now c.requires.next.1 (take c.loop-name.name-index c.args.locks.now) lock.0 lock.1 (Wait others)
-    c.loop-name.machine c.lock.new.self c.loop-name.invariant.locked c.loop-name.invariant.reaches by in
+    c.loop-name.machine c.lock.new.self c.loop-name.invariant.locked c.loop-name.invariant.reaches (c.loop-name.name-index, c.loop-name-test.true, sym c.loop-name-item.is) by in
     (others, asked.0, by.goes ∙ sym asked.1)
 
 pub returns-in-Die-clause-reaches : goal.returns-in-Die-clause-reaches
@@ -47,7 +47,7 @@ returns-in-Die-clause-turn g c = λ other.
     let by : Asks c.loop-name.machine c.args.session g.N.Opened.opening lock.0 lock.1 (Die older) c.lock.new.self =
     subst (λ (answer : LockAnswer). Asks c.loop-name.machine c.args.session g.N.Opened.opening lock.0 lock.1 answer c.lock.new.self) c.in-Die.is c.in_ok-lock.ensures.asks in
     let asked = has_asked c.args.machine.now c.requires.kept c.args.session c.requires.next.0 c.args.locks.now c.requires.next.1 (take c.loop-name.name-index c.args.locks.now) lock.0 lock.1 (Die older)
-    c.loop-name.machine c.lock.new.self c.loop-name.invariant.locked c.loop-name.invariant.reaches by in
+    c.loop-name.machine c.lock.new.self c.loop-name.invariant.locked c.loop-name.invariant.reaches (c.loop-name.name-index, c.loop-name-test.true, sym c.loop-name-item.is) by in
     (older, asked.0, dies_as c.args.machine.now c.requires.kept c.args.session c.requires.next.0 c.args.locks.now c.requires.next.1 (take c.loop-name.name-index c.args.locks.now) lock.0 lock.1 older c.loop-name.machine c.lock.new.self c.loop-name.invariant.locked by asked.0 asked.1 asked.2)
 
 pub loop-name-preserved : goal.loop-name-preserved

@@ -1,11 +1,11 @@
 -- The locks are held, and the statement has its reply.
-use Rattle.std.proofs.Common.{◌<◌, ◌∙◌, List, ap, subst, arith, inl}
+use Rattle.std.proofs.Common.{◌∙◌, List, ap, subst, arith, inl}
 use Rattle.std.specs.Prelude.{Ok}
 use Rattle.bf_sql.specs.Footprints.{Lock, footprint_of}
 use Rattle.bf_live.proofs.locking.Writing.{bound_has_keys}
 use Rattle.bf_machine.specs.interleaving.Events.{at_once, one_more}
 use Rattle.bf_machine.specs.interleaving.Machines.{Machine}
-use Rattle.bf_machine.specs.interleaving.Serving.{HasLocked, unanswered}
+use Rattle.bf_machine.specs.interleaving.Serving.{HasLocked}
 use Rattle.bf_machine.proofs.interleaving.Reaching.{reached_keeps_all}
 use Rattle.bf_machine.proofs.served.Events.{serves_both}
 use Rattle.bf_machine.proofs.served.Goes.{reaches_both}
@@ -80,9 +80,10 @@ returns-clause-turn g c =
     subst (λ (fs : List Lock). HasLocked m s fs c.lock_all.new.machine) (c.as_slice.ensures.value ∙ c.in_ok-locks.ensures) (c.in_ok-turn.ensures.locked (ap Ok c.in-Served.is)) in
     let kept = reached_keeps_all g.N.Opened.opening m c.lock_all.new.machine c.requires.kept c.in_ok-turn.ensures.reaches in
     let replied = has_replied m s next.0 c.args.bound.now next.1 c.lock_all.new.machine locked kept c.reply_to.new.machine c.in_ok-reply_to.ensures.replied in
-    let less : unanswered c.end_if_answered.new.machine s < unanswered m s = omega (arith, replied.2, c.in_ok-end_if_answered.ensures.replies) in
+    let reached = one_more c.in_ok-turn.ensures.reaches replied.0 in
     record {
       serves = serves_both m s c.reply_to.new.machine c.end_if_answered.new.machine replied.1 c.in_ok-end_if_answered.ensures.serves;
-      no_more = omega (arith, less);
-      goes = inl less;
+      reached = reaches_both g.N.Opened.opening m c.reply_to.new.machine c.end_if_answered.new.machine reached c.in_ok-end_if_answered.ensures.reaches;
+      more = c.in_ok-end_if_answered.ensures.more;
+      goes = inl (omega (arith, replied.2, c.in_ok-end_if_answered.ensures.replies));
     }
