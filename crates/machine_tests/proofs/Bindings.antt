@@ -2,7 +2,7 @@
 use Rattle.std.proofs.Common.{◌≡◌, ◌⊎◌, ℕ, ◌+◌, ◌-◌, ◌≤◌, Bool, true, false, List, [], ◌∷◌, ◌++◌, length, take, Option, Some, None, option_map, refl, sym, ap, subst, ◌∙◌, arith, inl, inr, append_assoc, append-nil}
 use Rattle.std.specs.Prelude.{IsSomeAnd, min, slice_index_or}
 use Rattle.std.specs.List.{All}
-use Rattle.std.specs.Option.{is_none, option_map_or}
+use Rattle.std.specs.Option.{is_none, is_some, option_map_or}
 use Rattle.std.proofs.Math.Seq.{take-length}
 use Rattle.std.proofs.lemmas.Bool.{false≢true}
 use Rattle.std.proofs.lemmas.List.{take-append-le, take_min}
@@ -88,11 +88,19 @@ bound_behind start m now reached s n in_block bound was =
       keys = was.keys;
     }
 
-module _ (start : Database) (m : Machine) (kept : IsKept start m) (s n : ℕ) (stands : StandsAs m s (AtStatement n)) (some : is_none (option_map (λ (o : Open). o.start) (open_at m s)) ≡ false) where
+-- a group is open that has a start number
+pub has_open : (m : Machine) (s : ℕ) (number : Option ℕ) → number ≡ option_map (λ (o : Open). o.start) (open_at m s) → is_none number ≡ false → is_some (open_at m s) ≡ true
+has_open m s number is some = of (open_at m s) (ap is_none (sym is) ∙ some)
+  where
+    of : (found : Option Open) → is_none (option_map (λ (o : Open). o.start) found) ≡ false → is_some found ≡ true
+    of None some = absurd (false≢true (sym some))
+    of (Some o) some = refl
+
+module _ (start : Database) (m : Machine) (kept : IsKept start m) (s n : ℕ) (stands : StandsAs m s (AtStatement n)) (some : is_some (open_at m s) ≡ true) where
   none_refused : CanRefuse m s → ⊥
   none_refused refused =
-      let is : is_none (option_map (λ (o : Open). o.start) (open_at m s)) ≡ true = ap (λ (o : Option Open). is_none (option_map (λ (o : Open). o.start) o)) refused.1.closed in
-      false≢true (sym some ∙ is)
+      let none : is_some (open_at m s) ≡ false = ap (λ (o : Option Open). is_some o) refused.1.closed in
+      false≢true (sym none ∙ some)
 
   inside : (o : Open) → open_at m s ≡ Some o → is_in_block m s ≡ stands_inside o.replies
   inside o is = ap (λ (found : Option Open). option_map_or (λ (o : Open). stands_inside o.replies) found false) is
@@ -130,13 +138,13 @@ module _ (start : Database) (m : Machine) (kept : IsKept start m) (s n : ℕ) (s
   ]
 
   -- AND WHERE IT IS THE NEXT ONE, with its locks held
-  pub may_exec : (in_block : Bool) → is_in_block m s ≡ in_block → (bound : Bound) → WasBound start m s n in_block bound
+  pub may_exec : (bound : Bound) → WasBound start m s n (is_in_block m s) bound
       → All (λ (lock : Lock). IsCovered m s lock.0 lock.1) (footprint_of bound) → CanExec m s start bound
-  may_exec in_block same_block bound was covered = elim stands as (λ _. CanExec m s start bound) [
+  may_exec bound was covered = elim stands as (λ _. CanExec m s start bound) [
     | inr refused ↦ absurd (none_refused refused.0)
     | inl on ↦
         let same : was.statement ≡ on.statement = sym was.is ∙ item on.o on.is on.statement on.later was.statement on.number on.left in
-        let block : in_block ≡ stands_inside on.o.replies = sym same_block ∙ inside on.o on.is in
+        let block : is_in_block m s ≡ stands_inside on.o.replies = inside on.o on.is in
         inl (record {
           current = on.current;
           o = on.o;

@@ -19,6 +19,10 @@ use Rattle.machine_tests.specs.Behind.{IsBehind}
 pub behind_both : (start : Database) (m now next : Machine) → IsBehind start m now → IsBehind start now next → IsBehind start m next
 behind_both start m now next one more = record { servable = more.servable; reached = reaches_both start m now next one.reached more.reached }
 
+-- nothing is made
+pub unmade : {start : Database} (m : Machine) → IsServable m.script → IsBehind start m m
+unmade m servable = record { servable = servable; reached = at_once }
+
 module _ (m next : Machine) (was : IsServable m.script) where
   behind : (start : Database) → Reaches start m next → IsBehind start m next
   behind start reached = record { servable = subst IsServable (sym (reached_script start m next reached)) was; reached = reached }
@@ -30,7 +34,7 @@ module _ (m next : Machine) (was : IsServable m.script) where
   served_behind {start = start} event = behind start (one_more at_once event)
 
   -- a statement that has its reply, or is stale
-  pub served_behind_step : {start : Database} (s : ℕ) → IsKept start m → (bound : Bound) (step : Step) → step ≡ step_of m s bound
+  pub served_behind_step : {start : Database} (s : ℕ) → IsKept start m → (bound : Bound) (step : Step) → step ≡ step_of m bound
       → (bound.catalog ≢ m.db.number → next ≡ m) → (step ≡ Replied → HasReplied m s bound next) → IsBehind start m next
   served_behind_step {start = start} s kept bound step is stale replied = elim (cases_Bool (bound.catalog == m.db.number)) as (λ _. IsBehind start m next) [
     | inl same ↦
