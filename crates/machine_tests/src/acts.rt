@@ -7,7 +7,6 @@ ghost use Rattle.bf_machine.specs.interleaving.Calls.{IsCovered, IsPlace, Stands
 ghost use Rattle.bf_machine.specs.interleaving.Kept.{IsKept};
 ghost use Rattle.bf_machine.specs.interleaving.Machines.{Open};
 ghost use Rattle.bf_machine.specs.interleaving.Serving.{IsBoundNext, IsServable, IsToLock};
-ghost use Rattle.machine_tests.specs.Behind.{IsBehind};
 
 use bf_base::Memory;
 use bf_locks::{LockAnswer, LockName, Mode};
@@ -61,7 +60,7 @@ fn is_session<N: Opened>(machine: &Machine<N>, session: u32) -> bool
 }
 
 /// Where a session stands, and `None` where it is none of the script's.
-pub fn stand_of<N: Opened>(machine: &Machine<N>, session: u32) -> Option<Stand>
+fn stand_of<N: Opened>(machine: &Machine<N>, session: u32) -> Option<Stand>
     ensures kept { IsKept N.opening machine.now }
     ensures place { IfSome result (λ stand. IsPlace machine.now.script session) }
     ensures stands { IfSome result (StandsAs machine.now session) }
@@ -97,9 +96,24 @@ pub fn covers<N: Opened>(machine: &Machine<N>, session: u32, name: &LockName, mo
     is_session(machine, session) && machine.covers(session, name, mode)
 }
 
+/// The statement at which a session stands, as it is bound in the present catalog, and `None` where
+/// it stands at none.
+pub fn bound_next<N: Opened>(
+    alloc: Global,
+    machine: &Machine<N>,
+    session: u32,
+) -> Result<Option<Bound>, Memory>
+    requires { IsServable machine.now.script }
+{
+    let Some(Stand::Statement(place)) = stand_of(machine, session) else {
+        return Ok(None);
+    };
+    Ok(Some(bind_next(alloc, machine, session, place)?))
+}
+
 fn begin<N: Opened>(machine: &mut Machine<N>, session: u32) -> Result<Seen, Memory>
     requires { IsServable machine.old.script }
-    ensures { IsBehind N.opening machine.old machine.new }
+    ensures { IsServable machine.new.script }
 {
     let Some(Stand::Begin) = stand_of(machine, session) else {
         return Ok(Seen::Idle);
@@ -118,7 +132,7 @@ fn ask_for<N: Opened>(
     requires kept { IsKept N.opening machine.old }
     requires next { (o : Open) × IsToLock machine.old session o locks.now }
     requires servable { IsServable machine.old.script }
-    ensures { IsBehind N.opening machine.old machine.new }
+    ensures { IsServable machine.new.script }
 {
     for (name, mode) in locks {
         match machine.lock(session, name, *mode)? {
@@ -144,7 +158,7 @@ fn ask_in_group<N: Opened>(
     requires kept { IsKept N.opening machine.old }
     requires next { (o : Open) × IsBoundNext machine.old session o bound.now }
     requires servable { IsServable machine.old.script }
-    ensures { IsBehind N.opening machine.old machine.new }
+    ensures { IsServable machine.new.script }
 {
     let locks = footprint(alloc, bound)?;
     ask_for(machine, session, locks.as_slice())
@@ -161,7 +175,7 @@ fn ask_at<N: Opened>(
     requires kept { IsKept N.opening machine.old }
     requires servable { IsServable machine.old.script }
     requires stands { StandsAs machine.old session (Statement place) }
-    ensures { IsBehind N.opening machine.old machine.new }
+    ensures { IsServable machine.new.script }
 {
     if machine.start(session).is_none() {
         return Ok(Seen::Idle);
@@ -172,7 +186,7 @@ fn ask_at<N: Opened>(
 
 fn ask<N: Opened>(alloc: Global, machine: &mut Machine<N>, session: u32) -> Result<Seen, Memory>
     requires { IsServable machine.old.script }
-    ensures { IsBehind N.opening machine.old machine.new }
+    ensures { IsServable machine.new.script }
 {
     let Some(Stand::Statement(place)) = stand_of(machine, session) else {
         return Ok(Seen::Idle);
@@ -189,7 +203,7 @@ fn seen_of(step: Step) -> Seen {
 }
 
 /// Whether a session's open group holds locks.
-pub fn are_covered<N: Opened>(machine: &Machine<N>, session: u32, locks: &[(LockName, Mode)]) -> bool
+fn are_covered<N: Opened>(machine: &Machine<N>, session: u32, locks: &[(LockName, Mode)]) -> bool
     requires { IsPlace machine.now.script session }
     ensures { result ≡ true
         → All (λ lock. IsCovered machine.now session lock.0 lock.1) locks.now }
@@ -213,7 +227,7 @@ fn exec_in_group<N: Opened>(
     requires kept { IsKept N.opening machine.old }
     requires next { (o : Open) × IsBoundNext machine.old session o bound.now }
     requires servable { IsServable machine.old.script }
-    ensures { IsBehind N.opening machine.old machine.new }
+    ensures { IsServable machine.new.script }
 {
     let locks = footprint(alloc, bound)?;
     if !are_covered(machine, session, locks.as_slice()) {
@@ -233,7 +247,7 @@ fn exec_at<N: Opened>(
     requires kept { IsKept N.opening machine.old }
     requires servable { IsServable machine.old.script }
     requires stands { StandsAs machine.old session (Statement place) }
-    ensures { IsBehind N.opening machine.old machine.new }
+    ensures { IsServable machine.new.script }
 {
     let bound = bind_next(alloc, machine, session, place)?;
     if machine.start(session).is_some() {
@@ -244,7 +258,7 @@ fn exec_at<N: Opened>(
 
 fn exec<N: Opened>(alloc: Global, machine: &mut Machine<N>, session: u32) -> Result<Seen, Memory>
     requires { IsServable machine.old.script }
-    ensures { IsBehind N.opening machine.old machine.new }
+    ensures { IsServable machine.new.script }
 {
     let Some(Stand::Statement(place)) = stand_of(machine, session) else {
         return Ok(Seen::Idle);
@@ -254,7 +268,7 @@ fn exec<N: Opened>(alloc: Global, machine: &mut Machine<N>, session: u32) -> Res
 
 fn commit<N: Opened>(machine: &mut Machine<N>, session: u32) -> Result<Seen, Memory>
     requires { IsServable machine.old.script }
-    ensures { IsBehind N.opening machine.old machine.new }
+    ensures { IsServable machine.new.script }
 {
     let Some(Stand::Commit) = stand_of(machine, session) else {
         return Ok(Seen::Idle);
@@ -267,7 +281,7 @@ fn commit<N: Opened>(machine: &mut Machine<N>, session: u32) -> Result<Seen, Mem
 
 fn abort<N: Opened>(machine: &mut Machine<N>, session: u32) -> Seen
     requires { IsServable machine.old.script }
-    ensures { IsBehind N.opening machine.old machine.new }
+    ensures { IsServable machine.new.script }
 {
     let Some(Stand::Abort) = stand_of(machine, session) else {
         return Seen::Idle;
@@ -278,7 +292,7 @@ fn abort<N: Opened>(machine: &mut Machine<N>, session: u32) -> Seen
 
 fn finish<N: Opened>(machine: &mut Machine<N>, session: u32) -> Seen
     requires { IsServable machine.old.script }
-    ensures { IsBehind N.opening machine.old machine.new }
+    ensures { IsServable machine.new.script }
 {
     let Some(Stand::Ended) = stand_of(machine, session) else {
         return Seen::Idle;
@@ -287,10 +301,10 @@ fn finish<N: Opened>(machine: &mut Machine<N>, session: u32) -> Seen
     Seen::Done
 }
 
-/// Makes a call, where its condition holds.
+/// Makes a call, where its condition holds. The script stays one that is served.
 pub fn make<N: Opened>(alloc: Global, machine: &mut Machine<N>, act: Act) -> Result<Seen, Memory>
     requires { IsServable machine.old.script }
-    ensures { IsBehind N.opening machine.old machine.new }
+    ensures { IsServable machine.new.script }
 {
     match act {
         Act::Begin(session) => begin(machine, session),

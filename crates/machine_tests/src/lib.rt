@@ -18,6 +18,4 @@ mod runs;
 #[cfg(test)]
 mod schema;
 #[cfg(test)]
-mod stale;
-#[cfg(test)]
 mod waits;
