@@ -63,6 +63,7 @@ module _ {start : Database} (m : Machine) (s : ℕ) (place : IsPlace m.script s)
     now = asked.now;
     serves = serves_both m s now asked.now begins_serves asked.serves;
     reached = reaches_both start m now asked.now (one_more at_once (begins s by)) asked.reached;
+    no_reply = asked.no_reply ∙ same_left;
     o = asked.o;
     is = asked.is;
     same = λ p is. absurd (not_open p is);

@@ -81,11 +81,12 @@ module _ (m : Machine) (s : ℕ) where
     pub goes : (unanswered m s ≡ unanswered next s + 1)
         ⊎ ((o : Open) × (open_at m s ≡ Some o) × (rest_of m s o ≡ []) × (open_at next s ≡ None) × (unanswered next s ≡ unanswered m s))
 
-  -- ASKED: the session's open group, as it stands by then, asks for a lock of its next statement's footprint, and has this answer
+  -- ASKED: before a statement more has its reply, the session's open group, as it stands by then, asks for a lock of its next statement's footprint, and has this answer
   pub record IsAsked (start : Database) (answer : LockAnswer) : Type 0 where
     pub now : Machine
     pub serves : Serves now
     pub reached : Reaches start m now
+    pub no_reply : unanswered now s ≡ unanswered m s
     pub o : Open
     pub is : open_at now s ≡ Some o
     pub same : (p : Open) → open_at m s ≡ Some p → p.start ≡ o.start
