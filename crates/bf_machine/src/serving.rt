@@ -6,7 +6,7 @@ ghost use Rattle.bf_machine.specs.interleaving.Calls.{CanExec, CanRefuse, HasRep
 ghost use Rattle.bf_machine.specs.interleaving.Events.{Begins, Reaches};
 ghost use Rattle.bf_machine.specs.interleaving.Kept.{IsKept};
 ghost use Rattle.bf_machine.specs.interleaving.Machines.{Machine as Seen, Open, open_at};
-ghost use Rattle.bf_machine.specs.interleaving.Serving.{CanGo, CannotGo, Driven, HasLocked, HasMore, IsAlone, IsBoundNext, IsInSequence, IsServable, IsToLock, IsTurn, IsTurnOf, IsYoungest, Serves, Turned, can_go, deaths_at, unanswered};
+ghost use Rattle.bf_machine.specs.interleaving.Serving.{CanGo, CannotGo, Driven, HasLocked, HasMore, HasReply, IsAlone, IsBoundNext, IsInSequence, IsServable, IsToLock, IsTurn, IsTurnOf, IsYoungest, Serves, Turned, can_go, deaths_at, unanswered};
 ghost use Rattle.bf_machine.specs.declared.serving.Turn.TheVariants.{Served};
 
 use crate::machine::Machine;
@@ -60,11 +60,13 @@ fn lock_all<N: Opened>(
 fn end_if_answered<N: Opened>(machine: &mut Machine<N>, session: u32) -> Result<(), Memory>
     requires place { IsPlace machine.old.script session }
     requires kept { IsKept N.opening machine.old }
+    requires has_reply { HasReply machine.old session }
     ensures reaches { Reaches N.opening machine.old machine.new }
     ensures serves { OnOk result (Serves machine.old session machine.new) }
     ensures replies { OnOk result
         (unanswered machine.new session ≡ unanswered machine.old session) }
     ensures more { OnOk result (HasMore machine.new session) }
+    ensures has_reply { OnOk result (HasReply machine.new session) }
 {
     if !machine.is_answered(session) {
         return Ok(());
