@@ -6,7 +6,7 @@ ghost use Rattle.bf_machine.specs.interleaving.Calls.{CanExec, CanRefuse, HasRep
 ghost use Rattle.bf_machine.specs.interleaving.Events.{Begins, Reaches};
 ghost use Rattle.bf_machine.specs.interleaving.Kept.{IsKept};
 ghost use Rattle.bf_machine.specs.interleaving.Machines.{Machine as Seen, Open, open_at};
-ghost use Rattle.bf_machine.specs.interleaving.Serving.{CanGo, CannotGo, Driven, HasLocked, HasMore, IsAlone, IsBoundNext, IsInSequence, IsServable, IsToLock, IsTurn, IsTurnOf, IsYoungest, Serves, Turned, can_go, deaths_at, unanswered};
+ghost use Rattle.bf_machine.specs.interleaving.Serving.{CanGo, CannotGo, Driven, HasLocked, HasMore, HasReply, IsAlone, IsBoundNext, IsInSequence, IsServable, IsToLock, IsTurn, IsTurnOf, IsYoungest, Serves, Turned, can_go, deaths_at, unanswered};
 ghost use Rattle.bf_machine.specs.declared.serving.Turn.TheVariants.{Served};
 
 use crate::machine::Machine;
@@ -60,11 +60,13 @@ fn lock_all<N: Opened>(
 fn end_if_answered<N: Opened>(machine: &mut Machine<N>, session: u32) -> Result<(), Memory>
     requires place { IsPlace machine.old.script session }
     requires kept { IsKept N.opening machine.old }
+    requires has_reply { HasReply machine.old session }
     ensures reaches { Reaches N.opening machine.old machine.new }
     ensures serves { OnOk result (Serves machine.old session machine.new) }
     ensures replies { OnOk result
         (unanswered machine.new session ≡ unanswered machine.old session) }
     ensures more { OnOk result (HasMore machine.new session) }
+    ensures has_reply { OnOk result (HasReply machine.new session) }
 {
     if !machine.is_answered(session) {
         return Ok(());
@@ -314,7 +316,8 @@ fn end_sessions<N: Opened>(alloc: Global, machine: &mut Machine<N>) -> Result<()
 /// session: its next statement is driven until it has its reply, or waits, or dies. A number of no
 /// session, and a session that has ended, is of a later phase or waits for the end of another group,
 /// is passed over. Then all that is left is driven, the youngest open group first, and where none is
-/// open the first session that can go on. Linear in the turns, each of which looks at every session.
+/// open the first session that can go on. Linear in the turns, each of which looks at each session of
+/// the script, 64 at most in one that is read.
 ///
 /// # Errors
 /// Where memory runs out. The machine stands after some of the turns then, and maybe in the midst of

@@ -5,6 +5,7 @@ use Rattle.std.specs.Option.{option_map_or}
 use Rattle.std.specs.List.{list_any, slice_set}
 use Rattle.std.proofs.lemmas.Bool.{and_parts, false≢true}
 use Rattle.std.proofs.lemmas.Bool.Decides.{nat_tests}
+use Rattle.std.proofs.lemmas.Option.{same_Some}
 use Rattle.bf_tree.specs.declared.history.Entry.{Entry}
 use Rattle.bf_tree.specs.declared.history.Outcome.TheVariants.{Committed, RolledBack}
 use Rattle.bf_tree.specs.declared.reply.Refusal.TheVariants.{NoTransaction}
@@ -20,7 +21,7 @@ use Rattle.bf_machine.specs.interleaving.Events.{Aborts, Begins, Commits, Event,
 use Rattle.bf_machine.specs.interleaving.Groups.{left_by}
 use Rattle.bf_machine.specs.interleaving.Kept.{IsKept}
 use Rattle.bf_machine.specs.interleaving.Machines.{Machine, Open, open_at, told_at, with_replies}
-use Rattle.bf_machine.specs.interleaving.Serving.{HasGoneOn, HasMore, Serves, is_answered, unanswered}
+use Rattle.bf_machine.specs.interleaving.Serving.{HasGoneOn, HasMore, HasReply, Serves, is_answered, unanswered}
 use Rattle.bf_machine.proofs.interleaving.Others.{has_place}
 use Rattle.bf_machine.proofs.interleaving.Places.{set_same, set_other}
 use Rattle.bf_machine.proofs.interleaving.Telling.{length-part}
@@ -45,6 +46,21 @@ reaches_both start m now _ one (one_more {now = then} {next = next} before event
 -- where no group is open, none has all its replies
 pub closed_more : (m : Machine) (s : ℕ) → open_at m s ≡ None → HasMore m s
 closed_more m s closed o is none = let clash : None ≡ Some o = sym closed ∙ is in cc
+
+pub closed_reply : (m : Machine) (s : ℕ) → open_at m s ≡ None → HasReply m s
+closed_reply m s closed o is none = let clash : None ≡ Some o = sym closed ∙ is in cc
+
+-- behind an EXEC the group has a reply
+pub exec_reply : (m : Machine) (s : ℕ) (next : Machine) → Executes m s next → HasReply next s
+exec_reply m s next by p is none =
+    let place = has_place m s by.o by.is in
+    let then : Open = stepped m s by.o by.statement by.bound in
+    let there : open_at next s ≡ Some then = ap (λ (k : Machine). open_at k s) by.goes ∙ set_same None None m.opens s (Some then) place.0 place.1 in
+    let same : p ≡ then = same_Some p then (sym is ∙ there) in
+    let more : length then.replies ≡ length by.o.replies + 1 = length-append by.o.replies _ in
+    let size : length p.replies ≡ length then.replies = ap (λ (q : Open). length q.replies) same in
+    let nothing : length p.replies ≡ 0 = ap (λ (rs : List Reply). length rs) none in
+    omega (arith, more, size, nothing)
 
 module _ {start : Database} (m : Machine) (kept : IsKept start m) (s : ℕ) where
   -- EXEC
@@ -130,6 +146,7 @@ module _ {start : Database} (m : Machine) (kept : IsKept start m) (s : ℕ) wher
       serves = end_serves m kept (are_texts m.script) s o is r db e same;
       reached = one_more at_once event;
       more = closed_more after s closed_after;
+      has_reply = closed_reply after s closed_after;
       goes = elim left as (λ _. (unanswered m s ≡ unanswered after s + 1) ⊎ ((o : Open) × (open_at m s ≡ Some o) × (rest_of m s o ≡ []) × (open_at after s ≡ None) × (unanswered after s ≡ unanswered m s))) [
         | inl nothing ↦ inr (o, is, nothing, closed_after, end_adds_none nothing)
         | inr one ↦

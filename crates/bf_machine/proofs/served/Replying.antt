@@ -15,10 +15,10 @@ use Rattle.bf_machine.specs.interleaving.Calls.{CanExec, HasReplied, IsToExec}
 use Rattle.bf_machine.specs.interleaving.Events.{Event, at_once, executes, one_more, refuses, stands_inside}
 use Rattle.bf_machine.specs.interleaving.Kept.{IsKept}
 use Rattle.bf_machine.specs.interleaving.Machines.{Machine, Open, open_at}
-use Rattle.bf_machine.specs.interleaving.Serving.{HasGoneOn, HasLocked, IsBoundNext, Serves, unanswered}
+use Rattle.bf_machine.specs.interleaving.Serving.{HasGoneOn, HasLocked, HasReply, IsBoundNext, Serves, unanswered}
 use Rattle.bf_machine.proofs.keeping.Numbers.{bound_number}
 use Rattle.bf_machine.proofs.served.Events.{serves_both, serves_locks}
-use Rattle.bf_machine.proofs.served.Goes.{closed_more, exec_goes_on, refuse_goes_on}
+use Rattle.bf_machine.proofs.served.Goes.{closed_more, closed_reply, exec_goes_on, exec_reply, refuse_goes_on}
 
 module _ (m : Machine) (s : ℕ) (o : Open) (bound : Bound) (next : IsBoundNext m s o bound) (now : Machine) (locked : HasLocked m s (footprint_of bound) now) where
   abbrev under : Machine
@@ -64,11 +64,11 @@ module _ (m : Machine) (s : ℕ) (o : Open) (bound : Bound) (next : IsBoundNext 
   is_open_now = ap (λ (k : Machine). open_at k s) locked.3 ∙ next.to_lock.is
 
   pub has_replied : {start : Database} (kept : IsKept start now) (then : Machine) → HasReplied now s bound then
-      → Event start now then × Serves m s then × (unanswered m s ≡ unanswered then s + 1)
-  has_replied {start = start} kept then by = elim by as (λ _. Event start now then × Serves m s then × (unanswered m s ≡ unanswered then s + 1)) [
+      → Event start now then × Serves m s then × (unanswered m s ≡ unanswered then s + 1) × HasReply then s
+  has_replied {start = start} kept then by = elim by as (λ _. Event start now then × Serves m s then × (unanswered m s ≡ unanswered then s + 1) × HasReply then s) [
     | inl executed ↦
         let goes = exec_goes_on now kept s then executed.0 in
-        (executes s executed.0, serves_both m s now then serves_now goes.0, omega (arith, goes.1, same_unanswered))
+        (executes s executed.0, serves_both m s now then serves_now goes.0, omega (arith, goes.1, same_unanswered), exec_reply now s then executed.0)
     | inr refused ↦
         let clash : None ≡ Some o = sym refused.closed ∙ is_open_now in
         absurd cc
@@ -83,7 +83,7 @@ refused_now {start = start} m s kept closed bound then by = elim by as (λ _. Ha
   | inr refused ↦
       let goes = refuse_goes_on m kept s then refused in
       let none : open_at then s ≡ None = ap (λ (k : Machine). open_at k s) refused.goes ∙ refused.closed in
-      record { serves = goes.0; reached = one_more at_once (refuses s refused); more = closed_more then s none; goes = inl goes.1 }
+      record { serves = goes.0; reached = one_more at_once (refuses s refused); more = closed_more then s none; has_reply = closed_reply then s none; goes = inl goes.1 }
 ]
 
 pub none_started : (o : Option Open) → is_some (option_map (λ (o : Open). o.start) o) ≡ false → o ≡ None

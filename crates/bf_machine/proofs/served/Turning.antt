@@ -52,6 +52,7 @@ module _ {start : Database} (m : Machine) (s : ℕ) (place : IsPlace m.script s)
     serves = serves_both m s now next begins_serves goes.serves;
     reached = reaches_both start m now next (one_more at_once (begins s by)) goes.reached;
     more = goes.more;
+    has_reply = goes.has_reply;
     goes = elim goes.goes as (λ _. (unanswered m s ≡ unanswered next s + 1) ⊎ ((o : Open) × (open_at m s ≡ Some o) × (rest_of m s o ≡ []) × (open_at next s ≡ None) × (unanswered next s ≡ unanswered m s))) [
       | inl one ↦ inl (omega (arith, one, same_left))
       | inr ended ↦ absurd (some_left ended.0 ended.1 ended.2)
@@ -63,6 +64,7 @@ module _ {start : Database} (m : Machine) (s : ℕ) (place : IsPlace m.script s)
     now = asked.now;
     serves = serves_both m s now asked.now begins_serves asked.serves;
     reached = reaches_both start m now asked.now (one_more at_once (begins s by)) asked.reached;
+    no_reply = asked.no_reply ∙ same_left;
     o = asked.o;
     is = asked.is;
     same = λ p is. absurd (not_open p is);

@@ -53,6 +53,10 @@ unanswered m s = length (statements_at m s) - length (replies_at m s)
 abbrev pub HasMore : Machine → ℕ → Type 0
 HasMore m s = (o : Open) → open_at m s ≡ Some o → rest_of m s o ≡ [] → ⊥
 
+-- and has a reply, as it begins in the turn of its first one
+abbrev pub HasReply : Machine → ℕ → Type 0
+HasReply m s = (o : Open) → open_at m s ≡ Some o → o.replies ≡ [] → ⊥
+
 module _ (m : Machine) (s : ℕ) where
   -- whether the next statement stands in an open block
   abbrev pub is_in_block : Bool
@@ -73,19 +77,21 @@ module _ (m : Machine) (s : ℕ) where
     pub deaths : (n : ℕ) → deaths_at next n ≡ deaths_at m n
     pub entries : (more : List Entry) × AllByRecursion (λ e. e.session ≡ s) more × (next.history ≡ m.history ++ more)
 
-  -- exactly one statement more has its reply, or only its open group has ended, which had all its replies; no group is left open that has all
+  -- exactly one statement more has its reply, or only its open group has ended, which had all its replies; a group that is open then has a reply, and a statement left
   pub record HasGoneOn (start : Database) (next : Machine) : Type 0 where
     pub serves : Serves next
     pub reached : Reaches start m next
     pub more : HasMore next s
+    pub has_reply : HasReply next s
     pub goes : (unanswered m s ≡ unanswered next s + 1)
         ⊎ ((o : Open) × (open_at m s ≡ Some o) × (rest_of m s o ≡ []) × (open_at next s ≡ None) × (unanswered next s ≡ unanswered m s))
 
-  -- ASKED: the session's open group, as it stands by then, asks for a lock of its next statement's footprint, and has this answer
+  -- ASKED: before a statement more has its reply, the session's open group, as it stands by then, asks for a lock of its next statement's footprint, and has this answer
   pub record IsAsked (start : Database) (answer : LockAnswer) : Type 0 where
     pub now : Machine
     pub serves : Serves now
     pub reached : Reaches start m now
+    pub no_reply : unanswered now s ≡ unanswered m s
     pub o : Open
     pub is : open_at now s ≡ Some o
     pub same : (p : Open) → open_at m s ≡ Some p → p.start ≡ o.start

@@ -26,8 +26,8 @@ fn count_told(so_far: &SessionSoFar) -> usize
 }
 
 impl<N: Opened> Machine<N> {
-    /// Where a session stands: which call is its next, if one is. It costs a constant time, and takes
-    /// no memory.
+    /// Where a session stands: which call is its next, if one is. It costs a constant time, with a look
+    /// at the group that its last death named, and takes no memory.
     pub fn stand(&self, session: u32) -> Stand
         requires { IsPlace self.now.script session }
         ensures { StandsAs self.now session result }

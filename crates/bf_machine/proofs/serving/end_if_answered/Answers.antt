@@ -19,6 +19,16 @@ returns-in_ok-commit-in-Commit-clause-more g c =
 pub returns-in-Abort-clause-more : goal.returns-in-Abort-clause-more
 returns-in-Abort-clause-more g c = (abort_goes_on c.args.machine.now c.requires.kept c.args.session c.abort.new.self c.abort.ensures).more
 
+pub returns-then-not-is_answered-clause-has_reply : goal.returns-then-not-is_answered-clause-has_reply
+returns-then-not-is_answered-clause-has_reply g c = c.requires.has_reply
+
+pub returns-in_ok-commit-in-Commit-clause-has_reply : goal.returns-in_ok-commit-in-Commit-clause-has_reply
+returns-in_ok-commit-in-Commit-clause-has_reply g c =
+    (commit_goes_on c.args.machine.now c.requires.kept c.args.session c.commit.new.self c.in_ok-commit-in-Commit.ensures.commits).has_reply
+
+pub returns-in-Abort-clause-has_reply : goal.returns-in-Abort-clause-has_reply
+returns-in-Abort-clause-has_reply g c = (abort_goes_on c.args.machine.now c.requires.kept c.args.session c.abort.new.self c.abort.ensures).has_reply
+
 pub returns-in_err-commit-in-Commit-clause-reaches : goal.returns-in_err-commit-in-Commit-clause-reaches
 returns-in_err-commit-in-Commit-clause-reaches g c = subst (Reaches g.N.Opened.opening c.args.machine.now) (sym c.in_err-commit-in-Commit.ensures.err) at_once
 
@@ -34,4 +44,5 @@ returns-in_default g c = record {
   serves = serves_not c.args.machine.now c.args.session;
   replies = refl;
   more = stands_more c.args.machine.now c.requires.kept c.args.session c.stand.result c.stand.ensures c.in_default.not-Commit c.in_default.not-Abort;
+  has_reply = c.requires.has_reply;
 }

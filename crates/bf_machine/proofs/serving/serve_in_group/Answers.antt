@@ -49,6 +49,17 @@ end_if_answered-requires-clause-kept g c =
     let replied = has_replied m s next.0 c.args.bound.now next.1 c.lock_all.new.machine locked kept c.reply_to.new.machine c.in_ok-reply_to.ensures.replied in
     reached_keeps_all g.N.Opened.opening m c.reply_to.new.machine c.requires.kept (one_more c.in_ok-turn.ensures.reaches replied.0)
 
+pub end_if_answered-requires-clause-has_reply : goal.end_if_answered-requires-clause-has_reply
+end_if_answered-requires-clause-has_reply g c =
+    let m : Machine = c.args.machine.now in
+    let s = c.args.session in
+    let next = c.requires.next in
+    let locked : HasLocked m s (footprint_of c.args.bound.now) c.lock_all.new.machine =
+    subst (λ (fs : List Lock). HasLocked m s fs c.lock_all.new.machine) (c.as_slice.ensures.value ∙ c.in_ok-locks.ensures) (c.in_ok-turn.ensures.locked (ap Ok c.in-Served.is)) in
+    let kept = reached_keeps_all g.N.Opened.opening m c.lock_all.new.machine c.requires.kept c.in_ok-turn.ensures.reaches in
+    let replied = has_replied m s next.0 c.args.bound.now next.1 c.lock_all.new.machine locked kept c.reply_to.new.machine c.in_ok-reply_to.ensures.replied in
+    replied.3
+
 pub returns-in_err-end_if_answered-clause-reaches : goal.returns-in_err-end_if_answered-clause-reaches
 returns-in_err-end_if_answered-clause-reaches g c =
     let m : Machine = c.args.machine.now in
@@ -85,5 +96,6 @@ returns-clause-turn g c =
       serves = serves_both m s c.reply_to.new.machine c.end_if_answered.new.machine replied.1 c.in_ok-end_if_answered.ensures.serves;
       reached = reaches_both g.N.Opened.opening m c.reply_to.new.machine c.end_if_answered.new.machine reached c.in_ok-end_if_answered.ensures.reaches;
       more = c.in_ok-end_if_answered.ensures.more;
+      has_reply = c.in_ok-end_if_answered.ensures.has_reply;
       goes = inl (omega (arith, replied.2, c.in_ok-end_if_answered.ensures.replies));
     }

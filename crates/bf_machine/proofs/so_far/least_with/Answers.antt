@@ -24,8 +24,8 @@ returns-in_default c =
     (sym c.has_ended.ensures ∙ c.if-has_ended.false) in
     moves xs ys place c.args.before c.requires.before left
     (λ p is.
-        let clash : None ≡ Some p = sym c.in_default.is ∙ is in
-        absurd cc)
+    let clash : None ≡ Some p = sym c.in_default.is ∙ is in
+    absurd cc)
 
 pub is_no_later-requires-clause-place : goal.is_no_later-requires-clause-place
 is_no_later-requires-clause-place c =
@@ -53,7 +53,7 @@ returns c =
     let before : phase_at xs ys place < phase_at xs ys least = grind (arith, nat_tests, sym c.is_no_later.ensures ∙ c.if-is_no_later.false) in
     moves xs ys place c.args.before c.requires.before left
     (λ p is.
-        let same : Some least ≡ Some p = sym c.in-Some.is ∙ is in
-        let one : least ≡ p = cc in
-        let phases : phase_at xs ys least ≡ phase_at xs ys p = ap (phase_at xs ys) one in
-        omega (arith, before, phases))
+    let same : Some least ≡ Some p = sym c.in-Some.is ∙ is in
+    let one : least ≡ p = cc in
+    let phases : phase_at xs ys least ≡ phase_at xs ys p = ap (phase_at xs ys) one in
+    omega (arith, before, phases))

@@ -41,8 +41,8 @@ returns-in-Some g c =
     let theirs : (slice_index_or xs least no_session).phase ≡ phase_of i.script (suc least) =
     ap (λ (xs : List Session). (slice_index_or xs least no_session).phase) c.as_slice-sessions.ensures in
     let found : (p : ℕ) → i.least_left ≡ Some p → least ≡ p = λ p is.
-        let same : Some least ≡ Some p = sym c.in-Some.is ∙ is in
-        cc in (
+    let same : Some least ≡ Some p = sym c.in-Some.is ∙ is in
+    cc in (
       λ holds.
           let low : (slice_index_or xs (s - 1) no_session).phase ≤ (slice_index_or xs least no_session).phase = grind (arith, nat_tests, sym c.is_no_later.ensures ∙ holds) in
           let below : phase_of i.script s ≤ phase_of i.script (suc least) = omega (arith, low, mine, theirs) in
@@ -66,7 +66,7 @@ returns-in-None g c =
           subst (λ (m : Machine). IsCurrent m s) c.self.view_is
           (current_by_phase i.script i.retries i.live i.locks i.began.items i.sessions.items i.history.items c.self.invariant.0.kept i.least_left c.self.invariant.1 s
           (λ p is.
-              let clash : None ≡ Some p = sym c.in-None.is ∙ is in
-              absurd cc)),
+          let clash : None ≡ Some p = sym c.in-None.is ∙ is in
+          absurd cc)),
       λ is. refl,
     )

@@ -40,14 +40,13 @@ close_at_death-requires-clause-room g c =
     c.index_mut-2.result.now (sym c.index_mut-2.ensures.value) c.len.result c.told_count-told.result c.told_count-told.ensures
 
 pub invariant_of-self-in_default-answer : goal.invariant_of-self-in_default-answer
-invariant_of-self-in_default-answer g c =
-    (
-      lives_sound c.self.inside c.self.invariant.0 c.args.self.now c.self.view_is c.args.session c.requires.place c.index.result.now
-          (sym c.index.ensures) c.in-Some.group c.in-Some.is
-          c.args.name.now c.args.mode c.requires.can c.in_ok-answer.answer c.in_ok-answer.ensures.judged c.ask.new.self c.in_ok-answer.ensures.after
-          c.in_default-answer.not-Die,
-      c.self.invariant.1,
-    )
+invariant_of-self-in_default-answer g c = (
+  lives_sound c.self.inside c.self.invariant.0 c.args.self.now c.self.view_is c.args.session c.requires.place c.index.result.now
+      (sym c.index.ensures) c.in-Some.group c.in-Some.is
+      c.args.name.now c.args.mode c.requires.can c.in_ok-answer.answer c.in_ok-answer.ensures.judged c.ask.new.self c.in_ok-answer.ensures.after
+      c.in_default-answer.not-Die,
+  c.self.invariant.1,
+)
 
 pub returns-in_default-answer : goal.returns-in_default-answer
 returns-in_default-answer g c =
@@ -59,14 +58,13 @@ returns-in_default-answer g c =
     record { asks = asks; err = tt }
 
 pub invariant_of-self-in_err-push : goal.invariant_of-self-in_err-push
-invariant_of-self-in_err-push g c =
-    (
-      unchanged_sound c.self.inside c.self.invariant.0 c.args.self.now c.self.view_is c.args.session c.requires.place c.index.result.now
-          (sym c.index.ensures) c.in-Some.group c.in-Some.is
-          c.args.name.now c.args.mode c.requires.can c.in_ok-answer.answer c.in_ok-answer.ensures.judged c.ask.new.self c.in_ok-answer.ensures.after
-          c.in-Die.older c.in-Die.is c.index_mut.result.now (sym c.index_mut.ensures.value) c.push.new.self c.in_err-push.ensures.items,
-      c.self.invariant.1,
-    )
+invariant_of-self-in_err-push g c = (
+  unchanged_sound c.self.inside c.self.invariant.0 c.args.self.now c.self.view_is c.args.session c.requires.place c.index.result.now
+      (sym c.index.ensures) c.in-Some.group c.in-Some.is
+      c.args.name.now c.args.mode c.requires.can c.in_ok-answer.answer c.in_ok-answer.ensures.judged c.ask.new.self c.in_ok-answer.ensures.after
+      c.in-Die.older c.in-Die.is c.index_mut.result.now (sym c.index_mut.ensures.value) c.push.new.self c.in_err-push.ensures.items,
+  c.self.invariant.1,
+)
 
 pub returns-in_err-push-clause-err : goal.returns-in_err-push-clause-err
 returns-in_err-push-clause-err g c =
