@@ -1,0 +1,7 @@
+//! Plans of migrations: a MIGRATE is bound in a catalog, arm by arm, and either the first objection of
+//! the catalog is told or the plan is made. Rows are not looked at.
+#![tactic(auto)]
+
+mod plan;
+
+pub use plan::{Plan, Unit, UnitKind};
