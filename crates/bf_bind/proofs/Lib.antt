@@ -5,3 +5,4 @@ pub mod Keys
 pub mod Lookups
 pub mod Tuples
 pub mod Walks
+pub mod Scopes

@@ -8,6 +8,7 @@ ghost use Rattle.bf_sql.specs.Scopes.{cond_objections, scope_of};
 ghost use Rattle.bf_bind.specs.Parts.{selection_of};
 
 use crate::condition::bind_condition;
+use crate::scope::Scope;
 use bf_base::{Key, Memory, Table};
 use bf_tree::{Cond, RawCond, StatementError, column_fixed};
 use std::alloc::Global;
@@ -44,7 +45,7 @@ pub(crate) fn bind_selection(
     ensures { Settles result (cond_objections (scope_of table.now) (condition_of raw.now))
         (selection_of table.now raw.now) }
 {
-    let cond = bind_condition(alloc, table, raw)?;
+    let cond = bind_condition(alloc, &Scope::of(table), raw)?;
     let fixed = fixed_key(alloc, table, &cond)?;
     Ok(Selection { cond, fixed })
 }

@@ -3,12 +3,16 @@
 #![tactic(auto)]
 
 pub mod binding;
-mod condition;
+pub mod condition;
 mod create;
-mod expression;
+pub mod expression;
 mod fixed;
-mod list;
-mod scope;
+pub mod list;
+pub mod scope;
 mod tuples_and_sets;
 
 pub use binding::bind;
+pub use condition::bind_condition;
+pub use expression::{BoundExpr, bind_expression};
+pub use list::bind_total;
+pub use scope::{ColumnPlace, Scope, column, expect_kind, is_same_kind};

@@ -6,63 +6,66 @@ ghost use Rattle.bf_tree.specs.Settling.{Settles};
 ghost use Rattle.bf_tree.specs.Trees.{expr_over};
 ghost use Rattle.bf_sql.specs.Bound.{items_over, place_in, total_over};
 ghost use Rattle.bf_sql.specs.Objections.{items_objections};
-ghost use Rattle.bf_sql.specs.Scopes.{expr_objections, scope_of, total_objections};
+ghost use Rattle.bf_sql.specs.Scopes.{expr_objections, place_of, scope_of, total_objections};
 
 use crate::expression::bind_expression;
-use crate::scope::expect_kind;
+use crate::scope::{Scope, expect_kind};
 use bf_base::{Kind, Sequence, Table};
 use bf_tree::{Aggregate, Expr, Items, List, RawAggregate, RawExpr, StatementError};
 use std::alloc::Global;
 
 fn bind_expressions(
     alloc: Global,
-    table: &Table,
+    scope: &Scope,
     exprs: &[RawExpr],
 ) -> Result<Sequence<Expr>, StatementError>
-    requires { length table.now.columns ≤ most_columns }
-    ensures { Settles result (flat_map (expr_objections (scope_of table.now)) exprs.now)
-        (map (expr_over (place_in table.now)) exprs.now) }
+    ensures { Settles result (flat_map (expr_objections scope.now) exprs.now)
+        (map (expr_over (place_of scope.now)) exprs.now) }
 {
     let mut bound = Vec::with_capacity(alloc, exprs.len())?;
     for raw in exprs {
-        bound.push(bind_expression(alloc, table, raw)?.expr)?;
+        bound.push(bind_expression(alloc, scope, raw)?.expr)?;
     }
     Ok(Sequence::of(bound))
 }
 
-fn bind_total(
+/// A total over the rows of a scope, each ref as the place of its column in such a row. It costs what
+/// its expression costs, as `bind_expression` says.
+///
+/// # Errors
+/// The first objection to its expression, as `bind_expression` tells it, or that a SUM is not over
+/// INTs. Or memory ran out.
+pub fn bind_total(
     alloc: Global,
-    table: &Table,
+    scope: &Scope,
     total: &RawAggregate,
 ) -> Result<Aggregate, StatementError>
-    requires { length table.now.columns ≤ most_columns }
-    ensures { Settles result (total_objections (scope_of table.now) total.now)
-        (total_over (place_in table.now) total.now) }
+    ensures { Settles result (total_objections scope.now total.now)
+        (total_over (place_of scope.now) total.now) }
 {
     match total {
         Aggregate::Count => Ok(Aggregate::Count),
         Aggregate::Sum(raw) => {
-            let bound = bind_expression(alloc, table, raw)?;
+            let bound = bind_expression(alloc, scope, raw)?;
             expect_kind(bound.kind, Kind::Int)?;
             Ok(Aggregate::Sum(bound.expr))
         }
-        Aggregate::Min(raw) => Ok(Aggregate::Min(bind_expression(alloc, table, raw)?.expr)),
-        Aggregate::Max(raw) => Ok(Aggregate::Max(bind_expression(alloc, table, raw)?.expr)),
+        Aggregate::Min(raw) => Ok(Aggregate::Min(bind_expression(alloc, scope, raw)?.expr)),
+        Aggregate::Max(raw) => Ok(Aggregate::Max(bind_expression(alloc, scope, raw)?.expr)),
     }
 }
 
 fn bind_totals(
     alloc: Global,
-    table: &Table,
+    scope: &Scope,
     totals: &[RawAggregate],
 ) -> Result<Sequence<Aggregate>, StatementError>
-    requires { length table.now.columns ≤ most_columns }
-    ensures { Settles result (flat_map (total_objections (scope_of table.now)) totals.now)
-        (map (total_over (place_in table.now)) totals.now) }
+    ensures { Settles result (flat_map (total_objections scope.now) totals.now)
+        (map (total_over (place_of scope.now)) totals.now) }
 {
     let mut bound = Vec::with_capacity(alloc, totals.len())?;
     for total in totals {
-        bound.push(bind_total(alloc, table, total)?)?;
+        bound.push(bind_total(alloc, scope, total)?)?;
     }
     Ok(Sequence::of(bound))
 }
@@ -76,12 +79,13 @@ pub(crate) fn bind_items(alloc: Global, table: &Table, list: &List) -> Result<It
     ensures { Settles result (items_objections (scope_of table.now) list.now)
         (items_over (place_in table.now) list.now) }
 {
+    let scope = Scope::of(table);
     match list {
         Items::All => Ok(Items::All),
-        Items::Exprs(exprs) => Ok(Items::Exprs(bind_expressions(alloc, table, exprs.as_slice())?)),
+        Items::Exprs(exprs) => Ok(Items::Exprs(bind_expressions(alloc, &scope, exprs.as_slice())?)),
         Items::Aggregates(totals) => Ok(Items::Aggregates(bind_totals(
             alloc,
-            table,
+            &scope,
             totals.as_slice(),
         )?)),
     }

@@ -1,6 +1,6 @@
-//! Columns of a table, by refs and by names.
+//! Columns of one table or of two, by refs, and those of a table by names.
 
-ghost use Rattle.std.specs.Prelude.{◌≡◌, ◌≤◌, IfSome, is_some, length, not, position, slice_range};
+ghost use Rattle.std.specs.Prelude.{◌≡◌, ◌<◌, ◌≤◌, ◌++◌, IfSome, drop, is_some, length, not, position};
 ghost use Rattle.std.specs.List.{list_any};
 ghost use Rattle.bf_base.specs.Limits.{most_columns};
 ghost use Rattle.bf_base.specs.Lists.{has, same_name, when};
@@ -11,17 +11,39 @@ ghost use Rattle.bf_sql.specs.Objections.{column_names, names_objections};
 ghost use Rattle.bf_sql.specs.Meaning.{named_places};
 ghost use Rattle.bf_sql.specs.Scopes.{is_qualified_by, qualifier_objections, ref_objections, scope_of, unqualified};
 ghost use Rattle.bf_tree.specs.declared.reply.Refusal.TheVariants as refusal;
-ghost use Rattle.bf_bind.specs.Parts.{column_of, means, name_objections};
+ghost use Rattle.bf_bind.specs.Parts.{column_at as column_at_of, column_of, first_meant, means, name_objections};
 
 use bf_base::{Admit, Column, Kind, Name, Sequence, Table};
 use bf_tree::{Ref, Refusal, StatementError};
 use std::alloc::Global;
+use std::marker::Model;
 
-/// A column of a table: its place, counted from 0, and the kind of its values.
+/// The tables that refs are looked up in: the columns of one, then those of the other if there is
+/// one. Contracts see the columns in this order, each with its table's name; so the place of a column
+/// is that in a row of the one table with a row of the other behind it.
+#[derive(Drop)]
+pub struct Scope<'a> {
+    from: &'a Table,
+    join: Option<&'a Table>,
+}
+
+impl<'a> Model for Scope<'a> {
+    ghost use Rattle.std.specs.Option.{option_copied};
+    ghost use Rattle.bf_sql.specs.Scopes.{Scope as Columns};
+    ghost use Rattle.bf_bind.specs.Scopes.{AreNarrow, scope_over};
+
+    ghost Value = { Columns };
+
+    ghost view = { λ scope. scope_over scope.from.now (option_copied scope.join) };
+
+    ghost invariant = { λ scope. AreNarrow scope.from.now (option_copied scope.join) };
+}
+
+/// A column of a scope: its place, counted from 0, and the kind of its values.
 #[derive(Clone, Copy)]
-pub(crate) struct ColumnPlace {
-    pub(crate) place: u8,
-    pub(crate) kind: Kind,
+pub struct ColumnPlace {
+    pub place: u8,
+    pub kind: Kind,
 }
 
 /// The kind of the values that a column admits.
@@ -34,14 +56,18 @@ pub(crate) fn kind_of_column(column: &Column) -> Kind
     }
 }
 
-pub(crate) fn is_same_kind(a: Kind, b: Kind) -> bool
+/// Whether two kinds are the same.
+pub fn is_same_kind(a: Kind, b: Kind) -> bool
     ensures { result ≡ same_kind a b }
 {
     matches!((a, b), (Kind::Int, Kind::Int) | (Kind::Text, Kind::Text))
 }
 
-/// A value of this kind stands where one of the other kind is wanted.
-pub(crate) fn expect_kind(found: Kind, wanted: Kind) -> Result<(), StatementError>
+/// A value of the first kind stands where one of the second is wanted.
+///
+/// # Errors
+/// They are not the same kind. It does not run out of memory.
+pub fn expect_kind(found: Kind, wanted: Kind) -> Result<(), StatementError>
     ensures { Settles result (when (not (same_kind found wanted)) refusal.TypeMismatch) tt }
 {
     if is_same_kind(found, wanted) {
@@ -68,18 +94,139 @@ fn is_qualifier(table: &Table, qualifier: &Name) -> bool
     !table.columns.as_slice().is_empty() && *qualifier == table.name
 }
 
-/// The qualifier of a ref, if it has one, has to be the table's name.
+/// Whether a ref means a column of a table.
+fn is_meant(reference: &Ref, table: &Table, column: &Column) -> bool
+    ensures { result ≡ means reference.now (table.now.name, column.now) }
+{
+    reference.column == column.name && is_qualified(&reference.table, &table.name)
+}
+
+/// The place of the first column of a table that a ref means.
+fn first_place(table: &Table, reference: &Ref) -> Option<usize>
+    ensures { result ≡ position (λ column. means reference.now (table.now.name, column))
+        table.now.columns }
+{
+    let columns = table.columns.as_slice();
+    columns
+        .iter()
+        .position(|column| is_meant(reference, table, column))
+}
+
+/// The column of a table at a place.
+fn column_at(table: &Table, place: usize) -> ColumnPlace
+    requires there { place < length table.now.columns }
+    requires narrow { length table.now.columns ≤ most_columns }
+    ensures { result ≡ column_at_of (scope_of table.now) place }
+{
+    ColumnPlace {
+        place: place as u8,
+        kind: kind_of_column(&table.columns.as_slice()[place]),
+    }
+}
+
+/// The first column of a table that a ref means.
+fn first_in(table: &Table, reference: &Ref) -> Option<ColumnPlace>
+    requires { length table.now.columns ≤ most_columns }
+    ensures first { result ≡ first_meant (scope_of table.now) reference.now }
+    ensures within { IfSome result (λ found. found.place < length table.now.columns) }
+{
+    match first_place(table, reference) {
+        Some(place) => Some(column_at(table, place)),
+        None => None,
+    }
+}
+
+/// Whether a ref means a column of a table from a place on.
+fn is_meant_from(table: &Table, reference: &Ref, from: usize) -> bool
+    ensures { result ≡ list_any (λ column. means reference.now (table.now.name, column))
+        (drop from table.now.columns) }
+{
+    table
+        .columns
+        .as_slice()
+        .iter()
+        .skip(from)
+        .any(|column| is_meant(reference, table, column))
+}
+
+impl<'a> Scope<'a> {
+    /// The columns of one table. Takes no memory.
+    pub fn of(table: &'a Table) -> Scope<'a>
+        requires { length table.now.columns ≤ most_columns }
+        ensures { result ≡ scope_of table.now }
+    {
+        Scope {
+            from: table,
+            join: None,
+        }
+    }
+
+    /// The columns of a FROM table, then those of a JOIN table. Takes no memory.
+    pub fn joined(from: &'a Table, join: &'a Table) -> Scope<'a>
+        requires from { length from.now.columns ≤ most_columns }
+        requires join { length join.now.columns ≤ most_columns }
+        ensures { result ≡ scope_of from.now ++ scope_of join.now }
+    {
+        Scope {
+            from,
+            join: Some(join),
+        }
+    }
+
+    /// Whether refs can be qualified by a name: it is that of a table that has columns.
+    fn has_qualifier(&self, qualifier: &Name) -> bool
+        ensures { result ≡ list_any (λ column. same_name qualifier.now column.0) self.now }
+    {
+        if is_qualifier(self.from, qualifier) {
+            return true;
+        }
+        match self.join {
+            Some(join) => is_qualifier(join, qualifier),
+            None => false,
+        }
+    }
+
+    /// The first column that a ref means.
+    fn first_meant(&self, reference: &Ref) -> Option<ColumnPlace>
+        ensures { result ≡ first_meant self.now reference.now }
+    {
+        if let Some(found) = first_in(self.from, reference) {
+            return Some(found);
+        }
+        let found = first_in(self.join?, reference)?;
+        Some(ColumnPlace {
+            place: self.from.columns.as_slice().len() as u8 + found.place,
+            kind: found.kind,
+        })
+    }
+
+    /// Whether a ref means a column from a place on.
+    fn is_meant_from(&self, reference: &Ref, place: usize) -> bool
+        ensures { result ≡ list_any (means reference.now) (drop place self.now) }
+    {
+        if is_meant_from(self.from, reference, place) {
+            return true;
+        }
+        let width = self.from.columns.as_slice().len();
+        match self.join {
+            Some(join) => is_meant_from(join, reference, place.saturating_sub(width)),
+            None => false,
+        }
+    }
+}
+
+/// The qualifier of a ref, if it has one, has to be the name of a table with columns.
 fn expect_qualifier(
     alloc: Global,
-    table: &Table,
+    scope: &Scope,
     qualifier: &Option<Name>,
 ) -> Result<(), StatementError>
-    ensures { Settles result (qualifier_objections (scope_of table.now) qualifier.now) tt }
+    ensures { Settles result (qualifier_objections scope.now qualifier.now) tt }
 {
     match qualifier {
         None => Ok(()),
         Some(qualifier) => {
-            if is_qualifier(table, qualifier) {
+            if scope.has_qualifier(qualifier) {
                 Ok(())
             } else {
                 Err(StatementError::Refused(Refusal::NoTable(qualifier.copy(alloc)?)))
@@ -88,58 +235,24 @@ fn expect_qualifier(
     }
 }
 
-/// Whether a ref means a column of a table.
-fn is_meant(reference: &Ref, table: &Table, column: &Column) -> bool
-    ensures { result ≡ means table.now reference.now column.now }
-{
-    reference.column == column.name && is_qualified(&reference.table, &table.name)
-}
-
-/// The place of the first column that a ref means.
-fn first_meant(table: &Table, reference: &Ref) -> Option<usize>
-    ensures { result ≡ position (means table.now reference.now) table.now.columns }
-{
-    let columns = table.columns.as_slice();
-    columns
-        .iter()
-        .position(|column| is_meant(reference, table, column))
-}
-
-/// Whether a ref means a column from a place on.
-fn is_meant_from(table: &Table, reference: &Ref, from: usize) -> bool
-    requires { from ≤ length table.now.columns }
-    ensures { result ≡ list_any (means table.now reference.now)
-        (slice_range table.now.columns from (length table.now.columns)) }
-{
-    table.columns.as_slice()[from..]
-        .iter()
-        .any(|column| is_meant(reference, table, column))
-}
-
-/// The column that a ref means.
+/// The column that a ref means. It compares the ref with each column of the scope once at most, and
+/// takes memory only for a refusal.
 ///
 /// # Errors
-/// The qualifier is not the table's name, or no column or more than one has the name.
-pub(crate) fn column(
-    alloc: Global,
-    table: &Table,
-    reference: &Ref,
-) -> Result<ColumnPlace, StatementError>
-    requires { length table.now.columns ≤ most_columns }
-    ensures { Settles result (ref_objections (scope_of table.now) reference.now)
-        (column_of table.now reference.now) }
+/// The qualifier is not the name of a table with columns, or no column or more than one is meant, of
+/// one table or of both. Or memory ran out.
+pub fn column(alloc: Global, scope: &Scope, reference: &Ref) -> Result<ColumnPlace, StatementError>
+    ensures { Settles result (ref_objections scope.now reference.now)
+        (column_of scope.now reference.now) }
 {
-    expect_qualifier(alloc, table, &reference.table)?;
-    let Some(place) = first_meant(table, reference) else {
+    expect_qualifier(alloc, scope, &reference.table)?;
+    let Some(found) = scope.first_meant(reference) else {
         return Err(StatementError::Refused(Refusal::NoColumn(reference.column.copy(alloc)?)));
     };
-    if is_meant_from(table, reference, place + 1) {
+    if scope.is_meant_from(reference, found.place as usize + 1) {
         return Err(StatementError::Refused(Refusal::NameTwice(reference.column.copy(alloc)?)));
     }
-    Ok(ColumnPlace {
-        place: place as u8,
-        kind: kind_of_column(&table.columns.as_slice()[place]),
-    })
+    Ok(found)
 }
 
 /// The place of the first column of a name.
@@ -154,14 +267,10 @@ pub(crate) fn column_named(table: &Table, name: &Name) -> Option<ColumnPlace>
     requires { length table.now.columns ≤ most_columns }
     ensures there { is_some result ≡ has same_name (column_names table.now) name.now }
     ensures place { IfSome result
-        (λ found. found ≡ column_of table.now (unqualified name.now)) }
+        (λ found. found ≡ column_of (scope_of table.now) (unqualified name.now)) }
 {
-    let columns = table.columns.as_slice();
-    match first_named(columns, name) {
-        Some(place) => Some(ColumnPlace {
-            place: place as u8,
-            kind: kind_of_column(&columns[place]),
-        }),
+    match first_named(table.columns.as_slice(), name) {
+        Some(place) => Some(column_at(table, place)),
         None => None,
     }
 }

@@ -10,7 +10,7 @@ ghost use Rattle.bf_sql.specs.Objections.{key_names, sets_objections, tuple_obje
 ghost use Rattle.bf_bind.specs.Parts.{is_of_kind, set_names, set_objections_of};
 
 use crate::expression::bind_expression;
-use crate::scope::{column_named, expect_kind, is_same_kind, kind_of_column};
+use crate::scope::{Scope, column_named, expect_kind, is_same_kind, kind_of_column};
 use bf_base::{Column, Name, Row, Sequence, Table, Value};
 use bf_tree::{Expr, RawExpr, Refusal, StatementError};
 use std::alloc::Global;
@@ -110,7 +110,7 @@ fn bind_set(
     if is_set(name, before) {
         return Err(StatementError::Refused(Refusal::NameTwice(name.copy(alloc)?)));
     }
-    let bound = bind_expression(alloc, table, &set.1)?;
+    let bound = bind_expression(alloc, &Scope::of(table), &set.1)?;
     expect_kind(bound.kind, column.kind)?;
     Ok((column.place, bound.expr))
 }

@@ -37,7 +37,7 @@ left_later locks names i name owner within is left at some =
     let split : drop i names ≡ name ∷ drop (i + 1) names = drop-cons names i name within ∙ ap (λ n. n ∷ drop (suc i) names) (sym is) ∙ ap (λ k. name ∷ drop k names) next in
     among_later name (drop (i + 1) names) at (still_apart locks name owner at some) (subst (λ xs. Contains xs at) split here)
 
-not_some : {A : Type 0} (o : Option A) → ¬ IsSome o → o ≡ None
+pub not_some : {A : Type 0} (o : Option A) → ¬ IsSome o → o ≡ None
 not_some None no_value = refl
 not_some (Some x) no_value = absurd (no_value refl)
 

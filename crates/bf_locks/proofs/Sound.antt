@@ -21,6 +21,7 @@ use Rattle.bf_locks.specs.Locks.{Locks, held, IsConsistent, holding_cmp, without
 use Rattle.bf_locks.specs.Table.{Holders, locks_of, names_of, AreDifferent, IsSound}
 use Rattle.bf_locks.proofs.Held.{insert_cases, held_inserted, consistent_empty, consistent_without, held_without_own, held_without_other}
 use Rattle.bf_locks.proofs.Holders.{locks_of_empty}
+use Rattle.bf_locks.proofs.Freed.{not_some, all_freed}
 
 -- the one name of a list
 only_one : (name at : LockName) → Contains (name ∷ []) at → name ≡ at
@@ -57,19 +58,25 @@ held_was old locks name owner is_new seen new is = ap (λ m. is_some (held m nam
 different_more : (names : List LockName) (name : LockName) → AreDifferent names → ¬ Contains names name → AreDifferent (names ++ name ∷ [])
 different_more names name different missing = all_pairs_push (λ one other. one ≢ other) names name different (λ k d within is. missing (k, within, get_or_default names k name d within ∙ is))
 
+-- where there are no lists, each owner's is empty
+no_names : (owned : BTreeMap ℕ (Vec LockName)) → owned.entries ≡ [] → (owner : ℕ) → names_of owned owner ≡ []
+no_names owned none owner = ap (λ es. option_map_or (λ names. names.items) (lookup (is_at (nat_cmp owner)) es) []) none
+
+-- nobody holds anything in an empty table
+nobody : (holders : Holders) → holders.entries ≡ [] → (at : LockName) (by : ℕ) → held (locks_of holders) at by ≡ None
+nobody holders none at by = ap (λ m. held m at by) (locks_of_empty holders none) ∙ get-empty holding_cmp (at, by)
+
 -- an empty table is sound
 pub sound_empty : (holders : Holders) (owned : BTreeMap ℕ (Vec LockName)) → tree.IsOrdered lock_name_cmp holders → holders.entries ≡ [] → owned.entries ≡ [] → IsSound holders owned
 sound_empty holders owned ordered no_holders no_lists =
-    let none = locks_of_empty holders no_holders in
-    let no_names : (owner : ℕ) → names_of owned owner ≡ [] = λ owner. ap (λ es. option_map_or (λ names. names.items) (lookup (is_at (nat_cmp owner)) es) []) no_lists in
     record {
       ordered = ordered;
-      consistent = subst IsConsistent (sym none) consistent_empty;
+      consistent = subst IsConsistent (sym (locks_of_empty holders no_holders)) consistent_empty;
       listed = λ owner name. (
-        λ among. absurd (none_among name (subst (λ names. Contains names name) (no_names owner) among)),
-        λ some. absurd (false≢true (subst (λ o. IsSome o) (ap (λ m. held m name owner) none ∙ get-empty holding_cmp (name, owner)) some)),
+        λ among. absurd (none_among name (subst (λ names. Contains names name) (no_names owned no_lists owner) among)),
+        λ some. absurd (false≢true (subst (λ o. IsSome o) (nobody holders no_holders name owner) some)),
       );
-      once = λ owner. subst AreDifferent (sym (no_names owner)) none_twice;
+      once = λ owner. subst AreDifferent (sym (no_names owned no_lists owner)) none_twice;
     }
 
 module _ (old new : Holders) (before later : BTreeMap ℕ (Vec LockName)) (sound : IsSound old before) (ordered : tree.IsOrdered lock_name_cmp new) where
@@ -148,6 +155,17 @@ module _ (old new : Holders) (before later : BTreeMap ℕ (Vec LockName)) (sound
         | inr apart ↦ subst AreDifferent (sym (others by apart)) (sound.once by)
       ];
     }
+
+  -- where no list is left, nobody but the owner held anything
+  pub nothing_left : (owner : ℕ)
+      → ((by : ℕ) → by ≢ owner → names_of later by ≡ names_of before by)
+      → later.entries ≡ [] → new.entries ≡ []
+      → locks_of new ≡ without_owner (locks_of old) owner
+  nothing_left owner lists no_lists no_holders = all_freed (locks_of old) (locks_of new) owner
+      (λ at by apart.
+      nobody new no_holders at by
+      ∙ sym (not_some (held (locks_of old) at by) (λ some. none_among at (subst (λ names. Contains names at) (sym (lists by apart) ∙ no_names later no_lists by) ((sound.listed by at).1 some)))))
+      (λ at some. false≢true (subst (λ o. IsSome o) (nobody new no_holders at owner) some))
 
   -- freeing keeps the table sound, where the owner's list goes and the others' lists stay
   pub sound_freed : (owner : ℕ)

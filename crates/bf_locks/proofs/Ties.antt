@@ -21,14 +21,14 @@ both_tie Greater b e = absurd cc
 same_bytes : (a b : List ℕ) → slice_cmp nat_cmp a b ≡ Equal → a ≡ b
 same_bytes = slice_cmp-IsAntisymmetric nat_cmp-IsAntisymmetric
 
-same_whole : (a b : List ℕ) → ordering_then (slice_cmp nat_cmp a b) Equal ≡ Equal → ◌≡◌ {A = LockName} (Whole a) (Whole b)
-same_whole a b e = ap Whole (same_bytes a b (both_tie _ _ e).0)
+same_whole : (a b : List ℕ) → slice_cmp nat_cmp a b ≡ Equal → ◌≡◌ {A = LockName} (Whole a) (Whole b)
+same_whole a b e = ap Whole (same_bytes a b e)
 
-same_one : (a b : List ℕ) (k l : List Value) → ordering_then (slice_cmp nat_cmp a b) (key_cmp k l) ≡ Equal → ◌≡◌ {A = LockName} (One a k) (One b l)
+same_one : (a b : List ℕ) (k l : List Value) → ordering_then (key_cmp k l) (slice_cmp nat_cmp a b) ≡ Equal → ◌≡◌ {A = LockName} (One a k) (One b l)
 same_one a b k l e =
-    let both = both_tie (slice_cmp nat_cmp a b) (key_cmp k l) e in
-    let tables : a ≡ b = same_bytes a b both.0 in
-    let keys : k ≡ l = key_cmp-IsAntisymmetric k l both.1 in
+    let both = both_tie (key_cmp k l) (slice_cmp nat_cmp a b) e in
+    let keys : k ≡ l = key_cmp-IsAntisymmetric k l both.0 in
+    let tables : a ≡ b = same_bytes a b both.1 in
     cc
 
 -- only equal lock names tie

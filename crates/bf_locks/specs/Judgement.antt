@@ -1,7 +1,5 @@
 -- How a request is judged among the holders of its name, given as a list of owners and their modes.
-use Rattle.std.specs.Prelude.{ℕ, Bool, not, ◌&&◌, ◌==◌, nat_lt, List, [], ◌∷◌, map, filter, Option, if◌then◌else◌}
-use Rattle.std.specs.Option.{option_map_or}
-use Rattle.std.specs.BTreeMap.{BTreeMap}
+use Rattle.std.specs.Prelude.{ℕ, Bool, not, ◌&&◌, ◌==◌, nat_lt, List, [], ◌∷◌, map, filter, if◌then◌else◌}
 use Rattle.bf_locks.specs.declared.mode.Mode.{Mode}
 use Rattle.bf_locks.specs.declared.answer.LockAnswer.{LockAnswer}
 use Rattle.bf_locks.specs.declared.answer.LockAnswer.TheVariants.{Granted, Wait, Die}
@@ -14,10 +12,6 @@ is_conflict owner wanted holder = not (holder.0 == owner) && not (are_compatible
 -- the owners that conflict, in the holders' order
 abbrev pub conflicting : ℕ → Mode → List (ℕ × Mode) → List ℕ
 conflicting owner wanted holders = map (λ holder. holder.0) (filter (is_conflict owner wanted) holders)
-
--- the same, where there may be no holders
-abbrev pub conflicting_among : ℕ → Mode → Option (BTreeMap ℕ Mode) → List ℕ
-conflicting_among owner wanted holders = option_map_or (λ those. conflicting owner wanted those.entries) holders []
 
 -- the answer to an owner with which these conflict, the oldest first
 abbrev pub answer_for : ℕ → List ℕ → LockAnswer

@@ -27,9 +27,9 @@ locked_key Catalog = []
 locked_key (Whole table) = []
 locked_key (One table key) = key
 
--- by rank, then by table, then by key
+-- by rank, then by key, which tells most names apart, then by table
 abbrev pub lock_name_cmp : LockName → LockName → Ordering
-lock_name_cmp = then_cmp (on rank_of nat_cmp) (then_cmp (on locked_table (slice_cmp nat_cmp)) (on locked_key key_cmp))
+lock_name_cmp = then_cmp (on rank_of nat_cmp) (then_cmp (on locked_key key_cmp) (on locked_table (slice_cmp nat_cmp)))
 
 pub lock_name_cmp_total : IsTotalOrder lock_name_cmp
-lock_name_cmp_total = then_total (on_total rank_of nat_cmp_total) (then_total (on_total locked_table nat_list_cmp_total) (on_total locked_key key_cmp_total))
+lock_name_cmp_total = then_total (on_total rank_of nat_cmp_total) (then_total (on_total locked_key key_cmp_total) (on_total locked_table nat_list_cmp_total))

@@ -1,7 +1,7 @@
 -- How a lock table is kept: the holders of each name, and the names of each owner.
 use Rattle.std.specs.Prelude.{ℕ, ◌≢◌, ◌↔◌, List, [], map, flat_map, IsSome, Contains}
 use Rattle.std.specs.List.{AllPairs}
-use Rattle.std.specs.Option.{option_map_or}
+use Rattle.std.specs.Option.{option_map_or, unwrap_or}
 use Rattle.std.specs.Global.{Vec}
 use Rattle.std.specs.FinMap.{from_entries}
 use Rattle.std.specs.BTreeMap as tree
@@ -12,13 +12,17 @@ use Rattle.bf_locks.specs.declared.name.LockName.{LockName}
 use Rattle.bf_locks.specs.LockNames.{lock_name_cmp}
 use Rattle.bf_locks.specs.Locks.{Locks, held, IsConsistent}
 
--- the holders of each name that is held: their modes by owner
+-- the holders of each name that is held: owners, rising, and their modes
 abbrev pub Holders : Type 0
-Holders = BTreeMap LockName (BTreeMap ℕ Mode)
+Holders = BTreeMap LockName (List (ℕ × Mode))
+
+-- the holders of a name, none where nobody holds it
+abbrev pub owners_of : Holders → LockName → List (ℕ × Mode)
+owners_of holders name = unwrap_or (tree.get lock_name_cmp holders name) []
 
 -- what is held by holders
 abbrev pub locks_of : Holders → Locks
-locks_of holders = from_entries (flat_map (λ entry. map (λ holder. ((entry.0, holder.0), holder.1)) entry.1.entries) holders.entries)
+locks_of holders = from_entries (flat_map (λ entry. map (λ holder. ((entry.0, holder.0), holder.1)) entry.1) holders.entries)
 
 -- the names on an owner's list
 abbrev pub names_of : BTreeMap ℕ (Vec LockName) → ℕ → List LockName

@@ -1,28 +1,17 @@
 //! How a request is judged among the holders of its name.
 
-ghost use Rattle.std.specs.Prelude.{◌≡◌, IfOk, IfSome, slice_get};
-ghost use Rattle.std.specs.Option.{option_copied, option_map_or, option_and_then};
-ghost use Rattle.std.specs.Ordering.{nat_cmp};
-ghost use Rattle.std.specs.BTreeMap as tree;
+ghost use Rattle.std.specs.Prelude.{◌≡◌, IfOk, slice_get};
+ghost use Rattle.std.specs.Option.{option_map_or};
 ghost use Rattle.bf_locks.specs.Modes.{join_of};
-ghost use Rattle.bf_locks.specs.Judgement.{is_conflict, conflicting, conflicting_among, answer_for};
+ghost use Rattle.bf_locks.specs.Judgement.{is_conflict, conflicting, answer_for};
+ghost use Rattle.bf_locks.specs.Owners.{IsRising};
 
 use crate::answer::LockAnswer;
 use crate::mode::{Mode, compatible, join};
+use crate::owners::{Kept, Owners};
 use bf_base::{Memory, Sequence};
 use std::alloc::Global;
 use std::collections::BTreeMap;
-
-/// The mode of an owner among the holders of a name, if there are some.
-pub(crate) fn mode_among(holders: Option<&BTreeMap<u64, Mode>>, owner: u64) -> Option<Mode>
-    ensures { result ≡ option_and_then (λ those. tree.get nat_cmp those owner)
-        (option_copied holders.entry) }
-{
-    match holders {
-        Some(holders) => holders.get(&owner).copied(),
-        None => None,
-    }
-}
 
 /// The mode that covers the one in which an owner holds a name, if it does, and the asked one.
 pub(crate) fn joined(before: Option<Mode>, mode: Mode) -> Mode
@@ -37,17 +26,14 @@ pub(crate) fn joined(before: Option<Mode>, mode: Mode) -> Mode
 /// The answer to an owner that wants to hold a name in a mode, among its holders.
 pub(crate) fn judge(
     alloc: Global,
-    holders: Option<&BTreeMap<u64, Mode>>,
+    holders: &Owners,
     owner: u64,
     wanted: Mode,
 ) -> Result<LockAnswer, Memory>
     ensures answer { IfOk result (λ answer.
-        answer ≡ answer_for owner (conflicting_among owner wanted (option_copied holders.entry))) }
-    ensures ordered { IfSome (option_copied holders.entry) (λ those. tree.IsOrdered nat_cmp those) }
+        answer ≡ answer_for owner (conflicting owner wanted holders.now)) }
+    ensures rising { IsRising holders.now }
 {
-    let Some(holders) = holders else {
-        return Ok(LockAnswer::Granted);
-    };
     match oldest_conflict(holders, owner, wanted) {
         None => Ok(LockAnswer::Granted),
         Some(oldest) if oldest < owner => Ok(LockAnswer::Die(oldest)),
@@ -58,11 +44,27 @@ pub(crate) fn judge(
     }
 }
 
-fn oldest_conflict(holders: &BTreeMap<u64, Mode>, owner: u64, wanted: Mode) -> Option<u64>
-    ensures oldest { result ≡ slice_get (conflicting owner wanted holders.now.entries) 0 }
-    ensures ordered { tree.IsOrdered nat_cmp holders.now }
+fn oldest_conflict(holders: &Owners, owner: u64, wanted: Mode) -> Option<u64>
+    ensures oldest { result ≡ slice_get (conflicting owner wanted holders.now) 0 }
+    ensures rising { IsRising holders.now }
 {
-    for (other, theirs) in holders {
+    match &holders.kept {
+        Kept::One(other, theirs) => {
+            if is_conflict(*other, *theirs, owner, wanted) {
+                Some(*other)
+            } else {
+                None
+            }
+        }
+        Kept::Several(several) => oldest_of_several(several, owner, wanted),
+    }
+}
+
+fn oldest_of_several(several: &BTreeMap<u64, Mode>, owner: u64, wanted: Mode) -> Option<u64>
+    ensures oldest { result ≡ slice_get (conflicting owner wanted several.now.entries) 0 }
+    ensures rising { IsRising several.now.entries }
+{
+    for (other, theirs) in several {
         if is_conflict(*other, *theirs, owner, wanted) {
             return Some(*other);
         }
@@ -71,16 +73,31 @@ fn oldest_conflict(holders: &BTreeMap<u64, Mode>, owner: u64, wanted: Mode) -> O
 }
 
 // The owners that conflict, rising.
-fn conflicts(
+fn conflicts(alloc: Global, holders: &Owners, owner: u64, wanted: Mode) -> Result<Vec<u64>, Memory>
+    ensures { IfOk result (λ others. others.items ≡ conflicting owner wanted holders.now) }
+{
+    match &holders.kept {
+        Kept::One(other, theirs) => {
+            if is_conflict(*other, *theirs, owner, wanted) {
+                Ok(vec![in alloc; *other]?)
+            } else {
+                Ok(Vec::new(alloc))
+            }
+        }
+        Kept::Several(several) => conflicts_of_several(alloc, several, owner, wanted),
+    }
+}
+
+fn conflicts_of_several(
     alloc: Global,
-    holders: &BTreeMap<u64, Mode>,
+    several: &BTreeMap<u64, Mode>,
     owner: u64,
     wanted: Mode,
 ) -> Result<Vec<u64>, Memory>
-    ensures { IfOk result (λ others. others.items ≡ conflicting owner wanted holders.now.entries) }
+    ensures { IfOk result (λ others. others.items ≡ conflicting owner wanted several.now.entries) }
 {
     let mut others = Vec::new(alloc);
-    for (other, theirs) in holders {
+    for (other, theirs) in several {
         if is_conflict(*other, *theirs, owner, wanted) {
             others.push(*other)?;
         }

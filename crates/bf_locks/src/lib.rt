@@ -6,6 +6,7 @@ mod holdings;
 mod judgement;
 pub mod mode;
 pub mod name;
+mod owners;
 pub mod table;
 
 pub use answer::{LockAnswer, no_cycle_of_waits};

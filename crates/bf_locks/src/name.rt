@@ -75,7 +75,8 @@ impl Ord for LockName {
             (LockName::Whole(a), LockName::Whole(b)) => a.cmp(b),
             (LockName::Whole(_), LockName::One(_, _)) => Ordering::Less,
             (LockName::One(_, _), LockName::Whole(_)) => Ordering::Greater,
-            (LockName::One(a, k), LockName::One(b, l)) => a.cmp(b).then_with(|| k.cmp(l)),
+            // The keys first: most names are of few tables.
+            (LockName::One(a, k), LockName::One(b, l)) => k.cmp(l).then_with(|| a.cmp(b)),
         }
     }
 }

@@ -1,15 +1,14 @@
 //! The lock table.
 
-ghost use Rattle.std.specs.Prelude.{◌≡◌, not, IfOk, OnOk, OnErr};
-ghost use Rattle.std.specs.Option.{is_some};
+ghost use Rattle.std.specs.Prelude.{◌≡◌, IfOk, OnErr};
 ghost use Rattle.std.specs.FinMap as map;
 ghost use Rattle.bf_locks.specs.Locks.{held, IsConsistent, IsJudged, after, without_owner};
 
 use crate::answer::LockAnswer;
-use crate::holdings::{free, free_each, list, put};
-use crate::judgement::{joined, judge, mode_among};
+use crate::holdings::{ask_for, free, free_each, list};
 use crate::mode::Mode;
 use crate::name::LockName;
+use crate::owners::Owners;
 use bf_base::Memory;
 use std::alloc::Global;
 use std::collections::BTreeMap;
@@ -23,8 +22,8 @@ use std::marker::Model;
 #[derive(Drop)]
 pub struct LockTable {
     alloc: Global,
-    // The modes of each name's holders, by owner.
-    holders: BTreeMap<LockName, BTreeMap<u64, Mode>>,
+    // The holders of each name.
+    holders: BTreeMap<LockName, Owners>,
     // The names that each owner holds, each once.
     owned: BTreeMap<u64, Vec<LockName>>,
 }
@@ -67,7 +66,8 @@ impl LockTable {
     /// the join; `Die` of the oldest that conflicts where that is older; else `Wait` for all that
     /// conflict. `Wait`, `Die` and `Memory` change nothing.
     ///
-    /// Logarithmic in the names that are held, and one or two passes over the holders of this one.
+    /// One search, logarithmic in the names that are held, and one or two passes over the holders of
+    /// this one. A name with one holder takes no allocation but its two copies.
     pub fn ask(&mut self, owner: u64, name: &LockName, mode: Mode) -> Result<LockAnswer, Memory>
         ensures judged { IfOk result (λ answer. IsJudged self.old owner name.now mode answer) }
         ensures after { IfOk result (λ answer.
@@ -75,29 +75,34 @@ impl LockTable {
         ensures memory { OnErr result (self.new ≡ self.old) }
         ensures consistent { IsConsistent self.new }
     {
-        let holders = self.holders.get(name);
-        let before = mode_among(holders, owner);
-        let wanted = joined(before, mode);
-        match judge(self.alloc, holders, owner, wanted)? {
-            LockAnswer::Granted => {
-                self.grant(owner, name, wanted, before.is_none())?;
-                Ok(LockAnswer::Granted)
-            }
-            refused => Ok(refused),
+        let (answer, is_new) = ask_for(self.alloc, &mut self.holders, name, owner, mode)?;
+        if !is_new {
+            return Ok(answer);
         }
+        let Err(memory) = list(self.alloc, &mut self.owned, owner, name) else {
+            return Ok(LockAnswer::Granted);
+        };
+        free(self.alloc, &mut self.holders, name, owner);
+        Err(memory)
     }
 
     /// Frees all that an owner holds. Takes no memory.
     ///
-    /// For each name that the owner holds, logarithmic in the names that are held and in the
-    /// holders of that one.
+    /// Linear in the names that the owner holds where nobody else holds any. Else for each of them
+    /// logarithmic in the names that are held and in the holders of that one.
     pub fn free_all(&mut self, owner: u64)
         ensures freed { self.new ≡ without_owner self.old owner }
         ensures consistent { IsConsistent self.new }
     {
-        if let Some(names) = self.owned.remove(&owner) {
-            free_each(&mut self.holders, names.as_slice(), owner);
+        let Some(names) = self.owned.remove(&owner) else {
+            return;
+        };
+        if !self.owned.is_empty() {
+            free_each(self.alloc, &mut self.holders, names.as_slice(), owner);
+            return;
         }
+        // Nobody else holds anything.
+        self.holders.clear();
     }
 
     /// The mode in which an owner holds a name, and `None` exactly where it holds none.
@@ -106,25 +111,9 @@ impl LockTable {
         ensures mode { result ≡ held self.now name.now owner }
         ensures consistent { IsConsistent self.now }
     {
-        mode_among(self.holders.get(name), owner)
-    }
-
-    // Lets an owner hold a name in a mode, in place of the one in which it held it before. Where it
-    // held it in none, the name comes on the owner's list too.
-    fn grant(&mut self, owner: u64, name: &LockName, mode: Mode, is_new: bool) -> Result<(), Memory>
-        requires consistent { IsConsistent (map.insert self.old (name.now, owner) mode) }
-        requires new { is_some (held self.old name.now owner) ≡ not is_new }
-        ensures granted { OnOk result (self.new ≡ map.insert self.old (name.now, owner) mode) }
-        ensures memory { OnErr result (self.new ≡ self.old) }
-    {
-        put(self.alloc, &mut self.holders, name, owner, mode)?;
-        if !is_new {
-            return Ok(());
+        match self.holders.get(name) {
+            Some(owners) => owners.mode_of(owner),
+            None => None,
         }
-        let Err(memory) = list(self.alloc, &mut self.owned, owner, name) else {
-            return Ok(());
-        };
-        free(&mut self.holders, name, owner);
-        Err(memory)
     }
 }

@@ -10,8 +10,7 @@ returns-in-Some-clause-there c =
 pub returns-in-Some-clause-place : goal.returns-in-Some-clause-place
 returns-in-Some-clause-place c =
     let at : position (has_name c.args.table.now c.args.name.now) c.args.table.now.columns ≡ Some c.in-Some.place = cc in
-    let is = column_of-named c.args.table.now c.args.name.now c.in-Some.place c.index-columns-place.result at (rw c.as_slice-columns.ensures at c.index-columns-place.is) in
-    cc
+    c.column_at.ensures ∙ column_of-named c.args.table.now c.args.name.now c.in-Some.place at
 
 pub returns-in-None-clause-there : goal.returns-in-None-clause-there
 returns-in-None-clause-there c =

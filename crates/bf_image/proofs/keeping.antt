@@ -1,0 +1,4 @@
+-- What a migration reads: its sources, and for its plan the catalog.
+pub mod Frozen
+pub mod SameTables
+pub mod Sources

@@ -1,0 +1,10 @@
+use Rattle.bf_image.proofs.keeping.Frozen.{objections_alike, tables_alike, arms_alike, same_as_catalog}
+use Rattle.bf_image.proofs.laws.a_migration_is_planned_by_the_catalog_alone.Goals as goal
+
+pub returns : goal.returns
+returns c = record {
+  objections = λ old new m same. objections_alike old new same m;
+  tables = λ old new t same. tables_alike old new same t;
+  arms = λ old new arm same. arms_alike old new same arm;
+  catalog = same_as_catalog;
+}
