@@ -1,1 +1,4 @@
+pub mod Arms
+pub mod Items
+pub mod Limits
 pub mod Plans

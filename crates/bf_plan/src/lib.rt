@@ -2,6 +2,10 @@
 //! the catalog is told or the plan is made. Rows are not looked at.
 #![tactic(auto)]
 
+mod arm;
+mod item;
+mod joining;
 mod plan;
+mod source;
 
 pub use plan::{Plan, Unit, UnitKind};
