@@ -6,6 +6,9 @@ mod arm;
 mod item;
 mod joining;
 mod plan;
+pub mod planning;
 mod source;
+mod target;
+mod units;
 
 pub use plan::{Plan, Unit, UnitKind};
