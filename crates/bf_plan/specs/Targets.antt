@@ -71,12 +71,16 @@ keeps_apart_by arms = list_all is_tagged arms && are_tagged_apart arms && has_on
 abbrev pub gives_key : List BoundArm → Bool
 gives_key arms = list_all (λ a. a.inherits_key) arms && (nat_lt (length arms) 2 || keeps_apart_by arms)
 
+-- items whose columns have a name that stood before
+abbrev pub names_objections : List Item → List Refusal
+names_objections items = flat_map (λ p. twice_objections (map item_name p.0) (item_name p.1)) (with_before items)
+
 -- what is wrong with a target behind its arms
 abbrev pub objections_behind : Target → List BoundArm → List Refusal
 objections_behind target arms =
     when (list_any (is_miscounted (first_items arms)) arms) refusal.WrongCount
     ++ when (list_any (is_misfit (first_items arms)) arms) refusal.TypeMismatch
-    ++ flat_map (λ p. twice_objections p.0 p.1) (with_before (map item_name (first_arm target.arms).items))
+    ++ names_objections (first_arm target.arms).items
     ++ flat_map (failing_in target.name) arms
     ++ when (not (gives_key arms)) (refusal.KeyNotInherited target.name)
 

@@ -1,7 +1,7 @@
 //! How the rows of an arm come from those of its tables: the pairs of ON, GROUP BY, and what tells the
 //! arm's rows apart.
 
-ghost use Rattle.std.specs.Prelude.{◌≡◌, ◌≤◌, ◌&&◌, ◌||◌, IfOk, Some, false, flat_map, is_some, length, map, nat_eq, nat_lt, not, true};
+ghost use Rattle.std.specs.Prelude.{◌≡◌, ◌<◌, ◌≤◌, ◌&&◌, ◌||◌, IfOk, IfSome, Some, false, flat_map, is_some, length, map, nat_eq, nat_lt, not, position, true};
 ghost use Rattle.std.specs.List.{list_all};
 ghost use Rattle.std.specs.Option.{option_eq};
 ghost use Rattle.bf_base.specs.Limits.{most_columns};
@@ -213,12 +213,20 @@ fn is_at(item: &BoundItem, place: usize) -> bool
     }
 }
 
+/// The index of the first item that is the column at a place.
+fn first_at(items: &[BoundItem], place: usize) -> Option<usize>
+    ensures first { result ≡ position (λ item. option_eq nat_eq (Some place) item.place) items.now }
+    ensures within { IfSome result (λ index. index < length items.now) }
+{
+    items.iter().position(|item| is_at(item, place))
+}
+
 /// The first item that is the column at a place, if there is one.
 fn key_item(items: &[BoundItem], place: usize) -> Option<u8>
     requires { length items.now ≤ most_columns }
     ensures { result ≡ key_item items.now place }
 {
-    match items.iter().position(|item| is_at(item, place)) {
+    match first_at(items, place) {
         Some(index) => Some(index as u8),
         None => None,
     }

@@ -68,8 +68,8 @@ fn columns_of_both(
     for column in from {
         columns.push(column.copy(alloc)?)?;
     }
-    for column in join {
-        columns.push(column.copy(alloc)?)?;
+    for other in join {
+        columns.push(other.copy(alloc)?)?;
     }
     Ok(Sequence::of(columns))
 }

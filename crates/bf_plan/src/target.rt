@@ -1,11 +1,12 @@
 //! What stands behind the arms of a target, and the table that it becomes.
 
-ghost use Rattle.std.specs.Prelude.{◌≡◌, ◌≤◌, IfOk, flat_map, length, map, nat_eq, nat_le, not, option_map, true};
-ghost use Rattle.std.specs.List.{list_all, list_any};
+ghost use Rattle.std.specs.Prelude.{◌≡◌, ◌<◌, ◌≤◌, IfOk, IfSome, flat_map, length, map, nat_eq, nat_le, not, position, slice_get, true};
+ghost use Rattle.std.specs.List.{list_all, list_any, zip};
 ghost use Rattle.std.specs.Option.{option_eq};
 ghost use lib.Pointwise.{pointwise};
 ghost use Rattle.bf_base.specs.Limits.{most_columns};
-ghost use Rattle.bf_base.specs.Lists.{has, same_name, when, with_before};
+ghost use Rattle.bf_base.specs.Lists.{has, same_name, when};
+ghost use Rattle.bf_base.specs.Tables.{same_kind};
 ghost use Rattle.bf_tree.specs.Limits.{HasNarrowTables};
 ghost use Rattle.bf_tree.specs.Settling.{Settles};
 ghost use Rattle.bf_tree.specs.declared.reply.Refusal.TheVariants as refusal;
@@ -14,7 +15,7 @@ ghost use Rattle.bf_sql.specs.Scopes.{twice_objections};
 ghost use Rattle.bf_sql.specs.migrations.MigrationObjections.{target_objections};
 ghost use Rattle.bf_sql.specs.migrations.Targets.{either_admit, first_arm, item_name};
 ghost use Rattle.bf_plan.specs.Limits.{has_small_arms};
-ghost use Rattle.bf_plan.specs.Targets.{admits_at, are_tagged_apart, bound_target, columns_of, failing, failing_in, first_items, first_key, gives_key, has_one_key, is_miscounted, is_misfit, is_tagged, key_of_arms, keeps_apart_by, objections_behind, table_of_arms, tagged_by, with_admit, with_given, key_before};
+ghost use Rattle.bf_plan.specs.Targets.{admits_at, are_tagged_apart, bound_target, columns_of, failing, failing_in, first_items, first_key, gives_key, has_one_key, is_miscounted, is_misfit, is_tagged, key_of_arms, keeps_apart_by, names_objections, objections_behind, table_of_arms, tagged_by, with_admit, with_given, key_before};
 
 use crate::arm::{BoundArm, bind_arms};
 use crate::item::BoundItem;
@@ -71,6 +72,16 @@ fn expect_counts(arms: &[BoundArm]) -> Result<(), StatementError>
     }
 }
 
+/// Whether items side by side are of one kind.
+fn are_alike(first: &[BoundItem], items: &[BoundItem]) -> bool
+    ensures { result ≡ list_all (λ p. same_kind p.0.kind p.1.kind) (zip first.now items.now) }
+{
+    first
+        .iter()
+        .zip(items)
+        .all(|(one, other)| is_same_kind(one.kind, other.kind))
+}
+
 /// Whether the items of an arm are of other kinds than those of the first.
 fn is_misfit(first: &[BoundItem], arm: &BoundArm) -> bool
     ensures { result ≡ is_misfit first.now arm.now }
@@ -79,10 +90,7 @@ fn is_misfit(first: &[BoundItem], arm: &BoundArm) -> bool
     if first.len() != items.len() {
         return true;
     }
-    !first
-        .iter()
-        .zip(items)
-        .all(|(one, other)| is_same_kind(one.kind, other.kind))
+    !are_alike(first, items)
 }
 
 /// The items of the arms are of one list of kinds.
@@ -132,13 +140,20 @@ fn expect_new_name(alloc: Global, before: &[Item], item: &Item) -> Result<(), St
 /// # Errors
 /// The first name that stood before.
 fn expect_names(alloc: Global, items: &[Item]) -> Result<(), StatementError>
-    ensures { Settles result
-        (flat_map (λ p. twice_objections p.0 p.1) (with_before (map item_name items.now))) tt }
+    ensures { Settles result (names_objections items.now) tt }
 {
     for (index, item) in items.iter().enumerate() {
         expect_new_name(alloc, &items[..index], item)?;
     }
     Ok(())
+}
+
+/// The index of the first item that may fail.
+fn first_failing(items: &[BoundItem]) -> Option<usize>
+    ensures first { result ≡ position (λ item. item.may_fail) items.now }
+    ensures within { IfSome result (λ index. index < length items.now) }
+{
+    items.iter().position(|item| item.may_fail)
 }
 
 /// No item of an arm may fail.
@@ -149,7 +164,7 @@ fn expect_sure(alloc: Global, target: &Name, items: &[BoundItem]) -> Result<(), 
     requires { length items.now ≤ most_columns }
     ensures { Settles result (failing target.now items.now) tt }
 {
-    match items.iter().position(|item| item.may_fail) {
+    match first_failing(items) {
         Some(index) => Err(StatementError::Refused(Refusal::MayFail(
             target.copy(alloc)?,
             index as u32 + 1,
@@ -212,29 +227,46 @@ fn has_key(key: &[Option<u8>], arm: &BoundArm) -> bool
     key == arm.key_items.as_slice()
 }
 
+/// Whether each arm has given key items.
+fn all_have_key(key: &[Option<u8>], arms: &[BoundArm]) -> bool
+    ensures { result ≡ list_all (λ arm. pointwise (option_eq nat_eq) key.now arm.key_items) arms.now }
+{
+    arms.iter().all(|arm| has_key(key, arm))
+}
+
 /// Whether the arms have one list of key items.
 fn has_one_key(arms: &[BoundArm]) -> bool
     ensures { result ≡ has_one_key arms.now }
 {
-    let first = first_key(arms);
-    arms.iter().all(|arm| has_key(first, arm))
+    all_have_key(first_key(arms), arms)
+}
+
+/// Whether each arm is tagged.
+fn are_tagged(arms: &[BoundArm]) -> bool
+    ensures { result ≡ list_all is_tagged arms.now }
+{
+    arms.iter().all(|arm| is_tagged(arm))
 }
 
 /// Whether the rows of several arms keep apart.
 fn keeps_apart(arms: &[BoundArm]) -> bool
     ensures { result ≡ keeps_apart_by arms.now }
 {
-    arms.iter().all(|arm| is_tagged(arm)) && are_tagged_apart(arms) && has_one_key(arms)
+    are_tagged(arms) && are_tagged_apart(arms) && has_one_key(arms)
+}
+
+/// Whether each arm gives its key.
+fn all_inherit(arms: &[BoundArm]) -> bool
+    ensures { result ≡ list_all (λ arm. arm.inherits_key) arms.now }
+{
+    arms.iter().all(|arm| arm.inherits_key)
 }
 
 /// Whether the arms give their target a key.
 fn gives_key(arms: &[BoundArm]) -> bool
     ensures { result ≡ gives_key arms.now }
 {
-    if !arms.iter().all(|arm| arm.inherits_key) {
-        return false;
-    }
-    arms.len() < 2 || keeps_apart(arms)
+    all_inherit(arms) && (arms.len() < 2 || keeps_apart(arms))
 }
 
 /// The arms of a target give it a key.
@@ -295,13 +327,23 @@ fn either_admit(one: Admit, other: Admit) -> Admit
     }
 }
 
-/// What a column admits that one more arm fills, if it has an item there.
-fn with_admit(so_far: Option<Admit>, item: Option<&BoundItem>) -> Option<Admit>
-    ensures { result ≡ with_admit so_far (option_map (λ item. item.now.admits) item) }
+/// What the column admits that the item at a place alone would fill, if there is one.
+fn admit_at(items: &[BoundItem], place: usize) -> Option<Admit>
+    ensures { result ≡ slice_get (map (λ item. item.admits) items.now) place }
 {
-    match (so_far, item) {
-        (Some(admits), Some(item)) => Some(either_admit(admits, item.admits)),
-        (None, Some(item)) => Some(item.admits),
+    match items.get(place) {
+        Some(item) => Some(item.admits),
+        None => None,
+    }
+}
+
+/// What a column admits that one more arm fills, if it has an item there.
+fn with_admit(so_far: Option<Admit>, more: Option<Admit>) -> Option<Admit>
+    ensures { result ≡ with_admit so_far more }
+{
+    match (so_far, more) {
+        (Some(admits), Some(more)) => Some(either_admit(admits, more)),
+        (None, more) => more,
         (so_far, None) => so_far,
     }
 }
@@ -312,7 +354,7 @@ fn admits_at(arms: &[BoundArm], place: usize) -> Admit
 {
     let mut so_far = None;
     for arm in arms {
-        so_far = with_admit(so_far, arm.items.as_slice().get(place));
+        so_far = with_admit(so_far, admit_at(arm.items.as_slice(), place));
     }
     match so_far {
         Some(admits) => admits,

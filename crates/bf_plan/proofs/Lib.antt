@@ -1,0 +1,9 @@
+pub mod BoundArms
+pub mod BoundTargets
+pub mod Columns
+pub mod Items
+pub mod Joins
+pub mod NumberedArms
+pub mod Planned
+pub mod Tables
+pub mod Walked
