@@ -1,13 +1,16 @@
 -- What stands behind the arms of a target, over its arms as they are bound.
-use Rattle.std.proofs.Common.{◌≡◌, ℕ, ◌+◌, zero, suc, Bool, true, false, not, ◌&&◌, ◌||◌, List, [], ◌∷◌, ◌++◌, map, length, take, drop, Option, Some, None, is_some, unwrap_or, position, nat_eq, refl, sym, ap, ap₂, ◌∙◌, if◌then◌else◌, append_assoc, nat_lt, ◌==◌}
+use Rattle.std.proofs.Common.{◌≡◌, ℕ, ℤ, ◌+◌, zero, suc, Bool, true, false, not, ◌&&◌, ◌||◌, List, [], ◌∷◌, ◌++◌, map, length, take, drop, Option, Some, None, is_some, unwrap_or, position, nat_eq, refl, sym, ap, ap₂, ◌∙◌, if◌then◌else◌, append_assoc, nat_le, nat_lt, ◌==◌}
 use Rattle.std.specs.List.{flat_map, filter_map, list_all, list_any, reduce, enumerate_from}
 use Rattle.std.specs.Option.{option_eq}
 use Rattle.std.specs.Ordering.{int_eq}
 use lib.Pointwise.{pointwise}
 use Rattle.std.proofs.lemmas.List.{length-map, map-append}
 use Rattle.std.proofs.lemmas.Simd.{map-map}
-use Rattle.bf_base.specs.Lists.{has, when, with_before, with_before_from}
+use Rattle.bf_base.proofs.Order.{list_any-map}
+use Rattle.bf_base.specs.Lists.{has, same_name, when, with_before, with_before_from}
 use Rattle.bf_base.specs.Tables.{same_kind}
+use Rattle.bf_base.specs.Limits.{most_columns}
+use Rattle.bf_base.specs.declared.table.Table.{Table}
 use Rattle.bf_base.specs.declared.table.Admit.{Admit}
 use Rattle.bf_base.specs.declared.table.Admit.TheVariants as admits
 use Rattle.bf_base.specs.declared.table.Kind.{Kind}
@@ -23,7 +26,8 @@ use Rattle.bf_sql.specs.migrations.MigrationObjections.{arm_objections, failing_
 use Rattle.bf_sql.specs.migrations.Targets.{ArmKind, by_from, by_join, by_pair, by_group, arm_key, arm_kind, arm_scope, column_admit, either_admit, extent_of_item, first_arm, item_admit, item_name, item_places, key_items, target_key, target_table}
 use Rattle.bf_plan.specs.Arms.{bound_arm, kind_told, unit_kind_of}
 use Rattle.bf_plan.specs.Items.{bound_item}
-use Rattle.bf_plan.specs.Targets.{admits_at, are_tagged_apart, failing, failing_in, first_items, first_key, gives_key, has_one_key, is_miscounted, is_misfit, is_rows, is_tagged, keeps_apart_by, key_before, key_of_arms, names_objections, objections_behind, table_of_arms}
+use Rattle.bf_plan.specs.Limits.{has_few_items}
+use Rattle.bf_plan.specs.Targets.{admits_at, are_tagged_apart, failing, failing_in, first_items, first_key, gives_key, has_one_key, is_miscounted, is_misfit, is_rows, is_tagged, keeps_apart_by, key_before, key_of_arms, name_objections, names_objections, objections_behind, table_of_arms, tagged_by}
 use Rattle.bf_plan.specs.declared.arm.BoundArm.{BoundArm}
 use Rattle.bf_plan.specs.declared.item.BoundItem.{BoundItem}
 
@@ -64,7 +68,9 @@ rows-kind by_pair = refl
 rows-kind by_group = refl
 
 names-listed : (items : List Item) → names_objections items ≡ flat_map (λ p. twice_objections p.0 p.1) (with_before (map item_name items))
-names-listed items = sym (blocks_behind-mapped item_name (λ p. twice_objections p.0 p.1) (λ p. twice_objections (map item_name p.0) (item_name p.1)) (λ seen x. refl) [] items)
+names-listed items =
+    sym (blocks_behind-mapped item_name (λ p. twice_objections p.0 p.1) (λ p. name_objections p.0 p.1)
+    (λ seen x. ap (λ (b : Bool). when b (refusal.NameTwice (item_name x))) (list_any-map (same_name (item_name x)) item_name seen)) [] items)
 
 failing-bound : (scope : Scope) (name : List ℕ) (n : ℕ) (items : List Item) → flat_map (λ p. when p.1.may_fail (refusal.MayFail name p.0)) (enumerate_from n (map (bound_item scope) items)) ≡ flat_map (λ p. when (may_fail (extent_of_item scope p.1)) (refusal.MayFail name p.0)) (enumerate_from n items)
 failing-bound scope name n [] = refl
@@ -100,15 +106,15 @@ module _ (db : Database) where
   apart-bound : (arms : List Arm) → keeps_apart_by (map (bound_arm db) arms) ≡ keeps_apart db arms
   apart-bound arms =
       let tagged = all-mapped (bound_arm db) is_tagged (λ arm. is_by_row (arm_kind db arm) && is_some (tag_of arm.items)) (λ arm. ap (λ b. b && is_some (tag_of arm.items)) (rows-kind (arm_kind db arm))) arms in
-      let different = all_behind-mapped (bound_arm db) (λ p. not (has (option_eq int_eq) (map (λ a. a.tag) p.0) p.1.tag)) (λ p. not (has (option_eq int_eq) (map (λ a. tag_of a.items) p.0) (tag_of p.1.items)))
-      (λ seen x. ap (λ ts. not (has (option_eq int_eq) ts (tag_of x.items))) (tags-bound seen)) [] arms in
+      let different = all_behind-mapped (bound_arm db) (λ p. not (tagged_by p.0 p.1.tag)) (λ p. not (has (option_eq int_eq) (map (λ a. tag_of a.items) p.0) (tag_of p.1.items)))
+      (λ seen x. ap not (tags-bound seen (tag_of x.items))) [] arms in
       let alike = all_behind-mapped (bound_arm db) (λ p. list_all (λ a. pointwise (option_eq nat_eq) a.key_items p.1.key_items) p.0) (λ p. list_all (λ a. pointwise (option_eq nat_eq) (key_items db a) (key_items db p.1)) p.0)
       (λ seen x. all-mapped (bound_arm db) (λ a. pointwise (option_eq nat_eq) a.key_items (key_items db x)) (λ a. pointwise (option_eq nat_eq) (key_items db a) (key_items db x)) (λ a. refl) seen) [] arms in
       ap₂ (λ b c. b && c) tagged (ap₂ (λ b c. b && c) different alike)
     where
-      tags-bound : (seen : List Arm) → map (λ (a : BoundArm). a.tag) (map (bound_arm db) seen) ≡ map (λ a. tag_of a.items) seen
-      tags-bound [] = refl
-      tags-bound (b ∷ bs) = ap (λ zs. tag_of b.items ∷ zs) (tags-bound bs)
+      tags-bound : (seen : List Arm) (tag : Option ℤ) → tagged_by (map (bound_arm db) seen) tag ≡ has (option_eq int_eq) (map (λ (a : Arm). tag_of a.items) seen) tag
+      tags-bound seen tag =
+          any-mapped (bound_arm db) (λ a. option_eq int_eq tag a.tag) (λ a. option_eq int_eq tag (tag_of a.items)) (λ a. refl) seen ∙ sym (list_any-map (option_eq int_eq tag) (λ (a : Arm). tag_of a.items) seen)
 
   key-bound : (target : Target) → gives_key (map (bound_arm db) target.arms) ≡ has_key db target
   key-bound target =
@@ -154,3 +160,17 @@ module _ (db : Database) where
     columns = map (λ p. record { name = item_name p.1; admits = admits-bound target p.0 i }) (enumerate_from 0 (first_arm target.arms).items);
     key = keys-first target.name target.arms i;
   }
+
+  few_each : (arms : List Arm) → list_all has_few_items arms ≡ true → list_all (λ (a : BoundArm). nat_le (length a.items) most_columns) (map (bound_arm db) arms) ≡ true
+  few_each arms few = all-mapped (bound_arm db) (λ (a : BoundArm). nat_le (length a.items) most_columns) has_few_items (λ arm. ap (λ n. nat_le n most_columns) (length-map (bound_item (arm_scope db arm)) arm.items)) arms ∙ few
+
+  module _ (target : Target) (arms : List BoundArm) (are : (flat_map (arm_objections db target) target.arms ≡ []) × (arms ≡ map (bound_arm db) target.arms)) where
+    pub behind_left : target_objections db target ≡ objections_behind target arms
+    behind_left =
+        objections-bound target ∙ ap (λ (rs : List Refusal). rs ++ objections_behind target (map (bound_arm db) target.arms)) are.0 ∙ ap (objections_behind target) (sym are.1)
+
+    pub table_made : (table : Table) → table ≡ table_of_arms target arms → table ≡ target_table db target
+    table_made table made = made ∙ ap (table_of_arms target) are.1 ∙ table-bound target
+
+    pub few-bound : list_all has_few_items target.arms ≡ true → list_all (λ (a : BoundArm). nat_le (length a.items) most_columns) arms ≡ true
+    few-bound few = ap (list_all (λ (a : BoundArm). nat_le (length a.items) most_columns)) are.1 ∙ few_each target.arms few

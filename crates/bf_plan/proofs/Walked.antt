@@ -67,3 +67,8 @@ module _ {X : Type 0} where
   pub blocks_more : {Y : Type 0} (g : ℕ × X → List Y) (xs : List X) (i : ℕ) (x : X) → i < length xs → x ≡ get_or xs i x → flat_map g (enumerate_from 0 (take (i + 1) xs)) ≡ flat_map g (enumerate_from 0 (take i xs)) ++ g (i, x)
   blocks_more g xs i x in_range is =
       ap (flat_map g) (enumerated_more xs i x in_range is) ∙ flat_map-append g (enumerate_from 0 (take i xs)) ((i, x) ∷ []) ∙ ap (λ zs. flat_map g (enumerate_from 0 (take i xs)) ++ zs) (append-nil (g (i, x)))
+
+-- names gathered from one more item
+pub gathered_more : {A X Y : Type 0} (g : A → Y → A) (f : X → List Y) (a : A) (xs : List X) (i : ℕ) (x : X) → i < length xs → x ≡ get_or xs i x → (so_far more : A)
+    → so_far ≡ fold g a (flat_map f (take i xs)) → more ≡ fold g so_far (f x) → more ≡ fold g a (flat_map f (take (i + 1) xs))
+gathered_more g f a xs i x in_range is so_far more e made = made ∙ ap (λ b. fold g b (f x)) e ∙ sym (fold_more g f a xs i x in_range is)

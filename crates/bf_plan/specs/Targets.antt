@@ -8,14 +8,13 @@ use Rattle.bf_base.specs.declared.table.Admit.{Admit}
 use Rattle.bf_base.specs.declared.table.Admit.TheVariants as admits
 use Rattle.bf_base.specs.declared.table.Column.{Column}
 use Rattle.bf_base.specs.declared.table.Table.{Table}
-use Rattle.bf_base.specs.Lists.{has, with_before, when}
+use Rattle.bf_base.specs.Lists.{same_name, with_before, when}
 use Rattle.bf_base.specs.Tables.{same_kind}
 use Rattle.bf_tree.specs.declared.migration.Item.{Item}
 use Rattle.bf_tree.specs.declared.migration.Target.{Target}
 use Rattle.bf_tree.specs.declared.reply.Refusal.{Refusal}
 use Rattle.bf_tree.specs.declared.reply.Refusal.TheVariants as refusal
 use Rattle.bf_sql.specs.Database.{Database}
-use Rattle.bf_sql.specs.Scopes.{twice_objections}
 use Rattle.bf_sql.specs.migrations.Targets.{either_admit, first_arm, item_name, target_table}
 use Rattle.bf_plan.specs.Arms.{bound_arm}
 use Rattle.bf_plan.specs.declared.arm.BoundArm.{BoundArm}
@@ -57,7 +56,7 @@ abbrev pub is_tagged : BoundArm → Bool
 is_tagged arm = is_rows arm.unit_kind && is_some arm.tag
 
 abbrev pub tagged_by : List BoundArm → Option ℤ → Bool
-tagged_by arms tag = has (option_eq int_eq) (map (λ a. a.tag) arms) tag
+tagged_by arms tag = list_any (λ a. option_eq int_eq tag a.tag) arms
 
 abbrev pub are_tagged_apart : List BoundArm → Bool
 are_tagged_apart arms = list_all (λ p. not (tagged_by p.0 p.1.tag)) (with_before arms)
@@ -71,9 +70,15 @@ keeps_apart_by arms = list_all is_tagged arms && are_tagged_apart arms && has_on
 abbrev pub gives_key : List BoundArm → Bool
 gives_key arms = list_all (λ a. a.inherits_key) arms && (nat_lt (length arms) 2 || keeps_apart_by arms)
 
--- items whose columns have a name that stood before
+-- an item with the name of one before it
+abbrev pub is_named : List Item → List ℕ → Bool
+is_named items name = list_any (λ i. same_name name (item_name i)) items
+
+abbrev pub name_objections : List Item → Item → List Refusal
+name_objections before item = when (is_named before (item_name item)) (refusal.NameTwice (item_name item))
+
 abbrev pub names_objections : List Item → List Refusal
-names_objections items = flat_map (λ p. twice_objections (map item_name p.0) (item_name p.1)) (with_before items)
+names_objections items = flat_map (λ p. name_objections p.0 p.1) (with_before items)
 
 -- what is wrong with a target behind its arms
 abbrev pub objections_behind : Target → List BoundArm → List Refusal

@@ -5,17 +5,16 @@ ghost use Rattle.std.specs.List.{list_all, list_any, zip};
 ghost use Rattle.std.specs.Option.{option_eq};
 ghost use lib.Pointwise.{pointwise};
 ghost use Rattle.bf_base.specs.Limits.{most_columns};
-ghost use Rattle.bf_base.specs.Lists.{has, same_name, when};
+ghost use Rattle.bf_base.specs.Lists.{when};
 ghost use Rattle.bf_base.specs.Tables.{same_kind};
 ghost use Rattle.bf_tree.specs.Limits.{HasNarrowTables};
 ghost use Rattle.bf_tree.specs.Settling.{Settles};
 ghost use Rattle.bf_tree.specs.declared.reply.Refusal.TheVariants as refusal;
 ghost use Rattle.bf_sql.specs.Bound.{without_rows};
-ghost use Rattle.bf_sql.specs.Scopes.{twice_objections};
 ghost use Rattle.bf_sql.specs.migrations.MigrationObjections.{target_objections};
 ghost use Rattle.bf_sql.specs.migrations.Targets.{either_admit, first_arm, item_name};
 ghost use Rattle.bf_plan.specs.Limits.{has_small_arms};
-ghost use Rattle.bf_plan.specs.Targets.{admits_at, are_tagged_apart, bound_target, columns_of, failing, failing_in, first_items, first_key, gives_key, has_one_key, is_miscounted, is_misfit, is_tagged, key_of_arms, keeps_apart_by, names_objections, objections_behind, table_of_arms, tagged_by, with_admit, with_given, key_before};
+ghost use Rattle.bf_plan.specs.Targets.{admits_at, are_tagged_apart, bound_target, columns_of, failing, failing_in, first_items, first_key, gives_key, has_one_key, is_miscounted, is_misfit, is_named, is_tagged, key_of_arms, keeps_apart_by, name_objections, names_objections, objections_behind, table_of_arms, tagged_by, with_admit, with_given, key_before};
 
 use crate::arm::{BoundArm, bind_arms};
 use crate::item::BoundItem;
@@ -59,13 +58,19 @@ fn is_miscounted(first: &[BoundItem], arm: &BoundArm) -> bool
     arm.items.len() != first.len()
 }
 
+/// Whether one of the arms has another count of items than the first.
+fn any_miscounted(first: &[BoundItem], arms: &[BoundArm]) -> bool
+    ensures { result ≡ list_any (is_miscounted first.now) arms.now }
+{
+    arms.iter().any(|arm| is_miscounted(first, arm))
+}
+
 /// The arms have one count of items.
 fn expect_counts(arms: &[BoundArm]) -> Result<(), StatementError>
     ensures { Settles result
         (when (list_any (is_miscounted (first_items arms.now)) arms.now) refusal.WrongCount) tt }
 {
-    let first = first_items(arms);
-    if arms.iter().any(|arm| is_miscounted(first, arm)) {
+    if any_miscounted(first_items(arms), arms) {
         Err(StatementError::Refused(Refusal::WrongCount))
     } else {
         Ok(())
@@ -93,13 +98,19 @@ fn is_misfit(first: &[BoundItem], arm: &BoundArm) -> bool
     !are_alike(first, items)
 }
 
+/// Whether the items of one of the arms are of other kinds than those of the first.
+fn any_misfit(first: &[BoundItem], arms: &[BoundArm]) -> bool
+    ensures { result ≡ list_any (is_misfit first.now) arms.now }
+{
+    arms.iter().any(|arm| is_misfit(first, arm))
+}
+
 /// The items of the arms are of one list of kinds.
 fn expect_kinds(arms: &[BoundArm]) -> Result<(), StatementError>
     ensures { Settles result
         (when (list_any (is_misfit (first_items arms.now)) arms.now) refusal.TypeMismatch) tt }
 {
-    let first = first_items(arms);
-    if arms.iter().any(|arm| is_misfit(first, arm)) {
+    if any_misfit(first_items(arms), arms) {
         Err(StatementError::Refused(Refusal::TypeMismatch))
     } else {
         Ok(())
@@ -118,14 +129,14 @@ fn item_name(item: &Item) -> &Name
 
 /// Whether a name is that of one of some items.
 fn is_named(name: &Name, items: &[Item]) -> bool
-    ensures { result ≡ has same_name (map item_name items.now) name.now }
+    ensures { result ≡ is_named items.now name.now }
 {
     items.iter().any(|item| *name == *item_name(item))
 }
 
 /// An item has another name than those before it.
 fn expect_new_name(alloc: Global, before: &[Item], item: &Item) -> Result<(), StatementError>
-    ensures { Settles result (twice_objections (map item_name before.now) (item_name item.now)) tt }
+    ensures { Settles result (name_objections before.now item.now) tt }
 {
     let name = item_name(item);
     if is_named(name, before) {
