@@ -1,5 +1,5 @@
 -- What stands behind the arms of a target, over its arms as they are bound.
-use Rattle.std.proofs.Common.{◌≡◌, ℕ, ℤ, ◌+◌, zero, suc, Bool, true, false, not, ◌&&◌, ◌||◌, List, [], ◌∷◌, ◌++◌, map, length, take, drop, Option, Some, None, is_some, unwrap_or, position, nat_eq, refl, sym, ap, ap₂, ◌∙◌, if◌then◌else◌, append_assoc, nat_le, nat_lt, ◌==◌}
+use Rattle.std.proofs.Common.{◌≡◌, ℕ, ℤ, ◌+◌, zero, suc, Bool, true, false, not, ◌&&◌, ◌||◌, List, [], ◌∷◌, ◌++◌, map, length, take, drop, Option, Some, None, is_some, unwrap_or, position, nat_eq, refl, sym, ap, ap₂, ◌∙◌, if◌then◌else◌, append_assoc, nat_le, nat_lt, ◌==◌, le-ltb, lt-ltb, arith}
 use Rattle.std.specs.List.{flat_map, filter_map, list_all, list_any, reduce, enumerate_from}
 use Rattle.std.specs.Option.{option_eq}
 use Rattle.std.specs.Ordering.{int_eq}
@@ -96,7 +96,7 @@ module _ (db : Database) where
   counts-bound : (arms : List Arm) → list_any (is_miscounted (first_items (map (bound_arm db) arms))) (map (bound_arm db) arms) ≡ list_any (λ arm. not (length arm.items == length (first_arm arms).items)) arms
   counts-bound arms =
       any-mapped (bound_arm db) (is_miscounted (first_items (map (bound_arm db) arms))) (λ arm. not (length arm.items == length (first_arm arms).items))
-      (λ arm. ap₂ (λ m n. not (m == n)) (length-map (bound_item (arm_scope db arm)) arm.items) (items-first arms)) arms
+      (λ arm. ap₂ (λ (m n : ℕ). not (m == n)) (length-map (bound_item (arm_scope db arm)) arm.items) (items-first arms)) arms
 
   misfits-bound : (arms : List Arm) → list_any (is_misfit (first_items (map (bound_arm db) arms))) (map (bound_arm db) arms) ≡ list_any (λ arm. not (pointwise same_kind (item_kinds db (first_arm arms)) (item_kinds db arm))) arms
   misfits-bound arms =
@@ -119,18 +119,18 @@ module _ (db : Database) where
   key-bound : (target : Target) → gives_key (map (bound_arm db) target.arms) ≡ has_key db target
   key-bound target =
       let inherited = all-mapped (bound_arm db) (λ a. a.inherits_key) (inherits_key db) (λ a. refl) target.arms in
-      let counted = ap (λ n. nat_lt n 2) (length-map (bound_arm db) target.arms) in
+      let counted = ap (λ (n : ℕ). nat_lt n 2) (length-map (bound_arm db) target.arms) in
       ap₂ (λ b c. b && c) inherited (ap₂ (λ b c. b || c) counted (apart-bound target.arms))
 
   pub objections-bound : (target : Target) → target_objections db target ≡ flat_map (arm_objections db target) target.arms ++ objections_behind target (map (bound_arm db) target.arms)
   objections-bound target =
       let fails = blocks-mapped (bound_arm db) (failing_in target.name) (failing_objections db target) (λ arm. failing-bound (arm_scope db arm) target.name 1 arm.items) target.arms in
       (λ i. flat_map (arm_objections db target) target.arms
-          ++ when (sym (counts-bound target.arms) i) refusal.WrongCount
-          ++ when (sym (misfits-bound target.arms) i) refusal.TypeMismatch
-          ++ sym (names-listed (first_arm target.arms).items) i
-          ++ sym fails i
-          ++ when (not (sym (key-bound target) i)) (refusal.KeyNotInherited target.name))
+      ++ when (sym (counts-bound target.arms) i) refusal.WrongCount
+      ++ when (sym (misfits-bound target.arms) i) refusal.TypeMismatch
+      ++ sym (names-listed (first_arm target.arms).items) i
+      ++ sym fails i
+      ++ when (not (sym (key-bound target) i)) (refusal.KeyNotInherited target.name))
       ∙ regroup (flat_map (arm_objections db target) target.arms)
       (when (list_any (is_miscounted (first_items (map (bound_arm db) target.arms))) (map (bound_arm db) target.arms)) refusal.WrongCount)
       (when (list_any (is_misfit (first_items (map (bound_arm db) target.arms))) (map (bound_arm db) target.arms)) refusal.TypeMismatch)
@@ -152,17 +152,21 @@ module _ (db : Database) where
   keys-first : (name : List ℕ) (arms : List Arm) → key_of_arms (map (bound_arm db) arms) ≡ filter_map (λ k. k) (target_key db (record { name = name; arms = arms }))
   keys-first name [] = sym (none_given (arm_key db (first_arm [])))
   keys-first name (one ∷ []) = refl
-  keys-first name (one ∷ two ∷ more) = refl
+  keys-first name (one ∷ two ∷ more) =
+      let count = length-map (bound_arm db) more in
+      let few : nat_lt (length (map (bound_arm db) (one ∷ two ∷ more))) 2 ≡ false = le-ltb _ _ (omega arith) in
+      let several : nat_lt 1 (length (one ∷ two ∷ more)) ≡ true = lt-ltb _ _ (omega arith) in
+      rw (few, several) refl
 
   pub table-bound : (target : Target) → table_of_arms target (map (bound_arm db) target.arms) ≡ target_table db target
   table-bound target = λ i. record {
     name = target.name;
-    columns = map (λ p. record { name = item_name p.1; admits = admits-bound target p.0 i }) (enumerate_from 0 (first_arm target.arms).items);
+    columns = map (λ (p : ℕ × Item). record { name = item_name p.1; admits = admits-bound target p.0 i }) (enumerate_from 0 (first_arm target.arms).items);
     key = keys-first target.name target.arms i;
   }
 
   few_each : (arms : List Arm) → list_all has_few_items arms ≡ true → list_all (λ (a : BoundArm). nat_le (length a.items) most_columns) (map (bound_arm db) arms) ≡ true
-  few_each arms few = all-mapped (bound_arm db) (λ (a : BoundArm). nat_le (length a.items) most_columns) has_few_items (λ arm. ap (λ n. nat_le n most_columns) (length-map (bound_item (arm_scope db arm)) arm.items)) arms ∙ few
+  few_each arms few = all-mapped (bound_arm db) (λ (a : BoundArm). nat_le (length a.items) most_columns) has_few_items (λ arm. ap (λ (n : ℕ). nat_le n most_columns) (length-map (bound_item (arm_scope db arm)) arm.items)) arms ∙ few
 
   module _ (target : Target) (arms : List BoundArm) (are : (flat_map (arm_objections db target) target.arms ≡ []) × (arms ≡ map (bound_arm db) target.arms)) where
     pub behind_left : target_objections db target ≡ objections_behind target arms

@@ -34,9 +34,9 @@ nat_eq-turned : (m n : ℕ) → nat_eq m n ≡ nat_eq n m
 nat_eq-turned m n = elim (cases_Bool (nat_eq m n)) [
   | inl same ↦ same ∙ sym (eq-eqb n m (sym (eqb-true m n same)))
   | inr other ↦ elim (cases_Bool (nat_eq n m)) [
-      | inl same ↦ let wrong : true ≡ false = sym (eq-eqb m n (sym (eqb-true n m same))) ∙ other in absurd cc
-      | inr other' ↦ other ∙ sym other'
-    ]
+    | inl same ↦ let wrong : true ≡ false = sym (eq-eqb m n (sym (eqb-true n m same))) ∙ other in absurd cc
+    | inr other' ↦ other ∙ sym other'
+  ]
 ]
 
 module _ (scope : Scope) where

@@ -1,6 +1,6 @@
 -- The units of a plan, made of its arms one by one.
-use Rattle.std.proofs.Common.{◌≡◌, ℕ, ◌+◌, ◌≤◌, ◌<◌, zero, suc, Bool, true, false, not, ◌&&◌, ◌||◌, cond, if◌then◌else◌, List, [], ◌∷◌, ◌++◌, map, filter, fold, length, get_or, Option, Some, None, is_some, refl, sym, ap, ap₂, ◌∙◌, arith}
-use Rattle.std.specs.List.{flat_map, enumerate_from, list_any}
+use Rattle.std.proofs.Common.{◌≡◌, ℕ, ◌+◌, ◌≤◌, ◌<◌, zero, suc, Bool, true, false, not, ◌&&◌, ◌||◌, cond, if◌then◌else◌, List, [], ◌∷◌, ◌++◌, map, filter, fold, length, get_or, Option, Some, None, is_some, refl, sym, ap, ap₂, ◌∙◌, arith, nat_eq, nat_lt}
+use Rattle.std.specs.List.{flat_map, enumerate_from, list_all, list_any}
 use Rattle.std.proofs.lemmas.List.{map-append, length-append, length-map, append-nil}
 use Rattle.std.proofs.lemmas.List.FromFn.{length-enumerate_from}
 use Rattle.bf_base.specs.Distinct.{distinct, with_new}
@@ -15,7 +15,7 @@ use Rattle.bf_tree.specs.declared.migration.Target.{Target}
 use Rattle.bf_tree.specs.declared.raw.Ref.{Ref}
 use Rattle.bf_sql.specs.Database.{Database}
 use Rattle.bf_sql.specs.migrations.MigrationObjections.{driver_by, drivers_of, is_by_row}
-use Rattle.bf_sql.specs.migrations.Targets.{ArmKind, by_from, by_join, by_pair, by_group, arm_kind, kind_by}
+use Rattle.bf_sql.specs.migrations.Targets.{ArmKind, by_from, by_join, by_pair, by_group, arm_kind, from_key, join_key, kind_by, on_places}
 use Rattle.bf_plan.specs.Arms.{bound_arm, driver_of, kind_told, unit_kind_of}
 use Rattle.bf_plan.specs.Plans.{numbered_arms, planned_units, rows_unit_of, values_unit_of}
 use Rattle.bf_plan.specs.Targets.{is_rows}
@@ -50,7 +50,9 @@ module _ (db : Database) where
   driver_of_arm p = driver_by (arm_kind db p.1) p.1
 
   driving-arm : (p : (ℕ × ℕ) × Arm) → driving (unit_of p) ≡ driver_of_arm p
-  driving-arm p = driver-told p.1.items p.1.from p.1.join p.1.cond p.1.group _ _ _
+  driving-arm p =
+      driver-told p.1.items p.1.from p.1.join p.1.cond p.1.group
+      (nat_lt 0 (length p.1.group)) (list_all (has nat_eq (on_places db p.1)) (join_key db p.1)) (list_all (has nat_eq (on_places db p.1)) (from_key db p.1))
 
   -- the units are those of the numbered arms
   arm_units-numbered : (t k : ℕ) (arms : List Arm) → map (λ p. arm_unit (t, p.0) p.1) (enumerate_from k (map (bound_arm db) arms)) ≡ map unit_of (map (λ a. ((t, a.0), a.1)) (enumerate_from k arms))
@@ -92,16 +94,16 @@ module _ (db : Database) where
       either_way false = refl
 
   -- an arm that goes by values, by its kind
-  valued : (k : ArmKind) (p : (ℕ × ℕ) × Arm) → arm_kind db p.1 ≡ k → (vs : List ((ℕ × ℕ) × Arm))
-      → units_by_values (unit_of p) ++ map (values_unit_of db) vs ≡ map (values_unit_of db) (cond (not (is_by_row (arm_kind db p.1))) (p ∷ vs) vs)
-  valued by_from p e vs = rw e refl
-  valued by_join p e vs = rw e refl
-  valued by_pair p e vs = rw e refl
-  valued by_group p e vs = rw e refl
+  valued : (m : Migrate) (k : ArmKind) (p : (ℕ × ℕ) × Arm) → arm_kind db p.1 ≡ k → (vs : List ((ℕ × ℕ) × Arm))
+      → units_by_values (unit_of p) ++ map (values_unit_of db m) vs ≡ map (values_unit_of db m) (cond (not (is_by_row (arm_kind db p.1))) (p ∷ vs) vs)
+  valued m by_from p e vs = rw e refl
+  valued m by_join p e vs = rw e refl
+  valued m by_pair p e vs = rw e refl
+  valued m by_group p e vs = rw e refl
 
-  values-numbered : (ps : List ((ℕ × ℕ) × Arm)) → flat_map units_by_values (map unit_of ps) ≡ map (values_unit_of db) (filter (λ p. not (is_by_row (arm_kind db p.1))) ps)
-  values-numbered [] = refl
-  values-numbered (p ∷ ps) = ap (λ us. units_by_values (unit_of p) ++ us) (values-numbered ps) ∙ valued (arm_kind db p.1) p refl (filter (λ p. not (is_by_row (arm_kind db p.1))) ps)
+  values-numbered : (m : Migrate) (ps : List ((ℕ × ℕ) × Arm)) → flat_map units_by_values (map unit_of ps) ≡ map (values_unit_of db m) (filter (λ p. not (is_by_row (arm_kind db p.1))) ps)
+  values-numbered m [] = refl
+  values-numbered m (p ∷ ps) = ap (λ us. units_by_values (unit_of p) ++ us) (values-numbered m ps) ∙ valued m (arm_kind db p.1) p refl (filter (λ p. not (is_by_row (arm_kind db p.1))) ps)
 
   module _ (m : Migrate) where
     abbrev pub units_of : List Unit
@@ -121,7 +123,7 @@ module _ (db : Database) where
 
     pub units-planned : joined_units (drivers_of db m) units_of ≡ planned_units db m
     units-planned =
-        ap₂ (λ (us vs : List Unit). us ++ vs) (λ i. map (λ name. rows-planned name i) (drivers_of db m)) (ap (flat_map units_by_values) units-numbered ∙ values-numbered (numbered_arms m))
+        ap₂ (λ (us vs : List Unit). us ++ vs) (λ i. map (λ name. rows-planned name i) (drivers_of db m)) (ap (flat_map units_by_values) units-numbered ∙ values-numbered m (numbered_arms m))
 
   -- counts
   unit_count : (t k : ℕ) (arms : List Arm) → length (map (λ p. arm_unit (t, p.0) p.1) (enumerate_from k (map (bound_arm db) arms))) ≡ length arms

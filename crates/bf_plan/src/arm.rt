@@ -12,8 +12,8 @@ ghost use Rattle.bf_plan.specs.Limits.{has_few_items};
 
 use crate::item::{BoundItem, bind_items, tag_of};
 use crate::joining::{
-    ArmKind, all_given, are_grouped, arm_kind, bind_equalities, bind_group, equalities, has_no_total,
-    key_items, key_places,
+    ArmKind, all_given, are_grouped, arm_kind, bind_equalities, bind_group, equalities,
+    has_no_total, key_items, key_places,
 };
 use crate::plan::UnitKind;
 use crate::source::{ArmTables, bind_tables};
@@ -58,7 +58,12 @@ fn bind_parts(
         (bound_parts tables.now.scope arm.now) }
 {
     let scope = &tables.scope;
-    let items = bind_items(alloc, scope, tables.columns.as_slice(), arm.items.as_slice())?;
+    let items = bind_items(
+        alloc,
+        scope,
+        tables.columns.as_slice(),
+        arm.items.as_slice(),
+    )?;
     let on = bind_equalities(alloc, scope, tables.width, target, equalities(arm))?;
     let _cond = bind_condition(alloc, scope, &arm.cond)?;
     let group = bind_group(alloc, scope, arm.group.as_slice())?;

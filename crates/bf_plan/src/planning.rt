@@ -56,7 +56,8 @@ fn bind_targets(
         let bound = bind_target(alloc, catalog, target)?;
         let more = arm_units(alloc, index as u8, bound.arms.as_slice())?;
         tables.push(bound.table)?;
-        units = with_units(units, more)?;
+        let all = with_units(units, more)?;
+        units = all;
     }
     Ok(BoundTargets {
         tables: Sequence::of(tables),
@@ -68,11 +69,7 @@ fn bind_targets(
 ///
 /// # Errors
 /// The first objection.
-fn bind_migrate(
-    alloc: Global,
-    migrate: &Migrate,
-    catalog: &Catalog,
-) -> Result<Plan, StatementError>
+fn bind_migrate(alloc: Global, migrate: &Migrate, catalog: &Catalog) -> Result<Plan, StatementError>
     requires narrow { HasNarrowTables catalog.now }
     requires limits { IsNarrowMigrate migrate.now }
     ensures { Settles result (migrate_objections (without_rows catalog.now) migrate.now)
@@ -80,7 +77,12 @@ fn bind_migrate(
 {
     let bound = bind_targets(alloc, catalog, migrate)?;
     let sources = sources(alloc, migrate)?;
-    expect_all_free(alloc, catalog, sources.as_slice(), migrate.targets.as_slice())?;
+    expect_all_free(
+        alloc,
+        catalog,
+        sources.as_slice(),
+        migrate.targets.as_slice(),
+    )?;
     let drivers = drivers(alloc, bound.units.as_slice())?;
     expect_few(drivers.as_slice())?;
     let units = joined_units(alloc, drivers.as_slice(), bound.units.as_slice())?;

@@ -45,7 +45,11 @@ fn expect_source<'a>(
 }
 
 /// The places of a key in rows where so many columns stand before the table's own.
-pub(crate) fn places_behind(alloc: Global, before: usize, key: &[u8]) -> Result<Sequence<usize>, Memory>
+pub(crate) fn places_behind(
+    alloc: Global,
+    before: usize,
+    key: &[u8],
+) -> Result<Sequence<usize>, Memory>
     requires { before ≤ most_columns }
     ensures { IfOk result (λ places. places ≡ map (λ place. before + place) key.now) }
 {
@@ -91,11 +95,7 @@ fn alone<'a>(alloc: Global, from: &'a Table) -> Result<ArmTables<'a>, Memory>
 }
 
 /// Two tables.
-fn joined<'a>(
-    alloc: Global,
-    from: &'a Table,
-    join: &'a Table,
-) -> Result<ArmTables<'a>, Memory>
+fn joined<'a>(alloc: Global, from: &'a Table, join: &'a Table) -> Result<ArmTables<'a>, Memory>
     requires from { length from.now.columns ≤ most_columns }
     requires join { length join.now.columns ≤ most_columns }
     ensures { IfOk result (λ tables. tables ≡ both_tables from.now join.now) }

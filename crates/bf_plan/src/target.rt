@@ -188,11 +188,7 @@ fn expect_sure(alloc: Global, target: &Name, items: &[BoundItem]) -> Result<(), 
 ///
 /// # Errors
 /// The first that may, arm by arm.
-fn expect_all_sure(
-    alloc: Global,
-    target: &Name,
-    arms: &[BoundArm],
-) -> Result<(), StatementError>
+fn expect_all_sure(alloc: Global, target: &Name, arms: &[BoundArm]) -> Result<(), StatementError>
     requires { list_all (λ arm. nat_le (length arm.items) most_columns) arms.now ≡ true }
     ensures { Settles result (flat_map (failing_in target.now) arms.now) tt }
 {
@@ -306,11 +302,7 @@ fn named_items(target: &Target) -> &[Item]
 ///
 /// # Errors
 /// The first objection, in this order.
-fn expect_behind(
-    alloc: Global,
-    target: &Target,
-    arms: &[BoundArm],
-) -> Result<(), StatementError>
+fn expect_behind(alloc: Global, target: &Target, arms: &[BoundArm]) -> Result<(), StatementError>
     requires { list_all (λ arm. nat_le (length arm.items) most_columns) arms.now ≡ true }
     ensures { Settles result (objections_behind target.now arms.now) tt }
 {
@@ -365,7 +357,8 @@ fn admits_at(arms: &[BoundArm], place: usize) -> Admit
 {
     let mut so_far = None;
     for arm in arms {
-        so_far = with_admit(so_far, admit_at(arm.items.as_slice(), place));
+        let more = with_admit(so_far, admit_at(arm.items.as_slice(), place));
+        so_far = more;
     }
     match so_far {
         Some(admits) => admits,
@@ -415,7 +408,8 @@ fn target_key(alloc: Global, arms: &[BoundArm]) -> Result<Sequence<u8>, Memory>
 {
     let mut key = key_before(alloc, arms)?;
     for place in first_key(arms) {
-        key = with_given(key, *place)?;
+        let more = with_given(key, *place)?;
+        key = more;
     }
     Ok(Sequence::of(key))
 }

@@ -88,11 +88,7 @@ fn arm_unit(alloc: Global, number: (u8, u32), arm: &BoundArm) -> Result<Unit, Me
 }
 
 /// The arms of a target of a number, each as a unit of its own.
-pub(crate) fn arm_units(
-    alloc: Global,
-    target: u8,
-    arms: &[BoundArm],
-) -> Result<Vec<Unit>, Memory>
+pub(crate) fn arm_units(alloc: Global, target: u8, arms: &[BoundArm]) -> Result<Vec<Unit>, Memory>
     requires { length arms.now ≤ longest_script }
     ensures { IfOk result (λ units. units.items ≡ arm_units target arms.now) }
 {

@@ -28,6 +28,7 @@ completed-requires c =
     omega arith
 
 pub returns : goal.returns
-returns c =
-    (parts_left (without_rows c.args.catalog.now) c.args.target.now c.args.arm.now c.in_ok-tables.tables c.in_ok-tables.ensures ∙ c.in_ok-parts.ensures.0,
-    arm_made (without_rows c.args.catalog.now) c.args.target.now c.args.arm.now c.in_ok-tables.tables c.in_ok-tables.ensures c.in_ok-parts.parts _ c.in_ok-parts.ensures.1 c.in_ok-completed.ensures)
+returns c = (
+  parts_left (without_rows c.args.catalog.now) c.args.target.now c.args.arm.now c.in_ok-tables.tables c.in_ok-tables.ensures ∙ c.in_ok-parts.ensures.0,
+  arm_made (without_rows c.args.catalog.now) c.args.target.now c.args.arm.now c.in_ok-tables.tables c.in_ok-tables.ensures c.in_ok-parts.parts _ c.in_ok-parts.ensures.1 c.in_ok-completed.ensures,
+)

@@ -31,6 +31,7 @@ returns c =
     let untaken = rw (c.as_slice.ensures, c.as_slice-2.ensures) at c.in_ok-expect_all_free.ensures in
     let few = rw c.as_slice-4.ensures at c.in_ok-expect_few.ensures in
     let drivers = rw c.as_slice-3.ensures at c.in_ok-drivers.ensures in
-    let units = rw (c.as_slice-5.ensures, c.as_slice-6.ensures) at c.in_ok-units.ensures in
-    (limit_left (without_rows c.args.catalog.now) c.args.migrate.now c.in_ok-bound.bound c.in_ok-bound.ensures c.in_ok-sources.sources c.in_ok-sources.ensures untaken.0 c.in_ok-drivers.drivers drivers ∙ few.0,
-    plan-is (without_rows c.args.catalog.now) c.args.migrate.now c.in_ok-bound.bound c.in_ok-bound.ensures c.in_ok-sources.sources c.in_ok-sources.ensures untaken.0 c.in_ok-drivers.drivers drivers c.in_ok-units.units units _ c.in_ok-copy.ensures)
+    let units = rw (c.as_slice-5.ensures, c.as_slice-6.ensures) at c.in_ok-units.ensures in (
+      limit_left (without_rows c.args.catalog.now) c.args.migrate.now c.in_ok-bound.bound c.in_ok-bound.ensures c.in_ok-sources.sources c.in_ok-sources.ensures untaken.0 c.in_ok-drivers.drivers drivers ∙ few.0,
+      plan-is (without_rows c.args.catalog.now) c.args.migrate.now c.in_ok-bound.bound c.in_ok-bound.ensures c.in_ok-sources.sources c.in_ok-sources.ensures untaken.0 c.in_ok-drivers.drivers drivers c.in_ok-units.units units _ c.in_ok-copy.ensures,
+    )

@@ -34,5 +34,5 @@ loop-index-preserved c =
       tables = grind (arith, common_steps);
       units =
           units_more (without_rows c.args.catalog.now) c.args.migrate.now.targets c.loop-index.index c.index-targets-index.result (rw same at c.loop-index-test.true) (rw same at c.index-targets-index.is) c.in_ok-bound.bound c.in_ok-bound.ensures.1
-          c.loop-index.units.items c.in_ok-more.more.items _ c.loop-index.invariant.units (rw c.as_slice.ensures at c.in_ok-more.ensures) c.in_ok-with_units.ensures;
+          c.loop-index.units.items c.in_ok-more.more.items _ c.loop-index.invariant.units (rw c.as_slice.ensures at c.in_ok-more.ensures) c.in_ok-all.ensures;
     }

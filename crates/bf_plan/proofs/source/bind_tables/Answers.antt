@@ -1,25 +1,26 @@
-use Rattle.std.proofs.Common.{◌≡◌, None, Some, Option, ap, sym, ◌∙◌}
+use Rattle.std.proofs.Common.{◌≡◌, None, Some, Option, ap, sym, refl, rules, ◌∙◌}
 use Rattle.bf_base.specs.declared.table.Table.{Table}
 use Rattle.bf_sql.specs.Bound.{without_rows}
 use Rattle.bf_sql.specs.Database.{table_at}
 use Rattle.bf_tree.specs.declared.migration.Join.{Join}
-use Rattle.bf_tree.proofs.Settling.{handed_on}
 use Rattle.bf_plan.specs.Arms.{both_tables, one_table}
 use Rattle.bf_plan.proofs.Tables.{alone_is, alone_unobjected, joined_is, joined_unobjected}
 use Rattle.bf_plan.proofs.source.bind_tables.Goals as goal
 
 no_join : (join : Option Join) → ((j : Join) → join ≡ Some j → ⊥) → join ≡ None
-no_join None none = cc
-no_join (Some j) none = absurd (none j cc)
+no_join None none = refl
+no_join (Some j) none = absurd (none j refl)
 
 pub returns-in_default : goal.returns-in_default
 returns-in_default c =
-    let none : c.args.arm.now.join ≡ None = search rules in
-    (alone_unobjected (without_rows c.args.catalog.now) c.args.arm.now c.in_ok-from.ensures.table.0 none,
-    c.in_ok-alone.ensures ∙ ap one_table c.in_ok-from.ensures.table.1 ∙ alone_is (without_rows c.args.catalog.now) c.args.arm.now none)
+    let none : c.args.arm.now.join ≡ None = first_of (no_join c.args.arm.now.join c.in_default.not-Some, search rules) in (
+      alone_unobjected (without_rows c.args.catalog.now) c.args.arm.now c.in_ok-from.ensures.table.0 none,
+      c.in_ok-alone.ensures ∙ ap one_table c.in_ok-from.ensures.table.1 ∙ alone_is (without_rows c.args.catalog.now) c.args.arm.now none,
+    )
 
 pub returns : goal.returns
-returns c =
-    (joined_unobjected (without_rows c.args.catalog.now) c.args.arm.now c.in_ok-from.ensures.table.0 c.in-Some.join c.in-Some.is c.in_ok-other.ensures.table.0 (sym c.if-eq.ensures),
-    c.in_ok-joined.ensures ∙ ap (λ (t : Table). both_tables t c.in_ok-other.other.now) c.in_ok-from.ensures.table.1 ∙ ap (both_tables (table_at (without_rows c.args.catalog.now) c.args.arm.now.from)) c.in_ok-other.ensures.table.1
-    ∙ joined_is (without_rows c.args.catalog.now) c.args.arm.now c.in-Some.join c.in-Some.is)
+returns c = (
+  joined_unobjected (without_rows c.args.catalog.now) c.args.arm.now c.in_ok-from.ensures.table.0 c.in-Some.join c.in-Some.is c.in_ok-other.ensures.table.0 (sym c.if-eq.ensures),
+  c.in_ok-joined.ensures ∙ ap (λ (t : Table). both_tables t c.in_ok-other.other.now) c.in_ok-from.ensures.table.1 ∙ ap (both_tables (table_at (without_rows c.args.catalog.now) c.args.arm.now.from)) c.in_ok-other.ensures.table.1
+      ∙ joined_is (without_rows c.args.catalog.now) c.args.arm.now c.in-Some.join c.in-Some.is,
+)

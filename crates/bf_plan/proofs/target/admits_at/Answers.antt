@@ -6,4 +6,4 @@ use Rattle.bf_plan.proofs.target.admits_at.Goals as goal
 pub loop-arm-preserved : goal.loop-arm-preserved
 loop-arm-preserved c =
     let there = rw c.as_slice.ensures at c.admit_at.ensures in
-    admits_more c.args.arms.now c.args.place c.loop-arm.arm-index c.arm-item.result c.loop-arm.so_far c.with_admit.result c.loop-arm-test.true c.arm-item.is c.loop-arm.invariant (c.with_admit.ensures ∙ ap (with_admit c.loop-arm.so_far) there)
+    admits_more c.args.arms.now c.args.place c.loop-arm.arm-index c.arm-item.result c.loop-arm.so_far c.with_admit-more.result c.loop-arm-test.true c.arm-item.is c.loop-arm.invariant (c.with_admit-more.ensures ∙ ap (with_admit c.loop-arm.so_far) there)

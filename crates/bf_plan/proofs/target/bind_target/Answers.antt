@@ -22,6 +22,7 @@ pub returns : goal.returns
 returns c =
     let behind = rw c.as_slice.ensures at c.in_ok-expect_behind.ensures in
     let made = rw c.as_slice-2.ensures at c.in_ok-table.ensures in
-    let table = table_made (without_rows c.args.catalog.now) c.args.target.now c.in_ok-arms.arms c.in_ok-arms.ensures c.in_ok-table.table made in
-    (behind_left (without_rows c.args.catalog.now) c.args.target.now c.in_ok-arms.arms c.in_ok-arms.ensures ∙ behind.0,
-    λ i. record { table = table i; arms = c.in_ok-arms.ensures.1 i })
+    let table = table_made (without_rows c.args.catalog.now) c.args.target.now c.in_ok-arms.arms c.in_ok-arms.ensures c.in_ok-table.table made in (
+      behind_left (without_rows c.args.catalog.now) c.args.target.now c.in_ok-arms.arms c.in_ok-arms.ensures ∙ behind.0,
+      λ i. record { table = table i; arms = c.in_ok-arms.ensures.1 i },
+    )

@@ -6,4 +6,4 @@ use Rattle.bf_plan.proofs.target.target_key.Goals as goal
 pub loop-place-preserved : goal.loop-place-preserved
 loop-place-preserved c =
     let same = c.first_key-place-items.ensures in
-    given_more (key_before c.args.arms.now) c.loop-place.key.items c.in_ok-with_given.field-0.items (first_key c.args.arms.now) c.loop-place.place-index c.place-item.result (rw same at c.loop-place-test.true) (rw same at c.place-item.is) c.loop-place.invariant c.in_ok-with_given.ensures
+    given_more (key_before c.args.arms.now) c.loop-place.key.items c.in_ok-more.more.items (first_key c.args.arms.now) c.loop-place.place-index c.place-item.result (rw same at c.loop-place-test.true) (rw same at c.place-item.is) c.loop-place.invariant c.in_ok-more.ensures
