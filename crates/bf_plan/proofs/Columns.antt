@@ -88,16 +88,6 @@ kinds_alike [] (y ∷ ys) e = absurd (omega arith)
 kinds_alike (x ∷ xs) [] e = absurd (omega arith)
 kinds_alike (x ∷ xs) (y ∷ ys) e = ap (λ b. same_kind x.kind y.kind && b) (kinds_alike xs ys (omega arith))
 
-pub kinds_other : (xs ys : List BoundItem) → (length xs ≡ length ys → ⊥) → pointwise same_kind (map (λ (i : BoundItem). i.kind) xs) (map (λ (i : BoundItem). i.kind) ys) ≡ false
-kinds_other [] [] e = absurd (e refl)
-kinds_other [] (y ∷ ys) e = refl
-kinds_other (x ∷ xs) [] e = refl
-kinds_other (x ∷ xs) (y ∷ ys) e = rw (kinds_other xs ys (λ h. e (ap suc h))) (never (same_kind x.kind y.kind))
-  where
-    never : (b : Bool) → (b && false) ≡ false
-    never true = refl
-    never false = refl
-
 -- the arms have one list of key items, where each has the first one's
 abbrev same_items : List (Option ℕ) → List (Option ℕ) → Bool
 same_items = pointwise (option_eq nat_eq)

@@ -20,6 +20,7 @@ use Rattle.bf_plan.specs.Arms.{bound_arm, driver_of, kind_told, unit_kind_of}
 use Rattle.bf_plan.specs.Plans.{numbered_arms, planned_units, rows_unit_of, values_unit_of}
 use Rattle.bf_plan.specs.Targets.{is_rows}
 use Rattle.bf_plan.specs.Units.{arm_unit, arm_units, arms_driven, driving, is_driven, joined_units, rows_unit, units_by_values, units_of_target}
+use Rattle.bf_plan.specs.declared.arm.BoundArm.{BoundArm}
 use Rattle.bf_plan.specs.declared.plan.Unit.{Unit}
 
 -- what is driven by which table, by the kind of an arm
@@ -55,7 +56,7 @@ module _ (db : Database) where
       (nat_lt 0 (length p.1.group)) (list_all (has nat_eq (on_places db p.1)) (join_key db p.1)) (list_all (has nat_eq (on_places db p.1)) (from_key db p.1))
 
   -- the units are those of the numbered arms
-  arm_units-numbered : (t k : ℕ) (arms : List Arm) → map (λ p. arm_unit (t, p.0) p.1) (enumerate_from k (map (bound_arm db) arms)) ≡ map unit_of (map (λ a. ((t, a.0), a.1)) (enumerate_from k arms))
+  arm_units-numbered : (t k : ℕ) (arms : List Arm) → map (λ (p : ℕ × BoundArm). arm_unit (t, p.0) p.1) (enumerate_from k (map (bound_arm db) arms)) ≡ map unit_of (map (λ a. ((t, a.0), a.1)) (enumerate_from k arms))
   arm_units-numbered t k [] = refl
   arm_units-numbered t k (arm ∷ arms) = ap (λ us. unit_of ((t, k), arm) ∷ us) (arm_units-numbered t (k + 1) arms)
 
@@ -66,7 +67,7 @@ module _ (db : Database) where
       ∙ sym (map-append unit_of (map (λ a. ((n, a.0), a.1)) (enumerate_from 0 t.arms)) (flat_map (λ t. map (λ a. ((t.0, a.0), a.1)) (enumerate_from 0 t.1.arms)) (enumerate_from (n + 1) ts)))
 
   -- without the numbers
-  blocks-unnumbered : (f : Arm → List (List ℕ)) (t k : ℕ) (arms : List Arm) → flat_map (λ p. f p.1) (map (λ a. ((t, a.0), a.1)) (enumerate_from k arms)) ≡ flat_map f arms
+  blocks-unnumbered : (f : Arm → List (List ℕ)) (t k : ℕ) (arms : List Arm) → flat_map (λ (p : (ℕ × ℕ) × Arm). f p.1) (map (λ a. ((t, a.0), a.1)) (enumerate_from k arms)) ≡ flat_map f arms
   blocks-unnumbered f t k [] = refl
   blocks-unnumbered f t k (arm ∷ arms) = ap (λ zs. f arm ++ zs) (blocks-unnumbered f t (k + 1) arms)
 
@@ -80,7 +81,7 @@ module _ (db : Database) where
   driving-numbered [] = refl
   driving-numbered (p ∷ ps) = ap₂ (λ us vs. us ++ vs) (driving-arm p) (driving-numbered ps)
 
-  arms-numbered : (name : List ℕ) (ps : List ((ℕ × ℕ) × Arm)) → flat_map (arms_driven name) (map unit_of ps) ≡ map (λ p. p.0) (filter (λ p. has same_name (driver_of_arm p) name) ps)
+  arms-numbered : (name : List ℕ) (ps : List ((ℕ × ℕ) × Arm)) → flat_map (arms_driven name) (map unit_of ps) ≡ map (λ (p : (ℕ × ℕ) × Arm). p.0) (filter (λ p. has same_name (driver_of_arm p) name) ps)
   arms-numbered name [] = refl
   arms-numbered name (p ∷ ps) =
       let same : is_driven name (unit_of p) ≡ has same_name (driver_of_arm p) name =
@@ -89,7 +90,7 @@ module _ (db : Database) where
       ∙ ap (λ (zs : List (ℕ × ℕ)). flat_map (λ (u : Unit). u.arms) (when (has same_name (driver_of_arm p) name) (unit_of p)) ++ zs) (arms-numbered name ps)
       ∙ either_way (has same_name (driver_of_arm p) name)
     where
-      either_way : (b : Bool) → flat_map (λ (u : Unit). u.arms) (when b (unit_of p)) ++ map (λ p. p.0) (filter (λ p. has same_name (driver_of_arm p) name) ps) ≡ map (λ p. p.0) (cond b (p ∷ filter (λ p. has same_name (driver_of_arm p) name) ps) (filter (λ p. has same_name (driver_of_arm p) name) ps))
+      either_way : (b : Bool) → flat_map (λ (u : Unit). u.arms) (when b (unit_of p)) ++ map (λ (p : (ℕ × ℕ) × Arm). p.0) (filter (λ p. has same_name (driver_of_arm p) name) ps) ≡ map (λ (p : (ℕ × ℕ) × Arm). p.0) (cond b (p ∷ filter (λ p. has same_name (driver_of_arm p) name) ps) (filter (λ p. has same_name (driver_of_arm p) name) ps))
       either_way true = refl
       either_way false = refl
 
@@ -117,7 +118,7 @@ module _ (db : Database) where
 
     rows-planned : (name : List ℕ) → rows_unit units_of name ≡ rows_unit_of db m name
     rows-planned name =
-        let arms : flat_map (arms_driven name) units_of ≡ map (λ p. p.0) (filter (λ p. has same_name (driver_of_arm p) name) (numbered_arms m)) =
+        let arms : flat_map (arms_driven name) units_of ≡ map (λ (p : (ℕ × ℕ) × Arm). p.0) (filter (λ p. has same_name (driver_of_arm p) name) (numbered_arms m)) =
         ap (flat_map (arms_driven name)) units-numbered ∙ arms-numbered name (numbered_arms m) in
         ap (λ (ns : List (ℕ × ℕ)). record (rows_unit units_of name) { arms = ns }) arms
 
@@ -126,8 +127,8 @@ module _ (db : Database) where
         ap₂ (λ (us vs : List Unit). us ++ vs) (λ i. map (λ name. rows-planned name i) (drivers_of db m)) (ap (flat_map units_by_values) units-numbered ∙ values-numbered m (numbered_arms m))
 
   -- counts
-  unit_count : (t k : ℕ) (arms : List Arm) → length (map (λ p. arm_unit (t, p.0) p.1) (enumerate_from k (map (bound_arm db) arms))) ≡ length arms
-  unit_count t k arms = length-map (λ p. arm_unit (t, p.0) p.1) (enumerate_from k (map (bound_arm db) arms)) ∙ length-enumerate_from k (map (bound_arm db) arms) ∙ length-map (bound_arm db) arms
+  unit_count : (t k : ℕ) (arms : List Arm) → length (map (λ (p : ℕ × BoundArm). arm_unit (t, p.0) p.1) (enumerate_from k (map (bound_arm db) arms))) ≡ length arms
+  unit_count t k arms = length-map (λ (p : ℕ × BoundArm). arm_unit (t, p.0) p.1) (enumerate_from k (map (bound_arm db) arms)) ∙ length-enumerate_from k (map (bound_arm db) arms) ∙ length-map (bound_arm db) arms
 
   units_count : (n : ℕ) (targets : List Target) → length (flat_map (units_of_target db) (enumerate_from n targets)) ≡ length (flat_map (λ t. t.arms) targets)
   units_count n [] = refl

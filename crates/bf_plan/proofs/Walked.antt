@@ -49,17 +49,19 @@ module _ {X Y : Type 0} where
   fold_more g f a xs i x in_range is = ap (fold g a) (flat_map_more f xs i x in_range is) ∙ fold-append g a (flat_map f (take i xs)) (f x)
 
 enumerate_from-one_more : {X : Type 0} (n : ℕ) (xs : List X) (x : X) → enumerate_from n (xs ++ x ∷ []) ≡ enumerate_from n xs ++ (n + length xs, x) ∷ []
-enumerate_from-one_more n [] x = ap (λ m. (m, x) ∷ []) (omega arith)
-enumerate_from-one_more n (y ∷ ys) x =
+enumerate_from-one_more {X = X} n [] x =
+    let e : n ≡ n + 0 = omega arith in
+    ap (λ (m : ℕ). let one : List (ℕ × X) = (m, x) ∷ [] in one) e
+enumerate_from-one_more {X = X} n (y ∷ ys) x =
     let k : n + 1 + length ys ≡ n + suc (length ys) = omega arith in
-    ap (λ zs. (n, y) ∷ zs) (enumerate_from-one_more (n + 1) ys x ∙ ap (λ m. enumerate_from (n + 1) ys ++ (m, x) ∷ []) k)
+    ap (λ zs. (n, y) ∷ zs) (enumerate_from-one_more (n + 1) ys x ∙ ap (λ (m : ℕ). enumerate_from (n + 1) ys ++ (m, x) ∷ []) k)
 
 module _ {X : Type 0} where
   pub enumerated_more : (xs : List X) (i : ℕ) (x : X) → i < length xs → x ≡ get_or xs i x → enumerate_from 0 (take (i + 1) xs) ≡ enumerate_from 0 (take i xs) ++ (i, x) ∷ []
   enumerated_more xs i x in_range is =
       let one : take (i + 1) xs ≡ take i xs ++ (x ∷ []) = rw (take_more xs i x in_range, ← is) refl in
       let count : 0 + length (take i xs) ≡ i = omega (arith, length-take {A = X}) in
-      ap (enumerate_from 0) one ∙ enumerate_from-one_more 0 (take i xs) x ∙ ap (λ n. enumerate_from 0 (take i xs) ++ (n, x) ∷ []) count
+      ap (enumerate_from 0) one ∙ enumerate_from-one_more 0 (take i xs) x ∙ ap (λ (n : ℕ). enumerate_from 0 (take i xs) ++ (n, x) ∷ []) count
 
   pub mapped_more : {Y : Type 0} (g : ℕ × X → Y) (xs : List X) (i : ℕ) (x : X) → i < length xs → x ≡ get_or xs i x → map g (enumerate_from 0 (take (i + 1) xs)) ≡ map g (enumerate_from 0 (take i xs)) ++ g (i, x) ∷ []
   mapped_more g xs i x in_range is = ap (map g) (enumerated_more xs i x in_range is) ∙ map-append g (enumerate_from 0 (take i xs)) ((i, x) ∷ [])
@@ -71,4 +73,4 @@ module _ {X : Type 0} where
 -- names gathered from one more item
 pub gathered_more : {A X Y : Type 0} (g : A → Y → A) (f : X → List Y) (a : A) (xs : List X) (i : ℕ) (x : X) → i < length xs → x ≡ get_or xs i x → (so_far more : A)
     → so_far ≡ fold g a (flat_map f (take i xs)) → more ≡ fold g so_far (f x) → more ≡ fold g a (flat_map f (take (i + 1) xs))
-gathered_more g f a xs i x in_range is so_far more e made = made ∙ ap (λ b. fold g b (f x)) e ∙ sym (fold_more g f a xs i x in_range is)
+gathered_more {A = A} g f a xs i x in_range is so_far more e made = made ∙ ap (λ (b : A). fold g b (f x)) e ∙ sym (fold_more g f a xs i x in_range is)
