@@ -7,12 +7,11 @@ use Rattle.bf_sql.specs.Database.{Database}
 use Rattle.bf_machine.specs.declared.stand.Step.{Step}
 use Rattle.bf_machine.specs.declared.stand.Step.TheVariants.{Replied, Stale}
 use Rattle.bf_machine.specs.interleaving.Calls.{HasReplied, step_of}
-use Rattle.bf_machine.specs.interleaving.Events.{Event, at_once, one_more}
+use Rattle.bf_machine.specs.interleaving.Events.{Event, at_once, executes, one_more, refuses}
 use Rattle.bf_machine.specs.interleaving.Kept.{IsKept}
 use Rattle.bf_machine.specs.interleaving.Machines.{Machine}
 use Rattle.bf_machine.specs.interleaving.Serving.{IsServable}
 use Rattle.bf_machine.proofs.served.Ending.{reached_script}
-use Rattle.bf_machine.proofs.served.Replying.{replies_now}
 
 module _ (m next : Machine) (was : IsServable m.script) where
   pub still_served : next ≡ m → IsServable next.script
@@ -27,7 +26,10 @@ module _ (m next : Machine) (was : IsServable m.script) where
   served_behind_step {start = start} s kept bound step is stale replied = elim (cases_Bool (bound.catalog == m.db.number)) as (λ _. IsServable next.script) [
     | inl same ↦
         let so : step ≡ Replied = is ∙ ap (λ (b : Bool). if b then Replied else Stale m.db.number) same in
-        subst IsServable (sym (reached_script start m next (replies_now m s kept bound next (replied so)).0)) was
+        elim (replied so) as (λ _. IsServable next.script) [
+          | inl executed ↦ served_behind {start = start} (executes s executed.0)
+          | inr refused ↦ served_behind {start = start} (refuses s refused)
+        ]
     | inr other ↦
         let apart : bound.catalog ≢ m.db.number = λ same. absurd (grind (arith, nat_tests, other, same)) in
         still_served (stale apart)
