@@ -1,5 +1,5 @@
 -- The limits of the language on what stands in texts and tables.
-use Rattle.std.specs.Prelude.{ℕ, ◌^◌}
+use Rattle.std.specs.Prelude.{ℕ, ℤ, pos, neg_ℤ, ◌-ℤ◌, ◌^◌, Bool, ◌&&◌, int_le}
 
 -- the most bytes of a text value
 abbrev pub longest_text : ℕ
@@ -20,3 +20,13 @@ most_columns = 16
 -- the end of the INTs: they go from its negative to the number below it
 abbrev pub int_end : ℕ
 int_end = 2 ^ 63
+
+-- what an INT can be
+abbrev pub least_int : ℤ
+least_int = neg_ℤ (pos int_end)
+
+abbrev pub greatest_int : ℤ
+greatest_int = pos int_end -ℤ pos 1
+
+abbrev pub is_int : ℤ → Bool
+is_int n = int_le least_int n && int_le n greatest_int

@@ -11,8 +11,9 @@ use Rattle.bf_base.specs.declared.value.Value.TheVariants.{Int}
 use Rattle.bf_base.specs.declared.table.Admit.{Admit}
 use Rattle.bf_base.specs.Lists.{when}
 use Rattle.bf_base.specs.Tables.{cell}
+use Rattle.bf_base.specs.Limits.{is_int}
 use Rattle.bf_tree.specs.Trees.{Expr, Cond, expr_over, cond_over}
-use Rattle.bf_tree.specs.Evaluation.{value_of, sure_value, is_int}
+use Rattle.bf_tree.specs.Evaluation.{value_of, sure_value}
 use Rattle.bf_tree.proofs.Renamed.{value_of-expr_over, holds_on-cond_over}
 use Rattle.bf_tree.specs.declared.items.Aggregate.{Aggregate}
 use Rattle.bf_tree.specs.declared.items.Aggregate.TheVariants.{Count, Sum, Min, Max}

@@ -5,8 +5,9 @@ use Rattle.bf_base.specs.declared.value.Value.{Value}
 use Rattle.bf_base.specs.declared.value.Value.TheVariants.{Int}
 use Rattle.bf_base.specs.Lists.{when}
 use Rattle.bf_base.specs.Tables.{cell}
+use Rattle.bf_base.specs.Limits.{is_int}
 use Rattle.bf_tree.specs.Trees.{Expr}
-use Rattle.bf_tree.specs.Evaluation.{value_of, sure_value, number_of, is_int}
+use Rattle.bf_tree.specs.Evaluation.{value_of, sure_value, number_of}
 use Rattle.bf_tree.specs.declared.items.Aggregate.{Aggregate}
 use Rattle.bf_tree.specs.declared.items.Aggregate.TheVariants as total
 use Rattle.bf_tree.specs.declared.reply.Cell.{Cell}

@@ -6,7 +6,8 @@ use Rattle.std.proofs.lemmas.Bool.Decides.{nat_tests}
 use Rattle.bf_base.specs.declared.value.Value.{Value}
 use Rattle.bf_base.specs.declared.table.Column.{Column}
 use Rattle.bf_base.specs.Tables.{fit_of, cell}
-use Rattle.bf_tree.specs.Evaluation.{is_int, number_of}
+use Rattle.bf_base.specs.Limits.{is_int}
+use Rattle.bf_tree.specs.Evaluation.{number_of}
 use Rattle.bf_sql.specs.Database.{is_fit}
 use Rattle.bf_range.specs.Seen.{admitted_at}
 use Rattle.bf_range.specs.Within.{is_held, IsRowOf}

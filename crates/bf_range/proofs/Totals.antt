@@ -13,9 +13,10 @@ use Rattle.bf_base.specs.declared.value.Value.TheVariants.{Int}
 use Rattle.bf_base.specs.declared.table.Admit.{Admit}
 use Rattle.bf_base.specs.Lists.{when}
 use Rattle.bf_base.specs.Values.{value_cmp}
+use Rattle.bf_base.specs.Limits.{is_int, least_int, greatest_int}
 use Rattle.bf_tree.specs.declared.evaluation.Fail.{Fail}
 use Rattle.bf_tree.specs.Trees.{Expr}
-use Rattle.bf_tree.specs.Evaluation.{is_int, least_int, greatest_int, value_of, sure_value}
+use Rattle.bf_tree.specs.Evaluation.{value_of, sure_value}
 use Rattle.bf_tree.specs.declared.items.Aggregate.{Aggregate}
 use Rattle.bf_tree.specs.declared.items.Aggregate.TheVariants.{Count, Sum, Min, Max}
 use Rattle.bf_tree.specs.declared.reply.Refusal.{Refusal}

@@ -10,10 +10,11 @@ use Rattle.bf_base.specs.declared.table.Admit.{Admit}
 use Rattle.bf_base.specs.declared.table.Admit.TheVariants as admits
 use Rattle.bf_base.specs.declared.table.Fit.TheVariants.{Fits, OutOfRange, TooLong}
 use Rattle.bf_base.specs.Tables.{fit_of}
+use Rattle.bf_base.specs.Limits.{is_int, least_int, greatest_int}
 use Rattle.bf_tree.specs.declared.evaluation.Fail.{Fail}
 use Rattle.bf_tree.specs.declared.evaluation.Fail.TheVariants as fail
 use Rattle.bf_tree.specs.Trees.{Expr, literal, column, negated, plus, minus, times, joined}
-use Rattle.bf_tree.specs.Evaluation.{◌>>=◌, is_int, least_int, greatest_int, number_of, bytes_of, exact, short, value_of}
+use Rattle.bf_tree.specs.Evaluation.{◌>>=◌, number_of, bytes_of, exact, short, value_of}
 use Rattle.bf_sql.specs.Database.{is_fit}
 use Rattle.bf_sql.specs.migrations.Extents.{may_fail, Extent, numbers, texts, beyond, extent_between, least_of, greatest_of, extent_of_admit, extent_negated, extent_plus, extent_minus, extent_times, extent_joined, extent_of}
 use Rattle.bf_range.specs.Within.{IsWithin, is_within, is_held}

@@ -6,10 +6,11 @@ use Rattle.bf_base.specs.declared.table.Admit.{Admit}
 use Rattle.bf_base.specs.declared.table.Admit.TheVariants as admits
 use Rattle.bf_base.specs.declared.table.Column.{Column}
 use Rattle.bf_base.specs.Tables.{cell}
+use Rattle.bf_base.specs.Limits.{least_int, greatest_int}
 use Rattle.bf_tree.specs.declared.evaluation.Fail.TheVariants.{OutOfRange}
 use Rattle.bf_tree.specs.declared.items.Aggregate.TheVariants.{Count, Sum, Min, Max}
 use Rattle.bf_tree.specs.Trees.{Expr, literal, column, negated, plus, minus, times, joined}
-use Rattle.bf_tree.specs.Evaluation.{least_int, greatest_int, value_of}
+use Rattle.bf_tree.specs.Evaluation.{value_of}
 use Rattle.bf_sql.specs.Totals.{total_of}
 use Rattle.bf_sql.specs.migrations.Extents.{numbers, texts, beyond, extent_of, extent_of_total}
 use Rattle.bf_range.specs.Seen.{admitted_at}

@@ -7,8 +7,9 @@ use Rattle.bf_base.specs.declared.value.Value.TheVariants.{Int, Text}
 use Rattle.bf_base.specs.declared.table.Admit.{Admit}
 use Rattle.bf_base.specs.declared.table.Column.{Column}
 use Rattle.bf_base.specs.Tables.{fit_of}
+use Rattle.bf_base.specs.Limits.{is_int}
 use Rattle.bf_tree.specs.Trees.{Expr}
-use Rattle.bf_tree.specs.Evaluation.{is_int, number_of}
+use Rattle.bf_tree.specs.Evaluation.{number_of}
 use Rattle.bf_tree.specs.declared.items.Aggregate.{Aggregate}
 use Rattle.bf_tree.specs.declared.items.Aggregate.TheVariants.{Count, Sum, Min, Max}
 use Rattle.bf_tree.specs.declared.reply.Cell.{Cell}

@@ -97,8 +97,12 @@ changes_schema in_block Commit = false
 changes_schema in_block Rollback = false
 changes_schema in_block (Migrate migrate) = not in_block
 
+-- a statement as it is bound, with what it is to do where nothing stands in its way
+abbrev pub bound_as : Database → Bool → Statement → Option Action → Option Bound
+bound_as db in_block s act =
+    option_map (λ act. record { catalog = db.number; schema_change = changes_schema in_block s; action = act }) (unless_objected (objections db in_block s) act)
+
 -- BOUND: the first objection of the catalog, or else the action. A statement is bound in `without_rows` of a catalog, since
 -- nothing here reads rows; none is the bound of a MIGRATE outside a block that the catalog does not refuse
 abbrev pub bound_of : Database → Bool → Statement → Option Bound
-bound_of db in_block s =
-    option_map (λ act. record { catalog = db.number; schema_change = changes_schema in_block s; action = act }) (unless_objected (objections db in_block s) (action_of db s))
+bound_of db in_block s = bound_as db in_block s (action_of db s)

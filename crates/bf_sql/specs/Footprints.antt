@@ -60,6 +60,7 @@ action_locks (action.Insert table tuples) = insert_locks table tuples
 action_locks (action.Select table items cond fixed) = read_locks table fixed
 action_locks (action.Update table sets cond fixed) = change_locks table fixed
 action_locks (action.Delete table cond fixed) = change_locks table fixed
+action_locks (action.Migrate plan) = catalog_change
 action_locks action.Begin = []
 action_locks action.Commit = []
 action_locks action.Rollback = []

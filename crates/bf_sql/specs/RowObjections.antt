@@ -7,10 +7,11 @@ use Rattle.bf_base.specs.declared.table.Fit.TheVariants as fit
 use Rattle.bf_base.specs.declared.table.Table.{Table}
 use Rattle.bf_base.specs.Lists.{same_key, has, with_before, when}
 use Rattle.bf_base.specs.Tables.{fit_of, key_of}
+use Rattle.bf_base.specs.Limits.{is_int}
 use Rattle.bf_tree.specs.declared.evaluation.Fail.{Fail}
 use Rattle.bf_tree.specs.declared.evaluation.Fail.TheVariants as fail
 use Rattle.bf_tree.specs.Trees.{Expr}
-use Rattle.bf_tree.specs.Evaluation.{value_of, sure_value, is_int}
+use Rattle.bf_tree.specs.Evaluation.{value_of, sure_value}
 use Rattle.bf_tree.specs.declared.items.Aggregate.{Aggregate}
 use Rattle.bf_tree.specs.declared.items.Aggregate.TheVariants.{Count, Sum, Min, Max}
 use Rattle.bf_tree.specs.declared.items.Items.{Items}

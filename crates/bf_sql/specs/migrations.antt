@@ -5,4 +5,5 @@ pub mod Images
 pub mod Lazy
 pub mod MigrationObjections
 pub mod Need
+pub mod Plans
 pub mod Targets

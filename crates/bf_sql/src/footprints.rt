@@ -118,7 +118,7 @@ pub fn footprint(alloc: Global, bound: &Bound) -> Result<Vec<(LockName, Mode)>, 
             }
             _ => Ok(vec![in alloc; (LockName::Catalog, Mode::S)]?),
         },
-        Action::CreateTable(_) | Action::CreateIndex(_) => {
+        Action::CreateTable(_) | Action::CreateIndex(_) | Action::Migrate(_) => {
             Ok(vec![in alloc; (LockName::Catalog, Mode::X)]?)
         }
         Action::Insert { table, rows } => insert_locks(alloc, table, rows.as_slice()),

@@ -1,11 +1,11 @@
 -- The value of an expression and the truth of a condition on a row.
-use Rattle.std.specs.Prelude.{◌≡◌, ℕ, ℤ, pos, ◌+ℤ◌, ◌-ℤ◌, ◌*ℤ◌, neg_ℤ, Bool, true, not, ◌&&◌, ◌||◌, List, [], ◌++◌, length, nat_le, int_le, Option, Some, None, slice_get, Result, Ok, Err, if◌then◌else◌}
+use Rattle.std.specs.Prelude.{◌≡◌, ℕ, ℤ, pos, ◌+ℤ◌, ◌-ℤ◌, ◌*ℤ◌, neg_ℤ, Bool, true, not, ◌&&◌, ◌||◌, List, [], ◌++◌, length, nat_le, Option, Some, None, slice_get, Result, Ok, Err, if◌then◌else◌}
 use Rattle.std.specs.Result.{result_unwrap_or}
 use Rattle.std.specs.declared.cmp.Ordering.{Ordering}
 use Rattle.std.specs.Ordering.{is_eq, is_ne, is_lt, is_le, is_gt, is_ge}
 use Rattle.bf_base.specs.declared.value.Value.{Value}
 use Rattle.bf_base.specs.declared.value.Value.TheVariants.{Int, Text}
-use Rattle.bf_base.specs.Limits.{longest_text, int_end}
+use Rattle.bf_base.specs.Limits.{longest_text, is_int}
 use Rattle.bf_base.specs.Values.{value_cmp}
 use Rattle.bf_tree.specs.declared.evaluation.Fail.{Fail}
 use Rattle.bf_tree.specs.declared.evaluation.Fail.TheVariants.{OutOfRange, TooLong, Memory}
@@ -18,16 +18,6 @@ infixl 10 ◌>>=◌
 abbrev pub ◌>>=◌ : {A B : Type 0} → Result A Fail → (A → Result B Fail) → Result B Fail
 (Err e) >>= f = Err e
 (Ok x) >>= f = f x
-
--- what an INT can be
-abbrev pub least_int : ℤ
-least_int = neg_ℤ (pos int_end)
-
-abbrev pub greatest_int : ℤ
-greatest_int = pos int_end -ℤ pos 1
-
-abbrev pub is_int : ℤ → Bool
-is_int n = int_le least_int n && int_le n greatest_int
 
 abbrev pub number_of : Value → ℤ
 number_of (Int n) = n

@@ -2,6 +2,7 @@
 
 use crate::catalog::IndexRule;
 use crate::items::Items;
+use crate::plan::Plan;
 use crate::reply::Refusal;
 use crate::tree::{Cond, Expr};
 use bf_base::{Key, Row, Sequence, Table};
@@ -35,6 +36,8 @@ pub enum Action {
         cond: Cond,
         fixed: Option<Key>,
     },
+    /// A MIGRATE outside a block, planned.
+    Migrate(Plan),
     Begin,
     Commit,
     Rollback,

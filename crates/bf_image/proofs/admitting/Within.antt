@@ -14,10 +14,11 @@ use Rattle.bf_base.specs.declared.table.Admit.TheVariants as admits
 use Rattle.bf_base.specs.declared.table.Fit.TheVariants.{Fits, TooLong}
 use Rattle.bf_base.specs.Values.{value_cmp}
 use Rattle.bf_base.specs.Tables.{fit_of}
+use Rattle.bf_base.specs.Limits.{is_int}
 use Rattle.bf_tree.specs.declared.evaluation.Fail.{Fail}
 use Rattle.bf_tree.specs.declared.evaluation.Fail.TheVariants as fail
 use Rattle.bf_tree.specs.Trees.{Expr, literal, column, negated, plus, minus, times, joined}
-use Rattle.bf_tree.specs.Evaluation.{◌>>=◌, is_int, number_of, bytes_of, exact, short, value_of, sure_value}
+use Rattle.bf_tree.specs.Evaluation.{◌>>=◌, number_of, bytes_of, exact, short, value_of, sure_value}
 use Rattle.bf_tree.specs.declared.items.Aggregate.{Aggregate}
 use Rattle.bf_tree.specs.declared.items.Aggregate.TheVariants.{Count, Sum, Min, Max}
 use Rattle.bf_sql.specs.Database.{is_fit}

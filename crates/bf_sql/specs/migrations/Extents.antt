@@ -4,9 +4,8 @@ use Rattle.std.specs.Int.{int_min, int_max}
 use Rattle.bf_base.specs.declared.value.Value.TheVariants.{Int, Text}
 use Rattle.bf_base.specs.declared.table.Admit.{Admit}
 use Rattle.bf_base.specs.declared.table.Admit.TheVariants as admits
-use Rattle.bf_base.specs.Limits.{longest_text}
+use Rattle.bf_base.specs.Limits.{longest_text, is_int, least_int, greatest_int}
 use Rattle.bf_tree.specs.Trees.{Expr, literal, column, negated, plus, minus, times, joined}
-use Rattle.bf_tree.specs.Evaluation.{is_int, least_int, greatest_int}
 use Rattle.bf_tree.specs.declared.items.Aggregate.{Aggregate}
 use Rattle.bf_tree.specs.declared.items.Aggregate.TheVariants.{Count, Sum, Min, Max}
 

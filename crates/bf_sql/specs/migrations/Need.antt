@@ -1,6 +1,7 @@
 -- The granules that a statement needs moved before it runs, as it is bound.
-use Rattle.std.specs.Prelude.{ℕ, Bool, ◌||◌, List, [], ◌∷◌, ◌++◌, map, filter, filter_map, find, Option, Some, None, nat_eq, if◌then◌else◌}
+use Rattle.std.specs.Prelude.{ℕ, Bool, ◌||◌, List, [], ◌∷◌, ◌++◌, map, filter, filter_map, flat_map, find, Option, Some, None, nat_eq, if◌then◌else◌}
 use Rattle.std.specs.List.{list_any, list_all, enumerate_from}
+use Rattle.std.specs.Option.{option_to_list}
 use Rattle.bf_base.specs.declared.value.Value.{Value}
 use Rattle.bf_base.specs.declared.table.Table.{Table}
 use Rattle.bf_base.specs.declared.granule.Granule.{Granule}
@@ -16,7 +17,7 @@ use Rattle.bf_tree.specs.declared.migration.Migrate.{Migrate}
 use Rattle.bf_tree.specs.declared.statement.Statement.{Statement}
 use Rattle.bf_sql.specs.Database.{Database, same_table}
 use Rattle.bf_tree.specs.Fixed.{conjuncts}
-use Rattle.bf_sql.specs.Bound.{bound_of}
+use Rattle.bf_sql.specs.migrations.Plans.{prepared_of}
 use Rattle.bf_sql.specs.migrations.Targets.{target_table, is_total, first_arm}
 use Rattle.bf_sql.specs.migrations.Granules.{granules_of, part_in}
 
@@ -72,6 +73,7 @@ module _ (old : Database) (m : Migrate) where
   needed_for (action.Select table items cond fixed) = giving (target_of table) (may_satisfy cond)
   needed_for (action.Update table sets cond fixed) = giving (target_of table) (may_satisfy cond)
   needed_for (action.Delete table cond fixed) = giving (target_of table) (may_satisfy cond)
+  needed_for (action.Migrate plan) = granules_of old m
   needed_for action.Begin = []
   needed_for action.Commit = []
   needed_for action.Rollback = []
@@ -80,11 +82,6 @@ module _ (old : Database) (m : Migrate) where
   abbrev pub needed : Bound → List Granule
   needed bound = needed_for bound.action
 
-  -- all granules for a further MIGRATE, which is planned and not bound
-  abbrev pub needed_or_all : Option Bound → List Granule
-  needed_or_all None = granules_of old m
-  needed_or_all (Some bound) = needed bound
-
-  -- the need of a statement, in a block or outside, as it is bound in a database's catalog
+  -- the need of a statement, in a block or outside, as it is prepared in a database's catalog
   abbrev pub needed_by : Database → Bool → Statement → List Granule
-  needed_by db in_block s = needed_or_all (bound_of db in_block s)
+  needed_by db in_block s = flat_map needed (option_to_list (prepared_of db in_block s))
