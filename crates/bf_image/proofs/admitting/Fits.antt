@@ -21,10 +21,12 @@ use Rattle.bf_tree.specs.declared.migration.Item.{Item}
 use Rattle.bf_tree.specs.declared.migration.Item.TheVariants as item
 use Rattle.bf_tree.specs.declared.migration.Join.{Join}
 use Rattle.bf_tree.specs.declared.migration.Arm.{Arm}
+use Rattle.bf_tree.specs.declared.plan.ArmKind.{ArmKind}
+use Rattle.bf_tree.specs.declared.plan.ArmKind.TheVariants.{ByFrom, ByJoin, ByPair, ByGroup}
 use Rattle.bf_sql.specs.Database.{Database, Stored, IsDatabase, stored_at, table_at, table_rows, is_fit, is_admitted, no_table}
 use Rattle.bf_sql.specs.Scopes.{Scope, scope_of, place_of, read_in, admitted_by}
 use Rattle.bf_sql.specs.migrations.Extents.{extent_of, extent_of_total, may_fail, admit_of_extent}
-use Rattle.bf_sql.specs.migrations.Targets.{ArmKind, by_from, by_join, by_pair, by_group, arm_scope, names_of_join, extent_of_item, item_admit}
+use Rattle.bf_sql.specs.migrations.Targets.{arm_scope, names_of_join, extent_of_item, item_admit}
 use Rattle.bf_sql.specs.migrations.Images.{is_equal_on, item_over, group_value, groups_by, matches_of_join, satisfying, rows_of_join}
 use Rattle.bf_image.proofs.items.Lists.{all_so, all_found, all_of_blocks, all_of_map, has_own, all_kept}
 use Rattle.bf_image.proofs.making.Arms.{passes, made, rows_by, key-equal, key-itself, key-symmetric}
@@ -134,10 +136,10 @@ module _ (old : Database) (is : IsDatabase old) where
     single_groups (row ∷ rows) all = and_from _ _ (and_from _ _ (and_parts _ _ all).0 refl) (single_groups rows (and_parts _ _ all).1)
 
     all_groups : (kind : ArmKind) → list_all good_group (groups_by old arm kind satisfied) ≡ true
-    all_groups by_from = single_groups satisfied all_satisfied
-    all_groups by_join = single_groups satisfied all_satisfied
-    all_groups by_pair = single_groups satisfied all_satisfied
-    all_groups by_group =
+    all_groups ByFrom = single_groups satisfied all_satisfied
+    all_groups ByJoin = single_groups satisfied all_satisfied
+    all_groups ByPair = single_groups satisfied all_satisfied
+    all_groups ByGroup =
         let value = group_value old arm in
         let vs : List (List Value) = distinct same_key (map value satisfied) in
         let own : list_all (has same_key (map value satisfied)) vs ≡ true =

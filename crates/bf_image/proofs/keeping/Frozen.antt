@@ -17,7 +17,7 @@ use Rattle.bf_sql.specs.migrations.Images.{image_of}
 use Rattle.bf_sql.specs.migrations.MigrationObjections.{sources_of, is_taken, migrate_objections}
 use Rattle.bf_sql.specs.migrations.Targets.{arm_sources, target_table}
 use Rattle.bf_image.specs.Laws.{IsLawful}
-use Rattle.bf_image.specs.Placed.{placed_arm}
+use Rattle.bf_sql.specs.migrations.Placed.{placed_arm}
 use Rattle.bf_image.specs.Sources.{frozen_of, HaveSameSources, HaveSameTables, tables_made}
 use Rattle.bf_image.proofs.admitting.Flip.{all_left, kept_any}
 use Rattle.bf_image.proofs.items.Lists.{none_left, none_right, none_when, all_kept, has_own, map_equal_where}

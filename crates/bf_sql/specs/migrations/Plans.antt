@@ -10,10 +10,13 @@ use Rattle.bf_tree.specs.declared.migration.Migrate.{Migrate}
 use Rattle.bf_tree.specs.declared.reply.Refusal.{Refusal}
 use Rattle.bf_tree.specs.declared.statement.Statement.{Statement}
 use Rattle.bf_tree.specs.declared.statement.Statement.TheVariants.{Migrate as migrate}
+use Rattle.bf_tree.specs.declared.plan.ArmKind.{ArmKind}
+use Rattle.bf_tree.specs.declared.plan.ArmKind.TheVariants.{ByFrom, ByJoin, ByPair, ByGroup}
 use Rattle.bf_sql.specs.Bound.{action_of, bound_as}
 use Rattle.bf_sql.specs.Database.{Database}
 use Rattle.bf_sql.specs.migrations.MigrationObjections.{drivers_of, driver_by, is_by_row, migrate_objections, sources_of}
-use Rattle.bf_sql.specs.migrations.Targets.{ArmKind, by_from, by_join, by_pair, by_group, arm_kind, target_table}
+use Rattle.bf_sql.specs.migrations.Placed.{placed_arm}
+use Rattle.bf_sql.specs.migrations.Targets.{arm_kind, target_table}
 use Rattle.bf_tree.specs.declared.plan.Plan.{Plan}
 use Rattle.bf_tree.specs.declared.plan.Unit.{Unit}
 use Rattle.bf_tree.specs.declared.plan.UnitKind.{UnitKind}
@@ -25,7 +28,7 @@ numbered_arms m = flat_map (λ t. map (λ a. ((t.0, a.0), a.1)) (enumerate_from 
 
 -- what the values of an arm are that makes no row for each row of a table
 abbrev pub kind_by_values : ArmKind → UnitKind
-kind_by_values by_group = unit_kind.Groups
+kind_by_values ByGroup = unit_kind.Groups
 kind_by_values other = unit_kind.Joins
 
 module _ (db : Database) (m : Migrate) where
@@ -48,7 +51,13 @@ module _ (db : Database) (m : Migrate) where
       ++ map values_unit_of (filter (λ p. not (is_by_row (arm_kind db p.1))) (numbered_arms m))
 
   abbrev pub plan_made : Plan
-  plan_made = record { migrate = m; tables = map (target_table db) m.targets; units = planned_units; sources = sources_of m }
+  plan_made = record {
+    migrate = m;
+    tables = map (target_table db) m.targets;
+    arms = map (λ t. map (placed_arm db) t.arms) m.targets;
+    units = planned_units;
+    sources = sources_of m;
+  }
 
 abbrev pub unless_objected : List Refusal → Plan → Result Plan Refusal
 unless_objected [] plan = Ok plan
