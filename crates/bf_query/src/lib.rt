@@ -7,9 +7,10 @@ pub mod laws;
 pub mod meaning;
 pub mod merge;
 pub mod range;
-mod running;
+pub mod running;
 pub mod selection;
 mod sum;
 
 pub use change::changes;
+pub use running::totals;
 pub use selection::select;
