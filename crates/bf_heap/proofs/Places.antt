@@ -39,13 +39,13 @@ place_suc [] i j within = absurd (omega arith)
 place_suc (p ∷ ps) zero j within = omega arith
 place_suc (p ∷ ps) (suc i) j within = omega (arith, place_suc ps i j (omega arith))
 
-place_next : (pages : List (List Entry)) (i : ℕ) → suc i < length pages → place_of pages i (length (get_or pages i [])) ≡ place_of pages (suc i) 0
+pub place_next : (pages : List (List Entry)) (i : ℕ) → suc i < length pages → place_of pages i (length (get_or pages i [])) ≡ place_of pages (suc i) 0
 place_next [] i within = absurd (omega arith)
 place_next (p ∷ []) i within = absurd (omega arith)
 place_next (p ∷ q ∷ ps) zero within = omega arith
 place_next (p ∷ q ∷ ps) (suc i) within = ap (λ n. length p + n) (place_next (q ∷ ps) i (omega arith))
 
-place_end : (pages : List (List Entry)) (i : ℕ) → suc i ≡ length pages → place_of pages i (length (get_or pages i [])) ≡ length (rows_of pages)
+pub place_end : (pages : List (List Entry)) (i : ℕ) → suc i ≡ length pages → place_of pages i (length (get_or pages i [])) ≡ length (rows_of pages)
 place_end [] i last = absurd (omega arith)
 place_end (p ∷ []) zero last = omega (arith, length-append p (rows_of []))
 place_end (p ∷ q ∷ ps) zero last = absurd (omega arith)

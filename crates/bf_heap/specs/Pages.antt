@@ -1,6 +1,7 @@
 -- How a heap is kept: the rows in pages, and pages for the room.
 use Rattle.std.specs.Prelude.{◌≡◌, ℕ, ℤ, negsuc, ◌+◌, ◌-◌, ◌*◌, ◌<◌, ◌≤◌, Bool, true, false, nat_lt, List, [], ◌∷◌, length, IsTrue, slice_index_or, slice_set}
-use Rattle.std.specs.List.{flat_map, list_all, insert, remove}
+use Rattle.std.specs.List.{flat_map, list_all, insert, remove, HoldsAt}
+use Rattle.std.specs.declared.cmp.Ordering.TheVariants.{Equal}
 use Rattle.std.specs.Ordering.{is_gt}
 use Rattle.bf_base.specs.declared.value.Value.{Value}
 use Rattle.bf_base.specs.Values.{key_cmp, rank_of}
@@ -59,6 +60,12 @@ pub record IsPageOf (pages : List (List Entry)) (key : List Value) (place : ℕ)
   pub within : place < length pages
   pub begins : (0 < place) → begins_behind key (page_at pages place) ≡ false
   pub next : place + 1 < length pages → begins_behind key (page_at pages (place + 1)) ≡ true
+
+-- where the row under a key is: the place of its page, and its place there
+pub record IsRowOf (pages : List (List Entry)) (key : List Value) (here place : ℕ) : Type 0 where
+  pub within : here < length pages
+  pub inside : place < length (page_at pages here)
+  pub tied : HoldsAt (λ (entry : Entry). key_cmp entry.0 key ≡ Equal) (page_at pages here) place
 
 -- what is true of each heap's pages and spare pages
 pub record IsPaged (pages spares : List (List Entry)) (count spare over pages_capacity spares_capacity : ℕ) : Type 0 where

@@ -1,13 +1,14 @@
 //! Pages of rows under their keys.
 
-ghost use Rattle.std.specs.Prelude.{◌≡◌, ◌↔◌, [], ◌++◌, ◌+◌, ◌*◌, ◌<◌, ◌≤◌, ◌⊎◌, IsTrue, OnOk, OnErr, filter, length, not, slice_get, slice_index_or, ◌-◌, vec_len, vec_capacity};
+ghost use Rattle.std.specs.Prelude.{◌≡◌, ◌↔◌, [], ◌++◌, ◌+◌, ◌*◌, ◌<◌, ◌≤◌, ◌⊎◌, IfNone, IfSome, IsTrue, OnOk, OnErr, filter, length, not, slice_get, slice_index_or, ◌-◌, vec_len, vec_capacity};
 ghost use Rattle.std.specs.List.{list_all};
 ghost use Rattle.std.specs.Option.{option_map};
 ghost use Rattle.bf_base.specs.Maps.{is_map};
 ghost use Rattle.bf_base.specs.Values.{key_cmp};
 ghost use Rattle.bf_heap.specs.Heaps.{Entry, empty_heap, IsHeap, key_of_entry, row_under, has_row, with_row, without_row, spare_after};
+ghost use Rattle.bf_heap.specs.Frozen.{AreKept, heap_of};
 ghost use Rattle.bf_heap.specs.KeyRanges.{is_behind, is_within};
-ghost use Rattle.bf_heap.specs.Pages.{IsPageOf, IsPutNew, IsTakenOut, page_at, is_empty_page, is_used_page, first_page, rows_of};
+ghost use Rattle.bf_heap.specs.Pages.{IsPageOf, IsPutNew, IsRowOf, IsTakenOut, page_at, is_empty_page, is_used_page, first_page, rows_of};
 
 use crate::cursor::Cursor;
 use crate::key_range::KeyRange;
@@ -41,6 +42,18 @@ pub struct Heap {
     near: usize,
 }
 
+/// A heap that is taken apart.
+#[derive(Drop)]
+pub(crate) struct Parts {
+    pub alloc: Global,
+    pub pages: Vec<Page>,
+    pub spares: Vec<Page>,
+    pub count: usize,
+    pub spare: usize,
+    pub over: usize,
+    pub near: usize,
+}
+
 impl Model for Heap {
     ghost use Rattle.std.specs.Prelude.{vec_capacity};
     ghost use Rattle.bf_heap.specs.Heaps.{Rows};
@@ -71,6 +84,24 @@ fn page_of(pages: &[Page], key: &Key) -> usize
         }
     }
     low
+}
+
+/// The place of the page of the row under a key, and the row's place there; `None` exactly where there
+/// is none. It compares about log n keys, and takes no memory.
+pub(crate) fn find_in(pages: &[Page], key: &Key) -> Option<(usize, usize)>
+    requires used { IsTrue (list_all is_used_page pages.now) }
+    requires in_order { IsTrue (is_map key_cmp key_of_entry (rows_of pages.now)) }
+    ensures some { IfSome result (λ at. IsRowOf pages.now key.now at.0 at.1) }
+    ensures none { IfNone result (row_under (rows_of pages.now) key.now ≡ None) }
+{
+    if pages.is_empty() {
+        return None;
+    }
+    let here = page_of(pages, key);
+    match pages[here].find(key) {
+        Ok(place) => Some((here, place)),
+        Err(_) => None,
+    }
 }
 
 /// Whether a place is that of the last page that does not begin behind a key, or else of the first
@@ -259,6 +290,56 @@ impl Heap {
         }
     }
 
+    /// The heap, taken apart. Takes no memory.
+    pub(crate) fn into_parts(self) -> Parts
+        ensures heap { heap_of result ≡ self }
+        ensures kept { AreKept result }
+    {
+        let Heap {
+            alloc,
+            pages,
+            spares,
+            count,
+            spare,
+            over,
+            near,
+        } = self;
+        Parts {
+            alloc,
+            pages,
+            spares,
+            count,
+            spare,
+            over,
+            near,
+        }
+    }
+
+    /// The heap of these parts. Takes no memory.
+    pub(crate) fn of_parts(parts: Parts) -> Heap
+        requires { AreKept parts }
+        ensures { result ≡ heap_of parts }
+    {
+        let Parts {
+            alloc,
+            pages,
+            spares,
+            count,
+            spare,
+            over,
+            near,
+        } = parts;
+        Heap {
+            alloc,
+            pages,
+            spares,
+            count,
+            spare,
+            over,
+            near,
+        }
+    }
+
     /// The number of rows. Takes no memory.
     pub fn len(&self) -> u32
         ensures count { result ≡ length self.now.entries }
@@ -279,14 +360,8 @@ impl Heap {
     pub fn get(&self, key: &Key) -> Option<&Row>
         ensures { option_map (λ row. row.now) result ≡ row_under self.now.entries key.now }
     {
-        if self.pages.is_empty() {
-            return None;
-        }
-        let page = &self.pages[page_of(&self.pages, key)];
-        match page.find(key) {
-            Ok(place) => Some(page.at(place).1),
-            Err(_) => None,
-        }
+        let (here, place) = find_in(&self.pages, key)?;
+        Some(self.pages[here].at(place).1)
     }
 
     /// The key and the row of a position in the order of keys, counted from 0, and `None` exactly
