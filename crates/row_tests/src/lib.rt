@@ -4,6 +4,8 @@
 #[cfg(test)]
 mod fixtures;
 #[cfg(test)]
+mod frozen;
+#[cfg(test)]
 mod heaps;
 #[cfg(test)]
 mod pages;
