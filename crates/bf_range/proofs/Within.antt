@@ -126,7 +126,11 @@ joined_given (numbers a b) f r s p q = beyond_given (behind r s)
 joined_given beyond f r s p q = beyond_given (behind r s)
 
 literal_given : {R : Type 0} (admitted : R → Admit) (v : Value) → gives_within (extent_of admitted (literal v)) (Ok v) ≡ true
-literal_given admitted (Int n) = let same : n ≤ℤ n = omega (arith, ints) in and_from _ _ (tests n n same) (tests n n same)
+literal_given admitted (Int n) = of (is_int n && is_int n)
+  where
+    of : (b : Bool) → gives_within (if b then numbers n n else beyond) (Ok (Int n)) ≡ true
+    of true = let same : n ≤ℤ n = omega (arith, ints) in and_from _ _ (tests n n same) (tests n n same)
+    of false = refl
 literal_given admitted (Text t) = let long : nat_le (length t) (length t) ≡ true = grind (arith, nat_tests) in long
 
 -- where a test decides whether a value fits, it holds of what does

@@ -61,7 +61,7 @@ extent_summed e = beyond
 -- `admitted` tells what a column admits
 module _ {R : Type 0} (admitted : R → Admit) where
   abbrev pub extent_of : Expr R → Extent
-  extent_of (literal (Int n)) = numbers n n
+  extent_of (literal (Int n)) = extent_between n n
   extent_of (literal (Text t)) = texts (length t)
   extent_of (column r) = extent_of_admit (admitted r)
   extent_of (negated a) = extent_negated (extent_of a)
