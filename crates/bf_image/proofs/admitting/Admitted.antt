@@ -15,6 +15,7 @@ use Rattle.bf_base.specs.declared.table.Admit.TheVariants as admits
 use Rattle.bf_base.specs.declared.table.Fit.TheVariants.{Fits, TooLong}
 use Rattle.bf_base.specs.declared.table.Kind.{Kind}
 use Rattle.bf_base.specs.declared.table.Kind.TheVariants as kinds
+use Rattle.bf_base.specs.Limits.{longest_text}
 use Rattle.bf_base.specs.Tables.{fit_of, kind_admitted, same_kind}
 use Rattle.bf_base.specs.Lists.{when}
 use Rattle.bf_base.specs.declared.table.Column.{Column}
@@ -28,7 +29,7 @@ use Rattle.bf_tree.specs.declared.migration.Arm.{Arm}
 use Rattle.bf_tree.specs.declared.migration.Target.{Target}
 use Rattle.bf_sql.specs.Database.{Database, IsDatabase, is_fit, is_admitted, table_rows}
 use Rattle.bf_sql.specs.Scopes.{Scope, kind_in, admitted_by}
-use Rattle.bf_sql.specs.migrations.Extents.{Extent, numbers, texts, beyond, extent_of_admit, extent_of, extent_joined, may_fail, admit_of_extent}
+use Rattle.bf_sql.specs.migrations.Extents.{Extent, numbers, texts, beyond, extent_of_admit, extent_of, extent_up_to, extent_joined, may_fail, admit_of_extent}
 use Rattle.bf_sql.specs.migrations.MigrationObjections.{kind_of_item, item_kinds, failing_objections, target_objections}
 use Rattle.bf_sql.specs.migrations.Targets.{either_admit, arm_kind, arm_scope, item_admit, extent_of_item, first_arm, column_admit, target_table, item_name}
 use Rattle.bf_sql.specs.migrations.Images.{arm_rows, image_of, rows_of_join}
@@ -147,12 +148,15 @@ numeric_kind (numbers a b) e = refl
 numeric_kind (texts m) e = absurd (false≢true e)
 numeric_kind beyond e = refl
 
-joined_kind : (e f : Extent) → may_fail (extent_joined e f) ≡ false → is_kind kinds.Text (admit_of_extent (extent_joined e f)) ≡ true
-joined_kind (texts m) (texts n) safe = of (nat_le (m + n) 255) safe
+up_to_kind : (most : ℕ) → may_fail (extent_up_to most) ≡ false → is_kind kinds.Text (admit_of_extent (extent_up_to most)) ≡ true
+up_to_kind most safe = of (nat_le most longest_text) safe
   where
-    of : (b : Bool) → may_fail (if b then texts (m + n) else beyond) ≡ false → is_kind kinds.Text (admit_of_extent (if b then texts (m + n) else beyond)) ≡ true
+    of : (b : Bool) → may_fail (if b then texts most else beyond) ≡ false → is_kind kinds.Text (admit_of_extent (if b then texts most else beyond)) ≡ true
     of true h = refl
     of false h = absurd (false≢true (sym h))
+
+joined_kind : (e f : Extent) → may_fail (extent_joined e f) ≡ false → is_kind kinds.Text (admit_of_extent (extent_joined e f)) ≡ true
+joined_kind (texts m) (texts n) safe = up_to_kind (m + n) safe
 joined_kind (texts m) (numbers a b) safe = absurd (false≢true (sym safe))
 joined_kind (texts m) beyond safe = absurd (false≢true (sym safe))
 joined_kind (numbers a b) f safe = absurd (false≢true (sym safe))
@@ -166,7 +170,7 @@ column_kind (admits.Varchar m) = refl
 module _ (scope : Scope) where
   expr_kind : (e : Expr Ref) → may_fail (extent_of (admitted_by scope) e) ≡ false → is_kind (kind_in scope e) (admit_of_extent (extent_of (admitted_by scope) e)) ≡ true
   expr_kind (literal (Int n)) safe = numeric_kind _ (between_numeric n n)
-  expr_kind (literal (Text t)) safe = refl
+  expr_kind (literal (Text t)) safe = up_to_kind (length t) safe
   expr_kind (column r) safe = column_kind (admitted_by scope r)
   expr_kind (negated a) safe = numeric_kind _ (negated_numeric (extent_of (admitted_by scope) a))
   expr_kind (plus a b) safe = numeric_kind _ (plus_numeric (extent_of (admitted_by scope) a) (extent_of (admitted_by scope) b))

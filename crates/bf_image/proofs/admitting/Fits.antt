@@ -212,10 +212,10 @@ module _ (old : Database) (is : IsDatabase old) where
     without_join (Some j) alone = absurd (false≢true alone)
 
     few_groups : (kind : ArmKind) → (if is_by_group kind then not (is_some arm.join) else true) ≡ true → is_few (table_rows old arm.from) ≡ true → list_all is_few (groups_by old arm kind satisfied) ≡ true
-    few_groups by_from alone few = few_singles satisfied
-    few_groups by_join alone few = few_singles satisfied
-    few_groups by_pair alone few = few_singles satisfied
-    few_groups by_group alone few =
+    few_groups ByFrom alone few = few_singles satisfied
+    few_groups ByJoin alone few = few_singles satisfied
+    few_groups ByPair alone few = few_singles satisfied
+    few_groups ByGroup alone few =
         let left : is_few satisfied ≡ true = ap (λ rows. is_few (filter (passes old arm) rows)) (without_join arm.join alone) ∙ few_left (passes old arm) (table_rows old arm.from) few in
         all_of_map is_few (λ g. filter (λ row. same_key g (group_value old arm row)) satisfied) (distinct same_key (map (group_value old arm) satisfied))
         (always (λ g. is_few (filter (λ row. same_key g (group_value old arm row)) satisfied)) (λ g. few_left (λ row. same_key g (group_value old arm row)) satisfied left) (distinct same_key (map (group_value old arm) satisfied)))
