@@ -142,11 +142,6 @@ pub fits_where : (test : Bool) (other : Fit) → is_fit other ≡ false → is_f
 fits_where true other unfit e = refl
 fits_where false other unfit e = absurd (false≢true (sym unfit ∙ e))
 
--- where a test decides whether a value fits, it holds of what does
-pub fits_where : (test : Bool) (other : Fit) → is_fit other ≡ false → is_fit (if test then Fits else other) ≡ true → test ≡ true
-fits_where true other unfit e = refl
-fits_where false other unfit e = absurd (false≢true (sym unfit ∙ e))
-
 column_within : (a : Admit) (v : Value) → is_held a v ≡ true → is_within (extent_of_admit a) v ≡ true
 column_within admits.Int (Int n) h = fits_where (is_int n) OutOfRange refl h
 column_within admits.Int (Text t) h = absurd (false≢true h)
