@@ -145,7 +145,9 @@ fits_where false other unfit e = absurd (false≢true (sym unfit ∙ e))
 column_within : (a : Admit) (v : Value) → is_held a v ≡ true → is_within (extent_of_admit a) v ≡ true
 column_within admits.Int (Int n) h = fits_where (is_int n) OutOfRange refl h
 column_within admits.Int (Text t) h = absurd (false≢true h)
-column_within (admits.Checked low high) (Int n) h = (and_parts (is_int n) (int_le low n && int_le n high) (fits_where (is_int n && int_le low n && int_le n high) OutOfRange refl h)).1
+column_within (admits.Checked low high) (Int n) h =
+    let ends = and_parts (is_int n && int_le low n) (int_le n high) (fits_where (is_int n && int_le low n && int_le n high) OutOfRange refl h) in
+    and_from _ _ (and_parts (is_int n) (int_le low n) ends.0).1 ends.1
 column_within (admits.Checked low high) (Text t) h = absurd (false≢true h)
 column_within (admits.Varchar m) (Int n) h = absurd (false≢true h)
 column_within (admits.Varchar m) (Text t) h = fits_where (nat_le (length t) m) TooLong refl h
