@@ -26,7 +26,8 @@ use Rattle.bf_tree.specs.declared.plan.ArmKind.{ArmKind}
 use Rattle.bf_tree.specs.declared.plan.ArmKind.TheVariants.{ByFrom, ByJoin, ByPair, ByGroup}
 use Rattle.bf_sql.specs.Database.{Database, Stored, IsDatabase, stored_at, table_at, table_rows, is_fit, is_admitted, no_table}
 use Rattle.bf_sql.specs.Scopes.{Scope, scope_of, place_of, read_in, admitted_by}
-use Rattle.bf_sql.specs.migrations.Extents.{extent_of, extent_of_total, may_fail, admit_of_extent}
+use Rattle.bf_sql.specs.migrations.Extents.{extent_of, may_fail, admit_of_extent, most_rows}
+use Rattle.bf_sql.specs.migrations.MigrationObjections.{is_by_group}
 use Rattle.bf_sql.specs.migrations.Targets.{arm_scope, names_of_join, extent_of_item, item_admit}
 use Rattle.bf_sql.specs.migrations.Images.{is_equal_on, item_over, group_value, groups_by, matches_of_join, satisfying, rows_of_join}
 use Rattle.bf_image.proofs.items.Lists.{all_so, all_both, all_found, all_of_blocks, all_of_map, has_own, all_kept}

@@ -18,7 +18,9 @@ use Rattle.bf_sql.specs.Database.{Database, IsDatabase, table_at, table_rows}
 use Rattle.bf_sql.specs.Scopes.{Scope, place_of}
 use Rattle.bf_sql.specs.migrations.Targets.{arm_scope, width, from_key, join_key, on_places, equalities}
 use Rattle.bf_sql.specs.migrations.Images.{is_equal_on}
-use Rattle.bf_sql.specs.migrations.Targets.{ArmKind, ByFrom, ByJoin, ByPair, ByGroup, arm_kind, names_of_join, kind_by}
+use Rattle.bf_tree.specs.declared.plan.ArmKind.{ArmKind}
+use Rattle.bf_tree.specs.declared.plan.ArmKind.TheVariants.{ByFrom, ByJoin, ByPair, ByGroup}
+use Rattle.bf_sql.specs.migrations.Targets.{arm_kind, names_of_join, kind_by}
 use Rattle.bf_sql.specs.migrations.Images.{arm_rows, rows_of_join}
 use Rattle.bf_sql.specs.migrations.Granules.{rows_driven}
 use Rattle.bf_image.specs.Lookup.{has_the_key, partner, join_met, from_met}
