@@ -12,5 +12,4 @@ pub mod selection;
 mod sum;
 
 pub use change::changes;
-pub use running::totals;
 pub use selection::select;
