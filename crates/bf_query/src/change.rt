@@ -110,7 +110,8 @@ fn fit_at(table: &Table, place: u8, value: &Value) -> Fit
 {
     match (table.columns.as_slice().get(place as usize), value) {
         (Some(column), _) => admits(column, value),
-        (None, Value::Int(_)) => Fit::Fits,
+        // What is an i64 is an INT.
+        (None, &Value::Int(_number)) => Fit::Fits,
         (None, Value::Text(_)) => Fit::WrongKind,
     }
 }
