@@ -23,6 +23,8 @@ use Rattle.bf_tree.specs.declared.reply.Refusal.{Refusal}
 use Rattle.bf_tree.specs.declared.reply.Refusal.TheVariants as refusal
 use Rattle.bf_tree.specs.declared.statement.Statement.{Statement}
 use Rattle.bf_tree.specs.declared.statement.Statement.TheVariants as statement
+use Rattle.bf_tree.specs.declared.plan.ArmKind.{ArmKind}
+use Rattle.bf_tree.specs.declared.plan.ArmKind.TheVariants.{ByFrom, ByJoin, ByPair, ByGroup}
 use Rattle.bf_sql.specs.Bound.{bound_of, catalog_of, unless_objected}
 use Rattle.bf_sql.specs.Conditions.{condition_of}
 use Rattle.bf_sql.specs.Database.{Database, Stored, stored_at, table_at}
@@ -30,7 +32,7 @@ use Rattle.bf_sql.specs.Scopes.{Scope, cond_objections, kind_in, kind_objections
 use Rattle.bf_live.proofs.locking.Alike.{bound_alike, table_at_alike, tables_alike}
 use Rattle.bf_sql.specs.migrations.Extents.{may_fail}
 use Rattle.bf_sql.specs.migrations.MigrationObjections.{driver_by, group_objections, is_by_group, is_by_row, item_objections, kind_of_item, migrate_objections, sources_of, tag_of}
-use Rattle.bf_sql.specs.migrations.Targets.{ArmKind, arm_sources, by_from, by_group, by_join, by_pair, equalities, extent_of_item, first_arm, is_total, item_name, kind_by, names_of_join, plain_ref}
+use Rattle.bf_sql.specs.migrations.Targets.{arm_sources, equalities, extent_of_item, first_arm, is_total, item_name, kind_by, names_of_join, plain_ref}
 
 -- WHAT STANDS IN THE WAY OF A MIGRATE, by the tables of the names and by which names have one
 module _ (table_of : List ℕ → Table) (has_table : List ℕ → Bool) where
@@ -51,10 +53,10 @@ module _ (table_of : List ℕ → Table) (has_table : List ℕ → Bool) where
       kind_by (nat_lt 0 (length arm.group)) (is_some arm.join) (list_all (has nat_eq (places_on arm)) (join_key_of arm)) (list_all (has nat_eq (places_on arm)) (table_of arm.from).key)
 
   abbrev key_of_kind : Arm → ArmKind → List ℕ
-  key_of_kind arm by_from = (table_of arm.from).key
-  key_of_kind arm by_join = join_key_of arm
-  key_of_kind arm by_pair = (table_of arm.from).key ++ join_key_of arm
-  key_of_kind arm by_group = map (place_of (scope arm)) arm.group
+  key_of_kind arm ByFrom = (table_of arm.from).key
+  key_of_kind arm ByJoin = join_key_of arm
+  key_of_kind arm ByPair = (table_of arm.from).key ++ join_key_of arm
+  key_of_kind arm ByGroup = map (place_of (scope arm)) arm.group
 
   abbrev keyed_items : Arm → List (Option ℕ)
   keyed_items arm = map (λ k. position (option_eq nat_eq (Some k)) (map (λ i. option_map (place_of (scope arm)) (plain_ref i)) arm.items)) (key_of_kind arm (kind_of arm))
