@@ -15,6 +15,7 @@ ghost use Rattle.bf_sql.specs.migrations.Granules.{UnitForm, anchors_of, granule
 ghost use Rattle.bf_sql.specs.migrations.Images.{arm_rows, image_of, flipped, replaced};
 ghost use Rattle.bf_sql.specs.migrations.MigrationObjections.{migrate_objections, target_objections};
 ghost use Rattle.bf_sql.specs.migrations.Targets.{arm_kind, arm_sources, target_table};
+ghost use Rattle.bf_image.specs.ByValues.{by_value, positions_of, positions_under};
 ghost use Rattle.bf_image.specs.Laws.{IsLawful, rows_of_parts, owns, swept};
 ghost use Rattle.bf_image.specs.Lookup.{anchor_count, anchor_place, candidates, places_by, rows_met};
 ghost use Rattle.bf_image.specs.Placed.{placed_arm, placed_rows};
@@ -145,4 +146,11 @@ pub fn a_migration_is_planned_by_the_catalog_alone()
     ensures arms { (old new : Database) (arm : Arm) → HaveSameTables old new
         → placed_arm old arm ≡ placed_arm new arm }
     ensures catalog { (db : Database) → HaveSameTables (without_rows (catalog_of db)) db }
+{}
+
+/// In an index of a table's rows by their values, the positions under a value are those of the rows
+/// that have it: none where no row has it.
+pub fn a_value_finds_its_rows()
+    ensures { (values : List (List Value)) (value : List Value)
+        → positions_under (by_value values) value ≡ positions_of value values }
 {}
