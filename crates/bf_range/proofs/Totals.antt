@@ -29,7 +29,7 @@ use Rattle.bf_range.proofs.Order.{tells, tests}
 use Rattle.bf_range.proofs.Sums.{sum_between, times_between, times_from_none}
 use Rattle.bf_range.proofs.Within.{gives_within, value_given}
 
-sure_within : (e : Extent) (r : Result Value Fail) → gives_within e r ≡ true → is_within e (result_unwrap_or r (Int (pos 0))) ≡ true
+pub sure_within : (e : Extent) (r : Result Value Fail) → gives_within e r ≡ true → is_within e (result_unwrap_or r (Int (pos 0))) ≡ true
 sure_within e (Ok v) h = h
 sure_within (numbers a b) (Err f) h = absurd (false≢true h)
 sure_within (texts m) (Err f) h = absurd (false≢true h)

@@ -8,6 +8,7 @@ use Rattle.bf_base.specs.declared.value.Value.{Value}
 use Rattle.bf_base.specs.declared.value.Value.TheVariants.{Int, Text}
 use Rattle.bf_base.specs.declared.table.Admit.{Admit}
 use Rattle.bf_base.specs.declared.table.Admit.TheVariants as admits
+use Rattle.bf_base.specs.declared.table.Fit.{Fit}
 use Rattle.bf_base.specs.declared.table.Fit.TheVariants.{Fits, OutOfRange, TooLong}
 use Rattle.bf_base.specs.Tables.{fit_of}
 use Rattle.bf_base.specs.Limits.{is_int, least_int, greatest_int}
@@ -128,21 +129,20 @@ literal_given : {R : Type 0} (admitted : R → Admit) (v : Value) → gives_with
 literal_given admitted (Int n) = let same : n ≤ℤ n = omega (arith, ints) in and_from _ _ (tests n n same) (tests n n same)
 literal_given admitted (Text t) = let long : nat_le (length t) (length t) ≡ true = grind (arith, nat_tests) in long
 
+-- where a test decides whether a value fits, it holds of what does
+pub fits_where : (test : Bool) (other : Fit) → is_fit other ≡ false → is_fit (if test then Fits else other) ≡ true → test ≡ true
+fits_where true other unfit e = refl
+fits_where false other unfit e = absurd (false≢true (sym unfit ∙ e))
+
 column_within : (a : Admit) (v : Value) → is_held a v ≡ true → is_within (extent_of_admit a) v ≡ true
-column_within admits.Int (Int n) h = h
+column_within admits.Int (Int n) h = fits_where (is_int n) OutOfRange refl h
 column_within admits.Int (Text t) h = absurd (false≢true h)
-column_within (admits.Checked low high) (Int n) h = of (int_le low n && int_le n high) refl (and_parts (is_fit (fit_of (admits.Checked low high) (Int n))) (is_int n) h).0
-  where
-    of : (b : Bool) → (int_le low n && int_le n high) ≡ b → is_fit (if b then Fits else OutOfRange) ≡ true → (int_le low n && int_le n high) ≡ true
-    of true at e = at
-    of false at e = absurd (false≢true e)
+column_within (admits.Checked low high) (Int n) h =
+    let ends = and_parts (is_int n && int_le low n) (int_le n high) (fits_where (is_int n && int_le low n && int_le n high) OutOfRange refl h) in
+    and_from _ _ (and_parts (is_int n) (int_le low n) ends.0).1 ends.1
 column_within (admits.Checked low high) (Text t) h = absurd (false≢true h)
 column_within (admits.Varchar m) (Int n) h = absurd (false≢true h)
-column_within (admits.Varchar m) (Text t) h = of (nat_le (length t) m) refl (and_parts (is_fit (fit_of (admits.Varchar m) (Text t))) (is_int (pos 0)) h).0
-  where
-    of : (b : Bool) → nat_le (length t) m ≡ b → is_fit (if b then Fits else TooLong) ≡ true → nat_le (length t) m ≡ true
-    of true at e = at
-    of false at e = absurd (false≢true e)
+column_within (admits.Varchar m) (Text t) h = fits_where (nat_le (length t) m) TooLong refl h
 
 answered : (e : Extent) (r : Result Value Fail) → gives_within e r ≡ true → may_fail e ≡ false → IsOkAnd r (IsWithin e)
 answered e (Ok v) h safe = h

@@ -142,7 +142,7 @@ abbrev row : List Value
 row = Int (pos 0) ∷ Int (pos 0) ∷ Int (pos 0) ∷ Text [] ∷ Text [] ∷ Text [] ∷ Int (pos 0) ∷ Int (pos 0) ∷ Int (pos 6) ∷ []
 
 is_row : IsRowOf columns row
-is_row = record { admitted = refl; ints = refl }
+is_row = refl
 
 of_one_row : cell_within (span_of_total admitted (Sum (column 8))) (total_of cell (row ∷ []) (Sum (column 8))) ≡ true
 of_one_row = refl

@@ -1,15 +1,12 @@
 -- When a value lies within an extent.
 use Rattle.std.specs.Prelude.{Bool, true, false, ◌&&◌, List, length, int_le, nat_le, IsTrue}
-use Rattle.std.specs.List.{list_all}
 use Rattle.std.specs.Int.{int_min, int_max}
 use Rattle.bf_base.specs.declared.value.Value.{Value}
 use Rattle.bf_base.specs.declared.value.Value.TheVariants.{Int, Text}
 use Rattle.bf_base.specs.declared.table.Admit.{Admit}
 use Rattle.bf_base.specs.declared.table.Column.{Column}
 use Rattle.bf_base.specs.Tables.{fit_of}
-use Rattle.bf_base.specs.Limits.{is_int}
 use Rattle.bf_tree.specs.Trees.{Expr}
-use Rattle.bf_tree.specs.Evaluation.{number_of}
 use Rattle.bf_tree.specs.declared.items.Aggregate.{Aggregate}
 use Rattle.bf_tree.specs.declared.items.Aggregate.TheVariants.{Count, Sum, Min, Max}
 use Rattle.bf_tree.specs.declared.reply.Cell.{Cell}
@@ -33,17 +30,16 @@ abbrev pub cell_within : Extent → Cell → Bool
 cell_within e cells.Null = true
 cell_within e (cells.Value v) = is_within e v
 
--- a value that a column admits; of the numbers each row has the INTs alone, which what a column admits does not say
+-- a value that a column admits
 abbrev pub is_held : Admit → Value → Bool
-is_held admit v = is_fit (fit_of admit v) && is_int (number_of v)
+is_held admit v = is_fit (fit_of admit v)
 
 abbrev pub IsHeld : Admit → Value → Type 0
 IsHeld admit v = IsTrue (is_held admit v)
 
--- a row has a value for each column, which its column admits, and its numbers are INTs
-pub record IsRowOf (columns : List Column) (row : List Value) : Type 0 where
-  pub admitted : IsTrue (is_admitted (record no_table { columns = columns }) row)
-  pub ints : IsTrue (list_all (λ v. is_int (number_of v)) row)
+-- a row has a value for each column, which its column admits
+abbrev pub IsRowOf : List Column → List Value → Type 0
+IsRowOf columns row = IsTrue (is_admitted (record no_table { columns = columns }) row)
 
 -- from the lesser of two least numbers to the greater of two greatest
 abbrev pub spanned : Extent → Extent → Extent
