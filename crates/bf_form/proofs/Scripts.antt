@@ -16,6 +16,7 @@ use Rattle.bf_form.specs.Form.{creation, migration, one_session, Migrated, Plot,
 use Rattle.bf_form.specs.Grammar.{start, IsPart, AreParts, GoesOn, IsScript}
 use Rattle.bf_form.specs.Parsing.{Fails, prepended, part_at, target_at, migration_at, start_at, creation_at, are_over, parts_within, parts_at, if_ended, end_at, script_at}
 use Rattle.bf_form.proofs.Fields.{bind_some, sign_takes, step_word, step_sign, ◌▸◌}
+use Rattle.bf_form.proofs.Numbers.{signed_are_ints}
 use Rattle.bf_form.proofs.Lists.{prepended_twice, prepended_some, prepended_fails}
 use Rattle.bf_form.proofs.Statements.{some_is, creation_takes, creation_again, part_takes, part_again, part_shorter}
 use Rattle.bf_form.proofs.Migrations.{migration_takes, migration_again}
@@ -239,7 +240,7 @@ no_script ts e script h = let d : None ≡ Some script = sym e ∙ script_again 
 is_plain : (ts : List Token) (s : Statement) → IsPart ts s → IsPlain s
 is_plain ts (CreateTable t columns key) h = h
 is_plain ts (Migrate m) h = h
-is_plain ts (Insert n tuples) h = (h.0, h.2.within, h.1)
+is_plain ts (Insert n tuples) h = (h.0, h.2.within, h.1, signed_are_ints h.2.listed h.0 h.2.are_numbers)
 is_plain ts (Select All n None) h = tt
 is_plain ts (Select All n (Some condition)) h = (h.0, h.1, h.2)
 

@@ -4,6 +4,7 @@
 use Rattle.std.specs.Prelude.{◌≡◌, ℕ, ◌≤◌, ℤ, Bool, true, not, ◌&&◌, List, [], ◌∷◌, ◌++◌, length, map, Option, None, Some, IsTrue}
 use Rattle.std.specs.List.{list_all, AllByRecursion}
 use Rattle.bf_base.specs.declared.value.Value.TheVariants.{Int}
+use Rattle.bf_base.specs.Limits.{is_int}
 use Rattle.bf_base.specs.Lists.{same_name, has}
 use Rattle.bf_lazy.specs.declared.statement.ColumnForm.TheVariants as form
 use Rattle.bf_lazy.specs.declared.statement.ColumnRule.{ColumnRule}
@@ -96,9 +97,9 @@ migrated_statements t (Some m) = migration m.table m.items t ∷ m.parts
 abbrev pub statements_of : Plot → List Statement
 statements_of plot = creation plot.table plot.columns plot.key ∷ plot.parts ++ migrated_statements plot.table plot.migrated
 
--- an INSERT of at most 16 numbers, or a SELECT of all rows or of those where a column is a number
+-- an INSERT of at most 16 INTs, or a SELECT of all rows or of those where a column is a number
 abbrev pub IsPlain : Statement → Type 0
-IsPlain (Insert n tuples) = (numbers : List ℤ) × (length numbers ≤ most_parts) × (tuples ≡ map Int numbers ∷ [])
+IsPlain (Insert n tuples) = (numbers : List ℤ) × (length numbers ≤ most_parts) × (tuples ≡ map Int numbers ∷ []) × IsTrue (list_all is_int numbers)
 IsPlain (Select All n None) = Unit {0}
 IsPlain (Select All n (Some cond)) = (c : List ℕ) × (z : ℤ) × (cond ≡ equality c z)
 IsPlain (CreateTable n columns key) = ⊥

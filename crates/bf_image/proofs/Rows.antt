@@ -1,8 +1,8 @@
 -- Look-ups, parts and owners on worked migrations, by computing.
-use Rattle.std.specs.Prelude.{◌^◌, pos, ◌≡◌, false, [], ◌∷◌, ◌++◌, map, Some, None, codes, refl}
+use Rattle.std.specs.Prelude.{◌^◌, ◌-◌, pos, ◌≡◌, false, [], ◌∷◌, ◌++◌, map, Some, None, codes, refl}
 use Rattle.std.specs.Prelude.{slice_index_or}
 use Rattle.bf_base.specs.Tables.{fit_of}
-use Rattle.bf_base.specs.declared.table.Fit.TheVariants.{Fits}
+use Rattle.bf_base.specs.declared.table.Fit.TheVariants.{Fits, OutOfRange}
 use Rattle.bf_base.specs.declared.value.Value.TheVariants.{Int}
 use Rattle.bf_base.specs.declared.granule.Place.TheVariants.{Row, Group}
 use Rattle.bf_base.specs.declared.table.Admit.TheVariants as admits
@@ -50,7 +50,7 @@ totals_owner_of_none : owner_of totals.old totals.migrate tot (one (number 6)) �
 totals_owner_of_none = refl
 
 totals_lawful : IsLawful totals.old totals.migrate
-totals_lawful = record { database = record { tables_by_name = refl; indexes_by_name = refl; rows_by_key = refl; rows_admitted = refl; keys_within = refl; indexes_on_tables = refl }; unobjected = refl }
+totals_lawful = record { database = record { tables_by_name = refl; indexes_by_name = refl; rows_by_key = refl; rows_admitted = refl; keys_within = refl; indexes_on_tables = refl }; unobjected = refl; few = refl }
 
 -- pairs of equal values: the key's front names a row of FROM, and that its value
 abbrev j : Target
@@ -183,6 +183,9 @@ driven_candidate_of_none = refl
 driven_owner_of_none : owner_of driven_old driven o (one (number 3)) ≡ None
 driven_owner_of_none = refl
 
--- as the definitions stand, a column INT admits a number that is no INT
-no_int_admitted : fit_of admits.Int (Int (pos (2 ^ 70))) ≡ Fits
-no_int_admitted = refl
+-- a column INT admits the greatest INT, and not the number behind it
+greatest_admitted : fit_of admits.Int (Int (pos (2 ^ 63 - 1))) ≡ Fits
+greatest_admitted = refl
+
+beyond_refused : fit_of admits.Int (Int (pos (2 ^ 63))) ≡ OutOfRange
+beyond_refused = refl

@@ -7,15 +7,19 @@ use Rattle.bf_base.specs.Lists.{same_key}
 use Rattle.bf_base.specs.Tables.{key_of}
 use Rattle.bf_tree.specs.declared.migration.Target.{Target}
 use Rattle.bf_tree.specs.declared.migration.Migrate.{Migrate}
+use Rattle.bf_tree.specs.declared.statement.Statement.TheVariants as statement
 use Rattle.bf_sql.specs.Database.{Database, IsDatabase}
+use Rattle.bf_sql.specs.RowObjections.{row_objections}
 use Rattle.bf_sql.specs.migrations.MigrationObjections.{migrate_objections}
 use Rattle.bf_sql.specs.migrations.Targets.{target_table}
 use Rattle.bf_sql.specs.migrations.Granules.{units_of, anchors_of, granule, granules_of, part_in}
 
--- LAWFUL: the catalog has nothing against the migration, and its old tables are a database's
+-- LAWFUL: neither the catalog nor the number of its sources' rows has anything against the migration, and its old tables are a
+-- database's
 pub record IsLawful (old : Database) (m : Migrate) : Type 0 where
   pub database : IsDatabase old
   pub unobjected : migrate_objections old m ≡ []
+  pub few : row_objections old (statement.Migrate m) ≡ []
 
 -- the rows of all parts of a target, granule by granule
 abbrev pub rows_of_parts : Database → Migrate → Target → List (List Value)

@@ -12,9 +12,11 @@ use Rattle.bf_tree.specs.declared.raw.Ref.{Ref}
 use Rattle.bf_tree.specs.declared.migration.Arm.{Arm}
 use Rattle.bf_tree.specs.declared.migration.Target.{Target}
 use Rattle.bf_tree.specs.declared.migration.Migrate.{Migrate}
+use Rattle.bf_tree.specs.declared.plan.ArmKind.{ArmKind}
+use Rattle.bf_tree.specs.declared.plan.ArmKind.TheVariants.{ByFrom, ByJoin, ByPair, ByGroup}
 use Rattle.bf_sql.specs.Database.{Database, table_at, table_rows}
 use Rattle.bf_sql.specs.Scopes.{Scope, place_of}
-use Rattle.bf_sql.specs.migrations.Targets.{ArmKind, by_from, by_join, by_pair, by_group, arm_kind, arm_scope, width, equalities, from_key, join_key, names_of_join}
+use Rattle.bf_sql.specs.migrations.Targets.{arm_kind, arm_scope, width, equalities, from_key, join_key, names_of_join}
 use Rattle.bf_sql.specs.migrations.Images.{arm_rows, group_value, rows_of_join}
 use Rattle.bf_sql.specs.migrations.Granules.{UnitForm, rows_unit, values_unit, units_of, granule, left_value, right_value, row_at}
 
@@ -32,10 +34,10 @@ row_with old name key = find (has_the_key old name key) (table_rows old name)
 
 -- the value from which a row of an arm with a key can come: the key itself, or the joined value of the FROM row whose key it begins with
 abbrev pub values_by : Database → Arm → List Value → ArmKind → List (List Value)
-values_by old arm key by_from = []
-values_by old arm key by_join = []
-values_by old arm key by_group = key ∷ []
-values_by old arm key by_pair =
+values_by old arm key ByFrom = []
+values_by old arm key ByJoin = []
+values_by old arm key ByGroup = key ∷ []
+values_by old arm key ByPair =
     option_to_list (option_map (left_value old arm) (row_with old arm.from (take (length (from_key old arm)) key)))
 
 -- the place of a unit from which a row of a target with a key can come, if there is one
@@ -74,20 +76,20 @@ from_rows_met old arm s = option_to_list (row_with old arm.from (from_met old ar
 
 -- an arm's rows of one row of its driver, with the one row that it can meet in place of the whole other table
 abbrev pub rows_met : Database → Arm → ArmKind → List ℕ → ℕ → List (List Value)
-rows_met old arm by_from driver at =
+rows_met old arm ByFrom driver at =
     if same_name arm.from driver then flat_map (λ r. arm_rows old arm (r ∷ []) (join_rows_met old arm r)) (row_at old arm driver at) else []
-rows_met old arm by_join driver at =
+rows_met old arm ByJoin driver at =
     if list_any (same_name driver) (names_of_join arm)
     then flat_map (λ s. arm_rows old arm (from_rows_met old arm s) (s ∷ [])) (row_at old arm driver at) else []
-rows_met old arm by_pair driver at = []
-rows_met old arm by_group driver at = []
+rows_met old arm ByPair driver at = []
+rows_met old arm ByGroup driver at = []
 
 -- how many anchors a unit has
 abbrev pub anchor_count_by : Database → Arm → ArmKind → ℕ
-anchor_count_by old arm by_from = 0
-anchor_count_by old arm by_join = 0
-anchor_count_by old arm by_group = length (table_rows old arm.from)
-anchor_count_by old arm by_pair = length (table_rows old arm.from) + length (rows_of_join old arm.join)
+anchor_count_by old arm ByFrom = 0
+anchor_count_by old arm ByJoin = 0
+anchor_count_by old arm ByGroup = length (table_rows old arm.from)
+anchor_count_by old arm ByPair = length (table_rows old arm.from) + length (rows_of_join old arm.join)
 
 abbrev pub anchor_count : Database → UnitForm → ℕ
 anchor_count old (rows_unit driver) = length (table_rows old driver)
@@ -95,10 +97,10 @@ anchor_count old (values_unit target arm) = anchor_count_by old arm (arm_kind ol
 
 -- the value of the row that an anchor goes by: those of FROM, then those of JOIN
 abbrev pub anchor_value_by : Database → Arm → ArmKind → ℕ → Option (List Value)
-anchor_value_by old arm by_from at = None
-anchor_value_by old arm by_join at = None
-anchor_value_by old arm by_group at = option_map (group_value old arm) (slice_get (table_rows old arm.from) at)
-anchor_value_by old arm by_pair at =
+anchor_value_by old arm ByFrom at = None
+anchor_value_by old arm ByJoin at = None
+anchor_value_by old arm ByGroup at = option_map (group_value old arm) (slice_get (table_rows old arm.from) at)
+anchor_value_by old arm ByPair at =
     let rows = table_rows old arm.from in
     if nat_lt at (length rows) then option_map (left_value old arm) (slice_get rows at)
     else option_map (right_value old arm) (slice_get (rows_of_join old arm.join) (at - length rows))

@@ -18,7 +18,7 @@ ghost use Rattle.bf_sql.specs.migrations.Targets.{arm_kind, arm_sources, target_
 ghost use Rattle.bf_image.specs.ByValues.{by_value, positions_of, positions_under};
 ghost use Rattle.bf_image.specs.Laws.{IsLawful, rows_of_parts, owns, swept};
 ghost use Rattle.bf_image.specs.Lookup.{anchor_count, anchor_place, candidates, places_by, rows_met};
-ghost use Rattle.bf_image.specs.Placed.{placed_arm, placed_rows};
+ghost use Rattle.bf_sql.specs.migrations.Placed.{placed_arm, placed_rows};
 ghost use Rattle.bf_image.specs.Sources.{frozen_of, HaveSameSources, HaveSameTables, tables_made};
 
 /// The parts of a target, granule by granule, have the rows of its image of the whole old tables,

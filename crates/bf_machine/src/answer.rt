@@ -53,7 +53,7 @@ pub(crate) fn answer(
             };
             run_on_table(alloc, live, writes, bound, table)
         }
-        Action::Commit | Action::Rollback => unreachable!(),
+        Action::Migrate(_) | Action::Commit | Action::Rollback => unreachable!(),
     }
 }
 

@@ -89,8 +89,8 @@ pub fn a_younger_session_is_refused()
 /// Sessions in sequence run in order. Nothing has happened in a new machine, so it is in sequence; and once each session
 /// of one that is in sequence has ended, its transcripts and history are those of a run in the order of the text.
 pub fn sessions_in_sequence_run_in_order()
-    ensures new { (start : Database) (script : Script) (retries : ℕ) → IsTrue (phases_rise_from 0 script.sessions)
-        → IsInSequence (fresh start script retries) }
+    ensures new { (start : Database) (script : Script) (retries : ℕ)
+        → IsTrue (phases_rise_from 0 script.sessions) → IsInSequence (fresh start script retries) }
     ensures ran { (m : Machine) → IsKept empty_database m → IsInSequence m
         → ((s : ℕ) → IsPlace m.script s → HasSessionEnded m s)
         → IsRunInOrder m.script (transcripts_of m) m.history Never }

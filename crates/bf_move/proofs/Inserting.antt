@@ -6,9 +6,13 @@ use Rattle.std.proofs.lemmas.Bool.Decides.{nat_tests}
 use Rattle.std.proofs.lemmas.List.{append-nil}
 use Rattle.bf_base.specs.declared.value.Value.{Value}
 use Rattle.bf_base.specs.declared.value.Value.TheVariants.{Int}
+use Rattle.bf_base.specs.declared.table.Admit.{Admit}
 use Rattle.bf_base.specs.declared.table.Admit.TheVariants as admits
 use Rattle.bf_base.specs.declared.table.Column.{Column}
+use Rattle.bf_base.specs.declared.table.Fit.{Fit}
+use Rattle.bf_base.specs.declared.table.Fit.TheVariants.{Fits, OutOfRange}
 use Rattle.bf_base.specs.declared.table.Table.{Table}
+use Rattle.bf_base.specs.Limits.{is_int}
 use Rattle.bf_base.specs.Values.{key_cmp, key_cmp_total}
 use Rattle.bf_base.specs.Lists.{placed, when}
 use Rattle.bf_base.specs.Tables.{key_of, kind_of, kind_admitted, same_kind, fit_of}
@@ -32,15 +36,23 @@ kinds_fine [] numbers ints = refl
 kinds_fine (c ∷ cs) [] ints = refl
 kinds_fine (c ∷ cs) (z ∷ zs) ints = rw ints.0 (kinds_fine cs zs ints.1)
 
-fits_fine : (columns : List Column) (numbers : List ℤ) → AllByRecursion (λ c. c.admits ≡ admits.Int) columns → flat_map (λ p. unfit (fit_of p.0.admits p.1)) (zip columns (map Int numbers)) ≡ []
-fits_fine [] numbers ints = refl
-fits_fine (c ∷ cs) [] ints = refl
-fits_fine (c ∷ cs) (z ∷ zs) ints = rw ints.0 (fits_fine cs zs ints.1)
+-- an INT fits a column of numbers
+int_fits : (c : Column) (z : ℤ) → c.admits ≡ admits.Int → is_int z ≡ true → fit_of c.admits (Int z) ≡ Fits
+int_fits c z is int = ap (λ (a : Admit). fit_of a (Int z)) is ∙ ap (λ b. cond b Fits OutOfRange) int
 
-all_fit : (columns : List Column) (numbers : List ℤ) → AllByRecursion (λ c. c.admits ≡ admits.Int) columns → list_all (λ p. is_fit (fit_of p.0.admits p.1)) (zip columns (map Int numbers)) ≡ true
-all_fit [] numbers ints = refl
-all_fit (c ∷ cs) [] ints = refl
-all_fit (c ∷ cs) (z ∷ zs) ints = rw ints.0 (all_fit cs zs ints.1)
+fits_fine : (columns : List Column) (numbers : List ℤ) → AllByRecursion (λ c. c.admits ≡ admits.Int) columns → list_all is_int numbers ≡ true → flat_map (λ p. unfit (fit_of p.0.admits p.1)) (zip columns (map Int numbers)) ≡ []
+fits_fine [] numbers ints small = refl
+fits_fine (c ∷ cs) [] ints small = refl
+fits_fine (c ∷ cs) (z ∷ zs) ints small =
+    let parts = and_parts (is_int z) (list_all is_int zs) small in
+    ap₂ (λ (f : Fit) (os : List Refusal). unfit f ++ os) (int_fits c z ints.0 parts.0) (fits_fine cs zs ints.1 parts.1)
+
+all_fit : (columns : List Column) (numbers : List ℤ) → AllByRecursion (λ c. c.admits ≡ admits.Int) columns → list_all is_int numbers ≡ true → list_all (λ p. is_fit (fit_of p.0.admits p.1)) (zip columns (map Int numbers)) ≡ true
+all_fit [] numbers ints small = refl
+all_fit (c ∷ cs) [] ints small = refl
+all_fit (c ∷ cs) (z ∷ zs) ints small =
+    let parts = and_parts (is_int z) (list_all is_int zs) small in
+    and_from _ _ (ap is_fit (int_fits c z ints.0 parts.0)) (all_fit cs zs ints.1 parts.1)
 
 -- a row of numbers has only values of its columns' kinds
 kinds_alone : (s : Stored) → IsServed s → (row : List Value) → AreNumbers row → flat_map (λ p. when (not (same_kind (kind_of p.1) (kind_admitted p.0.admits))) TypeMismatch) (zip s.table.columns row) ≡ []
@@ -65,7 +77,7 @@ with_row_served s served row admitted new =
 module _ (s : Stored) (served : IsServed s) (row : List Value) (numbers : AreNumbers row) (count : length row ≡ length s.table.columns) where
   pub row_admitted : is_admitted s.table row ≡ true
   row_admitted =
-      let fine = subst (λ (r : List Value). list_all (λ p. is_fit (fit_of p.0.admits p.1)) (zip s.table.columns r) ≡ true) (sym numbers.1) (all_fit s.table.columns numbers.0 served.ints) in
+      let fine = subst (λ (r : List Value). list_all (λ p. is_fit (fit_of p.0.admits p.1)) (zip s.table.columns r) ≡ true) (sym numbers.1) (all_fit s.table.columns numbers.0 served.ints numbers.2) in
       ap (λ b. cond b (list_all (λ p. is_fit (fit_of p.0.admits p.1)) (zip s.table.columns row)) false) (same_count _ _ count) ∙ fine
 
   pub tuple_fine : tuple_objections s.table row ≡ []
@@ -73,7 +85,7 @@ module _ (s : Stored) (served : IsServed s) (row : List Value) (numbers : AreNum
       ap₂ (λ (b : Bool) (os : List Refusal). when (not b) WrongCount ++ os) (same_count _ _ count) (kinds_alone s served row numbers)
 
   unfit_none : unfit_values s.table row ≡ []
-  unfit_none = subst (λ (r : List Value). unfit_values s.table r ≡ []) (sym numbers.1) (fits_fine s.table.columns numbers.0 served.ints)
+  unfit_none = subst (λ (r : List Value). unfit_values s.table r ≡ []) (sym numbers.1) (fits_fine s.table.columns numbers.0 served.ints numbers.2)
 
   module _ (n : ℕ) where
     abbrev statement : Statement

@@ -1,6 +1,6 @@
 -- The one table that a script of the form has, with its rows, and the table that a MIGRATE sets aside.
-use Rattle.std.specs.Prelude.{◌≡◌, ℕ, ◌≤◌, ℤ, Bool, false, not, List, [], ◌∷◌, ◌++◌, map, filter, length, insert, slice_index_or, nat_eq, Option, None, Some, position, unwrap_or}
-use Rattle.std.specs.List.{AllByRecursion, range_with_len}
+use Rattle.std.specs.Prelude.{◌≡◌, ℕ, ◌≤◌, ℤ, Bool, false, not, List, [], ◌∷◌, ◌++◌, map, filter, length, insert, slice_index_or, nat_eq, Option, None, Some, position, unwrap_or, IsTrue}
+use Rattle.std.specs.List.{AllByRecursion, list_all, range_with_len}
 use Rattle.std.specs.Ordering.{is_eq}
 use Rattle.bf_base.specs.declared.value.Value.{Value}
 use Rattle.bf_base.specs.declared.value.Value.TheVariants.{Int}
@@ -8,6 +8,7 @@ use Rattle.bf_base.specs.declared.table.Admit.TheVariants as admits
 use Rattle.bf_base.specs.declared.table.Column.{Column}
 use Rattle.bf_base.specs.declared.table.Table.{Table}
 use Rattle.bf_base.specs.Values.{value_cmp, key_cmp}
+use Rattle.bf_base.specs.Limits.{is_int}
 use Rattle.bf_base.specs.Lists.{same_name, same_key, has, placed}
 use Rattle.bf_base.specs.Tables.{cell, cells, key_of}
 use Rattle.bf_lazy.specs.declared.statement.Statement.{Statement}
@@ -67,9 +68,9 @@ pub record IsCreation (statement : Statement) : Type 0 where
   pub are_columns : AreColumns columns key
   pub spelled : statement ≡ creation table columns key
 
--- a row of numbers
+-- a row of INTs
 abbrev pub AreNumbers : List Value → Type 0
-AreNumbers row = (numbers : List ℤ) × (row ≡ map Int numbers)
+AreNumbers row = (numbers : List ℤ) × (row ≡ map Int numbers) × IsTrue (list_all is_int numbers)
 
 -- a number
 abbrev pub IsInt : Value → Type 0

@@ -7,7 +7,7 @@ pub mod laws;
 pub mod meaning;
 pub mod merge;
 pub mod range;
-mod running;
+pub mod running;
 pub mod selection;
 mod sum;
 

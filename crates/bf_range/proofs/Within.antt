@@ -1,5 +1,5 @@
 -- The value of an expression lies within its extent.
-use Rattle.std.proofs.Common.{◌≡◌, ℕ, ◌+◌, ℤ, pos, ◌+ℤ◌, ◌-ℤ◌, ◌*ℤ◌, neg_ℤ, ◌≤ℤ◌, int_le, nat_le, Bool, true, false, ◌&&◌, if◌then◌else◌, List, ◌++◌, length, Result, Ok, Err, IsOkAnd, refl, sym, ap, ◌∙◌, arith}
+use Rattle.std.proofs.Common.{◌≡◌, ℕ, ◌+◌, ℤ, ◌+ℤ◌, ◌-ℤ◌, ◌*ℤ◌, neg_ℤ, ◌≤ℤ◌, int_le, nat_le, Bool, true, false, ◌&&◌, if◌then◌else◌, List, ◌++◌, length, Result, Ok, Err, IsOkAnd, refl, sym, ap, ◌∙◌, arith}
 use Rattle.std.proofs.lemmas.Bool.{and_parts, and_from, false≢true}
 use Rattle.std.proofs.lemmas.Bool.Decides.{nat_tests}
 use Rattle.std.proofs.lemmas.Int.{ints}
@@ -11,7 +11,7 @@ use Rattle.bf_base.specs.declared.table.Admit.TheVariants as admits
 use Rattle.bf_base.specs.declared.table.Fit.{Fit}
 use Rattle.bf_base.specs.declared.table.Fit.TheVariants.{Fits, OutOfRange, TooLong}
 use Rattle.bf_base.specs.Tables.{fit_of}
-use Rattle.bf_base.specs.Limits.{is_int, least_int, greatest_int}
+use Rattle.bf_base.specs.Limits.{longest_text, is_int, least_int, greatest_int}
 use Rattle.bf_tree.specs.declared.evaluation.Fail.{Fail}
 use Rattle.bf_tree.specs.declared.evaluation.Fail.TheVariants as fail
 use Rattle.bf_tree.specs.Trees.{Expr, literal, column, negated, plus, minus, times, joined}
@@ -126,8 +126,16 @@ joined_given (numbers a b) f r s p q = beyond_given (behind r s)
 joined_given beyond f r s p q = beyond_given (behind r s)
 
 literal_given : {R : Type 0} (admitted : R → Admit) (v : Value) → gives_within (extent_of admitted (literal v)) (Ok v) ≡ true
-literal_given admitted (Int n) = let same : n ≤ℤ n = omega (arith, ints) in and_from _ _ (tests n n same) (tests n n same)
-literal_given admitted (Text t) = let long : nat_le (length t) (length t) ≡ true = grind (arith, nat_tests) in long
+literal_given admitted (Int n) = of (is_int n && is_int n)
+  where
+    of : (b : Bool) → gives_within (if b then numbers n n else beyond) (Ok (Int n)) ≡ true
+    of true = let same : n ≤ℤ n = omega (arith, ints) in and_from _ _ (tests n n same) (tests n n same)
+    of false = refl
+literal_given admitted (Text t) = of (nat_le (length t) longest_text)
+  where
+    of : (b : Bool) → gives_within (if b then texts (length t) else beyond) (Ok (Text t)) ≡ true
+    of true = let long : nat_le (length t) (length t) ≡ true = grind (arith, nat_tests) in long
+    of false = refl
 
 -- where a test decides whether a value fits, it holds of what does
 pub fits_where : (test : Bool) (other : Fit) → is_fit other ≡ false → is_fit (if test then Fits else other) ≡ true → test ≡ true

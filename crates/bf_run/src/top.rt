@@ -22,6 +22,7 @@ use bf_text::report;
 use bf_tree::{Script, Sweep};
 use std::alloc::Global;
 use std::marker::Brand;
+use std::mem::forget;
 
 /// The status of a text that is no script, and what is written of its first fault.
 fn answer_fault(alloc: Global, fault: ScriptFault) -> Result<(Status, Vec<u8>), Memory>
@@ -44,7 +45,10 @@ fn serve_plain<N: Opened>(alloc: Global, script: Script) -> Result<Vec<u8>, Memo
 {
     let mut machine: Machine<N> = Machine::new(alloc, LiveTables::new(alloc), script, RETRIES)?;
     in_order(alloc, &mut machine, &[])?;
-    let (_, transcripts, history) = machine.into_parts();
+    let (live, transcripts, history) = machine.into_parts();
+    // The program ends behind its report, and its memory goes with it: to free the tables row by row
+    // would take a tenth of a run and more.
+    forget(live);
     report(alloc, &transcripts, &history, None, &Sweep::Never)
 }
 
@@ -123,7 +127,8 @@ fn answer<I: Source>(
 ///
 /// The whole text is made before its first byte is written, so want of memory is answered with
 /// nothing written. The time is linear in the input and in the report; beside that each statement
-/// compares about log n names, and costs what it reads and writes of its table.
+/// compares about log n names, and costs what it reads and writes of its table. The tables are not freed:
+/// the call is a program's last, and their memory goes with the program.
 pub fn bullfrog<I: Source, O: Sink>(
     alloc: Global,
     words: &[&str],

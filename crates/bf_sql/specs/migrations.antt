@@ -5,5 +5,6 @@ pub mod Images
 pub mod Lazy
 pub mod MigrationObjections
 pub mod Need
+pub mod Placed
 pub mod Plans
 pub mod Targets

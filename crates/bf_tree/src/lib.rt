@@ -27,7 +27,7 @@ pub use fixed::{column_fixed, is_column_at, literal, value_fixed};
 pub use history::{Entry, History, Outcome, Sweep, Transcripts};
 pub use items::{Aggregate, Items, List, RawAggregate};
 pub use migration::{Arm, Item, Join, Migrate, Target};
-pub use plan::{Plan, Unit, UnitKind};
+pub use plan::{ArmKind, PlacedArm, PlacedItem, Plan, Unit, UnitKind};
 pub use raw::{Operand, RawCond, RawExpr, RawNode, RawTest, Ref};
 pub use reply::{Cause, Cell, Refusal, Reply};
 pub use script::{Script, Session};

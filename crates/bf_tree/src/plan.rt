@@ -2,9 +2,45 @@
 
 ghost use Rattle.std.specs.Prelude.{◌≡◌, IfOk};
 
+use crate::items::Aggregate;
 use crate::migration::Migrate;
+use crate::tree::{Cond, Expr};
 use bf_base::{Memory, Name, Sequence, Table, TryClone};
 use std::alloc::Global;
+
+/// How an arm makes rows.
+#[derive(Clone, Copy, Debug, PartialEq, Eq)]
+pub enum ArmKind {
+    /// One for each row of FROM.
+    ByFrom,
+    /// One for each row of JOIN.
+    ByJoin,
+    /// One for each pair of a row of FROM and one of JOIN.
+    ByPair,
+    /// One for each group.
+    ByGroup,
+}
+
+/// An item of an arm, with places for names. Places are those in a row of FROM with a row of JOIN
+/// behind it, counted from 0.
+#[derive(Drop)]
+pub enum PlacedItem {
+    Column(u8),
+    Value(Expr),
+    Total(Aggregate),
+}
+
+/// An arm with places for names.
+#[derive(Drop)]
+pub struct PlacedArm {
+    pub kind: ArmKind,
+    pub items: Sequence<PlacedItem>,
+    /// Where there is a JOIN: the pairs of ON.
+    pub on: Option<Sequence<(u8, u8)>>,
+    pub cond: Cond,
+    /// The columns of GROUP BY.
+    pub group: Sequence<u8>,
+}
 
 /// What the granules of a unit stand for.
 #[derive(Clone, Copy, Debug, PartialEq, Eq)]
@@ -34,11 +70,57 @@ pub struct Plan {
     pub migrate: Migrate,
     /// The new tables, in the order of the targets.
     pub tables: Sequence<Table>,
+    /// Each target's arms.
+    pub arms: Sequence<Sequence<PlacedArm>>,
     /// At most four units of rows, in the order of their drivers' first arms, and then those that go
     /// by values, in the order of their arms.
     pub units: Sequence<Unit>,
     /// The old tables, each once, in the order in which they are first named.
     pub sources: Sequence<Name>,
+}
+
+impl PlacedItem {
+    /// An equal item.
+    pub fn copy(&self, alloc: Global) -> Result<PlacedItem, Memory>
+        ensures { IfOk result (λ copy. copy ≡ self.now) }
+    {
+        match self {
+            PlacedItem::Column(place) => Ok(PlacedItem::Column(*place)),
+            PlacedItem::Value(expr) => Ok(PlacedItem::Value(expr.copy(alloc)?)),
+            PlacedItem::Total(total) => Ok(PlacedItem::Total(total.copy(alloc)?)),
+        }
+    }
+}
+
+impl TryClone for PlacedItem {
+    fn try_clone(&self, alloc: Global) -> Result<PlacedItem, Memory> {
+        self.copy(alloc)
+    }
+}
+
+impl PlacedArm {
+    /// An equal arm.
+    pub fn copy(&self, alloc: Global) -> Result<PlacedArm, Memory>
+        ensures { IfOk result (λ copy. copy ≡ self.now) }
+    {
+        let items = self.items.copy(alloc)?;
+        let on = self.on.try_clone(alloc)?;
+        let cond = self.cond.copy(alloc)?;
+        let group = self.group.copy(alloc)?;
+        Ok(PlacedArm {
+            kind: self.kind,
+            items,
+            on,
+            cond,
+            group,
+        })
+    }
+}
+
+impl TryClone for PlacedArm {
+    fn try_clone(&self, alloc: Global) -> Result<PlacedArm, Memory> {
+        self.copy(alloc)
+    }
 }
 
 impl Unit {
@@ -69,11 +151,13 @@ impl Plan {
     {
         let migrate = self.migrate.copy(alloc)?;
         let tables = self.tables.copy(alloc)?;
+        let arms = self.arms.copy(alloc)?;
         let units = self.units.copy(alloc)?;
         let sources = self.sources.copy(alloc)?;
         Ok(Plan {
             migrate,
             tables,
+            arms,
             units,
             sources,
         })

@@ -40,6 +40,7 @@ enum Told {
     Selects(Option<i64>),
     Updates(u8, Option<i64>),
     Deletes(Option<i64>),
+    Migrates(usize),
     Begins,
     Commits,
     RollsBack,
@@ -165,6 +166,7 @@ fn action_seen(action: &Action) -> Told {
             Told::Updates(first_set(sets.as_slice()), number_fixed(fixed))
         }
         Action::Delete { fixed, .. } => Told::Deletes(number_fixed(fixed)),
+        Action::Migrate(plan) => Told::Migrates(plan.tables.as_slice().len()),
         Action::Begin => Told::Begins,
         Action::Commit => Told::Commits,
         Action::Rollback => Told::RollsBack,

@@ -15,6 +15,7 @@ use Rattle.bf_base.specs.declared.table.Admit.TheVariants as admits
 use Rattle.bf_base.specs.declared.table.Fit.TheVariants.{Fits, TooLong}
 use Rattle.bf_base.specs.declared.table.Kind.{Kind}
 use Rattle.bf_base.specs.declared.table.Kind.TheVariants as kinds
+use Rattle.bf_base.specs.Limits.{longest_text}
 use Rattle.bf_base.specs.Tables.{fit_of, kind_admitted, same_kind}
 use Rattle.bf_base.specs.Lists.{when}
 use Rattle.bf_base.specs.declared.table.Column.{Column}
@@ -28,13 +29,15 @@ use Rattle.bf_tree.specs.declared.migration.Arm.{Arm}
 use Rattle.bf_tree.specs.declared.migration.Target.{Target}
 use Rattle.bf_sql.specs.Database.{Database, IsDatabase, is_fit, is_admitted, table_rows}
 use Rattle.bf_sql.specs.Scopes.{Scope, kind_in, admitted_by}
-use Rattle.bf_sql.specs.migrations.Extents.{Extent, numbers, texts, beyond, extent_of_admit, extent_of, extent_joined, may_fail, admit_of_extent}
+use Rattle.bf_sql.specs.migrations.Extents.{Extent, numbers, texts, beyond, extent_of_admit, extent_of, extent_up_to, extent_joined, may_fail, admit_of_extent}
 use Rattle.bf_sql.specs.migrations.MigrationObjections.{kind_of_item, item_kinds, failing_objections, target_objections}
 use Rattle.bf_sql.specs.migrations.Targets.{either_admit, arm_kind, arm_scope, item_admit, extent_of_item, first_arm, column_admit, target_table, item_name}
 use Rattle.bf_sql.specs.migrations.Images.{arm_rows, image_of, rows_of_join}
 use Rattle.bf_image.proofs.items.Lists.{none_left, none_right, none_when, none_of_each, all_both, all_so, all_of_blocks}
+use Rattle.bf_image.proofs.making.Unobjected.{two_sided, alone_in_groups, arms_ok}
+use Rattle.bf_image.proofs.admitting.Few.{goes_over_few}
 use Rattle.bf_image.proofs.admitting.Fits.{fit_all, rows_fit, safe_items}
-use Rattle.bf_image.proofs.admitting.Within.{fits, is_numeric, negated_numeric, plus_numeric, minus_numeric, times_numeric, summed_numeric}
+use Rattle.bf_image.proofs.admitting.Within.{fits, unchecked_fits, is_numeric, between_numeric, negated_numeric, plus_numeric, minus_numeric, times_numeric, summed_numeric}
 
 abbrev pub is_kind : Kind → Admit → Bool
 is_kind k a = same_kind k (kind_admitted a)
@@ -48,15 +51,15 @@ varchar_fits m n t e less = of (nat_le (length t) m) refl e
 
 -- what either of two columns takes, the column for both takes
 either_left : (k : Kind) (a b : Admit) (v : Value) → is_kind k a ≡ true → is_kind k b ≡ true → fits a v ≡ true → fits (either_admit a b) v ≡ true
-either_left k admits.Int b (Int n) p q e = refl
+either_left k admits.Int b (Int n) p q e = e
 either_left k admits.Int b (Text t) p q e = absurd (false≢true e)
-either_left k (admits.Checked x y) admits.Int (Int n) p q e = refl
+either_left k (admits.Checked x y) admits.Int (Int n) p q e = unchecked_fits (admits.Checked x y) n e
 either_left k (admits.Checked x y) admits.Int (Text t) p q e = absurd (false≢true e)
 either_left k (admits.Checked x y) (admits.Checked z w) v p q e = of (int_eq x z && int_eq y w) v e
   where
     of : (b : Bool) (v : Value) → fits (admits.Checked x y) v ≡ true → fits (if b then admits.Checked x y else admits.Int) v ≡ true
     of true v e = e
-    of false (Int n) e = refl
+    of false (Int n) e = unchecked_fits (admits.Checked x y) n e
     of false (Text t) e = absurd (false≢true e)
 either_left kinds.Int (admits.Checked x y) (admits.Varchar n) v p q e = absurd (false≢true q)
 either_left kinds.Text (admits.Checked x y) (admits.Varchar n) v p q e = absurd (false≢true p)
@@ -69,7 +72,7 @@ either_left kinds.Text (admits.Varchar m) (admits.Checked z w) v p q e = absurd 
 
 either_right : (k : Kind) (a b : Admit) (v : Value) → is_kind k a ≡ true → is_kind k b ≡ true → fits b v ≡ true → fits (either_admit a b) v ≡ true
 either_right k admits.Int admits.Int v p q e = e
-either_right k admits.Int (admits.Checked z w) (Int n) p q e = refl
+either_right k admits.Int (admits.Checked z w) (Int n) p q e = unchecked_fits (admits.Checked z w) n e
 either_right k admits.Int (admits.Checked z w) (Text t) p q e = absurd (false≢true e)
 either_right kinds.Int admits.Int (admits.Varchar n) v p q e = absurd (false≢true q)
 either_right kinds.Text admits.Int (admits.Varchar n) v p q e = absurd (false≢true p)
@@ -81,7 +84,7 @@ either_right k (admits.Checked x y) (admits.Checked z w) v p q e = of (int_eq x 
         let low = (Decides-int_eq x z).0 (and_parts _ _ same).0 in
         let high = (Decides-int_eq y w).0 (and_parts _ _ same).1 in
         ap₂ (λ c d. fits (admits.Checked c d) v) low high ∙ e
-    of false same (Int n) e = refl
+    of false same (Int n) e = unchecked_fits (admits.Checked z w) n e
     of false same (Text t) e = absurd (false≢true e)
 either_right kinds.Int (admits.Checked x y) (admits.Varchar n) v p q e = absurd (false≢true q)
 either_right kinds.Text (admits.Checked x y) (admits.Varchar n) v p q e = absurd (false≢true p)
@@ -145,12 +148,15 @@ numeric_kind (numbers a b) e = refl
 numeric_kind (texts m) e = absurd (false≢true e)
 numeric_kind beyond e = refl
 
-joined_kind : (e f : Extent) → may_fail (extent_joined e f) ≡ false → is_kind kinds.Text (admit_of_extent (extent_joined e f)) ≡ true
-joined_kind (texts m) (texts n) safe = of (nat_le (m + n) 255) safe
+up_to_kind : (most : ℕ) → may_fail (extent_up_to most) ≡ false → is_kind kinds.Text (admit_of_extent (extent_up_to most)) ≡ true
+up_to_kind most safe = of (nat_le most longest_text) safe
   where
-    of : (b : Bool) → may_fail (if b then texts (m + n) else beyond) ≡ false → is_kind kinds.Text (admit_of_extent (if b then texts (m + n) else beyond)) ≡ true
+    of : (b : Bool) → may_fail (if b then texts most else beyond) ≡ false → is_kind kinds.Text (admit_of_extent (if b then texts most else beyond)) ≡ true
     of true h = refl
     of false h = absurd (false≢true (sym h))
+
+joined_kind : (e f : Extent) → may_fail (extent_joined e f) ≡ false → is_kind kinds.Text (admit_of_extent (extent_joined e f)) ≡ true
+joined_kind (texts m) (texts n) safe = up_to_kind (m + n) safe
 joined_kind (texts m) (numbers a b) safe = absurd (false≢true (sym safe))
 joined_kind (texts m) beyond safe = absurd (false≢true (sym safe))
 joined_kind (numbers a b) f safe = absurd (false≢true (sym safe))
@@ -163,8 +169,8 @@ column_kind (admits.Varchar m) = refl
 
 module _ (scope : Scope) where
   expr_kind : (e : Expr Ref) → may_fail (extent_of (admitted_by scope) e) ≡ false → is_kind (kind_in scope e) (admit_of_extent (extent_of (admitted_by scope) e)) ≡ true
-  expr_kind (literal (Int n)) safe = refl
-  expr_kind (literal (Text t)) safe = refl
+  expr_kind (literal (Int n)) safe = numeric_kind _ (between_numeric n n)
+  expr_kind (literal (Text t)) safe = up_to_kind (length t) safe
   expr_kind (column r) safe = column_kind (admitted_by scope r)
   expr_kind (negated a) safe = numeric_kind _ (negated_numeric (extent_of (admitted_by scope) a))
   expr_kind (plus a b) safe = numeric_kind _ (plus_numeric (extent_of (admitted_by scope) a) (extent_of (admitted_by scope) b))
@@ -236,7 +242,7 @@ none_any : {X : Type 0} (p : X → Bool) (xs : List X) → list_any (λ x. not (
 none_any p [] e = refl
 none_any p (x ∷ xs) e = and_from _ _ (not-false _ (or_parts _ _ e).0) (none_any p xs (or_parts _ _ e).1)
 
-module _ (old : Database) (is : IsDatabase old) (t : Target) (none : target_objections old t ≡ []) where
+module _ (old : Database) (is : IsDatabase old) (t : Target) (none : target_objections old t ≡ []) (few : list_all (goes_over_few old) t.arms ≡ true) where
   abbrev first : Arm
   first = first_arm t.arms
 
@@ -299,13 +305,20 @@ module _ (old : Database) (is : IsDatabase old) (t : Target) (none : target_obje
   abbrev whole_of : Arm → List (List Value)
   whole_of arm = arm_rows old arm (table_rows old arm.from) (rows_of_join old arm.join)
 
-  arms_admitted : (before arms : List Arm) → before ++ arms ≡ t.arms → list_all okay arms ≡ true → list_all (λ arm. list_all (is_admitted (target_table old t)) (whole_of arm)) arms ≡ true
-  arms_admitted before [] e all = refl
-  arms_admitted before (arm ∷ arms) e all =
+  abbrev counted_rows : Arm → Bool
+  counted_rows arm = goes_over_few old arm && alone_in_groups old arm
+
+  all_counted : list_all counted_rows t.arms ≡ true
+  all_counted = all_both (goes_over_few old) (λ arm. two_sided old arm && alone_in_groups old arm) counted_rows (λ arm less o. and_from _ _ less (and_parts (two_sided old arm) _ o).1) t.arms few (arms_ok old t none)
+
+  arms_admitted : (before arms : List Arm) → before ++ arms ≡ t.arms → list_all okay arms ≡ true → list_all counted_rows arms ≡ true → list_all (λ arm. list_all (is_admitted (target_table old t)) (whole_of arm)) arms ≡ true
+  arms_admitted before [] e all less = refl
+  arms_admitted before (arm ∷ arms) e all less =
+      let counted = and_parts (goes_over_few old arm) (alone_in_groups old arm) (and_parts _ _ less).0 in
       and_from _ _
-      (all_so (fit_all (columns_of arm)) (is_admitted (target_table old t)) (row_admitted before arms arm e (and_parts _ _ all).0) (whole_of arm) (rows_fit old is arm (and_parts _ (safe_items old is arm) (and_parts _ _ all).0).1 (arm_kind old arm)))
-      (arms_admitted (before ++ arm ∷ []) arms (append_assoc before (arm ∷ []) arms ∙ e) (and_parts _ _ all).1)
+      (all_so (fit_all (columns_of arm)) (is_admitted (target_table old t)) (row_admitted before arms arm e (and_parts _ _ all).0) (whole_of arm) (rows_fit old is arm (and_parts _ (safe_items old is arm) (and_parts _ _ all).0).1 counted.0 (arm_kind old arm) counted.1))
+      (arms_admitted (before ++ arm ∷ []) arms (append_assoc before (arm ∷ []) arms ∙ e) (and_parts _ _ all).1 (and_parts _ _ less).1)
 
   -- no row of the image is refused by the target's columns
   pub image_admitted : list_all (is_admitted (target_table old t)) (image_of old t) ≡ true
-  image_admitted = all_of_blocks (is_admitted (target_table old t)) whole_of t.arms (arms_admitted [] t.arms refl all_okay)
+  image_admitted = all_of_blocks (is_admitted (target_table old t)) whole_of t.arms (arms_admitted [] t.arms refl all_okay all_counted)

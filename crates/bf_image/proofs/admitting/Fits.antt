@@ -1,9 +1,10 @@
 -- The rows of an arm fit the columns that its items make.
 use lib.Pointwise.{pointwise}
-use Rattle.std.proofs.Common.{◌≡◌, ℕ, zero, suc, Bool, true, false, not, ◌||◌, ◌==◌, cond, if◌then◌else◌, List, [], ◌∷◌, ◌++◌, map, filter, flat_map, length, zip, Option, Some, None, refl, sym, ap, ◌∙◌, arith}
+use Rattle.std.proofs.Common.{◌≡◌, ℕ, zero, suc, ◌≤◌, nat_le, Bool, true, false, not, ◌||◌, ◌==◌, cond, if◌then◌else◌, List, [], ◌∷◌, ◌++◌, map, filter, flat_map, length, zip, Option, Some, None, is_some, refl, sym, ap, ◌∙◌, arith}
 use Rattle.std.specs.Prelude.{pos, option_map, unwrap_or, slice_index_or}
 use Rattle.std.specs.List.{list_all}
 use Rattle.std.proofs.lemmas.Bool.{and_parts, and_from, not-true, false≢true, eqb-true}
+use Rattle.std.proofs.lemmas.Bool.Decides.{nat_tests}
 use Rattle.std.proofs.lemmas.List.{append-nil, map-append}
 use Rattle.bf_base.specs.declared.value.Value.{Value}
 use Rattle.bf_base.specs.declared.value.Value.TheVariants.{Int}
@@ -21,15 +22,19 @@ use Rattle.bf_tree.specs.declared.migration.Item.{Item}
 use Rattle.bf_tree.specs.declared.migration.Item.TheVariants as item
 use Rattle.bf_tree.specs.declared.migration.Join.{Join}
 use Rattle.bf_tree.specs.declared.migration.Arm.{Arm}
+use Rattle.bf_tree.specs.declared.plan.ArmKind.{ArmKind}
+use Rattle.bf_tree.specs.declared.plan.ArmKind.TheVariants.{ByFrom, ByJoin, ByPair, ByGroup}
 use Rattle.bf_sql.specs.Database.{Database, Stored, IsDatabase, stored_at, table_at, table_rows, is_fit, is_admitted, no_table}
 use Rattle.bf_sql.specs.Scopes.{Scope, scope_of, place_of, read_in, admitted_by}
-use Rattle.bf_sql.specs.migrations.Extents.{extent_of, extent_of_total, may_fail, admit_of_extent}
-use Rattle.bf_sql.specs.migrations.Targets.{ArmKind, by_from, by_join, by_pair, by_group, arm_scope, names_of_join, extent_of_item, item_admit}
+use Rattle.bf_sql.specs.migrations.Extents.{extent_of, may_fail, admit_of_extent, most_rows}
+use Rattle.bf_sql.specs.migrations.MigrationObjections.{is_by_group}
+use Rattle.bf_sql.specs.migrations.Targets.{arm_scope, names_of_join, extent_of_item, item_admit}
 use Rattle.bf_sql.specs.migrations.Images.{is_equal_on, item_over, group_value, groups_by, matches_of_join, satisfying, rows_of_join}
-use Rattle.bf_image.proofs.items.Lists.{all_so, all_found, all_of_blocks, all_of_map, has_own, all_kept}
+use Rattle.bf_image.proofs.items.Lists.{all_so, all_both, all_found, all_of_blocks, all_of_map, has_own, all_kept}
 use Rattle.bf_image.proofs.making.Arms.{passes, made, rows_by, key-equal, key-itself, key-symmetric}
 use Rattle.bf_image.proofs.items.Values.{distinct-has}
-use Rattle.bf_image.proofs.admitting.Within.{fits, made_fits, value_within, total_within}
+use Rattle.bf_image.proofs.admitting.Few.{is_few}
+use Rattle.bf_image.proofs.admitting.Within.{fits, value_fits, total_fits}
 
 abbrev pub fit_all : List Admit → List Value → Bool
 fit_all admitted values = pointwise fits admitted values
@@ -50,6 +55,28 @@ fit_append (x ∷ a) b (v ∷ r) s p q = and_from _ _ (and_parts _ _ p).0 (fit_a
 pub fit_of_maps : {X : Type 0} (f : X → Admit) (g : X → Value) (xs : List X) → list_all (λ x. fits (f x) (g x)) xs ≡ true → fit_all (map f xs) (map g xs) ≡ true
 fit_of_maps f g [] e = refl
 fit_of_maps f g (x ∷ xs) e = and_from _ _ (and_parts _ _ e).0 (fit_of_maps f g xs (and_parts _ _ e).1)
+
+at_most : (n m : ℕ) → nat_le n m ≡ true → n ≤ m
+at_most n m e = grind (arith, nat_tests)
+
+always : {X : Type 0} (p : X → Bool) → ((x : X) → p x ≡ true) → (xs : List X) → list_all p xs ≡ true
+always p one [] = refl
+always p one (x ∷ xs) = and_from _ _ (one x) (always p one xs)
+
+-- a test leaves no more rows
+filter_shorter : {X : Type 0} (p : X → Bool) (xs : List X) → length (filter p xs) ≤ length xs
+filter_shorter p [] = omega arith
+filter_shorter p (x ∷ xs) = of (p x) (filter_shorter p xs)
+  where
+    of : (b : Bool) → length (filter p xs) ≤ length xs → length (cond b (x ∷ filter p xs) (filter p xs)) ≤ length (x ∷ xs)
+    of true less = omega arith
+    of false less = omega arith
+
+few_left : (p : List Value → Bool) (rows : List (List Value)) → is_few rows ≡ true → is_few (filter p rows) ≡ true
+few_left p rows few = less (length (filter p rows)) (length rows) most_rows (filter_shorter p rows) few
+  where
+    less : (a b n : ℕ) → a ≤ b → nat_le b n ≡ true → nat_le a n ≡ true
+    less a b n p e = grind (arith, nat_tests)
 
 abbrev admits_in : Scope → List Admit
 admits_in scope = map (λ c. c.1.admits) scope
@@ -134,10 +161,10 @@ module _ (old : Database) (is : IsDatabase old) where
     single_groups (row ∷ rows) all = and_from _ _ (and_from _ _ (and_parts _ _ all).0 refl) (single_groups rows (and_parts _ _ all).1)
 
     all_groups : (kind : ArmKind) → list_all good_group (groups_by old arm kind satisfied) ≡ true
-    all_groups by_from = single_groups satisfied all_satisfied
-    all_groups by_join = single_groups satisfied all_satisfied
-    all_groups by_pair = single_groups satisfied all_satisfied
-    all_groups by_group =
+    all_groups ByFrom = single_groups satisfied all_satisfied
+    all_groups ByJoin = single_groups satisfied all_satisfied
+    all_groups ByPair = single_groups satisfied all_satisfied
+    all_groups ByGroup =
         let value = group_value old arm in
         let vs : List (List Value) = distinct same_key (map value satisfied) in
         let own : list_all (has same_key (map value satisfied)) vs ≡ true =
@@ -153,32 +180,50 @@ module _ (old : Database) (is : IsDatabase old) where
     ref_fits row e ref = fits_at (admits_in scope) row (place_of scope ref) e
 
     other_fits : (row : List Value) → good row ≡ true → (e : Expr Ref) → may_fail (extent_of (admitted_by scope) e) ≡ false → fits (admit_of_extent (extent_of (admitted_by scope) e)) (sure_value (read_in scope row) e) ≡ true
-    other_fits row fine e safe = made_fits (extent_of (admitted_by scope) e) (sure_value (read_in scope row) e) safe (value_within (admitted_by scope) (read_in scope row) (ref_fits row fine) e)
+    other_fits row fine e safe = value_fits (admitted_by scope) (read_in scope row) (ref_fits row fine) e safe
 
-    item_fits : (row : List Value) (rows : List (List Value)) → list_all good (row ∷ rows) ≡ true → (i : Item) → may_fail (extent_of_item scope i) ≡ false → fits (item_admit scope i) (item_over old arm (row ∷ rows) i) ≡ true
-    item_fits row rows all (item.Column ref) safe = ref_fits row (and_parts _ _ all).0 ref
-    item_fits row rows all (item.Named (column ref) name) safe = ref_fits row (and_parts _ _ all).0 ref
-    item_fits row rows all (item.Named (literal v) name) safe = other_fits row (and_parts _ _ all).0 (literal v) safe
-    item_fits row rows all (item.Named (negated a) name) safe = other_fits row (and_parts _ _ all).0 (negated a) safe
-    item_fits row rows all (item.Named (plus a b) name) safe = other_fits row (and_parts _ _ all).0 (plus a b) safe
-    item_fits row rows all (item.Named (minus a b) name) safe = other_fits row (and_parts _ _ all).0 (minus a b) safe
-    item_fits row rows all (item.Named (times a b) name) safe = other_fits row (and_parts _ _ all).0 (times a b) safe
-    item_fits row rows all (item.Named (joined a b) name) safe = other_fits row (and_parts _ _ all).0 (joined a b) safe
-    item_fits row rows all (item.Total total name) safe =
-        made_fits (extent_of_total (admitted_by scope) total) (item_over old arm (row ∷ rows) (item.Total total name)) safe
-        (total_within (admitted_by scope) (read_in scope) good (λ row e ref. ref_fits row e ref) row rows total all)
+    item_fits : (row : List Value) (rows : List (List Value)) → list_all good (row ∷ rows) ≡ true → is_few (row ∷ rows) ≡ true → (i : Item) → may_fail (extent_of_item scope i) ≡ false → fits (item_admit scope i) (item_over old arm (row ∷ rows) i) ≡ true
+    item_fits row rows all few (item.Column ref) safe = ref_fits row (and_parts _ _ all).0 ref
+    item_fits row rows all few (item.Named (column ref) name) safe = ref_fits row (and_parts _ _ all).0 ref
+    item_fits row rows all few (item.Named (literal v) name) safe = other_fits row (and_parts _ _ all).0 (literal v) safe
+    item_fits row rows all few (item.Named (negated a) name) safe = other_fits row (and_parts _ _ all).0 (negated a) safe
+    item_fits row rows all few (item.Named (plus a b) name) safe = other_fits row (and_parts _ _ all).0 (plus a b) safe
+    item_fits row rows all few (item.Named (minus a b) name) safe = other_fits row (and_parts _ _ all).0 (minus a b) safe
+    item_fits row rows all few (item.Named (times a b) name) safe = other_fits row (and_parts _ _ all).0 (times a b) safe
+    item_fits row rows all few (item.Named (joined a b) name) safe = other_fits row (and_parts _ _ all).0 (joined a b) safe
+    item_fits row rows all few (item.Total total name) safe =
+        total_fits (admitted_by scope) (read_in scope) good (λ row e ref. ref_fits row e ref) row rows total safe all (at_most (length (row ∷ rows)) most_rows few)
 
     abbrev pub safe_items : Bool
     safe_items = list_all (λ i. not (may_fail (extent_of_item scope i))) arm.items
 
-    group_fits : (rows : List (List Value)) → good_group rows ≡ true → safe_items ≡ true → fit_all (map (item_admit scope) arm.items) (made old arm rows) ≡ true
-    group_fits [] fine safe = absurd (false≢true fine)
-    group_fits (row ∷ rows) fine safe =
+    group_fits : (rows : List (List Value)) → good_group rows ≡ true → is_few rows ≡ true → safe_items ≡ true → fit_all (map (item_admit scope) arm.items) (made old arm rows) ≡ true
+    group_fits [] fine few safe = absurd (false≢true fine)
+    group_fits (row ∷ rows) fine few safe =
         fit_of_maps (item_admit scope) (item_over old arm (row ∷ rows)) arm.items
-        (all_so (λ i. not (may_fail (extent_of_item scope i))) (λ i. fits (item_admit scope i) (item_over old arm (row ∷ rows) i)) (λ i e. item_fits row rows fine i (not-true _ e)) arm.items safe)
+        (all_so (λ i. not (may_fail (extent_of_item scope i))) (λ i. fits (item_admit scope i) (item_over old arm (row ∷ rows) i)) (λ i e. item_fits row rows fine few i (not-true _ e)) arm.items safe)
+
+    few_singles : (rows : List (List Value)) → list_all is_few (map (λ row. row ∷ []) rows) ≡ true
+    few_singles [] = refl
+    few_singles (row ∷ rows) = and_from _ _ refl (few_singles rows)
+
+    -- an arm with groups has no JOIN
+    without_join : (o : Option Join) → not (is_some o) ≡ true → matches_of_join old arm (table_rows old arm.from) (rows_of_join old arm.join) o ≡ table_rows old arm.from
+    without_join None alone = refl
+    without_join (Some j) alone = absurd (false≢true alone)
+
+    few_groups : (kind : ArmKind) → (if is_by_group kind then not (is_some arm.join) else true) ≡ true → is_few (table_rows old arm.from) ≡ true → list_all is_few (groups_by old arm kind satisfied) ≡ true
+    few_groups ByFrom alone few = few_singles satisfied
+    few_groups ByJoin alone few = few_singles satisfied
+    few_groups ByPair alone few = few_singles satisfied
+    few_groups ByGroup alone few =
+        let left : is_few satisfied ≡ true = ap (λ rows. is_few (filter (passes old arm) rows)) (without_join arm.join alone) ∙ few_left (passes old arm) (table_rows old arm.from) few in
+        all_of_map is_few (λ g. filter (λ row. same_key g (group_value old arm row)) satisfied) (distinct same_key (map (group_value old arm) satisfied))
+        (always (λ g. is_few (filter (λ row. same_key g (group_value old arm row)) satisfied)) (λ g. few_left (λ row. same_key g (group_value old arm row)) satisfied left) (distinct same_key (map (group_value old arm) satisfied)))
 
     -- no row of an arm's image is refused by the columns that its items make
-    pub rows_fit : safe_items ≡ true → (kind : ArmKind) → list_all (fit_all (map (item_admit scope) arm.items)) (rows_by old arm kind (table_rows old arm.from) (rows_of_join old arm.join)) ≡ true
-    rows_fit safe kind =
+    pub rows_fit : safe_items ≡ true → is_few (table_rows old arm.from) ≡ true → (kind : ArmKind) → (if is_by_group kind then not (is_some arm.join) else true) ≡ true
+        → list_all (fit_all (map (item_admit scope) arm.items)) (rows_by old arm kind (table_rows old arm.from) (rows_of_join old arm.join)) ≡ true
+    rows_fit safe few kind alone =
         all_of_map (fit_all (map (item_admit scope) arm.items)) (made old arm) (groups_by old arm kind satisfied)
-        (all_so good_group (λ g. fit_all (map (item_admit scope) arm.items) (made old arm g)) (λ g e. group_fits g e safe) (groups_by old arm kind satisfied) (all_groups kind))
+        (all_both good_group is_few (λ g. fit_all (map (item_admit scope) arm.items) (made old arm g)) (λ g fine less. group_fits g fine less safe) (groups_by old arm kind satisfied) (all_groups kind) (few_groups kind alone few))

@@ -1,6 +1,6 @@
 -- A flip leaves a database.
 use lib.ListN.{length-map}
-use Rattle.std.proofs.Common.{◌≡◌, ℕ, ◌<◌, Bool, true, false, not, ◌&&◌, ◌||◌, nat_lt, nat_eq, cond, if◌then◌else◌, List, [], ◌∷◌, ◌++◌, map, filter, length, position, Option, Some, None, is_some, refl, sym, ap, ap₂, ◌∙◌, arith}
+use Rattle.std.proofs.Common.{◌≡◌, ℕ, ◌<◌, Bool, true, false, not, ◌&&◌, ◌||◌, nat_lt, nat_eq, cond, if◌then◌else◌, List, [], ◌∷◌, ◌++◌, map, flat_map, filter, length, position, Option, Some, None, is_some, refl, sym, ap, ap₂, ◌∙◌, arith}
 use Rattle.std.specs.List.{list_any, list_all, filter_map, cons_option, enumerate_from}
 use Rattle.std.specs.Option.{option_eq}
 use Rattle.std.specs.Ordering.{eq_by_cmp}
@@ -18,6 +18,7 @@ use Rattle.bf_base.proofs.Apart.{are_apart, apart-append, apart_from_rises, has-
 use Rattle.bf_base.proofs.Names.{name_cmp_total, same_name-tie}
 use Rattle.bf_base.proofs.Order.{list_all-with_placed, list_any-with_placed, is_some-look_up}
 use Rattle.bf_tree.specs.declared.catalog.IndexRule.{IndexRule}
+use Rattle.bf_tree.specs.declared.reply.Refusal.{Refusal}
 use Rattle.bf_tree.specs.declared.reply.Refusal.TheVariants as refusal
 use Rattle.bf_tree.specs.declared.migration.Item.{Item}
 use Rattle.bf_tree.specs.declared.migration.Arm.{Arm}
@@ -35,6 +36,7 @@ use Rattle.bf_image.proofs.making.Unobjected.{key_there, names_new, targets_unob
 use Rattle.bf_image.proofs.making.Unions.{image_apart}
 use Rattle.bf_image.proofs.finding.Owned.{find_alike}
 use Rattle.bf_image.proofs.admitting.Admitted.{image_admitted, length_enumerated}
+use Rattle.bf_image.proofs.admitting.Few.{goes_over_few, few_sources}
 
 name_anti : IsAntisymmetric name_cmp
 name_anti = slice_cmp-IsAntisymmetric nat_cmp-IsAntisymmetric
@@ -71,6 +73,11 @@ all_left p q r one (x ∷ xs) all = of (q x) refl (all_left p q r one xs (and_pa
     of : (b : Bool) → q x ≡ b → list_all r (filter q xs) ≡ true → list_all r (cond (q x) (x ∷ filter q xs) (filter q xs)) ≡ true
     of true at rest = ap (λ b. list_all r (cond b (x ∷ filter q xs) (filter q xs))) at ∙ and_from _ _ (one x at (and_parts _ _ all).0) rest
     of false at rest = ap (λ b. list_all r (cond b (x ∷ filter q xs) (filter q xs))) at ∙ rest
+
+-- of items without an objection, each passes what follows from a test
+each_with : {X : Type 0} (f : X → List Refusal) (p q : X → Bool) → ((x : X) → f x ≡ [] → p x ≡ true → q x ≡ true) → (xs : List X) → flat_map f xs ≡ [] → list_all p xs ≡ true → list_all q xs ≡ true
+each_with f p q one [] none all = refl
+each_with f p q one (x ∷ xs) none all = and_from _ _ (one x (none_left _ _ none) (and_parts _ _ all).0) (each_with f p q one xs (none_right _ _ none) (and_parts _ _ all).1)
 
 -- places of a list are within it
 placed_within : (places : List (Option ℕ)) (n : ℕ) → length places ≡ n → (key : List ℕ) → list_all (λ j. nat_lt j n) (filter_map (λ k. k) (map (λ k. position (option_eq nat_eq (Some k)) places) key)) ≡ true
@@ -183,8 +190,9 @@ module _ (old : Database) (m : Migrate) (lawful : IsLawful old m) where
         rows_by_key = all_in_tables is_keyed (all_of_map is_keyed made m.targets (all_targets (λ t. is_keyed (made t)) (λ t e. rises-placed_apart key_cmp_total (key_of (target_table old t)) [] (image_of old t) refl (image_apart old is t e)))) is.rows_by_key;
         rows_admitted = all_in_tables (λ s. list_all (is_admitted s.table) s.rows)
             (all_of_map (λ s. list_all (is_admitted s.table) s.rows) made m.targets
-            (all_targets (λ t. list_all (is_admitted (target_table old t)) (made t).rows)
-            (λ t e. list_all-with_placed key_cmp_total (key_of (target_table old t)) (is_admitted (target_table old t)) [] (image_of old t) ∙ image_admitted old is t e))) is.rows_admitted;
+            (each_with (target_objections old) (λ t. list_all (goes_over_few old) t.arms) (λ t. list_all (is_admitted (target_table old t)) (made t).rows)
+            (λ t e few. list_all-with_placed key_cmp_total (key_of (target_table old t)) (is_admitted (target_table old t)) [] (image_of old t) ∙ image_admitted old is t e few)
+            m.targets (targets_unobjected old m is lawful.unobjected) (few_sources old m lawful.few))) is.rows_admitted;
         keys_within = all_in_tables (λ s. is_within s.table s.table.key) (all_of_map (λ s. is_within s.table s.table.key) made m.targets (all_targets (λ t. is_within (target_table old t) (target_table old t).key) (λ t e. key_within old t e))) is.keys_within;
         indexes_on_tables = all_left (is_on_table old) (λ i. not (gone i.table)) (is_on_table (flipped old m)) (λ i stays on. index_kept i stays on) old.indexes is.indexes_on_tables;
       }

@@ -1,54 +1,47 @@
--- A value is of the kind, and a text of the length, that the analysis gives.
-use Rattle.std.proofs.Common.{◌≡◌, ℕ, ◌+◌, max, Bool, true, false, ◌&&◌, nat_le, if◌then◌else◌, List, [], ◌∷◌, ◌++◌, fold, length, Result, Ok, Err, refl, sym, ap, ◌∙◌, arith}
+-- A value fits the column that is made for its extent.
+use Rattle.std.proofs.Common.{◌≡◌, ℕ, ◌≤◌, max, Bool, true, false, not, ◌&&◌, nat_le, int_le, if◌then◌else◌, List, ◌∷◌, ◌++◌, [], flat_map, fold, length, Result, Ok, Err, refl, sym, ap, arith}
 use Rattle.std.specs.Prelude.{◌^◌, ℤ, pos, neg_ℤ, ◌+ℤ◌, ◌-ℤ◌, ◌*ℤ◌}
-use Rattle.std.specs.List.{list_all}
+use Rattle.std.specs.List.{list_all, AllByRecursion}
 use Rattle.std.specs.Result.{result_unwrap_or}
 use Rattle.std.specs.Ordering.{is_lt}
-use Rattle.std.proofs.lemmas.Bool.{and_parts, and_from, false≢true}
+use Rattle.std.proofs.lemmas.Bool.{and_parts, and_from, not-false, false≢true}
 use Rattle.std.proofs.lemmas.Bool.Decides.{nat_tests}
-use Rattle.std.proofs.lemmas.List.{length-append}
+use Rattle.std.proofs.lemmas.Int.{ints}
 use Rattle.bf_base.specs.declared.value.Value.{Value}
 use Rattle.bf_base.specs.declared.value.Value.TheVariants.{Int, Text}
 use Rattle.bf_base.specs.declared.table.Admit.{Admit}
 use Rattle.bf_base.specs.declared.table.Admit.TheVariants as admits
-use Rattle.bf_base.specs.declared.table.Fit.TheVariants.{Fits, TooLong}
+use Rattle.bf_base.specs.declared.table.Fit.TheVariants.{Fits, OutOfRange, TooLong}
 use Rattle.bf_base.specs.Values.{value_cmp}
 use Rattle.bf_base.specs.Tables.{fit_of}
-use Rattle.bf_base.specs.Limits.{is_int}
+use Rattle.bf_base.specs.Limits.{is_int, least_int, greatest_int}
 use Rattle.bf_tree.specs.declared.evaluation.Fail.{Fail}
 use Rattle.bf_tree.specs.declared.evaluation.Fail.TheVariants as fail
 use Rattle.bf_tree.specs.Trees.{Expr, literal, column, negated, plus, minus, times, joined}
 use Rattle.bf_tree.specs.Evaluation.{◌>>=◌, number_of, bytes_of, exact, short, value_of, sure_value}
 use Rattle.bf_tree.specs.declared.items.Aggregate.{Aggregate}
 use Rattle.bf_tree.specs.declared.items.Aggregate.TheVariants.{Count, Sum, Min, Max}
+use Rattle.bf_tree.specs.declared.reply.Refusal.TheVariants as refusal
 use Rattle.bf_sql.specs.Database.{is_fit}
-use Rattle.bf_sql.specs.migrations.Extents.{Extent, numbers, texts, beyond, extent_between, least_of, greatest_of, extent_of_admit, extent_negated, extent_plus, extent_minus, extent_times, extent_joined, extent_summed, extent_of, extent_of_total, may_fail, admit_of_extent}
+use Rattle.bf_sql.specs.RowObjections.{argument_objections}
+use Rattle.bf_sql.specs.migrations.Extents.{Extent, numbers, texts, beyond, extent_between, least_of, greatest_of, extent_negated, extent_plus, extent_minus, extent_times, extent_summed, extent_of, extent_of_total, may_fail, admit_of_extent, most_rows}
 use Rattle.bf_sql.specs.migrations.Images.{value_or_nought}
-use Rattle.bf_sql.specs.Totals.{lesser, greater, values_of, total_of}
+use Rattle.bf_sql.specs.Totals.{lesser, greater, exact_sum, values_of, total_of}
+use Rattle.bf_range.specs.Within.{is_within, is_held}
+use Rattle.bf_range.proofs.Order.{tests}
+use Rattle.bf_range.proofs.Within.{fits_where, value_given}
+use Rattle.bf_range.proofs.Totals.{sure_within, total_unobjected}
+use Rattle.bf_image.proofs.items.Lists.{none_right, none_when}
 
 abbrev pub fits : Admit → Value → Bool
 fits a v = is_fit (fit_of a v)
-
--- a number where the extent is of numbers, and a text that is not longer than the extent says
-abbrev pub within : Extent → Value → Bool
-within (numbers low high) (Int n) = true
-within (numbers low high) (Text t) = false
-within (texts most) (Int n) = false
-within (texts most) (Text t) = nat_le (length t) most
-within beyond v = true
-
-abbrev gives : Extent → Result Value Fail → Bool
-gives e (Ok v) = within e v
-gives (numbers low high) (Err f) = true
-gives (texts most) (Err f) = false
-gives beyond (Err f) = true
 
 abbrev pub is_numeric : Extent → Bool
 is_numeric (numbers low high) = true
 is_numeric (texts most) = false
 is_numeric beyond = true
 
-between_numeric : (low high : ℤ) → is_numeric (extent_between low high) ≡ true
+pub between_numeric : (low high : ℤ) → is_numeric (extent_between low high) ≡ true
 between_numeric low high = of (is_int low && is_int high)
   where
     of : (b : Bool) → is_numeric (if b then numbers low high else beyond) ≡ true
@@ -86,130 +79,143 @@ summed_numeric (numbers a b) = between_numeric (pos (2 ^ 20) *ℤ a) (pos (2 ^ 2
 summed_numeric (texts m) = refl
 summed_numeric beyond = refl
 
-int_within : (e : Extent) → is_numeric e ≡ true → (n : ℤ) → within e (Int n) ≡ true
-int_within (numbers a b) e n = refl
-int_within (texts m) e n = absurd (false≢true e)
-int_within beyond e n = refl
+int_fits : (n : ℤ) → is_int n ≡ true → fits admits.Int (Int n) ≡ true
+int_fits n e = ap (λ b. is_fit (if b then Fits else OutOfRange)) e
 
-err_given : (e : Extent) → is_numeric e ≡ true → (f : Fail) → gives e (Err f) ≡ true
-err_given (numbers a b) e f = refl
-err_given (texts m) e f = absurd (false≢true e)
-err_given beyond e f = refl
+-- a number that a column admits is an INT
+pub held_int : (a : Admit) (v : Value) → fits a v ≡ true → is_int (number_of v) ≡ true
+held_int admits.Int (Int n) e = fits_where (is_int n) OutOfRange refl e
+held_int (admits.Checked low high) (Int n) e =
+    let ends = and_parts (is_int n && int_le low n) (int_le n high) (fits_where (is_int n && int_le low n && int_le n high) OutOfRange refl e) in
+    (and_parts (is_int n) (int_le low n) ends.0).0
+held_int (admits.Varchar m) (Int n) e = absurd (false≢true e)
+held_int admits.Int (Text t) e = refl
+held_int (admits.Checked low high) (Text t) e = refl
+held_int (admits.Varchar m) (Text t) e = refl
 
-exact_given : (e : Extent) → is_numeric e ≡ true → (n : ℤ) → gives e (exact n) ≡ true
-exact_given e num n = of (is_int n)
+-- so a column without a check admits it too
+pub unchecked_fits : (a : Admit) (n : ℤ) → fits a (Int n) ≡ true → fits admits.Int (Int n) ≡ true
+unchecked_fits a n e = int_fits n (held_int a (Int n) e)
+
+-- the numbers among results are INTs
+abbrev int_given : Result Value Fail → Bool
+int_given (Ok v) = is_int (number_of v)
+int_given (Err f) = true
+
+exact_int : (n : ℤ) → int_given (exact n) ≡ true
+exact_int n = of (is_int n) refl
   where
-    of : (b : Bool) → gives e (if b then Ok (Int n) else Err fail.OutOfRange) ≡ true
-    of true = int_within e num n
-    of false = err_given e num fail.OutOfRange
+    of : (b : Bool) → is_int n ≡ b → int_given (if b then Ok (Int n) else Err fail.OutOfRange) ≡ true
+    of true e = e
+    of false e = refl
 
-one_given : (e : Extent) → is_numeric e ≡ true → (r : Result Value Fail) (f : Value → ℤ) → gives e (r >>= (λ x. exact (f x))) ≡ true
-one_given e num (Err f) g = err_given e num f
-one_given e num (Ok x) g = exact_given e num (g x)
-
-two_given : (e : Extent) → is_numeric e ≡ true → (r s : Result Value Fail) (f : Value → Value → ℤ) → gives e (r >>= (λ x. s >>= (λ y. exact (f x y)))) ≡ true
-two_given e num (Err f) s g = err_given e num f
-two_given e num (Ok x) s g = one_given e num s (g x)
-
-beyond_given : (r : Result Value Fail) → gives beyond r ≡ true
-beyond_given (Ok v) = refl
-beyond_given (Err f) = refl
-
-joined_texts : (m n : ℕ) (t u : List ℕ) → nat_le (length t) m ≡ true → nat_le (length u) n ≡ true → gives (extent_joined (texts m) (texts n)) (short (t ++ u)) ≡ true
-joined_texts m n t u p q = of (nat_le (m + n) 255) refl
+short_int : (t : List ℕ) → int_given (short t) ≡ true
+short_int t = of (nat_le (length t) 255)
   where
-    of : (b : Bool) → nat_le (m + n) 255 ≡ b → gives (if b then texts (m + n) else beyond) (short (t ++ u)) ≡ true
-    of true e =
-        let long = length-append t u in
-        let few : nat_le (length (t ++ u)) 255 ≡ true = grind (arith, nat_tests) in
-        let less : nat_le (length (t ++ u)) (m + n) ≡ true = grind (arith, nat_tests) in
-        ap (λ b. gives (texts (m + n)) (if b then Ok (Text (t ++ u)) else Err fail.TooLong)) few ∙ less
-    of false e = beyond_given (short (t ++ u))
+    of : (b : Bool) → int_given (if b then Ok (Text t) else Err fail.TooLong) ≡ true
+    of true = refl
+    of false = refl
 
-joined_given : (e f : Extent) (r s : Result Value Fail) → gives e r ≡ true → gives f s ≡ true → gives (extent_joined e f) (r >>= (λ x. s >>= (λ y. short (bytes_of x ++ bytes_of y)))) ≡ true
-joined_given (texts m) (texts n) (Ok (Text t)) (Ok (Text u)) p q = joined_texts m n t u p q
-joined_given (texts m) (texts n) (Ok (Text t)) (Ok (Int j)) p q = absurd (false≢true q)
-joined_given (texts m) (texts n) (Ok (Text t)) (Err f) p q = absurd (false≢true q)
-joined_given (texts m) (texts n) (Ok (Int i)) s p q = absurd (false≢true p)
-joined_given (texts m) (texts n) (Err f) s p q = absurd (false≢true p)
-joined_given (texts m) (numbers c d) r s p q = beyond_given (r >>= (λ x. s >>= (λ y. short (bytes_of x ++ bytes_of y))))
-joined_given (texts m) beyond r s p q = beyond_given (r >>= (λ x. s >>= (λ y. short (bytes_of x ++ bytes_of y))))
-joined_given (numbers a b) f r s p q = beyond_given (r >>= (λ x. s >>= (λ y. short (bytes_of x ++ bytes_of y))))
-joined_given beyond f r s p q = beyond_given (r >>= (λ x. s >>= (λ y. short (bytes_of x ++ bytes_of y))))
+then_int : (r : Result Value Fail) (f : Value → Result Value Fail) → ((v : Value) → int_given (f v) ≡ true) → int_given (r >>= f) ≡ true
+then_int (Ok v) f each = each v
+then_int (Err g) f each = refl
 
-column_within : (a : Admit) (v : Value) → fits a v ≡ true → within (extent_of_admit a) v ≡ true
-column_within admits.Int (Int n) e = refl
-column_within admits.Int (Text t) e = absurd (false≢true e)
-column_within (admits.Checked low high) (Int n) e = refl
-column_within (admits.Checked low high) (Text t) e = absurd (false≢true e)
-column_within (admits.Varchar m) (Int n) e = absurd (false≢true e)
-column_within (admits.Varchar m) (Text t) e = of (nat_le (length t) m) refl e
+two_int : (r s : Result Value Fail) (f : Value → Value → Result Value Fail) → ((x y : Value) → int_given (f x y) ≡ true) → int_given (r >>= (λ x. s >>= (λ y. f x y))) ≡ true
+two_int r s f each = then_int r (λ x. s >>= (λ y. f x y)) (λ x. then_int s (λ y. f x y) (each x))
+
+sure_int : (r : Result Value Fail) → int_given r ≡ true → is_int (number_of (result_unwrap_or r (Int (pos 0)))) ≡ true
+sure_int (Ok v) e = e
+sure_int (Err f) e = refl
+
+literal_int : (n : ℤ) → may_fail (extent_between n n) ≡ false → is_int n ≡ true
+literal_int n safe = of (is_int n) safe
   where
-    of : (b : Bool) → nat_le (length t) m ≡ b → is_fit (if b then Fits else TooLong) ≡ true → nat_le (length t) m ≡ true
-    of true at e = at
-    of false at e = absurd (false≢true e)
+    of : (b : Bool) → may_fail (if b && b then numbers n n else beyond) ≡ false → b ≡ true
+    of true safe = refl
+    of false safe = absurd (false≢true (sym safe))
 
-sure_within : (e : Extent) (r : Result Value Fail) → gives e r ≡ true → within e (result_unwrap_or r (Int (pos 0))) ≡ true
-sure_within e (Ok v) h = h
-sure_within (numbers a b) (Err f) h = refl
-sure_within (texts m) (Err f) h = absurd (false≢true h)
-sure_within beyond (Err f) h = refl
-
--- a column made for an extent takes a value within it
-pub made_fits : (e : Extent) (v : Value) → may_fail e ≡ false → within e v ≡ true → fits (admit_of_extent e) v ≡ true
-made_fits (numbers a b) (Int n) safe h = refl
-made_fits (numbers a b) (Text t) safe h = absurd (false≢true h)
-made_fits (texts m) (Int n) safe h = absurd (false≢true h)
-made_fits (texts m) (Text t) safe h =
+-- a column made for an extent takes an INT or a text within it
+made_fits : (e : Extent) (v : Value) → may_fail e ≡ false → is_within e v ≡ true → is_int (number_of v) ≡ true → fits (admit_of_extent e) v ≡ true
+made_fits (numbers a b) (Int n) safe h int = int_fits n int
+made_fits (numbers a b) (Text t) safe h int = absurd (false≢true h)
+made_fits (texts m) (Int n) safe h int = absurd (false≢true h)
+made_fits (texts m) (Text t) safe h int =
     let less : nat_le (length t) (max 1 m) ≡ true = grind (arith, nat_tests) in
     ap (λ b. is_fit (if b then Fits else TooLong)) less
-made_fits beyond v safe h = absurd (false≢true (sym safe))
+made_fits beyond v safe h int = absurd (false≢true (sym safe))
 
 module _ {R : Type 0} (admitted : R → Admit) (read : R → Value) (ok : (r : R) → fits (admitted r) (read r) ≡ true) where
-  given : (e : Expr R) → gives (extent_of admitted e) (value_of read e) ≡ true
-  given (literal (Int n)) = refl
-  given (literal (Text t)) = let long : nat_le (length t) (length t) ≡ true = grind (arith, nat_tests) in long
-  given (column r) = column_within (admitted r) (read r) (ok r)
-  given (negated a) = one_given (extent_negated (extent_of admitted a)) (negated_numeric (extent_of admitted a)) (value_of read a) (λ x. neg_ℤ (number_of x))
-  given (plus a b) = two_given (extent_plus (extent_of admitted a) (extent_of admitted b)) (plus_numeric (extent_of admitted a) (extent_of admitted b)) (value_of read a) (value_of read b) (λ x y. number_of x +ℤ number_of y)
-  given (minus a b) = two_given (extent_minus (extent_of admitted a) (extent_of admitted b)) (minus_numeric (extent_of admitted a) (extent_of admitted b)) (value_of read a) (value_of read b) (λ x y. number_of x -ℤ number_of y)
-  given (times a b) = two_given (extent_times (extent_of admitted a) (extent_of admitted b)) (times_numeric (extent_of admitted a) (extent_of admitted b)) (value_of read a) (value_of read b) (λ x y. number_of x *ℤ number_of y)
-  given (joined a b) = joined_given (extent_of admitted a) (extent_of admitted b) (value_of read a) (value_of read b) (given a) (given b)
+  given_int : (e : Expr R) → may_fail (extent_of admitted e) ≡ false → int_given (value_of read e) ≡ true
+  given_int (literal (Int n)) safe = literal_int n safe
+  given_int (literal (Text t)) safe = refl
+  given_int (column r) safe = held_int (admitted r) (read r) (ok r)
+  given_int (negated a) safe = then_int (value_of read a) (λ x. exact (neg_ℤ (number_of x))) (λ x. exact_int (neg_ℤ (number_of x)))
+  given_int (plus a b) safe = two_int (value_of read a) (value_of read b) (λ x y. exact (number_of x +ℤ number_of y)) (λ x y. exact_int (number_of x +ℤ number_of y))
+  given_int (minus a b) safe = two_int (value_of read a) (value_of read b) (λ x y. exact (number_of x -ℤ number_of y)) (λ x y. exact_int (number_of x -ℤ number_of y))
+  given_int (times a b) safe = two_int (value_of read a) (value_of read b) (λ x y. exact (number_of x *ℤ number_of y)) (λ x y. exact_int (number_of x *ℤ number_of y))
+  given_int (joined a b) safe = two_int (value_of read a) (value_of read b) (λ x y. short (bytes_of x ++ bytes_of y)) (λ x y. short_int (bytes_of x ++ bytes_of y))
 
   -- the value of an expression on a row whose columns admit its values
-  pub value_within : (e : Expr R) → within (extent_of admitted e) (sure_value read e) ≡ true
-  value_within e = sure_within (extent_of admitted e) (value_of read e) (given e)
+  pub value_fits : (e : Expr R) → may_fail (extent_of admitted e) ≡ false → fits (admit_of_extent (extent_of admitted e)) (sure_value read e) ≡ true
+  value_fits e safe =
+      made_fits (extent_of admitted e) (sure_value read e) safe (sure_within (extent_of admitted e) (value_of read e) (value_given admitted read ok e)) (sure_int (value_of read e) (given_int e safe))
 
-lesser_within : (e : Extent) (a b : Value) → within e a ≡ true → within e b ≡ true → within e (lesser a b) ≡ true
-lesser_within e a b p q = of (is_lt (value_cmp b a))
+-- the lesser and the greater of two values are one of them
+lesser_one : (p : Value → Bool) (a b : Value) → p a ≡ true → p b ≡ true → p (lesser a b) ≡ true
+lesser_one p a b h k = of (is_lt (value_cmp b a))
   where
-    of : (c : Bool) → within e (if c then b else a) ≡ true
-    of true = q
-    of false = p
+    of : (c : Bool) → p (if c then b else a) ≡ true
+    of true = k
+    of false = h
 
-greater_within : (e : Extent) (a b : Value) → within e a ≡ true → within e b ≡ true → within e (greater a b) ≡ true
-greater_within e a b p q = of (is_lt (value_cmp a b))
+greater_one : (p : Value → Bool) (a b : Value) → p a ≡ true → p b ≡ true → p (greater a b) ≡ true
+greater_one p a b h k = of (is_lt (value_cmp a b))
   where
-    of : (c : Bool) → within e (if c then b else a) ≡ true
-    of true = q
-    of false = p
+    of : (c : Bool) → p (if c then b else a) ≡ true
+    of true = k
+    of false = h
 
-folded_within : (e : Extent) (f : Value → Value → Value) → ((a b : Value) → within e a ≡ true → within e b ≡ true → within e (f a b) ≡ true) → (v : Value) (vs : List Value) → within e v ≡ true → list_all (within e) vs ≡ true → within e (fold f v vs) ≡ true
-folded_within e f keeps v [] p all = p
-folded_within e f keeps v (w ∷ vs) p all = folded_within e f keeps (f v w) vs (keeps v w p (and_parts _ _ all).0) (and_parts _ _ all).1
+folded_one : (p : Value → Bool) (f : Value → Value → Value) → ((a b : Value) → p a ≡ true → p b ≡ true → p (f a b) ≡ true) → (v : Value) (vs : List Value) → p v ≡ true → list_all p vs ≡ true → p (fold f v vs) ≡ true
+folded_one p f keeps v [] h all = h
+folded_one p f keeps v (w ∷ vs) h all = folded_one p f keeps (f v w) vs (keeps v w h (and_parts _ _ all).0) (and_parts _ _ all).1
 
-module _ {R Row : Type 0} (admitted : R → Admit) (read : Row → R → Value) (good : Row → Bool) (ok : (row : Row) → good row ≡ true → (r : R) → fits (admitted r) (read row r) ≡ true) where
-  values_within : (e : Expr R) (rows : List Row) → list_all good rows ≡ true → list_all (within (extent_of admitted e)) (values_of read rows e) ≡ true
-  values_within e [] all = refl
-  values_within e (row ∷ rows) all = and_from _ _ (value_within admitted (read row) (ok row (and_parts _ _ all).0) e) (values_within e rows (and_parts _ _ all).1)
+count_int : (n : ℕ) → n ≤ most_rows → is_int (pos n) ≡ true
+count_int n few = and_from _ _ (tests least_int (pos n) (omega (arith, ints))) (tests (pos n) greatest_int (omega (arith, ints)))
+
+summed_fits : (e : Extent) (n : ℤ) → is_int n ≡ true → fits (admit_of_extent (extent_summed e)) (Int n) ≡ true
+summed_fits e n int = of (extent_summed e) (summed_numeric e)
+  where
+    of : (s : Extent) → is_numeric s ≡ true → fits (admit_of_extent s) (Int n) ≡ true
+    of (numbers a b) num = int_fits n int
+    of (texts m) num = absurd (false≢true num)
+    of beyond num = int_fits n int
+
+module _ {R : Type 0} (admitted : R → Admit) (read : List Value → R → Value) (good : List Value → Bool) (ok : (row : List Value) → good row ≡ true → (r : R) → fits (admitted r) (read row r) ≡ true) where
+  each_read : (rows : List (List Value)) → list_all good rows ≡ true → AllByRecursion (λ row. (r : R) → is_held (admitted r) (read row r) ≡ true) rows
+  each_read [] all = tt
+  each_read (row ∷ rows) all = (ok row (and_parts _ _ all).0, each_read rows (and_parts _ _ all).1)
+
+  values_fit : (e : Expr R) → may_fail (extent_of admitted e) ≡ false → (rows : List (List Value)) → list_all good rows ≡ true → list_all (fits (admit_of_extent (extent_of admitted e))) (values_of read rows e) ≡ true
+  values_fit e safe [] all = refl
+  values_fit e safe (row ∷ rows) all = and_from _ _ (value_fits admitted (read row) (ok row (and_parts _ _ all).0) e safe) (values_fit e safe rows (and_parts _ _ all).1)
+
+  -- no objection to a sum says that it is an INT
+  sum_int : (e : Expr R) (rows : List (List Value)) → may_fail (extent_of_total admitted (Sum e)) ≡ false → list_all good rows ≡ true → length rows ≤ most_rows → is_int (exact_sum (values_of read rows e)) ≡ true
+  sum_int e rows safe all few =
+      not-false (is_int (exact_sum (values_of read rows e)))
+      (none_when (not (is_int (exact_sum (values_of read rows e)))) refusal.OutOfRange
+      (none_right (flat_map (λ row. argument_objections read row (Sum e)) rows) _ (total_unobjected admitted read rows (each_read rows all) few (Sum e) safe)))
 
   -- a total over a group that is not empty
-  pub total_within : (row : Row) (rows : List Row) (total : Aggregate (Expr R)) → list_all good (row ∷ rows) ≡ true → within (extent_of_total admitted total) (value_or_nought (total_of read (row ∷ rows) total)) ≡ true
-  total_within row rows Count all = refl
-  total_within row rows (Sum e) all = int_within (extent_summed (extent_of admitted e)) (summed_numeric (extent_of admitted e)) _
-  total_within row rows (Min e) all =
-      let each = values_within e (row ∷ rows) all in
-      folded_within (extent_of admitted e) lesser (lesser_within (extent_of admitted e)) (sure_value (read row) e) (values_of read rows e) (and_parts _ _ each).0 (and_parts _ _ each).1
-  total_within row rows (Max e) all =
-      let each = values_within e (row ∷ rows) all in
-      folded_within (extent_of admitted e) greater (greater_within (extent_of admitted e)) (sure_value (read row) e) (values_of read rows e) (and_parts _ _ each).0 (and_parts _ _ each).1
+  pub total_fits : (row : List Value) (rows : List (List Value)) (total : Aggregate (Expr R)) → may_fail (extent_of_total admitted total) ≡ false → list_all good (row ∷ rows) ≡ true → length (row ∷ rows) ≤ most_rows
+      → fits (admit_of_extent (extent_of_total admitted total)) (value_or_nought (total_of read (row ∷ rows) total)) ≡ true
+  total_fits row rows Count safe all few = int_fits (pos (length (row ∷ rows))) (count_int (length (row ∷ rows)) few)
+  total_fits row rows (Sum e) safe all few = summed_fits (extent_of admitted e) (exact_sum (values_of read (row ∷ rows) e)) (sum_int e (row ∷ rows) safe all few)
+  total_fits row rows (Min e) safe all few =
+      let each = values_fit e safe (row ∷ rows) all in
+      let fit = fits (admit_of_extent (extent_of admitted e)) in
+      folded_one fit lesser (lesser_one fit) (sure_value (read row) e) (values_of read rows e) (and_parts _ _ each).0 (and_parts _ _ each).1
+  total_fits row rows (Max e) safe all few =
+      let each = values_fit e safe (row ∷ rows) all in
+      let fit = fits (admit_of_extent (extent_of admitted e)) in
+      folded_one fit greater (greater_one fit) (sure_value (read row) e) (values_of read rows e) (and_parts _ _ each).0 (and_parts _ _ each).1

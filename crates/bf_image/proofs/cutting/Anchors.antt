@@ -7,8 +7,10 @@ use Rattle.std.proofs.lemmas.Bool.Decides.{nat_tests}
 use Rattle.std.proofs.lemmas.List.{length-append}
 use Rattle.std.proofs.lemmas.List.FromFn.{length-range_with_len}
 use Rattle.bf_base.specs.declared.granule.Place.TheVariants.{Row, Group}
+use Rattle.bf_tree.specs.declared.plan.ArmKind.{ArmKind}
+use Rattle.bf_tree.specs.declared.plan.ArmKind.TheVariants.{ByFrom, ByJoin, ByPair, ByGroup}
 use Rattle.bf_sql.specs.Database.{Database, table_rows}
-use Rattle.bf_sql.specs.migrations.Targets.{ArmKind, by_from, by_join, by_pair, by_group, arm_kind}
+use Rattle.bf_sql.specs.migrations.Targets.{arm_kind}
 use Rattle.bf_sql.specs.migrations.Images.{group_value, rows_of_join}
 use Rattle.bf_sql.specs.migrations.Granules.{UnitForm, rows_unit, values_unit, left_value, right_value, anchor_values, anchors_of}
 use Rattle.bf_image.specs.Lookup.{anchor_count_by, anchor_count, anchor_value_by, anchor_place}
@@ -40,10 +42,10 @@ module _ (old : Database) where
   count_is (values_unit target arm) = length-map (anchor_values old arm (arm_kind old arm)) Group ∙ of (arm_kind old arm)
     where
       of : (kind : ArmKind) → length (anchor_values old arm kind) ≡ anchor_count_by old arm kind
-      of by_from = refl
-      of by_join = refl
-      of by_group = length-map (table_rows old arm.from) (group_value old arm)
-      of by_pair =
+      of ByFrom = refl
+      of ByJoin = refl
+      of ByGroup = length-map (table_rows old arm.from) (group_value old arm)
+      of ByPair =
           length-append (map (left_value old arm) (table_rows old arm.from)) (map (right_value old arm) (rows_of_join old arm.join))
           ∙ ap₂ (λ m n. m + n) (length-map (table_rows old arm.from) (left_value old arm)) (length-map (rows_of_join old arm.join) (right_value old arm))
 
@@ -56,10 +58,10 @@ module _ (old : Database) where
   place_is (values_unit target arm) at = get_of_map Group (anchor_values old arm (arm_kind old arm)) at ∙ ap (option_map Group) (of (arm_kind old arm))
     where
       of : (kind : ArmKind) → slice_get (anchor_values old arm kind) at ≡ anchor_value_by old arm kind at
-      of by_from = refl
-      of by_join = refl
-      of by_group = get_of_map (group_value old arm) (table_rows old arm.from) at
-      of by_pair =
+      of ByFrom = refl
+      of ByJoin = refl
+      of ByGroup = get_of_map (group_value old arm) (table_rows old arm.from) at
+      of ByPair =
           get_of_append (map (left_value old arm) (table_rows old arm.from)) (map (right_value old arm) (rows_of_join old arm.join)) at
           ∙ ap₂ (λ n m. if nat_lt at n then slice_get (map (left_value old arm) (table_rows old arm.from)) at else slice_get (map (right_value old arm) (rows_of_join old arm.join)) (at - m))
           (length-map (table_rows old arm.from) (left_value old arm)) (length-map (table_rows old arm.from) (left_value old arm))

@@ -18,8 +18,10 @@ use Rattle.bf_tree.specs.declared.migration.Join.{Join}
 use Rattle.bf_tree.specs.declared.migration.Arm.{Arm}
 use Rattle.bf_tree.specs.declared.migration.Target.{Target}
 use Rattle.bf_tree.specs.declared.migration.Migrate.{Migrate}
+use Rattle.bf_tree.specs.declared.plan.ArmKind.{ArmKind}
+use Rattle.bf_tree.specs.declared.plan.ArmKind.TheVariants.{ByFrom, ByJoin, ByPair, ByGroup}
 use Rattle.bf_sql.specs.Database.{Database, table_rows}
-use Rattle.bf_sql.specs.migrations.Targets.{ArmKind, by_from, by_join, by_pair, by_group, arm_kind, arm_scope, width, equalities, names_of_join}
+use Rattle.bf_sql.specs.migrations.Targets.{arm_kind, arm_scope, width, equalities, names_of_join}
 use Rattle.bf_sql.specs.migrations.MigrationObjections.{drivers_of, driver_by, is_by_row}
 use Rattle.bf_sql.specs.migrations.Images.{arm_rows, rows_of_join}
 use Rattle.bf_sql.specs.migrations.Granules.{UnitForm, rows_unit, values_unit, arms_of, units_of, row_at, rows_driven, from_with, join_with, anchor_values, places_in, granule, granules_of, part_at, part_of}
@@ -62,26 +64,26 @@ if_absent (Some x) e = absurd (false≢true e)
 module _ (old : Database) (arm : Arm) where
   -- what the catalog and the rows have to give so that an arm's parts make its image
   abbrev pub is_fine : List (List ℕ) → ArmKind → Bool
-  is_fine drivers by_from = has same_name drivers arm.from
-  is_fine drivers by_join = is_some arm.join && list_all (has same_name drivers) (names_of_join arm)
-  is_fine drivers by_pair = is_some arm.join && (list_all (λ e. not (is_one_sided (arm_scope old arm) (width old arm) e)) (equalities arm) && list_all (fine_row old arm) (table_rows old arm.from))
-  is_fine drivers by_group = not (is_some arm.join)
+  is_fine drivers ByFrom = has same_name drivers arm.from
+  is_fine drivers ByJoin = is_some arm.join && list_all (has same_name drivers) (names_of_join arm)
+  is_fine drivers ByPair = is_some arm.join && (list_all (λ e. not (is_one_sided (arm_scope old arm) (width old arm) e)) (equalities arm) && list_all (fine_row old arm) (table_rows old arm.from))
+  is_fine drivers ByGroup = not (is_some arm.join)
 
   abbrev pub whole_by : ArmKind → List (List Value)
   whole_by kind = rows_by old arm kind (table_rows old arm.from) (rows_of_join old arm.join)
 
   -- rows of one of the driver's rows, and of one value
   abbrev pub driven : ArmKind → ArmKind → List ℕ → ℕ → List (List Value)
-  driven kind by_from driver at = if same_name arm.from driver then rows_by old arm kind (row_at old arm driver at) (rows_of_join old arm.join) else []
-  driven kind by_join driver at = if list_any (same_name driver) (names_of_join arm) then rows_by old arm kind (table_rows old arm.from) (row_at old arm driver at) else []
-  driven kind by_pair driver at = []
-  driven kind by_group driver at = []
+  driven kind ByFrom driver at = if same_name arm.from driver then rows_by old arm kind (row_at old arm driver at) (rows_of_join old arm.join) else []
+  driven kind ByJoin driver at = if list_any (same_name driver) (names_of_join arm) then rows_by old arm kind (table_rows old arm.from) (row_at old arm driver at) else []
+  driven kind ByPair driver at = []
+  driven kind ByGroup driver at = []
 
   pub as_driven : (kind : ArmKind) (driver : List ℕ) (at : ℕ) → rows_driven old arm kind driver at ≡ driven (arm_kind old arm) kind driver at
-  as_driven by_from driver at = refl
-  as_driven by_join driver at = refl
-  as_driven by_pair driver at = refl
-  as_driven by_group driver at = refl
+  as_driven ByFrom driver at = refl
+  as_driven ByJoin driver at = refl
+  as_driven ByPair driver at = refl
+  as_driven ByGroup driver at = refl
 
   abbrev all_driven : ArmKind → List (List ℕ) → List (List Value)
   all_driven kind drivers = flat_map (λ d. flat_map (driven kind kind d) (range_with_len 0 (length (table_rows old d)))) drivers
@@ -91,39 +93,39 @@ module _ (old : Database) (arm : Arm) where
   none_driven (d ∷ ds) = ap₂ (λ ys zs. ys ++ zs) (no_blocks (range_with_len 0 (length (table_rows old d)))) (none_driven ds)
 
   driven_in_turn : (drivers : List (List ℕ)) → are_apart same_name drivers ≡ true → (kind : ArmKind) → is_fine drivers kind ≡ true → SameItems (all_driven kind drivers) (cond (is_by_row kind) (whole_by kind) [])
-  driven_in_turn drivers apart by_from fine =
-      let rows : List ℕ → List (List Value) = λ d. flat_map (driven by_from by_from d) (range_with_len 0 (length (table_rows old d))) in
+  driven_in_turn drivers apart ByFrom fine =
+      let rows : List ℕ → List (List Value) = λ d. flat_map (driven ByFrom ByFrom d) (range_with_len 0 (length (table_rows old d))) in
       let others : (x : List ℕ) → same_name arm.from x ≡ false → rows x ≡ [] = λ x e.
-      blocks_equal (driven by_from by_from x) (λ at. []) (λ at. ap (λ b. if b then rows_by old arm by_from (row_at old arm x at) (rows_of_join old arm.join) else []) e) (range_with_len 0 (length (table_rows old x)))
+      blocks_equal (driven ByFrom ByFrom x) (λ at. []) (λ at. ap (λ b. if b then rows_by old arm ByFrom (row_at old arm x at) (rows_of_join old arm.join) else []) e) (range_with_len 0 (length (table_rows old x)))
       ∙ no_blocks (range_with_len 0 (length (table_rows old x))) in
-      let own : rows arm.from ≡ whole_by by_from =
-      blocks_equal (driven by_from by_from arm.from) (λ at. rows_by old arm by_from (row_at old arm arm.from at) (rows_of_join old arm.join)) (λ at. ap (λ b. if b then rows_by old arm by_from (row_at old arm arm.from at) (rows_of_join old arm.join) else []) (name-itself arm.from)) (range_with_len 0 (length (table_rows old arm.from)))
+      let own : rows arm.from ≡ whole_by ByFrom =
+      blocks_equal (driven ByFrom ByFrom arm.from) (λ at. rows_by old arm ByFrom (row_at old arm arm.from at) (rows_of_join old arm.join)) (λ at. ap (λ b. if b then rows_by old arm ByFrom (row_at old arm arm.from at) (rows_of_join old arm.join) else []) (name-itself arm.from)) (range_with_len 0 (length (table_rows old arm.from)))
       ∙ from_in_turn old arm (table_rows old arm.from) (rows_of_join old arm.join) in
       same_items_if _ _ (flat_map_of_one same_name rows arm.from others (λ x e. name-equal arm.from x e) drivers apart fine ∙ own)
-  driven_in_turn drivers apart by_join fine =
+  driven_in_turn drivers apart ByJoin fine =
       let (j, joined) = if_there arm.join (and_parts _ _ fine).0 in
       of_join j joined
     where
-      of_join : (j : Join) → arm.join ≡ Some j → SameItems (all_driven by_join drivers) (whole_by by_join)
+      of_join : (j : Join) → arm.join ≡ Some j → SameItems (all_driven ByJoin drivers) (whole_by ByJoin)
       of_join j joined =
           let names : names_of_join arm ≡ j.table ∷ [] = ap (λ (o : Option Join). unwrap_or (option_map (λ j. j.table ∷ []) o) []) joined in
           let join : rows_of_join old arm.join ≡ table_rows old j.table = ap (rows_of_join old) joined in
           let there : has same_name drivers j.table ≡ true = (and_parts (has same_name drivers j.table) _ (ap (list_all (has same_name drivers)) (sym names) ∙ (and_parts (is_some arm.join) _ fine).1)).0 in
-          let rows : List ℕ → List (List Value) = λ d. flat_map (driven by_join by_join d) (range_with_len 0 (length (table_rows old d))) in
+          let rows : List ℕ → List (List Value) = λ d. flat_map (driven ByJoin ByJoin d) (range_with_len 0 (length (table_rows old d))) in
           let test : (x : List ℕ) → list_any (same_name x) (names_of_join arm) ≡ same_name j.table x = λ x. ap (list_any (same_name x)) names ∙ either x (same_name x j.table) refl in
           let others : (x : List ℕ) → same_name j.table x ≡ false → rows x ≡ [] = λ x e.
-          blocks_equal (driven by_join by_join x) (λ at. []) (λ at. ap (λ b. if b then rows_by old arm by_join (table_rows old arm.from) (row_at old arm x at) else []) (test x ∙ e)) (range_with_len 0 (length (table_rows old x)))
+          blocks_equal (driven ByJoin ByJoin x) (λ at. []) (λ at. ap (λ b. if b then rows_by old arm ByJoin (table_rows old arm.from) (row_at old arm x at) else []) (test x ∙ e)) (range_with_len 0 (length (table_rows old x)))
           ∙ no_blocks (range_with_len 0 (length (table_rows old x))) in
-          let own : rows j.table ≡ flat_map (λ p. rows_by old arm by_join (table_rows old arm.from) (slice_range (table_rows old j.table) p (p + 1))) (range_with_len 0 (length (table_rows old j.table))) =
-          blocks_equal (driven by_join by_join j.table) (λ at. rows_by old arm by_join (table_rows old arm.from) (row_at old arm j.table at)) (λ at. ap (λ b. if b then rows_by old arm by_join (table_rows old arm.from) (row_at old arm j.table at) else []) (test j.table ∙ name-itself j.table)) (range_with_len 0 (length (table_rows old j.table))) in
+          let own : rows j.table ≡ flat_map (λ p. rows_by old arm ByJoin (table_rows old arm.from) (slice_range (table_rows old j.table) p (p + 1))) (range_with_len 0 (length (table_rows old j.table))) =
+          blocks_equal (driven ByJoin ByJoin j.table) (λ at. rows_by old arm ByJoin (table_rows old arm.from) (row_at old arm j.table at)) (λ at. ap (λ b. if b then rows_by old arm ByJoin (table_rows old arm.from) (row_at old arm j.table at) else []) (test j.table ∙ name-itself j.table)) (range_with_len 0 (length (table_rows old j.table))) in
           through (same_items_if _ _ (flat_map_of_one same_name rows j.table others (λ x e. name-equal j.table x e) drivers apart there ∙ own))
-          (through (join_in_turn old arm j joined (table_rows old arm.from) (table_rows old j.table)) (same_items_if _ _ (ap (rows_by old arm by_join (table_rows old arm.from)) (sym join))))
+          (through (join_in_turn old arm j joined (table_rows old arm.from) (table_rows old j.table)) (same_items_if _ _ (ap (rows_by old arm ByJoin (table_rows old arm.from)) (sym join))))
         where
           either : (x : List ℕ) (b : Bool) → same_name x j.table ≡ b → (b || false) ≡ same_name j.table x
           either x true e = sym e ∙ name-symmetric x j.table
           either x false e = sym e ∙ name-symmetric x j.table
-  driven_in_turn drivers apart by_pair fine = same_items_if _ _ (none_driven drivers)
-  driven_in_turn drivers apart by_group fine = same_items_if _ _ (none_driven drivers)
+  driven_in_turn drivers apart ByPair fine = same_items_if _ _ (none_driven drivers)
+  driven_in_turn drivers apart ByGroup fine = same_items_if _ _ (none_driven drivers)
 
   abbrev valued : ArmKind → List Value → List (List Value)
   valued kind v = rows_by old arm kind (from_with old arm kind v) (join_with old arm v)
@@ -132,13 +134,13 @@ module _ (old : Database) (arm : Arm) where
   all_valued kind = flat_map (valued kind) (in_order key_cmp (λ v. v) (distinct same_key (anchor_values old arm kind)))
 
   valued_in_turn : (drivers : List (List ℕ)) (kind : ArmKind) → is_fine drivers kind ≡ true → SameItems (cond (not (is_by_row kind)) (all_valued kind) []) (cond (not (is_by_row kind)) (whole_by kind) [])
-  valued_in_turn drivers by_from fine = same_items []
-  valued_in_turn drivers by_join fine = same_items []
-  valued_in_turn drivers by_pair fine =
+  valued_in_turn drivers ByFrom fine = same_items []
+  valued_in_turn drivers ByJoin fine = same_items []
+  valued_in_turn drivers ByPair fine =
       let (j, joined) = if_there arm.join (and_parts _ _ fine).0 in
       let rest = and_parts (list_all (λ e. not (is_one_sided (arm_scope old arm) (width old arm) e)) (equalities arm)) (list_all (fine_row old arm) (table_rows old arm.from)) (and_parts (is_some arm.join) _ fine).1 in
       pairs_in_turn old arm j joined rest.0 rest.1
-  valued_in_turn drivers by_group fine = groups_in_turn old arm (if_absent arm.join fine)
+  valued_in_turn drivers ByGroup fine = groups_in_turn old arm (if_absent arm.join fine)
 
   either_part : (b : Bool) (rows : List (List Value)) → cond b rows [] ++ cond (not b) rows [] ≡ rows
   either_part true rows = append-nil rows

@@ -13,9 +13,11 @@ use Rattle.bf_base.proofs.Apart.{are_apart}
 use Rattle.bf_base.proofs.Parts.{list_all_always}
 use Rattle.bf_tree.specs.declared.migration.Join.{Join}
 use Rattle.bf_tree.specs.declared.migration.Arm.{Arm}
+use Rattle.bf_tree.specs.declared.plan.ArmKind.{ArmKind}
+use Rattle.bf_tree.specs.declared.plan.ArmKind.TheVariants.{ByFrom, ByJoin, ByPair, ByGroup}
 use Rattle.bf_sql.specs.Database.{Database, IsDatabase, table_at, table_rows}
 use Rattle.bf_sql.specs.Scopes.{place_of}
-use Rattle.bf_sql.specs.migrations.Targets.{ArmKind, by_from, by_join, by_pair, by_group, key_by, arm_scope, width, from_key, join_key}
+use Rattle.bf_sql.specs.migrations.Targets.{key_by, arm_scope, width, from_key, join_key}
 use Rattle.bf_sql.specs.migrations.Images.{is_equal_on, first_row, group_value, satisfying, matches_of_join}
 use Rattle.bf_sql.specs.migrations.Granules.{left_value, from_with, join_with}
 use Rattle.bf_image.proofs.items.Bags.{blocks_filtered}
@@ -102,14 +104,14 @@ module _ (old : Database) (is : IsDatabase old) (arm : Arm) (k : List Value) (p 
   left_is : (r s : List Value) → wide r ≡ true → map (cell (r ++ s)) (from_key old arm) ≡ key_in old is arm.from r
   left_is r s e = cells_left r s (width old arm) (from_key old arm) (eqb-true (length r) (width old arm) e) (keys_within old is arm.from)
 
-  from_tells : Tells by_from → (o : Option Join) (join : List (List Value)) (r : List Value) → wide r ≡ true → list_any p (of_from old arm o join r) ≡ true → same_key k (key_in old is arm.from r) ≡ true
-  from_tells tells None join r e some = match_tells by_from tells r some
+  from_tells : Tells ByFrom → (o : Option Join) (join : List (List Value)) (r : List Value) → wide r ≡ true → list_any p (of_from old arm o join r) ≡ true → same_key k (key_in old is arm.from r) ≡ true
+  from_tells tells None join r e some = match_tells ByFrom tells r some
   from_tells tells (Some j) join r e some =
       any_always (same_key k (key_in old is arm.from r)) join
-      (any_of_blocks p (λ s. same_key k (key_in old is arm.from r)) (λ s. true) (λ s. of_pair old arm j (r ++ s)) (λ s o h. ap (same_key k) (sym (left_is r s e)) ∙ pair_tells by_from tells j (r ++ s) h) join (list_all_always join) some)
+      (any_of_blocks p (λ s. same_key k (key_in old is arm.from r)) (λ s. true) (λ s. of_pair old arm j (r ++ s)) (λ s o h. ap (same_key k) (sym (left_is r s e)) ∙ pair_tells ByFrom tells j (r ++ s) h) join (list_all_always join) some)
 
   -- a row of a driver's row has that row's key
-  pub from_told : Tells by_from → (at : ℕ) (join : List (List Value)) → list_any p (rows_by old arm by_from (slice_range (table_rows old arm.from) at (at + 1)) join) ≡ true
+  pub from_told : Tells ByFrom → (at : ℕ) (join : List (List Value)) → list_any p (rows_by old arm ByFrom (slice_range (table_rows old arm.from) at (at + 1)) join) ≡ true
       → list_any (λ r. same_key k (key_in old is arm.from r)) (slice_range (table_rows old arm.from) at (at + 1)) ≡ true
   from_told tells at join some =
       let rows = slice_range (table_rows old arm.from) at (at + 1) in
@@ -120,13 +122,13 @@ module _ (old : Database) (is : IsDatabase old) (arm : Arm) (k : List Value) (p 
     right_is : (r s : List Value) → wide r ≡ true → map (cell (r ++ s)) (join_key old arm) ≡ key_in old is j.table s
     right_is r s e = ap (map (cell (r ++ s))) (join_key_is old is arm k p j joined sided) ∙ cells_right r s (width old arm) (table_at old j.table).key (eqb-true (length r) (width old arm) e)
 
-    pub join_told : Tells by_join → (rows : List (List Value)) → list_any p (rows_by old arm by_join (table_rows old arm.from) rows) ≡ true → list_any (λ s. same_key k (key_in old is j.table s)) rows ≡ true
+    pub join_told : Tells ByJoin → (rows : List (List Value)) → list_any p (rows_by old arm ByJoin (table_rows old arm.from) rows) ≡ true → list_any (λ s. same_key k (key_in old is j.table s)) rows ≡ true
     join_told tells rows some =
         let from = table_rows old arm.from in
         let q : List Value → Bool = λ s. same_key k (key_in old is j.table s) in
         any_always (list_any q rows) from
         (any_of_blocks p (λ r. list_any q rows) wide (λ r. flat_map (λ s. of_pair old arm j (r ++ s)) rows)
-        (λ r e more. any_of_blocks p q (λ s. true) (λ s. of_pair old arm j (r ++ s)) (λ s o h. ap (same_key k) (sym (right_is r s e)) ∙ pair_tells by_join tells j (r ++ s) h) rows (list_all_always rows) more)
+        (λ r e more. any_of_blocks p q (λ s. true) (λ s. of_pair old arm j (r ++ s)) (λ s o h. ap (same_key k) (sym (right_is r s e)) ∙ pair_tells ByJoin tells j (r ++ s) h) rows (list_all_always rows) more)
         from (as_wide old is arm arm.from) (ap (list_any p) (sym (as_pairs old arm j joined from rows)) ∙ some))
 
     abbrev front : List Value
@@ -140,33 +142,33 @@ module _ (old : Database) (is : IsDatabase old) (arm : Arm) (k : List Value) (p 
         let cut : front ≡ key_in old is arm.from r = ap₂ take long whole ∙ take-append_seam (key_in old is arm.from r) (map (cell (r ++ s)) (join_key old arm)) in
         ap (same_key front) (sym cut) ∙ key-itself front
 
-    pub pair_told : Tells by_pair → (v : List Value) → list_any p (rows_by old arm by_pair (from_with old arm by_pair v) (join_with old arm v)) ≡ true
+    pub pair_told : Tells ByPair → (v : List Value) → list_any p (rows_by old arm ByPair (from_with old arm ByPair v) (join_with old arm v)) ≡ true
         → list_any (λ r. same_key v (left_value old arm r) && same_key front (key_in old is arm.from r)) (table_rows old arm.from) ≡ true
     pair_told tells v some =
         let from = table_rows old arm.from in
         let c : List Value → Bool = λ r. same_key v (left_value old arm r) in
         let f : List Value → List (List Value) = λ r. flat_map (λ s. of_pair old arm j (r ++ s)) (join_with old arm v) in
         any_of_blocks p (λ r. c r && same_key front (key_in old is arm.from r)) wide (λ r. cond (c r) (f r) []) (λ r e h. one r e (c r) h) from (as_wide old is arm arm.from)
-        (ap (list_any p) (sym (as_pairs old arm j joined (from_with old arm by_pair v) (join_with old arm v) ∙ blocks_filtered f c from)) ∙ some)
+        (ap (list_any p) (sym (as_pairs old arm j joined (from_with old arm ByPair v) (join_with old arm v) ∙ blocks_filtered f c from)) ∙ some)
       where
         one : (r : List Value) → wide r ≡ true → (b : Bool) → list_any p (cond b (flat_map (λ s. of_pair old arm j (r ++ s)) (join_with old arm v)) []) ≡ true → (b && same_key front (key_in old is arm.from r)) ≡ true
         one r e true h =
             any_always (same_key front (key_in old is arm.from r)) (join_with old arm v)
-            (any_of_blocks p (λ s. same_key front (key_in old is arm.from r)) (λ s. true) (λ s. of_pair old arm j (r ++ s)) (λ s o g. front_is r s e (pair_tells by_pair tells j (r ++ s) g)) (join_with old arm v) (list_all_always (join_with old arm v)) h)
+            (any_of_blocks p (λ s. same_key front (key_in old is arm.from r)) (λ s. true) (λ s. of_pair old arm j (r ++ s)) (λ s o g. front_is r s e (pair_tells ByPair tells j (r ++ s) g)) (join_with old arm v) (list_all_always (join_with old arm v)) h)
         one r e false h = absurd (false≢true h)
 
   abbrev value : List Value → List Value
   value = group_value old arm
 
-  pub group_told : Tells by_group → arm.join ≡ None → (v : List Value) → list_any p (rows_by old arm by_group (from_with old arm by_group v) (join_with old arm v)) ≡ true
+  pub group_told : Tells ByGroup → arm.join ≡ None → (v : List Value) → list_any p (rows_by old arm ByGroup (from_with old arm ByGroup v) (join_with old arm v)) ≡ true
       → (same_key k v ≡ true) × (has same_key (map value (table_rows old arm.from)) v ≡ true)
   group_told tells alone v some =
       let from = table_rows old arm.from in
       let satisfied = filter (passes old arm) from in
-      let cut : satisfying old arm (from_with old arm by_group v) (join_with old arm v) ≡ filter (λ row. same_key v (value row)) satisfied =
-      ap (λ o. filter (passes old arm) (matches_of_join old arm (from_with old arm by_group v) (join_with old arm v) o)) alone ∙ filters_exchanged (passes old arm) (λ row. same_key v (value row)) from in
+      let cut : satisfying old arm (from_with old arm ByGroup v) (join_with old arm v) ≡ filter (λ row. same_key v (value row)) satisfied =
+      ap (λ o. filter (passes old arm) (matches_of_join old arm (from_with old arm ByGroup v) (join_with old arm v) o)) alone ∙ filters_exchanged (passes old arm) (λ row. same_key v (value row)) from in
       let of_all : List (List Value) → List (List Value) = by_value same_key key-symmetric key-equal key-itself value (made old arm) in
-      let form : rows_by old arm by_group (from_with old arm by_group v) (join_with old arm v) ≡ cond (has same_key (map value satisfied) v) (made old arm (filter (λ row. same_key v (value row)) satisfied) ∷ []) [] =
+      let form : rows_by old arm ByGroup (from_with old arm ByGroup v) (join_with old arm v) ≡ cond (has same_key (map value satisfied) v) (made old arm (filter (λ row. same_key v (value row)) satisfied) ∷ []) [] =
       ap of_all cut ∙ of_one_value same_key key-symmetric key-equal key-itself value (made old arm) v satisfied in
       either (has same_key (map value satisfied) v) refl (ap (list_any p) (sym form) ∙ some)
     where

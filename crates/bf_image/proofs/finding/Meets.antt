@@ -18,7 +18,9 @@ use Rattle.bf_sql.specs.Database.{Database, IsDatabase, table_at, table_rows}
 use Rattle.bf_sql.specs.Scopes.{Scope, place_of}
 use Rattle.bf_sql.specs.migrations.Targets.{arm_scope, width, from_key, join_key, on_places, equalities}
 use Rattle.bf_sql.specs.migrations.Images.{is_equal_on}
-use Rattle.bf_sql.specs.migrations.Targets.{ArmKind, by_from, by_join, by_pair, by_group, arm_kind, names_of_join, kind_by}
+use Rattle.bf_tree.specs.declared.plan.ArmKind.{ArmKind}
+use Rattle.bf_tree.specs.declared.plan.ArmKind.TheVariants.{ByFrom, ByJoin, ByPair, ByGroup}
+use Rattle.bf_sql.specs.migrations.Targets.{arm_kind, names_of_join, kind_by}
 use Rattle.bf_sql.specs.migrations.Images.{arm_rows, rows_of_join}
 use Rattle.bf_sql.specs.migrations.Granules.{rows_driven}
 use Rattle.bf_image.specs.Lookup.{has_the_key, partner, join_met, from_met}
@@ -170,7 +172,7 @@ module _ (old : Database) (is : IsDatabase old) (arm : Arm) (sided : two_sided o
   abbrev kind_is : Bool → ArmKind
   kind_is joins = kind_by (nat_lt 0 (length arm.group)) joins (list_all (has nat_eq (on_places old arm)) (join_key old arm)) (list_all (has nat_eq (on_places old arm)) (from_key old arm))
 
-  one_from : arm_kind old arm ≡ by_from → (o : Option Join) → arm.join ≡ o → (r : List Value) → wide r ≡ true → of_from old arm o (rows_of_join old o) r ≡ of_from old arm o (join_rows_met old arm r) r
+  one_from : arm_kind old arm ≡ ByFrom → (o : Option Join) → arm.join ≡ o → (r : List Value) → wide r ≡ true → of_from old arm o (rows_of_join old o) r ≡ of_from old arm o (join_rows_met old arm r) r
   one_from e None alone r fine = refl
   one_from e (Some j) joined r fine =
       let there = from_with_join _ _ _ (ap kind_is (sym (ap is_some joined)) ∙ e) in
@@ -182,7 +184,7 @@ module _ (old : Database) (is : IsDatabase old) (arm : Arm) (sided : two_sided o
 
   -- the rows of one row of the driver, by a look-up in the other table
   pub driven_met : (kind : ArmKind) → arm_kind old arm ≡ kind → (d : List ℕ) (at : ℕ) → rows_driven old arm kind d at ≡ rows_met old arm kind d at
-  driven_met by_from e d at = of (same_name arm.from d) refl
+  driven_met ByFrom e d at = of (same_name arm.from d) refl
     where
       one : (r : List Value) → wide r ≡ true → of_from old arm arm.join (rows_of_join old arm.join) r ≡ arm_rows old arm (r ∷ []) (join_rows_met old arm r)
       one r fine =
@@ -203,7 +205,7 @@ module _ (old : Database) (is : IsDatabase old) (arm : Arm) (sided : two_sided o
       of false other =
           ap (λ b. if b then arm_rows old arm (slice_range (table_rows old d) at (at + 1)) (rows_of_join old arm.join) else []) other
           ∙ ap (λ b. if b then flat_map (λ r. arm_rows old arm (r ∷ []) (join_rows_met old arm r)) (slice_range (table_rows old d) at (at + 1)) else []) (sym other)
-  driven_met by_join e d at =
+  driven_met ByJoin e d at =
       let both = join_has_from _ (is_some arm.join) _ _ e in
       let (j, joined) = if_there arm.join both.0 in
       let row = one_row (table_rows old d) at in
@@ -224,5 +226,5 @@ module _ (old : Database) (is : IsDatabase old) (arm : Arm) (sided : two_sided o
           → arm_rows old arm (table_rows old arm.from) (take 1 rows) ≡ flat_map (λ s. arm_rows old arm (from_rows_met old arm s) (s ∷ [])) (take 1 rows)
       all_met j joined there [] = ap (λ kind. rows_by old arm kind (table_rows old arm.from) []) e ∙ as_pairs old arm j joined (table_rows old arm.from) [] ∙ none_of (table_rows old arm.from)
       all_met j joined there (s ∷ rows) = of_one j joined there s ∙ sym (append_none (arm_rows old arm (from_rows_met old arm s) (s ∷ [])))
-  driven_met by_pair e d at = refl
-  driven_met by_group e d at = refl
+  driven_met ByPair e d at = refl
+  driven_met ByGroup e d at = refl

@@ -22,8 +22,10 @@ use Rattle.bf_tree.specs.declared.migration.Join.{Join}
 use Rattle.bf_tree.specs.declared.migration.Arm.{Arm}
 use Rattle.bf_tree.specs.declared.migration.Target.{Target}
 use Rattle.bf_tree.specs.declared.migration.Migrate.{Migrate}
+use Rattle.bf_tree.specs.declared.plan.ArmKind.{ArmKind}
+use Rattle.bf_tree.specs.declared.plan.ArmKind.TheVariants.{ByFrom, ByJoin, ByPair, ByGroup}
 use Rattle.bf_sql.specs.Database.{Database, IsDatabase, table_rows}
-use Rattle.bf_sql.specs.migrations.Targets.{ArmKind, by_from, by_join, by_pair, by_group, arm_kind, key_items, first_arm, from_key, names_of_join, target_table}
+use Rattle.bf_sql.specs.migrations.Targets.{arm_kind, key_items, first_arm, from_key, names_of_join, target_table}
 use Rattle.bf_sql.specs.migrations.MigrationObjections.{drivers_of, is_by_row, is_by_group, tag_of, keeps_apart}
 use Rattle.bf_sql.specs.migrations.Images.{arm_rows, rows_of_join}
 use Rattle.bf_sql.specs.migrations.Granules.{UnitForm, rows_unit, values_unit, arms_of, units_of, rows_driven, from_with, join_with, left_value, right_value, anchor_values, places_in, granules_of, part_at, owner_of, same_place}
@@ -161,10 +163,10 @@ module _ (old : Database) (t : Target) (key : List Value) where
   one_at_most (Some x) = omega arith
 
   few_values : (arm : Arm) (kind : ArmKind) → length (values_by old arm key kind) ≤ 1
-  few_values arm by_from = omega arith
-  few_values arm by_join = omega arith
-  few_values arm by_group = omega arith
-  few_values arm by_pair = one_at_most (option_map (left_value old arm) (row_with old arm.from (take (length (from_key old arm)) key)))
+  few_values arm ByFrom = omega arith
+  few_values arm ByJoin = omega arith
+  few_values arm ByGroup = omega arith
+  few_values arm ByPair = one_at_most (option_map (left_value old arm) (row_with old arm.from (take (length (from_key old arm)) key)))
 
   pub few_places : (unit : UnitForm) → length (places_by old t key unit) ≤ 1
   few_places (rows_unit driver) = one_at_most (option_map Row (position (has_the_key old driver (behind_tag t key)) (table_rows old driver)))
@@ -248,29 +250,29 @@ module _ (old : Database) (m : Migrate) (lawful : IsLawful old m) (t : Target) (
   arm_driven : (arm : Arm) → Fine arm → (d : List ℕ) (at : ℕ) → list_any p (rows_driven old arm (arm_kind old arm) d at) ≡ true → has_there d at ≡ true
   arm_driven arm fine d at some = of (arm_kind old arm) refl (ap (list_any p) (sym (as_driven old arm (arm_kind old arm) d at)) ∙ some) fine.0
     where
-      of_from : (b : Bool) → same_name arm.from d ≡ b → Tells old db arm k p by_from → list_any p (if b then rows_by old arm by_from (slice_range (table_rows old d) at (at + 1)) (rows_of_join old arm.join) else []) ≡ true → has_there d at ≡ true
+      of_from : (b : Bool) → same_name arm.from d ≡ b → Tells old db arm k p ByFrom → list_any p (if b then rows_by old arm ByFrom (slice_range (table_rows old d) at (at + 1)) (rows_of_join old arm.join) else []) ≡ true → has_there d at ≡ true
       of_from true e tells h =
           let same = name-equal arm.from d e in
-          subst (λ n. has_there n at ≡ true) same (from_told old db arm k p tells at (rows_of_join old arm.join) (subst (λ n. list_any p (rows_by old arm by_from (slice_range (table_rows old n) at (at + 1)) (rows_of_join old arm.join)) ≡ true) (sym same) h))
+          subst (λ n. has_there n at ≡ true) same (from_told old db arm k p tells at (rows_of_join old arm.join) (subst (λ n. list_any p (rows_by old arm ByFrom (slice_range (table_rows old n) at (at + 1)) (rows_of_join old arm.join)) ≡ true) (sym same) h))
       of_from false e tells h = absurd (false≢true h)
 
-      of_join : (j : Join) → arm.join ≡ Some j → (b : Bool) → list_any (same_name d) (j.table ∷ []) ≡ b → Tells old db arm k p by_join → list_any p (if b then rows_by old arm by_join (table_rows old arm.from) (slice_range (table_rows old d) at (at + 1)) else []) ≡ true → has_there d at ≡ true
+      of_join : (j : Join) → arm.join ≡ Some j → (b : Bool) → list_any (same_name d) (j.table ∷ []) ≡ b → Tells old db arm k p ByJoin → list_any p (if b then rows_by old arm ByJoin (table_rows old arm.from) (slice_range (table_rows old d) at (at + 1)) else []) ≡ true → has_there d at ≡ true
       of_join j joined true e tells h =
           let same = name-equal d j.table (alone_true (same_name d j.table) e) in
-          subst (λ n. has_there n at ≡ true) (sym same) (join_told old db arm k p j joined fine.1 tells (slice_range (table_rows old j.table) at (at + 1)) (subst (λ n. list_any p (rows_by old arm by_join (table_rows old arm.from) (slice_range (table_rows old n) at (at + 1))) ≡ true) same h))
+          subst (λ n. has_there n at ≡ true) (sym same) (join_told old db arm k p j joined fine.1 tells (slice_range (table_rows old j.table) at (at + 1)) (subst (λ n. list_any p (rows_by old arm ByJoin (table_rows old arm.from) (slice_range (table_rows old n) at (at + 1))) ≡ true) same h))
       of_join j joined false e tells h = absurd (false≢true h)
 
       of : (kind : ArmKind) → arm_kind old arm ≡ kind → list_any p (driven old arm (arm_kind old arm) kind d at) ≡ true → Tells old db arm k p (arm_kind old arm) → has_there d at ≡ true
-      of by_from e h tells =
-          of_from (same_name arm.from d) refl (subst (Tells old db arm k p) e tells) (ap (λ c. list_any p (driven old arm c by_from d at)) (sym e) ∙ h)
-      of by_join e h tells =
+      of ByFrom e h tells =
+          of_from (same_name arm.from d) refl (subst (Tells old db arm k p) e tells) (ap (λ c. list_any p (driven old arm c ByFrom d at)) (sym e) ∙ h)
+      of ByJoin e h tells =
           let (j, joined) = if_there arm.join (joins_by_join _ (is_some arm.join) _ _ e) in
           let names : names_of_join arm ≡ j.table ∷ [] = ap (λ (o : Option Join). unwrap_or (option_map (λ j. j.table ∷ []) o) []) joined in
           of_join j joined (list_any (same_name d) (j.table ∷ [])) refl (subst (Tells old db arm k p) e tells)
-          (ap (λ ns. list_any p (if list_any (same_name d) ns then rows_by old arm by_join (table_rows old arm.from) (slice_range (table_rows old d) at (at + 1)) else [])) (sym names)
-          ∙ ap (λ c. list_any p (driven old arm c by_join d at)) (sym e) ∙ h)
-      of by_pair e h tells = absurd (false≢true h)
-      of by_group e h tells = absurd (false≢true h)
+          (ap (λ ns. list_any p (if list_any (same_name d) ns then rows_by old arm ByJoin (table_rows old arm.from) (slice_range (table_rows old d) at (at + 1)) else [])) (sym names)
+          ∙ ap (λ c. list_any p (driven old arm c ByJoin d at)) (sym e) ∙ h)
+      of ByPair e h tells = absurd (false≢true h)
+      of ByGroup e h tells = absurd (false≢true h)
 
   -- a row unit's part of a row has the key where the row has it
   unit_driven : (d : List ℕ) (at : ℕ) → own (Some (rows_unit d)) (Row at) ≡ true → position (has_the_key old d k) (table_rows old d) ≡ Some at
@@ -293,19 +295,19 @@ module _ (old : Database) (m : Migrate) (lawful : IsLawful old m) (t : Target) (
 
       of : (kind : ArmKind) → arm_kind old arm ≡ kind → list_any p (rows_by old arm (arm_kind old arm) (from_with old arm kind v) (join_with old arm v)) ≡ true
           → (has same_key (values_by old arm key kind) v ≡ true) × (has same_key (anchor_values old arm kind) v ≡ true)
-      of by_from e h = absurd (false≢true (sym off ∙ ap is_by_row e))
-      of by_join e h = absurd (false≢true (sym off ∙ ap is_by_row e))
-      of by_group e h =
+      of ByFrom e h = absurd (false≢true (sym off ∙ ap is_by_row e))
+      of ByJoin e h = absurd (false≢true (sym off ∙ ap is_by_row e))
+      of ByGroup e h =
           let alone : not (is_some arm.join) ≡ true = ap (λ c. if is_by_group c then not (is_some arm.join) else true) (sym e) ∙ fine.2 in
-          let both = group_told old db arm k p (subst (Tells old db arm k p) e fine.0) (if_absent arm.join alone) v (ap (λ c. list_any p (rows_by old arm c (from_with old arm by_group v) (join_with old arm v))) (sym e) ∙ h) in
+          let both = group_told old db arm k p (subst (Tells old db arm k p) e fine.0) (if_absent arm.join alone) v (ap (λ c. list_any p (rows_by old arm c (from_with old arm ByGroup v) (join_with old arm v))) (sym e) ∙ h) in
           (or_left _ _ (key-symmetric v key ∙ ap (λ c. same_key c v) (sym all_key) ∙ both.0), both.1)
-      of by_pair e h =
+      of ByPair e h =
           let (j, joined) = if_there arm.join (joins_by_pair _ (is_some arm.join) _ _ e) in
-          let some = pair_told old db arm k p j joined fine.1 (subst (Tells old db arm k p) e fine.0) v (ap (λ c. list_any p (rows_by old arm c (from_with old arm by_pair v) (join_with old arm v))) (sym e) ∙ h) in
+          let some = pair_told old db arm k p j joined fine.1 (subst (Tells old db arm k p) e fine.0) v (ap (λ c. list_any p (rows_by old arm c (from_with old arm ByPair v) (join_with old arm v))) (sym e) ∙ h) in
           let front : List Value → List Value = λ c. take (length (from_key old arm)) c in
           let (r, found, same) = found_apart same_key key-equal key-itself (key_in old db arm.from) (front k) (λ r. same_key v (left_value old arm r)) (table_rows old arm.from) (keys_apart old db arm.from) some in
           let found' : find (has_the_key old arm.from (front key)) (table_rows old arm.from) ≡ Some r = ap (λ c. find (has_the_key old arm.from (front c)) (table_rows old arm.from)) (sym all_key) ∙ found in
-          let its : values_by old arm key by_pair ≡ left_value old arm r ∷ [] = ap (λ o. option_to_list (option_map (left_value old arm) o)) found' in
+          let its : values_by old arm key ByPair ≡ left_value old arm r ∷ [] = ap (λ o. option_to_list (option_map (left_value old arm) o)) found' in
           let lefts : has same_key (map (left_value old arm) (table_rows old arm.from)) v ≡ true =
           list_any-map (same_key v) (left_value old arm) (table_rows old arm.from) ∙ any_less (λ r. same_key v (left_value old arm r) && same_key (front k) (key_in old db arm.from r)) (λ r. same_key v (left_value old arm r)) (λ r h. (and_parts _ _ h).0) (table_rows old arm.from) some in (
             ap (λ vs. has same_key vs v) its ∙ or_left _ _ same,

@@ -1,6 +1,6 @@
 -- The sources of a migration alone, and the catalog alone.
 use Rattle.std.proofs.Common.{◌≡◌, ℕ, Bool, true, false, not, ◌&&◌, ◌||◌, List, [], ◌∷◌, ◌++◌, map, filter, flat_map, find, length, cond, Option, Some, None, is_some, nat_lt, refl, sym, ap, ap₂, ◌∙◌, inl, inr}
-use Rattle.std.specs.Prelude.{option_map}
+use Rattle.std.specs.Prelude.{option_map, unwrap_or}
 use Rattle.std.specs.List.{list_any, list_all}
 use Rattle.std.proofs.lemmas.Bool.{and_parts, or_parts, or_from, cases_Bool, false≢true}
 use Rattle.bf_base.specs.Lists.{same_name, has, with_before, when}
@@ -11,15 +11,19 @@ use Rattle.bf_tree.specs.declared.migration.Arm.{Arm}
 use Rattle.bf_tree.specs.declared.migration.Target.{Target}
 use Rattle.bf_tree.specs.declared.migration.Migrate.{Migrate}
 use Rattle.bf_tree.specs.declared.reply.Refusal.TheVariants as refusal
+use Rattle.bf_tree.specs.declared.statement.Statement.TheVariants as statement
 use Rattle.bf_sql.specs.Bound.{catalog_of, without_rows, table_without_rows}
 use Rattle.bf_sql.specs.Database.{Database, Stored, IsDatabase, stored_at, stored_in_order, is_keyed, is_admitted, is_within, is_on_table}
+use Rattle.bf_sql.specs.RowObjections.{size_objections, row_objections}
+use Rattle.bf_sql.specs.migrations.Extents.{most_rows}
 use Rattle.bf_sql.specs.migrations.Images.{image_of}
 use Rattle.bf_sql.specs.migrations.MigrationObjections.{sources_of, is_taken, migrate_objections}
 use Rattle.bf_sql.specs.migrations.Targets.{arm_sources, target_table}
 use Rattle.bf_image.specs.Laws.{IsLawful}
-use Rattle.bf_image.specs.Placed.{placed_arm}
+use Rattle.bf_sql.specs.migrations.Placed.{placed_arm}
 use Rattle.bf_image.specs.Sources.{frozen_of, HaveSameSources, HaveSameTables, tables_made}
 use Rattle.bf_image.proofs.admitting.Flip.{all_left, kept_any}
+use Rattle.bf_image.proofs.items.Bags.{blocks_equal_where}
 use Rattle.bf_image.proofs.items.Lists.{none_left, none_right, none_when, all_kept, has_own, map_equal_where}
 use Rattle.bf_image.proofs.items.Names.{name-equal, name-itself}
 use Rattle.bf_image.proofs.keeping.SameTables.{targets_objected, target_table_same, drivers_same, placed_same, is_inside}
@@ -102,8 +106,16 @@ module _ (db : Database) (m : Migrate) where
       let units = ap (λ ds. when (nat_lt 4 (length ds)) (refusal.UnitLimit (length ds))) (drivers_same (frozen_of db m) db (sources_of m) alike m (arms_inside_sources m)) ∙ none_right _ _ none in
       λ i. targets i ++ names i ++ units i
 
+  -- and they have as many rows
+  frozen_few : row_objections db (statement.Migrate m) ≡ [] → row_objections (frozen_of db m) (statement.Migrate m) ≡ []
+  frozen_few few =
+      blocks_equal_where (has same_name (sources_of m)) (size_objections (frozen_of db m)) (size_objections db)
+      (λ name there. ap (λ (o : Option Stored). when (nat_lt most_rows (length (unwrap_or (option_map (λ s. s.rows) o) []))) (refusal.TooManyRows name (length (unwrap_or (option_map (λ s. s.rows) o) [])))) (frozen_same name there))
+      (sources_of m) (has_own same_name name-itself (sources_of m))
+      ∙ few
+
   pub frozen_lawful : IsLawful db m → IsLawful (frozen_of db m) m
-  frozen_lawful lawful = record { database = frozen_database lawful.database; unobjected = frozen_unobjected lawful.unobjected }
+  frozen_lawful lawful = record { database = frozen_database lawful.database; unobjected = frozen_unobjected lawful.unobjected; few = frozen_few lawful.few }
 
   -- the tables made of the sources alone are those made of the whole
   pub frozen_made : tables_made (frozen_of db m) m ≡ tables_made db m

@@ -17,14 +17,17 @@ use Rattle.bf_tree.specs.declared.migration.Arm.{Arm}
 use Rattle.bf_tree.specs.declared.migration.Target.{Target}
 use Rattle.bf_tree.specs.declared.migration.Migrate.{Migrate}
 use Rattle.bf_tree.specs.declared.reply.Refusal.TheVariants as refusal
+use Rattle.bf_tree.specs.declared.plan.ArmKind.{ArmKind}
+use Rattle.bf_tree.specs.declared.plan.ArmKind.TheVariants.{ByFrom, ByJoin, ByPair, ByGroup}
 use Rattle.bf_sql.specs.Conditions.{condition_of}
 use Rattle.bf_sql.specs.Database.{Database, Stored, stored_at, table_at, no_table}
 use Rattle.bf_sql.specs.Scopes.{Scope, scope_of, place_of, kind_in, kind_objections, twice_objections, ref_objections, cond_objections}
 use Rattle.bf_sql.specs.migrations.Extents.{may_fail}
 use Rattle.bf_sql.specs.migrations.Images.{arm_rows}
 use Rattle.bf_sql.specs.migrations.MigrationObjections.{item_objections, group_objections, source_objections, arm_objections, kind_of_item, item_kinds, is_by_row, is_by_group, inherits_key, tag_of, keeps_apart, failing_objections, target_objections, driver_by, drivers_of}
-use Rattle.bf_sql.specs.migrations.Targets.{ArmKind, by_from, by_join, by_pair, by_group, kind_by, names_of_join, equalities, arm_sources, arm_scope, width, from_key, join_key, on_places, arm_kind, key_by, arm_key, plain_ref, is_total, item_name, key_items, extent_of_item, item_admit, either_admit, first_arm, target_table}
-use Rattle.bf_image.specs.Placed.{PlacedArm, placed_item, placed_pair, placed_arm, placed_rows}
+use Rattle.bf_sql.specs.migrations.Targets.{kind_by, names_of_join, equalities, arm_sources, arm_scope, width, from_key, join_key, on_places, arm_kind, key_by, arm_key, plain_ref, is_total, item_name, key_items, extent_of_item, item_admit, either_admit, first_arm, target_table}
+use Rattle.bf_tree.specs.declared.plan.PlacedArm.{PlacedArm}
+use Rattle.bf_sql.specs.migrations.Placed.{placed_item, placed_pair, placed_arm, placed_rows}
 use Rattle.bf_image.specs.Sources.{table_under}
 use Rattle.bf_image.proofs.items.Bags.{blocks_equal_where}
 use Rattle.bf_image.proofs.items.Lists.{all_equal_where, any_equal_where, pairs_equal_where}
@@ -76,10 +79,10 @@ module _ (a b : Database) (names : List (List ℕ)) (same : (name : List ℕ) �
     kinds i = kind_by (nat_lt 0 (length arm.group)) (is_some arm.join) (list_all (has nat_eq (places i)) (join_keys i)) (list_all (has nat_eq (places i)) (from_keys i))
 
     keys_by : (kind : ArmKind) → key_by a arm kind ≡ key_by b arm kind
-    keys_by by_from = from_keys
-    keys_by by_join = join_keys
-    keys_by by_pair = ap₂ (λ ks ls. ks ++ ls) from_keys join_keys
-    keys_by by_group = ap (λ scope. map (place_of scope) arm.group) scopes
+    keys_by ByFrom = from_keys
+    keys_by ByJoin = join_keys
+    keys_by ByPair = ap₂ (λ ks ls. ks ++ ls) from_keys join_keys
+    keys_by ByGroup = ap (λ scope. map (place_of scope) arm.group) scopes
 
     arm_keys : arm_key a arm ≡ arm_key b arm
     arm_keys = ap (key_by a arm) kinds ∙ keys_by (arm_kind b arm)
@@ -91,8 +94,7 @@ module _ (a b : Database) (names : List (List ℕ)) (same : (name : List ℕ) �
     placed_with scope kind = record {
       kind = kind;
       items = map (placed_item scope) arm.items;
-      joins = is_some arm.join;
-      on = map (placed_pair scope) (equalities arm);
+      on = option_map (λ j. map (placed_pair scope) j.on) arm.join;
       cond = cond_over (place_of scope) (condition_of arm.cond);
       group = map (place_of scope) arm.group;
     }

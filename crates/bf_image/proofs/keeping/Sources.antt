@@ -15,12 +15,14 @@ use Rattle.bf_tree.specs.declared.migration.Arm.{Arm}
 use Rattle.bf_tree.specs.declared.migration.Join.{Join}
 use Rattle.bf_tree.specs.declared.migration.Migrate.{Migrate}
 use Rattle.bf_tree.specs.declared.migration.Target.{Target}
+use Rattle.bf_tree.specs.declared.plan.ArmKind.{ArmKind}
+use Rattle.bf_tree.specs.declared.plan.ArmKind.TheVariants.{ByFrom, ByJoin, ByPair, ByGroup}
 use Rattle.bf_sql.specs.Database.{Database, Stored, stored_at, table_rows}
 use Rattle.bf_sql.specs.Scopes.{read_in}
 use Rattle.bf_sql.specs.migrations.Granules.{UnitForm, rows_unit, values_unit, arms_of, units_of, anchor_values, from_with, join_with, rows_driven, places_in, granule, granules_of, part_at, part_of, owner_of}
 use Rattle.bf_sql.specs.migrations.Images.{arm_rows, image_of, rows_of_join}
 use Rattle.bf_sql.specs.migrations.MigrationObjections.{sources_of, driver_by, drivers_of, is_by_row}
-use Rattle.bf_sql.specs.migrations.Targets.{ArmKind, by_from, by_join, by_pair, by_group, arm_kind, arm_scope, arm_sources, names_of_join, on_places, width}
+use Rattle.bf_sql.specs.migrations.Targets.{arm_kind, arm_scope, arm_sources, names_of_join, on_places, width}
 use Rattle.bf_image.specs.Sources.{table_under}
 use Rattle.bf_image.proofs.items.Bags.{blocks_equal_where}
 use Rattle.bf_image.proofs.items.Lists.{all_so, all_append, all_kept, all_of_blocks, all_of_map, all_in_blocks, all_with_numbers, all_distinct, all_of_contained, each_block_within, some_of_those, filter_equal_where, looked_up_where}
@@ -78,18 +80,18 @@ module _ (a b : Database) (names : List (List ℕ)) (same : (name : List ℕ) �
     arm_image = arm_rows_same _ _ _ _ from_rows join_rows
 
     anchors_same : (kind : ArmKind) → anchor_values a arm kind ≡ anchor_values b arm kind
-    anchors_same by_from = refl
-    anchors_same by_join = refl
-    anchors_same by_group = λ i. map (λ row. map (read_in (same_scope i) row) arm.group) (from_rows i)
-    anchors_same by_pair = λ i.
+    anchors_same ByFrom = refl
+    anchors_same ByJoin = refl
+    anchors_same ByGroup = λ i. map (λ row. map (read_in (same_scope i) row) arm.group) (from_rows i)
+    anchors_same ByPair = λ i.
         map (λ row. map (cell row) (filter (λ p. nat_lt p (same_width i)) (same_places i))) (from_rows i)
         ++ map (λ row. map (λ p. cell row (p - same_width i)) (filter (λ p. nat_le (same_width i) p) (same_places i))) (join_rows i)
 
     from_with_same : (kind : ArmKind) (value : List Value) → from_with a arm kind value ≡ from_with b arm kind value
-    from_with_same by_from value = refl
-    from_with_same by_join value = refl
-    from_with_same by_group value = λ i. filter (λ row. same_key value (map (read_in (same_scope i) row) arm.group)) (from_rows i)
-    from_with_same by_pair value = λ i. filter (λ row. same_key value (map (cell row) (filter (λ p. nat_lt p (same_width i)) (same_places i)))) (from_rows i)
+    from_with_same ByFrom value = refl
+    from_with_same ByJoin value = refl
+    from_with_same ByGroup value = λ i. filter (λ row. same_key value (map (read_in (same_scope i) row) arm.group)) (from_rows i)
+    from_with_same ByPair value = λ i. filter (λ row. same_key value (map (cell row) (filter (λ p. nat_lt p (same_width i)) (same_places i)))) (from_rows i)
 
     join_with_same : (value : List Value) → join_with a arm value ≡ join_with b arm value
     join_with_same value i = filter (λ row. same_key value (map (λ p. cell row (p - same_width i)) (filter (λ p. nat_le (same_width i) p) (same_places i)))) (join_rows i)
@@ -98,29 +100,29 @@ module _ (a b : Database) (names : List (List ℕ)) (same : (name : List ℕ) �
     one_row name at there = ap (λ rows. slice_range rows at (at + 1)) (rows_under name there)
 
     driven_same : (kind : ArmKind) (driver : List ℕ) (at : ℕ) → rows_driven a arm kind driver at ≡ rows_driven b arm kind driver at
-    driven_same by_from driver at = of (same_name arm.from driver) refl
+    driven_same ByFrom driver at = of (same_name arm.from driver) refl
       where
         of : (c : Bool) → same_name arm.from driver ≡ c → (if c then arm_rows a arm (slice_range (table_rows a driver) at (at + 1)) (rows_of_join a arm.join) else []) ≡ (if c then arm_rows b arm (slice_range (table_rows b driver) at (at + 1)) (rows_of_join b arm.join) else [])
         of true is = arm_rows_same _ _ _ _ (one_row driver at (ap (has same_name names) (sym (name-equal arm.from driver is)) ∙ (and_parts _ _ inside).0)) join_rows
         of false is = refl
-    driven_same by_join driver at = of (list_any (same_name driver) (names_of_join arm)) refl
+    driven_same ByJoin driver at = of (list_any (same_name driver) (names_of_join arm)) refl
       where
         of : (c : Bool) → list_any (same_name driver) (names_of_join arm) ≡ c → (if c then arm_rows a arm (table_rows a arm.from) (slice_range (table_rows a driver) at (at + 1)) else []) ≡ (if c then arm_rows b arm (table_rows b arm.from) (slice_range (table_rows b driver) at (at + 1)) else [])
         of true is =
             let there = some_of_those (has same_name names) (same_name driver) (has same_name names driver) (λ name h e. ap (has same_name names) (name-equal driver name e) ∙ h) (names_of_join arm) (and_parts (has same_name names arm.from) _ inside).1 is in
             arm_rows_same _ _ _ _ from_rows (one_row driver at there)
         of false is = refl
-    driven_same by_pair driver at = refl
-    driven_same by_group driver at = refl
+    driven_same ByPair driver at = refl
+    driven_same ByGroup driver at = refl
 
     valued_same : (kind : ArmKind) (value : List Value) → arm_rows a arm (from_with a arm kind value) (join_with a arm value) ≡ arm_rows b arm (from_with b arm kind value) (join_with b arm value)
     valued_same kind value = arm_rows_same _ _ _ _ (from_with_same kind value) (join_with_same value)
 
     drivers_inside : (kind : ArmKind) → list_all (has same_name names) (driver_by kind arm) ≡ true
-    drivers_inside by_from = and_from _ _ (and_parts _ _ inside).0 refl
-    drivers_inside by_join = (and_parts (has same_name names arm.from) _ inside).1
-    drivers_inside by_pair = refl
-    drivers_inside by_group = refl
+    drivers_inside ByFrom = and_from _ _ (and_parts _ _ inside).0 refl
+    drivers_inside ByJoin = (and_parts (has same_name names arm.from) _ inside).1
+    drivers_inside ByPair = refl
+    drivers_inside ByGroup = refl
 
     same_kind : arm_kind a arm ≡ arm_kind b arm
     same_kind = kinds a b names tables_same arm inside

@@ -14,9 +14,11 @@ use Rattle.bf_base.proofs.Parts.{list_all_always}
 use Rattle.bf_base.specs.Distinct.{distinct}
 use Rattle.bf_tree.specs.declared.migration.Join.{Join}
 use Rattle.bf_tree.specs.declared.migration.Arm.{Arm}
+use Rattle.bf_tree.specs.declared.plan.ArmKind.{ArmKind}
+use Rattle.bf_tree.specs.declared.plan.ArmKind.TheVariants.{ByFrom, ByJoin, ByPair, ByGroup}
 use Rattle.bf_sql.specs.Database.{Database, Stored, IsDatabase, stored_at, table_at, table_rows, is_keyed, is_within, no_table}
 use Rattle.bf_sql.specs.Scopes.{place_of}
-use Rattle.bf_sql.specs.migrations.Targets.{ArmKind, by_from, by_join, by_pair, by_group, kind_by, key_by, arm_kind, arm_scope, width, from_key, join_key, on_places, equalities, names_of_join}
+use Rattle.bf_sql.specs.migrations.Targets.{kind_by, key_by, arm_kind, arm_scope, width, from_key, join_key, on_places, equalities, names_of_join}
 use Rattle.bf_sql.specs.migrations.Images.{is_equal_on, first_row, group_value, satisfying, rows_of_join}
 use Rattle.bf_image.proofs.items.Lists.{all_so, all_found, has_own}
 use Rattle.bf_image.proofs.items.Bags.{tally, tally-same_items, turned_round}
@@ -30,13 +32,13 @@ use Rattle.bf_image.proofs.items.Once.{count_if, tally_of_blocks, tally_of_map, 
 same_from_equal : (a b : List Value) → a ≡ b → same_key a b ≡ true
 same_from_equal a b e = ap (same_key a) (sym e) ∙ key-itself a
 
-pub from_with_join : (g a b : Bool) → kind_by g true a b ≡ by_from → a ≡ true
+pub from_with_join : (g a b : Bool) → kind_by g true a b ≡ ByFrom → a ≡ true
 from_with_join true a b e = absurd cc
 from_with_join false true b e = refl
 from_with_join false false true e = absurd cc
 from_with_join false false false e = absurd cc
 
-pub join_has_from : (g j a b : Bool) → kind_by g j a b ≡ by_join → (j ≡ true) × (b ≡ true)
+pub join_has_from : (g j a b : Bool) → kind_by g j a b ≡ ByJoin → (j ≡ true) × (b ≡ true)
 join_has_from true j a b e = absurd cc
 join_has_from false false a b e = absurd cc
 join_has_from false true true b e = absurd cc
@@ -104,10 +106,10 @@ module _ (old : Database) (is : IsDatabase old) where
     abbrev from : List (List Value)
     from = table_rows old arm.from
 
-    from_alone : Judges by_from → arm.join ≡ None → tally q (whole_by old arm by_from) ≤ 1
+    from_alone : Judges ByFrom → arm.join ≡ None → tally q (whole_by old arm ByFrom) ≤ 1
     from_alone judges alone =
-        let form : whole_by old arm by_from ≡ flat_map (of_match old arm) from = single_form old arm from (rows_of_join old arm.join) ∙ ap (λ o. flat_map (of_from old arm o (rows_of_join old arm.join)) from) alone in
-        let less = tally_of_blocks q (asks by_from) (λ m. true) (of_match old arm) (λ m fine. match_tally by_from judges m) from (list_all_always from) in
+        let form : whole_by old arm ByFrom ≡ flat_map (of_match old arm) from = single_form old arm from (rows_of_join old arm.join) ∙ ap (λ o. flat_map (of_from old arm o (rows_of_join old arm.join)) from) alone in
+        let less = tally_of_blocks q (asks ByFrom) (λ m. true) (of_match old arm) (λ m fine. match_tally ByFrom judges m) from (list_all_always from) in
         let once = tally_of_apart same_key key-equal k (map (key_in arm.from) from) (keys_apart arm.from) in
         omega (arith, less, once, ap (tally q) form, tally_of_map (same_key k) (key_in arm.from) from)
 
@@ -175,44 +177,44 @@ module _ (old : Database) (is : IsDatabase old) where
       its_key : (kind : ArmKind) (r s : List Value) → asked kind r s ≡ true → k ≡ map (cell (r ++ s)) (key_by old arm kind)
       its_key kind r s p = key-equal k (map (cell (r ++ s)) (key_by old arm kind)) (and_parts (on_pair (r ++ s)) (asks kind (r ++ s)) p).1
 
-      from_joined : Judges by_from → list_all (has nat_eq (on_places old arm)) (join_key old arm) ≡ true → tally q (whole_by old arm by_from) ≤ 1
+      from_joined : Judges ByFrom → list_all (has nat_eq (on_places old arm)) (join_key old arm) ≡ true → tally q (whole_by old arm ByFrom) ≤ 1
       from_joined judges has_key =
-          omega (arith, once, ap (tally q) (form by_from refl))
+          omega (arith, once, ap (tally q) (form ByFrom refl))
         where
           once : tally q (flat_map (λ r. flat_map (λ s. of_pair old arm j (r ++ s)) join) from) ≤ 1
           once =
-              once_in_pairs same_key same_key (key_in arm.from) (key_in j.table) wide (λ s. true) (λ r s. of_pair old arm j (r ++ s)) q (asked by_from)
-              (λ r s e o. pair_tally by_from judges j (r ++ s))
-              (λ r r' s s' e e' o o' p p'. same_from_equal _ _ (sym (left_key r s e) ∙ sym (its_key by_from r s p) ∙ its_key by_from r' s' p' ∙ left_key r' s' e'))
-              (λ r s s' e o o' p p'. same_from_equal _ _ (fixes_right has_key r s s' e (its_on by_from r s p) (its_on by_from r s' p')))
+              once_in_pairs same_key same_key (key_in arm.from) (key_in j.table) wide (λ s. true) (λ r s. of_pair old arm j (r ++ s)) q (asked ByFrom)
+              (λ r s e o. pair_tally ByFrom judges j (r ++ s))
+              (λ r r' s s' e e' o o' p p'. same_from_equal _ _ (sym (left_key r s e) ∙ sym (its_key ByFrom r s p) ∙ its_key ByFrom r' s' p' ∙ left_key r' s' e'))
+              (λ r s s' e o o' p p'. same_from_equal _ _ (fixes_right has_key r s s' e (its_on ByFrom r s p) (its_on ByFrom r s' p')))
               from join (as_wide old is arm arm.from) (list_all_always join) (keys_apart arm.from) (keys_apart j.table)
 
-      join_once : Judges by_join → list_all (has nat_eq (on_places old arm)) (from_key old arm) ≡ true → tally q (whole_by old arm by_join) ≤ 1
+      join_once : Judges ByJoin → list_all (has nat_eq (on_places old arm)) (from_key old arm) ≡ true → tally q (whole_by old arm ByJoin) ≤ 1
       join_once judges has_key =
-          omega (arith, once, ap (tally q) (form by_join refl), tally-same_items q (turned_round (λ r s. of_pair old arm j (r ++ s)) from join))
+          omega (arith, once, ap (tally q) (form ByJoin refl), tally-same_items q (turned_round (λ r s. of_pair old arm j (r ++ s)) from join))
         where
           once : tally q (flat_map (λ s. flat_map (λ r. of_pair old arm j (r ++ s)) from) join) ≤ 1
           once =
-              once_in_pairs same_key same_key (key_in j.table) (key_in arm.from) (λ s. true) wide (λ s r. of_pair old arm j (r ++ s)) q (λ s r. asked by_join r s)
-              (λ s r o e. pair_tally by_join judges j (r ++ s))
-              (λ s s' r r' o o' e e' p p'. same_from_equal _ _ (sym (right_key r s e) ∙ sym (its_key by_join r s p) ∙ its_key by_join r' s' p' ∙ right_key r' s' e'))
-              (λ s r r' o e e' p p'. same_from_equal _ _ (fixes_left has_key r r' s e e' (its_on by_join r s p) (its_on by_join r' s p')))
+              once_in_pairs same_key same_key (key_in j.table) (key_in arm.from) (λ s. true) wide (λ s r. of_pair old arm j (r ++ s)) q (λ s r. asked ByJoin r s)
+              (λ s r o e. pair_tally ByJoin judges j (r ++ s))
+              (λ s s' r r' o o' e e' p p'. same_from_equal _ _ (sym (right_key r s e) ∙ sym (its_key ByJoin r s p) ∙ its_key ByJoin r' s' p' ∙ right_key r' s' e'))
+              (λ s r r' o e e' p p'. same_from_equal _ _ (fixes_left has_key r r' s e e' (its_on ByJoin r s p) (its_on ByJoin r' s p')))
               join from (list_all_always join) (as_wide old is arm arm.from) (keys_apart j.table) (keys_apart arm.from)
 
       both_keys : (r s : List Value) → wide r ≡ true → map (cell (r ++ s)) (from_key old arm ++ join_key old arm) ≡ key_in arm.from r ++ key_in j.table s
       both_keys r s e = map-append (cell (r ++ s)) (from_key old arm) (join_key old arm) ∙ ap₂ (λ a b. a ++ b) (left_key r s e) (right_key r s e)
 
-      pair_keys : (r r' s s' : List Value) → wide r ≡ true → wide r' ≡ true → asked by_pair r s ≡ true → asked by_pair r' s' ≡ true → (key_in arm.from r ≡ key_in arm.from r') × (key_in j.table s ≡ key_in j.table s')
-      pair_keys r r' s s' e e' p p' = apart_again (cell r) (cell r') (from_key old arm) (key_in j.table s) (key_in j.table s') (sym (both_keys r s e) ∙ sym (its_key by_pair r s p) ∙ its_key by_pair r' s' p' ∙ both_keys r' s' e')
+      pair_keys : (r r' s s' : List Value) → wide r ≡ true → wide r' ≡ true → asked ByPair r s ≡ true → asked ByPair r' s' ≡ true → (key_in arm.from r ≡ key_in arm.from r') × (key_in j.table s ≡ key_in j.table s')
+      pair_keys r r' s s' e e' p p' = apart_again (cell r) (cell r') (from_key old arm) (key_in j.table s) (key_in j.table s') (sym (both_keys r s e) ∙ sym (its_key ByPair r s p) ∙ its_key ByPair r' s' p' ∙ both_keys r' s' e')
 
-      pair_once : Judges by_pair → tally q (whole_by old arm by_pair) ≤ 1
+      pair_once : Judges ByPair → tally q (whole_by old arm ByPair) ≤ 1
       pair_once judges =
-          omega (arith, once, ap (tally q) (form by_pair refl))
+          omega (arith, once, ap (tally q) (form ByPair refl))
         where
           once : tally q (flat_map (λ r. flat_map (λ s. of_pair old arm j (r ++ s)) join) from) ≤ 1
           once =
-              once_in_pairs same_key same_key (key_in arm.from) (key_in j.table) wide (λ s. true) (λ r s. of_pair old arm j (r ++ s)) q (asked by_pair)
-              (λ r s e o. pair_tally by_pair judges j (r ++ s))
+              once_in_pairs same_key same_key (key_in arm.from) (key_in j.table) wide (λ s. true) (λ r s. of_pair old arm j (r ++ s)) q (asked ByPair)
+              (λ r s e o. pair_tally ByPair judges j (r ++ s))
               (λ r r' s s' e e' o o' p p'. same_from_equal _ _ (pair_keys r r' s s' e e' p p').0)
               (λ r s s' e o o' p p'. same_from_equal _ _ (pair_keys r r s s' e e p p').1)
               from join (as_wide old is arm arm.from) (list_all_always join) (keys_apart arm.from) (keys_apart j.table)
@@ -220,7 +222,7 @@ module _ (old : Database) (is : IsDatabase old) where
     abbrev value : List Value → List Value
     value = group_value old arm
 
-    group_once : Judges by_group → tally q (whole_by old arm by_group) ≤ 1
+    group_once : Judges ByGroup → tally q (whole_by old arm ByGroup) ≤ 1
     group_once judges =
         let rows = satisfying old arm from (rows_of_join old arm.join) in
         let group : List Value → List (List Value) = λ v. filter (λ m. same_key v (value m)) rows in
@@ -235,16 +237,16 @@ module _ (old : Database) (is : IsDatabase old) where
         omega (arith, count, less, once)
 
     pub once_by : (kind : ArmKind) → arm_kind old arm ≡ kind → two_sided old arm ≡ true → Judges kind → tally q (whole_by old arm kind) ≤ 1
-    once_by by_from e sided judges = of arm.join refl
+    once_by ByFrom e sided judges = of arm.join refl
       where
-        of : (o : Option Join) → arm.join ≡ o → tally q (whole_by old arm by_from) ≤ 1
+        of : (o : Option Join) → arm.join ≡ o → tally q (whole_by old arm ByFrom) ≤ 1
         of None alone = from_alone judges alone
         of (Some j) joined = from_joined j joined sided judges (from_with_join _ _ _ (sym (ap (λ b. kind_by (nat_lt 0 (length arm.group)) b (list_all (has nat_eq (on_places old arm)) (join_key old arm)) (list_all (has nat_eq (on_places old arm)) (from_key old arm))) (ap is_some joined)) ∙ e))
-    once_by by_join e sided judges =
+    once_by ByJoin e sided judges =
         let both = join_has_from _ (is_some arm.join) _ _ e in
         let (j, joined) = if_there arm.join both.0 in
         join_once j joined sided judges both.1
-    once_by by_pair e sided judges =
+    once_by ByPair e sided judges =
         let (j, joined) = if_there arm.join (joins_by_pair _ (is_some arm.join) _ _ e) in
         pair_once j joined sided judges
-    once_by by_group e sided judges = group_once judges
+    once_by ByGroup e sided judges = group_once judges

@@ -19,10 +19,12 @@ use Rattle.bf_tree.specs.declared.raw.Ref.{Ref}
 use Rattle.bf_tree.specs.Evaluation.{holds_on}
 use Rattle.bf_tree.specs.declared.migration.Join.{Join}
 use Rattle.bf_tree.specs.declared.migration.Arm.{Arm}
+use Rattle.bf_tree.specs.declared.plan.ArmKind.{ArmKind}
+use Rattle.bf_tree.specs.declared.plan.ArmKind.TheVariants.{ByFrom, ByJoin, ByPair, ByGroup}
 use Rattle.bf_sql.specs.Database.{Database, table_rows}
 use Rattle.bf_sql.specs.Conditions.{condition_of}
 use Rattle.bf_sql.specs.Scopes.{Scope, place_of, read_in}
-use Rattle.bf_sql.specs.migrations.Targets.{ArmKind, by_from, by_join, by_pair, by_group, arm_scope, width, equalities}
+use Rattle.bf_sql.specs.migrations.Targets.{arm_scope, width, equalities}
 use Rattle.bf_sql.specs.migrations.Images.{is_equal_on, item_over, group_value, groups_by, matches_of_join, satisfying, rows_of_join}
 use Rattle.bf_sql.specs.migrations.Granules.{left_value, right_value, from_with, join_with, anchor_values}
 use Rattle.bf_image.proofs.items.Bags.{blocks_equal, blocks_filtered, in_turn}
@@ -136,15 +138,15 @@ module _ (old : Database) (arm : Arm) where
   pub single_form : (from join : List (List Value)) → map made (map (λ row. row ∷ []) (satisfying old arm from join)) ≡ flat_map (of_from arm.join join) from
   single_form from join = singles made passes (matches_of_join old arm from join arm.join) ∙ from_form arm.join from join
 
-  pub from_in_turn : (from join : List (List Value)) → flat_map (λ p. rows_by by_from (slice_range from p (p + 1)) join) (range_with_len 0 (length from)) ≡ rows_by by_from from join
+  pub from_in_turn : (from join : List (List Value)) → flat_map (λ p. rows_by ByFrom (slice_range from p (p + 1)) join) (range_with_len 0 (length from)) ≡ rows_by ByFrom from join
   from_in_turn from join =
-      blocks_equal (λ p. rows_by by_from (slice_range from p (p + 1)) join) (λ p. flat_map (of_from arm.join join) (slice_range from p (p + 1))) (λ p. single_form (slice_range from p (p + 1)) join) (range_with_len 0 (length from))
+      blocks_equal (λ p. rows_by ByFrom (slice_range from p (p + 1)) join) (λ p. flat_map (of_from arm.join join) (slice_range from p (p + 1))) (λ p. single_form (slice_range from p (p + 1)) join) (range_with_len 0 (length from))
       ∙ in_turn (of_from arm.join join) from 0 (length from) (omega arith)
       ∙ sym (single_form from join)
 
   -- the joined values of both sides, each once
   abbrev pub pair_values : List (List Value)
-  pair_values = in_order key_cmp (λ v. v) (distinct same_key (anchor_values old arm by_pair))
+  pair_values = in_order key_cmp (λ v. v) (distinct same_key (anchor_values old arm ByPair))
 
   abbrev pub fine_row : List Value → Bool
   fine_row r = (length r == width old arm) && has same_key pair_values (left_value old arm r)
@@ -156,22 +158,22 @@ module _ (old : Database) (arm : Arm) where
     pub as_pairs : (from join : List (List Value)) → map made (map (λ row. row ∷ []) (satisfying old arm from join)) ≡ pair_form from join
     as_pairs from join = single_form from join ∙ ap (λ o. flat_map (of_from o join) from) joined
 
-    pub join_in_turn : (from join : List (List Value)) → SameItems (flat_map (λ p. rows_by by_join from (slice_range join p (p + 1))) (range_with_len 0 (length join))) (rows_by by_join from join)
+    pub join_in_turn : (from join : List (List Value)) → SameItems (flat_map (λ p. rows_by ByJoin from (slice_range join p (p + 1))) (range_with_len 0 (length join))) (rows_by ByJoin from join)
     join_in_turn from join =
-        through (same_items_if _ _ (blocks_equal (λ p. rows_by by_join from (slice_range join p (p + 1))) (λ p. pair_form from (slice_range join p (p + 1))) (λ p. as_pairs from (slice_range join p (p + 1))) (range_with_len 0 (length join))))
+        through (same_items_if _ _ (blocks_equal (λ p. rows_by ByJoin from (slice_range join p (p + 1))) (λ p. pair_form from (slice_range join p (p + 1))) (λ p. as_pairs from (slice_range join p (p + 1))) (range_with_len 0 (length join))))
         (through (pairs_by_right (λ r s. of_pair j (r ++ s)) from join) (same_items_if _ _ (sym (as_pairs from join))))
 
     pub pairs_in_turn : list_all (λ e. not (is_one_sided (arm_scope old arm) (width old arm) e)) (equalities arm) ≡ true
         → list_all fine_row (table_rows old arm.from) ≡ true
-        → SameItems (flat_map (λ v. rows_by by_pair (from_with old arm by_pair v) (join_with old arm v)) pair_values) (rows_by by_pair (table_rows old arm.from) (rows_of_join old arm.join))
+        → SameItems (flat_map (λ v. rows_by ByPair (from_with old arm ByPair v) (join_with old arm v)) pair_values) (rows_by ByPair (table_rows old arm.from) (rows_of_join old arm.join))
     pairs_in_turn sides fine =
         let from = table_rows old arm.from in
         let join = rows_of_join old arm.join in
-        let cut = blocks_equal (λ v. rows_by by_pair (from_with old arm by_pair v) (join_with old arm v)) (λ v. pair_form (from_with old arm by_pair v) (join_with old arm v)) (λ v. as_pairs (from_with old arm by_pair v) (join_with old arm v)) pair_values in
+        let cut = blocks_equal (λ v. rows_by ByPair (from_with old arm ByPair v) (join_with old arm v)) (λ v. pair_form (from_with old arm ByPair v) (join_with old arm v)) (λ v. as_pairs (from_with old arm ByPair v) (join_with old arm v)) pair_values in
         through (same_items_if _ _ cut)
         (through
         (pairs_by_value same_key key-symmetric key-equal key-itself (left_value old arm) (right_value old arm) fine_row (λ r s. of_pair j (r ++ s)) nothing pair_values from join
-        (values_in_order-apart key_cmp_total key_cmp-IsAntisymmetric (anchor_values old arm by_pair)) (λ r e. (and_parts _ _ e).1) fine)
+        (values_in_order-apart key_cmp_total key_cmp-IsAntisymmetric (anchor_values old arm ByPair)) (λ r e. (and_parts _ _ e).1) fine)
         (same_items_if _ _ (sym (as_pairs from join))))
       where
         on_same : equalities arm ≡ j.on
@@ -191,7 +193,7 @@ module _ (old : Database) (arm : Arm) where
 
   -- the values of the group columns, each once
   abbrev pub group_values : List (List Value)
-  group_values = in_order key_cmp (λ v. v) (distinct same_key (anchor_values old arm by_group))
+  group_values = in_order key_cmp (λ v. v) (distinct same_key (anchor_values old arm ByGroup))
 
   -- a value of some rows is one of all
   pub some_of_all : (k : List Value) (p : List Value → Bool) (rows : List (List Value)) → has same_key (map (group_value old arm) (filter p rows)) k ≡ true → has same_key (map (group_value old arm) rows) k ≡ true
@@ -204,18 +206,18 @@ module _ (old : Database) (arm : Arm) where
   ] there
   some_of_all k p [] there = there
 
-  pub groups_in_turn : arm.join ≡ None → SameItems (flat_map (λ v. rows_by by_group (from_with old arm by_group v) (join_with old arm v)) group_values) (rows_by by_group (table_rows old arm.from) (rows_of_join old arm.join))
+  pub groups_in_turn : arm.join ≡ None → SameItems (flat_map (λ v. rows_by ByGroup (from_with old arm ByGroup v) (join_with old arm v)) group_values) (rows_by ByGroup (table_rows old arm.from) (rows_of_join old arm.join))
   groups_in_turn alone =
       let from = table_rows old arm.from in
       let satisfied = filter passes from in
       let all_of : (a b : List (List Value)) → satisfying old arm a b ≡ filter passes a = λ a b. ap (λ o. filter passes (matches_of_join old arm a b o)) alone in
       let of : List (List Value) → List (List Value) = by_value same_key key-symmetric key-equal key-itself (group_value old arm) made in
-      let one : (v : List Value) → rows_by by_group (from_with old arm by_group v) (join_with old arm v) ≡ of (filter (λ row. same_key v (group_value old arm row)) satisfied) = λ v.
-      ap of (all_of (from_with old arm by_group v) (join_with old arm v) ∙ filters_exchanged passes (λ row. same_key v (group_value old arm row)) from) in
-      through (same_items_if _ _ (blocks_equal (λ v. rows_by by_group (from_with old arm by_group v) (join_with old arm v)) (λ v. of (filter (λ row. same_key v (group_value old arm row)) satisfied)) one group_values))
+      let one : (v : List Value) → rows_by ByGroup (from_with old arm ByGroup v) (join_with old arm v) ≡ of (filter (λ row. same_key v (group_value old arm row)) satisfied) = λ v.
+      ap of (all_of (from_with old arm ByGroup v) (join_with old arm v) ∙ filters_exchanged passes (λ row. same_key v (group_value old arm row)) from) in
+      through (same_items_if _ _ (blocks_equal (λ v. rows_by ByGroup (from_with old arm ByGroup v) (join_with old arm v)) (λ v. of (filter (λ row. same_key v (group_value old arm row)) satisfied)) one group_values))
       (through
       (values_in_turn same_key key-symmetric key-equal key-itself (group_value old arm) made satisfied group_values
       (values_among key_cmp_total key_cmp-IsAntisymmetric (map (group_value old arm) satisfied) group_values
-      (values_in_order-apart key_cmp_total key_cmp-IsAntisymmetric (anchor_values old arm by_group))
-      (λ k there. values_in_order-has key_cmp_total key_cmp-IsAntisymmetric (anchor_values old arm by_group) k ∙ some_of_all k passes from there)))
+      (values_in_order-apart key_cmp_total key_cmp-IsAntisymmetric (anchor_values old arm ByGroup))
+      (λ k there. values_in_order-has key_cmp_total key_cmp-IsAntisymmetric (anchor_values old arm ByGroup) k ∙ some_of_all k passes from there)))
       (same_items_if _ _ (ap of (sym (all_of from (rows_of_join old arm.join))))))

@@ -20,14 +20,16 @@ use Rattle.bf_tree.specs.declared.migration.Item.{Item}
 use Rattle.bf_tree.specs.declared.migration.Item.TheVariants as item
 use Rattle.bf_tree.specs.declared.migration.Join.{Join}
 use Rattle.bf_tree.specs.declared.migration.Arm.{Arm}
+use Rattle.bf_tree.specs.declared.plan.ArmKind.{ArmKind}
+use Rattle.bf_tree.specs.declared.plan.ArmKind.TheVariants.{ByFrom, ByJoin, ByPair, ByGroup}
 use Rattle.bf_sql.specs.Database.{Database}
 use Rattle.bf_sql.specs.Bound.{total_over}
 use Rattle.bf_sql.specs.Conditions.{condition_of}
 use Rattle.bf_sql.specs.Scopes.{Scope, place_of, read_in}
-use Rattle.bf_sql.specs.migrations.Targets.{ArmKind, by_from, by_join, by_pair, by_group, arm_scope, arm_kind}
+use Rattle.bf_sql.specs.migrations.Targets.{arm_scope, arm_kind}
 use Rattle.bf_sql.specs.migrations.Images.{first_row, value_or_nought, item_over, group_value, groups_by, is_equal_on, matches_of_join, satisfying, arm_rows}
 use Rattle.bf_sql.specs.Totals.{lesser, greater, or_null, sum_of, values_of, total_of}
-use Rattle.bf_image.specs.Placed.{is_equal_at, placed_pair, placed_item, placed_arm, placed_over, placed_groups, placed_matches, placed_rows}
+use Rattle.bf_sql.specs.migrations.Placed.{is_equal_at, placed_pair, placed_item, placed_arm, placed_over, placed_groups, placed_matches, placed_rows}
 
 map_alike : {X Y : Type 0} (f g : X → Y) → ((x : X) → f x ≡ g x) → (xs : List X) → map f xs ≡ map g xs
 map_alike f g one [] = refl
@@ -65,26 +67,23 @@ module _ (old : Database) (arm : Arm) where
   value_alike row = sym (map-map (cell row) (place_of scope) arm.group)
 
   groups_alike : (kind : ArmKind) (rows : List (List Value)) → groups_by old arm kind rows ≡ placed_groups (placed_arm old arm) kind rows
-  groups_alike by_from rows = refl
-  groups_alike by_join rows = refl
-  groups_alike by_pair rows = refl
-  groups_alike by_group rows =
+  groups_alike ByFrom rows = refl
+  groups_alike ByJoin rows = refl
+  groups_alike ByPair rows = refl
+  groups_alike ByGroup rows =
       let value = cells (map (place_of scope) arm.group) in
       map_alike (λ g. filter (λ row. same_key g (group_value old arm row)) rows) (λ g. filter (λ row. same_key g (value row)) rows)
       (λ g. filter_alike (λ row. same_key g (group_value old arm row)) (λ row. same_key g (value row)) (λ row. ap (same_key g) (value_alike row)) rows) (distinct same_key (map (group_value old arm) rows))
       ∙ ap (λ vs. map (λ g. filter (λ row. same_key g (value row)) rows) (distinct same_key vs)) (map_alike (group_value old arm) value value_alike rows)
 
-  abbrev pairs_on : Option Join → List (Ref × Ref)
-  pairs_on o = unwrap_or (option_map (λ j. j.on) o) []
-
   matches_alike : (o : Option Join) (from join : List (List Value)) → matches_of_join old arm from join o
-      ≡ (if is_some o then filter (λ row. list_all (is_equal_at row) (map (placed_pair scope) (pairs_on o))) (flat_map (λ r. map (λ s. r ++ s) join) from) else from)
+      ≡ placed_matches (placed_arm old arm) (option_map (λ j. map (placed_pair scope) j.on) o) from join
   matches_alike None from join = refl
   matches_alike (Some j) from join =
       filter_alike (λ row. list_all (is_equal_on scope row) j.on) (λ row. list_all (is_equal_at row) (map (placed_pair scope) j.on))
       (λ row. sym (list_all-map (is_equal_at row) (placed_pair scope) j.on)) (flat_map (λ r. map (λ s. r ++ s) join) from)
 
-  satisfying_alike : (from join : List (List Value)) → satisfying old arm from join ≡ filter (λ row. holds_on (cell row) (cond_over (place_of scope) (condition_of arm.cond))) (placed_matches (placed_arm old arm) from join)
+  satisfying_alike : (from join : List (List Value)) → satisfying old arm from join ≡ filter (λ row. holds_on (cell row) (cond_over (place_of scope) (condition_of arm.cond))) (placed_matches (placed_arm old arm) (placed_arm old arm).on from join)
   satisfying_alike from join =
       filter_alike (λ row. holds_on (read_in scope row) (condition_of arm.cond)) (λ row. holds_on (cell row) (cond_over (place_of scope) (condition_of arm.cond)))
       (λ row. sym (holds_on-cond_over (cell row) (place_of scope) (condition_of arm.cond))) (matches_of_join old arm from join arm.join)

@@ -12,8 +12,10 @@ use Rattle.bf_tree.specs.declared.reply.Refusal.TheVariants as refusal
 use Rattle.bf_tree.specs.declared.migration.Arm.{Arm}
 use Rattle.bf_tree.specs.declared.migration.Target.{Target}
 use Rattle.bf_tree.specs.declared.migration.Migrate.{Migrate}
+use Rattle.bf_tree.specs.declared.plan.ArmKind.{ArmKind}
+use Rattle.bf_tree.specs.declared.plan.ArmKind.TheVariants.{ByFrom, ByJoin, ByPair, ByGroup}
 use Rattle.bf_sql.specs.Database.{Database, Stored, IsDatabase, stored_at, table_at, table_rows, is_admitted, no_table}
-use Rattle.bf_sql.specs.migrations.Targets.{ArmKind, by_from, by_join, by_pair, by_group, kind_by, arm_kind, arm_scope, width, equalities}
+use Rattle.bf_sql.specs.migrations.Targets.{kind_by, arm_kind, arm_scope, width, equalities}
 use Rattle.bf_sql.specs.migrations.MigrationObjections.{drivers_of, driver_by, is_by_group, inherits_key, has_key, on_objections, arm_objections, target_objections, migrate_objections, is_taken}
 use Rattle.bf_sql.specs.migrations.Images.{rows_of_join}
 use Rattle.bf_sql.specs.migrations.Granules.{arms_of, left_value, right_value, anchor_values}
@@ -25,12 +27,12 @@ use Rattle.bf_image.proofs.cutting.Parts.{is_fine, is_fine_arm}
 use Rattle.bf_image.proofs.cutting.Targets.{is_new}
 
 -- an arm of a kind with a JOIN has one
-pub joins_by_join : (g j a b : Bool) → kind_by g j a b ≡ by_join → j ≡ true
+pub joins_by_join : (g j a b : Bool) → kind_by g j a b ≡ ByJoin → j ≡ true
 joins_by_join true j a b e = absurd cc
 joins_by_join false true a b e = refl
 joins_by_join false false a b e = absurd cc
 
-pub joins_by_pair : (g j a b : Bool) → kind_by g j a b ≡ by_pair → j ≡ true
+pub joins_by_pair : (g j a b : Bool) → kind_by g j a b ≡ ByPair → j ≡ true
 joins_by_pair true j a b e = absurd cc
 joins_by_pair false true a b e = refl
 joins_by_pair false false a b e = absurd cc
@@ -55,8 +57,8 @@ module _ (old : Database) (is : IsDatabase old) (arm : Arm) where
 
   pub rows_fine : list_all (fine_row old arm) (table_rows old arm.from) ≡ true
   rows_fine =
-      all_both (λ r. length r == width old arm) (λ r. has same_key (anchor_values old arm by_pair) (left_value old arm r)) (fine_row old arm)
-      (λ r wide there. and_from _ _ wide (values_in_order-has key_cmp_total key_cmp-IsAntisymmetric (anchor_values old arm by_pair) (left_value old arm r) ∙ there))
+      all_both (λ r. length r == width old arm) (λ r. has same_key (anchor_values old arm ByPair) (left_value old arm r)) (fine_row old arm)
+      (λ r wide there. and_from _ _ wide (values_in_order-has key_cmp_total key_cmp-IsAntisymmetric (anchor_values old arm ByPair) (left_value old arm r) ∙ there))
       (table_rows old arm.from) (as_wide arm.from) (all_in same_key key-itself (left_value old arm) (table_rows old arm.from) (map (right_value old arm) (rows_of_join old arm.join)))
 
 abbrev pub two_sided : Database → Arm → Bool
@@ -110,10 +112,10 @@ module _ (old : Database) (m : Migrate) (is : IsDatabase old) where
 
   fine_by : (arm : Arm) (kind : ArmKind) → arm_kind old arm ≡ kind → (drivers : List (List ℕ)) → list_all (has same_name drivers) (driver_by kind arm) ≡ true → two_sided old arm ≡ true → (if is_by_group kind then not (is_some arm.join) else true) ≡ true
       → is_fine old arm drivers kind ≡ true
-  fine_by arm by_from e drivers there sided alone = (and_parts _ _ there).0
-  fine_by arm by_join e drivers there sided alone = and_from _ _ (joins_by_join _ (is_some arm.join) _ _ e) there
-  fine_by arm by_pair e drivers there sided alone = and_from _ _ (joins_by_pair _ (is_some arm.join) _ _ e) (and_from _ _ sided (rows_fine old is arm))
-  fine_by arm by_group e drivers there sided alone = alone
+  fine_by arm ByFrom e drivers there sided alone = (and_parts _ _ there).0
+  fine_by arm ByJoin e drivers there sided alone = and_from _ _ (joins_by_join _ (is_some arm.join) _ _ e) there
+  fine_by arm ByPair e drivers there sided alone = and_from _ _ (joins_by_pair _ (is_some arm.join) _ _ e) (and_from _ _ sided (rows_fine old is arm))
+  fine_by arm ByGroup e drivers there sided alone = alone
 
   module _ (none : migrate_objections old m ≡ []) where
     pub targets_unobjected : flat_map (target_objections old) m.targets ≡ []

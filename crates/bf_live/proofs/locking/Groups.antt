@@ -66,6 +66,7 @@ action_begins (action.Update t sets c (Some key)) = begins S _
 action_begins (action.Update t sets c None) = begins S _
 action_begins (action.Delete t c (Some key)) = begins S _
 action_begins (action.Delete t c None) = begins S _
+action_begins (action.Migrate plan) = begins X []
 action_begins action.Begin = inl refl
 action_begins action.Commit = inl refl
 action_begins action.Rollback = inl refl

@@ -85,6 +85,7 @@ module _ (locks : Locks) (owner : ℕ) where
   action_held (action.Update t sets c None) all = all
   action_held (action.Delete t c (Some key)) all = (all.0, (all.1.0, ((all.1.1.0, holds_other (Whole t.name) IX IS (λ mine over. intends mine IX over) all.1.0), tt)))
   action_held (action.Delete t c None) all = all
+  action_held (action.Migrate plan) all = all
   action_held action.Begin all = tt
   action_held action.Commit all = tt
   action_held action.Rollback all = tt

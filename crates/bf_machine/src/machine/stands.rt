@@ -93,7 +93,8 @@ impl<N: Opened> Machine<N> {
         requires place { IsPlace self.now.script session }
         requires current { IsCurrent self.now session }
         requires closed { open_at self.now session ≡ None }
-        requires left { length (told_at self.now session) < length (statements_at self.now session) }
+        requires left { length (told_at self.now session)
+            < length (statements_at self.now session) }
         ensures { StandsAs self.now session result }
     {
         let place = session as usize - 1;

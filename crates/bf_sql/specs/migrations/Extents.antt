@@ -9,7 +9,8 @@ use Rattle.bf_tree.specs.Trees.{Expr, literal, column, negated, plus, minus, tim
 use Rattle.bf_tree.specs.declared.items.Aggregate.{Aggregate}
 use Rattle.bf_tree.specs.declared.items.Aggregate.TheVariants.{Count, Sum, Min, Max}
 
--- numbers between two ends, texts of at most so many bytes, or more than a value can be
+-- numbers between two ends, texts of at most so many bytes, or more than a value can be; what an operation makes of the wrong kind
+-- counts as that too
 pub data Extent : Type 0 where
   numbers : ℤ → ℤ → Extent
   texts : ℕ → Extent
@@ -19,7 +20,7 @@ abbrev pub extent_between : ℤ → ℤ → Extent
 extent_between low high = if is_int low && is_int high then numbers low high else beyond
 
 abbrev pub extent_of_admit : Admit → Extent
-extent_of_admit admits.Int = numbers least_int (greatest_int)
+extent_of_admit admits.Int = numbers least_int greatest_int
 extent_of_admit (admits.Checked low high) = numbers low high
 extent_of_admit (admits.Varchar most) = texts most
 
@@ -46,8 +47,11 @@ extent_times (numbers a b) (numbers c d) =
     extent_between (least_of (a *ℤ c) (a *ℤ d) (b *ℤ c) (b *ℤ d)) (greatest_of (a *ℤ c) (a *ℤ d) (b *ℤ c) (b *ℤ d))
 extent_times e f = beyond
 
+abbrev pub extent_up_to : ℕ → Extent
+extent_up_to most = if nat_le most longest_text then texts most else beyond
+
 abbrev pub extent_joined : Extent → Extent → Extent
-extent_joined (texts m) (texts n) = if nat_le (m + n) longest_text then texts (m + n) else beyond
+extent_joined (texts m) (texts n) = extent_up_to (m + n)
 extent_joined e f = beyond
 
 -- the most rows of a source
@@ -61,8 +65,8 @@ extent_summed e = beyond
 -- `admitted` tells what a column admits
 module _ {R : Type 0} (admitted : R → Admit) where
   abbrev pub extent_of : Expr R → Extent
-  extent_of (literal (Int n)) = numbers n n
-  extent_of (literal (Text t)) = texts (length t)
+  extent_of (literal (Int n)) = extent_between n n
+  extent_of (literal (Text t)) = extent_up_to (length t)
   extent_of (column r) = extent_of_admit (admitted r)
   extent_of (negated a) = extent_negated (extent_of a)
   extent_of (plus a b) = extent_plus (extent_of a) (extent_of b)
@@ -70,7 +74,8 @@ module _ {R : Type 0} (admitted : R → Admit) where
   extent_of (times a b) = extent_times (extent_of a) (extent_of b)
   extent_of (joined a b) = extent_joined (extent_of a) (extent_of b)
 
-  -- COUNT can't fail; SUM may fail where an end does, as many times as a source may have rows
+  -- COUNT can't fail; SUM may fail where 2^20 times an end is no INT: the extent is that of exactly so many rows, by which alone a sum
+  -- is judged
   abbrev pub extent_of_total : Aggregate (Expr R) → Extent
   extent_of_total Count = numbers (pos 0) (pos most_rows)
   extent_of_total (Sum e) = extent_summed (extent_of e)

@@ -12,8 +12,10 @@ use Rattle.bf_tree.specs.declared.migration.Arm.{Arm}
 use Rattle.bf_tree.specs.declared.migration.Target.{Target}
 use Rattle.bf_tree.specs.declared.migration.Migrate.{Migrate}
 use Rattle.bf_base.specs.Distinct.{distinct}
+use Rattle.bf_tree.specs.declared.plan.ArmKind.{ArmKind}
+use Rattle.bf_tree.specs.declared.plan.ArmKind.TheVariants.{ByFrom, ByJoin, ByPair, ByGroup}
 use Rattle.bf_sql.specs.Database.{Database, table_rows}
-use Rattle.bf_sql.specs.migrations.Targets.{ArmKind, by_from, by_join, by_pair, by_group, arm_kind, width, on_places, names_of_join, target_table}
+use Rattle.bf_sql.specs.migrations.Targets.{arm_kind, width, on_places, names_of_join, target_table}
 use Rattle.bf_sql.specs.migrations.MigrationObjections.{drivers_of, is_by_row}
 use Rattle.bf_sql.specs.migrations.Images.{arm_rows, rows_of_join, group_value}
 
@@ -49,17 +51,17 @@ module _ (old : Database) (arm : Arm) where
 
   -- the values by which a sweep goes: of the rows of FROM, then of those of JOIN
   abbrev pub anchor_values : ArmKind → List (List Value)
-  anchor_values by_from = []
-  anchor_values by_join = []
-  anchor_values by_group = map (group_value old arm) (table_rows old arm.from)
-  anchor_values by_pair = map left_value (table_rows old arm.from) ++ map right_value (rows_of_join old arm.join)
+  anchor_values ByFrom = []
+  anchor_values ByJoin = []
+  anchor_values ByGroup = map (group_value old arm) (table_rows old arm.from)
+  anchor_values ByPair = map left_value (table_rows old arm.from) ++ map right_value (rows_of_join old arm.join)
 
   -- the rows of FROM and of JOIN that have a value
   abbrev pub from_with : ArmKind → List Value → List (List Value)
-  from_with by_from value = []
-  from_with by_join value = []
-  from_with by_group value = filter (λ row. same_key value (group_value old arm row)) (table_rows old arm.from)
-  from_with by_pair value = filter (λ row. same_key value (left_value row)) (table_rows old arm.from)
+  from_with ByFrom value = []
+  from_with ByJoin value = []
+  from_with ByGroup value = filter (λ row. same_key value (group_value old arm row)) (table_rows old arm.from)
+  from_with ByPair value = filter (λ row. same_key value (left_value row)) (table_rows old arm.from)
 
   abbrev pub join_with : List Value → List (List Value)
   join_with value = filter (λ row. same_key value (right_value row)) (rows_of_join old arm.join)
@@ -70,10 +72,10 @@ module _ (old : Database) (arm : Arm) where
 
   -- an arm's rows over the old tables with one row of their driver
   abbrev pub rows_driven : ArmKind → List ℕ → ℕ → List (List Value)
-  rows_driven by_from driver at = if same_name arm.from driver then arm_rows old arm (row_at driver at) (rows_of_join old arm.join) else []
-  rows_driven by_join driver at = if list_any (same_name driver) (names_of_join arm) then arm_rows old arm (table_rows old arm.from) (row_at driver at) else []
-  rows_driven by_pair driver at = []
-  rows_driven by_group driver at = []
+  rows_driven ByFrom driver at = if same_name arm.from driver then arm_rows old arm (row_at driver at) (rows_of_join old arm.join) else []
+  rows_driven ByJoin driver at = if list_any (same_name driver) (names_of_join arm) then arm_rows old arm (table_rows old arm.from) (row_at driver at) else []
+  rows_driven ByPair driver at = []
+  rows_driven ByGroup driver at = []
 
 -- ANCHORS: the places of a unit by which a sweep goes, where one may come more than once
 abbrev pub anchors_of : Database → UnitForm → List Place

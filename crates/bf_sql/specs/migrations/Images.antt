@@ -17,11 +17,13 @@ use Rattle.bf_tree.specs.declared.migration.Arm.{Arm}
 use Rattle.bf_tree.specs.declared.migration.Target.{Target}
 use Rattle.bf_tree.specs.declared.migration.Migrate.{Migrate}
 use Rattle.bf_base.specs.Distinct.{distinct}
+use Rattle.bf_tree.specs.declared.plan.ArmKind.{ArmKind}
+use Rattle.bf_tree.specs.declared.plan.ArmKind.TheVariants.{ByFrom, ByJoin, ByPair, ByGroup}
 use Rattle.bf_sql.specs.Database.{Database, Stored, table_rows, stored_in_order, without, with_tables}
 use Rattle.bf_sql.specs.Conditions.{condition_of}
 use Rattle.bf_sql.specs.Scopes.{Scope, read_in}
 use Rattle.bf_sql.specs.Totals.{total_of}
-use Rattle.bf_sql.specs.migrations.Targets.{ArmKind, by_from, by_join, by_pair, by_group, arm_scope, arm_kind, target_table}
+use Rattle.bf_sql.specs.migrations.Targets.{arm_scope, arm_kind, target_table}
 use Rattle.bf_sql.specs.migrations.MigrationObjections.{sources_of}
 
 -- a total in a group is never NULL, since no group is empty
@@ -49,10 +51,10 @@ module _ (old : Database) (arm : Arm) where
 
   -- rows, each by itself, or those of each value of the group columns
   abbrev pub groups_by : ArmKind → List (List Value) → List (List (List Value))
-  groups_by by_from rows = map (λ row. row ∷ []) rows
-  groups_by by_join rows = map (λ row. row ∷ []) rows
-  groups_by by_pair rows = map (λ row. row ∷ []) rows
-  groups_by by_group rows = map (λ g. filter (λ row. same_key g (group_value row)) rows) (distinct same_key (map group_value rows))
+  groups_by ByFrom rows = map (λ row. row ∷ []) rows
+  groups_by ByJoin rows = map (λ row. row ∷ []) rows
+  groups_by ByPair rows = map (λ row. row ∷ []) rows
+  groups_by ByGroup rows = map (λ g. filter (λ row. same_key g (group_value row)) rows) (distinct same_key (map group_value rows))
 
   -- over given rows of the FROM and of the JOIN table
   module _ (from join : List (List Value)) where

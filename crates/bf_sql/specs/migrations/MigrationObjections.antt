@@ -21,11 +21,13 @@ use Rattle.bf_tree.specs.declared.migration.Migrate.{Migrate}
 use Rattle.bf_tree.specs.declared.reply.Refusal.{Refusal}
 use Rattle.bf_tree.specs.declared.reply.Refusal.TheVariants as refusal
 use Rattle.bf_base.specs.Distinct.{distinct}
+use Rattle.bf_tree.specs.declared.plan.ArmKind.{ArmKind}
+use Rattle.bf_tree.specs.declared.plan.ArmKind.TheVariants.{ByFrom, ByJoin, ByPair, ByGroup}
 use Rattle.bf_sql.specs.Database.{Database, stored_at}
 use Rattle.bf_sql.specs.Conditions.{condition_of}
 use Rattle.bf_sql.specs.Scopes.{Scope, place_of, kind_in, kind_objections, twice_objections, ref_objections, expr_objections, cond_objections, total_objections}
 use Rattle.bf_sql.specs.migrations.Extents.{may_fail}
-use Rattle.bf_sql.specs.migrations.Targets.{ArmKind, by_from, by_join, by_pair, by_group, names_of_join, equalities, arm_sources, arm_scope, width, arm_kind, plain_ref, is_total, item_name, key_items, extent_of_item, first_arm}
+use Rattle.bf_sql.specs.migrations.Targets.{names_of_join, equalities, arm_sources, arm_scope, width, arm_kind, plain_ref, is_total, item_name, key_items, extent_of_item, first_arm}
 
 abbrev pub item_objections : Scope → Item → List Refusal
 item_objections scope (item.Column ref) = ref_objections scope ref
@@ -81,16 +83,16 @@ is_grouped_item db arm i =
     is_total i || list_any (λ g. option_eq nat_eq (Some (place g)) (option_map place (plain_ref i))) arm.group
 
 abbrev pub is_by_row : ArmKind → Bool
-is_by_row by_from = true
-is_by_row by_join = true
-is_by_row by_pair = false
-is_by_row by_group = false
+is_by_row ByFrom = true
+is_by_row ByJoin = true
+is_by_row ByPair = false
+is_by_row ByGroup = false
 
 abbrev pub is_by_group : ArmKind → Bool
-is_by_group by_from = false
-is_by_group by_join = false
-is_by_group by_pair = false
-is_by_group by_group = true
+is_by_group ByFrom = false
+is_by_group ByJoin = false
+is_by_group ByPair = false
+is_by_group ByGroup = true
 
 -- whether an arm gives its key: every key column is an item, and totals stand in groups alone
 abbrev pub inherits_key : Database → Arm → Bool
@@ -133,10 +135,10 @@ abbrev pub sources_of : Migrate → List (List ℕ)
 sources_of m = distinct same_name (flat_map (λ t. flat_map arm_sources t.arms) m.targets)
 
 abbrev pub driver_by : ArmKind → Arm → List (List ℕ)
-driver_by by_from arm = arm.from ∷ []
-driver_by by_join arm = names_of_join arm
-driver_by by_pair arm = []
-driver_by by_group arm = []
+driver_by ByFrom arm = arm.from ∷ []
+driver_by ByJoin arm = names_of_join arm
+driver_by ByPair arm = []
+driver_by ByGroup arm = []
 
 -- the tables whose rows drive row arms, each once: one row unit for each
 abbrev pub drivers_of : Database → Migrate → List (List ℕ)

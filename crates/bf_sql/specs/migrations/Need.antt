@@ -78,7 +78,8 @@ module _ (old : Database) (m : Migrate) where
   needed_for action.Commit = []
   needed_for action.Rollback = []
 
-  -- NEED: the granules that a bound statement's condition, or its keys, can touch
+  -- NEED: the granules from which an image row comes that the condition may pick, those that own a key of an INSERT, and all for a
+  -- MIGRATE
   abbrev pub needed : Bound → List Granule
   needed bound = needed_for bound.action
 

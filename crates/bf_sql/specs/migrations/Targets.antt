@@ -13,6 +13,8 @@ use Rattle.bf_tree.specs.declared.migration.Item.{Item}
 use Rattle.bf_tree.specs.declared.migration.Item.TheVariants as item
 use Rattle.bf_tree.specs.declared.migration.Arm.{Arm}
 use Rattle.bf_tree.specs.declared.migration.Target.{Target}
+use Rattle.bf_tree.specs.declared.plan.ArmKind.{ArmKind}
+use Rattle.bf_tree.specs.declared.plan.ArmKind.TheVariants.{ByFrom, ByJoin, ByPair, ByGroup}
 use Rattle.bf_sql.specs.Database.{Database, table_at}
 use Rattle.bf_sql.specs.Scopes.{Scope, scope_of, place_of, admitted_by}
 use Rattle.bf_sql.specs.migrations.Extents.{Extent, extent_of, extent_of_total, admit_of_extent}
@@ -29,17 +31,13 @@ equalities arm = unwrap_or (option_map (λ j. j.on) arm.join) []
 abbrev pub arm_sources : Arm → List (List ℕ)
 arm_sources arm = arm.from ∷ names_of_join arm
 
--- how an arm makes rows: one for each row of FROM, one for each row of JOIN, one for each pair, or one for each group
-pub data ArmKind : Type 0 where
-  by_from by_join by_pair by_group : ArmKind
-
--- by whether the arm has groups and a JOIN, and whether ON has the whole key of the JOIN table, and of FROM
+-- how an arm makes rows, by whether the arm has groups and a JOIN, and whether ON has the whole key of the JOIN table, and of FROM
 abbrev pub kind_by : Bool → Bool → Bool → Bool → ArmKind
-kind_by true joins on_join_key on_from_key = by_group
-kind_by false false on_join_key on_from_key = by_from
-kind_by false true true on_from_key = by_from
-kind_by false true false true = by_join
-kind_by false true false false = by_pair
+kind_by true joins on_join_key on_from_key = ByGroup
+kind_by false false on_join_key on_from_key = ByFrom
+kind_by false true true on_from_key = ByFrom
+kind_by false true false true = ByJoin
+kind_by false true false false = ByPair
 
 module _ (db : Database) (arm : Arm) where
   -- the columns of FROM, then those of JOIN
@@ -64,10 +62,10 @@ module _ (db : Database) (arm : Arm) where
   arm_kind = kind_by (nat_lt 0 (length arm.group)) (is_some arm.join) (list_all (has nat_eq on_places) join_key) (list_all (has nat_eq on_places) from_key)
 
   abbrev pub key_by : ArmKind → List ℕ
-  key_by by_from = from_key
-  key_by by_join = join_key
-  key_by by_pair = from_key ++ join_key
-  key_by by_group = map (place_of arm_scope) arm.group
+  key_by ByFrom = from_key
+  key_by ByJoin = join_key
+  key_by ByPair = from_key ++ join_key
+  key_by ByGroup = map (place_of arm_scope) arm.group
 
   -- the places of the columns that tell an arm's rows apart
   abbrev pub arm_key : List ℕ
