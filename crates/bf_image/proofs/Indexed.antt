@@ -1,11 +1,12 @@
 -- An index of rows by their values: what one more row changes, and that it is found by look-ups.
-use Rattle.std.proofs.Common.{◌≡◌, ℕ, zero, suc, ◌+◌, ◌<◌, Bool, true, false, ◌||◌, cond, List, [], ◌∷◌, ◌++◌, map, filter, length, take, drop, get_or, Option, Some, None, option_map, unwrap_or, refl, sym, ap, ap₂, ◌∙◌, insert, arith, is_eq, is_lt, slice_get, nat_lt}
+use Rattle.std.proofs.Common.{◌≡◌, ℕ, zero, suc, ◌+◌, ◌<◌, Bool, true, false, ◌||◌, cond, List, [], ◌∷◌, ◌++◌, map, map-id, filter, flat_map, length, take, drop, get_or, Option, Some, None, option_map, unwrap_or, refl, sym, ap, ap₂, ◌∙◌, insert, arith, is_eq, is_lt, slice_get, nat_lt}
 use Rattle.std.specs.BTreeMap.{is_at}
 use Rattle.std.specs.List.{enumerate_from, list_all}
 use Rattle.std.specs.List.Sorted.{IsStrictlySortedBy}
 use Rattle.std.specs.Map.{keys_of, lookup}
+use Rattle.std.specs.Option.{option_to_list}
 use Rattle.std.proofs.lemmas.Bool.{and_parts, and_from, or_parts}
-use Rattle.std.proofs.lemmas.List.{append-nil, drop_more, take_more, take_all, drop_all, length-map, get_or-map}
+use Rattle.std.proofs.lemmas.List.{append-nil, append_assoc, length-append, drop_more, take_more, take_all, drop_all, length-map, get_or-map}
 use Rattle.std.proofs.lemmas.List.Folds.{list_any-append}
 use Rattle.std.proofs.lemmas.Map.Keys.{sorted_head, sorted_tail}
 use Rattle.bf_base.specs.declared.value.Value.{Value}
@@ -156,3 +157,35 @@ pub one_more_value : (places : List ℕ) (rows : List Entry) (i : ℕ) (d : Entr
 one_more_value places rows i d within =
     take_more (values_at places rows) i [] (omega (arith, within, length-map rows (λ (e : Entry). cells places e.1)))
     ∙ ap (λ (v : List Value). take i (values_at places rows) ++ v ∷ []) (get_or-map (λ (e : Entry). cells places e.1) rows i d [] within)
+
+-- the values of an index are those of the rows, each once and in order
+pub values_are : (values : List (List Value)) → map value_of (by_value values) ≡ in_order key_cmp (λ v. v) (distinct same_key values)
+values_are values =
+    values_alone (λ v. positions_of v values) (in_order key_cmp (λ v. v) (distinct same_key values))
+    ∙ map-id (in_order key_cmp (λ v. v) (distinct same_key values))
+
+module _ (made : List Value → List Value) (value : List Value) where
+  abbrev rows_at : List (List Value) → List ℕ → List (List Value)
+  rows_at rows positions = flat_map (λ at. option_to_list (slice_get rows at)) positions
+
+  row_between : (before : List (List Value)) (x : List Value) (xs : List (List Value)) (n : ℕ) → length before ≡ n → slice_get (before ++ x ∷ xs) n ≡ Some x
+  row_between [] x xs zero e = refl
+  row_between [] x xs (suc n) e = absurd (omega arith)
+  row_between (b ∷ before) x xs zero e = absurd (omega arith)
+  row_between (b ∷ before) x xs (suc n) e = row_between before x xs n (omega arith)
+
+  first_or_not : (b : Bool) (n : ℕ) (x : List Value) (all rest : List (List Value)) (later : List (ℕ × List Value)) → slice_get all n ≡ Some x → rows_at all (map (λ row. row.0) later) ≡ rest
+      → rows_at all (map (λ row. row.0) (cond b ((n, made x) ∷ later) later)) ≡ cond b (x ∷ rest) rest
+  first_or_not true n x all rest later here e = ap₂ (λ (o : Option (List Value)) (more : List (List Value)). option_to_list o ++ more) here e
+  first_or_not false n x all rest later here e = e
+
+  rows_from : (before rows : List (List Value)) (n : ℕ) → length before ≡ n → rows_at (before ++ rows) (from_on n value (map made rows)) ≡ filter (λ row. same_key value (made row)) rows
+  rows_from before [] n e = refl
+  rows_from before (x ∷ xs) n e =
+      let next : length (before ++ x ∷ []) ≡ n + 1 = omega (arith, length-append before (x ∷ []), e) in
+      let rest = ap (λ all. rows_at all (from_on (n + 1) value (map made xs))) (sym (append_assoc before (x ∷ []) xs)) ∙ rows_from (before ++ x ∷ []) xs (n + 1) next in
+      first_or_not (same_key value (made x)) n x (before ++ x ∷ xs) (filter (λ row. same_key value (made row)) xs) _ (row_between before x xs n e) rest
+
+  -- the rows at the positions of a value are those that have it
+  pub rows_are : (rows : List (List Value)) → flat_map (λ at. option_to_list (slice_get rows at)) (positions_of value (map made rows)) ≡ filter (λ row. same_key value (made row)) rows
+  rows_are rows = rows_from [] rows 0 refl
