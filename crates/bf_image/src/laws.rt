@@ -2,8 +2,10 @@
 
 ghost use Rattle.std.specs.List.{Contains, count_by, list_all};
 ghost use Rattle.std.specs.Option.{option_to_list};
-ghost use Rattle.std.specs.Prelude.{◌≡◌, ◌≤◌, ℕ, List, filter, find, flat_map, true, length, slice_get, Bool, IsTrue};
-ghost use Rattle.bf_base.specs.Lists.{has, same_name};
+ghost use Rattle.std.specs.Prelude.{◌≡◌, ◌≤◌, ℕ, List, filter, find, flat_map, map, true, length, slice_get, Bool, IsTrue};
+ghost use Rattle.bf_base.specs.Distinct.{distinct};
+ghost use Rattle.bf_base.specs.Lists.{has, in_order, same_key, same_name};
+ghost use Rattle.bf_base.specs.Values.{key_cmp};
 ghost use Rattle.bf_base.specs.declared.granule.Granule.{Granule};
 ghost use Rattle.bf_base.specs.declared.value.Value.{Value};
 ghost use Rattle.bf_tree.specs.declared.migration.Arm.{Arm};
@@ -15,6 +17,7 @@ ghost use Rattle.bf_sql.specs.migrations.Granules.{UnitForm, anchors_of, granule
 ghost use Rattle.bf_sql.specs.migrations.Images.{arm_rows, image_of, flipped, replaced};
 ghost use Rattle.bf_sql.specs.migrations.MigrationObjections.{migrate_objections, target_objections};
 ghost use Rattle.bf_sql.specs.migrations.Targets.{arm_kind, arm_sources, target_table};
+ghost use Rattle.bf_image.specs.ByValues.{by_value, positions_of, positions_under, value_of};
 ghost use Rattle.bf_image.specs.Laws.{IsLawful, rows_of_parts, owns, swept};
 ghost use Rattle.bf_image.specs.Lookup.{anchor_count, anchor_place, candidates, places_by, rows_met};
 ghost use Rattle.bf_sql.specs.migrations.Placed.{placed_arm, placed_rows};
@@ -145,4 +148,16 @@ pub fn a_migration_is_planned_by_the_catalog_alone()
     ensures arms { (old new : Database) (arm : Arm) → HaveSameTables old new
         → placed_arm old arm ≡ placed_arm new arm }
     ensures catalog { (db : Database) → HaveSameTables (without_rows (catalog_of db)) db }
+{}
+
+/// An index of rows by their values has each value once, in order. Under a value stand the positions
+/// of the rows that have it, none where no row has it, and the rows at these are those rows.
+pub fn a_value_finds_its_rows()
+    ensures values { (values : List (List Value)) → map value_of (by_value values)
+        ≡ in_order key_cmp (λ v. v) (distinct same_key values) }
+    ensures positions { (values : List (List Value)) (value : List Value)
+        → positions_under (by_value values) value ≡ positions_of value values }
+    ensures rows { (rows : List (List Value)) (made : List Value → List Value) (value : List Value)
+        → flat_map (λ at. option_to_list (slice_get rows at)) (positions_of value (map made rows))
+        ≡ filter (λ row. same_key value (made row)) rows }
 {}

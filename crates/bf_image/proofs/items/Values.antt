@@ -156,7 +156,7 @@ module _ {K : Type 0} {cmp : K → K → Ordering} (o : IsTotalOrder cmp) (anti 
     | false ↦ λ e. ap (λ b. cond b (Some z) (look_up cmp (λ x. x) zs k)) (symmetric o z k ∙ e) ∙ found_itself zs k
   ] refl
 
-  in_order-apart : (xs : List K) → are_apart (eq_by_cmp cmp) xs ≡ true → rises cmp (map (λ x. x) (in_order cmp (λ x. x) xs)) ≡ true
+  pub in_order-apart : (xs : List K) → are_apart (eq_by_cmp cmp) xs ≡ true → rises cmp (map (λ x. x) (in_order cmp (λ x. x) xs)) ≡ true
   in_order-apart xs apart = rises-placed_apart o (λ x. x) [] xs refl (ap (are_apart (eq_by_cmp cmp)) (map-id xs) ∙ apart)
 
   pub in_order-has : (xs : List K) (k : K) → has (eq_by_cmp cmp) (in_order cmp (λ x. x) xs) k ≡ has (eq_by_cmp cmp) xs k
