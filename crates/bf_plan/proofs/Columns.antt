@@ -62,12 +62,12 @@ given-behind : (before so_far : List ℕ) (o : Option ℕ) → with_given (befor
 given-behind before so_far None = ap (λ zs. before ++ zs) (sym (append-nil so_far))
 given-behind before so_far (Some place) = append_assoc before so_far (place ∷ [])
 
-pub given_more : (before key more : List ℕ) (places : List (Option ℕ)) (i : ℕ) (o : Option ℕ) → i < length places → o ≡ get_or places i o
-    → key ≡ before ++ filter_map (λ k. k) (take i places) → more ≡ with_given key o → more ≡ before ++ filter_map (λ k. k) (take (i + 1) places)
-given_more before key more places i o in_range is e made =
-    let one : take (i + 1) places ≡ take i places ++ (o ∷ []) = rw (take_more places i o in_range, ← is) refl in
+pub given_more : (before key more : List ℕ) (places : List (Option ℕ)) (i : ℕ) (d : Option ℕ) → i < length places
+    → key ≡ before ++ filter_map (λ k. k) (take i places) → more ≡ with_given key (get_or places i d) → more ≡ before ++ filter_map (λ k. k) (take (i + 1) places)
+given_more before key more places i d in_range e made =
+    let o = get_or places i d in
     made ∙ ap (λ (ks : List ℕ). with_given ks o) e ∙ given-behind before (filter_map (λ k. k) (take i places)) o
-    ∙ ap (λ (zs : List ℕ). before ++ zs) (sym (ap (filter_map (λ k. k)) one ∙ filter_map-append (λ k. k) (take i places) (o ∷ [])))
+    ∙ ap (λ (zs : List ℕ). before ++ zs) (sym (ap (filter_map (λ k. k)) (take_more places i d in_range) ∙ filter_map-append (λ k. k) (take i places) (o ∷ [])))
 
 -- the first item that may fail
 module _ (name : List ℕ) where
