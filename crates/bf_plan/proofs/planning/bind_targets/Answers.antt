@@ -1,0 +1,38 @@
+use Rattle.std.proofs.Common.{ap, ◌∙◌, arith}
+use Rattle.std.proofs.lemmas.Grind.{common_steps}
+use Rattle.bf_base.specs.Limits.{longest_script}
+use Rattle.bf_sql.specs.Bound.{without_rows}
+use Rattle.bf_sql.specs.migrations.MigrationObjections.{target_objections}
+use Rattle.bf_bind.proofs.Walks.{pass_stops}
+use Rattle.bf_plan.specs.Limits.{has_small_arms}
+use Rattle.bf_plan.proofs.Planned.{few_arms, units_more}
+use Rattle.bf_plan.proofs.Walked.{all_at}
+use Rattle.bf_plan.proofs.planning.bind_targets.Goals as goal
+
+pub bind_target-requires-clause-few : goal.bind_target-requires-clause-few
+bind_target-requires-clause-few c =
+    let same = c.as_slice-targets.ensures in
+    all_at has_small_arms c.args.migrate.now.targets c.loop-index.index c.index-targets-index.result c.requires.limits.items (rw same at c.loop-index-test.true) (rw same at c.index-targets-index.is)
+
+pub returns-in_err-bound : goal.returns-in_err-bound
+returns-in_err-bound c =
+    let same = c.as_slice-targets.ensures in
+    pass_stops (target_objections (without_rows c.args.catalog.now)) c.args.migrate.now.targets c.loop-index.index c.loop-index.invariant.unobjected c.index-targets-index.result (rw same at c.loop-index-test.true) (rw same at c.index-targets-index.is)
+    _ c.in_err-bound.field-0.0 _ _ c.from_residual-in_err-bound.ensures.1 c.in_err-bound.ensures
+
+pub arm_units-requires : goal.arm_units-requires
+arm_units-requires c =
+    let same = c.as_slice-targets.ensures in
+    rw c.as_slice.ensures
+    (few_arms (without_rows c.args.catalog.now) c.args.migrate.now.targets c.loop-index.index c.index-targets-index.result (rw same at c.loop-index-test.true) (rw same at c.index-targets-index.is) c.in_ok-bound.bound c.in_ok-bound.ensures.1 longest_script c.requires.limits.arms)
+
+pub loop-index-preserved : goal.loop-index-preserved
+loop-index-preserved c =
+    let same = c.as_slice-targets.ensures in
+    record {
+      unobjected = grind (arith, common_steps);
+      tables = grind (arith, common_steps);
+      units =
+          units_more (without_rows c.args.catalog.now) c.args.migrate.now.targets c.loop-index.index c.index-targets-index.result (rw same at c.loop-index-test.true) (rw same at c.index-targets-index.is) c.in_ok-bound.bound c.in_ok-bound.ensures.1
+          c.loop-index.units.items c.in_ok-more.more.items _ c.loop-index.invariant.units (rw c.as_slice.ensures at c.in_ok-more.ensures) c.in_ok-all.ensures;
+    }

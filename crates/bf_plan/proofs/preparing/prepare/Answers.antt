@@ -1,0 +1,12 @@
+use Rattle.std.proofs.Common.{◌≡◌, Bool, true, false, Option, Some, sym, subst, refl}
+use Rattle.std.specs.Result.{IfOk}
+use Rattle.bf_tree.specs.declared.bound.Bound.{Bound}
+use Rattle.bf_sql.specs.Bound.{is_planned, without_rows}
+use Rattle.bf_plan.proofs.Prepared.{prepared-bound, unplanned, unplanned_in_block}
+use Rattle.bf_plan.proofs.preparing.prepare.Goals as goal
+
+pub bind-requires-clause-alone : goal.bind-requires-clause-alone
+bind-requires-clause-alone c = unplanned_in_block c.args.in_block c.args.statement.now c.if-in_block.true
+
+pub bind-requires-2-clause-alone : goal.bind-requires-2-clause-alone
+bind-requires-2-clause-alone c = unplanned c.args.in_block c.args.statement.now c.in_default.not-Migrate
