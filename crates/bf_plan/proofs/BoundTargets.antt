@@ -19,12 +19,14 @@ use Rattle.bf_tree.specs.declared.migration.Item.{Item}
 use Rattle.bf_tree.specs.declared.migration.Target.{Target}
 use Rattle.bf_tree.specs.declared.reply.Refusal.{Refusal}
 use Rattle.bf_tree.specs.declared.reply.Refusal.TheVariants as refusal
+use Rattle.bf_tree.specs.declared.plan.ArmKind.{ArmKind}
+use Rattle.bf_tree.specs.declared.plan.ArmKind.TheVariants.{ByFrom, ByJoin, ByPair, ByGroup}
 use Rattle.bf_sql.specs.Database.{Database}
 use Rattle.bf_sql.specs.Scopes.{Scope, twice_objections}
 use Rattle.bf_sql.specs.migrations.Extents.{may_fail}
 use Rattle.bf_sql.specs.migrations.MigrationObjections.{arm_objections, failing_objections, has_key, inherits_key, is_by_row, item_kinds, keeps_apart, kind_of_item, tag_of, target_objections}
-use Rattle.bf_sql.specs.migrations.Targets.{ArmKind, by_from, by_join, by_pair, by_group, arm_key, arm_kind, arm_scope, column_admit, either_admit, extent_of_item, first_arm, item_admit, item_name, item_places, key_items, target_key, target_table}
-use Rattle.bf_plan.specs.Arms.{bound_arm, kind_told, unit_kind_of}
+use Rattle.bf_sql.specs.migrations.Targets.{arm_key, arm_kind, arm_scope, column_admit, either_admit, extent_of_item, first_arm, item_admit, item_name, item_places, key_items, target_key, target_table}
+use Rattle.bf_plan.specs.Arms.{bound_arm, unit_kind_of}
 use Rattle.bf_plan.specs.Items.{bound_item}
 use Rattle.bf_plan.specs.Limits.{has_few_items}
 use Rattle.bf_plan.specs.Targets.{admits_at, are_tagged_apart, failing, failing_in, first_items, first_key, gives_key, has_one_key, is_miscounted, is_misfit, is_rows, is_tagged, keeps_apart_by, key_before, key_of_arms, name_objections, names_objections, objections_behind, table_of_arms, tagged_by}
@@ -61,11 +63,11 @@ module _ {X Y : Type 0} (f : X → Y) where
 regroup : (a w k n f e : List Refusal) → ((((a ++ w) ++ k) ++ n) ++ f) ++ e ≡ a ++ ((((w ++ k) ++ n) ++ f) ++ e)
 regroup a w k n f e = simp append_assoc
 
-rows-kind : (kind : ArmKind) → is_rows (unit_kind_of (kind_told kind)) ≡ is_by_row kind
-rows-kind by_from = refl
-rows-kind by_join = refl
-rows-kind by_pair = refl
-rows-kind by_group = refl
+rows-kind : (kind : ArmKind) → is_rows (unit_kind_of kind) ≡ is_by_row kind
+rows-kind ByFrom = refl
+rows-kind ByJoin = refl
+rows-kind ByPair = refl
+rows-kind ByGroup = refl
 
 names-listed : (items : List Item) → names_objections items ≡ flat_map (λ p. twice_objections p.0 p.1) (with_before (map item_name items))
 names-listed items =

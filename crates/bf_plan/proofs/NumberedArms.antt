@@ -13,10 +13,12 @@ use Rattle.bf_tree.specs.declared.migration.Join.{Join}
 use Rattle.bf_tree.specs.declared.migration.Migrate.{Migrate}
 use Rattle.bf_tree.specs.declared.migration.Target.{Target}
 use Rattle.bf_tree.specs.declared.raw.Ref.{Ref}
+use Rattle.bf_tree.specs.declared.plan.ArmKind.{ArmKind}
+use Rattle.bf_tree.specs.declared.plan.ArmKind.TheVariants.{ByFrom, ByJoin, ByPair, ByGroup}
 use Rattle.bf_sql.specs.Database.{Database}
 use Rattle.bf_sql.specs.migrations.MigrationObjections.{driver_by, drivers_of, is_by_row}
-use Rattle.bf_sql.specs.migrations.Targets.{ArmKind, by_from, by_join, by_pair, by_group, arm_kind, from_key, join_key, kind_by, on_places}
-use Rattle.bf_plan.specs.Arms.{bound_arm, driver_of, kind_told, unit_kind_of}
+use Rattle.bf_sql.specs.migrations.Targets.{arm_kind, from_key, join_key, kind_by, on_places}
+use Rattle.bf_plan.specs.Arms.{bound_arm, driver_of, unit_kind_of}
 use Rattle.bf_sql.specs.migrations.Plans.{numbered_arms, planned_units, rows_unit_of, values_unit_of}
 use Rattle.bf_plan.specs.Targets.{is_rows}
 use Rattle.bf_plan.specs.Units.{arm_unit, arm_units, arms_driven, driving, is_driven, joined_units, rows_unit, units_by_values, units_of_target}
@@ -26,7 +28,7 @@ use Rattle.bf_tree.specs.declared.plan.Unit.{Unit}
 -- what is driven by which table, by the kind of an arm
 driver-told : (items : List Item) (from : List ℕ) (join : Option Join) (condition : Option (Cond Ref)) (group : List Ref) (g x y : Bool)
     → let arm : Arm = record { items = items; from = from; join = join; cond = condition; group = group } in
-    when (is_rows (unit_kind_of (kind_told (kind_by g (is_some join) x y)))) (driver_of (kind_told (kind_by g (is_some join) x y)) arm) ≡ driver_by (kind_by g (is_some join) x y) arm
+    when (is_rows (unit_kind_of (kind_by g (is_some join) x y))) (driver_of (kind_by g (is_some join) x y) arm) ≡ driver_by (kind_by g (is_some join) x y) arm
 driver-told items from None condition group true x y = refl
 driver-told items from None condition group false x y = refl
 driver-told items from (Some j) condition group true x y = refl
@@ -97,10 +99,10 @@ module _ (db : Database) where
   -- an arm that goes by values, by its kind
   valued : (m : Migrate) (k : ArmKind) (p : (ℕ × ℕ) × Arm) → arm_kind db p.1 ≡ k → (vs : List ((ℕ × ℕ) × Arm))
       → units_by_values (unit_of p) ++ map (values_unit_of db m) vs ≡ map (values_unit_of db m) (cond (not (is_by_row (arm_kind db p.1))) (p ∷ vs) vs)
-  valued m by_from p e vs = rw e refl
-  valued m by_join p e vs = rw e refl
-  valued m by_pair p e vs = rw e refl
-  valued m by_group p e vs = rw e refl
+  valued m ByFrom p e vs = rw e refl
+  valued m ByJoin p e vs = rw e refl
+  valued m ByPair p e vs = rw e refl
+  valued m ByGroup p e vs = rw e refl
 
   values-numbered : (m : Migrate) (ps : List ((ℕ × ℕ) × Arm)) → flat_map units_by_values (map unit_of ps) ≡ map (values_unit_of db m) (filter (λ p. not (is_by_row (arm_kind db p.1))) ps)
   values-numbered m [] = refl

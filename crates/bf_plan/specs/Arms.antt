@@ -4,22 +4,23 @@ use Rattle.std.specs.List.{list_any, list_all}
 use Rattle.std.specs.Option.{option_eq}
 use Rattle.bf_base.specs.declared.table.Table.{Table}
 use Rattle.bf_base.specs.Lists.{has, when}
-use Rattle.bf_tree.specs.Trees.{column}
+use Rattle.bf_tree.specs.Trees.{column, cond_over}
 use Rattle.bf_tree.specs.declared.raw.Ref.{Ref}
 use Rattle.bf_tree.specs.declared.migration.Arm.{Arm}
 use Rattle.bf_tree.specs.declared.reply.Refusal.{Refusal}
 use Rattle.bf_tree.specs.declared.reply.Refusal.TheVariants as refusal
+use Rattle.bf_tree.specs.declared.plan.ArmKind.{ArmKind}
+use Rattle.bf_tree.specs.declared.plan.ArmKind.TheVariants.{ByFrom, ByJoin, ByPair, ByGroup}
 use Rattle.bf_sql.specs.Conditions.{condition_of}
 use Rattle.bf_sql.specs.Database.{Database}
 use Rattle.bf_sql.specs.Scopes.{Scope, scope_of, place_of, kind_in, kind_objections, twice_objections, ref_objections, cond_objections}
 use Rattle.bf_sql.specs.migrations.MigrationObjections.{source_objections, item_objections, group_objections, inherits_key, tag_of}
-use Rattle.bf_sql.specs.migrations.Targets.{ArmKind, by_from, by_join, by_pair, by_group, kind_by, names_of_join, equalities, arm_sources, arm_scope, arm_kind, width, from_key, join_key, key_items}
-use Rattle.bf_plan.specs.Items.{bound_item}
+use Rattle.bf_sql.specs.migrations.Placed.{placed_arm, placed_pair}
+use Rattle.bf_sql.specs.migrations.Targets.{kind_by, names_of_join, equalities, arm_sources, arm_scope, arm_kind, width, from_key, join_key, key_items}
+use Rattle.bf_plan.specs.Items.{bound_item, bound_items}
 use Rattle.bf_plan.specs.declared.arm.ArmParts.{ArmParts}
 use Rattle.bf_plan.specs.declared.arm.BoundArm.{BoundArm}
 use Rattle.bf_plan.specs.declared.item.BoundItem.{BoundItem}
-use Rattle.bf_plan.specs.declared.joining.ArmKind as told
-use Rattle.bf_plan.specs.declared.joining.ArmKind.TheVariants.{ByFrom, ByJoin, ByPair, ByGroup}
 use Rattle.bf_tree.specs.declared.plan.UnitKind.{UnitKind}
 use Rattle.bf_tree.specs.declared.plan.UnitKind.TheVariants as unit_kind
 use Rattle.bf_plan.specs.declared.source.ArmTables.{ArmTables}
@@ -51,12 +52,9 @@ abbrev pub tables_objections : Database → Arm → List Refusal
 tables_objections db arm = flat_map (source_objections db) (arm_sources arm) ++ twice_objections (names_of_join arm) arm.from
 
 module _ (scope : Scope) where
-  -- the places of the two columns of an equality
-  abbrev pub pair_places : Ref × Ref → ℕ × ℕ
-  pair_places pair = (place_of scope pair.0, place_of scope pair.1)
-
-  abbrev pub equality_places : Ref × Ref → List ℕ
-  equality_places pair = place_of scope pair.0 ∷ place_of scope pair.1 ∷ []
+  -- the places of the columns of ON, where there is a JOIN
+  abbrev pub placed_on : Arm → Option (List (ℕ × ℕ))
+  placed_on arm = option_map (λ j. map (placed_pair scope) j.on) arm.join
 
   -- a ref of GROUP BY, behind the places before
   abbrev pub group_ref_objections : List ℕ → Ref → List Refusal
@@ -82,32 +80,36 @@ module _ (scope : Scope) where
 
   abbrev pub bound_parts : Arm → ArmParts
   bound_parts arm = record {
-    items = map (bound_item scope) arm.items;
-    on = flat_map equality_places (equalities arm);
+    items = bound_items scope arm.items;
+    on = placed_on arm;
+    cond = cond_over (place_of scope) (condition_of arm.cond);
     group = map (place_of scope) arm.group;
   }
 
--- how an arm makes rows, as the code tells it
-abbrev pub kind_told : ArmKind → told.ArmKind
-kind_told by_from = ByFrom
-kind_told by_join = ByJoin
-kind_told by_pair = ByPair
-kind_told by_group = ByGroup
+-- whether one of the pairs of ON has a place
+abbrev pub is_on : List (ℕ × ℕ) → ℕ → Bool
+is_on on place = list_any (λ p. nat_eq place p.0 || nat_eq place p.1) on
 
-abbrev pub unit_kind_of : told.ArmKind → UnitKind
+-- how an arm makes rows, by the places of ON and of GROUP BY
+abbrev pub kind_by_places : ArmTables → Option (List (ℕ × ℕ)) → List ℕ → ArmKind
+kind_by_places tables on group =
+    let names = is_on (unwrap_or on []) in
+    kind_by (nat_lt 0 (length group)) (is_some on) (list_all names tables.join_key) (list_all names tables.from_key)
+
+abbrev pub unit_kind_of : ArmKind → UnitKind
 unit_kind_of ByFrom = unit_kind.Rows
 unit_kind_of ByJoin = unit_kind.Rows
 unit_kind_of ByPair = unit_kind.Joins
 unit_kind_of ByGroup = unit_kind.Groups
 
 -- the table by whose rows the unit of an arm goes
-abbrev pub driver_of : told.ArmKind → Arm → List ℕ
+abbrev pub driver_of : ArmKind → Arm → List ℕ
 driver_of ByFrom arm = arm.from
 driver_of ByJoin arm = unwrap_or (option_map (λ j. j.table) arm.join) arm.from
 driver_of ByPair arm = arm.from
 driver_of ByGroup arm = arm.from
 
-abbrev pub key_places : ArmTables → List ℕ → told.ArmKind → List ℕ
+abbrev pub key_places : ArmTables → List ℕ → ArmKind → List ℕ
 key_places tables group ByFrom = tables.from_key
 key_places tables group ByJoin = tables.join_key
 key_places tables group ByPair = tables.from_key ++ tables.join_key
@@ -121,26 +123,26 @@ abbrev pub is_grouped : List ℕ → BoundItem → Bool
 is_grouped group item = item.is_total || list_any (λ place. option_eq nat_eq (Some place) item.place) group
 
 -- whether totals stand in groups alone, and in a group nothing else but its columns
-abbrev pub inherits_by : told.ArmKind → Arm → ArmParts → Bool
-inherits_by ByGroup arm parts = not (is_some arm.join) && list_all (is_grouped parts.group) parts.items
-inherits_by other arm parts = list_all (λ i. not i.is_total) parts.items
+abbrev pub inherits_by : ArmKind → Arm → ArmParts → Bool
+inherits_by ByGroup arm parts = not (is_some arm.join) && list_all (is_grouped parts.group) parts.items.bound
+inherits_by other arm parts = list_all (λ i. not i.is_total) parts.items.bound
 
 -- an arm by its parts
-abbrev pub arm_of_kind : told.ArmKind → ArmTables → Arm → ArmParts → BoundArm
+abbrev pub arm_of_kind : ArmKind → ArmTables → Arm → ArmParts → BoundArm
 arm_of_kind kind tables arm parts =
-    let found = map (key_item parts.items) (key_places tables parts.group kind) in
+    let found = map (key_item parts.items.bound) (key_places tables parts.group kind) in
     record {
-      items = parts.items;
+      items = parts.items.bound;
       key_items = found;
       inherits_key = list_all is_some found && inherits_by kind arm parts;
       tag = tag_of arm.items;
       unit_kind = unit_kind_of kind;
       driver = driver_of kind arm;
+      placed = record { kind = kind; items = parts.items.placed; on = parts.on; cond = parts.cond; group = parts.group };
     }
 
 abbrev pub arm_of_parts : ArmTables → Arm → ArmParts → BoundArm
-arm_of_parts tables arm parts =
-    arm_of_kind (kind_told (kind_by (nat_lt 0 (length arm.group)) (is_some arm.join) (list_all (has nat_eq parts.on) tables.join_key) (list_all (has nat_eq parts.on) tables.from_key))) tables arm parts
+arm_of_parts tables arm parts = arm_of_kind (kind_by_places tables parts.on parts.group) tables arm parts
 
 -- an arm in a database
 abbrev pub bound_arm : Database → Arm → BoundArm
@@ -149,6 +151,7 @@ bound_arm db arm = record {
   key_items = key_items db arm;
   inherits_key = inherits_key db arm;
   tag = tag_of arm.items;
-  unit_kind = unit_kind_of (kind_told (arm_kind db arm));
-  driver = driver_of (kind_told (arm_kind db arm)) arm;
+  unit_kind = unit_kind_of (arm_kind db arm);
+  driver = driver_of (arm_kind db arm) arm;
+  placed = placed_arm db arm;
 }

@@ -13,9 +13,11 @@ use Rattle.bf_tree.specs.declared.raw.Ref.{Ref}
 use Rattle.bf_sql.specs.Scopes.{Scope, place_of}
 use Rattle.bf_sql.specs.migrations.Extents.{extent_of, extent_of_total, may_fail, admit_of_extent}
 use Rattle.bf_sql.specs.migrations.MigrationObjections.{kind_of_item}
+use Rattle.bf_sql.specs.migrations.Placed.{placed_item}
 use Rattle.bf_sql.specs.migrations.Targets.{extent_of_item, is_total, item_admit, plain_ref}
 use Rattle.bf_range.specs.Seen.{admitted_at}
 use Rattle.bf_plan.specs.declared.item.BoundItem.{BoundItem}
+use Rattle.bf_plan.specs.declared.item.BoundItems.{BoundItems}
 
 -- an item in the scope of its arm
 abbrev pub bound_item : Scope → Item → BoundItem
@@ -26,6 +28,10 @@ bound_item scope i = record {
   place = option_map (place_of scope) (plain_ref i);
   is_total = is_total i;
 }
+
+-- the items of an arm, as they are judged and with places for names
+abbrev pub bound_items : Scope → List Item → BoundItems
+bound_items scope items = record { bound = map (bound_item scope) items; placed = map (placed_item scope) items }
 
 -- the place of the column that an expression is
 abbrev pub plain_place : Expr ℕ → Option ℕ

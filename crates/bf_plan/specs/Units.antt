@@ -8,6 +8,7 @@ use Rattle.bf_tree.specs.declared.migration.Target.{Target}
 use Rattle.bf_tree.specs.declared.reply.Refusal.{Refusal}
 use Rattle.bf_tree.specs.declared.reply.Refusal.TheVariants as refusal
 use Rattle.bf_sql.specs.Database.{Database, stored_at}
+use Rattle.bf_sql.specs.migrations.Placed.{placed_arm}
 use Rattle.bf_sql.specs.migrations.Targets.{target_table}
 use Rattle.bf_plan.specs.Arms.{bound_arm}
 use Rattle.bf_plan.specs.Targets.{is_rows}
@@ -54,9 +55,13 @@ is_taken_among db sources before name = (is_some (stored_at db name) && not (has
 abbrev pub taken_objections : Database → List (List ℕ) → List Target → List ℕ → List Refusal
 taken_objections db sources before name = when (is_taken_among db sources before name) (refusal.TableExists name)
 
--- the targets in a database: the tables that they become, and their arms as units
+-- the targets in a database: the tables that they become, their arms, and these as units
 abbrev pub units_of_target : Database → ℕ × Target → List Unit
 units_of_target db t = arm_units t.0 (map (bound_arm db) t.1.arms)
 
 abbrev pub bound_targets : Database → List Target → BoundTargets
-bound_targets db targets = record { tables = map (target_table db) targets; units = flat_map (units_of_target db) (enumerate_from 0 targets) }
+bound_targets db targets = record {
+  tables = map (target_table db) targets;
+  arms = map (λ t. map (placed_arm db) t.arms) targets;
+  units = flat_map (units_of_target db) (enumerate_from 0 targets);
+}

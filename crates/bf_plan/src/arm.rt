@@ -10,27 +10,28 @@ ghost use Rattle.bf_sql.specs.migrations.MigrationObjections.{arm_objections};
 ghost use Rattle.bf_plan.specs.Arms.{arm_of_parts, bound_arm, bound_parts, driver_of, inherits_by, parts_objections, unit_kind_of};
 ghost use Rattle.bf_plan.specs.Limits.{has_few_items};
 
-use crate::item::{BoundItem, bind_items, tag_of};
+use crate::item::{BoundItem, BoundItems, bind_items, tag_of};
 use crate::joining::{
-    ArmKind, all_given, are_grouped, arm_kind, bind_equalities, bind_group, equalities,
-    has_no_total, key_items, key_places,
+    all_given, are_grouped, arm_kind, bind_group, bind_on, has_no_total, key_items, key_places,
 };
 use crate::source::{ArmTables, bind_tables};
 use bf_base::{Memory, Name, Sequence};
 use bf_bind::bind_condition;
-use bf_tree::{Arm, Catalog, StatementError, Target, UnitKind};
+use bf_tree::{Arm, ArmKind, Catalog, Cond, PlacedArm, StatementError, Target, UnitKind};
 use std::alloc::Global;
 
-/// What an arm names, bound: its items, and the places of the columns of ON and of GROUP BY.
+/// What an arm names, bound: its items, the places of the columns of ON, where there is a JOIN, WHERE,
+/// and the places of the columns of GROUP BY.
 #[derive(Drop)]
 pub(crate) struct ArmParts {
-    pub(crate) items: Sequence<BoundItem>,
-    pub(crate) on: Sequence<u8>,
+    pub(crate) items: BoundItems,
+    pub(crate) on: Option<Sequence<(u8, u8)>>,
+    pub(crate) cond: Cond,
     pub(crate) group: Sequence<u8>,
 }
 
 /// An arm in a catalog: its items, for each key column the first item that gives it, whether it gives
-/// its key, its tag, and in which unit its rows move.
+/// its key, its tag, in which unit its rows move, and itself with places for names.
 #[derive(Drop)]
 pub(crate) struct BoundArm {
     pub(crate) items: Sequence<BoundItem>,
@@ -39,6 +40,7 @@ pub(crate) struct BoundArm {
     pub(crate) tag: Option<i64>,
     pub(crate) unit_kind: UnitKind,
     pub(crate) driver: Name,
+    pub(crate) placed: PlacedArm,
 }
 
 /// The items of an arm, ON, WHERE and GROUP BY.
@@ -63,10 +65,15 @@ fn bind_parts(
         tables.columns.as_slice(),
         arm.items.as_slice(),
     )?;
-    let on = bind_equalities(alloc, scope, tables.width, target, equalities(arm))?;
-    let _cond = bind_condition(alloc, scope, &arm.cond)?;
+    let on = bind_on(alloc, scope, tables.width, target, arm)?;
+    let cond = bind_condition(alloc, scope, &arm.cond)?;
     let group = bind_group(alloc, scope, arm.group.as_slice())?;
-    Ok(ArmParts { items, on, group })
+    Ok(ArmParts {
+        items,
+        on,
+        cond,
+        group,
+    })
 }
 
 /// In which kind of unit an arm's rows move.
@@ -97,7 +104,7 @@ fn inherits_key(arm: &Arm, kind: ArmKind, parts: &ArmParts, found: &[Option<u8>]
     if !all_given(found) {
         return false;
     }
-    let items = parts.items.as_slice();
+    let items = parts.items.bound.as_slice();
     match kind {
         ArmKind::ByGroup => arm.join.is_none() && are_grouped(items, parts.group.as_slice()),
         _ => has_no_total(items),
@@ -111,20 +118,28 @@ fn completed(
     arm: &Arm,
     parts: ArmParts,
 ) -> Result<BoundArm, Memory>
-    requires { length parts.items ≤ most_columns }
+    requires { length parts.items.bound ≤ most_columns }
     ensures { IfOk result (λ bound. bound ≡ arm_of_parts tables.now arm.now parts) }
 {
-    let kind = arm_kind(arm, tables, parts.on.as_slice());
+    let kind = arm_kind(tables, &parts.on, parts.group.as_slice());
     let places = key_places(alloc, kind, tables, parts.group.as_slice())?;
-    let found = key_items(alloc, parts.items.as_slice(), places.as_slice())?;
+    let found = key_items(alloc, parts.items.bound.as_slice(), places.as_slice())?;
     let inherits_key = inherits_key(arm, kind, &parts, found.as_slice());
+    let driver = driver(arm, kind).copy(alloc)?;
     Ok(BoundArm {
-        items: parts.items,
+        items: parts.items.bound,
         key_items: found,
         inherits_key,
         tag: tag_of(arm.items.as_slice()),
         unit_kind: unit_kind(kind),
-        driver: driver(arm, kind).copy(alloc)?,
+        driver,
+        placed: PlacedArm {
+            kind,
+            items: parts.items.placed,
+            on: parts.on,
+            cond: parts.cond,
+            group: parts.group,
+        },
     })
 }
 

@@ -5,13 +5,14 @@ ghost use Rattle.bf_base.specs.Tables.{kind_admitted};
 ghost use Rattle.bf_tree.specs.Settling.{Settles};
 ghost use Rattle.bf_sql.specs.migrations.Extents.{admit_of_extent};
 ghost use Rattle.bf_sql.specs.migrations.MigrationObjections.{item_objections, tag_of};
+ghost use Rattle.bf_sql.specs.migrations.Placed.{placed_item};
 ghost use Rattle.bf_range.specs.Seen.{admitted_at, seen};
-ghost use Rattle.bf_plan.specs.Items.{bound_item, judged, judged_total, kind_at, kind_of_total_at, number_of, plain_place};
+ghost use Rattle.bf_plan.specs.Items.{bound_item, bound_items, judged, judged_total, kind_at, kind_of_total_at, number_of, plain_place};
 
 use bf_base::{Admit, Column, Kind, Sequence, Value};
 use bf_bind::{Scope, bind_expression, bind_total, column};
 use bf_range::{Extent, extent_of, extent_of_total};
-use bf_tree::{Aggregate, Expr, Item, Node, RawExpr, RawNode, StatementError};
+use bf_tree::{Aggregate, Expr, Item, Node, PlacedItem, RawExpr, RawNode, StatementError};
 use std::alloc::Global;
 
 /// An item in the columns of its arm: the kind of its values, what the column admits that it alone would
@@ -24,6 +25,13 @@ pub(crate) struct BoundItem {
     pub(crate) may_fail: bool,
     pub(crate) place: Option<u8>,
     pub(crate) is_total: bool,
+}
+
+/// The items of an arm: what each is judged to be, and each with places for names.
+#[derive(Drop)]
+pub(crate) struct BoundItems {
+    pub(crate) bound: Sequence<BoundItem>,
+    pub(crate) placed: Sequence<PlacedItem>,
 }
 
 fn admitted(columns: &[Column], place: u8) -> Admit
@@ -122,7 +130,7 @@ fn judged_total(total: &Aggregate, columns: &[Column]) -> BoundItem
     }
 }
 
-/// An item.
+/// An item, as it is judged and with places for names.
 ///
 /// # Errors
 /// The first objection, from the left.
@@ -131,22 +139,26 @@ fn bind_item(
     scope: &Scope,
     columns: &[Column],
     item: &Item,
-) -> Result<BoundItem, StatementError>
+) -> Result<(BoundItem, PlacedItem), StatementError>
     requires { columns.now ≡ map (λ column. column.1) scope.now }
-    ensures { Settles result (item_objections scope.now item.now) (bound_item scope.now item.now) }
+    ensures { Settles result (item_objections scope.now item.now)
+        (bound_item scope.now item.now, placed_item scope.now item.now) }
 {
     match item {
         Item::Column(reference) => {
             let found = column(alloc, scope, reference)?;
-            Ok(judged(&Expr::of(Node::Column(found.place)), columns))
+            let judgement = judged(&Expr::of(Node::Column(found.place)), columns);
+            Ok((judgement, PlacedItem::Column(found.place)))
         }
         Item::Named(raw, _) => {
             let bound = bind_expression(alloc, scope, raw)?;
-            Ok(judged(&bound.expr, columns))
+            let judgement = judged(&bound.expr, columns);
+            Ok((judgement, PlacedItem::Value(bound.expr)))
         }
         Item::Total(raw, _) => {
             let total = bind_total(alloc, scope, raw)?;
-            Ok(judged_total(&total, columns))
+            let judgement = judged_total(&total, columns);
+            Ok((judgement, PlacedItem::Total(total)))
         }
     }
 }
@@ -160,16 +172,22 @@ pub(crate) fn bind_items(
     scope: &Scope,
     columns: &[Column],
     items: &[Item],
-) -> Result<Sequence<BoundItem>, StatementError>
+) -> Result<BoundItems, StatementError>
     requires { columns.now ≡ map (λ column. column.1) scope.now }
     ensures { Settles result (flat_map (item_objections scope.now) items.now)
-        (map (bound_item scope.now) items.now) }
+        (bound_items scope.now items.now) }
 {
     let mut bound = Vec::with_capacity(alloc, items.len())?;
+    let mut placed = Vec::with_capacity(alloc, items.len())?;
     for item in items {
-        bound.push(bind_item(alloc, scope, columns, item)?)?;
+        let (judgement, with_places) = bind_item(alloc, scope, columns, item)?;
+        bound.push(judgement)?;
+        placed.push(with_places)?;
     }
-    Ok(Sequence::of(bound))
+    Ok(BoundItems {
+        bound: Sequence::of(bound),
+        placed: Sequence::of(placed),
+    })
 }
 
 /// The number that an expression is, if it is a literal.

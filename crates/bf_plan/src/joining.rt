@@ -9,38 +9,16 @@ ghost use Rattle.bf_base.specs.Lists.{has};
 ghost use Rattle.bf_tree.specs.Settling.{Settles};
 ghost use Rattle.bf_sql.specs.Scopes.{place_of};
 ghost use Rattle.bf_sql.specs.migrations.MigrationObjections.{group_objections};
+ghost use Rattle.bf_sql.specs.migrations.Placed.{placed_pair};
 ghost use Rattle.bf_sql.specs.migrations.Targets.{equalities, kind_by};
-ghost use Rattle.bf_plan.specs.Arms.{equality_objections, equality_places, group_ref_objections, is_grouped, key_item, key_places, kind_told, pair_places};
+ghost use Rattle.bf_plan.specs.Arms.{equality_objections, group_ref_objections, is_grouped, is_on, key_item, key_places, kind_by_places, placed_on};
 
 use crate::item::BoundItem;
 use crate::source::{ArmTables, places_behind};
 use bf_base::{Memory, Name, Sequence};
 use bf_bind::{Scope, column, expect_kind};
-use bf_tree::{Arm, Ref, Refusal, StatementError};
+use bf_tree::{Arm, ArmKind, Ref, Refusal, StatementError};
 use std::alloc::Global;
-
-/// How an arm makes rows.
-#[derive(Clone, Copy, Debug, PartialEq, Eq)]
-pub(crate) enum ArmKind {
-    /// One for each row of FROM.
-    ByFrom,
-    /// One for each row of JOIN.
-    ByJoin,
-    /// One for each pair of a row of FROM and one of JOIN.
-    ByPair,
-    /// One for each group.
-    ByGroup,
-}
-
-/// The pairs of ON.
-pub(crate) fn equalities(arm: &Arm) -> &[(Ref, Ref)]
-    ensures { result.now ≡ equalities arm.now }
-{
-    match &arm.join {
-        Some(join) => join.on.as_slice(),
-        None => &[],
-    }
-}
 
 /// Whether two places are both of FROM's columns, or both of JOIN's.
 fn are_of_one_table(left: u8, right: u8, width: usize) -> bool
@@ -63,7 +41,7 @@ fn bind_equality(
     pair: &(Ref, Ref),
 ) -> Result<(u8, u8), StatementError>
     ensures { Settles result (equality_objections scope.now width target.now pair.now)
-        (pair_places scope.now pair.now) }
+        (placed_pair scope.now pair.now) }
 {
     let left = column(alloc, scope, &pair.0)?;
     let right = column(alloc, scope, &pair.1)?;
@@ -74,28 +52,50 @@ fn bind_equality(
     Ok((left.place, right.place))
 }
 
-/// The places that ON names.
+/// The places of the columns of some equalities.
 ///
 /// # Errors
 /// The first objection, from the left.
-pub(crate) fn bind_equalities(
+fn bind_equalities(
     alloc: Global,
     scope: &Scope,
     width: usize,
     target: &Name,
     pairs: &[(Ref, Ref)],
-) -> Result<Sequence<u8>, StatementError>
+) -> Result<Sequence<(u8, u8)>, StatementError>
     ensures { Settles result
         (flat_map (equality_objections scope.now width target.now) pairs.now)
-        (flat_map (equality_places scope.now) pairs.now) }
+        (map (placed_pair scope.now) pairs.now) }
 {
     let mut places = Vec::with_capacity(alloc, pairs.len())?;
     for pair in pairs {
-        let (left, right) = bind_equality(alloc, scope, width, target, pair)?;
-        places.push(left)?;
-        places.push(right)?;
+        places.push(bind_equality(alloc, scope, width, target, pair)?)?;
     }
     Ok(Sequence::of(places))
+}
+
+/// The places of the columns of ON, where there is a JOIN.
+///
+/// # Errors
+/// The first objection, from the left.
+pub(crate) fn bind_on(
+    alloc: Global,
+    scope: &Scope,
+    width: usize,
+    target: &Name,
+    arm: &Arm,
+) -> Result<Option<Sequence<(u8, u8)>>, StatementError>
+    ensures { Settles result
+        (flat_map (equality_objections scope.now width target.now) (equalities arm.now))
+        (placed_on scope.now arm.now) }
+{
+    match &arm.join {
+        Some(join) => {
+            let pairs = bind_equalities(alloc, scope, width, target, join.on.as_slice())?;
+            Ok(Some(pairs))
+        }
+        None => Ok(None),
+    }
 }
 
 /// Whether a place is one of some places.
@@ -143,17 +143,25 @@ pub(crate) fn bind_group(
     Ok(Sequence::of(places))
 }
 
-/// Whether ON names each place of a key.
-fn has_all(on: &[u8], key: &[usize]) -> bool
-    ensures { result ≡ list_all (has nat_eq on.now) key.now }
+/// Whether ON names a place.
+fn is_on(on: &[(u8, u8)], place: usize) -> bool
+    ensures { result ≡ is_on on.now place }
 {
-    key.iter().all(|place| is_among(*place, on))
+    on.iter()
+        .any(|pair| place == pair.0 as usize || place == pair.1 as usize)
 }
 
-fn kind_of_join(on: &[u8], tables: &ArmTables) -> ArmKind
-    ensures { result ≡ kind_told (kind_by false true
-        (list_all (has nat_eq on.now) tables.now.join_key)
-        (list_all (has nat_eq on.now) tables.now.from_key)) }
+/// Whether ON names each place of a key.
+fn has_all(on: &[(u8, u8)], key: &[usize]) -> bool
+    ensures { result ≡ list_all (is_on on.now) key.now }
+{
+    key.iter().all(|place| is_on(on, *place))
+}
+
+fn kind_of_join(on: &[(u8, u8)], tables: &ArmTables) -> ArmKind
+    ensures { result ≡ kind_by false true
+        (list_all (is_on on.now) tables.now.join_key)
+        (list_all (is_on on.now) tables.now.from_key) }
 {
     if has_all(on, tables.join_key.as_slice()) {
         return ArmKind::ByFrom;
@@ -165,18 +173,20 @@ fn kind_of_join(on: &[u8], tables: &ArmTables) -> ArmKind
     }
 }
 
-/// How an arm makes rows, by the places that ON names.
-pub(crate) fn arm_kind(arm: &Arm, tables: &ArmTables, on: &[u8]) -> ArmKind
-    ensures { result ≡ kind_told (kind_by (nat_lt 0 (length arm.now.group)) (is_some arm.now.join)
-        (list_all (has nat_eq on.now) tables.now.join_key)
-        (list_all (has nat_eq on.now) tables.now.from_key)) }
+/// How an arm makes rows, by the places of ON, where there is a JOIN, and of GROUP BY.
+pub(crate) fn arm_kind(
+    tables: &ArmTables,
+    on: &Option<Sequence<(u8, u8)>>,
+    group: &[u8],
+) -> ArmKind
+    ensures { result ≡ kind_by_places tables.now on.now group.now }
 {
-    if !arm.group.is_empty() {
+    if !group.is_empty() {
         return ArmKind::ByGroup;
     }
-    match &arm.join {
+    match on {
         None => ArmKind::ByFrom,
-        Some(_) => kind_of_join(on, tables),
+        Some(pairs) => kind_of_join(pairs.as_slice(), tables),
     }
 }
 

@@ -1,6 +1,6 @@
 //! MIGRATE.
 
-ghost use Rattle.std.specs.Prelude.{◌≡◌, ◌≤◌, ◌++◌, IfOk, flat_map, true};
+ghost use Rattle.std.specs.Prelude.{◌≡◌, ◌≤◌, ◌++◌, IfOk, flat_map, map, true};
 ghost use Rattle.std.specs.List.{list_all};
 ghost use Rattle.bf_base.specs.Limits.{longest_script};
 ghost use Rattle.bf_tree.specs.Limits.{HasNarrowTables};
@@ -11,18 +11,31 @@ ghost use Rattle.bf_plan.specs.Limits.{IsNarrowMigrate};
 ghost use Rattle.bf_sql.specs.migrations.Plans.{plan_made, plan_of};
 ghost use Rattle.bf_plan.specs.Units.{bound_targets};
 
+use crate::arm::BoundArm;
 use crate::target::bind_target;
 use crate::units::{arm_units, drivers, expect_all_free, expect_few, joined_units, sources};
 use bf_base::{Memory, Sequence, Table};
-use bf_tree::{Catalog, Migrate, Plan, Refusal, StatementError, Unit};
+use bf_tree::{Catalog, Migrate, PlacedArm, Plan, Refusal, StatementError, Unit};
 use std::alloc::Global;
 
-/// The targets of a MIGRATE in a catalog: the tables that they become, and their arms, each as a unit of
-/// its own.
+/// The targets of a MIGRATE in a catalog: the tables that they become, their arms, and each arm as a unit
+/// of its own.
 #[derive(Drop)]
 pub(crate) struct BoundTargets {
     pub(crate) tables: Sequence<Table>,
+    pub(crate) arms: Sequence<Sequence<PlacedArm>>,
     pub(crate) units: Sequence<Unit>,
+}
+
+/// Arms with places for names.
+fn placed_arms(alloc: Global, arms: &[BoundArm]) -> Result<Sequence<PlacedArm>, Memory>
+    ensures { IfOk result (λ placed. placed ≡ map (λ arm. arm.placed) arms.now) }
+{
+    let mut placed = Vec::with_capacity(alloc, arms.len())?;
+    for arm in arms {
+        placed.push(arm.placed.copy(alloc)?)?;
+    }
+    Ok(Sequence::of(placed))
 }
 
 /// Units, and then others.
@@ -50,16 +63,19 @@ fn bind_targets(
 {
     let targets = migrate.targets.as_slice();
     let mut tables = Vec::with_capacity(alloc, targets.len())?;
+    let mut arms = Vec::with_capacity(alloc, targets.len())?;
     let mut units = Vec::new(alloc);
     for (index, target) in targets.iter().enumerate() {
         let bound = bind_target(alloc, catalog, target)?;
         let more = arm_units(alloc, index as u8, bound.arms.as_slice())?;
+        arms.push(placed_arms(alloc, bound.arms.as_slice())?)?;
         tables.push(bound.table)?;
         let all = with_units(units, more)?;
         units = all;
     }
     Ok(BoundTargets {
         tables: Sequence::of(tables),
+        arms: Sequence::of(arms),
         units: Sequence::of(units),
     })
 }
@@ -88,6 +104,7 @@ fn bind_migrate(alloc: Global, migrate: &Migrate, catalog: &Catalog) -> Result<P
     Ok(Plan {
         migrate: migrate.copy(alloc)?,
         tables: bound.tables,
+        arms: bound.arms,
         units,
         sources,
     })
