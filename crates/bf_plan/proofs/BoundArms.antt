@@ -1,5 +1,5 @@
 -- What the parts of an arm make of it is what the arm is in its database.
-use Rattle.std.proofs.Common.{◌≡◌, ℕ, Bool, not, ◌&&◌, ◌||◌, List, [], ◌∷◌, map, Some, is_some, position, nat_eq, refl, ap, ap₂, ◌∙◌, if◌then◌else◌}
+use Rattle.std.proofs.Common.{◌≡◌, not, ◌&&◌, ◌||◌, List, [], ◌∷◌, map, Some, is_some, position, nat_eq, refl, ap, ap₂, if◌then◌else◌}
 use Rattle.std.specs.List.{list_all, list_any}
 use Rattle.std.specs.Option.{option_eq, option_map}
 use Rattle.bf_base.proofs.Order.{list_any-map}
@@ -8,7 +8,7 @@ use Rattle.bf_tree.specs.declared.migration.Item.{Item}
 use Rattle.bf_sql.specs.Database.{Database}
 use Rattle.bf_sql.specs.Scopes.{place_of}
 use Rattle.bf_sql.specs.migrations.MigrationObjections.{inherits_key, is_by_group, is_grouped_item, tag_of}
-use Rattle.bf_sql.specs.migrations.Targets.{ArmKind, by_from, by_join, by_pair, by_group, arm_kind, arm_key, arm_scope, from_key, is_total, item_places, join_key, key_by, key_items, plain_ref}
+use Rattle.bf_sql.specs.migrations.Targets.{ArmKind, by_from, by_join, by_pair, by_group, arm_kind, arm_scope, is_total, item_places, key_by, key_items, plain_ref}
 use Rattle.bf_plan.specs.Arms.{arm_of_parts, arm_tables, bound_arm, bound_parts, driver_of, inherits_by, is_grouped, key_item, key_places, kind_told, unit_kind_of}
 use Rattle.bf_plan.specs.Items.{bound_item}
 use Rattle.bf_plan.specs.declared.item.BoundItem.{BoundItem}

@@ -1,7 +1,7 @@
 -- The units of a plan, made of its arms one by one.
 use Rattle.std.proofs.Common.{◌≡◌, ℕ, ◌+◌, ◌≤◌, ◌<◌, zero, suc, Bool, true, false, not, ◌&&◌, ◌||◌, cond, if◌then◌else◌, List, [], ◌∷◌, ◌++◌, map, filter, fold, length, get_or, Option, Some, None, is_some, refl, sym, ap, ap₂, ◌∙◌, arith, nat_eq, nat_lt}
-use Rattle.std.specs.List.{flat_map, enumerate_from, list_all, list_any}
-use Rattle.std.proofs.lemmas.List.{map-append, length-append, length-map, append-nil}
+use Rattle.std.specs.List.{flat_map, enumerate_from, list_all}
+use Rattle.std.proofs.lemmas.List.{map-append, length-append, length-map}
 use Rattle.std.proofs.lemmas.List.FromFn.{length-enumerate_from}
 use Rattle.bf_base.specs.Distinct.{distinct, with_new}
 use Rattle.bf_base.specs.Lists.{has, same_name, when}
@@ -19,7 +19,7 @@ use Rattle.bf_sql.specs.migrations.Targets.{ArmKind, by_from, by_join, by_pair, 
 use Rattle.bf_plan.specs.Arms.{bound_arm, driver_of, kind_told, unit_kind_of}
 use Rattle.bf_sql.specs.migrations.Plans.{numbered_arms, planned_units, rows_unit_of, values_unit_of}
 use Rattle.bf_plan.specs.Targets.{is_rows}
-use Rattle.bf_plan.specs.Units.{arm_unit, arm_units, arms_driven, driving, is_driven, joined_units, rows_unit, units_by_values, units_of_target}
+use Rattle.bf_plan.specs.Units.{arm_unit, arms_driven, driving, is_driven, joined_units, rows_unit, units_by_values, units_of_target}
 use Rattle.bf_plan.specs.declared.arm.BoundArm.{BoundArm}
 use Rattle.bf_tree.specs.declared.plan.Unit.{Unit}
 
@@ -128,7 +128,7 @@ module _ (db : Database) where
 
   -- counts
   unit_count : (t k : ℕ) (arms : List Arm) → length (map (λ (p : ℕ × BoundArm). arm_unit (t, p.0) p.1) (enumerate_from k (map (bound_arm db) arms))) ≡ length arms
-  unit_count t k arms = length-map (λ (p : ℕ × BoundArm). arm_unit (t, p.0) p.1) (enumerate_from k (map (bound_arm db) arms)) ∙ length-enumerate_from k (map (bound_arm db) arms) ∙ length-map (bound_arm db) arms
+  unit_count t k arms = length-map (enumerate_from k (map (bound_arm db) arms)) (λ (p : ℕ × BoundArm). arm_unit (t, p.0) p.1) ∙ length-enumerate_from k (map (bound_arm db) arms) ∙ length-map arms (bound_arm db)
 
   units_count : (n : ℕ) (targets : List Target) → length (flat_map (units_of_target db) (enumerate_from n targets)) ≡ length (flat_map (λ t. t.arms) targets)
   units_count n [] = refl

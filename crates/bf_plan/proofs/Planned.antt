@@ -1,5 +1,5 @@
 -- A plan, by the parts that it is made of.
-use Rattle.std.proofs.Common.{◌≡◌, ℕ, ◌+◌, ◌≤◌, ◌<◌, List, [], ◌∷◌, ◌++◌, map, length, get_or, take, Some, Result, Ok, Err, nat_lt, refl, sym, ap, ap₂, ◌∙◌, arith}
+use Rattle.std.proofs.Common.{◌≡◌, ℕ, ◌+◌, ◌≤◌, ◌<◌, List, [], ◌∷◌, ◌++◌, length, get_or, take, Some, Ok, Err, nat_lt, sym, ap, ap₂, ◌∙◌, arith}
 use Rattle.std.specs.List.{flat_map, enumerate_from}
 use Rattle.std.proofs.lemmas.List.{length-map}
 use Rattle.bf_base.specs.Distinct.{distinct}
@@ -20,7 +20,7 @@ use Rattle.bf_tree.specs.declared.plan.Plan.{Plan}
 use Rattle.bf_tree.specs.declared.plan.Unit.{Unit}
 use Rattle.bf_plan.specs.declared.planning.BoundTargets.{BoundTargets}
 use Rattle.bf_plan.specs.declared.target.BoundTarget.{BoundTarget}
-use Rattle.bf_plan.proofs.NumberedArms.{block_within, drivers-planned, drivers_few, units-planned, units_of}
+use Rattle.bf_plan.proofs.NumberedArms.{block_within, drivers-planned, drivers_few, units-planned}
 use Rattle.bf_plan.proofs.Walked.{blocks_more}
 
 abbrev pub limit : List (List ℕ) → List Refusal
@@ -91,5 +91,5 @@ module _ (db : Database) (targets : List Target) (i : ℕ) (target : Target) (in
   few_arms most few =
       let here = block_within targets i target in_range is in
       let same = ap (λ (b : BoundTarget). length b.arms) made in
-      let count = length-map (bound_arm db) target.arms in
+      let count = length-map target.arms (bound_arm db) in
       omega arith

@@ -1,6 +1,5 @@
-use Rattle.std.proofs.Common.{◌≡◌, ℕ, ap, ◌∙◌}
-use Rattle.bf_tree.specs.Trees.{Expr, column}
-use Rattle.bf_tree.specs.declared.items.Aggregate.{Aggregate}
+use Rattle.std.proofs.Common.{ap, ◌∙◌}
+use Rattle.bf_tree.specs.Trees.{column}
 use Rattle.bf_bind.specs.declared.expression.BoundExpr.{BoundExpr}
 use Rattle.bf_bind.specs.declared.scope.ColumnPlace.{ColumnPlace}
 use Rattle.bf_plan.specs.Items.{judged, judged_total}
