@@ -109,7 +109,7 @@ module _ (db : Database) where
       (λ seen x. ap not (tags-bound seen (tag_of x.items))) [] arms in
       let alike = all_behind-mapped (bound_arm db) (λ p. list_all (λ a. pointwise (option_eq nat_eq) a.key_items p.1.key_items) p.0) (λ p. list_all (λ a. pointwise (option_eq nat_eq) (key_items db a) (key_items db p.1)) p.0)
       (λ seen x. all-mapped (bound_arm db) (λ a. pointwise (option_eq nat_eq) a.key_items (key_items db x)) (λ a. pointwise (option_eq nat_eq) (key_items db a) (key_items db x)) (λ a. refl) seen) [] arms in
-      ap₂ (λ b c. b && c) tagged (ap₂ (λ b c. b && c) different alike)
+      ap₂ (λ b c. b && c) (ap₂ (λ b c. b && c) tagged different) alike
     where
       tags-bound : (seen : List Arm) (tag : Option ℤ) → tagged_by (map (bound_arm db) seen) tag ≡ has (option_eq int_eq) (map (λ (a : Arm). tag_of a.items) seen) tag
       tags-bound seen tag =

@@ -17,7 +17,7 @@ use Rattle.bf_sql.specs.Database.{Database}
 use Rattle.bf_sql.specs.migrations.MigrationObjections.{driver_by, drivers_of, is_by_row}
 use Rattle.bf_sql.specs.migrations.Targets.{ArmKind, by_from, by_join, by_pair, by_group, arm_kind, from_key, join_key, kind_by, on_places}
 use Rattle.bf_plan.specs.Arms.{bound_arm, driver_of, kind_told, unit_kind_of}
-use Rattle.bf_sql.specs.migrations.Plans.{numbered_arms, planned_units, rows_unit_of, values_unit_of}
+use Rattle.bf_sql.specs.migrations.Plans.{kind_by_values, numbered_arms, planned_units, rows_unit_of, values_unit_of}
 use Rattle.bf_plan.specs.Targets.{is_rows}
 use Rattle.bf_plan.specs.Units.{arm_unit, arms_driven, driving, is_driven, joined_units, rows_unit, units_by_values, units_of_target}
 use Rattle.bf_plan.specs.declared.arm.BoundArm.{BoundArm}
@@ -42,6 +42,19 @@ driven-named true driver name = or_false (same_name name driver)
     or_false true = refl
     or_false false = refl
 driven-named false driver name = refl
+
+-- an arm that goes by values, by its kind
+valued_by : (k : ArmKind) (number : ℕ × ℕ) (arm : Arm) (units : List Unit)
+    → units_by_values (record { kind = unit_kind_of (kind_told k); driver = driver_of (kind_told k) arm; arms = number ∷ [] }) ++ units
+    ≡ cond (not (is_by_row k)) (record { kind = kind_by_values k; driver = arm.from; arms = number ∷ [] } ∷ units) units
+valued_by by_from number arm units = refl
+valued_by by_join number arm units = refl
+valued_by by_pair number arm units = refl
+valued_by by_group number arm units = refl
+
+map_either : {X Y : Type 0} (f : X → Y) (b : Bool) (x : X) (xs : List X) → map f (cond b (x ∷ xs) xs) ≡ cond b (f x ∷ map f xs) (map f xs)
+map_either f true x xs = refl
+map_either f false x xs = refl
 
 module _ (db : Database) where
   abbrev unit_of : (ℕ × ℕ) × Arm → Unit
@@ -94,17 +107,12 @@ module _ (db : Database) where
       either_way true = refl
       either_way false = refl
 
-  -- an arm that goes by values, by its kind
-  valued : (m : Migrate) (k : ArmKind) (p : (ℕ × ℕ) × Arm) → arm_kind db p.1 ≡ k → (vs : List ((ℕ × ℕ) × Arm))
-      → units_by_values (unit_of p) ++ map (values_unit_of db m) vs ≡ map (values_unit_of db m) (cond (not (is_by_row (arm_kind db p.1))) (p ∷ vs) vs)
-  valued m by_from p e vs = rw e refl
-  valued m by_join p e vs = rw e refl
-  valued m by_pair p e vs = rw e refl
-  valued m by_group p e vs = rw e refl
+  valued : (m : Migrate) (p : (ℕ × ℕ) × Arm) (vs : List ((ℕ × ℕ) × Arm)) → units_by_values (unit_of p) ++ map (values_unit_of db m) vs ≡ map (values_unit_of db m) (cond (not (is_by_row (arm_kind db p.1))) (p ∷ vs) vs)
+  valued m p vs = valued_by (arm_kind db p.1) p.0 p.1 (map (values_unit_of db m) vs) ∙ sym (map_either (values_unit_of db m) (not (is_by_row (arm_kind db p.1))) p vs)
 
   values-numbered : (m : Migrate) (ps : List ((ℕ × ℕ) × Arm)) → flat_map units_by_values (map unit_of ps) ≡ map (values_unit_of db m) (filter (λ p. not (is_by_row (arm_kind db p.1))) ps)
   values-numbered m [] = refl
-  values-numbered m (p ∷ ps) = ap (λ us. units_by_values (unit_of p) ++ us) (values-numbered m ps) ∙ valued m (arm_kind db p.1) p refl (filter (λ p. not (is_by_row (arm_kind db p.1))) ps)
+  values-numbered m (p ∷ ps) = ap (λ us. units_by_values (unit_of p) ++ us) (values-numbered m ps) ∙ valued m p (filter (λ p. not (is_by_row (arm_kind db p.1))) ps)
 
   module _ (m : Migrate) where
     abbrev pub units_of : List Unit
