@@ -1,11 +1,10 @@
 -- What stands behind the arms of a target, over its arms as they are bound.
-use Rattle.std.proofs.Common.{◌≡◌, ℕ, ℤ, ◌+◌, zero, suc, Bool, true, false, not, ◌&&◌, ◌||◌, List, [], ◌∷◌, ◌++◌, map, length, take, drop, Option, Some, None, is_some, unwrap_or, position, nat_eq, refl, sym, ap, ap₂, ◌∙◌, if◌then◌else◌, append_assoc, nat_le, nat_lt, ◌==◌, le-ltb, lt-ltb, arith}
+use Rattle.std.proofs.Common.{◌≡◌, ℕ, ℤ, ◌+◌, Bool, true, false, not, ◌&&◌, ◌||◌, List, [], ◌∷◌, ◌++◌, map, length, take, drop, Option, Some, is_some, unwrap_or, position, nat_eq, refl, sym, ap, ap₂, ◌∙◌, append_assoc, nat_le, nat_lt, ◌==◌, le-ltb, lt-ltb, arith}
 use Rattle.std.specs.List.{flat_map, filter_map, list_all, list_any, reduce, enumerate_from}
 use Rattle.std.specs.Option.{option_eq}
 use Rattle.std.specs.Ordering.{int_eq}
 use lib.Pointwise.{pointwise}
 use Rattle.std.proofs.lemmas.List.{length-map, map-append}
-use Rattle.std.proofs.lemmas.Simd.{map-map}
 use Rattle.bf_base.proofs.Order.{list_any-map}
 use Rattle.bf_base.specs.Lists.{has, same_name, when, with_before, with_before_from}
 use Rattle.bf_base.specs.Tables.{same_kind}
@@ -25,11 +24,11 @@ use Rattle.bf_sql.specs.Database.{Database}
 use Rattle.bf_sql.specs.Scopes.{Scope, twice_objections}
 use Rattle.bf_sql.specs.migrations.Extents.{may_fail}
 use Rattle.bf_sql.specs.migrations.MigrationObjections.{arm_objections, failing_objections, has_key, inherits_key, is_by_row, item_kinds, keeps_apart, kind_of_item, tag_of, target_objections}
-use Rattle.bf_sql.specs.migrations.Targets.{arm_key, arm_kind, arm_scope, column_admit, either_admit, extent_of_item, first_arm, item_admit, item_name, item_places, key_items, target_key, target_table}
+use Rattle.bf_sql.specs.migrations.Targets.{arm_key, arm_kind, arm_scope, column_admit, either_admit, extent_of_item, first_arm, item_admit, item_name, key_items, target_key, target_table}
 use Rattle.bf_plan.specs.Arms.{bound_arm, unit_kind_of}
 use Rattle.bf_plan.specs.Items.{bound_item}
 use Rattle.bf_plan.specs.Limits.{has_few_items}
-use Rattle.bf_plan.specs.Targets.{admits_at, are_tagged_apart, failing, failing_in, first_items, first_key, gives_key, has_one_key, is_miscounted, is_misfit, is_rows, is_tagged, keeps_apart_by, key_before, key_of_arms, name_objections, names_objections, objections_behind, table_of_arms, tagged_by}
+use Rattle.bf_plan.specs.Targets.{admits_at, failing_in, first_items, gives_key, is_miscounted, is_misfit, is_rows, is_tagged, keeps_apart_by, key_of_arms, name_objections, names_objections, objections_behind, table_of_arms, tagged_by}
 use Rattle.bf_plan.specs.declared.arm.BoundArm.{BoundArm}
 use Rattle.bf_plan.specs.declared.item.BoundItem.{BoundItem}
 
@@ -85,7 +84,7 @@ none_given (k ∷ ks) = none_given ks
 module _ (db : Database) where
   items-first : (arms : List Arm) → length (first_items (map (bound_arm db) arms)) ≡ length (first_arm arms).items
   items-first [] = refl
-  items-first (arm ∷ arms) = length-map (bound_item (arm_scope db arm)) arm.items
+  items-first (arm ∷ arms) = length-map arm.items (bound_item (arm_scope db arm))
 
   kinds-bound : (scope : Scope) (items : List Item) → map (λ (i : BoundItem). i.kind) (map (bound_item scope) items) ≡ map (kind_of_item scope) items
   kinds-bound scope [] = refl
@@ -98,7 +97,7 @@ module _ (db : Database) where
   counts-bound : (arms : List Arm) → list_any (is_miscounted (first_items (map (bound_arm db) arms))) (map (bound_arm db) arms) ≡ list_any (λ arm. not (length arm.items == length (first_arm arms).items)) arms
   counts-bound arms =
       any-mapped (bound_arm db) (is_miscounted (first_items (map (bound_arm db) arms))) (λ arm. not (length arm.items == length (first_arm arms).items))
-      (λ arm. ap₂ (λ (m n : ℕ). not (m == n)) (length-map (bound_item (arm_scope db arm)) arm.items) (items-first arms)) arms
+      (λ arm. ap₂ (λ (m n : ℕ). not (m == n)) (length-map arm.items (bound_item (arm_scope db arm))) (items-first arms)) arms
 
   misfits-bound : (arms : List Arm) → list_any (is_misfit (first_items (map (bound_arm db) arms))) (map (bound_arm db) arms) ≡ list_any (λ arm. not (pointwise same_kind (item_kinds db (first_arm arms)) (item_kinds db arm))) arms
   misfits-bound arms =
@@ -112,7 +111,7 @@ module _ (db : Database) where
       (λ seen x. ap not (tags-bound seen (tag_of x.items))) [] arms in
       let alike = all_behind-mapped (bound_arm db) (λ p. list_all (λ a. pointwise (option_eq nat_eq) a.key_items p.1.key_items) p.0) (λ p. list_all (λ a. pointwise (option_eq nat_eq) (key_items db a) (key_items db p.1)) p.0)
       (λ seen x. all-mapped (bound_arm db) (λ a. pointwise (option_eq nat_eq) a.key_items (key_items db x)) (λ a. pointwise (option_eq nat_eq) (key_items db a) (key_items db x)) (λ a. refl) seen) [] arms in
-      ap₂ (λ b c. b && c) tagged (ap₂ (λ b c. b && c) different alike)
+      ap₂ (λ b c. b && c) (ap₂ (λ b c. b && c) tagged different) alike
     where
       tags-bound : (seen : List Arm) (tag : Option ℤ) → tagged_by (map (bound_arm db) seen) tag ≡ has (option_eq int_eq) (map (λ (a : Arm). tag_of a.items) seen) tag
       tags-bound seen tag =
@@ -121,7 +120,7 @@ module _ (db : Database) where
   key-bound : (target : Target) → gives_key (map (bound_arm db) target.arms) ≡ has_key db target
   key-bound target =
       let inherited = all-mapped (bound_arm db) (λ a. a.inherits_key) (inherits_key db) (λ a. refl) target.arms in
-      let counted = ap (λ (n : ℕ). nat_lt n 2) (length-map (bound_arm db) target.arms) in
+      let counted = ap (λ (n : ℕ). nat_lt n 2) (length-map target.arms (bound_arm db)) in
       ap₂ (λ b c. b && c) inherited (ap₂ (λ b c. b || c) counted (apart-bound target.arms))
 
   pub objections-bound : (target : Target) → target_objections db target ≡ flat_map (arm_objections db target) target.arms ++ objections_behind target (map (bound_arm db) target.arms)
@@ -155,7 +154,7 @@ module _ (db : Database) where
   keys-first name [] = sym (none_given (arm_key db (first_arm [])))
   keys-first name (one ∷ []) = refl
   keys-first name (one ∷ two ∷ more) =
-      let count = length-map (bound_arm db) more in
+      let count = length-map more (bound_arm db) in
       let few : nat_lt (length (map (bound_arm db) (one ∷ two ∷ more))) 2 ≡ false = le-ltb _ _ (omega arith) in
       let several : nat_lt 1 (length (one ∷ two ∷ more)) ≡ true = lt-ltb _ _ (omega arith) in
       rw (few, several) refl
@@ -168,7 +167,7 @@ module _ (db : Database) where
   }
 
   few_each : (arms : List Arm) → list_all has_few_items arms ≡ true → list_all (λ (a : BoundArm). nat_le (length a.items) most_columns) (map (bound_arm db) arms) ≡ true
-  few_each arms few = all-mapped (bound_arm db) (λ (a : BoundArm). nat_le (length a.items) most_columns) has_few_items (λ arm. ap (λ (n : ℕ). nat_le n most_columns) (length-map (bound_item (arm_scope db arm)) arm.items)) arms ∙ few
+  few_each arms few = all-mapped (bound_arm db) (λ (a : BoundArm). nat_le (length a.items) most_columns) has_few_items (λ arm. ap (λ (n : ℕ). nat_le n most_columns) (length-map arm.items (bound_item (arm_scope db arm)))) arms ∙ few
 
   module _ (target : Target) (arms : List BoundArm) (are : (flat_map (arm_objections db target) target.arms ≡ []) × (arms ≡ map (bound_arm db) target.arms)) where
     pub behind_left : target_objections db target ≡ objections_behind target arms

@@ -1,5 +1,5 @@
 -- What the columns of a new table admit, its key, and the first item that may fail.
-use Rattle.std.proofs.Common.{◌≡◌, ℕ, ◌+◌, ◌<◌, zero, suc, Bool, true, false, ◌&&◌, not, List, [], ◌∷◌, ◌++◌, map, length, get_or, take, drop, fold, Option, Some, None, position, nat_eq, eq-eqb, eqb-true, refl, sym, ap, ap₂, ◌∙◌, inl, inr, arith, append_assoc}
+use Rattle.std.proofs.Common.{◌≡◌, ℕ, ◌+◌, ◌<◌, zero, suc, Bool, true, ◌&&◌, List, [], ◌∷◌, ◌++◌, map, length, get_or, take, drop, Option, Some, None, position, nat_eq, eq-eqb, eqb-true, refl, sym, ap, ap₂, ◌∙◌, inl, inr, arith, append_assoc}
 use Rattle.std.specs.List.{flat_map, filter_map, list_all, reduce, enumerate_from, position_from, slice_get, zip}
 use Rattle.std.specs.Option.{option_eq, option_map}
 use lib.Pointwise.{pointwise}
@@ -8,7 +8,7 @@ use Rattle.std.proofs.lemmas.Iterator.Adapters.{position_from-zero}
 use Rattle.std.proofs.lemmas.List.{append-nil, take_more}
 use Rattle.std.proofs.lemmas.List.Elements.{filter_map-append}
 use Rattle.std.proofs.lemmas.List.Sums.{fold-append}
-use Rattle.bf_base.specs.Lists.{when, with_before, with_before_from}
+use Rattle.bf_base.specs.Lists.{when, with_before_from}
 use Rattle.bf_base.specs.Tables.{same_kind}
 use Rattle.bf_base.specs.declared.table.Admit.{Admit}
 use Rattle.bf_base.specs.declared.table.Column.{Column}

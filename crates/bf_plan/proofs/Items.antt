@@ -1,5 +1,5 @@
 -- Items over the places of their columns are what they are over the refs that name them.
-use Rattle.std.proofs.Common.{◌≡◌, ℕ, List, map, None, refl, ap, ◌∙◌}
+use Rattle.std.proofs.Common.{◌≡◌, ℕ, List, map, refl, ap}
 use Rattle.std.specs.Option.{option_map, unwrap_or}
 use Rattle.std.specs.List.{slice_index_or}
 use Rattle.std.proofs.lemmas.Simd.{map-map}

@@ -1,7 +1,7 @@
 -- The units of a plan, made of its arms one by one.
 use Rattle.std.proofs.Common.{◌≡◌, ℕ, ◌+◌, ◌≤◌, ◌<◌, zero, suc, Bool, true, false, not, ◌&&◌, ◌||◌, cond, if◌then◌else◌, List, [], ◌∷◌, ◌++◌, map, filter, fold, length, get_or, Option, Some, None, is_some, refl, sym, ap, ap₂, ◌∙◌, arith, nat_eq, nat_lt}
-use Rattle.std.specs.List.{flat_map, enumerate_from, list_all, list_any}
-use Rattle.std.proofs.lemmas.List.{map-append, length-append, length-map, append-nil}
+use Rattle.std.specs.List.{flat_map, enumerate_from, list_all}
+use Rattle.std.proofs.lemmas.List.{map-append, length-append, length-map}
 use Rattle.std.proofs.lemmas.List.FromFn.{length-enumerate_from}
 use Rattle.bf_base.specs.Distinct.{distinct, with_new}
 use Rattle.bf_base.specs.Lists.{has, same_name, when}
@@ -19,9 +19,9 @@ use Rattle.bf_sql.specs.Database.{Database}
 use Rattle.bf_sql.specs.migrations.MigrationObjections.{driver_by, drivers_of, is_by_row}
 use Rattle.bf_sql.specs.migrations.Targets.{arm_kind, from_key, join_key, kind_by, on_places}
 use Rattle.bf_plan.specs.Arms.{bound_arm, driver_of, unit_kind_of}
-use Rattle.bf_sql.specs.migrations.Plans.{numbered_arms, planned_units, rows_unit_of, values_unit_of}
+use Rattle.bf_sql.specs.migrations.Plans.{kind_by_values, numbered_arms, planned_units, rows_unit_of, values_unit_of}
 use Rattle.bf_plan.specs.Targets.{is_rows}
-use Rattle.bf_plan.specs.Units.{arm_unit, arm_units, arms_driven, driving, is_driven, joined_units, rows_unit, units_by_values, units_of_target}
+use Rattle.bf_plan.specs.Units.{arm_unit, arms_driven, driving, is_driven, joined_units, rows_unit, units_by_values, units_of_target}
 use Rattle.bf_plan.specs.declared.arm.BoundArm.{BoundArm}
 use Rattle.bf_tree.specs.declared.plan.Unit.{Unit}
 
@@ -44,6 +44,19 @@ driven-named true driver name = or_false (same_name name driver)
     or_false true = refl
     or_false false = refl
 driven-named false driver name = refl
+
+-- an arm that goes by values, by its kind
+valued_by : (k : ArmKind) (number : ℕ × ℕ) (arm : Arm) (units : List Unit)
+    → units_by_values (record { kind = unit_kind_of k; driver = driver_of k arm; arms = number ∷ [] }) ++ units
+    ≡ cond (not (is_by_row k)) (record { kind = kind_by_values k; driver = arm.from; arms = number ∷ [] } ∷ units) units
+valued_by ByFrom number arm units = refl
+valued_by ByJoin number arm units = refl
+valued_by ByPair number arm units = refl
+valued_by ByGroup number arm units = refl
+
+map_either : {X Y : Type 0} (f : X → Y) (b : Bool) (x : X) (xs : List X) → map f (cond b (x ∷ xs) xs) ≡ cond b (f x ∷ map f xs) (map f xs)
+map_either f true x xs = refl
+map_either f false x xs = refl
 
 module _ (db : Database) where
   abbrev unit_of : (ℕ × ℕ) × Arm → Unit
@@ -96,17 +109,12 @@ module _ (db : Database) where
       either_way true = refl
       either_way false = refl
 
-  -- an arm that goes by values, by its kind
-  valued : (m : Migrate) (k : ArmKind) (p : (ℕ × ℕ) × Arm) → arm_kind db p.1 ≡ k → (vs : List ((ℕ × ℕ) × Arm))
-      → units_by_values (unit_of p) ++ map (values_unit_of db m) vs ≡ map (values_unit_of db m) (cond (not (is_by_row (arm_kind db p.1))) (p ∷ vs) vs)
-  valued m ByFrom p e vs = rw e refl
-  valued m ByJoin p e vs = rw e refl
-  valued m ByPair p e vs = rw e refl
-  valued m ByGroup p e vs = rw e refl
+  valued : (m : Migrate) (p : (ℕ × ℕ) × Arm) (vs : List ((ℕ × ℕ) × Arm)) → units_by_values (unit_of p) ++ map (values_unit_of db m) vs ≡ map (values_unit_of db m) (cond (not (is_by_row (arm_kind db p.1))) (p ∷ vs) vs)
+  valued m p vs = valued_by (arm_kind db p.1) p.0 p.1 (map (values_unit_of db m) vs) ∙ sym (map_either (values_unit_of db m) (not (is_by_row (arm_kind db p.1))) p vs)
 
   values-numbered : (m : Migrate) (ps : List ((ℕ × ℕ) × Arm)) → flat_map units_by_values (map unit_of ps) ≡ map (values_unit_of db m) (filter (λ p. not (is_by_row (arm_kind db p.1))) ps)
   values-numbered m [] = refl
-  values-numbered m (p ∷ ps) = ap (λ us. units_by_values (unit_of p) ++ us) (values-numbered m ps) ∙ valued m (arm_kind db p.1) p refl (filter (λ p. not (is_by_row (arm_kind db p.1))) ps)
+  values-numbered m (p ∷ ps) = ap (λ us. units_by_values (unit_of p) ++ us) (values-numbered m ps) ∙ valued m p (filter (λ p. not (is_by_row (arm_kind db p.1))) ps)
 
   module _ (m : Migrate) where
     abbrev pub units_of : List Unit
@@ -130,7 +138,7 @@ module _ (db : Database) where
 
   -- counts
   unit_count : (t k : ℕ) (arms : List Arm) → length (map (λ (p : ℕ × BoundArm). arm_unit (t, p.0) p.1) (enumerate_from k (map (bound_arm db) arms))) ≡ length arms
-  unit_count t k arms = length-map (λ (p : ℕ × BoundArm). arm_unit (t, p.0) p.1) (enumerate_from k (map (bound_arm db) arms)) ∙ length-enumerate_from k (map (bound_arm db) arms) ∙ length-map (bound_arm db) arms
+  unit_count t k arms = length-map (enumerate_from k (map (bound_arm db) arms)) (λ (p : ℕ × BoundArm). arm_unit (t, p.0) p.1) ∙ length-enumerate_from k (map (bound_arm db) arms) ∙ length-map arms (bound_arm db)
 
   units_count : (n : ℕ) (targets : List Target) → length (flat_map (units_of_target db) (enumerate_from n targets)) ≡ length (flat_map (λ t. t.arms) targets)
   units_count n [] = refl

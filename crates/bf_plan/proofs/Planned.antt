@@ -1,10 +1,11 @@
 -- A plan, by the parts that it is made of.
-use Rattle.std.proofs.Common.{◌≡◌, ℕ, ◌+◌, ◌≤◌, ◌<◌, List, [], ◌∷◌, ◌++◌, map, length, get_or, take, Some, Result, Ok, Err, nat_lt, refl, sym, ap, ap₂, ◌∙◌, arith}
+use Rattle.std.proofs.Common.{◌≡◌, ℕ, ◌+◌, ◌≤◌, ◌<◌, List, [], ◌∷◌, ◌++◌, map, length, get_or, take, Some, Ok, Err, nat_lt, refl, sym, ap, ap₂, ◌∙◌, arith}
 use Rattle.std.specs.List.{flat_map, enumerate_from}
 use Rattle.std.proofs.lemmas.List.{length-map}
 use Rattle.bf_base.specs.Distinct.{distinct}
 use Rattle.bf_base.specs.Lists.{same_name, when, with_before}
 use Rattle.bf_tree.specs.Settling.{first_of}
+use Rattle.bf_tree.specs.declared.migration.Arm.{Arm}
 use Rattle.bf_tree.specs.declared.migration.Migrate.{Migrate}
 use Rattle.bf_tree.specs.declared.migration.Target.{Target}
 use Rattle.bf_tree.specs.declared.reply.Refusal.{Refusal}
@@ -13,14 +14,17 @@ use Rattle.bf_tree.proofs.Settling.{first_ahead}
 use Rattle.bf_sql.specs.Database.{Database}
 use Rattle.bf_sql.specs.migrations.MigrationObjections.{drivers_of, migrate_objections, sources_of, taken_name_objections, target_objections}
 use Rattle.bf_plan.specs.Arms.{bound_arm}
-use Rattle.bf_sql.specs.migrations.Plans.{plan_made, plan_of, planned_units, unless_objected}
+use Rattle.bf_sql.specs.migrations.Placed.{placed_arm}
+use Rattle.bf_sql.specs.migrations.Plans.{plan_made, plan_of, planned_units, planned_unless}
 use Rattle.bf_plan.specs.Targets.{bound_target}
 use Rattle.bf_plan.specs.Units.{arm_units, bound_targets, driving, joined_units, taken_objections, units_of_target}
+use Rattle.bf_tree.specs.declared.plan.PlacedArm.{PlacedArm}
 use Rattle.bf_tree.specs.declared.plan.Plan.{Plan}
 use Rattle.bf_tree.specs.declared.plan.Unit.{Unit}
+use Rattle.bf_plan.specs.declared.arm.BoundArm.{BoundArm}
 use Rattle.bf_plan.specs.declared.planning.BoundTargets.{BoundTargets}
 use Rattle.bf_plan.specs.declared.target.BoundTarget.{BoundTarget}
-use Rattle.bf_plan.proofs.NumberedArms.{block_within, drivers-planned, drivers_few, units-planned, units_of}
+use Rattle.bf_plan.proofs.NumberedArms.{block_within, drivers-planned, drivers_few, units-planned}
 use Rattle.bf_plan.proofs.Walked.{blocks_more}
 
 abbrev pub limit : List (List ℕ) → List Refusal
@@ -64,22 +68,28 @@ module _ (db : Database) (m : Migrate) where
         units-are units made =
             made ∙ ap (λ (ds : List (List ℕ)). joined_units ds bound.units) drivers-are ∙ ap (λ (b : BoundTargets). joined_units (drivers_of db m) b.units) are.1 ∙ units-planned db m
 
-        pub plan-is : (units : List Unit) → units ≡ joined_units drivers bound.units → (copy : Migrate) → copy ≡ m → record { migrate = copy; tables = bound.tables; units = units; sources = sources } ≡ plan_made db m
+        pub plan-is : (units : List Unit) → units ≡ joined_units drivers bound.units → (copy : Migrate) → copy ≡ m → record { migrate = copy; tables = bound.tables; arms = bound.arms; units = units; sources = sources } ≡ plan_made db m
         plan-is units made copy same =
             let us = units-are units made in
             let ts = ap (λ (b : BoundTargets). b.tables) are.1 in
-            λ i. record { migrate = same i; tables = ts i; units = us i; sources = named i }
+            let placed = ap (λ (b : BoundTargets). b.arms) are.1 in
+            λ i. record { migrate = same i; tables = ts i; arms = placed i; units = us i; sources = named i }
 
   -- the plan, or the first objection
   pub planned : (plan : Plan) → migrate_objections db m ≡ [] → plan ≡ plan_made db m → Ok plan ≡ plan_of db m
-  planned plan none is = ap Ok is ∙ ap (λ (rs : List Refusal). unless_objected rs (plan_made db m)) (sym none)
+  planned plan none is = ap Ok is ∙ ap (λ (rs : List Refusal). planned_unless rs (plan_made db m)) (sym none)
 
-  first_told : (rs : List Refusal) (r : Refusal) (plan : Plan) → first_of rs ≡ Some r → Err r ≡ unless_objected rs plan
+  first_told : (rs : List Refusal) (r : Refusal) (plan : Plan) → first_of rs ≡ Some r → Err r ≡ planned_unless rs plan
   first_told [] r plan e = absurd cc
   first_told (s ∷ rs) r plan e = let same : r ≡ s = cc in ap Err same
 
   pub refused : (r : Refusal) → first_of (migrate_objections db m) ≡ Some r → Err r ≡ plan_of db m
   refused r first = first_told (migrate_objections db m) r (plan_made db m) first
+
+-- the arms of a target with places for names
+placed_each : (db : Database) (arms : List Arm) → map (λ (a : BoundArm). a.placed) (map (bound_arm db) arms) ≡ map (placed_arm db) arms
+placed_each db [] = refl
+placed_each db (arm ∷ arms) = ap (λ (zs : List PlacedArm). placed_arm db arm ∷ zs) (placed_each db arms)
 
 -- one more target
 module _ (db : Database) (targets : List Target) (i : ℕ) (target : Target) (in_range : i < length targets) (is : target ≡ get_or targets i target) (bound : BoundTarget) (made : bound ≡ bound_target db target) where
@@ -87,9 +97,12 @@ module _ (db : Database) (targets : List Target) (i : ℕ) (target : Target) (in
   units_more so_far more all e own joined =
       joined ∙ ap₂ (λ (us vs : List Unit). us ++ vs) e (own ∙ ap (λ (b : BoundTarget). arm_units i b.arms) made) ∙ sym (blocks_more (units_of_target db) targets i target in_range is)
 
+  pub placed_more : (placed : List PlacedArm) → placed ≡ map (λ (a : BoundArm). a.placed) bound.arms → placed ≡ map (placed_arm db) target.arms
+  placed_more placed e = e ∙ ap (λ (b : BoundTarget). map (λ (a : BoundArm). a.placed) b.arms) made ∙ placed_each db target.arms
+
   pub few_arms : (most : ℕ) → length (flat_map (λ t. t.arms) targets) ≤ most → length bound.arms ≤ most
   few_arms most few =
       let here = block_within targets i target in_range is in
       let same = ap (λ (b : BoundTarget). length b.arms) made in
-      let count = length-map (bound_arm db) target.arms in
+      let count = length-map target.arms (bound_arm db) in
       omega arith

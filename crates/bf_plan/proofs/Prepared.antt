@@ -1,5 +1,5 @@
 -- A statement made ready: bound, but for a MIGRATE outside a block, which is planned.
-use Rattle.std.proofs.Common.{◌≡◌, ℕ, Bool, true, false, not, List, [], ◌∷◌, Option, Some, Result, Ok, Err, refl, sym, ap, ◌∙◌}
+use Rattle.std.proofs.Common.{◌≡◌, Bool, true, false, List, [], ◌∷◌, Some, Result, refl, sym, ap, ◌∙◌}
 use Rattle.std.specs.Option.{option_map}
 use Rattle.bf_tree.specs.declared.bound.Action.{Action}
 use Rattle.bf_tree.specs.declared.bound.Action.TheVariants as action
@@ -9,11 +9,11 @@ use Rattle.bf_tree.specs.declared.plan.Plan.{Plan}
 use Rattle.bf_tree.specs.declared.reply.Refusal.{Refusal}
 use Rattle.bf_tree.specs.declared.statement.Statement.{Statement}
 use Rattle.bf_tree.specs.declared.statement.Statement.TheVariants.{CreateTable, CreateIndex, Insert, Select, Update, Delete, Begin, Commit, Rollback, Migrate}
-use Rattle.bf_sql.specs.Bound.{bound_of, changes_schema, is_planned}
+use Rattle.bf_sql.specs.Bound.{bound_of, is_planned}
 use Rattle.bf_sql.specs.Bound as binding
 use Rattle.bf_sql.specs.Database.{Database}
 use Rattle.bf_sql.specs.migrations.MigrationObjections.{migrate_objections}
-use Rattle.bf_sql.specs.migrations.Plans.{plan_made, plan_of, prepared_of, unless_objected}
+use Rattle.bf_sql.specs.migrations.Plans.{plan_made, plan_of, planned_unless, prepared_of}
 use Rattle.bf_plan.specs.Prepared.{action_planned}
 
 -- what is not planned is bound
@@ -48,7 +48,7 @@ unplanned false Rollback other = refl
 unplanned false (Migrate m) other = absurd (other m refl)
 
 -- the first objection, or the plan
-action-planned : (rs : List Refusal) (plan : Plan) → binding.unless_objected rs (Some (action.Migrate plan)) ≡ Some (action_planned (unless_objected rs plan))
+action-planned : (rs : List Refusal) (plan : Plan) → binding.unless_objected rs (Some (action.Migrate plan)) ≡ Some (action_planned (planned_unless rs plan))
 action-planned [] plan = refl
 action-planned (r ∷ rs) plan = refl
 

@@ -1,5 +1,5 @@
 -- The tables of an arm.
-use Rattle.std.proofs.Common.{◌≡◌, ℕ, ◌+◌, Bool, true, false, not, List, [], ◌∷◌, ◌++◌, map, length, Option, Some, None, is_some, unwrap_or, refl, sym, ap, ap₂, ◌∙◌, arith}
+use Rattle.std.proofs.Common.{◌≡◌, ℕ, ◌+◌, false, not, List, [], ◌∷◌, ◌++◌, map, length, Option, Some, None, is_some, unwrap_or, refl, sym, ap, ap₂, ◌∙◌, arith}
 use Rattle.std.specs.List.{flat_map}
 use Rattle.std.specs.Option.{option_map}
 use Rattle.std.proofs.lemmas.List.{append-nil, map-append}
@@ -18,7 +18,7 @@ use Rattle.bf_sql.specs.Bound.{without_rows, table_without_rows}
 use Rattle.bf_sql.specs.Database.{Database, Stored, no_table, stored_at, table_at}
 use Rattle.bf_sql.specs.Scopes.{Scope, scope_of, twice_objections}
 use Rattle.bf_sql.specs.migrations.MigrationObjections.{source_objections}
-use Rattle.bf_sql.specs.migrations.Targets.{arm_scope, arm_sources, names_of_join}
+use Rattle.bf_sql.specs.migrations.Targets.{arm_sources, names_of_join}
 use Rattle.bf_base.proofs.Parts.{map_itself}
 use Rattle.bf_bind.proofs.Lookups.{stored-named}
 use Rattle.bf_plan.specs.Arms.{arm_tables, both_tables, one_table, tables_objections}
@@ -75,9 +75,6 @@ module _ (db : Database) (arm : Arm) where
       module _ (known_too : source_objections db join.table ≡ []) where
         twice_left : tables_objections db arm ≡ twice_objections (join.table ∷ []) arm.from
         twice_left = joined_left ∙ ap (λ (rs : List Refusal). (rs ++ []) ++ twice_objections (join.table ∷ []) arm.from) known_too
-
-        pub one_twice : same_name arm.from join.table ≡ true → first_of (tables_objections db arm) ≡ Some (refusal.NameTwice arm.from)
-        one_twice same = ap first_of twice_left ∙ rw same refl
 
         pub joined_unobjected : same_name arm.from join.table ≡ false → tables_objections db arm ≡ []
         joined_unobjected other = twice_left ∙ rw other refl

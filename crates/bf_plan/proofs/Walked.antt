@@ -1,12 +1,11 @@
 -- Lists that are walked item by item.
-use Rattle.std.proofs.Common.{◌≡◌, ℕ, zero, suc, ◌+◌, ◌<◌, ◌≤◌, Bool, true, false, not, ◌&&◌, ◌||◌, cond, List, [], ◌∷◌, ◌++◌, map, length, get_or, take, drop, Option, Some, None, position, refl, sym, ap, ◌∙◌, arith, nat_eq}
-use Rattle.std.specs.List.{flat_map, list_all, list_any, position_from, enumerate_from, fold}
-use Rattle.std.proofs.lemmas.Bool.{and_parts, and_from}
+use Rattle.std.proofs.Common.{◌≡◌, ℕ, zero, suc, ◌+◌, ◌<◌, Bool, true, cond, List, [], ◌∷◌, ◌++◌, map, length, get_or, take, drop, Some, position, refl, sym, ap, ap₂, ◌∙◌, arith}
+use Rattle.std.specs.List.{flat_map, list_all, position_from, enumerate_from}
+use Rattle.std.proofs.lemmas.Bool.{and_parts}
 use Rattle.std.proofs.lemmas.Iterator.Adapters.{position_from-zero}
-use Rattle.std.proofs.lemmas.List.{append-nil, drop_more, length-take, take_more, map-append}
+use Rattle.std.proofs.lemmas.List.{append-nil, drop_more, length-take, map_more, take_more, map-append}
 use Rattle.std.proofs.lemmas.List.Concat.{flat_map-append}
-use Rattle.std.proofs.lemmas.List.Sums.{fold-append}
-use Rattle.bf_base.specs.Lists.{with_before, with_before_from}
+use Rattle.bf_base.specs.Lists.{with_before_from}
 
 module _ {X : Type 0} where
   -- an item passes what all pass
@@ -19,16 +18,6 @@ module _ {X : Type 0} where
   module _ (q : List X × X → Bool) (xs : List X) where
     abbrev pub left_to_pass : ℕ → Bool
     left_to_pass i = list_all q (with_before_from (take i xs) (drop i xs))
-
-    left_more : (i : ℕ) (x : X) → i < length xs → x ≡ get_or xs i x → left_to_pass i ≡ (q (take i xs, x) && left_to_pass (i + 1))
-    left_more i x in_range is = rw (drop_more xs i x in_range, take_more xs i x in_range, ← is)
-
-    module _ (i : ℕ) (so_far : list_all q (with_before xs) ≡ left_to_pass i) (x : X) (in_range : i < length xs) (is : x ≡ get_or xs i x) where
-      pub passes_on : q (take i xs, x) ≡ true → list_all q (with_before xs) ≡ left_to_pass (i + 1)
-      passes_on e = so_far ∙ left_more i x in_range is ∙ ap (λ b. b && left_to_pass (i + 1)) e
-
-      pub fails_here : q (take i xs, x) ≡ false → list_all q (with_before xs) ≡ false
-      fails_here e = so_far ∙ left_more i x in_range is ∙ ap (λ b. b && left_to_pass (i + 1)) e
 
 module _ {X Y : Type 0} where
   position_from-map : (p : Y → Bool) (f : X → Y) (k : ℕ) (xs : List X) → position_from p k (map f xs) ≡ position_from (λ x. p (f x)) k xs
@@ -43,10 +32,16 @@ module _ {X Y : Type 0} where
       let one : take (i + 1) xs ≡ take i xs ++ (x ∷ []) = rw (take_more xs i x in_range, ← is) refl in
       ap (flat_map f) one ∙ flat_map-append f (take i xs) (x ∷ []) ∙ ap (λ zs. flat_map f (take i xs) ++ zs) (append-nil (f x))
 
-  -- names gathered from the items so far
-  pub fold_more : {A : Type 0} (g : A → Y → A) (f : X → List Y) (a : A) (xs : List X) (i : ℕ) (x : X) → i < length xs → x ≡ get_or xs i x
-      → fold g a (flat_map f (take (i + 1) xs)) ≡ fold g (fold g a (flat_map f (take i xs))) (f x)
-  fold_more g f a xs i x in_range is = ap (fold g a) (flat_map_more f xs i x in_range is) ∙ fold-append g a (flat_map f (take i xs)) (f x)
+  -- one item more that nothing is objected to, and what is made of it
+  pub passes : (f : X → List Y) (xs : List X) (i : ℕ) (x : X) → i < length xs → x ≡ get_or xs i x → f x ≡ [] → (all : List Y) → all ≡ flat_map f (drop i xs) → all ≡ flat_map f (drop (i + 1) xs)
+  passes f xs i x in_range is none all so_far =
+      let more : flat_map f (drop i xs) ≡ f x ++ flat_map f (drop (i + 1) xs) = rw (drop_more xs i x in_range, ← is) refl in
+      so_far ∙ more ∙ ap (λ (ys : List Y). ys ++ flat_map f (drop (i + 1) xs)) none
+
+  pub made_of_more : (f : X → Y) (xs : List X) (i : ℕ) (x : X) → i < length xs → x ≡ get_or xs i x → (so_far more : List Y) (y : Y)
+      → so_far ≡ map f (take i xs) → more ≡ so_far ++ y ∷ [] → y ≡ f x → more ≡ map f (take (i + 1) xs)
+  made_of_more f xs i x in_range is so_far more y e made same =
+      made ∙ ap₂ (λ (ys : List Y) (z : Y). ys ++ z ∷ []) e (same ∙ ap f is) ∙ sym (map_more f xs i x in_range)
 
 enumerate_from-one_more : {X : Type 0} (n : ℕ) (xs : List X) (x : X) → enumerate_from n (xs ++ x ∷ []) ≡ enumerate_from n xs ++ (n + length xs, x) ∷ []
 enumerate_from-one_more {X = X} n [] x =
@@ -69,8 +64,3 @@ module _ {X : Type 0} where
   pub blocks_more : {Y : Type 0} (g : ℕ × X → List Y) (xs : List X) (i : ℕ) (x : X) → i < length xs → x ≡ get_or xs i x → flat_map g (enumerate_from 0 (take (i + 1) xs)) ≡ flat_map g (enumerate_from 0 (take i xs)) ++ g (i, x)
   blocks_more g xs i x in_range is =
       ap (flat_map g) (enumerated_more xs i x in_range is) ∙ flat_map-append g (enumerate_from 0 (take i xs)) ((i, x) ∷ []) ∙ ap (λ zs. flat_map g (enumerate_from 0 (take i xs)) ++ zs) (append-nil (g (i, x)))
-
--- names gathered from one more item
-pub gathered_more : {A X Y : Type 0} (g : A → Y → A) (f : X → List Y) (a : A) (xs : List X) (i : ℕ) (x : X) → i < length xs → x ≡ get_or xs i x → (so_far more : A)
-    → so_far ≡ fold g a (flat_map f (take i xs)) → more ≡ fold g so_far (f x) → more ≡ fold g a (flat_map f (take (i + 1) xs))
-gathered_more {A = A} g f a xs i x in_range is so_far more e made = made ∙ ap (λ (b : A). fold g b (f x)) e ∙ sym (fold_more g f a xs i x in_range is)

@@ -1,11 +1,11 @@
 -- Items as they are bound in the columns of their arm.
-use Rattle.std.specs.Prelude.{ℕ, ℤ, Bool, true, false, List, map, Option, Some, None, option_map, unwrap_or}
+use Rattle.std.specs.Prelude.{ℕ, ℤ, true, false, List, Option, Some, None, option_map, unwrap_or}
 use Rattle.bf_base.specs.declared.table.Column.{Column}
 use Rattle.bf_base.specs.declared.table.Kind.{Kind}
 use Rattle.bf_base.specs.declared.table.Kind.TheVariants as kinds
 use Rattle.bf_base.specs.declared.value.Value.TheVariants.{Int}
 use Rattle.bf_base.specs.Tables.{kind_admitted, kind_of}
-use Rattle.bf_tree.specs.Trees.{Expr, literal, column, negated, plus, minus, times, joined}
+use Rattle.bf_tree.specs.Trees.{Expr, literal, column, joined}
 use Rattle.bf_tree.specs.declared.items.Aggregate.{Aggregate}
 use Rattle.bf_tree.specs.declared.items.Aggregate.TheVariants.{Count, Sum, Min, Max}
 use Rattle.bf_tree.specs.declared.migration.Item.{Item}

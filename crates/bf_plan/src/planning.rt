@@ -68,8 +68,9 @@ fn bind_targets(
     for (index, target) in targets.iter().enumerate() {
         let bound = bind_target(alloc, catalog, target)?;
         let more = arm_units(alloc, index as u8, bound.arms.as_slice())?;
-        arms.push(placed_arms(alloc, bound.arms.as_slice())?)?;
+        let placed = placed_arms(alloc, bound.arms.as_slice())?;
         tables.push(bound.table)?;
+        arms.push(placed)?;
         let all = with_units(units, more)?;
         units = all;
     }

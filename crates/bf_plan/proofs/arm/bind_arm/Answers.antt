@@ -1,4 +1,4 @@
-use Rattle.std.proofs.Common.{◌≡◌, ◌≤◌, length, ap, ◌∙◌, arith}
+use Rattle.std.proofs.Common.{length, ap, ◌∙◌, arith}
 use Rattle.std.proofs.lemmas.List.{length-map}
 use Rattle.bf_tree.specs.Settling.{first_of}
 use Rattle.bf_tree.proofs.Settling.{first_ahead, handed_on}
@@ -23,8 +23,8 @@ returns-in_err-parts c =
 
 pub completed-requires : goal.completed-requires
 completed-requires c =
-    let same = ap (λ (p : ArmParts). length p.items) c.in_ok-parts.ensures.1 in
-    let count = length-map (bound_item c.in_ok-tables.tables.scope) c.args.arm.now.items in
+    let same = ap (λ (p : ArmParts). length p.items.bound) c.in_ok-parts.ensures.1 in
+    let count = length-map c.args.arm.now.items (bound_item c.in_ok-tables.tables.scope) in
     omega arith
 
 pub returns : goal.returns

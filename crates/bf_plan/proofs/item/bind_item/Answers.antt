@@ -1,6 +1,5 @@
-use Rattle.std.proofs.Common.{◌≡◌, ℕ, ap, ap₂, ◌∙◌}
-use Rattle.bf_tree.specs.Trees.{Expr, column}
-use Rattle.bf_tree.specs.declared.items.Aggregate.{Aggregate}
+use Rattle.std.proofs.Common.{ap, ap₂, ◌∙◌}
+use Rattle.bf_tree.specs.Trees.{column}
 use Rattle.bf_tree.specs.declared.plan.PlacedItem.{PlacedItem}
 use Rattle.bf_tree.specs.declared.plan.PlacedItem.TheVariants as placed
 use Rattle.bf_bind.specs.declared.expression.BoundExpr.{BoundExpr}

@@ -1,4 +1,4 @@
-use Rattle.std.proofs.Common.{◌≡◌, ℕ, List, [], map, take, sym, ap, subst, ◌∙◌}
+use Rattle.std.proofs.Common.{List, take, sym, subst, ◌∙◌}
 use Rattle.std.proofs.lemmas.Grind.{common_steps}
 use Rattle.std.proofs.Common.{arith}
 use Rattle.bf_tree.specs.Settling.{Settles}

@@ -1,8 +1,5 @@
-use Rattle.std.proofs.Common.{◌≡◌, Bool, true, false, Option, Some, sym, subst, refl}
-use Rattle.std.specs.Result.{IfOk}
-use Rattle.bf_tree.specs.declared.bound.Bound.{Bound}
-use Rattle.bf_sql.specs.Bound.{is_planned, without_rows}
-use Rattle.bf_plan.proofs.Prepared.{prepared-bound, unplanned, unplanned_in_block}
+use Rattle.std.proofs.Common.{true}
+use Rattle.bf_plan.proofs.Prepared.{unplanned, unplanned_in_block}
 use Rattle.bf_plan.proofs.preparing.prepare.Goals as goal
 
 pub bind-requires-clause-alone : goal.bind-requires-clause-alone

@@ -1,4 +1,4 @@
-use Rattle.std.proofs.Common.{◌∙◌, ap}
+use Rattle.std.proofs.Common.{◌∙◌}
 use Rattle.bf_plan.proofs.Tables.{key_itself}
 use Rattle.bf_plan.proofs.source.alone.Goals as goal
 

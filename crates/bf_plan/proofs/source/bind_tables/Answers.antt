@@ -1,11 +1,11 @@
-use Rattle.std.proofs.Common.{◌≡◌, None, Some, Option, ap, sym, refl, rules, ◌∙◌}
+use Rattle.std.proofs.Common.{◌≡◌, None, Some, Option, ap, sym, refl, ◌∙◌}
 use Rattle.bf_base.specs.declared.table.Table.{Table}
 use Rattle.bf_sql.specs.Bound.{without_rows}
 use Rattle.bf_sql.specs.Database.{table_at}
 use Rattle.bf_tree.specs.declared.migration.Join.{Join}
 use Rattle.bf_tree.proofs.Settling.{handed_on}
 use Rattle.bf_plan.specs.Arms.{both_tables, one_table}
-use Rattle.bf_plan.proofs.Tables.{alone_is, alone_unobjected, from_first, join_first, joined_is, joined_unobjected, one_twice}
+use Rattle.bf_plan.proofs.Tables.{alone_is, alone_unobjected, from_first, join_first, joined_is, joined_unobjected}
 use Rattle.bf_plan.proofs.source.bind_tables.Goals as goal
 
 no_join : (join : Option Join) → ((j : Join) → join ≡ Some j → ⊥) → join ≡ None

@@ -1,4 +1,4 @@
-use Rattle.std.proofs.Common.{◌+◌, ℕ, List, map, ◌∙◌, ap, ap₂, ◌++◌}
+use Rattle.std.proofs.Common.{◌+◌, ℕ, List, map, ◌∙◌, ap₂, ◌++◌}
 use Rattle.bf_base.specs.declared.table.Column.{Column}
 use Rattle.bf_plan.proofs.Tables.{key_itself}
 use Rattle.bf_plan.proofs.source.joined.Goals as goal

@@ -1,4 +1,4 @@
-use Rattle.std.proofs.Common.{◌≡◌, ap, ◌∙◌}
+use Rattle.std.proofs.Common.{ap, ◌∙◌}
 use Rattle.bf_tree.specs.Settling.{first_of}
 use Rattle.bf_tree.proofs.Settling.{first_ahead, handed_on}
 use Rattle.bf_sql.specs.Bound.{without_rows}
