@@ -1,5 +1,5 @@
 -- Items as they are bound in the columns of their arm.
-use Rattle.std.specs.Prelude.{ℕ, ℤ, true, false, List, Option, Some, None, option_map, unwrap_or}
+use Rattle.std.specs.Prelude.{ℕ, ℤ, true, false, List, map, Option, Some, None, option_map, unwrap_or}
 use Rattle.bf_base.specs.declared.table.Column.{Column}
 use Rattle.bf_base.specs.declared.table.Kind.{Kind}
 use Rattle.bf_base.specs.declared.table.Kind.TheVariants as kinds

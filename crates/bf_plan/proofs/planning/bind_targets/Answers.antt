@@ -41,9 +41,9 @@ loop-index-preserved c =
           c.loop-index.tables.items c.push.new.self.items c.in_ok-bound.bound.table c.loop-index.invariant.tables c.in_ok-push.ensures.items (ap (λ (b : BoundTarget). b.table) c.in_ok-bound.ensures.1);
       arms =
           made_of_more (λ (t : Target). map (placed_arm (without_rows c.args.catalog.now)) t.arms) c.args.migrate.now.targets c.loop-index.index c.index-targets-index.result in_range is
-          c.loop-index.arms.items c.push-2.new.self.items c.in_ok-placed.placed c.loop-index.invariant.arms c.in_ok-push-2.ensures.items
+          c.loop-index.arms.items c.push-in-loop-index.new.self.items c.in_ok-placed.placed c.loop-index.invariant.arms c.in_ok-push-2.ensures.items
           (placed_more (without_rows c.args.catalog.now) c.args.migrate.now.targets c.loop-index.index c.index-targets-index.result in_range is c.in_ok-bound.bound c.in_ok-bound.ensures.1
-          c.in_ok-placed.placed (rw c.as_slice-2.ensures at c.in_ok-placed.ensures));
+          c.in_ok-placed.placed (rw c.as_slice-in-loop-index.ensures at c.in_ok-placed.ensures));
       units =
           units_more (without_rows c.args.catalog.now) c.args.migrate.now.targets c.loop-index.index c.index-targets-index.result in_range is c.in_ok-bound.bound c.in_ok-bound.ensures.1
           c.loop-index.units.items c.in_ok-more.more.items _ c.loop-index.invariant.units (rw c.as_slice.ensures at c.in_ok-more.ensures) c.in_ok-all.ensures;
