@@ -26,6 +26,7 @@ pub(crate) struct BoundItem {
     pub(crate) is_total: bool,
 }
 
+/// What the column at a place admits, an INT where there is none.
 fn admitted(columns: &[Column], place: u8) -> Admit
     ensures { result ≡ admitted_at columns.now place }
 {
@@ -35,6 +36,7 @@ fn admitted(columns: &[Column], place: u8) -> Admit
     }
 }
 
+/// The kind of the values that a column admits.
 fn kind_admitted(admits: Admit) -> Kind
     ensures { result ≡ kind_admitted admits }
 {
@@ -44,6 +46,7 @@ fn kind_admitted(admits: Admit) -> Kind
     }
 }
 
+/// The kind of an expression's values.
 fn kind_at(expr: &Expr, columns: &[Column]) -> Kind
     ensures { result ≡ kind_at columns.now expr.now }
 {
@@ -55,6 +58,7 @@ fn kind_at(expr: &Expr, columns: &[Column]) -> Kind
     }
 }
 
+/// The kind of a total's value.
 fn kind_of_total(total: &Aggregate, columns: &[Column]) -> Kind
     ensures { result ≡ kind_of_total_at columns.now total.now }
 {
@@ -95,6 +99,7 @@ fn item_admit(place: Option<u8>, extent: Option<Extent>, columns: &[Column]) -> 
     }
 }
 
+/// An item that is an expression over the columns.
 fn judged(expr: &Expr, columns: &[Column]) -> BoundItem
     ensures { result ≡ judged columns.now expr.now }
 {
@@ -109,6 +114,7 @@ fn judged(expr: &Expr, columns: &[Column]) -> BoundItem
     }
 }
 
+/// An item that is a total over the columns.
 fn judged_total(total: &Aggregate, columns: &[Column]) -> BoundItem
     ensures { result ≡ judged_total columns.now total.now }
 {

@@ -150,6 +150,7 @@ fn has_all(on: &[u8], key: &[usize]) -> bool
     key.iter().all(|place| is_among(*place, on))
 }
 
+/// How an arm of two tables makes rows, by the places that ON names.
 fn kind_of_join(on: &[u8], tables: &ArmTables) -> ArmKind
     ensures { result ≡ kind_told (kind_by false true
         (list_all (has nat_eq on.now) tables.now.join_key)
@@ -232,7 +233,8 @@ fn key_item(items: &[BoundItem], place: usize) -> Option<u8>
     }
 }
 
-/// For each key column, the first item that gives it, if there is one.
+/// For each key column, the first item that gives it, if there is one. Each is looked for among the items,
+/// which are at most 16.
 pub(crate) fn key_items(
     alloc: Global,
     items: &[BoundItem],
