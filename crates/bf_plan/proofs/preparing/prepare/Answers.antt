@@ -1,4 +1,3 @@
-use Rattle.std.proofs.Common.{true}
 use Rattle.bf_plan.proofs.Prepared.{unplanned, unplanned_in_block}
 use Rattle.bf_plan.proofs.preparing.prepare.Goals as goal
 
