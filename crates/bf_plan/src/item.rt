@@ -34,6 +34,7 @@ pub(crate) struct BoundItems {
     pub(crate) placed: Sequence<PlacedItem>,
 }
 
+/// What the column at a place admits, an INT where there is none.
 fn admitted(columns: &[Column], place: u8) -> Admit
     ensures { result ≡ admitted_at columns.now place }
 {
@@ -43,6 +44,7 @@ fn admitted(columns: &[Column], place: u8) -> Admit
     }
 }
 
+/// The kind of the values that a column admits.
 fn kind_admitted(admits: Admit) -> Kind
     ensures { result ≡ kind_admitted admits }
 {
@@ -52,6 +54,7 @@ fn kind_admitted(admits: Admit) -> Kind
     }
 }
 
+/// The kind of an expression's values.
 fn kind_at(expr: &Expr, columns: &[Column]) -> Kind
     ensures { result ≡ kind_at columns.now expr.now }
 {
@@ -63,6 +66,7 @@ fn kind_at(expr: &Expr, columns: &[Column]) -> Kind
     }
 }
 
+/// The kind of a total's value.
 fn kind_of_total(total: &Aggregate, columns: &[Column]) -> Kind
     ensures { result ≡ kind_of_total_at columns.now total.now }
 {
@@ -103,6 +107,7 @@ fn item_admit(place: Option<u8>, extent: Option<Extent>, columns: &[Column]) -> 
     }
 }
 
+/// An item that is an expression over the columns.
 fn judged(expr: &Expr, columns: &[Column]) -> BoundItem
     ensures { result ≡ judged columns.now expr.now }
 {
@@ -117,6 +122,7 @@ fn judged(expr: &Expr, columns: &[Column]) -> BoundItem
     }
 }
 
+/// An item that is a total over the columns.
 fn judged_total(total: &Aggregate, columns: &[Column]) -> BoundItem
     ensures { result ≡ judged_total columns.now total.now }
 {

@@ -147,8 +147,7 @@ pub(crate) fn bind_group(
 fn is_on(on: &[(u8, u8)], place: usize) -> bool
     ensures { result ≡ is_on on.now place }
 {
-    on.iter()
-        .any(|pair| place == pair.0 as usize || place == pair.1 as usize)
+    on.iter().any(|pair| place == pair.0 as usize || place == pair.1 as usize)
 }
 
 /// Whether ON names each place of a key.
@@ -158,6 +157,7 @@ fn has_all(on: &[(u8, u8)], key: &[usize]) -> bool
     key.iter().all(|place| is_on(on, *place))
 }
 
+/// How an arm of two tables makes rows, by the places that ON names.
 fn kind_of_join(on: &[(u8, u8)], tables: &ArmTables) -> ArmKind
     ensures { result ≡ kind_by false true
         (list_all (is_on on.now) tables.now.join_key)
@@ -174,11 +174,7 @@ fn kind_of_join(on: &[(u8, u8)], tables: &ArmTables) -> ArmKind
 }
 
 /// How an arm makes rows, by the places of ON, where there is a JOIN, and of GROUP BY.
-pub(crate) fn arm_kind(
-    tables: &ArmTables,
-    on: &Option<Sequence<(u8, u8)>>,
-    group: &[u8],
-) -> ArmKind
+pub(crate) fn arm_kind(tables: &ArmTables, on: &Option<Sequence<(u8, u8)>>, group: &[u8]) -> ArmKind
     ensures { result ≡ kind_by_places tables.now on.now group.now }
 {
     if !group.is_empty() {
@@ -242,7 +238,8 @@ fn key_item(items: &[BoundItem], place: usize) -> Option<u8>
     }
 }
 
-/// For each key column, the first item that gives it, if there is one.
+/// For each key column, the first item that gives it, if there is one. Each is looked for among the items,
+/// which are at most 16.
 pub(crate) fn key_items(
     alloc: Global,
     items: &[BoundItem],

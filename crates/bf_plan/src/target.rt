@@ -145,7 +145,8 @@ fn expect_new_name(alloc: Global, before: &[Item], item: &Item) -> Result<(), St
     }
 }
 
-/// The items of an arm have different names.
+/// The items of an arm have different names. Each is compared with those before it: an arm has at most 16
+/// items.
 ///
 /// # Errors
 /// The first name that stood before.
@@ -214,7 +215,7 @@ fn is_tagged_by(arms: &[BoundArm], tag: Option<i64>) -> bool
     arms.iter().any(|arm| tag == arm.tag)
 }
 
-/// Whether no two arms have one tag.
+/// Whether no two arms have one tag. Each tag is compared with those before it.
 fn are_tagged_apart(arms: &[BoundArm]) -> bool
     ensures { result ≡ are_tagged_apart arms.now }
 {

@@ -26,7 +26,7 @@ fn is_among(name: &Name, names: &[Name]) -> bool
     names.iter().any(|other| *name == *other)
 }
 
-/// Names with one more, if it is new.
+/// Names with one more, if it is new: it is compared with each.
 fn with_new(alloc: Global, mut names: Vec<Name>, name: &Name) -> Result<Vec<Name>, Memory>
     ensures { IfOk result (λ more. more.items ≡ with_new same_name names.items name.now) }
 {

@@ -26,7 +26,7 @@ returns-in_ok-bound-in-Named c =
 pub returns-in_ok-total-in-Total : goal.returns-in_ok-total-in-Total
 returns-in_ok-total-in-Total c =
     let judgement =
-        c.judged_total-judgement.ensures ∙ ap (judged_total c.args.columns.now) c.in_ok-total-in-Total.ensures.1 ∙ judged-total c.args.scope.now c.args.columns.now c.requires c.in-Total.raw c.in-Total.field-1 in
+    c.judged_total-judgement.ensures ∙ ap (judged_total c.args.columns.now) c.in_ok-total-in-Total.ensures.1 ∙ judged-total c.args.scope.now c.args.columns.now c.requires c.in-Total.raw c.in-Total.field-1 in
     let placed = ap placed.Total c.in_ok-total-in-Total.ensures.1 in
     rw c.in-Total.is
     (c.in_ok-total-in-Total.ensures.0, λ i. (judgement i, placed i))
