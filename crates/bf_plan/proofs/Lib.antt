@@ -1,0 +1,10 @@
+pub mod BoundArms
+pub mod BoundTargets
+pub mod Columns
+pub mod Items
+pub mod Joins
+pub mod NumberedArms
+pub mod Planned
+pub mod Prepared
+pub mod Tables
+pub mod Walked

@@ -1,0 +1,6 @@
+pub mod Arms
+pub mod Items
+pub mod Limits
+pub mod Prepared
+pub mod Targets
+pub mod Units
