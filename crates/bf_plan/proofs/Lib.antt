@@ -6,5 +6,6 @@ pub mod Joins
 pub mod NumberedArms
 pub mod Planned
 pub mod Prepared
+pub mod Seen
 pub mod Tables
 pub mod Walked
