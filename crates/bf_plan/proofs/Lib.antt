@@ -3,6 +3,7 @@ pub mod BoundTargets
 pub mod Columns
 pub mod Items
 pub mod Joins
+pub mod Named
 pub mod NumberedArms
 pub mod Planned
 pub mod Prepared
