@@ -13,9 +13,9 @@ use Rattle.bf_tree.specs.declared.plan.ArmKind.{ArmKind}
 use Rattle.bf_tree.specs.declared.plan.ArmKind.TheVariants.{ByFrom, ByJoin, ByPair, ByGroup}
 use Rattle.bf_sql.specs.Database.{Database}
 use Rattle.bf_sql.specs.Scopes.{place_of}
-use Rattle.bf_sql.specs.migrations.MigrationObjections.{inherits_key, is_by_group, is_grouped_item, tag_of}
+use Rattle.bf_sql.specs.migrations.MigrationObjections.{is_by_group, is_grouped_item, tag_of}
 use Rattle.bf_sql.specs.migrations.Placed.{placed_arm, placed_pair}
-use Rattle.bf_sql.specs.migrations.Targets.{arm_kind, arm_key, arm_scope, equalities, from_key, is_total, item_places, join_key, key_by, key_items, kind_by, plain_ref}
+use Rattle.bf_sql.specs.migrations.Targets.{arm_kind, arm_scope, equalities, from_key, is_total, item_places, join_key, key_by, kind_by, plain_ref}
 use Rattle.bf_plan.specs.Arms.{arm_of_kind, arm_of_parts, arm_tables, bound_arm, bound_parts, driver_of, inherits_by, is_grouped, is_on, key_item, key_places, kind_by_places, placed_on, unit_kind_of}
 use Rattle.bf_plan.specs.Items.{bound_item}
 use Rattle.bf_plan.specs.declared.item.BoundItem.{BoundItem}

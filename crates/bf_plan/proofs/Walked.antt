@@ -1,5 +1,5 @@
 -- Lists that are walked item by item.
-use Rattle.std.proofs.Common.{◌≡◌, ℕ, zero, suc, ◌+◌, ◌<◌, Bool, true, cond, List, [], ◌∷◌, ◌++◌, map, length, get_or, take, drop, Some, position, refl, sym, ap, ap₂, ◌∙◌, arith}
+use Rattle.std.proofs.Common.{◌≡◌, ℕ, zero, suc, ◌+◌, ◌<◌, Bool, true, ◌&&◌, cond, List, [], ◌∷◌, ◌++◌, map, length, get_or, take, drop, Some, position, refl, sym, ap, ap₂, ◌∙◌, arith}
 use Rattle.std.specs.List.{flat_map, list_all, position_from, enumerate_from}
 use Rattle.std.proofs.lemmas.Bool.{and_parts}
 use Rattle.std.proofs.lemmas.Iterator.Adapters.{position_from-zero}
@@ -18,6 +18,13 @@ module _ {X : Type 0} where
   module _ (q : List X × X → Bool) (xs : List X) where
     abbrev pub left_to_pass : ℕ → Bool
     left_to_pass i = list_all q (with_before_from (take i xs) (drop i xs))
+
+    left_more : (i : ℕ) (x : X) → i < length xs → x ≡ get_or xs i x → left_to_pass i ≡ (q (take i xs, x) && left_to_pass (i + 1))
+    left_more i x in_range is = rw (drop_more xs i x in_range, take_more xs i x in_range, ← is)
+
+    -- one item more that passes
+    pub one_passed : (i : ℕ) (x : X) → i < length xs → x ≡ get_or xs i x → q (take i xs, x) ≡ true → (all : Bool) → all ≡ left_to_pass i → all ≡ left_to_pass (i + 1)
+    one_passed i x in_range is here all so_far = so_far ∙ left_more i x in_range is ∙ ap (λ b. b && left_to_pass (i + 1)) here
 
 module _ {X Y : Type 0} where
   position_from-map : (p : Y → Bool) (f : X → Y) (k : ℕ) (xs : List X) → position_from p k (map f xs) ≡ position_from (λ x. p (f x)) k xs

@@ -1,5 +1,5 @@
 -- Arms as they are bound in a catalog, and their parts.
-use Rattle.std.specs.Prelude.{ℕ, ◌+◌, Bool, not, ◌&&◌, ◌||◌, List, [], ◌∷◌, ◌++◌, map, flat_map, length, Option, Some, option_map, unwrap_or, nat_eq, nat_lt, position, is_some}
+use Rattle.std.specs.Prelude.{ℕ, ◌+◌, Bool, not, ◌&&◌, ◌||◌, List, [], ◌++◌, map, flat_map, length, Option, Some, option_map, unwrap_or, nat_eq, nat_lt, position, is_some}
 use Rattle.std.specs.List.{list_any, list_all}
 use Rattle.std.specs.Option.{option_eq}
 use Rattle.bf_base.specs.declared.table.Table.{Table}

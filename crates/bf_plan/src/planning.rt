@@ -113,8 +113,9 @@ fn bind_migrate(alloc: Global, migrate: &Migrate, catalog: &Catalog) -> Result<P
 
 /// A MIGRATE planned in a catalog: the first of the catalog's objections to it, or else its plan. No row is
 /// looked at: what a plan costs is told by the statement and the columns of its tables. Each table is looked
-/// up by about log n compares of names, and each ref is compared with the columns of its arm. The tags of a
-/// target's arms are compared two by two, and each table of an arm with those named before.
+/// up by about log n compares of names, and each ref is compared with the columns of its arm. The tag of an
+/// arm is looked up among those before it, and each table of an arm among those named before, by about log n
+/// compares each.
 ///
 /// # Errors
 /// Memory ran out.

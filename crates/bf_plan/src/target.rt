@@ -14,7 +14,7 @@ ghost use Rattle.bf_sql.specs.Bound.{without_rows};
 ghost use Rattle.bf_sql.specs.migrations.MigrationObjections.{target_objections};
 ghost use Rattle.bf_sql.specs.migrations.Targets.{either_admit, first_arm, item_name};
 ghost use Rattle.bf_plan.specs.Limits.{has_small_arms};
-ghost use Rattle.bf_plan.specs.Targets.{admits_at, are_tagged_apart, bound_target, columns_of, failing, failing_in, first_items, first_key, gives_key, has_one_key, is_miscounted, is_misfit, is_named, is_tagged, key_of_arms, keeps_apart_by, name_objections, names_objections, objections_behind, table_of_arms, tagged_by, with_admit, with_given, key_before};
+ghost use Rattle.bf_plan.specs.Targets.{admits_at, are_tagged_apart, bound_target, columns_of, failing, failing_in, first_items, first_key, gives_key, has_one_key, is_miscounted, is_misfit, is_named, is_tagged, key_of_arms, keeps_apart_by, name_objections, names_objections, objections_behind, table_of_arms, with_admit, with_given, key_before};
 
 use crate::arm::{BoundArm, bind_arms};
 use crate::item::BoundItem;
@@ -22,6 +22,7 @@ use bf_base::{Admit, Column, Memory, Name, Sequence, Table};
 use bf_bind::is_same_kind;
 use bf_tree::{Catalog, Item, Refusal, StatementError, Target, UnitKind};
 use std::alloc::Global;
+use std::collections::BTreeSet;
 
 /// A target in a catalog: the table that it becomes, and its arms.
 #[derive(Drop)]
@@ -208,23 +209,17 @@ fn is_tagged(arm: &BoundArm) -> bool
     }
 }
 
-/// Whether one of some arms has a tag.
-fn is_tagged_by(arms: &[BoundArm], tag: Option<i64>) -> bool
-    ensures { result ≡ tagged_by arms.now tag }
+/// Whether no two arms have one tag. Each tag is looked up among those before it, by about log n compares.
+fn are_tagged_apart(alloc: Global, arms: &[BoundArm]) -> Result<bool, Memory>
+    ensures { IfOk result (λ apart. apart ≡ are_tagged_apart arms.now) }
 {
-    arms.iter().any(|arm| tag == arm.tag)
-}
-
-/// Whether no two arms have one tag. Each tag is compared with those before it.
-fn are_tagged_apart(arms: &[BoundArm]) -> bool
-    ensures { result ≡ are_tagged_apart arms.now }
-{
-    for (index, arm) in arms.iter().enumerate() {
-        if is_tagged_by(&arms[..index], arm.tag) {
-            return false;
+    let mut seen = BTreeSet::new(alloc);
+    for arm in arms {
+        if !seen.insert(arm.tag)? {
+            return Ok(false);
         }
     }
-    true
+    Ok(true)
 }
 
 /// Whether an arm has given key items.
@@ -236,7 +231,8 @@ fn has_key(key: &[Option<u8>], arm: &BoundArm) -> bool
 
 /// Whether each arm has given key items.
 fn all_have_key(key: &[Option<u8>], arms: &[BoundArm]) -> bool
-    ensures { result ≡ list_all (λ arm. pointwise (option_eq nat_eq) key.now arm.key_items) arms.now }
+    ensures { result
+        ≡ list_all (λ arm. pointwise (option_eq nat_eq) key.now arm.key_items) arms.now }
 {
     arms.iter().all(|arm| has_key(key, arm))
 }
@@ -256,10 +252,14 @@ fn are_tagged(arms: &[BoundArm]) -> bool
 }
 
 /// Whether the rows of several arms keep apart.
-fn keeps_apart(arms: &[BoundArm]) -> bool
-    ensures { result ≡ keeps_apart_by arms.now }
+fn keeps_apart(alloc: Global, arms: &[BoundArm]) -> Result<bool, Memory>
+    ensures { IfOk result (λ apart. apart ≡ keeps_apart_by arms.now) }
 {
-    are_tagged(arms) && are_tagged_apart(arms) && has_one_key(arms)
+    if !are_tagged(arms) {
+        return Ok(false);
+    }
+    let apart = are_tagged_apart(alloc, arms)?;
+    Ok(apart && has_one_key(arms))
 }
 
 /// Whether each arm gives its key.
@@ -270,10 +270,16 @@ fn all_inherit(arms: &[BoundArm]) -> bool
 }
 
 /// Whether the arms give their target a key.
-fn gives_key(arms: &[BoundArm]) -> bool
-    ensures { result ≡ gives_key arms.now }
+fn gives_key(alloc: Global, arms: &[BoundArm]) -> Result<bool, Memory>
+    ensures { IfOk result (λ gives. gives ≡ gives_key arms.now) }
 {
-    all_inherit(arms) && (arms.len() < 2 || keeps_apart(arms))
+    if !all_inherit(arms) {
+        return Ok(false);
+    }
+    if arms.len() < 2 {
+        return Ok(true);
+    }
+    keeps_apart(alloc, arms)
 }
 
 /// The arms of a target give it a key.
@@ -281,7 +287,7 @@ fn expect_key(alloc: Global, target: &Name, arms: &[BoundArm]) -> Result<(), Sta
     ensures { Settles result
         (when (not (gives_key arms.now)) (refusal.KeyNotInherited target.now)) tt }
 {
-    if gives_key(arms) {
+    if gives_key(alloc, arms)? {
         Ok(())
     } else {
         Err(StatementError::Refused(Refusal::KeyNotInherited(target.copy(alloc)?)))

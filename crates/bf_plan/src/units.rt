@@ -1,6 +1,6 @@
 //! The sources of a MIGRATE, the units in which its rows move, and the names of its targets.
 
-ghost use Rattle.std.specs.Prelude.{◌≡◌, ◌≤◌, ◌++◌, IfOk, flat_map, fold, length, map, nat_lt};
+ghost use Rattle.std.specs.Prelude.{◌≡◌, ◌≤◌, [], ◌++◌, IfOk, flat_map, fold, length, nat_lt};
 ghost use Rattle.bf_base.specs.Distinct.{distinct, with_new};
 ghost use Rattle.bf_base.specs.Limits.{longest_script};
 ghost use Rattle.bf_base.specs.Lists.{has, same_name, when, with_before};
@@ -15,6 +15,8 @@ use crate::arm::BoundArm;
 use bf_base::{Memory, Name, Sequence};
 use bf_tree::{Arm, Catalog, Migrate, Refusal, StatementError, Target, Unit, UnitKind};
 use std::alloc::Global;
+use std::collections::BTreeSet;
+use std::marker::Model;
 
 /// The most tables that give their rows one by one.
 const MOST_DRIVERS: usize = 4;
@@ -26,21 +28,61 @@ fn is_among(name: &Name, names: &[Name]) -> bool
     names.iter().any(|other| *name == *other)
 }
 
-/// Names with one more, if it is new: it is compared with each.
-fn with_new(alloc: Global, mut names: Vec<Name>, name: &Name) -> Result<Vec<Name>, Memory>
-    ensures { IfOk result (λ more. more.items ≡ with_new same_name names.items name.now) }
-{
-    if is_among(name, names.as_slice()) {
-        return Ok(names);
+/// Names in the order in which they came, each once, and a set of them to look one up in. Contracts see
+/// the names.
+#[derive(Drop)]
+struct Names {
+    list: Vec<Name>,
+    seen: BTreeSet<Name>,
+}
+
+impl Model for Names {
+    ghost use Rattle.std.specs.Prelude.{List, ℕ};
+    ghost use Rattle.bf_plan.specs.Names.{AreSeen};
+
+    ghost Value = { List (List ℕ) };
+
+    ghost view = { λ names. names.list.items };
+
+    ghost invariant = { λ names. AreSeen names.list.items names.seen };
+}
+
+impl Names {
+    /// No names.
+    fn none(alloc: Global) -> Names
+        ensures { result ≡ [] }
+    {
+        Names {
+            list: Vec::new(alloc),
+            seen: BTreeSet::new(alloc),
+        }
     }
-    names.push(name.copy(alloc)?)?;
-    Ok(names)
+
+    /// The names.
+    fn into_list(self) -> Sequence<Name>
+        ensures { result ≡ self }
+    {
+        let Names { list, seen: _ } = self;
+        Sequence::of(list)
+    }
+}
+
+/// Names with one more, if it is new: it is looked up by about log n compares.
+fn with_new(alloc: Global, names: Names, name: &Name) -> Result<Names, Memory>
+    ensures { IfOk result (λ more. more ≡ with_new same_name names name.now) }
+{
+    let Names { mut list, mut seen } = names;
+    if seen.contains(name) {
+        return Ok(Names { list, seen });
+    }
+    seen.insert(name.copy(alloc)?)?;
+    list.push(name.copy(alloc)?)?;
+    Ok(Names { list, seen })
 }
 
 /// Names with those of an arm's tables.
-fn with_arm(alloc: Global, names: Vec<Name>, arm: &Arm) -> Result<Vec<Name>, Memory>
-    ensures { IfOk result (λ more.
-        more.items ≡ fold (with_new same_name) names.items (arm_sources arm.now)) }
+fn with_arm(alloc: Global, names: Names, arm: &Arm) -> Result<Names, Memory>
+    ensures { IfOk result (λ more. more ≡ fold (with_new same_name) names (arm_sources arm.now)) }
 {
     let names = with_new(alloc, names, &arm.from)?;
     match &arm.join {
@@ -50,9 +92,9 @@ fn with_arm(alloc: Global, names: Vec<Name>, arm: &Arm) -> Result<Vec<Name>, Mem
 }
 
 /// Names with those of the tables of a target's arms.
-fn with_target(alloc: Global, names: Vec<Name>, target: &Target) -> Result<Vec<Name>, Memory>
-    ensures { IfOk result (λ more. more.items
-        ≡ fold (with_new same_name) names.items (flat_map arm_sources target.now.arms)) }
+fn with_target(alloc: Global, names: Names, target: &Target) -> Result<Names, Memory>
+    ensures { IfOk result (λ more. more
+        ≡ fold (with_new same_name) names (flat_map arm_sources target.now.arms)) }
 {
     let mut names = names;
     for arm in target.arms.as_slice() {
@@ -65,11 +107,11 @@ fn with_target(alloc: Global, names: Vec<Name>, target: &Target) -> Result<Vec<N
 pub(crate) fn sources(alloc: Global, migrate: &Migrate) -> Result<Sequence<Name>, Memory>
     ensures { IfOk result (λ sources. sources ≡ sources_of migrate.now) }
 {
-    let mut names = Vec::new(alloc);
+    let mut names = Names::none(alloc);
     for target in migrate.targets.as_slice() {
         names = with_target(alloc, names, target)?;
     }
-    Ok(Sequence::of(names))
+    Ok(names.into_list())
 }
 
 /// An arm as a unit of its own.
@@ -99,9 +141,8 @@ pub(crate) fn arm_units(alloc: Global, target: u8, arms: &[BoundArm]) -> Result<
 }
 
 /// Names with the driver of a unit of rows, if it is new.
-fn with_driver(alloc: Global, names: Vec<Name>, unit: &Unit) -> Result<Vec<Name>, Memory>
-    ensures { IfOk result (λ more.
-        more.items ≡ fold (with_new same_name) names.items (driving unit.now)) }
+fn with_driver(alloc: Global, names: Names, unit: &Unit) -> Result<Names, Memory>
+    ensures { IfOk result (λ more. more ≡ fold (with_new same_name) names (driving unit.now)) }
 {
     match unit.kind {
         UnitKind::Rows => with_new(alloc, names, &unit.driver),
@@ -113,11 +154,11 @@ fn with_driver(alloc: Global, names: Vec<Name>, unit: &Unit) -> Result<Vec<Name>
 pub(crate) fn drivers(alloc: Global, units: &[Unit]) -> Result<Sequence<Name>, Memory>
     ensures { IfOk result (λ drivers. drivers ≡ distinct same_name (flat_map driving units.now)) }
 {
-    let mut names = Vec::new(alloc);
+    let mut names = Names::none(alloc);
     for unit in units {
         names = with_driver(alloc, names, unit)?;
     }
-    Ok(Sequence::of(names))
+    Ok(names.into_list())
 }
 
 /// At most four tables give their rows one by one.

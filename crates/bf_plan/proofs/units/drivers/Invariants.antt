@@ -6,4 +6,4 @@ use Rattle.bf_plan.specs.Units.{driving}
 use Rattle.bf_plan.proofs.units.drivers.Given as goal
 
 abbrev pub invariant-loop-unit : goal.invariant-loop-unit
-invariant-loop-unit l = l.names.items ≡ fold (with_new same_name) [] (flat_map driving (take l.unit-index l.units))
+invariant-loop-unit l = l.names ≡ fold (with_new same_name) [] (flat_map driving (take l.unit-index l.units))

@@ -6,4 +6,4 @@ use Rattle.bf_sql.specs.migrations.Targets.{arm_sources}
 use Rattle.bf_plan.proofs.units.with_target.Given as goal
 
 abbrev pub invariant-loop-arm : goal.invariant-loop-arm
-invariant-loop-arm l = l.names.items ≡ fold (with_new same_name) l.initial.names.items (flat_map arm_sources (take l.arm-index l.target.arms))
+invariant-loop-arm l = l.names ≡ fold (with_new same_name) l.initial.names (flat_map arm_sources (take l.arm-index l.target.arms))
