@@ -88,6 +88,12 @@ bound_behind start m now reached s n in_block bound was =
       keys = was.keys;
     }
 
+-- at the number, and in a block or outside, that are found now
+pub bound_at : (start : Database) (m : Machine) (s n place : ℕ) (block in_block : Bool) (bound : Bound) → n ≡ place → block ≡ in_block → WasBound start m s place in_block bound
+    → WasBound start m s n block bound
+bound_at start m s n place block in_block bound at same was =
+    subst (λ (k : ℕ). WasBound start m s k block bound) (sym at) (subst (λ (b : Bool). WasBound start m s place b bound) (sym same) was)
+
 -- a group is open that has a start number
 pub has_open : (m : Machine) (s : ℕ) (number : Option ℕ) → number ≡ option_map (λ (o : Open). o.start) (open_at m s) → is_none number ≡ false → is_some (open_at m s) ≡ true
 has_open m s number is some = of (open_at m s) (ap is_none (sym is) ∙ some)

@@ -69,7 +69,7 @@ fn exec_if_next<N: Opened>(
     if machine.is_in_block(session) != in_block {
         return Ok(None);
     }
-    exec_as_bound(alloc, machine, session, place, bound)
+    exec_as_bound(alloc, machine, session, next, bound)
 }
 
 /// Makes calls, and then replies to a statement as it was bound before them.
