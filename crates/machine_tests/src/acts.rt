@@ -189,7 +189,11 @@ fn seen_of(step: Step) -> Seen {
 }
 
 /// Whether a session's open group holds locks.
-pub fn are_covered<N: Opened>(machine: &Machine<N>, session: u32, locks: &[(LockName, Mode)]) -> bool
+pub fn are_covered<N: Opened>(
+    machine: &Machine<N>,
+    session: u32,
+    locks: &[(LockName, Mode)],
+) -> bool
     requires { IsPlace machine.now.script session }
     ensures { result ≡ true
         → All (λ lock. IsCovered machine.now session lock.0 lock.1) locks.now }

@@ -145,7 +145,11 @@ fn are_made<N: Opened>(
 }
 
 /// Makes calls one after the other, whatever comes of each.
-pub fn make_all<N: Opened>(alloc: Global, machine: &mut Machine<N>, calls: &[Act]) -> Result<(), Fail>
+pub fn make_all<N: Opened>(
+    alloc: Global,
+    machine: &mut Machine<N>,
+    calls: &[Act],
+) -> Result<(), Fail>
     requires { IsServable machine.old.script }
     ensures { IsBehind N.opening machine.old machine.new }
 {

@@ -89,9 +89,7 @@ fn exec_behind<N: Opened>(
 {
     let in_block = machine.is_in_block(session);
     make_all(alloc, machine, calls)?;
-    Ok(exec_if_next(
-        alloc, machine, session, place, in_block, bound,
-    )?)
+    Ok(exec_if_next(alloc, machine, session, place, in_block, bound)?)
 }
 
 /// Binds the next statement of a session's open group, makes calls, and then replies to it as it was

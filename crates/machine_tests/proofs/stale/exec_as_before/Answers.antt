@@ -25,4 +25,4 @@ exec_behind-requires-clause-was g c =
     let s = c.args.session in
     let stands : StandsAs m s (Statement c.in-Some-Statement.place) = rw c.in-Some-Statement.field-0-is at c.in-Some-Statement.ensures.stands in
     let some = has_open m s c.start.result c.start.ensures (sym c.is_none.ensures ∙ c.if-is_none.false) in
-    bound_now g.N.Opened.opening m c.stand_of.ensures.kept s c.in-Some-Statement.place stands some c.in_ok-bound.bound c.in_ok-bound.ensures.next
+    bound_now g.N.Opened.opening m c.in-Some-Statement.ensures.kept s c.in-Some-Statement.place stands some c.in_ok-bound.bound c.in_ok-bound.ensures.next

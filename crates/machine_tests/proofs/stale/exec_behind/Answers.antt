@@ -11,7 +11,7 @@ pub exec_if_next-requires-clause-was : goal.exec_if_next-requires-clause-was
 exec_if_next-requires-clause-was g c =
     let m : Machine = c.args.machine.now in
     let now : Machine = c.make_all.new.machine in
-    subst (λ (b : Bool). WasBound g.N.Opened.opening now c.args.session c.args.place b c.args.bound.now) (sym c.is_in_block.ensures)
+    subst (λ (b : Bool). WasBound g.N.Opened.opening now c.args.session c.args.place b c.args.bound.now) (sym c.is_in_block-in_block.ensures)
     (bound_behind g.N.Opened.opening m now c.make_all.ensures.reached c.args.session c.args.place (is_in_block m c.args.session) c.args.bound.now c.requires.was)
 
 pub exec_if_next-requires-clause-servable : goal.exec_if_next-requires-clause-servable
