@@ -1,8 +1,9 @@
 -- A statement that was bound before other calls is bound so still, after a prefix of the history, which has grown at its end.
-use Rattle.std.proofs.Common.{◌≡◌, ◌⊎◌, ℕ, ◌+◌, ◌-◌, ◌≤◌, Bool, true, false, List, [], ◌∷◌, ◌++◌, length, take, Option, Some, None, option_map, refl, sym, ap, subst, ◌∙◌, arith, inl, inr, append_assoc, append-nil}
+use Rattle.std.proofs.Common.{◌≡◌, ◌⊎◌, ℕ, ◌+◌, ◌-◌, ◌≤◌, Bool, true, false, not, List, [], ◌∷◌, ◌++◌, length, take, Option, Some, None, option_map, refl, sym, ap, subst, ◌∙◌, arith, inl, inr, append_assoc, append-nil}
 use Rattle.std.specs.Prelude.{IsSomeAnd, min, slice_index_or}
 use Rattle.std.specs.List.{All}
-use Rattle.std.specs.Option.{is_none, is_some, option_map_or}
+use Rattle.std.specs.Option.{is_some, option_map_or}
+use Rattle.std.proofs.Math.Bool.{beq}
 use Rattle.std.proofs.Math.Seq.{take-length}
 use Rattle.std.proofs.lemmas.Bool.{false≢true}
 use Rattle.std.proofs.lemmas.List.{take-append-le, take_min}
@@ -94,12 +95,19 @@ pub bound_at : (start : Database) (m : Machine) (s n place : ℕ) (block in_bloc
 bound_at start m s n place block in_block bound at same was =
     subst (λ (k : ℕ). WasBound start m s k block bound) (sym at) (subst (λ (b : Bool). WasBound start m s place b bound) (sym same) was)
 
+-- what was not found unlike is alike
+pub same_block : (now before : Bool) → not (beq now before) ≡ false → now ≡ before
+same_block true true alike = refl
+same_block false false alike = refl
+same_block true false alike = absurd (false≢true (sym alike))
+same_block false true alike = absurd (false≢true (sym alike))
+
 -- a group is open that has a start number
-pub has_open : (m : Machine) (s : ℕ) (number : Option ℕ) → number ≡ option_map (λ (o : Open). o.start) (open_at m s) → is_none number ≡ false → is_some (open_at m s) ≡ true
-has_open m s number is some = of (open_at m s) (ap is_none (sym is) ∙ some)
+pub has_open : (m : Machine) (s : ℕ) (number : Option ℕ) → number ≡ option_map (λ (o : Open). o.start) (open_at m s) → is_some number ≡ true → is_some (open_at m s) ≡ true
+has_open m s number is some = of (open_at m s) (ap is_some (sym is) ∙ some)
   where
-    of : (found : Option Open) → is_none (option_map (λ (o : Open). o.start) found) ≡ false → is_some found ≡ true
-    of None some = absurd (false≢true (sym some))
+    of : (found : Option Open) → is_some (option_map (λ (o : Open). o.start) found) ≡ true → is_some found ≡ true
+    of None some = absurd (false≢true some)
     of (Some o) some = refl
 
 module _ (start : Database) (m : Machine) (kept : IsKept start m) (s n : ℕ) (stands : StandsAs m s (AtStatement n)) (some : is_some (open_at m s) ≡ true) where

@@ -1,5 +1,5 @@
 -- What calls made of a machine: no event changes the script, so it stays one that is served.
-use Rattle.std.proofs.Common.{◌≡◌, ◌≢◌, ℕ, Bool, true, false, refl, sym, ap, subst, ◌∙◌, if◌then◌else◌, ◌==◌, arith, inl, inr}
+use Rattle.std.proofs.Common.{◌≡◌, ◌≢◌, ℕ, Bool, sym, ap, subst, ◌∙◌, if◌then◌else◌, ◌==◌, arith, inl, inr}
 use Rattle.std.proofs.lemmas.Bool.{cases_Bool}
 use Rattle.std.proofs.lemmas.Bool.Decides.{nat_tests}
 use Rattle.bf_tree.specs.declared.bound.Bound.{Bound}
@@ -7,13 +7,12 @@ use Rattle.bf_sql.specs.Database.{Database}
 use Rattle.bf_machine.specs.declared.stand.Step.{Step}
 use Rattle.bf_machine.specs.declared.stand.Step.TheVariants.{Replied, Stale}
 use Rattle.bf_machine.specs.interleaving.Calls.{HasReplied, step_of}
-use Rattle.bf_machine.specs.interleaving.Events.{Event, Reaches, at_once, one_more}
+use Rattle.bf_machine.specs.interleaving.Events.{Event, Reaches, at_once, executes, one_more, refuses}
 use Rattle.bf_machine.specs.interleaving.Kept.{IsKept}
 use Rattle.bf_machine.specs.interleaving.Machines.{Machine}
 use Rattle.bf_machine.specs.interleaving.Serving.{IsServable}
 use Rattle.bf_machine.proofs.served.Ending.{reached_script}
 use Rattle.bf_machine.proofs.served.Goes.{reaches_both}
-use Rattle.bf_machine.proofs.served.Replying.{replies_now}
 use Rattle.machine_tests.specs.Behind.{IsBehind}
 
 pub behind_both : (start : Database) (m now next : Machine) → IsBehind start m now → IsBehind start now next → IsBehind start m next
@@ -39,7 +38,10 @@ module _ (m next : Machine) (was : IsServable m.script) where
   served_behind_step {start = start} s kept bound step is stale replied = elim (cases_Bool (bound.catalog == m.db.number)) as (λ _. IsBehind start m next) [
     | inl same ↦
         let so : step ≡ Replied = is ∙ ap (λ (b : Bool). if b then Replied else Stale m.db.number) same in
-        behind start (replies_now m s kept bound next (replied so)).0
+        elim (replied so) as (λ _. IsBehind start m next) [
+          | inl executed ↦ served_behind {start = start} (executes s executed.0)
+          | inr refused ↦ served_behind {start = start} (refuses s refused)
+        ]
     | inr other ↦
         let apart : bound.catalog ≢ m.db.number = λ same. absurd (grind (arith, nat_tests, other, same)) in
         still_served (stale apart)
