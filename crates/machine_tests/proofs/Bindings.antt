@@ -1,5 +1,5 @@
 -- A statement that was bound before other calls is bound so still, after a prefix of the history, which has grown at its end.
-use Rattle.std.proofs.Common.{◌≡◌, ◌⊎◌, ℕ, ◌+◌, ◌-◌, ◌≤◌, Bool, true, false, not, List, [], ◌∷◌, ◌++◌, length, take, Option, Some, None, option_map, refl, sym, ap, subst, ◌∙◌, arith, inl, inr, append_assoc, append-nil}
+use Rattle.std.proofs.Common.{◌≡◌, ◌⊎◌, ℕ, ◌+◌, ◌-◌, Bool, true, false, not, List, [], ◌∷◌, ◌++◌, length, take, Option, Some, None, option_map, refl, sym, ap, subst, ◌∙◌, arith, inl, inr, append_assoc, append-nil}
 use Rattle.std.specs.Prelude.{IsSomeAnd, min, slice_index_or}
 use Rattle.std.specs.List.{All}
 use Rattle.std.specs.Option.{is_some, option_map_or}
@@ -22,7 +22,7 @@ use Rattle.bf_sql.specs.Database.{Database}
 use Rattle.bf_sql.specs.Footprints.{Lock, footprint_of}
 use Rattle.bf_sql.specs.Groups.{session_at}
 use Rattle.bf_sql.specs.History.{replayed}
-use Rattle.bf_live.specs.OpenGroups.{Holds, HoldsIn}
+use Rattle.bf_live.specs.OpenGroups.{HoldsIn}
 use Rattle.bf_live.proofs.locking.Writing.{bound_has_keys}
 use Rattle.bf_machine.specs.declared.stand.Stand.TheVariants.{Statement as AtStatement}
 use Rattle.bf_machine.specs.interleaving.Calls.{CanExec, CanRefuse, IsCovered, StandsAs, statements_at}

@@ -1,5 +1,5 @@
 -- The footprint is held where each of its locks is covered, and the reply is one more event.
-use Rattle.std.proofs.Common.{◌≡◌, List, Option, Some, refl, ap, subst, ◌∙◌}
+use Rattle.std.proofs.Common.{List, Option, refl, ap, subst, ◌∙◌}
 use Rattle.std.specs.Prelude.{IsSomeAnd, Ok}
 use Rattle.std.specs.List.{All, slice_index_or}
 use Rattle.bf_live.proofs.locking.Writing.{bound_has_keys}
