@@ -7,6 +7,7 @@ ghost use Rattle.bf_machine.specs.interleaving.Calls.{IsCovered, IsPlace, Stands
 ghost use Rattle.bf_machine.specs.interleaving.Kept.{IsKept};
 ghost use Rattle.bf_machine.specs.interleaving.Machines.{Open};
 ghost use Rattle.bf_machine.specs.interleaving.Serving.{IsBoundNext, IsServable, IsToLock};
+ghost use Rattle.machine_tests.specs.Behind.{IsBehind};
 
 use bf_base::Memory;
 use bf_locks::{LockAnswer, LockName, Mode};
@@ -60,7 +61,7 @@ fn is_session<N: Opened>(machine: &Machine<N>, session: u32) -> bool
 }
 
 /// Where a session stands, and `None` where it is none of the script's.
-fn stand_of<N: Opened>(machine: &Machine<N>, session: u32) -> Option<Stand>
+pub fn stand_of<N: Opened>(machine: &Machine<N>, session: u32) -> Option<Stand>
     ensures kept { IsKept N.opening machine.now }
     ensures place { IfSome result (λ stand. IsPlace machine.now.script session) }
     ensures stands { IfSome result (StandsAs machine.now session) }
@@ -96,24 +97,9 @@ pub fn covers<N: Opened>(machine: &Machine<N>, session: u32, name: &LockName, mo
     is_session(machine, session) && machine.covers(session, name, mode)
 }
 
-/// The statement at which a session stands, as it is bound in the present catalog, and `None` where
-/// it stands at none.
-pub fn bound_next<N: Opened>(
-    alloc: Global,
-    machine: &Machine<N>,
-    session: u32,
-) -> Result<Option<Bound>, Memory>
-    requires { IsServable machine.now.script }
-{
-    let Some(Stand::Statement(place)) = stand_of(machine, session) else {
-        return Ok(None);
-    };
-    Ok(Some(bind_next(alloc, machine, session, place)?))
-}
-
 fn begin<N: Opened>(machine: &mut Machine<N>, session: u32) -> Result<Seen, Memory>
     requires { IsServable machine.old.script }
-    ensures { IsServable machine.new.script }
+    ensures { IsBehind N.opening machine.old machine.new }
 {
     let Some(Stand::Begin) = stand_of(machine, session) else {
         return Ok(Seen::Idle);
@@ -132,7 +118,7 @@ fn ask_for<N: Opened>(
     requires kept { IsKept N.opening machine.old }
     requires next { (o : Open) × IsToLock machine.old session o locks.now }
     requires servable { IsServable machine.old.script }
-    ensures { IsServable machine.new.script }
+    ensures { IsBehind N.opening machine.old machine.new }
 {
     for (name, mode) in locks {
         match machine.lock(session, name, *mode)? {
@@ -158,7 +144,7 @@ fn ask_in_group<N: Opened>(
     requires kept { IsKept N.opening machine.old }
     requires next { (o : Open) × IsBoundNext machine.old session o bound.now }
     requires servable { IsServable machine.old.script }
-    ensures { IsServable machine.new.script }
+    ensures { IsBehind N.opening machine.old machine.new }
 {
     let locks = footprint(alloc, bound)?;
     ask_for(machine, session, locks.as_slice())
@@ -175,7 +161,7 @@ fn ask_at<N: Opened>(
     requires kept { IsKept N.opening machine.old }
     requires servable { IsServable machine.old.script }
     requires stands { StandsAs machine.old session (Statement place) }
-    ensures { IsServable machine.new.script }
+    ensures { IsBehind N.opening machine.old machine.new }
 {
     if machine.start(session).is_none() {
         return Ok(Seen::Idle);
@@ -186,7 +172,7 @@ fn ask_at<N: Opened>(
 
 fn ask<N: Opened>(alloc: Global, machine: &mut Machine<N>, session: u32) -> Result<Seen, Memory>
     requires { IsServable machine.old.script }
-    ensures { IsServable machine.new.script }
+    ensures { IsBehind N.opening machine.old machine.new }
 {
     let Some(Stand::Statement(place)) = stand_of(machine, session) else {
         return Ok(Seen::Idle);
@@ -203,7 +189,11 @@ fn seen_of(step: Step) -> Seen {
 }
 
 /// Whether a session's open group holds locks.
-fn are_covered<N: Opened>(machine: &Machine<N>, session: u32, locks: &[(LockName, Mode)]) -> bool
+pub fn are_covered<N: Opened>(
+    machine: &Machine<N>,
+    session: u32,
+    locks: &[(LockName, Mode)],
+) -> bool
     requires { IsPlace machine.now.script session }
     ensures { result ≡ true
         → All (λ lock. IsCovered machine.now session lock.0 lock.1) locks.now }
@@ -227,7 +217,7 @@ fn exec_in_group<N: Opened>(
     requires kept { IsKept N.opening machine.old }
     requires next { (o : Open) × IsBoundNext machine.old session o bound.now }
     requires servable { IsServable machine.old.script }
-    ensures { IsServable machine.new.script }
+    ensures { IsBehind N.opening machine.old machine.new }
 {
     let locks = footprint(alloc, bound)?;
     if !are_covered(machine, session, locks.as_slice()) {
@@ -247,7 +237,7 @@ fn exec_at<N: Opened>(
     requires kept { IsKept N.opening machine.old }
     requires servable { IsServable machine.old.script }
     requires stands { StandsAs machine.old session (Statement place) }
-    ensures { IsServable machine.new.script }
+    ensures { IsBehind N.opening machine.old machine.new }
 {
     let bound = bind_next(alloc, machine, session, place)?;
     if machine.start(session).is_some() {
@@ -258,7 +248,7 @@ fn exec_at<N: Opened>(
 
 fn exec<N: Opened>(alloc: Global, machine: &mut Machine<N>, session: u32) -> Result<Seen, Memory>
     requires { IsServable machine.old.script }
-    ensures { IsServable machine.new.script }
+    ensures { IsBehind N.opening machine.old machine.new }
 {
     let Some(Stand::Statement(place)) = stand_of(machine, session) else {
         return Ok(Seen::Idle);
@@ -268,7 +258,7 @@ fn exec<N: Opened>(alloc: Global, machine: &mut Machine<N>, session: u32) -> Res
 
 fn commit<N: Opened>(machine: &mut Machine<N>, session: u32) -> Result<Seen, Memory>
     requires { IsServable machine.old.script }
-    ensures { IsServable machine.new.script }
+    ensures { IsBehind N.opening machine.old machine.new }
 {
     let Some(Stand::Commit) = stand_of(machine, session) else {
         return Ok(Seen::Idle);
@@ -281,7 +271,7 @@ fn commit<N: Opened>(machine: &mut Machine<N>, session: u32) -> Result<Seen, Mem
 
 fn abort<N: Opened>(machine: &mut Machine<N>, session: u32) -> Seen
     requires { IsServable machine.old.script }
-    ensures { IsServable machine.new.script }
+    ensures { IsBehind N.opening machine.old machine.new }
 {
     let Some(Stand::Abort) = stand_of(machine, session) else {
         return Seen::Idle;
@@ -292,7 +282,7 @@ fn abort<N: Opened>(machine: &mut Machine<N>, session: u32) -> Seen
 
 fn finish<N: Opened>(machine: &mut Machine<N>, session: u32) -> Seen
     requires { IsServable machine.old.script }
-    ensures { IsServable machine.new.script }
+    ensures { IsBehind N.opening machine.old machine.new }
 {
     let Some(Stand::Ended) = stand_of(machine, session) else {
         return Seen::Idle;
@@ -301,10 +291,10 @@ fn finish<N: Opened>(machine: &mut Machine<N>, session: u32) -> Seen
     Seen::Done
 }
 
-/// Makes a call, where its condition holds. The script stays one that is served.
+/// Makes a call, where its condition holds.
 pub fn make<N: Opened>(alloc: Global, machine: &mut Machine<N>, act: Act) -> Result<Seen, Memory>
     requires { IsServable machine.old.script }
-    ensures { IsServable machine.new.script }
+    ensures { IsBehind N.opening machine.old machine.new }
 {
     match act {
         Act::Begin(session) => begin(machine, session),

@@ -3,13 +3,15 @@
 ghost use Rattle.std.specs.Prelude.{◌≡◌};
 ghost use Rattle.bf_sql.specs.Database.{empty_database};
 ghost use Rattle.bf_machine.specs.interleaving.Serving.{IsServable};
+ghost use Rattle.machine_tests.specs.Behind.{IsBehind};
 
-use crate::acts::{Act, Look, Seen, bound_next, covers, look_at, make, reply_at, session_of};
+use crate::acts::{Act, Look, Seen, covers, look_at, make, reply_at, session_of};
 use crate::runs::script_of;
+use crate::stale::exec_as_before;
 use bf_base::{Key, Name, Value};
 use bf_live::LiveTables;
 use bf_locks::{LockName, Mode};
-use bf_machine::{Machine, Opened, Stand};
+use bf_machine::{Machine, Opened, Stand, Step};
 use bf_text::report;
 use bf_tree::{Cause, Reply, Script, Sweep};
 use std::alloc::Global;
@@ -126,7 +128,7 @@ fn are_made<N: Opened>(
     calls: &[(Act, Seen, Stand)],
 ) -> Result<bool, Fail>
     requires { IsServable machine.old.script }
-    ensures { IsServable machine.new.script }
+    ensures { IsBehind N.opening machine.old machine.new }
 {
     for (call, seen, stand) in calls {
         if make(alloc, machine, *call)? != *seen {
@@ -143,9 +145,13 @@ fn are_made<N: Opened>(
 }
 
 /// Makes calls one after the other, whatever comes of each.
-fn make_all<N: Opened>(alloc: Global, machine: &mut Machine<N>, calls: &[Act]) -> Result<(), Fail>
+pub fn make_all<N: Opened>(
+    alloc: Global,
+    machine: &mut Machine<N>,
+    calls: &[Act],
+) -> Result<(), Fail>
     requires { IsServable machine.old.script }
-    ensures { IsServable machine.new.script }
+    ensures { IsBehind N.opening machine.old machine.new }
 {
     for call in calls {
         make(alloc, machine, *call)?;
@@ -444,12 +450,13 @@ const FIRST_TABLE: [(Act, Seen, Stand); 5] = [
     (Act::Begin(2), Seen::Done, Stand::Statement(1)),
 ];
 
-const SECOND_TABLE: [(Act, Seen, Stand); 5] = [
-    (Act::Begin(3), Seen::Done, Stand::Statement(1)),
-    (Act::Ask(3), Seen::Granted, Stand::Statement(1)),
-    (Act::Exec(3), Seen::Done, Stand::Commit),
-    (Act::Commit(3), Seen::Committed(2), Stand::Ended),
-    (Act::Ask(2), Seen::Granted, Stand::Statement(1)),
+/// The second table comes behind the binding of the SELECT, and then the reader's locks.
+const SECOND_TABLE: [Act; 5] = [
+    Act::Begin(3),
+    Act::Ask(3),
+    Act::Exec(3),
+    Act::Commit(3),
+    Act::Ask(2),
 ];
 
 const READ: [(Act, Seen, Stand); 2] = [
@@ -462,26 +469,20 @@ fn bind_again<N: Opened, R: Abort>(rt: &R, alloc: Global, machine: Machine<N>) -
 {
     let mut machine = machine;
     assert!(rt; are_made(alloc, &mut machine, &FIRST_TABLE)?);
-    let before = bound_next(alloc, &machine, 2)?;
-    assert!(rt; are_made(alloc, &mut machine, &SECOND_TABLE)?);
+    assert_eq!(rt; machine.catalog().number(), 1);
+    let step = exec_as_before(alloc, &mut machine, 2, &SECOND_TABLE)?;
     let table = LockName::Whole(Name::of(alloc, b"t")?);
     assert!(rt;
         covers(&machine, 2, &LockName::Catalog, Mode::S) && covers(&machine, 2, &table, Mode::S)
     );
-    let behind = bound_next(alloc, &machine, 2)?;
-    let (Some(before), Some(behind)) = (before, behind) else {
-        return Err(Fail::new("bound"));
-    };
-    assert_eq!(rt;
-        (before.catalog, behind.catalog, machine.catalog().number()),
-        (1, 2, 2)
-    );
+    assert_eq!(rt; step, Some(Step::Stale(2)));
+    assert!(rt; reply_at(&machine, 2, 1).is_none());
     assert!(rt; are_made(alloc, &mut machine, &READ)?);
     assert!(rt; matches!(reply_at(&machine, 2, 1), Some(Reply::Rows(rows)) if rows.is_empty()));
     Ok(())
 }
 
 #[test]
-fn a_statement_is_bound_again_behind_a_schema_change(rt: HostRuntime) -> Result<(), Fail> {
+fn a_statement_is_bound_again_where_the_catalog_has_changed(rt: HostRuntime) -> Result<(), Fail> {
     tried(&rt, rt.alloc(), READ_AND_CREATE, 0, Trial::SchemaChange)
 }

@@ -18,4 +18,6 @@ mod runs;
 #[cfg(test)]
 mod schema;
 #[cfg(test)]
+mod stale;
+#[cfg(test)]
 mod waits;

@@ -1,5 +1,5 @@
 -- One lock more is covered, and at the end each of them.
-use Rattle.std.proofs.Common.{◌≡◌, zero, suc, ◌+◌, arith, ◌++◌, List, [], ◌∷◌, take, sym, ap, subst, ◌∙◌}
+use Rattle.std.proofs.Common.{◌≡◌, zero, suc, ◌+◌, arith, ◌++◌, [], ◌∷◌, take, sym, ap, subst, ◌∙◌}
 use Rattle.std.specs.List.{All}
 use Rattle.std.proofs.lemmas.List.{take_all, take_more}
 use Rattle.std.proofs.lemmas.List.Elements.{All-append}

@@ -1,5 +1,5 @@
 -- The footprint is held where each of its locks is covered, and the reply is one more event.
-use Rattle.std.proofs.Common.{◌≡◌, List, Option, Some, refl, ap, subst, ◌∙◌}
+use Rattle.std.proofs.Common.{List, Option, refl, ap, subst, ◌∙◌}
 use Rattle.std.specs.Prelude.{IsSomeAnd, Ok}
 use Rattle.std.specs.List.{All, slice_index_or}
 use Rattle.bf_live.proofs.locking.Writing.{bound_has_keys}
@@ -9,7 +9,7 @@ use Rattle.bf_machine.specs.interleaving.Calls.{IsCovered}
 use Rattle.bf_machine.specs.interleaving.Machines.{Machine, Open}
 use Rattle.bf_machine.specs.interleaving.Serving.{HasLocked}
 use Rattle.bf_machine.proofs.served.Replying.{can_reply}
-use Rattle.machine_tests.proofs.Served.{served_behind_step, still_served}
+use Rattle.machine_tests.proofs.Served.{served_behind_step, still_served, unmade}
 use Rattle.machine_tests.proofs.acts.exec_in_group.Goals as goal
 
 pub footprint-requires : goal.footprint-requires
@@ -44,3 +44,9 @@ pub returns : goal.returns
 returns g c =
     served_behind_step c.args.machine.now c.exec.new.self c.requires.servable c.args.session c.requires.kept c.args.bound.now c.in_ok-exec.field-0
     c.in_ok-exec.ensures.step c.in_ok-exec.ensures.stale (λ same. c.in_ok-exec.ensures.replied (ap Ok same))
+
+pub returns-in_err-locks : goal.returns-in_err-locks
+returns-in_err-locks g c = unmade c.args.machine.now c.requires.servable
+
+pub returns-then-not-are_covered : goal.returns-then-not-are_covered
+returns-then-not-are_covered g c = unmade c.args.machine.now c.requires.servable
