@@ -1,6 +1,6 @@
 //! The arms of a migration with their old tables.
 
-use crate::making::{column_value, rows_made};
+use crate::arm_rows::{column_value, rows_made};
 use crate::meeting::{from_row_met, join_row_met};
 use crate::migration::{Frozen, Migration};
 use bf_base::{Key, Memory, Row};
@@ -8,6 +8,7 @@ use bf_tree::{ArmKind, PlacedArm};
 use std::alloc::Global;
 
 /// An arm of a migration: the number of its target, how it is placed, and its old tables.
+#[derive(Drop)]
 pub(crate) struct FrozenArm<'a> {
     pub(crate) target: u8,
     pub(crate) placed: &'a PlacedArm,

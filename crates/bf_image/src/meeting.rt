@@ -1,6 +1,6 @@
 //! The one row of the other table of an arm that a driver's row can meet.
 
-use crate::making::column_value;
+use crate::arm_rows::column_value;
 use crate::migration::Frozen;
 use bf_base::{Key, Memory, Row, Table};
 use std::alloc::Global;

@@ -1,7 +1,7 @@
 //! The rows of the new tables that come from a granule.
 
 use crate::arms::FrozenArm;
-use crate::making::rows_made;
+use crate::arm_rows::rows_made;
 use crate::migration::{Frozen, Migration};
 use crate::value_indexes::{UnitIndex, ValueIndexes, arm_by_values};
 use bf_base::{Granule, Key, Memory, Place, Row};

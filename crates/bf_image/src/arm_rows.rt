@@ -10,7 +10,7 @@ ghost use Rattle.bf_sql.specs.RowObjections.{answer_objections};
 ghost use Rattle.bf_sql.specs.Totals.{total_of};
 ghost use Rattle.bf_sql.specs.migrations.Images.{value_or_nought};
 ghost use Rattle.bf_sql.specs.migrations.Placed.{is_equal_at, placed_groups, placed_matches, placed_over, placed_rows};
-ghost use Rattle.bf_image.specs.Making.{AreOfOne, IsUnobjected, item_objections};
+ghost use Rattle.bf_image.specs.ArmRows.{AreOfOne, IsUnobjected, item_objections};
 
 use bf_base::{Memory, Row, Value};
 use bf_query::running::totals;
