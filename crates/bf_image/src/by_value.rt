@@ -114,7 +114,8 @@ fn entries_of(
 /// compares about log n values, and takes no memory.
 fn find(entries: &[(Key, Sequence<u32>)], value: &Key) -> Result<usize, usize>
     ensures bound { IsSearchInRange result (length entries.now) }
-    ensures position { IsBinarySearchResult (λ entry. key_cmp entry.0 value.now) entries.now result }
+    ensures position { IsBinarySearchResult (λ entry. key_cmp entry.0 value.now)
+        entries.now result }
 {
     entries.binary_search_by(|entry| entry.0.compare(value))
 }
@@ -144,7 +145,8 @@ impl ByValue {
     /// `None` exactly where the place is not below the number of values. Takes no memory, and
     /// constant time.
     pub fn at(&self, place: usize) -> Option<(&Key, &[u32])>
-        ensures { option_map (λ entry. (entry.0.now, entry.1.now)) result ≡ slice_get self.now place }
+        ensures { option_map (λ entry. (entry.0.now, entry.1.now)) result
+            ≡ slice_get self.now place }
     {
         let entry = self.entries.get(place)?;
         Some((&entry.0, entry.1.as_slice()))
