@@ -17,6 +17,14 @@ longest_script = 2 ^ 24
 abbrev pub most_columns : ℕ
 most_columns = 16
 
+-- the most rows of a table that a MIGRATE reads
+abbrev pub most_rows : ℕ
+most_rows = 2 ^ 20
+
+-- the most tables of a MIGRATE whose rows move one by one
+abbrev pub most_drivers : ℕ
+most_drivers = 4
+
 -- the end of the INTs: they go from its negative to the number below it
 abbrev pub int_end : ℕ
 int_end = 2 ^ 63

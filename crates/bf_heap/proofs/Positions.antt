@@ -1,5 +1,5 @@
 -- The position of the row under a key.
-use Rattle.std.proofs.Common.{◌≡◌, ℕ, ◌+◌, ◌<◌, Bool, true, false, not, cond, nat_lt, List, [], ◌∷◌, length, get_or, find, Equal, Less, Ordering, Option, Some, None, refl, sym, ap, ◌∙◌, inl, inr, arith, option_map, is_eq}
+use Rattle.std.proofs.Common.{◌≡◌, ℕ, ◌<◌, Bool, true, false, not, cond, nat_lt, List, [], ◌∷◌, length, get_or, find, Equal, Less, Option, Some, None, refl, sym, ap, ◌∙◌, inl, inr, arith, option_map, is_eq}
 use Rattle.std.specs.List.{position, position_or_len, prefix_len}
 use Rattle.std.proofs.lemmas.Bool.{cases_Bool, lt-ltb}
 use Rattle.std.proofs.lemmas.Bool.Decides.{nat_tests}

@@ -1,5 +1,5 @@
 -- LEXEMES: words, runs of digits, quoted texts and signs, whatever their size; and the tokens that they are.
-use Rattle.std.specs.Prelude.{◌≡◌, ℕ, ◌+◌, ◌-◌, ◌*◌, ◌^◌, Bool, false, ◌&&◌, ◌||◌, ◌==◌, nat_le, if◌then◌else◌, List, [], ◌∷◌, ◌++◌, flat_map, length, Option, Some, None, Result, Ok, Err, IsTrue}
+use Rattle.std.specs.Prelude.{◌≡◌, ℕ, ◌+◌, ◌-◌, ◌*◌, Bool, false, ◌&&◌, ◌||◌, ◌==◌, nat_le, if◌then◌else◌, List, [], ◌∷◌, ◌++◌, flat_map, length, Option, Some, None, Result, Ok, Err, IsTrue}
 use Rattle.std.specs.List.{list_all}
 use Rattle.bf_base.specs.Limits.{longest_text, longest_name, int_end}
 use Rattle.bf_base.specs.Lists.{same_name, has}

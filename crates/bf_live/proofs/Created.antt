@@ -1,9 +1,9 @@
 -- The live tables with one table more, and with one index rule more.
-use Rattle.std.proofs.Common.{◌≡◌, ℕ, ◌+◌, true, false, cond, List, [], ◌∷◌, map, find, Ordering, Less, Equal, Greater, Option, Some, None, is_some, option_map, refl, sym, ap, ap₂, subst, ◌∙◌, arith, is_eq, is_lt, suc}
+use Rattle.std.proofs.Common.{◌≡◌, ℕ, ◌+◌, true, false, cond, List, [], ◌∷◌, map, find, Less, Equal, Greater, Option, Some, None, is_some, option_map, refl, sym, ap, ap₂, subst, ◌∙◌, arith, is_eq, suc}
 use Rattle.std.specs.Prelude.{zip}
 use Rattle.std.specs.BTreeMap.{insert_entry, is_at}
 use Rattle.std.specs.List.{All}
-use Rattle.std.specs.Map.{keys_of, lookup, remove_entry, values_of}
+use Rattle.std.specs.Map.{lookup, remove_entry, values_of}
 use Rattle.std.specs.Ordering.{eq_by_cmp, match_ordering}
 use Rattle.std.proofs.lemmas.Bool.{and_from, and_parts, not-true, not_from_false}
 use Rattle.std.proofs.lemmas.Cmp.{tied_itself}
@@ -15,7 +15,7 @@ use Rattle.bf_base.proofs.Apart.{are_apart, apart_from_rises, are_apart-same_ite
 use Rattle.bf_base.proofs.Items.{mapped, other_way}
 use Rattle.bf_base.proofs.Names.{name_cmp_total, same_name-tie, same_name-tie_back}
 use Rattle.bf_base.proofs.Order.{is_some-look_up, none_from_test}
-use Rattle.bf_heap.specs.Heaps.{Rows, empty_heap}
+use Rattle.bf_heap.specs.Heaps.{Rows}
 use Rattle.bf_tree.specs.Catalogs.{Catalog}
 use Rattle.bf_tree.specs.Places.{index_named, table_named, with_new_table}
 use Rattle.bf_tree.specs.declared.catalog.IndexRule.{IndexRule}

@@ -1,5 +1,5 @@
 -- Heaps under writes, table by table.
-use Rattle.std.proofs.Common.{◌≡◌, ℕ, suc, ◌+◌, ◌≤◌, ◌⊎◌, true, false, cond, List, [], ◌∷◌, ◌++◌, map, fold, get_or, Less, Greater, Some, Option, unwrap_or, is_some, refl, sym, ap, ap₂, subst, ◌∙◌, inl, inr, arith}
+use Rattle.std.proofs.Common.{◌≡◌, ℕ, suc, ◌+◌, ◌≤◌, ◌⊎◌, true, false, cond, List, [], ◌∷◌, ◌++◌, map, fold, get_or, Less, Greater, Some, Option, unwrap_or, is_some, refl, sym, ap, ap₂, ◌∙◌, inl, inr, arith}
 use Rattle.std.specs.BTreeMap.{is_at}
 use Rattle.std.specs.List.{All, AllByRecursion}
 use Rattle.std.specs.List.Sorted.{IsStrictlySortedBy}
@@ -21,7 +21,7 @@ use Rattle.bf_txn.specs.declared.write.Write.{Write}
 use Rattle.bf_txn.specs.Writes.{AreTables, KeyWrite, OfTable, all_writes, key_write_of, key_writes_to, writes_at, writes_in, writes_to}
 use Rattle.bf_txn.proofs.Tables.{names_rise, written_to}
 use Rattle.bf_live.specs.Commits.{HasRoom, HasRoomIn, HaveRoomFor, HaveRoomSoFar, KeepRoom, LeaveRoom, key_puts, put_by, puts, taken_by, with_writes, with_writes_to}
-use Rattle.bf_live.specs.Live.{NamedHeap, NamedRows, rows_in}
+use Rattle.bf_live.specs.Live.{NamedHeap, NamedRows}
 use Rattle.bf_live.proofs.Heaps.{is_one, is_same}
 
 -- ---- the number of rows that writes put

@@ -9,10 +9,6 @@ most_parts = 16
 abbrev pub most_counted : ℕ
 most_counted = 256
 
--- the most targets of a MIGRATE
-abbrev pub most_targets : ℕ
-most_targets = 8
-
 -- the most MIGRATEs of a script
 abbrev pub most_migrations : ℕ
 most_migrations = 64

@@ -2,7 +2,8 @@
 use Rattle.std.specs.Prelude.{ℕ, Bool, true, ◌&&◌, ◌||◌, nat_lt, List, [], ◌∷◌, Option, Some, None, is_none, if◌then◌else◌}
 use Rattle.bf_lex.specs.declared.fault.ScriptKind.{ScriptKind}
 use Rattle.bf_lex.specs.declared.fault.ScriptKind.TheVariants as kind
-use Rattle.bf_phrase.specs.Limits.{most_parts, most_counted, most_targets, most_migrations, most_sessions, most_of_phase}
+use Rattle.bf_tree.specs.Limits.{most_targets}
+use Rattle.bf_phrase.specs.Limits.{most_parts, most_counted, most_migrations, most_sessions, most_of_phase}
 use Rattle.bf_phrase.specs.Words.{Word}
 
 pub data Mark : Type 0 where

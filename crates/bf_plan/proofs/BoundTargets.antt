@@ -13,6 +13,7 @@ use Rattle.bf_base.specs.declared.table.Table.{Table}
 use Rattle.bf_base.specs.declared.table.Admit.{Admit}
 use Rattle.bf_base.specs.declared.table.Admit.TheVariants as admits
 use Rattle.bf_base.specs.declared.table.Kind.{Kind}
+use Rattle.bf_tree.specs.Limits.{has_few_items}
 use Rattle.bf_tree.specs.declared.migration.Arm.{Arm}
 use Rattle.bf_tree.specs.declared.migration.Item.{Item}
 use Rattle.bf_tree.specs.declared.migration.Target.{Target}
@@ -27,7 +28,6 @@ use Rattle.bf_sql.specs.migrations.MigrationObjections.{arm_objections, failing_
 use Rattle.bf_sql.specs.migrations.Targets.{arm_key, arm_kind, arm_scope, column_admit, either_admit, extent_of_item, first_arm, item_admit, item_name, key_items, target_key, target_table}
 use Rattle.bf_plan.specs.Arms.{bound_arm, unit_kind_of}
 use Rattle.bf_plan.specs.Items.{bound_item}
-use Rattle.bf_plan.specs.Limits.{has_few_items}
 use Rattle.bf_plan.specs.Targets.{admits_at, failing_in, first_items, gives_key, is_miscounted, is_misfit, is_rows, is_tagged, keeps_apart_by, key_of_arms, name_objections, names_objections, objections_behind, table_of_arms, tagged_by}
 use Rattle.bf_plan.specs.declared.arm.BoundArm.{BoundArm}
 use Rattle.bf_plan.specs.declared.item.BoundItem.{BoundItem}

@@ -2,6 +2,7 @@
 use Rattle.std.proofs.Common.{◌≡◌, ℕ, ◌+◌, ◌≤◌, ◌<◌, List, [], ◌∷◌, ◌++◌, map, length, get_or, take, Some, Ok, Err, nat_lt, refl, sym, ap, ap₂, ◌∙◌, arith}
 use Rattle.std.specs.List.{flat_map, enumerate_from}
 use Rattle.std.proofs.lemmas.List.{length-map}
+use Rattle.bf_base.specs.Limits.{most_drivers}
 use Rattle.bf_base.specs.Distinct.{distinct}
 use Rattle.bf_base.specs.Lists.{same_name, when, with_before}
 use Rattle.bf_tree.specs.Settling.{first_of}
@@ -28,7 +29,7 @@ use Rattle.bf_plan.proofs.NumberedArms.{block_within, drivers-planned, drivers_f
 use Rattle.bf_plan.proofs.Walked.{blocks_more}
 
 abbrev pub limit : List (List ℕ) → List Refusal
-limit drivers = when (nat_lt 4 (length drivers)) (refusal.UnitLimit (length drivers))
+limit drivers = when (nat_lt most_drivers (length drivers)) (refusal.UnitLimit (length drivers))
 
 abbrev pub free : Database → List (List ℕ) → List Target → List Refusal
 free db sources targets = flat_map (λ p. taken_objections db sources p.0 p.1.name) (with_before targets)

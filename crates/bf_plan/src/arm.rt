@@ -3,12 +3,11 @@
 ghost use Rattle.std.specs.Prelude.{◌≡◌, ◌≤◌, ◌&&◌, IfOk, flat_map, length, is_some, map, true};
 ghost use Rattle.std.specs.List.{list_all};
 ghost use Rattle.bf_base.specs.Limits.{most_columns};
-ghost use Rattle.bf_tree.specs.Limits.{HasNarrowTables};
+ghost use Rattle.bf_tree.specs.Limits.{HasNarrowTables, has_few_items};
 ghost use Rattle.bf_tree.specs.Settling.{Settles};
 ghost use Rattle.bf_sql.specs.Bound.{without_rows};
 ghost use Rattle.bf_sql.specs.migrations.MigrationObjections.{arm_objections};
 ghost use Rattle.bf_plan.specs.Arms.{arm_of_parts, bound_arm, bound_parts, driver_of, inherits_by, parts_objections, unit_kind_of};
-ghost use Rattle.bf_plan.specs.Limits.{has_few_items};
 
 use crate::item::{BoundItem, BoundItems, bind_items, tag_of};
 use crate::joining::{

@@ -3,11 +3,10 @@
 ghost use Rattle.std.specs.Prelude.{◌≡◌, ◌≤◌, ◌++◌, IfOk, flat_map, map, true};
 ghost use Rattle.std.specs.List.{list_all};
 ghost use Rattle.bf_base.specs.Limits.{longest_script};
-ghost use Rattle.bf_tree.specs.Limits.{HasNarrowTables};
+ghost use Rattle.bf_tree.specs.Limits.{HasNarrowTables, IsNarrowMigrate};
 ghost use Rattle.bf_tree.specs.Settling.{Settles};
 ghost use Rattle.bf_sql.specs.Bound.{without_rows};
 ghost use Rattle.bf_sql.specs.migrations.MigrationObjections.{migrate_objections, target_objections};
-ghost use Rattle.bf_plan.specs.Limits.{IsNarrowMigrate};
 ghost use Rattle.bf_sql.specs.migrations.Plans.{plan_made, plan_of};
 ghost use Rattle.bf_plan.specs.Units.{bound_targets};
 

@@ -4,9 +4,9 @@ ghost use Rattle.std.specs.Prelude.{◌≡◌, false, IfOk, Some};
 ghost use Rattle.bf_sql.specs.Bound.{without_rows};
 ghost use Rattle.bf_sql.specs.Database.{IsDatabase};
 ghost use Rattle.bf_sql.specs.migrations.Plans.{prepared_of};
-ghost use Rattle.bf_tree.specs.Limits.{HasNarrowTables};
+ghost use Rattle.bf_tree.specs.Limits.{HasNarrowTables, IsNarrowMigrate};
 ghost use Rattle.bf_tree.specs.declared.statement.Statement.TheVariants as statement;
-ghost use Rattle.bf_plan.specs.Limits.{IsNarrowMigrate, KeepsPlanLimits};
+ghost use Rattle.bf_plan.specs.Limits.{KeepsPlanLimits};
 ghost use Rattle.bf_plan.specs.Prepared.{action_planned};
 
 use crate::planning::plan;

@@ -7,13 +7,12 @@ ghost use lib.Pointwise.{pointwise};
 ghost use Rattle.bf_base.specs.Limits.{most_columns};
 ghost use Rattle.bf_base.specs.Lists.{when};
 ghost use Rattle.bf_base.specs.Tables.{same_kind};
-ghost use Rattle.bf_tree.specs.Limits.{HasNarrowTables};
+ghost use Rattle.bf_tree.specs.Limits.{HasNarrowTables, has_small_arms};
 ghost use Rattle.bf_tree.specs.Settling.{Settles};
 ghost use Rattle.bf_tree.specs.declared.reply.Refusal.TheVariants as refusal;
 ghost use Rattle.bf_sql.specs.Bound.{without_rows};
 ghost use Rattle.bf_sql.specs.migrations.MigrationObjections.{target_objections};
 ghost use Rattle.bf_sql.specs.migrations.Targets.{either_admit, first_arm, item_name};
-ghost use Rattle.bf_plan.specs.Limits.{has_small_arms};
 ghost use Rattle.bf_plan.specs.Targets.{admits_at, are_tagged_apart, bound_target, columns_of, failing, failing_in, first_items, first_key, gives_key, has_one_key, is_miscounted, is_misfit, is_named, is_tagged, key_of_arms, keeps_apart_by, name_objections, names_objections, objections_behind, table_of_arms, with_admit, with_given, key_before};
 
 use crate::arm::{BoundArm, bind_arms};

@@ -2,7 +2,7 @@
 
 ghost use Rattle.std.specs.Prelude.{◌≡◌, ◌≤◌, [], ◌++◌, IfOk, flat_map, fold, length, nat_lt};
 ghost use Rattle.bf_base.specs.Distinct.{distinct, with_new};
-ghost use Rattle.bf_base.specs.Limits.{longest_script};
+ghost use Rattle.bf_base.specs.Limits.{longest_script, most_drivers};
 ghost use Rattle.bf_base.specs.Lists.{has, same_name, when, with_before};
 ghost use Rattle.bf_tree.specs.Settling.{Settles};
 ghost use Rattle.bf_tree.specs.declared.reply.Refusal.TheVariants as refusal;
@@ -165,7 +165,7 @@ pub(crate) fn drivers(alloc: Global, units: &[Unit]) -> Result<Sequence<Name>, M
 pub(crate) fn expect_few(drivers: &[Name]) -> Result<(), StatementError>
     requires { length drivers.now ≤ longest_script }
     ensures { Settles result
-        (when (nat_lt 4 (length drivers.now)) (refusal.UnitLimit (length drivers.now))) tt }
+        (when (nat_lt most_drivers (length drivers.now)) (refusal.UnitLimit (length drivers.now))) tt }
 {
     let count = drivers.len();
     if count > MOST_DRIVERS {

@@ -40,7 +40,7 @@ use Rattle.bf_sql.specs.Scopes.{scope_of, place_of, read_in, admitted_by, unqual
 use Rattle.bf_txn.specs.declared.write.Write.{Write}
 use Rattle.bf_txn.specs.Writes.{with_write}
 use Rattle.bf_query.specs.Actions as actions
-use Rattle.bf_query.specs.Actions.{IsChange, IsSelect, IsWellBound, admitted_at, change_reply, select_reply, objections_on, action_table, write_of, writes_of, written}
+use Rattle.bf_query.specs.Actions.{IsChange, IsSelect, IsWellBound, admitted_at, change_reply, select_reply, objections_on, action_table, writes_of, written}
 use Rattle.bf_query.specs.Meanings.{HoldRowsOf, IsBoundAs, rows_after}
 use Rattle.bf_query.specs.Merged.{rows_under, entries_under}
 use Rattle.bf_query.proofs.Binding.{as_stored, one_name, insert_found, select_found, update_found, delete_found, well_bound}

@@ -13,7 +13,7 @@ use Rattle.bf_base.specs.declared.value.Value.TheVariants.{Int}
 use Rattle.bf_base.specs.declared.table.Admit.{Admit}
 use Rattle.bf_base.specs.Lists.{when}
 use Rattle.bf_base.specs.Values.{value_cmp}
-use Rattle.bf_base.specs.Limits.{is_int, least_int, greatest_int}
+use Rattle.bf_base.specs.Limits.{is_int, least_int, greatest_int, most_rows}
 use Rattle.bf_tree.specs.declared.evaluation.Fail.{Fail}
 use Rattle.bf_tree.specs.Trees.{Expr}
 use Rattle.bf_tree.specs.Evaluation.{value_of, sure_value}
@@ -23,7 +23,7 @@ use Rattle.bf_tree.specs.declared.reply.Refusal.{Refusal}
 use Rattle.bf_tree.specs.declared.reply.Refusal.TheVariants.{OutOfRange}
 use Rattle.bf_sql.specs.RowObjections.{value_objections, argument_objections, sum_objections}
 use Rattle.bf_sql.specs.Totals.{lesser, greater, or_null, exact_sum, sum_of, values_of, total_of}
-use Rattle.bf_sql.specs.migrations.Extents.{Extent, numbers, texts, beyond, extent_summed, extent_of, extent_of_total, may_fail, most_rows}
+use Rattle.bf_sql.specs.migrations.Extents.{Extent, numbers, texts, beyond, extent_summed, extent_of, extent_of_total, may_fail}
 use Rattle.bf_range.specs.Within.{is_within, is_held, cell_within, spanned, span_of_total}
 use Rattle.bf_range.proofs.Order.{tells, tests}
 use Rattle.bf_range.proofs.Sums.{sum_between, times_between, times_from_none}

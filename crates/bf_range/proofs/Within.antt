@@ -10,7 +10,6 @@ use Rattle.bf_base.specs.declared.table.Admit.{Admit}
 use Rattle.bf_base.specs.declared.table.Admit.TheVariants as admits
 use Rattle.bf_base.specs.declared.table.Fit.{Fit}
 use Rattle.bf_base.specs.declared.table.Fit.TheVariants.{Fits, OutOfRange, TooLong}
-use Rattle.bf_base.specs.Tables.{fit_of}
 use Rattle.bf_base.specs.Limits.{longest_text, is_int, least_int, greatest_int}
 use Rattle.bf_tree.specs.declared.evaluation.Fail.{Fail}
 use Rattle.bf_tree.specs.declared.evaluation.Fail.TheVariants as fail

@@ -2,6 +2,7 @@
 
 ghost use Rattle.std.specs.Prelude.{◌≡◌, ◌≤◌, ◌++◌, ℕ, List, [], false, flat_map, length, IsOkAnd, IsTrue};
 ghost use Rattle.std.specs.List.{AllByRecursion};
+ghost use Rattle.bf_base.specs.Limits.{most_rows};
 ghost use Rattle.bf_base.specs.declared.value.Value.{Value};
 ghost use Rattle.bf_base.specs.declared.table.Admit.{Admit};
 ghost use Rattle.bf_base.specs.declared.table.Column.{Column};
@@ -12,7 +13,7 @@ ghost use Rattle.bf_tree.specs.declared.items.Aggregate.{Aggregate};
 ghost use Rattle.bf_sql.specs.Bound.{total_over};
 ghost use Rattle.bf_sql.specs.RowObjections.{argument_objections, sum_objections};
 ghost use Rattle.bf_sql.specs.Totals.{total_of};
-ghost use Rattle.bf_sql.specs.migrations.Extents.{extent_of, extent_of_total, may_fail, most_rows};
+ghost use Rattle.bf_sql.specs.migrations.Extents.{extent_of, extent_of_total, may_fail};
 ghost use Rattle.bf_range.specs.Seen.{admitted_at};
 ghost use Rattle.bf_range.specs.Within.{IsHeld, IsRowOf, IsWithin, cell_within, span_of_total};
 

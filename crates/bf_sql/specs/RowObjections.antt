@@ -7,7 +7,7 @@ use Rattle.bf_base.specs.declared.table.Fit.TheVariants as fit
 use Rattle.bf_base.specs.declared.table.Table.{Table}
 use Rattle.bf_base.specs.Lists.{same_key, has, with_before, when}
 use Rattle.bf_base.specs.Tables.{fit_of, key_of}
-use Rattle.bf_base.specs.Limits.{is_int}
+use Rattle.bf_base.specs.Limits.{is_int, most_rows}
 use Rattle.bf_tree.specs.declared.evaluation.Fail.{Fail}
 use Rattle.bf_tree.specs.declared.evaluation.Fail.TheVariants as fail
 use Rattle.bf_tree.specs.Trees.{Expr}
@@ -25,7 +25,6 @@ use Rattle.bf_sql.specs.Conditions.{condition_of}
 use Rattle.bf_sql.specs.Scopes.{scope_of, read_in, admitted_by, unqualified}
 use Rattle.bf_sql.specs.Totals.{values_of, exact_sum}
 use Rattle.bf_sql.specs.Queries.{selected}
-use Rattle.bf_sql.specs.migrations.Extents.{most_rows}
 use Rattle.bf_sql.specs.migrations.MigrationObjections.{sources_of}
 
 -- an expression that has no value

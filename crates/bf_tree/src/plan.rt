@@ -8,16 +8,16 @@ use crate::tree::{Cond, Expr};
 use bf_base::{Memory, Name, Sequence, Table, TryClone};
 use std::alloc::Global;
 
-/// How an arm makes rows.
+/// How an arm makes rows: which rows of its tables, that satisfy ON and WHERE, make one new row.
 #[derive(Clone, Copy, Debug, PartialEq, Eq)]
 pub enum ArmKind {
-    /// One for each row of FROM.
+    /// Each row of FROM at most one, with the one row of JOIN that it meets where there is a JOIN.
     ByFrom,
-    /// One for each row of JOIN.
+    /// Each row of JOIN at most one, with the one row of FROM that it meets.
     ByJoin,
-    /// One for each pair of a row of FROM and one of JOIN.
+    /// Each pair of a row of FROM and one of JOIN at most one.
     ByPair,
-    /// One for each group.
+    /// The rows of each value of GROUP BY exactly one, where there are any.
     ByGroup,
 }
 
@@ -25,8 +25,11 @@ pub enum ArmKind {
 /// behind it, counted from 0.
 #[derive(Drop)]
 pub enum PlacedItem {
+    /// The value at a place, of a group's first row.
     Column(u8),
+    /// The value of an expression, on a group's first row.
     Value(Expr),
+    /// A total over the rows of a group.
     Total(Aggregate),
 }
 
@@ -57,8 +60,7 @@ pub enum UnitKind {
 #[derive(Drop)]
 pub struct Unit {
     pub kind: UnitKind,
-    /// The old table by whose rows the unit goes: that of FROM, but for row arms that are driven by
-    /// their JOIN table.
+    /// Of rows the table whose rows they are; of groups and joins the table of FROM.
     pub driver: Name,
     /// Each arm by the number of its target and its own number within it, from 0 on.
     pub arms: Sequence<(u8, u32)>,

@@ -3,6 +3,7 @@ use Rattle.std.proofs.Common.{◌≡◌, ℕ, Bool, true, false, nat_lt, nat_le,
 use Rattle.std.specs.List.{list_all}
 use Rattle.std.proofs.lemmas.Bool.{and_parts}
 use Rattle.std.proofs.lemmas.Bool.Decides.{nat_tests}
+use Rattle.bf_base.specs.Limits.{most_rows}
 use Rattle.bf_base.specs.declared.value.Value.{Value}
 use Rattle.bf_base.specs.Lists.{same_name, has}
 use Rattle.bf_tree.specs.declared.migration.Arm.{Arm}
@@ -10,7 +11,6 @@ use Rattle.bf_tree.specs.declared.migration.Migrate.{Migrate}
 use Rattle.bf_tree.specs.declared.reply.Refusal.TheVariants as refusal
 use Rattle.bf_sql.specs.Database.{Database, table_rows}
 use Rattle.bf_sql.specs.RowObjections.{size_objections}
-use Rattle.bf_sql.specs.migrations.Extents.{most_rows}
 use Rattle.bf_sql.specs.migrations.MigrationObjections.{sources_of}
 use Rattle.bf_image.proofs.items.Lists.{none_of_each, none_when, all_so, some_of_those}
 use Rattle.bf_image.proofs.items.Names.{name-equal}

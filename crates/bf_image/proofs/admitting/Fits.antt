@@ -6,6 +6,7 @@ use Rattle.std.specs.List.{list_all}
 use Rattle.std.proofs.lemmas.Bool.{and_parts, and_from, not-true, false≢true, eqb-true}
 use Rattle.std.proofs.lemmas.Bool.Decides.{nat_tests}
 use Rattle.std.proofs.lemmas.List.{append-nil, map-append}
+use Rattle.bf_base.specs.Limits.{most_rows}
 use Rattle.bf_base.specs.declared.value.Value.{Value}
 use Rattle.bf_base.specs.declared.value.Value.TheVariants.{Int}
 use Rattle.bf_base.specs.declared.table.Admit.{Admit}
@@ -26,7 +27,7 @@ use Rattle.bf_tree.specs.declared.plan.ArmKind.{ArmKind}
 use Rattle.bf_tree.specs.declared.plan.ArmKind.TheVariants.{ByFrom, ByJoin, ByPair, ByGroup}
 use Rattle.bf_sql.specs.Database.{Database, Stored, IsDatabase, stored_at, table_at, table_rows, is_fit, is_admitted, no_table}
 use Rattle.bf_sql.specs.Scopes.{Scope, scope_of, place_of, read_in, admitted_by}
-use Rattle.bf_sql.specs.migrations.Extents.{extent_of, may_fail, admit_of_extent, most_rows}
+use Rattle.bf_sql.specs.migrations.Extents.{extent_of, may_fail, admit_of_extent}
 use Rattle.bf_sql.specs.migrations.MigrationObjections.{is_by_group}
 use Rattle.bf_sql.specs.migrations.Targets.{arm_scope, names_of_join, extent_of_item, item_admit}
 use Rattle.bf_sql.specs.migrations.Images.{is_equal_on, item_over, group_value, groups_by, matches_of_join, satisfying, rows_of_join}

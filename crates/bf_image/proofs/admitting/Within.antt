@@ -14,7 +14,7 @@ use Rattle.bf_base.specs.declared.table.Admit.TheVariants as admits
 use Rattle.bf_base.specs.declared.table.Fit.TheVariants.{Fits, OutOfRange, TooLong}
 use Rattle.bf_base.specs.Values.{value_cmp}
 use Rattle.bf_base.specs.Tables.{fit_of}
-use Rattle.bf_base.specs.Limits.{is_int, least_int, greatest_int}
+use Rattle.bf_base.specs.Limits.{is_int, least_int, greatest_int, most_rows}
 use Rattle.bf_tree.specs.declared.evaluation.Fail.{Fail}
 use Rattle.bf_tree.specs.declared.evaluation.Fail.TheVariants as fail
 use Rattle.bf_tree.specs.Trees.{Expr, literal, column, negated, plus, minus, times, joined}
@@ -24,7 +24,7 @@ use Rattle.bf_tree.specs.declared.items.Aggregate.TheVariants.{Count, Sum, Min, 
 use Rattle.bf_tree.specs.declared.reply.Refusal.TheVariants as refusal
 use Rattle.bf_sql.specs.Database.{is_fit}
 use Rattle.bf_sql.specs.RowObjections.{argument_objections}
-use Rattle.bf_sql.specs.migrations.Extents.{Extent, numbers, texts, beyond, extent_between, least_of, greatest_of, extent_negated, extent_plus, extent_minus, extent_times, extent_summed, extent_of, extent_of_total, may_fail, admit_of_extent, most_rows}
+use Rattle.bf_sql.specs.migrations.Extents.{Extent, numbers, texts, beyond, extent_between, least_of, greatest_of, extent_negated, extent_plus, extent_minus, extent_times, extent_summed, extent_of, extent_of_total, may_fail, admit_of_extent}
 use Rattle.bf_sql.specs.migrations.Images.{value_or_nought}
 use Rattle.bf_sql.specs.Totals.{lesser, greater, exact_sum, values_of, total_of}
 use Rattle.bf_range.specs.Within.{is_within, is_held}

@@ -3,6 +3,7 @@ use Rattle.std.proofs.Common.{◌≡◌, ℕ, Bool, true, false, not, ◌&&◌, 
 use Rattle.std.specs.Prelude.{option_map, unwrap_or}
 use Rattle.std.specs.List.{list_any, list_all}
 use Rattle.std.proofs.lemmas.Bool.{and_parts, or_parts, or_from, cases_Bool, false≢true}
+use Rattle.bf_base.specs.Limits.{most_rows}
 use Rattle.bf_base.specs.Lists.{same_name, has, with_before, when}
 use Rattle.bf_base.proofs.Apart.{rises-filter}
 use Rattle.bf_base.proofs.Names.{name_cmp_total}
@@ -15,7 +16,6 @@ use Rattle.bf_tree.specs.declared.statement.Statement.TheVariants as statement
 use Rattle.bf_sql.specs.Bound.{catalog_of, without_rows, table_without_rows}
 use Rattle.bf_sql.specs.Database.{Database, Stored, IsDatabase, stored_at, stored_in_order, is_keyed, is_admitted, is_within, is_on_table}
 use Rattle.bf_sql.specs.RowObjections.{size_objections, row_objections}
-use Rattle.bf_sql.specs.migrations.Extents.{most_rows}
 use Rattle.bf_sql.specs.migrations.Images.{image_of}
 use Rattle.bf_sql.specs.migrations.MigrationObjections.{sources_of, is_taken, migrate_objections}
 use Rattle.bf_sql.specs.migrations.Targets.{arm_sources, target_table}

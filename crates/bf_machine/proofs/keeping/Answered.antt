@@ -8,7 +8,6 @@ use Rattle.bf_tree.specs.declared.bound.Action.{Action}
 use Rattle.bf_tree.specs.declared.bound.Action.TheVariants as action
 use Rattle.bf_tree.specs.declared.bound.Bound.{Bound}
 use Rattle.bf_tree.specs.declared.catalog.IndexRule.{IndexRule}
-use Rattle.bf_tree.specs.declared.plan.Plan.{Plan}
 use Rattle.bf_tree.specs.declared.reply.Refusal.{Refusal}
 use Rattle.bf_tree.specs.declared.reply.Reply.{Reply}
 use Rattle.bf_tree.specs.declared.reply.Reply.TheVariants as reply
@@ -58,25 +57,6 @@ no_refusal db Begin r is = cc
 no_refusal db Commit r is = cc
 no_refusal db Rollback r is = cc
 no_refusal db (Migrate migrate) r is = cc
-
--- nor to carry out a plan, so no statement is bound to one
-no_plan : (db : Database) (s : Statement) (plan : Plan) → action_of db s ≡ Some (action.Migrate plan) → ⊥
-no_plan db (CreateTable name rules key) plan is = cc
-no_plan db (CreateIndex name table columns) plan is = cc
-no_plan db (Insert table tuples) plan is = cc
-no_plan db (Select list table cond) plan is = cc
-no_plan db (Update table sets cond) plan is = cc
-no_plan db (Delete table cond) plan is = cc
-no_plan db Begin plan is = cc
-no_plan db Commit plan is = cc
-no_plan db Rollback plan is = cc
-no_plan db (Migrate migrate) plan is = cc
-
-pub none_is_planned : (db : Database) (in_block : Bool) (s : Statement) (bound : Bound) (plan : Plan) → bound_of db in_block s ≡ Some bound → bound.action ≡ action.Migrate plan → ⊥
-none_is_planned db in_block s bound plan is act =
-    let parts = parts_of db.number (changes_schema in_block s) (unless_objected (objections db in_block s) (action_of db s)) bound is in
-    let open_so = free (objections db in_block s) (action_of db s) (action.Migrate plan) (parts.1 ∙ ap Some act) (λ r e. cc) in
-    no_plan db s plan open_so.1
 
 begins : (db : Database) (in_block : Bool) (s : Statement) → objections db in_block s ≡ [] → action_of db s ≡ Some action.Begin → reply.Begun ≡ (executed 0 db in_block s).0
 begins db false Begin none is = refl

@@ -1,10 +1,10 @@
 -- How far an expression's value can go, whatever admitted row it is computed on.
-use Rattle.std.specs.Prelude.{ℕ, ◌+◌, ◌^◌, max, ℤ, pos, ◌+ℤ◌, ◌-ℤ◌, ◌*ℤ◌, neg_ℤ, Bool, true, false, ◌&&◌, length, nat_le, if◌then◌else◌}
+use Rattle.std.specs.Prelude.{ℕ, ◌+◌, max, ℤ, pos, ◌+ℤ◌, ◌-ℤ◌, ◌*ℤ◌, neg_ℤ, Bool, true, false, ◌&&◌, length, nat_le, if◌then◌else◌}
 use Rattle.std.specs.Int.{int_min, int_max}
 use Rattle.bf_base.specs.declared.value.Value.TheVariants.{Int, Text}
 use Rattle.bf_base.specs.declared.table.Admit.{Admit}
 use Rattle.bf_base.specs.declared.table.Admit.TheVariants as admits
-use Rattle.bf_base.specs.Limits.{longest_text, is_int, least_int, greatest_int}
+use Rattle.bf_base.specs.Limits.{longest_text, most_rows, is_int, least_int, greatest_int}
 use Rattle.bf_tree.specs.Trees.{Expr, literal, column, negated, plus, minus, times, joined}
 use Rattle.bf_tree.specs.declared.items.Aggregate.{Aggregate}
 use Rattle.bf_tree.specs.declared.items.Aggregate.TheVariants.{Count, Sum, Min, Max}
@@ -53,10 +53,6 @@ extent_up_to most = if nat_le most longest_text then texts most else beyond
 abbrev pub extent_joined : Extent → Extent → Extent
 extent_joined (texts m) (texts n) = extent_up_to (m + n)
 extent_joined e f = beyond
-
--- the most rows of a source
-abbrev pub most_rows : ℕ
-most_rows = 2 ^ 20
 
 abbrev pub extent_summed : Extent → Extent
 extent_summed (numbers low high) = extent_between (pos most_rows *ℤ low) (pos most_rows *ℤ high)

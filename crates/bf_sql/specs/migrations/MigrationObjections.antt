@@ -4,6 +4,7 @@ use Rattle.std.specs.List.{list_any, list_all, enumerate_from}
 use Rattle.std.specs.Option.{option_eq}
 use Rattle.std.specs.Ordering.{int_eq}
 use lib.Pointwise.{pointwise}
+use Rattle.bf_base.specs.Limits.{most_drivers}
 use Rattle.bf_base.specs.declared.table.Kind.{Kind}
 use Rattle.bf_base.specs.declared.table.Kind.TheVariants as kinds
 use Rattle.bf_base.specs.declared.value.Value.TheVariants.{Int}
@@ -156,4 +157,4 @@ abbrev pub migrate_objections : Database → Migrate → List Refusal
 migrate_objections db m =
     flat_map (target_objections db) m.targets
     ++ taken_name_objections db m
-    ++ when (nat_lt 4 (length (drivers_of db m))) (refusal.UnitLimit (length (drivers_of db m)))
+    ++ when (nat_lt most_drivers (length (drivers_of db m))) (refusal.UnitLimit (length (drivers_of db m)))

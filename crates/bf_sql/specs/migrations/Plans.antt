@@ -11,7 +11,7 @@ use Rattle.bf_tree.specs.declared.reply.Refusal.{Refusal}
 use Rattle.bf_tree.specs.declared.statement.Statement.{Statement}
 use Rattle.bf_tree.specs.declared.statement.Statement.TheVariants.{Migrate as migrate}
 use Rattle.bf_tree.specs.declared.plan.ArmKind.{ArmKind}
-use Rattle.bf_tree.specs.declared.plan.ArmKind.TheVariants.{ByFrom, ByJoin, ByPair, ByGroup}
+use Rattle.bf_tree.specs.declared.plan.ArmKind.TheVariants.{ByGroup}
 use Rattle.bf_sql.specs.Bound.{action_of, bound_as}
 use Rattle.bf_sql.specs.Database.{Database}
 use Rattle.bf_sql.specs.migrations.MigrationObjections.{drivers_of, driver_by, is_by_row, migrate_objections, sources_of}

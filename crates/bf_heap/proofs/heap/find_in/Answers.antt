@@ -5,7 +5,7 @@ use Rattle.std.specs.Ordering.{ordering_index}
 use Rattle.std.proofs.lemmas.List.{get_or_default}
 use Rattle.bf_base.specs.Values.{key_cmp}
 use Rattle.bf_heap.specs.Heaps.{Entry}
-use Rattle.bf_heap.specs.Pages.{page_at, IsPageOf}
+use Rattle.bf_heap.specs.Pages.{page_at}
 use Rattle.bf_heap.proofs.Places.{no_row}
 use Rattle.bf_heap.proofs.heap.find_in.Goals as goal
 

@@ -2,7 +2,7 @@ use Rattle.std.proofs.Common.{◌≡◌, List, [], ◌∷◌, ◌++◌, ap, subs
 use Rattle.bf_txn.specs.declared.write.Write.{Write}
 use Rattle.bf_txn.specs.Writes.{OfTable, all_writes, writes_in}
 use Rattle.bf_live.specs.Commits.{HaveRoomFor, with_writes, with_writes_to}
-use Rattle.bf_live.specs.Live.{NamedRows, rows_in}
+use Rattle.bf_live.specs.Live.{rows_in}
 use Rattle.bf_live.proofs.Written.{no_writes, one_more, room_behind, room_for, rows_step}
 use Rattle.bf_live.proofs.commit.apply.Goals as goal
 

@@ -1,6 +1,4 @@
 -- Each session was looked at.
-use Rattle.std.proofs.Common.{◌≡◌, length, subst, arith}
-use Rattle.bf_machine.specs.interleaving.Seen.{IsLeastLeft}
 use Rattle.bf_machine.proofs.keeping.LeastLeft.{none_yet}
 use Rattle.bf_machine.proofs.so_far.least_left.Goals as goal
 

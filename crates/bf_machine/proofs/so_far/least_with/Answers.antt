@@ -1,7 +1,7 @@
 -- The session that was looked at has ended, or is of no earlier phase than the one found, or takes its place.
-use Rattle.std.proofs.Common.{◌≡◌, ℕ, ◌+◌, ◌<◌, ◌≤◌, length, Option, Some, None, sym, ap, subst, ◌∙◌, arith, inl, inr}
+use Rattle.std.proofs.Common.{◌≡◌, ◌+◌, ◌<◌, ◌≤◌, Some, None, sym, ap, subst, ◌∙◌, arith, inl, inr}
 use Rattle.std.proofs.lemmas.Bool.Decides.{nat_tests}
-use Rattle.bf_machine.specs.interleaving.Seen.{HasEndedAt, IsLeastLeft}
+use Rattle.bf_machine.specs.interleaving.Seen.{IsLeastLeft}
 use Rattle.bf_machine.proofs.keeping.LeastLeft.{ended_at, moves, not_ended_at, phase_at, stays}
 use Rattle.bf_machine.proofs.so_far.least_with.Goals as goal
 

@@ -1,11 +1,11 @@
 use Rattle.std.proofs.Common.{length}
 use Rattle.std.proofs.lemmas.Bool.{leb-true}
 use Rattle.bf_base.specs.Limits.{most_columns}
+use Rattle.bf_tree.specs.Limits.{has_few_items}
 use Rattle.bf_sql.specs.Bound.{without_rows}
 use Rattle.bf_sql.specs.migrations.MigrationObjections.{arm_objections}
 use Rattle.bf_bind.proofs.Walks.{pass_stops}
 use Rattle.bf_plan.specs.Arms.{bound_arm}
-use Rattle.bf_plan.specs.Limits.{has_few_items}
 use Rattle.bf_plan.proofs.Walked.{all_at, made_of_more, passes}
 use Rattle.bf_plan.proofs.arm.bind_arms.Goals as goal
 

@@ -1,12 +1,12 @@
 use Rattle.std.proofs.Common.{map, ap}
 use Rattle.bf_base.specs.Limits.{longest_script}
+use Rattle.bf_tree.specs.Limits.{has_small_arms}
 use Rattle.bf_sql.specs.Bound.{without_rows}
 use Rattle.bf_sql.specs.migrations.MigrationObjections.{target_objections}
 use Rattle.bf_tree.specs.declared.migration.Target.{Target}
 use Rattle.bf_sql.specs.migrations.Placed.{placed_arm}
 use Rattle.bf_sql.specs.migrations.Targets.{target_table}
 use Rattle.bf_bind.proofs.Walks.{pass_stops}
-use Rattle.bf_plan.specs.Limits.{has_small_arms}
 use Rattle.bf_plan.proofs.Planned.{few_arms, placed_more, units_more}
 use Rattle.bf_plan.proofs.Walked.{all_at, made_of_more, passes}
 use Rattle.bf_plan.specs.declared.target.BoundTarget.{BoundTarget}

@@ -1,6 +1,6 @@
 -- A grant and a wait change the locks alone; a death ends the attempt.
 use Rattle.std.proofs.Common.{◌≡◌, ℕ, ◌+◌, ◌-◌, if◌then◌else◌, List, length, sym, ap, subst, ◌∙◌, arith, rules}
-use Rattle.std.specs.Prelude.{nat_lt, slice_set}
+use Rattle.std.specs.Prelude.{nat_lt}
 use Rattle.std.proofs.lemmas.List.{length-map, length-set}
 use Rattle.bf_tree.specs.declared.script.Session.{Session}
 use Rattle.bf_machine.specs.declared.so_far.SessionSoFar.{SessionSoFar}

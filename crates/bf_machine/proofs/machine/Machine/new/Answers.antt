@@ -1,5 +1,5 @@
 -- Nothing has begun.
-use Rattle.std.proofs.Common.{◌≡◌, ◌+◌, ◌^◌, ◌<◌, ◌≤◌, List, length, vec_capacity, sym, ap, subst, arith}
+use Rattle.std.proofs.Common.{◌≡◌, ◌^◌, ◌<◌, ◌≤◌, List, length, vec_capacity, ap, subst, arith}
 use Rattle.bf_tree.specs.declared.script.Session.{Session}
 use Rattle.bf_sql.specs.Database.{Database}
 use Rattle.bf_machine.specs.declared.so_far.SessionSoFar.{SessionSoFar}
