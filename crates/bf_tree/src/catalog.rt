@@ -117,6 +117,14 @@ impl Catalog {
         self.indexes.values()
     }
 
+    /// The same tables and index rules, after as many schema changes as are told: what one change
+    /// replaces can be built up in steps, and counts once. Takes no memory.
+    pub fn with_number(self, number: u64) -> Catalog
+        ensures { result ≡ record self { number = number } }
+    {
+        Catalog { number, ..self }
+    }
+
     /// Adds a table of a new name, and counts a schema change. It compares about log n names.
     ///
     /// # Errors
