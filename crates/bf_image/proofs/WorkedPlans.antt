@@ -69,10 +69,10 @@ plan_of_tagged = record {
   migrate = tagged;
   tables = one (table (codes "ph") (int_column (codes "tag") ∷ int_column (codes "id") ∷ int_column (codes "num") ∷ []) (0 ∷ 1 ∷ []));
   arms = one (
-    record { kind = ByFrom; items = placed.Value (literal (number 1)) ∷ placed.Column 0 ∷ placed.Value (column 1) ∷ []; on = None; cond = always; group = [] }
-    ∷ record { kind = ByFrom; items = placed.Value (literal (number 2)) ∷ placed.Column 0 ∷ placed.Value (column 2) ∷ []; on = None; cond = always; group = [] }
-    ∷ []
-  );
+      record { kind = ByFrom; items = placed.Value (literal (number 1)) ∷ placed.Column 0 ∷ placed.Value (column 1) ∷ []; on = None; cond = always; group = [] }
+      ∷ record { kind = ByFrom; items = placed.Value (literal (number 2)) ∷ placed.Column 0 ∷ placed.Value (column 2) ∷ []; on = None; cond = always; group = [] }
+      ∷ []
+      );
   units = one (record { kind = unit_kind.Rows; driver = codes "c"; arms = (0, 0) ∷ (0, 1) ∷ [] });
   sources = one (codes "c");
 }
