@@ -5,5 +5,7 @@ mod commit;
 pub mod footprint_laws;
 pub mod laws;
 pub mod live_tables;
+pub mod on_table;
 
 pub use live_tables::LiveTables;
+pub use on_table::run_on_table;

@@ -8,10 +8,9 @@ ghost use Rattle.bf_machine.specs.interleaving.Groups.{left_by};
 ghost use Rattle.bf_machine.specs.interleaving.Answering.{CanAnswer, CanSettle, IsAnswer};
 ghost use Rattle.bf_machine.specs.interleaving.Seen.{pending_seen};
 
-use crate::on_table::run_on_table;
 use crate::so_far::Pending;
 use bf_base::Memory;
-use bf_live::LiveTables;
+use bf_live::{LiveTables, run_on_table};
 use bf_tree::{Action, Bound, Reply};
 use std::alloc::Global;
 

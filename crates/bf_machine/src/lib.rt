@@ -5,7 +5,6 @@
 mod answer;
 pub mod interleaving_laws;
 pub mod machine;
-mod on_table;
 pub mod opened;
 pub mod scripts;
 pub mod serving;

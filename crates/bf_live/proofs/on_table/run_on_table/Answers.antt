@@ -2,7 +2,7 @@ use Rattle.std.proofs.Common.{sym, subst}
 use Rattle.bf_query.specs.Actions.{IsSelect}
 use Rattle.bf_live.proofs.statements.OnTables.{has_heap, is_change, own_keys_there}
 use Rattle.bf_live.proofs.statements.Steps.{change_steps, select_steps}
-use Rattle.bf_machine.proofs.on_table.run_on_table.Goals as goal
+use Rattle.bf_live.proofs.on_table.run_on_table.Goals as goal
 
 pub unreachable-requires : goal.unreachable-requires
 unreachable-requires c =

@@ -8,8 +8,8 @@ ghost use Rattle.bf_live.specs.Live.{committed};
 ghost use Rattle.bf_live.specs.Actions.{IsOn};
 ghost use Rattle.bf_live.specs.Open.{IsOpen, IsStep};
 
+use crate::live_tables::LiveTables;
 use bf_base::{Memory, Table};
-use bf_live::LiveTables;
 use bf_query::{changes, select};
 use bf_tree::{Action, Bound, Reply};
 use bf_txn::Workspace;
@@ -21,7 +21,7 @@ use std::alloc::Global;
 ///
 /// # Errors
 /// Where memory runs out, or 2 ^ 32 rows or more change. The workspace is as it was then.
-pub(crate) fn run_on_table(
+pub fn run_on_table(
     alloc: Global,
     live: &LiveTables,
     writes: &mut Workspace,
