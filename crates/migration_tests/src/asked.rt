@@ -1,6 +1,7 @@
 //! MIGRATEs that are read from texts, and planned in the catalog of CREATE TABLEs that stand before them.
 
 ghost use Rattle.std.specs.Prelude.{◌≡◌, ◌≤◌, flat_map, length, IfSome, true};
+ghost use Rattle.std.specs.List.{list_all};
 ghost use Rattle.bf_base.specs.Limits.{most_columns};
 ghost use Rattle.bf_tree.specs.Limits.{HasNarrowTables, IsNarrowMigrate, has_small_arms};
 
@@ -88,9 +89,12 @@ fn create(alloc: Global, catalog: &mut Catalog, statement: &Statement) -> Result
 fn has_narrow_tables(catalog: &Catalog) -> bool
     ensures { result ≡ true → HasNarrowTables catalog.now }
 {
-    catalog
-        .tables()
-        .all(|table| table.columns.len() <= MOST_COLUMNS)
+    for table in catalog.tables() {
+        if table.columns.len() > MOST_COLUMNS {
+            return false;
+        }
+    }
+    true
 }
 
 /// How many arms there are, where a number tells it.
@@ -114,6 +118,12 @@ fn has_small_arms(target: &Target) -> bool
         .all(|arm| arm.items.len() <= MOST_COLUMNS)
 }
 
+fn have_small_arms(targets: &[Target]) -> bool
+    ensures { result ≡ list_all has_small_arms targets.now }
+{
+    targets.iter().all(|target| has_small_arms(target))
+}
+
 /// Whether a MIGRATE is of a size that a script can have.
 pub fn is_narrow(migrate: &Migrate) -> bool
     ensures { result ≡ true → IsNarrowMigrate migrate.now }
@@ -122,9 +132,10 @@ pub fn is_narrow(migrate: &Migrate) -> bool
     let Some(arms) = arm_count(targets) else {
         return false;
     };
-    targets.len() <= MOST_TARGETS
-        && arms <= LONGEST_SCRIPT as usize
-        && targets.iter().all(|target| has_small_arms(target))
+    if targets.len() > MOST_TARGETS || arms > LONGEST_SCRIPT as usize {
+        return false;
+    }
+    have_small_arms(targets)
 }
 
 fn planned_in(alloc: Global, migrate: &Migrate, catalog: &Catalog) -> Result<Planned, Fail> {

@@ -169,7 +169,7 @@ fn arms_go_row_by_row_with_one_list_of_key_items(rt: HostRuntime) -> Result<(), 
 }
 
 /// Next to these: what has a key.
-const INHERITED: [Case; 7] = [
+const INHERITED: [Case; 8] = [
     (
         "CREATE TABLE v AS SELECT (id) AS x, n FROM t",
         "v (x INT, n INT 0 to 9) key 0 <- from 0 1; rows t 0.0; sources t",
@@ -187,6 +187,11 @@ const INHERITED: [Case; 7] = [
     (
         "CREATE TABLE v AS SELECT n FROM t GROUP BY n",
         "v (n INT 0 to 9) key 0 <- group 1 by 1; groups t 0.0; sources t",
+    ),
+    // A column of the group is the same with its table's name before it.
+    (
+        "CREATE TABLE v AS SELECT COUNT(*) AS c, t.n AS x FROM t GROUP BY n",
+        "v (c INT, x INT 0 to 9) key 1 <- group total 1 by 1; groups t 0.0; sources t",
     ),
     (
         "CREATE TABLE v AS SELECT 9223372036854775807 AS tag, id FROM t \

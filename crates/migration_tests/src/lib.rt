@@ -19,4 +19,6 @@ mod prepared;
 #[cfg(test)]
 mod refusals;
 #[cfg(test)]
+mod sizes;
+#[cfg(test)]
 mod told;

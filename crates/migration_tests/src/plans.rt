@@ -166,10 +166,14 @@ fn totals_go_by_groups(rt: HostRuntime) -> Result<(), Fail> {
     Ok(())
 }
 
-const NAMES: [Case; 3] = [
+const NAMES: [Case; 4] = [
     (
         "CREATE TABLE t AS SELECT id, n FROM t",
         "t (id INT, n INT 0 to 9) key 0 <- from 0 1; rows t 0.0; sources t",
+    ),
+    (
+        "CREATE TABLE u AS SELECT t.id, k, n FROM t JOIN u ON t.id = u.id",
+        "u (id INT, k INT, n INT 0 to 9) key 0 <- from 0 5 1 on 0=4; rows t 0.0; sources t u",
     ),
     // Two tables change their names.
     (
@@ -218,22 +222,6 @@ fn rows_come_first_and_each_in_the_order_of_arms(rt: HostRuntime) -> Result<(), 
     Ok(())
 }
 
-const EIGHT: [Case; 1] = [(
-    "CREATE TABLE a AS SELECT id FROM t; CREATE TABLE b AS SELECT id FROM t; CREATE TABLE c AS SELECT id FROM t; \
-CREATE TABLE d AS SELECT id FROM t; CREATE TABLE e AS SELECT id FROM t; CREATE TABLE f AS SELECT id FROM t; \
-CREATE TABLE g AS SELECT id FROM t; CREATE TABLE h AS SELECT id FROM t",
-    "a (id INT) key 0 <- from 0; b (id INT) key 0 <- from 0; c (id INT) key 0 <- from 0; \
-d (id INT) key 0 <- from 0; e (id INT) key 0 <- from 0; f (id INT) key 0 <- from 0; \
-g (id INT) key 0 <- from 0; h (id INT) key 0 <- from 0; \
-rows t 0.0 1.0 2.0 3.0 4.0 5.0 6.0 7.0; sources t",
-)];
-
-#[test]
-fn eight_targets_have_one_source(rt: HostRuntime) -> Result<(), Fail> {
-    assert_eq!(rt; first_other(rt.alloc(), TABLES, &EIGHT)?, None);
-    Ok(())
-}
-
 const CHECKS: &str =
     "CREATE TABLE t (id INT, a INT CHECK (a BETWEEN 0 AND 9), b INT CHECK (b BETWEEN 0 AND 9), \
 c INT CHECK (c BETWEEN 0 AND 8), d INT, r VARCHAR(3), s VARCHAR(5), PRIMARY KEY (id)); ";
@@ -241,7 +229,7 @@ c INT CHECK (c BETWEEN 0 AND 8), d INT, r VARCHAR(3), s VARCHAR(5), PRIMARY KEY 
 /// The last items of several arms.
 const ARMS: (&str, &str) = ("CREATE TABLE v AS SELECT 1 AS tag, id, ", " AS z FROM t");
 
-const TOGETHER: [Case; 10] = [
+const TOGETHER: [Case; 11] = [
     ("a FROM t UNION ALL SELECT 2 AS tag, id, b", "INT 0 to 9"),
     ("a FROM t UNION ALL SELECT 2 AS tag, id, c", "INT"),
     ("a FROM t UNION ALL SELECT 2 AS tag, id, d", "INT"),
@@ -254,6 +242,10 @@ const TOGETHER: [Case; 10] = [
     (
         "a FROM t UNION ALL SELECT 2 AS tag, id, b FROM t UNION ALL SELECT 3 AS tag, id, a",
         "INT 0 to 9",
+    ),
+    (
+        "'' AS x FROM t UNION ALL SELECT 2 AS tag, id, 'abc'",
+        "VARCHAR(3)",
     ),
     ("r FROM t UNION ALL SELECT 2 AS tag, id, s", "VARCHAR(5)"),
     ("s FROM t UNION ALL SELECT 2 AS tag, id, r", "VARCHAR(5)"),

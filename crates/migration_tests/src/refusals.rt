@@ -231,10 +231,15 @@ fn arms_agree_in_counts_and_kinds_and_names_differ(rt: HostRuntime) -> Result<()
     Ok(())
 }
 
-const FAILURES: [Case; 4] = [
+const FAILURES: [Case; 5] = [
     (
         "CREATE TABLE v AS SELECT id, n, m + 1 AS x FROM t",
         "E14 may fail v item 3",
+    ),
+    (
+        "CREATE TABLE v AS SELECT id, n AS a, n AS b, n AS c, n AS d, n AS e, n AS f, n AS g, n AS h, n AS i, \
+n AS j, n AS k, n AS l, n AS o, n AS p, m + 1 AS x FROM t",
+        "E14 may fail v item 16",
     ),
     // An item is counted within its arm.
     (
