@@ -1,0 +1,4 @@
+mod Alone
+mod Answered
+mod Narrow
+mod Running
