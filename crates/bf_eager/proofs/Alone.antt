@@ -1,15 +1,13 @@
 -- A statement that changes the schema stands alone in its group, which commits.
-use Rattle.std.proofs.Common.{◌≡◌, ℕ, ◌+◌, Bool, true, false, not, List, [], ◌∷◌, length, map, refl, sym, ap, ◌∙◌, absurd, arith}
-use Rattle.std.proofs.lemmas.Bool.{not_from_false}
+use Rattle.std.proofs.Common.{◌≡◌, ℕ, Bool, true, false, List, [], ◌∷◌, length, refl, sym, ap, ◌∙◌, arith}
 use Rattle.bf_tree.specs.declared.statement.Statement.{Statement}
 use Rattle.bf_tree.specs.declared.statement.Statement.TheVariants.{CreateTable, CreateIndex, Insert, Select, Update, Delete, Begin, Commit, Rollback, Migrate}
 use Rattle.bf_sql.specs.Bound.{changes_schema, is_planned}
-use Rattle.bf_sql.specs.Groups.{commits, groups_from, groups_of}
+use Rattle.bf_sql.specs.Groups.{commits, groups_of}
 use Rattle.bf_eager.specs.Eager.{IsWholeGroup}
-use Rattle.bf_eager.specs.Groups.{leave_schema}
 
 -- the last statement of a first group
-last_of : List (ℕ × ℕ) → ℕ
+abbrev last_of : List (ℕ × ℕ) → ℕ
 last_of [] = 0
 last_of (g ∷ gs) = g.1
 

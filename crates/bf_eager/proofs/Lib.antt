@@ -1,4 +1,4 @@
 mod Alone
 mod Answered
-mod Narrow
+mod Prepared
 mod Running

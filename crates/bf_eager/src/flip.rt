@@ -1,9 +1,10 @@
 //! MIGRATE: the old tables leave, and the new ones have what it makes of them.
 
-ghost use Rattle.std.specs.Prelude.{◌≡◌, ℕ, IfOk, OnErr, false};
+ghost use Rattle.std.specs.Prelude.{◌≡◌, ℕ, IfOk, OnErr, OnOk, false};
 ghost use Rattle.bf_tree.specs.Limits.{HasNarrowTables};
 ghost use Rattle.bf_tree.specs.declared.statement.Statement.TheVariants as statement;
 ghost use Rattle.bf_sql.specs.Bound.{catalog_of};
+ghost use Rattle.bf_sql.specs.Database.{IsDatabase};
 ghost use Rattle.bf_sql.specs.Meaning.{executed};
 ghost use Rattle.bf_eager.specs.Groups.{IsPlanned};
 
@@ -21,6 +22,8 @@ pub(crate) fn migrate(alloc: Global, live: &mut LiveTables, plan: Plan) -> Resul
     requires tables { HasNarrowTables (catalog_of live.old) }
     ensures meant { IfOk result (λ reply. (commit : ℕ)
         → executed commit live.old false (statement.Migrate plan.migrate) ≡ (reply, live.new)) }
+    ensures database { OnOk result (IsDatabase live.new) }
+    ensures tables { OnOk result (HasNarrowTables (catalog_of live.new)) }
     ensures err { OnErr result (live.new ≡ live.old) }
 {
     Err(Memory)

@@ -3,6 +3,7 @@
 ghost use Rattle.std.specs.Prelude.{◌≡◌, ℕ, IfOk, IsTrue, OnErr, OnOk, false, true};
 ghost use Rattle.bf_tree.specs.Limits.{HasNarrowTables, IsNarrowIfMigrate, is_narrow_statement};
 ghost use Rattle.bf_sql.specs.Bound.{catalog_of, changes_schema};
+ghost use Rattle.bf_sql.specs.Database.{IsDatabase};
 ghost use Rattle.bf_sql.specs.Meaning.{executed};
 
 use crate::flip::migrate;
@@ -45,6 +46,7 @@ pub(crate) fn change_schema(
     requires migrates { IsNarrowIfMigrate statement.now }
     ensures meant { IfOk result (λ reply. (commit : ℕ)
         → executed commit live.old false statement.now ≡ (reply, live.new)) }
+    ensures database { OnOk result (IsDatabase live.new) }
     ensures tables { OnOk result (HasNarrowTables (catalog_of live.new)) }
     ensures err { OnErr result (live.new ≡ live.old) }
 {
