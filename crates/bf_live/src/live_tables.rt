@@ -131,6 +131,17 @@ impl LiveTables {
         Ok(())
     }
 
+    /// The same tables and index rules, after as many schema changes as are told: what stands for other
+    /// changes can be built up in steps. Takes no memory.
+    pub fn with_number(self, number: u64) -> LiveTables
+        ensures { result ≡ record self { number = number } }
+    {
+        LiveTables {
+            catalog: self.catalog.with_number(number),
+            ..self
+        }
+    }
+
     /// Makes what a transaction has written part of its tables, and each other table stays. The
     /// writes move into the tables, which leaves the workspace empty. A table is looked up twice, and
     /// a write to it costs a look-up by key, in time logarithmic in its rows; a new or a removed row
