@@ -1,0 +1,4 @@
+mod Alone
+mod Answered
+mod Prepared
+mod Running

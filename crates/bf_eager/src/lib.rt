@@ -1,0 +1,10 @@
+//! The database that replays the entries of a history one after the other, by plain code, on one
+//! thread: what later checks of a history hold it against.
+#![tactic(auto)]
+
+pub mod eager;
+mod flip;
+mod rows;
+mod schema;
+
+pub use eager::Eager;
