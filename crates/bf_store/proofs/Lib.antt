@@ -1,0 +1,5 @@
+pub mod Calls
+pub mod changing
+pub mod coming
+pub mod moving
+pub mod seeing

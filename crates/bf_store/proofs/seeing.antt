@@ -1,0 +1,7 @@
+-- The database that is seen, and statements and commits on it.
+pub mod Committing
+pub mod Opening
+pub mod Placing
+pub mod Serving
+pub mod Stepping
+pub mod Viewing
