@@ -1,4 +1,5 @@
 pub mod Calls
+pub mod WorkedMoves
 pub mod changing
 pub mod coming
 pub mod moving

@@ -1,20 +1,17 @@
 -- Names, granules, and the tables and targets that are found by a name.
-use Rattle.std.proofs.Common.{◌≡◌, ℕ, Bool, true, false, ◌&&◌, ◌||◌, ◌==◌, cond, List, [], ◌∷◌, map, get_or, find, Some, None, option_map, is_some, refl, sym, ap, ap₂, subst, ◌∙◌, arith, is_eq}
+use Rattle.std.proofs.Common.{◌≡◌, ℕ, Bool, true, false, ◌&&◌, ◌||◌, ◌==◌, cond, List, [], ◌∷◌, map, find, Some, None, option_map, is_some, refl, sym, ap, ap₂, subst, ◌∙◌, arith}
 use Rattle.std.specs.List.{list_all, list_any, AllByRecursion}
 use Rattle.std.specs.Ordering.{eq_by_cmp}
-use Rattle.std.specs.FinMap.{IsAntisymmetric, nat_cmp-IsAntisymmetric, slice_cmp-IsAntisymmetric}
 use Rattle.std.proofs.lemmas.Bool.Decides.{nat_tests}
-use Rattle.std.proofs.lemmas.Bool.{and_parts, and_from, eqb-true, false≢true}
-use Rattle.std.proofs.lemmas.Cmp.{tied_itself}
-use Rattle.std.proofs.lemmas.List.Elements.{recursion_from_All}
+use Rattle.std.proofs.lemmas.Bool.{and_parts, eqb-true, false≢true}
 use Rattle.bf_base.specs.declared.value.Value.{Value}
 use Rattle.bf_base.specs.declared.granule.Place.{Place}
 use Rattle.bf_base.specs.declared.granule.Place.TheVariants.{Row, Group}
 use Rattle.bf_base.specs.declared.granule.Granule.{Granule}
 use Rattle.bf_base.specs.Lists.{same_name, same_key, name_cmp, has}
 use Rattle.bf_base.specs.Values.{key_cmp_total, key_cmp-IsAntisymmetric}
-use Rattle.bf_base.proofs.Names.{name_cmp_total, same_name-tie, same_name-tie_back}
-use Rattle.bf_base.proofs.Order.{equal_from_test, same_from_some, symmetric, look_up, look_up-at, is_some-look_up}
+use Rattle.bf_base.proofs.Names.{name_cmp_total, same_name-tie}
+use Rattle.bf_base.proofs.Order.{equal_from_test, same_from_some, symmetric, look_up, is_some-look_up}
 use Rattle.bf_base.proofs.Parts.{find-map}
 use Rattle.bf_sql.specs.Database.{Database, Stored, stored_at, is_admitted}
 use Rattle.bf_sql.specs.migrations.Granules.{same_place, same_granule}

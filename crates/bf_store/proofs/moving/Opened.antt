@@ -5,7 +5,7 @@ use Rattle.std.proofs.lemmas.Bool.{not_from_false, not-true}
 use Rattle.std.proofs.lemmas.Simd.{map-map}
 use Rattle.bf_base.specs.declared.value.Value.{Value}
 use Rattle.bf_base.specs.declared.granule.Granule.{Granule}
-use Rattle.bf_base.specs.Lists.{same_name, same_key, has}
+use Rattle.bf_base.specs.Lists.{same_key, has}
 use Rattle.bf_base.specs.Tables.{key_of}
 use Rattle.bf_base.proofs.Apart.{apart_left}
 use Rattle.bf_base.proofs.Parts.{map_each}

@@ -6,7 +6,7 @@ use Rattle.std.proofs.lemmas.Bool.{and_parts, and_from, or_parts, not_from_false
 use Rattle.std.proofs.lemmas.Option.{same_Some}
 use Rattle.bf_base.specs.declared.value.Value.{Value}
 use Rattle.bf_base.specs.declared.table.Table.{Table}
-use Rattle.bf_base.specs.Lists.{same_name, same_key, has, with_placed}
+use Rattle.bf_base.specs.Lists.{same_key, has, with_placed}
 use Rattle.bf_base.specs.Tables.{cell, key_of}
 use Rattle.bf_base.specs.Values.{key_cmp}
 use Rattle.bf_sql.specs.Bound.{is_planned, without_rows, action_of, catalog_of}
