@@ -1,25 +1,25 @@
 -- The calls of a store keep its state lazy, and are seen as what they stand for.
 use Rattle.std.proofs.Common.{◌≡◌, ℕ, Bool, false, map, ◌∷◌, List, [], Option, Some, None, sym, ap, subst, ◌∙◌}
+use Rattle.std.specs.List.{AllByRecursion}
 use Rattle.bf_base.specs.declared.granule.Granule.{Granule}
+use Rattle.bf_tree.specs.declared.bound.Bound.{Bound}
 use Rattle.bf_tree.specs.declared.migration.Migrate.{Migrate}
+use Rattle.bf_tree.specs.declared.statement.Statement.{Statement}
+use Rattle.bf_txn.specs.declared.write.Write.{Write}
+use Rattle.bf_sql.specs.Bound.{is_planned, without_rows, bound_of}
 use Rattle.bf_sql.specs.Database.{Stored}
 use Rattle.bf_sql.specs.migrations.Images.{flipped}
 use Rattle.bf_sql.specs.migrations.Lazy.{Migration, LazyState, view_of}
+use Rattle.bf_sql.specs.migrations.Need.{needed_for}
+use Rattle.bf_image.proofs.items.Lists.{none_left, none_right}
 use Rattle.bf_live.specs.Live.{committed, written_to}
-use Rattle.bf_txn.specs.declared.write.Write.{Write}
+use Rattle.bf_live.proofs.statements.Bare.{same_bound}
 use Rattle.bf_store.specs.Calls.{cover_of, IsNeedOf, IsMoveOf, MayFlip, IsFlipOf, IsLegalCommit, IsCommitOf, with_commit}
 use Rattle.bf_store.specs.States.{AreFree, IsLazy, IsSeenAs, IsOpenLazily, IsQuiet, AreGranulesIfAny, HaveMoved, to_move}
-use Rattle.bf_image.proofs.items.Lists.{none_left, none_right}
-use Rattle.bf_store.proofs.seeing.Committing.{commits}
 use Rattle.bf_store.proofs.changing.Flipping.{flips}
 use Rattle.bf_store.proofs.moving.Moves.{moves}
 use Rattle.bf_store.proofs.moving.Needing.{done_if_none_left}
-use Rattle.std.specs.List.{AllByRecursion}
-use Rattle.bf_sql.specs.Bound.{is_planned, without_rows, bound_of}
-use Rattle.bf_tree.specs.declared.bound.Bound.{Bound}
-use Rattle.bf_tree.specs.declared.statement.Statement.{Statement}
-use Rattle.bf_sql.specs.migrations.Need.{needed_for}
-use Rattle.bf_live.proofs.statements.Bare.{same_bound}
+use Rattle.bf_store.proofs.seeing.Committing.{commits}
 use Rattle.bf_store.proofs.seeing.Viewing.{same_catalog_seen}
 
 pub move_call : (lazy after : LazyState) (gs : List Granule) (fresh already : List (Granule × ℕ)) → IsLazy lazy → AreGranulesIfAny lazy.last gs → IsMoveOf lazy after gs fresh already → IsQuiet lazy after

@@ -1,33 +1,33 @@
 -- Worked rows of lazy movement, by computing.
 use Rattle.std.specs.Prelude.{◌≡◌, ℕ, true, false, List, [], ◌∷◌, map, Some, None, codes, refl}
-use Rattle.bf_base.specs.declared.value.Value.TheVariants.{Text}
 use Rattle.bf_base.specs.declared.granule.Granule.{Granule}
 use Rattle.bf_base.specs.declared.granule.Place.TheVariants.{Group}
-use Rattle.bf_tree.specs.declared.raw.Ref.{Ref}
+use Rattle.bf_base.specs.declared.value.Value.TheVariants.{Text}
 use Rattle.bf_tree.specs.declared.compare.Compare.TheVariants as compare
-use Rattle.bf_tree.specs.Trees.{Cond, plus, both, literal, column, compared, joined}
+use Rattle.bf_tree.specs.declared.history.Sweep.TheVariants.{Running}
 use Rattle.bf_tree.specs.declared.items.Items.TheVariants as items
 use Rattle.bf_tree.specs.declared.migration.Item.TheVariants as item
 use Rattle.bf_tree.specs.declared.migration.Migrate.{Migrate}
-use Rattle.bf_tree.specs.declared.reply.Reply.TheVariants as reply
+use Rattle.bf_tree.specs.declared.raw.Ref.{Ref}
 use Rattle.bf_tree.specs.declared.reply.Refusal.TheVariants as refusal
+use Rattle.bf_tree.specs.declared.reply.Reply.TheVariants as reply
 use Rattle.bf_tree.specs.declared.statement.Statement.{Statement}
 use Rattle.bf_tree.specs.declared.statement.Statement.TheVariants as statement
-use Rattle.bf_tree.specs.declared.history.Sweep.TheVariants.{Running}
+use Rattle.bf_tree.specs.Trees.{Cond, plus, both, literal, column, compared, joined}
+use Rattle.bf_txn.specs.declared.write.Write.{Write}
+use Rattle.bf_sql.specs.Meaning.{executed}
+use Rattle.bf_sql.specs.Scopes.{unqualified}
 use Rattle.bf_sql.specs.migrations.Granules.{granule}
 use Rattle.bf_sql.specs.migrations.Images.{flipped}
 use Rattle.bf_sql.specs.migrations.Lazy.{LazyState, pending_of, view_of, flipped_lazily, moved, sweep_of}
-use Rattle.bf_sql.specs.Meaning.{executed}
 use Rattle.bf_sql.specs.migrations.Need.{needed_by}
-use Rattle.bf_sql.specs.Scopes.{unqualified}
 use Rattle.bf_sql.proofs.GroupedTotalsMoves as totals
-use Rattle.bf_sql.proofs.SplitTableMoves as split
 use Rattle.bf_sql.proofs.Spelling.{one, number, given, arm, target, migration, at_rest}
+use Rattle.bf_sql.proofs.SplitTableMoves as split
+use Rattle.bf_image.specs.Laws.{IsLawful}
 use Rattle.bf_live.specs.Live.{committed}
-use Rattle.bf_txn.specs.declared.write.Write.{Write}
 use Rattle.bf_store.specs.Calls.{moved_by, with_commit}
 use Rattle.bf_store.specs.States.{IsSeenAs, need_of_all, under}
-use Rattle.bf_image.specs.Laws.{IsLawful}
 use Rattle.bf_store.proofs.changing.Flipping.{flips}
 
 -- the totals of three customers, lazily: nothing has moved

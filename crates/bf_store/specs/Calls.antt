@@ -2,21 +2,21 @@
 -- call, `after` the state after it; after an Err the state is what it was.
 use Rattle.std.specs.Prelude.{◌≡◌, ℕ, ◌+◌, ◌||◌, List, [], ◌++◌, map, filter_map, find, Option, Some, None, is_some, option_map, false, IsTrue}
 use Rattle.std.specs.List.{list_all}
-use Rattle.bf_base.specs.declared.value.Value.{Value}
 use Rattle.bf_base.specs.declared.granule.Granule.{Granule}
+use Rattle.bf_base.specs.declared.value.Value.{Value}
 use Rattle.bf_base.specs.Lists.{has, same_key}
 use Rattle.bf_base.specs.Tables.{key_of}
 use Rattle.bf_tree.specs.declared.bound.Bound.{Bound}
 use Rattle.bf_tree.specs.declared.history.Sweep.{Sweep}
 use Rattle.bf_tree.specs.declared.migration.Migrate.{Migrate}
 use Rattle.bf_tree.specs.declared.statement.Statement.TheVariants as statement
+use Rattle.bf_txn.specs.declared.write.Write.{Write}
 use Rattle.bf_sql.specs.Database.{stored_at, table_at, table_rows}
-use Rattle.bf_sql.specs.migrations.Granules.{same_granule}
-use Rattle.bf_sql.specs.migrations.Lazy.{Migration, LazyState, migrations_so_far, pending_of, view_of, flipped_lazily, moved, sweep_of}
 use Rattle.bf_sql.specs.Objections.{objections}
 use Rattle.bf_sql.specs.RowObjections.{row_objections}
+use Rattle.bf_sql.specs.migrations.Granules.{same_granule}
+use Rattle.bf_sql.specs.migrations.Lazy.{Migration, LazyState, migrations_so_far, pending_of, view_of, flipped_lazily, moved, sweep_of}
 use Rattle.bf_live.specs.Live.{committed}
-use Rattle.bf_txn.specs.declared.write.Write.{Write}
 use Rattle.bf_store.specs.States.{IsOpenLazily, need_of, to_move}
 
 -- COVER: exactly what a bound statement needs, in order of unit and place: all granules for a MIGRATE, none where there is

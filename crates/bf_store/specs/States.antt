@@ -1,24 +1,24 @@
 -- What is true of a lazy state, and of the writes of a transaction that is open over it.
 use Rattle.std.specs.Prelude.{◌≡◌, Bool, true, not, List, [], map, Option, Some, None, IsTrue}
 use Rattle.std.specs.List.{list_all, AllByRecursion}
-use Rattle.bf_base.specs.declared.value.Value.{Value}
 use Rattle.bf_base.specs.declared.granule.Granule.{Granule}
 use Rattle.bf_base.specs.declared.table.Table.{Table}
+use Rattle.bf_base.specs.declared.value.Value.{Value}
 use Rattle.bf_base.specs.Lists.{same_key, has}
 use Rattle.bf_base.specs.Tables.{key_of}
 use Rattle.bf_base.proofs.Apart.{are_apart}
 use Rattle.bf_tree.specs.declared.bound.Action.{Action}
 use Rattle.bf_tree.specs.declared.migration.Migrate.{Migrate}
+use Rattle.bf_txn.specs.declared.write.Write.{Write}
 use Rattle.bf_sql.specs.Database.{Database, IsDatabase}
 use Rattle.bf_sql.specs.migrations.Granules.{granules_of, same_granule}
 use Rattle.bf_sql.specs.migrations.Lazy.{Migration, LazyState, due, is_done, not_done, view_of, IsValid, begun, flipped_lazily}
 use Rattle.bf_sql.specs.migrations.Need.{needed_for}
 use Rattle.bf_sql.specs.migrations.Targets.{target_table}
-use Rattle.bf_txn.specs.declared.write.Write.{Write}
-use Rattle.bf_live.specs.Live.{committed}
-use Rattle.bf_live.specs.Open.{IsOpen}
 use Rattle.bf_image.specs.Laws.{IsLawful}
 use Rattle.bf_image.specs.Sources.{frozen_of, table_under}
+use Rattle.bf_live.specs.Live.{committed}
+use Rattle.bf_live.specs.Open.{IsOpen}
 
 -- the granules that have moved
 abbrev pub granules_done : Migration → List Granule

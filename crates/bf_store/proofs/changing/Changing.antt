@@ -19,25 +19,25 @@ use Rattle.bf_tree.specs.declared.migration.Target.{Target}
 use Rattle.bf_tree.specs.declared.reply.Refusal.{Refusal}
 use Rattle.bf_tree.specs.declared.reply.Reply.TheVariants as reply
 use Rattle.bf_tree.specs.declared.statement.Statement.TheVariants as statement
+use Rattle.bf_sql.specs.Bound.{unless_objected}
 use Rattle.bf_sql.specs.Database.{Database, Stored, IsDatabase, stored_at, with_tables}
+use Rattle.bf_sql.specs.Meaning.{executed, effect, unless_refused, next_number, with_index}
+use Rattle.bf_sql.specs.Objections.{objections}
+use Rattle.bf_sql.specs.RowObjections.{row_objections}
 use Rattle.bf_sql.specs.migrations.Granules.{part_in}
 use Rattle.bf_sql.specs.migrations.Images.{flipped}
 use Rattle.bf_sql.specs.migrations.Lazy.{Migration, LazyState, pending, pending_of, due, is_on_time, seen, view_of, flipped_lazily}
-use Rattle.bf_sql.specs.Meaning.{executed, effect, unless_refused, next_number, with_index}
-use Rattle.bf_sql.specs.Bound.{unless_objected}
 use Rattle.bf_sql.specs.migrations.Need.{needed, needed_by}
 use Rattle.bf_sql.specs.migrations.Plans.{plan_made}
-use Rattle.bf_sql.specs.Objections.{objections}
-use Rattle.bf_sql.specs.RowObjections.{row_objections}
 use Rattle.bf_sql.specs.migrations.Targets.{target_table}
-use Rattle.bf_store.specs.States.{IsUnderWayIfAny, IsLazy, IsSeenAs}
-use Rattle.bf_image.specs.Sources.{table_under}
 use Rattle.bf_query.proofs.OwnKeys.{weakened}
-use Rattle.bf_image.proofs.items.Names.{name-equal}
-use Rattle.bf_store.proofs.coming.Found.{name_of, stored_at-look_up, has-stored_at}
-use Rattle.bf_store.proofs.changing.Flipping.{flips, seen_itself, on_time_itself, view_itself}
+use Rattle.bf_image.specs.Sources.{table_under}
 use Rattle.bf_image.proofs.items.Lists.{none_left, none_right}
+use Rattle.bf_image.proofs.items.Names.{name-equal}
 use Rattle.bf_image.proofs.keeping.Frozen.{objections_alike}
+use Rattle.bf_store.specs.States.{IsUnderWayIfAny, IsLazy, IsSeenAs}
+use Rattle.bf_store.proofs.changing.Flipping.{flips, seen_itself, on_time_itself, view_itself}
+use Rattle.bf_store.proofs.coming.Found.{name_of, stored_at-look_up, has-stored_at}
 use Rattle.bf_store.proofs.coming.Parts.{elsewhere}
 use Rattle.bf_store.proofs.seeing.Viewing.{seen_there}
 

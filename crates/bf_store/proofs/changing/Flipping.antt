@@ -1,16 +1,16 @@
 -- A flip that moves nothing is seen as the flip that makes whole images.
-use Rattle.std.proofs.Common.{◌≡◌, ℕ, ◌+◌, Bool, true, false, not, ◌&&◌, ◌||◌, cond, List, [], ◌∷◌, ◌++◌, map, filter, flat_map, find, Option, Some, None, is_some, option_map, refl, sym, ap, ap₂, subst, ◌∙◌, inl, inr, append_assoc}
+use Rattle.std.proofs.Common.{◌≡◌, ℕ, ◌+◌, Bool, true, false, not, ◌&&◌, cond, List, [], ◌∷◌, ◌++◌, map, filter, flat_map, find, Option, Some, None, is_some, option_map, refl, sym, ap, ap₂, subst, ◌∙◌, inl, inr, append_assoc}
 use Rattle.std.specs.List.{list_any, list_all, AllByRecursion}
 use Rattle.std.specs.FinMap.{nat_cmp-IsAntisymmetric, slice_cmp-IsAntisymmetric}
 use Rattle.std.specs.Option.{option_or}
 use Rattle.std.specs.Ordering.{eq_by_cmp}
-use Rattle.std.proofs.lemmas.Bool.{and_parts, and_from, or_parts, or_from, not_from_false, not-true, false≢true, cases_Bool}
+use Rattle.std.proofs.lemmas.Bool.{and_parts, and_from, or_parts, or_from, or_right, not_from_false, not-true, false≢true, cases_Bool}
 use Rattle.std.proofs.lemmas.List.{map-append}
 use Rattle.std.proofs.lemmas.List.Folds.{list_all-map, list_any-append, list_all-append, find-append}
 use Rattle.std.proofs.lemmas.Simd.{map-map}
-use Rattle.bf_base.specs.declared.value.Value.{Value}
 use Rattle.bf_base.specs.declared.granule.Granule.{Granule}
 use Rattle.bf_base.specs.declared.table.Table.{Table}
+use Rattle.bf_base.specs.declared.value.Value.{Value}
 use Rattle.bf_base.specs.Lists.{same_name, same_key, has, with_placed, in_order, with_before, with_before_from, name_cmp, when}
 use Rattle.bf_base.specs.Tables.{key_of}
 use Rattle.bf_base.specs.Values.{key_cmp}
@@ -19,22 +19,23 @@ use Rattle.bf_base.proofs.Names.{name_cmp_total, same_name-tie}
 use Rattle.bf_base.proofs.Order.{look_up, list_all-with_placed, list_any-with_placed}
 use Rattle.bf_base.proofs.Parts.{filter_always, list_all_always, map_itself, find-map, map_each, list_all_each}
 use Rattle.bf_tree.specs.declared.catalog.IndexRule.{IndexRule}
-use Rattle.bf_tree.specs.declared.migration.Target.{Target}
 use Rattle.bf_tree.specs.declared.migration.Migrate.{Migrate}
+use Rattle.bf_tree.specs.declared.migration.Target.{Target}
 use Rattle.bf_tree.specs.declared.reply.Refusal.TheVariants as refusal
 use Rattle.bf_sql.specs.Database.{Database, Stored, IsDatabase, stored_at, stored_in_order, is_keyed, is_within, is_on_table}
-use Rattle.bf_sql.specs.migrations.MigrationObjections.{sources_of, is_taken, migrate_objections}
-use Rattle.bf_sql.specs.migrations.Images.{image_of, replaced, flipped}
 use Rattle.bf_sql.specs.migrations.Granules.{granules_of, part_in}
+use Rattle.bf_sql.specs.migrations.Images.{image_of, replaced, flipped}
 use Rattle.bf_sql.specs.migrations.Lazy.{Migration, LazyState, pending, pending_of, rows_from, due, is_on_time, seen, view_of, begun, flipped_lazily}
+use Rattle.bf_sql.specs.migrations.MigrationObjections.{sources_of, is_taken, migrate_objections}
 use Rattle.bf_sql.specs.migrations.Targets.{target_table}
 use Rattle.bf_image.specs.Laws.{IsLawful}
-use Rattle.bf_store.specs.States.{IsLazy, IsSeenAs}
 use Rattle.bf_image.specs.Sources.{table_under}
-use Rattle.bf_store.proofs.coming.Found.{name_of, are_admitted, stored_at-look_up, has-stored_at}
-use Rattle.bf_image.proofs.items.Names.{name-equal, name-itself}
+use Rattle.bf_image.proofs.admitting.Flip.{all_left, kept_any}
 use Rattle.bf_image.proofs.items.Lists.{none_left, none_right, none_when, none_of_each, all_kept, all_so}
+use Rattle.bf_image.proofs.items.Names.{name-equal, name-itself}
 use Rattle.bf_live.proofs.statements.Named.{IsThere, all_there}
+use Rattle.bf_store.specs.States.{IsLazy, IsSeenAs}
+use Rattle.bf_store.proofs.coming.Found.{name_of, are_admitted, stored_at-look_up, has-stored_at}
 use Rattle.bf_store.proofs.coming.Parts.{elsewhere, parts_of, parts_of_lawful, HasLawfulParts}
 
 module _ {X : Type 0} where
@@ -42,30 +43,6 @@ module _ {X : Type 0} where
   list_all-with_before_from : (test : X → Bool) (seen xs : List X) → list_all (λ p. test p.1) (with_before_from seen xs) ≡ list_all test xs
   list_all-with_before_from test seen [] = refl
   list_all-with_before_from test seen (x ∷ xs) = ap (λ b. test x && b) (list_all-with_before_from test (seen ++ x ∷ []) xs)
-
-  -- an item that a test leaves is still there
-  pub list_any-filter_in : (test p : X → Bool) → ((x : X) → test x ≡ true → p x ≡ true) → (xs : List X) → list_any test xs ≡ true → list_any test (filter p xs) ≡ true
-  list_any-filter_in test p one [] some = absurd (false≢true some)
-  list_any-filter_in test p one (x ∷ xs) some = elim (cases_Bool (test x)) [
-    | inl here ↦
-        let kept = one x here in
-        rw (kept, here) refl
-    | inr other ↦
-        let behind : list_any test xs ≡ true = rw other at some in
-        let rest = list_any-filter_in test p one xs behind in
-        elim (p x) as (λ b. list_any test (cond b (x ∷ filter p xs) (filter p xs)) ≡ true) [
-          | true ↦ rw (other, rest) refl
-          | false ↦ rest
-        ]
-  ]
-
-  -- each item passes, where a test of each with those that it leaves says so
-  list_all-filter_each : (test p : X → Bool) → ((x : X) → p x ≡ true → test x ≡ true) → (xs : List X) → list_all test (filter p xs) ≡ true
-  list_all-filter_each test p one [] = refl
-  list_all-filter_each test p one (x ∷ xs) = elim (cases_Bool (p x)) [
-    | inl passes ↦ rw passes (and_from _ _ (one x passes) (list_all-filter_each test p one xs))
-    | inr fails ↦ rw fails (list_all-filter_each test p one xs)
-  ]
 
   none_if_none_passes : (p : X → Bool) (xs : List X) → list_any p xs ≡ false → find p xs ≡ None
   none_if_none_passes p [] e = refl
@@ -267,21 +244,10 @@ module _ (live : Database) (last : Option Migration) (m : Migrate) (is : IsDatab
   on_a_table_still : (index : IndexRule) → not (has same_name (sources_of m) index.table) ≡ true → is_on_table live index ≡ true → is_on_table flat index ≡ true
   on_a_table_still index stay on =
       let test = λ (s : Stored). same_name s.table.name index.table && is_within s.table index.columns in
-      let among : list_any test kept ≡ true = list_any-filter_in test stays (λ s e. ap (λ n. not (has same_name (sources_of m) n)) (name-equal s.table.name index.table (and_parts _ _ e).0) ∙ stay) live.tables on in
+      let among : list_any test kept ≡ true = kept_any test stays (λ s e. ap (λ n. not (has same_name (sources_of m) n)) (name-equal s.table.name index.table (and_parts _ _ e).0) ∙ stay) live.tables on in
       list_any-with_placed name_cmp_total name_of test [] all_tables
       ∙ list_any-append test (map empty m.targets) kept
-      ∙ or_second (list_any test (map empty m.targets)) (list_any test kept) among
-    where
-      or_second : (a b : Bool) → b ≡ true → (a || b) ≡ true
-      or_second true b e = refl
-      or_second false b e = e
-
-  indexes_still : (indexes : List IndexRule) → list_all (is_on_table live) indexes ≡ true → list_all (is_on_table flat) (filter (λ i. not (has same_name (sources_of m) i.table)) indexes) ≡ true
-  indexes_still [] all = refl
-  indexes_still (i ∷ indexes) all = elim (cases_Bool (not (has same_name (sources_of m) i.table))) [
-    | inl stay ↦ rw stay (and_from _ _ (on_a_table_still i stay (and_parts _ _ all).0) (indexes_still indexes (and_parts _ _ all).1))
-    | inr goes ↦ rw goes (indexes_still indexes (and_parts _ _ all).1)
-  ]
+      ∙ or_right (list_any test (map empty m.targets)) (list_any test kept) among
 
   pub flat_database : IsDatabase flat
   flat_database = record {
@@ -291,7 +257,7 @@ module _ (live : Database) (last : Option Migration) (m : Migrate) (is : IsDatab
     rows_admitted = of_all are_admitted (list_all_always m.targets) (all_kept are_admitted stays live.tables is.rows_admitted);
     keys_within = of_all (λ s. is_within s.table s.table.key) (list_all_each (λ t. HasLawfulParts old m t × IsSameTarget old live t) (λ t. is_within (target_table live t) (target_table live t).key) (λ t known. ap (λ (table : Table). is_within table table.key) (sym known.1.table) ∙ known.0.within) m.targets each_target)
         (all_kept (λ s. is_within s.table s.table.key) stays live.tables is.keys_within);
-    indexes_on_tables = indexes_still live.indexes is.indexes_on_tables;
+    indexes_on_tables = all_left (is_on_table live) (λ i. not (has same_name (sources_of m) i.table)) (is_on_table flat) on_a_table_still live.indexes is.indexes_on_tables;
   }
 
   -- each target is a live table

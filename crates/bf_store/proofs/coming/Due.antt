@@ -5,8 +5,8 @@ use Rattle.std.proofs.lemmas.Bool.{and_parts}
 use Rattle.std.proofs.lemmas.List.{map-append}
 use Rattle.std.proofs.lemmas.List.Elements.{filter_agree}
 use Rattle.std.proofs.lemmas.List.Folds.{list_any-append, list_all-append}
-use Rattle.bf_base.specs.declared.value.Value.{Value}
 use Rattle.bf_base.specs.declared.granule.Granule.{Granule}
+use Rattle.bf_base.specs.declared.value.Value.{Value}
 use Rattle.bf_base.specs.Lists.{same_name, same_key, has}
 use Rattle.bf_base.specs.Tables.{key_of}
 use Rattle.bf_base.specs.Values.{key_cmp_total}
@@ -19,11 +19,12 @@ use Rattle.bf_sql.specs.Database.{Database, Stored, is_admitted}
 use Rattle.bf_sql.specs.migrations.Granules.{granules_of, part_in, same_granule}
 use Rattle.bf_sql.specs.migrations.Lazy.{DoneGranule, Migration, is_done, pending, rows_from, due, done_by}
 use Rattle.bf_sql.specs.migrations.Targets.{target_table}
-use Rattle.bf_store.specs.States.{IsUnderWay, IsUnderWayIfAny, granules_done}
 use Rattle.bf_image.specs.Sources.{table_under}
+use Rattle.bf_image.proofs.finding.Found.{same_granule-equal}
 use Rattle.bf_image.proofs.items.Names.{name-equal}
-use Rattle.bf_store.proofs.coming.Found.{same_granule-equal, same_granule-symmetric, passes_if_found, each_at_found, none_if_not_found}
 use Rattle.bf_live.proofs.statements.Named.{IsThere}
+use Rattle.bf_store.specs.States.{IsUnderWay, IsUnderWayIfAny, granules_done}
+use Rattle.bf_store.proofs.coming.Found.{same_granule-symmetric, passes_if_found, each_at_found, none_if_not_found}
 use Rattle.bf_store.proofs.coming.Parts.{elsewhere, parts_of, parts_of_lawful, HasLawfulParts}
 
 module _ (live : Database) (last : Migration) (way : IsUnderWay live last) (s : Stored) (there : IsThere live s) where

@@ -1,31 +1,21 @@
 -- Names, granules, and the tables and targets that are found by a name.
 use Rattle.std.proofs.Common.{◌≡◌, ℕ, Bool, true, false, ◌&&◌, ◌||◌, ◌==◌, cond, List, [], ◌∷◌, map, find, Some, None, option_map, is_some, refl, sym, ap, ap₂, subst, ◌∙◌, arith}
-use Rattle.std.specs.List.{list_all, list_any, AllByRecursion}
+use Rattle.std.specs.List.{list_all, list_any, AllByRecursion, Contains}
 use Rattle.std.specs.Ordering.{eq_by_cmp}
 use Rattle.std.proofs.lemmas.Bool.Decides.{nat_tests}
-use Rattle.std.proofs.lemmas.Bool.{and_parts, eqb-true, false≢true}
-use Rattle.bf_base.specs.declared.value.Value.{Value}
+use Rattle.bf_base.specs.declared.granule.Granule.{Granule}
 use Rattle.bf_base.specs.declared.granule.Place.{Place}
 use Rattle.bf_base.specs.declared.granule.Place.TheVariants.{Row, Group}
-use Rattle.bf_base.specs.declared.granule.Granule.{Granule}
-use Rattle.bf_base.specs.Lists.{same_name, same_key, name_cmp, has}
-use Rattle.bf_base.specs.Values.{key_cmp_total, key_cmp-IsAntisymmetric}
+use Rattle.bf_base.specs.Lists.{same_name, name_cmp, has}
+use Rattle.bf_base.specs.Values.{key_cmp_total}
 use Rattle.bf_base.proofs.Names.{name_cmp_total, same_name-tie}
-use Rattle.bf_base.proofs.Order.{equal_from_test, same_from_some, symmetric, look_up, is_some-look_up}
+use Rattle.bf_base.proofs.Order.{same_from_some, symmetric, look_up, is_some-look_up}
 use Rattle.bf_base.proofs.Parts.{find-map}
 use Rattle.bf_sql.specs.Database.{Database, Stored, stored_at, is_admitted}
 use Rattle.bf_sql.specs.migrations.Granules.{same_place, same_granule}
 use Rattle.bf_image.proofs.items.Lists.{all_found}
+use Rattle.bf_live.proofs.locking.Elements.{here, behind}
 use Rattle.bf_live.proofs.statements.Named.{found_among}
-
-pub same_key-equal : (a b : List Value) → same_key a b ≡ true → a ≡ b
-same_key-equal a b e = key_cmp-IsAntisymmetric a b (equal_from_test _ e)
-
-same_place-equal : (p q : Place) → same_place p q ≡ true → p ≡ q
-same_place-equal (Row m) (Row n) e = ap Row (eqb-true m n e)
-same_place-equal (Row m) (Group w) e = absurd (false≢true e)
-same_place-equal (Group v) (Row n) e = absurd (false≢true e)
-same_place-equal (Group v) (Group w) e = ap Group (same_key-equal v w e)
 
 same_number-symmetric : (a b : ℕ) → (a == b) ≡ (b == a)
 same_number-symmetric a b = grind (arith, nat_tests)
@@ -35,13 +25,6 @@ same_place-symmetric (Row m) (Row n) = same_number-symmetric m n
 same_place-symmetric (Row m) (Group w) = refl
 same_place-symmetric (Group v) (Row n) = refl
 same_place-symmetric (Group v) (Group w) = symmetric key_cmp_total v w
-
-pub same_granule-equal : (g h : Granule) → same_granule g h ≡ true → g ≡ h
-same_granule-equal g h e =
-    let parts = and_parts _ _ e in
-    let unit = eqb-true g.unit h.unit parts.0 in
-    let place = same_place-equal g.place h.place parts.1 in
-    λ i. record { unit = unit i; place = place i }
 
 pub same_granule-symmetric : (g h : Granule) → same_granule g h ≡ same_granule h g
 same_granule-symmetric g h = ap₂ (λ b c. b && c) (same_number-symmetric g.unit h.unit) (same_place-symmetric g.place h.place)
@@ -61,6 +44,14 @@ module _ {X : Type 0} where
   each_at_found P p (y ∷ ys) x e all = elim (p y) as (λ b. cond b (Some y) (find p ys) ≡ Some x → P x) [
     | true ↦ λ e. subst P (same_from_some y x e) all.0
     | false ↦ λ e. each_at_found P p ys x e all.1
+  ] e
+
+  -- and is one of them
+  pub is_among : (p : X → Bool) (xs : List X) (x : X) → find p xs ≡ Some x → Contains xs x
+  is_among p [] x e = absurd cc
+  is_among p (y ∷ ys) x e = elim (p y) as (λ b. cond b (Some y) (find p ys) ≡ Some x → Contains (y ∷ ys) x) [
+    | true ↦ λ e. subst (Contains (y ∷ ys)) (same_from_some y x e) (here y ys)
+    | false ↦ λ e. behind y x ys (is_among p ys x e)
   ] e
 
   pub none_if_not_found : (p : X → Bool) (xs : List X) → find p xs ≡ None → list_any p xs ≡ false

@@ -4,10 +4,11 @@ use Rattle.std.proofs.Common.{◌≡◌, ℕ, zero, suc, ◌+◌, ◌<◌, Bool,
 use Rattle.std.specs.List.{list_any, list_all, AllByRecursion, Contains, range_with_len, enumerate_from}
 use Rattle.std.proofs.lemmas.Bool.{and_parts, and_from, and_left, or_parts, or_from, not_from_false, not-true, ne_eqb, eq-eqb}
 use Rattle.std.proofs.lemmas.List.Folds.{list_any-append, list_all-append}
-use Rattle.bf_base.specs.declared.value.Value.{Value}
+use Rattle.bf_base.specs.declared.granule.Granule.{Granule}
 use Rattle.bf_base.specs.declared.granule.Place.{Place}
 use Rattle.bf_base.specs.declared.granule.Place.TheVariants.{Row, Group}
-use Rattle.bf_base.specs.declared.granule.Granule.{Granule}
+use Rattle.bf_base.specs.declared.value.Value.{Value}
+use Rattle.bf_base.specs.Distinct.{distinct, with_new}
 use Rattle.bf_base.specs.Lists.{same_name, same_key, has, in_order}
 use Rattle.bf_base.specs.Tables.{key_of}
 use Rattle.bf_base.specs.Values.{key_cmp, key_cmp_total}
@@ -18,7 +19,6 @@ use Rattle.bf_base.proofs.Parts.{all_not_from_none, has_either_way, apart-flat_m
 use Rattle.bf_tree.specs.declared.migration.Arm.{Arm}
 use Rattle.bf_tree.specs.declared.migration.Migrate.{Migrate}
 use Rattle.bf_tree.specs.declared.migration.Target.{Target}
-use Rattle.bf_base.specs.Distinct.{distinct, with_new}
 use Rattle.bf_sql.specs.Database.{Database, Stored, table_rows, is_admitted, is_within}
 use Rattle.bf_sql.specs.migrations.Granules.{UnitForm, rows_unit, values_unit, arms_of, units_of, anchor_values, places_in, granule, granules_of, part_at, part_of, part_in, rows_driven, same_place, same_granule}
 use Rattle.bf_sql.specs.migrations.Images.{image_of}
@@ -31,6 +31,7 @@ use Rattle.bf_image.proofs.admitting.Flip.{key_within}
 use Rattle.bf_image.proofs.cutting.Made.{same_rows}
 use Rattle.bf_image.proofs.finding.Owned.{part_keys_apart, same_table, target_unobjected}
 use Rattle.bf_image.proofs.items.Lists.{all_of_contained}
+use Rattle.bf_live.proofs.locking.Elements.{here, behind}
 
 -- NO OTHER TABLE. A test of targets that none passes
 module _ (test : Target → Bool) where
@@ -193,7 +194,7 @@ of_target old m lawful t among =
 -- what is true of each that a list contains is true of each of it
 each_contained : {X : Type 0} (P : X → Type 0) (xs : List X) → ((x : X) → Contains xs x → P x) → AllByRecursion P xs
 each_contained P [] one = tt
-each_contained P (x ∷ xs) one = (one x (0, omega arith, refl), each_contained P xs (λ y among. one y (suc among.0, omega (arith, among.1), among.2)))
+each_contained P (x ∷ xs) one = (one x (here x xs), each_contained P xs (λ y among. one y (behind x y xs among)))
 
 pub parts_of_lawful : (old : Database) (m : Migrate) → IsLawful old m → AllByRecursion (HasLawfulParts old m) m.targets
 parts_of_lawful old m lawful = each_contained (HasLawfulParts old m) m.targets (of_target old m lawful)

@@ -5,22 +5,22 @@ use Rattle.std.proofs.lemmas.Bool.{and_parts, and_from, or_parts, not-true, not_
 use Rattle.std.proofs.lemmas.Grind.{fold-append}
 use Rattle.std.proofs.lemmas.List.{append-nil}
 use Rattle.std.proofs.lemmas.Simd.{map-map}
-use Rattle.bf_base.specs.declared.value.Value.{Value}
 use Rattle.bf_base.specs.declared.granule.Granule.{Granule}
+use Rattle.bf_base.specs.declared.value.Value.{Value}
 use Rattle.bf_base.specs.Lists.{has, with_placed}
 use Rattle.bf_base.specs.Tables.{key_of}
 use Rattle.bf_base.specs.Values.{key_cmp}
 use Rattle.bf_base.proofs.Apart.{are_apart, apart-filter}
 use Rattle.bf_base.proofs.Parts.{map_itself}
+use Rattle.bf_txn.specs.declared.write.Write.{Write}
 use Rattle.bf_sql.specs.Database.{Database, Stored, IsDatabase}
 use Rattle.bf_sql.specs.migrations.Granules.{granules_of, part_in, same_granule}
-use Rattle.bf_txn.specs.declared.write.Write.{Write}
 use Rattle.bf_sql.specs.migrations.Lazy.{DoneGranule, Migration, LazyState, is_done, not_done, pending, rows_from, is_on_time, seen, with_rows_of, done_by, with_record_of_moves, moved}
 use Rattle.bf_store.specs.States.{IsUnderWay, IsUnderWayIfAny, IsLazy, IsOpenLazily, IsQuiet, AreGranulesIfAny}
 use Rattle.bf_store.proofs.coming.Due.{with_done, pending_next}
-use Rattle.bf_store.proofs.moving.Opened.{open_after_move}
-use Rattle.bf_store.proofs.moving.Moving.{has_if_passes, live_then, last_then, view_after_move, valid_after_move, under_way_after_move, database_after_move}
 use Rattle.bf_store.proofs.coming.Parts.{granules_apart}
+use Rattle.bf_store.proofs.moving.Moving.{has_if_passes, live_then, last_then, view_after_move, valid_after_move, under_way_after_move, database_after_move}
+use Rattle.bf_store.proofs.moving.Opened.{open_after_move}
 
 abbrev at_no_record : Database → Migration → LazyState
 at_no_record live last = record { live = live; last = Some last; records = 0 }

@@ -1,13 +1,13 @@
 -- Granules that have not moved may move at any moment: the view stays.
 use Rattle.std.proofs.Common.{◌≡◌, ℕ, Bool, true, false, not, ◌&&◌, ◌||◌, cond, List, [], ◌∷◌, ◌++◌, map, filter, Some, refl, sym, ap, ◌∙◌, inl, inr}
 use Rattle.std.specs.List.{list_all, AllByRecursion}
-use Rattle.std.proofs.lemmas.Bool.{and_parts, and_from, or_parts, or_cases, or_from, not_from_false, not-true, false≢true, true_from_ne_false, cases_Bool}
+use Rattle.std.proofs.lemmas.Bool.{and_parts, and_from, or_parts, or_cases, or_from, or_right, not_from_false, not-true, false≢true, true_from_ne_false, cases_Bool}
 use Rattle.std.proofs.lemmas.Grind.{fold-append}
 use Rattle.std.proofs.lemmas.List.{map-append}
 use Rattle.std.proofs.lemmas.List.Folds.{list_any-append, list_all-append, list_all-map}
 use Rattle.std.proofs.lemmas.Simd.{map-map}
-use Rattle.bf_base.specs.declared.value.Value.{Value}
 use Rattle.bf_base.specs.declared.granule.Granule.{Granule}
+use Rattle.bf_base.specs.declared.value.Value.{Value}
 use Rattle.bf_base.specs.Lists.{same_name, same_key, has, with_placed, rises, name_cmp}
 use Rattle.bf_base.specs.Tables.{key_of}
 use Rattle.bf_base.specs.Values.{key_cmp, key_cmp_total}
@@ -18,13 +18,14 @@ use Rattle.bf_base.proofs.Parts.{filter_all, map_each, list_all_each}
 use Rattle.bf_sql.specs.Database.{Database, Stored, IsDatabase, is_admitted, is_keyed, is_within, is_on_table}
 use Rattle.bf_sql.specs.migrations.Granules.{granules_of, same_granule}
 use Rattle.bf_sql.specs.migrations.Lazy.{Migration, is_done, pending, rows_from, due, is_early, is_on_time, seen, with_rows_of}
-use Rattle.bf_store.specs.States.{IsUnderWay, granules_done}
-use Rattle.bf_store.proofs.seeing.Committing.{still_under_way}
-use Rattle.bf_store.proofs.coming.Due.{due_apart, due_admitted, due_parts, with_done, done_then}
-use Rattle.bf_store.proofs.coming.Found.{same_granule-equal, same_granule-symmetric, name_of, are_admitted, at_table}
+use Rattle.bf_image.proofs.finding.Found.{same_granule-equal}
 use Rattle.bf_image.proofs.items.Lists.{all_so}
 use Rattle.bf_live.proofs.statements.Named.{IsThere, all_there}
+use Rattle.bf_store.specs.States.{IsUnderWay, granules_done}
+use Rattle.bf_store.proofs.coming.Due.{due_apart, due_admitted, due_parts, with_done, done_then}
+use Rattle.bf_store.proofs.coming.Found.{same_granule-symmetric, name_of, are_admitted, at_table}
 use Rattle.bf_store.proofs.coming.Parts.{granules_apart}
+use Rattle.bf_store.proofs.seeing.Committing.{still_under_way}
 
 -- what a filter leaves passes its test
 passes_if_has : (test : Granule → Bool) (xs : List Granule) (g : Granule) → has same_granule (filter test xs) g ≡ true → test g ≡ true
@@ -51,14 +52,10 @@ has_if_passes test (x ∷ xs) g there passes = elim (or_cases (same_granule g x)
   | inr behind ↦
       let rest = has_if_passes test xs g behind passes in
       elim (test x) as (λ b. has same_granule (cond b (x ∷ filter test xs) (filter test xs)) g ≡ true) [
-        | true ↦ or_second (same_granule g x) (has same_granule (filter test xs) g) rest
+        | true ↦ or_right (same_granule g x) (has same_granule (filter test xs) g) rest
         | false ↦ rest
       ]
 ]
-  where
-    or_second : (a b : Bool) → b ≡ true → (a || b) ≡ true
-    or_second true b e = refl
-    or_second false b e = e
 
 -- one granule moves by record `number`
 module _ (live : Database) (last : Migration) (g : Granule) (number : ℕ) (is : IsDatabase live) (way : IsUnderWay live last)

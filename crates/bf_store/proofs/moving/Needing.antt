@@ -1,18 +1,13 @@
 -- What a statement needs moves, and then it has moved.
 use Rattle.std.proofs.Common.{◌≡◌, ℕ, ◌+◌, Bool, true, false, not, ◌&&◌, ◌||◌, cond, List, [], ◌∷◌, ◌++◌, map, filter, Option, Some, None, refl, ap, subst, ◌∙◌, inl, inr}
 use Rattle.std.specs.List.{list_all}
-use Rattle.std.proofs.lemmas.Bool.{and_parts, and_from, not_from_false, cases_Bool, eq-eqb}
-use Rattle.std.proofs.lemmas.Cmp.{tied_itself}
+use Rattle.std.proofs.lemmas.Bool.{and_parts, and_from, not_from_false, cases_Bool}
 use Rattle.std.proofs.lemmas.List.{map-append}
 use Rattle.std.proofs.lemmas.List.Folds.{list_any-append}
 use Rattle.std.proofs.lemmas.Simd.{map-map}
-use Rattle.std.specs.Ordering.{is_eq}
-use Rattle.bf_base.specs.declared.value.Value.{Value}
-use Rattle.bf_base.specs.declared.granule.Place.{Place}
-use Rattle.bf_base.specs.declared.granule.Place.TheVariants.{Row, Group}
 use Rattle.bf_base.specs.declared.granule.Granule.{Granule}
+use Rattle.bf_base.specs.declared.value.Value.{Value}
 use Rattle.bf_base.specs.Lists.{has}
-use Rattle.bf_base.specs.Values.{key_cmp_total}
 use Rattle.bf_base.proofs.Apart.{are_apart, apart-filter}
 use Rattle.bf_base.proofs.Parts.{map_itself}
 use Rattle.bf_tree.specs.declared.bound.Action.{Action}
@@ -20,44 +15,19 @@ use Rattle.bf_tree.specs.declared.bound.Action.TheVariants as action
 use Rattle.bf_tree.specs.declared.migration.Migrate.{Migrate}
 use Rattle.bf_tree.specs.declared.migration.Target.{Target}
 use Rattle.bf_sql.specs.Database.{Database}
-use Rattle.bf_sql.specs.migrations.Granules.{granules_of, same_place, same_granule}
+use Rattle.bf_sql.specs.migrations.Granules.{granules_of, same_granule}
 use Rattle.bf_sql.specs.migrations.Lazy.{DoneGranule, Migration, LazyState, is_done, not_done, pending_of, done_by, with_record_of_moves, moved}
 use Rattle.bf_sql.specs.migrations.Need.{giving, needed_for}
+use Rattle.bf_image.proofs.finding.Found.{same_granule-itself}
+use Rattle.bf_image.proofs.items.Lists.{all_kept, has_own}
 use Rattle.bf_store.specs.States.{IsUnderWayIfAny, IsLazy, IsQuiet, AreGranules, AreGranulesIfAny, HaveMoved, granules_done, need_of, need_of_all}
+use Rattle.bf_store.proofs.coming.Parts.{granules_apart}
 use Rattle.bf_store.proofs.moving.Moves.{moves}
 use Rattle.bf_store.proofs.moving.Moving.{has_if_passes}
-use Rattle.bf_store.proofs.coming.Parts.{granules_apart}
-
-same_place-itself : (p : Place) → same_place p p ≡ true
-same_place-itself (Row n) = eq-eqb n n refl
-same_place-itself (Group v) = ap is_eq (tied_itself key_cmp_total v)
-
-pub same_granule-itself : (g : Granule) → same_granule g g ≡ true
-same_granule-itself g = and_from _ _ (eq-eqb g.unit g.unit refl) (same_place-itself g.place)
-
--- a list has each of its granules, and each of those that a test leaves of it
-has_more : (x : Granule) (xs : List Granule) (gs : List Granule) → list_all (has same_granule xs) gs ≡ true → list_all (has same_granule (x ∷ xs)) gs ≡ true
-has_more x xs [] all = refl
-has_more x xs (g ∷ gs) all = and_from _ _ (or_second (same_granule g x) _ (and_parts _ _ all).0) (has_more x xs gs (and_parts _ _ all).1)
-  where
-    or_second : (a b : Bool) → b ≡ true → (a || b) ≡ true
-    or_second true b e = refl
-    or_second false b e = e
-
-pub has_each_left : (test : Granule → Bool) (gs : List Granule) → list_all (has same_granule gs) (filter test gs) ≡ true
-has_each_left test [] = refl
-has_each_left test (g ∷ gs) = elim (test g) as (λ b. list_all (has same_granule (g ∷ gs)) (cond b (g ∷ filter test gs) (filter test gs)) ≡ true) [
-  | true ↦ and_from _ _ (ap (λ b. b || has same_granule gs g) (same_granule-itself g)) (has_more g gs (filter test gs) (has_each_left test gs))
-  | false ↦ has_more g gs (filter test gs) (has_each_left test gs)
-]
-
-has_each : (gs : List Granule) → list_all (has same_granule gs) gs ≡ true
-has_each [] = refl
-has_each (g ∷ gs) = and_from _ _ (ap (λ b. b || has same_granule gs g) (same_granule-itself g)) (has_more g gs gs (has_each gs))
 
 -- the need of an action is of granules of the migration, which differ
 are_granules : (last : Migration) (test : Granule → Bool) → are_apart same_granule (granules_of last.old last.migrate) ≡ true → AreGranules last (filter test (granules_of last.old last.migrate))
-are_granules last test apart = record { each = has_each_left test (granules_of last.old last.migrate); apart = apart-filter same_granule test (granules_of last.old last.migrate) apart }
+are_granules last test apart = record { each = all_kept (has same_granule (granules_of last.old last.migrate)) test (granules_of last.old last.migrate) (has_own same_granule same_granule-itself (granules_of last.old last.migrate)); apart = apart-filter same_granule test (granules_of last.old last.migrate) apart }
 
 given : (last : Migration) (t : Option Target) (test : Target → List Value → Bool) → are_apart same_granule (granules_of last.old last.migrate) ≡ true → AreGranules last (giving last.old last.migrate t test)
 given last None test apart = record { each = refl; apart = refl }
@@ -68,7 +38,7 @@ need_is_granules last apart (action.Insert table rows) = given last _ _ apart
 need_is_granules last apart (action.Select table items cond fixed) = given last _ _ apart
 need_is_granules last apart (action.Update table sets cond fixed) = given last _ _ apart
 need_is_granules last apart (action.Delete table cond fixed) = given last _ _ apart
-need_is_granules last apart (action.Migrate plan) = record { each = has_each (granules_of last.old last.migrate); apart = apart }
+need_is_granules last apart (action.Migrate plan) = record { each = has_own same_granule same_granule-itself (granules_of last.old last.migrate); apart = apart }
 need_is_granules last apart other = record { each = refl; apart = refl }
 
 -- all of some granules are done where none is left of them
@@ -113,7 +83,7 @@ module _ (asked : Database → Migrate → List Granule) where
   behind_record lazy last [] e = done_if_none_left last (asked last.old last.migrate) e
   behind_record lazy last (g ∷ gs) e =
       let gs' = asked last.old last.migrate in
-      subst (λ fresh. list_all (is_done (record last { done = last.done ++ map (done_by (lazy.records + 1)) fresh })) gs' ≡ true) e (done_then last (lazy.records + 1) gs' gs' (has_each gs'))
+      subst (λ fresh. list_all (is_done (record last { done = last.done ++ map (done_by (lazy.records + 1)) fresh })) gs' ≡ true) e (done_then last (lazy.records + 1) gs' gs' (has_own same_granule same_granule-itself gs'))
 
   pub have_moved : (lazy : LazyState) → HaveMoved (moved lazy (asked_of lazy.last)).last (λ last. asked last.old last.migrate)
   have_moved lazy = on lazy.last
@@ -144,7 +114,7 @@ ready_to_flip lazy is = (moves lazy (asked_of granules_of lazy.last) is (are laz
   where
     are : (last : Option Migration) → IsUnderWayIfAny lazy.live last → AreGranulesIfAny last (asked_of granules_of last)
     are None way = tt
-    are (Some last) way = record { each = has_each (granules_of last.old last.migrate); apart = (granules_apart last.old last.migrate) }
+    are (Some last) way = record { each = has_own same_granule same_granule-itself (granules_of last.old last.migrate); apart = (granules_apart last.old last.migrate) }
 
     none_pending : (last : Option Migration) → HaveMoved last (λ last. granules_of last.old last.migrate) → pending_of last ≡ []
     none_pending None moved = refl

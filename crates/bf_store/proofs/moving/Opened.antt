@@ -3,27 +3,27 @@ use Rattle.std.proofs.Common.{◌≡◌, ℕ, true, false, not, List, [], ◌∷
 use Rattle.std.specs.List.{list_all, AllByRecursion}
 use Rattle.std.proofs.lemmas.Bool.{not_from_false, not-true}
 use Rattle.std.proofs.lemmas.Simd.{map-map}
-use Rattle.bf_base.specs.declared.value.Value.{Value}
 use Rattle.bf_base.specs.declared.granule.Granule.{Granule}
+use Rattle.bf_base.specs.declared.value.Value.{Value}
 use Rattle.bf_base.specs.Lists.{same_key, has}
 use Rattle.bf_base.specs.Tables.{key_of}
 use Rattle.bf_base.proofs.Apart.{apart_left}
 use Rattle.bf_base.proofs.Parts.{map_each}
+use Rattle.bf_txn.specs.declared.write.Write.{Write}
+use Rattle.bf_txn.specs.Writes.{writes_to}
 use Rattle.bf_sql.specs.Database.{Database, Stored, IsDatabase, stored_at}
 use Rattle.bf_sql.specs.migrations.Granules.{same_granule}
 use Rattle.bf_sql.specs.migrations.Lazy.{Migration, LazyState, pending, due, is_early, is_on_time, with_rows_of}
-use Rattle.bf_live.specs.Live.{committed, written_to}
-use Rattle.bf_txn.specs.declared.write.Write.{Write}
-use Rattle.bf_txn.specs.Writes.{writes_to}
 use Rattle.bf_query.specs.Meanings.{entries_of}
 use Rattle.bf_query.proofs.OwnKeys.{own_keys, by_recursion, each, weakened}
+use Rattle.bf_image.proofs.items.Lists.{all_so}
+use Rattle.bf_live.specs.Live.{committed, written_to}
+use Rattle.bf_live.proofs.statements.Named.{IsThere, all_there}
 use Rattle.bf_live.proofs.statements.Seeing.{Stands, begun}
 use Rattle.bf_store.specs.States.{IsUnderWay, IsLazy, IsOpenLazily, AreFree, is_free}
-use Rattle.bf_store.proofs.seeing.Committing.{commit_keeps, free_writes}
 use Rattle.bf_store.proofs.coming.Found.{stored_at-map, each_at_table}
-use Rattle.bf_image.proofs.items.Lists.{all_so}
-use Rattle.bf_live.proofs.statements.Named.{IsThere, all_there}
 use Rattle.bf_store.proofs.moving.Moving.{own, keys, on_time, keyed, both_apart, neither, last_then, live_then, database_after_move}
+use Rattle.bf_store.proofs.seeing.Committing.{commit_keeps, free_writes}
 use Rattle.bf_store.proofs.seeing.Placing.{written_around}
 
 module _ (live : Database) (last : Migration) (g : Granule) (number : ℕ) (is : IsDatabase live) (way : IsUnderWay live last)

@@ -1,18 +1,18 @@
 -- A sweep is complete exactly where nothing is pending.
-use Rattle.std.proofs.Common.{◌≡◌, ℕ, ◌+◌, Bool, true, false, not, ◌&&◌, ◌||◌, cond, List, [], ◌∷◌, ◌++◌, map, flat_map, find, length, Option, Some, None, refl, sym, ap, ap₂, ◌∙◌, inl, inr}
+use Rattle.std.proofs.Common.{◌≡◌, ℕ, ◌+◌, true, false, not, ◌&&◌, ◌||◌, cond, List, [], ◌∷◌, ◌++◌, map, flat_map, find, length, Option, Some, None, refl, sym, ap, ap₂, ◌∙◌, inl, inr}
 use Rattle.std.specs.List.{list_all, enumerate_from}
-use Rattle.std.proofs.lemmas.Bool.{and_parts, and_from, or_cases, false≢true}
+use Rattle.std.proofs.lemmas.Bool.{and_parts, and_from, or_cases, or_right, false≢true}
 use Rattle.std.proofs.lemmas.List.{map-append}
-use Rattle.bf_base.specs.declared.granule.Place.{Place}
 use Rattle.bf_base.specs.declared.granule.Granule.{Granule}
+use Rattle.bf_base.specs.declared.granule.Place.{Place}
 use Rattle.bf_base.specs.Lists.{has}
 use Rattle.bf_tree.specs.declared.history.Sweep.TheVariants.{Complete}
 use Rattle.bf_sql.specs.migrations.Granules.{UnitForm, units_of, anchors_of, granule, granules_of, same_granule}
 use Rattle.bf_sql.specs.migrations.Lazy.{Migration, is_done, pending, anchored, sweep_by, sweep_of}
-use Rattle.bf_image.proofs.finding.Owned.{sweep_meets}
-use Rattle.bf_store.proofs.coming.Found.{same_granule-equal}
-use Rattle.bf_store.proofs.moving.Needing.{same_granule-itself, done_if_none_left, none_left_if_done}
 use Rattle.bf_image.specs.Laws.{swept}
+use Rattle.bf_image.proofs.finding.Found.{same_granule-equal, same_granule-itself}
+use Rattle.bf_image.proofs.finding.Owned.{sweep_meets}
+use Rattle.bf_store.proofs.moving.Needing.{done_if_none_left, none_left_if_done}
 
 places_numbered : (n k : ℕ) (ps : List Place) → map (λ (x : Granule × ℕ). x.0) (map (λ a. (granule n a.1, a.0)) (enumerate_from k ps)) ≡ map (granule n) ps
 places_numbered n k [] = refl
@@ -51,11 +51,7 @@ module _ (last : Migration) where
   all_done_there gs hs same [] within all = refl
   all_done_there gs hs same (g ∷ more) within all =
       let here = within g (ap (λ b. b || has same_granule more g) (same_granule-itself g)) in
-      and_from _ _ (done_at gs g all (sym (same g) ∙ here)) (all_done_there gs hs same more (λ h there. within h (or_second (same_granule h g) (has same_granule more h) there)) all)
-    where
-      or_second : (a b : Bool) → b ≡ true → (a || b) ≡ true
-      or_second true b e = refl
-      or_second false b e = e
+      and_from _ _ (done_at gs g all (sym (same g) ∙ here)) (all_done_there gs hs same more (λ h there. within h (or_right (same_granule h g) (has same_granule more h) there)) all)
 
   meets : (g : Granule) → has same_granule (swept last.old last.migrate) g ≡ has same_granule (granules_of last.old last.migrate) g
   meets = sweep_meets last.old last.migrate

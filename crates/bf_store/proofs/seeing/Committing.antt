@@ -5,27 +5,28 @@ use Rattle.std.proofs.lemmas.Bool.{not-true, cases_Bool}
 use Rattle.std.proofs.lemmas.Simd.{map-map}
 use Rattle.std.proofs.lemmas.List.Folds.{list_all-map}
 use Rattle.bf_base.specs.declared.table.Table.{Table}
-use Rattle.bf_base.specs.Lists.{same_name, same_key, has, rises, with_placed}
+use Rattle.bf_base.specs.Lists.{same_name, same_key, has, with_placed}
 use Rattle.bf_base.specs.Tables.{key_of}
 use Rattle.bf_base.specs.Values.{key_cmp}
 use Rattle.bf_base.proofs.Apart.{are_apart}
 use Rattle.bf_base.proofs.Parts.{filter_all, map_each, list_all_each}
-use Rattle.bf_sql.specs.Database.{Database, Stored, stored_at, is_keyed}
-use Rattle.bf_sql.specs.migrations.Lazy.{Migration, LazyState, due, is_early, is_on_time, seen, view_of}
-use Rattle.bf_sql.specs.migrations.Targets.{target_table}
-use Rattle.bf_live.specs.Live.{committed, written_to}
 use Rattle.bf_txn.specs.declared.write.Write.{Write}
 use Rattle.bf_txn.specs.Writes.{writes_to}
-use Rattle.bf_query.specs.Merged.{entries_under, rows_under, StandUnderOwnKeys}
+use Rattle.bf_sql.specs.Database.{Database, Stored, stored_at}
+use Rattle.bf_sql.specs.migrations.Lazy.{Migration, LazyState, due, is_early, is_on_time, seen, view_of}
+use Rattle.bf_sql.specs.migrations.Targets.{target_table}
 use Rattle.bf_query.specs.Meanings.{entries_of}
+use Rattle.bf_query.specs.Merged.{entries_under, rows_under, StandUnderOwnKeys}
 use Rattle.bf_query.proofs.OwnKeys.{OwnKeys, own_keys, by_recursion}
-use Rattle.bf_store.specs.States.{IsUnderWayIfAny, IsLazy, IsSeenAs, AreFree, IsOpenLazily, under}
 use Rattle.bf_image.specs.Sources.{table_under}
-use Rattle.bf_store.proofs.coming.Due.{due_apart_if_any}
 use Rattle.bf_image.proofs.items.Names.{name-equal}
-use Rattle.bf_store.proofs.coming.Found.{stored_at-map, at_table, each_at_table}
+use Rattle.bf_live.specs.Live.{committed, written_to}
 use Rattle.bf_live.proofs.statements.Named.{IsThere, all_there}
+use Rattle.bf_store.specs.States.{IsUnderWayIfAny, IsLazy, IsSeenAs, AreFree, IsOpenLazily, under}
+use Rattle.bf_store.proofs.coming.Due.{due_apart_if_any}
+use Rattle.bf_store.proofs.coming.Found.{stored_at-map, each_at_table}
 use Rattle.bf_store.proofs.seeing.Placing.{written_around, written_on_time}
+use Rattle.bf_store.proofs.seeing.Viewing.{keyed, kept_on_time, rows_seen}
 
 -- a table that keeps its name, columns and key under a map of the tables
 same_table_there : (db : Database) (f : Stored → Stored) → ((s : Stored) → (f s).table ≡ s.table) → (name : List ℕ) → table_under (record db { tables = map f db.tables }) name ≡ table_under db name
@@ -59,12 +60,6 @@ free_writes last table (w ∷ writes) free = elim (cases_Bool (same_name w.table
 
 module _ (lazy : LazyState) (is : IsLazy lazy) (writes : List Write) (opened : IsOpenLazily lazy writes) where
   module _ (s : Stored) (there : IsThere lazy.live s) where
-    keyed : rises key_cmp (map (key_of s.table) s.rows) ≡ true
-    keyed = at_table is_keyed lazy.live.tables s there is.live.rows_by_key
-
-    on_time : is_on_time lazy.last s ≡ true
-    on_time = at_table (is_on_time lazy.last) lazy.live.tables s there is.valid
-
     apart : are_apart same_key (map (key_of s.table) (due lazy.last s.table.name)) ≡ true
     apart = due_apart_if_any lazy.live lazy.last is.last s there
 
@@ -74,20 +69,16 @@ module _ (lazy : LazyState) (is : IsLazy lazy) (writes : List Write) (opened : I
     own : OwnKeys s.table (entries_under (entries_of s.table s.rows) writes s.table.name)
     own = own_keys s.table (entries_of s.table s.rows) writes (each_at_table (λ u. StandUnderOwnKeys u.table (entries_of u.table u.rows) writes) lazy.live.tables s there (by_recursion (λ u. StandUnderOwnKeys u.table (entries_of u.table u.rows) writes) lazy.live.tables opened.over_live.own_keys))
 
-    -- a table as it is seen has its kept rows, and what is due in their places
-    pub seen_rows : (seen lazy.last s).rows ≡ with_placed key_cmp (key_of s.table) s.rows (due lazy.last s.table.name)
-    seen_rows = ap (λ rows. with_placed key_cmp (key_of s.table) rows (due lazy.last s.table.name)) (filter_all (λ row. not (is_early lazy.last s.table row)) s.rows on_time)
-
     then_on_time : is_on_time lazy.last (written_to writes s) ≡ true
-    then_on_time = written_on_time s.table s.rows (due lazy.last s.table.name) (writes_to s.table.name writes) keyed on_time apart free own
+    then_on_time = written_on_time s.table s.rows (due lazy.last s.table.name) (writes_to s.table.name writes) (keyed lazy is s there) (kept_on_time lazy is s there) apart free own
 
     seen_written : seen lazy.last (written_to writes s) ≡ written_to writes (seen lazy.last s)
     seen_written =
         let kept = filter_all (λ row. not (is_early lazy.last s.table row)) (written_to writes s).rows then_on_time in
         let rows : (seen lazy.last (written_to writes s)).rows ≡ (written_to writes (seen lazy.last s)).rows =
         ap (λ rows. with_placed key_cmp (key_of s.table) rows (due lazy.last s.table.name)) kept
-        ∙ sym (written_around s.table s.rows (due lazy.last s.table.name) (writes_to s.table.name writes) keyed on_time apart free own)
-        ∙ ap (λ rows. rows_under (entries_of s.table rows) writes s.table.name) (sym seen_rows) in
+        ∙ sym (written_around s.table s.rows (due lazy.last s.table.name) (writes_to s.table.name writes) (keyed lazy is s there) (kept_on_time lazy is s there) apart free own)
+        ∙ ap (λ rows. rows_under (entries_of s.table rows) writes s.table.name) (sym (rows_seen lazy is s there)) in
         λ i. record { table = s.table; rows = rows i }
 
   found : AllByRecursion (IsThere lazy.live) lazy.live.tables

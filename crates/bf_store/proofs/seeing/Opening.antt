@@ -1,17 +1,17 @@
 -- A transaction begins open, and a statement that the catalog refuses is refused on what is seen.
 use Rattle.std.proofs.Common.{◌≡◌, Bool, false, List, [], ◌∷◌, Some, sym, ◌∙◌}
 use Rattle.std.specs.List.{AllByRecursion}
-use Rattle.bf_sql.specs.Bound.{is_planned, without_rows, bound_of, catalog_of}
 use Rattle.bf_tree.specs.declared.bound.Action.TheVariants as action
 use Rattle.bf_tree.specs.declared.bound.Bound.{Bound}
 use Rattle.bf_tree.specs.declared.catalog.Catalog.{Catalog}
 use Rattle.bf_tree.specs.declared.reply.Refusal.{Refusal}
 use Rattle.bf_tree.specs.declared.reply.Reply.TheVariants as reply
 use Rattle.bf_tree.specs.declared.statement.Statement.{Statement}
+use Rattle.bf_txn.specs.declared.write.Write.{Write}
+use Rattle.bf_sql.specs.Bound.{is_planned, without_rows, bound_of, catalog_of}
 use Rattle.bf_sql.specs.Database.{Stored}
 use Rattle.bf_sql.specs.migrations.Lazy.{LazyState, view_of}
 use Rattle.bf_live.specs.Live.{committed}
-use Rattle.bf_txn.specs.declared.write.Write.{Write}
 use Rattle.bf_live.specs.Open.{IsStep}
 use Rattle.bf_live.proofs.statements.Outcomes.{IsBoundIn, bound_in, refused, refused_writes}
 use Rattle.bf_live.proofs.statements.Seeing.{begun, same_catalog}

@@ -6,39 +6,39 @@ use lib.Pointwise.{pointwise}
 use Rattle.std.proofs.lemmas.Bool.{and_parts, and_from, or_parts, or_from, false≢true, cases_Bool, eq-eqb}
 use Rattle.std.proofs.lemmas.List.{map-append}
 use Rattle.std.proofs.lemmas.List.Folds.{list_any-append, list_all-append}
-use Rattle.bf_base.specs.declared.value.Value.{Value}
 use Rattle.bf_base.specs.declared.table.Admit.{Admit}
 use Rattle.bf_base.specs.declared.table.Admit.TheVariants as admits
 use Rattle.bf_base.specs.declared.table.Table.{Table}
+use Rattle.bf_base.specs.declared.value.Value.{Value}
 use Rattle.bf_base.specs.Lists.{same_name, same_key, has, with_placed, with_before_from, when}
 use Rattle.bf_base.specs.Tables.{cell, key_of}
 use Rattle.bf_base.specs.Values.{key_cmp, key_cmp_total}
 use Rattle.bf_base.proofs.Apart.{filter-with_placed}
 use Rattle.bf_base.proofs.Order.{same_from_some, symmetric, list_any-map, has-with_placed}
 use Rattle.bf_base.proofs.Parts.{flat_map_none, nothing_left, has_either_way}
-use Rattle.bf_tree.specs.Trees.{Expr, Cond, always, compared, between, opposite}
-use Rattle.bf_tree.specs.Trees.{both, either}
-use Rattle.bf_tree.specs.Evaluation.{holds_on}
 use Rattle.bf_tree.specs.declared.bound.Action.{Action}
 use Rattle.bf_tree.specs.declared.bound.Action.TheVariants as action
 use Rattle.bf_tree.specs.declared.items.Items.{Items}
 use Rattle.bf_tree.specs.declared.migration.Target.{Target}
 use Rattle.bf_tree.specs.declared.reply.Refusal.TheVariants as refusal
 use Rattle.bf_tree.specs.declared.reply.Reply.TheVariants as reply
+use Rattle.bf_tree.specs.Evaluation.{holds_on}
 use Rattle.bf_tree.specs.Fixed.{conjuncts}
+use Rattle.bf_tree.specs.Trees.{Expr, Cond, always, compared, between, opposite}
+use Rattle.bf_tree.specs.Trees.{both, either}
 use Rattle.bf_sql.specs.Database.{Database, Stored, same_admit, same_column, same_table}
+use Rattle.bf_sql.specs.Queries.{selected, answer_of, changed}
+use Rattle.bf_sql.specs.RowObjections.{unfit_row_objections, taken_key_objections, answer_objections, change_objections}
 use Rattle.bf_sql.specs.migrations.Granules.{granules_of, part_in}
 use Rattle.bf_sql.specs.migrations.Lazy.{Migration, is_done, pending, due}
 use Rattle.bf_sql.specs.migrations.Need.{mentions_total, may_satisfy, has_key_of, target_of, giving, needed_for}
-use Rattle.bf_sql.specs.Queries.{selected, answer_of, changed}
-use Rattle.bf_sql.specs.RowObjections.{unfit_row_objections, taken_key_objections, answer_objections, change_objections}
 use Rattle.bf_sql.specs.migrations.Targets.{target_table}
 use Rattle.bf_query.specs.Actions.{action_table, admitted_at, objections_on, select_reply, change_reply, writes_of, write_of, unless_refused}
+use Rattle.bf_image.proofs.items.Names.{name-equal, name-itself}
+use Rattle.bf_live.proofs.statements.Named.{IsThere}
 use Rattle.bf_store.specs.States.{IsUnderWay, IsUnderWayIfAny, HaveMoved}
 use Rattle.bf_store.proofs.coming.Due.{made_by}
-use Rattle.bf_image.proofs.items.Names.{name-equal, name-itself}
 use Rattle.bf_store.proofs.coming.Found.{passes_if_found, none_if_not_found}
-use Rattle.bf_live.proofs.statements.Named.{IsThere}
 use Rattle.bf_store.proofs.coming.Parts.{elsewhere}
 
 counted : (mentions : Bool) (holds : Bool) → holds ≡ true → ((mentions || holds) && true) ≡ true

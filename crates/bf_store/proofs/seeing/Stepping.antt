@@ -4,43 +4,43 @@ use Rattle.std.specs.Prelude.{◌⊎◌, Ok}
 use Rattle.std.specs.List.{list_any, list_all, AllByRecursion}
 use Rattle.std.proofs.lemmas.Bool.{and_parts, and_from, or_parts, not_from_false}
 use Rattle.std.proofs.lemmas.Option.{same_Some}
-use Rattle.bf_base.specs.declared.value.Value.{Value}
 use Rattle.bf_base.specs.declared.table.Table.{Table}
+use Rattle.bf_base.specs.declared.value.Value.{Value}
 use Rattle.bf_base.specs.Lists.{same_key, has, with_placed}
 use Rattle.bf_base.specs.Tables.{cell, key_of}
 use Rattle.bf_base.specs.Values.{key_cmp}
-use Rattle.bf_sql.specs.Bound.{is_planned, without_rows, action_of, catalog_of}
-use Rattle.bf_tree.specs.Trees.{Cond}
-use Rattle.bf_tree.specs.Evaluation.{holds_on}
-use Rattle.bf_heap.specs.Heaps.{Entry}
 use Rattle.bf_tree.specs.declared.bound.Action.{Action}
 use Rattle.bf_tree.specs.declared.bound.Action.TheVariants as action
 use Rattle.bf_tree.specs.declared.reply.Refusal.{Refusal}
 use Rattle.bf_tree.specs.declared.reply.Reply.{Reply}
 use Rattle.bf_tree.specs.declared.statement.Statement.{Statement}
-use Rattle.bf_sql.specs.Database.{Database, Stored, IsDatabase, stored_at, table_rows}
-use Rattle.bf_sql.specs.migrations.Lazy.{LazyState, due, is_early, seen, view_of}
-use Rattle.bf_sql.specs.migrations.Need.{needed_for, has_key_of, giving, target_of}
-use Rattle.bf_sql.specs.Objections.{objections}
-use Rattle.bf_sql.specs.Queries.{selected, changed}
-use Rattle.bf_live.specs.Live.{committed, written_to}
+use Rattle.bf_tree.specs.Evaluation.{holds_on}
+use Rattle.bf_tree.specs.Trees.{Cond}
+use Rattle.bf_heap.specs.Heaps.{Entry}
 use Rattle.bf_txn.specs.declared.write.Write.{Write}
 use Rattle.bf_txn.specs.Writes.{table_key_cmp, table_key_of, with_write}
+use Rattle.bf_sql.specs.Bound.{is_planned, without_rows, action_of, catalog_of}
+use Rattle.bf_sql.specs.Database.{Database, Stored, IsDatabase, stored_at, table_rows}
+use Rattle.bf_sql.specs.Objections.{objections}
+use Rattle.bf_sql.specs.Queries.{selected, changed}
+use Rattle.bf_sql.specs.migrations.Lazy.{LazyState, due, is_early, seen, view_of}
+use Rattle.bf_sql.specs.migrations.Need.{needed_for, has_key_of, giving, target_of}
 use Rattle.bf_query.specs.Actions.{action_table, IsSelect, IsChange, objections_on, select_reply, change_reply, writes_of, written, rows_for, write_of}
 use Rattle.bf_query.specs.Meanings.{IsBoundAs, entries_of}
 use Rattle.bf_query.proofs.AsWritten.{select_law, reply_law}
 use Rattle.bf_query.proofs.Binding.{as_stored, stored_table}
 use Rattle.bf_query.proofs.OwnKeys.{by_recursion, each, with_one_more, weakened}
+use Rattle.bf_live.specs.Live.{committed, written_to}
 use Rattle.bf_live.specs.Open.{IsOpen, IsStep}
 use Rattle.bf_live.proofs.statements.Bare.{same_objections, same_action}
+use Rattle.bf_live.proofs.statements.Named.{IsThere, all_there}
 use Rattle.bf_live.proofs.statements.OnTables.{is_on, rows_there}
 use Rattle.bf_live.proofs.statements.Outcomes.{writes_of_action}
 use Rattle.bf_live.proofs.statements.Seeing.{Stands, same_catalog, seen_at, begun}
 use Rattle.bf_live.proofs.statements.Steps.{select_steps, change_steps}
 use Rattle.bf_store.specs.States.{IsLazy, IsOpenLazily, HaveMoved, AreFree, is_free, under}
-use Rattle.bf_store.proofs.seeing.Committing.{commit_is_seen, commit_keeps}
 use Rattle.bf_store.proofs.coming.Found.{each_at_table}
-use Rattle.bf_live.proofs.statements.Named.{IsThere, all_there}
+use Rattle.bf_store.proofs.seeing.Committing.{commit_is_seen, commit_keeps}
 use Rattle.bf_store.proofs.seeing.Serving.{ActsAlike, acts_alike, none_inserted, none_taken}
 use Rattle.bf_store.proofs.seeing.Viewing.{seen_there, same_catalog_seen, kept_on_time, rows_seen, view_is_database}
 

@@ -12,14 +12,14 @@ use Rattle.bf_base.specs.Values.{key_cmp, key_cmp_total}
 use Rattle.bf_base.proofs.Apart.{are_apart, apart_from_rises, apart-append, rises-placed_apart}
 use Rattle.bf_base.proofs.Order.{list_all-with_placed, list_any-map}
 use Rattle.bf_base.proofs.Parts.{filter_all, list_all_each}
+use Rattle.bf_sql.specs.Bound.{catalog_of}
 use Rattle.bf_sql.specs.Database.{Database, Stored, IsDatabase, stored_at, is_admitted, is_keyed, is_within, is_on_table}
 use Rattle.bf_sql.specs.migrations.Lazy.{Migration, LazyState, due, is_early, is_on_time, seen, view_of}
-use Rattle.bf_sql.specs.Bound.{catalog_of}
+use Rattle.bf_image.proofs.items.Lists.{all_so}
+use Rattle.bf_live.proofs.statements.Named.{IsThere, all_there}
 use Rattle.bf_store.specs.States.{IsUnderWayIfAny, IsLazy}
 use Rattle.bf_store.proofs.coming.Due.{due_apart_if_any, due_admitted}
 use Rattle.bf_store.proofs.coming.Found.{name_of, are_admitted, stored_at-map, at_table}
-use Rattle.bf_image.proofs.items.Lists.{all_so}
-use Rattle.bf_live.proofs.statements.Named.{IsThere, all_there}
 
 due_admitted_if_any : (live : Database) (last : Option Migration) → IsUnderWayIfAny live last → (s : Stored) → IsThere live s → list_all (is_admitted s.table) (due last s.table.name) ≡ true
 due_admitted_if_any live None way s there = refl
@@ -45,7 +45,7 @@ module _ (lazy : LazyState) (is : IsLazy lazy) where
     pub kept_on_time : is_on_time lazy.last s ≡ true
     kept_on_time = at_table (is_on_time lazy.last) lazy.live.tables s there is.valid
 
-    keyed : is_keyed s ≡ true
+    pub keyed : is_keyed s ≡ true
     keyed = at_table is_keyed lazy.live.tables s there is.live.rows_by_key
 
     -- a table as it is seen has its kept rows, and what is to come in its place
