@@ -2,6 +2,7 @@
 pub mod Committing
 pub mod Opening
 pub mod Placing
+pub mod Preparing
 pub mod Serving
 pub mod Stepping
 pub mod Viewing

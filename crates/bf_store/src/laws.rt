@@ -26,14 +26,15 @@ ghost use Rattle.bf_sql.specs.Objections.{objections};
 ghost use Rattle.bf_sql.specs.RowObjections.{row_objections};
 ghost use Rattle.bf_sql.specs.migrations.Granules.{owner_of};
 ghost use Rattle.bf_sql.specs.migrations.Images.{flipped};
-ghost use Rattle.bf_sql.specs.migrations.Lazy.{Migration, LazyState, moved, pending, sweep_of, pending_of, view_of, flipped_lazily};
+ghost use Rattle.bf_sql.specs.migrations.Lazy.{DoneGranule, Migration, LazyState, is_done, moved, pending, sweep_of, pending_of, view_of, flipped_lazily};
 ghost use Rattle.bf_sql.specs.migrations.Need.{needed_by, needed_for};
+ghost use Rattle.bf_sql.specs.migrations.Plans.{prepared_of};
 ghost use Rattle.bf_query.specs.Actions.{action_table};
 ghost use Rattle.bf_query.specs.Meanings.{IsBoundAs};
 ghost use Rattle.bf_image.specs.Laws.{IsLawful};
 ghost use Rattle.bf_live.specs.Live.{committed};
-ghost use Rattle.bf_live.specs.Open.{IsStep};
-ghost use Rattle.bf_store.specs.Calls.{with_commit};
+ghost use Rattle.bf_live.specs.Open.{IsOpen, IsStep};
+ghost use Rattle.bf_store.specs.Calls.{cover_of, with_commit, IsCommitOf, IsFlipOf, IsLegalCommit, IsMoveOf, IsNeedOf, MayFlip};
 ghost use Rattle.bf_store.specs.States.{frozen_lazily, AreGranulesIfAny, HaveMoved, IsLazy, IsOpenLazily, IsQuiet, IsSeenAs, IsUnderWay, is_free, need_of, need_of_all, settled_by};
 
 /// The view of a lazy state is a database.
@@ -81,6 +82,17 @@ pub fn a_transaction_begins_open()
         → IsStep (view_of lazy) before before in_block s (reply.Refused r) }
 {}
 
+/// A statement is prepared in the catalog of the live tables as it is in that of the database that is
+/// seen, and what it needs there is its cover here.
+pub fn a_statement_is_prepared_as_it_is_seen()
+    ensures prepared { (lazy : LazyState) (in_block : Bool) (s : Statement) → IsLazy lazy
+        → prepared_of (view_of lazy) in_block s ≡ prepared_of lazy.live in_block s }
+    ensures need { (lazy : LazyState) (last : Migration) (in_block : Bool) (s : Statement)
+        (bound : Bound) → IsLazy lazy → lazy.last ≡ Some last
+        → prepared_of lazy.live in_block s ≡ Some bound
+        → needed_by last.old last.migrate (view_of lazy) in_block s ≡ cover_of lazy.last bound }
+{}
+
 /// A SELECT, INSERT, UPDATE or DELETE of an open transaction, whose need has moved, which replies and
 /// writes on the live tables under the transaction's own writes what it means there, replies and
 /// writes what it means on the database that is seen, under the same writes; and the transaction
@@ -102,10 +114,15 @@ pub fn a_step_is_seen()
 {}
 
 /// The writes of an open transaction leave a lazy state lazy once they are committed, and are seen as
-/// the same writes to the database that is seen.
+/// the same writes to the database that is seen. Another transaction that is still open over the live
+/// tables then is open still.
 pub fn a_commit_is_seen()
-    ensures { (lazy : LazyState) (writes : List Write) → IsLazy lazy → IsOpenLazily lazy writes
+    ensures committed { (lazy : LazyState) (writes : List Write) → IsLazy lazy
+        → IsOpenLazily lazy writes
         → IsSeenAs (committed (view_of lazy) writes) (with_commit lazy writes) }
+    ensures others { (lazy : LazyState) (writes others : List Write) → IsOpenLazily lazy others
+        → IsOpen (with_commit lazy writes).live others
+        → IsOpenLazily (with_commit lazy writes) others }
 {}
 
 /// Of a live table that is a target, a key is free exactly where it has no owner or its owner has
@@ -167,8 +184,36 @@ pub fn a_schema_change_is_seen()
         (record lazy { live = next_number (with_index index lazy.live) }) }
 {}
 
+/// In which order granules have moved is not seen.
+pub fn the_order_of_moves_is_not_seen()
+    ensures pending { (last : Migration) (others : List DoneGranule)
+        → ((g : Granule) → is_done (record last { done = others }) g ≡ is_done last g)
+        → pending (record last { done = others }) ≡ pending last }
+    ensures view { (lazy : LazyState) (last : Migration) (others : List DoneGranule)
+        → ((g : Granule) → is_done (record last { done = others }) g ≡ is_done last g)
+        → view_of (record lazy { last = Some (record last { done = others }) })
+        ≡ view_of (record lazy { last = Some last }) }
+{}
+
 /// A sweep is complete exactly where nothing is pending.
 pub fn a_sweep_is_complete_exactly_where_nothing_is_pending()
     ensures { (last : Migration)
         → (sweep_of (Some last) ≡ Complete last.number (length last.done)) ↔ (pending last ≡ []) }
+{}
+
+/// What each call of a store does is seen as what it stands for: nothing where granules move, the flip,
+/// and the commit. Where nothing is left of the cover of a bound statement, its need has moved.
+pub fn the_calls_of_a_store_are_seen()
+    ensures moved { (lazy after : LazyState) (granules : List Granule)
+        (fresh already : List (Granule × ℕ)) → IsLazy lazy → AreGranulesIfAny lazy.last granules
+        → IsMoveOf lazy after granules fresh already → IsQuiet lazy after }
+    ensures flipped { (lazy after : LazyState) (m : Migrate) (number : ℕ) → IsLazy lazy
+        → MayFlip lazy m → IsFlipOf lazy after m number
+        → IsSeenAs (flipped (view_of lazy) m) after }
+    ensures committed { (lazy after : LazyState) (writes : List Write) (number : ℕ) → IsLazy lazy
+        → IsLegalCommit lazy writes → IsCommitOf lazy after writes number
+        → IsSeenAs (committed (view_of lazy) writes) after }
+    ensures needed { (lazy : LazyState) (bound : Bound) (answer : List Granule)
+        → IsNeedOf lazy (cover_of lazy.last bound) answer → answer ≡ []
+        → HaveMoved lazy.last (λ last. needed_for last.old last.migrate bound.action) }
 {}

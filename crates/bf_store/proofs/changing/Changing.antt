@@ -39,7 +39,7 @@ use Rattle.bf_store.specs.States.{IsUnderWayIfAny, IsLazy, IsSeenAs}
 use Rattle.bf_store.proofs.changing.Flipping.{flips, seen_itself, on_time_itself, view_itself}
 use Rattle.bf_store.proofs.coming.Found.{name_of, stored_at-look_up, has-stored_at}
 use Rattle.bf_store.proofs.coming.Parts.{elsewhere}
-use Rattle.bf_store.proofs.seeing.Viewing.{seen_there}
+use Rattle.bf_store.proofs.seeing.Preparing.{same_tables_seen}
 
 -- MIGRATE: where nothing stands in its way and nothing is left to move, a lazy flip is seen as the statement
 pub record Migrates (lazy : LazyState) (m : Migrate) : Type 0 where
@@ -153,14 +153,6 @@ module _ (lazy : LazyState) (is : IsLazy lazy) (table : Table) (absent : is_some
       view = view_with_table;
     }
 
--- the catalog has against a MIGRATE on what is seen what it has on the live tables
-same_objections : (lazy : LazyState) → IsLazy lazy → (m : Migrate) → objections (view_of lazy) false (statement.Migrate m) ≡ objections lazy.live false (statement.Migrate m)
-same_objections lazy is m = objections_alike (view_of lazy) lazy.live (λ name. ap (option_map (λ (s : Stored). s.table)) (seen_there lazy is name) ∙ same_table (stored_at lazy.live name)) m
-  where
-    same_table : (o : Option Stored) → option_map (λ (s : Stored). s.table) (option_map (seen lazy.last) o) ≡ option_map (λ (s : Stored). s.table) o
-    same_table None = refl
-    same_table (Some s) = refl
-
 -- a MIGRATE that the catalog refuses moves nothing and leaves all as it is, whatever is pending
 pub record IsRefusedAtOnce (lazy : LazyState) (m : Migrate) (r : Refusal) : Type 0 where
   pub meant : (commit : ℕ) → executed commit (view_of lazy) false (statement.Migrate m) ≡ (reply.Refused r, view_of lazy)
@@ -168,7 +160,7 @@ pub record IsRefusedAtOnce (lazy : LazyState) (m : Migrate) (r : Refusal) : Type
 
 pub refused_at_once : (lazy : LazyState) → IsLazy lazy → (m : Migrate) (r : Refusal) (rs : List Refusal) → objections lazy.live false (statement.Migrate m) ≡ r ∷ rs → IsRefusedAtOnce lazy m r
 refused_at_once lazy is m r rs e =
-    let same = same_objections lazy is m ∙ e in
+    let same = objections_alike (view_of lazy) lazy.live (same_tables_seen lazy is) m ∙ e in
     let bound : Action → Bound = λ act. record { catalog = (view_of lazy).number; schema_change = true; action = act } in
     record {
       meant = λ commit. ap (λ os. unless_refused (os ++ row_objections (view_of lazy) (statement.Migrate m)) (view_of lazy) (λ _. effect commit (view_of lazy) (statement.Migrate m))) same;
