@@ -1,5 +1,5 @@
 -- Nothing stands in the way of the rows that an arm of a migration makes: each total in a group has a value.
-use Rattle.std.proofs.Common.{◌≡◌, ℕ, ◌+◌, ◌≤◌, Bool, true, false, not, ◌&&◌, nat_le, cond, if◌then◌else◌, List, [], ◌∷◌, ◌++◌, map, filter, flat_map, length, Option, Some, None, is_some, IsTrue, refl, ap, ap₂, ◌∙◌, arith, append-nil}
+use Rattle.std.proofs.Common.{◌≡◌, ℕ, ◌+◌, ◌≤◌, Bool, true, false, not, ◌&&◌, nat_le, cond, if◌then◌else◌, List, [], ◌∷◌, ◌++◌, map, filter, flat_map, length, Option, Some, None, is_some, IsTrue, refl, sym, ap, ap₂, ◌∙◌, arith, append-nil}
 use Rattle.std.specs.Prelude.{option_map, unwrap_or, slice_index_or}
 use Rattle.std.specs.List.{list_all, enumerate_from, Contains, AllByRecursion}
 use Rattle.std.proofs.lemmas.Bool.{and_parts, and_from, not-true, not_from_false, false≢true}
@@ -10,7 +10,7 @@ use Rattle.bf_base.specs.declared.value.Value.{Value}
 use Rattle.bf_base.specs.declared.table.Admit.TheVariants as admits
 use Rattle.bf_base.specs.declared.table.Column.{Column}
 use Rattle.bf_base.specs.Distinct.{distinct}
-use Rattle.bf_base.specs.Lists.{same_key, when}
+use Rattle.bf_base.specs.Lists.{same_name, same_key, when}
 use Rattle.bf_base.specs.Tables.{cell, cells}
 use Rattle.bf_tree.specs.Evaluation.{holds_on}
 use Rattle.bf_tree.specs.Trees.{Expr}
@@ -25,12 +25,14 @@ use Rattle.bf_tree.specs.declared.migration.Migrate.{Migrate}
 use Rattle.bf_tree.specs.declared.migration.Target.{Target}
 use Rattle.bf_tree.specs.declared.plan.ArmKind.{ArmKind}
 use Rattle.bf_tree.specs.declared.plan.ArmKind.TheVariants.{ByFrom, ByJoin, ByPair, ByGroup}
+use Rattle.bf_tree.specs.declared.plan.PlacedArm.{PlacedArm}
 use Rattle.bf_tree.specs.declared.reply.Refusal.{Refusal}
 use Rattle.bf_tree.specs.declared.reply.Refusal.TheVariants as refusal
-use Rattle.bf_sql.specs.Database.{Database, table_at, is_admitted}
+use Rattle.bf_sql.specs.Database.{Database, Stored, IsDatabase, stored_at, table_at, table_rows, is_admitted, no_table}
 use Rattle.bf_sql.specs.RowObjections.{argument_objections, sum_objections, answer_objections}
 use Rattle.bf_sql.specs.Scopes.{Scope, scope_of, place_of, read_in, admitted_by}
 use Rattle.bf_sql.specs.migrations.Extents.{extent_of_total, may_fail}
+use Rattle.bf_sql.specs.migrations.Images.{group_value}
 use Rattle.bf_sql.specs.migrations.MigrationObjections.{is_by_group, is_grouped_item, inherits_key, failing_objections, target_objections}
 use Rattle.bf_sql.specs.migrations.Placed.{placed_arm, placed_groups, placed_item, placed_matches, placed_pair}
 use Rattle.bf_sql.specs.migrations.Targets.{arm_kind, arm_scope, extent_of_item, is_total, key_items}
@@ -38,9 +40,11 @@ use Rattle.bf_range.specs.Within.{is_held}
 use Rattle.bf_range.proofs.Rows.{row_held}
 use Rattle.bf_range.proofs.Totals.{total_unobjected}
 use Rattle.bf_query.proofs.Renaming.{answer_objections-over}
-use Rattle.bf_image.specs.ArmRows.{item_objections, IsUnobjected, CanMake}
+use Rattle.bf_image.specs.ArmRows.{AreOfOne, CanMake, IsUnobjected, item_objections}
 use Rattle.bf_image.specs.Laws.{IsLawful}
-use Rattle.bf_image.proofs.items.Lists.{none_left, none_right, none_when, none_of_each, all_both, all_kept, all_of_contained}
+use Rattle.bf_image.proofs.items.Lists.{none_left, none_right, none_when, none_of_each, all_both, all_found, all_kept, all_of_contained}
+use Rattle.bf_image.proofs.admitting.Few.{is_few, goes_over_few, few_sources}
+use Rattle.bf_image.proofs.making.Arms.{key-equal}
 use Rattle.bf_image.proofs.making.Unobjected.{key_there}
 use Rattle.bf_image.proofs.finding.Owned.{target_unobjected}
 
@@ -174,13 +178,70 @@ module _ (old : Database) (arm : Arm) (from join : List (List Value)) where
           each_group alone rows fine (v ∷ values) =
               (group_sound old arm alone (filter (λ row. same_key v (cells (placed_arm old arm).group row)) rows) (sound_part old arm (λ row. same_key v (cells (placed_arm old arm).group row)) rows fine) arm.items safe, each_group alone rows fine values)
 
+as_test : (a n : ℕ) → a ≤ n → nat_le a n ≡ true
+as_test a n e = grind (arith, nat_tests)
+
+is_okay : (old : Database) (m : Migrate) (t : Target) (arm : Arm) → IsLawful old m → Contains m.targets t → Contains t.arms arm → okay old arm ≡ true
+is_okay old m t arm lawful among its = all_of_contained (okay old) t.arms arm (arms_okay old t (target_unobjected old m lawful t among)) its
+
 -- each group of which an arm of a lawful migration makes a row, of few rows that FROM admits, has a value for each total
 pub can_make : (old : Database) (m : Migrate) (t : Target) (arm : Arm) (from join : List (List Value)) → IsLawful old m → Contains m.targets t → Contains t.arms arm
     → IsTrue (list_all (is_admitted (table_at old arm.from)) from) → length from ≤ most_rows → CanMake (placed_arm old arm) from join
 can_make old m t arm from join lawful among its all few =
     let fine : are_few_admitted old arm from ≡ true = and_from _ _ all (as_test (length from) most_rows few) in
-    let both = and_parts (inherits_key old arm) _ (all_of_contained (okay old) t.arms arm (arms_okay old t (target_unobjected old m lawful t among)) its) in
+    let both = and_parts (inherits_key old arm) (list_all (is_safe (arm_scope old arm)) arm.items) (is_okay old m t arm lawful among its) in
     by_kind old arm from join (arm_kind old arm) both.0 both.1 fine
+
+-- the old rows of a table are admitted
+pub rows_admitted : (old : Database) → IsDatabase old → (name : List ℕ) → list_all (is_admitted (table_at old name)) (table_rows old name) ≡ true
+rows_admitted old is name = of (stored_at old name) refl
   where
-    as_test : (a n : ℕ) → a ≤ n → nat_le a n ≡ true
-    as_test a n e = grind (arith, nat_tests)
+    of : (o : Option Stored) → stored_at old name ≡ o → list_all (is_admitted (unwrap_or (option_map (λ s. s.table) o) no_table)) (unwrap_or (option_map (λ s. s.rows) o) []) ≡ true
+    of None e = refl
+    of (Some s) e = all_found (λ s. list_all (is_admitted s.table) s.rows) (λ s. same_name s.table.name name) old.tables s is.rows_admitted e
+
+module _ (old : Database) (m : Migrate) (t : Target) (arm : Arm) (lawful : IsLawful old m) (among : Contains m.targets t) (its : Contains t.arms arm) where
+  -- so an arm can make rows of a part of FROM
+  pub can_make_of_part : (test : List Value → Bool) (join : List (List Value)) → CanMake (placed_arm old arm) (filter test (table_rows old arm.from)) join
+  can_make_of_part test join =
+      let few : is_few (table_rows old arm.from) ≡ true = all_of_contained (goes_over_few old) t.arms arm (all_of_contained (λ t. list_all (goes_over_few old) t.arms) m.targets t (few_sources old m lawful.few) among) its in
+      can_make old m t arm (filter test (table_rows old arm.from)) join lawful among its
+      (all_kept (is_admitted (table_at old arm.from)) test (table_rows old arm.from) (rows_admitted old lawful.database arm.from))
+      (at_most (length (filter test (table_rows old arm.from))) most_rows (less_too (length (filter test (table_rows old arm.from))) (length (table_rows old arm.from)) most_rows (shorter test (table_rows old arm.from)) few))
+
+  -- and of one row of it
+  pub can_make_of_row : (row : List Value) (join : List (List Value)) → Contains (table_rows old arm.from) row → CanMake (placed_arm old arm) (row ∷ []) join
+  can_make_of_row row join there =
+      can_make old m t arm (row ∷ []) join lawful among its
+      (and_from _ _ (all_of_contained (is_admitted (table_at old arm.from)) (table_rows old arm.from) row (rows_admitted old lawful.database arm.from) there) refl) (omega arith)
+
+  -- the rows of FROM with a value are of one group where the arm has groups
+  pub part_of_one : (v : List Value) (rows : List (List Value)) → AreOfOne (arm_kind old arm) (placed_arm old arm) (filter (λ row. same_key v (group_value old arm row)) rows)
+  part_of_one v rows = of (arm_kind old arm) (and_parts (inherits_key old arm) (list_all (is_safe (arm_scope old arm)) arm.items) (is_okay old m t arm lawful among its)).0
+    where
+      each : (rows : List (List Value)) → AllByRecursion (λ row. cells (placed_arm old arm).group row ≡ v) (filter (λ row. same_key v (group_value old arm row)) rows)
+      each [] = tt
+      each (row ∷ rows) = of (same_key v (group_value old arm row)) refl (each rows)
+        where
+          of : (b : Bool) → same_key v (group_value old arm row) ≡ b → AllByRecursion (λ row. cells (placed_arm old arm).group row ≡ v) (filter (λ row. same_key v (group_value old arm row)) rows)
+              → AllByRecursion (λ row. cells (placed_arm old arm).group row ≡ v) (cond b (row ∷ filter (λ row. same_key v (group_value old arm row)) rows) (filter (λ row. same_key v (group_value old arm row)) rows))
+          of true e rest = (map-map (cell row) (place_of (arm_scope old arm)) arm.group ∙ sym (key-equal v (group_value old arm row) e), rest)
+          of false e rest = rest
+
+      without_join : (o : Option Join) → not (is_some o) ≡ true → option_map (λ j. map (placed_pair (arm_scope old arm)) j.on) o ≡ None
+      without_join None alone = refl
+      without_join (Some j) alone = absurd (false≢true alone)
+
+      of : (kind : ArmKind) → (list_all is_some (key_items old arm) && (if is_by_group kind then not (is_some arm.join) && list_all (is_grouped_item old arm) arm.items else list_all (λ i. not (is_total i)) arm.items)) ≡ true
+          → AreOfOne kind (placed_arm old arm) (filter (λ row. same_key v (group_value old arm row)) rows)
+      of ByFrom key = tt
+      of ByJoin key = tt
+      of ByPair key = tt
+      of ByGroup key = (without_join arm.join (and_parts _ _ (and_parts (list_all is_some (key_items old arm)) _ key).1).0, (v, each rows))
+
+-- an arm without groups takes any rows
+pub any_of_none : (kind : ArmKind) (arm : PlacedArm) (rows : List (List Value)) → is_by_group kind ≡ false → AreOfOne kind arm rows
+any_of_none ByFrom arm rows other = tt
+any_of_none ByJoin arm rows other = tt
+any_of_none ByPair arm rows other = tt
+any_of_none ByGroup arm rows other = absurd (false≢true (sym other))
