@@ -82,7 +82,7 @@ module _ (t : Table) where
   IsNew tables = find (λ (u : Table). same_name u.name t.name) tables ≡ None
 
   -- a table of another name comes before it, or behind it
-  before_or_behind : (u : Table) (rest : Option Table) → cond (same_name u.name t.name) (Some u) rest ≡ None → (name_cmp t.name u.name ≡ Equal → ⊥) × (rest ≡ None)
+  pub before_or_behind : (u : Table) (rest : Option Table) → cond (same_name u.name t.name) (Some u) rest ≡ None → (name_cmp t.name u.name ≡ Equal → ⊥) × (rest ≡ None)
   before_or_behind u rest none = elim (name_cmp t.name u.name) as (λ r. name_cmp t.name u.name ≡ r → (name_cmp t.name u.name ≡ Equal → ⊥) × (rest ≡ None)) [
     | Less ↦ λ is.
         let other : same_name u.name t.name ≡ false = same_name-tie_back u.name t.name ∙ ap is_eq is in

@@ -1,5 +1,7 @@
 mod Committed
 mod Created
+mod Drafts
+mod Exchanged
 mod Heaps
 mod Held
 mod Written

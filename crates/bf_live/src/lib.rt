@@ -2,6 +2,7 @@
 #![tactic(auto)]
 
 mod commit;
+mod draft;
 pub mod footprint_laws;
 pub mod laws;
 pub mod live_tables;

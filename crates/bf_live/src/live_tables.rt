@@ -1,6 +1,6 @@
 //! The live tables.
 
-ghost use Rattle.std.specs.Prelude.{◌≡◌, [], ◌∷◌, OnErr, OnOk};
+ghost use Rattle.std.specs.Prelude.{◌≡◌, [], ◌∷◌, OnErr, OnOk, map};
 ghost use Rattle.std.specs.List.{All};
 ghost use Rattle.std.specs.Option.{option_map};
 ghost use Rattle.bf_query.specs.Meanings.{entries_of};
@@ -8,9 +8,10 @@ ghost use Rattle.bf_query.specs.Merged.{StandUnderOwnKeys};
 ghost use Rattle.bf_sql.specs.Database.{IsDatabase, empty_database, stored_at, stored_in_order, with_tables};
 ghost use Rattle.bf_sql.specs.Meaning.{next_number, with_index};
 ghost use Rattle.bf_sql.specs.Bound.{catalog_of};
-ghost use Rattle.bf_live.specs.Live.{committed};
+ghost use Rattle.bf_live.specs.Live.{IsUnderOwnKeys, committed, exchanged, held_in, stored};
 
 use crate::commit::{apply, make_room};
+use crate::draft::Draft;
 use bf_base::{Memory, Name, Table};
 use bf_heap::Heap;
 use bf_tree::{Catalog, IndexRule};
@@ -103,6 +104,42 @@ impl LiveTables {
         ensures err { OnErr result (self.new ≡ self.old) }
     {
         self.catalog.add_index(index)
+    }
+
+    /// Tables leave with their index rules, and new ones come with their rows, as one schema change. A
+    /// name may leave and come back. Each table and each index rule is compared with the names that
+    /// leave, and a table is placed by about log n compares; the columns of those that stay are copied,
+    /// and no row is.
+    ///
+    /// # Errors
+    /// Where memory runs out, or 2 ^ 64 schema changes were made. The live tables are as they were then.
+    pub fn replace(&mut self, gone: &[Name], new: Vec<(Table, Heap)>) -> Result<(), Memory>
+        requires database { IsDatabase
+            (exchanged self.old gone.now (map stored (held_in new.items))) }
+        requires own_keys { All IsUnderOwnKeys (held_in new.items) }
+        ensures ok { OnOk result (self.new
+            ≡ exchanged self.old gone.now (map stored (held_in new.items))) }
+        ensures err { OnErr result (self.new ≡ self.old) }
+    {
+        let number = self.catalog.number().checked_add(1).ok_or(Memory)?;
+        let mut draft = Draft::of(self.alloc, &self.catalog, gone, new)?;
+        let old = mem::replace(&mut self.heaps, BTreeMap::new(self.alloc));
+        draft.put_staying(gone, old);
+        let (catalog, heaps) = draft.into_parts();
+        self.catalog = catalog.with_number(number);
+        self.heaps = heaps;
+        Ok(())
+    }
+
+    /// The same tables and index rules, after as many schema changes as are told: what stands for other
+    /// changes can be built up in steps. Takes no memory.
+    pub fn with_number(self, number: u64) -> LiveTables
+        ensures { result ≡ record self { number = number } }
+    {
+        LiveTables {
+            catalog: self.catalog.with_number(number),
+            ..self
+        }
     }
 
     /// Makes what a transaction has written part of its tables, and each other table stays. The

@@ -1,0 +1,123 @@
+//! The arms of a migration with their old tables.
+
+ghost use Rattle.std.specs.Prelude.{◌≡◌, IfOk, IsTrue};
+ghost use Rattle.bf_base.specs.Tables.{cells};
+ghost use Rattle.bf_tree.specs.Limits.{is_narrow};
+ghost use Rattle.bf_image.specs.BoundArms.{IsFound, IsOfUnit, arm_at, places_in_from, places_in_join};
+ghost use Rattle.bf_image.specs.Migrations.{IsLawfulMigration, unit_at};
+
+use crate::arm_rows::column_value;
+use crate::migration::{Frozen, Migration};
+use bf_base::{Key, Memory, Row};
+use bf_tree::{PlacedArm, UnitKind};
+use std::alloc::Global;
+
+/// An arm of a migration: the number of its target, how it is placed, and its old tables.
+#[derive(Drop)]
+pub(crate) struct FrozenArm<'a> {
+    pub(crate) target: u8,
+    pub(crate) placed: &'a PlacedArm,
+    pub(crate) from: &'a Frozen,
+    pub(crate) join: Option<&'a Frozen>,
+}
+
+impl Migration {
+    /// An arm by the number of its target and its own number, counted from 0: `None` exactly where there
+    /// is none. It compares about log n names for each of its tables, and takes no memory.
+    pub(crate) fn arm(&self, target: u8, number: u32) -> Option<FrozenArm<'_>>
+        requires lawful { IsLawfulMigration self.now }
+        ensures { IsFound self.now target (arm_at self.now target number) result }
+    {
+        let place = target as usize;
+        let targets = self.plan.migrate.targets.as_slice();
+        let raw = targets.get(place)?.arms.as_slice().get(number as usize)?;
+        let arms = self.plan.arms.as_slice();
+        let placed = arms.get(place)?.as_slice().get(number as usize)?;
+        let join = match &raw.join {
+            Some(join) => Some(self.source(&join.table)?),
+            None => None,
+        };
+        Some(FrozenArm {
+            target,
+            placed,
+            from: self.source(&raw.from)?,
+            join,
+        })
+    }
+
+    /// The arm of a unit that goes by values, and `None` where the unit goes by rows, or there is no such
+    /// unit. Takes no memory.
+    pub(crate) fn arm_by_values(&self, number: u8) -> Option<FrozenArm<'_>>
+        requires lawful { IsLawfulMigration self.now }
+        ensures { IsOfUnit self.now (unit_at self.now number) result }
+    {
+        let unit = self.plan.units.as_slice().get(number as usize)?;
+        match unit.kind {
+            UnitKind::Rows => None,
+            UnitKind::Groups | UnitKind::Joins => {
+                let (target, number) = unit.arms.as_slice().first()?;
+                self.arm(*target, *number)
+            }
+        }
+    }
+}
+
+/// The values of a row at some places.
+pub(crate) fn values_at(alloc: Global, row: &Row, places: &[u8]) -> Result<Key, Memory>
+    ensures { IfOk result (λ values. values ≡ cells places.now row.now) }
+{
+    let mut values = Vec::with_capacity(alloc, places.len())?;
+    for place in places {
+        values.push(column_value(alloc, row, *place)?)?;
+    }
+    Ok(Key::of(values))
+}
+
+impl<'a> FrozenArm<'a> {
+    /// How many columns FROM has.
+    fn width(&self) -> u8 {
+        self.from.table.columns.len() as u8
+    }
+
+    /// The places of the columns in FROM by whose values the arm goes: those of GROUP BY, or those of ON
+    /// in the order of ON.
+    pub(crate) fn from_places(&self, alloc: Global) -> Result<Vec<u8>, Memory>
+        requires { IsTrue (is_narrow self.now.from.now.table) }
+        ensures { IfOk result (λ places. places.items ≡ places_in_from self.now) }
+    {
+        let width = self.width();
+        let mut places = Vec::new(alloc);
+        for place in self.placed.group.as_slice() {
+            places.push(*place)?;
+        }
+        if let Some(on) = &self.placed.on {
+            for (left, right) in on.as_slice() {
+                for place in [*left, *right] {
+                    if place < width {
+                        places.push(place)?;
+                    }
+                }
+            }
+        }
+        Ok(places)
+    }
+
+    /// The places of the columns in JOIN, counted from its first, by whose values the arm goes.
+    pub(crate) fn join_places(&self, alloc: Global) -> Result<Vec<u8>, Memory>
+        requires { IsTrue (is_narrow self.now.from.now.table) }
+        ensures { IfOk result (λ places. places.items ≡ places_in_join self.now) }
+    {
+        let width = self.width();
+        let mut places = Vec::new(alloc);
+        if let Some(on) = &self.placed.on {
+            for (left, right) in on.as_slice() {
+                for place in [*left, *right] {
+                    if width <= place {
+                        places.push(place - width)?;
+                    }
+                }
+            }
+        }
+        Ok(places)
+    }
+}
