@@ -44,7 +44,8 @@ use Rattle.bf_store.proofs.seeing.Preparing.{same_tables_seen}
 -- MIGRATE: where nothing stands in its way and nothing is left to move, a lazy flip is seen as the statement
 pub record Migrates (lazy : LazyState) (m : Migrate) : Type 0 where
   pub lazy_state : IsLazy (flipped_lazily lazy m)
-  pub meant : (commit : ℕ) → executed commit (view_of lazy) false (statement.Migrate m) ≡ (reply.Migrated (length m.targets), view_of (flipped_lazily lazy m))
+  pub meant : (commit : ℕ)
+      → executed commit (view_of lazy) false (statement.Migrate m) ≡ (reply.Migrated (length m.targets), view_of (flipped_lazily lazy m))
 
 pub migrates : (lazy : LazyState) (m : Migrate) → IsLazy lazy → pending_of lazy.last ≡ [] → objections lazy.live false (statement.Migrate m) ++ row_objections lazy.live (statement.Migrate m) ≡ []
     → Migrates lazy m
@@ -92,7 +93,9 @@ module _ (lazy : LazyState) (is : IsLazy lazy) (table : Table) (absent : is_some
   some_if_there None made e = absurd cc
   some_if_there (Some s) made e = refl
 
-  no_target : (last : Migration) → (ts : List Target) → AllByRecursion (λ t. table_under lazy.live t.name ≡ Some (target_table last.old t)) ts → list_any (λ t. same_name t.name table.name) ts ≡ false
+  no_target : (last : Migration) → (ts : List Target)
+      → AllByRecursion (λ t. table_under lazy.live t.name ≡ Some (target_table last.old t)) ts
+      → list_any (λ t. same_name t.name table.name) ts ≡ false
   no_target last [] all = refl
   no_target last (t ∷ ts) all = elim (cases_Bool (same_name t.name table.name)) [
     | inl same ↦
@@ -158,7 +161,8 @@ pub record IsRefusedAtOnce (lazy : LazyState) (m : Migrate) (r : Refusal) : Type
   pub meant : (commit : ℕ) → executed commit (view_of lazy) false (statement.Migrate m) ≡ (reply.Refused r, view_of lazy)
   pub needs_none : (old : Database) (first : Migrate) → needed_by old first (view_of lazy) false (statement.Migrate m) ≡ []
 
-pub refused_at_once : (lazy : LazyState) → IsLazy lazy → (m : Migrate) (r : Refusal) (rs : List Refusal) → objections lazy.live false (statement.Migrate m) ≡ r ∷ rs → IsRefusedAtOnce lazy m r
+pub refused_at_once : (lazy : LazyState) → IsLazy lazy → (m : Migrate) (r : Refusal) (rs : List Refusal)
+    → objections lazy.live false (statement.Migrate m) ≡ r ∷ rs → IsRefusedAtOnce lazy m r
 refused_at_once lazy is m r rs e =
     let same = objections_alike (view_of lazy) lazy.live (same_tables_seen lazy is) m ∙ e in
     let bound : Action → Bound = λ act. record { catalog = (view_of lazy).number; schema_change = true; action = act } in

@@ -73,14 +73,16 @@ view_itself lazy e =
 abbrev is_new_name : List Target × Target → Bool
 is_new_name p = not (list_any (λ u. same_name u.name p.1.name) p.0)
 
-new_behind : (before : List Target) (ts : List Target) → list_all is_new_name (with_before_from before ts) ≡ true → list_all (λ t. not (list_any (λ u. same_name u.name t.name) before)) ts ≡ true
+new_behind : (before : List Target) (ts : List Target) → list_all is_new_name (with_before_from before ts) ≡ true
+    → list_all (λ t. not (list_any (λ u. same_name u.name t.name) before)) ts ≡ true
 new_behind before [] e = refl
 new_behind before (t ∷ ts) e =
     and_from _ _ (and_parts _ _ e).0 (all_so (λ v. not (list_any (λ u. same_name u.name v.name) (before ++ t ∷ []))) (λ v. not (list_any (λ u. same_name u.name v.name) before))
     (λ v n. not_from_false _ (or_parts _ _ (sym (list_any-append (λ u. same_name u.name v.name) before (t ∷ [])) ∙ not-true _ n)).0) ts (new_behind (before ++ t ∷ []) ts (and_parts _ _ e).1))
 
 -- are each found by their own
-found_from : (before ts : List Target) → list_all is_new_name (with_before_from before ts) ≡ true → AllByRecursion (λ t. find (λ u. same_name u.name t.name) (before ++ ts) ≡ Some t) ts
+found_from : (before ts : List Target) → list_all is_new_name (with_before_from before ts) ≡ true
+    → AllByRecursion (λ t. find (λ u. same_name u.name t.name) (before ++ ts) ≡ Some t) ts
 found_from before [] e = tt
 found_from before (t ∷ ts) e =
     let called = λ (u : Target). same_name u.name t.name in
@@ -91,14 +93,16 @@ found_from before (t ∷ ts) e =
     (first, subst (λ us. AllByRecursion (λ t. find (λ u. same_name u.name t.name) us ≡ Some t) ts) (append_assoc before (t ∷ []) ts) rest)
 
 -- and their names are apart
-names_apart : (before ts : List Target) → list_all is_new_name (with_before_from before ts) ≡ true → are_apart (eq_by_cmp name_cmp) (map (λ t. t.name) ts) ≡ true
+names_apart : (before ts : List Target) → list_all is_new_name (with_before_from before ts) ≡ true
+    → are_apart (eq_by_cmp name_cmp) (map (λ t. t.name) ts) ≡ true
 names_apart before [] e = refl
 names_apart before (t ∷ ts) e =
     let rest = (and_parts _ _ e).1 in
     let others = new_behind (before ++ t ∷ []) ts rest in
     and_from _ _ (not_from_false _ (none_named ts others)) (names_apart (before ++ t ∷ []) ts rest)
   where
-    none_named : (us : List Target) → list_all (λ v. not (list_any (λ u. same_name u.name v.name) (before ++ t ∷ []))) us ≡ true → has (eq_by_cmp name_cmp) (map (λ t. t.name) us) t.name ≡ false
+    none_named : (us : List Target) → list_all (λ v. not (list_any (λ u. same_name u.name v.name) (before ++ t ∷ []))) us ≡ true
+        → has (eq_by_cmp name_cmp) (map (λ t. t.name) us) t.name ≡ false
     none_named [] e = refl
     none_named (u ∷ us) e =
         let both = or_parts _ _ (sym (list_any-append (λ w. same_name w.name u.name) before (t ∷ [])) ∙ not-true _ (and_parts _ _ e).0) in
@@ -114,7 +118,8 @@ pub same_targets : (db : Database) (ts : List Target) → AllByRecursion (IsSame
 same_targets db [] = tt
 same_targets db (t ∷ ts) = (record { table = refl; image = refl }, same_targets db ts)
 
-both_of_each : {X : Type 0} (P Q : X → Type 0) (xs : List X) → AllByRecursion P xs → AllByRecursion Q xs → AllByRecursion (λ x. P x × Q x) xs
+both_of_each : {X : Type 0} (P Q : X → Type 0) (xs : List X) → AllByRecursion P xs → AllByRecursion Q xs
+    → AllByRecursion (λ x. P x × Q x) xs
 both_of_each P Q [] ps qs = tt
 both_of_each P Q (x ∷ xs) ps qs = ((ps.0, qs.0), both_of_each P Q xs ps.1 qs.1)
 
@@ -158,7 +163,8 @@ module _ (live : Database) (last : Option Migration) (m : Migrate) (is : IsDatab
   all_pending = filter_always (granules_of old m)
 
   -- nothing is to come in a table that stays
-  no_target : (s : Stored) → IsThere live s → has same_name (sources_of m) s.table.name ≡ false → (ts : List Target) → list_all is_new ts ≡ true → list_any (λ t. same_name t.name s.table.name) ts ≡ false
+  no_target : (s : Stored) → IsThere live s → has same_name (sources_of m) s.table.name ≡ false → (ts : List Target)
+      → list_all is_new ts ≡ true → list_any (λ t. same_name t.name s.table.name) ts ≡ false
   no_target s there stay [] new = refl
   no_target s there stay (t ∷ ts) new = elim (cases_Bool (same_name t.name s.table.name)) [
     | inl same ↦
@@ -179,7 +185,8 @@ module _ (live : Database) (last : Option Migration) (m : Migrate) (is : IsDatab
       nothing [] = refl
       nothing (g ∷ gs) = ap₂ (λ xs ys. xs ++ ys) (none_in g) (nothing gs)
 
-  none_due_in : (ss : List Stored) → AllByRecursion (IsThere live) ss → AllByRecursion (λ s. due (Some next) s.table.name ≡ []) (filter stays ss)
+  none_due_in : (ss : List Stored) → AllByRecursion (IsThere live) ss
+      → AllByRecursion (λ s. due (Some next) s.table.name ≡ []) (filter stays ss)
   none_due_in [] all = tt
   none_due_in (s ∷ ss) all = elim (has same_name (sources_of m) s.table.name) as (λ b. has same_name (sources_of m) s.table.name ≡ b
       → AllByRecursion (λ s. due (Some next) s.table.name ≡ []) (cond (not b) (s ∷ filter stays ss) (filter stays ss))) [
@@ -217,12 +224,14 @@ module _ (live : Database) (last : Option Migration) (m : Migrate) (is : IsDatab
   abbrev all_tables : List Stored
   all_tables = map empty m.targets ++ kept
 
-  has-kept : (name : List ℕ) → has (eq_by_cmp name_cmp) (map name_of kept) name ≡ (is_some (stored_at live name) && not (has same_name (sources_of m) name))
+  has-kept : (name : List ℕ)
+      → has (eq_by_cmp name_cmp) (map name_of kept) name ≡ (is_some (stored_at live name) && not (has same_name (sources_of m) name))
   has-kept name =
       has-filter name_cmp_total name_of (slice_cmp-IsAntisymmetric nat_cmp-IsAntisymmetric) (λ n. not (has same_name (sources_of m) n)) live.tables name
       ∙ ap (λ b. b && not (has same_name (sources_of m) name)) (has-stored_at live name)
 
-  not_kept : (ts : List Target) → list_all is_new ts ≡ true → list_all (λ k. not (has (eq_by_cmp name_cmp) (map name_of kept) k)) (map name_of (map empty ts)) ≡ true
+  not_kept : (ts : List Target) → list_all is_new ts ≡ true
+      → list_all (λ k. not (has (eq_by_cmp name_cmp) (map name_of kept) k)) (map name_of (map empty ts)) ≡ true
   not_kept [] e = refl
   not_kept (t ∷ ts) e = and_from _ _ (ap not (has-kept t.name) ∙ (and_parts _ _ e).0) (not_kept ts (and_parts _ _ e).1)
 
@@ -235,13 +244,15 @@ module _ (live : Database) (last : Option Migration) (m : Migrate) (is : IsDatab
       (not_kept m.targets new_names)
 
   -- what is true of each empty target and of each table that stays is true of each table
-  of_all : (test : Stored → Bool) → list_all (λ t. test (empty t)) m.targets ≡ true → list_all test kept ≡ true → list_all test flat.tables ≡ true
+  of_all : (test : Stored → Bool) → list_all (λ t. test (empty t)) m.targets ≡ true → list_all test kept ≡ true
+      → list_all test flat.tables ≡ true
   of_all test new staying =
       list_all-with_placed name_cmp_total name_of test [] all_tables
       ∙ list_all-append test (map empty m.targets) kept
       ∙ and_from _ _ (list_all-map test empty m.targets ∙ new) staying
 
-  on_a_table_still : (index : IndexRule) → not (has same_name (sources_of m) index.table) ≡ true → is_on_table live index ≡ true → is_on_table flat index ≡ true
+  on_a_table_still : (index : IndexRule) → not (has same_name (sources_of m) index.table) ≡ true → is_on_table live index ≡ true
+      → is_on_table flat index ≡ true
   on_a_table_still index stay on =
       let test = λ (s : Stored). same_name s.table.name index.table && is_within s.table index.columns in
       let among : list_any test kept ≡ true = kept_any test stays (λ s e. ap (λ n. not (has same_name (sources_of m) n)) (name-equal s.table.name index.table (and_parts _ _ e).0) ∙ stay) live.tables on in
@@ -261,7 +272,8 @@ module _ (live : Database) (last : Option Migration) (m : Migrate) (is : IsDatab
   }
 
   -- each target is a live table
-  target_there : (t : Target) → find (λ u. same_name u.name t.name) m.targets ≡ Some t → table_under flat t.name ≡ Some (target_table live t)
+  target_there : (t : Target) → find (λ u. same_name u.name t.name) m.targets ≡ Some t
+      → table_under flat t.name ≡ Some (target_table live t)
   target_there t e =
       let among : look_up name_cmp name_of (map empty m.targets) t.name ≡ Some (empty t) =
       find-map (λ s. eq_by_cmp name_cmp (name_of s) t.name) empty m.targets ∙ (λ i. option_map empty (find (λ u. sym (same_name-tie u.name t.name) i) m.targets)) ∙ ap (option_map empty) e in
@@ -284,12 +296,14 @@ module _ (live : Database) (last : Option Migration) (m : Migrate) (is : IsDatab
     valid = of_all (is_on_time (Some next)) (list_all_always m.targets) (list_all_each _ (is_on_time (Some next)) (on_time_itself (Some next)) kept nothing_in_what_stays);
   }
     where
-      each_there : (ts : List Target) → AllByRecursion (λ t. find (λ u. same_name u.name t.name) m.targets ≡ Some t) ts → AllByRecursion (IsSameTarget old live) ts → AllByRecursion (λ t. table_under flat t.name ≡ Some (target_table old t)) ts
+      each_there : (ts : List Target) → AllByRecursion (λ t. find (λ u. same_name u.name t.name) m.targets ≡ Some t) ts
+          → AllByRecursion (IsSameTarget old live) ts → AllByRecursion (λ t. table_under flat t.name ≡ Some (target_table old t)) ts
       each_there [] all same = tt
       each_there (t ∷ ts) all same = (target_there t all.0 ∙ ap Some (sym same.0.table), each_there ts all.1 same.1)
 
 -- FLIP: where nothing is left to move, a flip that moves nothing is seen as the flip
-pub flips : (lazy : LazyState) (m : Migrate) → IsLazy lazy → pending_of lazy.last ≡ [] → IsLawful lazy.live m → IsSeenAs (flipped (view_of lazy) m) (flipped_lazily lazy m)
+pub flips : (lazy : LazyState) (m : Migrate) → IsLazy lazy → pending_of lazy.last ≡ [] → IsLawful lazy.live m
+    → IsSeenAs (flipped (view_of lazy) m) (flipped_lazily lazy m)
 flips lazy m lazily none lawful = record {
   lazy_state = lazy_after_flip lazy.live lazy.last m lazily.live lawful.unobjected lazy.live lawful (same_targets lazy.live m.targets) (lazy.records + 1);
   view = view_of_flip lazy.live lazy.last m lazily.live lawful.unobjected lazy.live lawful (same_targets lazy.live m.targets) (lazy.records + 1) ∙ ap (λ db. flipped db m) (sym (view_itself lazy none));

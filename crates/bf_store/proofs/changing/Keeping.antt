@@ -20,7 +20,8 @@ use Rattle.bf_store.proofs.changing.Flipping.{IsSameTarget, flips_keeping}
 same_kept : (db : Database) (m : Migrate) → AllByRecursion (IsSameTarget (frozen_of db m) db) m.targets
 same_kept db m = each m.targets (arms_inside_sources m)
   where
-    each : (ts : List Target) → list_all (λ t. list_all (is_inside (sources_of m)) t.arms) ts ≡ true → AllByRecursion (IsSameTarget (frozen_of db m) db) ts
+    each : (ts : List Target) → list_all (λ t. list_all (is_inside (sources_of m)) t.arms) ts ≡ true
+        → AllByRecursion (IsSameTarget (frozen_of db m) db) ts
     each [] all = tt
     each (t ∷ ts) all =
         let inside = (and_parts _ _ all).0 in
@@ -31,5 +32,6 @@ same_kept db m = each m.targets (arms_inside_sources m)
         } in
         (here, each ts (and_parts _ _ all).1)
 
-pub flips_frozen : (lazy : LazyState) (m : Migrate) → IsLazy lazy → pending_of lazy.last ≡ [] → IsLawful lazy.live m → IsSeenAs (flipped (view_of lazy) m) (frozen_lazily lazy m)
+pub flips_frozen : (lazy : LazyState) (m : Migrate) → IsLazy lazy → pending_of lazy.last ≡ [] → IsLawful lazy.live m
+    → IsSeenAs (flipped (view_of lazy) m) (frozen_lazily lazy m)
 flips_frozen lazy m is none lawful = flips_keeping lazy m (frozen_of lazy.live m) is none lawful.unobjected (frozen_lawful lazy.live m lawful) (same_kept lazy.live m)

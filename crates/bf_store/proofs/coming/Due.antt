@@ -78,7 +78,8 @@ module _ (live : Database) (last : Migration) (way : IsUnderWay live last) (s : 
       let both = sym (list_all-append (is_admitted s.table) gone (due (Some last) s.table.name)) ∙ sym (list_all-same_items (is_admitted s.table) split) ∙ parts_fit.admitted in
       (and_parts _ _ both).1
 
-pub due_apart_if_any : (live : Database) (last : Option Migration) → IsUnderWayIfAny live last → (s : Stored) → IsThere live s → are_apart same_key (map (key_of s.table) (due last s.table.name)) ≡ true
+pub due_apart_if_any : (live : Database) (last : Option Migration) → IsUnderWayIfAny live last → (s : Stored) → IsThere live s
+    → are_apart same_key (map (key_of s.table) (due last s.table.name)) ≡ true
 due_apart_if_any live None way s there = refl
 due_apart_if_any live (Some last) way s there = due_apart live last way s there
 
@@ -95,7 +96,8 @@ pub done_then : (last : Migration) (g : Granule) (number : ℕ) → granules_don
 done_then last g number = map-append (λ (d : DoneGranule). d.granule) last.done (done_by number g ∷ [])
 
 -- a granule that waits behind another
-still_waits : (last : Migration) (g : Granule) (number : ℕ) (h : Granule) → (not (is_done last h) && not (same_granule g h)) ≡ not (is_done (with_done last g number) h)
+still_waits : (last : Migration) (g : Granule) (number : ℕ) (h : Granule)
+    → (not (is_done last h) && not (same_granule g h)) ≡ not (is_done (with_done last g number) h)
 still_waits last g number h =
     ap (λ b. not (is_done last h) && not b) (same_granule-symmetric g h)
     ∙ not_both (is_done last h) (same_granule h g)
@@ -111,6 +113,7 @@ module _ (last : Migration) (g : Granule) (number : ℕ) (waits : has same_granu
   pending_this : filter (same_granule g) (pending last) ≡ g ∷ []
   pending_this = filter_same same_granule same_granule-equal g (pending last) (apart-filter same_granule _ (granules_of last.old last.migrate) granules_apart) waits
 
-  pub due_parts : (name : List ℕ) → SameItems (due (Some last) name) (rows_from (Some last) (g ∷ []) name ++ due (Some (with_done last g number)) name)
+  pub due_parts : (name : List ℕ)
+      → SameItems (due (Some last) name) (rows_from (Some last) (g ∷ []) name ++ due (Some (with_done last g number)) name)
   due_parts name = through (parted (part_in last.old last.migrate name) (same_granule g) (pending last))
       (same_items_if _ _ (ap₂ (λ gs hs. rows_from (Some last) gs name ++ rows_from (Some last) hs name) pending_this pending_next))

@@ -68,10 +68,12 @@ abbrev pub are_admitted : Stored → Bool
 are_admitted s = list_all (is_admitted s.table) s.rows
 
 -- what is true of each table is true of one that stands under its name
-pub at_table : (test : Stored → Bool) (tables : List Stored) (s : Stored) → find (λ u. same_name u.table.name s.table.name) tables ≡ Some s → list_all test tables ≡ true → test s ≡ true
+pub at_table : (test : Stored → Bool) (tables : List Stored) (s : Stored)
+    → find (λ u. same_name u.table.name s.table.name) tables ≡ Some s → list_all test tables ≡ true → test s ≡ true
 at_table test tables s there all = all_found test (λ u. same_name u.table.name s.table.name) tables s all there
 
-pub each_at_table : (P : Stored → Type 0) (tables : List Stored) (s : Stored) → find (λ u. same_name u.table.name s.table.name) tables ≡ Some s → AllByRecursion P tables → P s
+pub each_at_table : (P : Stored → Type 0) (tables : List Stored) (s : Stored)
+    → find (λ u. same_name u.table.name s.table.name) tables ≡ Some s → AllByRecursion P tables → P s
 each_at_table P tables s there all = found_among P tables s all s.table.name there
 
 -- the table of a name is a look-up in a list in order
@@ -83,5 +85,6 @@ pub has-stored_at : (db : Database) (name : List ℕ) → has (eq_by_cmp name_cm
 has-stored_at db name = sym (is_some-look_up name_cmp_total name_of db.tables name) ∙ ap is_some (sym (stored_at-look_up db name))
 
 -- a map of the tables that leaves what they are
-pub stored_at-map : (db : Database) (f : Stored → Stored) → ((s : Stored) → (f s).table ≡ s.table) → (name : List ℕ) → stored_at (record db { tables = map f db.tables }) name ≡ option_map f (stored_at db name)
+pub stored_at-map : (db : Database) (f : Stored → Stored) → ((s : Stored) → (f s).table ≡ s.table) → (name : List ℕ)
+    → stored_at (record db { tables = map f db.tables }) name ≡ option_map f (stored_at db name)
 stored_at-map db f same name = find-map (λ s. same_name s.table.name name) f db.tables ∙ (λ i. option_map f (find (λ s. same_name (same s i).name name) db.tables))

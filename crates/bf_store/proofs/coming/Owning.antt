@@ -22,7 +22,8 @@ use Rattle.bf_store.proofs.coming.Due.{made_by}
 use Rattle.bf_store.proofs.coming.Found.{is_among, passes_if_found}
 
 module _ {X : Type 0} where
-  any_of_blocks : {Y : Type 0} (test : Y → Bool) (f : X → List Y) (xs : List X) → list_any test (flat_map f xs) ≡ list_any (λ x. list_any test (f x)) xs
+  any_of_blocks : {Y : Type 0} (test : Y → Bool) (f : X → List Y) (xs : List X)
+      → list_any test (flat_map f xs) ≡ list_any (λ x. list_any test (f x)) xs
   any_of_blocks test f [] = refl
   any_of_blocks test f (x ∷ xs) = list_any-append test (f x) (flat_map f xs) ∙ ap (λ b. list_any test (f x) || b) (any_of_blocks test f xs)
 

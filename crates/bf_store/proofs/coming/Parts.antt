@@ -35,18 +35,21 @@ use Rattle.bf_live.proofs.locking.Elements.{here, behind}
 
 -- NO OTHER TABLE. A test of targets that none passes
 module _ (test : Target → Bool) where
-  none_of_map : {X Y : Type 0} (f : X → Target × Y) (xs : List X) → ((x : X) → test (f x).0 ≡ false) → list_any (λ p. test p.0) (map f xs) ≡ false
+  none_of_map : {X Y : Type 0} (f : X → Target × Y) (xs : List X) → ((x : X) → test (f x).0 ≡ false)
+      → list_any (λ p. test p.0) (map f xs) ≡ false
   none_of_map f [] none = refl
   none_of_map f (x ∷ xs) none = or_from _ _ (none x) (none_of_map f xs none)
 
-  none_of_arms : (ts : List Target) → list_any test ts ≡ false → list_any (λ (p : Target × Arm). test p.0) (flat_map (λ t. map (λ arm. (t, arm)) t.arms) ts) ≡ false
+  none_of_arms : (ts : List Target) → list_any test ts ≡ false
+      → list_any (λ (p : Target × Arm). test p.0) (flat_map (λ t. map (λ arm. (t, arm)) t.arms) ts) ≡ false
   none_of_arms [] none = refl
   none_of_arms (t ∷ ts) none =
       let parts = or_parts _ _ none in
       list_any-append (λ (p : Target × Arm). test p.0) (map (λ arm. (t, arm)) t.arms) (flat_map (λ t. map (λ arm. (t, arm)) t.arms) ts)
       ∙ or_from _ _ (none_of_map (λ (arm : Arm). (t, arm)) t.arms (λ arm. parts.0)) (none_of_arms ts parts.1)
 
-  none_of_rows : (f : Target × Arm → List (List Value)) (ps : List (Target × Arm)) → list_any (λ p. test p.0) ps ≡ false → list_any (λ (q : Target × List Value). test q.0) (flat_map (λ (p : Target × Arm). map (λ (row : List Value). (p.0, row)) (f p)) ps) ≡ false
+  none_of_rows : (f : Target × Arm → List (List Value)) (ps : List (Target × Arm)) → list_any (λ p. test p.0) ps ≡ false
+      → list_any (λ (q : Target × List Value). test q.0) (flat_map (λ (p : Target × Arm). map (λ (row : List Value). (p.0, row)) (f p)) ps) ≡ false
   none_of_rows f [] none = refl
   none_of_rows f (p ∷ ps) none =
       let parts = or_parts _ _ none in
@@ -62,7 +65,8 @@ module _ (test : Target → Bool) where
   rows_of_none [] = refl
   rows_of_none (d ∷ ds) = rows_of_none ds
 
-  values_of_none : (p : Target × Arm → Bool) (ps : List (Target × Arm)) → list_any (λ p. test p.0) ps ≡ false → list_all is_of_none (map (λ p. values_unit p.0 p.1) (filter p ps)) ≡ true
+  values_of_none : (p : Target × Arm → Bool) (ps : List (Target × Arm)) → list_any (λ p. test p.0) ps ≡ false
+      → list_all is_of_none (map (λ p. values_unit p.0 p.1) (filter p ps)) ≡ true
   values_of_none p [] none = refl
   values_of_none p (q ∷ ps) none =
       let parts = or_parts _ _ none in
@@ -87,13 +91,15 @@ module _ (test : Target → Bool) where
     part_of_unit (values_unit target arm) (Row at) of = refl
     part_of_unit (values_unit target arm) (Group value) of = none_of_map (λ (row : List Value). (target, row)) _ (λ row. not-true _ of)
 
-    part_none : (place : Place) (us : List UnitForm) (i : ℕ) → list_all is_of_none us ≡ true → list_any (λ q. test q.0) (unwrap_or (option_map (λ u. part_at old m u place) (slice_get us i)) []) ≡ false
+    part_none : (place : Place) (us : List UnitForm) (i : ℕ) → list_all is_of_none us ≡ true
+        → list_any (λ q. test q.0) (unwrap_or (option_map (λ u. part_at old m u place) (slice_get us i)) []) ≡ false
     part_none place [] i all = refl
     part_none place (u ∷ us) zero all = part_of_unit u place (and_parts _ _ all).0
     part_none place (u ∷ us) (suc i) all = part_none place us i (and_parts _ _ all).1
 
 -- a table that is no target has no row of a granule
-pub elsewhere : (old : Database) (m : Migrate) (name : List ℕ) → list_any (λ t. same_name t.name name) m.targets ≡ false → (g : Granule) → part_in old m name g ≡ []
+pub elsewhere : (old : Database) (m : Migrate) (name : List ℕ) → list_any (λ t. same_name t.name name) m.targets ≡ false
+    → (g : Granule) → part_in old m name g ≡ []
 elsewhere old m name none g =
     let test = λ (t : Target). same_name t.name name in
     ap (map (λ p. p.1)) (filter_none (λ p. same_name p.0.name name) (part_of old m g) (part_none test old m none g.place (units_of old m) g.unit (units_none test old m none)))
@@ -115,7 +121,8 @@ groups_apart : (ks : List (List Value)) → are_apart same_key ks ≡ true → a
 groups_apart [] apart = refl
 groups_apart (k ∷ ks) apart = and_from _ _ (ap not (has_group ks k) ∙ (and_parts _ _ apart).0) (groups_apart ks (and_parts _ _ apart).1)
 
-new_apart : (seen : List (List Value)) (k : List Value) → are_apart same_key seen ≡ true → are_apart same_key (with_new same_key seen k) ≡ true
+new_apart : (seen : List (List Value)) (k : List Value) → are_apart same_key seen ≡ true
+    → are_apart same_key (with_new same_key seen k) ≡ true
 new_apart seen k apart = elim (has same_key seen k) as (λ b. has same_key seen k ≡ b → are_apart same_key (if b then seen else seen ++ k ∷ []) ≡ true) [
   | true ↦ λ e. apart
   | false ↦ λ e.
@@ -150,7 +157,8 @@ not_in_unit : (a b : ℕ) (ps : List Place) (p : Place) → (a == b) ≡ false �
 not_in_unit a b [] p other = refl
 not_in_unit a b (q ∷ ps) p other = or_from _ _ (and_left (a == b) (same_place p q) other) (not_in_unit a b ps p other)
 
-blocks_across : (a b : ℕ) (ps qs : List Place) → (a == b) ≡ false → list_all (λ g. not (has same_granule (map (granule b) qs) g)) (map (granule a) ps) ≡ true
+blocks_across : (a b : ℕ) (ps qs : List Place) → (a == b) ≡ false
+    → list_all (λ g. not (has same_granule (map (granule b) qs) g)) (map (granule a) ps) ≡ true
 blocks_across a b [] qs other = refl
 blocks_across a b (p ∷ ps) qs other = and_from _ _ (not_from_false _ (not_in_unit a b qs p other)) (blocks_across a b ps qs other)
 

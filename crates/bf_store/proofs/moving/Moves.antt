@@ -31,13 +31,15 @@ record HasMoved (live : Database) (last : Migration) (tables : List Stored) (don
   way : IsUnderWay (record live { tables = tables }) (record last { done = done })
   valid : list_all (is_on_time (Some (record last { done = done }))) tables ≡ true
   view : map (seen (Some (record last { done = done }))) tables ≡ map (seen (Some last)) live.tables
-  opened : (writes : List Write) → IsOpenLazily (at_no_record live last) writes → IsOpenLazily (at_no_record (record live { tables = tables }) (record last { done = done })) writes
+  opened : (writes : List Write) → IsOpenLazily (at_no_record live last) writes
+      → IsOpenLazily (at_no_record (record live { tables = tables }) (record last { done = done })) writes
 
 with_none : (last : Migration) (s : Stored) → with_rows_of last [] s ≡ s
 with_none last s = refl
 
 -- the rows of a granule and then those of others
-with_more : (last : Migration) (g : Granule) (gs : List Granule) (s : Stored) → with_rows_of last gs (with_rows_of last (g ∷ []) s) ≡ with_rows_of last (g ∷ gs) s
+with_more : (last : Migration) (g : Granule) (gs : List Granule) (s : Stored)
+    → with_rows_of last gs (with_rows_of last (g ∷ []) s) ≡ with_rows_of last (g ∷ gs) s
 with_more last g gs s =
     let place = λ (rows more : List (List Value)). with_placed key_cmp (key_of s.table) rows more in
     let own = part_in last.old last.migrate s.table.name g in
@@ -75,7 +77,8 @@ moves_by number (g ∷ gs) live last is way valid wait apart =
     (subst (λ ts. HasMoved live last ts ((last.done ++ done_by number g ∷ []) ++ map (done_by number) gs)) tables here)
   where
     -- the others wait still
-    still_wait : (hs : List Granule) → list_all (has same_granule (pending last)) hs ≡ true → has same_granule hs g ≡ false → list_all (has same_granule (pending (with_done last g number))) hs ≡ true
+    still_wait : (hs : List Granule) → list_all (has same_granule (pending last)) hs ≡ true → has same_granule hs g ≡ false
+        → list_all (has same_granule (pending (with_done last g number))) hs ≡ true
     still_wait [] wait other = refl
     still_wait (h ∷ hs) wait' other =
         let other' = or_parts _ _ other in
@@ -84,7 +87,8 @@ moves_by number (g ∷ gs) live last is way valid wait apart =
         and_from _ _ (ap (λ ks. has same_granule ks h) (sym next) ∙ left) (still_wait hs (and_parts _ _ wait').1 other'.1)
 
 -- those that are not done wait
-fresh_wait : (last : Migration) (gs : List Granule) → list_all (has same_granule (granules_of last.old last.migrate)) gs ≡ true → list_all (has same_granule (pending last)) (not_done last gs) ≡ true
+fresh_wait : (last : Migration) (gs : List Granule) → list_all (has same_granule (granules_of last.old last.migrate)) gs ≡ true
+    → list_all (has same_granule (pending last)) (not_done last gs) ≡ true
 fresh_wait last [] all = refl
 fresh_wait last (g ∷ gs) all = elim (is_done last g) as (λ b. is_done last g ≡ b → list_all (has same_granule (pending last)) (cond (not b) (g ∷ not_done last gs) (not_done last gs)) ≡ true) [
   | true ↦ λ e. fresh_wait last gs (and_parts _ _ all).1

@@ -43,7 +43,8 @@ passes_if_has test (x ∷ xs) g there = elim (cases_Bool (test x)) [
 ]
 
 -- and what is there and passes it is left
-pub has_if_passes : (test : Granule → Bool) (xs : List Granule) (g : Granule) → has same_granule xs g ≡ true → test g ≡ true → has same_granule (filter test xs) g ≡ true
+pub has_if_passes : (test : Granule → Bool) (xs : List Granule) (g : Granule) → has same_granule xs g ≡ true → test g ≡ true
+    → has same_granule (filter test xs) g ≡ true
 has_if_passes test [] g there passes = absurd (false≢true there)
 has_if_passes test (x ∷ xs) g there passes = elim (or_cases (same_granule g x) (has same_granule xs g) there) [
   | inl is ↦
@@ -89,7 +90,8 @@ module _ (live : Database) (last : Migration) (g : Granule) (number : ℕ) (is :
     both_apart = ap (are_apart same_key) (sym (map-append (key_of s.table) own later)) ∙ sym (are_apart-same_items key_cmp_total (mapped (key_of s.table) parts)) ∙ due_apart live last way s there
 
     -- a key that was not due comes neither now nor later
-    pub neither : (k : List Value) → has same_key (keys (due (Some last) s.table.name)) k ≡ false → (has same_key (keys own) k ≡ false) × (has same_key (keys later) k ≡ false)
+    pub neither : (k : List Value) → has same_key (keys (due (Some last) s.table.name)) k ≡ false
+        → (has same_key (keys own) k ≡ false) × (has same_key (keys later) k ≡ false)
     neither k e = or_parts _ _ (sym (list_any-append (same_key k) (keys own) (keys later)) ∙ ap (λ ks. has same_key ks k) (sym (map-append (key_of s.table) own later)) ∙ sym (list_any-same_items (same_key k) (mapped (key_of s.table) parts)) ∙ e)
 
     rows_on_time : list_all (λ row. not (is_early (Some last_then) s.table row)) s.rows ≡ true
@@ -137,7 +139,8 @@ module _ (live : Database) (last : Migration) (g : Granule) (number : ℕ) (is :
   found : AllByRecursion (IsThere live) live.tables
   found = all_there live is
 
-  for_each : (test : Stored → Bool) → ((s : Stored) → IsThere live s → test (with_rows_of last (g ∷ []) s) ≡ true) → list_all test (map (with_rows_of last (g ∷ [])) live.tables) ≡ true
+  for_each : (test : Stored → Bool) → ((s : Stored) → IsThere live s → test (with_rows_of last (g ∷ []) s) ≡ true)
+      → list_all test (map (with_rows_of last (g ∷ [])) live.tables) ≡ true
   for_each test one = list_all-map test (with_rows_of last (g ∷ [])) live.tables ∙ list_all_each (IsThere live) (λ s. test (with_rows_of last (g ∷ []) s)) one live.tables found
 
   -- it is a granule of the migration, and not done

@@ -26,14 +26,22 @@ use Rattle.bf_store.proofs.moving.Moves.{moves}
 use Rattle.bf_store.proofs.moving.Moving.{has_if_passes}
 
 -- the need of an action is of granules of the migration, which differ
-are_granules : (last : Migration) (test : Granule → Bool) → are_apart same_granule (granules_of last.old last.migrate) ≡ true → AreGranules last (filter test (granules_of last.old last.migrate))
-are_granules last test apart = record { each = all_kept (has same_granule (granules_of last.old last.migrate)) test (granules_of last.old last.migrate) (has_own same_granule same_granule-itself (granules_of last.old last.migrate)); apart = apart-filter same_granule test (granules_of last.old last.migrate) apart }
+are_granules : (last : Migration) (test : Granule → Bool) → are_apart same_granule (granules_of last.old last.migrate) ≡ true
+    → AreGranules last (filter test (granules_of last.old last.migrate))
+are_granules last test apart =
+    let all = granules_of last.old last.migrate in
+    record {
+      each = all_kept (has same_granule all) test all (has_own same_granule same_granule-itself all);
+      apart = apart-filter same_granule test all apart;
+    }
 
-given : (last : Migration) (t : Option Target) (test : Target → List Value → Bool) → are_apart same_granule (granules_of last.old last.migrate) ≡ true → AreGranules last (giving last.old last.migrate t test)
+given : (last : Migration) (t : Option Target) (test : Target → List Value → Bool)
+    → are_apart same_granule (granules_of last.old last.migrate) ≡ true → AreGranules last (giving last.old last.migrate t test)
 given last None test apart = record { each = refl; apart = refl }
 given last (Some t) test apart = are_granules last _ apart
 
-pub need_is_granules : (last : Migration) → are_apart same_granule (granules_of last.old last.migrate) ≡ true → (act : Action) → AreGranules last (needed_for last.old last.migrate act)
+pub need_is_granules : (last : Migration) → are_apart same_granule (granules_of last.old last.migrate) ≡ true → (act : Action)
+    → AreGranules last (needed_for last.old last.migrate act)
 need_is_granules last apart (action.Insert table rows) = given last _ _ apart
 need_is_granules last apart (action.Select table items cond fixed) = given last _ _ apart
 need_is_granules last apart (action.Update table sets cond fixed) = given last _ _ apart
@@ -56,12 +64,14 @@ none_left_if_done last (g ∷ gs) e =
     rw first (none_left_if_done last gs (and_parts _ _ e).1)
 
 -- behind a record of moves, those that were done before, and those of the record
-granules_then : (last : Migration) (number : ℕ) (fresh : List Granule) → granules_done (record last { done = last.done ++ map (done_by number) fresh }) ≡ granules_done last ++ fresh
+granules_then : (last : Migration) (number : ℕ) (fresh : List Granule)
+    → granules_done (record last { done = last.done ++ map (done_by number) fresh }) ≡ granules_done last ++ fresh
 granules_then last number fresh =
     map-append (λ (d : DoneGranule). d.granule) last.done (map (done_by number) fresh)
     ∙ ap (λ gs. granules_done last ++ gs) (map-map (λ (d : DoneGranule). d.granule) (done_by number) fresh ∙ map_itself (λ g. g) (λ g. refl) fresh)
 
-done_then : (last : Migration) (number : ℕ) (gs hs : List Granule) → list_all (has same_granule gs) hs ≡ true → list_all (is_done (record last { done = last.done ++ map (done_by number) (not_done last gs) })) hs ≡ true
+done_then : (last : Migration) (number : ℕ) (gs hs : List Granule) → list_all (has same_granule gs) hs ≡ true
+    → list_all (is_done (record last { done = last.done ++ map (done_by number) (not_done last gs) })) hs ≡ true
 done_then last number gs [] all = refl
 done_then last number gs (h ∷ hs) all =
     let fresh = not_done last gs in
@@ -73,70 +83,54 @@ done_then last number gs (h ∷ hs) all =
     and_from _ _ (ap (λ ds. has same_granule ds h) (granules_then last number fresh) ∙ list_any-append (same_granule h) (granules_done last) fresh ∙ either) (done_then last number gs hs (and_parts _ _ all).1)
 
 -- what moves has moved, whatever is asked of a migration
-module _ (asked : Database → Migrate → List Granule) where
-  abbrev pub asked_of : Option Migration → List Granule
-  asked_of None = []
-  asked_of (Some last) = asked last.old last.migrate
+behind_record : (asked : Database → Migrate → List Granule) (lazy : LazyState) (last : Migration) (fresh : List Granule)
+    → not_done last (asked last.old last.migrate) ≡ fresh
+    → HaveMoved (with_record_of_moves (record lazy { last = Some last }) last fresh).last (λ last. asked last.old last.migrate)
+behind_record asked lazy last [] e = done_if_none_left last (asked last.old last.migrate) e
+behind_record asked lazy last (g ∷ gs) e =
+    let all = asked last.old last.migrate in
+    subst (λ fresh. list_all (is_done (record last { done = last.done ++ map (done_by (lazy.records + 1)) fresh })) all ≡ true) e
+    (done_then last (lazy.records + 1) all all (has_own same_granule same_granule-itself all))
 
-  behind_record : (lazy : LazyState) (last : Migration) (fresh : List Granule) → not_done last (asked last.old last.migrate) ≡ fresh
-      → HaveMoved (with_record_of_moves (record lazy { last = Some last }) last fresh).last (λ last. asked last.old last.migrate)
-  behind_record lazy last [] e = done_if_none_left last (asked last.old last.migrate) e
-  behind_record lazy last (g ∷ gs) e =
-      let gs' = asked last.old last.migrate in
-      subst (λ fresh. list_all (is_done (record last { done = last.done ++ map (done_by (lazy.records + 1)) fresh })) gs' ≡ true) e (done_then last (lazy.records + 1) gs' gs' (has_own same_granule same_granule-itself gs'))
-
-  pub have_moved : (lazy : LazyState) → HaveMoved (moved lazy (asked_of lazy.last)).last (λ last. asked last.old last.migrate)
-  have_moved lazy = on lazy.last
-    where
-      on : (last : Option Migration) → HaveMoved (moved (record lazy { last = last }) (asked_of last)).last (λ last. asked last.old last.migrate)
-      on None = tt
-      on (Some last) = behind_record lazy last (not_done last (asked last.old last.migrate)) refl
-
--- a lazy state that is ready for an action
-pub record IsReadyFor (before ready : LazyState) (act : Action) : Type 0 where
-  pub quiet : IsQuiet before ready
-  pub moved_all : HaveMoved ready.last (λ last. needed_for last.old last.migrate act)
-
--- READY: what a statement needs moves, nobody sees it, and then it has moved
-pub ready_for : (lazy : LazyState) (act : Action) → IsLazy lazy → IsReadyFor lazy (moved lazy (asked_of (λ old m. needed_for old m act) lazy.last)) act
-ready_for lazy act is = record {
-  quiet = moves lazy (asked_of (λ old m. needed_for old m act) lazy.last) is (are lazy.last is.last);
-  moved_all = have_moved (λ old m. needed_for old m act) lazy;
-}
+-- NEED: it moves, and nobody sees it
+pub need_is_quiet : (lazy : LazyState) (act : Action) → IsLazy lazy → IsQuiet lazy (moved lazy (need_of lazy.last act))
+need_is_quiet lazy act is = moves lazy (need_of lazy.last act) is (are lazy.last is.last)
   where
-    are : (last : Option Migration) → IsUnderWayIfAny lazy.live last → AreGranulesIfAny last (asked_of (λ old m. needed_for old m act) last)
+    are : (last : Option Migration) → IsUnderWayIfAny lazy.live last → AreGranulesIfAny last (need_of last act)
     are None way = tt
     are (Some last) way = need_is_granules last (granules_apart last.old last.migrate) act
 
--- a further MIGRATE: all granules that are left move, and then none is pending
-pub ready_to_flip : (lazy : LazyState) → IsLazy lazy → IsQuiet lazy (moved lazy (asked_of granules_of lazy.last)) × (pending_of (moved lazy (asked_of granules_of lazy.last)).last ≡ [])
-ready_to_flip lazy is = (moves lazy (asked_of granules_of lazy.last) is (are lazy.last is.last), none_pending (moved lazy (asked_of granules_of lazy.last)).last (have_moved granules_of lazy))
+-- and then it has moved
+pub need_has_moved : (lazy : LazyState) (act : Action) → IsLazy lazy
+    → HaveMoved (moved lazy (need_of lazy.last act)).last (λ last. needed_for last.old last.migrate act)
+need_has_moved lazy act is = on lazy.last
   where
-    are : (last : Option Migration) → IsUnderWayIfAny lazy.live last → AreGranulesIfAny last (asked_of granules_of last)
-    are None way = tt
-    are (Some last) way = record { each = has_own same_granule same_granule-itself (granules_of last.old last.migrate); apart = (granules_apart last.old last.migrate) }
+    on : (last : Option Migration)
+        → HaveMoved (moved (record lazy { last = last }) (need_of last act)).last (λ last. needed_for last.old last.migrate act)
+    on None = tt
+    on (Some last) = behind_record (λ old m. needed_for old m act) lazy last (not_done last (needed_for last.old last.migrate act)) refl
 
+-- a further MIGRATE: all granules that are left move, and nobody sees it
+pub all_quiet : (lazy : LazyState) → IsLazy lazy → IsQuiet lazy (moved lazy (need_of_all lazy.last))
+all_quiet lazy is = moves lazy (need_of_all lazy.last) is (are lazy.last)
+  where
+    are : (last : Option Migration) → AreGranulesIfAny last (need_of_all last)
+    are None = tt
+    are (Some last) = record {
+      each = has_own same_granule same_granule-itself (granules_of last.old last.migrate);
+      apart = granules_apart last.old last.migrate;
+    }
+
+-- and then none is pending
+pub all_moved : (lazy : LazyState) → IsLazy lazy → pending_of (moved lazy (need_of_all lazy.last)).last ≡ []
+all_moved lazy is = on lazy.last
+  where
     none_pending : (last : Option Migration) → HaveMoved last (λ last. granules_of last.old last.migrate) → pending_of last ≡ []
     none_pending None moved = refl
     none_pending (Some last) moved = none_left_if_done last (granules_of last.old last.migrate) moved
 
--- the same by `need_of`
-asked_is : (last : Option Migration) (act : Action) → asked_of (λ old m. needed_for old m act) last ≡ need_of last act
-asked_is None act = refl
-asked_is (Some last) act = refl
-
-asked_all : (last : Option Migration) → asked_of granules_of last ≡ need_of_all last
-asked_all None = refl
-asked_all (Some last) = refl
-
-pub need_is_quiet : (lazy : LazyState) (act : Action) → IsLazy lazy → IsQuiet lazy (moved lazy (need_of lazy.last act))
-need_is_quiet lazy act is = subst (λ gs. IsQuiet lazy (moved lazy gs)) (asked_is lazy.last act) (ready_for lazy act is).quiet
-
-pub need_has_moved : (lazy : LazyState) (act : Action) → IsLazy lazy → HaveMoved (moved lazy (need_of lazy.last act)).last (λ last. needed_for last.old last.migrate act)
-need_has_moved lazy act is = subst (λ gs. HaveMoved (moved lazy gs).last (λ last. needed_for last.old last.migrate act)) (asked_is lazy.last act) (ready_for lazy act is).moved_all
-
-pub all_quiet : (lazy : LazyState) → IsLazy lazy → IsQuiet lazy (moved lazy (need_of_all lazy.last))
-all_quiet lazy is = subst (λ gs. IsQuiet lazy (moved lazy gs)) (asked_all lazy.last) (ready_to_flip lazy is).0
-
-pub all_moved : (lazy : LazyState) → IsLazy lazy → pending_of (moved lazy (need_of_all lazy.last)).last ≡ []
-all_moved lazy is = subst (λ gs. pending_of (moved lazy gs).last ≡ []) (asked_all lazy.last) (ready_to_flip lazy is).1
+    on : (last : Option Migration) → pending_of (moved (record lazy { last = last }) (need_of_all last)).last ≡ []
+    on None = refl
+    on (Some last) =
+        let then = moved (record lazy { last = Some last }) (need_of_all (Some last)) in
+        none_pending then.last (behind_record granules_of lazy last (not_done last (granules_of last.old last.migrate)) refl)

@@ -47,7 +47,8 @@ module _ (live : Database) (last : Migration) (g : Granule) (number : ℕ) (is :
     own_rows = own live last g number is way valid waits s there
 
     -- no key of the granule's rows is written
-    off : (k : List Value) → has same_key (map (key_of s.table) (due (Some last) s.table.name)) k ≡ false → has same_key (map (key_of s.table) own_rows) k ≡ false
+    off : (k : List Value) → has same_key (map (key_of s.table) (due (Some last) s.table.name)) k ≡ false
+        → has same_key (map (key_of s.table) own_rows) k ≡ false
     off k e = (neither live last g number is way valid waits s there k e).0
 
     rows_off : list_all (λ row. not (has same_key (map (key_of s.table) own_rows) (key_of s.table row))) s.rows ≡ true
@@ -92,7 +93,8 @@ module _ (live : Database) (last : Migration) (g : Granule) (number : ℕ) (is :
       ∙ map_each (IsThere live) (λ s. with_rows_of last (g ∷ []) (written_to writes s)) (λ s. written_to writes (with_rows_of last (g ∷ []) s)) either_order live.tables found_all
       ∙ sym (map-map (written_to writes) (with_rows_of last (g ∷ [])) live.tables)
 
-  each_moved : (P : Stored → Type 0) → ((s : Stored) → IsThere live s → P (with_rows_of last (g ∷ []) s)) → (ss : List Stored) → AllByRecursion (IsThere live) ss → AllByRecursion P (map (with_rows_of last (g ∷ [])) ss)
+  each_moved : (P : Stored → Type 0) → ((s : Stored) → IsThere live s → P (with_rows_of last (g ∷ []) s)) → (ss : List Stored)
+      → AllByRecursion (IsThere live) ss → AllByRecursion P (map (with_rows_of last (g ∷ [])) ss)
   each_moved P one [] all = tt
   each_moved P one (s ∷ ss) all = (one s all.0, each_moved P one ss all.1)
 

@@ -14,25 +14,29 @@ use Rattle.bf_image.proofs.finding.Found.{same_granule-equal, same_granule-itsel
 use Rattle.bf_image.proofs.finding.Owned.{sweep_meets}
 use Rattle.bf_store.proofs.moving.Needing.{done_if_none_left, none_left_if_done}
 
-places_numbered : (n k : ℕ) (ps : List Place) → map (λ (x : Granule × ℕ). x.0) (map (λ a. (granule n a.1, a.0)) (enumerate_from k ps)) ≡ map (granule n) ps
+places_numbered : (n k : ℕ) (ps : List Place)
+    → map (λ (x : Granule × ℕ). x.0) (map (λ a. (granule n a.1, a.0)) (enumerate_from k ps)) ≡ map (granule n) ps
 places_numbered n k [] = refl
 places_numbered n k (p ∷ ps) = ap (λ gs. granule n p ∷ gs) (places_numbered n (k + 1) ps)
 
 module _ (last : Migration) where
-  met : (us : List (ℕ × UnitForm)) → map (λ (x : Granule × ℕ). x.0) (flat_map (λ u. map (λ a. (granule u.0 a.1, a.0)) (enumerate_from 0 (anchors_of last.old u.1))) us) ≡ flat_map (λ u. map (granule u.0) (anchors_of last.old u.1)) us
+  met : (us : List (ℕ × UnitForm))
+      → map (λ (x : Granule × ℕ). x.0) (flat_map (λ u. map (λ a. (granule u.0 a.1, a.0)) (enumerate_from 0 (anchors_of last.old u.1))) us) ≡ flat_map (λ u. map (granule u.0) (anchors_of last.old u.1)) us
   met [] = refl
   met (u ∷ us) =
       map-append (λ (x : Granule × ℕ). x.0) (map (λ a. (granule u.0 a.1, a.0)) (enumerate_from 0 (anchors_of last.old u.1))) (flat_map (λ u. map (λ a. (granule u.0 a.1, a.0)) (enumerate_from 0 (anchors_of last.old u.1))) us)
       ∙ ap₂ (λ gs hs. gs ++ hs) (places_numbered u.0 0 (anchors_of last.old u.1)) (met us)
 
-  all_or_found : (xs : List (Granule × ℕ)) → find (λ a. not (is_done last a.0)) xs ≡ None → list_all (is_done last) (map (λ (x : Granule × ℕ). x.0) xs) ≡ true
+  all_or_found : (xs : List (Granule × ℕ)) → find (λ a. not (is_done last a.0)) xs ≡ None
+      → list_all (is_done last) (map (λ (x : Granule × ℕ). x.0) xs) ≡ true
   all_or_found [] e = refl
   all_or_found (x ∷ xs) e = elim (is_done last x.0) as (λ b. is_done last x.0 ≡ b → cond (not b) (Some x) (find (λ a. not (is_done last a.0)) xs) ≡ None → (is_done last x.0 && list_all (is_done last) (map (λ (x : Granule × ℕ). x.0) xs)) ≡ true) [
     | true ↦ λ d e. and_from _ _ d (all_or_found xs e)
     | false ↦ λ d e. absurd cc
   ] refl e
 
-  none_found : (xs : List (Granule × ℕ)) → list_all (is_done last) (map (λ (x : Granule × ℕ). x.0) xs) ≡ true → find (λ a. not (is_done last a.0)) xs ≡ None
+  none_found : (xs : List (Granule × ℕ)) → list_all (is_done last) (map (λ (x : Granule × ℕ). x.0) xs) ≡ true
+      → find (λ a. not (is_done last a.0)) xs ≡ None
   none_found [] e = refl
   none_found (x ∷ xs) e =
       let first : is_done last x.0 ≡ true = (and_parts _ _ e).0 in

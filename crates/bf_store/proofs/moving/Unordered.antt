@@ -27,5 +27,6 @@ module _ (last : Migration) (others : List DoneGranule) (same : (g : Granule) �
       let key = key_of s.table in
       λ i. record { table = s.table; rows = with_placed key_cmp key (filter (λ row. not (has same_key (map key (same_due s.table.name i)) (key row))) s.rows) (same_due s.table.name i) }
 
-  pub same_view : (live : Database) (records : ℕ) → view_of (record { live = live; last = Some other; records = records }) ≡ view_of (record { live = live; last = Some last; records = records })
+  pub same_view : (live : Database) (records : ℕ)
+      → view_of (record { live = live; last = Some other; records = records }) ≡ view_of (record { live = live; last = Some last; records = records })
   same_view live records i = record { number = live.number; tables = map (λ s. seen_alike s i) live.tables; indexes = live.indexes }

@@ -29,7 +29,8 @@ use Rattle.bf_store.proofs.seeing.Placing.{written_around, written_on_time}
 use Rattle.bf_store.proofs.seeing.Viewing.{keyed, kept_on_time, rows_seen}
 
 -- a table that keeps its name, columns and key under a map of the tables
-same_table_there : (db : Database) (f : Stored → Stored) → ((s : Stored) → (f s).table ≡ s.table) → (name : List ℕ) → table_under (record db { tables = map f db.tables }) name ≡ table_under db name
+same_table_there : (db : Database) (f : Stored → Stored) → ((s : Stored) → (f s).table ≡ s.table) → (name : List ℕ)
+    → table_under (record db { tables = map f db.tables }) name ≡ table_under db name
 same_table_there db f same name = ap (option_map (λ s. s.table)) (stored_at-map db f same name) ∙ on (stored_at db name)
   where
     on : (o : Option Stored) → option_map (λ s. s.table) (option_map f o) ≡ option_map (λ s. s.table) o
@@ -41,7 +42,8 @@ weakened P Q one [] all = tt
 weakened P Q one (x ∷ xs) all = (one x all.0, weakened P Q one xs all.1)
 
 -- a migration stays under way where the tables stay what they are
-pub still_under_way : (db : Database) (f : Stored → Stored) → ((s : Stored) → (f s).table ≡ s.table) → (last : Option Migration) → IsUnderWayIfAny db last → IsUnderWayIfAny (record db { tables = map f db.tables }) last
+pub still_under_way : (db : Database) (f : Stored → Stored) → ((s : Stored) → (f s).table ≡ s.table) → (last : Option Migration)
+    → IsUnderWayIfAny db last → IsUnderWayIfAny (record db { tables = map f db.tables }) last
 still_under_way db f same None way = tt
 still_under_way db f same (Some last) way = record {
   lawful = way.lawful;
@@ -51,7 +53,8 @@ still_under_way db f same (Some last) way = record {
 }
 
 -- the writes to a table, of those that are free
-pub free_writes : (last : Option Migration) (table : Table) (writes : List Write) → AreFree last writes table → AllByRecursion (λ w. has same_key (map (key_of table) (due last table.name)) w.key ≡ false) (writes_to table.name writes)
+pub free_writes : (last : Option Migration) (table : Table) (writes : List Write) → AreFree last writes table
+    → AllByRecursion (λ w. has same_key (map (key_of table) (due last table.name)) w.key ≡ false) (writes_to table.name writes)
 free_writes last table [] free = tt
 free_writes last table (w ∷ writes) free = elim (cases_Bool (same_name w.table table.name)) [
   | inl same ↦ rw same (not-true _ (free.0 (name-equal w.table table.name same)), free_writes last table writes free.1)

@@ -54,7 +54,8 @@ module _ (a b : Database) (same : HaveSameTables a b) (m : Migrate) where
   }
 
 -- what is not planned is prepared as it is bound
-prepared-bound : (db : Database) (in_block : Bool) (s : Statement) → is_planned in_block s ≡ false → prepared_of db in_block s ≡ bound_of db in_block s
+prepared-bound : (db : Database) (in_block : Bool) (s : Statement) → is_planned in_block s ≡ false
+    → prepared_of db in_block s ≡ bound_of db in_block s
 prepared-bound db true (statement.Migrate m) e = refl
 prepared-bound db false (statement.Migrate m) e = absurd cc
 prepared-bound db in_block other e = refl
@@ -64,17 +65,20 @@ module _ (lazy : LazyState) (is : IsLazy lazy) where
   pub same_tables_seen : HaveSameTables (view_of lazy) lazy.live
   same_tables_seen name = ap (option_map (λ (s : Stored). s.table)) (seen_there lazy is name) ∙ same_table (stored_at lazy.live name)
     where
-      same_table : (o : Option Stored) → option_map (λ (s : Stored). s.table) (option_map (seen lazy.last) o) ≡ option_map (λ (s : Stored). s.table) o
+      same_table : (o : Option Stored)
+          → option_map (λ (s : Stored). s.table) (option_map (seen lazy.last) o) ≡ option_map (λ (s : Stored). s.table) o
       same_table None = refl
       same_table (Some s) = refl
 
-  bound_as_seen : (in_block : Bool) (s : Statement) → is_planned in_block s ≡ false → bound_of (view_of lazy) in_block s ≡ bound_of lazy.live in_block s
+  bound_as_seen : (in_block : Bool) (s : Statement) → is_planned in_block s ≡ false
+      → bound_of (view_of lazy) in_block s ≡ bound_of lazy.live in_block s
   bound_as_seen in_block s planned =
       sym (same_bound (view_of lazy) in_block s planned)
       ∙ ap (λ catalog. bound_of (without_rows catalog) in_block s) (same_catalog_seen lazy is)
       ∙ same_bound lazy.live in_block s planned
 
-  unplanned : (in_block : Bool) (s : Statement) → is_planned in_block s ≡ false → prepared_of (view_of lazy) in_block s ≡ prepared_of lazy.live in_block s
+  unplanned : (in_block : Bool) (s : Statement) → is_planned in_block s ≡ false
+      → prepared_of (view_of lazy) in_block s ≡ prepared_of lazy.live in_block s
   unplanned in_block s planned = prepared-bound (view_of lazy) in_block s planned ∙ bound_as_seen in_block s planned ∙ sym (prepared-bound lazy.live in_block s planned)
 
   -- PREPARED: as it is seen, so it is on the live tables

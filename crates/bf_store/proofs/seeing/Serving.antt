@@ -57,7 +57,8 @@ may_if_holds t (between a b c) row h = counted (mentions_total t (between a b c)
 may_if_holds t (opposite c) row h = counted (mentions_total t (opposite c)) _ h
 may_if_holds t (either c d) row h = counted (mentions_total t (either c d)) _ h
 
-none_holds : (t : Target) (c : Cond ℕ) (rows : List (List Value)) → list_any (may_satisfy c t) rows ≡ false → list_any (λ row. holds_on (cell row) c) rows ≡ false
+none_holds : (t : Target) (c : Cond ℕ) (rows : List (List Value)) → list_any (may_satisfy c t) rows ≡ false
+    → list_any (λ row. holds_on (cell row) c) rows ≡ false
 none_holds t c [] none = refl
 none_holds t c (row ∷ rows) none =
     let parts = or_parts _ _ none in
@@ -85,7 +86,8 @@ same_table-itself t =
     (pointwise-itself nat_eq (λ n. eq-eqb n n refl) t.key)
 
 -- a narrower test finds what a wider one does, where that passes it
-found_by_narrower : {X : Type 0} (wide narrow : X → Bool) → ((x : X) → narrow x ≡ true → wide x ≡ true) → (xs : List X) (x : X) → find wide xs ≡ Some x → narrow x ≡ true → find narrow xs ≡ Some x
+found_by_narrower : {X : Type 0} (wide narrow : X → Bool) → ((x : X) → narrow x ≡ true → wide x ≡ true) → (xs : List X) (x : X)
+    → find wide xs ≡ Some x → narrow x ≡ true → find narrow xs ≡ Some x
 found_by_narrower wide narrow within [] x e passes = absurd cc
 found_by_narrower wide narrow within (y ∷ ys) x e passes = elim (cases_Bool (wide y)) [
   | inl is ↦
@@ -170,12 +172,14 @@ module _ (table : Table) (rows coming : List (List Value)) where
       ap₂ (λ b rest. (unfit_row_objections table tuple ++ when b (refusal.DuplicateKey (key_of table tuple))) ++ rest) (taken_alike earlier tuple parts.0) (inserts_alike (earlier ++ tuple ∷ []) tuples parts.1)
 
   -- no row to come has the key of a tuple
-  pub none_taken : (tuples : List (List Value)) → list_any (λ row. has same_key (keys tuples) (key_of table row)) coming ≡ false → list_any (has same_key (keys coming)) (keys tuples) ≡ false
+  pub none_taken : (tuples : List (List Value)) → list_any (λ row. has same_key (keys tuples) (key_of table row)) coming ≡ false
+      → list_any (has same_key (keys coming)) (keys tuples) ≡ false
   none_taken tuples none =
       has_either_way same_key (symmetric key_cmp_total) (keys coming) (keys tuples)
       ∙ list_any-map (has same_key (keys tuples)) (key_of table) coming ∙ none
 
-  insert_alike : (tuples : List (List Value)) → list_any (λ row. has same_key (keys tuples) (key_of table row)) coming ≡ false → ActsAlike seen_rows rows (action.Insert table tuples)
+  insert_alike : (tuples : List (List Value)) → list_any (λ row. has same_key (keys tuples) (key_of table row)) coming ≡ false
+      → ActsAlike seen_rows rows (action.Insert table tuples)
   insert_alike tuples none =
       let objects = inserts_alike [] tuples (none_taken tuples none) in
       record {
@@ -185,7 +189,8 @@ module _ (table : Table) (rows coming : List (List Value)) where
         writes = refl;
       }
 
-  select_alike : (items : Items (Expr ℕ)) (c : Cond ℕ) (fixed : Option (List Value)) → list_any (λ row. holds_on (cell row) c) coming ≡ false → ActsAlike seen_rows rows (action.Select table items c fixed)
+  select_alike : (items : Items (Expr ℕ)) (c : Cond ℕ) (fixed : Option (List Value))
+      → list_any (λ row. holds_on (cell row) c) coming ≡ false → ActsAlike seen_rows rows (action.Select table items c fixed)
   select_alike items c fixed none =
       let same = same_selected c none in
       record {
@@ -195,7 +200,8 @@ module _ (table : Table) (rows coming : List (List Value)) where
         writes = refl;
       }
 
-  update_alike : (sets : List (ℕ × Expr ℕ)) (c : Cond ℕ) (fixed : Option (List Value)) → list_any (λ row. holds_on (cell row) c) coming ≡ false → ActsAlike seen_rows rows (action.Update table sets c fixed)
+  update_alike : (sets : List (ℕ × Expr ℕ)) (c : Cond ℕ) (fixed : Option (List Value))
+      → list_any (λ row. holds_on (cell row) c) coming ≡ false → ActsAlike seen_rows rows (action.Update table sets c fixed)
   update_alike sets c fixed none =
       let same = same_selected c none in
       record {
@@ -205,7 +211,8 @@ module _ (table : Table) (rows coming : List (List Value)) where
         writes = ap (map (λ row. write_of table (key_of table row) (Some (changed cell (λ place. place) sets row)))) same;
       }
 
-  delete_alike : (c : Cond ℕ) (fixed : Option (List Value)) → list_any (λ row. holds_on (cell row) c) coming ≡ false → ActsAlike seen_rows rows (action.Delete table c fixed)
+  delete_alike : (c : Cond ℕ) (fixed : Option (List Value)) → list_any (λ row. holds_on (cell row) c) coming ≡ false
+      → ActsAlike seen_rows rows (action.Delete table c fixed)
   delete_alike c fixed none =
       let same = same_selected c none in
       record {
@@ -221,11 +228,15 @@ module _ (live : Database) (last : Option Migration) (way : IsUnderWayIfAny live
       → HaveMoved last (λ last. giving last.old last.migrate (target_of last.old last.migrate s.table) test) → list_any P (due last s.table.name) ≡ false
   no_such_row test P so moved = on last way moved
     where
-      on : (last : Option Migration) → IsUnderWayIfAny live last → HaveMoved last (λ last. giving last.old last.migrate (target_of last.old last.migrate s.table) test) → list_any P (due last s.table.name) ≡ false
+      on : (last : Option Migration) → IsUnderWayIfAny live last
+          → HaveMoved last (λ last. giving last.old last.migrate (target_of last.old last.migrate s.table) test)
+          → list_any P (due last s.table.name) ≡ false
       on None way moved = refl
       on (Some last) way moved = none_passes live last way s there test moved P (λ t made none. so t (due (Some last) s.table.name) last.old made none)
 
-  none_selected : (c : Cond ℕ) → HaveMoved last (λ last. giving last.old last.migrate (target_of last.old last.migrate s.table) (may_satisfy c)) → list_any (λ row. holds_on (cell row) c) (due last s.table.name) ≡ false
+  none_selected : (c : Cond ℕ)
+      → HaveMoved last (λ last. giving last.old last.migrate (target_of last.old last.migrate s.table) (may_satisfy c))
+      → list_any (λ row. holds_on (cell row) c) (due last s.table.name) ≡ false
   none_selected c moved = no_such_row (may_satisfy c) (λ row. holds_on (cell row) c) (λ t rows old made none. none_holds t c rows none) moved
 
   pub none_inserted : (tuples : List (List Value)) → HaveMoved last (λ last. giving last.old last.migrate (target_of last.old last.migrate s.table) (has_key_of s.table tuples))

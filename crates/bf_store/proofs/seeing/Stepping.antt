@@ -66,7 +66,8 @@ module _ (lazy : LazyState) (is : IsLazy lazy) (before : List Write) (opened : I
   }
 
 -- a statement is bound in one catalog as in the other
-bound_alike : (a b : Database) → IsDatabase b → catalog_of a ≡ catalog_of b → (in_block : Bool) (s : Statement) (act : Action) → is_planned in_block s ≡ false → IsBoundAs a in_block s act → IsBoundAs b in_block s act
+bound_alike : (a b : Database) → IsDatabase b → catalog_of a ≡ catalog_of b → (in_block : Bool) (s : Statement) (act : Action)
+    → is_planned in_block s ≡ false → IsBoundAs a in_block s act → IsBoundAs b in_block s act
 bound_alike a b is same in_block s act planned bound = record {
   database = is;
   admitted = sym (same_objections b in_block s planned) ∙ ap (λ c. objections (without_rows c) in_block s) (sym same) ∙ same_objections a in_block s planned ∙ bound.admitted;
@@ -74,11 +75,13 @@ bound_alike a b is same in_block s act planned bound = record {
 }
 
 -- what all of some writes pass, writes with further ones pass
-all_with_writes : (P : Write → Type 0) (more before : List Write) → AllByRecursion P before → AllByRecursion P more → AllByRecursion P (fold with_write before more)
+all_with_writes : (P : Write → Type 0) (more before : List Write) → AllByRecursion P before → AllByRecursion P more
+    → AllByRecursion P (fold with_write before more)
 all_with_writes P [] before all each_more = all
 all_with_writes P (w ∷ more) before all each_more = all_with_writes P more (with_write before w) (with_one_more table_key_cmp table_key_of P before w all each_more.0) each_more.1
 
-all_written : (P : Write → Type 0) (os : List Refusal) (more before : List Write) → AllByRecursion P before → AllByRecursion P more → AllByRecursion P (written os before more)
+all_written : (P : Write → Type 0) (os : List Refusal) (more before : List Write) → AllByRecursion P before → AllByRecursion P more
+    → AllByRecursion P (written os before more)
 all_written P [] more before all each_more = all_with_writes P more before all each_more
 all_written P (o ∷ os) more before all each_more = all
 
@@ -157,7 +160,8 @@ module _ (lazy : LazyState) (is : IsLazy lazy) (before after : List Write) (open
         (written_shown ∙ ap (λ rows. written (objections_on rows act) before (writes_of rows act)) (sym rows_for_shown))
 
   -- a SELECT writes nothing
-  no_writes : (act : Action) → IsSelect act → (rows : List (List Value)) → written (objections_on rows act) before (writes_of rows act) ≡ before
+  no_writes : (act : Action) → IsSelect act → (rows : List (List Value))
+      → written (objections_on rows act) before (writes_of rows act) ≡ before
   no_writes (action.Select t items c fixed) select rows = unwritten (objections_on rows (action.Select t items c fixed))
     where
       unwritten : (os : List Refusal) → written os before [] ≡ before
@@ -191,18 +195,23 @@ module _ (lazy : LazyState) (is : IsLazy lazy) (before after : List Write) (open
   abbrev ToFreeKey : Write → Type 0
   ToFreeKey w = (w.table ≡ table.name) × (is_free lazy.last table w.key ≡ true)
 
-  rows_free : (new : List Value → Option (List Value)) (rows : List (List Value)) → list_all (λ row. not (is_early lazy.last table row)) rows ≡ true → AllByRecursion ToFreeKey (map (λ row. write_of table (key_of table row) (new row)) rows)
+  rows_free : (new : List Value → Option (List Value)) (rows : List (List Value))
+      → list_all (λ row. not (is_early lazy.last table row)) rows ≡ true
+      → AllByRecursion ToFreeKey (map (λ row. write_of table (key_of table row) (new row)) rows)
   rows_free new [] all = tt
   rows_free new (row ∷ rows) all = ((refl, (and_parts _ _ all).0), rows_free new rows (and_parts _ _ all).1)
 
-  selected_free : (c : Cond ℕ) (rows : List (List Value)) → list_all (λ row. not (is_early lazy.last table row)) rows ≡ true → list_all (λ row. not (is_early lazy.last table row)) (selected cell c rows) ≡ true
+  selected_free : (c : Cond ℕ) (rows : List (List Value)) → list_all (λ row. not (is_early lazy.last table row)) rows ≡ true
+      → list_all (λ row. not (is_early lazy.last table row)) (selected cell c rows) ≡ true
   selected_free c [] all = refl
   selected_free c (row ∷ rows) all = elim (holds_on (cell row) c) as (λ b. list_all (λ row. not (is_early lazy.last table row)) (cond b (row ∷ selected cell c rows) (selected cell c rows)) ≡ true) [
     | true ↦ and_from _ _ (and_parts _ _ all).0 (selected_free c rows (and_parts _ _ all).1)
     | false ↦ selected_free c rows (and_parts _ _ all).1
   ]
 
-  tuples_free : (tuples : List (List Value)) → list_any (has same_key (map (key_of table) (due lazy.last table.name))) (map (key_of table) tuples) ≡ false → AllByRecursion ToFreeKey (map (λ tuple. write_of table (key_of table tuple) (Some tuple)) tuples)
+  tuples_free : (tuples : List (List Value))
+      → list_any (has same_key (map (key_of table) (due lazy.last table.name))) (map (key_of table) tuples) ≡ false
+      → AllByRecursion ToFreeKey (map (λ tuple. write_of table (key_of table tuple) (Some tuple)) tuples)
   tuples_free [] none = tt
   tuples_free (tuple ∷ tuples) none =
       let parts = or_parts _ _ none in
@@ -211,7 +220,8 @@ module _ (lazy : LazyState) (is : IsLazy lazy) (before after : List Write) (open
   rows_on_time : list_all (λ row. not (is_early lazy.last table row)) kept_rows ≡ true
   rows_on_time = kept_on_time now now_lazy here there
 
-  writes_free : (act : Action) → action_table act ≡ Some table → HaveMoved lazy.last (λ last. needed_for last.old last.migrate act) → AllByRecursion ToFreeKey (writes_of kept_rows act)
+  writes_free : (act : Action) → action_table act ≡ Some table → HaveMoved lazy.last (λ last. needed_for last.old last.migrate act)
+      → AllByRecursion ToFreeKey (writes_of kept_rows act)
   writes_free (action.Insert t tuples) on need =
       let same : t ≡ table = same_Some t table on in
       let need' = subst (λ t. HaveMoved lazy.last (λ last. giving last.old last.migrate (target_of last.old last.migrate t) (has_key_of t tuples))) same need in
@@ -237,7 +247,8 @@ module _ (lazy : LazyState) (is : IsLazy lazy) (before after : List Write) (open
       ap (λ t. is_free lazy.last t w.key) (sym table_is) ∙ to.1 in
       subst (AllByRecursion P) (sym written_kept) (all_written P (objections_on kept_rows act) (writes_of kept_rows act) before free (weakened ToFreeKey P one (writes_of kept_rows act) (writes_free act on_table moved)))
 
-  each_free : (us : List Stored) → AllByRecursion (IsThere lazy.live) us → AllByRecursion (λ u. AreFree lazy.last before u.table) us → AllByRecursion (λ u. AreFree lazy.last after u.table) us
+  each_free : (us : List Stored) → AllByRecursion (IsThere lazy.live) us → AllByRecursion (λ u. AreFree lazy.last before u.table) us
+      → AllByRecursion (λ u. AreFree lazy.last after u.table) us
   each_free [] each_there free = tt
   each_free (u ∷ us) each_there free = (free_then u each_there.0 free.0, each_free us each_there.1 free.1)
 

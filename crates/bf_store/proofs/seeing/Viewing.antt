@@ -21,7 +21,8 @@ use Rattle.bf_store.specs.States.{IsUnderWayIfAny, IsLazy}
 use Rattle.bf_store.proofs.coming.Due.{due_apart_if_any, due_admitted}
 use Rattle.bf_store.proofs.coming.Found.{name_of, are_admitted, stored_at-map, at_table}
 
-due_admitted_if_any : (live : Database) (last : Option Migration) → IsUnderWayIfAny live last → (s : Stored) → IsThere live s → list_all (is_admitted s.table) (due last s.table.name) ≡ true
+due_admitted_if_any : (live : Database) (last : Option Migration) → IsUnderWayIfAny live last → (s : Stored) → IsThere live s
+    → list_all (is_admitted s.table) (due last s.table.name) ≡ true
 due_admitted_if_any live None way s there = refl
 due_admitted_if_any live (Some last) way s there = due_admitted live last way s there
 
@@ -67,7 +68,8 @@ module _ (lazy : LazyState) (is : IsLazy lazy) where
         ∙ list_all-with_placed key_cmp_total (key_of s.table) (is_admitted s.table) s.rows coming
         ∙ and_from _ _ (at_table are_admitted lazy.live.tables s there is.live.rows_admitted) (due_admitted_if_any lazy.live lazy.last is.last s there)
 
-  for_each : (test : Stored → Bool) → ((s : Stored) → IsThere lazy.live s → test (seen lazy.last s) ≡ true) → list_all test (map (seen lazy.last) lazy.live.tables) ≡ true
+  for_each : (test : Stored → Bool) → ((s : Stored) → IsThere lazy.live s → test (seen lazy.last s) ≡ true)
+      → list_all test (map (seen lazy.last) lazy.live.tables) ≡ true
   for_each test one = list_all-map test (seen lazy.last) lazy.live.tables ∙ list_all_each (IsThere lazy.live) (λ s. test (seen lazy.last s)) one lazy.live.tables (all_there lazy.live is.live)
 
   -- VIEW: it is a database
