@@ -1,0 +1,3 @@
+-- The plan of a migration against its definitions.
+pub mod Numbered
+pub mod Planned
