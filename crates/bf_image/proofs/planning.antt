@@ -1,3 +1,5 @@
 -- The plan of a migration against its definitions.
 pub mod Numbered
 pub mod Planned
+pub mod Few
+pub mod Driven
