@@ -3,3 +3,4 @@ pub mod Numbered
 pub mod Planned
 pub mod Few
 pub mod Driven
+pub mod Sourced
