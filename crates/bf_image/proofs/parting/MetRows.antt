@@ -1,6 +1,6 @@
 -- The row of the other table that a driver's row meets, by the places of ON.
 use Rattle.std.proofs.Common.{◌≡◌, ℕ, ◌+◌, ◌-◌, List, [], ◌∷◌, ◌++◌, map, flat_map, length, Option, Some, None, is_some, sym, refl, ap, ap₂, ◌∙◌, arith}
-use Rattle.std.specs.Prelude.{option_map, unwrap_or}
+use Rattle.std.specs.Prelude.{MatchOption, option_map, unwrap_or}
 use Rattle.std.specs.Option.{option_to_list}
 use Rattle.std.proofs.lemmas.Bool.{false≢true}
 use Rattle.std.proofs.lemmas.List.{append-nil}
@@ -15,7 +15,8 @@ use Rattle.bf_tree.specs.declared.plan.ArmKind.TheVariants.{ByJoin}
 use Rattle.bf_tree.specs.declared.plan.PlacedArm.{PlacedArm}
 use Rattle.bf_sql.specs.Database.{Database, table_at}
 use Rattle.bf_sql.specs.Scopes.{Scope}
-use Rattle.bf_sql.specs.migrations.Placed.{placed_arm, placed_pair}
+use Rattle.bf_sql.specs.migrations.Images.{arm_rows}
+use Rattle.bf_sql.specs.migrations.Placed.{placed_arm, placed_pair, placed_rows}
 use Rattle.bf_sql.specs.migrations.Targets.{arm_kind, arm_scope, equalities, from_key, join_key, names_of_join, width}
 use Rattle.bf_image.specs.BoundArms.{IsFrozenArm, IsJoined}
 use Rattle.bf_image.specs.Lookup.{partner, join_met, from_met, row_with, join_rows_met, from_rows_met}
@@ -23,8 +24,19 @@ use Rattle.bf_image.specs.Migrations.{IsLawfulMigration, old_of, source_of}
 use Rattle.bf_image.specs.declared.arms.FrozenArm.{FrozenArm}
 use Rattle.bf_image.specs.declared.migration.Frozen.{Frozen}
 use Rattle.bf_image.specs.declared.migration.Migration.{Migration}
+use Rattle.bf_image.proofs.making.PlacedArms.{placed_alike}
 use Rattle.bf_image.proofs.making.Unobjected.{joins_by_join}
 use Rattle.bf_image.proofs.parting.OldTables.{table_found, row_found}
+
+-- an option as a slice is its list
+pub as_listed : {X Y : Type 0} (f : X → Y) (met : Option X) (slice : List X) → MatchOption met (slice ≡ []) (λ x. slice ≡ x ∷ []) → map f slice ≡ option_to_list (option_map f met)
+as_listed f None slice is = ap (map f) is
+as_listed f (Some x) slice is = ap (map f) is
+
+module _ (m : Migration) (target : ℕ) (arm : Arm) (bound : FrozenArm) (frozen : IsFrozenArm m target arm bound) where
+  -- a bound arm makes the rows of its arm
+  pub rows_of_bound : (from join : List (List Value)) → placed_rows bound.placed.now from join ≡ arm_rows (old_of m) arm from join
+  rows_of_bound from join = ap (λ p. placed_rows p from join) frozen.placed ∙ sym (placed_alike (old_of m) arm from join)
 
 -- the JOIN of an arm whose bound form has one
 pub record HasJoin (m : Migration) (arm : Arm) (on : List (ℕ × ℕ)) (join : Frozen) : Type 0 where
