@@ -4,13 +4,19 @@ ghost use Rattle.std.specs.Prelude.{◌≡◌, ◌++◌, ℕ, IfOk, Some, flat_m
 ghost use Rattle.std.specs.Option.{option_to_list};
 ghost use Rattle.bf_base.specs.declared.granule.Place.TheVariants.{Group, Row as At};
 ghost use Rattle.bf_sql.specs.Database.{table_rows};
-ghost use Rattle.bf_sql.specs.migrations.Granules.{granule, part_at, rows_unit};
+ghost use Rattle.bf_tree.specs.declared.migration.Arm.{Arm};
+ghost use Rattle.bf_tree.specs.declared.migration.Target.{Target};
+ghost use Rattle.bf_sql.specs.migrations.Granules.{from_with, granule, join_with, part_at, rows_unit, values_unit};
 ghost use Rattle.bf_sql.specs.migrations.Plans.{rows_unit_of};
-ghost use Rattle.bf_image.specs.Migrations.{ArePart, IsLawfulMigration, old_of, target_at, value_indexes};
+ghost use Rattle.bf_sql.specs.migrations.Targets.{arm_kind};
+ghost use Rattle.bf_image.specs.BoundArms.{IsFrozenArm};
+ghost use Rattle.bf_image.specs.Migrations.{ArePart, IsLawfulMigration, old_of, target_at, unit_index, value_indexes};
+ghost use Rattle.bf_image.specs.declared.migration.Migration.{Migration};
 
 use crate::arm_rows::rows_made;
+use crate::arms::FrozenArm;
 use crate::migration::{Frozen, Migration};
-use crate::value_indexes::ValueIndexes;
+use crate::value_indexes::{UnitIndex, ValueIndexes};
 use bf_base::{Granule, Key, Memory, Place, Row};
 use bf_tree::{Unit, UnitKind};
 use std::alloc::Global;
@@ -52,6 +58,27 @@ fn rows_of_row(
     Ok(all)
 }
 
+/// What the arms of a unit make of the row at a position of its driver, if there is one.
+fn rows_of_position(
+    alloc: Global,
+    migration: &Migration,
+    unit: &Unit,
+    position: u32,
+) -> Result<Vec<(u8, Row)>, Memory>
+    requires lawful { IsLawfulMigration migration.now }
+    requires planned { unit.now ≡ rows_unit_of (old_of migration.now) migration.now.plan.migrate unit.now.driver }
+    ensures { IfOk result (λ made. map (λ p. (target_at migration.now p.0, p.1)) made.items
+        ≡ part_at (old_of migration.now) migration.now.plan.migrate (rows_unit unit.now.driver) (At position)) }
+{
+    let Some(driver) = migration.source(&unit.driver) else {
+        return Ok(Vec::new(alloc));
+    };
+    match driver.rows.at(position) {
+        Some((_, row)) => rows_of_row(alloc, migration, unit, row),
+        None => Ok(Vec::new(alloc)),
+    }
+}
+
 /// What a unit has at a position of the table whose rows it goes by.
 fn rows_at(
     alloc: Global,
@@ -65,15 +92,9 @@ fn rows_at(
     let Some(unit) = migration.plan.units.as_slice().get(number as usize) else {
         return Ok(Vec::new(alloc));
     };
-    if unit.kind != UnitKind::Rows {
-        return Ok(Vec::new(alloc));
-    }
-    let Some(driver) = migration.source(&unit.driver) else {
-        return Ok(Vec::new(alloc));
-    };
-    match driver.rows.at(position) {
-        Some((_, row)) => rows_of_row(alloc, migration, unit, row),
-        None => Ok(Vec::new(alloc)),
+    match unit.kind {
+        UnitKind::Rows => rows_of_position(alloc, migration, unit, position),
+        UnitKind::Groups | UnitKind::Joins => Ok(Vec::new(alloc)),
     }
 }
 
@@ -95,6 +116,40 @@ fn rows_at_all<'a>(
     Ok(rows)
 }
 
+/// The rows of FROM with a value.
+fn from_under<'a>(
+    alloc: Global,
+    arm: &FrozenArm<'a>,
+    index: &UnitIndex,
+    value: &Key,
+) -> Result<Vec<&'a Row>, Memory>
+    ensures { IfOk result (λ rows. (m : Migration) (target : ℕ) (raw : Arm) (of : Target)
+        → IsFrozenArm m target raw arm.now
+        → unit_index (old_of m) (values_unit of raw) ≡ Some index.now
+        → map (λ row. row.now) rows.items
+        ≡ from_with (old_of m) raw (arm_kind (old_of m) raw) value.now) }
+{
+    rows_at_all(alloc, arm.from, index.from.positions(value))
+}
+
+/// The rows of JOIN with a value; none where there is no JOIN.
+fn join_under<'a>(
+    alloc: Global,
+    arm: &FrozenArm<'a>,
+    index: &UnitIndex,
+    value: &Key,
+) -> Result<Vec<&'a Row>, Memory>
+    ensures { IfOk result (λ rows. (m : Migration) (target : ℕ) (raw : Arm) (of : Target)
+        → IsFrozenArm m target raw arm.now
+        → unit_index (old_of m) (values_unit of raw) ≡ Some index.now
+        → map (λ row. row.now) rows.items ≡ join_with (old_of m) raw value.now) }
+{
+    match (arm.join, &index.join) {
+        (Some(join), Some(by_value)) => rows_at_all(alloc, join, by_value.positions(value)),
+        _ => Ok(Vec::new(alloc)),
+    }
+}
+
 /// What a unit that goes by values has under a value.
 fn rows_under(
     alloc: Global,
@@ -107,14 +162,14 @@ fn rows_under(
     requires indexed { indexes.now ≡ value_indexes migration.now }
     ensures { IfOk result (λ rows. ArePart migration.now (granule number (Group value.now)) rows.items) }
 {
-    let (Some(arm), Some(index)) = (migration.arm_by_values(number), indexes.unit(number)) else {
+    let Some(arm) = migration.arm_by_values(number) else {
         return Ok(Vec::new(alloc));
     };
-    let from = rows_at_all(alloc, arm.from, index.from.positions(value))?;
-    let join = match (arm.join, &index.join) {
-        (Some(table), Some(by_value)) => rows_at_all(alloc, table, by_value.positions(value))?,
-        _ => Vec::new(alloc),
+    let Some(index) = indexes.unit(number) else {
+        return Ok(Vec::new(alloc));
     };
+    let from = from_under(alloc, &arm, index, value)?;
+    let join = join_under(alloc, &arm, index, value)?;
     let made = rows_made(alloc, arm.placed, &from, &join)?;
     with_rows(Vec::new(alloc), arm.target, made)
 }

@@ -1,7 +1,8 @@
 -- The old tables of a migration, looked up by name, and their rows by key.
 use Rattle.std.proofs.Common.{◌≡◌, ℕ, Bool, true, false, cond, List, [], ◌∷◌, map, find, Option, Some, None, sym, refl, ap, ap₂, subst, ◌∙◌}
-use Rattle.std.specs.Prelude.{option_map, unwrap_or}
+use Rattle.std.specs.Prelude.{option_map, slice_get, unwrap_or}
 use Rattle.std.specs.List.{AllByRecursion}
+use Rattle.std.proofs.lemmas.Option.{slice_get-map}
 use Rattle.bf_base.specs.declared.table.Table.{Table}
 use Rattle.bf_base.specs.declared.value.Value.{Value}
 use Rattle.bf_base.specs.Lists.{same_name, same_key}
@@ -53,3 +54,12 @@ module _ (m : Migration) (name : List ℕ) (frozen : Frozen) (found : source_of 
   row_found lawful key =
       row_under-own frozen (of_found HasOwnKeys (λ (f : Frozen). same_name f.table.name name) m.frozen frozen lawful.keys found) key
       ∙ sym (ap₂ (λ (t : Table) (rows : List (List Value)). find (λ row. same_key key (key_of t row)) rows) table_found rows_found)
+
+  -- a row of an old table at a position
+  pub row_at_found : (at : ℕ) (o : Option Entry) → slice_get frozen.rows at ≡ o → slice_get (table_rows (old_of m) name) at ≡ option_map (λ (e : Entry). e.1) o
+  row_at_found at o is = ap (λ rows. slice_get rows at) rows_found ∙ slice_get-map (λ (e : Entry). e.1) frozen.rows at ∙ ap (option_map (λ (e : Entry). e.1)) is
+
+-- where there is no old table, there are no rows
+pub rows_missing : (m : Migration) (name : List ℕ) → source_of m name ≡ None → table_rows (old_of m) name ≡ []
+rows_missing m name missing =
+    ap (λ (o : Option Stored). unwrap_or (option_map (λ s. s.rows) o) []) (find-map (λ (s : Stored). same_name s.table.name name) stored_of m.frozen ∙ ap (option_map stored_of) missing)
