@@ -1,14 +1,13 @@
 -- The part of a granule, by the planned unit of its number.
-use Rattle.std.proofs.Common.{◌≡◌, ℕ, List, [], Option, Some, None, refl, ap, ap₂, ◌∙◌, subst}
+use Rattle.std.proofs.Common.{◌≡◌, ℕ, List, [], Option, Some, ◌⊎◌, inl, inr, ap, ◌∙◌}
 use Rattle.std.specs.Prelude.{option_map, slice_get, unwrap_or}
 use Rattle.bf_base.specs.declared.granule.Place.{Place}
-use Rattle.bf_base.specs.declared.granule.Place.TheVariants.{Row, Group}
+use Rattle.bf_base.specs.declared.granule.Place.TheVariants.{Row}
 use Rattle.bf_base.specs.declared.value.Value.{Value}
 use Rattle.bf_tree.specs.declared.migration.Target.{Target}
 use Rattle.bf_tree.specs.declared.plan.Unit.{Unit as Planned}
-use Rattle.bf_tree.specs.declared.plan.UnitKind.{UnitKind}
 use Rattle.bf_tree.specs.declared.plan.UnitKind.TheVariants.{Rows, Groups, Joins}
-use Rattle.bf_sql.specs.migrations.Granules.{UnitForm, rows_unit, values_unit, granule, part_at, part_of}
+use Rattle.bf_sql.specs.migrations.Granules.{UnitForm, rows_unit, granule, part_at, part_of}
 use Rattle.bf_image.specs.Migrations.{IsLawfulMigration, old_of, unit_at}
 use Rattle.bf_image.specs.PlannedUnits.{form_by, unit_form}
 use Rattle.bf_image.specs.declared.migration.Migration.{Migration}
@@ -33,8 +32,6 @@ module _ (m : Migration) (lawful : IsLawfulMigration m) (number at : ℕ) (unit 
   pub part_by_rows : unit.kind ≡ Rows → part m number (Row at) ≡ part_at (old_of m) m.plan.migrate (rows_unit unit.driver) (Row at)
   part_by_rows is = part_planned m number (Row at) lawful (Some unit) there ∙ ap (λ k. part_at (old_of m) m.plan.migrate (form_by m.plan.migrate k unit.driver unit.arms) (Row at)) is
 
-  pub part_of_groups : unit.kind ≡ Groups → part m number (Row at) ≡ []
-  part_of_groups is = part_planned m number (Row at) lawful (Some unit) there ∙ ap (λ k. part_at (old_of m) m.plan.migrate (form_by m.plan.migrate k unit.driver unit.arms) (Row at)) is
-
-  pub part_of_joins : unit.kind ≡ Joins → part m number (Row at) ≡ []
-  part_of_joins is = part_planned m number (Row at) lawful (Some unit) there ∙ ap (λ k. part_at (old_of m) m.plan.migrate (form_by m.plan.migrate k unit.driver unit.arms) (Row at)) is
+  pub part_by_values : (unit.kind ≡ Groups) ⊎ (unit.kind ≡ Joins) → part m number (Row at) ≡ []
+  part_by_values (inl is) = part_planned m number (Row at) lawful (Some unit) there ∙ ap (λ k. part_at (old_of m) m.plan.migrate (form_by m.plan.migrate k unit.driver unit.arms) (Row at)) is
+  part_by_values (inr is) = part_planned m number (Row at) lawful (Some unit) there ∙ ap (λ k. part_at (old_of m) m.plan.migrate (form_by m.plan.migrate k unit.driver unit.arms) (Row at)) is
