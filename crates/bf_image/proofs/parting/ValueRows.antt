@@ -1,5 +1,5 @@
 -- The old rows with a value, and what an arm makes of them.
-use Rattle.std.proofs.Common.{◌≡◌, ℕ, ◌≤◌, Bool, true, false, not, List, [], ◌∷◌, ◌++◌, map, filter, length, Option, Some, None, ◌⊎◌, inl, inr, refl, sym, ap, ap₂, ◌∙◌, subst, arith}
+use Rattle.std.proofs.Common.{◌≡◌, ℕ, zero, suc, ◌≤◌, Bool, true, false, not, List, [], ◌∷◌, ◌++◌, map, filter, length, Option, Some, None, ◌⊎◌, inl, inr, refl, sym, ap, ap₂, ◌∙◌, subst, arith}
 use Rattle.std.specs.Prelude.{option_map, slice_get, unwrap_or}
 use Rattle.std.specs.List.{AllByRecursion, Contains, flat_map}
 use Rattle.std.specs.Option.{option_and_then, option_to_list}
@@ -19,6 +19,7 @@ use Rattle.bf_sql.specs.migrations.Granules.{UnitForm, rows_unit, values_unit, a
 use Rattle.bf_sql.specs.migrations.Images.{group_value, rows_of_join}
 use Rattle.bf_sql.specs.migrations.MigrationObjections.{drivers_of, is_by_row}
 use Rattle.bf_sql.specs.migrations.Placed.{placed_arm}
+use Rattle.bf_sql.specs.migrations.Plans.{numbered_arms}
 use Rattle.bf_sql.specs.migrations.Targets.{arm_kind}
 use Rattle.bf_image.specs.ArmRows.{AreOfOne, CanMake}
 use Rattle.bf_image.specs.BoundArms.{IsFrozenArm, IsJoined, IsOfUnit}
@@ -92,12 +93,55 @@ module _ (m : Migration) (target : ℕ) (arm : Arm) (bound : FrozenArm) (frozen 
   join_rows_with table valued there indexed =
       join_by arm.join (option_map (λ j. j.now) bound.join) frozen.join table valued there (ap (λ (i : UnitIndex). i.join) same_index ∙ indexed)
 
-  none_by : (o : Option Join) (joined : Option Frozen) → IsJoined m o joined → ((joined ≡ None) ⊎ (index_of_join o ≡ None)) → filter (λ row. same_key value (right_value old arm row)) (rows_of_join old o) ≡ []
-  none_by None joined same none = refl
-  none_by (Some j) None same none = absurd same
-  none_by (Some j) (Some found) same (inl none) = absurd cc
-  none_by (Some j) (Some found) same (inr none) = absurd cc
+-- AN ARM OF A TARGET: both are the migration's
+pub record IsOf (m : Migrate) (t : Target) (arm : Arm) : Type 0 where
+  pub among : Contains m.targets t
+  pub its : Contains t.arms arm
 
-  pub no_join_rows : ((option_map (λ j. j.now) bound.join ≡ None) ⊎ (index.join ≡ None)) → join_with old arm value ≡ []
-  no_join_rows none =
-      none_by arm.join (option_map (λ j. j.now) bound.join) frozen.join (elim none [ inl a ↦ inl a | inr b ↦ inr (ap (λ (i : UnitIndex). i.join) same_index ∙ b) ])
+abbrev IsOfMigrate : Migrate → UnitForm → Type 0
+IsOfMigrate m (rows_unit driver) = Unit {0}
+IsOfMigrate m (values_unit t arm) = IsOf m t arm
+
+each_made : {X Y : Type 0} (P : Y → Type 0) (f : X → Y) → ((x : X) → P (f x)) → (xs : List X) → AllByRecursion P (map f xs)
+each_made P f one [] = tt
+each_made P f one (x ∷ xs) = (one x, each_made P f one xs)
+
+-- a unit by values stands for an arm of the migration
+all_of_migrate : (old : Database) (m : Migrate) → AllByRecursion (IsOfMigrate m) (units_of old m)
+all_of_migrate old m =
+    let by_values : Target × Arm → Bool = λ p. not (is_by_row (arm_kind old p.1)) in
+    each_append (IsOfMigrate m) (map rows_unit (drivers_of old m)) (map (λ p. values_unit p.0 p.1) (filter by_values (arms_of m)))
+    (each_made (IsOfMigrate m) rows_unit (λ driver. tt) (drivers_of old m))
+    (each_of_map (IsOfMigrate m) (λ p. IsOf m p.0 p.1) (λ p. values_unit p.0 p.1) (λ p is. is) (filter by_values (arms_of m)) (each_kept (λ p. IsOf m p.0 p.1) by_values (arms_of m) all))
+  where
+    one : (q : (ℕ × ℕ) × Arm) → IsNumbered m q → IsOf m (target_named m q.0.0) q.1
+    one q numbered = record {
+      among = target_among m q.0 (named_from_numbered m q numbered);
+      its = subst (Contains (target_named m q.0.0).arms) (named_by_numbers m q numbered) (arm_among m q.0 (named_from_numbered m q numbered));
+    }
+
+    all : AllByRecursion (λ (p : Target × Arm). IsOf m p.0 p.1) (arms_of m)
+    all = subst (AllByRecursion (λ (p : Target × Arm). IsOf m p.0 p.1)) (arms_by_numbers m) (each_of_map (λ (p : Target × Arm). IsOf m p.0 p.1) (IsNumbered m) (without_number m) one (numbered_arms m) (all_numbered m))
+
+each_at : {X : Type 0} (P : X → Type 0) (xs : List X) (n : ℕ) (x : X) → AllByRecursion P xs → slice_get xs n ≡ Some x → P x
+each_at P [] n x all is = absurd cc
+each_at P (y ∷ ys) zero x all is = let same : y ≡ x = cc in subst P same all.0
+each_at P (y ∷ ys) (suc n) x all is = each_at P ys n x all.1 is
+
+pub of_migrate : (m : Migration) (number : ℕ) (t : Target) (arm : Arm) → unit_at m number ≡ Some (values_unit t arm) → IsOf m.plan.migrate t arm
+of_migrate m number t arm is = each_at (IsOfMigrate m.plan.migrate) (units_in m) number (values_unit t arm) (all_of_migrate (old_of m) m.plan.migrate) is
+
+module _ (old : Database) (m : Migrate) (t : Target) (arm : Arm) (lawful : IsLawful old m) (of : IsOf m t arm) (value : List Value) where
+  -- the rows of FROM with a value are of one group where the arm has groups
+  pub one_group : (kind : ArmKind) → arm_kind old arm ≡ kind → AreOfOne kind (placed_arm old arm) (from_with old arm kind value)
+  one_group ByFrom is = tt
+  one_group ByJoin is = tt
+  one_group ByPair is = tt
+  one_group ByGroup is = subst (λ k. AreOfOne k (placed_arm old arm) (from_with old arm ByGroup value)) is (part_of_one old m t arm lawful of.among of.its value (table_rows old arm.from))
+
+  -- and nothing stands in the way of what the arm makes of them
+  pub makes_with : (kind : ArmKind) (join : List (List Value)) → CanMake (placed_arm old arm) (from_with old arm kind value) join
+  makes_with ByFrom join = can_make old m t arm [] join lawful of.among of.its refl (omega arith)
+  makes_with ByJoin join = can_make old m t arm [] join lawful of.among of.its refl (omega arith)
+  makes_with ByPair join = can_make_of_part old m t arm lawful of.among of.its (λ row. same_key value (left_value old arm row)) join
+  makes_with ByGroup join = can_make_of_part old m t arm lawful of.among of.its (λ row. same_key value (group_value old arm row)) join
