@@ -6,4 +6,5 @@ pub mod OldTables
 pub mod Partners
 pub mod UnitParts
 pub mod UnitRows
+pub mod ValueParts
 pub mod ValueRows
