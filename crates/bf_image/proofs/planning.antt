@@ -5,3 +5,4 @@ pub mod Few
 pub mod Driven
 pub mod Sourced
 pub mod Units
+pub mod Places
