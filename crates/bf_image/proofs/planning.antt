@@ -6,3 +6,4 @@ pub mod Driven
 pub mod Sourced
 pub mod Units
 pub mod Places
+pub mod Bound
