@@ -7,3 +7,4 @@ pub mod Sourced
 pub mod Units
 pub mod Places
 pub mod Bound
+pub mod Within
