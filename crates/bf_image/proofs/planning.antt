@@ -8,3 +8,4 @@ pub mod Units
 pub mod Places
 pub mod Bound
 pub mod Within
+pub mod Indexes
