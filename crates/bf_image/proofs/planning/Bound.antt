@@ -1,5 +1,5 @@
 -- The tables of a bound arm, and the values of their rows by which the arm goes.
-use Rattle.std.proofs.Common.{◌≡◌, ℕ, ◌+◌, ◌-◌, Bool, true, false, not, ◌&&◌, ◌==◌, nat_le, nat_lt, List, [], ◌∷◌, ◌++◌, map, filter, flat_map, length, Some, None, is_some, refl, sym, ap, ap₂, ◌∙◌, append-nil, arith}
+use Rattle.std.proofs.Common.{◌≡◌, ℕ, ◌-◌, Bool, true, false, nat_le, nat_lt, List, [], ◌∷◌, ◌++◌, map, filter, flat_map, length, Some, None, refl, sym, ap, ap₂, ◌∙◌, append-nil, arith}
 use Rattle.std.proofs.lemmas.Bool.{false≢true}
 use Rattle.std.proofs.lemmas.Bool.Decides.{nat_tests}
 use Rattle.std.specs.Prelude.{Option, option_map, unwrap_or}
@@ -11,15 +11,14 @@ use Rattle.bf_base.specs.Tables.{cell, cells}
 use Rattle.bf_heap.specs.Heaps.{Entry}
 use Rattle.bf_tree.specs.declared.migration.Arm.{Arm}
 use Rattle.bf_tree.specs.declared.migration.Join.{Join}
-use Rattle.bf_tree.specs.declared.plan.ArmKind.{ArmKind}
-use Rattle.bf_tree.specs.declared.plan.ArmKind.TheVariants.{ByFrom, ByJoin, ByPair, ByGroup}
+use Rattle.bf_tree.specs.declared.plan.ArmKind.TheVariants.{ByPair}
 use Rattle.bf_tree.specs.declared.plan.PlacedArm.{PlacedArm}
 use Rattle.bf_tree.specs.declared.raw.Ref.{Ref}
-use Rattle.bf_sql.specs.Database.{Database, Stored, no_table, stored_at, table_at, table_rows}
+use Rattle.bf_sql.specs.Database.{Stored, no_table, table_at, table_rows}
 use Rattle.bf_sql.specs.Scopes.{Scope, place_of}
 use Rattle.bf_sql.specs.migrations.Granules.{left_places, left_value, right_places, right_value}
 use Rattle.bf_sql.specs.migrations.Images.{group_value, rows_of_join}
-use Rattle.bf_sql.specs.migrations.Placed.{placed_arm, placed_pair}
+use Rattle.bf_sql.specs.migrations.Placed.{placed_pair}
 use Rattle.bf_sql.specs.migrations.Targets.{arm_kind, arm_scope, kind_by, on_places, width}
 use Rattle.bf_image.specs.BoundArms.{IsFrozenArm, IsJoined, places_in_from, places_in_join, places_of_on, width_of}
 use Rattle.bf_image.specs.Migrations.{old_of, source_of, stored_of}

@@ -1,9 +1,12 @@
 -- The rows of a unit's arm by the values by which it goes.
-use Rattle.std.proofs.Common.{◌≡◌, ℕ, Bool, true, false, cond, List, [], ◌∷◌, map, find, Some, None, Bor, refl, sym, ap, ap₂, ◌∙◌, subst}
-use Rattle.std.specs.Prelude.{Option, IsTrue, option_map}
+use Rattle.std.proofs.Common.{◌≡◌, ℕ, ◌+◌, ◌<◌, Bool, true, false, cond, List, [], ◌∷◌, ◌++◌, map, find, length, take, Some, None, Bor, refl, sym, ap, ap₂, ◌∙◌, subst, arith}
+use Rattle.std.specs.Prelude.{Option, IsTrue, option_map, slice_get}
 use Rattle.std.specs.List.{AllByRecursion}
 use Rattle.std.specs.Option.{option_and_then}
 use Rattle.std.proofs.lemmas.Bool.{false≢true}
+use Rattle.std.proofs.Math.Seq.{take-length}
+use Rattle.std.proofs.lemmas.List.{length-map, take_more}
+use Rattle.std.proofs.lemmas.Option.{get_or_from_slice_get, slice_get-get_or, slice_get-map}
 use Rattle.std.proofs.lemmas.Simd.{map-map}
 use Rattle.bf_base.specs.declared.value.Value.{Value}
 use Rattle.bf_base.specs.Lists.{same_name}
@@ -22,13 +25,14 @@ use Rattle.bf_sql.specs.migrations.MigrationObjections.{is_by_row}
 use Rattle.bf_sql.specs.migrations.Targets.{arm_kind}
 use Rattle.bf_image.specs.BoundArms.{HasValues, IsFrozenArm, IsJoined, IsOfUnit, are_joined_within, arm_index, places_in_from, places_in_join}
 use Rattle.bf_image.specs.ByValues.{Valued, by_value, values_at}
-use Rattle.bf_image.specs.Migrations.{IsLawfulMigration, from_values, old_of, source_of, unit_at, unit_index}
+use Rattle.bf_image.specs.Migrations.{IsLawfulMigration, from_values, old_of, source_of, unit_at, unit_index, units_in, value_indexes}
+use Rattle.bf_image.specs.PlannedUnits.{unit_form}
 use Rattle.bf_image.specs.declared.arms.FrozenArm.{FrozenArm}
 use Rattle.bf_image.specs.declared.migration.Frozen.{Frozen}
 use Rattle.bf_image.specs.declared.migration.Migration.{Migration}
 use Rattle.bf_image.specs.declared.value_indexes.UnitIndex.{UnitIndex}
 use Rattle.bf_image.proofs.planning.Bound.{from_rows, group_cells, joined_of, left_cells, right_cells, rows_found, rows_in}
-use Rattle.bf_image.proofs.planning.Units.{IsUnitOf, unit_among}
+use Rattle.bf_image.proofs.planning.Units.{IsUnitOf, unit_among, units_stand_for}
 use Rattle.bf_image.proofs.planning.Within.{IsAllowed, allowed, alone_by_group, from_within, join_within}
 
 each_found : {X : Type 0} (P : X → Type 0) (test : X → Bool) (xs : List X) (x : X) → AllByRecursion P xs → find test xs ≡ Some x → P x
@@ -112,3 +116,29 @@ module _ (m : Migration) (lawful : IsLawfulMigration m) where
         let made : List Valued → Option (List Valued) → Option UnitIndex = λ from join. Some (record { from = from; join = join }) in
         ap (option_and_then (unit_index (old_of m))) ia.at
         ∙ ap₂ made (ap by_value (from_index ia (arm_kind old ia.arm) refl ia.unit.by_values)) (join_index ia ia.arm.join bound.join ia.is.join)
+
+  -- the indexes of units, one by one
+  length_of_indexes : length (value_indexes m) ≡ length m.plan.units
+  length_of_indexes = length-map (units_in m) (unit_index (old_of m)) ∙ ap length (sym (units_stand_for m lawful)) ∙ length-map m.plan.units (unit_form m.plan.migrate)
+
+  pub one_more_index : (number : ℕ) → number < length m.plan.units → take (number + 1) (value_indexes m) ≡ take number (value_indexes m) ++ option_and_then (unit_index (old_of m)) (unit_at m number) ∷ []
+  one_more_index number less = of (unit_at m number) refl
+    where
+      within : number < length (value_indexes m)
+      within = omega (arith, less, length_of_indexes)
+
+      at_is : slice_get (value_indexes m) number ≡ option_map (unit_index (old_of m)) (unit_at m number)
+      at_is = slice_get-map (unit_index (old_of m)) (units_in m) number
+
+      here : (x : Option UnitIndex) → slice_get (value_indexes m) number ≡ Some x → take (number + 1) (value_indexes m) ≡ take number (value_indexes m) ++ x ∷ []
+      here x e = take_more (value_indexes m) number None within ∙ ap (λ y. take number (value_indexes m) ++ y ∷ []) (get_or_from_slice_get (value_indexes m) number x None e)
+
+      of : (o : Option UnitForm) → unit_at m number ≡ o → take (number + 1) (value_indexes m) ≡ take number (value_indexes m) ++ option_and_then (unit_index (old_of m)) o ∷ []
+      of None e =
+          let none : slice_get (value_indexes m) number ≡ None = at_is ∙ ap (option_map (unit_index (old_of m))) e in
+          let some = slice_get-get_or (value_indexes m) number None within in
+          absurd cc
+      of (Some u) e = here (unit_index (old_of m) u) (at_is ∙ ap (option_map (unit_index (old_of m))) e)
+
+  pub all_indexes : take (length m.plan.units) (value_indexes m) ≡ value_indexes m
+  all_indexes = ap (λ n. take n (value_indexes m)) (sym length_of_indexes) ∙ take-length (value_indexes m)

@@ -1,5 +1,5 @@
 -- The places of refs to which there is no objection are those of columns.
-use Rattle.std.proofs.Common.{◌≡◌, ℕ, ◌+◌, Bool, true, false, ◌&&◌, ◌==◌, nat_lt, List, [], ◌∷◌, ◌++◌, map, filter, flat_map, length, refl, sym, ap, ◌∙◌, arith, length-append}
+use Rattle.std.proofs.Common.{◌≡◌, ℕ, ◌+◌, Bool, true, false, ◌&&◌, ◌==◌, nat_lt, List, [], ◌∷◌, ◌++◌, filter, length, refl, sym, arith}
 use Rattle.std.specs.Prelude.{slice_index_or}
 use Rattle.std.specs.List.{enumerate_from, list_all}
 use Rattle.std.proofs.lemmas.Bool.{and_from, and_parts, false≢true}
@@ -7,7 +7,7 @@ use Rattle.std.proofs.lemmas.Bool.Decides.{nat_tests}
 use Rattle.std.proofs.lemmas.List.{length-map}
 use Rattle.bf_base.specs.declared.table.Column.{Column}
 use Rattle.bf_base.specs.declared.table.Table.{Table}
-use Rattle.bf_base.specs.Lists.{same_name, when, with_before, with_before_from}
+use Rattle.bf_base.specs.Lists.{same_name, when, with_before_from}
 use Rattle.bf_tree.specs.declared.raw.Ref.{Ref}
 use Rattle.bf_tree.specs.declared.reply.Refusal.TheVariants as refusal
 use Rattle.bf_sql.specs.Scopes.{Scope, is_qualified_by, place_of, places_of, qualifier_objections, ref_objections, scope_of}

@@ -1,5 +1,5 @@
 -- The places by whose values an arm goes are those of columns, so each row has a value there.
-use Rattle.std.proofs.Common.{◌≡◌, ℕ, zero, suc, ◌+◌, ◌-◌, ◌<◌, Bool, true, false, not, ◌&&◌, ◌==◌, cond, nat_le, nat_lt, List, [], ◌∷◌, ◌++◌, map, filter, flat_map, length, Some, None, is_some, refl, sym, ap, ap₂, ◌∙◌, append-nil, subst, arith, length-append}
+use Rattle.std.proofs.Common.{◌≡◌, ℕ, zero, suc, ◌+◌, ◌-◌, Bool, true, false, not, ◌&&◌, ◌==◌, cond, nat_le, nat_lt, List, [], ◌∷◌, ◌++◌, map, filter, flat_map, length, Some, None, is_some, refl, sym, ap, ap₂, ◌∙◌, append-nil, subst, arith, length-append}
 use Rattle.std.specs.Prelude.{Option, option_map, slice_get, unwrap_or}
 use Rattle.std.specs.List.{Contains, list_all, list_any}
 use Rattle.std.proofs.lemmas.Bool.{and_from, and_parts, eqb-true, false≢true}
@@ -15,15 +15,13 @@ use Rattle.bf_tree.specs.declared.migration.Migrate.{Migrate}
 use Rattle.bf_tree.specs.declared.migration.Target.{Target}
 use Rattle.bf_tree.specs.declared.plan.ArmKind.{ArmKind}
 use Rattle.bf_tree.specs.declared.plan.ArmKind.TheVariants.{ByFrom, ByJoin, ByPair, ByGroup}
-use Rattle.bf_tree.specs.declared.raw.Ref.{Ref}
 use Rattle.bf_tree.specs.declared.reply.Refusal.TheVariants as refusal
-use Rattle.bf_sql.specs.Conditions.{condition_of}
-use Rattle.bf_sql.specs.Database.{Database, table_at, table_rows}
-use Rattle.bf_sql.specs.Scopes.{Scope, cond_objections, place_of, ref_objections, scope_of, twice_objections}
-use Rattle.bf_sql.specs.migrations.Granules.{left_places, right_places}
-use Rattle.bf_sql.specs.migrations.MigrationObjections.{arm_objections, group_objections, is_by_group, is_by_row, item_objections, on_objections, source_objections, target_objections}
-use Rattle.bf_sql.specs.migrations.Targets.{arm_kind, arm_scope, arm_sources, equalities, names_of_join, on_places, width}
-use Rattle.bf_image.specs.BoundArms.{IsFrozenArm, IsJoined, places_in_from, places_in_join, width_of}
+use Rattle.bf_sql.specs.Database.{Database, table_at}
+use Rattle.bf_sql.specs.Scopes.{Scope, place_of, ref_objections, scope_of}
+use Rattle.bf_sql.specs.migrations.Granules.{right_places}
+use Rattle.bf_sql.specs.migrations.MigrationObjections.{arm_objections, group_objections, is_by_group, is_by_row, on_objections, target_objections}
+use Rattle.bf_sql.specs.migrations.Targets.{arm_kind, arm_scope, equalities, on_places, width}
+use Rattle.bf_image.specs.BoundArms.{IsFrozenArm, IsJoined, places_in_from, places_in_join}
 use Rattle.bf_image.specs.ByValues.{are_within}
 use Rattle.bf_image.specs.Laws.{IsLawful}
 use Rattle.bf_image.specs.Migrations.{IsLawfulMigration, old_of}
@@ -32,7 +30,7 @@ use Rattle.bf_image.specs.declared.migration.Frozen.{Frozen}
 use Rattle.bf_image.specs.declared.migration.Migration.{Migration}
 use Rattle.bf_image.proofs.items.Lists.{all_both, all_of_blocks, all_of_contained, all_of_map, all_so, none_left, none_of_each, none_right}
 use Rattle.bf_image.proofs.making.Unobjected.{alone_in_groups, arms_ok, arms_unobjected, as_wide, two_sided}
-use Rattle.bf_image.proofs.planning.Bound.{from_rows, from_table, from_width, group_places, join_places_are, joined_of, pair_places, rows_found, rows_in, table_found}
+use Rattle.bf_image.proofs.planning.Bound.{from_rows, group_places, join_places_are, joined_of, pair_places, rows_found, rows_in}
 use Rattle.bf_image.proofs.planning.Places.{all_behind, place_within, scope_width}
 
 none_at : {X Y : Type 0} (f : Y → List X) (ys : List Y) (k : ℕ) (y : Y) → flat_map f ys ≡ [] → slice_get ys k ≡ Some y → f y ≡ []
