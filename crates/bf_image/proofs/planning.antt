@@ -9,3 +9,4 @@ pub mod Places
 pub mod Bound
 pub mod Within
 pub mod Indexes
+pub mod Swept

@@ -1,6 +1,9 @@
 -- The arms of a migration, each bound, with its old tables.
-use Rattle.std.specs.Prelude.{◌≡◌, IsTrue, Bool, true, ℕ, ◌-◌, nat_le, nat_lt, List, [], ◌∷◌, ◌++◌, map, flat_map, filter, length, Option, Some, None, option_map, slice_get}
+use Rattle.std.specs.Prelude.{◌≡◌, IsTrue, Bool, true, ℕ, ◌-◌, ◌≤◌, nat_le, nat_lt, List, [], ◌∷◌, ◌++◌, map, flat_map, filter, length, Option, Some, None, option_map, slice_get}
 use Rattle.std.specs.Option.{option_and_then}
+use Rattle.bf_base.specs.Limits.{most_rows}
+use Rattle.bf_base.specs.declared.value.Value.{Value}
+use Rattle.bf_heap.specs.Heaps.{Entry}
 use Rattle.bf_tree.specs.Limits.{is_narrow}
 use Rattle.bf_tree.specs.declared.migration.Arm.{Arm}
 use Rattle.bf_tree.specs.declared.migration.Join.{Join}
@@ -74,3 +77,18 @@ pub record HasValues (bound : FrozenArm) : Type 0 where
   pub narrow : IsTrue (is_narrow bound.from.now.table)
   pub from : IsTrue (are_within (places_in_from bound) bound.from.now.rows)
   pub join : IsTrue (are_joined_within (places_in_join bound) (option_map (λ join. join.now) bound.join))
+
+-- the rows of an old table that may be there
+abbrev pub entries_of : Option Frozen → List Entry
+entries_of None = []
+entries_of (Some frozen) = frozen.rows
+
+-- the values by which an arm goes, of the rows of FROM and then of those of JOIN
+abbrev pub arm_values : FrozenArm → List (List Value)
+arm_values bound =
+    values_at (places_in_from bound) bound.from.now.rows ++ values_at (places_in_join bound) (entries_of (option_map (λ join. join.now) bound.join))
+
+-- so few rows that they can be counted
+pub record HasFewRows (bound : FrozenArm) : Type 0 where
+  pub from : length bound.from.now.rows ≤ most_rows
+  pub join : length (entries_of (option_map (λ join. join.now) bound.join)) ≤ most_rows

@@ -35,7 +35,7 @@ use Rattle.bf_image.proofs.planning.Bound.{from_rows, group_cells, joined_of, le
 use Rattle.bf_image.proofs.planning.Units.{IsUnitOf, unit_among, units_stand_for}
 use Rattle.bf_image.proofs.planning.Within.{IsAllowed, allowed, alone_by_group, from_within, join_within}
 
-each_found : {X : Type 0} (P : X → Type 0) (test : X → Bool) (xs : List X) (x : X) → AllByRecursion P xs → find test xs ≡ Some x → P x
+pub each_found : {X : Type 0} (P : X → Type 0) (test : X → Bool) (xs : List X) (x : X) → AllByRecursion P xs → find test xs ≡ Some x → P x
 each_found P test [] x h e = absurd cc
 each_found P test (y ∷ ys) x h e = of (test y) (λ found. each_found P test ys x h.1 found) e
   where
@@ -43,7 +43,7 @@ each_found P test (y ∷ ys) x h e = of (test y) (λ found. each_found P test ys
     of true rest e = let same : y ≡ x = cc in subst P same h.0
     of false rest e = rest e
 
-values_alike : (made : List Value → List Value) (places : List ℕ) (rows : List (List Value)) (entries : List Entry) → ((row : List Value) → cells places row ≡ made row) → rows ≡ rows_in entries → map made rows ≡ values_at places entries
+pub values_alike : (made : List Value → List Value) (places : List ℕ) (rows : List (List Value)) (entries : List Entry) → ((row : List Value) → cells places row ≡ made row) → rows ≡ rows_in entries → map made rows ≡ values_at places entries
 values_alike made places rows entries one same = ap (map made) same ∙ map-map made (λ (e : Entry). e.1) entries ∙ each entries
   where
     each : (es : List Entry) → map (λ (e : Entry). made e.1) es ≡ values_at places es
