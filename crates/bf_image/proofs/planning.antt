@@ -5,3 +5,8 @@ pub mod Few
 pub mod Driven
 pub mod Sourced
 pub mod Units
+pub mod Places
+pub mod Bound
+pub mod Within
+pub mod Indexes
+pub mod Swept

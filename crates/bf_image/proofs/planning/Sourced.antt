@@ -65,7 +65,7 @@ some_from_map f None e = absurd (false≢true e)
 some_from_map f (Some x) e = (x, refl)
 
 module _ (m : Migration) where
-  stored_source : (name : List ℕ) → stored_at (old_of m) name ≡ option_map stored_of (source_of m name)
+  pub stored_source : (name : List ℕ) → stored_at (old_of m) name ≡ option_map stored_of (source_of m name)
   stored_source name = find-map (λ (s : Stored). same_name s.table.name name) stored_of m.frozen
 
   -- an arm stands in the plan, with places for names, at its own numbers

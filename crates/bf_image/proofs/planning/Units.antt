@@ -1,8 +1,9 @@
 -- The units of a lawful migration by their numbers.
-use Rattle.std.proofs.Common.{◌≡◌, ℕ, zero, suc, ◌≤◌, Bool, not, List, [], ◌∷◌, map, filter, length, Some, None, ◌⊎◌, inl, inr, refl, sym, ap, ◌∙◌, subst, arith}
+use Rattle.std.proofs.Common.{◌≡◌, ℕ, zero, suc, ◌≤◌, Bool, true, false, not, cond, List, [], ◌∷◌, map, filter, length, Some, None, ◌⊎◌, inl, inr, refl, sym, ap, ◌∙◌, subst, arith}
 use Rattle.std.specs.Prelude.{Option, option_map, slice_get, slice_index_or}
-use Rattle.std.specs.List.{AllByRecursion}
+use Rattle.std.specs.List.{AllByRecursion, Contains}
 use Rattle.std.specs.Option.{option_and_then}
+use Rattle.std.proofs.lemmas.Bool.{not-true}
 use Rattle.std.proofs.lemmas.List.{length-map}
 use Rattle.std.proofs.lemmas.Option.{slice_get-map, slice_get_past}
 use Rattle.bf_tree.specs.declared.migration.Arm.{Arm}
@@ -15,7 +16,7 @@ use Rattle.bf_tree.specs.declared.plan.UnitKind.TheVariants.{Rows, Groups, Joins
 use Rattle.bf_tree.specs.declared.plan.ArmKind.{ArmKind}
 use Rattle.bf_tree.specs.declared.plan.ArmKind.TheVariants.{ByFrom, ByJoin, ByPair, ByGroup}
 use Rattle.bf_sql.specs.Database.{Database}
-use Rattle.bf_sql.specs.migrations.Granules.{rows_unit}
+use Rattle.bf_sql.specs.migrations.Granules.{rows_unit, values_unit}
 use Rattle.bf_sql.specs.migrations.MigrationObjections.{drivers_of, is_by_row}
 use Rattle.bf_sql.specs.migrations.Plans.{kind_by_values, numbered_arms, planned_units, rows_unit_of, values_unit_of}
 use Rattle.bf_sql.specs.migrations.Targets.{arm_kind}
@@ -24,9 +25,9 @@ use Rattle.bf_image.specs.Migrations.{IsLawfulMigration, old_of, unit_at, units_
 use Rattle.bf_image.specs.PlannedUnits.{arm_named, form_by, target_named, unit_form, values_form}
 use Rattle.bf_image.specs.declared.arms.FrozenArm.{FrozenArm}
 use Rattle.bf_image.specs.declared.migration.Migration.{Migration}
-use Rattle.bf_image.proofs.planning.Driven.{IsNamed, named_from_numbered}
+use Rattle.bf_image.proofs.planning.Driven.{IsNamed, arm_among, named_from_numbered, target_among}
 use Rattle.bf_image.proofs.planning.Few.{few_units}
-use Rattle.bf_image.proofs.planning.Numbered.{IsNumbered, all_numbered, each_append, each_kept, each_of_map}
+use Rattle.bf_image.proofs.planning.Numbered.{IsNumbered, all_numbered, each_append, each_of_map, named_by_numbers}
 use Rattle.bf_image.proofs.planning.Planned.{units_planned}
 
 each_at : {X : Type 0} (P : X → Type 0) (xs : List X) (n : ℕ) (x : X) → AllByRecursion P xs → slice_get xs n ≡ Some x → P x
@@ -38,24 +39,36 @@ each_made : {X Y : Type 0} (P : Y → Type 0) (f : X → Y) → ((x : X) → P (
 each_made P f one [] = tt
 each_made P f one (x ∷ xs) = (one x, each_made P f one xs)
 
+each_passes : {X : Type 0} (P : X → Type 0) (test : X → Bool) (xs : List X) → AllByRecursion P xs → AllByRecursion (λ x. P x × (test x ≡ true)) (filter test xs)
+each_passes P test [] h = tt
+each_passes P test (x ∷ xs) h = of (test x) refl (each_passes P test xs h.1)
+  where
+    of : (b : Bool) → test x ≡ b → AllByRecursion (λ x. P x × (test x ≡ true)) (filter test xs) → AllByRecursion (λ x. P x × (test x ≡ true)) (cond b (x ∷ filter test xs) (filter test xs))
+    of true at rest = ((h.0, at), rest)
+    of false at rest = rest
+
 -- the one arm of a unit that goes by values
-pub record HasOneArm (m : Migrate) (arms : List (ℕ × ℕ)) : Type 0 where
+pub record HasOneArm (old : Database) (m : Migrate) (arms : List (ℕ × ℕ)) : Type 0 where
   pub pair : ℕ × ℕ
   pub one : arms ≡ pair ∷ []
   pub named : IsNamed m pair
+  pub by_values : is_by_row (arm_kind old (arm_named m pair)) ≡ false
 
 module _ (old : Database) (m : Migrate) where
   -- PLANNED: a unit by rows is that of its driver, and any other has one arm
   abbrev pub IsPlannedAs : UnitKind → Planned → Type 0
   IsPlannedAs Rows unit = unit ≡ rows_unit_of old m unit.driver
-  IsPlannedAs Groups unit = HasOneArm m unit.arms
-  IsPlannedAs Joins unit = HasOneArm m unit.arms
+  IsPlannedAs Groups unit = HasOneArm old m unit.arms
+  IsPlannedAs Joins unit = HasOneArm old m unit.arms
 
-  one_arm : (q : (ℕ × ℕ) × Arm) → IsNumbered m q → IsPlannedAs (values_unit_of old m q).kind (values_unit_of old m q)
+  abbrev goes_by_values : (ℕ × ℕ) × Arm → Bool
+  goes_by_values q = not (is_by_row (arm_kind old q.1))
+
+  one_arm : (q : (ℕ × ℕ) × Arm) → IsNumbered m q × (goes_by_values q ≡ true) → IsPlannedAs (values_unit_of old m q).kind (values_unit_of old m q)
   one_arm q numbered = of (arm_kind old q.1)
     where
-      only : HasOneArm m (q.0 ∷ [])
-      only = record { pair = q.0; one = refl; named = named_from_numbered m q numbered }
+      only : HasOneArm old m (q.0 ∷ [])
+      only = record { pair = q.0; one = refl; named = named_from_numbered m q numbered.0; by_values = ap (λ arm. is_by_row (arm_kind old arm)) (named_by_numbers m q numbered.0) ∙ not-true _ numbered.1 }
 
       of : (kind : ArmKind) → IsPlannedAs (kind_by_values kind) (record { kind = kind_by_values kind; driver = q.1.from; arms = q.0 ∷ [] })
       of ByFrom = only
@@ -65,10 +78,9 @@ module _ (old : Database) (m : Migrate) where
 
   all_planned : AllByRecursion (λ unit. IsPlannedAs unit.kind unit) (planned_units old m)
   all_planned =
-      let by_values : (ℕ × ℕ) × Arm → Bool = λ q. not (is_by_row (arm_kind old q.1)) in
-      each_append (λ unit. IsPlannedAs unit.kind unit) (map (rows_unit_of old m) (drivers_of old m)) (map (values_unit_of old m) (filter by_values (numbered_arms m)))
+      each_append (λ unit. IsPlannedAs unit.kind unit) (map (rows_unit_of old m) (drivers_of old m)) (map (values_unit_of old m) (filter goes_by_values (numbered_arms m)))
       (each_made (λ unit. IsPlannedAs unit.kind unit) (rows_unit_of old m) (λ driver. refl) (drivers_of old m))
-      (each_of_map (λ unit. IsPlannedAs unit.kind unit) (IsNumbered m) (values_unit_of old m) one_arm (filter by_values (numbered_arms m)) (each_kept (IsNumbered m) by_values (numbered_arms m) (all_numbered m)))
+      (each_of_map (λ unit. IsPlannedAs unit.kind unit) (λ q. IsNumbered m q × (goes_by_values q ≡ true)) (values_unit_of old m) one_arm (filter goes_by_values (numbered_arms m)) (each_passes (IsNumbered m) goes_by_values (numbered_arms m) (all_numbered m)))
 
 module _ (m : Migration) where
   -- an arm is at the numbers that name it
@@ -98,7 +110,7 @@ module _ (m : Migration) where
         subst (λ k. IsPlannedAs (old_of m) m.plan.migrate k unit) is planned
 
     -- a unit that goes by values has one arm, and stands for it
-    pub by_values : (number : ℕ) (unit : Planned) → slice_get m.plan.units number ≡ Some unit → (unit.kind ≡ Groups) ⊎ (unit.kind ≡ Joins) → HasOneArm m.plan.migrate unit.arms
+    pub by_values : (number : ℕ) (unit : Planned) → slice_get m.plan.units number ≡ Some unit → (unit.kind ≡ Groups) ⊎ (unit.kind ≡ Joins) → HasOneArm (old_of m) m.plan.migrate unit.arms
     by_values number unit at (inl is) = planned_as number unit at Groups is
     by_values number unit at (inr is) = planned_as number unit at Joins is
 
@@ -139,3 +151,37 @@ module _ (m : Migration) where
         let front : slice_index_or unit.arms 0 (0, 0) ≡ pair = ap (λ ps. slice_index_or ps 0 (0, 0)) only.one ∙ same in
         let here : unit_at m number ≡ Some (values_form m.plan.migrate pair) = unit_at_number number ∙ ap (option_map (unit_form m.plan.migrate)) at ∙ ap Some (form_by_values unit kind ∙ ap (values_form m.plan.migrate) front) in
         subst (λ o. IsOfUnit m o found) (sym here) (found_of_unit pair found (subst (λ o. IsFound m pair.0 o found) (arm_at_named pair named) is))
+
+    -- the target and the arm of a unit by values are the migration's
+    pub record IsUnitOf (target : Target) (arm : Arm) : Type 0 where
+      pub target_among : Contains m.plan.migrate.targets target
+      pub arm_among : Contains target.arms arm
+      pub by_values : is_by_row (arm_kind (old_of m) arm) ≡ false
+
+    pub unit_among : (number : ℕ) (target : Target) (arm : Arm) → unit_at m number ≡ Some (values_unit target arm) → IsUnitOf target arm
+    unit_among number target arm e = of (slice_get m.plan.units number) refl (sym (unit_at_number number) ∙ e)
+      where
+        one : (pair : ℕ × ℕ) → IsNamed m.plan.migrate pair → is_by_row (arm_kind (old_of m) (arm_named m.plan.migrate pair)) ≡ false → values_form m.plan.migrate pair ≡ values_unit target arm → IsUnitOf target arm
+        one pair named by same =
+            let same_target : target_named m.plan.migrate pair.0 ≡ target = cc in
+            let same_arm : arm_named m.plan.migrate pair ≡ arm = cc in
+            record {
+              target_among = subst (Contains m.plan.migrate.targets) same_target (target_among m.plan.migrate pair named);
+              arm_among = subst (λ (t : Target). Contains t.arms arm) same_target (subst (Contains (target_named m.plan.migrate pair.0).arms) same_arm (arm_among m.plan.migrate pair named));
+              by_values = ap (λ a. is_by_row (arm_kind (old_of m) a)) (sym same_arm) ∙ by;
+            }
+
+        values : (unit : Planned) → slice_get m.plan.units number ≡ Some unit → (unit.kind ≡ Groups) ⊎ (unit.kind ≡ Joins) → unit_form m.plan.migrate unit ≡ values_unit target arm → IsUnitOf target arm
+        values unit at is form =
+            let only = by_values number unit at is in
+            let front : slice_index_or unit.arms 0 (0, 0) ≡ only.pair = ap (λ ps. slice_index_or ps 0 (0, 0)) only.one in
+            one only.pair only.named only.by_values (ap (values_form m.plan.migrate) (sym front) ∙ sym (form_by_values unit is) ∙ form)
+
+        of_kind : (unit : Planned) (kind : UnitKind) → unit.kind ≡ kind → slice_get m.plan.units number ≡ Some unit → unit_form m.plan.migrate unit ≡ values_unit target arm → IsUnitOf target arm
+        of_kind unit Rows is at form = let rows : rows_unit unit.driver ≡ values_unit target arm = ap (λ k. form_by m.plan.migrate k unit.driver unit.arms) (sym is) ∙ form in absurd cc
+        of_kind unit Groups is at form = values unit at (inl is) form
+        of_kind unit Joins is at form = values unit at (inr is) form
+
+        of : (o : Option Planned) → slice_get m.plan.units number ≡ o → option_map (unit_form m.plan.migrate) o ≡ Some (values_unit target arm) → IsUnitOf target arm
+        of None at none = absurd cc
+        of (Some unit) at there = let form : unit_form m.plan.migrate unit ≡ values_unit target arm = cc in of_kind unit unit.kind refl at form
