@@ -113,7 +113,13 @@ impl<'a> FrozenArm<'a> {
             driver: self.from.table.columns.as_slice().len(),
             other: 0,
         };
-        let key = key_met(alloc, on.as_slice(), self.from.table.key.as_slice(), ahead, row)?;
+        let key = key_met(
+            alloc,
+            on.as_slice(),
+            self.from.table.key.as_slice(),
+            ahead,
+            row,
+        )?;
         Ok(self.from.rows.get(&key))
     }
 

@@ -22,11 +22,7 @@ use bf_tree::{Unit, UnitKind};
 use std::alloc::Global;
 
 /// Rows behind others, each with the number of its target.
-fn with_rows(
-    mut all: Vec<(u8, Row)>,
-    target: u8,
-    rows: Vec<Row>,
-) -> Result<Vec<(u8, Row)>, Memory>
+fn with_rows(mut all: Vec<(u8, Row)>, target: u8, rows: Vec<Row>) -> Result<Vec<(u8, Row)>, Memory>
     ensures { IfOk result (λ both. both.items ≡ all.items ++ map (λ row. (target, row)) rows.items) }
 {
     for row in rows {

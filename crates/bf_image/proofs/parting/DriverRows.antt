@@ -1,8 +1,8 @@
 -- What the arms of a unit by rows make of a row of its driver.
-use Rattle.std.proofs.Common.{◌≡◌, ℕ, zero, suc, ◌+◌, Bool, true, false, not, ◌&&◌, if◌then◌else◌, List, [], ◌∷◌, ◌++◌, map, filter, take, drop, slice_range, Option, Some, None, is_some, IsTrue, refl, sym, ap, ap₂, ◌∙◌, cond}
+use Rattle.std.proofs.Common.{◌≡◌, ℕ, zero, suc, ◌+◌, Bool, true, false, not, ◌&&◌, if◌then◌else◌, List, [], ◌∷◌, ◌++◌, map, filter, take, drop, slice_range, Some, None, is_some, refl, sym, ap, ap₂, ◌∙◌, cond}
 use Rattle.std.specs.Prelude.{slice_get}
-use Rattle.std.specs.List.{AllByRecursion, Contains, flat_map, list_all}
-use Rattle.std.proofs.lemmas.Bool.{and_parts, false≢true, or_parts}
+use Rattle.std.specs.List.{AllByRecursion, flat_map, list_all}
+use Rattle.std.proofs.lemmas.Bool.{and_parts, false≢true}
 use Rattle.std.proofs.lemmas.List.{append-nil}
 use Rattle.bf_base.specs.declared.granule.Place.TheVariants.{Row}
 use Rattle.bf_base.specs.declared.value.Value.{Value}
@@ -19,7 +19,7 @@ use Rattle.bf_sql.specs.Scopes.{Scope}
 use Rattle.bf_sql.specs.migrations.Granules.{part_at, rows_driven, rows_unit}
 use Rattle.bf_sql.specs.migrations.Images.{arm_rows}
 use Rattle.bf_sql.specs.migrations.MigrationObjections.{driver_by, inherits_key, is_by_group, is_by_row, is_grouped_item}
-use Rattle.bf_sql.specs.migrations.Placed.{placed_arm, placed_groups, placed_item}
+use Rattle.bf_sql.specs.migrations.Placed.{placed_arm, placed_item}
 use Rattle.bf_sql.specs.migrations.Plans.{numbered_arms, rows_unit_of}
 use Rattle.bf_sql.specs.migrations.Targets.{arm_kind, arm_scope, is_total, key_items, names_of_join}
 use Rattle.bf_image.specs.ArmRows.{CanMake, IsUnobjected, item_objections}

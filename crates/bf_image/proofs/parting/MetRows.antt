@@ -1,5 +1,5 @@
 -- The row of the other table that a driver's row meets, by the places of ON.
-use Rattle.std.proofs.Common.{◌≡◌, ℕ, ◌+◌, ◌-◌, List, [], ◌∷◌, ◌++◌, map, flat_map, length, Option, Some, None, is_some, sym, refl, ap, ap₂, ◌∙◌, arith}
+use Rattle.std.proofs.Common.{◌≡◌, ℕ, ◌+◌, ◌-◌, List, [], ◌∷◌, map, flat_map, length, Option, Some, None, is_some, sym, refl, ap, ap₂, ◌∙◌, arith}
 use Rattle.std.specs.Prelude.{MatchOption, option_map, unwrap_or}
 use Rattle.std.specs.Option.{option_to_list}
 use Rattle.std.proofs.lemmas.Bool.{false≢true}
@@ -8,16 +8,14 @@ use Rattle.std.proofs.lemmas.Simd.{map-map}
 use Rattle.bf_base.specs.declared.value.Value.{Value}
 use Rattle.bf_base.specs.Tables.{cell}
 use Rattle.bf_heap.specs.Heaps.{row_under}
-use Rattle.bf_tree.specs.declared.raw.Ref.{Ref}
 use Rattle.bf_tree.specs.declared.migration.Arm.{Arm}
 use Rattle.bf_tree.specs.declared.migration.Join.{Join}
 use Rattle.bf_tree.specs.declared.plan.ArmKind.TheVariants.{ByJoin}
 use Rattle.bf_tree.specs.declared.plan.PlacedArm.{PlacedArm}
 use Rattle.bf_sql.specs.Database.{Database, table_at}
-use Rattle.bf_sql.specs.Scopes.{Scope}
 use Rattle.bf_sql.specs.migrations.Images.{arm_rows}
-use Rattle.bf_sql.specs.migrations.Placed.{placed_arm, placed_pair, placed_rows}
-use Rattle.bf_sql.specs.migrations.Targets.{arm_kind, arm_scope, equalities, from_key, join_key, names_of_join, width}
+use Rattle.bf_sql.specs.migrations.Placed.{placed_pair, placed_rows}
+use Rattle.bf_sql.specs.migrations.Targets.{arm_kind, arm_scope, equalities, join_key, names_of_join, width}
 use Rattle.bf_image.specs.BoundArms.{IsFrozenArm, IsJoined}
 use Rattle.bf_image.specs.Lookup.{partner, join_met, from_met, row_with, join_rows_met, from_rows_met}
 use Rattle.bf_image.specs.Migrations.{IsLawfulMigration, old_of, source_of}

@@ -17,7 +17,6 @@ use Rattle.bf_image.specs.BoundArms.{IsFrozenArm, IsOfUnit}
 use Rattle.bf_image.specs.Migrations.{IsLawfulMigration, old_of, target_at, unit_at, unit_index, units_in, value_indexes}
 use Rattle.bf_image.specs.declared.arms.FrozenArm.{FrozenArm}
 use Rattle.bf_image.specs.declared.migration.Migration.{Migration}
-use Rattle.bf_image.specs.declared.value_indexes.UnitIndex.{UnitIndex}
 use Rattle.bf_image.proofs.parting.MetRows.{rows_of_bound}
 use Rattle.bf_image.proofs.parting.UnitParts.{part, part_is}
 use Rattle.bf_image.proofs.parting.ValueRows.{IsOf, of_migrate, one_group, makes_with}

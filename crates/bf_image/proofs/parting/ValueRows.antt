@@ -1,10 +1,8 @@
 -- The old rows with a value, and what an arm makes of them.
-use Rattle.std.proofs.Common.{◌≡◌, ℕ, zero, suc, ◌≤◌, Bool, true, false, not, List, [], ◌∷◌, ◌++◌, map, filter, length, Option, Some, None, ◌⊎◌, inl, inr, refl, sym, ap, ap₂, ◌∙◌, subst, arith}
-use Rattle.std.specs.Prelude.{option_map, slice_get, unwrap_or}
+use Rattle.std.proofs.Common.{◌≡◌, ℕ, zero, suc, Bool, not, List, [], ◌∷◌, map, filter, Option, Some, None, refl, sym, ap, ap₂, ◌∙◌, subst, arith}
+use Rattle.std.specs.Prelude.{option_map, slice_get}
 use Rattle.std.specs.List.{AllByRecursion, Contains, flat_map}
-use Rattle.std.specs.Option.{option_and_then, option_to_list}
-use Rattle.std.proofs.lemmas.Option.{slice_get-map}
-use Rattle.bf_base.specs.declared.granule.Place.TheVariants.{Group}
+use Rattle.std.specs.Option.{option_to_list}
 use Rattle.bf_base.specs.declared.value.Value.{Value}
 use Rattle.bf_base.specs.Lists.{same_key}
 use Rattle.bf_heap.specs.Heaps.{Entry}
@@ -22,10 +20,10 @@ use Rattle.bf_sql.specs.migrations.Placed.{placed_arm}
 use Rattle.bf_sql.specs.migrations.Plans.{numbered_arms}
 use Rattle.bf_sql.specs.migrations.Targets.{arm_kind}
 use Rattle.bf_image.specs.ArmRows.{AreOfOne, CanMake}
-use Rattle.bf_image.specs.BoundArms.{IsFrozenArm, IsJoined, IsOfUnit}
-use Rattle.bf_image.specs.ByValues.{Valued, by_value, positions_of, positions_under}
+use Rattle.bf_image.specs.BoundArms.{IsFrozenArm, IsJoined}
+use Rattle.bf_image.specs.ByValues.{Valued, by_value, positions_under}
 use Rattle.bf_image.specs.Laws.{IsLawful}
-use Rattle.bf_image.specs.Migrations.{IsLawfulMigration, from_values, old_of, source_of, target_at, unit_at, unit_index, units_in, value_indexes}
+use Rattle.bf_image.specs.Migrations.{from_values, old_of, unit_at, unit_index, units_in}
 use Rattle.bf_image.specs.PlannedUnits.{target_named}
 use Rattle.bf_image.specs.declared.arms.FrozenArm.{FrozenArm}
 use Rattle.bf_image.specs.declared.migration.Frozen.{Frozen}
@@ -34,7 +32,6 @@ use Rattle.bf_image.specs.declared.value_indexes.UnitIndex.{UnitIndex}
 use Rattle.bf_image.proofs.Indexed.{rows_are, under_is}
 use Rattle.bf_image.proofs.making.CanMake.{can_make, can_make_of_part, part_of_one}
 use Rattle.bf_image.proofs.parting.OldTables.{rows_found}
-use Rattle.bf_image.proofs.parting.UnitParts.{part, part_is}
 use Rattle.bf_image.proofs.planning.Driven.{arm_among, named_from_numbered, target_among}
 use Rattle.bf_image.proofs.planning.Numbered.{IsNumbered, all_numbered, arms_by_numbers, each_append, each_kept, each_of_map, named_by_numbers, without_number}
 

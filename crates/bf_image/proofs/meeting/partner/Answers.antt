@@ -1,8 +1,5 @@
-use Rattle.std.proofs.Common.{◌≡◌, ◌+◌, ℕ, List, [], map, length, get_or, drop, sym, ap, ◌∙◌, arith}
+use Rattle.std.proofs.Common.{◌≡◌, ◌+◌, ℕ, [], get_or, drop, sym, ap, ◌∙◌, arith}
 use Rattle.std.proofs.lemmas.List.{drop_all}
-use Rattle.bf_tree.specs.declared.raw.Ref.{Ref}
-use Rattle.bf_sql.specs.Scopes.{Scope}
-use Rattle.bf_sql.specs.migrations.Placed.{placed_pair}
 use Rattle.bf_image.proofs.parting.Partners.{placed_partner, partner_placed, on_left, on_right, at_front}
 use Rattle.bf_image.proofs.meeting.partner.Goals as goal
 

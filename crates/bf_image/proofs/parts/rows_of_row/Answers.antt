@@ -32,13 +32,13 @@ loop-target-preserved c = λ at there.
     let within : i < length arms = omega arith in
     let named : ℕ × List Value → Target × List Value = λ p. (target_at m p.0, p.1) in
     elim c.match-arm.branch [
-    | in-Some+in_ok-rows_of_driver+in_ok-all w ↦
-        let driven = driven_here m driver arms planned i within in
-        let bound = bound_here m driver arms planned i within w.in-Some.arm w.in-Some.ensures in
-        let made = rows_of_row (old_of m) m.plan.migrate c.requires.lawful.lawful driver (pair m driver arms planned i within) driven at c.args.row.now there w.in_ok-rows_of_driver.field-0.items
-        (λ by_from. w.in_ok-rows_of_driver.ensures.from m _ _ c.requires.lawful bound by_from) (λ by_join. w.in_ok-rows_of_driver.ensures.join m _ _ c.requires.lawful bound by_join) in
-        ap (λ v. map named v.items) w.all-is ∙ more_rows m driver arms planned i within at c.loop-target.all.items w.in_ok-all.all.items w.in_ok-rows_of_driver.field-0.items w.in_ok-all.ensures made (c.loop-target.invariant at there)
-    | in_default w ↦ absurd (found_here m driver arms planned i within w.in_default.ensures)
+      | in-Some+in_ok-rows_of_driver+in_ok-all w ↦
+          let driven = driven_here m driver arms planned i within in
+          let bound = bound_here m driver arms planned i within w.in-Some.arm w.in-Some.ensures in
+          let made = rows_of_row (old_of m) m.plan.migrate c.requires.lawful.lawful driver (pair m driver arms planned i within) driven at c.args.row.now there w.in_ok-rows_of_driver.field-0.items
+          (λ by_from. w.in_ok-rows_of_driver.ensures.from m _ _ c.requires.lawful bound by_from) (λ by_join. w.in_ok-rows_of_driver.ensures.join m _ _ c.requires.lawful bound by_join) in
+          ap (λ v. map named v.items) w.all-is ∙ more_rows m driver arms planned i within at c.loop-target.all.items w.in_ok-all.all.items w.in_ok-rows_of_driver.field-0.items w.in_ok-all.ensures made (c.loop-target.invariant at there)
+      | in_default w ↦ absurd (found_here m driver arms planned i within w.in_default.ensures)
     ]
 
 pub returns : goal.returns

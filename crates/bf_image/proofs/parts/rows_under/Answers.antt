@@ -1,8 +1,7 @@
-use Rattle.std.proofs.Common.{◌≡◌, ℕ, List, [], Option, Some, map, sym, ap, ◌∙◌}
+use Rattle.std.proofs.Common.{◌≡◌, List, [], Option, Some, map, sym, ap, ◌∙◌}
 use Rattle.std.specs.Prelude.{slice_get}
 use Rattle.std.specs.Option.{option_and_then}
 use Rattle.std.proofs.lemmas.Result.{IfOk-weaker}
-use Rattle.bf_base.specs.declared.value.Value.{Value}
 use Rattle.bf_sql.specs.migrations.Granules.{from_with, join_with, values_unit}
 use Rattle.bf_sql.specs.migrations.Targets.{arm_kind}
 use Rattle.bf_image.specs.Migrations.{old_of, unit_index}
