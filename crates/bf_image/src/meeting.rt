@@ -70,7 +70,8 @@ fn key_met(
     requires { ahead.other < 2 ^ 63 }
     ensures { IfOk result (λ met. (scope : Scope) (pairs : List (Ref × Ref))
         → on.now ≡ map (placed_pair scope) pairs
-        → met ≡ map (λ place. cell row.now (partner scope pairs (ahead.other + place) - ahead.driver)) key.now) }
+        → met ≡ map (λ place.
+        cell row.now (partner scope pairs (ahead.other + place) - ahead.driver)) key.now) }
 {
     let mut values = Vec::with_capacity(alloc, key.len())?;
     for place in key {
@@ -81,8 +82,8 @@ fn key_met(
 }
 
 impl<'a> FrozenArm<'a> {
-    /// The row of JOIN that a row of FROM can meet, where ON has JOIN's whole key. It compares about log n
-    /// keys.
+    /// The row of JOIN that a row of FROM can meet, where ON has JOIN's whole key, and `None` where there
+    /// is no JOIN. It compares about log n keys.
     fn join_row_met(&self, alloc: Global, row: &Row) -> Result<Option<&'a Row>, Memory>
         ensures { IfOk result (λ met. (m : Migration) (target : ℕ) (arm : Arm) → IsLawfulMigration m
             → IsFrozenArm m target arm self.now
@@ -99,8 +100,8 @@ impl<'a> FrozenArm<'a> {
         Ok(join.rows.get(&key))
     }
 
-    /// The row of FROM that a row of JOIN can meet, where ON has FROM's whole key. It compares about log n
-    /// keys.
+    /// The row of FROM that a row of JOIN can meet, where ON has FROM's whole key. It compares about
+    /// log n keys.
     fn from_row_met(&self, alloc: Global, row: &Row) -> Result<Option<&'a Row>, Memory>
         ensures { IfOk result (λ met. (m : Migration) (target : ℕ) (arm : Arm) → IsLawfulMigration m
             → IsFrozenArm m target arm self.now → arm_kind (old_of m) arm ≡ ByJoin
@@ -127,12 +128,14 @@ impl<'a> FrozenArm<'a> {
     pub(crate) fn rows_of_driver(&self, alloc: Global, row: &Row) -> Result<Vec<Row>, Memory>
         requires by_row { IsTrue (is_by_row self.now.placed.now.kind) }
         requires plain { (from join : List (List Cell)) → CanMake self.now.placed.now from join }
-        ensures from { IfOk result (λ made. (m : Migration) (target : ℕ) (arm : Arm) → IsLawfulMigration m
-            → IsFrozenArm m target arm self.now → arm_kind (old_of m) arm ≡ ByFrom
-            → made.items ≡ arm_rows (old_of m) arm (row.now ∷ []) (join_rows_met (old_of m) arm row.now)) }
-        ensures join { IfOk result (λ made. (m : Migration) (target : ℕ) (arm : Arm) → IsLawfulMigration m
-            → IsFrozenArm m target arm self.now → arm_kind (old_of m) arm ≡ ByJoin
-            → made.items ≡ arm_rows (old_of m) arm (from_rows_met (old_of m) arm row.now) (row.now ∷ [])) }
+        ensures from { IfOk result (λ made. (m : Migration) (target : ℕ) (arm : Arm)
+            → IsLawfulMigration m → IsFrozenArm m target arm self.now
+            → arm_kind (old_of m) arm ≡ ByFrom → made.items
+            ≡ arm_rows (old_of m) arm (row.now ∷ []) (join_rows_met (old_of m) arm row.now)) }
+        ensures join { IfOk result (λ made. (m : Migration) (target : ℕ) (arm : Arm)
+            → IsLawfulMigration m → IsFrozenArm m target arm self.now
+            → arm_kind (old_of m) arm ≡ ByJoin → made.items
+            ≡ arm_rows (old_of m) arm (from_rows_met (old_of m) arm row.now) (row.now ∷ [])) }
     {
         if self.placed.kind == ArmKind::ByJoin {
             let met = self.from_row_met(alloc, row)?;

@@ -3,9 +3,9 @@
 ghost use Rattle.std.specs.Prelude.{◌≡◌, ◌++◌, ℕ, IfOk, Some, flat_map, map, slice_get};
 ghost use Rattle.std.specs.Option.{option_to_list};
 ghost use Rattle.bf_base.specs.declared.granule.Place.TheVariants.{Group, Row as At};
-ghost use Rattle.bf_sql.specs.Database.{table_rows};
 ghost use Rattle.bf_tree.specs.declared.migration.Arm.{Arm};
 ghost use Rattle.bf_tree.specs.declared.migration.Target.{Target};
+ghost use Rattle.bf_sql.specs.Database.{table_rows};
 ghost use Rattle.bf_sql.specs.migrations.Granules.{from_with, granule, join_with, part_at, rows_unit, values_unit};
 ghost use Rattle.bf_sql.specs.migrations.Plans.{rows_unit_of};
 ghost use Rattle.bf_sql.specs.migrations.Targets.{arm_kind};
@@ -39,11 +39,13 @@ fn rows_of_row(
     row: &Row,
 ) -> Result<Vec<(u8, Row)>, Memory>
     requires lawful { IsLawfulMigration migration.now }
-    requires planned { unit.now ≡ rows_unit_of (old_of migration.now) migration.now.plan.migrate unit.now.driver }
+    requires planned { unit.now
+        ≡ rows_unit_of (old_of migration.now) migration.now.plan.migrate unit.now.driver }
     ensures { IfOk result (λ made. (at : ℕ)
         → slice_get (table_rows (old_of migration.now) unit.now.driver) at ≡ Some row.now
         → map (λ p. (target_at migration.now p.0, p.1)) made.items
-        ≡ part_at (old_of migration.now) migration.now.plan.migrate (rows_unit unit.now.driver) (At at)) }
+        ≡ part_at (old_of migration.now) migration.now.plan.migrate (rows_unit unit.now.driver)
+        (At at)) }
 {
     let mut all = Vec::new(alloc);
     for (target, number) in unit.arms.as_slice() {
@@ -62,9 +64,11 @@ fn rows_of_position(
     position: u32,
 ) -> Result<Vec<(u8, Row)>, Memory>
     requires lawful { IsLawfulMigration migration.now }
-    requires planned { unit.now ≡ rows_unit_of (old_of migration.now) migration.now.plan.migrate unit.now.driver }
+    requires planned { unit.now
+        ≡ rows_unit_of (old_of migration.now) migration.now.plan.migrate unit.now.driver }
     ensures { IfOk result (λ made. map (λ p. (target_at migration.now p.0, p.1)) made.items
-        ≡ part_at (old_of migration.now) migration.now.plan.migrate (rows_unit unit.now.driver) (At position)) }
+        ≡ part_at (old_of migration.now) migration.now.plan.migrate (rows_unit unit.now.driver)
+        (At position)) }
 {
     let Some(driver) = migration.source(&unit.driver) else {
         return Ok(Vec::new(alloc));
@@ -100,8 +104,8 @@ fn rows_at_all<'a>(
     table: &'a Frozen,
     positions: &[u32],
 ) -> Result<Vec<&'a Row>, Memory>
-    ensures { IfOk result (λ rows. map (λ row. row.now) rows.items
-        ≡ flat_map (λ at. option_to_list (slice_get (map (λ entry. entry.1) table.now.rows) at)) positions.now) }
+    ensures { IfOk result (λ rows. map (λ row. row.now) rows.items ≡ flat_map (λ at.
+        option_to_list (slice_get (map (λ entry. entry.1) table.now.rows) at)) positions.now) }
 {
     let mut rows = Vec::with_capacity(alloc, positions.len())?;
     for position in positions {
