@@ -1,14 +1,20 @@
 -- The arms of a migration, each bound, with its old tables.
-use Rattle.std.specs.Prelude.{◌≡◌, ℕ, ◌-◌, nat_le, nat_lt, List, [], ◌∷◌, ◌++◌, map, flat_map, filter, length, Option, Some, None, option_map, slice_get}
+use Rattle.std.specs.Prelude.{◌≡◌, IsTrue, Bool, true, ℕ, ◌-◌, ◌≤◌, nat_le, nat_lt, List, [], ◌∷◌, ◌++◌, map, flat_map, filter, length, Option, Some, None, option_map, slice_get}
 use Rattle.std.specs.Option.{option_and_then}
+use Rattle.bf_base.specs.Limits.{most_rows}
+use Rattle.bf_base.specs.declared.value.Value.{Value}
+use Rattle.bf_heap.specs.Heaps.{Entry}
+use Rattle.bf_tree.specs.Limits.{is_narrow}
 use Rattle.bf_tree.specs.declared.migration.Arm.{Arm}
 use Rattle.bf_tree.specs.declared.migration.Join.{Join}
 use Rattle.bf_sql.specs.migrations.Granules.{UnitForm, rows_unit, values_unit}
 use Rattle.bf_sql.specs.migrations.Placed.{placed_arm}
-use Rattle.bf_image.specs.Migrations.{old_of, source_of, target_at, HasOwnKeys}
+use Rattle.bf_image.specs.ByValues.{are_within, by_value, values_at}
+use Rattle.bf_image.specs.Migrations.{old_of, source_of, target_at}
 use Rattle.bf_image.specs.declared.arms.FrozenArm.{FrozenArm}
 use Rattle.bf_image.specs.declared.migration.Frozen.{Frozen}
 use Rattle.bf_image.specs.declared.migration.Migration.{Migration}
+use Rattle.bf_image.specs.declared.value_indexes.UnitIndex.{UnitIndex}
 
 -- how many columns FROM has
 abbrev pub width_of : FrozenArm → ℕ
@@ -54,3 +60,35 @@ IsOfUnit m None None = Unit
 IsOfUnit m (Some (rows_unit driver)) None = Unit
 IsOfUnit m (Some (values_unit target arm)) (Some bound) = IsFrozenArm m bound.target arm bound × (target_at m bound.target ≡ target)
 IsOfUnit m unit bound = ⊥
+
+-- the rows of a bound arm's tables by the values by which the arm goes
+abbrev pub arm_index : FrozenArm → UnitIndex
+arm_index bound = record {
+  from = by_value (values_at (places_in_from bound) bound.from.now.rows);
+  join = option_map (λ join. by_value (values_at (places_in_join bound) join.now.rows)) bound.join;
+}
+
+-- each row of those tables has a value at each of the arm's places
+abbrev pub are_joined_within : List ℕ → Option Frozen → Bool
+are_joined_within places None = true
+are_joined_within places (Some frozen) = are_within places frozen.rows
+
+pub record HasValues (bound : FrozenArm) : Type 0 where
+  pub narrow : IsTrue (is_narrow bound.from.now.table)
+  pub from : IsTrue (are_within (places_in_from bound) bound.from.now.rows)
+  pub join : IsTrue (are_joined_within (places_in_join bound) (option_map (λ join. join.now) bound.join))
+
+-- the rows of an old table that may be there
+abbrev pub entries_of : Option Frozen → List Entry
+entries_of None = []
+entries_of (Some frozen) = frozen.rows
+
+-- the values by which an arm goes, of the rows of FROM and then of those of JOIN
+abbrev pub arm_values : FrozenArm → List (List Value)
+arm_values bound =
+    values_at (places_in_from bound) bound.from.now.rows ++ values_at (places_in_join bound) (entries_of (option_map (λ join. join.now) bound.join))
+
+-- so few rows that they can be counted
+pub record HasFewRows (bound : FrozenArm) : Type 0 where
+  pub from : length bound.from.now.rows ≤ most_rows
+  pub join : length (entries_of (option_map (λ join. join.now) bound.join)) ≤ most_rows

@@ -2,7 +2,8 @@
 
 ghost use Rattle.std.specs.Prelude.{◌≡◌, IfOk, slice_get};
 ghost use Rattle.std.specs.Option.{option_and_then, option_map};
-ghost use Rattle.bf_image.specs.Migrations.{IsLawfulMigration, value_indexes};
+ghost use Rattle.bf_image.specs.BoundArms.{HasValues, arm_index};
+ghost use Rattle.bf_image.specs.Migrations.{IsLawfulMigration, old_of, unit_at, unit_index, value_indexes};
 
 use crate::arms::FrozenArm;
 use crate::by_value::ByValue;
@@ -25,7 +26,11 @@ pub struct ValueIndexes {
     units: Vec<Option<UnitIndex>>,
 }
 
-fn index_of_arm(alloc: Global, arm: &FrozenArm<'_>) -> Result<UnitIndex, Memory> {
+/// The rows of an arm's tables by the values by which it goes.
+fn index_of_arm(alloc: Global, arm: &FrozenArm<'_>) -> Result<UnitIndex, Memory>
+    requires { HasValues arm.now }
+    ensures { IfOk result (λ index. index ≡ arm_index arm.now) }
+{
     let places = arm.from_places(alloc)?;
     let from = ByValue::of(alloc, &arm.from.rows, places.as_slice())?;
     let join = match arm.join {
@@ -43,7 +48,11 @@ fn index_of_unit(
     alloc: Global,
     migration: &Migration,
     number: u8,
-) -> Result<Option<UnitIndex>, Memory> {
+) -> Result<Option<UnitIndex>, Memory>
+    requires lawful { IsLawfulMigration migration.now }
+    ensures { IfOk result (λ index.
+        index ≡ option_and_then (unit_index (old_of migration.now)) (unit_at migration.now number)) }
+{
     match migration.arm_by_values(number) {
         Some(arm) => Ok(Some(index_of_arm(alloc, &arm)?)),
         None => Ok(None),
