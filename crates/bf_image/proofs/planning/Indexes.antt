@@ -142,3 +142,9 @@ module _ (m : Migration) (lawful : IsLawfulMigration m) where
 
   pub all_indexes : take (length m.plan.units) (value_indexes m) ≡ value_indexes m
   all_indexes = ap (λ n. take n (value_indexes m)) (sym length_of_indexes) ∙ take-length (value_indexes m)
+
+  -- a list of indexes with that of the next unit
+  pub next_index : (number : ℕ) (units pushed : List (Option UnitIndex)) (index : Option UnitIndex) → number < length m.plan.units → pushed ≡ units ++ index ∷ [] → units ≡ take number (value_indexes m)
+      → index ≡ option_and_then (unit_index (old_of m)) (unit_at m number) → pushed ≡ take (number + 1) (value_indexes m)
+  next_index number units pushed index less is made its =
+      is ∙ ap₂ (λ (xs : List (Option UnitIndex)) (x : Option UnitIndex). xs ++ x ∷ []) made its ∙ sym (one_more_index number less)

@@ -1,7 +1,7 @@
-use Rattle.std.proofs.Common.{◌≡◌, ◌∙◌, ◌<◌, ◌++◌, ◌∷◌, [], List, length, take, sym, ap, ap₂, arith}
+use Rattle.std.proofs.Common.{◌≡◌, ◌∙◌, ◌<◌, List, length, take, ap, arith}
 use Rattle.bf_tree.specs.declared.plan.Unit.{Unit as Planned}
 use Rattle.bf_image.specs.Migrations.{value_indexes}
-use Rattle.bf_image.proofs.planning.Indexes.{all_indexes, one_more_index}
+use Rattle.bf_image.proofs.planning.Indexes.{all_indexes, next_index}
 use Rattle.bf_image.proofs.planning.Units.{units_few}
 use Rattle.bf_image.proofs.value_indexes.ValueIndexes.of.Goals as goal
 
@@ -16,9 +16,7 @@ loop-number-preserved c =
     let m = c.args.migration.now in
     let same = ap (λ (us : List Planned). length us) c.as_slice-count.ensures in
     let less : c.loop-number.number < length m.plan.units = omega (arith, same) in
-    c.in_ok-push.ensures.items
-    ∙ ap₂ (λ xs x. xs ++ x ∷ []) c.loop-number.invariant c.in_ok-index_of_unit.ensures
-    ∙ sym (one_more_index m c.requires.lawful c.loop-number.number less)
+    next_index m c.requires.lawful c.loop-number.number _ _ _ less c.in_ok-push.ensures.items c.loop-number.invariant c.in_ok-index_of_unit.ensures
 
 pub returns : goal.returns
 returns c =
