@@ -52,11 +52,14 @@ pub struct MigrationPass {
 }
 
 impl Model for MigrationPass {
-    ghost use Rattle.boxcar.specs.Table.{Where};
+    ghost use Rattle.boxcar.specs.Table.{Where, where_coded};
     ghost use Rattle.bf_image.specs.Migrations.{IsLawfulMigration as IsLawful};
+    ghost use Rattle.bf_image.specs.contracts.migration.Migration as migrations;
     ghost use Rattle.bf_image.specs.declared.migration.Migration.{Migration as Seen};
 
     ghost Value = { Where Seen };
+
+    ghost coded = { where_coded migrations.the_row.coded };
 
     ghost view = { λ pass. pass.token };
 
