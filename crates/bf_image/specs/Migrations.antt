@@ -1,5 +1,5 @@
 -- A migration under way: its plan, and the old tables as they were at its flip.
-use Rattle.std.specs.Prelude.{◌≡◌, ℕ, Bool, List, [], ◌∷◌, map, find, length, Option, Some, None, option_map, unwrap_or, slice_get, slice_index_or, IsTrue}
+use Rattle.std.specs.Prelude.{◌≡◌, ℕ, List, [], map, find, length, Option, Some, None, option_map, unwrap_or, slice_get, slice_index_or, IsTrue}
 use Rattle.std.specs.List.{AllByRecursion}
 use Rattle.std.specs.Option.{option_and_then}
 use Rattle.bf_base.specs.declared.value.Value.{Value}

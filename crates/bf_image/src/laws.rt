@@ -13,7 +13,7 @@ ghost use Rattle.bf_tree.specs.declared.migration.Migrate.{Migrate};
 ghost use Rattle.bf_tree.specs.declared.migration.Target.{Target};
 ghost use Rattle.bf_sql.specs.Bound.{catalog_of, without_rows};
 ghost use Rattle.bf_sql.specs.Database.{Database, IsDatabase, stored_at, stored_in_order, is_admitted, is_keyed};
-ghost use Rattle.bf_sql.specs.migrations.Granules.{UnitForm, anchors_of, granules_of, owner_of, part_of, rows_driven, same_granule};
+ghost use Rattle.bf_sql.specs.migrations.Granules.{UnitForm, anchors_of, granules_of, owner_of, part_of, rows_driven, same_granule, units_of};
 ghost use Rattle.bf_sql.specs.migrations.Images.{arm_rows, image_of, flipped, replaced};
 ghost use Rattle.bf_sql.specs.migrations.MigrationObjections.{migrate_objections, target_objections};
 ghost use Rattle.bf_sql.specs.migrations.Targets.{arm_kind, arm_sources, target_table};
@@ -21,6 +21,8 @@ ghost use Rattle.bf_image.specs.ByValues.{by_value, positions_of, positions_unde
 ghost use Rattle.bf_image.specs.Laws.{IsLawful, rows_of_parts, owns, swept};
 ghost use Rattle.bf_image.specs.Lookup.{anchor_count, anchor_place, candidates, places_by, rows_met};
 ghost use Rattle.bf_sql.specs.migrations.Placed.{placed_arm, placed_rows};
+ghost use Rattle.bf_sql.specs.migrations.Plans.{planned_units};
+ghost use Rattle.bf_image.specs.PlannedUnits.{unit_form};
 ghost use Rattle.bf_image.specs.Sources.{frozen_of, HaveSameSources, HaveSameTables, tables_made};
 
 /// The parts of a target, granule by granule, have the rows of its image of the whole old tables,
@@ -148,6 +150,12 @@ pub fn a_migration_is_planned_by_the_catalog_alone()
     ensures arms { (old new : Database) (arm : Arm) → HaveSameTables old new
         → placed_arm old arm ≡ placed_arm new arm }
     ensures catalog { (db : Database) → HaveSameTables (without_rows (catalog_of db)) db }
+{}
+
+/// The units of a plan stand for those of its migration, one for one.
+pub fn a_plan_has_the_units_of_its_migration()
+    ensures { (old : Database) (m : Migrate)
+        → map (unit_form m) (planned_units old m) ≡ units_of old m }
 {}
 
 /// An index of rows by their values has each value once, in order. Under a value stand the positions

@@ -1,7 +1,9 @@
 //! Migrations under way: what they are to make, and the old tables as they were at the flip.
 
-ghost use Rattle.std.specs.Prelude.{◌≡◌};
+ghost use Rattle.std.specs.Prelude.{◌≡◌, length};
+ghost use Rattle.std.specs.List.Sorted.{IsBinarySearchResult, IsSearchInRange};
 ghost use Rattle.std.specs.Option.{option_map};
+ghost use Rattle.bf_base.specs.Lists.{name_cmp};
 ghost use Rattle.bf_image.specs.Migrations.{IsLawfulMigration, source_of};
 
 use bf_base::{Name, Sequence, Table};
@@ -24,6 +26,15 @@ pub struct Migration {
     pub frozen: Sequence<Frozen>,
 }
 
+/// Where the table of a name stands among old tables in the order of their names, or else where it would.
+/// It compares about log n names, and takes no memory.
+fn find(frozen: &[Frozen], name: &Name) -> Result<usize, usize>
+    ensures bound { IsSearchInRange result (length frozen.now) }
+    ensures position { IsBinarySearchResult (λ old. name_cmp old.table.name name.now) frozen.now result }
+{
+    frozen.binary_search_by(|old| old.table.name.cmp(name))
+}
+
 impl Migration {
     /// An old table, and `None` exactly where the migration has none of that name. It compares about
     /// log n names, and takes no memory.
@@ -32,9 +43,9 @@ impl Migration {
         ensures { option_map (λ frozen. frozen.now) result ≡ source_of self.now name.now }
     {
         let frozen = self.frozen.as_slice();
-        let place = frozen
-            .binary_search_by(|table| table.table.name.cmp(name))
-            .ok()?;
-        frozen.get(place)
+        match find(frozen, name) {
+            Ok(place) => Some(&frozen[place]),
+            Err(_) => None,
+        }
     }
 }

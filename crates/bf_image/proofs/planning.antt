@@ -1,0 +1,6 @@
+-- The plan of a migration against its definitions.
+pub mod Numbered
+pub mod Planned
+pub mod Few
+pub mod Driven
+pub mod Sourced
