@@ -5,7 +5,7 @@ use Rattle.bf_tree.specs.declared.migration.Arm.{Arm}
 use Rattle.bf_tree.specs.declared.migration.Join.{Join}
 use Rattle.bf_sql.specs.migrations.Granules.{UnitForm, rows_unit, values_unit}
 use Rattle.bf_sql.specs.migrations.Placed.{placed_arm}
-use Rattle.bf_image.specs.Migrations.{old_of, source_of, target_at, HasOwnKeys}
+use Rattle.bf_image.specs.Migrations.{old_of, source_of, target_at}
 use Rattle.bf_image.specs.declared.arms.FrozenArm.{FrozenArm}
 use Rattle.bf_image.specs.declared.migration.Frozen.{Frozen}
 use Rattle.bf_image.specs.declared.migration.Migration.{Migration}

@@ -3,7 +3,7 @@
 ghost use Rattle.std.specs.Prelude.{◌≡◌, IfOk, IsTrue};
 ghost use Rattle.bf_base.specs.Tables.{cells};
 ghost use Rattle.bf_tree.specs.Limits.{is_narrow};
-ghost use Rattle.bf_image.specs.BoundArms.{IsFound, IsOfUnit, arm_at, places_in_from, places_in_join};
+ghost use Rattle.bf_image.specs.BoundArms.{IsFound, IsOfUnit, arm_at, places_in_from, places_in_join, places_of_on, width_of};
 ghost use Rattle.bf_image.specs.Migrations.{IsLawfulMigration, unit_at};
 
 use crate::arm_rows::column_value;
@@ -75,8 +75,25 @@ pub(crate) fn values_at(alloc: Global, row: &Row, places: &[u8]) -> Result<Key, 
 
 impl<'a> FrozenArm<'a> {
     /// How many columns FROM has.
-    fn width(&self) -> u8 {
+    fn width(&self) -> u8
+        requires { IsTrue (is_narrow self.now.from.now.table) }
+        ensures { result ≡ width_of self.now }
+    {
         self.from.table.columns.len() as u8
+    }
+
+    /// The places of ON in a row of FROM with a row of JOIN behind it, in the order of ON.
+    fn on_places(&self, alloc: Global) -> Result<Vec<u8>, Memory>
+        ensures { IfOk result (λ places. places.items ≡ places_of_on self.now.placed.now.on) }
+    {
+        let mut places = Vec::new(alloc);
+        if let Some(on) = &self.placed.on {
+            for (left, right) in on.as_slice() {
+                places.push(*left)?;
+                places.push(*right)?;
+            }
+        }
+        Ok(places)
     }
 
     /// The places of the columns in FROM by whose values the arm goes: those of GROUP BY, or those of ON
@@ -90,13 +107,10 @@ impl<'a> FrozenArm<'a> {
         for place in self.placed.group.as_slice() {
             places.push(*place)?;
         }
-        if let Some(on) = &self.placed.on {
-            for (left, right) in on.as_slice() {
-                for place in [*left, *right] {
-                    if place < width {
-                        places.push(place)?;
-                    }
-                }
+        let on = self.on_places(alloc)?;
+        for place in &on {
+            if *place < width {
+                places.push(*place)?;
             }
         }
         Ok(places)
@@ -108,14 +122,11 @@ impl<'a> FrozenArm<'a> {
         ensures { IfOk result (λ places. places.items ≡ places_in_join self.now) }
     {
         let width = self.width();
+        let on = self.on_places(alloc)?;
         let mut places = Vec::new(alloc);
-        if let Some(on) = &self.placed.on {
-            for (left, right) in on.as_slice() {
-                for place in [*left, *right] {
-                    if width <= place {
-                        places.push(place - width)?;
-                    }
-                }
+        for place in &on {
+            if width <= *place {
+                places.push(*place - width)?;
             }
         }
         Ok(places)
