@@ -1,6 +1,5 @@
--- Where a row of a new table with a key can come from, unit by unit, and whether it does.
+-- Where a row of a new table with a key can come from, unit by unit, and whether a row has it.
 use Rattle.std.specs.Prelude.{ℕ, ◌&&◌, ◌==◌, Bool, List, [], map, option_map, unwrap_or}
-use Rattle.std.specs.List.{list_any}
 use Rattle.bf_base.specs.declared.granule.Granule.{Granule}
 use Rattle.bf_base.specs.declared.table.Table.{Table}
 use Rattle.bf_base.specs.declared.value.Value.{Value}
@@ -16,6 +15,6 @@ use Rattle.bf_image.specs.declared.migration.Migration.{Migration}
 abbrev pub candidates_at : Migration → Target → List Value → ℕ → List Granule
 candidates_at m t key number = unwrap_or (option_map (λ unit. map (granule number) (places_by (old_of m) t key unit)) (unit_at m number)) []
 
--- whether one of some rows, each with the number of its target, is of a target and has a key there
-abbrev pub have_key : Table → List Value → ℕ → List (ℕ × List Value) → Bool
-have_key table key target rows = list_any (λ p. p.0 == target && same_key key (key_of table p.1)) rows
+-- whether a row, with the number of its target, is of a target and has a key there
+abbrev pub is_row_with : Table → List Value → ℕ → ℕ × List Value → Bool
+is_row_with table key target p = p.0 == target && same_key key (key_of table p.1)

@@ -12,7 +12,7 @@ ghost use Rattle.bf_sql.specs.migrations.Targets.{arm_kind, target_table};
 ghost use Rattle.bf_image.specs.BoundArms.{IsFrozenArm};
 ghost use Rattle.bf_image.specs.Lookup.{behind_tag, places_by, values_by};
 ghost use Rattle.bf_image.specs.Migrations.{IsLawfulMigration, old_of, owner_in, target_at, value_indexes};
-ghost use Rattle.bf_image.specs.Owners.{candidates_at, have_key};
+ghost use Rattle.bf_image.specs.Owners.{candidates_at, is_row_with};
 ghost use Rattle.bf_image.specs.declared.migration.Migration.{Migration as Seen};
 
 use crate::arms::{FrozenArm, values_at};
@@ -20,7 +20,7 @@ use crate::migration::Migration;
 use crate::parts::rows_of;
 use crate::value_indexes::ValueIndexes;
 use bf_base::{Granule, Key, Memory, Name, Place, Row, Table, Value};
-use bf_tree::ArmKind;
+use bf_tree::{ArmKind, Target};
 use std::alloc::Global;
 
 /// A key of some values.
@@ -121,36 +121,48 @@ fn place_of(
     }
 }
 
-/// Whether one of some rows is of a target and has a key there.
-fn has_key(
+/// Whether a row, with the number of its target, is of a target and has a key there.
+fn is_row_with(
+    alloc: Global,
+    of: u8,
+    row: &Row,
+    target: u8,
+    table: &Table,
+    key: &Key,
+) -> Result<bool, Memory>
+    ensures { IfOk result (λ found. found ≡ is_row_with table.now key.now target (of, row.now)) }
+{
+    if of != target {
+        return Ok(false);
+    }
+    let own = values_at(alloc, row, table.key.as_slice())?;
+    Ok(key.compare(&own).is_eq())
+}
+
+/// Whether one of some rows, each with the number of its target, is of a target and has a key there.
+fn has_row_with(
     alloc: Global,
     rows: &[(u8, Row)],
     target: u8,
     table: &Table,
     key: &Key,
 ) -> Result<bool, Memory>
-    ensures { IfOk result (λ found. found ≡ have_key table.now key.now target rows.now) }
+    ensures { IfOk result (λ found. found
+        ≡ list_any (is_row_with table.now key.now target) rows.now) }
 {
     for (of, row) in rows {
-        if *of == target {
-            let own = values_at(alloc, row, table.key.as_slice())?;
-            if own.is_same(key) {
-                return Ok(true);
-            }
+        if is_row_with(alloc, *of, row, target, table, key)? {
+            return Ok(true);
         }
     }
     Ok(false)
 }
 
-/// The number of the target of a name, among at most 255. It compares each target's name.
-fn target_named(migration: &Migration, name: &Name) -> Option<u8>
-    requires lawful { IsLawfulMigration migration.now }
-    ensures { result ≡ position (λ target. same_name target.name name.now)
-        migration.now.plan.migrate.targets }
+/// Where the target of a name stands. It compares each target's name.
+fn place_named(targets: &[Target], name: &Name) -> Option<usize>
+    ensures { result ≡ position (λ target. same_name name.now target.name) targets.now }
 {
-    let targets = migration.plan.migrate.targets.as_slice();
-    let place = targets.iter().position(|target| target.name == *name)?;
-    Some(place as u8)
+    targets.iter().position(|target| *name == target.name)
 }
 
 /// The granule from which the row of a target with a key comes.
@@ -175,7 +187,7 @@ fn owner_of_target(
         if let Some(place) = place_of(alloc, migration, unit, target, key)? {
             let granule = Granule { unit, place };
             let rows = rows_of(alloc, migration, indexes, &granule)?;
-            if has_key(alloc, rows.as_slice(), target, table, key)? {
+            if has_row_with(alloc, rows.as_slice(), target, table, key)? {
                 return Ok(Some(granule));
             }
         }
@@ -199,11 +211,9 @@ pub fn owner(
     requires indexed { indexes.now ≡ value_indexes migration.now }
     ensures { IfOk result (λ owner. owner ≡ owner_in migration.now table.now key.now) }
 {
-    let Some(target) = target_named(migration, table) else {
+    let Some(place) = place_named(migration.plan.migrate.targets.as_slice(), table) else {
         return Ok(None);
     };
-    let Some(made) = migration.plan.tables.as_slice().get(target as usize) else {
-        return Ok(None);
-    };
-    owner_of_target(alloc, migration, indexes, target, made, key)
+    let made = &migration.plan.tables.as_slice()[place];
+    owner_of_target(alloc, migration, indexes, place as u8, made, key)
 }
