@@ -4,3 +4,4 @@ pub mod Planned
 pub mod Few
 pub mod Driven
 pub mod Sourced
+pub mod Units

@@ -1,15 +1,17 @@
 //! The arms of a migration with their old tables.
 
 ghost use Rattle.std.specs.Prelude.{◌≡◌, IfOk, IsTrue};
+ghost use Rattle.std.specs.Option.{option_and_then, option_copied, option_map};
 ghost use Rattle.bf_base.specs.Tables.{cells};
 ghost use Rattle.bf_tree.specs.Limits.{is_narrow};
+ghost use Rattle.bf_sql.specs.migrations.Placed.{placed_arm};
 ghost use Rattle.bf_image.specs.BoundArms.{IsFound, IsOfUnit, arm_at, places_in_from, places_in_join, places_of_on, width_of};
-ghost use Rattle.bf_image.specs.Migrations.{IsLawfulMigration, unit_at};
+ghost use Rattle.bf_image.specs.Migrations.{IsLawfulMigration, old_of, source_of, unit_at};
 
 use crate::arm_rows::column_value;
 use crate::migration::{Frozen, Migration};
 use bf_base::{Key, Memory, Row};
-use bf_tree::{PlacedArm, UnitKind};
+use bf_tree::{Arm, Join, PlacedArm, UnitKind};
 use std::alloc::Global;
 
 /// An arm of a migration: the number of its target, how it is placed, and its old tables.
@@ -22,26 +24,45 @@ pub(crate) struct FrozenArm<'a> {
 }
 
 impl Migration {
+    /// An arm as it is written, and with places for names: `None` exactly where there is none.
+    fn arms_at(&self, target: u8, number: u32) -> Option<(&Arm, &PlacedArm)>
+        requires lawful { IsLawfulMigration self.now }
+        ensures written { option_map (λ both. both.0.now) result
+            ≡ arm_at self.now target number }
+        ensures placed { option_map (λ both. both.1.now) result
+            ≡ option_map (placed_arm (old_of self.now)) (arm_at self.now target number) }
+    {
+        let targets = self.plan.migrate.targets.as_slice();
+        let raw = targets.get(target as usize)?.arms.as_slice();
+        let arms = self.plan.arms.as_slice();
+        let placed = arms.get(target as usize)?.as_slice();
+        Some((raw.get(number as usize)?, placed.get(number as usize)?))
+    }
+
+    /// The old table of a JOIN, where there is one.
+    fn joined(&self, join: Option<&Join>) -> Option<&Frozen>
+        requires lawful { IsLawfulMigration self.now }
+        ensures { option_map (λ frozen. frozen.now) result
+            ≡ option_and_then (λ join. source_of self.now join.table) (option_copied join.entry) }
+    {
+        match join {
+            Some(join) => self.source(&join.table),
+            None => None,
+        }
+    }
+
     /// An arm by the number of its target and its own number, counted from 0: `None` exactly where there
     /// is none. It compares about log n names for each of its tables, and takes no memory.
     pub(crate) fn arm(&self, target: u8, number: u32) -> Option<FrozenArm<'_>>
         requires lawful { IsLawfulMigration self.now }
         ensures { IsFound self.now target (arm_at self.now target number) result }
     {
-        let place = target as usize;
-        let targets = self.plan.migrate.targets.as_slice();
-        let raw = targets.get(place)?.arms.as_slice().get(number as usize)?;
-        let arms = self.plan.arms.as_slice();
-        let placed = arms.get(place)?.as_slice().get(number as usize)?;
-        let join = match &raw.join {
-            Some(join) => Some(self.source(&join.table)?),
-            None => None,
-        };
+        let (raw, placed) = self.arms_at(target, number)?;
         Some(FrozenArm {
             target,
             placed,
             from: self.source(&raw.from)?,
-            join,
+            join: self.joined(raw.join.as_ref()),
         })
     }
 
