@@ -2,7 +2,7 @@
 
 ghost use Rattle.std.specs.List.{list_any};
 ghost use Rattle.std.specs.Option.{option_to_list};
-ghost use Rattle.std.specs.Prelude.{◌≡◌, ◌<◌, ℕ, IfOk, IsTrue, length, map, position};
+ghost use Rattle.std.specs.Prelude.{◌≡◌, ◌<◌, ℕ, IfOk, IsTrue, length, map, position, take};
 ghost use Rattle.bf_base.specs.Lists.{same_name};
 ghost use Rattle.bf_base.specs.declared.granule.Place.TheVariants.{Group};
 ghost use Rattle.bf_tree.specs.Limits.{is_narrow};
@@ -32,6 +32,14 @@ fn key_of_values(alloc: Global, values: &[Value]) -> Result<Key, Memory>
         copies.push(value.copy(alloc)?)?;
     }
     Ok(Key::of(copies))
+}
+
+/// The first values of a key, as many as are told or all.
+fn front_of(alloc: Global, key: &Key, count: usize) -> Result<Key, Memory>
+    ensures { IfOk result (λ front. front ≡ take count key.now) }
+{
+    let values = key.as_slice();
+    key_of_values(alloc, &values[..count.min(values.len())])
 }
 
 /// The key in the driver that a key of a target has: behind the tag, where the target has several arms.
@@ -83,9 +91,7 @@ fn place_by_value(alloc: Global, arm: &FrozenArm<'_>, key: &Key) -> Result<Optio
         ArmKind::ByFrom | ArmKind::ByJoin => Ok(None),
         ArmKind::ByGroup => Ok(Some(Place::Group(key.copy(alloc)?))),
         ArmKind::ByPair => {
-            let values = key.as_slice();
-            let count = arm.from.table.key.len().min(values.len());
-            let front = key_of_values(alloc, &values[..count])?;
+            let front = front_of(alloc, key, arm.from.table.key.len())?;
             let Some(row) = arm.from.rows.get(&front) else {
                 return Ok(None);
             };

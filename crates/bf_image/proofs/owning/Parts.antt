@@ -29,7 +29,7 @@ module _ (m : Migration) (lawful : IsLawfulMigration m) (target : ℕ) (there : 
   IsTold p = is_of_target (named p) ≡ eqb p.0 target
 
   told_by_number : (p : ℕ × List Value) → IsArmed (target_at m p.0) → IsTold p
-  told_by_number p armed = name_tells_number m lawful.lawful.unobjected p.0 target (armed_within m p.0 armed) there
+  told_by_number p armed = name_tells_number m lawful p.0 target (armed_within m p.0 armed) there
 
   any_named : (test : List Value → Bool) (rows : List (ℕ × List Value)) → AllByRecursion IsTold rows
       → list_any test (map (λ p. p.1) (filter is_of_target (map named rows))) ≡ list_any (λ p. eqb p.0 target && test p.1) rows

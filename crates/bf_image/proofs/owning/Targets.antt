@@ -1,5 +1,5 @@
 -- The targets of a migration by their numbers and by their names.
-use Rattle.std.proofs.Common.{◌≡◌, ℕ, ◌<◌, Bool, true, false, not, cond, eqb, List, [], ◌∷◌, map, find, length, get_or, Some, None, refl, sym, ap, ◌∙◌, inl, inr, arith}
+use Rattle.std.proofs.Common.{◌≡◌, ℕ, zero, suc, ◌<◌, Bool, true, false, not, cond, eqb, List, [], ◌∷◌, map, find, length, get_or, Some, None, refl, sym, ap, ◌∙◌, inl, inr, arith}
 use Rattle.std.specs.Prelude.{slice_get, position, nat_lt}
 use Rattle.std.specs.List.{list_any, position_or_len}
 use Rattle.std.proofs.lemmas.Bool.{and_parts, cases_Bool, false≢true, not-true, or_parts}
@@ -10,9 +10,7 @@ use Rattle.bf_base.specs.Lists.{same_name, has}
 use Rattle.bf_base.proofs.Apart.{are_apart}
 use Rattle.bf_base.proofs.Order.{same_from_some}
 use Rattle.bf_tree.specs.declared.migration.Target.{Target}
-use Rattle.bf_sql.specs.Database.{Database}
-use Rattle.bf_sql.specs.migrations.MigrationObjections.{migrate_objections}
-use Rattle.bf_image.specs.Migrations.{old_of, target_at}
+use Rattle.bf_image.specs.Migrations.{IsLawfulMigration, old_of, target_at}
 use Rattle.bf_image.specs.declared.migration.Migration.{Migration}
 use Rattle.bf_image.proofs.items.Names.{name-itself, name-symmetric}
 use Rattle.bf_image.proofs.cutting.Targets.{new_names}
@@ -23,13 +21,13 @@ name_of t = t.name
 
 -- what no item passes, the item at a place does not
 none_at : (name : List ℕ) (xs : List Target) (i : ℕ) (x : Target) → has same_name (map name_of xs) name ≡ false → slice_get xs i ≡ Some x → same_name name x.name ≡ false
-none_at name [] i x none ()
+none_at name [] i x none at = absurd cc
 none_at name (y ∷ ys) zero x none at = ap (λ (t : Target). same_name name t.name) (sym (same_from_some y x at)) ∙ (or_parts _ _ none).0
 none_at name (y ∷ ys) (suc i) x none at = none_at name ys i x (or_parts _ _ none).1 at
 
 -- among different names, items at different places have different ones
 named_apart : (xs : List Target) → are_apart same_name (map name_of xs) ≡ true → (i j : ℕ) (x y : Target) → slice_get xs i ≡ Some x → slice_get xs j ≡ Some y → (i ≡ j → ⊥) → same_name x.name y.name ≡ false
-named_apart [] apart i j x y () at other
+named_apart [] apart i j x y here at other = absurd cc
 named_apart (t ∷ ts) apart zero zero x y here at other = absurd (other refl)
 named_apart (t ∷ ts) apart zero (suc j) x y here at other =
     ap (λ (s : Target). same_name s.name y.name) (sym (same_from_some t x here)) ∙ none_at t.name ts j y (not-true _ (and_parts _ _ apart).0) at
@@ -37,9 +35,9 @@ named_apart (t ∷ ts) apart (suc i) zero x y here at other =
     name-symmetric x.name y.name ∙ ap (λ (s : Target). same_name s.name x.name) (sym (same_from_some t y at)) ∙ none_at t.name ts i x (not-true _ (and_parts _ _ apart).0) here
 named_apart (t ∷ ts) apart (suc i) (suc j) x y here at other = named_apart ts (and_parts _ _ apart).1 i j x y here at (λ e. other (ap suc e))
 
-module _ (m : Migration) (none : migrate_objections (old_of m) m.plan.migrate ≡ []) where
+module _ (m : Migration) (lawful : IsLawfulMigration m) where
   targets_apart : are_apart same_name (map name_of m.plan.migrate.targets) ≡ true
-  targets_apart = (new_names [] m.plan.migrate.targets (names_new (old_of m) m.plan.migrate none)).0
+  targets_apart = (new_names [] m.plan.migrate.targets (names_new (old_of m) m.plan.migrate lawful.lawful.database lawful.lawful.unobjected)).0
 
   target_there : (number : ℕ) → number < length m.plan.migrate.targets → slice_get m.plan.migrate.targets number ≡ Some (target_at m number)
   target_there number within = slice_get-get_or m.plan.migrate.targets number _ within
