@@ -2,6 +2,7 @@
 pub mod Armed
 pub mod Candidates
 pub mod Found
+pub mod Named
 pub mod Parts
 pub mod Stored
 pub mod Targets

@@ -2,7 +2,7 @@
 
 ghost use Rattle.std.specs.List.{list_any};
 ghost use Rattle.std.specs.Option.{option_to_list};
-ghost use Rattle.std.specs.Prelude.{◌≡◌, ◌<◌, ℕ, IfOk, IsTrue, length, map, position, take};
+ghost use Rattle.std.specs.Prelude.{◌≡◌, ◌<◌, ℕ, IfOk, IsTrue, find, length, map, position, take};
 ghost use Rattle.bf_base.specs.Lists.{same_name};
 ghost use Rattle.bf_base.specs.declared.granule.Place.TheVariants.{Group};
 ghost use Rattle.bf_tree.specs.Limits.{is_narrow};
@@ -10,6 +10,7 @@ ghost use Rattle.bf_tree.specs.declared.migration.Arm.{Arm};
 ghost use Rattle.bf_sql.specs.migrations.Granules.{granule, owner_of, rows_unit};
 ghost use Rattle.bf_sql.specs.migrations.Targets.{arm_kind, target_table};
 ghost use Rattle.bf_image.specs.BoundArms.{IsFrozenArm};
+ghost use Rattle.bf_image.specs.Laws.{owns};
 ghost use Rattle.bf_image.specs.Lookup.{behind_tag, places_by, values_by};
 ghost use Rattle.bf_image.specs.Migrations.{IsLawfulMigration, old_of, owner_in, target_at, value_indexes};
 ghost use Rattle.bf_image.specs.Owners.{candidates_at, is_row_with};
@@ -171,6 +172,36 @@ fn place_named(targets: &[Target], name: &Name) -> Option<usize>
     targets.iter().position(|target| *name == target.name)
 }
 
+/// The granule of a unit from which the row of a target with a key comes.
+fn owner_in_unit(
+    alloc: Global,
+    migration: &Migration,
+    indexes: &ValueIndexes,
+    unit: u8,
+    target: u8,
+    table: &Table,
+    key: &Key,
+) -> Result<Option<Granule>, Memory>
+    requires lawful { IsLawfulMigration migration.now }
+    requires indexed { indexes.now ≡ value_indexes migration.now }
+    requires there { target < length migration.now.plan.migrate.targets }
+    requires made { table.now
+        ≡ target_table (old_of migration.now) (target_at migration.now target) }
+    ensures { IfOk result (λ owner. owner ≡ find (owns (old_of migration.now)
+        migration.now.plan.migrate (target_at migration.now target) key.now)
+        (candidates_at migration.now (target_at migration.now target) key.now unit)) }
+{
+    let Some(place) = place_of(alloc, migration, unit, target, key)? else {
+        return Ok(None);
+    };
+    let granule = Granule { unit, place };
+    let rows = rows_of(alloc, migration, indexes, &granule)?;
+    if has_row_with(alloc, rows.as_slice(), target, table, key)? {
+        return Ok(Some(granule));
+    }
+    Ok(None)
+}
+
 /// The granule from which the row of a target with a key comes.
 fn owner_of_target(
     alloc: Global,
@@ -190,12 +221,8 @@ fn owner_of_target(
 {
     for number in 0..migration.plan.units.len() {
         let unit = number as u8;
-        if let Some(place) = place_of(alloc, migration, unit, target, key)? {
-            let granule = Granule { unit, place };
-            let rows = rows_of(alloc, migration, indexes, &granule)?;
-            if has_row_with(alloc, rows.as_slice(), target, table, key)? {
-                return Ok(Some(granule));
-            }
+        if let Some(owner) = owner_in_unit(alloc, migration, indexes, unit, target, table, key)? {
+            return Ok(Some(owner));
         }
     }
     Ok(None)

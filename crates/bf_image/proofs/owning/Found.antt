@@ -1,10 +1,13 @@
 -- The owner of a key among the candidates that are left, once those of one unit have been looked at.
-use Rattle.std.proofs.Common.{◌≡◌, ℕ, ◌+◌, ◌<◌, ◌≤◌, Bool, true, false, cond, List, [], ◌∷◌, ◌++◌, find, length, get_or, Option, Some, None, refl, sym, ap, ◌∙◌, arith}
+use Rattle.std.proofs.Common.{◌≡◌, ℕ, ◌+◌, ◌<◌, ◌≤◌, Bool, true, false, cond, List, [], ◌∷◌, ◌++◌, map, find, length, Option, Some, None, refl, sym, ap, ◌∙◌, arith}
+use Rattle.std.specs.Option.{option_or, option_to_list}
 use Rattle.std.proofs.lemmas.List.{get_or_default, length-map}
+use Rattle.std.proofs.lemmas.List.Folds.{find-append}
 use Rattle.bf_base.specs.declared.granule.Granule.{Granule}
+use Rattle.bf_base.specs.declared.granule.Place.{Place}
 use Rattle.bf_base.specs.declared.value.Value.{Value}
 use Rattle.bf_tree.specs.declared.migration.Target.{Target}
-use Rattle.bf_sql.specs.migrations.Granules.{owner_of}
+use Rattle.bf_sql.specs.migrations.Granules.{granule, owner_of}
 use Rattle.bf_image.specs.Laws.{owns}
 use Rattle.bf_image.specs.Migrations.{IsLawfulMigration, old_of, target_at, units_in}
 use Rattle.bf_image.specs.Owners.{candidates_at}
@@ -37,20 +40,31 @@ module _ (m : Migration) (lawful : IsLawfulMigration m) (target : ℕ) (there : 
       ap (find is_owner) (sym (no_more_candidates m t key number (omega (arith, past, many)))) ∙ left
 
   module _ (number : ℕ) (within : number < length m.plan.units) where
-    next_left : (gs : List Granule) → gs ≡ candidates_at m t key number → AreLeft number → find is_owner (gs ++ candidates_from m t key (number + 1)) ≡ owner_of (old_of m) m.plan.migrate t key
-    next_left gs are left =
+    abbrev here : Option Granule
+    here = find is_owner (candidates_at m t key number)
+
+    next_left : AreLeft number → option_or here (find is_owner (candidates_from m t key (number + 1))) ≡ owner_of (old_of m) m.plan.migrate t key
+    next_left left =
         let many = units_many in
-        ap (λ hs. find is_owner (hs ++ candidates_from m t key (number + 1))) are
+        sym (find-append is_owner (candidates_at m t key number) (candidates_from m t key (number + 1)))
         ∙ ap (find is_owner) (sym (candidates_more m t key number (omega (arith, within, many)))) ∙ left
 
+    -- a unit without the owner
+    pub left_past : None ≡ here → AreLeft number → AreLeft (number + 1)
+    left_past none left = ap (λ o. option_or o (find is_owner (candidates_from m t key (number + 1)))) none ∙ next_left left
+
+    -- the unit that has it
+    pub found_here : (g : Granule) → Some g ≡ here → AreLeft number → Some g ≡ owner_of (old_of m) m.plan.migrate t key
+    found_here g is left = ap (λ o. option_or o (find is_owner (candidates_from m t key (number + 1)))) is ∙ next_left left
+
+  module _ (number : ℕ) (place : Option Place) (is : map (granule number) (option_to_list place) ≡ candidates_at m t key number) where
     -- a unit without a candidate
-    pub left_past : [] ≡ candidates_at m t key number → AreLeft number → AreLeft (number + 1)
-    left_past none left = next_left [] none left
+    pub none_in_unit : place ≡ None → None ≡ find is_owner (candidates_at m t key number)
+    none_in_unit none = ap (λ o. find is_owner (map (granule number) (option_to_list o))) (sym none) ∙ ap (find is_owner) is
 
-    -- a candidate that is not the owner
-    pub left_other : (g : Granule) → (g ∷ []) ≡ candidates_at m t key number → is_owner g ≡ false → AreLeft number → AreLeft (number + 1)
-    left_other g one other left = ap (λ b. cond b (Some g) (find is_owner (candidates_from m t key (number + 1)))) (sym other) ∙ next_left (g ∷ []) one left
-
-    -- the candidate that is the owner
-    pub found_here : (g : Granule) → (g ∷ []) ≡ candidates_at m t key number → is_owner g ≡ true → AreLeft number → Some g ≡ owner_of (old_of m) m.plan.migrate t key
-    found_here g one own left = ap (λ b. cond b (Some g) (find is_owner (candidates_from m t key (number + 1)))) (sym own) ∙ next_left (g ∷ []) one left
+    module _ (at : Place) (some : place ≡ Some at) where
+      -- what a unit has is its candidate, if that is the owner
+      pub one_in_unit : (found : Bool) → is_owner (granule number at) ≡ found → cond found (Some (granule number at)) None ≡ find is_owner (candidates_at m t key number)
+      one_in_unit found own =
+          ap (λ b. cond b (Some (granule number at)) None) (sym own)
+          ∙ ap (λ o. find is_owner (map (granule number) (option_to_list o))) (sym some) ∙ ap (find is_owner) is
