@@ -43,7 +43,8 @@ fn front_of(alloc: Global, key: &Key, count: usize) -> Result<Key, Memory>
     key_of_values(alloc, &values[..count.min(values.len())])
 }
 
-/// The key in the driver that a key of a target has: behind the tag, where the target has several arms.
+/// The key in the driver that a key of a target has: behind the tag, where the target has several
+/// arms.
 fn driver_key(alloc: Global, migration: &Migration, target: u8, key: &Key) -> Result<Key, Memory>
     ensures { IfOk result (λ found. found ≡ behind_tag (target_at migration.now target) key.now) }
 {
@@ -80,8 +81,8 @@ fn place_by_row(
     }
 }
 
-/// The place of a unit by values from which a row with a key can come: the key itself is the group, or it
-/// begins with the key of the row of FROM that has the joined value.
+/// The place of a unit by values from which a row with a key can come: the key itself is the group,
+/// or it begins with the key of the row of FROM that has the joined value.
 fn place_by_value(alloc: Global, arm: &FrozenArm<'_>, key: &Key) -> Result<Option<Place>, Memory>
     requires { IsTrue (is_narrow arm.now.from.now.table) }
     ensures { IfOk result (λ place. (m : Seen) (target : ℕ) (raw : Arm) → IsLawfulMigration m
@@ -146,7 +147,8 @@ fn is_row_with(
     Ok(key.compare(&own).is_eq())
 }
 
-/// Whether one of some rows, each with the number of its target, is of a target and has a key there.
+/// Whether one of some rows, each with the number of its target, is of a target and has a key
+/// there.
 fn has_row_with(
     alloc: Global,
     rows: &[(u8, Row)],
@@ -228,8 +230,9 @@ fn owner_of_target(
     Ok(None)
 }
 
-/// The granule from which the row of a new table with a key comes, and `None` exactly where none has such a
-/// row. For each unit it costs one look-up by key, and what its one granule that could be the owner has.
+/// The granule from which the row of a new table with a key comes, and `None` exactly where none
+/// has such a row. For each unit it costs one look-up by key, and what its one granule that could be
+/// the owner has.
 ///
 /// # Errors
 /// Where memory runs out.

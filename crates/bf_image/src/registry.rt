@@ -13,8 +13,8 @@ use std::alloc::Global;
 use std::marker::Model;
 use std::sync::Wait;
 
-/// The catalogs and the migrations of a run, of which none is ever changed or taken away. Threads share it by
-/// `&`. A pass reads what it was given for, at once and with no lock.
+/// The catalogs and the migrations of a run, of which none is ever changed or taken away. Threads
+/// share it by `&`. A pass reads what it was given for, at once and with no lock.
 #[derive(Drop)]
 pub struct Registry {
     catalogs: boxcar::Vec<Catalog>,
@@ -26,10 +26,14 @@ impl Model for Registry {
 
     ghost Value = { Seen };
 
-    ghost view = { λ registry. record { catalogs = registry.catalogs; migrations = registry.migrations } };
+    ghost view = { λ registry. record {
+      catalogs = registry.catalogs;
+      migrations = registry.migrations;
+    } };
 }
 
-/// What reads one catalog of a registry. Contracts see the slot that has it, and the catalog itself.
+/// What reads one catalog of a registry. Contracts see the slot that has it, and the catalog
+/// itself.
 #[derive(Drop)]
 pub struct CatalogPass {
     token: Pushed<Catalog>,
@@ -44,8 +48,8 @@ impl Model for CatalogPass {
     ghost view = { λ pass. pass.token };
 }
 
-/// What reads one migration of a registry, which is lawful. Contracts see the slot that has it, and the
-/// migration itself.
+/// What reads one migration of a registry, which is lawful. Contracts see the slot that has it, and
+/// the migration itself.
 #[derive(Drop)]
 pub struct MigrationPass {
     token: Pushed<Migration>,
@@ -67,7 +71,8 @@ impl Model for MigrationPass {
 }
 
 impl CatalogPass {
-    /// The slot of its catalog: two passes of a registry are of one catalog where their slots are equal.
+    /// The slot of its catalog: two passes of a registry are of one catalog where their slots are
+    /// equal.
     pub fn slot(&self) -> usize
         ensures { result ≡ self.now.index }
     {
@@ -85,7 +90,8 @@ impl CatalogPass {
 }
 
 impl MigrationPass {
-    /// The slot of its migration: two passes of a registry are of one migration where their slots are equal.
+    /// The slot of its migration: two passes of a registry are of one migration where their slots
+    /// are equal.
     pub fn slot(&self) -> usize
         ensures { result ≡ self.now.index }
     {
@@ -108,7 +114,8 @@ impl Registry {
     /// # Errors
     /// Where memory runs out.
     pub fn new<R: Wait>(alloc: Global, rt: &R) -> Result<(Registry, CatalogPass), Memory>
-        ensures { IfOk result (λ made. Shows made.0.catalogs made.1 × (made.1.value ≡ empty_catalog)) }
+        ensures { IfOk result (λ made.
+            Shows made.0.catalogs made.1 × (made.1.value ≡ empty_catalog)) }
     {
         let registry = Registry {
             catalogs: boxcar::Vec::new(alloc)?,
@@ -120,8 +127,8 @@ impl Registry {
         }
     }
 
-    /// Adds a catalog, in constant time unless it has to make room, which it does as often as the catalogs
-    /// double. It waits only for a thread that is making room.
+    /// Adds a catalog, in constant time but for the room that it makes each time the catalogs have
+    /// doubled. It waits only for a thread that is making room.
     ///
     /// # Errors
     /// Where memory runs out: the catalog comes back as it was.
@@ -149,7 +156,8 @@ impl Registry {
         migration: Migration,
     ) -> Result<MigrationPass, (Migration, Memory)>
         requires lawful { IsLawfulMigration migration }
-        ensures ok { IfOk result (λ pass. Shows self.now.migrations pass × (pass.value ≡ migration)) }
+        ensures ok { IfOk result (λ pass.
+            Shows self.now.migrations pass × (pass.value ≡ migration)) }
         ensures back { IfErr result (λ error. error.0 ≡ migration) }
     {
         match self.migrations.push_shown(rt, migration) {

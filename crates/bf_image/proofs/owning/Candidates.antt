@@ -1,11 +1,10 @@
 -- The candidates for the owner of a key, unit by unit.
-use Rattle.std.proofs.Common.{◌≡◌, ℕ, ◌+◌, ◌<◌, ◌≤◌, Bool, true, false, cond, if◌then◌else◌, eqb, List, [], ◌∷◌, ◌++◌, map, flat_map, find, length, drop, Option, Some, None, option_map, unwrap_or, refl, sym, ap, ap₂, subst, ◌∙◌, inl, inr, arith}
+use Rattle.std.proofs.Common.{◌≡◌, ℕ, ◌+◌, ◌<◌, ◌≤◌, true, false, if◌then◌else◌, eqb, List, [], ◌++◌, map, flat_map, length, drop, Option, Some, None, option_map, unwrap_or, refl, sym, ap, subst, ◌∙◌, inl, inr, arith}
 use Rattle.std.specs.Prelude.{slice_get, IsTrue}
 use Rattle.std.specs.List.{enumerate_from}
-use Rattle.std.specs.Option.{option_to_list}
 use Rattle.std.proofs.lemmas.Bool.{cases_Bool}
 use Rattle.std.proofs.lemmas.Bool.Decides.{nat_tests}
-use Rattle.std.proofs.lemmas.List.{at_drop_more, drop_all, length-map}
+use Rattle.std.proofs.lemmas.List.{at_drop_more, drop_all}
 use Rattle.std.proofs.lemmas.Option.{slice_get-get_or}
 use Rattle.bf_base.specs.declared.granule.Granule.{Granule}
 use Rattle.bf_base.specs.declared.granule.Place.{Place}
@@ -18,11 +17,10 @@ use Rattle.bf_tree.specs.declared.migration.Target.{Target}
 use Rattle.bf_tree.specs.declared.plan.Unit.{Unit as Planned}
 use Rattle.bf_tree.specs.declared.plan.UnitKind.{UnitKind}
 use Rattle.bf_tree.specs.declared.plan.UnitKind.TheVariants.{Rows, Groups, Joins}
-use Rattle.bf_sql.specs.migrations.Granules.{UnitForm, rows_unit, values_unit, granule, owner_of}
+use Rattle.bf_sql.specs.migrations.Granules.{UnitForm, rows_unit, values_unit, granule}
 use Rattle.bf_sql.specs.migrations.Targets.{arm_kind}
 use Rattle.bf_image.specs.BoundArms.{IsFrozenArm, IsOfUnit}
-use Rattle.bf_image.specs.Laws.{owns}
-use Rattle.bf_image.specs.Lookup.{candidates, places_by, values_by}
+use Rattle.bf_image.specs.Lookup.{places_by, values_by}
 use Rattle.bf_image.specs.Migrations.{IsLawfulMigration, old_of, target_at, unit_at, units_in}
 use Rattle.bf_image.specs.Owners.{candidates_at}
 use Rattle.bf_image.specs.PlannedUnits.{form_by, unit_form}
@@ -33,7 +31,7 @@ use Rattle.bf_image.proofs.items.Names.{name-itself}
 use Rattle.bf_image.proofs.owning.Armed.{IsOfArmed, armed_within, unit_armed}
 use Rattle.bf_image.proofs.owning.Stored.{each_found}
 use Rattle.bf_image.proofs.owning.Targets.{name_tells_number}
-use Rattle.bf_image.proofs.planning.Units.{unit_at_number, units_stand_for}
+use Rattle.bf_image.proofs.planning.Units.{unit_at_number}
 
 module _ (m : Migration) (t : Target) (key : List Value) where
   abbrev of_unit : ℕ × UnitForm → List Granule
@@ -110,9 +108,10 @@ module _ (m : Migration) (lawful : IsLawfulMigration m) (number target : ℕ) (k
   pub no_place : slice_get m.plan.units number ≡ None → IsPlaceOf []
   no_place past = sym (ap of_form (unit_at_number m lawful number ∙ ap (option_map (unit_form m.plan.migrate)) past))
 
-  -- FROM of an arm is narrow
-  pub narrow_from : (unit : Option UnitForm) (bound : FrozenArm) → IsOfUnit m unit (Some bound) → IsTrue (is_narrow bound.from.now.table)
-  narrow_from None bound is = absurd is
-  narrow_from (Some (rows_unit driver)) bound is = absurd is
-  narrow_from (Some (values_unit its arm)) bound is =
+-- FROM of the arm of a unit is narrow
+module _ (m : Migration) (lawful : IsLawfulMigration m) (bound : FrozenArm) where
+  pub narrow_from : (unit : Option UnitForm) → IsOfUnit m unit (Some bound) → IsTrue (is_narrow bound.from.now.table)
+  narrow_from None is = absurd is
+  narrow_from (Some (rows_unit driver)) is = absurd is
+  narrow_from (Some (values_unit its arm)) is =
       each_found (λ (f : Frozen). IsTrue (is_narrow f.table)) (λ (f : Frozen). same_name f.table.name arm.from) m.frozen bound.from.now lawful.tables is.0.from

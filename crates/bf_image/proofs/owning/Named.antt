@@ -1,6 +1,6 @@
 -- The target of a name, found by where it stands.
-use Rattle.std.proofs.Common.{◌≡◌, ℕ, ◌<◌, ◌≤◌, Bool, true, false, cond, nat_lt, List, map, find, length, Option, Some, None, refl, sym, ap, ◌∙◌, inl, inr, arith}
-use Rattle.std.specs.Prelude.{position, slice_get, slice_index_or}
+use Rattle.std.proofs.Common.{◌≡◌, ℕ, ◌≤◌, Bool, cond, nat_lt, List, find, length, Option, Some, None, sym, ap, ◌∙◌, inl, inr, arith}
+use Rattle.std.specs.Prelude.{position, slice_get}
 use Rattle.std.specs.List.{position_or_len}
 use Rattle.std.specs.Option.{option_and_then}
 use Rattle.std.proofs.lemmas.Bool.{cases_Bool}
@@ -8,14 +8,11 @@ use Rattle.std.proofs.lemmas.Bool.Decides.{nat_tests}
 use Rattle.std.proofs.lemmas.List.Folds.{find_at}
 use Rattle.std.proofs.lemmas.List.Quantifiers.{position-Some}
 use Rattle.std.proofs.lemmas.Option.{slice_get-get_or, slice_get_past}
-use Rattle.bf_base.specs.declared.table.Table.{Table}
 use Rattle.bf_base.specs.declared.value.Value.{Value}
 use Rattle.bf_base.specs.Lists.{same_name}
 use Rattle.bf_tree.specs.declared.migration.Target.{Target}
-use Rattle.bf_tree.specs.declared.plan.Plan.{Plan}
 use Rattle.bf_sql.specs.migrations.Granules.{owner_of}
-use Rattle.bf_sql.specs.migrations.Targets.{target_table}
-use Rattle.bf_image.specs.Migrations.{IsLawfulMigration, old_of, owner_in, target_at}
+use Rattle.bf_image.specs.Migrations.{old_of, owner_in, target_at}
 use Rattle.bf_image.specs.declared.migration.Migration.{Migration}
 use Rattle.bf_image.proofs.finding.Owned.{find_alike}
 use Rattle.bf_image.proofs.items.Names.{name-symmetric}

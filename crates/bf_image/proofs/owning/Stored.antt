@@ -1,5 +1,5 @@
 -- The rows of an old table, found by their keys and by their positions.
-use Rattle.std.proofs.Common.{◌≡◌, ℕ, ◌+◌, Bool, true, false, not, cond, nat_lt, List, [], ◌∷◌, map, find, length, Option, Some, None, option_map, unwrap_or, refl, sym, ap, ap₂, subst, ◌∙◌}
+use Rattle.std.proofs.Common.{◌≡◌, ℕ, ◌+◌, Bool, true, false, not, cond, nat_lt, List, [], ◌∷◌, map, find, Option, Some, None, option_map, unwrap_or, refl, sym, ap, ap₂, subst, ◌∙◌}
 use Rattle.std.specs.Prelude.{position}
 use Rattle.std.specs.List.{AllByRecursion, position_or_len}
 use Rattle.std.proofs.lemmas.List.{length-map}
@@ -16,6 +16,7 @@ use Rattle.bf_image.specs.Migrations.{HasOwnKeys, IsLawfulMigration, old_of, sou
 use Rattle.bf_image.specs.declared.migration.Frozen.{Frozen}
 use Rattle.bf_image.specs.declared.migration.Migration.{Migration}
 use Rattle.bf_image.proofs.making.Arms.{key-symmetric}
+use Rattle.bf_image.proofs.planning.Numbered.{each_so}
 
 -- an item that is found is one of those of which something holds
 pub each_found : {X : Type 0} (P : X → Type 0) (test : X → Bool) (xs : List X) (x : X) → AllByRecursion P xs → find test xs ≡ Some x → P x
@@ -35,10 +36,6 @@ module _ {X : Type 0} (p q : X → Bool) where
 place_each : {X Y : Type 0} (p : X → Bool) (q : Y → Bool) (f : X → Y) (xs : List X) → AllByRecursion (λ x. p x ≡ q (f x)) xs → position_or_len p xs ≡ position_or_len q (map f xs)
 place_each p q f [] all = refl
 place_each p q f (x ∷ xs) all = ap₂ (λ b n. cond (not b) (1 + n) 0) all.0 (place_each p q f xs all.1)
-
-each_so : {X : Type 0} (P Q : X → Type 0) → ((x : X) → P x → Q x) → (xs : List X) → AllByRecursion P xs → AllByRecursion Q xs
-each_so P Q one [] all = tt
-each_so P Q one (x ∷ xs) all = (one x all.0, each_so P Q one xs all.1)
 
 module _ (m : Migration) (name : List ℕ) where
   stored_named : stored_at (old_of m) name ≡ option_map stored_of (source_of m name)

@@ -14,7 +14,6 @@ use Rattle.bf_tree.specs.declared.plan.ArmKind.{ArmKind}
 use Rattle.bf_tree.specs.declared.plan.ArmKind.TheVariants.{ByGroup, ByPair}
 use Rattle.bf_tree.specs.declared.plan.PlacedArm.{PlacedArm}
 use Rattle.bf_tree.specs.declared.raw.Ref.{Ref}
-use Rattle.bf_sql.specs.Database.{table_at}
 use Rattle.bf_sql.specs.Scopes.{Scope, place_of}
 use Rattle.bf_sql.specs.migrations.Granules.{left_places, left_value}
 use Rattle.bf_sql.specs.migrations.Placed.{placed_pair}

@@ -1,13 +1,12 @@
-use Rattle.std.proofs.Common.{◌≡◌, List, Some, None, Result, Ok, Err, IfOk, map, length, refl, sym, ap, ◌∙◌, arith}
+use Rattle.std.proofs.Common.{◌≡◌, Some, Result, Ok, Err, IfOk, map, refl, sym, ap, ◌∙◌, arith}
 use Rattle.std.specs.Prelude.{slice_get}
 use Rattle.std.specs.Option.{option_to_list}
 use Rattle.std.proofs.lemmas.Option.{slice_get_past, slice_get_read}
-use Rattle.bf_tree.specs.declared.plan.Unit.{Unit as Planned}
 use Rattle.bf_sql.specs.migrations.Granules.{granule, rows_unit}
 use Rattle.bf_image.specs.Lookup.{places_by}
 use Rattle.bf_image.specs.Migrations.{old_of, target_at, unit_at}
 use Rattle.bf_image.specs.Owners.{candidates_at}
-use Rattle.bf_image.proofs.owning.Candidates.{narrow_from, no_place, no_place_by_arm, place_by_arm, place_by_driver}
+use Rattle.bf_image.proofs.owning.Candidates.{narrow_from, no_place, no_place_by_arm, place_by_driver}
 use Rattle.bf_image.proofs.owners.place_of.Goals as goal
 
 if_so : {A E : Type 0} (P Q : A → Type 0) → ((x : A) → P x → Q x) → (r : Result A E) → IfOk r P → IfOk r Q
@@ -17,7 +16,7 @@ if_so P Q so (Err e) h = h
 pub place_by_value-requires : goal.place_by_value-requires
 place_by_value-requires c =
     let m = c.args.migration.now in
-    narrow_from m c.requires.lawful c.args.number c.args.target c.args.key.now (unit_at m c.args.number) c.in-Some.arm c.in-Some.ensures
+    narrow_from m c.requires.lawful c.in-Some.arm (unit_at m c.args.number) c.in-Some.ensures
 
 pub returns-in-Some : goal.returns-in-Some
 returns-in-Some c =
