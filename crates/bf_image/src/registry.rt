@@ -131,7 +131,8 @@ impl Registry {
     /// doubled. It waits only for a thread that is making room.
     ///
     /// # Errors
-    /// Where memory runs out: the catalog comes back as it was.
+    /// Where memory runs out, or the last of about 2 ^ 63 slots is taken: the catalog comes back as it
+    /// was.
     pub fn add_catalog<R: Wait>(
         &self,
         rt: &R,
@@ -149,7 +150,8 @@ impl Registry {
     /// Adds a lawful migration, as `add_catalog` adds a catalog.
     ///
     /// # Errors
-    /// Where memory runs out: the migration comes back as it was.
+    /// Where memory runs out, or the last of about 2 ^ 63 slots is taken: the migration comes back as
+    /// it was.
     pub fn add_migration<R: Wait>(
         &self,
         rt: &R,
@@ -197,7 +199,8 @@ impl Registry {
         true
     }
 
-    /// Whether two passes are of one migration: then they read equal ones. Constant time, no memory.
+    /// Whether two passes are of one migration: then they read equal ones. Constant time, no
+    /// memory.
     pub fn same_migration(&self, a: &MigrationPass, b: &MigrationPass) -> bool
         requires a { Shows self.now.migrations a.now }
         requires b { Shows self.now.migrations b.now }
