@@ -131,8 +131,8 @@ impl Registry {
     /// doubled. It waits only for a thread that is making room.
     ///
     /// # Errors
-    /// Where memory runs out, or the last of about 2 ^ 63 slots is taken: the catalog comes back as it
-    /// was.
+    /// Where memory runs out, or the last of about 2 ^ 63 slots is taken: the catalog comes back as
+    /// it was.
     pub fn add_catalog<R: Wait>(
         &self,
         rt: &R,
@@ -150,8 +150,8 @@ impl Registry {
     /// Adds a lawful migration, as `add_catalog` adds a catalog.
     ///
     /// # Errors
-    /// Where memory runs out, or the last of about 2 ^ 63 slots is taken: the migration comes back as
-    /// it was.
+    /// Where memory runs out, or the last of about 2 ^ 63 slots is taken: the migration comes back
+    /// as it was.
     pub fn add_migration<R: Wait>(
         &self,
         rt: &R,
