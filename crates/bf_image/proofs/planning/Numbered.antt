@@ -11,6 +11,7 @@ use Rattle.bf_tree.specs.declared.migration.Target.{Target}
 use Rattle.bf_sql.specs.migrations.Granules.{arms_of}
 use Rattle.bf_sql.specs.migrations.Plans.{numbered_arms}
 use Rattle.bf_sql.specs.migrations.Targets.{first_arm}
+use Rattle.bf_image.proofs.cutting.Parts.{at_seam, one_longer}
 use Rattle.bf_image.specs.PlannedUnits.{target_named, arm_named}
 
 -- what holds of each item of two lists, and of blocks
@@ -43,21 +44,11 @@ module _ {X : Type 0} where
   abbrev pub IsPlaced : List X → ℕ × X → Type 0
   IsPlaced xs p = slice_get xs p.0 ≡ Some p.1
 
-  behind : (before : List X) (x : X) (xs : List X) (n : ℕ) → length before ≡ n → slice_get (before ++ (x ∷ xs)) n ≡ Some x
-  behind [] x xs zero e = refl
-  behind [] x xs (suc n) e = absurd (omega (arith, e))
-  behind (y ∷ before) x xs zero e = absurd (omega (arith, e))
-  behind (y ∷ before) x xs (suc n) e = behind before x xs n (omega (arith, e))
-
-  one_more : (before : List X) (x : X) → length (before ++ x ∷ []) ≡ length before + 1
-  one_more [] x = refl
-  one_more (y ∷ before) x = omega (arith, one_more before x)
-
   placed_from : (before xs : List X) (n : ℕ) → length before ≡ n → AllByRecursion (IsPlaced (before ++ xs)) (enumerate_from n xs)
   placed_from before [] n e = tt
   placed_from before (x ∷ xs) n e =
-      let longer : length (before ++ x ∷ []) ≡ n + 1 = one_more before x ∙ ap (λ k. k + 1) e in
-      (behind before x xs n e, subst (λ all. AllByRecursion (IsPlaced all) (enumerate_from (n + 1) xs)) (append_assoc before (x ∷ []) xs) (placed_from (before ++ x ∷ []) xs (n + 1) longer))
+      let longer : length (before ++ x ∷ []) ≡ n + 1 = one_longer before x ∙ ap (λ k. k + 1) e in
+      (ap (slice_get (before ++ (x ∷ xs))) (sym e) ∙ at_seam before x xs, subst (λ all. AllByRecursion (IsPlaced all) (enumerate_from (n + 1) xs)) (append_assoc before (x ∷ []) xs) (placed_from (before ++ x ∷ []) xs (n + 1) longer))
 
   pub placed_by_number : (xs : List X) → AllByRecursion (IsPlaced xs) (enumerate_from 0 xs)
   placed_by_number xs = placed_from [] xs 0 refl

@@ -28,7 +28,7 @@ use Rattle.bf_image.specs.Migrations.{IsLawfulMigration, old_of}
 use Rattle.bf_image.specs.declared.arms.FrozenArm.{FrozenArm}
 use Rattle.bf_image.specs.declared.migration.Frozen.{Frozen}
 use Rattle.bf_image.specs.declared.migration.Migration.{Migration}
-use Rattle.bf_image.proofs.items.Lists.{all_both, all_of_blocks, all_of_contained, all_of_map, all_so, none_left, none_of_each, none_right}
+use Rattle.bf_image.proofs.items.Lists.{all_both, all_kept, all_of_blocks, all_of_contained, all_of_map, all_so, none_left, none_of_each, none_right}
 use Rattle.bf_image.proofs.making.Unobjected.{alone_in_groups, arms_ok, arms_unobjected, as_wide, two_sided}
 use Rattle.bf_image.proofs.planning.Bound.{from_rows, group_places, join_places_are, joined_of, pair_places, rows_found, rows_in}
 use Rattle.bf_image.proofs.planning.Places.{all_behind, place_within, scope_width}
@@ -48,14 +48,6 @@ all_pass test (x ∷ xs) = of (test x) refl (all_pass test xs)
     of : (b : Bool) → test x ≡ b → list_all test (filter test xs) ≡ true → list_all test (cond b (x ∷ filter test xs) (filter test xs)) ≡ true
     of true at rest = and_from _ _ at rest
     of false at rest = rest
-
-all_stay : {X : Type 0} (p test : X → Bool) (xs : List X) → list_all p xs ≡ true → list_all p (filter test xs) ≡ true
-all_stay p test [] h = refl
-all_stay p test (x ∷ xs) h = of (test x) (all_stay p test xs (and_parts _ _ h).1)
-  where
-    of : (b : Bool) → list_all p (filter test xs) ≡ true → list_all p (cond b (x ∷ filter test xs) (filter test xs)) ≡ true
-    of true rest = and_from _ _ (and_parts _ _ h).0 rest
-    of false rest = rest
 
 -- ALLOWED: there is no objection to an arm of a target
 pub record IsAllowed (old : Database) (t : Target) (arm : Arm) : Type 0 where
@@ -142,7 +134,7 @@ module _ (m : Migration) (lawful : IsLawfulMigration m) (number : ℕ) (t : Targ
       all_of_map (λ p. nat_lt p n) (λ p. p - w) kept
       (all_both (λ p. nat_le w p) (λ p. nat_lt p (length (arm_scope old arm))) (λ p. nat_lt (p - w) n) (λ p above below. less w n p (length (arm_scope old arm)) long above below) kept
       (all_pass (λ p. nat_le w p) (on_places old arm))
-      (all_stay (λ p. nat_lt p (length (arm_scope old arm))) (λ p. nat_le w p) (on_places old arm) (on_within old t arm ok)))
+      (all_kept (λ p. nat_lt p (length (arm_scope old arm))) (λ p. nat_le w p) (on_places old arm) (on_within old t arm ok)))
     where
       less : (w n p top : ℕ) → top ≡ w + n → nat_le w p ≡ true → nat_lt p top ≡ true → nat_lt (p - w) n ≡ true
       less w n p top long above below = grind (arith, nat_tests)
