@@ -1,4 +1,6 @@
 mod Alone
 mod Answered
+mod Beginning
+mod Placing
 mod Prepared
 mod Running

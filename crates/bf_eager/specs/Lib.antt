@@ -1,3 +1,4 @@
 pub mod Eager
+pub mod Given
 pub mod Groups
 pub mod Starting

@@ -3,8 +3,10 @@
 #![tactic(auto)]
 
 pub mod eager;
+mod filling;
 mod flip;
 mod rows;
 mod schema;
+mod starting;
 
 pub use eager::Eager;
