@@ -25,14 +25,13 @@ use Rattle.bf_sql.specs.Bound.{catalog_of, table_without_rows, without_rows}
 use Rattle.bf_sql.specs.Database.{Database, IsDatabase, Stored, empty_database, is_admitted, is_keyed, is_on_table, is_within, stored_in_order}
 use Rattle.bf_sql.specs.Meaning.{next_number, with_index}
 use Rattle.bf_query.specs.Meanings.{entries_of}
-use Rattle.bf_query.proofs.Binding.{row_within}
 use Rattle.bf_query.proofs.OwnKeys.{each}
 use Rattle.bf_query.proofs.RowsAsEntries.{rows_are}
 use Rattle.bf_live.specs.Live.{IsUnderOwnKeys, TableRows, exchanged, stored}
 use Rattle.bf_live.proofs.keeps.Items.{list_all_if, list_any_alike}
 use Rattle.bf_eager.specs.Given.{given_under}
 use Rattle.bf_eager.specs.Starting.{CanStart, NamedTable, database_with, entries_in_order, have_different_keys, named_tables, rows_named, tables_with}
-use Rattle.bf_eager.proofs.Placing.{different-apart}
+use Rattle.bf_eager.proofs.Placing.{all_within, different-apart}
 
 -- ---- rows by names
 abbrev Given : Type 0
@@ -126,14 +125,8 @@ module _ (catalog : Catalog) (given : List NamedTable) (can : CanStart catalog g
         list_all_midst (λ (t : Table). is_within t t.key) before rest t
         (ap (list_all (λ (t : Table). is_within t t.key)) whole ∙ (sym (list_all-map (λ (s : Stored). is_within s.table s.table.key) table_without_rows catalog.tables) ∙ can.tables.keys_within))
 
-    all_within : (rows : List (List Value)) → list_all (is_admitted t) rows ≡ true → AllByRecursion (IsKeyWithin t) rows
-    all_within [] admitted = tt
-    all_within (row ∷ rows) admitted =
-        let parts = and_parts (is_admitted t row) (list_all (is_admitted t) rows) admitted in
-        (row_within t key_is_within row parts.0, all_within rows parts.1)
-
     pub keys_are_within : (rows : List (List Value)) → rows ≡ own t → AllByRecursion (IsKeyWithin t) rows
-    keys_are_within rows is = all_within rows (ap (list_all (is_admitted t)) is ∙ own_admitted)
+    keys_are_within rows is = all_within t key_is_within rows (ap (list_all (is_admitted t)) is ∙ own_admitted)
 
     pub keys_are_different : (rows : List (List Value)) → rows ≡ own t → have_different_keys t rows ≡ true
     keys_are_different rows is = ap (have_different_keys t) is ∙ own_different

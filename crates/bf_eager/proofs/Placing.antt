@@ -1,6 +1,6 @@
 -- Rows that are put into a heap one after the other.
 use Rattle.std.proofs.Common.{◌≡◌, ℕ, suc, ◌-◌, ◌≤◌, true, false, not, ◌&&◌, if◌then◌else◌, List, [], ◌∷◌, ◌++◌, map, fold, Less, Equal, Greater, is_lt, is_eq, refl, sym, ap, ◌∙◌, arith}
-use Rattle.std.specs.List.{AllByRecursion}
+use Rattle.std.specs.List.{AllByRecursion, list_all}
 use Rattle.std.proofs.lemmas.Bool.{and_parts, not-true, or_parts}
 use Rattle.std.proofs.lemmas.Grind.{fold-append}
 use Rattle.std.proofs.lemmas.List.{map-append}
@@ -9,14 +9,16 @@ use Rattle.bf_base.specs.declared.table.Table.{Table}
 use Rattle.bf_base.specs.declared.value.Value.{Value}
 use Rattle.bf_base.specs.Lists.{has, in_order, placed, same_key}
 use Rattle.bf_base.specs.Maps.{beside}
-use Rattle.bf_base.specs.Tables.{key_of}
+use Rattle.bf_base.specs.Tables.{key_of, IsKeyWithin}
 use Rattle.bf_base.specs.Values.{key_cmp}
 use Rattle.bf_base.proofs.Apart.{are_apart, are_apart-same_items}
 use Rattle.bf_base.proofs.Items.{between, mapped, turned}
 use Rattle.bf_base.proofs.Order.{has-with_placed}
 use Rattle.bf_base.specs.Values.{key_cmp_total}
 use Rattle.bf_heap.specs.Heaps.{Entry, Rows, has_row, spare_after, with_row}
+use Rattle.bf_sql.specs.Database.{is_admitted, is_within}
 use Rattle.bf_query.specs.Meanings.{entries_of}
+use Rattle.bf_query.proofs.Binding.{row_within}
 use Rattle.bf_eager.specs.Starting.{entries_in_order, have_different_keys}
 
 -- what holds of all holds of one in the midst
@@ -68,3 +70,10 @@ room_left heap key left before within one = elim (has_row heap.entries key) as (
   | true ↦ omega (arith, within, one)
   | false ↦ omega (arith, within, one)
 ]
+
+-- admitted rows have the columns of the key
+pub all_within : (table : Table) → is_within table table.key ≡ true → (rows : List (List Value)) → list_all (is_admitted table) rows ≡ true → AllByRecursion (IsKeyWithin table) rows
+all_within table key [] admitted = tt
+all_within table key (row ∷ rows) admitted =
+    let parts = and_parts (is_admitted table row) (list_all (is_admitted table) rows) admitted in
+    (row_within table key row parts.0, all_within table key rows parts.1)

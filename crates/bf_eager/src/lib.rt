@@ -5,6 +5,8 @@
 pub mod eager;
 mod filling;
 mod flip;
+mod freezing;
+mod gathering;
 mod rows;
 mod schema;
 mod starting;
