@@ -11,9 +11,10 @@ ghost use Rattle.bf_base.specs.declared.value.Value.{Value};
 ghost use Rattle.bf_tree.specs.declared.migration.Arm.{Arm};
 ghost use Rattle.bf_tree.specs.declared.migration.Migrate.{Migrate};
 ghost use Rattle.bf_tree.specs.declared.migration.Target.{Target};
+ghost use Rattle.bf_tree.specs.declared.statement.Statement.{Statement};
 ghost use Rattle.bf_sql.specs.Bound.{catalog_of, without_rows};
 ghost use Rattle.bf_sql.specs.Database.{Database, IsDatabase, stored_at, stored_in_order, is_admitted, is_keyed};
-ghost use Rattle.bf_sql.specs.migrations.Granules.{UnitForm, anchors_of, granules_of, owner_of, part_of, rows_driven, same_granule};
+ghost use Rattle.bf_sql.specs.migrations.Granules.{UnitForm, anchors_of, granules_of, owner_of, part_of, rows_driven, same_granule, units_of};
 ghost use Rattle.bf_sql.specs.migrations.Images.{arm_rows, image_of, flipped, replaced};
 ghost use Rattle.bf_sql.specs.migrations.MigrationObjections.{migrate_objections, target_objections};
 ghost use Rattle.bf_sql.specs.migrations.Targets.{arm_kind, arm_sources, target_table};
@@ -21,6 +22,8 @@ ghost use Rattle.bf_image.specs.ByValues.{by_value, positions_of, positions_unde
 ghost use Rattle.bf_image.specs.Laws.{IsLawful, rows_of_parts, owns, swept};
 ghost use Rattle.bf_image.specs.Lookup.{anchor_count, anchor_place, candidates, places_by, rows_met};
 ghost use Rattle.bf_sql.specs.migrations.Placed.{placed_arm, placed_rows};
+ghost use Rattle.bf_sql.specs.migrations.Plans.{plan_made, plan_of, planned_units, prepared_of};
+ghost use Rattle.bf_image.specs.PlannedUnits.{unit_form};
 ghost use Rattle.bf_image.specs.Sources.{frozen_of, HaveSameSources, HaveSameTables, tables_made};
 
 /// The parts of a target, granule by granule, have the rows of its image of the whole old tables,
@@ -110,7 +113,7 @@ pub fn an_image_reads_its_sources_alone()
 /// A migration reads the tables that its arms name and nothing else of the old database: over two
 /// databases with the same sources it has the same granules, and the same part of each; a target
 /// has the same image and becomes the same table, a key of it has the same owner, and the same
-/// stands in its way.
+/// stands in its way. So it is planned alike.
 pub fn a_migration_reads_its_sources_alone()
     ensures granules { (old new : Database) (m : Migrate) → HaveSameSources m old new
         → granules_of old m ≡ granules_of new m }
@@ -125,6 +128,8 @@ pub fn a_migration_reads_its_sources_alone()
         → Contains m.targets t → image_of old t ≡ image_of new t }
     ensures objections { (old new : Database) (m : Migrate) (t : Target) → HaveSameSources m old new
         → Contains m.targets t → target_objections old t ≡ target_objections new t }
+    ensures plan { (old new : Database) (m : Migrate) → HaveSameSources m old new
+        → plan_made old m ≡ plan_made new m }
 {}
 
 /// The sources alone, which a flip may keep in place of the whole old database, are a database with
@@ -139,7 +144,8 @@ pub fn a_migration_may_keep_its_sources_alone()
 {}
 
 /// What stands in the way of a MIGRATE, the tables that its targets become, and its arms with
-/// places for names are read off the catalog: no row is looked at.
+/// places for names are read off the catalog, and so is its plan: no row is looked at. So each
+/// statement is prepared by the catalog alone.
 pub fn a_migration_is_planned_by_the_catalog_alone()
     ensures objections { (old new : Database) (m : Migrate) → HaveSameTables old new
         → migrate_objections old m ≡ migrate_objections new m }
@@ -147,7 +153,18 @@ pub fn a_migration_is_planned_by_the_catalog_alone()
         → target_table old t ≡ target_table new t }
     ensures arms { (old new : Database) (arm : Arm) → HaveSameTables old new
         → placed_arm old arm ≡ placed_arm new arm }
+    ensures plan { (old new : Database) (m : Migrate) → HaveSameTables old new
+        → plan_of old m ≡ plan_of new m }
+    ensures prepared { (old new : Database) (in_block : Bool) (s : Statement)
+        → catalog_of old ≡ catalog_of new → prepared_of old in_block s ≡ prepared_of new in_block s }
     ensures catalog { (db : Database) → HaveSameTables (without_rows (catalog_of db)) db }
+    ensures bare { (db : Database) → catalog_of (without_rows (catalog_of db)) ≡ catalog_of db }
+{}
+
+/// The units of a plan stand for those of its migration, one for one.
+pub fn a_plan_has_the_units_of_its_migration()
+    ensures { (old : Database) (m : Migrate)
+        → map (unit_form m) (planned_units old m) ≡ units_of old m }
 {}
 
 /// An index of rows by their values has each value once, in order. Under a value stand the positions

@@ -32,7 +32,7 @@ module _ (old : Database) where
   few_of : (name : List ℕ) → size_objections old name ≡ [] → is_few (table_rows old name) ≡ true
   few_of name none = not_more most_rows (length (table_rows old name)) (none_when (nat_lt most_rows (length (table_rows old name))) (refusal.TooManyRows name (length (table_rows old name))) none)
 
-  few_named : (names : List (List ℕ)) → flat_map (size_objections old) names ≡ [] → (name : List ℕ) → has same_name names name ≡ true → is_few (table_rows old name) ≡ true
+  pub few_named : (names : List (List ℕ)) → flat_map (size_objections old) names ≡ [] → (name : List ℕ) → has same_name names name ≡ true → is_few (table_rows old name) ≡ true
   few_named names none name there =
       some_of_those (λ n. is_few (table_rows old n)) (same_name name) (is_few (table_rows old name))
       (λ n few same. ap (λ k. is_few (table_rows old k)) (name-equal name n same) ∙ few) names

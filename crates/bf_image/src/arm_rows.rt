@@ -1,0 +1,176 @@
+//! Rows that an arm makes of rows of its tables.
+
+ghost use Rattle.std.specs.Prelude.{◌≡◌, ◌++◌, [], ◌∷◌, IfOk, Some, None, filter, map, flat_map};
+ghost use Rattle.std.specs.List.{list_all, AllByRecursion};
+ghost use Rattle.bf_base.specs.declared.value.Value.{Value as Cell};
+ghost use Rattle.bf_base.specs.Tables.{cell};
+ghost use Rattle.bf_tree.specs.Evaluation.{holds_on, sure_value};
+ghost use Rattle.bf_tree.specs.declared.items.Items.TheVariants.{Aggregates};
+ghost use Rattle.bf_sql.specs.RowObjections.{answer_objections};
+ghost use Rattle.bf_sql.specs.Totals.{total_of};
+ghost use Rattle.bf_sql.specs.migrations.Images.{value_or_nought};
+ghost use Rattle.bf_sql.specs.migrations.Placed.{is_equal_at, placed_groups, placed_matches, placed_over, placed_rows};
+ghost use Rattle.bf_image.specs.ArmRows.{AreOfOne, CanMake, IsUnobjected, item_objections};
+
+use bf_base::{Memory, Row, Value};
+use bf_query::running::totals;
+use bf_tree::{
+    Aggregate, ArmKind, Cell, Expr, Fail, PlacedArm, PlacedItem, StatementError, holds, value,
+};
+use std::alloc::Global;
+
+/// A row with the values of another behind its own.
+fn side_by_side(alloc: Global, left: &Row, right: &Row) -> Result<Row, Memory>
+    ensures { IfOk result (λ row. row ≡ left.now ++ right.now) }
+{
+    let mut values = Vec::with_capacity(alloc, left.as_slice().len() + right.as_slice().len())?;
+    for value in left.as_slice() {
+        values.push(value.copy(alloc)?)?;
+    }
+    for value in right.as_slice() {
+        values.push(value.copy(alloc)?)?;
+    }
+    Ok(Row::of(values))
+}
+
+/// The value of an expression on a row, and 0 where it has none.
+fn sure_value(alloc: Global, expr: &Expr, row: &Row) -> Result<Value, Memory>
+    ensures { IfOk result (λ found. found ≡ sure_value (cell row.now) expr.now) }
+{
+    match value(alloc, expr, row) {
+        Ok(found) => Ok(found),
+        Err(Fail::Memory) => Err(Memory),
+        Err(Fail::OutOfRange | Fail::TooLong) => Ok(Value::Int(0)),
+    }
+}
+
+/// The value of a column of a row.
+pub(crate) fn column_value(alloc: Global, row: &Row, place: u8) -> Result<Value, Memory>
+    ensures { IfOk result (λ found. found ≡ cell row.now place) }
+{
+    match row.as_slice().get(place as usize) {
+        Some(value) => value.copy(alloc),
+        None => Ok(Value::Int(0)),
+    }
+}
+
+/// A total of rows that has no objection to them.
+fn total_value(alloc: Global, total: &Aggregate, rows: &[&Row]) -> Result<Value, Memory>
+    requires { answer_objections cell (Aggregates (total.now ∷ [])) (map (λ row. row.now) rows.now) ≡ [] }
+    ensures { IfOk result (λ found.
+        found ≡ value_or_nought (total_of cell (map (λ row. row.now) rows.now) total.now)) }
+{
+    let total = [total.copy(alloc)?];
+    match totals(alloc, &total, rows) {
+        Ok(cells) => match cells.as_slice() {
+            [Cell::Value(value)] => value.copy(alloc),
+            _ => Ok(Value::Int(0)),
+        },
+        Err(StatementError::Memory) => Err(Memory),
+        Err(StatementError::Refused(_)) => unreachable!(),
+    }
+}
+
+/// An item over the rows of a group.
+fn item_value(alloc: Global, item: &PlacedItem, rows: &[&Row]) -> Result<Value, Memory>
+    requires { item_objections (map (λ row. row.now) rows.now) item.now ≡ [] }
+    ensures { IfOk result (λ found. found ≡ placed_over (map (λ row. row.now) rows.now) item.now) }
+{
+    match (item, rows) {
+        (PlacedItem::Total(total), rows) => total_value(alloc, total, rows),
+        (PlacedItem::Column(place), [row, ..]) => column_value(alloc, row, *place),
+        (PlacedItem::Value(expr), [row, ..]) => sure_value(alloc, expr, row),
+        _ => Ok(Value::Int(0)),
+    }
+}
+
+/// The row that an arm makes of the rows of a group.
+fn made_row(alloc: Global, arm: &PlacedArm, rows: &[&Row]) -> Result<Row, Memory>
+    requires { IsUnobjected arm.now (map (λ row. row.now) rows.now) }
+    ensures { IfOk result (λ row.
+        row ≡ map (placed_over (map (λ row. row.now) rows.now)) arm.now.items) }
+{
+    let items = arm.items.as_slice();
+    let mut values = Vec::with_capacity(alloc, items.len())?;
+    for item in items {
+        values.push(item_value(alloc, item, rows)?)?;
+    }
+    Ok(Row::of(values))
+}
+
+/// Whether a row has equal values at the places of each pair.
+fn is_matched(row: &Row, on: &[(u8, u8)]) -> bool
+    ensures { result ≡ list_all (is_equal_at row.now) on.now }
+{
+    let values = row.as_slice();
+    on.iter().all(|(left, right)| values.get(*left as usize) == values.get(*right as usize))
+}
+
+/// The rows that satisfy an arm's condition.
+fn satisfying<'a>(alloc: Global, arm: &PlacedArm, rows: &[&'a Row]) -> Result<Vec<&'a Row>, Memory>
+    ensures { IfOk result (λ found. map (λ row. row.now) found.items
+        ≡ filter (λ row. holds_on (cell row) arm.now.cond) (map (λ row. row.now) rows.now)) }
+{
+    let mut found = Vec::new(alloc);
+    for row in rows {
+        if holds(alloc, &arm.cond, row)? {
+            found.push(*row)?;
+        }
+    }
+    Ok(found)
+}
+
+/// The rows of an arm without JOIN.
+fn rows_alone(alloc: Global, arm: &PlacedArm, from: &[&Row]) -> Result<Vec<Row>, Memory> {
+    let found = satisfying(alloc, arm, from)?;
+    let mut made = Vec::new(alloc);
+    if arm.kind == ArmKind::ByGroup {
+        if !found.is_empty() {
+            made.push(made_row(alloc, arm, &found)?)?;
+        }
+        return Ok(made);
+    }
+    for row in found {
+        made.push(made_row(alloc, arm, &[row])?)?;
+    }
+    Ok(made)
+}
+
+/// The rows of an arm with JOIN.
+fn rows_of_pairs(
+    alloc: Global,
+    arm: &PlacedArm,
+    on: &[(u8, u8)],
+    from: &[&Row],
+    join: &[&Row],
+) -> Result<Vec<Row>, Memory> {
+    let mut made = Vec::new(alloc);
+    for left in from {
+        for right in join {
+            let pair = side_by_side(alloc, left, right)?;
+            if is_matched(&pair, on) && holds(alloc, &arm.cond, &pair)? {
+                made.push(made_row(alloc, arm, &[&pair])?)?;
+            }
+        }
+    }
+    Ok(made)
+}
+
+/// The rows that an arm makes of rows of FROM, which are of one group where it has groups, and of
+/// rows of JOIN. It looks at each pair of a row of FROM and one of JOIN.
+pub(crate) fn rows_made(
+    alloc: Global,
+    arm: &PlacedArm,
+    from: &[&Row],
+    join: &[&Row],
+) -> Result<Vec<Row>, Memory>
+    requires one { AreOfOne arm.now.kind arm.now (map (λ row. row.now) from.now) }
+    requires can { CanMake arm.now (map (λ row. row.now) from.now) (map (λ row. row.now) join.now) }
+    ensures { IfOk result (λ made. made.items
+        ≡ placed_rows arm.now (map (λ row. row.now) from.now) (map (λ row. row.now) join.now)) }
+{
+    match &arm.on {
+        None => rows_alone(alloc, arm, from),
+        Some(on) => rows_of_pairs(alloc, arm, on.as_slice(), from, join),
+    }
+}
