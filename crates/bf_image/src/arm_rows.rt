@@ -1,7 +1,7 @@
 //! Rows that an arm makes of rows of its tables.
 
-ghost use Rattle.std.specs.Prelude.{◌≡◌, ◌++◌, [], ◌∷◌, IfOk, Some, None, filter, map, flat_map};
-ghost use Rattle.std.specs.List.{list_all, AllByRecursion};
+ghost use Rattle.std.specs.Prelude.{◌≡◌, ◌++◌, [], ◌∷◌, IfOk, OnOk, Some, None, filter, map, flat_map};
+ghost use Rattle.std.specs.List.{list_all, All};
 ghost use Rattle.bf_base.specs.declared.value.Value.{Value as Cell};
 ghost use Rattle.bf_base.specs.Tables.{cell};
 ghost use Rattle.bf_tree.specs.Evaluation.{holds_on, sure_value};
@@ -9,8 +9,8 @@ ghost use Rattle.bf_tree.specs.declared.items.Items.TheVariants.{Aggregates};
 ghost use Rattle.bf_sql.specs.RowObjections.{answer_objections};
 ghost use Rattle.bf_sql.specs.Totals.{total_of};
 ghost use Rattle.bf_sql.specs.migrations.Images.{value_or_nought};
-ghost use Rattle.bf_sql.specs.migrations.Placed.{is_equal_at, placed_groups, placed_matches, placed_over, placed_rows};
-ghost use Rattle.bf_image.specs.ArmRows.{AreOfOne, CanMake, IsUnobjected, item_objections};
+ghost use Rattle.bf_sql.specs.migrations.Placed.{is_equal_at, placed_over, placed_rows};
+ghost use Rattle.bf_image.specs.ArmRows.{AreOfOne, CanMake, CanMakeOf, CanMatch, IsUnobjected, item_objections, made_of, rows_made_of, rows_of_match, those_if_any};
 
 use bf_base::{Memory, Row, Value};
 use bf_query::running::totals;
@@ -19,17 +19,23 @@ use bf_tree::{
 };
 use std::alloc::Global;
 
+/// Puts copies of the values of a row behind others.
+fn add_values(alloc: Global, values: &mut Vec<Value>, row: &Row) -> Result<(), Memory>
+    ensures { OnOk result (values.new.items ≡ values.old.items ++ row.now) }
+{
+    for value in row.as_slice() {
+        values.push(value.copy(alloc)?)?;
+    }
+    Ok(())
+}
+
 /// A row with the values of another behind its own.
 fn side_by_side(alloc: Global, left: &Row, right: &Row) -> Result<Row, Memory>
     ensures { IfOk result (λ row. row ≡ left.now ++ right.now) }
 {
     let mut values = Vec::with_capacity(alloc, left.as_slice().len() + right.as_slice().len())?;
-    for value in left.as_slice() {
-        values.push(value.copy(alloc)?)?;
-    }
-    for value in right.as_slice() {
-        values.push(value.copy(alloc)?)?;
-    }
+    add_values(alloc, &mut values, left)?;
+    add_values(alloc, &mut values, right)?;
     Ok(Row::of(values))
 }
 
@@ -76,11 +82,16 @@ fn item_value(alloc: Global, item: &PlacedItem, rows: &[&Row]) -> Result<Value, 
     requires { item_objections (map (λ row. row.now) rows.now) item.now ≡ [] }
     ensures { IfOk result (λ found. found ≡ placed_over (map (λ row. row.now) rows.now) item.now) }
 {
-    match (item, rows) {
-        (PlacedItem::Total(total), rows) => total_value(alloc, total, rows),
-        (PlacedItem::Column(place), [row, ..]) => column_value(alloc, row, *place),
-        (PlacedItem::Value(expr), [row, ..]) => sure_value(alloc, expr, row),
-        _ => Ok(Value::Int(0)),
+    match item {
+        PlacedItem::Total(total) => total_value(alloc, total, rows),
+        PlacedItem::Column(place) => match rows {
+            [row, ..] => column_value(alloc, row, *place),
+            [] => Ok(Value::Int(0)),
+        },
+        PlacedItem::Value(expr) => match rows {
+            [row, ..] => sure_value(alloc, expr, row),
+            [] => sure_value(alloc, expr, &Row::of(Vec::new(alloc))),
+        },
     }
 }
 
@@ -88,7 +99,7 @@ fn item_value(alloc: Global, item: &PlacedItem, rows: &[&Row]) -> Result<Value, 
 fn made_row(alloc: Global, arm: &PlacedArm, rows: &[&Row]) -> Result<Row, Memory>
     requires { IsUnobjected arm.now (map (λ row. row.now) rows.now) }
     ensures { IfOk result (λ row.
-        row ≡ map (placed_over (map (λ row. row.now) rows.now)) arm.now.items) }
+        row ≡ made_of arm.now (map (λ row. row.now) rows.now)) }
 {
     let items = arm.items.as_slice();
     let mut values = Vec::with_capacity(alloc, items.len())?;
@@ -98,12 +109,22 @@ fn made_row(alloc: Global, arm: &PlacedArm, rows: &[&Row]) -> Result<Row, Memory
     Ok(Row::of(values))
 }
 
+/// Whether a row has equal values at two places. A place past its end counts as 0.
+fn is_equal_at(row: &Row, pair: (u8, u8)) -> bool
+    ensures { result ≡ is_equal_at row.now pair }
+{
+    let nought = Value::Int(0);
+    let values = row.as_slice();
+    let left = values.get(pair.0 as usize).unwrap_or(&nought);
+    let right = values.get(pair.1 as usize).unwrap_or(&nought);
+    *left == *right
+}
+
 /// Whether a row has equal values at the places of each pair.
 fn is_matched(row: &Row, on: &[(u8, u8)]) -> bool
     ensures { result ≡ list_all (is_equal_at row.now) on.now }
 {
-    let values = row.as_slice();
-    on.iter().all(|(left, right)| values.get(*left as usize) == values.get(*right as usize))
+    on.iter().all(|pair| is_equal_at(row, *pair))
 }
 
 /// The rows that satisfy an arm's condition.
@@ -120,20 +141,85 @@ fn satisfying<'a>(alloc: Global, arm: &PlacedArm, rows: &[&'a Row]) -> Result<Ve
     Ok(found)
 }
 
-/// The rows of an arm without JOIN.
-fn rows_alone(alloc: Global, arm: &PlacedArm, from: &[&Row]) -> Result<Vec<Row>, Memory> {
-    let found = satisfying(alloc, arm, from)?;
-    let mut made = Vec::new(alloc);
-    if arm.kind == ArmKind::ByGroup {
-        if !found.is_empty() {
-            made.push(made_row(alloc, arm, &found)?)?;
-        }
-        return Ok(made);
-    }
-    for row in found {
-        made.push(made_row(alloc, arm, &[row])?)?;
+/// A row of each row by itself.
+fn rows_of_each(alloc: Global, arm: &PlacedArm, rows: &[&Row]) -> Result<Vec<Row>, Memory>
+    requires { All (λ row. IsUnobjected arm.now (row.now ∷ [])) rows.now }
+    ensures { IfOk result (λ made.
+        made.items ≡ map (λ row. made_of arm.now (row.now ∷ [])) rows.now) }
+{
+    let mut made = Vec::with_capacity(alloc, rows.len())?;
+    for row in rows {
+        made.push(made_row(alloc, arm, &[*row])?)?;
     }
     Ok(made)
+}
+
+/// The row of a group, or none of no rows.
+#[tactic(auto, using(crate::proofs::arm_rows::Made::group_there))]
+fn row_of_group(alloc: Global, arm: &PlacedArm, rows: &[&Row]) -> Result<Vec<Row>, Memory>
+    requires { All (IsUnobjected arm.now) (those_if_any (map (λ row. row.now) rows.now)) }
+    ensures { IfOk result (λ made.
+        made.items ≡ map (made_of arm.now) (those_if_any (map (λ row. row.now) rows.now))) }
+{
+    let mut made = Vec::new(alloc);
+    if rows.is_empty() {
+        return Ok(made);
+    }
+    made.push(made_row(alloc, arm, rows)?)?;
+    Ok(made)
+}
+
+/// The rows of an arm without JOIN.
+fn rows_alone(alloc: Global, arm: &PlacedArm, from: &[&Row]) -> Result<Vec<Row>, Memory>
+    requires one { AreOfOne arm.now.kind arm.now (map (λ row. row.now) from.now) }
+    requires can { CanMakeOf arm.now (map (λ row. row.now) from.now) }
+    ensures { IfOk result (λ made.
+        made.items ≡ rows_made_of arm.now (map (λ row. row.now) from.now)) }
+{
+    let found = satisfying(alloc, arm, from)?;
+    match arm.kind {
+        ArmKind::ByGroup => row_of_group(alloc, arm, found.as_slice()),
+        ArmKind::ByFrom | ArmKind::ByJoin | ArmKind::ByPair => {
+            rows_of_each(alloc, arm, found.as_slice())
+        }
+    }
+}
+
+/// Adds the row of a pair of rows side by side, if they match.
+fn add_match(
+    alloc: Global,
+    arm: &PlacedArm,
+    on: &[(u8, u8)],
+    pair: &Row,
+    made: &mut Vec<Row>,
+) -> Result<(), Memory>
+    requires { CanMatch arm.now on.now pair.now }
+    ensures { OnOk result (made.new.items ≡ made.old.items ++ rows_of_match arm.now on.now pair.now) }
+{
+    if is_matched(pair, on) && holds(alloc, &arm.cond, pair)? {
+        made.push(made_row(alloc, arm, &[pair])?)?;
+    }
+    Ok(())
+}
+
+/// Adds the rows of the pairs of one row of FROM.
+fn add_matches(
+    alloc: Global,
+    arm: &PlacedArm,
+    on: &[(u8, u8)],
+    left: &Row,
+    join: &[&Row],
+    made: &mut Vec<Row>,
+) -> Result<(), Memory>
+    requires { All (λ right. CanMatch arm.now on.now (left.now ++ right.now)) join.now }
+    ensures { OnOk result (made.new.items ≡ made.old.items
+        ++ flat_map (λ right. rows_of_match arm.now on.now (left.now ++ right.now)) join.now) }
+{
+    for right in join {
+        let pair = side_by_side(alloc, left, right)?;
+        add_match(alloc, arm, on, &pair, made)?;
+    }
+    Ok(())
 }
 
 /// The rows of an arm with JOIN.
@@ -143,15 +229,16 @@ fn rows_of_pairs(
     on: &[(u8, u8)],
     from: &[&Row],
     join: &[&Row],
-) -> Result<Vec<Row>, Memory> {
+) -> Result<Vec<Row>, Memory>
+    requires on { arm.now.on ≡ Some on.now }
+    requires one { AreOfOne arm.now.kind arm.now (map (λ row. row.now) from.now) }
+    requires can { CanMake arm.now (map (λ row. row.now) from.now) (map (λ row. row.now) join.now) }
+    ensures { IfOk result (λ made. made.items
+        ≡ placed_rows arm.now (map (λ row. row.now) from.now) (map (λ row. row.now) join.now)) }
+{
     let mut made = Vec::new(alloc);
     for left in from {
-        for right in join {
-            let pair = side_by_side(alloc, left, right)?;
-            if is_matched(&pair, on) && holds(alloc, &arm.cond, &pair)? {
-                made.push(made_row(alloc, arm, &[&pair])?)?;
-            }
-        }
+        add_matches(alloc, arm, on, left, join, &mut made)?;
     }
     Ok(made)
 }

@@ -2,7 +2,7 @@
 
 ghost use Rattle.std.specs.List.{Contains, count_by, list_all};
 ghost use Rattle.std.specs.Option.{option_to_list};
-ghost use Rattle.std.specs.Prelude.{◌≡◌, ◌≤◌, ℕ, List, filter, find, flat_map, map, true, length, slice_get, Bool, IsTrue};
+ghost use Rattle.std.specs.Prelude.{◌≡◌, ◌≤◌, Some, ℕ, List, false, filter, find, flat_map, map, true, length, slice_get, Bool, IsTrue};
 ghost use Rattle.bf_base.specs.Distinct.{distinct};
 ghost use Rattle.bf_base.specs.Lists.{has, in_order, same_key, same_name};
 ghost use Rattle.bf_base.specs.Values.{key_cmp};
@@ -11,6 +11,10 @@ ghost use Rattle.bf_base.specs.declared.value.Value.{Value};
 ghost use Rattle.bf_tree.specs.declared.migration.Arm.{Arm};
 ghost use Rattle.bf_tree.specs.declared.migration.Migrate.{Migrate};
 ghost use Rattle.bf_tree.specs.declared.migration.Target.{Target};
+ghost use Rattle.bf_tree.specs.declared.bound.Bound.{Bound};
+ghost use Rattle.bf_tree.specs.declared.statement.Statement.TheVariants as statement;
+ghost use Rattle.bf_sql.specs.Agreement.{AgreeOn};
+ghost use Rattle.bf_sql.specs.Footprints.{catalog_change, footprint_of};
 ghost use Rattle.bf_tree.specs.declared.statement.Statement.{Statement};
 ghost use Rattle.bf_sql.specs.Bound.{catalog_of, without_rows};
 ghost use Rattle.bf_sql.specs.Database.{Database, IsDatabase, stored_at, stored_in_order, is_admitted, is_keyed};
@@ -159,6 +163,17 @@ pub fn a_migration_is_planned_by_the_catalog_alone()
         → catalog_of old ≡ catalog_of new → prepared_of old in_block s ≡ prepared_of new in_block s }
     ensures catalog { (db : Database) → HaveSameTables (without_rows (catalog_of db)) db }
     ensures bare { (db : Database) → catalog_of (without_rows (catalog_of db)) ≡ catalog_of db }
+{}
+
+/// A MIGRATE outside a block has the catalog to itself, planned or refused. So two databases that agree
+/// on what it locks are one database, on which all is alike.
+pub fn a_migration_has_the_catalog_to_itself()
+    ensures footprint { (db : Database) (m : Migrate) (bound : Bound)
+        → prepared_of db false (statement.Migrate m) ≡ Some bound
+        → footprint_of bound ≡ catalog_change }
+    ensures one { (a b : Database) (m : Migrate) (bound : Bound)
+        → prepared_of a false (statement.Migrate m) ≡ Some bound
+        → AgreeOn a b (footprint_of bound) → a ≡ b }
 {}
 
 /// The units of a plan stand for those of its migration, one for one.

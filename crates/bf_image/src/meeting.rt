@@ -1,31 +1,62 @@
 //! The one row of the other table of an arm that a driver's row can meet.
 
-use crate::arm_rows::{column_value, rows_made};
+ghost use Rattle.std.specs.Prelude.{◌≡◌, ◌+◌, ◌-◌, ℕ, List, IfOk, IsTrue, map, ◌<◌, ◌^◌, [], ◌∷◌};
+ghost use Rattle.std.specs.Option.{option_map, option_to_list};
+ghost use Rattle.bf_base.specs.declared.value.Value.{Value as Cell};
+ghost use Rattle.bf_base.specs.Tables.{cell};
+ghost use Rattle.bf_tree.specs.declared.migration.Arm.{Arm};
+ghost use Rattle.bf_tree.specs.declared.plan.ArmKind.TheVariants.{ByFrom, ByJoin};
+ghost use Rattle.bf_tree.specs.declared.raw.Ref.{Ref};
+ghost use Rattle.bf_sql.specs.Scopes.{Scope};
+ghost use Rattle.bf_sql.specs.migrations.Images.{arm_rows};
+ghost use Rattle.bf_sql.specs.migrations.MigrationObjections.{is_by_row};
+ghost use Rattle.bf_sql.specs.migrations.Placed.{placed_pair};
+ghost use Rattle.bf_sql.specs.migrations.Targets.{arm_kind};
+ghost use Rattle.bf_image.specs.ArmRows.{CanMake};
+ghost use Rattle.bf_image.specs.BoundArms.{IsFrozenArm};
+ghost use Rattle.bf_image.specs.Lookup.{partner, join_rows_met, from_rows_met};
+ghost use Rattle.bf_image.specs.Migrations.{IsLawfulMigration, old_of};
+ghost use Rattle.bf_image.specs.declared.migration.Migration.{Migration};
+
+use crate::arm_rows::rows_made;
 use crate::arms::FrozenArm;
-use crate::migration::Frozen;
-use bf_base::{Key, Memory, Row, Table};
+use bf_base::{Key, Memory, Row, Value};
 use bf_tree::ArmKind;
 use std::alloc::Global;
 
 /// The place that the first pair which names a place makes equal to it.
-fn partner(on: &[(u8, u8)], place: u8) -> u8 {
+fn partner(on: &[(u8, u8)], place: usize) -> usize
+    ensures { (scope : Scope) (pairs : List (Ref × Ref)) → on.now ≡ map (placed_pair scope) pairs
+        → result ≡ partner scope pairs place }
+{
     for (left, right) in on {
-        if *left == place {
-            return *right;
+        let (left, right) = (usize::from(*left), usize::from(*right));
+        if left == place {
+            return right;
         }
-        if *right == place {
-            return *left;
+        if right == place {
+            return left;
         }
     }
     place
+}
+
+/// The value of a column of a row.
+fn value_at(alloc: Global, row: &Row, place: usize) -> Result<Value, Memory>
+    ensures { IfOk result (λ found. found ≡ cell row.now place) }
+{
+    match row.as_slice().get(place) {
+        Some(value) => value.copy(alloc),
+        None => Ok(Value::Int(0)),
+    }
 }
 
 /// Where the columns of one table stand, and those of the other, in a row of FROM with a row of JOIN
 /// behind it.
 #[derive(Clone, Copy)]
 struct Ahead {
-    driver: u8,
-    other: u8,
+    driver: usize,
+    other: usize,
 }
 
 /// The key of the row that a driver's row can meet: the values that ON makes equal to it.
@@ -35,68 +66,82 @@ fn key_met(
     key: &[u8],
     ahead: Ahead,
     row: &Row,
-) -> Result<Key, Memory> {
+) -> Result<Key, Memory>
+    requires { ahead.other < 2 ^ 63 }
+    ensures { IfOk result (λ met. (scope : Scope) (pairs : List (Ref × Ref))
+        → on.now ≡ map (placed_pair scope) pairs
+        → met ≡ map (λ place.
+        cell row.now (partner scope pairs (ahead.other + place) - ahead.driver)) key.now) }
+{
     let mut values = Vec::with_capacity(alloc, key.len())?;
     for place in key {
-        let met = partner(on, ahead.other + *place);
-        values.push(column_value(alloc, row, met - ahead.driver)?)?;
+        let met = partner(on, ahead.other + usize::from(*place));
+        values.push(value_at(alloc, row, met.saturating_sub(ahead.driver))?)?;
     }
     Ok(Key::of(values))
 }
 
-/// How many columns a table has.
-fn width(table: &Table) -> u8 {
-    table.columns.len() as u8
-}
-
-/// The row of JOIN that a row of FROM can meet, where ON has JOIN's whole key. It compares about log n
-/// keys.
-pub(crate) fn join_row_met<'a>(
-    alloc: Global,
-    on: &[(u8, u8)],
-    from: &Table,
-    join: &'a Frozen,
-    row: &Row,
-) -> Result<Option<&'a Row>, Memory> {
-    let ahead = Ahead {
-        driver: 0,
-        other: width(from),
-    };
-    let key = key_met(alloc, on, join.table.key.as_slice(), ahead, row)?;
-    Ok(join.rows.get(&key))
-}
-
-/// The row of FROM that a row of JOIN can meet, where ON has FROM's whole key. It compares about log n
-/// keys.
-pub(crate) fn from_row_met<'a>(
-    alloc: Global,
-    on: &[(u8, u8)],
-    from: &'a Frozen,
-    row: &Row,
-) -> Result<Option<&'a Row>, Memory> {
-    let ahead = Ahead {
-        driver: width(&from.table),
-        other: 0,
-    };
-    let key = key_met(alloc, on, from.table.key.as_slice(), ahead, row)?;
-    Ok(from.rows.get(&key))
-}
-
 impl<'a> FrozenArm<'a> {
-    /// The arm's rows of one row of its driver, and of the one row of the other table that it can meet.
-    pub(crate) fn rows_of_driver(&self, alloc: Global, row: &Row) -> Result<Vec<Row>, Memory> {
+    /// The row of JOIN that a row of FROM can meet, where ON has JOIN's whole key, and `None` where there
+    /// is no JOIN. It compares about log n keys.
+    fn join_row_met(&self, alloc: Global, row: &Row) -> Result<Option<&'a Row>, Memory>
+        ensures { IfOk result (λ met. (m : Migration) (target : ℕ) (arm : Arm) → IsLawfulMigration m
+            → IsFrozenArm m target arm self.now
+            → option_to_list (option_map (λ row. row.now) met) ≡ join_rows_met (old_of m) arm row.now) }
+    {
         let (Some(on), Some(join)) = (&self.placed.on, self.join) else {
-            return rows_made(alloc, self.placed, &[row], &[]);
+            return Ok(None);
         };
+        let ahead = Ahead {
+            driver: 0,
+            other: self.from.table.columns.as_slice().len(),
+        };
+        let key = key_met(alloc, on.as_slice(), join.table.key.as_slice(), ahead, row)?;
+        Ok(join.rows.get(&key))
+    }
+
+    /// The row of FROM that a row of JOIN can meet, where ON has FROM's whole key. It compares about
+    /// log n keys.
+    fn from_row_met(&self, alloc: Global, row: &Row) -> Result<Option<&'a Row>, Memory>
+        ensures { IfOk result (λ met. (m : Migration) (target : ℕ) (arm : Arm) → IsLawfulMigration m
+            → IsFrozenArm m target arm self.now → arm_kind (old_of m) arm ≡ ByJoin
+            → option_to_list (option_map (λ row. row.now) met) ≡ from_rows_met (old_of m) arm row.now) }
+    {
+        let Some(on) = &self.placed.on else {
+            return Ok(None);
+        };
+        let ahead = Ahead {
+            driver: self.from.table.columns.as_slice().len(),
+            other: 0,
+        };
+        let key = key_met(
+            alloc,
+            on.as_slice(),
+            self.from.table.key.as_slice(),
+            ahead,
+            row,
+        )?;
+        Ok(self.from.rows.get(&key))
+    }
+
+    /// The arm's rows of one row of its driver, and of the one row of the other table that it can meet.
+    pub(crate) fn rows_of_driver(&self, alloc: Global, row: &Row) -> Result<Vec<Row>, Memory>
+        requires by_row { IsTrue (is_by_row self.now.placed.now.kind) }
+        requires plain { (from join : List (List Cell)) → CanMake self.now.placed.now from join }
+        ensures from { IfOk result (λ made. (m : Migration) (target : ℕ) (arm : Arm)
+            → IsLawfulMigration m → IsFrozenArm m target arm self.now
+            → arm_kind (old_of m) arm ≡ ByFrom → made.items
+            ≡ arm_rows (old_of m) arm (row.now ∷ []) (join_rows_met (old_of m) arm row.now)) }
+        ensures join { IfOk result (λ made. (m : Migration) (target : ℕ) (arm : Arm)
+            → IsLawfulMigration m → IsFrozenArm m target arm self.now
+            → arm_kind (old_of m) arm ≡ ByJoin → made.items
+            ≡ arm_rows (old_of m) arm (from_rows_met (old_of m) arm row.now) (row.now ∷ [])) }
+    {
         if self.placed.kind == ArmKind::ByJoin {
-            return match from_row_met(alloc, on.as_slice(), self.from, row)? {
-                Some(met) => rows_made(alloc, self.placed, &[met], &[row]),
-                None => Ok(Vec::new(alloc)),
-            };
+            let met = self.from_row_met(alloc, row)?;
+            return rows_made(alloc, self.placed, met.as_slice(), &[row]);
         }
-        match join_row_met(alloc, on.as_slice(), &self.from.table, join, row)? {
-            Some(met) => rows_made(alloc, self.placed, &[row], &[met]),
-            None => Ok(Vec::new(alloc)),
-        }
+        let met = self.join_row_met(alloc, row)?;
+        rows_made(alloc, self.placed, &[row], met.as_slice())
     }
 }

@@ -1,22 +1,30 @@
 //! The rows of the new tables that come from a granule.
 
-ghost use Rattle.std.specs.Prelude.{◌≡◌, IfOk};
-ghost use Rattle.bf_image.specs.Migrations.{ArePart, IsLawfulMigration, value_indexes};
+ghost use Rattle.std.specs.Prelude.{◌≡◌, ◌++◌, ℕ, IfOk, Some, flat_map, map, slice_get};
+ghost use Rattle.std.specs.Option.{option_to_list};
+ghost use Rattle.bf_base.specs.declared.granule.Place.TheVariants.{Group, Row as At};
+ghost use Rattle.bf_tree.specs.declared.migration.Arm.{Arm};
+ghost use Rattle.bf_tree.specs.declared.migration.Target.{Target};
+ghost use Rattle.bf_sql.specs.Database.{table_rows};
+ghost use Rattle.bf_sql.specs.migrations.Granules.{from_with, granule, join_with, part_at, rows_unit, values_unit};
+ghost use Rattle.bf_sql.specs.migrations.Plans.{rows_unit_of};
+ghost use Rattle.bf_sql.specs.migrations.Targets.{arm_kind};
+ghost use Rattle.bf_image.specs.BoundArms.{IsFrozenArm};
+ghost use Rattle.bf_image.specs.Migrations.{ArePart, IsLawfulMigration, old_of, target_at, unit_index, value_indexes};
+ghost use Rattle.bf_image.specs.declared.migration.Migration.{Migration};
 
 use crate::arm_rows::rows_made;
 use crate::arms::FrozenArm;
 use crate::migration::{Frozen, Migration};
 use crate::value_indexes::{UnitIndex, ValueIndexes};
 use bf_base::{Granule, Key, Memory, Place, Row};
-use bf_tree::Unit;
+use bf_tree::{Unit, UnitKind};
 use std::alloc::Global;
 
 /// Rows behind others, each with the number of its target.
-fn with_rows(
-    mut all: Vec<(u8, Row)>,
-    target: u8,
-    rows: Vec<Row>,
-) -> Result<Vec<(u8, Row)>, Memory> {
+fn with_rows(mut all: Vec<(u8, Row)>, target: u8, rows: Vec<Row>) -> Result<Vec<(u8, Row)>, Memory>
+    ensures { IfOk result (λ both. both.items ≡ all.items ++ map (λ row. (target, row)) rows.items) }
+{
     for row in rows {
         all.push((target, row))?;
     }
@@ -24,19 +32,22 @@ fn with_rows(
 }
 
 /// What the arms of a unit make of a row of its driver.
-fn rows_at(
+fn rows_of_row(
     alloc: Global,
     migration: &Migration,
     unit: &Unit,
-    position: u32,
-) -> Result<Vec<(u8, Row)>, Memory> {
+    row: &Row,
+) -> Result<Vec<(u8, Row)>, Memory>
+    requires lawful { IsLawfulMigration migration.now }
+    requires planned { unit.now
+        ≡ rows_unit_of (old_of migration.now) migration.now.plan.migrate unit.now.driver }
+    ensures { IfOk result (λ made. (at : ℕ)
+        → slice_get (table_rows (old_of migration.now) unit.now.driver) at ≡ Some row.now
+        → map (λ p. (target_at migration.now p.0, p.1)) made.items
+        ≡ part_at (old_of migration.now) migration.now.plan.migrate (rows_unit unit.now.driver)
+        (At at)) }
+{
     let mut all = Vec::new(alloc);
-    let Some(driver) = migration.source(&unit.driver) else {
-        return Ok(all);
-    };
-    let Some((_, row)) = driver.rows.at(position) else {
-        return Ok(all);
-    };
     for (target, number) in unit.arms.as_slice() {
         if let Some(arm) = migration.arm(*target, *number) {
             all = with_rows(all, *target, arm.rows_of_driver(alloc, row)?)?;
@@ -45,12 +56,57 @@ fn rows_at(
     Ok(all)
 }
 
+/// What the arms of a unit make of the row at a position of its driver, if there is one.
+fn rows_of_position(
+    alloc: Global,
+    migration: &Migration,
+    unit: &Unit,
+    position: u32,
+) -> Result<Vec<(u8, Row)>, Memory>
+    requires lawful { IsLawfulMigration migration.now }
+    requires planned { unit.now
+        ≡ rows_unit_of (old_of migration.now) migration.now.plan.migrate unit.now.driver }
+    ensures { IfOk result (λ made. map (λ p. (target_at migration.now p.0, p.1)) made.items
+        ≡ part_at (old_of migration.now) migration.now.plan.migrate (rows_unit unit.now.driver)
+        (At position)) }
+{
+    let Some(driver) = migration.source(&unit.driver) else {
+        return Ok(Vec::new(alloc));
+    };
+    match driver.rows.at(position) {
+        Some((_, row)) => rows_of_row(alloc, migration, unit, row),
+        None => Ok(Vec::new(alloc)),
+    }
+}
+
+/// What a unit has at a position of the table whose rows it goes by.
+fn rows_at(
+    alloc: Global,
+    migration: &Migration,
+    number: u8,
+    position: u32,
+) -> Result<Vec<(u8, Row)>, Memory>
+    requires lawful { IsLawfulMigration migration.now }
+    ensures { IfOk result (λ rows. ArePart migration.now (granule number (At position)) rows.items) }
+{
+    let Some(unit) = migration.plan.units.as_slice().get(number as usize) else {
+        return Ok(Vec::new(alloc));
+    };
+    match unit.kind {
+        UnitKind::Rows => rows_of_position(alloc, migration, unit, position),
+        UnitKind::Groups | UnitKind::Joins => Ok(Vec::new(alloc)),
+    }
+}
+
 /// The rows at some positions of an old table.
 fn rows_at_all<'a>(
     alloc: Global,
     table: &'a Frozen,
     positions: &[u32],
-) -> Result<Vec<&'a Row>, Memory> {
+) -> Result<Vec<&'a Row>, Memory>
+    ensures { IfOk result (λ rows. map (λ row. row.now) rows.items ≡ flat_map (λ at.
+        option_to_list (slice_get (map (λ entry. entry.1) table.now.rows) at)) positions.now) }
+{
     let mut rows = Vec::with_capacity(alloc, positions.len())?;
     for position in positions {
         if let Some((_, row)) = table.rows.at(*position) {
@@ -60,18 +116,60 @@ fn rows_at_all<'a>(
     Ok(rows)
 }
 
-/// What an arm makes of the rows with a value.
-fn rows_under(
+/// The rows of FROM with a value.
+fn from_under<'a>(
     alloc: Global,
-    arm: &FrozenArm<'_>,
+    arm: &FrozenArm<'a>,
     index: &UnitIndex,
     value: &Key,
-) -> Result<Vec<(u8, Row)>, Memory> {
-    let from = rows_at_all(alloc, arm.from, index.from.positions(value))?;
-    let join = match (arm.join, &index.join) {
-        (Some(table), Some(by_value)) => rows_at_all(alloc, table, by_value.positions(value))?,
-        _ => Vec::new(alloc),
+) -> Result<Vec<&'a Row>, Memory>
+    ensures { IfOk result (λ rows. (m : Migration) (target : ℕ) (raw : Arm) (of : Target)
+        → IsFrozenArm m target raw arm.now
+        → unit_index (old_of m) (values_unit of raw) ≡ Some index.now
+        → map (λ row. row.now) rows.items
+        ≡ from_with (old_of m) raw (arm_kind (old_of m) raw) value.now) }
+{
+    rows_at_all(alloc, arm.from, index.from.positions(value))
+}
+
+/// The rows of JOIN with a value; none where there is no JOIN.
+fn join_under<'a>(
+    alloc: Global,
+    arm: &FrozenArm<'a>,
+    index: &UnitIndex,
+    value: &Key,
+) -> Result<Vec<&'a Row>, Memory>
+    ensures { IfOk result (λ rows. (m : Migration) (target : ℕ) (raw : Arm) (of : Target)
+        → IsFrozenArm m target raw arm.now
+        → unit_index (old_of m) (values_unit of raw) ≡ Some index.now
+        → map (λ row. row.now) rows.items ≡ join_with (old_of m) raw value.now) }
+{
+    match (arm.join, &index.join) {
+        (Some(join), Some(by_value)) => rows_at_all(alloc, join, by_value.positions(value)),
+        _ => Ok(Vec::new(alloc)),
+    }
+}
+
+/// What a unit that goes by values has under a value.
+fn rows_under(
+    alloc: Global,
+    migration: &Migration,
+    indexes: &ValueIndexes,
+    number: u8,
+    value: &Key,
+) -> Result<Vec<(u8, Row)>, Memory>
+    requires lawful { IsLawfulMigration migration.now }
+    requires indexed { indexes.now ≡ value_indexes migration.now }
+    ensures { IfOk result (λ rows. ArePart migration.now (granule number (Group value.now)) rows.items) }
+{
+    let Some(arm) = migration.arm_by_values(number) else {
+        return Ok(Vec::new(alloc));
     };
+    let Some(index) = indexes.unit(number) else {
+        return Ok(Vec::new(alloc));
+    };
+    let from = from_under(alloc, &arm, index, value)?;
+    let join = join_under(alloc, &arm, index, value)?;
     let made = rows_made(alloc, arm.placed, &from, &join)?;
     with_rows(Vec::new(alloc), arm.target, made)
 }
@@ -92,17 +190,8 @@ pub fn rows_of(
     requires indexed { indexes.now ≡ value_indexes migration.now }
     ensures { IfOk result (λ rows. ArePart migration.now granule.now rows.items) }
 {
-    let number = granule.unit;
-    let Some(unit) = migration.plan.units.as_slice().get(number as usize) else {
-        return Ok(Vec::new(alloc));
-    };
-    match (
-        &granule.place,
-        migration.arm_by_values(number),
-        indexes.unit(number),
-    ) {
-        (Place::Row(position), None, _) => rows_at(alloc, migration, unit, *position),
-        (Place::Group(value), Some(arm), Some(index)) => rows_under(alloc, &arm, index, value),
-        _ => Ok(Vec::new(alloc)),
+    match &granule.place {
+        Place::Row(position) => rows_at(alloc, migration, granule.unit, *position),
+        Place::Group(value) => rows_under(alloc, migration, indexes, granule.unit, value),
     }
 }

@@ -1,11 +1,11 @@
 -- The live tables after a schema change in which tables leave and others come.
-use Rattle.std.proofs.Common.{◌≡◌, ℕ, ◌+◌, Bool, true, false, not, cond, List, [], ◌∷◌, ◌++◌, map, filter, fold, refl, sym, ap, ap₂, subst, ◌∙◌, arith, is_lt, suc}
+use Rattle.std.proofs.Common.{◌≡◌, ℕ, ◌+◌, Bool, true, false, not, cond, List, [], ◌∷◌, ◌++◌, map, filter, fold, refl, sym, ap, ap₂, subst, ◌∙◌, arith, suc}
 use Rattle.std.specs.List.{All, list_all}
 use Rattle.std.specs.Map.{keys_of}
 use Rattle.std.specs.Ordering.{eq_by_cmp}
 use Rattle.std.proofs.lemmas.Bool.{and_parts, not-true, or_parts}
 use Rattle.std.proofs.lemmas.List.{map-append}
-use Rattle.std.proofs.lemmas.List.Elements.{All-append, All-cons, All-filter}
+use Rattle.std.proofs.lemmas.List.Elements.{All-append, All-filter}
 use Rattle.std.proofs.lemmas.Simd.{map-map}
 use Rattle.bf_base.specs.Lists.{has, in_order, name_cmp, placed, rises, same_name}
 use Rattle.bf_base.proofs.Apart.{apart_across, apart_from_rises, apart_right, are_apart, are_apart-same_items, map-with_placed, with_placed-items}
@@ -17,9 +17,10 @@ use Rattle.bf_tree.specs.declared.catalog.IndexRule.{IndexRule}
 use Rattle.bf_sql.specs.Database.{Database, IsDatabase, Stored}
 use Rattle.bf_live.specs.Drafts.{AreNamedApart, Drafted, name_of_rows, rows_over, staying, staying_rows, staying_rules, with_more, with_rows_of}
 use Rattle.bf_live.specs.Live.{AreLiveTables, IsUnderOwnKeys, NamedRows, TableRows, database_of, exchanged, stored}
-use Rattle.bf_live.proofs.Drafts.{named, one_each_again, paired, paired_again, rows_paired, table_of, tables_paired, without_rows}
+use Rattle.bf_live.proofs.Drafts.{without_rows}
 use Rattle.bf_live.proofs.Heaps.{is_same}
 use Rattle.bf_live.proofs.Held.{name_of}
+use Rattle.bf_live.proofs.Paired.{all_placed, named, one_each_again, paired, paired_again, rows_paired, table_of, tables_paired}
 
 filter_mapped : {X Y : Type 0} (f : X → Y) (test : Y → Bool) (xs : List X) → filter test (map f xs) ≡ map f (filter (λ x. test (f x)) xs)
 filter_mapped f test [] = refl
@@ -32,28 +33,28 @@ filter_mapped f test (x ∷ xs) = elim (test (f x)) as (λ b. cond b (f x ∷ fi
 abbrev emptied : TableRows → TableRows
 emptied t = (t.0, [])
 
-abbrev IsAmong : List TableRows → List ℕ → Bool
-IsAmong tables name = has (eq_by_cmp name_cmp) (map name_of_rows tables) name
+abbrev is_named : List TableRows → List ℕ → Bool
+is_named tables name = has (eq_by_cmp name_cmp) (map name_of_rows tables) name
 
 names_emptied : (tables : List TableRows) → map name_of_rows (map emptied tables) ≡ map name_of_rows tables
 names_emptied tables = map-map name_of_rows emptied tables
 
 -- none of the rows are those of a table of another name
-others_rows : (tables : List TableRows) (name : List ℕ) (rows : List Entry) → IsAmong tables name ≡ false → fold (rows_over name) rows (map named tables) ≡ rows
+others_rows : (tables : List TableRows) (name : List ℕ) (rows : List Entry) → is_named tables name ≡ false → fold (rows_over name) rows (map named tables) ≡ rows
 others_rows [] name rows none = refl
 others_rows (t ∷ ts) name rows none =
     let parts = or_parts _ _ none in
     let other : same_name t.0.name name ≡ false = same_name-tie_back t.0.name name ∙ parts.0 in
     ap (λ b. fold (rows_over name) (cond b t.1 rows) (map named ts)) other ∙ others_rows ts name rows parts.1
 
-untouched : (tables others : List TableRows) → list_all (λ name. not (IsAmong tables name)) (map name_of_rows others) ≡ true → with_rows_of (map named tables) others ≡ others
+untouched : (tables others : List TableRows) → list_all (λ name. not (is_named tables name)) (map name_of_rows others) ≡ true → with_rows_of (map named tables) others ≡ others
 untouched tables [] none = refl
 untouched tables (t ∷ ts) none =
     let parts = and_parts _ _ none in
     ap₂ (λ es (ts : List TableRows). (t.0, es) ∷ ts) (others_rows tables t.0.name t.1 (not-true _ parts.0)) (untouched tables ts parts.1)
 
 -- rows under a name that no table has
-no_place : (r : NamedRows) (rows : List NamedRows) (tables : List TableRows) → IsAmong tables r.0 ≡ false → with_rows_of (r ∷ rows) tables ≡ with_rows_of rows tables
+no_place : (r : NamedRows) (rows : List NamedRows) (tables : List TableRows) → is_named tables r.0 ≡ false → with_rows_of (r ∷ rows) tables ≡ with_rows_of rows tables
 no_place r rows [] none = refl
 no_place r rows (t ∷ ts) none =
     let parts = or_parts _ _ none in
@@ -65,7 +66,7 @@ filled : (tables : List TableRows) → are_apart (eq_by_cmp name_cmp) (map name_
 filled [] apart = refl
 filled (t ∷ ts) apart =
     let parts = and_parts _ _ apart in
-    let none : IsAmong ts t.0.name ≡ false = not-true _ parts.0 in
+    let none : is_named ts t.0.name ≡ false = not-true _ parts.0 in
     let here : fold (rows_over t.0.name) (rows_over t.0.name [] (named t)) (map named ts) ≡ t.1 =
     ap (λ b. fold (rows_over t.0.name) (cond b t.1 []) (map named ts)) (is_same t.0.name t.0.name refl) ∙ others_rows ts t.0.name t.1 none in
     ap₂ (λ es (ts : List TableRows). (t.0, es) ∷ ts) here
@@ -89,26 +90,19 @@ module _ (gone : List (List ℕ)) where
   stored_kept tables = filter_mapped stored (λ s. stays s.table.name) tables
 
 -- ---- in the order of the names
-stored_in_order : (tables : List TableRows) → map stored (with_more [] tables) ≡ in_order name_cmp name_of (map stored tables)
-stored_in_order tables = map-with_placed name_cmp_total name_of_rows name_of stored (λ t. refl) [] tables
+stored_placed : (tables : List TableRows) → map stored (with_more [] tables) ≡ in_order name_cmp name_of (map stored tables)
+stored_placed tables = map-with_placed name_cmp_total name_of_rows name_of stored (λ t. refl) [] tables
 
-names_in_order : (tables : List TableRows) → map name_of_rows (with_more [] tables) ≡ in_order name_cmp (λ n. n) (map name_of_rows tables)
-names_in_order tables = map-with_placed name_cmp_total name_of_rows (λ n. n) name_of_rows (λ t. refl) [] tables
+names_placed : (tables : List TableRows) → map name_of_rows (with_more [] tables) ≡ in_order name_cmp (λ n. n) (map name_of_rows tables)
+names_placed tables = map-with_placed name_cmp_total name_of_rows (λ n. n) name_of_rows (λ t. refl) [] tables
 
-rows_in_order : (rows : List NamedRows) (tables : List TableRows) → with_rows_of rows (with_more [] tables) ≡ with_more [] (with_rows_of rows tables)
-rows_in_order rows tables = map-with_placed name_cmp_total name_of_rows name_of_rows (λ (t : TableRows). (t.0, fold (rows_over t.0.name) t.1 rows)) (λ t. refl) [] tables
+rows_placed_alike : (rows : List NamedRows) (tables : List TableRows) → with_rows_of rows (with_more [] tables) ≡ with_more [] (with_rows_of rows tables)
+rows_placed_alike rows tables = map-with_placed name_cmp_total name_of_rows name_of_rows (λ (t : TableRows). (t.0, fold (rows_over t.0.name) t.1 rows)) (λ t. refl) [] tables
 
 module _ (P : TableRows → Type 0) where
-  all_placed : (t : TableRows) (tables : List TableRows) → P t → All P tables → All P (placed name_cmp name_of_rows tables t)
-  all_placed t [] here all = All-cons P t [] here all
-  all_placed t (u ∷ us) here all = elim (is_lt (name_cmp t.0.name u.0.name)) as (λ b. All P (cond b (t ∷ u ∷ us) (u ∷ placed name_cmp name_of_rows us t))) [
-    | true ↦ All-cons P t (u ∷ us) here all
-    | false ↦ All-cons P u (placed name_cmp name_of_rows us t) (all 0 u (omega arith)) (all_placed t us here (λ k d below. all (suc k) d (omega arith)))
-  ]
-
   all_more : (tables more : List TableRows) → All P tables → All P more → All P (with_more tables more)
   all_more tables [] all others = all
-  all_more tables (t ∷ ts) all others = all_more (placed name_cmp name_of_rows tables t) ts (all_placed t tables (others 0 t (omega arith)) all) (λ k d below. others (suc k) d (omega arith))
+  all_more tables (t ∷ ts) all others = all_more (placed name_cmp name_of_rows tables t) ts (all_placed P t tables (others 0 t (omega arith)) all) (λ k d below. others (suc k) d (omega arith))
 
 -- ---- the tables that stay, and the new ones
 module _ (new stay : List TableRows) where
@@ -120,7 +114,7 @@ module _ (new stay : List TableRows) where
 
   -- the names are those of the tables with their rows
   first_named_apart : AreNamedApart (with_more [] (new ++ stay)) → AreNamedApart (with_more [] first)
-  first_named_apart apart = ap (rises name_cmp) (names_in_order first ∙ ap (in_order name_cmp (λ n. n)) names_first ∙ sym (names_in_order (new ++ stay))) ∙ apart
+  first_named_apart apart = ap (rises name_cmp) (names_placed first ∙ ap (in_order name_cmp (λ n. n)) names_first ∙ sym (names_placed (new ++ stay))) ∙ apart
 
   -- and the rows are put in their places
   rows_filled : AreNamedApart (with_more [] (new ++ stay)) → with_rows_of (map named stay) (with_more [] first) ≡ with_more [] (new ++ stay)
@@ -131,7 +125,7 @@ module _ (new stay : List TableRows) where
       ∙ apart_from_rises name_cmp_total (map name_of_rows (with_more [] (new ++ stay))) apart in
       let across = apart_across (eq_by_cmp name_cmp) (map name_of_rows new) (map name_of_rows stay) all in
       let own = apart_right (eq_by_cmp name_cmp) (map name_of_rows new) (map name_of_rows stay) all in
-      rows_in_order (map named stay) first
+      rows_placed_alike (map named stay) first
       ∙ ap (with_more []) (map-append (λ (t : TableRows). (t.0, fold (rows_over t.0.name) t.1 (map named stay))) new (map emptied stay) ∙ ap₂ (λ (ts us : List TableRows). ts ++ us) (untouched stay new across) (filled stay own))
 
 module _ (catalog : Catalog) (rows : List NamedRows) (live : AreLiveTables catalog rows) (db : Database) (is : database_of catalog rows ≡ db) where
@@ -144,7 +138,7 @@ module _ (catalog : Catalog) (rows : List NamedRows) (live : AreLiveTables catal
 
     stored_after : map stored after ≡ (exchanged db gone (map stored new)).tables
     stored_after =
-        stored_in_order (new ++ kept gone before)
+        stored_placed (new ++ kept gone before)
         ∙ ap (in_order name_cmp name_of) (map-append stored new (kept gone before) ∙ ap (λ (ss : List Stored). map stored new ++ ss) (sym (stored_kept gone before)))
         ∙ ap (λ (db : Database). (exchanged db gone (map stored new)).tables) is
 

@@ -4,6 +4,7 @@ mod Drafts
 mod Exchanged
 mod Heaps
 mod Held
+mod Paired
 mod Written
 pub mod keeps
 pub mod locking

@@ -12,8 +12,8 @@ use std::alloc::Global;
 use std::collections::BTreeMap;
 use std::marker::Model;
 
-/// Tables with their rows and index rules, while a schema change builds them up. A schema change of
-/// the catalog within is none of the live tables'.
+/// Tables with their rows and index rules, while a schema change builds them up. The number of the
+/// catalog within tells nothing.
 #[derive(Drop)]
 pub struct Draft {
     alloc: Global,

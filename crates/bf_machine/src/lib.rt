@@ -11,7 +11,7 @@ pub mod serving;
 pub mod so_far;
 pub mod stand;
 
-pub use machine::Machine;
+pub use machine::{Machine, Parts};
 pub use opened::Opened;
 pub use scripts::migrates_nothing;
 pub use serving::in_order;

@@ -49,6 +49,15 @@ pub struct Machine<N: Opened> {
     opened: PhantomData<N>,
 }
 
+/// What a machine leaves: its script, the live tables, and what its sessions were told.
+#[derive(Drop)]
+pub struct Parts {
+    pub script: Script,
+    pub live: LiveTables,
+    pub transcripts: Transcripts,
+    pub history: History,
+}
+
 impl<N: Opened> Model for Machine<N> {
     ghost use Rattle.bf_machine.specs.interleaving.Machines.{Machine as Seen};
     ghost use Rattle.std.specs.Coded.{codes};
@@ -222,23 +231,24 @@ impl<N: Opened> Machine<N> {
         let _ = session;
     }
 
-    /// The live tables, the transcripts and the history. Transcripts and history are legal, but for
-    /// the groups that are open.
-    pub fn into_parts(self) -> (LiveTables, Transcripts, History)
-        ensures live { result.0 ≡ self.db }
-        ensures transcripts { result.1.sessions ≡ transcripts_of self }
-        ensures history { result.2.entries ≡ self.history }
+    /// What the machine leaves. Transcripts and history are legal, but for the groups that are open.
+    pub fn into_parts(self) -> Parts
+        ensures script { result.script ≡ self.script }
+        ensures live { result.live ≡ self.db }
+        ensures transcripts { result.transcripts.sessions ≡ transcripts_of self }
+        ensures history { result.history.entries ≡ self.history }
         ensures legal { TranscriptsLegal N.opening self }
     {
         let sessions = all_replies(self.sessions, self.transcripts);
-        (
-            self.live,
-            Transcripts {
+        Parts {
+            script: self.script,
+            live: self.live,
+            transcripts: Transcripts {
                 sessions: Sequence::of(sessions),
             },
-            History {
+            history: History {
                 entries: Sequence::of(self.history),
             },
-        )
+        }
     }
 }

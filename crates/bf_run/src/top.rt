@@ -45,11 +45,18 @@ fn serve_plain<N: Opened>(alloc: Global, script: Script) -> Result<Vec<u8>, Memo
 {
     let mut machine: Machine<N> = Machine::new(alloc, LiveTables::new(alloc), script, RETRIES)?;
     in_order(alloc, &mut machine, &[])?;
-    let (live, transcripts, history) = machine.into_parts();
-    // The program ends behind its report, and its memory goes with it: to free the tables row by row
-    // would take a tenth of a run and more.
-    forget(live);
-    report(alloc, &transcripts, &history, None, &Sweep::Never)
+    let parts = machine.into_parts();
+    let report = report(
+        alloc,
+        &parts.transcripts,
+        &parts.history,
+        None,
+        &Sweep::Never,
+    );
+    // The program ends behind its report, and its memory goes with it: to free the tables row by row and
+    // the script word by word would take a fifth of a run.
+    forget(parts);
+    report
 }
 
 /// The report of a run of a plain script, whose sessions are served one after the other.
@@ -127,7 +134,7 @@ fn answer<I: Source>(
 ///
 /// The whole text is made before its first byte is written, so want of memory is answered with
 /// nothing written. The time is linear in the input and in the report; beside that each statement
-/// compares about log n names, and costs what it reads and writes of its table. The tables are not freed:
+/// compares about log n names, and costs what it reads and writes of its table. Script and tables are not freed:
 /// the call is a program's last, and their memory goes with the program.
 pub fn bullfrog<I: Source, O: Sink>(
     alloc: Global,

@@ -165,8 +165,14 @@ fn make_calls<N: Opened, R: Abort>(rt: &R, alloc: Global, machine: Machine<N>) -
     let mut machine = machine;
     assert!(rt; are_made(alloc, &mut machine, &SETUP)?);
     assert!(rt; are_made(alloc, &mut machine, &BLOCKS)?);
-    let (_, transcripts, history) = machine.into_parts();
-    let text = report(alloc, &transcripts, &history, None, &Sweep::Never)?;
+    let parts = machine.into_parts();
+    let text = report(
+        alloc,
+        &parts.transcripts,
+        &parts.history,
+        None,
+        &Sweep::Never,
+    )?;
     let told = "1.1 created\n1.2 inserted 1\n2.1 begun\n2.2 updated 1\n2.3 committed 3\n\
 2.4 E10 no transaction\n3.1 begun\n3.2 updated 1\n3.3 rolled back\n4.1 begun\n4.2 rows 1\n4.2 | 0\n\
 entry 1 session 1 from 1 to 1 committed 1\nentry 2 session 1 from 2 to 2 committed 2\n\
@@ -212,10 +218,10 @@ fn look_at_the_first<N: Opened, R: Abort>(rt: &R, machine: Machine<N>) -> Result
     assert_eq!(rt; look_at(&machine, 5), Some(ENDED));
     assert!(rt; !covers(&machine, 1, &LockName::Catalog, Mode::IS));
     assert!(rt; reply_at(&machine, 1, 0).is_none() && reply_at(&machine, 1, 1).is_none());
-    let (live, transcripts, history) = machine.into_parts();
-    assert_eq!(rt; live.catalog().number(), 0);
-    assert_eq!(rt; transcripts.sessions.len(), 5);
-    assert!(rt; history.entries.is_empty());
+    let parts = machine.into_parts();
+    assert_eq!(rt; parts.live.catalog().number(), 0);
+    assert_eq!(rt; parts.transcripts.sessions.len(), 5);
+    assert!(rt; parts.history.entries.is_empty());
     Ok(())
 }
 

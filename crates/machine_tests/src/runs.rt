@@ -49,8 +49,8 @@ fn serve<N: Opened>(
 {
     let mut machine: Machine<N> = Machine::new(alloc, LiveTables::new(alloc), script, retries)?;
     in_order(alloc, &mut machine, order)?;
-    let (_, transcripts, history) = machine.into_parts();
-    Ok((transcripts, history))
+    let parts = machine.into_parts();
+    Ok((parts.transcripts, parts.history))
 }
 
 /// What is told of a run of a script whose sessions take turns in an order.

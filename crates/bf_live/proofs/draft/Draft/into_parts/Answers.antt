@@ -1,7 +1,7 @@
 use Rattle.std.proofs.Common.{map, sym, ap, ◌∙◌}
 use Rattle.bf_live.specs.Drafts.{Drafted}
 use Rattle.bf_live.specs.Live.{rows_in}
-use Rattle.bf_live.proofs.Drafts.{named, rows_paired, table_of, tables_paired}
+use Rattle.bf_live.proofs.Paired.{named, rows_paired, table_of, tables_paired}
 use Rattle.bf_live.proofs.draft.Draft.into_parts.Goals as goal
 
 pub returns-clause-tables : goal.returns-clause-tables

@@ -2,7 +2,7 @@ use Rattle.std.proofs.Common.{◌≡◌, refl, subst, sym, ap, ap₂, ◌∙◌}
 use Rattle.bf_tree.specs.Catalogs.{Catalog}
 use Rattle.bf_live.specs.Drafts.{Drafted}
 use Rattle.bf_live.specs.Live.{rows_in}
-use Rattle.bf_live.proofs.Drafts.{one_each_put, paired, paired_put}
+use Rattle.bf_live.proofs.Paired.{one_each_put, paired, paired_put}
 use Rattle.bf_live.proofs.Heaps.{apart_nowhere, changed, rows_apart, rows_changed}
 use Rattle.bf_live.proofs.Held.{OneEach}
 use Rattle.bf_live.proofs.draft.Draft.put.Goals.{in-Some, in_default}
@@ -25,7 +25,7 @@ invariant_of-self c =
           ∙ sym (rows_apart n (λ es. entries) heaps (apart_nowhere n heaps (sym w.in_default.ensures.value)))
     ] in
     subst (λ (catalog : Catalog). OneEach catalog.tables (rows_in now.heaps.entries)) (sym same)
-    (one_each_put c.self.inside.catalog.tables heaps c.self.invariant c.args.self.now.tables (ap (λ (d : Drafted). d.tables) c.self.view_is) n entries now.heaps.entries put)
+    (one_each_put c.self.inside.catalog.tables (rows_in heaps) c.self.invariant c.args.self.now.tables (ap (λ (d : Drafted). d.tables) c.self.view_is) n entries (rows_in now.heaps.entries) put)
 
 pub returns : goal.returns
 returns c =
@@ -45,5 +45,5 @@ returns c =
     ] in
     ap₂ (λ ts is. record { tables = ts; indexes = is })
     (ap (λ (catalog : Catalog). paired catalog.tables (rows_in now.heaps.entries)) same
-    ∙ paired_put c.self.inside.catalog.tables heaps c.self.invariant c.args.self.now.tables (ap (λ (d : Drafted). d.tables) c.self.view_is) n entries now.heaps.entries put)
+    ∙ paired_put c.self.inside.catalog.tables (rows_in heaps) c.self.invariant c.args.self.now.tables (ap (λ (d : Drafted). d.tables) c.self.view_is) n entries (rows_in now.heaps.entries) put)
     (ap (λ (catalog : Catalog). catalog.indexes) same ∙ ap (λ (d : Drafted). d.indexes) c.self.view_is)

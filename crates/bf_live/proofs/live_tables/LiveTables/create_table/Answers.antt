@@ -5,7 +5,8 @@ use Rattle.bf_base.specs.Lists.{name_cmp}
 use Rattle.bf_heap.specs.Heaps.{empty_heap}
 use Rattle.bf_tree.specs.Catalogs.{Catalog}
 use Rattle.bf_live.specs.Live.{AreLiveTables, NamedHeap, database_of, rows_in}
-use Rattle.bf_live.proofs.Created.{none_found, removed_again, rows_are_new, rows_inserted, store_created, table_is_new, view_created}
+use Rattle.bf_live.proofs.Created.{none_found, removed_again, rows_are_new, store_created, table_is_new, view_created}
+use Rattle.bf_live.proofs.Paired.{rows_inserted}
 use Rattle.bf_live.proofs.live_tables.LiveTables.create_table.Goals as goal
 
 pub add_table-requires : goal.add_table-requires

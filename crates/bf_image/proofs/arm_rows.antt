@@ -1,0 +1,2 @@
+-- Rows that an arm makes, over references to rows.
+pub mod Made

@@ -1,0 +1,10 @@
+-- The rows that a granule has: the one row that a driver's row meets, the arms of a unit one by one, and the rows with a value.
+pub mod Blocks
+pub mod DriverRows
+pub mod MetRows
+pub mod OldTables
+pub mod Partners
+pub mod UnitParts
+pub mod UnitRows
+pub mod ValueParts
+pub mod ValueRows

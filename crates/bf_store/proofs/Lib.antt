@@ -1,0 +1,6 @@
+pub mod Calls
+pub mod WorkedMoves
+pub mod changing
+pub mod coming
+pub mod moving
+pub mod seeing

@@ -1,0 +1,7 @@
+-- Granules move, and nobody sees it.
+pub mod Moves
+pub mod Moving
+pub mod Needing
+pub mod Opened
+pub mod Sweeping
+pub mod Unordered
