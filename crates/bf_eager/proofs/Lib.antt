@@ -1,4 +1,10 @@
 mod Alone
 mod Answered
+mod Beginning
+mod Copying
+mod Exchanging
+mod Lawful
+mod Placing
+mod Planning
 mod Prepared
 mod Running

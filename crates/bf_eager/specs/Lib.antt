@@ -1,3 +1,6 @@
 pub mod Eager
+pub mod Flips
+pub mod Freezing
+pub mod Given
 pub mod Groups
 pub mod Starting

@@ -9,10 +9,12 @@ ghost use Rattle.bf_sql.specs.Database.{empty_database, stored_at};
 ghost use Rattle.bf_sql.specs.History.{commits_with};
 ghost use Rattle.bf_eager.specs.Eager.{IsWholeGroup, outcome_of, ran_entry};
 ghost use Rattle.bf_eager.specs.Groups.{leave_schema};
+ghost use Rattle.bf_eager.specs.Starting.{CanStart, database_with, named_tables};
 
 use crate::rows::{replies_on_rows, settle};
 use crate::schema::{change_schema, changes_schema};
-use bf_base::{Memory, Name};
+use crate::starting::live_tables;
+use bf_base::{Memory, Name, Row};
 use bf_live::LiveTables;
 use bf_tree::{Catalog, Reply, Statement};
 use bf_txn::Workspace;
@@ -65,6 +67,31 @@ impl Eager {
             commits: 0,
             live: LiveTables::new(alloc),
         }
+    }
+
+    /// The database of a catalog and these rows, before any commit. A table has the rows that are given
+    /// under its name, in any order; of several the last. It costs about log n compares of keys for each
+    /// row, and of names for each table.
+    ///
+    /// # Errors
+    /// Where memory runs out, or a table has 2 ^ 32 rows or more.
+    pub fn of(
+        alloc: Global,
+        catalog: &Catalog,
+        rows: Vec<(Name, Vec<Row>)>,
+    ) -> Result<Eager, Memory>
+        requires { CanStart catalog.now (named_tables rows.items) }
+        ensures { IfOk result (λ eager. eager ≡ record {
+          commits = 0;
+          database = database_with catalog.now (named_tables rows.items);
+        }) }
+    {
+        let live = live_tables(alloc, catalog, rows)?;
+        Ok(Eager {
+            alloc,
+            commits: 0,
+            live,
+        })
     }
 
     /// The catalog. Takes no memory.

@@ -1,23 +1,72 @@
 //! MIGRATE: the old tables leave, and the new ones have what it makes of them.
 
-ghost use Rattle.std.specs.Prelude.{◌≡◌, ℕ, IfOk, OnErr, OnOk, false};
+ghost use Rattle.std.specs.List.{AllByRecursion};
+ghost use Rattle.std.specs.Prelude.{◌≡◌, ℕ, IfOk, OnErr, OnOk, false, length};
 ghost use Rattle.bf_tree.specs.Limits.{HasNarrowTables};
 ghost use Rattle.bf_tree.specs.declared.statement.Statement.TheVariants as statement;
+ghost use Rattle.bf_live.specs.Live.{held_in};
 ghost use Rattle.bf_sql.specs.Bound.{catalog_of};
-ghost use Rattle.bf_sql.specs.Database.{IsDatabase};
+ghost use Rattle.bf_sql.specs.Database.{IsDatabase, table_rows};
 ghost use Rattle.bf_sql.specs.Meaning.{executed};
+ghost use Rattle.bf_eager.specs.Flips.{CanStand, first_oversize, heaped};
 ghost use Rattle.bf_eager.specs.Groups.{IsPlanned};
 
-use bf_base::Memory;
+use crate::filling::heap_of;
+use crate::freezing::frozen_sources;
+use crate::gathering::tables_made;
+use bf_base::{Memory, Name, Row, Sequence, Table};
+use bf_heap::Heap;
+use bf_image::Migration;
 use bf_live::LiveTables;
-use bf_tree::{Plan, Reply};
+use bf_tree::{Plan, Refusal, Reply};
 use std::alloc::Global;
+
+/// The most rows of a table that a MIGRATE reads.
+const MOST_ROWS: u32 = 1 << 20;
+
+/// The number of rows of the table of a name, and 0 where there is none.
+fn count_rows(live: &LiveTables, name: &Name) -> u32
+    ensures { result ≡ length (table_rows live.now name.now) }
+{
+    match live.heap(name) {
+        Some(heap) => heap.len(),
+        None => 0,
+    }
+}
+
+/// The refusal of the first old table with too many rows, if there is one. It compares about log n
+/// names for each old table.
+fn oversize(alloc: Global, live: &LiveTables, sources: &[Name]) -> Result<Option<Refusal>, Memory>
+    ensures { IfOk result (λ refusal. refusal ≡ first_oversize live.now sources.now) }
+{
+    for name in sources {
+        let count = count_rows(live, name);
+        if count > MOST_ROWS {
+            return Ok(Some(Refusal::TooManyRows(name.copy(alloc)?, count)));
+        }
+    }
+    Ok(None)
+}
+
+/// Tables with heaps of their rows.
+fn heaps_of(alloc: Global, made: Vec<(Table, Vec<Row>)>) -> Result<Vec<(Table, Heap)>, Memory>
+    requires { AllByRecursion CanStand made.items }
+    ensures { IfOk result (λ heaps. held_in heaps.items ≡ heaped made.items) }
+{
+    let mut heaps = Vec::with_capacity(alloc, made.len())?;
+    for (table, rows) in made {
+        let heap = heap_of(alloc, &table, rows)?;
+        heaps.push((table, heap))?;
+    }
+    Ok(heaps)
+}
 
 /// Runs a MIGRATE that the catalog allows: it is refused where an old table has too many rows.
 ///
 /// # Errors
 /// Where memory runs out, or 2 ^ 64 schema changes were made. The tables are as they were then.
 pub(crate) fn migrate(alloc: Global, live: &mut LiveTables, plan: Plan) -> Result<Reply, Memory>
+    requires database { IsDatabase live.old }
     requires planned { IsPlanned live.old plan }
     requires tables { HasNarrowTables (catalog_of live.old) }
     ensures meant { IfOk result (λ reply. (commit : ℕ)
@@ -26,5 +75,18 @@ pub(crate) fn migrate(alloc: Global, live: &mut LiveTables, plan: Plan) -> Resul
     ensures tables { OnOk result (HasNarrowTables (catalog_of live.new)) }
     ensures err { OnErr result (live.new ≡ live.old) }
 {
-    Err(Memory)
+    if let Some(refusal) = oversize(alloc, live, plan.sources.as_slice())? {
+        return Ok(Reply::Refused(refusal));
+    }
+    let count = plan.migrate.targets.len() as u8;
+    let frozen = frozen_sources(alloc, live, plan.sources.as_slice())?;
+    let migration = Migration {
+        number: 1,
+        plan,
+        frozen: Sequence::of(frozen),
+    };
+    let made = tables_made(alloc, &migration)?;
+    let heaps = heaps_of(alloc, made)?;
+    live.replace(migration.plan.sources.as_slice(), heaps)?;
+    Ok(Reply::Migrated(count))
 }

@@ -3,8 +3,12 @@
 #![tactic(auto)]
 
 pub mod eager;
+mod filling;
 mod flip;
+mod freezing;
+mod gathering;
 mod rows;
 mod schema;
+mod starting;
 
 pub use eager::Eager;
