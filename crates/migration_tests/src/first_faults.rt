@@ -32,7 +32,7 @@ fn sources_come_before_what_is_made_of_them(rt: HostRuntime) -> Result<(), Fail>
     Ok(())
 }
 
-const ITEMS: [Case; 8] = [
+const ITEMS: [Case; 9] = [
     ("CREATE TABLE v AS SELECT z, u.k FROM t", "E2 no column z"),
     ("CREATE TABLE v AS SELECT u.k, z FROM t", "E1 no table u"),
     // A qualifier comes before the column behind it.
@@ -49,6 +49,10 @@ const ITEMS: [Case; 8] = [
     (
         "CREATE TABLE v AS SELECT s + z AS x FROM t",
         "E2 no column z",
+    ),
+    (
+        "CREATE TABLE v AS SELECT s + id AS x FROM t JOIN u ON t.id = u.id",
+        "E13 name twice id",
     ),
     (
         "CREATE TABLE v AS SELECT s + 1 AS x, z FROM t",

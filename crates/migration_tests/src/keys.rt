@@ -137,9 +137,14 @@ fn arms_are_told_apart_by_different_numbers(rt: HostRuntime) -> Result<(), Fail>
 }
 
 /// Arms with tags whose keys are not alike, or that do not go row by row.
-const UNLIKE: [Case; 5] = [
+const UNLIKE: [Case; 6] = [
     (
         "CREATE TABLE v AS SELECT 1 AS tag, id, m FROM t UNION ALL SELECT 2 AS tag, m, id FROM t",
+        "E15 key not inherited v",
+    ),
+    // The first item that is the key column serves, and the later one does not.
+    (
+        "CREATE TABLE v AS SELECT 1 AS tag, id, id AS x FROM t UNION ALL SELECT 2 AS tag, m, id FROM t",
         "E15 key not inherited v",
     ),
     (
