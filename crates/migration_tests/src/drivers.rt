@@ -1,6 +1,6 @@
 //! At most four tables drive arms by their rows.
 
-use crate::told::{Case, first_other};
+use crate::told::{Case, expect_told};
 use std::test::Fail;
 
 const SIX: &str = "\
@@ -43,8 +43,7 @@ n (id INT) key 0 <- from 0; rows a 0.0; rows b 1.0; rows c 2.0; rows d 3.0; sour
 
 #[test]
 fn four_tables_drive(rt: HostRuntime) -> Result<(), Fail> {
-    assert_eq!(rt; first_other(rt.alloc(), SIX, &FOUR)?, None);
-    Ok(())
+    expect_told(&rt, rt.alloc(), SIX, &FOUR)
 }
 
 const FIVE: [Case; 5] = [
@@ -81,6 +80,5 @@ CREATE TABLE m AS SELECT id FROM c; CREATE TABLE n AS SELECT id FROM d; CREATE T
 
 #[test]
 fn five_tables_do_not_drive(rt: HostRuntime) -> Result<(), Fail> {
-    assert_eq!(rt; first_other(rt.alloc(), SIX, &FIVE)?, None);
-    Ok(())
+    expect_told(&rt, rt.alloc(), SIX, &FIVE)
 }

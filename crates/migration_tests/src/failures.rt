@@ -1,7 +1,7 @@
 //! Which items may fail, by what the columns admit, and what the others' columns admit.
 
 use crate::asked::joined;
-use crate::told::{Case, first_other, first_other_item, item_told};
+use crate::told::{Case, expect_items, expect_told, item_told};
 use std::alloc::Global;
 use std::test::Fail;
 
@@ -45,9 +45,7 @@ const SUMS: [Case; 20] = [
 
 #[test]
 fn sums_and_differences_reach_the_ends_of_the_numbers(rt: HostRuntime) -> Result<(), Fail> {
-    let other = first_other_item(rt.alloc(), NUMBERS, BY_ROWS, &SUMS)?;
-    assert_eq!(rt; other, None);
-    Ok(())
+    expect_items(&rt, rt.alloc(), NUMBERS, BY_ROWS, &SUMS)
 }
 
 /// The square of `root` is an INT, and that of `past` is not. `wide` goes up to 2 ^ 32.
@@ -69,9 +67,7 @@ const PRODUCTS: [Case; 13] = [
 
 #[test]
 fn products_reach_the_ends_of_the_numbers(rt: HostRuntime) -> Result<(), Fail> {
-    let other = first_other_item(rt.alloc(), NUMBERS, BY_ROWS, &PRODUCTS)?;
-    assert_eq!(rt; other, None);
-    Ok(())
+    expect_items(&rt, rt.alloc(), NUMBERS, BY_ROWS, &PRODUCTS)
 }
 
 const LITERALS: [Case; 9] = [
@@ -88,9 +84,7 @@ const LITERALS: [Case; 9] = [
 
 #[test]
 fn a_literal_may_be_each_number(rt: HostRuntime) -> Result<(), Fail> {
-    let other = first_other_item(rt.alloc(), NUMBERS, BY_ROWS, &LITERALS)?;
-    assert_eq!(rt; other, None);
-    Ok(())
+    expect_items(&rt, rt.alloc(), NUMBERS, BY_ROWS, &LITERALS)
 }
 
 /// The whole would not fail, and a part of it may.
@@ -106,9 +100,7 @@ const PARTS: [Case; 7] = [
 
 #[test]
 fn each_part_is_judged(rt: HostRuntime) -> Result<(), Fail> {
-    let other = first_other_item(rt.alloc(), NUMBERS, BY_ROWS, &PARTS)?;
-    assert_eq!(rt; other, None);
-    Ok(())
+    expect_items(&rt, rt.alloc(), NUMBERS, BY_ROWS, &PARTS)
 }
 
 const TEXTS: &str =
@@ -133,9 +125,7 @@ const LENGTHS: [Case; 13] = [
 
 #[test]
 fn texts_are_joined_up_to_the_longest(rt: HostRuntime) -> Result<(), Fail> {
-    let other = first_other_item(rt.alloc(), TEXTS, BY_ROWS, &LENGTHS)?;
-    assert_eq!(rt; other, None);
-    Ok(())
+    expect_items(&rt, rt.alloc(), TEXTS, BY_ROWS, &LENGTHS)
 }
 
 /// A literal of 255 letters, joined with another.
@@ -187,9 +177,7 @@ const TOTALS: [Case; 14] = [
 
 #[test]
 fn a_sum_may_fail_by_the_most_rows_of_a_source(rt: HostRuntime) -> Result<(), Fail> {
-    let other = first_other_item(rt.alloc(), TOTALLED, BY_GROUPS, &TOTALS)?;
-    assert_eq!(rt; other, None);
-    Ok(())
+    expect_items(&rt, rt.alloc(), TOTALLED, BY_GROUPS, &TOTALS)
 }
 
 const ENDS: [Case; 10] = [
@@ -208,9 +196,7 @@ const ENDS: [Case; 10] = [
 
 #[test]
 fn a_total_may_fail_where_its_argument_may(rt: HostRuntime) -> Result<(), Fail> {
-    let other = first_other_item(rt.alloc(), TOTALLED, BY_GROUPS, &ENDS)?;
-    assert_eq!(rt; other, None);
-    Ok(())
+    expect_items(&rt, rt.alloc(), TOTALLED, BY_GROUPS, &ENDS)
 }
 
 const GROUPED: &str =
@@ -230,8 +216,7 @@ const SUMMED: [Case; 2] = [
 
 #[test]
 fn a_sum_over_one_number_more_is_refused(rt: HostRuntime) -> Result<(), Fail> {
-    assert_eq!(rt; first_other(rt.alloc(), GROUPED, &SUMMED)?, None);
-    Ok(())
+    expect_told(&rt, rt.alloc(), GROUPED, &SUMMED)
 }
 
 const KEPT: [Case; 6] = [
@@ -246,7 +231,5 @@ const KEPT: [Case; 6] = [
 
 #[test]
 fn a_column_by_itself_keeps_its_check(rt: HostRuntime) -> Result<(), Fail> {
-    let other = first_other_item(rt.alloc(), NUMBERS, BY_ROWS, &KEPT)?;
-    assert_eq!(rt; other, None);
-    Ok(())
+    expect_items(&rt, rt.alloc(), NUMBERS, BY_ROWS, &KEPT)
 }

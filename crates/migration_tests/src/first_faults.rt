@@ -1,6 +1,6 @@
 //! MIGRATEs with more than one fault: the first is told.
 
-use crate::told::{Case, TABLES, first_other};
+use crate::told::{Case, TABLES, expect_told};
 use std::test::Fail;
 
 const SOURCES: [Case; 5] = [
@@ -28,11 +28,10 @@ const SOURCES: [Case; 5] = [
 
 #[test]
 fn sources_come_before_what_is_made_of_them(rt: HostRuntime) -> Result<(), Fail> {
-    assert_eq!(rt; first_other(rt.alloc(), TABLES, &SOURCES)?, None);
-    Ok(())
+    expect_told(&rt, rt.alloc(), TABLES, &SOURCES)
 }
 
-const ITEMS: [Case; 8] = [
+const ITEMS: [Case; 9] = [
     ("CREATE TABLE v AS SELECT z, u.k FROM t", "E2 no column z"),
     ("CREATE TABLE v AS SELECT u.k, z FROM t", "E1 no table u"),
     // A qualifier comes before the column behind it.
@@ -51,6 +50,10 @@ const ITEMS: [Case; 8] = [
         "E2 no column z",
     ),
     (
+        "CREATE TABLE v AS SELECT s + id AS x FROM t JOIN u ON t.id = u.id",
+        "E13 name twice id",
+    ),
+    (
         "CREATE TABLE v AS SELECT s + 1 AS x, z FROM t",
         "E3 type mismatch",
     ),
@@ -62,8 +65,7 @@ const ITEMS: [Case; 8] = [
 
 #[test]
 fn items_are_looked_at_from_the_left(rt: HostRuntime) -> Result<(), Fail> {
-    assert_eq!(rt; first_other(rt.alloc(), TABLES, &ITEMS)?, None);
-    Ok(())
+    expect_told(&rt, rt.alloc(), TABLES, &ITEMS)
 }
 
 const EQUALITIES: [Case; 10] = [
@@ -113,8 +115,7 @@ const EQUALITIES: [Case; 10] = [
 
 #[test]
 fn equalities_come_behind_items_one_by_one(rt: HostRuntime) -> Result<(), Fail> {
-    assert_eq!(rt; first_other(rt.alloc(), TABLES, &EQUALITIES)?, None);
-    Ok(())
+    expect_told(&rt, rt.alloc(), TABLES, &EQUALITIES)
 }
 
 const FILTERS: [Case; 8] = [
@@ -154,8 +155,7 @@ const FILTERS: [Case; 8] = [
 
 #[test]
 fn a_filter_comes_behind_equalities_and_before_groups(rt: HostRuntime) -> Result<(), Fail> {
-    assert_eq!(rt; first_other(rt.alloc(), TABLES, &FILTERS)?, None);
-    Ok(())
+    expect_told(&rt, rt.alloc(), TABLES, &FILTERS)
 }
 
 const GROUPS: [Case; 4] = [
@@ -179,8 +179,7 @@ const GROUPS: [Case; 4] = [
 
 #[test]
 fn groups_are_looked_at_from_the_left(rt: HostRuntime) -> Result<(), Fail> {
-    assert_eq!(rt; first_other(rt.alloc(), TABLES, &GROUPS)?, None);
-    Ok(())
+    expect_told(&rt, rt.alloc(), TABLES, &GROUPS)
 }
 
 /// A fault of an arm, and then one of a later arm, of the whole target, or of a later target.
@@ -209,8 +208,7 @@ const ARMS: [Case; 5] = [
 
 #[test]
 fn an_arm_comes_before_the_next(rt: HostRuntime) -> Result<(), Fail> {
-    assert_eq!(rt; first_other(rt.alloc(), TABLES, &ARMS)?, None);
-    Ok(())
+    expect_told(&rt, rt.alloc(), TABLES, &ARMS)
 }
 
 const TARGETS: [Case; 8] = [
@@ -252,8 +250,7 @@ UNION ALL SELECT 2 AS tag, id, m + 1 AS x, n FROM t",
 
 #[test]
 fn counts_kinds_names_failures_and_the_key_come_in_this_order(rt: HostRuntime) -> Result<(), Fail> {
-    assert_eq!(rt; first_other(rt.alloc(), TABLES, &TARGETS)?, None);
-    Ok(())
+    expect_told(&rt, rt.alloc(), TABLES, &TARGETS)
 }
 
 const LATER: [Case; 5] = [
@@ -282,6 +279,5 @@ CREATE TABLE p AS SELECT id FROM u",
 
 #[test]
 fn names_of_targets_come_behind_all_targets(rt: HostRuntime) -> Result<(), Fail> {
-    assert_eq!(rt; first_other(rt.alloc(), TABLES, &LATER)?, None);
-    Ok(())
+    expect_told(&rt, rt.alloc(), TABLES, &LATER)
 }

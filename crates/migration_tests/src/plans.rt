@@ -1,6 +1,6 @@
 //! What MIGRATEs are to make, in full.
 
-use crate::told::{Case, TABLES, first_other, first_other_item};
+use crate::told::{Case, TABLES, expect_items, expect_told};
 use std::test::Fail;
 
 const PEOPLE: &str = "CREATE TABLE cust (id INT, name VARCHAR(20), pin INT, PRIMARY KEY (id)); \
@@ -25,8 +25,7 @@ rows cust 0.0 1.0; sources cust",
 
 #[test]
 fn a_table_is_split_row_by_row(rt: HostRuntime) -> Result<(), Fail> {
-    assert_eq!(rt; first_other(rt.alloc(), PEOPLE, &SPLITS)?, None);
-    Ok(())
+    expect_told(&rt, rt.alloc(), PEOPLE, &SPLITS)
 }
 
 const UNIONS: [Case; 2] = [
@@ -43,8 +42,7 @@ sources c",
 
 #[test]
 fn arms_with_tags_make_one_table(rt: HostRuntime) -> Result<(), Fail> {
-    assert_eq!(rt; first_other(rt.alloc(), PEOPLE, &UNIONS)?, None);
-    Ok(())
+    expect_told(&rt, rt.alloc(), PEOPLE, &UNIONS)
 }
 
 /// A join of two tables on the keys of both goes by the rows of FROM.
@@ -69,8 +67,7 @@ sources priv pub",
 
 #[test]
 fn tables_are_joined_one_to_one_from_either_side(rt: HostRuntime) -> Result<(), Fail> {
-    assert_eq!(rt; first_other(rt.alloc(), PEOPLE, &ONE_TO_ONE)?, None);
-    Ok(())
+    expect_told(&rt, rt.alloc(), PEOPLE, &ONE_TO_ONE)
 }
 
 const ORDERS: &str = "CREATE TABLE custs (cid INT, name VARCHAR(30), PRIMARY KEY (cid)); \
@@ -103,8 +100,7 @@ sources orders lines",
 
 #[test]
 fn the_side_whose_key_is_not_compared_drives(rt: HostRuntime) -> Result<(), Fail> {
-    assert_eq!(rt; first_other(rt.alloc(), ORDERS, &MANY_TO_ONE)?, None);
-    Ok(())
+    expect_told(&rt, rt.alloc(), ORDERS, &MANY_TO_ONE)
 }
 
 const PAIRS: &str = "CREATE TABLE a (aid INT, v INT, PRIMARY KEY (aid)); \
@@ -125,8 +121,7 @@ const MANY_TO_MANY: [Case; 2] = [
 
 #[test]
 fn tables_are_joined_many_to_many(rt: HostRuntime) -> Result<(), Fail> {
-    assert_eq!(rt; first_other(rt.alloc(), PAIRS, &MANY_TO_MANY)?, None);
-    Ok(())
+    expect_told(&rt, rt.alloc(), PAIRS, &MANY_TO_MANY)
 }
 
 const SALES: &str = "CREATE TABLE ord (id INT, cust INT, amt INT CHECK (amt BETWEEN 0 AND 1000), \
@@ -162,8 +157,7 @@ groups ord 0.0; groups ord 1.0; sources ord",
 
 #[test]
 fn totals_go_by_groups(rt: HostRuntime) -> Result<(), Fail> {
-    assert_eq!(rt; first_other(rt.alloc(), SALES, &TOTALS)?, None);
-    Ok(())
+    expect_told(&rt, rt.alloc(), SALES, &TOTALS)
 }
 
 const NAMES: [Case; 4] = [
@@ -189,8 +183,7 @@ rows u 0.0; rows t 1.0; sources u t",
 
 #[test]
 fn a_target_may_have_the_name_of_a_source(rt: HostRuntime) -> Result<(), Fail> {
-    assert_eq!(rt; first_other(rt.alloc(), TABLES, &NAMES)?, None);
-    Ok(())
+    expect_told(&rt, rt.alloc(), TABLES, &NAMES)
 }
 
 /// Units and sources in the order of their first arms.
@@ -218,8 +211,7 @@ x (id INT) key 0 <- from 0; rows u 2.0; joins t 0.0; groups t 1.0; sources t u",
 
 #[test]
 fn rows_come_first_and_each_in_the_order_of_arms(rt: HostRuntime) -> Result<(), Fail> {
-    assert_eq!(rt; first_other(rt.alloc(), TABLES, &ORDERED)?, None);
-    Ok(())
+    expect_told(&rt, rt.alloc(), TABLES, &ORDERED)
 }
 
 const CHECKS: &str =
@@ -257,7 +249,5 @@ const TOGETHER: [Case; 11] = [
 
 #[test]
 fn arms_keep_a_check_that_all_have_and_the_greatest_length(rt: HostRuntime) -> Result<(), Fail> {
-    let other = first_other_item(rt.alloc(), CHECKS, ARMS, &TOGETHER)?;
-    assert_eq!(rt; other, None);
-    Ok(())
+    expect_items(&rt, rt.alloc(), CHECKS, ARMS, &TOGETHER)
 }

@@ -1,6 +1,6 @@
 //! MIGRATEs with one fault.
 
-use crate::told::{Case, TABLES, first_other};
+use crate::told::{Case, TABLES, expect_told};
 use std::test::Fail;
 
 const SOURCES: [Case; 4] = [
@@ -22,8 +22,7 @@ const SOURCES: [Case; 4] = [
 
 #[test]
 fn sources_are_two_tables_of_the_catalog(rt: HostRuntime) -> Result<(), Fail> {
-    assert_eq!(rt; first_other(rt.alloc(), TABLES, &SOURCES)?, None);
-    Ok(())
+    expect_told(&rt, rt.alloc(), TABLES, &SOURCES)
 }
 
 const ITEMS: [Case; 12] = [
@@ -78,8 +77,7 @@ const ITEMS: [Case; 12] = [
 
 #[test]
 fn items_are_made_of_columns_of_the_arm(rt: HostRuntime) -> Result<(), Fail> {
-    assert_eq!(rt; first_other(rt.alloc(), TABLES, &ITEMS)?, None);
-    Ok(())
+    expect_told(&rt, rt.alloc(), TABLES, &ITEMS)
 }
 
 const EQUALITIES: [Case; 8] = [
@@ -119,8 +117,7 @@ const EQUALITIES: [Case; 8] = [
 
 #[test]
 fn equalities_compare_a_column_of_each_table(rt: HostRuntime) -> Result<(), Fail> {
-    assert_eq!(rt; first_other(rt.alloc(), TABLES, &EQUALITIES)?, None);
-    Ok(())
+    expect_told(&rt, rt.alloc(), TABLES, &EQUALITIES)
 }
 
 const FILTERS: [Case; 6] = [
@@ -152,8 +149,7 @@ const FILTERS: [Case; 6] = [
 
 #[test]
 fn filters_compare_columns_of_the_arm(rt: HostRuntime) -> Result<(), Fail> {
-    assert_eq!(rt; first_other(rt.alloc(), TABLES, &FILTERS)?, None);
-    Ok(())
+    expect_told(&rt, rt.alloc(), TABLES, &FILTERS)
 }
 
 const GROUPS: [Case; 5] = [
@@ -182,8 +178,7 @@ const GROUPS: [Case; 5] = [
 
 #[test]
 fn groups_go_by_columns_of_the_arm_each_once(rt: HostRuntime) -> Result<(), Fail> {
-    assert_eq!(rt; first_other(rt.alloc(), TABLES, &GROUPS)?, None);
-    Ok(())
+    expect_told(&rt, rt.alloc(), TABLES, &GROUPS)
 }
 
 const COLUMNS: [Case; 8] = [
@@ -227,8 +222,7 @@ sources t",
 
 #[test]
 fn arms_agree_in_counts_and_kinds_and_names_differ(rt: HostRuntime) -> Result<(), Fail> {
-    assert_eq!(rt; first_other(rt.alloc(), TABLES, &COLUMNS)?, None);
-    Ok(())
+    expect_told(&rt, rt.alloc(), TABLES, &COLUMNS)
 }
 
 const FAILURES: [Case; 5] = [
@@ -259,8 +253,7 @@ n AS j, n AS k, n AS l, n AS o, n AS p, m + 1 AS x FROM t",
 
 #[test]
 fn an_item_that_may_fail_is_told(rt: HostRuntime) -> Result<(), Fail> {
-    assert_eq!(rt; first_other(rt.alloc(), TABLES, &FAILURES)?, None);
-    Ok(())
+    expect_told(&rt, rt.alloc(), TABLES, &FAILURES)
 }
 
 const NAMES: [Case; 5] = [
@@ -292,6 +285,5 @@ CREATE TABLE v AS SELECT id FROM t",
 
 #[test]
 fn names_are_free_behind_the_sources(rt: HostRuntime) -> Result<(), Fail> {
-    assert_eq!(rt; first_other(rt.alloc(), TABLES, &NAMES)?, None);
-    Ok(())
+    expect_told(&rt, rt.alloc(), TABLES, &NAMES)
 }

@@ -1,7 +1,7 @@
 //! MIGRATEs as wide and as long as they may be.
 
 use crate::asked::{Planned, planned};
-use crate::told::{Case, TABLES, first_other, put};
+use crate::told::{Case, TABLES, expect_told, put};
 use bf_text::put_number;
 use std::alloc::Global;
 use std::test::Fail;
@@ -27,8 +27,7 @@ o INT, other INT) key 0 15 <- pair 0 1 2 3 4 5 6 23 24 25 26 27 28 29 30 16 on 1
 
 #[test]
 fn tables_of_sixteen_columns_are_joined(rt: HostRuntime) -> Result<(), Fail> {
-    assert_eq!(rt; first_other(rt.alloc(), WIDE, &JOINED)?, None);
-    Ok(())
+    expect_told(&rt, rt.alloc(), WIDE, &JOINED)
 }
 
 const EIGHT: [Case; 1] = [(
@@ -43,8 +42,7 @@ rows t 0.0 1.0 2.0 3.0 4.0 5.0 6.0 7.0; sources t",
 
 #[test]
 fn eight_targets_have_one_source(rt: HostRuntime) -> Result<(), Fail> {
-    assert_eq!(rt; first_other(rt.alloc(), TABLES, &EIGHT)?, None);
-    Ok(())
+    expect_told(&rt, rt.alloc(), TABLES, &EIGHT)
 }
 
 /// A plan for a target of 301 arms, whose tags are 0 to 299, and that of the last arm.

@@ -10,6 +10,7 @@ use bf_base::{Admit, Column, Name, Sequence, Table, Value};
 use bf_text::{put_number, put_refusal, put_values};
 use bf_tree::{ArmKind, Expr, Node, PlacedArm, PlacedItem, Plan, Test, Unit, UnitKind};
 use std::alloc::Global;
+use std::process::Abort;
 use std::test::Fail;
 
 /// Adds a text.
@@ -226,7 +227,7 @@ fn other(alloc: Global, case: &str, told: &[u8]) -> Result<Option<String>, Fail>
 
 /// The first case of which something else is told, and that. The MIGRATEs are planned with the tables of some
 /// CREATE TABLEs.
-pub fn first_other(alloc: Global, tables: &str, cases: &[Case]) -> Result<Option<String>, Fail> {
+fn first_other(alloc: Global, tables: &str, cases: &[Case]) -> Result<Option<String>, Fail> {
     for (targets, want) in cases {
         let mut told = Vec::new(alloc);
         put_planned(&mut told, &planned(alloc, tables, targets)?)?;
@@ -252,7 +253,7 @@ pub fn item_told(
 }
 
 /// The first item of which something else is told than what its column is to admit, or how it is to be refused.
-pub fn first_other_item(
+fn first_other_item(
     alloc: Global,
     tables: &str,
     query: (&str, &str),
@@ -265,4 +266,27 @@ pub fn first_other_item(
         }
     }
     Ok(None)
+}
+
+/// Fails where something else is told of a case than it wants.
+pub fn expect_told(
+    rt: &impl Abort,
+    alloc: Global,
+    tables: &str,
+    cases: &[Case],
+) -> Result<(), Fail> {
+    assert_eq!(rt; first_other(alloc, tables, cases)?, None);
+    Ok(())
+}
+
+/// Fails where something else is told of an item than its case wants.
+pub fn expect_items(
+    rt: &impl Abort,
+    alloc: Global,
+    tables: &str,
+    query: (&str, &str),
+    cases: &[Case],
+) -> Result<(), Fail> {
+    assert_eq!(rt; first_other_item(alloc, tables, query, cases)?, None);
+    Ok(())
 }
