@@ -7,8 +7,10 @@ mod filling;
 mod flip;
 mod freezing;
 mod gathering;
+pub mod limits;
 mod rows;
 mod schema;
 mod starting;
 
 pub use eager::Eager;
+pub use limits::{is_alone, is_narrow};

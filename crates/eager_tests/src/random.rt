@@ -1,8 +1,7 @@
 //! Random migrations of random tables: each new table has the rows that plain loops compute.
 
-use crate::entries::told_of;
+use crate::entries::{put, told_of};
 use crate::naive::{Kind, Numbers, Old, made};
-use crate::told::put;
 use bf_text::put_number;
 use std::alloc::Global;
 use std::test::Fail;
@@ -228,7 +227,7 @@ fn is_made_as_by_loops(alloc: Global, seed: &mut u64) -> Result<bool, Fail> {
     };
     let targets = asked(alloc, seed)?;
     let text = script(alloc, &old, targets.as_slice())?;
-    let told = told_of(alloc, str::from_utf8(text.as_slice())?)?;
+    let told = told_of(alloc, text.as_slice())?;
     Ok(told == expected(alloc, &old, targets.as_slice())?)
 }
 

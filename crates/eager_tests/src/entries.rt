@@ -1,31 +1,12 @@
 //! Entries of one statement each, as the one-thread database replays them.
 
-ghost use Rattle.std.specs.Prelude.{◌≡◌, [], ◌∷◌, true};
-ghost use Rattle.bf_eager.specs.Eager.{IsWholeGroup};
-
-use crate::asked::{MOST_COLUMNS, is_narrow, script_of};
 use bf_base::Sequence;
-use bf_eager::Eager;
+use bf_eager::{Eager, is_alone};
+use bf_parse::script;
 use bf_text::report;
 use bf_tree::{History, Reply, Statement, Sweep, Transcripts};
 use std::alloc::Global;
 use std::test::Fail;
-
-/// Whether a statement is a group of its own, of a size that a script can have.
-fn is_lone(statement: &Statement) -> bool
-    ensures { result ≡ true → IsWholeGroup true (statement.now ∷ []) }
-{
-    match statement {
-        Statement::Begin | Statement::Commit | Statement::Rollback => false,
-        Statement::Migrate(migrate) => is_narrow(migrate),
-        Statement::CreateTable { columns, .. } => columns.len() <= MOST_COLUMNS,
-        Statement::CreateIndex { .. }
-        | Statement::Insert { .. }
-        | Statement::Select { .. }
-        | Statement::Update { .. }
-        | Statement::Delete { .. } => true,
-    }
-}
 
 /// The replies to an entry of one statement, behind others.
 fn with_entry(
@@ -34,7 +15,7 @@ fn with_entry(
     statement: &Statement,
     mut replies: Vec<Reply>,
 ) -> Result<Vec<Reply>, Fail> {
-    if !is_lone(statement) {
+    if !is_alone(statement) {
         return Err("no group of its own".into());
     }
     let entry = [statement.copy(alloc)?];
@@ -65,9 +46,18 @@ fn told(alloc: Global, replies: Vec<Reply>) -> Result<Vec<u8>, Fail> {
     Ok(report(alloc, &transcripts, &history, None, &Sweep::Never)?)
 }
 
+/// Adds a text.
+pub fn put(out: &mut Vec<u8>, text: &str) -> Result<(), Fail> {
+    out.extend_from_slice(text.as_bytes())?;
+    Ok(())
+}
+
 /// What is replied to the statements of a text, each an entry of its own, over an empty database.
-pub fn told_of(alloc: Global, text: &str) -> Result<Vec<u8>, Fail> {
-    let script = script_of(alloc, &[text])?;
+pub fn told_of(alloc: Global, statements: &[u8]) -> Result<Vec<u8>, Fail> {
+    let mut text = Vec::new(alloc);
+    put(&mut text, "PHASE; SESSION; ")?;
+    text.extend_from_slice(statements)?;
+    let script = script(alloc, text.as_slice())?;
     match script.sessions.as_slice() {
         [session] => told(alloc, replies_of(alloc, session.statements.as_slice())?),
         _ => Err("not one session".into()),
@@ -79,7 +69,7 @@ type Case = (&'static str, &'static str);
 
 fn first_other(alloc: Global, cases: &[Case]) -> Result<Option<Case>, Fail> {
     for (text, want) in cases {
-        if told_of(alloc, text)?.as_slice() != want.as_bytes() {
+        if told_of(alloc, text.as_bytes())?.as_slice() != want.as_bytes() {
             return Ok(Some((*text, *want)));
         }
     }
