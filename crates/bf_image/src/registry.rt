@@ -109,7 +109,7 @@ impl MigrationPass {
 }
 
 impl Registry {
-    /// A registry that has the empty catalog alone, and the pass of that.
+    /// A registry that has the empty catalog alone, and the pass of that. Takes constant memory.
     ///
     /// # Errors
     /// Where memory runs out.
@@ -131,7 +131,8 @@ impl Registry {
     /// doubled. It waits only for a thread that is making room.
     ///
     /// # Errors
-    /// Where memory runs out: the catalog comes back as it was.
+    /// Where memory runs out, or the last of about 2 ^ 63 slots is taken: the catalog comes back as
+    /// it was.
     pub fn add_catalog<R: Wait>(
         &self,
         rt: &R,
@@ -149,7 +150,8 @@ impl Registry {
     /// Adds a lawful migration, as `add_catalog` adds a catalog.
     ///
     /// # Errors
-    /// Where memory runs out: the migration comes back as it was.
+    /// Where memory runs out, or the last of about 2 ^ 63 slots is taken: the migration comes back
+    /// as it was.
     pub fn add_migration<R: Wait>(
         &self,
         rt: &R,
@@ -183,7 +185,7 @@ impl Registry {
         self.migrations.value(&pass.token)
     }
 
-    /// Whether two passes are of one catalog. Then they read equal ones.
+    /// Whether two passes are of one catalog: then they read equal ones. Constant time, no memory.
     pub fn same_catalog(&self, a: &CatalogPass, b: &CatalogPass) -> bool
         requires a { Shows self.now.catalogs a.now }
         requires b { Shows self.now.catalogs b.now }
@@ -197,7 +199,8 @@ impl Registry {
         true
     }
 
-    /// Whether two passes are of one migration. Then they read equal ones.
+    /// Whether two passes are of one migration: then they read equal ones. Constant time, no
+    /// memory.
     pub fn same_migration(&self, a: &MigrationPass, b: &MigrationPass) -> bool
         requires a { Shows self.now.migrations a.now }
         requires b { Shows self.now.migrations b.now }
