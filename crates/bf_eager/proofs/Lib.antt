@@ -2,8 +2,11 @@ mod Alone
 mod Answered
 mod Beginning
 mod Copying
+mod Counted
 mod Exchanging
 mod Lawful
+mod Numbering
+mod Parting
 mod Placing
 mod Planning
 mod Prepared
