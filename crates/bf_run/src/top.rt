@@ -46,7 +46,7 @@ fn serve_plain<N: Opened>(alloc: Global, script: Script) -> Result<Vec<u8>, Memo
     let mut machine: Machine<N> = Machine::new(alloc, LiveTables::new(alloc), script, RETRIES)?;
     in_order(alloc, &mut machine, &[])?;
     let parts = machine.into_parts();
-    let report = report(
+    let text = report(
         alloc,
         &parts.transcripts,
         &parts.history,
@@ -56,7 +56,7 @@ fn serve_plain<N: Opened>(alloc: Global, script: Script) -> Result<Vec<u8>, Memo
     // The program ends behind its report, and its memory goes with it: to free the tables row by row and
     // the script word by word would take a fifth of a run.
     forget(parts);
-    report
+    text
 }
 
 /// The report of a run of a plain script, whose sessions are served one after the other.

@@ -48,6 +48,6 @@ returns g c =
     let ran = ran_in_order now kept_now (served.sequence refl sequence) served.answered in
     let own : now.script ≡ script = reached_script empty_database m now reaches ∙ ap (λ (k : Machine). k.script) new in
     let run : IsRunInOrder script (transcripts_of now) now.history Never = subst (λ (k : Script). IsRunInOrder k (transcripts_of now) now.history Never) own ran in
-    in_ok c.report.result
-    (λ text is. (transcripts_of now, now.history, Never, run, is ∙ ap₂ (λ (ts : List (List Reply)) (es : List Entry). report_text ts es None Never) c.into_parts.ensures.transcripts c.into_parts.ensures.history))
-    c.report.ensures
+    in_ok c.report-text.result
+    (λ text is. (transcripts_of now, now.history, Never, run, is ∙ ap₂ (λ (ts : List (List Reply)) (es : List Entry). report_text ts es None Never) c.into_parts-parts.ensures.transcripts c.into_parts-parts.ensures.history))
+    c.report-text.ensures
