@@ -4,7 +4,9 @@ mod Beginning
 mod Copying
 mod Counted
 mod Exchanging
+mod Gathered
 mod Lawful
+mod Made
 mod Numbering
 mod Parting
 mod Placing
