@@ -1,14 +1,12 @@
 -- What is gathered are the rows of all granules, in another order.
-use Rattle.std.proofs.Common.{◌≡◌, ℕ, ◌+◌, Bool, true, false, cond, List, [], ◌∷◌, ◌++◌, Option, Some, None, map, filter, flat_map, length, slice_get, unwrap_or, refl, sym, ap, ap₂, ◌∙◌}
-use Rattle.std.specs.List.{enumerate_from, list_all, list_any, range_with_len}
+use Rattle.std.proofs.Common.{◌≡◌, ℕ, Bool, true, false, cond, List, [], ◌∷◌, ◌++◌, Option, Some, None, map, filter, flat_map, unwrap_or, refl, sym, ap, ap₂, ◌∙◌}
+use Rattle.std.specs.List.{enumerate_from, list_all}
 use Rattle.std.specs.Option.{option_map}
-use Rattle.std.specs.Ordering.{eq_by_cmp}
 use Rattle.std.proofs.lemmas.List.Folds.{flat_map-map, list_any-append}
 use Rattle.std.proofs.lemmas.List.Concat.{flat_map-append}
 use Rattle.std.proofs.lemmas.Bool.{or_left, or_parts}
-use Rattle.bf_base.specs.declared.granule.Granule.{Granule}
 use Rattle.bf_base.specs.declared.granule.Place.{Place}
-use Rattle.bf_base.specs.declared.granule.Place.TheVariants.{Group, Row}
+use Rattle.bf_base.specs.declared.granule.Place.TheVariants.{Group}
 use Rattle.bf_base.specs.declared.value.Value.{Value}
 use Rattle.bf_base.specs.Distinct.{distinct}
 use Rattle.bf_base.specs.Lists.{has, in_order, same_key}
@@ -22,7 +20,7 @@ use Rattle.bf_tree.specs.declared.migration.Target.{Target}
 use Rattle.bf_tree.specs.declared.plan.ArmKind.{ArmKind}
 use Rattle.bf_tree.specs.declared.plan.ArmKind.TheVariants.{ByFrom, ByJoin, ByPair, ByGroup}
 use Rattle.bf_sql.specs.Database.{Database, table_rows}
-use Rattle.bf_sql.specs.migrations.Granules.{UnitForm, anchor_values, from_with, granule, granules_of, join_with, left_value, part_at, part_of, places_in, right_value, rows_unit, units_of, values_unit}
+use Rattle.bf_sql.specs.migrations.Granules.{UnitForm, anchor_values, from_with, granule, granules_of, join_with, left_value, part_at, part_of, places_in, right_value, rows_unit, values_unit}
 use Rattle.bf_sql.specs.migrations.Images.{arm_rows, group_value, groups_by, item_over, matches_of_join, rows_of_join}
 use Rattle.bf_sql.specs.migrations.Targets.{arm_kind, arm_scope}
 use Rattle.bf_tree.specs.Evaluation.{holds_on}
@@ -32,7 +30,7 @@ use Rattle.bf_image.specs.ByValues.{Valued, by_value, positions_of}
 use Rattle.bf_image.proofs.cutting.Parts.{all_numbered}
 use Rattle.bf_image.proofs.items.Bags.{blocks_alike, blocks_equal, blocks_filtered, blocks_same_items}
 use Rattle.bf_image.proofs.items.Values.{values_among, values_in_order-apart, values_in_order-has}
-use Rattle.bf_eager.specs.Gathering.{gathered, gathered_at, parts_at, places_of_rows, places_of_values}
+use Rattle.bf_eager.specs.Gathering.{gathered, gathered_at, places_of_values}
 use Rattle.bf_image.specs.Migrations.{from_values, old_of, units_in}
 use Rattle.bf_image.specs.declared.migration.Migration.{Migration}
 

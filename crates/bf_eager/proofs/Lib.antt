@@ -1,5 +1,4 @@
 mod Alone
-mod Answered
 mod Beginning
 mod Copying
 mod Counted

@@ -1,26 +1,23 @@
 -- Each new table has the rows of its image.
-use Rattle.std.proofs.Common.{◌≡◌, ℕ, zero, suc, ◌+◌, ◌<◌, Bool, true, false, not, ◌==◌, cond, List, [], ◌∷◌, ◌++◌, Option, Some, None, map, filter, flat_map, length, slice_get, nat_lt, refl, sym, ap, ap₂, subst, ◌∙◌, arith}
-use Rattle.std.specs.Global.{Vec}
-use Rattle.std.specs.List.{Contains, enumerate_from, list_all, slice_index_or}
+use Rattle.std.proofs.Common.{◌≡◌, ℕ, zero, suc, ◌+◌, ◌<◌, Bool, true, false, not, ◌==◌, cond, List, [], ◌∷◌, Some, map, filter, flat_map, length, slice_get, nat_lt, refl, sym, ap, ◌∙◌, arith}
+use Rattle.std.specs.List.{Contains, list_all, slice_index_or}
 use Rattle.std.proofs.lemmas.Bool.{and_parts, not-true, or_parts}
 use Rattle.std.proofs.lemmas.Bool.Decides.{nat_tests}
 use Rattle.std.proofs.lemmas.List.Folds.{list_all-map}
 use Rattle.std.proofs.lemmas.Option.{same_Some}
-use Rattle.bf_base.specs.declared.table.Table.{Table}
 use Rattle.bf_base.specs.declared.value.Value.{Value}
 use Rattle.bf_base.specs.Lists.{has, same_key, same_name}
 use Rattle.bf_base.specs.Tables.{key_of}
-use Rattle.bf_base.specs.Values.{key_cmp, key_cmp_total}
+use Rattle.bf_base.specs.Values.{key_cmp_total}
 use Rattle.bf_base.proofs.Apart.{are_apart, are_apart-same_items, with_placed-same_items}
-use Rattle.bf_base.proofs.Items.{SameItems, list_all-same_items, mapped, same_items_if, through, turned}
+use Rattle.bf_base.proofs.Items.{SameItems, list_all-same_items, mapped, same_items_if, through}
 use Rattle.bf_tree.specs.declared.migration.Arm.{Arm}
 use Rattle.bf_tree.specs.declared.migration.Migrate.{Migrate}
 use Rattle.bf_tree.specs.declared.migration.Target.{Target}
 use Rattle.bf_sql.specs.Database.{Database, Stored, is_admitted, stored_in_order}
-use Rattle.bf_sql.specs.migrations.Granules.{arms_of, granules_of, part_in, part_of}
+use Rattle.bf_sql.specs.migrations.Granules.{arms_of, granules_of, part_of}
 use Rattle.bf_sql.specs.migrations.Images.{image_of}
 use Rattle.bf_sql.specs.migrations.Targets.{target_table}
-use Rattle.bf_image.specs.Laws.{IsLawful}
 use Rattle.bf_image.proofs.admitting.Admitted.{image_admitted}
 use Rattle.bf_image.proofs.admitting.Few.{few_sources, goes_over_few}
 use Rattle.bf_image.proofs.admitting.Flip.{key_within}

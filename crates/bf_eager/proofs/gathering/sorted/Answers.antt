@@ -1,9 +1,8 @@
 -- Each row goes behind those of the table of its number.
-use Rattle.std.proofs.Common.{◌≡◌, ℕ, List, [], ◌∷◌, ◌++◌, refl, sym, ap, ◌∙◌, append_assoc, arith}
+use Rattle.std.proofs.Common.{List, [], ◌∷◌, ◌++◌, refl, sym, ap, ◌∙◌, append_assoc, arith}
 use Rattle.std.proofs.lemmas.Bool.{false≢true}
 use Rattle.std.specs.Vec.Iter.{into_iter_items}
 use Rattle.std.proofs.lemmas.Grind.{fold-append}
-use Rattle.bf_base.specs.declared.value.Value.{Value}
 use Rattle.bf_eager.specs.Gathering.{Numbered}
 use Rattle.bf_eager.specs.Sorting.{Sorted, rows_made, with_row}
 use Rattle.bf_eager.proofs.Numbering.{none_at, row_absent, row_added, some_at}

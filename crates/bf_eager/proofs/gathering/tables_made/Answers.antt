@@ -1,11 +1,9 @@
 -- The rows of all parts, sorted by their numbers, are the images.
-use Rattle.std.proofs.Common.{◌≡◌, List, map, ap, ap₂, ◌∙◌}
+use Rattle.std.proofs.Common.{◌≡◌, List, map, ap, ◌∙◌}
 use Rattle.std.specs.Global.{Vec}
 use Rattle.std.proofs.lemmas.Result.{IfOk-weaker}
-use Rattle.bf_base.specs.declared.table.Table.{Table}
 use Rattle.bf_tree.specs.declared.plan.Plan.{Plan}
 use Rattle.bf_eager.specs.Flips.{AreMade, Made}
-use Rattle.bf_eager.specs.Gathering.{Numbered}
 use Rattle.bf_image.specs.Migrations.{old_of}
 use Rattle.bf_eager.specs.Sorting.{Sorted, rows_made, table_alone, with_rows}
 use Rattle.bf_eager.proofs.Made.{all_made}
