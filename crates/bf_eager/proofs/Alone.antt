@@ -1,7 +1,7 @@
 -- A statement that changes the schema stands alone in its group, which commits.
 use Rattle.std.proofs.Common.{◌≡◌, ℕ, Bool, true, false, List, [], ◌∷◌, length, refl, sym, ap, ◌∙◌, arith}
 use Rattle.bf_tree.specs.declared.statement.Statement.{Statement}
-use Rattle.bf_tree.specs.declared.statement.Statement.TheVariants.{CreateTable, CreateIndex, Insert, Select, Update, Delete, Begin, Commit, Rollback, Migrate}
+use Rattle.bf_tree.specs.declared.statement.Statement.TheVariants.{CreateTable, CreateIndex, Begin, Migrate}
 use Rattle.bf_sql.specs.Bound.{changes_schema, is_planned}
 use Rattle.bf_sql.specs.Groups.{commits, groups_of}
 use Rattle.bf_eager.specs.Eager.{IsWholeGroup}

@@ -1,17 +1,17 @@
 -- A catalog with given rows is a database, and is built up table by table and rule by rule.
-use Rattle.std.proofs.Common.{◌≡◌, ℕ, ◌+◌, Bool, true, false, not, ◌&&◌, cond, if◌then◌else◌, List, [], ◌∷◌, ◌++◌, map, fold, filter, Option, Some, None, option_map, unwrap_or, is_eq, refl, sym, ap, ap₂, subst, ◌∙◌, append_assoc, Ordering, is_lt}
+use Rattle.std.proofs.Common.{◌≡◌, ℕ, ◌+◌, Bool, true, false, ◌&&◌, cond, if◌then◌else◌, List, [], ◌∷◌, ◌++◌, map, fold, Option, Some, None, option_map, unwrap_or, is_eq, refl, sym, ap, ap₂, ◌∙◌, append_assoc, Ordering, is_lt}
 use Rattle.std.specs.Global.{Vec}
-use Rattle.std.specs.BTreeMap.{BTreeMap, UpdatesBy}
+use Rattle.std.specs.BTreeMap.{BTreeMap}
 use Rattle.std.specs.BTreeMap as tree
 use Rattle.std.specs.List.{All, AllByRecursion, list_all, list_any}
 use Rattle.std.specs.Ordering.{eq_by_cmp}
-use Rattle.std.proofs.lemmas.Bool.{and_from, and_parts, not-true, or_from, or_parts}
+use Rattle.std.proofs.lemmas.Bool.{and_from, and_parts, not-true, or_parts}
 use Rattle.std.proofs.lemmas.Grind.{fold-append}
 use Rattle.std.proofs.lemmas.List.{append-nil, map-append}
 use Rattle.std.proofs.lemmas.List.Folds.{list_all-map, list_any-append}
 use Rattle.bf_base.specs.declared.table.Table.{Table}
 use Rattle.bf_base.specs.declared.value.Value.{Value}
-use Rattle.bf_base.specs.Lists.{has, in_order, name_cmp, placed, rises, same_name}
+use Rattle.bf_base.specs.Lists.{has, in_order, name_cmp, rises, same_name}
 use Rattle.bf_base.specs.Tables.{key_of, IsKeyWithin}
 use Rattle.bf_base.specs.Values.{key_cmp, key_cmp_total}
 use Rattle.bf_base.proofs.Apart.{are_apart, apart_from_rises, are_apart-same_items, in_order-rises, rises-placed_apart, with_placed-behind}

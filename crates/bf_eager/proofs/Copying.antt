@@ -5,9 +5,9 @@ use Rattle.std.proofs.lemmas.List.{append-nil, map-append}
 use Rattle.std.proofs.lemmas.Option.{same_Some}
 use Rattle.bf_base.specs.declared.table.Table.{Table}
 use Rattle.bf_base.specs.declared.value.Value.{Value}
-use Rattle.bf_base.specs.Lists.{has, in_order, same_key, same_name}
+use Rattle.bf_base.specs.Lists.{has, same_name}
 use Rattle.bf_base.specs.Tables.{key_of, IsKeyWithin}
-use Rattle.bf_base.specs.Values.{key_cmp, key_cmp_total}
+use Rattle.bf_base.specs.Values.{key_cmp_total}
 use Rattle.bf_base.proofs.Apart.{apart_from_rises, in_order-rises}
 use Rattle.bf_heap.specs.Heaps.{Entry}
 use Rattle.bf_sql.specs.Database.{Database, IsDatabase, Stored, is_admitted, is_keyed, stored_at, table_rows}
@@ -15,7 +15,7 @@ use Rattle.bf_query.specs.Meanings.{entries_of}
 use Rattle.bf_query.proofs.Binding.{as_stored, key_within, rows_admitted, rows_keyed}
 use Rattle.bf_query.proofs.RowsAsEntries.{rows_are}
 use Rattle.bf_live.proofs.statements.Named.{IsThere, all_there, rows_there}
-use Rattle.bf_eager.specs.Freezing.{AreFrozen, CanFreeze, tables_among}
+use Rattle.bf_eager.specs.Freezing.{AreFrozen, CanFreeze}
 use Rattle.bf_image.specs.Migrations.{stored_of}
 use Rattle.bf_eager.specs.Starting.{entries_in_order, have_different_keys}
 use Rattle.bf_image.specs.declared.migration.Frozen.{Frozen}

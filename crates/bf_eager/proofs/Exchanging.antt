@@ -1,14 +1,14 @@
 -- The flip, as the exchange of the old tables for those that are made.
-use Rattle.std.proofs.Common.{◌≡◌, ℕ, ◌≤◌, Bool, true, false, not, List, [], ◌∷◌, ◌++◌, map, filter, length, refl, sym, ap, ap₂, subst, ◌∙◌, arith}
+use Rattle.std.proofs.Common.{◌≡◌, ℕ, Bool, true, false, not, List, [], ◌∷◌, ◌++◌, map, length, refl, sym, ap, ap₂, ◌∙◌}
 use Rattle.std.specs.Prelude.{nat_le}
 use Rattle.std.specs.List.{All, AllByRecursion, enumerate_from, list_all}
-use Rattle.std.proofs.lemmas.Bool.{and_from, and_parts}
+use Rattle.std.proofs.lemmas.Bool.{and_parts}
 use Rattle.std.proofs.lemmas.List.{length-map}
 use Rattle.std.proofs.lemmas.List.Folds.{list_all-map}
 use Rattle.std.proofs.lemmas.List.FromFn.{length-enumerate_from}
 use Rattle.bf_base.specs.declared.table.Table.{Table}
 use Rattle.bf_base.specs.declared.value.Value.{Value}
-use Rattle.bf_base.specs.Lists.{has, in_order, name_cmp, same_name}
+use Rattle.bf_base.specs.Lists.{has, in_order, same_name}
 use Rattle.bf_base.specs.Tables.{key_of}
 use Rattle.bf_base.specs.Values.{key_cmp}
 use Rattle.bf_base.proofs.Names.{name_cmp_total}
@@ -36,7 +36,6 @@ use Rattle.bf_query.proofs.OwnKeys.{each}
 use Rattle.bf_query.proofs.RowsAsEntries.{rows_are}
 use Rattle.bf_live.specs.Live.{IsUnderOwnKeys, TableRows, exchanged, stored}
 use Rattle.bf_eager.specs.Flips.{AreMade, CanStand, Made, heaped}
-use Rattle.bf_eager.specs.Starting.{entries_in_order}
 
 -- the new tables that are made
 module _ (old : Database) where

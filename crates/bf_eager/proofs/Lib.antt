@@ -1,10 +1,11 @@
 mod Alone
-mod Answered
 mod Beginning
 mod Copying
 mod Counted
 mod Exchanging
+mod Gathered
 mod Lawful
+mod Made
 mod Numbering
 mod Parting
 mod Placing

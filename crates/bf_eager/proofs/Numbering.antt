@@ -1,8 +1,9 @@
 -- Rows are sorted into the tables of their numbers.
-use Rattle.std.proofs.Common.{◌≡◌, ℕ, zero, suc, ◌+◌, ◌<◌, Bool, true, false, ◌==◌, if◌then◌else◌, List, [], ◌∷◌, ◌++◌, Option, Some, None, map, filter, fold, slice_get, refl, sym, ap, ap₂, ◌∙◌, arith}
+use Rattle.std.proofs.Common.{◌≡◌, ℕ, zero, suc, ◌+◌, ◌<◌, Bool, true, false, ◌==◌, if◌then◌else◌, List, [], ◌∷◌, ◌++◌, Option, Some, None, map, filter, get_or, length, slice_get, refl, sym, ap, ap₂, ◌∙◌, arith, append_assoc}
 use Rattle.std.specs.Global.{Vec}
 use Rattle.std.specs.List.{enumerate_from, slice_set}
 use Rattle.std.proofs.lemmas.Bool.Decides.{nat_tests}
+use Rattle.std.proofs.lemmas.List.{append-nil}
 use Rattle.std.proofs.lemmas.Option.{same_Some}
 use Rattle.bf_base.specs.declared.table.Table.{Table}
 use Rattle.bf_base.specs.declared.value.Value.{Value}
@@ -51,5 +52,60 @@ pub row_added : (made : List Made) (row : Numbered) (x : Made) (rows : Vec (List
 row_added made row x rows some is = added_from 0 row.0 made row x rows (omega arith) some is
 
 -- ---- so each table has the rows of its number
-pub rows_numbered : ℕ → List Numbered → List (List Value)
+abbrev pub rows_numbered : ℕ → List Numbered → List (List Value)
 rows_numbered n rows = map (λ (p : Numbered). p.1) (filter (λ (p : Numbered). n == p.0) rows)
+
+-- an item that is there, or none
+pub some_at : {X : Type 0} (xs : List X) (i : ℕ) (x : X) → x ≡ get_or xs i x → i < length xs → Some x ≡ slice_get xs i
+some_at [] i x is within = absurd (omega (arith, within))
+some_at (y ∷ xs) zero x is within = ap Some is
+some_at (y ∷ xs) (suc i) x is within = some_at xs i x is (omega (arith, within))
+
+pub within_if : {X : Type 0} (xs : List X) (i : ℕ) (y : X) → slice_get xs i ≡ Some y → i < length xs
+within_if [] zero y is = absurd cc
+within_if [] (suc i) y is = absurd cc
+within_if (x ∷ xs) zero y is = omega arith
+within_if (x ∷ xs) (suc i) y is = omega (arith, within_if xs i y is)
+
+pub none_at : {X : Type 0} (xs : List X) (i : ℕ) → (i < length xs → ⊥) → None ≡ slice_get xs i
+none_at xs i beyond = by_item (slice_get xs i) refl
+  where
+    by_item : (o : Option _) → slice_get xs i ≡ o → None ≡ o
+    by_item None is = refl
+    by_item (Some y) is = absurd (beyond (within_if xs i y is))
+
+abbrev pub sorted_from : ℕ → List Table → List Numbered → List Sorted
+sorted_from n tables rows = map (λ (t : ℕ × Table). (t.1, rows_numbered t.0 rows)) (enumerate_from n tables)
+
+numbered_more : (n : ℕ) (rows : List Numbered) (row : Numbered) → (if (n == row.0) then rows_numbered n rows ++ row.1 ∷ [] else rows_numbered n rows) ≡ rows_numbered n (rows ++ row ∷ [])
+numbered_more n [] row = elim (n == row.0) as (λ b. (if b then row.1 ∷ [] else []) ≡ map (λ (p : Numbered). p.1) (if b then row ∷ [] else [])) [
+  | true ↦ refl
+  | false ↦ refl
+]
+numbered_more n (p ∷ rows) row =
+    elim (n == p.0) as (λ b. (if (n == row.0) then map (λ (p : Numbered). p.1) (if b then p ∷ filter (λ (p : Numbered). n == p.0) rows else filter (λ (p : Numbered). n == p.0) rows) ++ row.1 ∷ [] else map (λ (p : Numbered). p.1) (if b then p ∷ filter (λ (p : Numbered). n == p.0) rows else filter (λ (p : Numbered). n == p.0) rows))
+    ≡ map (λ (p : Numbered). p.1) (if b then p ∷ filter (λ (p : Numbered). n == p.0) (rows ++ row ∷ []) else filter (λ (p : Numbered). n == p.0) (rows ++ row ∷ []))) [
+      | true ↦ pulled (n == row.0) ∙ ap (λ (rs : List (List Value)). p.1 ∷ rs) (numbered_more n rows row)
+      | false ↦ numbered_more n rows row
+    ]
+  where
+    pulled : (b : Bool) → (if b then (p.1 ∷ rows_numbered n rows) ++ row.1 ∷ [] else p.1 ∷ rows_numbered n rows) ≡ p.1 ∷ (if b then rows_numbered n rows ++ row.1 ∷ [] else rows_numbered n rows)
+    pulled true = refl
+    pulled false = refl
+
+none_sorted : (n : ℕ) (tables : List Table) → map table_alone tables ≡ sorted_from n tables []
+none_sorted n [] = refl
+none_sorted n (t ∷ tables) = ap (λ (ss : List Sorted). (t, []) ∷ ss) (none_sorted (n + 1) tables)
+
+one_sorted : (n : ℕ) (tables : List Table) (rows : List Numbered) (row : Numbered) → with_row_from n (sorted_from n tables rows) row ≡ sorted_from n tables (rows ++ row ∷ [])
+one_sorted n [] rows row = refl
+one_sorted n (t ∷ tables) rows row = ap₂ (λ (own : List (List Value)) (ss : List Sorted). (t, own) ∷ ss) (numbered_more n rows row) (one_sorted (n + 1) tables rows row)
+
+all_sorted : (tables : List Table) (before rows : List Numbered) → with_rows (sorted_from 0 tables before) rows ≡ sorted_from 0 tables (before ++ rows)
+all_sorted tables before [] = ap (sorted_from 0 tables) (sym (append-nil before))
+all_sorted tables before (row ∷ rows) =
+    ap (λ (ts : List Sorted). with_rows ts rows) (one_sorted 0 tables before row)
+    ∙ (all_sorted tables (before ++ row ∷ []) rows ∙ ap (sorted_from 0 tables) (append_assoc before (row ∷ []) rows))
+
+pub sorted_all : (tables : List Table) (rows : List Numbered) → with_rows (map table_alone tables) rows ≡ sorted_from 0 tables rows
+sorted_all tables rows = ap (λ (ts : List Sorted). with_rows ts rows) (none_sorted 0 tables) ∙ all_sorted tables [] rows

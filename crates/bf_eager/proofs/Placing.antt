@@ -1,5 +1,5 @@
 -- Rows that are put into a heap one after the other.
-use Rattle.std.proofs.Common.{◌≡◌, ℕ, suc, ◌-◌, ◌≤◌, true, false, not, ◌&&◌, if◌then◌else◌, List, [], ◌∷◌, ◌++◌, map, fold, Less, Equal, Greater, is_lt, is_eq, refl, sym, ap, ◌∙◌, arith}
+use Rattle.std.proofs.Common.{◌≡◌, ℕ, suc, ◌-◌, ◌≤◌, true, false, not, ◌&&◌, if◌then◌else◌, List, [], ◌∷◌, ◌++◌, map, Less, Equal, Greater, is_lt, is_eq, refl, sym, ap, ◌∙◌, arith}
 use Rattle.std.specs.List.{AllByRecursion, list_all}
 use Rattle.std.proofs.lemmas.Bool.{and_parts, not-true, or_parts}
 use Rattle.std.proofs.lemmas.Grind.{fold-append}
@@ -12,7 +12,7 @@ use Rattle.bf_base.specs.Maps.{beside}
 use Rattle.bf_base.specs.Tables.{key_of, IsKeyWithin}
 use Rattle.bf_base.specs.Values.{key_cmp}
 use Rattle.bf_base.proofs.Apart.{are_apart, are_apart-same_items}
-use Rattle.bf_base.proofs.Items.{between, mapped, turned}
+use Rattle.bf_base.proofs.Items.{between, mapped}
 use Rattle.bf_base.proofs.Order.{has-with_placed}
 use Rattle.bf_base.specs.Values.{key_cmp_total}
 use Rattle.bf_heap.specs.Heaps.{Entry, Rows, has_row, spare_after, with_row}

@@ -1,14 +1,11 @@
 -- A plan reads the tables of its sources alone.
-use Rattle.std.proofs.Common.{◌≡◌, ℕ, Bool, true, not, List, [], ◌∷◌, ◌++◌, map, filter, flat_map, refl, ap, ap₂, ◌∙◌}
+use Rattle.std.proofs.Common.{◌≡◌, ℕ, Bool, true, not, List, [], ◌∷◌, ◌++◌, map, filter, ap, ap₂, ◌∙◌}
 use Rattle.std.specs.List.{enumerate_from, list_all}
-use Rattle.bf_base.specs.declared.table.Table.{Table}
 use Rattle.bf_base.specs.Lists.{has, same_name}
 use Rattle.bf_tree.specs.declared.migration.Arm.{Arm}
 use Rattle.bf_tree.specs.declared.migration.Migrate.{Migrate}
 use Rattle.bf_tree.specs.declared.migration.Target.{Target}
 use Rattle.bf_tree.specs.declared.plan.ArmKind.{ArmKind}
-use Rattle.bf_tree.specs.declared.plan.PlacedArm.{PlacedArm}
-use Rattle.bf_tree.specs.declared.plan.Plan.{Plan}
 use Rattle.bf_tree.specs.declared.plan.Unit.{Unit as Planned}
 use Rattle.bf_tree.specs.declared.plan.UnitKind.TheVariants as unit_kind
 use Rattle.bf_sql.specs.Database.{Database}

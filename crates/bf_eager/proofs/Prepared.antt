@@ -1,5 +1,5 @@
 -- A schema change that is made ready in a catalog, and what it does.
-use Rattle.std.proofs.Common.{◌≡◌, ◌≢◌, ℕ, ◌≤◌, Bool, true, false, List, [], ◌∷◌, ◌++◌, Option, Some, None, option_map, refl, sym, ap, subst, ◌∙◌, arith}
+use Rattle.std.proofs.Common.{◌≡◌, ℕ, Bool, true, false, List, [], ◌∷◌, ◌++◌, Option, Some, None, option_map, refl, sym, ap, subst, ◌∙◌, arith}
 use Rattle.std.proofs.lemmas.Bool.Decides.{nat_tests}
 use Rattle.std.proofs.lemmas.Option.{same_Some}
 use Rattle.bf_base.specs.declared.table.Table.{Table}
@@ -14,7 +14,7 @@ use Rattle.bf_tree.specs.declared.plan.Plan.{Plan}
 use Rattle.bf_tree.specs.declared.reply.Refusal.{Refusal}
 use Rattle.bf_tree.specs.declared.reply.Reply.TheVariants as reply
 use Rattle.bf_tree.specs.declared.statement.Statement.{Statement}
-use Rattle.bf_tree.specs.declared.statement.Statement.TheVariants.{CreateTable, CreateIndex, Insert, Select, Update, Delete, Begin, Commit, Rollback, Migrate}
+use Rattle.bf_tree.specs.declared.statement.Statement.TheVariants.{CreateTable, CreateIndex, Migrate}
 use Rattle.bf_sql.specs.Bound.{bound_of, catalog_of, changes_schema, is_planned, unless_objected, without_rows}
 use Rattle.bf_sql.specs.Database.{Database, IsDatabase}
 use Rattle.bf_sql.specs.Meaning.{effect, executed, unless_refused}

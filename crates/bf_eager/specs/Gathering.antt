@@ -1,5 +1,5 @@
 -- The rows of the new tables, part by part.
-use Rattle.std.specs.Prelude.{◌≡◌, ℕ, List, ◌++◌, flat_map, length, map, option_map, slice_get, unwrap_or}
+use Rattle.std.specs.Prelude.{ℕ, List, flat_map, length, map}
 use Rattle.std.specs.List.{enumerate_from, range_with_len}
 use Rattle.bf_base.specs.declared.granule.Place.{Place}
 use Rattle.bf_base.specs.declared.granule.Place.TheVariants.{Group, Row}

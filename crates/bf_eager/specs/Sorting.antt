@@ -1,6 +1,5 @@
 -- Rows sorted into the tables of their numbers.
-use Rattle.std.specs.Prelude.{ℕ, ◌==◌, List, [], ◌∷◌, ◌++◌, filter, fold, if◌then◌else◌, map}
-use Rattle.std.specs.Global.{Vec}
+use Rattle.std.specs.Prelude.{ℕ, ◌==◌, List, [], ◌∷◌, ◌++◌, fold, if◌then◌else◌, map}
 use Rattle.std.specs.List.{enumerate_from}
 use Rattle.bf_base.specs.declared.table.Table.{Table}
 use Rattle.bf_base.specs.declared.value.Value.{Value}

@@ -1,5 +1,5 @@
 -- A table of a database can be copied row by row.
-use Rattle.std.proofs.Common.{◌≡◌, sym, subst, ◌∙◌}
+use Rattle.std.proofs.Common.{◌∙◌}
 use Rattle.bf_eager.proofs.Copying.{can_differ, can_within, copied_again}
 use Rattle.bf_eager.proofs.freezing.frozen.Goals as goal
 

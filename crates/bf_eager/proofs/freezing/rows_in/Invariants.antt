@@ -1,4 +1,4 @@
-use Rattle.std.proofs.Common.{◌≡◌, ℕ, ◌++◌, length}
+use Rattle.std.proofs.Common.{◌≡◌, ◌++◌, length}
 use Rattle.bf_eager.proofs.Copying.{rows_of}
 use Rattle.bf_eager.proofs.freezing.rows_in.Given as goal
 

@@ -5,7 +5,6 @@ use Rattle.std.specs.List.{enumerate_from}
 use Rattle.std.specs.Option.{option_and_then}
 use Rattle.bf_base.specs.declared.value.Value.{Value}
 use Rattle.bf_tree.specs.declared.migration.Target.{Target}
-use Rattle.bf_sql.specs.migrations.Granules.{UnitForm}
 use Rattle.bf_eager.specs.Gathering.{Numbered, gathered_of, named, parts_at, places_of_rows, places_of_values}
 use Rattle.bf_image.specs.Migrations.{anchors_in, units_in, value_indexes}
 use Rattle.bf_image.specs.declared.value_indexes.UnitIndex.{UnitIndex}

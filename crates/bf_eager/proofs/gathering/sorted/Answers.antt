@@ -1,11 +1,11 @@
 -- Each row goes behind those of the table of its number.
-use Rattle.std.proofs.Common.{◌≡◌, ℕ, List, [], ◌∷◌, ◌++◌, sym, ap, ◌∙◌, append_assoc}
+use Rattle.std.proofs.Common.{List, [], ◌∷◌, ◌++◌, refl, sym, ap, ◌∙◌, append_assoc, arith}
+use Rattle.std.proofs.lemmas.Bool.{false≢true}
 use Rattle.std.specs.Vec.Iter.{into_iter_items}
 use Rattle.std.proofs.lemmas.Grind.{fold-append}
-use Rattle.bf_base.specs.declared.value.Value.{Value}
 use Rattle.bf_eager.specs.Gathering.{Numbered}
 use Rattle.bf_eager.specs.Sorting.{Sorted, rows_made, with_row}
-use Rattle.bf_eager.proofs.Numbering.{row_absent, row_added}
+use Rattle.bf_eager.proofs.Numbering.{none_at, row_absent, row_added, some_at}
 use Rattle.bf_eager.proofs.gathering.sorted.Goals as goal
 
 pub loop-target-preserved-in-Continue-1 : goal.loop-target-preserved-in-Continue-1
@@ -17,7 +17,7 @@ loop-target-preserved-in-Continue-1 c =
     record {
       left = append_assoc so_far (p ∷ []) rest ∙ (ap (λ (rows : List Numbered). so_far ++ rows) (sym c.in-Some.ensures.steps.0) ∙ inv.left);
       sorted =
-          row_added c.loop-target.made.items p c.in-Some-get_mut.table.now c.push.new.self c.in-Some-get_mut.ensures.value c.in_ok-push.ensures.items
+          row_added c.loop-target.made.items p c.in-Some-get_mut.table.now c.push.new.self (some_at c.loop-target.made.items c.in-Some.target c.in-Some-get_mut.table.now c.in-Some-get_mut.ensures.value (omega (arith, c.in-Some-get_mut.ensures.variant.0 refl, c.loop-target.made.ok.0))) c.in_ok-push.ensures.items
           ∙ (ap (λ (ts : List Sorted). with_row ts p) inv.sorted ∙ sym (fold-append with_row (rows_made c.args.tables.items) so_far (p ∷ [])));
     }
 
@@ -30,6 +30,6 @@ loop-target-preserved c =
     record {
       left = append_assoc so_far (p ∷ []) rest ∙ (ap (λ (rows : List Numbered). so_far ++ rows) (sym c.in-Some.ensures.steps.0) ∙ inv.left);
       sorted =
-          sym (row_absent c.loop-target.made.items p c.in_default.ensures.value)
+          sym (row_absent c.loop-target.made.items p (none_at c.loop-target.made.items c.in-Some.target (λ below. false≢true (c.in_default.ensures.variant.1 (omega (arith, below, c.loop-target.made.ok.0))))))
           ∙ (ap (λ (ts : List Sorted). with_row ts p) inv.sorted ∙ sym (fold-append with_row (rows_made c.args.tables.items) so_far (p ∷ [])));
     }

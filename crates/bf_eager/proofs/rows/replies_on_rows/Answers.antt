@@ -2,7 +2,7 @@
 use Rattle.std.proofs.Common.{◌≡◌, ℕ, ◌+◌, List, length, sym, ap, ◌∙◌, arith}
 use Rattle.bf_tree.specs.declared.reply.Reply.{Reply}
 use Rattle.bf_live.specs.Live.{committed}
-use Rattle.bf_eager.proofs.Running.{leaves_at, run_all, run_from, run_more}
+use Rattle.bf_eager.proofs.Running.{run_all, run_from, run_more}
 use Rattle.bf_eager.proofs.rows.replies_on_rows.Goals as goal
 
 pub loop-place-init : goal.loop-place-init

@@ -1,10 +1,8 @@
 -- A statement that leaves the schema has its reply by the action that it is bound to.
-use Rattle.std.proofs.Common.{◌≡◌, Some, sym, ap, subst, ◌∙◌}
-use Rattle.std.specs.Prelude.{IfOk}
-use Rattle.std.proofs.lemmas.Result.{IfOk-weaker, on_ok_weaker}
+use Rattle.std.proofs.Common.{◌≡◌, Some, sym, ap, ◌∙◌}
+use Rattle.std.proofs.lemmas.Result.{IfOk-weaker}
 use Rattle.bf_tree.specs.declared.bound.Action.TheVariants as action
 use Rattle.bf_tree.specs.declared.reply.Reply.{Reply}
-use Rattle.bf_tree.specs.declared.reply.Reply.TheVariants as reply
 use Rattle.bf_sql.specs.Bound.{bound_of, without_rows}
 use Rattle.bf_sql.specs.Meaning.{executed}
 use Rattle.bf_live.specs.Live.{committed}

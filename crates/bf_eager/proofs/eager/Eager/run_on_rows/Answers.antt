@@ -1,7 +1,6 @@
 -- A group that leaves the catalog leaves what it has written, where it commits.
 use Rattle.std.proofs.Common.{◌≡◌, false, List, [], sym, ap, subst, ◌∙◌}
 use Rattle.bf_tree.specs.Limits.{HasNarrowTables}
-use Rattle.bf_tree.specs.declared.reply.Reply.{Reply}
 use Rattle.bf_sql.specs.Bound.{catalog_of}
 use Rattle.bf_sql.specs.Database.{Database, IsDatabase}
 use Rattle.bf_sql.specs.History.{run_group}
