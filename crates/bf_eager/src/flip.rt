@@ -1,14 +1,16 @@
 //! MIGRATE: the old tables leave, and the new ones have what it makes of them.
 
 ghost use Rattle.std.specs.List.{AllByRecursion};
-ghost use Rattle.std.specs.Prelude.{◌≡◌, ℕ, IfOk, OnErr, OnOk, false, length};
+ghost use Rattle.std.specs.Prelude.{◌≡◌, ℕ, IfOk, IfSome, None, OnErr, OnOk, false, is_none, is_some, length};
 ghost use Rattle.bf_tree.specs.Limits.{HasNarrowTables};
 ghost use Rattle.bf_tree.specs.declared.statement.Statement.TheVariants as statement;
 ghost use Rattle.bf_live.specs.Live.{held_in};
 ghost use Rattle.bf_sql.specs.Bound.{catalog_of};
 ghost use Rattle.bf_sql.specs.Database.{IsDatabase, table_rows};
 ghost use Rattle.bf_sql.specs.Meaning.{executed};
+ghost use Rattle.bf_image.specs.Migrations.{IsLawfulMigration};
 ghost use Rattle.bf_eager.specs.Flips.{CanStand, first_oversize, heaped};
+ghost use Rattle.bf_eager.specs.Freezing.{AreFrozen};
 ghost use Rattle.bf_eager.specs.Groups.{IsPlanned};
 
 use crate::filling::heap_of;
@@ -61,6 +63,47 @@ fn heaps_of(alloc: Global, made: Vec<(Table, Vec<Row>)>) -> Result<Vec<(Table, H
     Ok(heaps)
 }
 
+/// A migration by a plan, over copies of its old tables, none of which has too many rows.
+fn migration_of(alloc: Global, live: &LiveTables, plan: Plan) -> Result<Migration, Memory>
+    requires database { IsDatabase live.now }
+    requires planned { IsPlanned live.now plan }
+    requires tables { HasNarrowTables (catalog_of live.now) }
+    requires few { first_oversize live.now plan.sources ≡ None }
+    ensures plan { IfOk result (λ migration. migration.plan ≡ plan) }
+    ensures frozen { IfOk result (λ migration. AreFrozen live.now plan.sources migration.frozen) }
+    ensures lawful { IfOk result (λ migration. IsLawfulMigration migration) }
+{
+    let frozen = frozen_sources(alloc, live, plan.sources.as_slice())?;
+    Ok(Migration {
+        number: 1,
+        plan,
+        frozen: Sequence::of(frozen),
+    })
+}
+
+/// The migration that a plan makes of the tables as they are, and `None` exactly where an old table has
+/// too many rows. It copies the rows of the old tables.
+///
+/// # Errors
+/// Where memory runs out.
+pub(crate) fn begun(
+    alloc: Global,
+    live: &LiveTables,
+    plan: Plan,
+) -> Result<Option<Migration>, Memory>
+    requires database { IsDatabase live.now }
+    requires planned { IsPlanned live.now plan }
+    requires tables { HasNarrowTables (catalog_of live.now) }
+    ensures plan { IfOk result (λ begun. IfSome begun (λ migration. migration.plan ≡ plan)) }
+    ensures lawful { IfOk result (λ begun. IfSome begun (λ migration. IsLawfulMigration migration)) }
+    ensures few { IfOk result (λ begun. is_none begun ≡ is_some (first_oversize live.now plan.sources)) }
+{
+    match oversize(alloc, live, plan.sources.as_slice())? {
+        Some(_) => Ok(None),
+        None => Ok(Some(migration_of(alloc, live, plan)?)),
+    }
+}
+
 /// Runs a MIGRATE that the catalog allows: it is refused where an old table has too many rows.
 ///
 /// # Errors
@@ -79,12 +122,7 @@ pub(crate) fn migrate(alloc: Global, live: &mut LiveTables, plan: Plan) -> Resul
         return Ok(Reply::Refused(refusal));
     }
     let count = plan.migrate.targets.len() as u8;
-    let frozen = frozen_sources(alloc, live, plan.sources.as_slice())?;
-    let migration = Migration {
-        number: 1,
-        plan,
-        frozen: Sequence::of(frozen),
-    };
+    let migration = migration_of(alloc, live, plan)?;
     let made = tables_made(alloc, &migration)?;
     let heaps = heaps_of(alloc, made)?;
     live.replace(migration.plan.sources.as_slice(), heaps)?;
