@@ -1,10 +1,8 @@
 -- A schema change that is made ready in a catalog, and what it does.
-use Rattle.std.proofs.Common.{◌≡◌, ℕ, Bool, true, false, List, [], ◌∷◌, ◌++◌, Option, Some, None, option_map, refl, sym, ap, subst, ◌∙◌, arith}
-use Rattle.std.proofs.lemmas.Bool.Decides.{nat_tests}
-use Rattle.std.proofs.lemmas.Option.{same_Some}
+use Rattle.std.proofs.Common.{◌≡◌, ℕ, Bool, true, false, List, [], ◌∷◌, ◌++◌, Option, Some, None, option_map, refl, sym, ap, subst, ◌∙◌}
 use Rattle.bf_base.specs.declared.table.Table.{Table}
 use Rattle.bf_tree.specs.Catalogs.{Catalog}
-use Rattle.bf_tree.specs.Limits.{HasNarrowTables, IsNarrowIfMigrate, IsNarrowMigrate, is_narrow_statement}
+use Rattle.bf_tree.specs.Limits.{IsNarrowIfMigrate, IsNarrowMigrate}
 use Rattle.bf_tree.specs.declared.bound.Action.{Action}
 use Rattle.bf_tree.specs.declared.bound.Action.TheVariants as action
 use Rattle.bf_tree.specs.declared.bound.Bound.{Bound}
@@ -14,7 +12,7 @@ use Rattle.bf_tree.specs.declared.plan.Plan.{Plan}
 use Rattle.bf_tree.specs.declared.reply.Refusal.{Refusal}
 use Rattle.bf_tree.specs.declared.reply.Reply.TheVariants as reply
 use Rattle.bf_tree.specs.declared.statement.Statement.{Statement}
-use Rattle.bf_tree.specs.declared.statement.Statement.TheVariants.{CreateTable, CreateIndex, Migrate}
+use Rattle.bf_tree.specs.declared.statement.Statement.TheVariants.{Migrate}
 use Rattle.bf_sql.specs.Bound.{bound_of, catalog_of, changes_schema, is_planned, unless_objected, without_rows}
 use Rattle.bf_sql.specs.Database.{Database, IsDatabase}
 use Rattle.bf_sql.specs.Meaning.{effect, executed, unless_refused}
@@ -26,7 +24,6 @@ use Rattle.bf_image.proofs.keeping.Frozen.{objections_alike, same_as_catalog}
 use Rattle.bf_live.proofs.statements.Bare.{bare_is_database}
 use Rattle.bf_live.proofs.statements.Creating.{Creates, CreatesIndex, creates, creates_index}
 use Rattle.bf_live.proofs.statements.Outcomes.{bound_in, bound_to, refused}
-use Rattle.bf_plan.specs.Limits.{KeepsPlanLimits}
 use Rattle.bf_eager.specs.Groups.{IsPlanned}
 
 -- the action that a statement is made ready for
@@ -106,32 +103,6 @@ module _ (db : Database) (is : IsDatabase db) (catalog : Catalog) (same : catalo
       no_plan : (rs : List Refusal) → unless_objected rs (prepared_action bare other) ≡ Some (action.Migrate plan) → ⊥
       no_plan [] is = cc
       no_plan (r ∷ rs) is = cc
-
-  abbrev IsOther : Action → Type 0
-  IsOther (action.Refused r) = ⊥
-  IsOther (action.CreateTable table) = ⊥
-  IsOther (action.CreateIndex index) = ⊥
-  IsOther (action.Migrate plan) = ⊥
-  IsOther other = Unit {0}
-
-  -- and there is nothing else that changes the schema
-  pub no_other : (s : Statement) → changes_schema false s ≡ true → IsReady s → IsOther bound.action → ⊥
-  no_other s changes made other =
-      by_action s changes (objections bare false s) (prepared_action bare s) refl (ready s made) other
-    where
-      by_action : (s : Statement) → changes_schema false s ≡ true → (rs : List Refusal) (o : Option Action) → o ≡ prepared_action bare s → unless_objected rs o ≡ Some bound.action → IsOther bound.action → ⊥
-      by_action s changes (r ∷ rs) o is act other = subst IsOther (sym (same_Some _ _ act)) other
-      by_action (CreateTable name rules key) changes [] o is act other = subst IsOther (sym (same_Some _ _ (sym is ∙ act))) other
-      by_action (CreateIndex name table columns) changes [] o is act other = subst IsOther (sym (same_Some _ _ (sym is ∙ act))) other
-      by_action (Migrate m) changes [] o is act other = subst IsOther (sym (same_Some _ _ (sym is ∙ act))) other
-      by_action rest changes [] o is act other = absurd cc
-
-pub keeps_limits : (db : Database) (catalog : Catalog) (s : Statement) → catalog ≡ catalog_of db → HasNarrowTables (catalog_of db) → is_narrow_statement s ≡ true → IsNarrowIfMigrate s
-    → KeepsPlanLimits catalog s
-keeps_limits db catalog s same tables few migrates = record {
-  bound = record { tables = subst (λ (catalog : Catalog). HasNarrowTables catalog) (sym same) tables; declared = grind (arith, nat_tests, few) };
-  planned = migrates;
-}
 
 -- a catalog is a database without rows
 pub is_bare : (db : Database) (catalog : Catalog) → catalog ≡ catalog_of db → IsDatabase db → IsDatabase (without_rows catalog)
