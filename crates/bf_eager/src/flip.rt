@@ -1,7 +1,7 @@
 //! MIGRATE: the old tables leave, and the new ones have what it makes of them.
 
 ghost use Rattle.std.specs.List.{AllByRecursion};
-ghost use Rattle.std.specs.Prelude.{◌≡◌, ℕ, IfOk, IfSome, None, OnErr, OnOk, false, is_none, is_some, length};
+ghost use Rattle.std.specs.Prelude.{◌≡◌, ℕ, IfOk, None, OnErr, OnOk, false, length};
 ghost use Rattle.bf_tree.specs.Limits.{HasNarrowTables};
 ghost use Rattle.bf_tree.specs.declared.statement.Statement.TheVariants as statement;
 ghost use Rattle.bf_live.specs.Live.{held_in};
@@ -79,29 +79,6 @@ fn migration_of(alloc: Global, live: &LiveTables, plan: Plan) -> Result<Migratio
         plan,
         frozen: Sequence::of(frozen),
     })
-}
-
-/// The migration that a plan makes of the tables as they are, and `None` exactly where an old table has
-/// too many rows. It copies the rows of the old tables.
-///
-/// # Errors
-/// Where memory runs out.
-pub(crate) fn begun(
-    alloc: Global,
-    live: &LiveTables,
-    plan: Plan,
-) -> Result<Option<Migration>, Memory>
-    requires database { IsDatabase live.now }
-    requires planned { IsPlanned live.now plan }
-    requires tables { HasNarrowTables (catalog_of live.now) }
-    ensures plan { IfOk result (λ begun. IfSome begun (λ migration. migration.plan ≡ plan)) }
-    ensures lawful { IfOk result (λ begun. IfSome begun (λ migration. IsLawfulMigration migration)) }
-    ensures few { IfOk result (λ begun. is_none begun ≡ is_some (first_oversize live.now plan.sources)) }
-{
-    match oversize(alloc, live, plan.sources.as_slice())? {
-        Some(_) => Ok(None),
-        None => Ok(Some(migration_of(alloc, live, plan)?)),
-    }
 }
 
 /// Runs a MIGRATE that the catalog allows: it is refused where an old table has too many rows.
