@@ -12,3 +12,4 @@ mod Placing
 mod Planning
 mod Prepared
 mod Running
+pub mod Begun

@@ -1,3 +1,4 @@
+pub mod Beginnings
 pub mod Eager
 pub mod Flips
 pub mod Freezing

@@ -3,20 +3,24 @@
 ghost use Rattle.std.specs.List.{AllByRecursion, list_all};
 ghost use Rattle.std.specs.Option.{option_map};
 ghost use Rattle.std.specs.Prelude.{◌≡◌, [], ◌∷◌, IfOk, IsTrue, OnErr, false, length, true};
-ghost use Rattle.bf_tree.specs.Limits.{IsNarrowIfMigrate, is_narrow_statement};
+ghost use Rattle.bf_tree.specs.Limits.{IsNarrowIfMigrate, IsNarrowMigrate, is_narrow_statement};
 ghost use Rattle.bf_sql.specs.Bound.{catalog_of, changes_schema};
 ghost use Rattle.bf_sql.specs.Database.{empty_database, stored_at};
 ghost use Rattle.bf_sql.specs.History.{commits_with};
+ghost use Rattle.bf_eager.specs.Beginnings.{IsBegun};
 ghost use Rattle.bf_eager.specs.Eager.{IsWholeGroup, outcome_of, ran_entry};
 ghost use Rattle.bf_eager.specs.Groups.{leave_schema};
 ghost use Rattle.bf_eager.specs.Starting.{CanStart, database_with, named_tables};
 
+use crate::flip::begun;
 use crate::rows::{replies_on_rows, settle};
 use crate::schema::{change_schema, changes_schema};
 use crate::starting::live_tables;
 use bf_base::{Memory, Name, Row};
+use bf_image::Migration;
 use bf_live::LiveTables;
-use bf_tree::{Catalog, Reply, Statement};
+use bf_plan::plan;
+use bf_tree::{Catalog, Migrate, Refusal, Reply, Statement};
 use bf_txn::Workspace;
 use std::alloc::Global;
 use std::marker::Model;
@@ -107,6 +111,21 @@ impl Eager {
         ensures { result ≡ option_map (λ s. length s.rows) (stored_at self.now.database name.now) }
     {
         self.live.heap(name).map(|heap| heap.len())
+    }
+
+    /// The migration that a MIGRATE would begin on the database as it is, or the first refusal of the
+    /// statement. Nothing changes; the rows of the old tables are copied.
+    ///
+    /// # Errors
+    /// Where memory runs out.
+    pub fn begun(&self, migrate: &Migrate) -> Result<Result<Migration, Refusal>, Memory>
+        requires narrow { IsNarrowMigrate migrate.now }
+        ensures { IfOk result (λ begun. IsBegun self.now.database migrate.now begun) }
+    {
+        match plan(self.alloc, migrate, self.live.catalog())? {
+            Ok(plan) => begun(self.alloc, &self.live, plan),
+            Err(refusal) => Ok(Err(refusal)),
+        }
     }
 
     /// Runs one whole group of statements, and answers their replies. A group that commits leaves what

@@ -9,6 +9,7 @@ ghost use Rattle.bf_sql.specs.Bound.{catalog_of};
 ghost use Rattle.bf_sql.specs.Database.{IsDatabase, table_rows};
 ghost use Rattle.bf_sql.specs.Meaning.{executed};
 ghost use Rattle.bf_image.specs.Migrations.{IsLawfulMigration};
+ghost use Rattle.bf_eager.specs.Beginnings.{IsBegun};
 ghost use Rattle.bf_eager.specs.Flips.{CanStand, first_oversize, heaped};
 ghost use Rattle.bf_eager.specs.Freezing.{AreFrozen};
 ghost use Rattle.bf_eager.specs.Groups.{IsPlanned};
@@ -79,6 +80,27 @@ fn migration_of(alloc: Global, live: &LiveTables, plan: Plan) -> Result<Migratio
         plan,
         frozen: Sequence::of(frozen),
     })
+}
+
+/// The migration of a plan that the catalog allows, or the refusal of the first old table with too many
+/// rows. It copies the rows of the old tables.
+///
+/// # Errors
+/// Where memory runs out.
+pub(crate) fn begun(
+    alloc: Global,
+    live: &LiveTables,
+    plan: Plan,
+) -> Result<Result<Migration, Refusal>, Memory>
+    requires database { IsDatabase live.now }
+    requires planned { IsPlanned live.now plan }
+    requires tables { HasNarrowTables (catalog_of live.now) }
+    ensures { IfOk result (λ begun. IsBegun live.now plan.migrate begun) }
+{
+    match oversize(alloc, live, plan.sources.as_slice())? {
+        Some(refusal) => Ok(Err(refusal)),
+        None => Ok(Ok(migration_of(alloc, live, plan)?)),
+    }
 }
 
 /// Runs a MIGRATE that the catalog allows: it is refused where an old table has too many rows.
