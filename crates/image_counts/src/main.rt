@@ -85,7 +85,10 @@ fn begun(migrate: &Migrate, eager: &Eager) -> anyhow::Result<Migration> {
     if !is_narrow(migrate) {
         bail!("the MIGRATE is too wide");
     }
-    eager.begun(migrate)?.context("the MIGRATE is refused")
+    match eager.begun(migrate)? {
+        Ok(migration) => Ok(migration),
+        Err(_) => bail!("the MIGRATE is refused"),
+    }
 }
 
 /// Finds the owner of each of some keys, and counts the rows of its granule.
