@@ -2,6 +2,7 @@
 
 ghost use Rattle.std.specs.Prelude.{◌≡◌, IfOk};
 ghost use Rattle.std.specs.Option.{option_map};
+ghost use Rattle.bf_query.specs.Actions.{IsWellBound};
 ghost use Rattle.bf_image.specs.Migrations.{IsLawfulMigration};
 ghost use Rattle.bf_transpose.specs.Covers.{IsCoverOf, IsFound, can_need};
 
@@ -37,6 +38,7 @@ pub fn cover(
     bound: &Bound,
     migration: Option<(&Migration, &ValueIndexes)>,
 ) -> Result<Cover, Memory>
+    requires bound { IsWellBound bound.now.action }
     requires found { IsFound (option_map (λ found. (found.0.now, found.1.now)) migration) }
     ensures { IfOk result (IsCoverOf (option_map (λ found. found.0.now) migration) bound.now) }
 {
