@@ -34,6 +34,7 @@ ghost use Rattle.bf_query.specs.Meanings.{IsBoundAs};
 ghost use Rattle.bf_image.specs.Laws.{IsLawful};
 ghost use Rattle.bf_live.specs.Live.{committed};
 ghost use Rattle.bf_live.specs.Open.{IsOpen, IsStep};
+ghost use Rattle.bf_store.specs.declared.store.Moved.{Moved};
 ghost use Rattle.bf_store.specs.Calls.{cover_of, with_commit, IsCommitOf, IsFlipOf, IsLegalCommit, IsMoveOf, IsNeedOf, MayFlip};
 ghost use Rattle.bf_store.specs.States.{frozen_lazily, AreGranulesIfAny, HaveMoved, IsLazy, IsOpenLazily, IsQuiet, IsSeenAs, IsUnderWay, is_free, need_of, need_of_all, settled_by};
 
@@ -205,8 +206,8 @@ pub fn a_sweep_is_complete_exactly_where_nothing_is_pending()
 /// and the commit. Where nothing is left of the cover of a bound statement, its need has moved.
 pub fn the_calls_of_a_store_are_seen()
     ensures moved { (lazy after : LazyState) (granules : List Granule)
-        (fresh already : List (Granule × ℕ)) → IsLazy lazy → AreGranulesIfAny lazy.last granules
-        → IsMoveOf lazy after granules fresh already → IsQuiet lazy after }
+        (told : Moved) → IsLazy lazy → AreGranulesIfAny lazy.last granules
+        → IsMoveOf lazy after granules told → IsQuiet lazy after }
     ensures flipped { (lazy after : LazyState) (m : Migrate) (number : ℕ) → IsLazy lazy
         → MayFlip lazy m → IsFlipOf lazy after m number
         → IsSeenAs (flipped (view_of lazy) m) after }

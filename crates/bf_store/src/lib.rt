@@ -1,5 +1,8 @@
-//! A lazy store, of which there are the definitions and the laws so far: live tables into which the rows of a
-//! migration move late.
+//! The lazy store: live tables into which the rows of a migration move late, and the laws of such states.
 #![tactic(auto)]
 
+mod done;
 pub mod laws;
+pub mod store;
+
+pub use store::{Moved, Receipt, Store};
