@@ -11,6 +11,7 @@ use Rattle.bf_tree.specs.declared.bound.Bound.{Bound}
 use Rattle.bf_tree.specs.declared.history.Entry.{Entry}
 use Rattle.bf_tree.specs.declared.history.Outcome.{Outcome}
 use Rattle.bf_tree.specs.declared.history.Outcome.TheVariants.{Committed, RolledBack}
+use Rattle.bf_tree.specs.declared.plan.Plan.{Plan}
 use Rattle.bf_tree.specs.declared.reply.Cause.TheVariants.{Died}
 use Rattle.bf_tree.specs.declared.reply.Refusal.TheVariants.{NoTransaction}
 use Rattle.bf_tree.specs.declared.reply.Reply.{Reply}
@@ -26,6 +27,7 @@ use Rattle.bf_sql.specs.migrations.Lazy.{LazyState}
 use Rattle.bf_sql.specs.migrations.Need.{needed_for}
 use Rattle.bf_sql.specs.migrations.Plans.{prepared_of}
 use Rattle.bf_store.specs.Calls.{with_commit}
+use Rattle.bf_store.specs.Stores.{IsByPass}
 use Rattle.bf_store.specs.States.{AreGranulesIfAny, HaveMoved, frozen_lazily, with_moved}
 use Rattle.bf_machine.specs.interleaving.Groups.{Pending, Rows, NewTable, NewIndex, Flip, Nothing, footprint_in, left_by, pending_behind, reply_on}
 use Rattle.bf_machine.specs.interleaving.Machines.{Group, Began, Open, Machine, open_at, told_at, began_at}
@@ -162,7 +164,10 @@ module _ (m : Machine) (s : ℕ) where
     pub is : open_at m s ≡ Some o
     pub commits_so : commits (text_of m s o) ≡ true
     pub left : (rest_of m s o ≡ []) ⊎ (rest_of m s o ≡ Commit ∷ [])
-    pub goes : next ≡ committed o
+    -- a flip comes with a pass of its own, and nothing else changes it
+    pub by_pass : IsByPass next.lazy.last next.pass
+    pub same_pass : ((plan : Plan) → o.pending ≡ Flip plan → ⊥) → next.pass ≡ m.pass
+    pub goes : next ≡ record (committed o) { pass = next.pass }
 
   -- ABORT: what is left is the block's ROLLBACK, or nothing at the session's end
   abbrev pub rolled_back : Open → Machine

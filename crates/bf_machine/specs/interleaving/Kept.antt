@@ -24,6 +24,7 @@ use Rattle.bf_sql.specs.migrations.Lazy.{LazyState, view_of}
 use Rattle.bf_sql.specs.migrations.Plans.{plan_made}
 use Rattle.bf_store.specs.Calls.{MayFlip}
 use Rattle.bf_store.specs.States.{IsOpenLazily, IsSeenAs}
+use Rattle.bf_store.specs.Stores.{IsByPass, Store}
 use Rattle.bf_machine.specs.InOrder.{none_open}
 use Rattle.bf_machine.specs.interleaving.Groups.{Pending, Rows, Flip, footprint_in, HasRun}
 use Rattle.bf_machine.specs.interleaving.Machines.{Group, Began, Open, Machine, open_at, told_at, began_at, answered_in, has_open, transcripts_of}
@@ -186,6 +187,7 @@ module _ (start : Database) (m : Machine) where
   pub record StoreValid : Type 0 where
     pub seen_as : IsSeenAs m.db m.lazy
     pub narrow : HasNarrowTables (catalog_of m.lazy.live)
+    pub by_pass : IsByPass m.lazy.last m.pass
     pub puts : (s : ℕ) (o : Open) → open_at m s ≡ Some o → CanBePutInto m.lazy o.pending
 
   -- ALL OF THEM
@@ -204,12 +206,13 @@ abbrev pub no_replies : Session → List Reply
 no_replies s = []
 
 -- NEW: nothing has begun
-abbrev pub fresh : LazyState → Script → ℕ → Machine
-fresh lazy script retries = record {
+abbrev pub fresh : Store → Script → ℕ → Machine
+fresh store script retries = record {
   script = script;
   retries = retries;
-  db = view_of lazy;
-  lazy = lazy;
+  db = view_of store.lazy;
+  lazy = store.lazy;
+  pass = store.migration;
   locks = fin.empty;
   began = [];
   opens = map no_group script.sessions;

@@ -7,17 +7,14 @@ use Rattle.bf_locks.specs.declared.answer.LockAnswer.TheVariants.{Die, Wait}
 use Rattle.bf_locks.specs.declared.mode.Mode.{Mode}
 use Rattle.bf_locks.specs.declared.name.LockName.{LockName}
 use Rattle.bf_locks.specs.Locks.{IsJudged, Locks}
-use Rattle.bf_tree.specs.Limits.{is_narrow_script}
 use Rattle.bf_tree.specs.declared.bound.Bound.{Bound}
 use Rattle.bf_tree.specs.declared.history.Entry.{Entry}
-use Rattle.bf_tree.specs.declared.script.Script.{Script}
 use Rattle.bf_tree.specs.declared.statement.Statement.{Statement}
 use Rattle.bf_sql.specs.Database.{Database}
-use Rattle.bf_sql.specs.Bound.{bound_of}
+use Rattle.bf_sql.specs.migrations.Plans.{prepared_of}
 use Rattle.bf_sql.specs.Footprints.{Lock, footprint_of}
 use Rattle.bf_sql.specs.Groups.{ends_block}
 use Rattle.bf_live.specs.OpenGroups.{Holds}
-use Rattle.bf_machine.specs.InOrder.{migrates_nothing}
 use Rattle.bf_machine.specs.Runnable.{phases_rise_from}
 use Rattle.bf_machine.specs.declared.serving.Turn.{Turn}
 use Rattle.bf_machine.specs.declared.serving.Turn.TheVariants as turn
@@ -28,11 +25,6 @@ use Rattle.bf_machine.specs.interleaving.Events.{Reaches, died, rest_of, stands_
 use Rattle.bf_machine.specs.interleaving.Groups.{footprint_in}
 use Rattle.bf_machine.specs.interleaving.Kept.{IsCurrent}
 use Rattle.bf_machine.specs.interleaving.Machines.{Began, Machine, Open, began_at, open_at, told_at}
-
--- a script that is served: without a MIGRATE, and within the limits
-pub record IsServable (script : Script) : Type 0 where
-  pub plain : IsTrue (migrates_nothing script)
-  pub narrow : IsTrue (is_narrow_script script)
 
 -- whether a call of a session that stands so can come
 abbrev pub can_go : Stand → Bool
@@ -116,7 +108,7 @@ module _ (m : Machine) (s : ℕ) where
   pub record IsBoundNext (o : Open) (bound : Bound) : Type 0 where
     pub to_lock : IsToLock o (footprint_of bound)
     pub goes_on : ends_block to_lock.statement ≡ false
-    pub bound_so : bound_of m.db (stands_inside o.replies) to_lock.statement ≡ Some bound
+    pub bound_so : prepared_of m.db (stands_inside o.replies) to_lock.statement ≡ Some bound
 
   -- the group holds them, and nothing else has changed
   abbrev pub HasLocked : List Lock → Machine → Type 0
