@@ -7,30 +7,17 @@ ghost use Rattle.bf_machine.specs.interleaving.Events.{Begins, Reaches};
 ghost use Rattle.bf_machine.specs.interleaving.Kept.{IsKept};
 ghost use Rattle.bf_machine.specs.interleaving.Machines.{Machine as Seen, Open, open_at};
 ghost use Rattle.bf_machine.specs.interleaving.Serving.{CanGo, CannotGo, Driven, HasLocked, HasMore, HasReply, IsAlone, IsBoundNext, IsInSequence, IsServable, IsToLock, IsTurn, IsTurnOf, IsYoungest, Serves, Turned, can_go, deaths_at, unanswered};
-ghost use Rattle.bf_machine.specs.declared.serving.Turn.TheVariants.{Served};
+ghost use Rattle.bf_machine.specs.declared.stand.Turn.TheVariants.{Served};
 
 use crate::machine::Machine;
 use crate::opened::Opened;
-use crate::stand::{Stand, Step};
+use crate::stand::{Stand, Step, Turn};
 use bf_base::Memory;
 use bf_bind::bind;
 use bf_locks::{LockAnswer, LockName, Mode};
 use bf_sql::footprint;
 use bf_tree::Bound;
 use std::alloc::Global;
-
-/// How a turn of a session ended.
-#[derive(Clone, Copy, Debug, PartialEq, Eq)]
-pub enum Turn {
-    /// No call of the session can come.
-    Passed,
-    /// Its next statement has its reply, or its open group has ended.
-    Served,
-    /// Its open group waits for a lock.
-    Waited,
-    /// Its open group died.
-    Died,
-}
 
 /// Asks for locks, one after the other, until one is not granted.
 fn lock_all<N: Opened>(

@@ -10,8 +10,8 @@ use Rattle.bf_tree.specs.declared.reply.Reply.{Reply}
 use Rattle.bf_tree.specs.declared.script.Script.{Script}
 use Rattle.bf_sql.specs.Database.{Database}
 use Rattle.bf_sql.specs.Groups.{session_at}
-use Rattle.bf_machine.specs.declared.serving.Turn.{Turn}
-use Rattle.bf_machine.specs.declared.serving.Turn.TheVariants as turn
+use Rattle.bf_machine.specs.declared.stand.Turn.{Turn}
+use Rattle.bf_machine.specs.declared.stand.Turn.TheVariants as turn
 use Rattle.bf_machine.specs.interleaving.Calls.{IsPlace, replies_at, statements_at}
 use Rattle.bf_machine.specs.interleaving.Events.{Event, Reaches, aborts, asked, asks, at_once, begins, commits_now, died, executes, finishes, one_more, refuses, told_at_death}
 use Rattle.bf_machine.specs.interleaving.Kept.{IsKept}

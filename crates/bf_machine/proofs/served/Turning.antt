@@ -7,8 +7,8 @@ use Rattle.bf_tree.specs.declared.reply.Reply.{Reply}
 use Rattle.bf_tree.specs.declared.statement.Statement.{Statement}
 use Rattle.bf_sql.specs.Database.{Database}
 use Rattle.bf_sql.specs.Groups.{session_at}
-use Rattle.bf_machine.specs.declared.serving.Turn.{Turn}
-use Rattle.bf_machine.specs.declared.serving.Turn.TheVariants as turn
+use Rattle.bf_machine.specs.declared.stand.Turn.{Turn}
+use Rattle.bf_machine.specs.declared.stand.Turn.TheVariants as turn
 use Rattle.bf_machine.specs.interleaving.Calls.{IsPlace}
 use Rattle.bf_machine.specs.interleaving.Events.{Begins, begins, at_once, one_more, rest_of, text_of}
 use Rattle.bf_machine.specs.interleaving.Kept.{IsKept}

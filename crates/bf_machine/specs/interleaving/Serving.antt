@@ -16,8 +16,8 @@ use Rattle.bf_sql.specs.Footprints.{Lock, footprint_of}
 use Rattle.bf_sql.specs.Groups.{ends_block}
 use Rattle.bf_live.specs.OpenGroups.{Holds}
 use Rattle.bf_machine.specs.Runnable.{phases_rise_from}
-use Rattle.bf_machine.specs.declared.serving.Turn.{Turn}
-use Rattle.bf_machine.specs.declared.serving.Turn.TheVariants as turn
+use Rattle.bf_machine.specs.declared.stand.Turn.{Turn}
+use Rattle.bf_machine.specs.declared.stand.Turn.TheVariants as turn
 use Rattle.bf_machine.specs.declared.stand.Stand.{Stand}
 use Rattle.bf_machine.specs.declared.stand.Stand.TheVariants as stand
 use Rattle.bf_machine.specs.interleaving.Calls.{HasSessionEnded, IsPlace, StandsAs, replies_at, statements_at}
