@@ -3,6 +3,8 @@ pub mod Fresh
 pub mod Sessions
 pub mod Places
 pub mod Answered
+pub mod Migrating
+pub mod Settling
 pub mod Committing
 pub mod Ending
 pub mod Dying
