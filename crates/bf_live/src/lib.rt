@@ -4,9 +4,10 @@
 mod commit;
 mod draft;
 pub mod footprint_laws;
+mod heaps;
 pub mod laws;
 pub mod live_tables;
 pub mod on_table;
 
-pub use live_tables::LiveTables;
+pub use live_tables::{Exchange, LiveTables};
 pub use on_table::run_on_table;
