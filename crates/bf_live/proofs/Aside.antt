@@ -134,7 +134,7 @@ left_alike gone name rows leaves [] = refl
 left_alike gone name rows leaves (s ∷ all) = elim (cases_Bool (same_name s.table.name name)) [
   | inl same ↦
       let here : has same_name gone s.table.name ≡ true = ap (has same_name gone) (is_one s.table.name name same) ∙ leaves in
-      rw (same, here, here) (left_alike gone name rows leaves all)
+      rw (same, here) (left_alike gone name rows leaves all)
   | inr other ↦ rw other (ap (λ (ss : List Stored). cond (not (has same_name gone s.table.name)) (s ∷ ss) ss) (left_alike gone name rows leaves all))
 ]
 

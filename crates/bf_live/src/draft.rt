@@ -5,7 +5,7 @@ ghost use Rattle.bf_base.specs.Lists.{has, name_cmp, placed, same_name};
 ghost use Rattle.bf_live.specs.Live.{held_in, rows_in};
 ghost use Rattle.bf_live.specs.Drafts.{AreNamedApart, drafted_at, name_of_rows, rule_named, staying, staying_rows, staying_rules, tables_after, with_more, with_rows_of};
 
-use crate::heaps::exchange_heap;
+use crate::by_name::exchange_heap;
 use bf_base::{Memory, Name, Table};
 use bf_heap::Heap;
 use bf_tree::{Catalog, IndexRule};

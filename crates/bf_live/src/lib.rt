@@ -1,10 +1,10 @@
 //! The committed tables: a catalog, and the rows of each of its tables in a heap.
 #![tactic(auto)]
 
+mod by_name;
 mod commit;
 mod draft;
 pub mod footprint_laws;
-mod heaps;
 pub mod laws;
 pub mod live_tables;
 pub mod on_table;

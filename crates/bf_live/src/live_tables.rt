@@ -11,9 +11,9 @@ ghost use Rattle.bf_sql.specs.Bound.{catalog_of};
 ghost use Rattle.bf_live.specs.Drafts.{AreNamedApart, CanExchange, IsExchangeOf, tables_after};
 ghost use Rattle.bf_live.specs.Live.{IsUnderOwnKeys, TableRows, committed, exchanged, held_in, stored};
 
+use crate::by_name::exchange_heap;
 use crate::commit::{apply, make_room};
 use crate::draft::Draft;
-use crate::heaps::exchange_heap;
 use bf_base::{Memory, Name, Table};
 use bf_heap::Heap;
 use bf_tree::{Catalog, IndexRule};

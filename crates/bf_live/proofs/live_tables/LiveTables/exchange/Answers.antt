@@ -1,5 +1,6 @@
 use Rattle.std.proofs.Common.{ap, ◌∙◌}
 use Rattle.bf_tree.specs.Catalogs.{Catalog}
+use Rattle.bf_live.specs.Drafts.{Prepared, staying_rows, with_rows_of}
 use Rattle.bf_live.specs.Live.{rows_in}
 use Rattle.bf_live.proofs.Exchanged.{names_apart, prepared_apart, store_exchanged, view_exchanged}
 use Rattle.bf_live.proofs.live_tables.LiveTables.exchange.Goals as goal
@@ -14,8 +15,8 @@ invariant_of-self c =
       prepared = may.prepared;
       apart = names_apart c.args.self.now c.args.gone.now may.new may.database;
       kept = ap (λ m. rows_in m.entries) c.replace-old.ensures.value;
-      filled = c.put_staying.ensures;
-      number = ap (λ (catalog : Catalog). catalog.number) c.with_number.ensures;
+      filled = c.put_staying.ensures ∙ ap (λ (e : Prepared). record e.drafted { tables = with_rows_of (staying_rows c.args.gone.now (rows_in c.replace-old.result.entries)) e.drafted.tables }) c.exchange.view_is;
+      number = ap (λ (catalog : Catalog). catalog.number) c.with_number.ensures ∙ ap (λ (e : Prepared). e.number) c.exchange.view_is;
       tables = ap (λ (catalog : Catalog). catalog.tables) c.with_number.ensures ∙ c.into_parts-catalog.ensures.tables;
       rules = ap (λ (catalog : Catalog). catalog.indexes) c.with_number.ensures ∙ c.into_parts-catalog.ensures.indexes;
       rows_are = c.into_parts-catalog.ensures.rows;
@@ -30,8 +31,8 @@ returns c = λ new is.
       prepared = is;
       apart = prepared_apart c.args.self.now c.args.gone.now may.new new c.args.exchange may.database may.prepared is;
       kept = ap (λ m. rows_in m.entries) c.replace-old.ensures.value;
-      filled = c.put_staying.ensures;
-      number = ap (λ (catalog : Catalog). catalog.number) c.with_number.ensures;
+      filled = c.put_staying.ensures ∙ ap (λ (e : Prepared). record e.drafted { tables = with_rows_of (staying_rows c.args.gone.now (rows_in c.replace-old.result.entries)) e.drafted.tables }) c.exchange.view_is;
+      number = ap (λ (catalog : Catalog). catalog.number) c.with_number.ensures ∙ ap (λ (e : Prepared). e.number) c.exchange.view_is;
       tables = ap (λ (catalog : Catalog). catalog.tables) c.with_number.ensures ∙ c.into_parts-catalog.ensures.tables;
       rules = ap (λ (catalog : Catalog). catalog.indexes) c.with_number.ensures ∙ c.into_parts-catalog.ensures.indexes;
       rows_are = c.into_parts-catalog.ensures.rows;
