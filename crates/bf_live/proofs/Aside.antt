@@ -14,11 +14,13 @@ use Rattle.bf_base.proofs.Names.{name_cmp_total}
 use Rattle.bf_base.proofs.Parts.{map_itself}
 use Rattle.bf_heap.specs.Heaps.{Entry}
 use Rattle.bf_query.specs.Meanings.{entries_of}
+use Rattle.bf_tree.specs.Catalogs.{Catalog}
 use Rattle.bf_tree.specs.declared.catalog.IndexRule.{IndexRule}
 use Rattle.bf_sql.specs.Bound.{catalog_of}
 use Rattle.bf_sql.specs.Database.{Database, IsDatabase, Stored, is_keyed, is_on_table, is_within, stored_at, table_rows, with_rows}
 use Rattle.bf_live.specs.Aside.{OneMoreIsBack, OneMoreIsTaken, RowsComeBack, RowsLeaveUnread, set_aside}
-use Rattle.bf_live.specs.Live.{exchanged}
+use Rattle.bf_live.specs.Drafts.{CanExchange, IsExchangeOf, Prepared}
+use Rattle.bf_live.specs.Live.{exchanged, stored}
 use Rattle.bf_live.proofs.Heaps.{is_one}
 use Rattle.bf_live.proofs.Held.{name_of}
 use Rattle.bf_live.proofs.Swapped.{OfName, each_of_name}
@@ -149,6 +151,15 @@ aside_leaves_unread db (name ∷ names) gone new all =
     let parts = and_parts _ _ all in
     ap (λ (db : Database). exchanged db gone new) (sym (one_more_is_taken db names name))
     ∙ rows_leave_unread (set_aside names db) name [] gone new parts.0 ∙ aside_leaves_unread db names gone new parts.1
+
+-- so an exchange that may be made may be made with rows aside
+pub can_exchange_aside : (db : Database) (names gone : List (List ℕ)) (exchange : Prepared) → list_all (has same_name gone) names ≡ true → CanExchange db gone exchange → CanExchange (set_aside names db) gone exchange
+can_exchange_aside db names gone exchange all may = record {
+  new = may.new;
+  prepared = subst (λ (catalog : Catalog). IsExchangeOf catalog gone may.new exchange) (sym (catalog_aside db names)) may.prepared;
+  database = subst IsDatabase (sym (aside_leaves_unread db names gone (map stored may.new) all)) may.database;
+  under_own_keys = may.under_own_keys;
+}
 
 -- ---- what is found by a name
 module _ (names : List (List ℕ)) (name : List ℕ) where
