@@ -91,7 +91,7 @@ of_migrate db false m plan is =
 
 pub planned_so : (db : Database) (in_block : Bool) (s : Statement) (bound : Bound) (plan : Plan) → prepared_of db in_block s ≡ Some bound → bound.action ≡ action.Migrate plan
     → IsPlanned db in_block s plan
-planned_so db in_block s bound plan is act = elim other_action db s as (λ _. IsPlanned db in_block s plan) [
+planned_so db in_block s bound plan is act = elim (other_action db s) as (λ _. IsPlanned db in_block s plan) [
   | inl other ↦ absurd (not_bound db s plan (sym other ∙ (allowed_so (objections db in_block s) (prepared_action db s) plan acts).1))
   | inr migrate ↦
       subst (λ (s : Statement). IsPlanned db in_block s plan) (sym migrate.1)
