@@ -1,3 +1,4 @@
 pub mod Calls
+pub mod Marks
 pub mod States
 pub mod Stores

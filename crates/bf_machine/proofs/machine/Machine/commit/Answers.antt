@@ -21,7 +21,7 @@ settle-requires g c =
     let x : SessionSoFar = c.index_mut-so_far.result.now in
     let place : IsPlace i.script s = subst (λ (m : Machine). IsPlace m.script s) (sym c.self.view_is) c.requires.place in
     let high : s ≤ length i.sessions.items = omega (arith, place.1, c.self.invariant.0.kept.shaped.opens, length-map i.sessions.items open_seen) in
-    can_settle i.script i.retries i.live i.locks i.began.items i.sessions.items i.history i.commits i.transcripts c.self.invariant.0
+    can_settle i.script i.retries i.store i.locks i.began.items i.sessions.items i.history i.commits i.transcripts c.self.invariant.0
     s place.0 high x (sym c.index_mut-so_far.ensures.value) c.in-Some.group (sym c.take.ensures.value ∙ c.in-Some.is)
 
 pub overflow_add-number : goal.overflow_add-number
@@ -32,7 +32,7 @@ overflow_add-number g c =
     let place : IsPlace i.script s = subst (λ (m : Machine). IsPlace m.script s) (sym c.self.view_is) c.requires.place in
     let high : s ≤ length i.sessions.items = omega (arith, place.1, c.self.invariant.0.kept.shaped.opens, length-map i.sessions.items open_seen) in
     let fits =
-    number_fits i.script i.retries i.live i.locks i.began.items i.sessions.items i.history i.commits i.transcripts c.self.invariant.0
+    number_fits i.script i.retries i.store i.locks i.began.items i.sessions.items i.history i.commits i.transcripts c.self.invariant.0
     s place.0 high x (sym c.index_mut-so_far.ensures.value) c.in-Some.group (sym c.take.ensures.value ∙ c.in-Some.is) in
     omega (arith, fits, i.history.ok.1)
 
@@ -43,7 +43,7 @@ close-requires g c =
     let x : SessionSoFar = c.index_mut-so_far.result.now in
     let place : IsPlace i.script s = subst (λ (m : Machine). IsPlace m.script s) (sym c.self.view_is) c.requires.place in
     let high : s ≤ length i.sessions.items = omega (arith, place.1, c.self.invariant.0.kept.shaped.opens, length-map i.sessions.items open_seen) in
-    room_for_reply i.script i.retries i.live i.locks i.began.items i.sessions.items i.history i.commits i.transcripts c.self.invariant.0
+    room_for_reply i.script i.retries i.store i.locks i.began.items i.sessions.items i.history i.commits i.transcripts c.self.invariant.0
     s place.0 high x (sym c.index_mut-so_far.ensures.value) c.in-Some.group (sym c.take.ensures.value ∙ c.in-Some.is)
 
 pub least_left_behind-self-inside-requires-clause-each : goal.least_left_behind-self-inside-requires-clause-each
@@ -67,15 +67,15 @@ invariant_of-self-2 g c =
     let x : SessionSoFar = c.index_mut-so_far.result.now in
     let place : IsPlace i.script s = subst (λ (m : Machine). IsPlace m.script s) (sym c.self.view_is) c.requires.place in
     let high : s ≤ length i.sessions.items = omega (arith, place.1, c.self.invariant.0.kept.shaped.opens, length-map i.sessions.items open_seen) in
-    let m : Machine = seen i.script i.retries i.live i.locks i.began.items i.sessions.items i.history.items in
+    let m : Machine = seen i.script i.retries i.store i.locks i.began.items i.sessions.items i.history.items in
     let can : CanCommit m s = subst (λ (m : Machine). CanCommit m s) (sym c.self.view_is) c.requires.can in
     let ends = c.close.ensures in
     let pushed = c.push_reserved in
-    let goes_on = goes_on_at i.script i.retries i.live i.locks i.began.items i.sessions.items i.history.items s place.0 (open_goes_on m s can.1.o can.1.is) in
+    let goes_on = goes_on_at i.script i.retries i.store i.locks i.began.items i.sessions.items i.history.items s place.0 (open_goes_on m s can.1.o can.1.is) in
     let least =
     least_behind i.script.sessions i.sessions.items (s - 1) c.close.new.so_far i.least_left c.self.invariant.1 goes_on
     c.as_slice.ensures c.deref.ensures.value c.least_left_behind-self-inside.result c.least_left_behind-self-inside.ensures in (
-      commit_sound i.script i.retries i.live i.locks i.began.items i.sessions.items i.history i.commits i.transcripts c.self.invariant.0
+      commit_sound i.script i.retries i.store i.locks i.began.items i.sessions.items i.history i.commits i.transcripts c.self.invariant.0
           s place.0 high x (sym c.index_mut-so_far.ensures.value) c.in-Some.group (sym c.take.ensures.value ∙ c.in-Some.is) can.0 can.1
           c.close.new.so_far ends.closed ends.latest ends.capacity ends.replies
           c.free_all.new.self c.free_all.ensures.freed c.settle.new.live c.in_default-settle.ensures.ok pushed.new.self pushed.ensures.items pushed.ensures.capacity,
@@ -89,13 +89,13 @@ returns-clause-commits g c =
     let x : SessionSoFar = c.index_mut-so_far.result.now in
     let place : IsPlace i.script s = subst (λ (m : Machine). IsPlace m.script s) (sym c.self.view_is) c.requires.place in
     let high : s ≤ length i.sessions.items = omega (arith, place.1, c.self.invariant.0.kept.shaped.opens, length-map i.sessions.items open_seen) in
-    let m : Machine = seen i.script i.retries i.live i.locks i.began.items i.sessions.items i.history.items in
+    let m : Machine = seen i.script i.retries i.store i.locks i.began.items i.sessions.items i.history.items in
     let can : CanCommit m s = subst (λ (m : Machine). CanCommit m s) (sym c.self.view_is) c.requires.can in
     let ends = c.close.ensures in
     let pushed = c.push_reserved in
     let next : Machine = seen i.script i.retries c.settle.new.live c.free_all.new.self i.began.items (slice_set i.sessions.items (s - 1) c.close.new.so_far) pushed.new.self.items in
     subst (λ (m : Machine). Commits m s next) c.self.view_is
-    (commit_seen i.script i.retries i.live i.locks i.began.items i.sessions.items i.history i.commits i.transcripts c.self.invariant.0
+    (commit_seen i.script i.retries i.store i.locks i.began.items i.sessions.items i.history i.commits i.transcripts c.self.invariant.0
     s place.0 high x (sym c.index_mut-so_far.ensures.value) c.in-Some.group (sym c.take.ensures.value ∙ c.in-Some.is) can.0 can.1
     c.close.new.so_far ends.closed ends.latest ends.capacity ends.replies
     c.free_all.new.self c.free_all.ensures.freed c.settle.new.live c.in_default-settle.ensures.ok pushed.new.self pushed.ensures.items pushed.ensures.capacity)
@@ -108,8 +108,8 @@ invariant_of-self g c =
     let stays =
     sessions_stay i.sessions.items (s - 1) x (sym c.index_mut-so_far.ensures.value) c.in-Some.group
     (sym c.take.ensures.value ∙ c.in-Some.is) c.settle.new.pending c.in-Err.ensures.kept in (
-      subst (λ (sessions : List SessionSoFar). IsSound g.N.Opened.opening g.N.Opened.script i.script i.retries c.settle.new.live i.locks i.began.items sessions i.history i.commits i.transcripts) (sym stays)
-          (subst (λ (db : Database). IsSound g.N.Opened.opening g.N.Opened.script i.script i.retries db i.locks i.began.items i.sessions.items i.history i.commits i.transcripts) (sym c.in-Err.ensures.err) c.self.invariant.0),
+      subst (λ (sessions : List SessionSoFar). IsSound g.N.Opened.opening g.N.Opened.registry g.N.Opened.script i.script i.retries c.settle.new.live i.locks i.began.items sessions i.history i.commits i.transcripts) (sym stays)
+          (subst (λ (db : Database). IsSound g.N.Opened.opening g.N.Opened.registry g.N.Opened.script i.script i.retries db i.locks i.began.items i.sessions.items i.history i.commits i.transcripts) (sym c.in-Err.ensures.err) c.self.invariant.0),
       subst (λ (sessions : List SessionSoFar). IsLeastLeft i.script.sessions sessions (length sessions) i.least_left) (sym stays) c.self.invariant.1,
     )
 
