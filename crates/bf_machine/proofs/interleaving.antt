@@ -4,6 +4,9 @@ pub mod Entries
 pub mod Answers
 pub mod Texts
 pub mod Telling
+pub mod Planning
+pub mod Narrow
+pub mod Storing
 pub mod Running
 pub mod Others
 pub mod Opens
