@@ -7,7 +7,11 @@ pub mod Telling
 pub mod Planning
 pub mod Narrow
 pub mod Storing
+pub mod Opened
 pub mod Running
+pub mod Putting
+pub mod Settled
+pub mod Stirring
 pub mod Others
 pub mod Opens
 pub mod Legal

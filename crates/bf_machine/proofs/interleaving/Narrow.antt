@@ -96,7 +96,7 @@ narrow_executed commit db in_block s is narrow = by_refusal (objections db in_bl
     by_refusal (r ∷ rs) = narrow
 
 -- WITHIN THE LIMITS each statement is narrow
-abbrev AreNarrow : List Statement → Type 0
+abbrev pub AreNarrow : List Statement → Type 0
 AreNarrow = AllByRecursion IsNarrowStatement
 
 narrow_text : (ss : List Statement) → list_all is_narrow_statement ss ≡ true → AllByRecursion IsNarrowIfMigrate ss → AreNarrow ss

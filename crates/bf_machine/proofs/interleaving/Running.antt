@@ -219,7 +219,7 @@ text_means locks owner db n p rs ss text within run c r ends ending left =
     ran locks owner db n p rs ss within run ∙ ended
 
 -- ONE STATEMENT MORE
-abbrev IsCreate : Action → Type 0
+abbrev pub IsCreate : Action → Type 0
 IsCreate (action.CreateTable table) = Unit {0}
 IsCreate (action.CreateIndex index) = Unit {0}
 IsCreate other = ⊥
@@ -237,7 +237,7 @@ of_create (action.CreateIndex index) create = create
 of_create other create = absurd create
 
 -- nothing stands in the way of what a statement is bound to, or it is the first refusal
-from_objections : (rs : List Refusal) (o : Option Action) (act : Action) → unless_objected rs o ≡ Some act
+pub from_objections : (rs : List Refusal) (o : Option Action) (act : Action) → unless_objected rs o ≡ Some act
     → ((rs ≡ []) × (o ≡ Some act)) ⊎ ((r : Refusal) × (more : List Refusal) × (rs ≡ r ∷ more) × (act ≡ action.Refused r))
 from_objections [] o act is = inl (refl, is)
 from_objections (r ∷ rs) o act is = inr (r, rs, refl, sym (same_Some (action.Refused r) act is))
@@ -295,7 +295,7 @@ module _ (db : Database) (is : IsDatabase db) (before : List Write) (opened : Is
         ]
       ]
 
-  row_step : IsStep db before after inner s (executed 0 seen inner s).0
+  pub row_step : IsStep db before after inner s (executed 0 seen inner s).0
   row_step = record {
     meant = λ commit.
         ap₂ (λ (r : Reply) (d : Database). (r, d)) (ap (λ (t : Reply × Database). t.0) (same_number commit 0 seen inner s goes_on)) (leaves.means commit);

@@ -112,9 +112,7 @@ module _ (opens : List (Option Open)) (s : ℕ) (low : 1 ≤ s) (high : s ≤ le
     | inr apart ↦ (apart, sym (set_other None None opens s t None low apart) ∙ is_open)
   ]
 
--- THE STORE stays as it is, and so does the database: what is open then can be put into it
-module _ (start : Database) (m : Machine) (valid : StoreValid start m) (opens : List (Option Open))
-    (puts : (t : ℕ) (q : Open) → slice_index_or (None ∷ opens) t None ≡ Some q → CanBePutInto m.lazy q.pending) where
-  pub still_valid : (next : Machine) → next ≡ record next { db = m.db; lazy = m.lazy; pass = m.pass; opens = opens } → StoreValid start next
-  still_valid next same =
-      subst (StoreValid start) (sym same) (record { seen_as = valid.seen_as; narrow = valid.narrow; by_pass = valid.by_pass; puts = puts })
+-- THE STORE stays as it is where a group ends: what is open then was open before
+pub puts_without : (start : Database) (m : Machine) → StoreValid start m → (s : ℕ) → 1 ≤ s → s ≤ length m.opens
+    → (t : ℕ) (q : Open) → slice_index_or (None ∷ slice_set m.opens (s - 1) None) t None ≡ Some q → CanBePutInto m.lazy q.pending
+puts_without start m valid s low high t q is_open = valid.puts t q (each_without m.opens s low high t q is_open).1
