@@ -1,6 +1,6 @@
 //! The lazy store.
 
-ghost use Rattle.std.specs.Prelude.{◌≡◌, ◌∷◌, [], IfOk, None, OnErr, OnOk, map};
+ghost use Rattle.std.specs.Prelude.{◌≡◌, ◌+◌, ◌∷◌, [], IfOk, None, OnErr, OnOk, map};
 ghost use Rattle.std.specs.Option.{option_map};
 ghost use Rattle.bf_tree.specs.Limits.{HasNarrowTables, IsNarrowMigrate, is_narrow};
 ghost use Rattle.std.specs.Prelude.{IsTrue};
@@ -35,9 +35,16 @@ pub struct Store {
 }
 
 impl Model for Store {
+    ghost use Rattle.std.specs.Coded.{codes};
+    ghost use Rattle.boxcar.specs.Table.{where_coded};
+    ghost use Rattle.bf_tree.specs.contracts.raw.RawCond as conds;
+    ghost use Rattle.bf_tree.specs.contracts.raw.RawExpr as exprs;
+    ghost use Rattle.bf_image.specs.contracts.migration.Migration as migrations;
     ghost use Rattle.bf_store.specs.Stores.{IsStore, Store as Seen, seen};
 
     ghost Value = { Seen };
+
+    ghost coded = { Prim.hlevel (codes, exprs.the_row.coded, conds.the_row.coded, where_coded migrations.the_row.coded) };
 
     ghost view = { λ store. seen store.live store.last store.records };
 

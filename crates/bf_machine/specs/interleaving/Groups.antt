@@ -13,7 +13,7 @@ use Rattle.bf_tree.specs.declared.reply.Refusal.{Refusal}
 use Rattle.bf_tree.specs.declared.reply.Reply.{Reply}
 use Rattle.bf_tree.specs.declared.statement.Statement.{Statement}
 use Rattle.bf_tree.specs.declared.statement.Statement.TheVariants as statement
-use Rattle.bf_sql.specs.Bound.{bound_of}
+use Rattle.bf_sql.specs.Bound.{bound_of, changes_schema}
 use Rattle.bf_sql.specs.Database.{Database, IsDatabase, stored_in_order, with_tables}
 use Rattle.bf_sql.specs.Footprints.{Lock, catalog_change, footprint_of}
 use Rattle.bf_sql.specs.Meaning.{executed, next_number, with_index}
@@ -73,6 +73,7 @@ answered_by in_block (r ∷ rs) (s ∷ ss) = record { in_block = in_block; state
 pub record IsSchemaStep (locks : Locks) (owner : ℕ) (db : Database) (told : List Answered) (change : Pending) : Type 0 where
   pub statement : Statement
   pub reply : Reply
+  pub changes : changes_schema false statement ≡ true
   pub alone : told ≡ record { in_block = false; statement = statement; reply = reply } ∷ []
   pub meant : (commit : ℕ) → executed commit db false statement ≡ (reply, left_by db change)
   pub database : IsDatabase (left_by db change)

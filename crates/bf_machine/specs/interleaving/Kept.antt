@@ -1,5 +1,5 @@
 -- WHAT EVERY EVENT KEEPS of a machine whose sessions take turns.
-use Rattle.std.specs.Prelude.{◌≡◌, ◌≢◌, ◌⊎◌, ℕ, ◌+◌, ◌<◌, ◌≤◌, Bool, true, false, List, [], ◌∷◌, ◌++◌, length, map, take, Option, Some, None, Contains, slice_index_or}
+use Rattle.std.specs.Prelude.{◌≡◌, ◌≢◌, ◌⊎◌, ℕ, ◌+◌, ◌<◌, ◌≤◌, Bool, true, false, List, [], ◌∷◌, ◌++◌, length, map, take, Option, Some, None, Contains, slice_index_or, IsTrue}
 use Rattle.std.specs.FinMap as fin
 use Rattle.std.specs.List.{AllByRecursion}
 use Rattle.bf_locks.specs.declared.mode.Mode.{Mode}
@@ -10,7 +10,7 @@ use Rattle.bf_tree.specs.declared.history.Entry.{Entry}
 use Rattle.bf_tree.specs.declared.history.Outcome.{Outcome}
 use Rattle.bf_tree.specs.declared.reply.Cause.{Cause}
 use Rattle.bf_tree.specs.declared.reply.Cause.TheVariants.{Died}
-use Rattle.bf_tree.specs.Limits.{HasNarrowTables, IsNarrowMigrate}
+use Rattle.bf_tree.specs.Limits.{HasNarrowTables, IsNarrowIfMigrate, IsNarrowMigrate, is_narrow_script}
 use Rattle.bf_tree.specs.declared.plan.Plan.{Plan}
 use Rattle.bf_tree.specs.declared.reply.Reply.{Reply}
 use Rattle.bf_tree.specs.declared.script.Script.{Script}
@@ -23,7 +23,7 @@ use Rattle.bf_sql.specs.History.{IsEndedBy, IsLegalHistory, replayed}
 use Rattle.bf_sql.specs.migrations.Lazy.{LazyState, view_of}
 use Rattle.bf_sql.specs.migrations.Plans.{plan_made}
 use Rattle.bf_store.specs.Calls.{MayFlip}
-use Rattle.bf_store.specs.States.{IsOpenLazily, IsSeenAs}
+use Rattle.bf_store.specs.States.{IsLazy, IsOpenLazily, IsSeenAs}
 use Rattle.bf_store.specs.Stores.{IsByPass, Store}
 use Rattle.bf_machine.specs.InOrder.{none_open}
 use Rattle.bf_machine.specs.interleaving.Groups.{Pending, Rows, Flip, footprint_in, HasRun}
@@ -77,6 +77,11 @@ IsToldACause m s group = (cause : Cause) × IsEndedBy m.script m.told s group ca
 -- session s is of the current phase or of an earlier one: all sessions of phases before its own have ended
 abbrev pub IsCurrent : Machine → ℕ → Type 0
 IsCurrent m s = (t : ℕ) → phase_of m.script t < phase_of m.script s → (length (session_at m.script t).statements ≤ length (told_at m t)) × (open_at m t ≡ None)
+
+-- a script within the limits of the language, each MIGRATE too
+pub record IsWithinLimits (script : Script) : Type 0 where
+  pub narrow : IsTrue (is_narrow_script script)
+  pub migrates : AllByRecursion (λ (s : Session). AllByRecursion IsNarrowIfMigrate s.statements) script.sessions
 
 -- each session of the script has a place for its open group and for its replies
 pub record IsShaped (m : Machine) : Type 0 where
@@ -192,6 +197,7 @@ module _ (start : Database) (m : Machine) where
 
   -- ALL OF THEM
   pub record IsKept : Type 0 where
+    pub within : IsWithinLimits m.script
     pub shaped : IsShaped m
     pub store_valid : StoreValid
     pub history_legal : HistoryLegal
@@ -204,6 +210,12 @@ no_group s = None
 
 abbrev pub no_replies : Session → List Reply
 no_replies s = []
+
+-- what is true of the store that a machine begins with
+pub record IsOpening (store : Store) : Type 0 where
+  pub lazy_state : IsLazy store.lazy
+  pub narrow : HasNarrowTables (catalog_of store.lazy.live)
+  pub by_pass : IsByPass store.lazy.last store.migration
 
 -- NEW: nothing has begun
 abbrev pub fresh : Store → Script → ℕ → Machine

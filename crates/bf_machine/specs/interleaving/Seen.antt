@@ -1,9 +1,8 @@
 -- THE MACHINE OF THE CODE, as it is seen, and what else its type keeps.
-use Rattle.std.specs.Prelude.{◌≡◌, ℕ, ◌+◌, ◌-◌, ◌<◌, ◌≤◌, ◌^◌, ◌⊎◌, Bool, List, [], ◌∷◌, map, length, take, drop, Option, Some, None, option_map, count_by, is_some, slice_index_or, vec_capacity, IsTrue, if◌then◌else◌}
+use Rattle.std.specs.Prelude.{◌≡◌, ℕ, ◌+◌, ◌-◌, ◌<◌, ◌≤◌, ◌^◌, ◌⊎◌, Bool, List, [], ◌∷◌, map, length, take, drop, Option, Some, None, option_map, count_by, is_some, slice_index_or, vec_capacity, if◌then◌else◌}
 use Rattle.std.specs.Global.{Vec}
 use Rattle.bf_locks.specs.Locks.{Locks}
-use Rattle.std.specs.List.{AllByRecursion}
-use Rattle.bf_tree.specs.Limits.{HasNarrowTables, IsNarrowIfMigrate, is_narrow_script}
+use Rattle.bf_tree.specs.Limits.{HasNarrowTables}
 use Rattle.bf_tree.specs.declared.history.Entry.{Entry}
 use Rattle.bf_tree.specs.declared.reply.Reply.{Reply}
 use Rattle.bf_tree.specs.declared.script.Script.{Script}
@@ -25,11 +24,6 @@ use Rattle.bf_machine.specs.interleaving.Events.{commits_behind}
 use Rattle.bf_machine.specs.interleaving.Groups.{Pending, Rows, NewTable, NewIndex, Flip, Nothing}
 use Rattle.bf_machine.specs.interleaving.Kept.{HasStart, IsKept}
 use Rattle.bf_machine.specs.interleaving.Machines.{Group, Began, Open, Machine}
-
--- within the limits of the language, each MIGRATE too
-pub record IsWithinLimits (script : Script) : Type 0 where
-  pub narrow : IsTrue (is_narrow_script script)
-  pub migrates : AllByRecursion (λ (s : Session). AllByRecursion IsNarrowIfMigrate s.statements) script.sessions
 
 abbrev pub pending_seen : PendingChange → Pending
 pending_seen (change.Rows writes) = Rows writes
@@ -98,12 +92,11 @@ pub record IsRoomy (script : Script) (began : List Began) (s : ℕ) (so_far : Se
   pub numbers : length (session_at script s).statements < 2 ^ 32
   pub latest : IsLatest began s so_far.latest
 
--- SOUND: the script is the one that the run began with, within the limits of the language, and the tables that it began with are
--- narrow; the pass of the migration is of the run's registry; what is seen is kept, from the opening database on; the commits are
--- counted; and there is room for each reply, and for the entry of each open group
+-- SOUND: the script is the one that the run began with, and the tables that it began with are narrow; the pass of the migration is
+-- of the run's registry; what is seen is kept, from the opening database on; the commits are counted; and there is room for each
+-- reply, and for the entry of each open group
 pub record IsSound (opening : Database) (registry : Registry) (given : Script) (script : Script) (retries : ℕ) (store : Store) (locks : Locks) (began : List BeganGroup) (sessions : List SessionSoFar) (history : Vec Entry) (commits : ℕ) (transcripts : Vec (List Reply)) : Type 0 where
   pub is_given : script ≡ given
-  pub within : IsWithinLimits script
   pub narrow : HasNarrowTables (catalog_of opening)
   pub one : IsOf registry store.migration
   pub kept : IsKept opening (seen script retries store locks began sessions history.items)
