@@ -16,9 +16,8 @@ ghost use Rattle.bf_sql.specs.migrations.Lazy.{view_of};
 ghost use Rattle.bf_store.specs.Stores.{IsOf};
 ghost use Rattle.bf_machine.specs.interleaving.Calls.{IsCovered, IsPlace, next_place, reply_at};
 ghost use Rattle.bf_machine.specs.interleaving.Serving.{is_answered, is_in_block};
-ghost use Rattle.bf_machine.specs.interleaving.Kept.{IsKept, TranscriptsLegal, fresh};
+ghost use Rattle.bf_machine.specs.interleaving.Kept.{IsKept, IsWithinLimits, TranscriptsLegal, fresh};
 ghost use Rattle.bf_machine.specs.interleaving.Machines.{open_at, transcripts_of};
-ghost use Rattle.bf_machine.specs.interleaving.Seen.{IsWithinLimits};
 
 use crate::opened::Opened;
 use crate::so_far::{Began, SessionSoFar, all_replies, least_left, sessions_so_far};

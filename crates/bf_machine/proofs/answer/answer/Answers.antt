@@ -20,7 +20,8 @@ use Rattle.bf_store.proofs.seeing.Viewing.{view_is_database}
 use Rattle.bf_machine.specs.interleaving.Answering.{IsAnswer}
 use Rattle.bf_machine.specs.interleaving.Groups.{Pending, Rows, NewTable, NewIndex, flip_unless}
 use Rattle.bf_machine.specs.interleaving.Seen.{pending_seen}
-use Rattle.bf_machine.proofs.keeping.Answered.{IsPlain, answer_of, answers_of, begun_answer, index_answer, on_live, refused_answer, stays_of, table_answer}
+use Rattle.bf_machine.proofs.interleaving.Planning.{IsPlain}
+use Rattle.bf_machine.proofs.keeping.Answered.{answer_of, answers_of, begun_answer, index_answer, on_live, refused_answer, stays_of, table_answer}
 use Rattle.bf_machine.proofs.keeping.Migrating.{allowed_live, migrate_answers, own_narrow, own_sources}
 use Rattle.bf_machine.proofs.answer.answer.Goals as goal
 
