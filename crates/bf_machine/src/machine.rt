@@ -16,9 +16,8 @@ ghost use Rattle.bf_sql.specs.migrations.Lazy.{view_of};
 ghost use Rattle.bf_store.specs.Stores.{IsOf};
 ghost use Rattle.bf_machine.specs.interleaving.Calls.{IsCovered, IsPlace, next_place, reply_at};
 ghost use Rattle.bf_machine.specs.interleaving.Serving.{is_answered, is_in_block};
-ghost use Rattle.bf_machine.specs.interleaving.Kept.{IsKept, TranscriptsLegal, fresh};
+ghost use Rattle.bf_machine.specs.interleaving.Kept.{IsKept, IsWithinLimits, TranscriptsLegal, fresh};
 ghost use Rattle.bf_machine.specs.interleaving.Machines.{open_at, transcripts_of};
-ghost use Rattle.bf_machine.specs.interleaving.Seen.{IsWithinLimits};
 
 use crate::opened::Opened;
 use crate::so_far::{Began, SessionSoFar, all_replies, least_left, sessions_so_far};
@@ -69,10 +68,12 @@ impl<N: Opened> Model for Machine<N> {
     ghost use Rattle.bf_tree.specs.contracts.raw.RawExpr as exprs;
     ghost use Rattle.bf_tree.specs.contracts.raw.RawCond as conds;
     ghost use Rattle.bf_locks.specs.contracts.table.LockTable as tables;
+    ghost use Rattle.boxcar.specs.Table.{where_coded};
+    ghost use Rattle.bf_image.specs.contracts.migration.Migration as migrations;
 
     ghost Value = { Seen };
 
-    ghost coded = { Prim.hlevel (codes, exprs.the_row.coded, conds.the_row.coded, tables.the_row.coded) };
+    ghost coded = { Prim.hlevel (codes, exprs.the_row.coded, conds.the_row.coded, tables.the_row.coded, where_coded migrations.the_row.coded) };
 
     ghost use Rattle.std.specs.Prelude.{length};
     ghost use Rattle.bf_machine.specs.interleaving.Seen.{IsLeastLeft, IsSound, seen};

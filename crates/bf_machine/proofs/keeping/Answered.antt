@@ -8,7 +8,6 @@ use Rattle.bf_tree.specs.declared.bound.Action.{Action}
 use Rattle.bf_tree.specs.declared.bound.Action.TheVariants as action
 use Rattle.bf_tree.specs.declared.bound.Bound.{Bound}
 use Rattle.bf_tree.specs.declared.catalog.IndexRule.{IndexRule}
-use Rattle.bf_tree.specs.declared.plan.Plan.{Plan}
 use Rattle.bf_tree.specs.declared.reply.Refusal.{Refusal}
 use Rattle.bf_tree.specs.declared.reply.Reply.{Reply}
 use Rattle.bf_tree.specs.declared.reply.Reply.TheVariants as reply
@@ -20,9 +19,7 @@ use Rattle.bf_sql.specs.Meaning.{effect, executed, unless_refused}
 use Rattle.bf_sql.specs.Objections.{objections}
 use Rattle.bf_sql.specs.RowObjections.{row_objections}
 use Rattle.bf_sql.specs.migrations.Lazy.{LazyState, view_of}
-use Rattle.bf_sql.specs.migrations.MigrationObjections.{migrate_objections}
 use Rattle.bf_sql.specs.migrations.Need.{needed_for}
-use Rattle.bf_sql.specs.migrations.Plans.{plan_made, prepared_of}
 use Rattle.bf_query.specs.Actions.{action_table}
 use Rattle.bf_query.specs.Meanings.{IsBoundAs, writes_after}
 use Rattle.bf_txn.specs.declared.write.Write.{Write}
@@ -40,6 +37,7 @@ use Rattle.bf_store.proofs.seeing.Preparing.{prepared_as_seen}
 use Rattle.bf_store.proofs.seeing.Stepping.{step_is_seen}
 use Rattle.bf_machine.specs.interleaving.Answering.{IsAnswer, IsNext}
 use Rattle.bf_machine.specs.interleaving.Groups.{Pending, Rows, NewTable, NewIndex, pending_behind, reply_on}
+use Rattle.bf_machine.proofs.interleaving.Planning.{IsPlain, prepared_as_bound}
 
 -- nothing objects, or the first objection is the refusal
 objected : (rs : List Refusal) (o : Option Action) (r : Refusal) → unless_objected rs o ≡ Some (action.Refused r) → (o ≡ Some (action.Refused r) → ⊥)
@@ -108,32 +106,6 @@ planned_on false (Migrate migrate) n b (r ∷ rs) db bound table is on =
 planned_on true s n b rs db bound table is on = refl
 planned_on false s n b rs db bound table is on = refl
 
--- a MIGRATE that is planned is prepared, and not bound
-abbrev pub IsPlain : Action → Type 0
-IsPlain (action.Migrate plan) = ⊥
-IsPlain other = Unit {0}
-
--- each other action is bound as it is prepared
-unplanned : (rs : List Refusal) (n : ℕ) (b : Bool) (plan : Plan) (bound : Bound)
-    → option_map (λ act. record { catalog = n; schema_change = b; action = act }) (unless_objected rs (Some (action.Migrate plan))) ≡ Some bound → IsPlain bound.action
-    → option_map (λ act. record { catalog = n; schema_change = b; action = act }) (unless_objected rs None) ≡ Some bound
-unplanned [] n b plan bound is plain = absurd (subst IsPlain (sym (ap (λ (x : Bound). x.action) (same_Some _ bound is))) plain)
-unplanned (r ∷ rs) n b plan bound is plain = is
-
-pub bound_as_prepared : (db : Database) (in_block : Bool) (s : Statement) (bound : Bound) → prepared_of db in_block s ≡ Some bound → IsPlain bound.action
-    → bound_of db in_block s ≡ Some bound
-bound_as_prepared db true (Migrate m) bound is plain = is
-bound_as_prepared db false (Migrate m) bound is plain = unplanned (migrate_objections db m) db.number true (plan_made db m) bound is plain
-bound_as_prepared db in_block (CreateTable name rules key) bound is plain = is
-bound_as_prepared db in_block (CreateIndex name table columns) bound is plain = is
-bound_as_prepared db in_block (Insert table tuples) bound is plain = is
-bound_as_prepared db in_block (Select list table cond) bound is plain = is
-bound_as_prepared db in_block (Update table sets cond) bound is plain = is
-bound_as_prepared db in_block (Delete table cond) bound is plain = is
-bound_as_prepared db in_block Begin bound is plain = is
-bound_as_prepared db in_block Commit bound is plain = is
-bound_as_prepared db in_block Rollback bound is plain = is
-
 -- only a CREATE and a MIGRATE leave something else than rows
 rows_behind : (db : Database) (writes : List Write) (in_block : Bool) (s : Statement) (act : Action) → (IsCreate act → ⊥) → IsPlain act
     → Rows (writes_behind (committed db writes) writes in_block s) ≡ pending_behind db (Rows writes) in_block s act
@@ -156,7 +128,7 @@ module _ (db : Database) (database : IsDatabase db) (writes : List Write) (bound
   view = committed db writes
 
   bound_so : bound_of db in_block s ≡ Some bound
-  bound_so = bound_as_prepared db in_block s bound next.is plain
+  bound_so = prepared_as_bound db in_block s bound next.is plain
 
   parts : (d : Database) → bound_of d in_block s ≡ Some bound → unless_objected (objections d in_block s) (action_of d s) ≡ Some bound.action
   parts d is = (parts_of d.number (changes_schema in_block s) (unless_objected (objections d in_block s) (action_of d s)) bound is).1

@@ -42,8 +42,13 @@ impl<N: Opened> Machine<N> {
         let Some(mut group) = so_far.open.take() else {
             unreachable!();
         };
-        let settled = settle(self.alloc, rt, registry, &mut self.store, &mut group.pending);
-        if let Err(memory) = settled {
+        if let Err(memory) = settle(
+            self.alloc,
+            rt,
+            registry,
+            &mut self.store,
+            &mut group.pending,
+        ) {
             so_far.open = Some(group);
             return Err(memory);
         }

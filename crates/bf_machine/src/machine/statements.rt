@@ -100,7 +100,8 @@ impl<N: Opened> Machine<N> {
     {
         let number = self.store.live().catalog().number();
         let last = self.store.migration();
-        if bound.catalog != number || !are_same(registry, migration, last.as_ref()) {
+        let same = are_same(registry, migration, last.as_ref());
+        if bound.catalog != number || !same {
             return Ok(Some(Step::Stale(number)));
         }
         let need = self.store.need(self.alloc, cover.granules.as_slice())?;
