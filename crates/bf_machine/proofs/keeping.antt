@@ -15,7 +15,6 @@ pub mod Stands
 pub mod Current
 pub mod LeastLeft
 pub mod Exchanging
-pub mod Catalogs
 pub mod Numbers
 pub mod Executing
 pub mod Lasts

@@ -14,10 +14,13 @@ use Rattle.bf_tree.specs.declared.reply.Reply.TheVariants as reply
 use Rattle.bf_tree.specs.declared.script.Script.{Script}
 use Rattle.bf_tree.specs.declared.statement.Statement.{Statement}
 use Rattle.bf_tree.specs.declared.statement.Statement.TheVariants.{Commit, Rollback}
+use Rattle.boxcar.specs.Table.{Where}
 use Rattle.bf_sql.specs.Database.{Database}
+use Rattle.bf_sql.specs.migrations.Lazy.{LazyState}
+use Rattle.bf_image.specs.declared.migration.Migration.{Migration}
 use Rattle.bf_sql.specs.Groups.{ends_block, groups_in, has_statement, session_at, statements_in}
 use Rattle.bf_machine.specs.interleaving.Calls.{replies_at, statements_at}
-use Rattle.bf_machine.specs.interleaving.Events.{Aborts, Begins, Commits, Event, Executes, Reaches, Refuses, aborts, at_once, begun, begun_again, commits_behind, commits_now, entry_of, one_more, opened, rest_of, stepped, text_of, with_open}
+use Rattle.bf_machine.specs.interleaving.Events.{Aborts, Begins, Commits, Event, Executes, Reaches, Refuses, aborts, at_once, begun, begun_again, commits_behind, commits_now, entry_of, one_more, opened, rest_of, stepped, text_of, with_open, put_into}
 use Rattle.bf_machine.specs.interleaving.Groups.{left_by}
 use Rattle.bf_machine.specs.interleaving.Kept.{IsKept}
 use Rattle.bf_machine.specs.interleaving.Machines.{Machine, Open, open_at, told_at, with_replies}
@@ -128,22 +131,22 @@ module _ {start : Database} (m : Machine) (kept : IsKept start m) (s : ℕ) wher
           omega (arith, one, other, more)
 
   -- the end of an open group
-  module _ (o : Open) (is : open_at m s ≡ Some o) (c : Statement) (left : (rest_of m s o ≡ []) ⊎ (rest_of m s o ≡ c ∷ [])) (r : Reply) (db : Database) (e : Entry) (same : e.session ≡ s) where
+  module _ (o : Open) (is : open_at m s ≡ Some o) (c : Statement) (left : (rest_of m s o ≡ []) ⊎ (rest_of m s o ≡ c ∷ [])) (r : Reply) (db : Database) (lazy : LazyState) (pass : Option (Where Migration)) (e : Entry) (same : e.session ≡ s) where
     abbrev after : Machine
-    after = over m kept (are_texts m.script) s o is r db e same
+    after = over m kept (are_texts m.script) s o is r db lazy pass e same
 
     closed_after : open_at after s ≡ None
-    closed_after = closed_then m kept (are_texts m.script) s o is r db e same
+    closed_after = closed_then m kept (are_texts m.script) s o is r db lazy pass e same
 
     size_after : length (replies_at after s) ≡ length (replies_at m s) + length (rest_of m s o)
-    size_after = end_answers m kept (are_texts m.script) s o is r db e same
+    size_after = end_answers m kept (are_texts m.script) s o is r db lazy pass e same
 
     end_adds_none : rest_of m s o ≡ [] → unanswered after s ≡ unanswered m s
     end_adds_none none = let nothing = ap (λ (ss : List Statement). length ss) none in omega (arith, size_after, nothing)
 
     end_goes_on : Event start m after → HasGoneOn m s start after
     end_goes_on event = record {
-      serves = end_serves m kept (are_texts m.script) s o is r db e same;
+      serves = end_serves m kept (are_texts m.script) s o is r db lazy pass e same;
       reached = one_more at_once event;
       more = closed_more after s closed_after;
       has_reply = closed_reply after s closed_after;
@@ -160,11 +163,11 @@ module _ {start : Database} (m : Machine) (kept : IsKept start m) (s : ℕ) wher
   commit_goes_on next by =
       let n = commits_behind 0 m.history + 1 in
       subst (HasGoneOn m s start) (sym by.goes)
-      (end_goes_on by.o by.is Commit by.left (reply.Committed n) (left_by m.db by.o.pending) (entry_of m s by.o (Committed n)) refl (subst (Event start m) by.goes (commits_now s by)))
+      (end_goes_on by.o by.is Commit by.left (reply.Committed n) (left_by m.db by.o.pending) (put_into m.lazy by.o.pending) next.pass (entry_of m s by.o (Committed n)) refl (subst (Event start m) by.goes (commits_now s by)))
 
   pub abort_goes_on : (next : Machine) → Aborts m s next → HasGoneOn m s start next
   abort_goes_on next by =
-      subst (HasGoneOn m s start) (sym by.goes) (end_goes_on by.o by.is Rollback by.left reply.RolledBack m.db (entry_of m s by.o RolledBack) refl (subst (Event start m) by.goes (aborts s by)))
+      subst (HasGoneOn m s start) (sym by.goes) (end_goes_on by.o by.is Rollback by.left reply.RolledBack m.db m.lazy m.pass (entry_of m s by.o RolledBack) refl (subst (Event start m) by.goes (aborts s by)))
 
   -- and where each statement had its reply
   module _ (answered : is_answered m s ≡ true) where
@@ -178,12 +181,12 @@ module _ {start : Database} (m : Machine) (kept : IsKept start m) (s : ℕ) wher
     commit_adds_none next by =
         let n = commits_behind 0 m.history + 1 in
         subst (λ (next : Machine). unanswered next s ≡ unanswered m s) (sym by.goes)
-        (end_adds_none by.o by.is Commit by.left (reply.Committed n) (left_by m.db by.o.pending) (entry_of m s by.o (Committed n)) refl (none_left by.o by.is))
+        (end_adds_none by.o by.is Commit by.left (reply.Committed n) (left_by m.db by.o.pending) (put_into m.lazy by.o.pending) next.pass (entry_of m s by.o (Committed n)) refl (none_left by.o by.is))
 
     pub abort_adds_none : (next : Machine) → Aborts m s next → unanswered next s ≡ unanswered m s
     abort_adds_none next by =
         subst (λ (next : Machine). unanswered next s ≡ unanswered m s) (sym by.goes)
-        (end_adds_none by.o by.is Rollback by.left reply.RolledBack m.db (entry_of m s by.o RolledBack) refl (none_left by.o by.is))
+        (end_adds_none by.o by.is Rollback by.left reply.RolledBack m.db m.lazy m.pass (entry_of m s by.o RolledBack) refl (none_left by.o by.is))
 
   -- BEGIN: nothing has its reply yet
   module _ (place : (1 ≤ s) × (s ≤ length m.opens)) where

@@ -20,7 +20,7 @@ use Rattle.bf_machine.specs.declared.stand.Stand.{Stand}
 use Rattle.bf_machine.specs.declared.stand.Stand.TheVariants as stand
 use Rattle.bf_machine.specs.declared.stand.Step.{Step}
 use Rattle.bf_machine.specs.declared.stand.Step.TheVariants.{Need, Replied, Stale}
-use Rattle.bf_machine.specs.interleaving.Events.{Aborts, Begins, Commits, Executes, Refuses, rest_of, stands_inside}
+use Rattle.bf_machine.specs.interleaving.Events.{Aborts, Begins, Executes, IsToCommit, Refuses, rest_of, stands_inside}
 use Rattle.bf_machine.specs.interleaving.Groups.{footprint_in}
 use Rattle.bf_machine.specs.interleaving.Kept.{HasEnded, HasStart, IsCurrent}
 use Rattle.bf_machine.specs.interleaving.Machines.{Group, Machine, Open, open_at, told_at, with_replies}
@@ -70,12 +70,12 @@ module _ (m : Machine) (s : ℕ) where
   abbrev pub IsCovered : LockName → Mode → Type 0
   IsCovered name mode = IsSomeAnd (open_at m s) (λ o. HoldsIn m.locks o.start name mode)
 
-  -- a call may be made where its event can come
+  -- a call may be made where its event can come; which pass a flip comes with is not known before
   abbrev pub CanBegin : Type 0
   CanBegin = (next : Machine) × Begins m s next
 
   abbrev pub CanCommit : Type 0
-  CanCommit = (next : Machine) × Commits m s next
+  CanCommit = IsToCommit m s
 
   abbrev pub CanAbort : Type 0
   CanAbort = (next : Machine) × Aborts m s next

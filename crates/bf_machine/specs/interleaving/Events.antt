@@ -158,6 +158,13 @@ module _ (m : Machine) (s : ℕ) where
       let n = commits_behind 0 m.history + 1 in
       record (ended o (o.replies ++ map (λ _. reply.Committed n) (rest_of m s o))) { db = left_by m.db o.pending; lazy = put_into m.lazy o.pending; history = m.history ++ entry_of o (Committed n) ∷ [] }
 
+  pub record IsToCommit : Type 0 where
+    pub current : IsCurrent m s
+    pub o : Open
+    pub is : open_at m s ≡ Some o
+    pub commits_so : commits (text_of m s o) ≡ true
+    pub left : (rest_of m s o ≡ []) ⊎ (rest_of m s o ≡ Commit ∷ [])
+
   pub record Commits (next : Machine) : Type 0 where
     pub current : IsCurrent m s
     pub o : Open
