@@ -113,7 +113,7 @@ narrow_at (x ∷ sessions) zero few all =
 narrow_at (x ∷ sessions) (suc n) few all =
     narrow_at sessions n (and_parts (list_all is_narrow_statement x.statements) (list_all (λ (s : Session). list_all is_narrow_statement s.statements) sessions) few).1 all.1
 
-narrow_session : (script : Script) → IsWithinLimits script → (s : ℕ) → AreNarrow (session_at script s).statements
+pub narrow_session : (script : Script) → IsWithinLimits script → (s : ℕ) → AreNarrow (session_at script s).statements
 narrow_session script within zero = tt
 narrow_session script within (suc s) = narrow_at script.sessions s within.narrow within.migrates
 
