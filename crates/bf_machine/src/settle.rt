@@ -20,8 +20,8 @@ use std::sync::Wait;
 fn is_empty(writes: &Workspace) -> bool
     ensures { IsTrue result ↔ (writes.now ≡ []) }
 {
-    for (_table, writes) in writes.tables() {
-        if !writes.is_empty() {
+    for (_table, written) in writes.tables() {
+        if !written.is_empty() {
             return false;
         }
     }
@@ -50,6 +50,8 @@ pub(crate) fn settle<R: Wait>(
     ensures err { OnErr result (store.new ≡ store.old) }
     ensures kept { OnErr result (pending_seen pending.new ≡ pending_seen pending.old) }
 {
+    // Its contract says that the store is a lazy state.
+    let _ = store.live();
     match pending {
         Pending::Rows(writes) => {
             if !is_empty(writes) {

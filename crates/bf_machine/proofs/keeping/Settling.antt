@@ -1,5 +1,5 @@
 -- A table or an index rule more than what is seen has is one more than the live tables have.
-use Rattle.std.proofs.Common.{◌≡◌, ℕ, true, false, ◌&&◌, List, [], ◌∷◌, map, find, Option, Some, None, is_some, option_map, refl, sym, ap, subst, ◌∙◌}
+use Rattle.std.proofs.Common.{◌≡◌, ℕ, Bool, true, false, ◌&&◌, List, [], ◌∷◌, map, find, Option, Some, None, is_some, option_map, refl, sym, ap, subst, ◌∙◌}
 use Rattle.std.specs.List.{list_all}
 use Rattle.std.specs.Ordering.{eq_by_cmp}
 use Rattle.std.proofs.lemmas.Bool.{and_parts, not-true}
@@ -11,7 +11,9 @@ use Rattle.bf_base.proofs.Apart.{are_apart, apart_from_rises, are_apart-same_ite
 use Rattle.bf_base.proofs.Items.{mapped}
 use Rattle.bf_base.proofs.Names.{name_cmp_total, same_name-tie}
 use Rattle.bf_base.proofs.Order.{is_some-look_up, list_all-with_placed, list_any-map}
+use Rattle.bf_tree.specs.Limits.{HasNarrowTables, is_narrow}
 use Rattle.bf_tree.specs.declared.catalog.IndexRule.{IndexRule}
+use Rattle.bf_sql.specs.Bound.{catalog_of}
 use Rattle.bf_sql.specs.Database.{Database, Stored, IsDatabase, is_admitted, is_keyed, is_on_table, is_within, stored_at, stored_in_order, with_tables}
 use Rattle.bf_sql.specs.Meaning.{next_number, with_index}
 use Rattle.bf_sql.specs.migrations.Lazy.{LazyState, seen, view_of}
@@ -35,6 +37,15 @@ none_before db table is =
 as_many : (last : Option Stored) (f : Stored → Stored) → is_some (option_map f last) ≡ is_some last
 as_many None f = refl
 as_many (Some s) f = refl
+
+-- a new table is as narrow as the tables that are seen with it
+pub narrow_table : (lazy : LazyState) (table : Table) → HasNarrowTables (catalog_of (next_number (with_tables (stored_in_order table [] ∷ []) (view_of lazy)))) → is_narrow table ≡ true
+narrow_table lazy table narrow =
+    let test : Stored → Bool = λ s. is_narrow s.table in
+    let all : List Stored = stored_in_order table [] ∷ (view_of lazy).tables in
+    let each : list_all test all ≡ true =
+    sym (list_all-map is_narrow (λ (s : Stored). s.table) (in_order name_cmp name_of all) ∙ list_all-with_placed name_cmp_total name_of test [] all) ∙ narrow in
+    (and_parts _ _ each).0
 
 module _ (lazy : LazyState) (is : IsLazy lazy) where
   module _ (table : Table) (database : IsDatabase (next_number (with_tables (stored_in_order table [] ∷ []) (view_of lazy)))) where
