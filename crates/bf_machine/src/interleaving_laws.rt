@@ -1,6 +1,6 @@
 //! Laws of a machine whose sessions take turns. Each is the contract of a function that does nothing.
 
-ghost use Rattle.std.specs.Prelude.{◌≡◌, ◌↔◌, ◌⊎◌, ℕ, ◌<◌, ◌≤◌, Bool, List, Some, IsTrue};
+ghost use Rattle.std.specs.Prelude.{◌≡◌, ◌≢◌, ◌↔◌, ◌⊎◌, ℕ, ◌<◌, ◌≤◌, Bool, List, [], Some, IsTrue};
 ghost use Rattle.bf_locks.specs.declared.answer.LockAnswer.{LockAnswer};
 ghost use Rattle.bf_locks.specs.declared.answer.LockAnswer.TheVariants.{Die, Granted, Wait};
 ghost use Rattle.bf_locks.specs.declared.mode.Mode.{Mode};
@@ -8,12 +8,13 @@ ghost use Rattle.bf_locks.specs.declared.name.LockName.{LockName};
 ghost use Rattle.bf_locks.specs.Locks.{IsJudged};
 ghost use Rattle.bf_tree.specs.declared.bound.Bound.{Bound};
 ghost use Rattle.bf_tree.specs.declared.history.Sweep.TheVariants.{Never};
+ghost use Rattle.bf_tree.specs.declared.plan.Plan.{Plan};
 ghost use Rattle.bf_tree.specs.declared.script.Script.{Script};
 ghost use Rattle.bf_tree.specs.declared.statement.Statement.{Statement};
 ghost use Rattle.bf_base.specs.declared.granule.Granule.{Granule};
 ghost use Rattle.bf_sql.specs.Database.{Database, empty_database};
 ghost use Rattle.bf_sql.specs.Footprints.{footprint_of};
-ghost use Rattle.bf_sql.specs.migrations.Lazy.{view_of};
+ghost use Rattle.bf_sql.specs.migrations.Lazy.{pending_of, view_of};
 ghost use Rattle.bf_sql.specs.migrations.Plans.{prepared_of};
 ghost use Rattle.bf_store.specs.Stores.{Store};
 ghost use Rattle.bf_machine.specs.InOrder.{IsRunInOrder};
@@ -21,7 +22,7 @@ ghost use Rattle.bf_machine.specs.Runnable.{phases_rise_from};
 ghost use Rattle.bf_machine.specs.interleaving.Calls.{HasSessionEnded, IsPlace};
 ghost use Rattle.bf_machine.specs.interleaving.Events.{Aborts, Asks, Begins, Commits, Executes, LastHasEnded, Moves, Reaches, Refuses};
 ghost use Rattle.bf_machine.specs.interleaving.Examples.{YoungerIsRefused};
-ghost use Rattle.bf_machine.specs.interleaving.Groups.{footprint_in};
+ghost use Rattle.bf_machine.specs.interleaving.Groups.{Flip, Rows, footprint_in};
 ghost use Rattle.bf_machine.specs.interleaving.Kept.{HasEnded, HasStart, IsKept, IsOpening, IsToldACause, IsWithinLimits, StandsInHistory, TranscriptsLegal, fresh};
 ghost use Rattle.bf_machine.specs.interleaving.Machines.{Group, Machine, Open, open_at, transcripts_of};
 ghost use Rattle.bf_machine.specs.interleaving.Serving.{IsInSequence};
@@ -97,6 +98,17 @@ pub fn some_session_goes_on()
 /// that has ended, and is refused then.
 pub fn a_younger_session_is_refused()
     ensures { YoungerIsRefused }
+{}
+
+/// While a flip is pending, nothing of the last migration is left to move, and no other open group is to
+/// leave anything.
+pub fn a_flip_stands_alone()
+    ensures whole { (start : Database) (m : Machine) (s : ℕ) (o : Open) (plan : Plan)
+        → IsKept start m → open_at m s ≡ Some o → o.pending ≡ Flip plan
+        → pending_of m.lazy.last ≡ [] }
+    ensures alone { (start : Database) (m : Machine) (s t : ℕ) (o other : Open) (plan : Plan)
+        → IsKept start m → open_at m s ≡ Some o → o.pending ≡ Flip plan
+        → t ≢ s → open_at m t ≡ Some other → other.pending ≡ Rows [] }
 {}
 
 /// A statement asks for the locks of what it is prepared to in the catalog: a MIGRATE that is planned has

@@ -6,7 +6,7 @@ use Rattle.std.proofs.lemmas.Bool.{and_parts}
 use Rattle.std.proofs.lemmas.List.{length-map}
 use Rattle.std.proofs.lemmas.List.FromFn.{length-enumerate_from}
 use Rattle.std.proofs.lemmas.List.Folds.{list_all-map}
-use Rattle.bf_base.specs.Lists.{has, name_cmp, part, same_name}
+use Rattle.bf_base.specs.Lists.{has, same_name}
 use Rattle.bf_base.specs.declared.table.Table.{Table}
 use Rattle.bf_base.specs.declared.value.Value.{Value}
 use Rattle.bf_base.proofs.Names.{name_cmp_total}
