@@ -12,6 +12,7 @@ pub mod Running
 pub mod Putting
 pub mod Settled
 pub mod Stirring
+pub mod Flipping
 pub mod Others
 pub mod Opens
 pub mod Legal

@@ -1,22 +1,28 @@
 //! Laws of a machine whose sessions take turns. Each is the contract of a function that does nothing.
 
-ghost use Rattle.std.specs.Prelude.{◌≡◌, ◌↔◌, ◌⊎◌, ℕ, ◌<◌, ◌≤◌, List, Some, IsTrue};
+ghost use Rattle.std.specs.Prelude.{◌≡◌, ◌≢◌, ◌↔◌, ◌⊎◌, ℕ, ◌<◌, ◌≤◌, Bool, List, [], Some, IsTrue};
 ghost use Rattle.bf_locks.specs.declared.answer.LockAnswer.{LockAnswer};
 ghost use Rattle.bf_locks.specs.declared.answer.LockAnswer.TheVariants.{Die, Granted, Wait};
 ghost use Rattle.bf_locks.specs.declared.mode.Mode.{Mode};
 ghost use Rattle.bf_locks.specs.declared.name.LockName.{LockName};
 ghost use Rattle.bf_locks.specs.Locks.{IsJudged};
+ghost use Rattle.bf_tree.specs.declared.bound.Bound.{Bound};
 ghost use Rattle.bf_tree.specs.declared.history.Sweep.TheVariants.{Never};
+ghost use Rattle.bf_tree.specs.declared.plan.Plan.{Plan};
 ghost use Rattle.bf_tree.specs.declared.script.Script.{Script};
+ghost use Rattle.bf_tree.specs.declared.statement.Statement.{Statement};
 ghost use Rattle.bf_base.specs.declared.granule.Granule.{Granule};
 ghost use Rattle.bf_sql.specs.Database.{Database, empty_database};
-ghost use Rattle.bf_sql.specs.migrations.Lazy.{view_of};
+ghost use Rattle.bf_sql.specs.Footprints.{footprint_of};
+ghost use Rattle.bf_sql.specs.migrations.Lazy.{pending_of, view_of};
+ghost use Rattle.bf_sql.specs.migrations.Plans.{prepared_of};
 ghost use Rattle.bf_store.specs.Stores.{Store};
 ghost use Rattle.bf_machine.specs.InOrder.{IsRunInOrder};
 ghost use Rattle.bf_machine.specs.Runnable.{phases_rise_from};
 ghost use Rattle.bf_machine.specs.interleaving.Calls.{HasSessionEnded, IsPlace};
 ghost use Rattle.bf_machine.specs.interleaving.Events.{Aborts, Asks, Begins, Commits, Executes, LastHasEnded, Moves, Reaches, Refuses};
 ghost use Rattle.bf_machine.specs.interleaving.Examples.{YoungerIsRefused};
+ghost use Rattle.bf_machine.specs.interleaving.Groups.{Flip, Rows, footprint_in};
 ghost use Rattle.bf_machine.specs.interleaving.Kept.{HasEnded, HasStart, IsKept, IsOpening, IsToldACause, IsWithinLimits, StandsInHistory, TranscriptsLegal, fresh};
 ghost use Rattle.bf_machine.specs.interleaving.Machines.{Group, Machine, Open, open_at, transcripts_of};
 ghost use Rattle.bf_machine.specs.interleaving.Serving.{IsInSequence};
@@ -92,6 +98,24 @@ pub fn some_session_goes_on()
 /// that has ended, and is refused then.
 pub fn a_younger_session_is_refused()
     ensures { YoungerIsRefused }
+{}
+
+/// While a flip is pending, nothing of the last migration is left to move, and no other open group is to
+/// leave anything.
+pub fn a_flip_stands_alone()
+    ensures whole { (start : Database) (m : Machine) (s : ℕ) (o : Open) (plan : Plan)
+        → IsKept start m → open_at m s ≡ Some o → o.pending ≡ Flip plan
+        → pending_of m.lazy.last ≡ [] }
+    ensures alone { (start : Database) (m : Machine) (s t : ℕ) (o other : Open) (plan : Plan)
+        → IsKept start m → open_at m s ≡ Some o → o.pending ≡ Flip plan
+        → t ≢ s → open_at m t ≡ Some other → other.pending ≡ Rows [] }
+{}
+
+/// A statement asks for the locks of what it is prepared to in the catalog: a MIGRATE that is planned has
+/// the catalog to itself, and every other statement asks as it is bound.
+pub fn a_statement_asks_for_what_it_is_prepared_to()
+    ensures { (db : Database) (in_block : Bool) (s : Statement) (bound : Bound)
+        → prepared_of db in_block s ≡ Some bound → footprint_in db in_block s ≡ footprint_of bound }
 {}
 
 /// Sessions in sequence run in order. Nothing has happened in a new machine, so it is in sequence; and once each session

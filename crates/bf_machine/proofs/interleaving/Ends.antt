@@ -98,21 +98,21 @@ settled_valid start m kept s o there answers history pass by =
 -- COMMIT KEEPS ALL
 pub commit_keeps_all : (start : Database) (m : Machine) (kept : IsKept start m) (texts : AreTexts m.script) (s : ℕ) (next : Machine) → Commits m s next → IsKept start next
 commit_keeps_all start m kept texts s next by =
-    let o = by.o in
+    let o = by.can.o in
     let count = commits_behind 0 m.history + 1 in
     let answers = o.replies ++ map (λ _. reply.Committed count) (rest_of m s o) in
-    let own = kept.open_groups_replay.each s o by.is in
-    let ran = whole_run start m kept texts s o by.is count Commit (reply.Committed count) refl (λ view. refl) by.left in
+    let own = kept.open_groups_replay.each s o by.can.is in
+    let ran = whole_run start m kept texts s o by.can.is count Commit (reply.Committed count) refl (λ view. refl) by.can.left in
     let sizes : length answers ≡ length (text_of m s o) = sym (ap (λ (ran : List Reply × Database). length ran.0) ran) ∙ length-run_group count false m.db (text_of m s o) in
     let is_next = run_is_database m.locks o.start m.db (answered_in m.script s o) o.pending kept.history_legal.database own.run in
-    let legal = end_keeps_legal start m kept texts s o by.is (Committed count) answers (left_by m.db o.pending) is_next by.current
-    (sym (ap (λ (b : Bool). (outcome_by b count).0) by.commits_so)) ran sizes in
+    let legal = end_keeps_legal start m kept texts s o by.can.is (Committed count) answers (left_by m.db o.pending) is_next by.can.current
+    (sym (ap (λ (b : Bool). (outcome_by b count).0) by.can.commits_so)) ran sizes in
     let history = m.history ++ entry_of m s o (Committed count) ∷ [] in
-    let rest = end_with start m kept texts s o by.is (Committed count) answers (left_by m.db o.pending) sizes legal (commit_keeps_open start m kept s o by.is answers m.began history) in
+    let rest = end_with start m kept texts s o by.can.is (Committed count) answers (left_by m.db o.pending) sizes legal (commit_keeps_open start m kept s o by.can.is answers m.began history) in
     let by_pass : IsByPass (put_into m.lazy o.pending).last next.pass = subst (λ (lazy : LazyState). IsByPass lazy.last next.pass) (ap (λ (m : Machine). m.lazy) by.goes) by.by_pass in
     subst (IsKept start) (sym by.goes)
     (stored_kept start (record (ended m s o answers) { db = left_by m.db o.pending; history = history }) rest (put_into m.lazy o.pending) next.pass
-    (settled_valid start m kept s o by.is answers history next.pass by_pass))
+    (settled_valid start m kept s o by.can.is answers history next.pass by_pass))
 
 -- ABORT KEEPS ALL
 pub abort_keeps_all : (start : Database) (m : Machine) (kept : IsKept start m) (texts : AreTexts m.script) (s : ℕ) (next : Machine) → Aborts m s next → IsKept start next

@@ -6,7 +6,7 @@ use Rattle.std.proofs.lemmas.Bool.{and_parts}
 use Rattle.std.proofs.lemmas.List.{length-map}
 use Rattle.std.proofs.lemmas.List.FromFn.{length-enumerate_from}
 use Rattle.std.proofs.lemmas.List.Folds.{list_all-map}
-use Rattle.bf_base.specs.Lists.{has, name_cmp, part, same_name}
+use Rattle.bf_base.specs.Lists.{has, same_name}
 use Rattle.bf_base.specs.declared.table.Table.{Table}
 use Rattle.bf_base.specs.declared.value.Value.{Value}
 use Rattle.bf_base.proofs.Names.{name_cmp_total}
@@ -113,7 +113,7 @@ narrow_at (x ∷ sessions) zero few all =
 narrow_at (x ∷ sessions) (suc n) few all =
     narrow_at sessions n (and_parts (list_all is_narrow_statement x.statements) (list_all (λ (s : Session). list_all is_narrow_statement s.statements) sessions) few).1 all.1
 
-narrow_session : (script : Script) → IsWithinLimits script → (s : ℕ) → AreNarrow (session_at script s).statements
+pub narrow_session : (script : Script) → IsWithinLimits script → (s : ℕ) → AreNarrow (session_at script s).statements
 narrow_session script within zero = tt
 narrow_session script within (suc s) = narrow_at script.sessions s within.narrow within.migrates
 

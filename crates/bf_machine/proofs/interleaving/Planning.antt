@@ -1,5 +1,6 @@
 -- What is prepared is bound alike, or is a MIGRATE that is planned.
-use Rattle.std.proofs.Common.{◌≡◌, ◌⊎◌, ℕ, Bool, true, false, List, [], ◌∷◌, ◌++◌, Option, Some, None, refl, sym, ap, subst, ◌∙◌, option_map, inl, inr}
+use Rattle.std.proofs.Common.{◌≡◌, ◌⊎◌, ℕ, Bool, true, false, List, [], ◌∷◌, if◌then◌else◌, Option, Some, None, refl, sym, ap, ap₂, subst, ◌∙◌, option_map, inl, inr}
+use Rattle.std.specs.Option.{option_map_or}
 use Rattle.std.proofs.lemmas.Option.{same_Some}
 use Rattle.bf_tree.specs.declared.bound.Action.{Action}
 use Rattle.bf_tree.specs.declared.bound.Action.TheVariants as action
@@ -11,6 +12,7 @@ use Rattle.bf_tree.specs.declared.statement.Statement.{Statement}
 use Rattle.bf_tree.specs.declared.statement.Statement.TheVariants as statement
 use Rattle.bf_sql.specs.Bound.{action_of, bound_of, changes_schema, unless_objected}
 use Rattle.bf_sql.specs.Database.{Database}
+use Rattle.bf_sql.specs.Footprints.{action_locks, catalog_change, footprint_of}
 use Rattle.bf_sql.specs.Objections.{objections}
 use Rattle.bf_sql.specs.migrations.Lazy.{Migration, pending_of}
 use Rattle.bf_sql.specs.migrations.MigrationObjections.{migrate_objections}
@@ -18,6 +20,7 @@ use Rattle.bf_sql.specs.migrations.Need.{needed_for}
 use Rattle.bf_sql.specs.migrations.Plans.{plan_made, prepared_action, prepared_of}
 use Rattle.bf_store.specs.States.{HaveMoved}
 use Rattle.bf_store.proofs.moving.Needing.{none_left_if_done}
+use Rattle.bf_machine.specs.interleaving.Groups.{footprint_in}
 
 -- PLAIN: every action but a plan
 abbrev pub IsPlain : Action → Type 0
@@ -121,3 +124,32 @@ pub none_pending : (last : Option Migration) (act : Action) (plan : Plan) → ac
 none_pending None act plan is moved = refl
 none_pending (Some last) act plan is moved =
     none_left_if_done last _ (subst (λ (act : Action). HaveMoved (Some last) (λ last. needed_for last.old last.migrate act)) is moved)
+
+-- THE FOOTPRINT of a statement is that of what it is prepared to
+unbound : (rs : List Refusal) (n : ℕ) (b : Bool) (plan : Plan) (bound : Bound) → bound.action ≡ action.Migrate plan
+    → option_map (λ (act : Action). record { catalog = n; schema_change = b; action = act }) (unless_objected rs (Some (action.Migrate plan))) ≡ Some bound
+    → ◌≡◌ {A = Option Bound} (option_map (λ (act : Action). record { catalog = n; schema_change = b; action = act }) (unless_objected rs None)) None
+unbound [] n b plan bound e is = refl
+unbound (r ∷ rs) n b plan bound e is =
+    let clash : action.Refused r ≡ action.Migrate plan = ap (λ (x : Bound). x.action) (same_Some _ bound is) ∙ e in
+    absurd cc
+
+of_planned : (db : Database) (m : Migrate) (bound : Bound) → prepared_of db false (statement.Migrate m) ≡ Some bound → bound.action ≡ action.Migrate (plan_made db m)
+    → footprint_in db false (statement.Migrate m) ≡ footprint_of bound
+of_planned db m bound is e =
+    ap (λ (o : Option Bound). option_map_or footprint_of o catalog_change) (unbound (migrate_objections db m) db.number true (plan_made db m) bound e is)
+    ∙ sym (ap (λ (b : Bool). if b then catalog_change else action_locks bound.action) (schema_of db false (statement.Migrate m) bound is))
+
+pub footprint_prepared : (db : Database) (in_block : Bool) (s : Statement) (bound : Bound) → prepared_of db in_block s ≡ Some bound → footprint_in db in_block s ≡ footprint_of bound
+footprint_prepared db in_block s bound is = by bound.action refl
+  where
+    plain : IsPlain bound.action → footprint_in db in_block s ≡ footprint_of bound
+    plain is_plain = ap (λ (o : Option Bound). option_map_or footprint_of o catalog_change) (prepared_as_bound db in_block s bound is is_plain)
+
+    by : (act : Action) → bound.action ≡ act → footprint_in db in_block s ≡ footprint_of bound
+    by (action.Migrate plan) e =
+        let planned = planned_so db in_block s bound plan is e in
+        let same : prepared_of db false (statement.Migrate plan.migrate) ≡ Some bound = ap₂ (prepared_of db) (sym planned.outside) (sym planned.statement_is) ∙ is in
+        ap₂ (footprint_in db) planned.outside planned.statement_is
+        ∙ of_planned db plan.migrate bound same (e ∙ ap action.Migrate planned.made)
+    by other e = plain (subst IsPlain (sym e) tt)

@@ -1,8 +1,6 @@
 -- The store behind a commit: what a group was to leave is put into it, and what the others are to leave can be put still.
-use Rattle.std.proofs.Common.{◌≡◌, ◌≢◌, ℕ, ◌+◌, true, false, List, [], ◌∷◌, Option, Some, None, refl, sym, ap, subst, ◌∙◌}
+use Rattle.std.proofs.Common.{◌≡◌, ◌≢◌, ℕ, ◌+◌, false, List, [], ◌∷◌, refl, sym, ap, subst, ◌∙◌}
 use Rattle.std.specs.List.{AllByRecursion}
-use Rattle.boxcar.specs.Table.{Where}
-use Rattle.bf_image.specs.declared.migration.Migration.{Migration}
 use Rattle.bf_locks.specs.declared.mode.Mode.TheVariants.{X}
 use Rattle.bf_locks.specs.declared.name.LockName.TheVariants.{Catalog}
 use Rattle.bf_locks.specs.Locks.{Locks, IsConsistent}
@@ -19,9 +17,7 @@ use Rattle.bf_live.specs.OpenGroups.{Answered, HoldsIn, MayWrite, Replays}
 use Rattle.bf_live.proofs.locking.Groups.{may_write_all}
 use Rattle.bf_live.proofs.locking.Isolation.{no_writes, none_held_beside}
 use Rattle.bf_live.proofs.statements.Seeing.{begun, narrow_seen, nothing_written}
-use Rattle.bf_store.specs.Calls.{IsFlipOf}
 use Rattle.bf_store.specs.States.{IsLazy, IsOpenLazily, IsSeenAs, frozen_lazily}
-use Rattle.bf_store.specs.Stores.{IsByPass}
 use Rattle.bf_store.proofs.Calls.{commit_seen, flip_call, open_behind_commit}
 use Rattle.bf_store.proofs.changing.Changing.{with_new_index, with_new_table}
 use Rattle.bf_store.proofs.seeing.Opening.{begins}

@@ -1,5 +1,5 @@
 -- Granules move: nobody sees it, and what open groups are to leave can be put still.
-use Rattle.std.proofs.Common.{◌≡◌, Bool, true, false, not, cond, List, [], ◌∷◌, Option, Some, None, option_map, refl, sym, ap, subst, ◌∙◌}
+use Rattle.std.proofs.Common.{◌≡◌, true, false, not, cond, List, [], ◌∷◌, Option, Some, None, option_map, refl, sym, ap, subst, ◌∙◌}
 use Rattle.std.specs.List.{list_all}
 use Rattle.std.proofs.lemmas.Bool.{and_parts, false≢true, not_from_false}
 use Rattle.boxcar.specs.Table.{Where}
@@ -16,7 +16,7 @@ use Rattle.bf_store.proofs.moving.Ordered.{moves_in_order, same_done}
 use Rattle.bf_store.proofs.moving.Unordered.{same_pending}
 use Rattle.bf_machine.specs.interleaving.Events.{Moves}
 use Rattle.bf_machine.specs.interleaving.Groups.{Pending, Rows, NewTable, NewIndex, Flip, Nothing}
-use Rattle.bf_machine.specs.interleaving.Kept.{CanBePutInto, IsKept, IsReadyToFlip, StoreValid}
+use Rattle.bf_machine.specs.interleaving.Kept.{CanBePutInto, IsKept, IsReadyToFlip}
 use Rattle.bf_machine.specs.interleaving.Machines.{Machine}
 use Rattle.bf_machine.proofs.interleaving.Settled.{narrow_live, narrow_view}
 use Rattle.bf_machine.proofs.interleaving.Storing.{rest_of_kept, stored_kept}

@@ -1,13 +1,13 @@
 -- What the store keeps beside the database: what is to be put into it, and a new lazy state of the same database.
-use Rattle.std.proofs.Common.{◌≡◌, ◌≢◌, ◌⊎◌, ℕ, ◌-◌, ◌≤◌, List, ◌∷◌, length, Option, Some, None, sym, ap, subst, ◌∙◌, inl, inr}
+use Rattle.std.proofs.Common.{◌≡◌, ◌≢◌, ℕ, ◌-◌, ◌≤◌, List, ◌∷◌, length, Option, Some, None, sym, ap, subst, ◌∙◌, inl, inr}
 use Rattle.std.specs.Prelude.{slice_index_or, slice_set}
 use Rattle.std.proofs.lemmas.Bool.{cases_eq}
 use Rattle.boxcar.specs.Table.{Where}
 use Rattle.bf_image.specs.declared.migration.Migration.{Migration}
 use Rattle.bf_sql.specs.Database.{Database}
 use Rattle.bf_sql.specs.migrations.Lazy.{LazyState}
-use Rattle.bf_machine.specs.interleaving.Kept.{CanBePutInto, CausesAllowed, DeathsAllowed, HistoryLegal, IsKept, IsOpenGroup, IsShaped, IsWithinLimits, LocksConsistent, OpenGroupsReplay, StoreValid}
-use Rattle.bf_machine.specs.interleaving.Machines.{Machine, Open, open_at}
+use Rattle.bf_machine.specs.interleaving.Kept.{CanBePutInto, CausesAllowed, HistoryLegal, IsKept, IsShaped, IsWithinLimits, LocksConsistent, OpenGroupsReplay, StoreValid}
+use Rattle.bf_machine.specs.interleaving.Machines.{Machine, Open}
 use Rattle.bf_machine.proofs.interleaving.Places.{set_other, set_same}
 
 -- all that is kept but what is of the store

@@ -217,11 +217,13 @@ executes_one = record {
 
 commits_one : Commits made 1 first_ended
 commits_one = record {
-  current = by_session made (Some first_open) None refl refl 1 refl;
-  o = first_open;
-  is = refl;
-  commits_so = refl;
-  left = inl refl;
+  can = record {
+    current = by_session made (Some first_open) None refl refl 1 refl;
+    o = first_open;
+    is = refl;
+    commits_so = refl;
+    left = inl refl;
+  };
   by_pass = tt;
   same_pass = λ none. refl;
   goes = refl;
@@ -277,11 +279,13 @@ executes_two = record {
 
 commits_two : Commits refused 2 last
 commits_two = record {
-  current = by_session refused None (Some second_open) refl refl 2 refl;
-  o = second_open;
-  is = refl;
-  commits_so = refl;
-  left = inl refl;
+  can = record {
+    current = by_session refused None (Some second_open) refl refl 2 refl;
+    o = second_open;
+    is = refl;
+    commits_so = refl;
+    left = inl refl;
+  };
   by_pass = tt;
   same_pass = λ none. refl;
   goes = refl;

@@ -130,11 +130,13 @@ module _ {opening : Database} {registry : Registry} {given : Script} (script : S
     commits_so : (next : Machine) → IsByPass next.lazy.last next.pass → (((plan : Plan) → pending_seen g.pending ≡ Flip plan → ⊥) → next.pass ≡ store.migration)
         → next ≡ record (committed m s o) { pass = next.pass } → Commits m s next
     commits_so next by_pass same_pass goes = record {
-      current = by.current;
-      o = o;
-      is = here;
-      commits_so = subst (λ (p : Open). commits_text (text_of m s p) ≡ true) same_group by.commits_so;
-      left = left_to_commit;
+      can = record {
+        current = by.current;
+        o = o;
+        is = here;
+        commits_so = subst (λ (p : Open). commits_text (text_of m s p) ≡ true) same_group by.commits_so;
+        left = left_to_commit;
+      };
       by_pass = by_pass;
       same_pass = same_pass;
       goes = goes;

@@ -1,32 +1,34 @@
 -- A session's next statement, as it is bound in the present catalog.
-use Rattle.std.proofs.Common.{◌≡◌, ◌⊎◌, ℕ, zero, suc, ◌+◌, ◌-◌, ◌<◌, ◌≤◌, Bool, true, false, List, [], ◌∷◌, length, take, drop, Option, Some, refl, sym, ap, subst, ◌∙◌, arith, inl, inr, length-append}
+use Rattle.std.proofs.Common.{◌≡◌, ◌⊎◌, ℕ, zero, suc, ◌+◌, ◌-◌, ◌<◌, ◌≤◌, Bool, false, List, [], ◌∷◌, length, take, drop, Option, Some, refl, sym, ap, subst, ◌∙◌, arith, inl, inr, length-append}
 use Rattle.std.specs.Prelude.{Result, Ok, Err, IfOk}
 use Rattle.std.specs.Option.{option_map_or}
 use Rattle.std.specs.List.{slice_index_or}
 use Rattle.bf_base.specs.Lists.{part}
 use Rattle.bf_base.specs.declared.memory.Memory.{Memory}
-use Rattle.bf_tree.specs.Limits.{HasNarrowTables, KeepsLimits, is_narrow_statement}
+use Rattle.bf_tree.specs.Limits.{IsNarrowIfMigrate, KeepsLimits}
 use Rattle.bf_tree.specs.declared.bound.Bound.{Bound}
 use Rattle.bf_tree.specs.declared.reply.Reply.{Reply}
 use Rattle.bf_tree.specs.declared.script.Script.{Script}
 use Rattle.bf_tree.specs.declared.script.Session.{Session}
 use Rattle.bf_tree.specs.declared.statement.Statement.{Statement}
-use Rattle.bf_sql.specs.Bound.{bound_of, catalog_of, is_planned, without_rows}
+use Rattle.bf_sql.specs.Bound.{catalog_of, without_rows}
 use Rattle.bf_sql.specs.Database.{Database}
-use Rattle.bf_sql.specs.Footprints.{catalog_change, footprint_of}
+use Rattle.bf_sql.specs.migrations.Plans.{prepared_of}
 use Rattle.bf_sql.specs.Groups.{no_session, session_at}
-use Rattle.bf_live.proofs.statements.Bare.{same_bound}
+use Rattle.bf_image.proofs.keeping.Prepared.{bare_catalog, prepared_alike}
 use Rattle.bf_machine.specs.interleaving.Calls.{CanRefuse, IsPlace, StandsAs, replies_at}
 use Rattle.bf_machine.specs.interleaving.Events.{stands_inside}
 use Rattle.bf_machine.specs.interleaving.Kept.{IsKept}
 use Rattle.bf_machine.specs.interleaving.Machines.{Machine, Open, told_at, with_replies}
-use Rattle.bf_machine.specs.interleaving.Serving.{IsBoundNext, IsServable, is_in_block}
+use Rattle.bf_machine.specs.interleaving.Serving.{IsBoundNext, is_in_block}
 use Rattle.bf_machine.specs.declared.stand.Stand.TheVariants as stand
+use Rattle.bf_machine.proofs.interleaving.Narrow.{IsNarrowStatement}
 use Rattle.bf_machine.proofs.interleaving.Places.{from_one}
+use Rattle.bf_machine.proofs.interleaving.Planning.{footprint_prepared}
 use Rattle.bf_machine.proofs.interleaving.Texts.{are_texts}
 use Rattle.bf_machine.proofs.served.Events.{left_below, replies_are}
 use Rattle.bf_machine.proofs.served.Goes.{refuse_goes_on}
-use Rattle.bf_machine.proofs.served.Narrow.{is_plain, item_all, keeps_limits, not_planned}
+use Rattle.bf_machine.proofs.served.Narrow.{keeps_limits, narrow_at}
 
 -- the first item of what is left of a part of a list
 module _ {X : Type 0} (d : X) where
@@ -64,7 +66,7 @@ pub session_read : (script : Script) (s : ℕ) → IsPlace script s → (x : Ses
 session_read script s place x =
     by_default script.sessions (s - 1) x no_session (omega (arith, place.0, place.1)) ∙ from_one no_session no_session script.sessions s place.0
 
-module _ {start : Database} (m : Machine) (kept : IsKept start m) (servable : IsServable m.script) (s n : ℕ) (place : IsPlace m.script s) (at : StandsAs m s (stand.Statement n)) where
+module _ {start : Database} (m : Machine) (kept : IsKept start m) (s n : ℕ) (place : IsPlace m.script s) (at : StandsAs m s (stand.Statement n)) where
   -- it is one of the session's
   pub next_within : (1 ≤ n) × (n - 1 < length (session_at m.script s).statements)
   next_within = elim at as (λ _. (1 ≤ n) × (n - 1 < length (session_at m.script s).statements)) [
@@ -83,20 +85,18 @@ module _ {start : Database} (m : Machine) (kept : IsKept start m) (servable : Is
   ]
 
   module _ (statement : Statement) (is : slice_index_or (session_at m.script s).statements (n - 1) statement ≡ statement) where
-    plain : is_plain statement ≡ true
-    plain = subst (λ (st : Statement). is_plain st ≡ true) is (item_all m kept servable is_plain s (n - 1) statement servable.plain next_within.1)
+    narrow : IsNarrowStatement statement
+    narrow = subst IsNarrowStatement is (narrow_at m kept s (n - 1) statement next_within.1)
 
-    narrow : is_narrow_statement statement ≡ true
-    narrow = subst (λ (st : Statement). is_narrow_statement st ≡ true) is (item_all m kept servable is_narrow_statement s (n - 1) statement servable.narrow next_within.1)
+    -- it keeps the limits
+    pub next_limits : KeepsLimits (catalog_of m.db) statement
+    next_limits = keeps_limits m kept statement narrow
 
-    pub next_planned : (in_block : Bool) → is_planned in_block statement ≡ false
-    next_planned in_block = not_planned m kept servable in_block statement plain
+    pub next_migrates : IsNarrowIfMigrate statement
+    next_migrates = narrow.migrates
 
-    pub next_limits : HasNarrowTables (catalog_of start) → KeepsLimits (catalog_of m.db) statement
-    next_limits opening = keeps_limits m kept servable opening s statement narrow
-
-    -- and bound so
-    pub next_bound : (bound : Bound) → bound_of (without_rows (catalog_of m.db)) (is_in_block m s) statement ≡ Some bound → ((o : Open) × IsBoundNext m s o bound) ⊎ CanRefuse m s
+    -- and is prepared so
+    pub next_bound : (bound : Bound) → prepared_of (without_rows (catalog_of m.db)) (is_in_block m s) statement ≡ Some bound → ((o : Open) × IsBoundNext m s o bound) ⊎ CanRefuse m s
     next_bound bound bound_so = elim at as (λ _. ((o : Open) × IsBoundNext m s o bound) ⊎ CanRefuse m s) [
       | inr refused ↦ inr refused.0
       | inl on ↦
@@ -108,9 +108,10 @@ module _ {start : Database} (m : Machine) (kept : IsKept start m) (servable : Is
           ∙ of_part statement on.o.group.0 on.o.group.1 (length on.o.replies) (session_at m.script s).statements on.statement on.later bounds.0 on.left in
           let same : statement ≡ on.statement = sym is ∙ item in
           let inside : is_in_block m s ≡ stands_inside on.o.replies = ap (λ (found : Option Open). option_map_or (λ (o : Open). stands_inside o.replies) found false) on.is in
-          let whole : bound_of m.db (is_in_block m s) statement ≡ Some bound = sym (same_bound m.db (is_in_block m s) statement (next_planned (is_in_block m s))) ∙ bound_so in
-          let there : bound_of m.db (stands_inside on.o.replies) on.statement ≡ Some bound =
-          subst (λ (b : Bool). bound_of m.db b on.statement ≡ Some bound) inside (subst (λ (st : Statement). bound_of m.db (is_in_block m s) st ≡ Some bound) same whole) in
+          let whole : prepared_of m.db (is_in_block m s) statement ≡ Some bound =
+          sym (prepared_alike (without_rows (catalog_of m.db)) m.db (bare_catalog m.db) (is_in_block m s) statement) ∙ bound_so in
+          let there : prepared_of m.db (stands_inside on.o.replies) on.statement ≡ Some bound =
+          subst (λ (b : Bool). prepared_of m.db b on.statement ≡ Some bound) inside (subst (λ (st : Statement). prepared_of m.db (is_in_block m s) st ≡ Some bound) same whole) in
           inl (
             on.o,
             record {
@@ -120,7 +121,7 @@ module _ {start : Database} (m : Machine) (kept : IsKept start m) (servable : Is
                 statement = on.statement;
                 later = on.later;
                 left = on.left;
-                footprint = ap (λ (b : Option Bound). option_map_or footprint_of b catalog_change) there;
+                footprint = footprint_prepared m.db (stands_inside on.o.replies) on.statement bound there;
               };
               goes_on = on.goes_on;
               bound_so = there;

@@ -13,7 +13,7 @@ use Rattle.bf_sql.specs.Groups.{session_at}
 use Rattle.bf_machine.specs.declared.stand.Turn.{Turn}
 use Rattle.bf_machine.specs.declared.stand.Turn.TheVariants as turn
 use Rattle.bf_machine.specs.interleaving.Calls.{IsPlace, replies_at, statements_at}
-use Rattle.bf_machine.specs.interleaving.Events.{Event, Reaches, aborts, asked, asks, at_once, begins, commits_now, died, executes, finishes, one_more, refuses, told_at_death}
+use Rattle.bf_machine.specs.interleaving.Events.{Event, Reaches, aborts, asked, asks, at_once, begins, commits_now, died, executes, finishes, one_more, refuses, told_at_death, moves}
 use Rattle.bf_machine.specs.interleaving.Kept.{IsKept}
 use Rattle.bf_machine.specs.interleaving.Machines.{Machine, Open, open_at, told_at, with_replies}
 use Rattle.bf_machine.specs.interleaving.Serving.{CanGo, CannotGo, Driven, HasGoneOn, IsAlone, IsBeside, IsTurn, IsYoungest, Serves, at_rest, one_driven, unanswered}
@@ -41,6 +41,7 @@ module _ (start : Database) where
   event_script m next (executes s by) = ap (λ (k : Machine). k.script) by.goes
   event_script m next (refuses s by) = ap (λ (k : Machine). k.script) by.goes
   event_script m next (commits_now s by) = ap (λ (k : Machine). k.script) by.goes
+  event_script m next (moves granules by) = ap (λ (k : Machine). k.script) by.goes
   event_script m next (aborts s by) = ap (λ (k : Machine). k.script) by.goes
   event_script m next (finishes s same) = ap (λ (k : Machine). k.script) same
 

@@ -163,7 +163,7 @@ module _ {start : Database} (m : Machine) (kept : IsKept start m) (s : ℕ) wher
   commit_goes_on next by =
       let n = commits_behind 0 m.history + 1 in
       subst (HasGoneOn m s start) (sym by.goes)
-      (end_goes_on by.o by.is Commit by.left (reply.Committed n) (left_by m.db by.o.pending) (put_into m.lazy by.o.pending) next.pass (entry_of m s by.o (Committed n)) refl (subst (Event start m) by.goes (commits_now s by)))
+      (end_goes_on by.can.o by.can.is Commit by.can.left (reply.Committed n) (left_by m.db by.can.o.pending) (put_into m.lazy by.can.o.pending) next.pass (entry_of m s by.can.o (Committed n)) refl (subst (Event start m) by.goes (commits_now s by)))
 
   pub abort_goes_on : (next : Machine) → Aborts m s next → HasGoneOn m s start next
   abort_goes_on next by =
@@ -181,7 +181,7 @@ module _ {start : Database} (m : Machine) (kept : IsKept start m) (s : ℕ) wher
     commit_adds_none next by =
         let n = commits_behind 0 m.history + 1 in
         subst (λ (next : Machine). unanswered next s ≡ unanswered m s) (sym by.goes)
-        (end_adds_none by.o by.is Commit by.left (reply.Committed n) (left_by m.db by.o.pending) (put_into m.lazy by.o.pending) next.pass (entry_of m s by.o (Committed n)) refl (none_left by.o by.is))
+        (end_adds_none by.can.o by.can.is Commit by.can.left (reply.Committed n) (left_by m.db by.can.o.pending) (put_into m.lazy by.can.o.pending) next.pass (entry_of m s by.can.o (Committed n)) refl (none_left by.can.o by.can.is))
 
     pub abort_adds_none : (next : Machine) → Aborts m s next → unanswered next s ≡ unanswered m s
     abort_adds_none next by =

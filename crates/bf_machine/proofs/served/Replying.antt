@@ -6,7 +6,7 @@ use Rattle.std.proofs.Math.Seq.{take-length}
 use Rattle.std.proofs.lemmas.Option.{same_Some}
 use Rattle.bf_tree.specs.declared.bound.Bound.{Bound}
 use Rattle.bf_tree.specs.declared.history.Entry.{Entry}
-use Rattle.bf_sql.specs.Bound.{bound_of}
+use Rattle.bf_sql.specs.migrations.Plans.{prepared_of}
 use Rattle.bf_sql.specs.Database.{Database}
 use Rattle.bf_sql.specs.Footprints.{footprint_of}
 use Rattle.bf_sql.specs.History.{replayed}
@@ -16,7 +16,7 @@ use Rattle.bf_machine.specs.interleaving.Events.{Event, at_once, executes, one_m
 use Rattle.bf_machine.specs.interleaving.Kept.{IsKept}
 use Rattle.bf_machine.specs.interleaving.Machines.{Machine, Open, open_at}
 use Rattle.bf_machine.specs.interleaving.Serving.{HasGoneOn, HasLocked, HasReply, IsBoundNext, Serves, unanswered}
-use Rattle.bf_machine.proofs.keeping.Numbers.{bound_number}
+use Rattle.bf_machine.proofs.keeping.Numbers.{prepared_number}
 use Rattle.bf_machine.proofs.served.Events.{serves_both, serves_locks}
 use Rattle.bf_machine.proofs.served.Goes.{closed_more, closed_reply, exec_goes_on, exec_reply, refuse_goes_on}
 
@@ -41,7 +41,7 @@ module _ (m : Machine) (s : ℕ) (o : Open) (bound : Bound) (next : IsBoundNext 
         left = next.to_lock.left;
         goes_on = next.goes_on;
         prefix = length m.history;
-        bound_so = subst (λ (db : Database). bound_of db (stands_inside o.replies) next.to_lock.statement ≡ Some bound) present next.bound_so;
+        bound_so = subst (λ (db : Database). prepared_of db (stands_inside o.replies) next.to_lock.statement ≡ Some bound) present next.bound_so;
         held = held;
       }
 
@@ -50,7 +50,7 @@ module _ (m : Machine) (s : ℕ) (o : Open) (bound : Bound) (next : IsBoundNext 
 
   -- and the catalog has not changed since
   pub is_present : bound.catalog ≡ now.db.number
-  is_present = bound_number m.db (stands_inside o.replies) next.to_lock.statement bound next.bound_so ∙ ap (λ (k : Machine). k.db.number) (sym locked.3)
+  is_present = prepared_number m.db (stands_inside o.replies) next.to_lock.statement bound next.bound_so ∙ ap (λ (k : Machine). k.db.number) (sym locked.3)
 
   -- its group goes on
   pub serves_now : Serves m s now

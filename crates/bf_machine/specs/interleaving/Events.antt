@@ -166,15 +166,11 @@ module _ (m : Machine) (s : ℕ) where
     pub left : (rest_of m s o ≡ []) ⊎ (rest_of m s o ≡ Commit ∷ [])
 
   pub record Commits (next : Machine) : Type 0 where
-    pub current : IsCurrent m s
-    pub o : Open
-    pub is : open_at m s ≡ Some o
-    pub commits_so : commits (text_of m s o) ≡ true
-    pub left : (rest_of m s o ≡ []) ⊎ (rest_of m s o ≡ Commit ∷ [])
+    pub can : IsToCommit
     -- a flip comes with a pass of its own, and nothing else changes it
     pub by_pass : IsByPass next.lazy.last next.pass
-    pub same_pass : ((plan : Plan) → o.pending ≡ Flip plan → ⊥) → next.pass ≡ m.pass
-    pub goes : next ≡ record (committed o) { pass = next.pass }
+    pub same_pass : ((plan : Plan) → can.o.pending ≡ Flip plan → ⊥) → next.pass ≡ m.pass
+    pub goes : next ≡ record (committed can.o) { pass = next.pass }
 
   -- ABORT: what is left is the block's ROLLBACK, or nothing at the session's end
   abbrev pub rolled_back : Open → Machine

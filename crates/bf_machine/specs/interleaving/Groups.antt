@@ -68,8 +68,8 @@ answered_by in_block [] ss = []
 answered_by in_block (r ∷ rs) [] = []
 answered_by in_block (r ∷ rs) (s ∷ ss) = record { in_block = in_block; statement = s; reply = r } ∷ answered_by true rs ss
 
--- SCHEMA STEP: a CREATE or a MIGRATE alone has its reply, and makes the database that it is to leave, while its owner has the catalog to
--- itself
+-- SCHEMA STEP: a CREATE or a MIGRATE alone has its reply, and makes the database that it is to leave, while its owner has the
+-- catalog to itself
 pub record IsSchemaStep (locks : Locks) (owner : ℕ) (db : Database) (told : List Answered) (change : Pending) : Type 0 where
   pub statement : Statement
   pub reply : Reply
