@@ -53,4 +53,4 @@ pub record IsRunInOrder (script : Script) (transcripts : List (List Reply)) (his
   pub history_legal : IsLegalHistory script NoCause none_open empty_database transcripts history
   pub all_answered : IsAllAnswered script transcripts
   pub entries_are_in_order : history ≡ entries_in_order script
-  pub no_migration : sweep ≡ Never
+  pub moves_only_needed : sweep ≡ sweep_told (movement script empty_database history)

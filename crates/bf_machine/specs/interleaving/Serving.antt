@@ -69,14 +69,34 @@ module _ (m : Machine) (s : ℕ) where
     pub deaths : (n : ℕ) → deaths_at next n ≡ deaths_at m n
     pub entries : (more : List Entry) × AllByRecursion (λ e. e.session ≡ s) more × (next.history ≡ m.history ++ more)
 
-  -- exactly one statement more has its reply, or only its open group has ended, which had all its replies; a group that is open then has a reply, and a statement left
+  -- the database that the next statement is on: what its open group is to leave, or where none is open the present one
+  abbrev pub sees : Database
+  sees = option_map_or (λ (o : Open). left_by m.db o.pending) (open_at m s) m.db
+
+  -- REPLIED: one statement more has its reply. Of the last migration exactly what the statement needs has moved besides; and where
+  -- it is a MIGRATE that nothing is against, the next one has begun, of which nothing has moved
+  pub record HasReplied (next : Machine) : Type 0 where
+    pub one_more : unanswered m s ≡ unanswered next s + 1
+    pub statement : Statement
+    pub is : slice_get (statements_at m s) (length (replies_at m s)) ≡ Some statement
+    pub moved : moving_seen next.lazy.last ≡ moving_behind (moving_seen m.lazy.last) sees is_in_block statement
+
+  -- ENDED: only the open group has ended, which had all its replies
+  pub record HasEndedAlone (next : Machine) : Type 0 where
+    pub o : Open
+    pub is : open_at m s ≡ Some o
+    pub answered : rest_of m s o ≡ []
+    pub closed : open_at next s ≡ None
+    pub same : unanswered next s ≡ unanswered m s
+    pub moved : moving_seen next.lazy.last ≡ moving_seen (put_into m.lazy o.pending).last
+
+  -- exactly one statement more has its reply, or only its open group has ended; a group that is open then has a reply, and a statement left
   pub record HasGoneOn (start : Database) (next : Machine) : Type 0 where
     pub serves : Serves next
     pub reached : Reaches start m next
     pub more : HasMore next s
     pub has_reply : HasReply next s
-    pub goes : (unanswered m s ≡ unanswered next s + 1)
-        ⊎ ((o : Open) × (open_at m s ≡ Some o) × (rest_of m s o ≡ []) × (open_at next s ≡ None) × (unanswered next s ≡ unanswered m s))
+    pub goes : HasReplied next ⊎ HasEndedAlone next
 
   -- ASKED: before a statement more has its reply, the session's open group, as it stands by then, asks for a lock of its next statement's footprint, and has this answer
   pub record IsAsked (start : Database) (answer : LockAnswer) : Type 0 where
@@ -84,6 +104,7 @@ module _ (m : Machine) (s : ℕ) where
     pub serves : Serves now
     pub reached : Reaches start m now
     pub no_reply : unanswered now s ≡ unanswered m s
+    pub no_move : now.lazy ≡ m.lazy
     pub o : Open
     pub is : open_at now s ≡ Some o
     pub same : (p : Open) → open_at m s ≡ Some p → p.start ≡ o.start
