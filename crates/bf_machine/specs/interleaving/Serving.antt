@@ -73,9 +73,9 @@ module _ (m : Machine) (s : ℕ) where
   abbrev pub sees : Database
   sees = option_map_or (λ (o : Open). left_by m.db o.pending) (open_at m s) m.db
 
-  -- REPLIED: one statement more has its reply. Of the last migration exactly what the statement needs has moved besides; and where
+  -- ANSWERED: one statement more has its reply. Of the last migration exactly what the statement needs has moved besides; and where
   -- it is a MIGRATE that nothing is against, the next one has begun, of which nothing has moved
-  pub record HasReplied (next : Machine) : Type 0 where
+  pub record HasAnswered (next : Machine) : Type 0 where
     pub one_more : unanswered m s ≡ unanswered next s + 1
     pub statement : Statement
     pub is : slice_get (statements_at m s) (length (replies_at m s)) ≡ Some statement
@@ -96,7 +96,7 @@ module _ (m : Machine) (s : ℕ) where
     pub reached : Reaches start m next
     pub more : HasMore next s
     pub has_reply : HasReply next s
-    pub goes : HasReplied next ⊎ HasEndedAlone next
+    pub goes : HasAnswered next ⊎ HasEndedAlone next
 
   -- ASKED: before a statement more has its reply, the session's open group, as it stands by then, asks for a lock of its next statement's footprint, and has this answer
   pub record IsAsked (start : Database) (answer : LockAnswer) : Type 0 where
