@@ -16,9 +16,9 @@ use Rattle.bf_sql.specs.Meaning.{executed}
 use Rattle.bf_sql.specs.Objections.{objections}
 use Rattle.bf_sql.specs.RowObjections.{row_objections}
 use Rattle.bf_sql.specs.migrations.Granules.{granules_of, same_granule}
-use Rattle.bf_sql.specs.migrations.Lazy.{Migration, done_by, sweep_of}
+use Rattle.bf_sql.specs.migrations.Lazy.{Migration, done_by, is_done, sweep_of}
 use Rattle.bf_sql.specs.migrations.Need.{needed_by}
-use Rattle.bf_store.specs.States.{granules_done, set_aside}
+use Rattle.bf_store.specs.States.{set_aside}
 
 -- a migration, by its number from 1 on, its old tables and its statement, and the granules that statements have needed since its
 -- flip, in the order of unit and place
@@ -68,6 +68,9 @@ movement script start history = moving_over None 0 script start history
 abbrev pub sweep_told : Option Moving → Sweep
 sweep_told last = sweep_of (option_map (λ (m : Moving). record { number = m.number; old = m.old; migrate = m.migrate; done = map (done_by 0) m.needed }) last)
 
--- a migration as a store keeps it, without the numbers of its moves
+-- a migration as a store keeps it, without the numbers of its moves: what has moved, in the order of unit and place
+abbrev pub moving_of : Migration → Moving
+moving_of last = record { number = last.number; old = last.old; migrate = last.migrate; needed = filter (is_done last) (granules_of last.old last.migrate) }
+
 abbrev pub moving_seen : Option Migration → Option Moving
-moving_seen last = option_map (λ (l : Migration). record { number = l.number; old = l.old; migrate = l.migrate; needed = granules_done l }) last
+moving_seen last = option_map moving_of last

@@ -4,9 +4,11 @@
 
 mod answer;
 pub mod interleaving_laws;
+mod lookups;
 pub mod machine;
 pub mod opened;
 pub mod scripts;
+pub mod serving;
 mod settle;
 pub mod so_far;
 pub mod stand;
@@ -14,4 +16,5 @@ pub mod stand;
 pub use machine::{Machine, Parts};
 pub use opened::Opened;
 pub use scripts::migrates_nothing;
+pub use serving::{in_order, prepare_next};
 pub use stand::{Ending, MoveError, Stand, Step};

@@ -1,5 +1,5 @@
 -- SERVING sessions on one thread: what a turn of a session makes of a machine.
-use Rattle.std.specs.Prelude.{◌≡◌, ◌≢◌, ◌⊎◌, ℕ, ◌+◌, ◌-◌, ◌<◌, ◌≤◌, Bool, true, false, List, [], ◌∷◌, ◌++◌, length, Some, None, Contains, nat_le, IsTrue}
+use Rattle.std.specs.Prelude.{◌≡◌, ◌≢◌, ◌⊎◌, ℕ, ◌+◌, ◌-◌, ◌<◌, ◌≤◌, Bool, true, false, List, [], ◌∷◌, ◌++◌, length, Some, None, Contains, nat_le, slice_get, IsTrue}
 use Rattle.std.specs.Option.{option_map_or}
 use Rattle.std.specs.List.{AllByRecursion}
 use Rattle.bf_locks.specs.declared.answer.LockAnswer.{LockAnswer}
@@ -12,17 +12,19 @@ use Rattle.bf_tree.specs.declared.history.Entry.{Entry}
 use Rattle.bf_tree.specs.declared.statement.Statement.{Statement}
 use Rattle.bf_sql.specs.Database.{Database}
 use Rattle.bf_sql.specs.migrations.Plans.{prepared_of}
+use Rattle.bf_store.specs.States.{need_of, to_move}
 use Rattle.bf_sql.specs.Footprints.{Lock, footprint_of}
 use Rattle.bf_sql.specs.Groups.{ends_block}
 use Rattle.bf_live.specs.OpenGroups.{Holds}
+use Rattle.bf_machine.specs.Movement.{moving_behind, moving_seen}
 use Rattle.bf_machine.specs.Runnable.{phases_rise_from}
 use Rattle.bf_machine.specs.declared.stand.Turn.{Turn}
 use Rattle.bf_machine.specs.declared.stand.Turn.TheVariants as turn
 use Rattle.bf_machine.specs.declared.stand.Stand.{Stand}
 use Rattle.bf_machine.specs.declared.stand.Stand.TheVariants as stand
 use Rattle.bf_machine.specs.interleaving.Calls.{HasSessionEnded, IsPlace, StandsAs, replies_at, statements_at}
-use Rattle.bf_machine.specs.interleaving.Events.{Reaches, died, rest_of, stands_inside, text_of}
-use Rattle.bf_machine.specs.interleaving.Groups.{footprint_in}
+use Rattle.bf_machine.specs.interleaving.Events.{Moves, Reaches, died, put_into, rest_of, stands_inside, text_of}
+use Rattle.bf_machine.specs.interleaving.Groups.{footprint_in, left_by}
 use Rattle.bf_machine.specs.interleaving.Kept.{IsCurrent}
 use Rattle.bf_machine.specs.interleaving.Machines.{Began, Machine, Open, began_at, open_at, told_at}
 
@@ -131,6 +133,12 @@ module _ (m : Machine) (s : ℕ) where
     pub goes_on : ends_block to_lock.statement ≡ false
     pub bound_so : prepared_of m.db (stands_inside o.replies) to_lock.statement ≡ Some bound
 
+  -- the next statement, of an open group or not, is prepared so in the present catalog
+  pub record IsPreparedNext (bound : Bound) : Type 0 where
+    pub statement : Statement
+    pub is : slice_get (statements_at m s) (length (replies_at m s)) ≡ Some statement
+    pub prepared_so : prepared_of m.db is_in_block statement ≡ Some bound
+
   -- the group holds them, and nothing else has changed
   abbrev pub HasLocked : List Lock → Machine → Type 0
   HasLocked footprint next = (o : Open) × (open_at m s ≡ Some o) × (locks : Locks) × (next ≡ record m { locks = locks }) × Holds locks o.start footprint
@@ -156,6 +164,10 @@ module _ (m : Machine) (s : ℕ) where
   IsTurn start turn.Served next = HasGoneOn start next
   IsTurn start turn.Waited next = (others : List ℕ) × (asked : IsAsked start (Wait others)) × (next ≡ asked.now)
   IsTurn start turn.Died next = (older : ℕ) × (asked : IsAsked start (Die older)) × (next ≡ died asked.now s asked.o older)
+
+-- of the last migration exactly what was left of a need has moved, if anything was
+abbrev pub HasMovedNeed : Machine → Bound → Machine → Type 0
+HasMovedNeed m bound next = (next ≡ m) ⊎ Moves m (to_move m.lazy.last (need_of m.lazy.last bound.action)) next
 
 -- the turn of one number of an order: its session's, and where there is none nothing
 pub record IsTurnOf (start : Database) (m : Machine) (n : ℕ) (next : Machine) : Type 0 where
