@@ -92,6 +92,10 @@ module _ (m : Machine) (s : ℕ) where
     pub same : unanswered next s ≡ unanswered m s
     pub moved : moving_seen next.lazy.last ≡ moving_seen (put_into m.lazy o.pending).last
 
+  -- SETTLED: what the open group is to leave is told of as if it had ended, whether it has or goes on
+  abbrev pub HasSettled : Machine → Type 0
+  HasSettled next = (o : Open) → open_at m s ≡ Some o → moving_seen next.lazy.last ≡ moving_seen (put_into m.lazy o.pending).last
+
   -- exactly one statement more has its reply, or only its open group has ended; a group that is open then has a reply, and a statement left
   pub record HasGoneOn (start : Database) (next : Machine) : Type 0 where
     pub serves : Serves next

@@ -1,0 +1,119 @@
+-- What a bound statement needs of the last migration moves, and then nothing of it is left.
+use Rattle.std.proofs.Common.{◌≡◌, ◌⊎◌, ℕ, ◌||◌, not, List, [], Option, Some, None, refl, sym, ap, subst, ◌∙◌, inl, inr}
+use Rattle.std.specs.Option.{option_map}
+use Rattle.std.proofs.lemmas.Bool.{or_right}
+use Rattle.bf_base.specs.declared.granule.Granule.{Granule}
+use Rattle.bf_base.specs.Lists.{has}
+use Rattle.bf_base.proofs.Apart.{apart-filter}
+use Rattle.bf_tree.specs.declared.bound.Action.{Action}
+use Rattle.bf_tree.specs.declared.bound.Bound.{Bound}
+use Rattle.boxcar.specs.Table.{Where}
+use Rattle.bf_sql.specs.Database.{Database}
+use Rattle.bf_sql.specs.migrations.Granules.{granules_of, same_granule}
+use Rattle.bf_sql.specs.migrations.Lazy.{LazyState, Migration, is_done, not_done}
+use Rattle.bf_sql.specs.migrations.Need.{needed_for}
+use Rattle.bf_image.specs.declared.migration.Migration.{Migration as Kept}
+use Rattle.bf_image.proofs.finding.Found.{same_granule-itself}
+use Rattle.bf_image.proofs.items.Lists.{all_kept, all_so, has_own}
+use Rattle.bf_store.specs.States.{AreGranules, AreGranulesIfAny, IsLazy, IsUnderWayIfAny, need_of, to_move, with_moved}
+use Rattle.bf_store.specs.Stores.{IsByPass, migration_of}
+use Rattle.bf_store.proofs.coming.Parts.{granules_apart}
+use Rattle.bf_store.proofs.moving.Needing.{need_is_granules, none_left_if_done}
+use Rattle.bf_transpose.specs.Covers.{needed_in}
+use Rattle.bf_machine.specs.interleaving.Calls.{CanExec, CanRefuse}
+use Rattle.bf_machine.specs.interleaving.Events.{Moves, Reaches, at_once, moves, one_more}
+use Rattle.bf_machine.specs.interleaving.Kept.{IsKept}
+use Rattle.bf_machine.specs.interleaving.Machines.{Machine}
+use Rattle.bf_machine.specs.interleaving.Serving.{HasMovedNeed}
+use Rattle.bf_machine.proofs.served.Moved.{left_or_done, recorded}
+
+module _ (lazy : LazyState) (act : Action) where
+  pub need_granules : IsLazy lazy → AreGranulesIfAny lazy.last (to_move lazy.last (need_of lazy.last act))
+  need_granules is = on lazy.last is.last
+    where
+      on : (last : Option Migration) → IsUnderWayIfAny lazy.live last → AreGranulesIfAny last (to_move last (need_of last act))
+      on None way = tt
+      on (Some last) way =
+          let need = needed_for last.old last.migrate act in
+          let are = need_is_granules last (granules_apart last.old last.migrate) act in
+          record {
+            each = all_kept (has same_granule (granules_of last.old last.migrate)) (λ g. not (is_done last g)) need are.each;
+            apart = apart-filter same_granule (λ g. not (is_done last g)) need are.apart;
+          }
+
+  pub nothing_left : to_move (with_moved lazy (to_move lazy.last (need_of lazy.last act))).last (need_of lazy.last act) ≡ []
+  nothing_left = on lazy.last
+    where
+      on : (last : Option Migration) → to_move (with_moved (record lazy { last = last }) (to_move last (need_of last act))).last (need_of last act) ≡ []
+      on None = refl
+      on (Some last) =
+          let need = needed_for last.old last.migrate act in
+          let left = not_done last need in
+          let made = recorded lazy last need (not_done last left) (λ g. left_or_done last left g ∙ left_or_done last need g) in
+          let then : Migration = record last { done = made.0 } in
+          subst (λ (o : Option Migration). to_move o need ≡ []) (sym made.1)
+          (none_left_if_done then need (all_so (has same_granule need) (is_done then) (λ g there. made.2 g ∙ or_right (is_done last g) (has same_granule need g) there) need (has_own same_granule same_granule-itself need)))
+
+-- the need, by the pass of the last migration
+pub need_by_pass : (last : Option Migration) (pass : Option (Where Kept)) (act : Action) → IsByPass last pass → need_of last act ≡ needed_in (option_map (λ p. p.value) pass) act
+need_by_pass None None act is = refl
+need_by_pass (Some last) (Some pass) act is = ap (λ (l : Migration). needed_for l.old l.migrate act) is
+need_by_pass None (Some pass) act is = absurd is
+need_by_pass (Some last) None act is = absurd is
+
+pub granules_by_pass : (last : Option Migration) (pass : Where Kept) (gs : List Granule) → IsByPass last (Some pass) → AreGranulesIfAny last gs → AreGranules (migration_of pass.value []) gs
+granules_by_pass None pass gs is are = absurd is
+granules_by_pass (Some last) pass gs is are =
+    let same : AreGranules (migration_of pass.value last.done) gs = subst (λ (l : Migration). AreGranules l gs) is are in
+    record { each = same.each; apart = same.apart }
+
+pub none_by_pass : (last : Option Migration) → IsByPass last None → last ≡ None
+none_by_pass None is = refl
+none_by_pass (Some last) is = absurd is
+
+-- where there is no migration nothing moves
+pub moves_nothing : (m : Machine) (gs : List Granule) → m.lazy.last ≡ None → Moves m gs m
+moves_nothing m gs none = record {
+  granules_of_it = subst (λ (last : Option Migration). AreGranulesIfAny last gs) (sym none) tt;
+  goes = ap (λ (lazy : LazyState). record m { lazy = lazy }) (sym (on m.lazy.last none));
+}
+  where
+    on : (last : Option Migration) → last ≡ None → with_moved (record m.lazy { last = last }) gs ≡ record m.lazy { last = last }
+    on None e = refl
+    on (Some last) e = absurd cc
+
+-- MOVED: the store alone has changed
+abbrev pub HasCome : Machine → Bound → LazyState → Type 0
+HasCome m bound lazy = (lazy ≡ m.lazy) ⊎ (lazy ≡ with_moved m.lazy (to_move m.lazy.last (need_of m.lazy.last bound.action)))
+
+pub has_come : (m : Machine) (bound : Bound) (now : Machine) → HasMovedNeed m bound now → (lazy : LazyState) × (now ≡ record m { lazy = lazy }) × HasCome m bound lazy
+has_come m bound now moved = elim moved as (λ _. (lazy : LazyState) × (now ≡ record m { lazy = lazy }) × HasCome m bound lazy) [
+  | inl same ↦ (m.lazy, same, inl refl)
+  | inr by ↦ (with_moved m.lazy (to_move m.lazy.last (need_of m.lazy.last bound.action)), by.goes, inr refl)
+]
+
+pub moved_reaches : (start : Database) (m : Machine) (bound : Bound) (now : Machine) → HasMovedNeed m bound now → Reaches start m now
+moved_reaches start m bound now moved = elim moved as (λ _. Reaches start m now) [
+  | inl same ↦ subst (Reaches start m) (sym same) at_once
+  | inr by ↦ one_more at_once (moves (to_move m.lazy.last (need_of m.lazy.last bound.action)) by)
+]
+
+-- what may be replied to may be so still
+pub can_exec_still : (m : Machine) (s : ℕ) (start : Database) (bound : Bound) (lazy : LazyState) → CanExec m s start bound → CanExec (record m { lazy = lazy }) s start bound
+can_exec_still m s start bound lazy can = elim can as (λ _. CanExec (record m { lazy = lazy }) s start bound) [
+  | inl by ↦ inl (record {
+    current = by.current;
+    o = by.o;
+    is = by.is;
+    statement = by.statement;
+    later = by.later;
+    left = by.left;
+    goes_on = by.goes_on;
+    prefix = by.prefix;
+    bound_so = by.bound_so;
+    held = by.held;
+  })
+  | inr refused ↦
+      let by = refused.1 in
+      inr (_, record { place = by.place; current = by.current; closed = by.closed; stray = by.stray; goes = refl })
+]
