@@ -5,6 +5,7 @@ pub mod Places
 pub mod Answered
 pub mod Migrating
 pub mod Settling
+pub mod Moving
 pub mod Committing
 pub mod Ending
 pub mod Dying

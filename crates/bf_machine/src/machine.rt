@@ -67,13 +67,14 @@ impl<N: Opened> Model for Machine<N> {
     ghost use Rattle.std.specs.Coded.{codes};
     ghost use Rattle.bf_tree.specs.contracts.raw.RawExpr as exprs;
     ghost use Rattle.bf_tree.specs.contracts.raw.RawCond as conds;
+    ghost use Rattle.bf_tree.specs.contracts.plan.Plan as plans;
     ghost use Rattle.bf_locks.specs.contracts.table.LockTable as tables;
     ghost use Rattle.boxcar.specs.Table.{where_coded};
     ghost use Rattle.bf_image.specs.contracts.migration.Migration as migrations;
 
     ghost Value = { Seen };
 
-    ghost coded = { Prim.hlevel (codes, exprs.the_row.coded, conds.the_row.coded, tables.the_row.coded, where_coded migrations.the_row.coded) };
+    ghost coded = { Prim.hlevel (codes, exprs.the_row.coded, conds.the_row.coded, plans.the_row.coded, tables.the_row.coded, where_coded migrations.the_row.coded) };
 
     ghost use Rattle.std.specs.Prelude.{length};
     ghost use Rattle.bf_machine.specs.interleaving.Seen.{IsLeastLeft, IsSound, seen};

@@ -77,7 +77,8 @@ impl<N: Opened> Machine<N> {
         ensures err { OnErr result (self.new ≡ self.old) }
     {
         let last = self.store.migration();
-        if !are_same(registry, Some(migration), last.as_ref()) {
+        let same = are_same(registry, Some(migration), last.as_ref());
+        if !same {
             return Err(MoveError::Old(number_of(registry, last.as_ref())));
         }
         match self.store.move_granules(registry, indexes, granules) {
@@ -90,7 +91,7 @@ impl<N: Opened> Machine<N> {
 /// The number of a migration, which is 0 where there is none.
 fn number_of(registry: &Registry, migration: Option<&MigrationPass>) -> u32
     requires { IsOf registry.now (option_map (λ pass. pass.now) migration) }
-    ensures { result ≡ option_map_or (λ pass. pass.now.value.number) migration 0 }
+    ensures { result ≡ option_map_or (λ pass. pass.now.value.number) migration.entry 0 }
 {
     match migration {
         Some(pass) => registry.migration(pass).number,

@@ -1,6 +1,6 @@
 //! Statements of open groups.
 
-ghost use Rattle.std.specs.Prelude.{◌≡◌, ◌≢◌, ◌↔◌, [], Bool, IfOk, IfSome, IsTrue, None, Ok, OnErr, Some};
+ghost use Rattle.std.specs.Prelude.{◌≡◌, ◌≢◌, ◌↔◌, [], Bool, IfOk, IfSome, IsTrue, None, Ok, OnErr, OnOk, Some};
 ghost use Rattle.std.specs.Option.{option_map};
 ghost use Rattle.bf_tree.specs.declared.reply.Refusal.TheVariants.{NoTransaction};
 ghost use Rattle.bf_tree.specs.declared.reply.Reply.TheVariants.{Refused};
@@ -52,7 +52,7 @@ impl<N: Opened> Machine<N> {
         requires pass { IsOf N.registry (option_map (λ pass. pass.now) migration) }
         requires cover { IsCoverOf (option_map (λ pass. pass.now.value) migration)
             bound.now cover.now }
-        ensures step { IfOk result (IsStep self.old (option_map (λ pass. pass.now) migration)
+        ensures step { IfOk result (IsStep self.old (option_map (λ pass. pass.now) migration.entry)
             bound.now cover.now.granules.items) }
         ensures same { result ≢ Ok Replied → self.new ≡ self.old }
         ensures replied { result ≡ Ok Replied → HasReplied self.old session bound.now self.new }
@@ -60,6 +60,24 @@ impl<N: Opened> Machine<N> {
         if let Some(step) = self.first_needed(registry, migration, bound, cover)? {
             return Ok(step);
         }
+        self.reply_to(session, bound)?;
+        Ok(Step::Replied)
+    }
+
+    /// Replies to a session's next statement, as it is bound in the present catalog and planned, whose need
+    /// has moved.
+    ///
+    /// # Errors
+    /// Where memory runs out, or 2 ^ 32 rows or more change. The machine is as it was then.
+    fn reply_to(&mut self, session: u32, bound: &Bound) -> Result<(), Memory>
+        requires place { IsPlace self.old.script session }
+        requires can { CanExec self.old session N.opening bound.now }
+        requires current { bound.now.catalog ≡ self.old.db.number }
+        requires moved { HaveMoved self.old.lazy.last
+            (λ last. needed_for last.old last.migrate bound.now.action) }
+        ensures replied { OnOk result (HasReplied self.old session bound.now self.new) }
+        ensures err { OnErr result (self.new ≡ self.old) }
+    {
         let place = session as usize - 1;
         let so_far = &mut self.sessions[place];
         let reply = reply_in(self.alloc, &self.store, &mut so_far.open, bound)?;
@@ -70,7 +88,7 @@ impl<N: Opened> Machine<N> {
             self.least_left,
             place,
         );
-        Ok(Step::Replied)
+        Ok(())
     }
 
     /// What is to be done before a bound statement can have its reply, if anything is: it is to be bound
@@ -90,10 +108,10 @@ impl<N: Opened> Machine<N> {
         requires cover { IsCoverOf (option_map (λ pass. pass.now.value) migration)
             bound.now cover.now }
         ensures some { IfOk result (λ needed. IfSome needed (λ step. (step ≢ Replied)
-            × IsStep self.now (option_map (λ pass. pass.now) migration) bound.now
+            × IsStep self.now (option_map (λ pass. pass.now) migration.entry) bound.now
             cover.now.granules.items step)) }
         ensures none { IfOk result (λ needed. needed ≡ None
-            → IsPresent self.now (option_map (λ pass. pass.now) migration) bound.now
+            → IsPresent self.now (option_map (λ pass. pass.now) migration.entry) bound.now
             × (to_move self.now.lazy.last cover.now.granules.items ≡ [])) }
         ensures moved { IfOk result (λ needed. needed ≡ None → HaveMoved self.now.lazy.last
             (λ last. needed_for last.old last.migrate bound.now.action)) }
@@ -121,10 +139,10 @@ pub(crate) fn are_same(
 ) -> bool
     requires one { IsOf registry.now (option_map (λ pass. pass.now) one) }
     requires other { IsOf registry.now (option_map (λ pass. pass.now) other) }
-    ensures slots { IsTrue result ↔ (slot_of (option_map (λ pass. pass.now) one)
-        ≡ slot_of (option_map (λ pass. pass.now) other)) }
-    ensures values { IsTrue result → option_map (λ pass. pass.now.value) one
-        ≡ option_map (λ pass. pass.now.value) other }
+    ensures slots { IsTrue result ↔ (slot_of (option_map (λ pass. pass.now) one.entry)
+        ≡ slot_of (option_map (λ pass. pass.now) other.entry)) }
+    ensures values { IsTrue result → option_map (λ pass. pass.now.value) one.entry
+        ≡ option_map (λ pass. pass.now.value) other.entry }
 {
     match (one, other) {
         (Some(one), Some(other)) => registry.same_migration(one, other),

@@ -2,15 +2,16 @@
 use Rattle.std.proofs.Common.{◌≡◌, ◌-◌, ◌≤◌, List, length, subst, sym, ap, ◌∙◌, arith}
 use Rattle.std.specs.Prelude.{slice_set}
 use Rattle.std.proofs.lemmas.List.{length-map, length-set}
-use Rattle.bf_tree.specs.declared.catalog.Catalog.{Catalog}
 use Rattle.bf_tree.specs.declared.script.Session.{Session}
+use Rattle.bf_sql.specs.migrations.Need.{needed_for}
+use Rattle.bf_store.specs.States.{HaveMoved}
 use Rattle.bf_machine.specs.declared.so_far.SessionSoFar.{SessionSoFar}
 use Rattle.bf_machine.specs.interleaving.Calls.{CanExec, HasReplied, HasSessionEnded, IsPlace}
 use Rattle.bf_machine.specs.interleaving.Machines.{Machine}
 use Rattle.bf_machine.specs.interleaving.Seen.{open_seen, seen}
 use Rattle.bf_machine.proofs.keeping.Executing.{may_reply, on_err, replied, replied_sound, room_for_next, seen_unanswered, unanswered_sound}
 use Rattle.bf_machine.proofs.keeping.LeastLeft.{exec_goes_on, goes_on_at, least_behind, least_stays}
-use Rattle.bf_machine.proofs.machine.Machine.exec.Goals as goal
+use Rattle.bf_machine.proofs.machine.Machine.reply_to.Goals as goal
 
 pub reply_in-requires : goal.reply_in-requires
 reply_in-requires g c =
@@ -21,9 +22,10 @@ reply_in-requires g c =
     let place : IsPlace i.script s = subst (λ (m : Machine). IsPlace m.script s) (sym c.self.view_is) c.requires.place in
     let high : s ≤ length i.sessions.items = omega (arith, place.1, c.self.invariant.0.kept.shaped.opens, length-map i.sessions.items open_seen) in
     let can : CanExec m s g.N.Opened.opening c.args.bound.now = subst (λ (m : Machine). CanExec m s g.N.Opened.opening c.args.bound.now) (sym c.self.view_is) c.requires.can in
-    let number : c.args.bound.now.catalog ≡ i.store.number = c.if-bound-number.false ∙ (c.number-number.ensures ∙ ap (λ (catalog : Catalog). catalog.number) c.catalog.ensures.catalog) in
+    let number : c.args.bound.now.catalog ≡ m.db.number = subst (λ (m : Machine). c.args.bound.now.catalog ≡ m.db.number) (sym c.self.view_is) c.requires.current in
+    let moved = subst (λ (m : Machine). HaveMoved m.lazy.last (λ last. needed_for last.old last.migrate c.args.bound.now.action)) (sym c.self.view_is) c.requires.moved in
     may_reply i.script i.retries i.store i.locks i.began.items i.sessions.items i.history i.commits i.transcripts c.self.invariant.0 s place.0 high x (sym c.index_mut-so_far.ensures.value)
-    c.args.bound.now can number
+    c.args.bound.now can number moved
 
 pub push_reserved-requires : goal.push_reserved-requires
 push_reserved-requires g c =
@@ -34,12 +36,13 @@ push_reserved-requires g c =
     let place : IsPlace i.script s = subst (λ (m : Machine). IsPlace m.script s) (sym c.self.view_is) c.requires.place in
     let high : s ≤ length i.sessions.items = omega (arith, place.1, c.self.invariant.0.kept.shaped.opens, length-map i.sessions.items open_seen) in
     let can : CanExec m s g.N.Opened.opening c.args.bound.now = subst (λ (m : Machine). CanExec m s g.N.Opened.opening c.args.bound.now) (sym c.self.view_is) c.requires.can in
-    let number : c.args.bound.now.catalog ≡ i.store.number = c.if-bound-number.false ∙ (c.number-number.ensures ∙ ap (λ (catalog : Catalog). catalog.number) c.catalog.ensures.catalog) in
+    let number : c.args.bound.now.catalog ≡ m.db.number = subst (λ (m : Machine). c.args.bound.now.catalog ≡ m.db.number) (sym c.self.view_is) c.requires.current in
+    let moved = subst (λ (m : Machine). HaveMoved m.lazy.last (λ last. needed_for last.old last.migrate c.args.bound.now.action)) (sym c.self.view_is) c.requires.moved in
     omega (
       arith,
       x.replies.ok.0,
       room_for_next i.script i.retries i.store i.locks i.began.items i.sessions.items i.history i.commits i.transcripts c.self.invariant.0 s place.0 high x
-          (sym c.index_mut-so_far.ensures.value) c.args.bound.now can number,
+          (sym c.index_mut-so_far.ensures.value) c.args.bound.now can number moved,
     )
 
 pub invariant_of-self : goal.invariant_of-self
@@ -102,20 +105,21 @@ invariant_of-self-2 g c =
     let place : IsPlace i.script s = subst (λ (m : Machine). IsPlace m.script s) (sym c.self.view_is) c.requires.place in
     let high : s ≤ length i.sessions.items = omega (arith, place.1, c.self.invariant.0.kept.shaped.opens, length-map i.sessions.items open_seen) in
     let can : CanExec m s g.N.Opened.opening c.args.bound.now = subst (λ (m : Machine). CanExec m s g.N.Opened.opening c.args.bound.now) (sym c.self.view_is) c.requires.can in
-    let number : c.args.bound.now.catalog ≡ i.store.number = c.if-bound-number.false ∙ (c.number-number.ensures ∙ ap (λ (catalog : Catalog). catalog.number) c.catalog.ensures.catalog) in
+    let number : c.args.bound.now.catalog ≡ m.db.number = subst (λ (m : Machine). c.args.bound.now.catalog ≡ m.db.number) (sym c.self.view_is) c.requires.current in
+    let moved = subst (λ (m : Machine). HaveMoved m.lazy.last (λ last. needed_for last.old last.migrate c.args.bound.now.action)) (sym c.self.view_is) c.requires.moved in
     let y : SessionSoFar = record { replies = c.push_reserved.new.self; «open» = c.reply_in.new.group; latest = x.latest } in
     let goes_on = goes_on_at i.script i.retries i.store i.locks i.began.items i.sessions.items i.history.items s place.0 (exec_goes_on i.script i.retries i.store i.locks i.began.items i.sessions.items i.history.items c.self.invariant.0.kept s g.N.Opened.opening c.args.bound.now can) in
     let least =
     least_behind i.script.sessions i.sessions.items (s - 1) y i.least_left c.self.invariant.1 goes_on
     c.as_slice.ensures c.deref.ensures.value c.least_left_behind-self-inside.result c.least_left_behind-self-inside.ensures in (
       replied_sound i.script i.retries i.store i.locks i.began.items i.sessions.items i.history i.commits i.transcripts c.self.invariant.0 s place.0 high x
-          (sym c.index_mut-so_far.ensures.value) c.args.bound.now can number c.in_ok-reply.reply c.reply_in.new.group c.in_ok-reply.ensures.refused
+          (sym c.index_mut-so_far.ensures.value) c.args.bound.now can number moved c.in_ok-reply.reply c.reply_in.new.group c.in_ok-reply.ensures.refused
           (λ g is. let so = c.in_ok-reply.ensures.answered g is in (so.0, so.1, so.2)) c.push_reserved.new.self c.push_reserved.ensures.items (omega (arith, c.push_reserved.ensures.capacity)),
       least,
     )
 
 pub returns-clause-replied : goal.returns-clause-replied
-returns-clause-replied g c = λ was.
+returns-clause-replied g c =
     let i = c.self.inside in
     let s = c.args.session in
     let x : SessionSoFar = c.index_mut-so_far.result.now in
@@ -123,10 +127,11 @@ returns-clause-replied g c = λ was.
     let place : IsPlace i.script s = subst (λ (m : Machine). IsPlace m.script s) (sym c.self.view_is) c.requires.place in
     let high : s ≤ length i.sessions.items = omega (arith, place.1, c.self.invariant.0.kept.shaped.opens, length-map i.sessions.items open_seen) in
     let can : CanExec m s g.N.Opened.opening c.args.bound.now = subst (λ (m : Machine). CanExec m s g.N.Opened.opening c.args.bound.now) (sym c.self.view_is) c.requires.can in
-    let number : c.args.bound.now.catalog ≡ i.store.number = c.if-bound-number.false ∙ (c.number-number.ensures ∙ ap (λ (catalog : Catalog). catalog.number) c.catalog.ensures.catalog) in
+    let number : c.args.bound.now.catalog ≡ m.db.number = subst (λ (m : Machine). c.args.bound.now.catalog ≡ m.db.number) (sym c.self.view_is) c.requires.current in
+    let moved = subst (λ (m : Machine). HaveMoved m.lazy.last (λ last. needed_for last.old last.migrate c.args.bound.now.action)) (sym c.self.view_is) c.requires.moved in
     let y : SessionSoFar = record { replies = c.push_reserved.new.self; «open» = c.reply_in.new.group; latest = x.latest } in
     let next : Machine = seen i.script i.retries i.store i.locks i.began.items (slice_set i.sessions.items (s - 1) y) i.history.items in
     subst (λ (m : Machine). HasReplied m s c.args.bound.now next) c.self.view_is
     (replied i.script i.retries i.store i.locks i.began.items i.sessions.items i.history i.commits i.transcripts c.self.invariant.0 s place.0 high x
-    (sym c.index_mut-so_far.ensures.value) c.args.bound.now can number c.in_ok-reply.reply c.reply_in.new.group c.in_ok-reply.ensures.refused
+    (sym c.index_mut-so_far.ensures.value) c.args.bound.now can number moved c.in_ok-reply.reply c.reply_in.new.group c.in_ok-reply.ensures.refused
     (λ g is. let so = c.in_ok-reply.ensures.answered g is in (so.0, so.1, so.2)) c.push_reserved.new.self c.push_reserved.ensures.items (omega (arith, c.push_reserved.ensures.capacity)))
