@@ -136,7 +136,7 @@ pub fn cover_with<N: Opened>(
     requires pass { IsOf N.registry (option_map (λ pass. pass.now) migration) }
     requires bound { IsWellBound bound.now.action }
     ensures { IfOk result
-        (IsCoverOf (option_map (λ pass. pass.now.value) migration) bound.now) }
+        (IsCoverOf (option_map (λ pass. pass.now.value) migration.entry) bound.now) }
 {
     let Some(pass) = migration else {
         return cover_of(alloc, bound, None);

@@ -11,7 +11,7 @@ ghost use Rattle.bf_machine.specs.interleaving.Calls.{CanExec, CanRefuse, HasRep
 ghost use Rattle.bf_machine.specs.interleaving.Events.{Begins, Moves, Reaches};
 ghost use Rattle.bf_machine.specs.interleaving.Kept.{IsKept};
 ghost use Rattle.bf_machine.specs.interleaving.Machines.{Machine as Seen, Open, open_at};
-ghost use Rattle.bf_machine.specs.interleaving.Serving.{CanGo, CannotGo, Driven, HasLocked, HasMore, HasMovedNeed, HasReply, IsAlone, IsBoundNext, IsInSequence, IsPreparedNext, IsToLock, IsTurn, IsTurnOf, IsYoungest, Serves, Turned, can_go, deaths_at, unanswered};
+ghost use Rattle.bf_machine.specs.interleaving.Serving.{CanGo, CannotGo, Driven, HasLocked, HasMore, HasMovedNeed, HasReply, HasSettled, IsAlone, IsBoundNext, IsInSequence, IsPreparedNext, IsToLock, IsTurn, IsTurnOf, IsYoungest, Serves, Turned, can_go, deaths_at, unanswered};
 ghost use Rattle.bf_machine.specs.declared.stand.Turn.TheVariants.{Served};
 
 use crate::lookups::{Lookups, cover_with, look_up};
@@ -69,6 +69,7 @@ fn end_if_answered<N: Opened, R: Wait>(
         (unanswered machine.new session ≡ unanswered machine.old session) }
     ensures more { OnOk result (HasMore machine.new session) }
     ensures has_reply { OnOk result (HasReply machine.new session) }
+    ensures settled { OnOk result (HasSettled machine.old session machine.new) }
 {
     if !machine.is_answered(session) {
         return Ok(());
@@ -224,7 +225,6 @@ fn serve_in_group<N: Opened, R: Wait>(
     requires place { IsPlace machine.old.script session }
     requires kept { IsKept N.opening machine.old }
     requires next { (o : Open) × IsBoundNext machine.old session o bound.now }
-    requires prepared { IsPreparedNext machine.old session bound.now }
     requires well_bound { IsWellBound bound.now.action }
     ensures reaches { Reaches N.opening machine.old machine.new }
     ensures turn { IfOk result (λ turn. IsTurn machine.old session N.opening turn machine.new) }

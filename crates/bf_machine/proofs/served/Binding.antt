@@ -1,7 +1,8 @@
 -- A session's next statement, as it is bound in the present catalog.
 use Rattle.std.proofs.Common.{◌≡◌, ◌⊎◌, ℕ, zero, suc, ◌+◌, ◌-◌, ◌<◌, ◌≤◌, Bool, false, List, [], ◌∷◌, length, take, drop, Option, Some, refl, sym, ap, subst, ◌∙◌, arith, inl, inr, length-append}
-use Rattle.std.specs.Prelude.{Result, Ok, Err, IfOk}
+use Rattle.std.specs.Prelude.{Result, Ok, Err, IfOk, slice_get}
 use Rattle.std.specs.Option.{option_map_or}
+use Rattle.std.proofs.lemmas.Option.{same_Some}
 use Rattle.std.specs.List.{slice_index_or}
 use Rattle.bf_base.specs.Lists.{part}
 use Rattle.bf_base.specs.declared.memory.Memory.{Memory}
@@ -11,50 +12,31 @@ use Rattle.bf_tree.specs.declared.reply.Reply.{Reply}
 use Rattle.bf_tree.specs.declared.script.Script.{Script}
 use Rattle.bf_tree.specs.declared.script.Session.{Session}
 use Rattle.bf_tree.specs.declared.statement.Statement.{Statement}
-use Rattle.bf_sql.specs.Bound.{catalog_of, without_rows}
-use Rattle.bf_sql.specs.Database.{Database}
-use Rattle.bf_sql.specs.migrations.Plans.{prepared_of}
+use Rattle.bf_tree.specs.declared.statement.Statement.TheVariants as statement
+use Rattle.bf_sql.specs.Bound.{catalog_of, changes_schema, unless_objected, without_rows}
+use Rattle.bf_sql.specs.Database.{Database, IsDatabase}
+use Rattle.bf_sql.specs.Objections.{objections}
+use Rattle.bf_sql.specs.migrations.Plans.{prepared_action, prepared_of}
+use Rattle.bf_query.specs.Actions.{IsWellBound}
+use Rattle.bf_query.proofs.Binding.{well_bound}
+use Rattle.bf_live.proofs.locking.Reading.{parts_of}
 use Rattle.bf_sql.specs.Groups.{no_session, session_at}
 use Rattle.bf_image.proofs.keeping.Prepared.{bare_catalog, prepared_alike}
-use Rattle.bf_machine.specs.interleaving.Calls.{CanRefuse, IsPlace, StandsAs, replies_at}
+use Rattle.bf_machine.specs.interleaving.Calls.{CanRefuse, IsPlace, StandsAs, replies_at, statements_at}
 use Rattle.bf_machine.specs.interleaving.Events.{stands_inside}
 use Rattle.bf_machine.specs.interleaving.Kept.{IsKept}
 use Rattle.bf_machine.specs.interleaving.Machines.{Machine, Open, told_at, with_replies}
-use Rattle.bf_machine.specs.interleaving.Serving.{IsBoundNext, is_in_block}
+use Rattle.bf_machine.specs.interleaving.Serving.{IsBoundNext, IsPreparedNext, is_in_block}
 use Rattle.bf_machine.specs.declared.stand.Stand.TheVariants as stand
 use Rattle.bf_machine.proofs.interleaving.Narrow.{IsNarrowStatement}
 use Rattle.bf_machine.proofs.interleaving.Places.{from_one}
 use Rattle.bf_machine.proofs.interleaving.Planning.{footprint_prepared}
+use Rattle.bf_machine.proofs.interleaving.Running.{from_objections}
 use Rattle.bf_machine.proofs.interleaving.Texts.{are_texts}
 use Rattle.bf_machine.proofs.served.Events.{left_below, replies_are}
 use Rattle.bf_machine.proofs.served.Goes.{refuse_goes_on}
 use Rattle.bf_machine.proofs.served.Narrow.{keeps_limits, narrow_at}
-
--- the first item of what is left of a part of a list
-module _ {X : Type 0} (d : X) where
-  first_left : (k : ℕ) (xs : List X) (x : X) (rest : List X) → drop k xs ≡ x ∷ rest → slice_index_or xs k d ≡ x
-  first_left zero [] x rest is = absurd cc
-  first_left zero (y ∷ xs) x rest is = let same : y ≡ x = cc in same
-  first_left (suc k) [] x rest is = absurd cc
-  first_left (suc k) (y ∷ xs) x rest is = first_left k xs x rest is
-
-  of_take : (n k : ℕ) (xs : List X) (x : X) (rest : List X) → drop k (take n xs) ≡ x ∷ rest → slice_index_or xs k d ≡ x
-  of_take zero zero xs x rest is = absurd cc
-  of_take zero (suc k) xs x rest is = absurd cc
-  of_take (suc n) zero [] x rest is = absurd cc
-  of_take (suc n) zero (y ∷ xs) x rest is = let same : y ≡ x = cc in same
-  of_take (suc n) (suc k) [] x rest is = absurd cc
-  of_take (suc n) (suc k) (y ∷ xs) x rest is = of_take n k xs x rest is
-
-  of_drop : (i k : ℕ) (xs : List X) → slice_index_or (drop i xs) k d ≡ slice_index_or xs (i + k) d
-  of_drop zero k xs = let here : 0 + k ≡ k = omega arith in rw here refl
-  of_drop (suc i) k [] = refl
-  of_drop (suc i) k (x ∷ xs) = let next : suc i + k ≡ suc (i + k) = omega arith in rw next (of_drop i k xs)
-
-  pub of_part : (first last k : ℕ) (xs : List X) (x : X) (rest : List X) → 1 ≤ first → drop k (part first last xs) ≡ x ∷ rest → slice_index_or xs (first + k - 1) d ≡ x
-  of_part first last k xs x rest low is =
-      let at : first - 1 + k ≡ first + k - 1 = omega (arith, low) in
-      ap (λ (n : ℕ). slice_index_or xs n d) (sym at) ∙ (sym (of_drop (first - 1) k xs) ∙ of_take (last - (first - 1)) k (drop (first - 1) xs) x rest is)
+use Rattle.bf_machine.proofs.served.Nexts.{got, of_part}
 
 -- a session of the script, read at its place
 by_default : {X : Type 0} (xs : List X) (i : ℕ) (d e : X) → i < length xs → slice_index_or xs i d ≡ slice_index_or xs i e
@@ -84,6 +66,19 @@ module _ {start : Database} (m : Machine) (kept : IsKept start m) (s n : ℕ) (p
         (omega (arith, refused.1), omega (arith, refused.1, size, goes))
   ]
 
+  -- and the next of them
+  next_at : n - 1 ≡ length (replies_at m s)
+  next_at = elim at as (λ _. n - 1 ≡ length (replies_at m s)) [
+    | inl on ↦
+        let own = kept.open_groups_replay.each s on.o on.is in
+        let sizes : length (replies_at m s) ≡ length (told_at m s) + length on.o.replies =
+        ap (λ (rs : List Reply). length rs) (replies_are m kept (are_texts m.script) s on.o on.is) ∙ length-append (told_at m s) on.o.replies in
+        omega (arith, on.number, sizes, own.next)
+    | inr refused ↦
+        let size : length (replies_at m s) ≡ length (told_at m s) = ap (λ (o : Option Open). length (with_replies (told_at m s) o)) refused.0.1.closed in
+        omega (arith, refused.1, size)
+  ]
+
   module _ (statement : Statement) (is : slice_index_or (session_at m.script s).statements (n - 1) statement ≡ statement) where
     narrow : IsNarrowStatement statement
     narrow = subst IsNarrowStatement is (narrow_at m kept s (n - 1) statement next_within.1)
@@ -94,6 +89,13 @@ module _ {start : Database} (m : Machine) (kept : IsKept start m) (s n : ℕ) (p
 
     pub next_migrates : IsNarrowIfMigrate statement
     next_migrates = narrow.migrates
+
+    pub next_prepared : (bound : Bound) → prepared_of (without_rows (catalog_of m.db)) (is_in_block m s) statement ≡ Some bound → IsPreparedNext m s bound
+    next_prepared bound bound_so = record {
+      statement = statement;
+      is = subst (λ (i : ℕ). slice_get (statements_at m s) i ≡ Some statement) next_at (got (statements_at m s) (n - 1) statement next_within.1 is);
+      prepared_so = sym (prepared_alike (without_rows (catalog_of m.db)) m.db (bare_catalog m.db) (is_in_block m s) statement) ∙ bound_so;
+    }
 
     -- and is prepared so
     pub next_bound : (bound : Bound) → prepared_of (without_rows (catalog_of m.db)) (is_in_block m s) statement ≡ Some bound → ((o : Open) × IsBoundNext m s o bound) ⊎ CanRefuse m s
@@ -132,3 +134,17 @@ module _ {start : Database} (m : Machine) (kept : IsKept start m) (s n : ℕ) (p
 pub in_ok : {P Q : Bound → Type 0} (r : Result Bound Memory) → ((bound : Bound) → P bound → Q bound) → IfOk r P → IfOk r Q
 in_ok (Ok bound) weaker so = weaker bound so
 in_ok (Err memory) weaker so = so
+
+-- what is prepared is bound well
+module _ (db : Database) (database : IsDatabase db) (in_block : Bool) (bound : Bound) where
+  of_action : (s : Statement) → objections db in_block s ≡ [] → prepared_action db s ≡ Some bound.action → IsWellBound bound.action
+  of_action (statement.Migrate m) none acts = subst IsWellBound (same_Some _ bound.action acts) tt
+  of_action s none acts = well_bound db in_block s bound.action (record { database = database; admitted = none; action = acts })
+
+  pub prepared_well : (s : Statement) → prepared_of db in_block s ≡ Some bound → IsWellBound bound.action
+  prepared_well s is =
+      let parts = parts_of db.number (changes_schema in_block s) (unless_objected (objections db in_block s) (prepared_action db s)) bound is in
+      elim (from_objections (objections db in_block s) (prepared_action db s) bound.action parts.1) as (λ _. IsWellBound bound.action) [
+        | inl free ↦ of_action s free.0 free.1
+        | inr refused ↦ subst IsWellBound (sym refused.3) tt
+      ]

@@ -1,5 +1,5 @@
 -- The next statement of a session, as it stands in the session's text.
-use Rattle.std.proofs.Common.{◌≡◌, ℕ, zero, suc, ◌+◌, ◌-◌, ◌<◌, ◌||◌, Bool, true, false, List, [], ◌∷◌, ◌++◌, length, take, drop, Option, Some, None, refl, sym, ap, subst, ◌∙◌, arith, length-append}
+use Rattle.std.proofs.Common.{◌≡◌, ℕ, zero, suc, ◌+◌, ◌-◌, ◌<◌, ◌≤◌, ◌||◌, Bool, true, false, List, [], ◌∷◌, ◌++◌, length, take, drop, Option, Some, None, refl, sym, ap, subst, ◌∙◌, arith, length-append}
 use Rattle.std.specs.Prelude.{slice_get}
 use Rattle.std.specs.List.{list_any, slice_index_or}
 use Rattle.std.proofs.lemmas.Bool.{and_parts}
@@ -14,8 +14,27 @@ use Rattle.bf_machine.specs.interleaving.Events.{Refuses, rest_of}
 use Rattle.bf_machine.specs.interleaving.Kept.{IsKept}
 use Rattle.bf_machine.specs.interleaving.Machines.{Machine, Open, open_at, told_at, with_replies}
 use Rattle.bf_machine.proofs.interleaving.Texts.{are_texts}
-use Rattle.bf_machine.proofs.served.Binding.{of_part}
 use Rattle.bf_machine.proofs.served.Events.{left_below, replies_are}
+
+-- the first item of what is left of a part of a list
+module _ {X : Type 0} (d : X) where
+  of_take : (n k : ℕ) (xs : List X) (x : X) (rest : List X) → drop k (take n xs) ≡ x ∷ rest → slice_index_or xs k d ≡ x
+  of_take zero zero xs x rest is = absurd cc
+  of_take zero (suc k) xs x rest is = absurd cc
+  of_take (suc n) zero [] x rest is = absurd cc
+  of_take (suc n) zero (y ∷ xs) x rest is = let same : y ≡ x = cc in same
+  of_take (suc n) (suc k) [] x rest is = absurd cc
+  of_take (suc n) (suc k) (y ∷ xs) x rest is = of_take n k xs x rest is
+
+  of_drop : (i k : ℕ) (xs : List X) → slice_index_or (drop i xs) k d ≡ slice_index_or xs (i + k) d
+  of_drop zero k xs = let here : 0 + k ≡ k = omega arith in rw here refl
+  of_drop (suc i) k [] = refl
+  of_drop (suc i) k (x ∷ xs) = let next : suc i + k ≡ suc (i + k) = omega arith in rw next (of_drop i k xs)
+
+  pub of_part : (first last k : ℕ) (xs : List X) (x : X) (rest : List X) → 1 ≤ first → drop k (part first last xs) ≡ x ∷ rest → slice_index_or xs (first + k - 1) d ≡ x
+  of_part first last k xs x rest low is =
+      let at : first - 1 + k ≡ first + k - 1 = omega (arith, low) in
+      ap (λ (n : ℕ). slice_index_or xs n d) (sym at) ∙ (sym (of_drop (first - 1) k xs) ∙ of_take (last - (first - 1)) k (drop (first - 1) xs) x rest is)
 
 -- an item that is read at a place
 pub got : {X : Type 0} (xs : List X) (i : ℕ) (x : X) → i < length xs → slice_index_or xs i x ≡ x → slice_get xs i ≡ Some x
