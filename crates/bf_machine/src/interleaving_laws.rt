@@ -7,17 +7,17 @@ ghost use Rattle.bf_locks.specs.declared.mode.Mode.{Mode};
 ghost use Rattle.bf_locks.specs.declared.name.LockName.{LockName};
 ghost use Rattle.bf_locks.specs.Locks.{IsJudged};
 ghost use Rattle.bf_tree.specs.declared.bound.Bound.{Bound};
-ghost use Rattle.bf_tree.specs.declared.history.Sweep.TheVariants.{Never};
 ghost use Rattle.bf_tree.specs.declared.plan.Plan.{Plan};
 ghost use Rattle.bf_tree.specs.declared.script.Script.{Script};
 ghost use Rattle.bf_tree.specs.declared.statement.Statement.{Statement};
 ghost use Rattle.bf_base.specs.declared.granule.Granule.{Granule};
 ghost use Rattle.bf_sql.specs.Database.{Database, empty_database};
 ghost use Rattle.bf_sql.specs.Footprints.{footprint_of};
-ghost use Rattle.bf_sql.specs.migrations.Lazy.{pending_of, view_of};
+ghost use Rattle.bf_sql.specs.migrations.Lazy.{pending_of, sweep_of, view_of};
 ghost use Rattle.bf_sql.specs.migrations.Plans.{prepared_of};
 ghost use Rattle.bf_store.specs.Stores.{Store};
 ghost use Rattle.bf_machine.specs.InOrder.{IsRunInOrder};
+ghost use Rattle.bf_machine.specs.Movement.{movement, sweep_told};
 ghost use Rattle.bf_machine.specs.Runnable.{phases_rise_from};
 ghost use Rattle.bf_machine.specs.interleaving.Calls.{HasSessionEnded, IsPlace};
 ghost use Rattle.bf_machine.specs.interleaving.Events.{Aborts, Asks, Begins, Commits, Executes, LastHasEnded, Moves, Reaches, Refuses};
@@ -119,11 +119,13 @@ pub fn a_statement_asks_for_what_it_is_prepared_to()
 {}
 
 /// Sessions in sequence run in order. Nothing has happened in a new machine, so it is in sequence; and once each session
-/// of one that is in sequence has ended, its transcripts and history are those of a run in the order of the text.
+/// of one that is in sequence has ended, its transcripts and history are those of a run in the order of the text, where
+/// its store has moved what the statements of the history needed, and no more.
 pub fn sessions_in_sequence_run_in_order()
     ensures new { (store : Store) (script : Script) (retries : ℕ)
         → IsTrue (phases_rise_from 0 script.sessions) → IsInSequence (fresh store script retries) }
     ensures ran { (m : Machine) → IsKept empty_database m → IsInSequence m
         → ((s : ℕ) → IsPlace m.script s → HasSessionEnded m s)
-        → IsRunInOrder m.script (transcripts_of m) m.history Never }
+        → sweep_of m.lazy.last ≡ sweep_told (movement m.script empty_database m.history)
+        → IsRunInOrder m.script (transcripts_of m) m.history (sweep_of m.lazy.last) }
 {}

@@ -20,9 +20,8 @@ use Rattle.bf_store.specs.Stores.{IsByPass, migration_of}
 use Rattle.bf_store.proofs.coming.Parts.{granules_apart}
 use Rattle.bf_store.proofs.moving.Needing.{need_is_granules, none_left_if_done}
 use Rattle.bf_transpose.specs.Covers.{needed_in}
-use Rattle.bf_machine.specs.interleaving.Calls.{CanExec, CanRefuse}
-use Rattle.bf_machine.specs.interleaving.Events.{Moves, Reaches, at_once, moves, one_more}
-use Rattle.bf_machine.specs.interleaving.Kept.{IsKept}
+use Rattle.bf_machine.specs.interleaving.Calls.{CanExec, HasReplied}
+use Rattle.bf_machine.specs.interleaving.Events.{Event, Moves, Reaches, at_once, executes, moves, one_more, refuses}
 use Rattle.bf_machine.specs.interleaving.Machines.{Machine}
 use Rattle.bf_machine.specs.interleaving.Serving.{HasMovedNeed}
 use Rattle.bf_machine.proofs.served.Moved.{left_or_done, recorded}
@@ -117,3 +116,10 @@ can_exec_still m s start bound lazy can = elim can as (λ _. CanExec (record m {
       let by = refused.1 in
       inr (_, record { place = by.place; current = by.current; closed = by.closed; stray = by.stray; goes = refl })
 ]
+
+-- and a reply is reached behind moves
+pub reply_reached : (start : Database) (m : Machine) (s : ℕ) (bound : Bound) (now : Machine) → HasMovedNeed m bound now → (then : Machine) → HasReplied now s bound then → Reaches start m then
+reply_reached start m s bound now moved then by = one_more (moved_reaches start m bound now moved) (elim by as (λ _. Event start now then) [
+  | inl executed ↦ executes s executed.0
+  | inr refused ↦ refuses s refused
+])

@@ -1,8 +1,9 @@
 -- A statement whose locks are held has its reply, once what it needs has moved.
-use Rattle.std.proofs.Common.{◌≡◌, ℕ, ◌+◌, Bool, List, [], ◌∷◌, ◌++◌, true, false, length, take, Option, Some, None, refl, sym, ap, ap₂, subst, ◌∙◌, arith, inl, inr, append-nil}
+use Rattle.std.proofs.Common.{◌≡◌, ◌⊎◌, ℕ, ◌+◌, Bool, List, [], ◌∷◌, ◌++◌, true, false, length, take, Option, Some, None, refl, sym, ap, ap₂, subst, ◌∙◌, arith, inl, inr, append-nil}
 use Rattle.std.specs.Prelude.{is_some}
 use Rattle.std.specs.Option.{option_map, option_map_or}
 use Rattle.std.proofs.Math.Seq.{take-length}
+use Rattle.std.proofs.lemmas.Bool.{false≢true}
 use Rattle.std.proofs.lemmas.Option.{same_Some}
 use Rattle.bf_locks.specs.Locks.{Locks}
 use Rattle.bf_tree.specs.declared.bound.Bound.{Bound}
@@ -21,7 +22,7 @@ use Rattle.bf_live.specs.Live.{committed}
 use Rattle.bf_live.specs.OpenGroups.{Holds}
 use Rattle.bf_store.specs.States.{HaveMoved, need_of, to_move, with_moved}
 use Rattle.bf_machine.specs.Movement.{Moving, begun_unless, moving_behind, moving_seen, with_need}
-use Rattle.bf_machine.specs.interleaving.Calls.{CanExec, HasReplied, IsToExec}
+use Rattle.bf_machine.specs.interleaving.Calls.{CanExec, CanRefuse, HasReplied, IsToExec}
 use Rattle.bf_machine.specs.interleaving.Events.{Executes, Reaches, Refuses, at_once, moves, one_more, put_into, refuses, rest_of, stands_inside, stepped, text_of}
 use Rattle.bf_machine.specs.interleaving.Groups.{Pending, Rows, left_by, pending_behind}
 use Rattle.bf_machine.specs.interleaving.Kept.{IsKept, IsOpenGroup}
@@ -243,3 +244,19 @@ module _ {start : Database} (m : Machine) (s : ℕ) (kept : IsKept start m) (clo
 pub none_started : (o : Option Open) → is_some (option_map (λ (o : Open). o.start) o) ≡ false → o ≡ None
 none_started None none = refl
 none_started (Some o) none = absurd cc
+
+some_started : (o : Option Open) → is_some (option_map (λ (o : Open). o.start) o) ≡ true → o ≡ None → ⊥
+some_started o some none = false≢true (sym (ap (λ (f : Option Open). is_some (option_map (λ (o : Open). o.start) f)) none) ∙ some)
+
+-- in a group that is open the next statement is its own, and else it may be refused
+module _ (m : Machine) (s : ℕ) (bound : Bound) where
+  pub in_group : is_some (option_map (λ (o : Open). o.start) (open_at m s)) ≡ true → ((o : Open) × IsBoundNext m s o bound) ⊎ CanRefuse m s → (o : Open) × IsBoundNext m s o bound
+  in_group some next = elim next as (λ _. (o : Open) × IsBoundNext m s o bound) [ inl its ↦ its | inr refused ↦ absurd (some_started (open_at m s) some refused.1.closed) ]
+
+  pub can_refuse : (start : Database) → open_at m s ≡ None → ((o : Open) × IsBoundNext m s o bound) ⊎ CanRefuse m s → CanExec m s start bound
+  can_refuse start closed next = elim next as (λ _. CanExec m s start bound) [
+    | inl its ↦
+        let clash : None ≡ Some its.0 = sym closed ∙ its.1.to_lock.is in
+        absurd cc
+    | inr refused ↦ inr refused
+  ]
