@@ -199,12 +199,13 @@ fn reply_to<N: Opened>(
     ensures err { OnErr result (HasMovedNeed machine.old bound.now machine.new) }
 {
     let pass = machine.migration();
-    let cover = cover_with(alloc, registry, lookups, pass.as_ref(), bound)?;
-    match machine.exec(registry, session, pass.as_ref(), bound, &cover)? {
+    let migration = pass.as_ref();
+    let cover = cover_with(alloc, registry, lookups, migration, bound)?;
+    match machine.exec(registry, session, migration, bound, &cover)? {
         Step::Replied => Ok(()),
         Step::Need(granules) => {
             move_need(alloc, registry, lookups, machine, granules.as_slice())?;
-            reply_behind_moves(registry, machine, session, pass.as_ref(), bound, &cover)
+            reply_behind_moves(registry, machine, session, migration, bound, &cover)
         }
         Step::Stale(_) => unreachable!(),
     }

@@ -131,6 +131,9 @@ none_done : (gs : List Granule) → filter (λ (g : Granule). false) gs ≡ []
 none_done [] = refl
 none_done (g ∷ gs) = none_done gs
 
+abbrev begun_by : ℕ → Database → Migrate → List Granule → Option Moving
+begun_by n old m gs = Some (record { number = n; old = old; migrate = m; needed = gs })
+
 so_far : (last : Option Migration) → migrations_so_far last ≡ flips_so_far (moving_seen last)
 so_far None = refl
 so_far (Some last) = refl
@@ -169,8 +172,8 @@ module _ (db : Database) (lazy : LazyState) (view : view_of lazy ≡ db) (writes
       by_rows (r ∷ rs) live = refl
       by_rows [] live =
           let old = set_aside lazy.live plan.migrate in
-          ap (λ (gs : List Granule). Some (record { number = migrations_so_far lazy.last + 1; old = old; migrate = plan.migrate; needed = gs })) (none_done (granules_of old plan.migrate))
-          ∙ ap₂ (λ (n : ℕ) (d : Database). Some (record { number = n + 1; old = set_aside d plan.migrate; migrate = plan.migrate; needed = [] })) (so_far lazy.last) live
+          ap (begun_by (migrations_so_far lazy.last + 1) old plan.migrate) (none_done (granules_of old plan.migrate))
+          ∙ ap₂ (λ (n : ℕ) (d : Database). begun_by (n + 1) (set_aside d plan.migrate) plan.migrate []) (so_far lazy.last) live
 
   pub behind_reply : Goal (pending_behind db (Rows writes) inside s bound.action)
   behind_reply = by bound.action refl
@@ -180,8 +183,11 @@ module _ (db : Database) (lazy : LazyState) (view : view_of lazy ≡ db) (writes
       by other e = plain_behind other e tt
 
 -- a COMMIT or ROLLBACK needs nothing, and begins no migration
+abbrev bound_to : ℕ → Bool → Action → Bound
+bound_to n b act = record { catalog = n; schema_change = b; action = act }
+
 ended_alike : (b : Bool) (n : ℕ) (rs : List Refusal) (act : Action) (old : Database) (first : Migrate) → needed_for old first act ≡ []
-    → flat_map (needed old first) (option_to_list (option_map (λ (act : Action). record { catalog = n; schema_change = b; action = act }) (unless_objected rs (Some act)))) ≡ []
+    → flat_map (needed old first) (option_to_list (option_map (bound_to n b) (unless_objected rs (Some act)))) ≡ []
 ended_alike b n [] act old first none = append-nil (needed_for old first act) ∙ none
 ended_alike b n (r ∷ rs) act old first none = refl
 

@@ -1,17 +1,25 @@
 -- What a bound statement needs of the last migration moves, and then nothing of it is left.
-use Rattle.std.proofs.Common.{◌≡◌, ◌⊎◌, ℕ, ◌||◌, not, List, [], Option, Some, None, refl, sym, ap, subst, ◌∙◌, inl, inr}
-use Rattle.std.specs.Option.{option_map}
+use Rattle.std.proofs.Common.{◌≡◌, ◌≢◌, ◌⊎◌, ℕ, Bool, false, ◌||◌, not, List, [], Bor, Option, Some, None, refl, sym, ap, subst, ◌∙◌, inl, inr}
+use Rattle.std.specs.Prelude.{is_some}
+use Rattle.std.specs.Global.{Vec}
+use Rattle.std.specs.Option.{option_copied, option_map}
 use Rattle.std.proofs.lemmas.Bool.{or_right}
 use Rattle.bf_base.specs.declared.granule.Granule.{Granule}
+use Rattle.bf_base.specs.declared.table.Table.{Table}
+use Rattle.bf_base.specs.declared.value.Value.{Value}
 use Rattle.bf_base.specs.Lists.{has}
 use Rattle.bf_base.proofs.Apart.{apart-filter}
 use Rattle.bf_tree.specs.declared.bound.Action.{Action}
+use Rattle.bf_tree.specs.declared.bound.Action.TheVariants as action
 use Rattle.bf_tree.specs.declared.bound.Bound.{Bound}
+use Rattle.bf_tree.specs.declared.migration.Migrate.{Migrate}
+use Rattle.bf_tree.specs.declared.migration.Target.{Target}
 use Rattle.boxcar.specs.Table.{Where}
 use Rattle.bf_sql.specs.Database.{Database}
 use Rattle.bf_sql.specs.migrations.Granules.{granules_of, same_granule}
 use Rattle.bf_sql.specs.migrations.Lazy.{LazyState, Migration, is_done, not_done}
-use Rattle.bf_sql.specs.migrations.Need.{needed_for}
+use Rattle.bf_sql.specs.migrations.Need.{giving, has_key_of, may_satisfy, needed_for, target_of}
+use Rattle.bf_image.specs.Migrations.{old_of}
 use Rattle.bf_image.specs.declared.migration.Migration.{Migration as Kept}
 use Rattle.bf_image.proofs.finding.Found.{same_granule-itself}
 use Rattle.bf_image.proofs.items.Lists.{all_kept, all_so, has_own}
@@ -19,8 +27,10 @@ use Rattle.bf_store.specs.States.{AreGranules, AreGranulesIfAny, IsLazy, IsUnder
 use Rattle.bf_store.specs.Stores.{IsByPass, migration_of}
 use Rattle.bf_store.proofs.coming.Parts.{granules_apart}
 use Rattle.bf_store.proofs.moving.Needing.{need_is_granules, none_left_if_done}
-use Rattle.bf_transpose.specs.Covers.{needed_in}
-use Rattle.bf_machine.specs.interleaving.Calls.{CanExec, HasReplied}
+use Rattle.bf_transpose.specs.Covers.{IsCoverOf, can_need, needed_in}
+use Rattle.bf_transpose.specs.declared.cover.Cover.{Cover}
+use Rattle.bf_machine.specs.declared.stand.Step.TheVariants.{Need, Stale}
+use Rattle.bf_machine.specs.interleaving.Calls.{CanExec, HasReplied, IsPresent, IsStep}
 use Rattle.bf_machine.specs.interleaving.Events.{Event, Moves, Reaches, at_once, executes, moves, one_more, refuses}
 use Rattle.bf_machine.specs.interleaving.Machines.{Machine}
 use Rattle.bf_machine.specs.interleaving.Serving.{HasMovedNeed}
@@ -123,3 +133,43 @@ reply_reached start m s bound now moved then by = one_more (moved_reaches start 
   | inl executed ↦ executes s executed.0
   | inr refused ↦ refuses s refused
 ])
+
+-- HOW IT GOES: a statement that is present has its reply, or what is left of its cover is needed
+module _ (m : Machine) (pass : Option (Where Kept)) (bound : Bound) (cover : List Granule) (present : IsPresent m pass bound) where
+  pub not_stale : (n : ℕ) → IsStep m pass bound cover (Stale n) → ⊥
+  not_stale n step = elim step as (λ _. ⊥) [ inl here ↦ here.2 n refl | inr gone ↦ gone.0 present ]
+
+  pub needs_left : (granules : Vec Granule) → IsStep m pass bound cover (Need granules) → (granules.items ≡ to_move m.lazy.last cover) × (to_move m.lazy.last cover ≢ [])
+  needs_left granules step = elim step as (λ _. (granules.items ≡ to_move m.lazy.last cover) × (to_move m.lazy.last cover ≢ [])) [ inl here ↦ here.1 | inr gone ↦ absurd (gone.0 present) ]
+
+  pub not_needed : to_move m.lazy.last cover ≡ [] → (granules : Vec Granule) → IsStep m pass bound cover (Need granules) → ⊥
+  not_needed none granules step = (needs_left granules step).1 none
+
+-- an option of what is lent, and of what it is
+pub lent : {P : Type 0} (r : Option (Bor P)) → option_map (λ p. p.now) r ≡ option_copied r
+lent None = refl
+lent (Some p) = refl
+
+pub lent_by : {P Q : Type 0} (f : P → Q) (r : Option (Bor P)) → option_map (λ p. f p.now) r ≡ option_map f (option_copied r)
+lent_by f None = refl
+lent_by f (Some p) = refl
+
+-- a cover is the need, by the pass of the last migration
+pub cover_is_need : (m : Machine) → IsByPass m.lazy.last m.pass → (bound : Bound) (cover : Cover) → IsCoverOf (option_map (λ (p : Where Kept). p.value) m.pass) bound cover → cover.granules.items ≡ need_of m.lazy.last bound.action
+cover_is_need m by bound cover is = is.granules ∙ sym (need_by_pass m.lazy.last m.pass bound.action by)
+
+-- an action that can need nothing needs nothing
+on_no_target : (old : Database) (m : Migrate) (table : Table) (test : Target → List Value → Bool) → is_some (target_of old m table) ≡ false → giving old m (target_of old m table) test ≡ []
+on_no_target old m table test none = by (target_of old m table) none
+  where
+    by : (t : Option Target) → is_some t ≡ false → giving old m t test ≡ []
+    by None none = refl
+    by (Some t) none = absurd cc
+
+pub needs_none : (m : Kept) (act : Action) → can_need m act ≡ false → needed_in (Some m) act ≡ []
+needs_none m (action.Migrate plan) none = absurd cc
+needs_none m (action.Insert table rows) none = on_no_target (old_of m) m.plan.migrate table (has_key_of table rows) none
+needs_none m (action.Select table items cond fixed) none = on_no_target (old_of m) m.plan.migrate table (may_satisfy cond) none
+needs_none m (action.Update table sets cond fixed) none = on_no_target (old_of m) m.plan.migrate table (may_satisfy cond) none
+needs_none m (action.Delete table cond fixed) none = on_no_target (old_of m) m.plan.migrate table (may_satisfy cond) none
+needs_none m other none = refl

@@ -76,6 +76,7 @@ module _ {start : Database} (m : Machine) (kept : IsKept start m) (s : ℕ) wher
   pub refused_ends : (next : Machine) → Refuses m s next → (statement : Statement) → slice_get (statements_at m s) (length (replies_at m s)) ≡ Some statement → ends_block statement ≡ true
   refused_ends next by statement is =
       let n = length (told_at m s) + 1 in
-      let replies : length (replies_at m s) ≡ n - 1 = omega (arith, ap (λ (o : Option Open). length (with_replies (told_at m s) o)) by.closed) in
+      let size : length (replies_at m s) ≡ length (told_at m s) = ap (λ (o : Option Open). length (with_replies (told_at m s) o)) by.closed in
+      let replies : length (replies_at m s) ≡ n - 1 = omega (arith, size) in
       let parts = and_parts (list_any ends_block (part n n (statements_at m s))) _ by.stray in
       any_first (n - 1) (n - (n - 1)) (statements_at m s) statement (omega arith) parts.0 (subst (λ (i : ℕ). slice_get (statements_at m s) i ≡ Some statement) replies is)
