@@ -1,5 +1,5 @@
 -- What a bound statement needs of the last migration moves, and then nothing of it is left.
-use Rattle.std.proofs.Common.{◌≡◌, ◌≢◌, ◌⊎◌, ℕ, Bool, false, ◌||◌, not, List, [], Bor, Option, Some, None, refl, sym, ap, subst, ◌∙◌, inl, inr}
+use Rattle.std.proofs.Common.{◌≡◌, ◌≢◌, ◌⊎◌, ℕ, Bool, false, ◌||◌, not, List, [], Bor, Option, Some, None, refl, sym, ap, ap₂, subst, ◌∙◌, inl, inr}
 use Rattle.std.specs.Prelude.{is_some}
 use Rattle.std.specs.Global.{Vec}
 use Rattle.std.specs.Option.{option_copied, option_map}
@@ -30,8 +30,9 @@ use Rattle.bf_store.proofs.moving.Needing.{need_is_granules, none_left_if_done}
 use Rattle.bf_transpose.specs.Covers.{IsCoverOf, can_need, needed_in}
 use Rattle.bf_transpose.specs.declared.cover.Cover.{Cover}
 use Rattle.bf_machine.specs.declared.stand.Step.TheVariants.{Need, Stale}
-use Rattle.bf_machine.specs.interleaving.Calls.{CanExec, HasReplied, IsPresent, IsStep}
+use Rattle.bf_machine.specs.interleaving.Calls.{CanExec, HasReplied, IsPresent, IsStep, slot_of}
 use Rattle.bf_machine.specs.interleaving.Events.{Event, Moves, Reaches, at_once, executes, moves, one_more, refuses}
+use Rattle.bf_machine.specs.interleaving.Kept.{IsKept}
 use Rattle.bf_machine.specs.interleaving.Machines.{Machine}
 use Rattle.bf_machine.specs.interleaving.Serving.{HasMovedNeed}
 use Rattle.bf_machine.proofs.served.Moved.{left_or_done, recorded}
@@ -173,3 +174,38 @@ needs_none m (action.Select table items cond fixed) none = on_no_target (old_of 
 needs_none m (action.Update table sets cond fixed) none = on_no_target (old_of m) m.plan.migrate table (may_satisfy cond) none
 needs_none m (action.Delete table cond fixed) none = on_no_target (old_of m) m.plan.migrate table (may_satisfy cond) none
 needs_none m other none = refl
+
+-- A NEED, of a statement that is prepared in the present catalog, by the pass of the last migration
+module _ {start : Database} (m : Machine) (kept : IsKept start m) (bound : Bound) (cover : Cover) (pass : Option (Where Kept)) (own : pass ≡ m.pass)
+    (is : IsCoverOf (option_map (λ (p : Where Kept). p.value) pass) bound cover) (number : bound.catalog ≡ m.db.number) where
+  pub is_present : IsPresent m pass bound
+  is_present = record { catalog = number; migration = ap slot_of own }
+
+  need : cover.granules.items ≡ need_of m.lazy.last bound.action
+  need = cover_is_need m kept.store_valid.by_pass bound cover (subst (λ (p : Option (Where Kept)). IsCoverOf (option_map (λ (p : Where Kept). p.value) p) bound cover) own is)
+
+  pub need_told : (granules : Vec Granule) → IsStep m pass bound cover.granules.items (Need granules) → granules.items ≡ to_move m.lazy.last (need_of m.lazy.last bound.action)
+  need_told granules step = (needs_left m pass bound cover.granules.items is_present granules step).0 ∙ ap (to_move m.lazy.last) need
+
+  module _ (gs : List Granule) (same : gs ≡ to_move m.lazy.last (need_of m.lazy.last bound.action)) where
+    pub may_move : AreGranulesIfAny m.lazy.last gs
+    may_move = subst (AreGranulesIfAny m.lazy.last) (sym same) (need_granules m.lazy bound.action kept.store_valid.seen_as.lazy_state)
+
+    -- behind its moves
+    module _ (now : Machine) (by : Moves m gs now) where
+      pub has_moved : HasMovedNeed m bound now
+      has_moved = inr (subst (λ (gs : List Granule). Moves m gs now) same by)
+
+      pub present_then : IsPresent now pass bound
+      present_then = record {
+        catalog = number ∙ sym (ap (λ (k : Machine). k.db.number) by.goes);
+        migration = ap slot_of (own ∙ sym (ap (λ (k : Machine). k.pass) by.goes));
+      }
+
+      pub none_then : to_move now.lazy.last cover.granules.items ≡ []
+      none_then =
+          let stored : now.lazy ≡ with_moved m.lazy (to_move m.lazy.last (need_of m.lazy.last bound.action)) = ap (λ (k : Machine). k.lazy) by.goes ∙ ap (with_moved m.lazy) same in
+          ap₂ (λ (l : LazyState) (ns : List Granule). to_move l.last ns) stored need ∙ nothing_left m.lazy bound.action
+
+      pub can_then : (s : ℕ) → CanExec m s start bound → CanExec now s start bound
+      can_then s can = subst (λ (k : Machine). CanExec k s start bound) (sym by.goes) (can_exec_still m s start bound (with_moved m.lazy gs) can)
