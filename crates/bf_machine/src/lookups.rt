@@ -16,8 +16,8 @@ use bf_tree::Bound;
 use std::alloc::Global;
 use std::marker::{Model, PhantomData};
 
-/// The old rows of a migration of the run's registry by their values: what covers are found by. Contracts
-/// see the pass of the migration.
+/// The old rows of a migration of the run's registry by their values: what covers are found by.
+/// Contracts see the pass of the migration.
 #[derive(Drop)]
 pub struct Lookups<N: Opened> {
     pass: MigrationPass,
@@ -98,8 +98,8 @@ fn are_kept<N: Opened>(
     }
 }
 
-/// Makes the look-ups of a migration, unless they are kept. It costs what [`ValueIndexes::of`] does then,
-/// and else takes no memory.
+/// Makes the look-ups of a migration, unless they are kept. It costs what [`ValueIndexes::of`] does
+/// then, and else takes no memory.
 ///
 /// # Errors
 /// Where memory runs out.
@@ -120,8 +120,8 @@ pub fn look_up<N: Opened>(
     Ok(())
 }
 
-/// The cover of a bound statement, and the look-ups of the migration are kept where it can need any of it.
-/// It costs what [`cover_of`] does, and what [`look_up`] does where it can.
+/// The cover of a bound statement, and the look-ups of the migration are kept where it can need any
+/// of it. It costs what [`cover_of`] does, and what [`look_up`] does where it can.
 ///
 /// # Errors
 /// Where memory runs out.

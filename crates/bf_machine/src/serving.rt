@@ -117,7 +117,8 @@ pub fn prepare_next<N: Opened>(
 /// Moves what is left of a need of the last migration, as one change.
 ///
 /// # Errors
-/// Where memory runs out, or 2 ^ 32 granules or 2 ^ 64 changes were made. The machine is as it was then.
+/// Where memory runs out, or 2 ^ 32 granules or 2 ^ 64 changes were made. The machine is as it was
+/// then.
 fn move_need<N: Opened>(
     alloc: Global,
     registry: &Registry,
@@ -144,8 +145,8 @@ fn move_need<N: Opened>(
     }
 }
 
-/// Replies to a session's next statement, as it is prepared in the present catalog, of whose cover nothing
-/// is left to move.
+/// Replies to a session's next statement, as it is prepared in the present catalog, of whose cover
+/// nothing is left to move.
 ///
 /// # Errors
 /// Where memory runs out, or 2 ^ 32 rows or more change. The machine is as it was then.
@@ -174,12 +175,12 @@ fn reply_behind_moves<N: Opened>(
     }
 }
 
-/// Replies to a session's next statement, as it is prepared in the present catalog, once what it needs of
-/// the last migration has moved.
+/// Replies to a session's next statement, as it is prepared in the present catalog, once what it
+/// needs of the last migration has moved.
 ///
 /// # Errors
-/// Where memory runs out, 2 ^ 32 rows or more change, or 2 ^ 32 granules or 2 ^ 64 changes were made. What
-/// it needs may have moved then, and else the machine is as it was.
+/// Where memory runs out, 2 ^ 32 rows or more change, or 2 ^ 32 granules or 2 ^ 64 changes were
+/// made. What it needs may have moved then, and else the machine is as it was.
 fn reply_to<N: Opened>(
     alloc: Global,
     registry: &Registry,
@@ -211,8 +212,8 @@ fn reply_to<N: Opened>(
     }
 }
 
-/// Gives the next statement of a session's open group its reply: asks for the locks of its footprint
-/// in their order, moves what it needs, and ends the group where it is the last.
+/// Gives the next statement of a session's open group its reply: asks for the locks of its
+/// footprint in their order, moves what it needs, and ends the group where it is the last.
 fn serve_in_group<N: Opened, R: Wait>(
     alloc: Global,
     rt: &R,
@@ -285,7 +286,8 @@ fn begin_if_due<N: Opened>(machine: &mut Machine<N>, session: u32) -> Result<Sta
 }
 
 /// One turn of a session: drives its next statement until it has its reply, waits or dies. A group
-/// begins with its first statement's turn and, but for its COMMIT or ROLLBACK, ends with its last one's.
+/// begins with its first statement's turn and, but for its COMMIT or ROLLBACK, ends with its last
+/// one's.
 fn take_turn<N: Opened, R: Wait>(
     alloc: Global,
     rt: &R,
@@ -425,14 +427,20 @@ fn end_sessions<N: Opened, R: Wait>(
 
 /// Serves the sessions of a machine on one thread. Each number of the order is one turn of that
 /// session: its next statement is driven until it has its reply, or waits, or dies. A number of no
-/// session, and a session that has ended, is of a later phase or waits for the end of another group,
-/// is passed over. Then all that is left is driven, the youngest open group first, and where none is
-/// open the first session that can go on. Linear in the turns, each of which looks at each session of
-/// the script, 64 at most in one that is read.
+/// session, and a session that has ended, is of a later phase or waits for the end of another
+/// group, is passed over. Then all that is left is driven, the youngest open group first, and where
+/// none is open the first session that can go on. What a statement needs of the last migration
+/// moves in its turn, and nothing else of it.
+///
+/// Linear in the turns, each of which looks at each session of the script, 64 at most in one that
+/// is read, and costs what its statement's cover, moves and reply do. The old rows of a migration
+/// are put in order by their values once, when a statement first can need some of it.
 ///
 /// # Errors
-/// Where memory runs out. The machine stands after some of the turns then, and maybe in the midst of
-/// one: its group has begun, holds some of its locks, or has its last reply and has not ended.
+/// Where memory runs out, 2 ^ 32 rows or more change, or 2 ^ 32 granules or migrations or 2 ^ 64
+/// changes were made. The machine stands after some of the turns then, and maybe in the midst of
+/// one: its group has begun, holds some of its locks, has moved what it needs, or has its last
+/// reply and has not ended.
 pub fn in_order<N: Opened, R: Wait>(
     alloc: Global,
     rt: &R,
