@@ -60,7 +60,7 @@ module _ (lazy : LazyState) where
   put_last Nothing plain = refl
 
 -- a flip is that of a lone statement, which commits
-first_of : Statement → List Answered → Statement
+abbrev first_of : Statement → List Answered → Statement
 first_of d [] = d
 first_of d (a ∷ more) = a.statement
 
