@@ -77,9 +77,10 @@ impl<N: Opened> Machine<N> {
         ensures err { OnErr result (self.new ≡ self.old) }
     {
         let last = self.store.migration();
-        let same = are_same(registry, Some(migration), last.as_ref());
+        let last = last.as_ref();
+        let same = are_same(registry, Some(migration), last);
         if !same {
-            return Err(MoveError::Old(number_of(registry, last.as_ref())));
+            return Err(MoveError::Old(number_of(registry, last)));
         }
         match self.store.move_granules(registry, indexes, granules) {
             Ok(moved) => Ok(moved),
