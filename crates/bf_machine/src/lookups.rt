@@ -47,11 +47,7 @@ impl<N: Opened> Lookups<N> {
     ///
     /// # Errors
     /// Where memory runs out.
-    fn of(
-        alloc: Global,
-        registry: &Registry,
-        pass: &MigrationPass,
-    ) -> Result<Lookups<N>, Memory>
+    fn of(alloc: Global, registry: &Registry, pass: &MigrationPass) -> Result<Lookups<N>, Memory>
         requires registry { registry.now ≡ N.registry }
         requires pass { Shows N.registry.migrations pass.now }
         ensures { IfOk result (λ lookups. lookups ≡ pass.now) }

@@ -163,9 +163,9 @@ module _ (db : Database) (lazy : LazyState) (view : view_of lazy ≡ db) (writes
       let live : lazy.live ≡ db = sym (view_itself lazy whole) ∙ view in
       by_rows (row_objections db (statement.Migrate plan.migrate)) live
       ∙ sym (
-        ap (λ (d : Database). begun_unless (objections d inside s ++ row_objections d s) last d s) same
-        ∙ (ap₂ (λ (b : Bool) (t : Statement). begun_unless (objections db b t ++ row_objections db t) last db t) planned.outside planned.statement_is
-        ∙ ap (λ (rs : List Refusal). begun_unless (rs ++ row_objections db (statement.Migrate plan.migrate)) last db (statement.Migrate plan.migrate)) planned.allowed)
+      ap (λ (d : Database). begun_unless (objections d inside s ++ row_objections d s) last d s) same
+      ∙ (ap₂ (λ (b : Bool) (t : Statement). begun_unless (objections db b t ++ row_objections db t) last db t) planned.outside planned.statement_is
+      ∙ ap (λ (rs : List Refusal). begun_unless (rs ++ row_objections db (statement.Migrate plan.migrate)) last db (statement.Migrate plan.migrate)) planned.allowed)
       )
     where
       by_rows : (rs : List Refusal) → lazy.live ≡ db → moving_seen (put_into lazy (flip_unless rs plan)).last ≡ begun_unless rs (moving_seen lazy.last) db (statement.Migrate plan.migrate)

@@ -157,9 +157,9 @@ module _ {start : Database} (m : Machine) (kept : IsKept start m) (s : ℕ) wher
             statement = c;
             is = next_of m kept s o is c [] one;
             moved = ap moving_seen (more one) ∙ sym (
-              end_begins_none (with_need (moving_seen m.lazy.last) (sees m s) (is_in_block m s) c) (sees m s) (is_in_block m s) c ends
-              ∙ end_needs_none m.lazy.last (sees m s) (is_in_block m s) c ends
-            );
+                end_begins_none (with_need (moving_seen m.lazy.last) (sees m s) (is_in_block m s) c) (sees m s) (is_in_block m s) c ends
+                ∙ end_needs_none m.lazy.last (sees m s) (is_in_block m s) c ends
+                );
           }
 
       end_goes_on : Event start m after → HasGoneOn m s start after

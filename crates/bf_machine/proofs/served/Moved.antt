@@ -103,10 +103,13 @@ recorded lazy last need [] so = ((by_place last).done, refl, λ g. same_done las
     none false = refl
 recorded lazy last need (x ∷ xs) so =
     let fresh = x ∷ xs in
-    let next : Migration = record last { done = last.done ++ map (done_by (lazy.records + 1)) fresh } in
-    ((by_place next).done, refl, λ g.
-    same_done next g ∙ (ap (λ gs. has same_granule gs g) (granules_then last (lazy.records + 1) fresh)
-    ∙ (list_any-append (same_granule g) (map (λ (d : DoneGranule). d.granule) last.done) fresh ∙ so g)))
+    let next : Migration = record last { done = last.done ++ map (done_by (lazy.records + 1)) fresh } in (
+      (by_place next).done,
+      refl,
+      λ g.
+          same_done next g ∙ (ap (λ gs. has same_granule gs g) (granules_then last (lazy.records + 1) fresh)
+          ∙ (list_any-append (same_granule g) (map (λ (d : DoneGranule). d.granule) last.done) fresh ∙ so g)),
+    )
 
 -- the need of what is prepared
 needed_is : (old : Migration) (db : Database) (in_block : Bool) (s : Statement) (bound : Bound) → prepared_of db in_block s ≡ Some bound
