@@ -1,4 +1,6 @@
+pub mod Anchors
 pub mod Calls
 pub mod Marks
+pub mod Puts
 pub mod States
 pub mod Stores

@@ -5,6 +5,7 @@ mod anchor;
 mod done;
 pub mod laws;
 pub mod moved;
+mod movement;
 pub mod store;
 mod under_way;
 
