@@ -1,10 +1,11 @@
 -- The calls that change a store keep it one.
-use Rattle.std.proofs.Common.{◌≡◌, ℕ, ◌+◌, true, false, not, List, [], ◌∷◌, map, Option, None, is_some, refl, sym, ap, ◌∙◌}
-use Rattle.std.specs.Prelude.{IsTrue}
+use Rattle.std.proofs.Common.{◌≡◌, ℕ, ◌+◌, true, false, not, List, [], ◌∷◌, map, Option, None, Some, ◌<◌, is_some, refl, sym, ap, ◌∙◌}
+use Rattle.std.specs.Prelude.{◌^◌, IsTrue, SomeIff}
 use Rattle.std.specs.List.{list_all}
 use Rattle.std.specs.Ordering.{eq_by_cmp}
 use Rattle.std.proofs.lemmas.Bool.{and_from, and_parts, not-true}
 use Rattle.std.proofs.lemmas.List.Folds.{list_all-map}
+use Rattle.std.proofs.lemmas.Option.{same_Some}
 use Rattle.bf_base.specs.declared.table.Table.{Table}
 use Rattle.bf_base.specs.declared.value.Value.{Value}
 use Rattle.bf_base.specs.Lists.{has, in_order, name_cmp}
@@ -67,6 +68,11 @@ index_keeps_store live last records index is database =
       narrow = is.narrow;
       counted = is.counted;
     }
+
+-- a number that was counted on
+pub one_more : (o : Option ℕ) (n records : ℕ) → SomeIff o (records + 1 < 2 ^ 64) (records + 1) → o ≡ Some n → n ≡ records + 1
+one_more None n records sum is = absurd cc
+one_more (Some m) n records sum is = same_Some n m (sym is) ∙ sum.1
 
 -- before any migration
 always_on_time : (ss : List Stored) → list_all (λ (s : Stored). list_all (λ row. true) s.rows) ss ≡ true

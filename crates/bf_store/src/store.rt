@@ -231,21 +231,24 @@ impl Store {
         ensures migration { self.new.migration ≡ self.old.migration }
         ensures err { OnErr result (self.new ≡ self.old) }
     {
-        let Some(last) = &mut self.last else {
+        // The last migration is put back, whatever comes of the move.
+        let Some(mut last) = self.last.take() else {
             return Ok(Moved {
                 fresh: Vec::new(self.alloc),
                 already: Vec::new(self.alloc),
             });
         };
         let migration = registry.migration(&last.pass);
-        move_granules(
+        let moved = move_granules(
             self.alloc,
             &mut self.live,
-            last,
+            &mut last,
             &mut self.records,
             migration,
             indexes,
             granules,
-        )
+        );
+        self.last = Some(last);
+        moved
     }
 }
