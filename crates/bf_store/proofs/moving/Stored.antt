@@ -1,7 +1,7 @@
 -- The states that moves lead to.
 use Rattle.std.proofs.Common.{◌≡◌, ℕ, ◌+◌, ◌<◌, true, false, ◌||◌, not, List, [], ◌∷◌, ◌++◌, map, filter, length, Option, None, Some, option_map, refl, sym, ap, ap₂, subst, ◌∙◌, inl, inr, arith}
 use Rattle.std.specs.Prelude.{filter_map}
-use Rattle.std.specs.List.{cons_option, list_all}
+use Rattle.std.specs.List.{list_all}
 use Rattle.std.proofs.lemmas.Bool.{and_from, and_parts, or_right, false≢true, not_from_false, cases_Bool}
 use Rattle.std.proofs.lemmas.List.Folds.{list_all-map}
 use Rattle.std.proofs.lemmas.Simd.{map-map}
@@ -106,14 +106,15 @@ nothing_if [] none = refl
 nothing_if (g ∷ gs) none = absurd (omega (arith, none))
 
 -- before any migration nothing moves
-none_told : (lazy : LazyState) → lazy.last ≡ None → (gs : List Granule) → [] ≡ filter_map (λ g. option_map (λ n. (g, n)) (moved_by lazy.last g)) gs
-none_told lazy none [] = refl
-none_told lazy none (g ∷ gs) = none_told lazy none gs ∙ sym (ap (λ (o : Option Migration). cons_option (option_map (λ n. (g, n)) (moved_by o g)) (filter_map (λ h. option_map (λ n. (h, n)) (moved_by lazy.last h)) gs)) none)
+told_of : Option Migration → Granule → Option (Granule × ℕ)
+told_of last g = option_map (λ n. (g, n)) (moved_by last g)
+
+none_told : (gs : List Granule) → filter_map (told_of None) gs ≡ []
+unfolding told_of
+none_told [] = refl
+none_told (g ∷ gs) = none_told gs
 
 pub none_moved : (live : Database) (records : ℕ) (gs : List Granule) (told : Moved) → told.fresh.items ≡ [] → told.already.items ≡ []
     → IsMoveOf (lazy_seen live None records) (lazy_seen live None records) gs told
-none_moved live records gs told fresh already = record {
-  state = refl;
-  fresh = fresh;
-  already = already ∙ none_told (lazy_seen live None records) refl gs;
-}
+unfolding told_of
+none_moved live records gs told fresh already = record { state = refl; fresh = fresh; already = already ∙ sym (none_told gs) }
