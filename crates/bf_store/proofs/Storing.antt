@@ -59,16 +59,6 @@ table_keeps_store live last records table is narrow database =
       counted = is.counted;
     }
 
-pub index_keeps_store : (live : Database) (last : Option UnderWay) (records : ℕ) (index : IndexRule) → IsStore live last records
-    → IsDatabase (next_number (with_index index live)) → IsStore (next_number (with_index index live)) last (records + 1)
-index_keeps_store live last records index is database =
-    let then_lazy = (with_new_index (lazy_seen live last records) index is.lazy_state database).lazy_state in
-    record {
-      lazy_state = record { live = then_lazy.live; last = then_lazy.last; valid = then_lazy.valid };
-      narrow = is.narrow;
-      counted = is.counted;
-    }
-
 -- a number that was counted on
 pub one_more : (o : Option ℕ) (n records : ℕ) → SomeIff o (records + 1 < 2 ^ 64) (records + 1) → o ≡ Some n → n ≡ records + 1
 one_more None n records sum is = absurd cc

@@ -18,8 +18,8 @@ pub struct Anchor {
     pub position: u32,
 }
 
-/// The first position of a unit, from one on, whose granule has not moved. For each before it, it finds
-/// the granule and looks it up.
+/// The first position of a unit, from one on, whose granule has not moved. For each before it, it
+/// finds the granule and looks it up.
 fn next_in_unit(
     alloc: Global,
     migration: &Migration,
@@ -29,7 +29,8 @@ fn next_in_unit(
 ) -> Result<Option<u32>, Memory>
     requires { IsLawfulMigration migration.now }
     ensures { IfOk result (λ next. next ≡ option_map (λ a. a.1)
-        (find (is_open (migration_of migration.now done.now)) (anchors_left migration.now unit from))) }
+        (find (is_open (migration_of migration.now done.now))
+        (anchors_left migration.now unit from))) }
 {
     for position in from..positions(migration, unit) {
         let Some(granule) = granule_of(alloc, migration, unit, position)? else {
@@ -42,8 +43,8 @@ fn next_in_unit(
     Ok(None)
 }
 
-/// The first anchor, from one on, whose granule has not moved. For each before it, it finds the granule
-/// and looks it up.
+/// The first anchor, from one on, whose granule has not moved. For each before it, it finds the
+/// granule and looks it up.
 ///
 /// # Errors
 /// Where memory runs out.

@@ -11,8 +11,8 @@ use std::alloc::Global;
 use std::collections::BTreeMap;
 use std::marker::Model;
 
-/// For each granule that has moved, the number of the record that moved it. Contracts see them in the
-/// order of unit and place.
+/// For each granule that has moved, the number of the record that moved it. Contracts see them in
+/// the order of unit and place.
 #[derive(Drop)]
 pub struct Done {
     numbers: BTreeMap<Granule, u64>,
@@ -81,8 +81,8 @@ impl Done {
         Ok(left)
     }
 
-    /// Those of some granules that have moved, each with the number of its record. For each it compares
-    /// about log n granules.
+    /// Those of some granules that have moved, each with the number of its record. For each it
+    /// compares about log n granules.
     ///
     /// # Errors
     /// Where memory runs out.
@@ -136,8 +136,8 @@ impl Done {
         Ok(())
     }
 
-    /// Takes back that granules have moved. For each it compares about log n granules, and it takes no
-    /// memory.
+    /// Takes back that granules have moved. For each it compares about log n granules, and it takes
+    /// no memory.
     pub fn unmark(&mut self, granules: &[Granule])
         ensures { self.new ≡ unmarked self.old granules.now }
     {

@@ -1,4 +1,5 @@
-//! The lazy store: live tables into which the rows of a migration move late, and the laws of such states.
+//! The lazy store: live tables into which the rows of a migration move late, and the laws of such
+//! states.
 #![tactic(auto)]
 
 mod anchor;

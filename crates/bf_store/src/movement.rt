@@ -158,12 +158,13 @@ fn note(
     }
 }
 
-/// Moves those of some granules of a migration, which differ, that have not moved, as one change, and tells
-/// what it has come to. It costs what the granules have, and a look-up for each row and each granule.
+/// Moves those of some granules of a migration, which differ, that have not moved, as one change,
+/// and tells what it has come to. It costs what the granules have, and a look-up for each row and
+/// each granule.
 ///
 /// # Errors
-/// Where memory runs out, or 2 ^ 32 granules have moved or 2 ^ 64 changes were made. All is as it was
-/// then.
+/// Where memory runs out, or 2 ^ 32 granules have moved or 2 ^ 64 changes were made. All is as it
+/// was then.
 pub(crate) fn move_granules(
     alloc: Global,
     live: &mut LiveTables,
@@ -201,8 +202,9 @@ pub(crate) fn move_granules(
     Ok(Moved { fresh, already })
 }
 
-/// Moves granules of a migration, which differ and have not moved, by one record: their rows are put into
-/// the live tables. It costs what the granules have, and a look-up for each row and each granule.
+/// Moves granules of a migration, which differ and have not moved, by one record: their rows are
+/// put into the live tables. It costs what the granules have, and a look-up for each row and each
+/// granule.
 ///
 /// # Errors
 /// Where memory runs out, or 2 ^ 32 granules have moved. All is as it was then.

@@ -24,8 +24,8 @@ use std::alloc::Global;
 use std::marker::Model;
 use std::sync::Wait;
 
-/// Live tables into which the rows of the last migration move late. Contracts see the lazy state, and
-/// the pass of the migration.
+/// Live tables into which the rows of the last migration move late. Contracts see the lazy state,
+/// and the pass of the migration.
 #[derive(Drop)]
 pub struct Store {
     alloc: Global,
@@ -87,8 +87,8 @@ impl Store {
         self.last.as_ref().map(|last| last.pass.copy())
     }
 
-    /// Those of some granules of the last migration that have not moved, in the order in which they are
-    /// told. It costs a look-up for each.
+    /// Those of some granules of the last migration that have not moved, in the order in which they
+    /// are told. It costs a look-up for each.
     ///
     /// # Errors
     /// Where memory runs out.
@@ -128,8 +128,8 @@ impl Store {
     /// [`bf_live::LiveTables::commit`] does, and answers the number of the change.
     ///
     /// # Errors
-    /// Where memory runs out, or 2 ^ 64 changes were made. The store and the workspace are as they were
-    /// then.
+    /// Where memory runs out, or 2 ^ 64 changes were made. The store and the workspace are as they
+    /// were then.
     pub fn commit(&mut self, writes: &mut Workspace) -> Result<u64, Memory>
         requires open { IsOpenLazily self.old.lazy writes.old }
         ensures ok { IfOk result (IsCommitOf self.old.lazy self.new.lazy writes.old) }
@@ -186,20 +186,15 @@ impl Store {
         Ok(records)
     }
 
-    /// Begins a migration by its plan, where nothing of the last one is left to move: the old tables
-    /// leave the live ones as they are, the new ones come without rows, and no granule has moved. The
-    /// number of the migration is answered. It copies no row: it costs the pages of the old tables, the
-    /// catalog and the plan.
+    /// Begins a migration by its plan, where nothing of the last one is left to move: the old
+    /// tables leave the live ones as they are, the new ones come without rows, and no granule has
+    /// moved. The number of the migration is answered. It copies no row: it costs the pages of the
+    /// old tables, the catalog and the plan.
     ///
     /// # Errors
-    /// Where memory runs out, or 2 ^ 32 migrations or 2 ^ 64 changes were made. The store is as it was
-    /// then.
-    pub fn flip<R: Wait>(
-        &mut self,
-        rt: &R,
-        registry: &Registry,
-        plan: &Plan,
-    ) -> Result<u32, Memory>
+    /// Where memory runs out, or 2 ^ 32 migrations or 2 ^ 64 changes were made. The store is as it
+    /// was then.
+    pub fn flip<R: Wait>(&mut self, rt: &R, registry: &Registry, plan: &Plan) -> Result<u32, Memory>
         requires one { IsOf registry.now self.old.migration }
         requires may { MayFlip self.old.lazy plan.now.migrate }
         requires narrow { IsNarrowMigrate plan.now.migrate }
@@ -211,12 +206,13 @@ impl Store {
         Err(Memory)
     }
 
-    /// Moves granules of the last migration, which differ, as one change: the rows that come from those
-    /// that have not moved are put into the live tables. It costs what the granules have, and a look-up
-    /// for each row and each granule.
+    /// Moves granules of the last migration, which differ, as one change: the rows that come from
+    /// those that have not moved are put into the live tables. It costs what the granules have, and
+    /// a look-up for each row and each granule.
     ///
     /// # Errors
-    /// Where memory runs out, or 2 ^ 32 granules or 2 ^ 64 changes were made. The store is as it was then.
+    /// Where memory runs out, or 2 ^ 32 granules or 2 ^ 64 changes were made. The store is as it
+    /// was then.
     pub fn move_granules(
         &mut self,
         registry: &Registry,

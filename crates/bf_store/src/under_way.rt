@@ -9,7 +9,8 @@ use crate::done::Done;
 use bf_image::MigrationPass;
 use bf_tree::Sweep;
 
-/// The last migration: its number, what has moved of it, and the first anchor whose granule has not.
+/// The last migration: its number, what has moved of it, and the first anchor whose granule has
+/// not.
 #[derive(Drop)]
 pub struct UnderWay {
     pub number: u32,

@@ -121,16 +121,16 @@ module _ (old : Database) where
     goes_on_from n j [] x is = absurd cc
     goes_on_from n j (p ∷ ps) x is = elim (test (granule n p, j)) as (λ b. test (granule n p, j) ≡ b → cond b (Some (granule n p, j)) (find test (numbered n (j + 1) ps)) ≡ Some x
         → (i : ℕ) × ((x.1 ≡ j + i) × (find later (drop i (numbered n j (p ∷ ps))) ≡ find later (numbered n j (p ∷ ps))))) [
-      | true ↦ λ t e.
-          let same : j ≡ x.1 = ap (λ (y : Anchored). y.1) (same_Some (granule n p, j) x e) in
-          let at : x.1 ≡ j + 0 = omega (arith, same) in
-          (0, (at, refl))
-      | false ↦ λ t e.
-          let rest = goes_on_from n (j + 1) ps x e in
-          let at : x.1 ≡ j + suc rest.0 = omega (arith, rest.1.0) in
-          let skip : find later (numbered n j (p ∷ ps)) ≡ find later (numbered n (j + 1) ps) = ap (λ b. cond b (Some (granule n p, j)) (find later (numbered n (j + 1) ps))) (fewer (granule n p, j) t) in
-          (suc rest.0, (at, rest.1.1 ∙ sym skip))
-    ] refl is
+          | true ↦ λ t e.
+              let same : j ≡ x.1 = ap (λ (y : Anchored). y.1) (same_Some (granule n p, j) x e) in
+              let at : x.1 ≡ j + 0 = omega (arith, same) in
+              (0, (at, refl))
+          | false ↦ λ t e.
+              let rest = goes_on_from n (j + 1) ps x e in
+              let at : x.1 ≡ j + suc rest.0 = omega (arith, rest.1.0) in
+              let skip : find later (numbered n j (p ∷ ps)) ≡ find later (numbered n (j + 1) ps) = ap (λ b. cond b (Some (granule n p, j)) (find later (numbered n (j + 1) ps))) (fewer (granule n p, j) t) in
+              (suc rest.0, (at, rest.1.1 ∙ sym skip))
+        ] refl is
 
     unit_goes_on : (n : ℕ) (form : UnitForm) (x : Anchored) → find test (unit_anchors old (n, form)) ≡ Some x
         → find later (drop x.1 (unit_anchors old (n, form))) ≡ find later (unit_anchors old (n, form))
