@@ -1,3 +1,4 @@
 pub mod Calls
+pub mod Flips
 pub mod States
 pub mod Stores

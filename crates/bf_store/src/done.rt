@@ -1,5 +1,7 @@
 //! The granules of a migration that have moved.
 
+ghost use Rattle.std.specs.Prelude.{◌≡◌, []};
+
 use bf_base::{Granule, Memory};
 use std::alloc::Global;
 use std::collections::BTreeMap;
@@ -19,4 +21,15 @@ impl Model for Done {
     ghost Value = { List DoneGranule };
 
     ghost view = { λ done. map (λ e. record { granule = e.0; number = e.1 }) done.numbers.entries };
+}
+
+impl Done {
+    /// No granule has moved. Takes no memory.
+    pub fn new(alloc: Global) -> Done
+        ensures { result ≡ [] }
+    {
+        Done {
+            numbers: BTreeMap::new(alloc),
+        }
+    }
 }

@@ -2,6 +2,7 @@
 #![tactic(auto)]
 
 mod done;
+mod flip;
 pub mod laws;
 pub mod store;
 
