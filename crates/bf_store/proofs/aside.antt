@@ -2,4 +2,5 @@
 pub mod Anchors
 pub mod Back
 pub mod Emptied
+pub mod Named
 pub mod Sources

@@ -124,3 +124,20 @@ module _ (db : Database) where
       → frozen ++ record { table = t; rows = rows } ∷ [] ≡ map (frozen_in db) (xs ++ t ∷ [])
   frozen_more xs t frozen rows so_far own =
       ap₂ (λ (fs : List Frozen) (rows : List Entry). fs ++ record { table = t; rows = rows } ∷ []) so_far (same_Some rows _ own) ∙ sym (map-append (frozen_in db) xs (t ∷ []))
+
+-- ---- one table alone, whose rows are given back at once
+module _ (db : Database) (is : IsDatabase db) (name : List ℕ) (entries : List Entry) (own : Some entries ≡ entries_at (stored_at db name)) (live : Database) (taken : live ≡ with_rows db name []) where
+  taken_alone : live ≡ set_aside (name ∷ []) db
+  taken_alone = taken ∙ ap (λ (db' : Database). with_rows db' name []) (sym (none_aside db)) ∙ one_more_is_taken db [] name
+
+  abbrev rows_of_them : List (List Value)
+  rows_of_them = map (λ (e : Entry). e.1) entries
+
+  pub own_again : (s : Stored) → stored_at live name ≡ Some s → entries ≡ entries_of s.table rows_of_them
+  own_again s found = own_keys_had db name entries (sym own) (name ∷ []) s (ap (λ (db' : Database). stored_at db' name) (sym taken_alone) ∙ found)
+
+  pub database_again : IsDatabase (with_rows live name rows_of_them)
+  database_again = subst (λ (db' : Database). IsDatabase (with_rows db' name rows_of_them)) (sym taken_alone) (database_back db name entries (sym own) [] is refl)
+
+  pub given_back : with_rows live name rows_of_them ≡ db
+  given_back = ap (λ (db' : Database). with_rows db' name rows_of_them) taken_alone ∙ put_back db name entries (sym own) [] is refl ∙ none_aside db
