@@ -1,4 +1,4 @@
-use Rattle.std.proofs.Common.{ap, ap₂, ◌∙◌}
+use Rattle.std.proofs.Common.{ap, ap₂}
 use Rattle.bf_live.specs.Drafts.{Drafted}
 use Rattle.bf_live.specs.Live.{rows_in}
 use Rattle.bf_live.proofs.Paired.{one_each_put, paired_put}

@@ -1,4 +1,4 @@
-use Rattle.std.proofs.Common.{[], option_map, refl, subst, sym, ap, ap₂, ◌∙◌}
+use Rattle.std.proofs.Common.{[], option_map, refl, subst, sym, ap, ◌∙◌}
 use Rattle.bf_heap.specs.Heaps.{Rows}
 use Rattle.bf_sql.specs.Database.{IsDatabase}
 use Rattle.bf_live.specs.Live.{AreLiveTables, database_of, rows_in, with_rows_under}
