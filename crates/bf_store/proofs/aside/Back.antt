@@ -50,7 +50,7 @@ module _ (db : Database) where
     }
 
     -- all that were taken come back, and then the database is as it was
-    pub may_come_back : (ts : List Table) → AllByRecursion Stands ts → are_apart same_name (names_in ts) ≡ true → MayComeBack (set_aside (names_in ts) db) (map (frozen_in db) ts)
+    may_come_back : (ts : List Table) → AllByRecursion Stands ts → are_apart same_name (names_in ts) ≡ true → MayComeBack (set_aside (names_in ts) db) (map (frozen_in db) ts)
     may_come_back [] there apart = tt
     may_come_back (t ∷ ts) there apart =
         let parts = and_parts _ _ apart in
@@ -58,7 +58,7 @@ module _ (db : Database) where
         (can_come_back t (names_in ts) there.0 none,
         subst (λ (db' : Database). MayComeBack db' (map (frozen_in db) ts)) (sym (back t (names_in ts) there.0 none)) (may_come_back ts there.1 parts.1))
 
-    pub all_back : (ts : List Table) → AllByRecursion Stands ts → are_apart same_name (names_in ts) ≡ true → fold with_back (set_aside (names_in ts) db) (map (frozen_in db) ts) ≡ db
+    all_back : (ts : List Table) → AllByRecursion Stands ts → are_apart same_name (names_in ts) ≡ true → fold with_back (set_aside (names_in ts) db) (map (frozen_in db) ts) ≡ db
     all_back [] there apart = none_aside db
     all_back (t ∷ ts) there apart =
         let parts = and_parts _ _ apart in
@@ -124,6 +124,16 @@ module _ (db : Database) where
       → frozen ++ record { table = t; rows = rows } ∷ [] ≡ map (frozen_in db) (xs ++ t ∷ [])
   frozen_more xs t frozen rows so_far own =
       ap₂ (λ (fs : List Frozen) (rows : List Entry). fs ++ record { table = t; rows = rows } ∷ []) so_far (same_Some rows _ own) ∙ sym (map-append (frozen_in db) xs (t ∷ []))
+
+-- ---- all of some tables
+module _ (db : Database) (is : IsDatabase db) (ts : List Table) (are : AreTablesOf db ts) (live : Database) (frozen : List Frozen) (aside : live ≡ set_aside (names_in ts) db) (them : frozen ≡ map (frozen_in db) ts) where
+  pub may_be_back : MayComeBack live frozen
+  may_be_back =
+      subst (λ (db' : Database). MayComeBack db' frozen) (sym aside)
+      (subst (λ (fs : List Frozen). MayComeBack (set_aside (names_in ts) db) fs) (sym them) (may_come_back db is ts are.there are.apart))
+
+  pub all_are_back : fold with_back live frozen ≡ db
+  all_are_back = ap₂ (λ (db' : Database) (fs : List Frozen). fold with_back db' fs) aside them ∙ all_back db is ts are.there are.apart
 
 -- ---- one table alone, whose rows are given back at once
 module _ (db : Database) (is : IsDatabase db) (name : List ℕ) (entries : List Entry) (own : Some entries ≡ entries_at (stored_at db name)) (live : Database) (taken : live ≡ with_rows db name []) where
