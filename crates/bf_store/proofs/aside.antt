@@ -4,3 +4,4 @@ pub mod Back
 pub mod Emptied
 pub mod Named
 pub mod Sources
+pub mod Whole

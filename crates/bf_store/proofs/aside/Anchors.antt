@@ -2,10 +2,15 @@
 use Rattle.std.proofs.Common.{◌≡◌, ℕ, ◌+◌, ◌<◌, ◌≤◌, List, [], ◌∷◌, ◌++◌, map, flat_map, find, drop, length, true, Option, Some, None, option_map, unwrap_or, refl, sym, ap, ◌∙◌, add-one, arith, zero, suc}
 use Rattle.std.specs.Prelude.{slice_get}
 use Rattle.std.specs.List.{enumerate_from}
+use Rattle.std.proofs.lemmas.List.{length-map}
 use Rattle.bf_base.specs.declared.granule.Granule.{Granule}
 use Rattle.bf_base.specs.declared.granule.Place.{Place}
 use Rattle.bf_sql.specs.Database.{Database}
 use Rattle.bf_sql.specs.migrations.Granules.{UnitForm, anchors_of, granule}
+use Rattle.bf_image.specs.Migrations.{IsLawfulMigration, units_in}
+use Rattle.bf_image.specs.PlannedUnits.{unit_form}
+use Rattle.bf_image.specs.declared.migration.Migration.{Migration as Kept}
+use Rattle.bf_image.proofs.planning.Units.{units_stand_for}
 use Rattle.bf_store.specs.declared.store.Anchor.{Anchor}
 
 -- the anchors of some units, the first of which has a number
@@ -65,3 +70,7 @@ none_behind old us n past = ap (λ us. first_of (anchors_from old n us)) (all_dr
     all_dropped [] (suc n) past = refl
     all_dropped (u ∷ us) zero past = absurd (omega arith)
     all_dropped (u ∷ us) (suc n) past = all_dropped us n (omega arith)
+
+-- a plan has as many units as its migration
+pub units_counted : (m : Kept) → IsLawfulMigration m → length (units_in m) ≡ length m.plan.units
+units_counted m lawful = ap length (sym (units_stand_for m lawful)) ∙ length-map m.plan.units (unit_form m.plan.migrate)
