@@ -1,4 +1,6 @@
 pub mod Calls
+pub mod Granules
+pub mod Marking
 pub mod WorkedMoves
 pub mod aside
 pub mod changing

@@ -16,8 +16,8 @@ use Rattle.bf_sql.specs.RowObjections.{row_objections}
 use Rattle.bf_sql.specs.migrations.Granules.{same_granule}
 use Rattle.bf_sql.specs.migrations.Lazy.{Migration, LazyState, migrations_so_far, pending_of, view_of, sweep_of}
 use Rattle.bf_live.specs.Live.{committed}
-use Rattle.bf_store.specs.declared.store.Moved.{Moved}
-use Rattle.bf_store.specs.declared.store.Receipt.{Receipt}
+use Rattle.bf_store.specs.declared.moved.Moved.{Moved}
+use Rattle.bf_store.specs.declared.moved.Receipt.{Receipt}
 use Rattle.bf_store.specs.States.{IsOpenLazily, frozen_lazily, need_of, to_move, with_moved}
 
 -- COVER: exactly what a bound statement needs, in order of unit and place: all granules for a MIGRATE, none where there is

@@ -15,10 +15,9 @@ use Rattle.bf_image.specs.Migrations.{old_of}
 use Rattle.bf_image.specs.Registries.{Registry}
 use Rattle.bf_image.specs.Sources.{table_under}
 use Rattle.bf_image.specs.declared.migration.Frozen.{Frozen}
-use Rattle.bf_image.specs.declared.migration.Migration.{Migration as Kept}
 use Rattle.bf_store.specs.States.{set_aside}
 use Rattle.bf_store.specs.Stores.{last_seen, next_anchor}
-use Rattle.bf_store.specs.declared.store.UnderWay.{UnderWay}
+use Rattle.bf_store.specs.declared.under_way.UnderWay.{UnderWay}
 
 -- the tables of some names without their rows, in the order of their names
 abbrev pub tables_of : Database → List (List ℕ) → List Table

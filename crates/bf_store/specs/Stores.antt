@@ -11,8 +11,8 @@ use Rattle.bf_image.specs.Registries.{Registry}
 use Rattle.bf_image.specs.declared.migration.Migration.{Migration as Kept}
 use Rattle.bf_image.specs.declared.value_indexes.UnitIndex.{UnitIndex}
 use Rattle.bf_store.specs.States.{IsLazy}
-use Rattle.bf_store.specs.declared.store.Anchor.{Anchor}
-use Rattle.bf_store.specs.declared.store.UnderWay.{UnderWay}
+use Rattle.bf_store.specs.declared.anchor.Anchor.{Anchor}
+use Rattle.bf_store.specs.declared.under_way.UnderWay.{UnderWay}
 
 pub record Store : Type 0 where
   pub lazy : LazyState

@@ -11,18 +11,18 @@ ghost use Rattle.bf_sql.specs.Database.{IsDatabase, stored_at, with_rows};
 ghost use Rattle.bf_sql.specs.migrations.Plans.{plan_made};
 ghost use Rattle.bf_image.specs.Laws.{IsLawful};
 ghost use Rattle.bf_image.specs.Migrations.{IsLawfulMigration};
-ghost use Rattle.bf_live.specs.Drafts.{CanExchange, IsExchangeOf};
 ghost use Rattle.bf_live.specs.Live.{held_in};
 ghost use Rattle.bf_live.specs.Aside.{set_aside as without_rows_of};
 ghost use Rattle.bf_store.specs.Flips.{AreTablesOf, IsBegun, MayComeBack, emptied, frozen_in, names_in, tables_of, with_back};
 ghost use Rattle.bf_store.specs.Stores.{migration_of, next_anchor};
 
+use crate::anchor::Anchor;
 use crate::done::Done;
-use crate::store::{Anchor, UnderWay};
+use crate::under_way::UnderWay;
 use bf_base::{Memory, Name, Sequence, Table};
 use bf_heap::{FrozenHeap, Heap};
-use bf_image::{Frozen, Migration, MigrationPass, Registry, positions};
-use bf_live::{Exchange, LiveTables};
+use bf_image::{Frozen, Migration, Registry, positions};
+use bf_live::LiveTables;
 use bf_tree::Plan;
 use std::alloc::Global;
 use std::sync::Wait;
@@ -137,7 +137,7 @@ fn first_anchor(migration: &Migration) -> Option<Anchor>
     None
 }
 
-/// Gives a migration to a registry, which begins it. 
+/// Gives a migration to a registry, which begins it.
 ///
 /// # Errors
 /// Where memory runs out. The rows of its old tables are put back into the live ones then.

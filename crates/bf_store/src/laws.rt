@@ -34,7 +34,7 @@ ghost use Rattle.bf_query.specs.Meanings.{IsBoundAs};
 ghost use Rattle.bf_image.specs.Laws.{IsLawful};
 ghost use Rattle.bf_live.specs.Live.{committed};
 ghost use Rattle.bf_live.specs.Open.{IsOpen, IsStep};
-ghost use Rattle.bf_store.specs.declared.store.Moved.{Moved};
+ghost use Rattle.bf_store.specs.declared.moved.Moved.{Moved};
 ghost use Rattle.bf_store.specs.Calls.{cover_of, with_commit, IsCommitOf, IsFlipOf, IsLegalCommit, IsMoveOf, IsNeedOf, MayFlip};
 ghost use Rattle.bf_store.specs.States.{frozen_lazily, AreGranulesIfAny, HaveMoved, IsLazy, IsOpenLazily, IsQuiet, IsSeenAs, IsUnderWay, is_free, need_of, need_of_all, settled_by};
 

@@ -1,6 +1,6 @@
 //! The lazy store.
 
-ghost use Rattle.std.specs.Prelude.{◌≡◌, ◌∷◌, [], IfOk, None, OnErr, OnOk, map};
+ghost use Rattle.std.specs.Prelude.{◌≡◌, ◌+◌, ◌∷◌, [], IfOk, None, OnErr, OnOk, map};
 ghost use Rattle.std.specs.Option.{option_map};
 ghost use Rattle.bf_tree.specs.Limits.{HasNarrowTables, IsNarrowMigrate, is_narrow};
 ghost use Rattle.std.specs.Prelude.{IsTrue};
@@ -13,8 +13,9 @@ ghost use Rattle.bf_store.specs.Calls.{IsCommitOf, IsFlipOf, IsMoveOf, IsNeedOf,
 ghost use Rattle.bf_store.specs.States.{AreGranulesIfAny, IsLazy, IsOpenLazily, granules_done_if_any};
 ghost use Rattle.bf_store.specs.Stores.{AreIndexesOf, IsOf};
 
-use crate::done::Done;
 use crate::flip::flip;
+use crate::moved::Moved;
+use crate::under_way::UnderWay;
 use bf_base::{Granule, Memory, Table};
 use bf_image::{MigrationPass, Registry, ValueIndexes};
 use bf_live::LiveTables;
@@ -23,37 +24,6 @@ use bf_txn::Workspace;
 use std::alloc::Global;
 use std::marker::Model;
 use std::sync::Wait;
-
-/// The place of an anchor: its unit, and its position there, both counted from 0.
-#[derive(Clone, Copy, Debug, PartialEq, Eq)]
-pub struct Anchor {
-    pub unit: u8,
-    pub position: u32,
-}
-
-/// The last migration: what has moved of it, and the first anchor whose granule has not.
-#[derive(Drop)]
-pub struct UnderWay {
-    pub pass: MigrationPass,
-    pub done: Done,
-    pub next: Option<Anchor>,
-}
-
-/// A granule that has moved now, of which migration, and the number of the record that moved it.
-#[derive(Drop)]
-pub struct Receipt {
-    pub migration: u32,
-    pub granule: Granule,
-    pub number: u64,
-}
-
-/// What a move has come to: the granules that it moved, and those that had moved before, each with
-/// the number of its record.
-#[derive(Drop)]
-pub struct Moved {
-    pub fresh: Vec<Receipt>,
-    pub already: Vec<(Granule, u64)>,
-}
 
 /// Live tables into which the rows of the last migration move late. Contracts see the lazy state, and
 /// the pass of the migration.
@@ -67,9 +37,16 @@ pub struct Store {
 }
 
 impl Model for Store {
+    ghost use Rattle.std.specs.Coded.{codes};
+    ghost use Rattle.boxcar.specs.Table.{where_coded};
+    ghost use Rattle.bf_tree.specs.contracts.raw.RawCond as conds;
+    ghost use Rattle.bf_tree.specs.contracts.raw.RawExpr as exprs;
+    ghost use Rattle.bf_image.specs.contracts.migration.Migration as migrations;
     ghost use Rattle.bf_store.specs.Stores.{IsStore, Store as Seen, seen};
 
     ghost Value = { Seen };
+
+    ghost coded = { Prim.hlevel (codes, exprs.the_row.coded, conds.the_row.coded, where_coded migrations.the_row.coded) };
 
     ghost view = { λ store. seen store.live store.last store.records };
 

@@ -11,7 +11,7 @@ use Rattle.bf_image.specs.Migrations.{IsLawfulMigration, units_in}
 use Rattle.bf_image.specs.PlannedUnits.{unit_form}
 use Rattle.bf_image.specs.declared.migration.Migration.{Migration as Kept}
 use Rattle.bf_image.proofs.planning.Units.{units_stand_for}
-use Rattle.bf_store.specs.declared.store.Anchor.{Anchor}
+use Rattle.bf_store.specs.declared.anchor.Anchor.{Anchor}
 
 -- the anchors of some units, the first of which has a number
 abbrev pub anchors_from : Database → ℕ → List UnitForm → List (Granule × ℕ)

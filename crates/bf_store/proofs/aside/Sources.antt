@@ -24,11 +24,12 @@ use Rattle.bf_image.specs.Laws.{IsLawful}
 use Rattle.bf_image.specs.Migrations.{HasOwnKeys, IsLawfulMigration, old_of, stored_of}
 use Rattle.bf_image.specs.declared.migration.Frozen.{Frozen}
 use Rattle.bf_image.specs.declared.migration.Migration.{Migration as Kept}
+use Rattle.bf_image.proofs.keeping.Frozen.{frozen_same}
 use Rattle.bf_image.proofs.keeping.Prepared.{plan_by_sources}
 use Rattle.bf_live.proofs.statements.Named.{IsThere, all_there, rows_there}
 use Rattle.bf_store.specs.Flips.{AreTablesOf, frozen_in, names_in, tables_of}
 use Rattle.bf_store.specs.States.{set_aside}
-use Rattle.bf_store.proofs.changing.Keeping.{aside_lawful, aside_same}
+use Rattle.bf_store.proofs.changing.Keeping.{aside_lawful}
 
 module _ (db : Database) where
   abbrev stays : List (List ℕ) → Stored → Bool
@@ -119,5 +120,5 @@ module _ (db : Database) where
       keys = own_keys (those plan.sources);
       lawful = subst (λ (old : Database). IsLawful old m) (sym old_is) (aside_lawful db m lawful);
       narrow = narrow;
-      planned = planned ∙ sym (ap (λ (old : Database). plan_made old m) old_is ∙ plan_by_sources (set_aside db m) db m (aside_same db m));
+      planned = planned ∙ sym (ap (λ (old : Database). plan_made old m) old_is ∙ plan_by_sources (set_aside db m) db m (frozen_same db m));
     }

@@ -1,5 +1,5 @@
 -- A flip that of the old tables keeps the sources alone.
-use Rattle.std.proofs.Common.{◌≡◌, true, List, [], ◌∷◌, refl, ◌∙◌}
+use Rattle.std.proofs.Common.{◌≡◌, true, List, [], ◌∷◌, refl}
 use Rattle.std.specs.List.{list_all, AllByRecursion}
 use Rattle.std.proofs.lemmas.Bool.{and_parts}
 use Rattle.bf_tree.specs.declared.migration.Migrate.{Migrate}
@@ -9,34 +9,28 @@ use Rattle.bf_sql.specs.migrations.Images.{flipped}
 use Rattle.bf_sql.specs.migrations.Lazy.{LazyState, pending_of, view_of}
 use Rattle.bf_sql.specs.migrations.MigrationObjections.{sources_of}
 use Rattle.bf_image.specs.Laws.{IsLawful}
-use Rattle.bf_image.specs.Sources.{HaveSameSources, frozen_of}
-use Rattle.bf_image.proofs.keeping.Frozen.{frozen_same, frozen_lawful, objections_alike}
+use Rattle.bf_image.proofs.keeping.Frozen.{frozen_same, frozen_lawful}
 use Rattle.bf_image.proofs.keeping.SameTables.{is_inside, target_table_same}
 use Rattle.bf_image.proofs.keeping.Sources.{arms_inside_sources, tables_same, images_same}
 use Rattle.bf_store.specs.States.{IsLazy, IsSeenAs, frozen_lazily, set_aside}
 use Rattle.bf_store.proofs.changing.Flipping.{IsSameTarget, flips_keeping}
 
-module _ (db : Database) (m : Migrate) where
-  -- the tables that are set aside are the sources
-  pub aside_same : HaveSameSources m (set_aside db m) db
-  aside_same name there = frozen_same db m name there
-
-  -- over which the migration is lawful: only the tables of a database count
-  pub aside_lawful : IsLawful db m → IsLawful (set_aside db m) m
-  aside_lawful lawful =
-      let kept = frozen_lawful db m lawful in
-      record {
-        database = record {
-          tables_by_name = kept.database.tables_by_name;
-          indexes_by_name = refl;
-          rows_by_key = kept.database.rows_by_key;
-          rows_admitted = kept.database.rows_admitted;
-          keys_within = kept.database.keys_within;
-          indexes_on_tables = refl;
-        };
-        unobjected = objections_alike (set_aside db m) (frozen_of db m) (λ name. refl) m ∙ kept.unobjected;
-        few = kept.few;
-      }
+-- the old tables set aside are a database, over which the migration is lawful
+pub aside_lawful : (db : Database) (m : Migrate) → IsLawful db m → IsLawful (set_aside db m) m
+aside_lawful db m lawful =
+    let kept = frozen_lawful db m lawful in
+    record {
+      database = record {
+        tables_by_name = kept.database.tables_by_name;
+        indexes_by_name = refl;
+        rows_by_key = kept.database.rows_by_key;
+        rows_admitted = kept.database.rows_admitted;
+        keys_within = kept.database.keys_within;
+        indexes_on_tables = refl;
+      };
+      unobjected = kept.unobjected;
+      few = kept.few;
+    }
 
 -- each target is the same table over the sources, with the same image
 same_kept : (db : Database) (m : Migrate) → AllByRecursion (IsSameTarget (set_aside db m) db) m.targets
@@ -47,10 +41,10 @@ same_kept db m = each m.targets (arms_inside_sources m)
     each [] all = tt
     each (t ∷ ts) all =
         let inside = (and_parts _ _ all).0 in
-        let tables = tables_same (set_aside db m) db (sources_of m) (aside_same db m) in
+        let tables = tables_same (set_aside db m) db (sources_of m) (frozen_same db m) in
         let here : IsSameTarget (set_aside db m) db t = record {
           table = target_table_same (set_aside db m) db (sources_of m) tables t inside;
-          image = images_same (set_aside db m) db (sources_of m) (aside_same db m) t.arms inside;
+          image = images_same (set_aside db m) db (sources_of m) (frozen_same db m) t.arms inside;
         } in
         (here, each ts (and_parts _ _ all).1)
 
