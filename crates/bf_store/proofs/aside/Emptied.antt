@@ -65,12 +65,12 @@ emptied_narrow db m small narrow =
 
 -- every name of some tables is one of the names that picked them
 module _ (names : List (List ℕ)) where
+  abbrev stays : Stored → Bool
+  stays s = not (not (has same_name names s.table.name))
+
   pub names_among : (db : Database) → list_all (has same_name names) (names_in (tables_of db names)) ≡ true
   names_among db = of db.tables
     where
-      abbrev stays : Stored → Bool
-      stays s = not (not (has same_name names s.table.name))
-
       of : (ss : List Stored) → list_all (has same_name names) (names_in (map (λ s. s.table) (filter stays ss))) ≡ true
       of [] = refl
       of (s ∷ ss) = elim (has same_name names s.table.name) as (λ b. has same_name names s.table.name ≡ b
