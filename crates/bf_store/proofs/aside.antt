@@ -1,4 +1,5 @@
 -- The old tables of a migration leave the live tables with their rows, or come back.
+pub mod After
 pub mod Anchors
 pub mod Back
 pub mod Emptied
