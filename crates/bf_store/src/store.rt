@@ -177,12 +177,7 @@ impl Store {
     /// # Errors
     /// Where memory runs out, or 2 ^ 32 migrations or 2 ^ 64 changes were made. The store is as it was
     /// then.
-    pub fn flip<R: Wait>(
-        &mut self,
-        rt: &R,
-        registry: &Registry,
-        plan: &Plan,
-    ) -> Result<u32, Memory>
+    pub fn flip<R: Wait>(&mut self, rt: &R, registry: &Registry, plan: &Plan) -> Result<u32, Memory>
         requires one { IsOf registry.now self.old.migration }
         requires may { MayFlip self.old.lazy plan.now.migrate }
         requires narrow { IsNarrowMigrate plan.now.migrate }

@@ -54,9 +54,10 @@ module _ (db : Database) where
     may_come_back [] there apart = tt
     may_come_back (t ∷ ts) there apart =
         let parts = and_parts _ _ apart in
-        let none = not-true _ parts.0 in
-        (can_come_back t (names_in ts) there.0 none,
-        subst (λ (db' : Database). MayComeBack db' (map (frozen_in db) ts)) (sym (back t (names_in ts) there.0 none)) (may_come_back ts there.1 parts.1))
+        let none = not-true _ parts.0 in (
+          can_come_back t (names_in ts) there.0 none,
+          subst (λ (db' : Database). MayComeBack db' (map (frozen_in db) ts)) (sym (back t (names_in ts) there.0 none)) (may_come_back ts there.1 parts.1),
+        )
 
     all_back : (ts : List Table) → AllByRecursion Stands ts → are_apart same_name (names_in ts) ≡ true → fold with_back (set_aside (names_in ts) db) (map (frozen_in db) ts) ≡ db
     all_back [] there apart = none_aside db
