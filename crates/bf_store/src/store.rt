@@ -11,7 +11,7 @@ ghost use Rattle.bf_sql.specs.migrations.Lazy.{migrations_so_far};
 ghost use Rattle.bf_sql.specs.migrations.Plans.{plan_made};
 ghost use Rattle.bf_store.specs.Calls.{IsCommitOf, IsFlipOf, IsMoveOf, IsNeedOf, IsSweepOf, MayFlip};
 ghost use Rattle.bf_store.specs.States.{AreGranulesIfAny, IsLazy, IsOpenLazily, granules_done_if_any};
-ghost use Rattle.bf_store.specs.Stores.{AreIndexesOf, IsOf};
+ghost use Rattle.bf_store.specs.Stores.{AreIndexesOf, IsByPass, IsOf};
 
 use crate::flip::flip;
 use crate::moved::Moved;
@@ -83,7 +83,8 @@ impl Store {
 
     /// The pass of the last migration, and `None` exactly where there was none. Takes no memory.
     pub fn migration(&self) -> Option<MigrationPass>
-        ensures { result ≡ self.now.migration }
+        ensures pass { result ≡ self.now.migration }
+        ensures by_pass { IsByPass self.now.lazy.last self.now.migration }
     {
         self.last.as_ref().map(|last| last.pass.copy())
     }
