@@ -122,8 +122,8 @@ fn without_rows(alloc: Global, tables: &[Table]) -> Result<Vec<(Table, Heap)>, M
     Ok(new)
 }
 
-/// The first anchor of a migration, if there is one. It compares about log n names for each unit, and
-/// takes no memory.
+/// The first anchor of a migration, if there is one. It compares about log n names for each unit.
+/// Takes no memory.
 fn first_anchor(migration: &Migration) -> Option<Anchor>
     requires { IsLawfulMigration migration.now }
     ensures { result ≡ next_anchor (migration_of migration.now []) }
@@ -137,7 +137,7 @@ fn first_anchor(migration: &Migration) -> Option<Anchor>
     None
 }
 
-/// Gives a migration to a registry, which begins it.
+/// Gives a migration to a registry, with which it begins: nothing of it has moved.
 ///
 /// # Errors
 /// Where memory runs out. The rows of its old tables are put back into the live ones then.
@@ -171,7 +171,9 @@ fn begin<R: Wait>(
     }
 }
 
-/// Begins a migration by its plan, over the old tables with their rows, which leave the live ones.
+/// Begins a migration by its plan, over the old tables with their rows, which leave the live ones. What
+/// may fail is done before they leave for good. It costs the pages of the old tables, the catalog and
+/// the plan; no row is copied.
 ///
 /// # Errors
 /// Where memory runs out. The live tables are as they were then.

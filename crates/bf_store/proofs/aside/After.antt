@@ -1,5 +1,5 @@
 -- A store after a flip.
-use Rattle.std.proofs.Common.{◌≡◌, ℕ, ◌+◌, ◌<◌, ◌^◌, List, [], length, Option, Some, option_map, sym, ap, subst, ◌∙◌, lit<}
+use Rattle.std.proofs.Common.{◌≡◌, ℕ, ◌+◌, ◌<◌, ◌^◌, List, length, Option, Some, option_map, sym, ap, subst, ◌∙◌, lit<}
 use Rattle.bf_tree.specs.Limits.{HasNarrowTables, IsNarrowMigrate}
 use Rattle.bf_tree.specs.declared.migration.Migrate.{Migrate}
 use Rattle.bf_tree.specs.declared.plan.Plan.{Plan}
@@ -8,18 +8,13 @@ use Rattle.bf_sql.specs.Database.{Database}
 use Rattle.bf_sql.specs.migrations.Lazy.{DoneGranule, LazyState, migrations_so_far}
 use Rattle.bf_image.specs.Laws.{IsLawful}
 use Rattle.bf_image.specs.Registries.{Registry}
-use Rattle.bf_image.proofs.items.Lists.{none_left, none_right}
 use Rattle.bf_store.specs.Calls.{IsFlipOf, MayFlip}
 use Rattle.bf_store.specs.Flips.{IsBegun, emptied}
 use Rattle.bf_store.specs.States.{IsLazy, frozen_lazily}
 use Rattle.bf_store.specs.Stores.{IsStore, Store, last_seen, lazy_seen, seen}
 use Rattle.bf_store.specs.declared.under_way.UnderWay.{UnderWay}
 use Rattle.bf_store.proofs.aside.Emptied.{emptied_narrow}
-use Rattle.bf_store.proofs.changing.Keeping.{flips_frozen}
-
--- what may flip is lawful
-pub flip_lawful : (lazy : LazyState) (m : Migrate) → IsLazy lazy → MayFlip lazy m → IsLawful lazy.live m
-flip_lawful lazy m is may = record { database = is.live; unobjected = none_left _ _ may.unrefused; few = none_right _ _ may.unrefused }
+use Rattle.bf_store.proofs.changing.Keeping.{flip_lawful, flips_frozen}
 
 module _ (live : Database) (last : Option UnderWay) (records : ℕ) (is : IsStore live last records) (store : Store) (view : seen live last records ≡ store) (plan : Plan) where
   abbrev before : LazyState
@@ -31,7 +26,7 @@ module _ (live : Database) (last : Option UnderWay) (records : ℕ) (is : IsStor
   same_lazy : before ≡ store.lazy
   same_lazy = ap (λ (s : Store). s.lazy) view
 
-  pub may_before : MayFlip store.lazy m → MayFlip before m
+  may_before : MayFlip store.lazy m → MayFlip before m
   may_before may = subst (λ (lazy : LazyState). MayFlip lazy m) (sym same_lazy) may
 
   pub lawful_before : MayFlip store.lazy m → IsLawful live m

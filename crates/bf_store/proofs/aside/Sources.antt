@@ -5,7 +5,7 @@ use Rattle.std.proofs.lemmas.Bool.{and_parts}
 use Rattle.std.proofs.lemmas.Simd.{map-map}
 use Rattle.bf_base.specs.declared.table.Table.{Table}
 use Rattle.bf_base.specs.declared.value.Value.{Value}
-use Rattle.bf_base.specs.Lists.{has, rises, same_name, name_cmp}
+use Rattle.bf_base.specs.Lists.{has, same_name}
 use Rattle.bf_base.specs.Tables.{key_of}
 use Rattle.bf_base.proofs.Apart.{are_apart, apart_from_rises, rises-filter}
 use Rattle.bf_base.proofs.Names.{name_cmp_total, same_name-tie}
@@ -27,7 +27,7 @@ use Rattle.bf_image.specs.declared.migration.Migration.{Migration as Kept}
 use Rattle.bf_image.proofs.keeping.Frozen.{frozen_same}
 use Rattle.bf_image.proofs.keeping.Prepared.{plan_by_sources}
 use Rattle.bf_live.proofs.statements.Named.{IsThere, all_there, rows_there}
-use Rattle.bf_store.specs.Flips.{AreTablesOf, frozen_in, names_in, tables_of}
+use Rattle.bf_store.specs.Flips.{AreTablesOf, frozen_in, tables_of}
 use Rattle.bf_store.specs.States.{set_aside}
 use Rattle.bf_store.proofs.changing.Keeping.{aside_lawful}
 

@@ -1,5 +1,5 @@
 -- What a flip does, step by step: the sources are set aside, a migration is made of them, and the live tables are exchanged.
-use Rattle.std.proofs.Common.{◌≡◌, ℕ, true, List, [], map, refl, sym, ap, ap₂, subst, ◌∙◌}
+use Rattle.std.proofs.Common.{◌≡◌, ℕ, true, List, map, sym, ap, ap₂, subst, ◌∙◌}
 use Rattle.std.specs.Prelude.{Err, Ok, OnErr, Result, fold}
 use Rattle.std.specs.List.{list_all}
 use Rattle.bf_base.specs.declared.table.Table.{Table}
@@ -12,7 +12,6 @@ use Rattle.bf_sql.specs.migrations.Plans.{plan_made}
 use Rattle.bf_image.specs.Laws.{IsLawful}
 use Rattle.bf_image.specs.Migrations.{IsLawfulMigration, old_of}
 use Rattle.bf_image.specs.declared.migration.Frozen.{Frozen}
-use Rattle.bf_image.specs.declared.migration.Migration.{Migration as Kept}
 use Rattle.bf_live.specs.Aside.{set_aside as without_rows_of}
 use Rattle.bf_live.specs.Drafts.{AreNamedApart, CanExchange, IsExchangeOf, Prepared, tables_after}
 use Rattle.bf_live.specs.Live.{TableRows, exchanged, stored}

@@ -1,5 +1,5 @@
 -- A unit without anchors is passed over.
-use Rattle.std.proofs.Common.{◌≡◌, ◌<◌, ◌≤◌, length, sym, ◌∙◌, arith}
+use Rattle.std.proofs.Common.{◌<◌, ◌≤◌, length, sym, ◌∙◌, arith}
 use Rattle.bf_image.specs.Migrations.{old_of, units_in}
 use Rattle.bf_image.proofs.planning.Units.{units_few}
 use Rattle.bf_store.proofs.aside.Anchors.{count_at, here_first, none_behind, passed_over, units_counted}

@@ -1,12 +1,9 @@
 -- The rows of the sources are aside, and come back where the migration does not begin.
-use Rattle.std.proofs.Common.{◌≡◌, List, [], map, sym, ap, ap₂, ◌∙◌}
-use Rattle.std.specs.Prelude.{fold}
-use Rattle.bf_base.specs.declared.table.Table.{Table}
+use Rattle.std.proofs.Common.{◌≡◌, List, map, sym, ap, ap₂, ◌∙◌}
 use Rattle.bf_sql.specs.migrations.Lazy.{DoneGranule}
 use Rattle.bf_image.specs.Migrations.{old_of}
-use Rattle.bf_image.specs.declared.migration.Frozen.{Frozen}
 use Rattle.bf_image.specs.declared.migration.Migration.{Migration as Kept}
-use Rattle.bf_live.specs.Live.{TableRows, held_in}
+use Rattle.bf_live.specs.Live.{held_in}
 use Rattle.bf_store.specs.Flips.{frozen_in}
 use Rattle.bf_store.specs.Stores.{migration_of, next_anchor}
 use Rattle.bf_store.proofs.aside.Emptied.{bare}

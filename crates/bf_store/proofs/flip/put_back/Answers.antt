@@ -2,7 +2,6 @@
 use Rattle.std.proofs.Common.{◌≡◌, List, Some, map, sym, ap, subst, ◌∙◌}
 use Rattle.std.specs.Prelude.{fold}
 use Rattle.std.specs.Vec.Iter.{into_iter_items}
-use Rattle.bf_base.specs.declared.value.Value.{Value}
 use Rattle.bf_heap.specs.Heaps.{Entry}
 use Rattle.bf_query.specs.Meanings.{entries_of}
 use Rattle.bf_sql.specs.Database.{Database, IsDatabase, Stored, stored_at, with_rows}

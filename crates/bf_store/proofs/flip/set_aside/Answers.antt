@@ -1,5 +1,5 @@
 -- A table's rows are taken after those before it, and all come back where one cannot be taken.
-use Rattle.std.proofs.Common.{◌≡◌, ℕ, ◌≤◌, ◌+◌, List, [], ◌∷◌, ◌++◌, Some, is_some, length, map, vec_len, sym, ap, subst, ◌∙◌, append_assoc, arith, rules}
+use Rattle.std.proofs.Common.{◌≡◌, ℕ, List, [], ◌∷◌, ◌++◌, is_some, length, sym, ap, subst, ◌∙◌, append_assoc, arith, rules}
 use Rattle.std.specs.Vec.Iter.{into_iter_items}
 use Rattle.std.proofs.lemmas.List.{map-append}
 use Rattle.bf_base.specs.declared.table.Table.{Table}

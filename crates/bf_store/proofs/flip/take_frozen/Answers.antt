@@ -1,6 +1,6 @@
 -- What was taken is given back where there is no memory to freeze it.
-use Rattle.std.proofs.Common.{◌≡◌, List, Some, sym, ap, ◌∙◌}
-use Rattle.bf_heap.specs.Heaps.{Entry, Rows}
+use Rattle.std.proofs.Common.{◌≡◌, Some, ap, ◌∙◌}
+use Rattle.bf_heap.specs.Heaps.{Rows}
 use Rattle.bf_sql.specs.Database.{stored_at}
 use Rattle.bf_store.proofs.aside.Back.{database_again, entries_at, given_back, own_again}
 use Rattle.bf_store.proofs.flip.take_frozen.Goals as goal
