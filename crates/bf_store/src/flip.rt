@@ -171,9 +171,9 @@ fn begin<R: Wait>(
     }
 }
 
-/// Begins a migration by its plan, over the old tables with their rows, which leave the live ones. What
-/// may fail is done before they leave for good. It costs the pages of the old tables, the catalog and
-/// the plan; no row is copied.
+/// Begins a migration by its plan, over the old tables with their rows, which leave the live ones.
+/// What may fail is done before they leave for good. It costs the pages of the old tables, the
+/// catalog and the plan; no row is copied.
 ///
 /// # Errors
 /// Where memory runs out. The live tables are as they were then.
