@@ -1,5 +1,5 @@
 -- Marks are made in a map by granule, and taken back.
-use Rattle.std.proofs.Common.{◌≡◌, ℕ, ◌+◌, ◌<◌, Bool, true, false, not, cond, List, [], ◌∷◌, ◌++◌, map, filter, find, take, drop, length, suc, ◌&&◌, ◌||◌, get_or, Less, Equal, Greater, Some, None, option_map, is_eq, is_lt, refl, sym, ap, ap₂, ◌∙◌, inl, inr, append_assoc, take-append-drop, drop-cons}
+use Rattle.std.proofs.Common.{◌≡◌, ℕ, ◌+◌, ◌<◌, Bool, true, false, not, cond, List, [], ◌∷◌, ◌++◌, map, filter, find, take, drop, length, suc, ◌&&◌, ◌||◌, get_or, Less, Equal, Greater, Some, None, option_map, is_eq, is_lt, is_some, refl, sym, ap, ap₂, ◌∙◌, inl, inr, append_assoc, take-append-drop, drop-cons}
 use Rattle.std.specs.BTreeMap.{insert_entry, is_at}
 use Rattle.std.specs.List.{list_any, list_all}
 use Rattle.std.specs.List.Sorted.{IsStrictlySortedBy}
@@ -142,6 +142,15 @@ module _ (done : List DoneGranule) (gs : List Granule) (fresh : AreFresh done gs
   fresh_first i =
       apart_left same_granule (granules_in done ++ take i gs) (drop i gs)
       (ap (are_apart same_granule) (append_assoc (granules_in done) (take i gs) (drop i gs) ∙ ap (λ hs. granules_in done ++ hs) (take-append-drop i gs)) ∙ fresh)
+
+-- a granule has a number where it is there
+pub is_some-number_in : (done : List DoneGranule) (g : Granule) → is_some (number_in done g) ≡ has same_granule (granules_in done) g
+is_some-number_in [] g = refl
+is_some-number_in (d ∷ done) g = elim (same_granule d.granule g) as (λ b. is_some (option_map (λ (d : DoneGranule). d.number) (cond b (Some d) (find (λ d. same_granule d.granule g) done))) ≡ (b || has same_granule (granules_in done) g)) [
+  | true ↦ refl
+  | false ↦ is_some-number_in done g
+]
+    ∙ ap (λ b. b || has same_granule (granules_in done) g) (same_back d.granule g)
 
 -- what is marked is taken back
 all_named : (gs hs : List Granule) (n : ℕ) → ((g : Granule) → has same_granule hs g ≡ true → has same_granule gs g ≡ true) → list_any (λ d. not (has same_granule gs d.granule)) (map (done_by n) hs) ≡ false

@@ -1,8 +1,11 @@
 -- Granules move, and nobody sees it.
+pub mod Ahead
+pub mod Anchoring
 pub mod Moves
 pub mod Moving
 pub mod Needing
 pub mod Opened
 pub mod Ordered
+pub mod Putting
 pub mod Sweeping
 pub mod Unordered

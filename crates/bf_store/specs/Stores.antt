@@ -37,6 +37,7 @@ next_anchor last = option_map (λ (a : Granule × ℕ). record { unit = (a.0).un
 
 -- what is true of a migration under way
 pub record IsCounted (u : UnderWay) : Type 0 where
+  pub numbered : u.number ≡ u.pass.value.number
   pub next : u.next ≡ next_anchor (last_seen u)
   pub few : length u.done < 2 ^ 32
 

@@ -6,6 +6,7 @@ mod done;
 mod flip;
 pub mod laws;
 pub mod moved;
+mod movement;
 pub mod store;
 mod under_way;
 

@@ -97,14 +97,20 @@ impl Store {
     pub fn need(&self, alloc: Global, cover: &[Granule]) -> Result<Vec<Granule>, Memory>
         ensures { IfOk result (λ need. IsNeedOf self.now.lazy cover.now need.items) }
     {
-        Err(Memory)
+        match &self.last {
+            Some(last) => last.done.left(alloc, cover),
+            None => Ok(Vec::new(alloc)),
+        }
     }
 
     /// How far the last migration has come. Takes no memory.
     pub fn sweep(&self) -> Sweep
         ensures { IsSweepOf self.now.lazy result }
     {
-        Sweep::Never
+        match &self.last {
+            Some(last) => last.sweep(),
+            None => Sweep::Never,
+        }
     }
 
     /// The granules of the last migration that have moved, in the order of unit and place.
@@ -114,7 +120,10 @@ impl Store {
     pub fn done(&self, alloc: Global) -> Result<Vec<Granule>, Memory>
         ensures { IfOk result (λ done. done.items ≡ granules_done_if_any self.now.lazy.last) }
     {
-        Err(Memory)
+        match &self.last {
+            Some(last) => last.done.granules(alloc),
+            None => Ok(Vec::new(alloc)),
+        }
     }
 
     /// Makes what an open transaction has written part of the live tables, which costs what
@@ -131,7 +140,10 @@ impl Store {
         ensures err { OnErr result (self.new ≡ self.old) }
         ensures kept { OnErr result (writes.new ≡ writes.old) }
     {
-        Err(Memory)
+        let records = self.records.checked_add(1).ok_or(Memory)?;
+        self.live.commit(writes)?;
+        self.records = records;
+        Ok(records)
     }
 
     /// Adds a table without rows, which is not wide. It compares about log n names.
@@ -150,7 +162,10 @@ impl Store {
         ensures migration { self.new.migration ≡ self.old.migration }
         ensures err { OnErr result (self.new ≡ self.old) }
     {
-        Err(Memory)
+        let records = self.records.checked_add(1).ok_or(Memory)?;
+        self.live.create_table(table)?;
+        self.records = records;
+        Ok(records)
     }
 
     /// Adds an index rule. It compares about log n names. No index is built.
@@ -167,7 +182,10 @@ impl Store {
         ensures migration { self.new.migration ≡ self.old.migration }
         ensures err { OnErr result (self.new ≡ self.old) }
     {
-        Err(Memory)
+        let records = self.records.checked_add(1).ok_or(Memory)?;
+        self.live.create_index(index)?;
+        self.records = records;
+        Ok(records)
     }
 
     /// Begins a migration by its plan, where nothing of the last one is left to move: the old tables
