@@ -16,7 +16,7 @@ use Rattle.bf_image.specs.Registries.{Registry}
 use Rattle.bf_image.specs.Sources.{table_under}
 use Rattle.bf_image.specs.declared.migration.Frozen.{Frozen}
 use Rattle.bf_store.specs.States.{set_aside}
-use Rattle.bf_store.specs.Stores.{last_seen, next_anchor}
+use Rattle.bf_store.specs.Stores.{IsCounted}
 use Rattle.bf_store.specs.declared.under_way.UnderWay.{UnderWay}
 
 -- the tables of some names without their rows, in the order of their names
@@ -59,4 +59,4 @@ pub record IsBegun (db : Database) (plan : Plan) (registry : Registry) (number :
   pub planned : begun.pass.value.plan ≡ plan
   pub old : old_of begun.pass.value ≡ set_aside db plan.migrate
   pub none_done : begun.done ≡ []
-  pub next : begun.next ≡ next_anchor (last_seen begun)
+  pub counted : IsCounted begun

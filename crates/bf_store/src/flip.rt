@@ -152,14 +152,17 @@ fn begin<R: Wait>(
     requires back { MayComeBack live.old migration.frozen }
     ensures shown { IfOk result (λ begun. Shows registry.now.migrations begun.pass) }
     ensures kept { IfOk result (λ begun. begun.pass.value ≡ migration) }
+    ensures numbered { IfOk result (λ begun. begun.number ≡ migration.number) }
     ensures none_done { IfOk result (λ begun. begun.done ≡ []) }
     ensures next { IfOk result (λ begun. begun.next ≡ next_anchor (migration_of migration [])) }
     ensures live { OnOk result (live.new ≡ live.old) }
     ensures err { OnErr result (live.new ≡ fold with_back live.old migration.frozen) }
 {
+    let number = migration.number;
     let next = first_anchor(&migration);
     match registry.add_migration(rt, migration) {
         Ok(pass) => Ok(UnderWay {
+            number,
             pass,
             done: Done::new(alloc),
             next,

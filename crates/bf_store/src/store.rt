@@ -205,7 +205,7 @@ impl Store {
         ensures one { IsOf registry.now self.new.migration }
         ensures err { OnErr result (self.new ≡ self.old) }
     {
-        let number = self.next_migration(registry)?;
+        let number = self.next_migration()?;
         let records = self.records.checked_add(1).ok_or(Memory)?;
         let begun = flip(self.alloc, rt, &mut self.live, registry, plan, number)?;
         self.last = Some(begun);
@@ -217,12 +217,11 @@ impl Store {
     ///
     /// # Errors
     /// Where 2 ^ 32 migrations were made.
-    fn next_migration(&self, registry: &Registry) -> Result<u32, Memory>
-        requires { IsOf registry.now self.now.migration }
+    fn next_migration(&self) -> Result<u32, Memory>
         ensures { IfOk result (λ number. number ≡ migrations_so_far self.now.lazy.last + 1) }
     {
         let so_far = match &self.last {
-            Some(last) => registry.migration(&last.pass).number,
+            Some(last) => last.number,
             None => 0,
         };
         so_far.checked_add(1).ok_or(Memory)

@@ -1,11 +1,11 @@
 -- A store after a flip.
-use Rattle.std.proofs.Common.{◌≡◌, ℕ, ◌+◌, ◌<◌, ◌^◌, List, length, Option, Some, option_map, sym, ap, subst, ◌∙◌, lit<}
+use Rattle.std.proofs.Common.{◌≡◌, ℕ, ◌+◌, Option, Some, option_map, sym, ap, subst, ◌∙◌}
 use Rattle.bf_tree.specs.Limits.{HasNarrowTables, IsNarrowMigrate}
 use Rattle.bf_tree.specs.declared.migration.Migrate.{Migrate}
 use Rattle.bf_tree.specs.declared.plan.Plan.{Plan}
 use Rattle.bf_sql.specs.Bound.{catalog_of}
 use Rattle.bf_sql.specs.Database.{Database}
-use Rattle.bf_sql.specs.migrations.Lazy.{DoneGranule, LazyState, migrations_so_far}
+use Rattle.bf_sql.specs.migrations.Lazy.{LazyState, migrations_so_far}
 use Rattle.bf_image.specs.Laws.{IsLawful}
 use Rattle.bf_image.specs.Registries.{Registry}
 use Rattle.bf_store.specs.Calls.{IsFlipOf, MayFlip}
@@ -57,8 +57,5 @@ module _ (live : Database) (last : Option UnderWay) (records : ℕ) (is : IsStor
     keeps_store may narrow = record {
       lazy_state = subst IsLazy (sym state) (flips_frozen before m is.lazy_state (may_before may).complete (lawful_before may)).lazy_state;
       narrow = subst (λ (db : Database). HasNarrowTables (catalog_of db)) (sym empties) (emptied_narrow live m narrow is.narrow);
-      counted = record {
-        next = begins.next;
-        few = subst (λ (done : List DoneGranule). length done < 2 ^ 32) (sym begins.none_done) (lit< tt);
-      };
+      counted = begins.counted;
     }

@@ -1,5 +1,5 @@
 -- The rows of the sources are aside, and come back where the migration does not begin.
-use Rattle.std.proofs.Common.{◌≡◌, List, map, sym, ap, ap₂, ◌∙◌}
+use Rattle.std.proofs.Common.{◌≡◌, ◌<◌, ◌^◌, List, length, map, sym, ap, ap₂, subst, ◌∙◌, lit<}
 use Rattle.bf_sql.specs.migrations.Lazy.{DoneGranule}
 use Rattle.bf_image.specs.Migrations.{old_of}
 use Rattle.bf_image.specs.declared.migration.Migration.{Migration as Kept}
@@ -70,7 +70,11 @@ returns-clause-begun g c =
       old = ap old_of begun.kept
           ∙ keeps_sources db c.args.plan.now can c.as_slice-sources.result.now c.as_slice-sources.ensures ts c.in_ok-tables.ensures c.args.number c.in_ok-copy.copy c.in_ok-copy.ensures c.of-frozen.result them;
       none_done = begun.none_done;
-      next = begun.next ∙ ap₂ (λ (m : Kept) (done : List DoneGranule). next_anchor (migration_of m done)) (sym begun.kept) (sym begun.none_done);
+      counted = record {
+        numbered = begun.numbered ∙ ap (λ (m : Kept). m.number) (sym begun.kept);
+        next = begun.next ∙ ap₂ (λ (m : Kept) (done : List DoneGranule). next_anchor (migration_of m done)) (sym begun.kept) (sym begun.none_done);
+        few = subst (λ (done : List DoneGranule). length done < 2 ^ 32) (sym begun.none_done) (lit< tt);
+      };
     }
 
 pub returns-clause-live : goal.returns-clause-live
