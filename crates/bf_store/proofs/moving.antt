@@ -6,6 +6,9 @@ pub mod Moving
 pub mod Needing
 pub mod Opened
 pub mod Ordered
+pub mod Put
 pub mod Putting
+pub mod Stored
 pub mod Sweeping
+pub mod Targets
 pub mod Unordered

@@ -8,11 +8,13 @@ ghost use Rattle.bf_image.specs.Migrations.{IsLawfulMigration, old_of, target_at
 ghost use Rattle.bf_store.specs.Anchors.{next_from};
 ghost use Rattle.bf_store.specs.Marks.{AreFresh, marked, unmarked};
 ghost use Rattle.bf_store.specs.Puts.{MayMove, put_of, puts_of, with_rows_in};
-ghost use Rattle.bf_store.specs.States.{IsLazy};
-ghost use Rattle.bf_store.specs.Stores.{IsCounted, last_seen, lazy_seen};
+ghost use Rattle.bf_store.specs.Calls.{IsMoveOf};
+ghost use Rattle.bf_store.specs.States.{AreGranules, IsLazy};
+ghost use Rattle.bf_store.specs.Stores.{IsCounted, IsStore, last_seen, lazy_seen};
 
 use crate::anchor::{Anchor, next_anchor};
 use crate::done::Done;
+use crate::moved::{Moved, receipts};
 use crate::under_way::UnderWay;
 use bf_base::{Granule, Key, Memory, Row, Table, Value};
 use bf_image::{Migration, ValueIndexes, rows_of};
@@ -154,6 +156,49 @@ fn note(
             Err(memory)
         }
     }
+}
+
+/// Moves those of some granules of a migration, which differ, that have not moved, as one change, and tells
+/// what it has come to. It costs what the granules have, and a look-up for each row and each granule.
+///
+/// # Errors
+/// Where memory runs out, or 2 ^ 32 granules have moved or 2 ^ 64 changes were made. All is as it was
+/// then.
+pub(crate) fn move_granules(
+    alloc: Global,
+    live: &mut LiveTables,
+    last: &mut UnderWay,
+    records: &mut u64,
+    migration: &Migration,
+    indexes: &ValueIndexes,
+    granules: &[Granule],
+) -> Result<Moved, Memory>
+    requires lawful { IsLawfulMigration migration.now }
+    requires indexed { indexes.now ≡ value_indexes migration.now }
+    requires one { last.old.pass.value ≡ migration.now }
+    requires store { IsStore live.old (Some last.old) records.old }
+    requires granules { AreGranules (last_seen last.old) granules.now }
+    ensures ok { IfOk result (IsMoveOf (lazy_seen live.old (Some last.old) records.old)
+        (lazy_seen live.new (Some last.new) records.new) granules.now) }
+    ensures store { IsStore live.new (Some last.new) records.new }
+    ensures pass { last.new.pass ≡ last.old.pass }
+    ensures live_stays { OnErr result (live.new ≡ live.old) }
+    ensures last_stays { OnErr result (last.new ≡ last.old) }
+    ensures records_stay { OnErr result (records.new ≡ records.old) }
+{
+    // Its contract says that the marks are in order.
+    let _ = last.done.len();
+    let already = last.done.numbered(alloc, granules)?;
+    let left = last.done.left(alloc, granules)?;
+    if left.is_empty() {
+        let fresh = Vec::new(alloc);
+        return Ok(Moved { fresh, already });
+    }
+    let number = records.checked_add(1).ok_or(Memory)?;
+    let fresh = receipts(alloc, last.number, &left, number)?;
+    move_in(alloc, live, last, migration, indexes, &left, number)?;
+    *records = number;
+    Ok(Moved { fresh, already })
 }
 
 /// Moves granules of a migration, which differ and have not moved, by one record: their rows are put into

@@ -15,6 +15,7 @@ ghost use Rattle.bf_store.specs.Stores.{AreIndexesOf, IsByPass, IsOf};
 
 use crate::flip::flip;
 use crate::moved::Moved;
+use crate::movement::move_granules;
 use crate::under_way::UnderWay;
 use bf_base::{Granule, Memory, Table};
 use bf_image::{MigrationPass, Registry, ValueIndexes};
@@ -247,6 +248,21 @@ impl Store {
         ensures migration { self.new.migration ≡ self.old.migration }
         ensures err { OnErr result (self.new ≡ self.old) }
     {
-        Err(Memory)
+        let Some(last) = &mut self.last else {
+            return Ok(Moved {
+                fresh: Vec::new(self.alloc),
+                already: Vec::new(self.alloc),
+            });
+        };
+        let migration = registry.migration(&last.pass);
+        move_granules(
+            self.alloc,
+            &mut self.live,
+            last,
+            &mut self.records,
+            migration,
+            indexes,
+            granules,
+        )
     }
 }

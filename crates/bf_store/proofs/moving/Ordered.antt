@@ -29,7 +29,7 @@ same_done last g =
     ∙ list_any-with_placed granule_cmp_total granule_of (λ d. same_granule g d.granule) [] last.done
     ∙ sym (list_any-map (same_granule g) granule_of last.done)
 
-ties : same_granule ≡ eq_by_cmp granule_cmp
+pub ties : same_granule ≡ eq_by_cmp granule_cmp
 ties i g h = granule_ties g h i
 
 module _ (last : Migration) where
