@@ -1,5 +1,6 @@
 pub mod Anchors
 pub mod Calls
+pub mod Flips
 pub mod Marks
 pub mod Puts
 pub mod States

@@ -60,3 +60,9 @@ IsOf registry (Some pass) = Shows registry.migrations pass
 abbrev pub AreIndexesOf : Option (Where Kept) → List (Option UnitIndex) → Type 0
 AreIndexesOf None indexes = Unit {0}
 AreIndexesOf (Some pass) indexes = indexes ≡ value_indexes pass.value
+
+-- BY ITS PASS: the last migration is the one that the pass reads, and of it granules have moved
+abbrev pub IsByPass : Option Migration → Option (Where Kept) → Type 0
+IsByPass None None = Unit {0}
+IsByPass (Some last) (Some pass) = last ≡ migration_of pass.value last.done
+IsByPass last pass = ⊥

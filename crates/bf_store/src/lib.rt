@@ -4,6 +4,7 @@
 
 mod anchor;
 mod done;
+mod flip;
 pub mod laws;
 pub mod moved;
 mod movement;

@@ -7,11 +7,13 @@ ghost use Rattle.std.specs.Prelude.{IsTrue};
 ghost use Rattle.bf_sql.specs.Bound.{catalog_of};
 ghost use Rattle.bf_sql.specs.Database.{IsDatabase, stored_in_order, with_tables};
 ghost use Rattle.bf_sql.specs.Meaning.{next_number, with_index};
+ghost use Rattle.bf_sql.specs.migrations.Lazy.{migrations_so_far};
 ghost use Rattle.bf_sql.specs.migrations.Plans.{plan_made};
 ghost use Rattle.bf_store.specs.Calls.{IsCommitOf, IsFlipOf, IsMoveOf, IsNeedOf, IsSweepOf, MayFlip};
 ghost use Rattle.bf_store.specs.States.{AreGranulesIfAny, IsLazy, IsOpenLazily, granules_done_if_any};
-ghost use Rattle.bf_store.specs.Stores.{AreIndexesOf, IsOf};
+ghost use Rattle.bf_store.specs.Stores.{AreIndexesOf, IsByPass, IsOf};
 
+use crate::flip::flip;
 use crate::moved::Moved;
 use crate::movement::move_granules;
 use crate::under_way::UnderWay;
@@ -82,7 +84,8 @@ impl Store {
 
     /// The pass of the last migration, and `None` exactly where there was none. Takes no memory.
     pub fn migration(&self) -> Option<MigrationPass>
-        ensures { result ≡ self.now.migration }
+        ensures pass { result ≡ self.now.migration }
+        ensures by_pass { IsByPass self.now.lazy.last self.now.migration }
     {
         self.last.as_ref().map(|last| last.pass.copy())
     }
@@ -203,7 +206,26 @@ impl Store {
         ensures one { IsOf registry.now self.new.migration }
         ensures err { OnErr result (self.new ≡ self.old) }
     {
-        Err(Memory)
+        let number = self.next_migration()?;
+        let records = self.records.checked_add(1).ok_or(Memory)?;
+        let begun = flip(self.alloc, rt, &mut self.live, registry, plan, number)?;
+        self.last = Some(begun);
+        self.records = records;
+        Ok(number)
+    }
+
+    /// The number of the next migration. Takes no memory.
+    ///
+    /// # Errors
+    /// Where 2 ^ 32 migrations were made.
+    fn next_migration(&self) -> Result<u32, Memory>
+        ensures { IfOk result (λ number. number ≡ migrations_so_far self.now.lazy.last + 1) }
+    {
+        let so_far = match &self.last {
+            Some(last) => last.number,
+            None => 0,
+        };
+        so_far.checked_add(1).ok_or(Memory)
     }
 
     /// Moves granules of the last migration, which differ, as one change: the rows that come from
