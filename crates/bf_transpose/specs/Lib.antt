@@ -1,1 +1,4 @@
 pub mod Covers
+pub mod Merging
+pub mod Scans
+pub mod Totals

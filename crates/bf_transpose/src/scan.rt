@@ -1,0 +1,273 @@
+//! Scans of a migration's granules: all of them, and those that give a row which a condition may pick.
+
+ghost use Rattle.std.specs.Prelude.{◌≡◌, ◌∷◌, [], ◌++◌, ◌<◌, IfOk, OnOk, Some, filter, length, map};
+ghost use Rattle.std.specs.List.{list_any};
+ghost use Rattle.bf_sql.specs.migrations.Granules.{granules_of};
+ghost use Rattle.bf_sql.specs.migrations.Need.{giving, may_satisfy, total_places};
+ghost use Rattle.bf_image.specs.ByValues.{value_of};
+ghost use Rattle.bf_image.specs.Migrations.{IsLawfulMigration, anchors_in, old_of, target_at, value_indexes};
+ghost use Rattle.bf_transpose.specs.Merging.{values_in};
+ghost use Rattle.bf_transpose.specs.Scans.{gives, granules_in, has_arm, is_sought, row_granules, value_granules};
+
+use crate::condition::{may_be_met, total_places};
+use crate::merge::Merge;
+use bf_base::{Granule, Memory, Place, Row};
+use bf_image::value_indexes::UnitIndex;
+use bf_image::{ByValue, Migration, ValueIndexes, positions, rows_of};
+use bf_tree::Cond;
+use std::alloc::Global;
+
+/// Adds the granules of a unit at the first positions, as many as are told.
+fn add_rows(unit: u8, count: u32, granules: &mut Vec<Granule>) -> Result<(), Memory>
+    ensures { OnOk result (granules.new.items
+        ≡ granules.old.items ++ row_granules unit count) }
+{
+    for position in 0..count {
+        let place = Place::Row(position);
+        granules.push(Granule { unit, place })?;
+    }
+    Ok(())
+}
+
+/// Adds the granules of a unit at the values of an index.
+fn add_values(
+    alloc: Global,
+    unit: u8,
+    values: &ByValue,
+    granules: &mut Vec<Granule>,
+) -> Result<(), Memory>
+    ensures { OnOk result (granules.new.items
+        ≡ granules.old.items ++ value_granules unit (map value_of values.now)) }
+{
+    for at in 0..values.len() {
+        if let Some((value, _)) = values.at(at) {
+            let place = Place::Group(value.copy(alloc)?);
+            granules.push(Granule { unit, place })?;
+        }
+    }
+    Ok(())
+}
+
+/// Adds the granules of a unit at the values of two indexes, in order, each value once.
+fn add_merged(
+    alloc: Global,
+    unit: u8,
+    from: &ByValue,
+    join: &ByValue,
+    granules: &mut Vec<Granule>,
+) -> Result<(), Memory>
+    ensures { OnOk result (granules.new.items
+        ≡ granules.old.items ++ value_granules unit (values_in (from.now ++ join.now))) }
+{
+    let mut values = Merge::of(from, join);
+    while let Some(value) = values.advance() {
+        let place = Place::Group(value.copy(alloc)?);
+        granules.push(Granule { unit, place })?;
+    }
+    Ok(())
+}
+
+/// Adds the granules of a unit.
+fn add_unit(
+    alloc: Global,
+    migration: &Migration,
+    indexes: &ValueIndexes,
+    unit: u8,
+    granules: &mut Vec<Granule>,
+) -> Result<(), Memory>
+    requires lawful { IsLawfulMigration migration.now }
+    requires indexed { indexes.now ≡ value_indexes migration.now }
+    ensures { OnOk result (granules.new.items
+        ≡ granules.old.items ++ granules_in migration.now unit) }
+{
+    match indexes.unit(unit) {
+        None => add_rows(unit, positions(migration, unit), granules),
+        Some(UnitIndex { from, join: None }) => add_values(alloc, unit, from, granules),
+        Some(UnitIndex {
+            from,
+            join: Some(join),
+        }) => add_merged(alloc, unit, from, join, granules),
+    }
+}
+
+/// All granules of a migration, in the order of unit and place, each once. It takes time and memory
+/// linear in the rows of its old tables, and compares each value of a join's FROM with about one of
+/// its JOIN.
+///
+/// # Errors
+/// Where memory runs out.
+pub(crate) fn all(
+    alloc: Global,
+    migration: &Migration,
+    indexes: &ValueIndexes,
+) -> Result<Vec<Granule>, Memory>
+    requires lawful { IsLawfulMigration migration.now }
+    requires indexed { indexes.now ≡ value_indexes migration.now }
+    ensures { IfOk result (λ all.
+        all.items ≡ granules_of (old_of migration.now) migration.now.plan.migrate) }
+{
+    let mut granules = Vec::new(alloc);
+    for unit in 0..migration.plan.units.len() {
+        add_unit(alloc, migration, indexes, unit as u8, &mut granules)?;
+    }
+    Ok(granules)
+}
+
+/// A search for the granules that give a row of a target which a condition may pick.
+#[derive(Drop)]
+struct Search<'a> {
+    migration: &'a Migration,
+    indexes: &'a ValueIndexes,
+    target: u8,
+    cond: &'a Cond,
+    totals: &'a [u8],
+    ghost lawful: { IsLawfulMigration migration.now },
+    ghost indexed: { indexes.now ≡ value_indexes migration.now },
+    ghost there: { target < length migration.now.plan.migrate.targets },
+    ghost known: { total_places (target_at migration.now target) ≡ totals.now },
+}
+
+impl<'a> Search<'a> {
+    /// Whether one of some rows, each with the number of its target, is sought.
+    fn is_among(&self, alloc: Global, rows: &[(u8, Row)]) -> Result<bool, Memory>
+        ensures { IfOk result (λ found. found ≡ list_any
+            (is_sought self.now.migration.now self.now.target self.now.cond.now) rows.now) }
+    {
+        for (of, row) in rows {
+            if *of == self.target && may_be_met(alloc, self.cond, self.totals, row)? {
+                return Ok(true);
+            }
+        }
+        Ok(false)
+    }
+
+    /// Whether a granule gives a row that is sought.
+    fn finds(&self, alloc: Global, granule: &Granule) -> Result<bool, Memory>
+        ensures { IfOk result (λ found. found
+            ≡ gives self.now.migration.now self.now.target self.now.cond.now granule.now) }
+    {
+        let rows = rows_of(alloc, self.migration, self.indexes, granule)?;
+        self.is_among(alloc, &rows)
+    }
+
+    /// Adds a granule if it gives a row that is sought.
+    fn add(
+        &self,
+        alloc: Global,
+        granule: Granule,
+        granules: &mut Vec<Granule>,
+    ) -> Result<(), Memory>
+        ensures { OnOk result (granules.new.items ≡ granules.old.items ++ filter
+            (gives self.now.migration.now self.now.target self.now.cond.now) (granule ∷ [])) }
+    {
+        if self.finds(alloc, &granule)? {
+            granules.push(granule)?;
+        }
+        Ok(())
+    }
+
+    /// Adds those granules of a unit that goes by rows.
+    fn add_rows(
+        &self,
+        alloc: Global,
+        unit: u8,
+        granules: &mut Vec<Granule>,
+    ) -> Result<(), Memory>
+        ensures { OnOk result (granules.new.items ≡ granules.old.items ++ filter
+            (gives self.now.migration.now self.now.target self.now.cond.now)
+            (row_granules unit (anchors_in self.now.migration.now unit))) }
+    {
+        for position in 0..positions(self.migration, unit) {
+            let place = Place::Row(position);
+            self.add(alloc, Granule { unit, place }, granules)?;
+        }
+        Ok(())
+    }
+
+    /// Adds those granules of a unit that stand at the values of an index.
+    fn add_values(
+        &self,
+        alloc: Global,
+        unit: u8,
+        values: &ByValue,
+        granules: &mut Vec<Granule>,
+    ) -> Result<(), Memory>
+        ensures { OnOk result (granules.new.items ≡ granules.old.items ++ filter
+            (gives self.now.migration.now self.now.target self.now.cond.now)
+            (value_granules unit (map value_of values.now))) }
+    {
+        for at in 0..values.len() {
+            if let Some((value, _)) = values.at(at) {
+                let place = Place::Group(value.copy(alloc)?);
+                self.add(alloc, Granule { unit, place }, granules)?;
+            }
+        }
+        Ok(())
+    }
+
+    /// Whether a unit has an arm of the target. Takes no memory.
+    fn has_arm(&self, unit: u8) -> bool
+        ensures { result ≡ has_arm self.now.migration.now self.now.target unit }
+    {
+        match self.migration.plan.units.as_slice().get(unit as usize) {
+            Some(planned) => planned.arms.as_slice().iter().any(|(of, _)| *of == self.target),
+            None => false,
+        }
+    }
+
+    /// Adds those granules of a unit. A join's value without a row of FROM gives no row.
+    fn add_unit(
+        &self,
+        alloc: Global,
+        unit: u8,
+        granules: &mut Vec<Granule>,
+    ) -> Result<(), Memory>
+        ensures { OnOk result (granules.new.items ≡ granules.old.items ++ filter
+            (gives self.now.migration.now self.now.target self.now.cond.now)
+            (granules_in self.now.migration.now unit)) }
+    {
+        if !self.has_arm(unit) {
+            return Ok(());
+        }
+        match self.indexes.unit(unit) {
+            Some(index) => self.add_values(alloc, unit, &index.from, granules),
+            None => self.add_rows(alloc, unit, granules),
+        }
+    }
+}
+
+/// The granules, in the order of unit and place, that give a row of a target which satisfies a
+/// condition, as far as that is known without its totals. It computes the part of each granule of the
+/// units that have an arm of the target.
+///
+/// # Errors
+/// Where memory runs out.
+pub(crate) fn giving(
+    alloc: Global,
+    migration: &Migration,
+    indexes: &ValueIndexes,
+    target: u8,
+    cond: &Cond,
+) -> Result<Vec<Granule>, Memory>
+    requires lawful { IsLawfulMigration migration.now }
+    requires indexed { indexes.now ≡ value_indexes migration.now }
+    requires there { target < length migration.now.plan.migrate.targets }
+    ensures { IfOk result (λ granules. granules.items
+        ≡ giving (old_of migration.now) migration.now.plan.migrate
+        (Some (target_at migration.now target)) (may_satisfy cond.now)) }
+{
+    let written = &migration.plan.migrate.targets.as_slice()[target as usize];
+    let totals = total_places(alloc, written)?;
+    let search = Search {
+        migration,
+        indexes,
+        target,
+        cond,
+        totals: &totals,
+    };
+    let mut granules = Vec::new(alloc);
+    for unit in 0..migration.plan.units.len() {
+        search.add_unit(alloc, unit as u8, &mut granules)?;
+    }
+    Ok(granules)
+}
