@@ -1,4 +1,5 @@
 pub mod Covers
+pub mod InOrder
 pub mod Merging
 pub mod Scans
 pub mod Totals

@@ -6,7 +6,7 @@ ghost use Rattle.bf_sql.specs.migrations.Granules.{granules_of};
 ghost use Rattle.bf_sql.specs.migrations.Need.{giving, may_satisfy, total_places};
 ghost use Rattle.bf_image.specs.ByValues.{value_of};
 ghost use Rattle.bf_image.specs.Migrations.{IsLawfulMigration, anchors_in, old_of, target_at, value_indexes};
-ghost use Rattle.bf_transpose.specs.Merging.{values_in};
+ghost use Rattle.bf_transpose.specs.InOrder.{values_in};
 ghost use Rattle.bf_transpose.specs.Scans.{gives, granules_in, has_arm, is_sought, row_granules, value_granules};
 
 use crate::condition::{may_be_met, total_places};
@@ -57,7 +57,8 @@ fn add_merged(
     granules: &mut Vec<Granule>,
 ) -> Result<(), Memory>
     ensures { OnOk result (granules.new.items
-        ≡ granules.old.items ++ value_granules unit (values_in (from.now ++ join.now))) }
+        ≡ granules.old.items ++ value_granules unit
+        (values_in (map value_of from.now ++ map value_of join.now))) }
 {
     let mut values = Merge::of(from, join);
     while let Some(value) = values.advance() {

@@ -1,0 +1,4 @@
+mod Finding
+mod Merging
+mod Rising
+mod Units
