@@ -1,4 +1,4 @@
-mod Finding
 mod Merging
 mod Rising
+mod Sought
 mod Units
