@@ -1,4 +1,5 @@
 mod Merging
 mod Rising
 mod Sought
+mod Steps
 mod Units

@@ -26,13 +26,13 @@ use Rattle.bf_tree.specs.declared.plan.UnitKind.TheVariants.{Rows, Groups, Joins
 use Rattle.bf_sql.specs.Conditions.{condition_of}
 use Rattle.bf_sql.specs.Database.{Database, table_rows}
 use Rattle.bf_sql.specs.Scopes.{read_in}
-use Rattle.bf_sql.specs.migrations.Granules.{UnitForm, anchor_values, from_with, granule, join_with, left_value, part_at, part_of, right_value, rows_unit, values_unit}
+use Rattle.bf_sql.specs.migrations.Granules.{UnitForm, anchor_values, from_with, granule, join_with, left_value, part_at, part_of, places_in, right_value, rows_unit, values_unit}
 use Rattle.bf_sql.specs.migrations.Images.{arm_rows, groups_by, item_over, matches_of_join, rows_of_join}
 use Rattle.bf_sql.specs.migrations.Need.{may_satisfy}
 use Rattle.bf_sql.specs.migrations.Plans.{rows_unit_of}
 use Rattle.bf_sql.specs.migrations.Targets.{arm_kind, arm_scope}
 use Rattle.bf_image.specs.ByValues.{value_of}
-use Rattle.bf_image.specs.Migrations.{ArePart, IsLawfulMigration, from_values, old_of, target_at, value_indexes}
+use Rattle.bf_image.specs.Migrations.{ArePart, IsLawfulMigration, from_values, old_of, target_at, unit_at, value_indexes}
 use Rattle.bf_image.specs.PlannedUnits.{arm_named, form_by, target_named, values_form}
 use Rattle.bf_image.specs.declared.migration.Migration.{Migration}
 use Rattle.bf_image.specs.declared.value_indexes.UnitIndex.{UnitIndex}
@@ -57,7 +57,7 @@ filter_mapped p f (x ∷ xs) = elim (p (f x)) as (λ b. cond b (f x ∷ filter p
   | false ↦ filter_mapped p f xs
 ]
 
-module _ (m : Migration) (lawful : IsLawfulMigration m) (target : ℕ) (there : target < length m.plan.migrate.targets) (cond : Cond ℕ) where
+module _ (m : Migration) (lawful : IsLawfulMigration m) (target : ℕ) (there : target < length m.plan.migrate.targets) (wanted : Cond ℕ) where
   abbrev old : Database
   old = old_of m
 
@@ -68,7 +68,7 @@ module _ (m : Migration) (lawful : IsLawfulMigration m) (target : ℕ) (there : 
   t = target_at m target
 
   abbrev passes : List Value → Bool
-  passes = may_satisfy cond t
+  passes = may_satisfy wanted t
 
   abbrev named : ℕ × List Value → Target × List Value
   named p = (target_at m p.0, p.1)
@@ -82,7 +82,7 @@ module _ (m : Migration) (lawful : IsLawfulMigration m) (target : ℕ) (there : 
   told_by_number : (p : ℕ × List Value) → IsArmed (target_at m p.0) → IsTold p
   told_by_number p armed = name_tells_number m lawful p.0 target (armed_within m p.0 armed) there
 
-  any_named : (rows : List (ℕ × List Value)) → AllByRecursion IsTold rows → list_any passes (map (λ p. p.1) (filter is_named (map named rows))) ≡ list_any (is_sought m target cond) rows
+  any_named : (rows : List (ℕ × List Value)) → AllByRecursion IsTold rows → list_any passes (map (λ p. p.1) (filter is_named (map named rows))) ≡ list_any (is_sought m target wanted) rows
   any_named [] told = refl
   any_named (p ∷ rows) told = of (is_named (named p)) ∙ ap₂ (λ b rest. (b && passes p.1) || rest) told.0 (any_named rows told.1)
     where
@@ -92,14 +92,14 @@ module _ (m : Migration) (lawful : IsLawfulMigration m) (target : ℕ) (there : 
       of false = refl
 
   -- a granule gives such a row where its rows have it
-  pub gives_by_number : (g : Granule) (rows : List (ℕ × List Value)) → ArePart m g rows → list_any (is_sought m target cond) rows ≡ gives m target cond g
+  pub gives_by_number : (g : Granule) (rows : List (ℕ × List Value)) → ArePart m g rows → list_any (is_sought m target wanted) rows ≡ gives m target wanted g
   gives_by_number g rows part =
       let armed : AllByRecursion (HasArmedTarget old q) (map named rows) = subst (λ ps. AllByRecursion (HasArmedTarget old q) ps) (sym part) (part_armed old q g) in
       sym (ap (λ ps. list_any passes (map (λ p. p.1) (filter is_named ps))) (sym part)
       ∙ any_named rows (each_of_mapped (HasArmedTarget old q) IsTold named told_by_number rows armed))
 
   -- a granule without a row of the target gives none
-  none_gives : (g : Granule) → list_any is_named (part_of old q g) ≡ false → gives m target cond g ≡ false
+  none_gives : (g : Granule) → list_any is_named (part_of old q g) ≡ false → gives m target wanted g ≡ false
   none_gives g none = ap (λ ps. list_any passes (map (λ p. p.1) ps)) (filter_none is_named (part_of old q g) none)
 
   unnamed_rows : (s : Target) → same_name s.name t.name ≡ false → (rows : List (List Value)) → list_any is_named (map (λ row. (s, row)) rows) ≡ false
@@ -149,12 +149,19 @@ module _ (m : Migration) (lawful : IsLawfulMigration m) (target : ℕ) (there : 
     none_here (Some planned) is none place = none_of_unit planned is none planned.kind refl place
 
     -- a unit that has no arm of the target has no granule that gives such a row
-    pub none_without_arm : has_arm m target unit ≡ false → (places : List Place) → filter (gives m target cond) (map (granule unit) places) ≡ []
+    none_without_arm : has_arm m target unit ≡ false → (places : List Place) → filter (gives m target wanted) (map (granule unit) places) ≡ []
     none_without_arm none [] = refl
     none_without_arm none (place ∷ places) =
-        ap (λ b. cond b (granule unit place ∷ filter (gives m target cond) (map (granule unit) places)) (filter (gives m target cond) (map (granule unit) places)))
+        ap (λ b. cond b (granule unit place ∷ filter (gives m target wanted) (map (granule unit) places)) (filter (gives m target wanted) (map (granule unit) places)))
         (none_gives (granule unit place) (none_here (slice_get m.plan.units unit) refl none place))
         ∙ none_without_arm none places
+
+    pub none_in_unit : has_arm m target unit ≡ false → [] ≡ filter (gives m target wanted) (granules_in m unit)
+    none_in_unit none = of (unit_at m unit)
+      where
+        of : (o : Option UnitForm) → [] ≡ filter (gives m target wanted) (unwrap_or (option_map (λ form. map (granule unit) (places_in old form)) o) [])
+        of None = refl
+        of (Some form) = sym (none_without_arm none (places_in old form))
 
     -- a value that no row of FROM has gives none either
     module _ (arm : Arm) (pairs : arm_kind old arm ≡ ByPair) where
@@ -184,9 +191,9 @@ module _ (m : Migration) (lawful : IsLawfulMigration m) (target : ℕ) (there : 
       arm_here = (its m unit lawful index some).arm
 
       abbrev finds : List Value → Bool
-      finds value = gives m target cond (granule unit (Group value))
+      finds value = gives m target wanted (granule unit (Group value))
 
-      none_found : arm_kind old arm_here ≡ ByPair → (value : List Value) → has same_key (lefts arm_here) value ≡ false → finds value ≡ false
+      none_found : (is : arm_kind old arm_here ≡ ByPair) → (value : List Value) → has same_key (lefts arm_here is) value ≡ false → finds value ≡ false
       none_found is value none =
           let here = its m unit lawful index some in
           none_gives (granule unit (Group value))
@@ -197,14 +204,14 @@ module _ (m : Migration) (lawful : IsLawfulMigration m) (target : ℕ) (there : 
       among_from ByFrom is = refl
       among_from ByJoin is = refl
       among_from ByGroup is = refl
-      among_from ByPair is = filtered_among finds (lefts arm_here) (map (right_value old arm_here) (rows_of_join old arm_here.join)) (none_found is)
+      among_from ByPair is = filtered_among finds (lefts arm_here is) (map (right_value old arm_here) (rows_of_join old arm_here.join)) (none_found is)
 
       -- so the values of FROM are all that need be tried
-      pub found_at_values : filter (gives m target cond) (value_granules unit (map value_of index.from)) ≡ filter (gives m target cond) (granules_in m unit)
+      pub found_at_values : filter (gives m target wanted) (value_granules unit (map value_of index.from)) ≡ filter (gives m target wanted) (granules_in m unit)
       found_at_values =
           let kind = arm_kind old arm_here in
-          ap (λ vs. filter (gives m target cond) (value_granules unit vs)) (from_is m unit lawful index some kind refl)
-          ∙ (filter_mapped (gives m target cond) (λ value. granule unit (Group value)) (values_in (from_values old arm_here kind))
+          ap (λ vs. filter (gives m target wanted) (value_granules unit vs)) (from_is m unit lawful index some kind refl)
+          ∙ (filter_mapped (gives m target wanted) (λ value. granule unit (Group value)) (values_in (from_values old arm_here kind))
           ∙ (ap (value_granules unit) (among_from kind refl)
-          ∙ (sym (filter_mapped (gives m target cond) (λ value. granule unit (Group value)) (anchored m unit lawful index some))
-          ∙ ap (filter (gives m target cond)) (granules_anchored m unit lawful index some))))
+          ∙ (sym (filter_mapped (gives m target wanted) (λ value. granule unit (Group value)) (anchored m unit lawful index some))
+          ∙ ap (filter (gives m target wanted)) (granules_anchored m unit lawful index some))))

@@ -1,5 +1,5 @@
 -- The granules of a migration, unit by unit.
-use Rattle.std.proofs.Common.{◌≡◌, ℕ, zero, suc, ◌+◌, ◌<◌, ◌≤◌, false, List, [], ◌∷◌, ◌++◌, Option, Some, None, length, map, flat_map, drop, slice_get, unwrap_or, refl, sym, ap, ap₂, ◌∙◌, absurd, arith}
+use Rattle.std.proofs.Common.{◌≡◌, ℕ, zero, suc, ◌+◌, ◌<◌, ◌≤◌, false, List, [], ◌∷◌, ◌++◌, Option, Some, None, length, map, flat_map, drop, slice_get, unwrap_or, refl, sym, ap, ap₂, ◌∙◌, arith}
 use Rattle.std.specs.List.{enumerate_from, range_with_len}
 use Rattle.std.specs.Option.{option_and_then, option_map}
 use Rattle.std.proofs.lemmas.Bool.{false≢true}
@@ -28,7 +28,7 @@ use Rattle.bf_image.specs.declared.value_indexes.UnitIndex.{UnitIndex}
 use Rattle.bf_image.proofs.planning.Units.{IsUnitOf, unit_among, units_stand_for}
 use Rattle.bf_image.proofs.planning.Within.{allowed, alone_by_group}
 use Rattle.bf_transpose.specs.InOrder.{values_in}
-use Rattle.bf_transpose.specs.Scans.{granules_in, row_granules, value_granules}
+use Rattle.bf_transpose.specs.Scans.{granules_in, row_granules, value_granules, values_indexed, values_of_both}
 use Rattle.bf_transpose.proofs.Rising.{in_parts}
 
 -- an index has the values of its rows in order
@@ -106,7 +106,7 @@ module _ (m : Migration) where
             record { target = t; arm = arm; at = is; from = ap (λ (i : UnitIndex). i.from) same; join = ap (λ (i : UnitIndex). i.join) same }
 
     module _ (lawful : IsLawfulMigration m) (index : UnitIndex) (some : Some index ≡ option_and_then (λ index. index) (slice_get (value_indexes m) unit)) where
-      abbrev its : IsIndexed index
+      abbrev pub its : IsIndexed index
       its = indexed index some
 
       abbrev of_join : Option Join → Option (List Valued)
@@ -142,7 +142,7 @@ module _ (m : Migration) where
           ∙ (in_parts lefts rights ∙ ap (λ (o : Option Join). values_in (lefts ++ map (right_value old its.arm) (rows_of_join old o))) (sym some))
 
       -- where there is a JOIN, the places stand at the values of both tables
-      pub granules_joined : (joined : List Valued) → index.join ≡ Some joined → value_granules unit (values_in (map value_of index.from ++ map value_of joined)) ≡ granules_in m unit
+      granules_joined : (joined : List Valued) → index.join ≡ Some joined → value_granules unit (values_in (map value_of index.from ++ map value_of joined)) ≡ granules_in m unit
       granules_joined joined there = ap (value_granules unit) (joined_by (arm_kind old its.arm) refl its.arm.join refl joined (sym its.join ∙ there)) ∙ granules_anchored
 
       alone_by : (kind : ArmKind) → arm_kind old its.arm ≡ kind → (o : Option Join) → its.arm.join ≡ o → None ≡ of_join o → map value_of index.from ≡ values_in (anchor_values old its.arm kind)
@@ -156,8 +156,15 @@ module _ (m : Migration) where
           ∙ (ap values_in (sym (append-nil lefts)) ∙ ap (λ (o : Option Join). values_in (lefts ++ map (right_value old its.arm) (rows_of_join old o))) (sym none'))
 
       -- and else at those of FROM
-      pub granules_alone : None ≡ index.join → value_granules unit (map value_of index.from) ≡ granules_in m unit
+      granules_alone : None ≡ index.join → value_granules unit (map value_of index.from) ≡ granules_in m unit
       granules_alone none = ap (value_granules unit) (alone_by (arm_kind old its.arm) refl its.arm.join refl (none ∙ its.join)) ∙ granules_anchored
+
+      pub granules_indexed : value_granules unit (values_indexed index) ≡ granules_in m unit
+      granules_indexed = of index.join refl
+        where
+          of : (o : Option (List Valued)) → index.join ≡ o → value_granules unit (values_of_both index.from o) ≡ granules_in m unit
+          of None is = granules_alone (sym is)
+          of (Some joined) is = granules_joined joined is
 
   -- ALL: nothing is before the first unit
   pub all_from : granules_from 0 ≡ granules_of (old_of m) m.plan.migrate

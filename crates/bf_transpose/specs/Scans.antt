@@ -1,14 +1,18 @@
 -- SCANS: the granules of a migration unit by unit, and those that give a row which a condition may pick.
-use Rattle.std.specs.Prelude.{ℕ, Bool, false, ◌&&◌, ◌==◌, List, [], map, slice_get, option_map, unwrap_or}
+use Rattle.std.specs.Prelude.{◌≡◌, ℕ, ◌<◌, Bool, false, ◌&&◌, ◌==◌, List, [], ◌++◌, length, map, Option, Some, None, slice_get, option_map, unwrap_or}
 use Rattle.std.specs.List.{list_any, range_with_len}
 use Rattle.bf_base.specs.declared.granule.Granule.{Granule}
 use Rattle.bf_base.specs.declared.granule.Place.TheVariants.{Group, Row}
 use Rattle.bf_base.specs.declared.value.Value.{Value}
 use Rattle.bf_tree.specs.Trees.{Cond}
 use Rattle.bf_sql.specs.migrations.Granules.{granule, part_in, places_in}
-use Rattle.bf_sql.specs.migrations.Need.{may_satisfy}
-use Rattle.bf_image.specs.Migrations.{old_of, target_at, unit_at}
+use Rattle.bf_sql.specs.migrations.Need.{may_satisfy, total_places}
+use Rattle.bf_image.specs.ByValues.{Valued, value_of}
+use Rattle.bf_image.specs.Migrations.{IsLawfulMigration, old_of, target_at, unit_at, value_indexes}
 use Rattle.bf_image.specs.declared.migration.Migration.{Migration}
+use Rattle.bf_image.specs.declared.value_indexes.UnitIndex.{UnitIndex}
+use Rattle.bf_transpose.specs.InOrder.{values_in}
+use Rattle.bf_transpose.specs.declared.scan.Search.{Search}
 
 -- the granules of a unit at the first positions, and at some values
 abbrev pub row_granules : ℕ → ℕ → List Granule
@@ -16,6 +20,14 @@ row_granules unit count = map (λ at. granule unit (Row at)) (range_with_len 0 c
 
 abbrev pub value_granules : ℕ → List (List Value) → List Granule
 value_granules unit values = map (λ value. granule unit (Group value)) values
+
+-- the values of an index, of FROM and of JOIN where there is one
+abbrev pub values_of_both : List Valued → Option (List Valued) → List (List Value)
+values_of_both from None = map value_of from
+values_of_both from (Some join) = values_in (map value_of from ++ map value_of join)
+
+abbrev pub values_indexed : UnitIndex → List (List Value)
+values_indexed index = values_of_both index.from index.join
 
 module _ (m : Migration) where
   -- the granules of a unit by its number
@@ -34,3 +46,10 @@ module _ (m : Migration) where
     -- whether a granule gives such a row
     abbrev pub gives : Cond ℕ → Granule → Bool
     gives cond g = list_any (may_satisfy cond (target_at m target)) (part_in (old_of m) m.plan.migrate (target_at m target).name g)
+
+-- a search of a lawful migration, with its indexes, for rows of a target that it has, with the places of that target's totals
+pub record IsSearch (search : Search) : Type 0 where
+  pub lawful : IsLawfulMigration search.migration.now
+  pub indexed : search.indexes.now ≡ value_indexes search.migration.now
+  pub there : search.target < length search.migration.now.plan.migrate.targets
+  pub known : total_places (target_at search.migration.now search.target) ≡ search.totals.now

@@ -1,20 +1,20 @@
 //! Scans of a migration's granules: all of them, and those that give a row which a condition may pick.
 
-ghost use Rattle.std.specs.Prelude.{◌≡◌, ◌∷◌, [], ◌++◌, ◌<◌, IfOk, OnOk, Some, filter, length, map};
+ghost use Rattle.std.specs.Prelude.{◌≡◌, ◌==◌, ◌∷◌, [], ◌++◌, ◌<◌, IfOk, OnOk, Some, filter, length, map};
 ghost use Rattle.std.specs.List.{list_any};
 ghost use Rattle.bf_sql.specs.migrations.Granules.{granules_of};
 ghost use Rattle.bf_sql.specs.migrations.Need.{giving, may_satisfy, total_places};
 ghost use Rattle.bf_image.specs.ByValues.{value_of};
 ghost use Rattle.bf_image.specs.Migrations.{IsLawfulMigration, anchors_in, old_of, target_at, value_indexes};
 ghost use Rattle.bf_transpose.specs.InOrder.{values_in};
-ghost use Rattle.bf_transpose.specs.Scans.{gives, granules_in, has_arm, is_sought, row_granules, value_granules};
+ghost use Rattle.bf_transpose.specs.Scans.{IsSearch, gives, granules_in, has_arm, is_sought, row_granules, value_granules, values_indexed};
 
 use crate::condition::{may_be_met, total_places};
 use crate::merge::Merge;
 use bf_base::{Granule, Memory, Place, Row};
 use bf_image::value_indexes::UnitIndex;
 use bf_image::{ByValue, Migration, ValueIndexes, positions, rows_of};
-use bf_tree::Cond;
+use bf_tree::{Cond, Unit};
 use std::alloc::Global;
 
 /// Adds the granules of a unit at the first positions, as many as are told.
@@ -68,6 +68,22 @@ fn add_merged(
     Ok(())
 }
 
+/// Adds the granules of a unit that goes by values.
+fn add_indexed(
+    alloc: Global,
+    unit: u8,
+    index: &UnitIndex,
+    granules: &mut Vec<Granule>,
+) -> Result<(), Memory>
+    ensures { OnOk result (granules.new.items
+        ≡ granules.old.items ++ value_granules unit (values_indexed index.now)) }
+{
+    match &index.join {
+        Some(join) => add_merged(alloc, unit, &index.from, join, granules),
+        None => add_values(alloc, unit, &index.from, granules),
+    }
+}
+
 /// Adds the granules of a unit.
 fn add_unit(
     alloc: Global,
@@ -83,11 +99,7 @@ fn add_unit(
 {
     match indexes.unit(unit) {
         None => add_rows(unit, positions(migration, unit), granules),
-        Some(UnitIndex { from, join: None }) => add_values(alloc, unit, from, granules),
-        Some(UnitIndex {
-            from,
-            join: Some(join),
-        }) => add_merged(alloc, unit, from, join, granules),
+        Some(index) => add_indexed(alloc, unit, index, granules),
     }
 }
 
@@ -114,6 +126,13 @@ pub(crate) fn all(
     Ok(granules)
 }
 
+/// Whether a unit has an arm of a target. Takes no memory.
+fn is_of(unit: &Unit, target: u8) -> bool
+    ensures { result ≡ list_any (λ arm. arm.0 == target) unit.now.arms }
+{
+    unit.arms.as_slice().iter().any(|(of, _)| *of == target)
+}
+
 /// A search for the granules that give a row of a target which a condition may pick.
 #[derive(Drop)]
 struct Search<'a> {
@@ -122,20 +141,29 @@ struct Search<'a> {
     target: u8,
     cond: &'a Cond,
     totals: &'a [u8],
-    ghost lawful: { IsLawfulMigration migration.now },
-    ghost indexed: { indexes.now ≡ value_indexes migration.now },
-    ghost there: { target < length migration.now.plan.migrate.targets },
-    ghost known: { total_places (target_at migration.now target) ≡ totals.now },
 }
 
 impl<'a> Search<'a> {
+    /// Whether a row, with the number of its target, is sought.
+    fn accepts(&self, alloc: Global, of: u8, row: &Row) -> Result<bool, Memory>
+        requires { IsSearch self.now }
+        ensures { IfOk result (λ found. found ≡ is_sought self.now.migration.now
+            self.now.target self.now.cond.now (of, row.now)) }
+    {
+        if of != self.target {
+            return Ok(false);
+        }
+        may_be_met(alloc, self.cond, self.totals, row)
+    }
+
     /// Whether one of some rows, each with the number of its target, is sought.
     fn is_among(&self, alloc: Global, rows: &[(u8, Row)]) -> Result<bool, Memory>
+        requires { IsSearch self.now }
         ensures { IfOk result (λ found. found ≡ list_any
             (is_sought self.now.migration.now self.now.target self.now.cond.now) rows.now) }
     {
         for (of, row) in rows {
-            if *of == self.target && may_be_met(alloc, self.cond, self.totals, row)? {
+            if self.accepts(alloc, *of, row)? {
                 return Ok(true);
             }
         }
@@ -144,6 +172,7 @@ impl<'a> Search<'a> {
 
     /// Whether a granule gives a row that is sought.
     fn finds(&self, alloc: Global, granule: &Granule) -> Result<bool, Memory>
+        requires { IsSearch self.now }
         ensures { IfOk result (λ found. found
             ≡ gives self.now.migration.now self.now.target self.now.cond.now granule.now) }
     {
@@ -158,6 +187,7 @@ impl<'a> Search<'a> {
         granule: Granule,
         granules: &mut Vec<Granule>,
     ) -> Result<(), Memory>
+        requires { IsSearch self.now }
         ensures { OnOk result (granules.new.items ≡ granules.old.items ++ filter
             (gives self.now.migration.now self.now.target self.now.cond.now) (granule ∷ [])) }
     {
@@ -174,6 +204,7 @@ impl<'a> Search<'a> {
         unit: u8,
         granules: &mut Vec<Granule>,
     ) -> Result<(), Memory>
+        requires { IsSearch self.now }
         ensures { OnOk result (granules.new.items ≡ granules.old.items ++ filter
             (gives self.now.migration.now self.now.target self.now.cond.now)
             (row_granules unit (anchors_in self.now.migration.now unit))) }
@@ -193,6 +224,7 @@ impl<'a> Search<'a> {
         values: &ByValue,
         granules: &mut Vec<Granule>,
     ) -> Result<(), Memory>
+        requires { IsSearch self.now }
         ensures { OnOk result (granules.new.items ≡ granules.old.items ++ filter
             (gives self.now.migration.now self.now.target self.now.cond.now)
             (value_granules unit (map value_of values.now))) }
@@ -211,7 +243,7 @@ impl<'a> Search<'a> {
         ensures { result ≡ has_arm self.now.migration.now self.now.target unit }
     {
         match self.migration.plan.units.as_slice().get(unit as usize) {
-            Some(planned) => planned.arms.as_slice().iter().any(|(of, _)| *of == self.target),
+            Some(planned) => is_of(planned, self.target),
             None => false,
         }
     }
@@ -223,6 +255,7 @@ impl<'a> Search<'a> {
         unit: u8,
         granules: &mut Vec<Granule>,
     ) -> Result<(), Memory>
+        requires { IsSearch self.now }
         ensures { OnOk result (granules.new.items ≡ granules.old.items ++ filter
             (gives self.now.migration.now self.now.target self.now.cond.now)
             (granules_in self.now.migration.now unit)) }

@@ -1,0 +1,19 @@
+use Rattle.std.proofs.Common.{Bool, List, [], ◌∷◌, ◌++◌, filter, sym, ap, ◌∙◌, append_assoc}
+use Rattle.bf_base.specs.declared.granule.Granule.{Granule}
+use Rattle.bf_base.specs.declared.granule.Place.TheVariants.{Row}
+use Rattle.bf_sql.specs.migrations.Granules.{granule}
+use Rattle.bf_transpose.specs.Scans.{gives, row_granules}
+use Rattle.bf_transpose.proofs.Steps.{row_tested}
+use Rattle.bf_transpose.proofs.scan.Search.add_rows.Goals as goal
+
+pub loop-position-preserved : goal.loop-position-preserved
+loop-position-preserved c =
+    let s = c.args.self.now in
+    let test : Granule → Bool = gives s.migration.now s.target s.cond.now in
+    let unit = c.args.unit in
+    let n = c.loop-position.position in
+    let before = c.args.granules.now.items in
+    let next : List Granule = filter test (granule unit (Row n) ∷ []) in
+    c.in_ok-add.ensures
+    ∙ (ap (λ (gs : List Granule). gs ++ next) c.loop-position.invariant
+    ∙ (append_assoc before (filter test (row_granules unit n)) next ∙ ap (λ (gs : List Granule). before ++ gs) (sym (row_tested unit test n))))

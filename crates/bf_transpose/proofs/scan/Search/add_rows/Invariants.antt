@@ -1,0 +1,8 @@
+use Rattle.std.proofs.Common.{◌≡◌, ◌++◌, filter}
+use Rattle.bf_transpose.specs.Scans.{gives, row_granules}
+use Rattle.bf_transpose.proofs.scan.Search.add_rows.Given as goal
+
+-- those of the positions so far
+abbrev pub invariant-loop-position : goal.invariant-loop-position
+invariant-loop-position l =
+    l.granules.items ≡ l.fn.granules.items ++ filter (gives l.self.migration.now l.self.target l.self.cond.now) (row_granules l.unit l.position)
