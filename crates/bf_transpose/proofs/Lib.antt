@@ -1,4 +1,8 @@
+mod Alike
+mod Bounded
+mod Driving
 mod Merging
+mod Outside
 mod Rising
 mod Sought
 mod Steps

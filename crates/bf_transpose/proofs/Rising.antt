@@ -1,16 +1,15 @@
 -- Values in their order, each once: lists that have the same values, and the least of two lists.
-use Rattle.std.proofs.Common.{◌≡◌, Bool, true, false, ◌||◌, ◌&&◌, cond, List, [], ◌∷◌, ◌++◌, map, filter, Some, None, Ordering, Equal, is_lt, is_eq, refl, sym, ap, subst, ◌∙◌, inl, inr, arith}
+use Rattle.std.proofs.Common.{◌≡◌, Bool, true, false, ◌||◌, ◌&&◌, cond, List, [], ◌∷◌, ◌++◌, filter, Some, None, is_lt, refl, sym, ap, ◌∙◌, inl, inr}
 use Rattle.std.specs.List.{list_all}
 use Rattle.std.proofs.lemmas.Bool.{and_from, and_parts, cases_Bool, false≢true, or_left}
-use Rattle.std.proofs.lemmas.Cmp.{tied_itself}
 use Rattle.std.proofs.lemmas.List.{map-id}
 use Rattle.std.proofs.lemmas.List.Folds.{list_any-append, list_all-append}
 use Rattle.bf_base.specs.declared.value.Value.{Value}
 use Rattle.bf_base.specs.Distinct.{distinct}
-use Rattle.bf_base.specs.Lists.{has, in_order, rises, same_key}
+use Rattle.bf_base.specs.Lists.{has, rises, same_key}
 use Rattle.bf_base.specs.Values.{key_cmp, key_cmp_total, key_cmp-IsAntisymmetric}
 use Rattle.bf_base.proofs.Apart.{has-filter, rises-filter}
-use Rattle.bf_base.proofs.Order.{first_is, less_from_test, look_up, rises_cons, rises_skip, same_from_look_ups, symmetric}
+use Rattle.bf_base.proofs.Order.{first_is, look_up, rises_cons, rises_skip, same_from_look_ups, symmetric}
 use Rattle.bf_image.proofs.items.Values.{distinct-apart, in_order-apart, same-equal, same-itself, values_in_order-has}
 use Rattle.bf_transpose.specs.InOrder.{values_in}
 

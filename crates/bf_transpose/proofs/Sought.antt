@@ -1,5 +1,5 @@
 -- Which granules give a row of a target that a condition may pick.
-use Rattle.std.proofs.Common.{◌≡◌, ℕ, ◌<◌, Bool, true, false, ◌&&◌, ◌||◌, cond, eqb, List, [], ◌∷◌, ◌++◌, Option, Some, None, ◌⊎◌, inl, inr, length, map, filter, flat_map, slice_get, unwrap_or, refl, sym, ap, ap₂, subst, ◌∙◌}
+use Rattle.std.proofs.Common.{◌≡◌, ℕ, ◌<◌, Bool, true, false, ◌&&◌, ◌||◌, cond, eqb, List, [], ◌∷◌, Option, Some, None, ◌⊎◌, inl, inr, length, map, filter, flat_map, slice_get, unwrap_or, refl, sym, ap, ap₂, subst, ◌∙◌}
 use Rattle.std.specs.Prelude.{slice_index_or}
 use Rattle.std.specs.List.{AllByRecursion, list_any}
 use Rattle.std.specs.Option.{option_and_then, option_map}
@@ -11,6 +11,7 @@ use Rattle.bf_base.specs.declared.granule.Place.{Place}
 use Rattle.bf_base.specs.declared.granule.Place.TheVariants.{Group, Row}
 use Rattle.bf_base.specs.declared.value.Value.{Value}
 use Rattle.bf_base.specs.Lists.{has, same_key, same_name}
+use Rattle.bf_base.specs.Tables.{cell}
 use Rattle.bf_base.proofs.Parts.{filter_none}
 use Rattle.bf_tree.specs.Evaluation.{holds_on}
 use Rattle.bf_tree.specs.Trees.{Cond}
@@ -26,14 +27,13 @@ use Rattle.bf_tree.specs.declared.plan.UnitKind.TheVariants.{Rows, Groups, Joins
 use Rattle.bf_sql.specs.Conditions.{condition_of}
 use Rattle.bf_sql.specs.Database.{Database, table_rows}
 use Rattle.bf_sql.specs.Scopes.{read_in}
-use Rattle.bf_sql.specs.migrations.Granules.{UnitForm, anchor_values, from_with, granule, join_with, left_value, part_at, part_of, places_in, right_value, rows_unit, values_unit}
+use Rattle.bf_sql.specs.migrations.Granules.{UnitForm, anchor_values, from_with, granule, join_with, left_value, part_at, part_of, places_in, right_value, values_unit}
 use Rattle.bf_sql.specs.migrations.Images.{arm_rows, groups_by, item_over, matches_of_join, rows_of_join}
-use Rattle.bf_sql.specs.migrations.Need.{may_satisfy}
 use Rattle.bf_sql.specs.migrations.Plans.{rows_unit_of}
 use Rattle.bf_sql.specs.migrations.Targets.{arm_kind, arm_scope}
 use Rattle.bf_image.specs.ByValues.{value_of}
 use Rattle.bf_image.specs.Migrations.{ArePart, IsLawfulMigration, from_values, old_of, target_at, unit_at, value_indexes}
-use Rattle.bf_image.specs.PlannedUnits.{arm_named, form_by, target_named, values_form}
+use Rattle.bf_image.specs.PlannedUnits.{form_by, target_named, values_form}
 use Rattle.bf_image.specs.declared.migration.Migration.{Migration}
 use Rattle.bf_image.specs.declared.value_indexes.UnitIndex.{UnitIndex}
 use Rattle.bf_image.proofs.owning.Armed.{HasArmedTarget, IsArmed, armed_within, part_armed}
@@ -68,7 +68,7 @@ module _ (m : Migration) (lawful : IsLawfulMigration m) (target : ℕ) (there : 
   t = target_at m target
 
   abbrev passes : List Value → Bool
-  passes = may_satisfy wanted t
+  passes row = holds_on (cell row) wanted
 
   abbrev named : ℕ × List Value → Target × List Value
   named p = (target_at m p.0, p.1)

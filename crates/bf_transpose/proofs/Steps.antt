@@ -1,12 +1,11 @@
 -- One granule more.
-use Rattle.std.proofs.Common.{◌≡◌, ℕ, zero, suc, ◌+◌, Bool, List, [], ◌∷◌, ◌++◌, None, Some, filter, map, slice_get, take, refl, sym, ap, ◌∙◌, arith}
-use Rattle.std.proofs.lemmas.List.{map-append}
+use Rattle.std.proofs.Common.{◌≡◌, ℕ, zero, suc, ◌+◌, ◌-◌, ◌<◌, ◌≤◌, Bool, false, cond, List, [], ◌∷◌, ◌++◌, None, Some, filter, map, slice_get, take, refl, sym, ap, ◌∙◌, arith}
+use Rattle.std.proofs.lemmas.List.{append-nil, map-append}
 use Rattle.std.proofs.lemmas.List.Elements.{filter-append}
 use Rattle.std.proofs.lemmas.List.FromFn.{map-range_with_len_more}
 use Rattle.std.proofs.lemmas.Option.{same_Some}
 use Rattle.bf_base.specs.declared.granule.Granule.{Granule}
 use Rattle.bf_base.specs.declared.granule.Place.TheVariants.{Group, Row}
-use Rattle.bf_base.specs.declared.value.Value.{Value}
 use Rattle.bf_sql.specs.migrations.Granules.{granule}
 use Rattle.bf_image.specs.ByValues.{Valued, value_of}
 use Rattle.bf_transpose.specs.Scans.{row_granules, value_granules}
@@ -48,3 +47,28 @@ module _ (unit : ℕ) where
         → filter test (value_granules unit (map value_of (take (at + 1) values))) ≡ filter test (value_granules unit (map value_of (take at values))) ++ filter test (granule unit (Group entry.0) ∷ [])
     value_tested values at entry is =
         ap (filter test) (value_more values at entry is) ∙ filter-append test (value_granules unit (map value_of (take at values))) (granule unit (Group entry.0) ∷ [])
+
+    abbrev at_row : ℕ → Bool
+    at_row at = test (granule unit (Row at))
+
+    one_failed : (n : ℕ) → at_row n ≡ false → filter test (granule unit (Row n) ∷ []) ≡ []
+    one_failed n fails = ap (λ b. cond b (granule unit (Row n) ∷ []) []) fails
+
+    -- where the positions from one to another fail, they add nothing
+    pub none_between : (first more : ℕ) → ((at : ℕ) → first ≤ at → at < first + more → at_row at ≡ false) → filter test (row_granules unit (first + more)) ≡ filter test (row_granules unit first)
+    none_between first zero fails = let same : first + zero ≡ first = omega arith in ap (λ n. filter test (row_granules unit n)) same
+    none_between first (suc more) fails =
+        let next : first + suc more ≡ first + more + 1 = omega arith in
+        let last = one_failed (first + more) (fails (first + more) (omega arith) (omega arith)) in
+        ap (λ n. filter test (row_granules unit n)) next
+        ∙ (row_tested (first + more)
+        ∙ (ap (λ (gs : List Granule). filter test (row_granules unit (first + more)) ++ gs) last
+        ∙ (append-nil (filter test (row_granules unit (first + more))) ∙ none_between first more (λ at low high. fails at low (omega arith)))))
+
+    pub none_to : (n : ℕ) → ((at : ℕ) → at < n → at_row at ≡ false) → filter test (row_granules unit n) ≡ []
+    none_to n fails = let same : 0 + n ≡ n = omega arith in ap (λ k. filter test (row_granules unit k)) (sym same) ∙ none_between 0 n (λ at low high. fails at (omega (arith, high)))
+
+    pub none_from : (first end : ℕ) → first ≤ end → ((at : ℕ) → first ≤ at → at < end → at_row at ≡ false) → filter test (row_granules unit end) ≡ filter test (row_granules unit first)
+    none_from first end ordered fails =
+        let sum : first + (end - first) ≡ end = omega (arith, ordered) in
+        ap (λ k. filter test (row_granules unit k)) (sym sum) ∙ none_between first (end - first) (λ at low high. fails at low (omega (arith, high, ordered)))

@@ -1,9 +1,12 @@
 //! Whether a row of a new table may satisfy a condition, as far as that can be told while its totals
 //! are not known to be final.
 
-ghost use Rattle.std.specs.Prelude.{◌≡◌, ◌≤◌, IfOk, IsTrue, length, nat_eq};
+ghost use Rattle.std.specs.Prelude.{List, ◌≡◌, ◌≤◌, IfOk, IsTrue, length, nat_eq};
 ghost use Rattle.std.specs.List.{enumerate_from, list_any};
 ghost use Rattle.bf_base.specs.Lists.{has};
+ghost use Rattle.bf_base.specs.Tables.{cell};
+ghost use Rattle.bf_base.specs.declared.value.Value.{Value};
+ghost use Rattle.bf_tree.specs.Evaluation.{holds_on};
 ghost use Rattle.bf_sql.specs.migrations.Need.{columns_in, columns_in_cond, may_satisfy, total_places};
 ghost use Rattle.bf_sql.specs.migrations.Targets.{is_total};
 ghost use Rattle.bf_tree.specs.Limits.{has_small_arms};
@@ -69,6 +72,27 @@ pub(crate) fn may_be_met(
             may_be_met(alloc, left, totals, row)? && may_be_met(alloc, right, totals, row)?,
         ),
         _ => Ok(is_about(cond, totals) || holds(alloc, cond, row)?),
+    }
+}
+
+/// A condition without the conjuncts that mention a column which a total fills: it holds of the rows
+/// that may satisfy the whole. It is copied, in time and memory linear in the condition.
+///
+/// # Errors
+/// Where memory runs out.
+pub(crate) fn without_totals(alloc: Global, cond: &Cond, totals: &[u8]) -> Result<Cond, Memory>
+    ensures { IfOk result (λ part. (target : Seen) (row : List Value)
+        → total_places target ≡ totals.now
+        → holds_on (cell row) part ≡ may_satisfy cond.now target row) }
+{
+    match cond.node() {
+        Test::And(left, right) => {
+            let left = without_totals(alloc, left, totals)?;
+            let right = without_totals(alloc, right, totals)?;
+            Ok(Cond::of(Test::And(Box::new(alloc, left)?, Box::new(alloc, right)?)))
+        }
+        _ if is_about(cond, totals) => Ok(Cond::of(Test::Always)),
+        _ => cond.copy(alloc),
     }
 }
 

@@ -1,6 +1,7 @@
 //! Which granules of a migration a statement needs moved before it runs.
 #![tactic(auto)]
 
+mod bounds;
 mod condition;
 pub mod cover;
 mod merge;

@@ -43,7 +43,10 @@ impl<'a> Merge<'a> {
     {
         // By their contracts the values of an index rise, and are as many as a usize counts.
         let _ = (self.left.len(), self.right.len());
-        match (self.left.at(self.left_place), self.right.at(self.right_place)) {
+        match (
+            self.left.at(self.left_place),
+            self.right.at(self.right_place),
+        ) {
             (None, None) => None,
             (Some((value, _)), None) => {
                 self.left_place += 1;

@@ -1,20 +1,24 @@
 //! Scans of a migration's granules: all of them, and those that give a row which a condition may pick.
 
-ghost use Rattle.std.specs.Prelude.{◌≡◌, ◌==◌, ◌∷◌, [], ◌++◌, ◌<◌, IfOk, OnOk, Some, filter, length, map};
+ghost use Rattle.std.specs.Prelude.{◌≡◌, ◌==◌, ◌∷◌, [], ◌++◌, ◌<◌, ◌≤◌, ℕ, false, IfOk, IfSome, OnOk, Some, filter, length, map};
 ghost use Rattle.std.specs.List.{list_any};
-ghost use Rattle.bf_sql.specs.migrations.Granules.{granules_of};
-ghost use Rattle.bf_sql.specs.migrations.Need.{giving, may_satisfy, total_places};
+ghost use Rattle.bf_base.specs.declared.granule.Place.TheVariants.{Row as At};
+ghost use Rattle.bf_sql.specs.migrations.Targets.{target_table};
+ghost use Rattle.bf_sql.specs.migrations.Granules.{granule, granules_of};
+ghost use Rattle.bf_sql.specs.migrations.Need.{giving, may_satisfy};
 ghost use Rattle.bf_image.specs.ByValues.{value_of};
 ghost use Rattle.bf_image.specs.Migrations.{IsLawfulMigration, anchors_in, old_of, target_at, value_indexes};
 ghost use Rattle.bf_transpose.specs.InOrder.{values_in};
-ghost use Rattle.bf_transpose.specs.Scans.{IsSearch, gives, granules_in, has_arm, is_sought, row_granules, value_granules, values_indexed};
+ghost use Rattle.bf_transpose.specs.Scans.{IsDriverOf, IsSearch, gives, granules_in, has_arm, is_sought, row_granules, value_granules, values_indexed};
 
-use crate::condition::{may_be_met, total_places};
+use crate::bounds::{range_behind, rows_before, rows_to_end};
+use crate::condition::{total_places, without_totals};
 use crate::merge::Merge;
-use bf_base::{Granule, Memory, Place, Row};
+use bf_base::{Granule, Memory, Place, Row, Table};
+use bf_heap::KeyRange;
 use bf_image::value_indexes::UnitIndex;
-use bf_image::{ByValue, Migration, ValueIndexes, positions, rows_of};
-use bf_tree::{Cond, Unit};
+use bf_image::{ByValue, Frozen, Migration, ValueIndexes, positions, rows_of};
+use bf_tree::{Cond, Unit, UnitKind, holds};
 use std::alloc::Global;
 
 /// Adds the granules of a unit at the first positions, as many as are told.
@@ -133,6 +137,28 @@ fn is_of(unit: &Unit, target: u8) -> bool
     unit.arms.as_slice().iter().any(|(of, _)| *of == target)
 }
 
+/// The old table whose rows a unit goes by; none of a unit that goes by values. It compares about
+/// log n names, and takes no memory.
+fn driver_of(migration: &Migration, unit: u8) -> Option<&Frozen>
+    requires lawful { IsLawfulMigration migration.now }
+    ensures { IfSome result (λ frozen. IsDriverOf migration.now unit frozen.now) }
+{
+    let planned = migration.plan.units.as_slice().get(unit as usize)?;
+    match planned.kind {
+        UnitKind::Rows => migration.source(&planned.driver),
+        UnitKind::Groups | UnitKind::Joins => None,
+    }
+}
+
+/// The table that a target becomes.
+fn table_made(migration: &Migration, target: u8) -> &Table
+    requires lawful { IsLawfulMigration migration.now }
+    requires there { target < length migration.now.plan.migrate.targets }
+    ensures { result.now ≡ target_table (old_of migration.now) (target_at migration.now target) }
+{
+    &migration.plan.tables.as_slice()[target as usize]
+}
+
 /// A search for the granules that give a row of a target which a condition may pick.
 #[derive(Drop)]
 struct Search<'a> {
@@ -140,7 +166,8 @@ struct Search<'a> {
     indexes: &'a ValueIndexes,
     target: u8,
     cond: &'a Cond,
-    totals: &'a [u8],
+    // The keys of a driver's rows from which such rows can come.
+    range: &'a KeyRange,
 }
 
 impl<'a> Search<'a> {
@@ -153,7 +180,7 @@ impl<'a> Search<'a> {
         if of != self.target {
             return Ok(false);
         }
-        may_be_met(alloc, self.cond, self.totals, row)
+        holds(alloc, self.cond, row)
     }
 
     /// Whether one of some rows, each with the number of its target, is sought.
@@ -197,19 +224,36 @@ impl<'a> Search<'a> {
         Ok(())
     }
 
-    /// Adds those granules of a unit that goes by rows.
-    fn add_rows(
-        &self,
-        alloc: Global,
-        unit: u8,
-        granules: &mut Vec<Granule>,
-    ) -> Result<(), Memory>
+    /// Positions, from a first one to before another, outside which the rows of a unit's driver give no
+    /// row that is sought.
+    fn bounds(&self, unit: u8) -> (u32, u32)
+        requires { IsSearch self.now }
+        ensures first { result.0 ≤ anchors_in self.now.migration.now unit }
+        ensures end { result.1 ≤ anchors_in self.now.migration.now unit }
+        ensures before { (at : ℕ) → at < result.0 → gives self.now.migration.now self.now.target
+            self.now.cond.now (granule unit (At at)) ≡ false }
+        ensures behind { (at : ℕ) → result.1 ≤ at → at < anchors_in self.now.migration.now unit
+            → gives self.now.migration.now self.now.target self.now.cond.now
+            (granule unit (At at)) ≡ false }
+    {
+        match driver_of(self.migration, unit) {
+            Some(driver) => (
+                rows_before(&driver.rows, self.range),
+                rows_to_end(&driver.rows, self.range),
+            ),
+            None => (0, positions(self.migration, unit)),
+        }
+    }
+
+    /// Adds those granules of a unit that goes by rows. Only rows whose keys are in the range are tried.
+    fn add_rows(&self, alloc: Global, unit: u8, granules: &mut Vec<Granule>) -> Result<(), Memory>
         requires { IsSearch self.now }
         ensures { OnOk result (granules.new.items ≡ granules.old.items ++ filter
             (gives self.now.migration.now self.now.target self.now.cond.now)
             (row_granules unit (anchors_in self.now.migration.now unit))) }
     {
-        for position in 0..positions(self.migration, unit) {
+        let (first, end) = self.bounds(unit);
+        for position in first..end {
             let place = Place::Row(position);
             self.add(alloc, Granule { unit, place }, granules)?;
         }
@@ -249,12 +293,7 @@ impl<'a> Search<'a> {
     }
 
     /// Adds those granules of a unit. A join's value without a row of FROM gives no row.
-    fn add_unit(
-        &self,
-        alloc: Global,
-        unit: u8,
-        granules: &mut Vec<Granule>,
-    ) -> Result<(), Memory>
+    fn add_unit(&self, alloc: Global, unit: u8, granules: &mut Vec<Granule>) -> Result<(), Memory>
         requires { IsSearch self.now }
         ensures { OnOk result (granules.new.items ≡ granules.old.items ++ filter
             (gives self.now.migration.now self.now.target self.now.cond.now)
@@ -268,11 +307,27 @@ impl<'a> Search<'a> {
             None => self.add_rows(alloc, unit, granules),
         }
     }
+
+    /// The granules that give a row that is sought, in the order of unit and place.
+    fn granules(&self, alloc: Global) -> Result<Vec<Granule>, Memory>
+        requires { IsSearch self.now }
+        ensures { IfOk result (λ granules. granules.items ≡ filter
+            (gives self.now.migration.now self.now.target self.now.cond.now)
+            (granules_of (old_of self.now.migration.now)
+            self.now.migration.now.plan.migrate)) }
+    {
+        let mut granules = Vec::new(alloc);
+        for unit in 0..self.migration.plan.units.len() {
+            self.add_unit(alloc, unit as u8, &mut granules)?;
+        }
+        Ok(granules)
+    }
 }
 
 /// The granules, in the order of unit and place, that give a row of a target which satisfies a
-/// condition, as far as that is known without its totals. It computes the part of each granule of the
-/// units that have an arm of the target.
+/// condition, as far as that is known without its totals. It computes the parts of the granules of
+/// units that have an arm of the target: of a unit that goes by rows only those whose rows have keys
+/// in the range that the condition leaves, which are found by about log n compares.
 ///
 /// # Errors
 /// Where memory runs out.
@@ -292,16 +347,15 @@ pub(crate) fn giving(
 {
     let written = &migration.plan.migrate.targets.as_slice()[target as usize];
     let totals = total_places(alloc, written)?;
+    let cond = without_totals(alloc, cond, &totals)?;
+    let made = table_made(migration, target);
+    let range = range_behind(alloc, made, written.arms.len() > 1, &cond)?;
     let search = Search {
         migration,
         indexes,
         target,
-        cond,
-        totals: &totals,
+        cond: &cond,
+        range: &range,
     };
-    let mut granules = Vec::new(alloc);
-    for unit in 0..migration.plan.units.len() {
-        search.add_unit(alloc, unit as u8, &mut granules)?;
-    }
-    Ok(granules)
+    search.granules(alloc)
 }

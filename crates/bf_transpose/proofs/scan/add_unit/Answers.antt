@@ -1,5 +1,5 @@
 -- Each unit goes by rows, or by values of FROM, with those of JOIN where there is one.
-use Rattle.std.proofs.Common.{◌≡◌, List, ◌++◌, None, Option, Some, map, slice_get, sym, ap, ◌∙◌}
+use Rattle.std.proofs.Common.{◌≡◌, List, ◌++◌, None, Option, Some, slice_get, ap, ◌∙◌}
 use Rattle.std.specs.Option.{option_and_then}
 use Rattle.std.proofs.lemmas.Result.{on_ok_weaker}
 use Rattle.bf_base.specs.declared.granule.Granule.{Granule}

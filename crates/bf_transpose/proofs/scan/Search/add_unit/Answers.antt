@@ -1,5 +1,5 @@
 -- A unit without an arm of the target gives nothing, and any other is gone through.
-use Rattle.std.proofs.Common.{◌≡◌, Bool, false, List, ◌++◌, None, Option, Some, filter, slice_get, sym, ap, ◌∙◌}
+use Rattle.std.proofs.Common.{◌≡◌, false, List, ◌++◌, None, Option, Some, filter, slice_get, sym, ap, ◌∙◌}
 use Rattle.std.specs.Option.{option_and_then}
 use Rattle.std.proofs.lemmas.List.{append-nil}
 use Rattle.std.proofs.lemmas.Result.{on_ok_weaker}
