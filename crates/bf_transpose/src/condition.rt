@@ -1,5 +1,5 @@
-//! Whether a row of a new table may satisfy a condition, as far as that can be told while its totals
-//! are not known to be final.
+//! Whether a row of a new table may satisfy a condition, as far as that can be told without its
+//! totals.
 
 ghost use Rattle.std.specs.Prelude.{List, ◌≡◌, ◌≤◌, IfOk, IsTrue, length, nat_eq};
 ghost use Rattle.std.specs.List.{enumerate_from, list_any};
@@ -75,8 +75,8 @@ pub(crate) fn may_be_met(
     }
 }
 
-/// A condition without the conjuncts that mention a column which a total fills: it holds of the rows
-/// that may satisfy the whole. It is copied, in time and memory linear in the condition.
+/// A condition without the conjuncts that mention a column which a total fills: it holds of the
+/// rows that may satisfy the whole. It is copied, in time and memory linear in the condition.
 ///
 /// # Errors
 /// Where memory runs out.

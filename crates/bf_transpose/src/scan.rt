@@ -1,4 +1,5 @@
-//! Scans of a migration's granules: all of them, and those that give a row which a condition may pick.
+//! Scans of a migration's granules: all of them, and those that give a row which a condition may
+//! pick.
 
 ghost use Rattle.std.specs.Prelude.{◌≡◌, ◌==◌, ◌∷◌, [], ◌++◌, ◌<◌, ◌≤◌, ℕ, false, IfOk, IfSome, OnOk, Some, filter, length, map};
 ghost use Rattle.std.specs.List.{list_any};
@@ -224,8 +225,8 @@ impl<'a> Search<'a> {
         Ok(())
     }
 
-    /// Positions, from a first one to before another, outside which the rows of a unit's driver give no
-    /// row that is sought.
+    /// The positions, from the first number to before the second, outside which the rows that a unit
+    /// goes by give no row that is sought.
     fn bounds(&self, unit: u8) -> (u32, u32)
         requires { IsSearch self.now }
         ensures first { result.0 ≤ anchors_in self.now.migration.now unit }
@@ -245,7 +246,8 @@ impl<'a> Search<'a> {
         }
     }
 
-    /// Adds those granules of a unit that goes by rows. Only rows whose keys are in the range are tried.
+    /// Adds those granules of a unit that goes by rows. Only rows whose keys are in the range are
+    /// tried.
     fn add_rows(&self, alloc: Global, unit: u8, granules: &mut Vec<Granule>) -> Result<(), Memory>
         requires { IsSearch self.now }
         ensures { OnOk result (granules.new.items ≡ granules.old.items ++ filter
