@@ -16,7 +16,7 @@ use Rattle.bf_transpose.proofs.Rising.{above_all, both_first, left_first, right_
 abbrev pub values_from : List Valued → ℕ → List (List Value)
 values_from entries place = map value_of (drop place entries)
 
-pub head_at : (xs : List Valued) (i : ℕ) (e : Valued) → Some e ≡ slice_get xs i → values_from xs i ≡ e.0 ∷ values_from xs (i + 1)
+head_at : (xs : List Valued) (i : ℕ) (e : Valued) → Some e ≡ slice_get xs i → values_from xs i ≡ e.0 ∷ values_from xs (i + 1)
 head_at [] zero e is = absurd cc
 head_at [] (suc i) e is = absurd cc
 head_at (x ∷ xs) zero e is = ap (λ (y : Valued). y.0 ∷ map value_of xs) (sym (same_Some e x is))
@@ -24,7 +24,7 @@ head_at (x ∷ xs) (suc i) e is =
     let next : suc i + 1 ≡ suc (i + 1) = omega arith in
     rw next (head_at xs i e is)
 
-pub none_at : (xs : List Valued) (i : ℕ) → None ≡ slice_get xs i → values_from xs i ≡ []
+none_at : (xs : List Valued) (i : ℕ) → None ≡ slice_get xs i → values_from xs i ≡ []
 none_at [] zero is = refl
 none_at [] (suc i) is = refl
 none_at (x ∷ xs) zero is = absurd cc

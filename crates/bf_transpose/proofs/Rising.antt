@@ -30,21 +30,21 @@ found_itself (z ∷ zs) k = elim (same_key k z) as (λ b. same_key k z ≡ b →
 ] refl
 
 -- lists in order that have the same values are equal
-pub equal_values : (xs ys : Values) → rises key_cmp xs ≡ true → rises key_cmp ys ≡ true → ((k : List Value) → has same_key xs k ≡ has same_key ys k) → xs ≡ ys
+equal_values : (xs ys : Values) → rises key_cmp xs ≡ true → rises key_cmp ys ≡ true → ((k : List Value) → has same_key xs k ≡ has same_key ys k) → xs ≡ ys
 equal_values xs ys p q agree =
     same_from_look_ups key_cmp_total (λ x. x) xs ys (ap (rises key_cmp) (map-id xs) ∙ p) (ap (rises key_cmp) (map-id ys) ∙ q)
     (λ k. found_itself xs k ∙ (ap (λ b. cond b (Some k) None) (agree k) ∙ sym (found_itself ys k)))
 
-pub values_rise : (xs : Values) → rises key_cmp (values_in xs) ≡ true
+values_rise : (xs : Values) → rises key_cmp (values_in xs) ≡ true
 values_rise xs =
     ap (rises key_cmp) (sym (map-id (values_in xs)))
     ∙ in_order-apart key_cmp_total key_cmp-IsAntisymmetric (distinct same_key xs) (distinct-apart same_key (symmetric key_cmp_total) equal itself xs)
 
-pub values_had : (xs : Values) (k : List Value) → has same_key (values_in xs) k ≡ has same_key xs k
+values_had : (xs : Values) (k : List Value) → has same_key (values_in xs) k ≡ has same_key xs k
 values_had = values_in_order-has key_cmp_total key_cmp-IsAntisymmetric
 
 -- what each value of a list passes, one that it has passes
-pub had_passes : (test : List Value → Bool) (xs : Values) (k : List Value) → list_all test xs ≡ true → has same_key xs k ≡ true → test k ≡ true
+had_passes : (test : List Value → Bool) (xs : Values) (k : List Value) → list_all test xs ≡ true → has same_key xs k ≡ true → test k ≡ true
 had_passes test [] k all there = absurd (false≢true there)
 had_passes test (x ∷ xs) k all there = elim (cases_Bool (same_key k x)) [
   | inl is ↦ ap test (equal k x is) ∙ (and_parts _ _ all).0
@@ -56,7 +56,7 @@ first_of v [] each = refl
 first_of v (k ∷ ks) each = each k (or_left _ _ (itself k))
 
 -- the least value comes first, and behind it the others in order
-pub least_first : (v : List Value) (all rest : Values) → list_all (λ k. is_lt (key_cmp v k)) rest ≡ true → ((k : List Value) → has same_key all k ≡ (same_key k v || has same_key rest k)) → v ∷ values_in rest ≡ values_in all
+least_first : (v : List Value) (all rest : Values) → list_all (λ k. is_lt (key_cmp v k)) rest ≡ true → ((k : List Value) → has same_key all k ≡ (same_key k v || has same_key rest k)) → v ∷ values_in rest ≡ values_in all
 least_first v all rest above agree =
     equal_values (v ∷ values_in rest) (values_in all)
     (rises_cons key_cmp_total v (values_in rest) (first_of v (values_in rest) (λ k there. had_passes (λ b. is_lt (key_cmp v b)) rest k above (sym (values_had rest k) ∙ there))) (values_rise rest))

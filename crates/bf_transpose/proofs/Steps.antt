@@ -55,7 +55,7 @@ module _ (unit : ℕ) where
     one_failed n fails = ap (λ b. cond b (granule unit (Row n) ∷ []) []) fails
 
     -- where the positions from one to another fail, they add nothing
-    pub none_between : (first more : ℕ) → ((at : ℕ) → first ≤ at → at < first + more → at_row at ≡ false) → filter test (row_granules unit (first + more)) ≡ filter test (row_granules unit first)
+    none_between : (first more : ℕ) → ((at : ℕ) → first ≤ at → at < first + more → at_row at ≡ false) → filter test (row_granules unit (first + more)) ≡ filter test (row_granules unit first)
     none_between first zero fails = let same : first + zero ≡ first = omega arith in ap (λ n. filter test (row_granules unit n)) same
     none_between first (suc more) fails =
         let next : first + suc more ≡ first + more + 1 = omega arith in

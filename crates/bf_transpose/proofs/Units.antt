@@ -16,7 +16,7 @@ use Rattle.bf_tree.specs.declared.migration.Target.{Target}
 use Rattle.bf_tree.specs.declared.plan.ArmKind.{ArmKind}
 use Rattle.bf_tree.specs.declared.plan.ArmKind.TheVariants.{ByFrom, ByJoin, ByPair, ByGroup}
 use Rattle.bf_sql.specs.Database.{Database, table_rows}
-use Rattle.bf_sql.specs.migrations.Granules.{UnitForm, anchor_values, anchors_of, granule, granules_of, places_in, right_value, rows_unit, values_unit}
+use Rattle.bf_sql.specs.migrations.Granules.{UnitForm, anchor_values, anchors_of, granule, places_in, right_value, rows_unit, values_unit}
 use Rattle.bf_sql.specs.migrations.Images.{rows_of_join}
 use Rattle.bf_sql.specs.migrations.MigrationObjections.{is_by_row}
 use Rattle.bf_sql.specs.migrations.Targets.{arm_kind}
@@ -32,7 +32,7 @@ use Rattle.bf_transpose.specs.Scans.{granules_in, row_granules, value_granules, 
 use Rattle.bf_transpose.proofs.Rising.{in_parts}
 
 -- an index has the values of its rows in order
-pub values_of_index : (vs : List (List Value)) → map value_of (by_value vs) ≡ values_in vs
+values_of_index : (vs : List (List Value)) → map value_of (by_value vs) ≡ values_in vs
 values_of_index vs = map-map value_of (λ (value : List Value). (value, positions_of value vs)) (values_in vs) ∙ map-id (values_in vs)
 
 module _ (m : Migration) where
@@ -165,7 +165,3 @@ module _ (m : Migration) where
           of : (o : Option (List Valued)) → index.join ≡ o → value_granules unit (values_of_both index.from o) ≡ granules_in m unit
           of None is = granules_alone (sym is)
           of (Some joined) is = granules_joined joined is
-
-  -- ALL: nothing is before the first unit
-  pub all_from : granules_from 0 ≡ granules_of (old_of m) m.plan.migrate
-  all_from = refl

@@ -6,7 +6,7 @@ ghost use Rattle.bf_heap.specs.KeyRanges.{is_before, is_behind};
 ghost use Rattle.bf_query.specs.Ranges.{key_range_of};
 ghost use Rattle.bf_transpose.specs.KeysBehind.{passes_at, with_key_behind};
 
-use bf_base::{Key, Memory, Sequence, Table};
+use bf_base::{Memory, Sequence, Table};
 use bf_heap::{FrozenHeap, KeyRange};
 use bf_query::range::key_range;
 use bf_tree::Cond;
