@@ -7,18 +7,12 @@ use Rattle.std.proofs.lemmas.Bool.{and_parts, and_from, cases_Bool}
 use Rattle.std.proofs.lemmas.Cmp.{tied_itself}
 use Rattle.bf_base.specs.Lists.{rises}
 use Rattle.bf_base.proofs.Order.{less_from_test, turned_less, rises_skip, rises_tail}
+use Rattle.bf_image.proofs.items.Lists.{all_kept}
 
 -- each item comes before all behind it
 abbrev pub ascends : {K : Type 0} → (K → K → Ordering) → List K → Bool
 ascends cmp [] = true
 ascends cmp (x ∷ xs) = list_all (λ y. is_lt (cmp x y)) xs && ascends cmp xs
-
-pub all_filtered : {X : Type 0} (test p : X → Bool) (xs : List X) → list_all test xs ≡ true → list_all test (filter p xs) ≡ true
-all_filtered test p [] all = refl
-all_filtered test p (x ∷ xs) all = elim (p x) as (λ b. list_all test (cond b (x ∷ filter p xs) (filter p xs)) ≡ true) [
-  | true ↦ and_from _ _ (and_parts _ _ all).0 (all_filtered test p xs (and_parts _ _ all).1)
-  | false ↦ all_filtered test p xs (and_parts _ _ all).1
-]
 
 -- items that nothing but the first test picks
 either_none : {X : Type 0} (p q : X → Bool) (xs : List X) → filter q xs ≡ [] → filter (λ x. p x || q x) xs ≡ filter p xs
@@ -57,7 +51,7 @@ module _ {K : Type 0} {cmp : K → K → Ordering} (o : IsTotalOrder cmp) where
   -- and comes before one of them that is picked
   behind_first : (q : K → Bool) (x g : K) (xs : List K) → list_all (λ y. is_lt (cmp x y)) xs ≡ true → filter q xs ≡ g ∷ [] → cmp g x ≡ Greater
   behind_first q x g xs all one =
-      let among : list_all (λ y. is_lt (cmp x y)) (g ∷ []) ≡ true = ap (list_all (λ y. is_lt (cmp x y))) (sym one) ∙ all_filtered _ q xs all in
+      let among : list_all (λ y. is_lt (cmp x y)) (g ∷ []) ≡ true = ap (list_all (λ y. is_lt (cmp x y))) (sym one) ∙ all_kept _ q xs all in
       turned_less o x g (less_from_test _ (and_parts _ _ among).0)
 
   module _ (p q : K → Bool) where
@@ -67,7 +61,7 @@ module _ {K : Type 0} {cmp : K → K → Ordering} (o : IsTotalOrder cmp) where
     first_picked : (x : K) (xs : List K) → list_all (λ y. is_lt (cmp x y)) xs ≡ true → filter q xs ≡ [] → (b : Bool)
         → insert_key cmp (cond b (x ∷ filter p xs) (filter p xs)) x ≡ cond (b || true) (x ∷ filter either xs) (filter either xs)
     first_picked x xs all none true = let tied : cmp x x ≡ Equal = tied_itself o x in rw tied (ap (λ zs. x ∷ zs) (sym (either_none p q xs none)))
-    first_picked x xs all none false = before_all x (filter p xs) (all_filtered _ p xs all) ∙ ap (λ zs. x ∷ zs) (sym (either_none p q xs none))
+    first_picked x xs all none false = before_all x (filter p xs) (all_kept _ p xs all) ∙ ap (λ zs. x ∷ zs) (sym (either_none p q xs none))
 
     later_picked : (x g : K) (xs : List K) → cmp g x ≡ Greater → insert_key cmp (filter p xs) g ≡ filter either xs → (b : Bool)
         → insert_key cmp (cond b (x ∷ filter p xs) (filter p xs)) g ≡ cond (b || false) (x ∷ filter either xs) (filter either xs)

@@ -1,2 +1,10 @@
+pub mod Finding
+pub mod Fixed
 pub mod Inserted
+pub mod Keyed
+pub mod Named
+pub mod Numbered
+pub mod Owners
 pub mod Rising
+pub mod Told
+pub mod Unfilled

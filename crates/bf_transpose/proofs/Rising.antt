@@ -19,6 +19,7 @@ use Rattle.bf_tree.specs.declared.migration.Migrate.{Migrate}
 use Rattle.bf_sql.specs.Database.{Database, table_rows}
 use Rattle.bf_sql.specs.migrations.Granules.{UnitForm, rows_unit, values_unit, anchor_values, granule, granules_of, places_in, units_of}
 use Rattle.bf_sql.specs.migrations.Targets.{arm_kind}
+use Rattle.bf_image.proofs.items.Lists.{all_append}
 use Rattle.bf_image.proofs.items.Values.{distinct-apart, in_order-apart, same-equal, same-itself}
 use Rattle.bf_transpose.proofs.Inserted.{ascends}
 
@@ -27,14 +28,10 @@ granule_cmp = granule_order.cmp
 
 -- lists that ascend, the one wholly before the other
 module _ {K : Type 0} (cmp : K → K → Ordering) where
-  all_of_both : (test : K → Bool) (xs ys : List K) → list_all test xs ≡ true → list_all test ys ≡ true → list_all test (xs ++ ys) ≡ true
-  all_of_both test [] ys h g = g
-  all_of_both test (x ∷ xs) ys h g = and_from _ _ (and_parts _ _ h).0 (all_of_both test xs ys (and_parts _ _ h).1 g)
-
   pub ascends-append : (xs ys : List K) → ascends cmp xs ≡ true → ascends cmp ys ≡ true → list_all (λ x. list_all (λ y. is_lt (cmp x y)) ys) xs ≡ true → ascends cmp (xs ++ ys) ≡ true
   ascends-append [] ys h g across = g
   ascends-append (x ∷ xs) ys h g across =
-      and_from _ _ (all_of_both _ xs ys (and_parts _ _ h).0 (and_parts _ _ across).0) (ascends-append xs ys (and_parts _ _ h).1 g (and_parts _ _ across).1)
+      and_from _ _ (all_append _ xs ys (and_parts _ _ h).0 (and_parts _ _ across).0) (ascends-append xs ys (and_parts _ _ h).1 g (and_parts _ _ across).1)
 
 module _ {K : Type 0} {cmp : K → K → Ordering} (o : IsTotalOrder cmp) where
   below_all : (x : K) (xs : List K) → rises cmp (x ∷ xs) ≡ true → list_all (λ y. is_lt (cmp x y)) xs ≡ true
@@ -103,7 +100,7 @@ module _ (old : Database) where
 
     units_above : (later : ℕ) (forms : List UnitForm) → unit < later → list_all (λ g. is_lt (granule_cmp (granule unit p) g)) (granules_from later forms) ≡ true
     units_above later [] h = refl
-    units_above later (form ∷ forms) h = all_of_both granule_cmp _ (map (granule later) (places_in old form)) _ (unit_above later (places_in old form) h) (units_above (later + 1) forms (omega arith))
+    units_above later (form ∷ forms) h = all_append _ (map (granule later) (places_in old form)) _ (unit_above later (places_in old form) h) (units_above (later + 1) forms (omega arith))
 
   across_units : (unit later : ℕ) (ps : List Place) (forms : List UnitForm) → unit < later → list_all (λ g. list_all (λ h. is_lt (granule_cmp g h)) (granules_from later forms)) (map (granule unit) ps) ≡ true
   across_units unit later [] forms h = refl

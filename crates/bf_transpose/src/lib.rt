@@ -1,6 +1,10 @@
 //! Which granules of a migration a statement needs moved before it runs.
 #![tactic(auto)]
 
+mod condition;
 pub mod cover;
+mod owning;
+mod scan;
+mod target;
 
 pub use cover::{Cover, can_need, cover};
