@@ -145,7 +145,7 @@ fn needed(
 ///
 /// # Errors
 /// Where memory runs out.
-pub fn cover(
+pub fn cover_of(
     alloc: Global,
     bound: &Bound,
     migration: Option<(&Migration, &ValueIndexes)>,

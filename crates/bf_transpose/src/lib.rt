@@ -7,4 +7,4 @@ mod owning;
 mod scan;
 mod target;
 
-pub use cover::{Cover, can_need, cover};
+pub use cover::{Cover, can_need, cover_of};
