@@ -3,7 +3,7 @@ use Rattle.std.proofs.Common.{◌≡◌, ℕ, ◌+◌, ◌<◌, ◌≤◌, true,
 use Rattle.std.specs.BTreeSet.{insert_key}
 use Rattle.std.specs.List.{Contains, list_all, list_any}
 use Rattle.std.specs.Option.{option_and_then, option_to_list}
-use Rattle.std.proofs.lemmas.List.{take_all}
+use Rattle.std.proofs.lemmas.Bool.{false≢true}
 use Rattle.bf_base.specs.declared.granule.Granule.{Granule}
 use Rattle.bf_base.specs.declared.table.Table.{Table}
 use Rattle.bf_base.specs.declared.value.Value.{Value}
@@ -33,7 +33,7 @@ use Rattle.bf_transpose.proofs.Rising.{granule_cmp}
 use Rattle.bf_transpose.proofs.Unfilled.{key_unfilled}
 
 pub one_of : {X : Type 0} (o : Option X) → IsSome o → (x : X) × (o ≡ Some x)
-one_of None there = absurd there
+one_of None there = absurd (false≢true there)
 one_of (Some x) there = (x, refl)
 
 module _ (m : Migration) (lawful : IsLawfulMigration m) (table : Table) where

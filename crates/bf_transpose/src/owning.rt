@@ -140,11 +140,11 @@ pub(crate) fn owner_giving(
         ≡ giving (old_of migration.now) migration.now.plan.migrate
         (Some (target_at migration.now target)) (may_satisfy cond.now)) }
 {
-    let mut granules = Vec::new(alloc);
-    if let Some(granule) = owner(alloc, migration, indexes, &table.name, key)? {
-        if gives(alloc, migration, indexes, target, cond, &granule)? {
-            granules.push(granule)?;
-        }
+    let Some(granule) = owner(alloc, migration, indexes, &table.name, key)? else {
+        return Ok(Vec::new(alloc));
+    };
+    if gives(alloc, migration, indexes, target, cond, &granule)? {
+        return Ok(vec![in alloc; granule]?);
     }
-    Ok(granules)
+    Ok(Vec::new(alloc))
 }

@@ -24,6 +24,8 @@ pub(crate) fn target_of(migration: &Migration, table: &Table) -> Option<u8>
         ≡ target_of (old_of migration.now) migration.now.plan.migrate table.now }
     ensures there { IfSome result (λ number. number < length migration.now.plan.migrate.targets) }
 {
-    let place = place_of(migration.plan.tables.as_slice(), table)?;
+    let Some(place) = place_of(migration.plan.tables.as_slice(), table) else {
+        return None;
+    };
     Some(place as u8)
 }
