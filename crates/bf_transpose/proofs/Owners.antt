@@ -1,5 +1,5 @@
 -- The owners of keys of the target that a table is.
-use Rattle.std.proofs.Common.{◌≡◌, ℕ, ◌+◌, ◌<◌, ◌≤◌, true, not, nat_eq, List, [], map, filter, length, take, Option, Some, None, IsSome, get_or, refl, sym, ap, ◌∙◌}
+use Rattle.std.proofs.Common.{◌≡◌, ℕ, ◌+◌, ◌<◌, Bool, true, not, nat_eq, List, [], map, filter, length, take, Option, Some, None, IsSome, get_or, refl, sym, ap, ◌∙◌}
 use Rattle.std.specs.BTreeSet.{insert_key}
 use Rattle.std.specs.List.{Contains, list_all, list_any}
 use Rattle.std.specs.Option.{option_and_then, option_to_list}
@@ -59,15 +59,18 @@ module _ (m : Migration) (lawful : IsLawfulMigration m) (table : Table) where
     owner_named : (key : List Value) → owner_in m table.name key ≡ owner_of old migrate t key
     owner_named key = ap (option_and_then (λ t. owner_of old migrate t key)) (found_by_name old table migrate.targets t names_apart is)
 
+    abbrev pub is_picked : Cond ℕ → Granule → Bool
+    is_picked cond g = list_any (may_satisfy cond t) (part_in old migrate t.name g)
+
     -- the granules with a row that a condition may pick which fixes the key: the key's owner, or none
-    pub owner_picked : (cond : Cond ℕ) (key : List Value) → fixed_key table cond ≡ Some key
-        → filter (λ g. list_any (may_satisfy cond t) (part_in old migrate t.name g)) (option_to_list (owner_in m table.name key)) ≡ giving old migrate (Some t) (may_satisfy cond)
-    owner_picked cond key fixed =
+    pub owner_picked : (cond : Cond ℕ) (key : List Value) → fixed_key table cond ≡ Some key → (owner : Option Granule) → owner ≡ owner_in m table.name key
+        → filter (is_picked cond) (option_to_list owner) ≡ giving old migrate (Some t) (may_satisfy cond)
+    owner_picked cond key fixed owner found =
         let unfilled : list_all (λ place. not (has nat_eq (total_places t) place)) table.key ≡ true =
         ap (list_all (λ place. not (has nat_eq (total_places t) place))) (sym alike) ∙ key_unfilled old t (target_unobjected old migrate lawful.lawful t among) in
         let keyed : (row : List Value) → may_satisfy cond t row ≡ true → same_key key (key_of table row) ≡ true =
         λ row may. ap (same_key key) (key_fixed t row cond may table key unfilled fixed) ∙ key-itself key in
-        ap (λ o. filter (λ g. list_any (may_satisfy cond t) (part_in old migrate t.name g)) (option_to_list o)) (owner_named key)
+        ap (λ o. filter (is_picked cond) (option_to_list o)) (found ∙ owner_named key)
         ∙ sym (owner_alone old migrate t table alike one key (may_satisfy cond t) keyed)
 
   -- the granules that own a key of some tuples

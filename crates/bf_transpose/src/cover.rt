@@ -152,7 +152,7 @@ pub fn cover_of(
 ) -> Result<Cover, Memory>
     requires bound { IsWellBound bound.now.action }
     requires found { IsFound (option_map (λ found. (found.0.now, found.1.now)) migration) }
-    ensures { IfOk result (IsCoverOf (option_map (λ found. found.0.now) migration) bound.now) }
+    ensures { IfOk result (IsCoverOf (option_map (λ found. found.0.now) migration.entry) bound.now) }
 {
     let (number, granules) = match migration {
         Some((migration, indexes)) => (
