@@ -1,12 +1,11 @@
 -- A set of items of a list in order, with one more.
-use Rattle.std.proofs.Common.{◌≡◌, Bool, true, false, ◌&&◌, ◌||◌, cond, List, [], ◌∷◌, ◌++◌, map, filter, Ordering, Less, Equal, Greater, refl, sym, ap, ap₂, ◌∙◌, inl, inr, is_lt}
+use Rattle.std.proofs.Common.{◌≡◌, Bool, true, false, ◌&&◌, ◌||◌, cond, List, [], ◌∷◌, filter, Ordering, Less, Equal, Greater, refl, sym, ap, ◌∙◌, inl, inr, is_lt}
 use Rattle.std.specs.Cmp.{IsTotalOrder}
 use Rattle.std.specs.List.{list_all}
 use Rattle.std.specs.BTreeSet.{insert_key}
-use Rattle.std.proofs.lemmas.Bool.{and_parts, and_from, cases_Bool}
+use Rattle.std.proofs.lemmas.Bool.{and_parts, cases_Bool}
 use Rattle.std.proofs.lemmas.Cmp.{tied_itself}
-use Rattle.bf_base.specs.Lists.{rises}
-use Rattle.bf_base.proofs.Order.{less_from_test, turned_less, rises_skip, rises_tail}
+use Rattle.bf_base.proofs.Order.{less_from_test, turned_less}
 use Rattle.bf_image.proofs.items.Lists.{all_kept}
 
 -- each item comes before all behind it

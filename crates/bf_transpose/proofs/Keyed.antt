@@ -1,7 +1,6 @@
 -- The granules that own one of some keys, key by key; and those with a row that a condition may pick which fixes the key.
-use Rattle.std.proofs.Common.{◌≡◌, ℕ, ◌+◌, ◌<◌, Bool, true, false, ◌||◌, cond, List, [], ◌∷◌, map, filter, length, take, get_or, Option, Some, None, refl, sym, ap, ap₂, ◌∙◌, inl, inr}
+use Rattle.std.proofs.Common.{◌≡◌, ℕ, ◌+◌, ◌<◌, Bool, true, false, ◌||◌, cond, List, [], ◌∷◌, filter, length, take, get_or, Some, None, refl, sym, ap, ap₂, ◌∙◌, inl, inr}
 use Rattle.std.specs.BTreeSet.{insert_key}
-use Rattle.std.specs.Cmp.{IsTotalOrder}
 use Rattle.std.specs.List.{list_any}
 use Rattle.std.specs.Option.{option_to_list}
 use Rattle.std.proofs.lemmas.Bool.{cases_Bool, or_left, or_right}
@@ -21,8 +20,8 @@ use Rattle.bf_sql.specs.migrations.Granules.{granules_of, owner_of, part_in}
 use Rattle.bf_sql.specs.migrations.Need.{has_key_of}
 use Rattle.bf_sql.specs.migrations.Targets.{target_table}
 use Rattle.bf_image.specs.Laws.{owns}
-use Rattle.bf_transpose.proofs.Inserted.{ascends, inserted, none_inserted}
-use Rattle.bf_transpose.proofs.Rising.{granule_cmp, granules_rise}
+use Rattle.bf_transpose.proofs.Inserted.{inserted, none_inserted}
+use Rattle.bf_transpose.proofs.Granules.{granule_cmp, granules_rise}
 
 module _ {X : Type 0} where
   pub any_alike : (p q : X → Bool) → ((x : X) → p x ≡ q x) → (xs : List X) → list_any p xs ≡ list_any q xs

@@ -1,10 +1,10 @@
 pub mod Finding
 pub mod Fixed
+pub mod Granules
 pub mod Inserted
 pub mod Keyed
 pub mod Named
 pub mod Numbered
 pub mod Owners
-pub mod Rising
 pub mod Told
 pub mod Unfilled

@@ -1,9 +1,8 @@
 -- The number of the target that a table is, by where its table stands.
-use Rattle.std.proofs.Common.{◌≡◌, ℕ, ◌<◌, ◌≤◌, List, map, length, Option, Some, None, option_map, sym, ap, ◌∙◌}
+use Rattle.std.proofs.Common.{◌≡◌, ℕ, ◌<◌, length, Some, None, sym, ap, ◌∙◌}
 use Rattle.std.specs.Prelude.{position}
 use Rattle.std.proofs.lemmas.List.Quantifiers.{position-Some}
 use Rattle.bf_base.specs.declared.table.Table.{Table}
-use Rattle.bf_tree.specs.declared.migration.Target.{Target}
 use Rattle.bf_sql.specs.Database.{same_table}
 use Rattle.bf_sql.specs.migrations.Need.{target_of}
 use Rattle.bf_sql.specs.migrations.Targets.{target_table}

@@ -29,7 +29,7 @@ use Rattle.bf_transpose.proofs.Finding.{found_among, found_passes}
 use Rattle.bf_transpose.proofs.Fixed.{key_fixed}
 use Rattle.bf_transpose.proofs.Keyed.{none_yet, nothing_inserted, owner_alone, owner_inserted}
 use Rattle.bf_transpose.proofs.Named.{found_by_name, is_it, keyed_so}
-use Rattle.bf_transpose.proofs.Rising.{granule_cmp}
+use Rattle.bf_transpose.proofs.Granules.{granule_cmp}
 use Rattle.bf_transpose.proofs.Unfilled.{key_unfilled}
 
 pub one_of : {X : Type 0} (o : Option X) → IsSome o → (x : X) × (o ≡ Some x)

@@ -1,5 +1,5 @@
 -- No total fills a column of a new table's key.
-use Rattle.std.proofs.Common.{◌≡◌, ℕ, zero, suc, ◌+◌, ◌<◌, Bool, true, false, not, ◌&&◌, ◌||◌, nat_eq, nat_lt, if◌then◌else◌, List, [], ◌∷◌, map, length, get_or, position, Option, Some, None, is_some, refl, sym, ap, ◌∙◌, inl, inr, arith}
+use Rattle.std.proofs.Common.{◌≡◌, ℕ, zero, suc, ◌+◌, ◌<◌, Bool, true, false, not, ◌&&◌, ◌||◌, nat_eq, nat_lt, if◌then◌else◌, List, [], ◌∷◌, map, length, get_or, position, Option, Some, None, is_some, refl, sym, ap, ◌∙◌, arith}
 use Rattle.std.specs.Prelude.{option_map}
 use Rattle.std.specs.List.{list_all, filter_map, cons_option, enumerate_from}
 use Rattle.std.specs.Option.{option_eq}
@@ -12,10 +12,8 @@ use Rattle.bf_tree.specs.declared.migration.Arm.{Arm}
 use Rattle.bf_tree.specs.declared.migration.Item.{Item}
 use Rattle.bf_tree.specs.declared.migration.Item.TheVariants as item
 use Rattle.bf_tree.specs.declared.migration.Target.{Target}
-use Rattle.bf_tree.specs.declared.raw.Ref.{Ref}
-use Rattle.bf_tree.specs.Trees.{literal, column, negated, plus, minus, times, joined}
 use Rattle.bf_sql.specs.Database.{Database}
-use Rattle.bf_sql.specs.Scopes.{Scope, place_of}
+use Rattle.bf_sql.specs.Scopes.{place_of}
 use Rattle.bf_sql.specs.migrations.MigrationObjections.{is_by_row, keeps_apart, tag_of, target_objections}
 use Rattle.bf_sql.specs.migrations.Need.{total_places}
 use Rattle.bf_sql.specs.migrations.Targets.{arm_kind, arm_key, arm_scope, first_arm, is_total, item_places, key_items, plain_ref, target_table}

@@ -3,9 +3,8 @@ use Rattle.std.specs.List.{list_any}
 use Rattle.std.proofs.lemmas.List.{get_or_default}
 use Rattle.std.proofs.lemmas.Result.{IfOk-weaker}
 use Rattle.bf_tree.specs.declared.migration.Target.{Target}
-use Rattle.bf_sql.specs.migrations.Granules.{part_in}
 use Rattle.bf_sql.specs.migrations.Need.{may_satisfy, total_places}
-use Rattle.bf_image.specs.Migrations.{old_of, target_at}
+use Rattle.bf_image.specs.Migrations.{target_at}
 use Rattle.bf_transpose.proofs.Told.{any_by_number}
 use Rattle.bf_transpose.proofs.owning.gives.Goals as goal
 

@@ -1,5 +1,5 @@
 -- The granules of a migration come in order: units by their numbers, and the places of each as rows or as values.
-use Rattle.std.proofs.Common.{◌≡◌, ℕ, zero, suc, ◌+◌, ◌<◌, ◌≤◌, Bool, true, false, ◌&&◌, List, [], ◌∷◌, ◌++◌, map, map-id, flat_map, length, Ordering, Less, Equal, Greater, refl, sym, ap, ap₂, ◌∙◌, is_lt, nat_cmp, arith}
+use Rattle.std.proofs.Common.{◌≡◌, ℕ, zero, suc, ◌+◌, ◌<◌, true, List, [], ◌∷◌, ◌++◌, map, map-id, flat_map, length, Ordering, Less, Equal, refl, sym, ap, ◌∙◌, is_lt, nat_cmp, arith}
 use Rattle.std.specs.Cmp.{IsTotalOrder, nat_cmp_is}
 use Rattle.std.specs.List.{list_all, enumerate_from, range_with_len}
 use Rattle.std.specs.Ordering.{ordering_then}
