@@ -28,7 +28,7 @@ granule_cmp = granule_order.cmp
 
 -- lists that ascend, the one wholly before the other
 module _ {K : Type 0} (cmp : K → K → Ordering) where
-  pub ascends-append : (xs ys : List K) → ascends cmp xs ≡ true → ascends cmp ys ≡ true → list_all (λ x. list_all (λ y. is_lt (cmp x y)) ys) xs ≡ true → ascends cmp (xs ++ ys) ≡ true
+  ascends-append : (xs ys : List K) → ascends cmp xs ≡ true → ascends cmp ys ≡ true → list_all (λ x. list_all (λ y. is_lt (cmp x y)) ys) xs ≡ true → ascends cmp (xs ++ ys) ≡ true
   ascends-append [] ys h g across = g
   ascends-append (x ∷ xs) ys h g across =
       and_from _ _ (all_append _ xs ys (and_parts _ _ h).0 (and_parts _ _ across).0) (ascends-append xs ys (and_parts _ _ h).1 g (and_parts _ _ across).1)
@@ -38,7 +38,7 @@ module _ {K : Type 0} {cmp : K → K → Ordering} (o : IsTotalOrder cmp) where
   below_all x [] h = refl
   below_all x (y ∷ ys) h = and_from _ _ (and_parts _ _ h).0 (below_all x ys (rises_skip o x y ys h))
 
-  pub ascends_from_rises : (xs : List K) → rises cmp xs ≡ true → ascends cmp xs ≡ true
+  ascends_from_rises : (xs : List K) → rises cmp xs ≡ true → ascends cmp xs ≡ true
   ascends_from_rises [] h = refl
   ascends_from_rises (x ∷ xs) h = and_from _ _ (below_all x xs h) (ascends_from_rises xs (rises_tail o x xs h))
 

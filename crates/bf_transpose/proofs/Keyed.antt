@@ -24,11 +24,11 @@ use Rattle.bf_transpose.proofs.Inserted.{inserted, none_inserted}
 use Rattle.bf_transpose.proofs.Granules.{granule_cmp, granules_rise}
 
 module _ {X : Type 0} where
-  pub any_alike : (p q : X → Bool) → ((x : X) → p x ≡ q x) → (xs : List X) → list_any p xs ≡ list_any q xs
+  any_alike : (p q : X → Bool) → ((x : X) → p x ≡ q x) → (xs : List X) → list_any p xs ≡ list_any q xs
   any_alike p q one [] = refl
   any_alike p q one (x ∷ xs) = ap₂ (λ b c. b || c) (one x) (any_alike p q one xs)
 
-  pub filter_alike : (p q : X → Bool) → ((x : X) → p x ≡ q x) → (xs : List X) → filter p xs ≡ filter q xs
+  filter_alike : (p q : X → Bool) → ((x : X) → p x ≡ q x) → (xs : List X) → filter p xs ≡ filter q xs
   filter_alike p q one [] = refl
   filter_alike p q one (x ∷ xs) = ap₂ (λ b zs. cond b (x ∷ zs) zs) (one x) (filter_alike p q one xs)
 

@@ -17,7 +17,7 @@ module _ (old : Database) (table : Table) where
   abbrev pub has_name : Target → Bool
   has_name t = same_name t.name table.name
 
-  pub named_so : (t : Target) → is_it t ≡ true → has_name t ≡ true
+  named_so : (t : Target) → is_it t ≡ true → has_name t ≡ true
   named_so t it = (and_parts _ _ (and_parts _ _ it).0).0
 
   pub keyed_so : (t : Target) → is_it t ≡ true → (target_table old t).key ≡ table.key

@@ -1,7 +1,6 @@
 -- The number of the target that a table is, by where its table stands.
-use Rattle.std.proofs.Common.{◌≡◌, ℕ, ◌<◌, length, Some, None, sym, ap, ◌∙◌}
+use Rattle.std.proofs.Common.{◌≡◌, ℕ, Some, None, sym, ap, ◌∙◌}
 use Rattle.std.specs.Prelude.{position}
-use Rattle.std.proofs.lemmas.List.Quantifiers.{position-Some}
 use Rattle.bf_base.specs.declared.table.Table.{Table}
 use Rattle.bf_sql.specs.Database.{same_table}
 use Rattle.bf_sql.specs.migrations.Need.{target_of}
@@ -21,9 +20,5 @@ module _ (m : Migration) (lawful : IsLawfulMigration m) (table : Table) where
   pub no_target : None ≡ position (λ made. same_table made table) m.plan.tables → None ≡ target_of (old_of m) m.plan.migrate table
   no_target none = sym (found_nowhere (is_it (old_of m) table) m.plan.migrate.targets (sym own_place ∙ sym none))
 
-  module _ (place : ℕ) (at : Some place ≡ position (λ made. same_table made table) m.plan.tables) where
-    pub its_number : Some (target_at m place) ≡ target_of (old_of m) m.plan.migrate table
-    its_number = sym (found_there (is_it (old_of m) table) m.plan.migrate.targets place _ (sym own_place ∙ sym at))
-
-    pub number_there : place < length m.plan.migrate.targets
-    number_there = (position-Some (is_it (old_of m) table) m.plan.migrate.targets place (target_at m place) (sym own_place ∙ sym at)).0
+  pub its_number : (place : ℕ) → Some place ≡ position (λ made. same_table made table) m.plan.tables → Some (target_at m place) ≡ target_of (old_of m) m.plan.migrate table
+  its_number place at = sym (found_there (is_it (old_of m) table) m.plan.migrate.targets place _ (sym own_place ∙ sym at))

@@ -32,7 +32,7 @@ use Rattle.bf_transpose.proofs.Named.{found_by_name, is_it, keyed_so}
 use Rattle.bf_transpose.proofs.Granules.{granule_cmp}
 use Rattle.bf_transpose.proofs.Unfilled.{key_unfilled}
 
-pub one_of : {X : Type 0} (o : Option X) → IsSome o → (x : X) × (o ≡ Some x)
+one_of : {X : Type 0} (o : Option X) → IsSome o → (x : X) × (o ≡ Some x)
 one_of None there = absurd (false≢true there)
 one_of (Some x) there = (x, refl)
 

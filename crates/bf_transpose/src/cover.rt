@@ -19,8 +19,8 @@ use bf_tree::{Action, Bound, Cond};
 use std::alloc::Global;
 
 /// What a statement needs moved before it runs, in the order of unit and place: the number of the
-/// catalog in which it is bound, the number of the migration, which is 0 where there is none, and the
-/// granules, whether they have moved or not.
+/// catalog in which it is bound, the number of the migration, which is 0 where there is none, and
+/// the granules, whether they have moved or not.
 #[derive(Drop)]
 pub struct Cover {
     pub catalog: u64,
@@ -71,7 +71,8 @@ fn inserted(
     }
 }
 
-/// The granules that a statement with a condition needs: those with a row that the condition may pick.
+/// The granules that a statement with a condition needs: those with a row that the condition may
+/// pick.
 fn picked(
     alloc: Global,
     migration: &Migration,
@@ -139,9 +140,10 @@ fn needed(
     }
 }
 
-/// The cover of a bound statement. A MIGRATE takes time and memory linear in the old rows, an INSERT a
-/// look-up of its owner for each tuple, and a statement whose condition fixes the key of its table one;
-/// any other on a table that the migration makes looks at each granule that can have a row of it.
+/// The cover of a bound statement. A MIGRATE takes time and memory linear in the old rows, an
+/// INSERT a look-up of an owner for each tuple, and a statement whose condition fixes the key of its
+/// table one; any other on a table that the migration makes looks at each granule that can have a
+/// row of it.
 ///
 /// # Errors
 /// Where memory runs out.
@@ -152,7 +154,8 @@ pub fn cover_of(
 ) -> Result<Cover, Memory>
     requires bound { IsWellBound bound.now.action }
     requires found { IsFound (option_map (λ found. (found.0.now, found.1.now)) migration) }
-    ensures { IfOk result (IsCoverOf (option_map (λ found. found.0.now) migration.entry) bound.now) }
+    ensures { IfOk result
+        (IsCoverOf (option_map (λ found. found.0.now) migration.entry) bound.now) }
 {
     let (number, granules) = match migration {
         Some((migration, indexes)) => (

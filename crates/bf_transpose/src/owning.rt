@@ -44,8 +44,8 @@ fn owners_of(
     Ok(owners)
 }
 
-/// The granules that own a key of some rows of a target, in the order of unit and place, each once. For
-/// each row it looks up the key's owner, and compares that with about log n others.
+/// The granules that own a key of some rows of a target, in the order of unit and place, each once.
+/// For each row it looks up the key's owner, and compares that with about log n others.
 ///
 /// # Errors
 /// Where memory runs out.
@@ -116,8 +116,8 @@ fn gives(
     has_picked(alloc, &rows, target, cond, &totals)
 }
 
-/// The granules with a row of a target that a condition may pick which fixes the key: the key's owner,
-/// if it has such a row. It costs what that granule has.
+/// The granules with a row of a target that a condition may pick which fixes the key: the key's
+/// owner, if it has such a row. It costs what that granule has.
 ///
 /// # Errors
 /// Where memory runs out.

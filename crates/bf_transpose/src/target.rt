@@ -16,8 +16,8 @@ fn place_of(tables: &[Table], table: &Table) -> Option<usize>
     tables.iter().position(|made| made == table)
 }
 
-/// The number of the target that a table is, with its name, its columns and its key, and `None` exactly
-/// where it is none. It compares the tables of the targets, and takes no memory.
+/// The number of the target that a table is, with its name, its columns and its key, and `None`
+/// exactly where it is none. It compares the tables of the targets, and takes no memory.
 pub(crate) fn target_of(migration: &Migration, table: &Table) -> Option<u8>
     requires { IsLawfulMigration migration.now }
     ensures target { option_map (target_at migration.now) result
