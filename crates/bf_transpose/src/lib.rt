@@ -5,6 +5,8 @@ mod bounds;
 mod condition;
 pub mod cover;
 mod merge;
+mod owning;
 mod scan;
+mod target;
 
-pub use cover::{Cover, can_need, cover};
+pub use cover::{Cover, can_need, cover_of};
