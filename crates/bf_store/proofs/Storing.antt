@@ -1,5 +1,5 @@
 -- The calls that change a store keep it one.
-use Rattle.std.proofs.Common.{◌≡◌, ℕ, ◌+◌, true, false, not, List, [], ◌∷◌, map, Option, None, Some, ◌<◌, is_some, refl, sym, ap, ◌∙◌}
+use Rattle.std.proofs.Common.{◌≡◌, ℕ, ◌+◌, true, false, List, [], ◌∷◌, map, Option, None, Some, ◌<◌, is_some, refl, sym, ◌∙◌}
 use Rattle.std.specs.Prelude.{◌^◌, IsTrue, SomeIff}
 use Rattle.std.specs.List.{list_all}
 use Rattle.std.specs.Ordering.{eq_by_cmp}
@@ -8,24 +8,23 @@ use Rattle.std.proofs.lemmas.List.Folds.{list_all-map}
 use Rattle.std.proofs.lemmas.Option.{same_Some}
 use Rattle.bf_base.specs.declared.table.Table.{Table}
 use Rattle.bf_base.specs.declared.value.Value.{Value}
-use Rattle.bf_base.specs.Lists.{has, in_order, name_cmp}
+use Rattle.bf_base.specs.Lists.{in_order, name_cmp}
 use Rattle.bf_base.proofs.Apart.{apart_from_rises, are_apart, are_apart-same_items, with_placed-items}
 use Rattle.bf_base.proofs.Items.{mapped}
 use Rattle.bf_base.proofs.Names.{name_cmp_total}
 use Rattle.bf_base.proofs.Order.{list_all-with_placed}
 use Rattle.bf_tree.specs.Limits.{HasNarrowTables, is_narrow}
-use Rattle.bf_tree.specs.declared.catalog.IndexRule.{IndexRule}
 use Rattle.bf_txn.specs.declared.write.Write.{Write}
 use Rattle.bf_sql.specs.Bound.{catalog_of}
 use Rattle.bf_sql.specs.Database.{Database, IsDatabase, Stored, stored_at, stored_in_order, with_tables}
-use Rattle.bf_sql.specs.Meaning.{next_number, with_index}
+use Rattle.bf_sql.specs.Meaning.{next_number}
 use Rattle.bf_live.specs.Live.{committed}
 use Rattle.bf_live.proofs.statements.Seeing.{narrow_seen}
 use Rattle.bf_store.specs.States.{IsOpenLazily}
 use Rattle.bf_store.specs.Stores.{IsStore, lazy_seen}
 use Rattle.bf_store.specs.declared.under_way.UnderWay.{UnderWay}
 use Rattle.bf_store.proofs.Calls.{commit_seen}
-use Rattle.bf_store.proofs.changing.Changing.{with_new_index, with_new_table}
+use Rattle.bf_store.proofs.changing.Changing.{with_new_table}
 use Rattle.bf_store.proofs.coming.Found.{has-stored_at, name_of}
 
 pub commit_keeps_store : (live : Database) (last : Option UnderWay) (records : ℕ) (writes : List Write) → IsStore live last records

@@ -1,5 +1,5 @@
 -- The rows of granules, as writes that put them into the tables of their targets.
-use Rattle.std.specs.Prelude.{List, ◌++◌, map, flat_map, Some, IsTrue}
+use Rattle.std.specs.Prelude.{List, map, flat_map, Some, IsTrue}
 use Rattle.std.specs.List.{list_all}
 use Rattle.bf_base.specs.declared.granule.Granule.{Granule}
 use Rattle.bf_base.specs.declared.value.Value.{Value}

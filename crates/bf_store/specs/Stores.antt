@@ -1,5 +1,5 @@
 -- A STORE as it is seen: the lazy state that it is, and the pass of its last migration.
-use Rattle.std.specs.Prelude.{◌≡◌, ℕ, ◌<◌, ◌^◌, List, length, map, find, not, Option, Some, None, option_map}
+use Rattle.std.specs.Prelude.{◌≡◌, ℕ, ◌<◌, ◌^◌, List, length, find, not, Option, Some, None, option_map}
 use Rattle.boxcar.specs.Table.{Where, Shows}
 use Rattle.bf_base.specs.declared.granule.Granule.{Granule}
 use Rattle.bf_tree.specs.Limits.{HasNarrowTables}

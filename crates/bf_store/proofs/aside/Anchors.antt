@@ -2,15 +2,10 @@
 use Rattle.std.proofs.Common.{◌≡◌, ℕ, ◌+◌, ◌<◌, ◌≤◌, List, [], ◌∷◌, ◌++◌, map, flat_map, find, drop, length, true, Option, Some, None, option_map, unwrap_or, refl, sym, ap, ◌∙◌, add-one, arith, zero, suc}
 use Rattle.std.specs.Prelude.{slice_get}
 use Rattle.std.specs.List.{enumerate_from}
-use Rattle.std.proofs.lemmas.List.{length-map}
 use Rattle.bf_base.specs.declared.granule.Granule.{Granule}
 use Rattle.bf_base.specs.declared.granule.Place.{Place}
 use Rattle.bf_sql.specs.Database.{Database}
 use Rattle.bf_sql.specs.migrations.Granules.{UnitForm, anchors_of, granule}
-use Rattle.bf_image.specs.Migrations.{IsLawfulMigration, units_in}
-use Rattle.bf_image.specs.PlannedUnits.{unit_form}
-use Rattle.bf_image.specs.declared.migration.Migration.{Migration as Kept}
-use Rattle.bf_image.proofs.planning.Units.{units_stand_for}
 use Rattle.bf_store.specs.declared.anchor.Anchor.{Anchor}
 
 -- the anchors of some units, the first of which has a number

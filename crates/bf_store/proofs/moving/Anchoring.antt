@@ -1,8 +1,7 @@
 -- A search by unit and position meets the anchors that are ahead.
-use Rattle.std.proofs.Common.{◌≡◌, ℕ, ◌+◌, ◌<◌, ◌≤◌, get_or, true, false, not, cond, List, [], ◌∷◌, ◌++◌, map, find, drop, length, Option, Some, None, option_map, unwrap_or, refl, sym, ap, ◌∙◌, append-nil, arith}
+use Rattle.std.proofs.Common.{◌≡◌, ℕ, ◌+◌, ◌<◌, ◌≤◌, get_or, true, false, not, cond, List, [], ◌∷◌, ◌++◌, find, drop, length, Option, Some, None, option_map, unwrap_or, refl, sym, ap, ◌∙◌, arith}
 use Rattle.std.specs.Prelude.{slice_get}
-use Rattle.std.specs.List.{enumerate_from}
-use Rattle.std.specs.Option.{option_and_then, option_or}
+use Rattle.std.specs.Option.{option_and_then}
 use Rattle.std.proofs.lemmas.Bool.{not-false}
 use Rattle.std.proofs.lemmas.List.{length-map}
 use Rattle.std.proofs.lemmas.Option.{same_Some, slice_get-get_or, slice_get_past}
@@ -13,11 +12,11 @@ use Rattle.bf_sql.specs.migrations.Lazy.{DoneGranule, Migration, anchored, is_do
 use Rattle.bf_image.specs.Migrations.{IsLawfulMigration, anchored_at, anchors_in, old_of, unit_at, units_in}
 use Rattle.bf_image.specs.PlannedUnits.{unit_form}
 use Rattle.bf_image.specs.declared.migration.Migration.{Migration as Kept}
-use Rattle.bf_image.proofs.planning.Units.{units_few, units_stand_for}
+use Rattle.bf_image.proofs.planning.Units.{units_stand_for}
 use Rattle.bf_store.specs.Anchors.{anchor_of, anchors_ahead, anchors_left, is_open, next_from, unit_anchors}
 use Rattle.bf_store.specs.Stores.{migration_of, next_anchor}
 use Rattle.bf_store.specs.declared.anchor.Anchor.{Anchor}
-use Rattle.bf_store.proofs.moving.Ahead.{Anchored, all_ahead, find-append, find-first, found_in_rest, goes_on_in, next_in_unit, none_ahead, none_in_unit, none_later, unit_ahead}
+use Rattle.bf_store.proofs.moving.Ahead.{Anchored, find-append, find-first, found_in_rest, goes_on_in, next_in_unit, none_ahead, none_in_unit, none_later, unit_ahead}
 
 -- a plan has as many units as its migration, and few
 pub units_counted : (m : Kept) → IsLawfulMigration m → length (units_in m) ≡ length m.plan.units

@@ -1,11 +1,10 @@
 -- The rows that come from granules are put into the live tables by one commit.
-use Rattle.std.proofs.Common.{◌≡◌, ℕ, Bool, true, false, not, ◌&&◌, cond, List, [], ◌∷◌, ◌++◌, map, filter, flat_map, fold, Some, option_map, refl, sym, ap, ap₂, subst, ◌∙◌}
+use Rattle.std.proofs.Common.{◌≡◌, ℕ, Bool, true, false, not, cond, List, [], ◌∷◌, ◌++◌, map, filter, flat_map, fold, Some, option_map, refl, sym, ap, ap₂, ◌∙◌}
 use Rattle.std.specs.List.{All, AllByRecursion, list_all}
 use Rattle.std.proofs.lemmas.Bool.{and_from, and_parts}
 use Rattle.std.proofs.lemmas.List.{map-append}
 use Rattle.std.proofs.lemmas.List.Elements.{filter-append}
 use Rattle.bf_base.specs.declared.granule.Granule.{Granule}
-use Rattle.bf_base.specs.declared.table.Table.{Table}
 use Rattle.bf_base.specs.declared.value.Value.{Value}
 use Rattle.bf_base.specs.Lists.{has, rises, same_key, same_name, with_placed}
 use Rattle.bf_base.specs.Maps.{is_map}
@@ -21,10 +20,10 @@ use Rattle.bf_txn.specs.declared.write.Write.{Write}
 use Rattle.bf_txn.specs.Writes.{with_write}
 use Rattle.bf_sql.specs.Database.{Database, IsDatabase, Stored, is_admitted, is_keyed, is_within}
 use Rattle.bf_sql.specs.migrations.Granules.{granules_of, part_in, part_of, same_granule}
-use Rattle.bf_sql.specs.migrations.Lazy.{LazyState, Migration, is_done, is_on_time, pending, rows_from, with_rows_of}
+use Rattle.bf_sql.specs.migrations.Lazy.{Migration, is_done, is_on_time, pending, rows_from, with_rows_of}
 use Rattle.bf_sql.specs.migrations.Targets.{target_table}
 use Rattle.bf_query.specs.Meanings.{entries_of}
-use Rattle.bf_query.specs.Merged.{HasOwnKey, StandUnderOwnKeys, WritesOwnKey, rows_under}
+use Rattle.bf_query.specs.Merged.{HasOwnKey, WritesOwnKey, rows_under}
 use Rattle.bf_query.proofs.OwnKeys.{by_recursion, each}
 use Rattle.bf_query.proofs.RowsAsEntries.{rows_are}
 use Rattle.bf_image.specs.Sources.{table_under}
@@ -33,8 +32,8 @@ use Rattle.bf_live.specs.Live.{committed, written_to}
 use Rattle.bf_live.proofs.statements.Named.{IsThere, all_there}
 use Rattle.bf_live.proofs.statements.Seeing.{Stands, begun}
 use Rattle.bf_store.specs.Marks.{AreFresh, granules_in}
-use Rattle.bf_store.specs.Puts.{MayMove, put_of, puts_of, with_rows_in}
-use Rattle.bf_store.specs.States.{IsLazy, IsUnderWay, granule_cmp}
+use Rattle.bf_store.specs.Puts.{MayMove, puts_of, with_rows_in}
+use Rattle.bf_store.specs.States.{IsUnderWay}
 use Rattle.bf_store.proofs.Granules.{granule_cmp_total}
 use Rattle.bf_store.proofs.coming.Found.{are_admitted, at_table, each_at_table}
 use Rattle.bf_store.proofs.moving.Moves.{moves_by}

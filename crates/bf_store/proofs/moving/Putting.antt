@@ -1,5 +1,5 @@
 -- Rows with new keys that are put under their keys are placed among those that are there.
-use Rattle.std.proofs.Common.{◌≡◌, ℕ, ◌+◌, Bool, true, false, not, ◌&&◌, cond, if◌then◌else◌, List, [], ◌∷◌, ◌++◌, map, filter, flat_map, fold, length, Some, refl, sym, ap, ap₂, subst, ◌∙◌, is_eq, append_assoc, append-nil}
+use Rattle.std.proofs.Common.{◌≡◌, ℕ, Bool, true, false, cond, if◌then◌else◌, List, [], ◌∷◌, ◌++◌, map, filter, flat_map, fold, length, refl, sym, ap, ap₂, subst, ◌∙◌, is_eq, append_assoc, append-nil}
 use Rattle.std.specs.Prelude.{◌==◌, zip}
 use Rattle.std.specs.List.{All, AllByRecursion, list_all}
 use Rattle.std.proofs.lemmas.Bool.{and_parts, or_parts, not-true, false≢true}
@@ -25,7 +25,7 @@ use Rattle.bf_tree.specs.declared.migration.Target.{Target}
 use Rattle.bf_tree.specs.declared.reply.Refusal.{Refusal}
 use Rattle.bf_tree.specs.declared.reply.Refusal.TheVariants.{DuplicateKey}
 use Rattle.bf_sql.specs.Database.{Database, is_admitted, is_fit, is_within}
-use Rattle.bf_sql.specs.RowObjections.{fit_objections, insert_objections, unfit_objections, unfit_row_objections}
+use Rattle.bf_sql.specs.RowObjections.{fit_objections, insert_objections, unfit_objections}
 use Rattle.bf_txn.specs.declared.write.Write.{Write}
 use Rattle.bf_txn.specs.Writes.{AreWrites, table_key_cmp, table_key_of, with_write}
 use Rattle.bf_sql.specs.migrations.Targets.{target_table}
@@ -33,7 +33,7 @@ use Rattle.bf_store.specs.Puts.{put_of}
 use Rattle.bf_query.specs.Merged.{HasOwnKey, StandUnderOwnKeys, WritesOwnKey, rows_under}
 use Rattle.bf_query.proofs.Binding.{row_within}
 use Rattle.bf_query.proofs.Effects.{others_stay, rows_placed, sorted_with_all, tuple_write}
-use Rattle.bf_query.proofs.OwnKeys.{by_recursion, each, with_one_more}
+use Rattle.bf_query.proofs.OwnKeys.{each, with_one_more}
 
 same_itself : (name : List ℕ) → same_name name name ≡ true
 same_itself name = same_name-tie name name ∙ ap is_eq (tied_itself name_cmp_total name)

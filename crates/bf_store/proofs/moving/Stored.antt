@@ -1,14 +1,12 @@
 -- The states that moves lead to.
-use Rattle.std.proofs.Common.{◌≡◌, ℕ, ◌+◌, ◌<◌, true, false, ◌||◌, not, List, [], ◌∷◌, ◌++◌, map, filter, length, Option, None, Some, option_map, refl, sym, ap, ap₂, subst, ◌∙◌, inl, inr, arith}
+use Rattle.std.proofs.Common.{◌≡◌, ℕ, ◌+◌, ◌<◌, true, false, ◌||◌, not, List, [], ◌∷◌, length, Option, None, Some, option_map, refl, sym, ap, ap₂, subst, ◌∙◌, inl, inr, arith}
 use Rattle.std.specs.Prelude.{filter_map}
 use Rattle.std.specs.List.{list_all}
 use Rattle.std.proofs.lemmas.Bool.{and_from, and_parts, or_right, false≢true, not_from_false, cases_Bool}
-use Rattle.std.proofs.lemmas.List.Folds.{list_all-map}
 use Rattle.std.proofs.lemmas.Simd.{map-map}
 use Rattle.bf_base.specs.declared.granule.Granule.{Granule}
-use Rattle.bf_base.specs.declared.table.Table.{Table}
-use Rattle.bf_base.specs.Lists.{has, rises}
-use Rattle.bf_base.proofs.Apart.{apart-append, apart-filter, are_apart, in_order-rises}
+use Rattle.bf_base.specs.Lists.{has}
+use Rattle.bf_base.proofs.Apart.{apart-append, apart-filter, in_order-rises}
 use Rattle.bf_tree.specs.Limits.{HasNarrowTables, is_narrow}
 use Rattle.bf_sql.specs.Bound.{catalog_of}
 use Rattle.bf_sql.specs.Database.{Database, Stored}
@@ -20,7 +18,7 @@ use Rattle.bf_store.specs.Calls.{IsMoveOf, moved_by}
 use Rattle.bf_store.specs.declared.moved.Moved.{Moved}
 use Rattle.bf_store.specs.Marks.{AreInOrder, granules_in, left_of, marked}
 use Rattle.bf_store.specs.Puts.{MayMove, with_rows_in}
-use Rattle.bf_store.specs.States.{AreGranules, IsLazy, IsUnderWay, by_place, granule_cmp, with_moved}
+use Rattle.bf_store.specs.States.{AreGranules, IsLazy, IsUnderWay, by_place, with_moved}
 use Rattle.bf_store.proofs.Granules.{granule_cmp_total}
 use Rattle.bf_store.specs.Stores.{IsCounted, IsStore, last_seen, lazy_seen, migration_of}
 use Rattle.bf_store.specs.declared.under_way.UnderWay.{UnderWay}

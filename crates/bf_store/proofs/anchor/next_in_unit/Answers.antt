@@ -1,4 +1,4 @@
-use Rattle.std.proofs.Common.{◌≡◌, ◌≤◌, Option, None, Some, false, true, option_map, sym, ap, ◌∙◌, arith}
+use Rattle.std.proofs.Common.{◌≡◌, ◌≤◌, None, Some, false, true, option_map, sym, ap, ◌∙◌, arith}
 use Rattle.bf_sql.specs.migrations.Lazy.{is_done}
 use Rattle.bf_image.specs.Migrations.{anchored_at, anchors_in}
 use Rattle.bf_store.specs.Stores.{migration_of}

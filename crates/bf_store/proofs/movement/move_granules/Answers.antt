@@ -9,7 +9,7 @@ use Rattle.bf_store.specs.Puts.{MayMove}
 use Rattle.bf_store.specs.Stores.{IsStore, last_seen, lazy_seen}
 use Rattle.bf_store.specs.declared.under_way.UnderWay.{UnderWay}
 use Rattle.bf_store.proofs.Storing.{one_more}
-use Rattle.bf_store.proofs.moving.Stored.{may_move, nothing_if, state_then, store_then, unmoved_state}
+use Rattle.bf_store.proofs.moving.Stored.{may_move, nothing_if, store_then, unmoved_state}
 use Rattle.bf_store.proofs.movement.move_granules.Goals as goal
 
 -- a vector is empty where its length is 0

@@ -1,4 +1,4 @@
-use Rattle.std.proofs.Common.{◌≡◌, true, Some, fold, List, [], sym, ap, subst, ◌∙◌}
+use Rattle.std.proofs.Common.{◌≡◌, true, fold, List, [], sym, ap, subst, ◌∙◌}
 use Rattle.std.specs.List.{All}
 use Rattle.bf_base.specs.declared.granule.Granule.{Granule}
 use Rattle.bf_txn.specs.declared.write.Write.{Write}
@@ -11,7 +11,7 @@ use Rattle.bf_live.specs.Live.{committed}
 use Rattle.bf_live.proofs.statements.Seeing.{Stands}
 use Rattle.bf_store.specs.Anchors.{next_from}
 use Rattle.bf_store.specs.Puts.{puts_of, with_rows_in}
-use Rattle.bf_store.specs.Stores.{last_seen, migration_of, next_anchor}
+use Rattle.bf_store.specs.Stores.{last_seen, migration_of}
 use Rattle.bf_store.proofs.Marking.{still_marked}
 use Rattle.bf_store.proofs.moving.Anchoring.{goes_on}
 use Rattle.bf_store.proofs.moving.Put.{committed_puts, moved_database, stand_puts}

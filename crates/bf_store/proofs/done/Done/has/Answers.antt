@@ -1,4 +1,4 @@
-use Rattle.std.proofs.Common.{◌≡◌, is_some, ap, ◌∙◌}
+use Rattle.std.proofs.Common.{is_some, ap, ◌∙◌}
 use Rattle.bf_store.proofs.Marking.{is_some-number_in}
 use Rattle.bf_store.proofs.done.Done.has.Goals as goal
 

@@ -1,4 +1,3 @@
-use Rattle.std.proofs.Common.{refl}
 use Rattle.bf_store.proofs.Storing.{first_store}
 use Rattle.bf_store.proofs.store.Store.of.Goals as goal
 
