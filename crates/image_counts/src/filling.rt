@@ -1,0 +1,70 @@
+//! Tables that are filled with rows.
+
+use anyhow::bail;
+use bf_base::{Name, Row, Sequence, Value};
+use bf_eager::{Eager, is_alone};
+use bf_tree::Statement;
+use std::alloc::Global;
+
+/// How many rows an INSERT has.
+const ROWS_AT_ONCE: u32 = 1_000;
+
+/// Runs a statement as an entry of its own.
+fn run_alone(alloc: Global, eager: &mut Eager, statement: &Statement) -> anyhow::Result<()> {
+    if !is_alone(statement) {
+        bail!("no entry of its own");
+    }
+    let entry = [statement.copy(alloc)?];
+    eager.run_entry(&entry, true)?;
+    Ok(())
+}
+
+/// A row whose x it has with three others.
+fn row(alloc: Global, id: u32) -> anyhow::Result<Row> {
+    let mut values = Vec::with_capacity(alloc, 3)?;
+    values.push(Value::Int(i64::from(id)))?;
+    values.push(Value::Int(i64::from(id / 4)))?;
+    values.push(Value::Int(i64::from(id % 10)))?;
+    Ok(Row::of(values))
+}
+
+/// Rows of the keys from one up to another.
+fn rows(alloc: Global, from: u32, to: u32) -> anyhow::Result<Vec<Row>> {
+    let mut rows = Vec::new(alloc);
+    for id in from..to {
+        rows.push(row(alloc, id)?)?;
+    }
+    Ok(rows)
+}
+
+fn insert(alloc: Global, table: &[u8], from: u32, to: u32) -> anyhow::Result<Statement> {
+    let table = Name::of(alloc, table)?;
+    let tuples = Sequence::of(rows(alloc, from, to)?);
+    Ok(Statement::Insert { table, tuples })
+}
+
+/// Puts rows into a table, whose keys are the numbers below theirs.
+fn fill(alloc: Global, eager: &mut Eager, table: &[u8], rows: u32) -> anyhow::Result<()> {
+    for batch in 0..rows.div_ceil(ROWS_AT_ONCE) {
+        let from = batch.saturating_mul(ROWS_AT_ONCE);
+        let insert = insert(
+            alloc,
+            table,
+            from,
+            rows.min(from.saturating_add(ROWS_AT_ONCE)),
+        )?;
+        run_alone(alloc, eager, &insert)?;
+    }
+    Ok(())
+}
+
+/// The database behind the statements of two tables, a and b, each filled with rows.
+pub fn filled(alloc: Global, tables: &[Statement], rows: u32) -> anyhow::Result<Eager> {
+    let mut eager = Eager::new(alloc);
+    for table in tables {
+        run_alone(alloc, &mut eager, table)?;
+    }
+    fill(alloc, &mut eager, b"a", rows)?;
+    fill(alloc, &mut eager, b"b", rows)?;
+    Ok(eager)
+}
