@@ -5,17 +5,17 @@ use bf_base::{Name, Row, Sequence, Value};
 use bf_eager::{Eager, is_alone};
 use bf_tree::Statement;
 use std::alloc::Global;
+use std::slice;
 
 /// How many rows an INSERT has.
 const ROWS_AT_ONCE: u32 = 1_000;
 
 /// Runs a statement as an entry of its own.
-fn run_alone(alloc: Global, eager: &mut Eager, statement: &Statement) -> anyhow::Result<()> {
+fn run_alone(eager: &mut Eager, statement: &Statement) -> anyhow::Result<()> {
     if !is_alone(statement) {
         bail!("no entry of its own");
     }
-    let entry = [statement.copy(alloc)?];
-    eager.run_entry(&entry, true)?;
+    eager.run_entry(slice::from_ref(statement), true)?;
     Ok(())
 }
 
@@ -53,7 +53,7 @@ fn fill(alloc: Global, eager: &mut Eager, table: &[u8], rows: u32) -> anyhow::Re
             from,
             rows.min(from.saturating_add(ROWS_AT_ONCE)),
         )?;
-        run_alone(alloc, eager, &insert)?;
+        run_alone(eager, &insert)?;
     }
     Ok(())
 }
@@ -62,7 +62,7 @@ fn fill(alloc: Global, eager: &mut Eager, table: &[u8], rows: u32) -> anyhow::Re
 pub fn filled(alloc: Global, tables: &[Statement], rows: u32) -> anyhow::Result<Eager> {
     let mut eager = Eager::new(alloc);
     for table in tables {
-        run_alone(alloc, &mut eager, table)?;
+        run_alone(&mut eager, table)?;
     }
     fill(alloc, &mut eager, b"a", rows)?;
     fill(alloc, &mut eager, b"b", rows)?;
