@@ -6,6 +6,7 @@ ghost use Rattle.bf_image.specs.Migrations.{IsLawfulMigration};
 use crate::filling::filled;
 use crate::kinds::{Kind, query};
 use anyhow::bail;
+use bf_base::Memory;
 use bf_eager::{Eager, is_narrow};
 use bf_image::Migration;
 use bf_parse::script;
@@ -17,7 +18,7 @@ CREATE TABLE a (id INT, x INT, y INT CHECK (y BETWEEN 0 AND 9), PRIMARY KEY (id)
 CREATE TABLE b (id INT, x INT, y INT, PRIMARY KEY (id)); ";
 
 /// The script of the two tables and of the MIGRATE.
-fn text(alloc: Global, kind: Kind) -> anyhow::Result<String> {
+fn text(alloc: Global, kind: Kind) -> Result<String, Memory> {
     let mut text = String::new(alloc);
     text.push_str(TABLES)?;
     text.push_str("MIGRATE (CREATE TABLE t AS ")?;

@@ -1,7 +1,7 @@
 //! Tables that are filled with rows.
 
 use anyhow::bail;
-use bf_base::{Name, Row, Sequence, Value};
+use bf_base::{Memory, Name, Row, Sequence, Value};
 use bf_eager::{Eager, is_alone};
 use bf_tree::Statement;
 use std::alloc::Global;
@@ -20,16 +20,17 @@ fn run_alone(eager: &mut Eager, statement: &Statement) -> anyhow::Result<()> {
 }
 
 /// A row whose x it has with three others.
-fn row(alloc: Global, id: u32) -> anyhow::Result<Row> {
-    let mut values = Vec::with_capacity(alloc, 3)?;
-    values.push(Value::Int(i64::from(id)))?;
-    values.push(Value::Int(i64::from(id / 4)))?;
-    values.push(Value::Int(i64::from(id % 10)))?;
+fn row(alloc: Global, id: u32) -> Result<Row, Memory> {
+    let values = vec![in alloc;
+        Value::Int(i64::from(id)),
+        Value::Int(i64::from(id / 4)),
+        Value::Int(i64::from(id % 10)),
+    ]?;
     Ok(Row::of(values))
 }
 
 /// Rows of the keys from one up to another.
-fn rows(alloc: Global, from: u32, to: u32) -> anyhow::Result<Vec<Row>> {
+fn rows(alloc: Global, from: u32, to: u32) -> Result<Vec<Row>, Memory> {
     let mut rows = Vec::new(alloc);
     for id in from..to {
         rows.push(row(alloc, id)?)?;
@@ -37,34 +38,41 @@ fn rows(alloc: Global, from: u32, to: u32) -> anyhow::Result<Vec<Row>> {
     Ok(rows)
 }
 
-fn insert(alloc: Global, table: &[u8], from: u32, to: u32) -> anyhow::Result<Statement> {
-    let table = Name::of(alloc, table)?;
+fn insert(alloc: Global, table: &Name, from: u32, to: u32) -> Result<Statement, Memory> {
+    let table = table.copy(alloc)?;
     let tuples = Sequence::of(rows(alloc, from, to)?);
     Ok(Statement::Insert { table, tuples })
 }
 
 /// Puts rows into a table, whose keys are the numbers below theirs.
-fn fill(alloc: Global, eager: &mut Eager, table: &[u8], rows: u32) -> anyhow::Result<()> {
+fn fill(alloc: Global, eager: &mut Eager, table: &Name, rows: u32) -> anyhow::Result<()> {
     for batch in 0..rows.div_ceil(ROWS_AT_ONCE) {
         let from = batch.saturating_mul(ROWS_AT_ONCE);
-        let insert = insert(
-            alloc,
-            table,
-            from,
-            rows.min(from.saturating_add(ROWS_AT_ONCE)),
-        )?;
+        let to = rows.min(from.saturating_add(ROWS_AT_ONCE));
+        let insert = insert(alloc, table, from, to)?;
         run_alone(eager, &insert)?;
     }
     Ok(())
 }
 
+/// The database behind statements.
+fn eager_behind(alloc: Global, statements: &[Statement]) -> anyhow::Result<Eager> {
+    let mut eager = Eager::new(alloc);
+    for statement in statements {
+        run_alone(&mut eager, statement)?;
+    }
+    Ok(eager)
+}
+
+fn fill_named(alloc: Global, eager: &mut Eager, table: &[u8], rows: u32) -> anyhow::Result<()> {
+    let table = Name::of(alloc, table)?;
+    fill(alloc, eager, &table, rows)
+}
+
 /// The database behind the statements of two tables, a and b, each filled with rows.
 pub fn filled(alloc: Global, tables: &[Statement], rows: u32) -> anyhow::Result<Eager> {
-    let mut eager = Eager::new(alloc);
-    for table in tables {
-        run_alone(&mut eager, table)?;
-    }
-    fill(alloc, &mut eager, b"a", rows)?;
-    fill(alloc, &mut eager, b"b", rows)?;
+    let mut eager = eager_behind(alloc, tables)?;
+    fill_named(alloc, &mut eager, b"a", rows)?;
+    fill_named(alloc, &mut eager, b"b", rows)?;
     Ok(eager)
 }

@@ -1,6 +1,6 @@
 //! What a new table is made of, and its keys.
 
-use bf_base::{Key, Value};
+use bf_base::{Key, Memory, Value};
 use std::alloc::Global;
 
 /// What a new table is made of.
@@ -37,10 +37,9 @@ pub fn query(kind: Kind) -> &'static str {
 }
 
 /// The key of the new row that comes from a row of a.
-pub fn key(alloc: Global, kind: Kind, id: u32) -> anyhow::Result<Key> {
-    let mut values = Vec::new(alloc);
+pub fn key(alloc: Global, kind: Kind, id: u32) -> Result<Key, Memory> {
     let first = if kind == Kind::Totals { id / 4 } else { id };
-    values.push(Value::Int(i64::from(first)))?;
+    let mut values = vec![in alloc; Value::Int(i64::from(first))]?;
     if kind == Kind::Pairs {
         values.push(Value::Int(i64::from(id)))?;
     }
