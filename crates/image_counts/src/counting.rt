@@ -30,9 +30,8 @@ fn next(seed: u32) -> u32 {
     seed.wrapping_mul(1_664_525).wrapping_add(1_013_904_223)
 }
 
-/// Finds the owner of each of some keys of a table, and counts the rows of its granule; `None` where a
-/// key has no owner.
-pub fn count(
+/// What `count` answers, for the table of a name.
+fn count_in(
     alloc: Global,
     kind: Kind,
     migration: &Migration,
@@ -54,4 +53,19 @@ pub fn count(
         count = count.saturating_add(more);
     }
     Ok(Some(count))
+}
+
+/// Finds the owner of each of some keys of the new table, and counts the rows of its granule; `None`
+/// where a key has no owner.
+pub fn count(
+    alloc: Global,
+    kind: Kind,
+    migration: &Migration,
+    rows: u32,
+    calls: u32,
+) -> Result<Option<usize>, Memory>
+    requires { IsLawfulMigration migration.now }
+{
+    let table = Name::of(alloc, b"t")?;
+    count_in(alloc, kind, migration, &table, rows, calls)
 }

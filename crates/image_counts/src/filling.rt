@@ -44,13 +44,18 @@ fn insert(alloc: Global, table: &Name, from: u32, to: u32) -> Result<Statement, 
     Ok(Statement::Insert { table, tuples })
 }
 
+/// Puts rows of the keys from one up to another into a table.
+fn put(alloc: Global, eager: &mut Eager, table: &Name, from: u32, to: u32) -> anyhow::Result<()> {
+    let insert = insert(alloc, table, from, to)?;
+    run_alone(eager, &insert)
+}
+
 /// Puts rows into a table, whose keys are the numbers below theirs.
 fn fill(alloc: Global, eager: &mut Eager, table: &Name, rows: u32) -> anyhow::Result<()> {
     for batch in 0..rows.div_ceil(ROWS_AT_ONCE) {
         let from = batch.saturating_mul(ROWS_AT_ONCE);
         let to = rows.min(from.saturating_add(ROWS_AT_ONCE));
-        let insert = insert(alloc, table, from, to)?;
-        run_alone(eager, &insert)?;
+        put(alloc, eager, table, from, to)?;
     }
     Ok(())
 }
@@ -69,10 +74,14 @@ fn fill_named(alloc: Global, eager: &mut Eager, table: &[u8], rows: u32) -> anyh
     fill(alloc, eager, &table, rows)
 }
 
+fn fill_both(alloc: Global, eager: &mut Eager, rows: u32) -> anyhow::Result<()> {
+    fill_named(alloc, eager, b"a", rows)?;
+    fill_named(alloc, eager, b"b", rows)
+}
+
 /// The database behind the statements of two tables, a and b, each filled with rows.
 pub fn filled(alloc: Global, tables: &[Statement], rows: u32) -> anyhow::Result<Eager> {
     let mut eager = eager_behind(alloc, tables)?;
-    fill_named(alloc, &mut eager, b"a", rows)?;
-    fill_named(alloc, &mut eager, b"b", rows)?;
+    fill_both(alloc, &mut eager, rows)?;
     Ok(eager)
 }

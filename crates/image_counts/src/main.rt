@@ -11,7 +11,6 @@ mod kinds;
 
 use anyhow::{Context, bail};
 use beginning::migration_of;
-use bf_base::Name;
 use counting::count;
 use kinds::{Kind, kind_named};
 use std::alloc::Global;
@@ -19,8 +18,7 @@ use std::env;
 
 fn run(alloc: Global, kind: Kind, rows: u32, calls: u32) -> anyhow::Result<usize> {
     let migration = migration_of(alloc, kind, rows)?;
-    let table = Name::of(alloc, b"t")?;
-    count(alloc, kind, &migration, &table, rows, calls)?.context("a key has no owner")
+    count(alloc, kind, &migration, rows, calls)?.context("a key has no owner")
 }
 
 /// What is found as the words ask for it.
