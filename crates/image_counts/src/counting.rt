@@ -63,9 +63,9 @@ pub fn count(
     migration: &Migration,
     rows: u32,
     calls: u32,
-) -> Result<Option<usize>, Memory>
+) -> anyhow::Result<Option<usize>>
     requires { IsLawfulMigration migration.now }
 {
     let table = Name::of(alloc, b"t")?;
-    count_in(alloc, kind, migration, &table, rows, calls)
+    Ok(count_in(alloc, kind, migration, &table, rows, calls)?)
 }
