@@ -7,5 +7,3 @@ mod entries;
 mod naive;
 #[cfg(test)]
 mod random;
-#[cfg(test)]
-mod registries;
