@@ -1,7 +1,9 @@
 -- Marks are made in a map by granule, and taken back.
-use Rattle.std.proofs.Common.{◌≡◌, ℕ, ◌+◌, ◌<◌, Bool, true, false, not, cond, List, [], ◌∷◌, ◌++◌, map, filter, find, take, drop, length, suc, ◌&&◌, ◌||◌, get_or, Less, Equal, Greater, Some, None, option_map, is_eq, is_lt, refl, sym, ap, ap₂, ◌∙◌, inl, inr, append_assoc, take-append-drop, drop-cons}
+use Rattle.std.proofs.Common.{◌≡◌, ℕ, ◌+◌, ◌<◌, Bool, true, false, not, cond, List, [], ◌∷◌, ◌++◌, map, filter, find, take, drop, length, suc, ◌&&◌, ◌||◌, get_or, Less, Equal, Greater, Option, Some, None, option_map, is_eq, is_lt, is_some, refl, sym, ap, ap₂, ◌∙◌, inl, inr, append_assoc, take-append-drop, drop-cons}
 use Rattle.std.specs.BTreeMap.{insert_entry, is_at}
-use Rattle.std.specs.List.{list_any, list_all}
+use Rattle.std.specs.Prelude.{filter_map}
+use Rattle.std.specs.List.{cons_option, list_any, list_all}
+use Rattle.std.specs.Option.{option_to_list}
 use Rattle.std.specs.List.Sorted.{IsStrictlySortedBy}
 use Rattle.std.specs.Map.{keys_of, lookup, remove_entry}
 use Rattle.std.specs.Ordering.{match_ordering}
@@ -19,7 +21,7 @@ use Rattle.bf_base.proofs.Parts.{filter_all, filter-filter}
 use Rattle.bf_sql.specs.migrations.Granules.{same_granule}
 use Rattle.bf_sql.specs.migrations.Lazy.{DoneGranule, done_by}
 use Rattle.bf_txn.proofs.KeyWrites.{rises_from_sorted}
-use Rattle.bf_store.specs.Marks.{AreFresh, granules_in, marked, number_in, unmarked, with_mark}
+use Rattle.bf_store.specs.Marks.{AreFresh, granules_in, marked, number_in, numbered_of, unmarked, with_mark}
 use Rattle.bf_store.specs.States.{granule_cmp}
 use Rattle.bf_store.proofs.Granules.{granule_cmp_total, granule_ties}
 
@@ -101,7 +103,7 @@ marked_more done gs g n =
 has_seen : (ds : List DoneGranule) (g : Granule) → has same_granule (granules_in ds) g ≡ list_any (λ d. same_granule g d.granule) ds
 has_seen ds g = list_any-map (same_granule g) granule_of ds
 
-has_marked : (done : List DoneGranule) (gs : List Granule) (g : Granule) (n : ℕ) → has same_granule (granules_in (marked done gs n)) g ≡ has same_granule (granules_in done ++ gs) g
+pub has_marked : (done : List DoneGranule) (gs : List Granule) (g : Granule) (n : ℕ) → has same_granule (granules_in (marked done gs n)) g ≡ has same_granule (granules_in done ++ gs) g
 has_marked done gs g n =
     let test : DoneGranule → Bool = λ d. same_granule g d.granule in
     has_seen (marked done gs n) g
@@ -142,6 +144,19 @@ module _ (done : List DoneGranule) (gs : List Granule) (fresh : AreFresh done gs
   fresh_first i =
       apart_left same_granule (granules_in done ++ take i gs) (drop i gs)
       (ap (are_apart same_granule) (append_assoc (granules_in done) (take i gs) (drop i gs) ∙ ap (λ hs. granules_in done ++ hs) (take-append-drop i gs)) ∙ fresh)
+
+-- a granule has a number where it is there
+pub is_some-number_in : (done : List DoneGranule) (g : Granule) → is_some (number_in done g) ≡ has same_granule (granules_in done) g
+is_some-number_in [] g = refl
+is_some-number_in (d ∷ done) g = elim (same_granule d.granule g) as (λ b. is_some (option_map (λ (d : DoneGranule). d.number) (cond b (Some d) (find (λ d. same_granule d.granule g) done))) ≡ (b || has same_granule (granules_in done) g)) [
+  | true ↦ refl
+  | false ↦ is_some-number_in done g
+]
+    ∙ ap (λ b. b || has same_granule (granules_in done) g) (same_back d.granule g)
+
+-- what was there is still there
+pub still_marked : (done : List DoneGranule) (gs : List Granule) (n : ℕ) (g : Granule) → has same_granule (granules_in done) g ≡ true → has same_granule (granules_in (marked done gs n)) g ≡ true
+still_marked done gs n g there = has_marked done gs g n ∙ list_any-append (same_granule g) (granules_in done) gs ∙ ap (λ b. b || has same_granule gs g) there
 
 -- what is marked is taken back
 all_named : (gs hs : List Granule) (n : ℕ) → ((g : Granule) → has same_granule hs g ≡ true → has same_granule gs g ≡ true) → list_any (λ d. not (has same_granule gs d.granule)) (map (done_by n) hs) ≡ false
@@ -188,3 +203,24 @@ unmarked_none done = filter_all (λ d. true) done (always done)
 
 pub marked_none : (done : List DoneGranule) → rises granule_cmp (granules_in done) ≡ true → (n : ℕ) → marked done [] n ≡ done
 marked_none done sorted n = ap (in_order granule_cmp granule_of) (append-nil done) ∙ in_order-rises granule_cmp_total granule_of done sorted
+
+alone : (o : Option (Granule × ℕ)) → cons_option o [] ≡ option_to_list o
+alone None = refl
+alone (Some x) = refl
+
+further : (o : Option (Granule × ℕ)) (xs ys : List (Granule × ℕ)) → cons_option o (xs ++ ys) ≡ cons_option o xs ++ ys
+further None xs ys = refl
+further (Some x) xs ys = refl
+
+-- those with numbers, with one more granule
+pub numbered_more : (done : List DoneGranule) (gs : List Granule) (i : ℕ) (g : Granule) → i < length gs → g ≡ get_or gs i g
+    → numbered_of done (take (i + 1) gs) ≡ numbered_of done (take i gs) ++ option_to_list (option_map (λ n. (g, n)) (number_in done g))
+numbered_more done gs i g in_range is =
+    ap (numbered_of done) (take_more gs i g in_range ∙ ap (λ (h : Granule). take i gs ++ h ∷ []) (sym is)) ∙ behind (take i gs)
+  where
+    found : Granule → Option (Granule × ℕ)
+    found h = option_map (λ n. (h, n)) (number_in done h)
+
+    behind : (hs : List Granule) → filter_map found (hs ++ g ∷ []) ≡ filter_map found hs ++ option_to_list (found g)
+    behind [] = alone (found g)
+    behind (h ∷ hs) = ap (cons_option (found h)) (behind hs) ∙ further (found h) (filter_map found hs) (option_to_list (found g))

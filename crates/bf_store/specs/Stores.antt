@@ -1,5 +1,5 @@
 -- A STORE as it is seen: the lazy state that it is, and the pass of its last migration.
-use Rattle.std.specs.Prelude.{◌≡◌, ℕ, ◌<◌, ◌^◌, List, length, map, find, not, Option, Some, None, option_map}
+use Rattle.std.specs.Prelude.{◌≡◌, ℕ, ◌<◌, ◌^◌, List, length, find, not, Option, Some, None, option_map}
 use Rattle.boxcar.specs.Table.{Where, Shows}
 use Rattle.bf_base.specs.declared.granule.Granule.{Granule}
 use Rattle.bf_tree.specs.Limits.{HasNarrowTables}
@@ -37,6 +37,7 @@ next_anchor last = option_map (λ (a : Granule × ℕ). record { unit = (a.0).un
 
 -- what is true of a migration under way
 pub record IsCounted (u : UnderWay) : Type 0 where
+  pub numbered : u.number ≡ u.pass.value.number
   pub next : u.next ≡ next_anchor (last_seen u)
   pub few : length u.done < 2 ^ 32
 

@@ -4,15 +4,15 @@ ghost use Rattle.std.specs.Prelude.{◌≡◌, [], IfOk, OnErr, OnOk, false, len
 ghost use Rattle.bf_base.specs.Lists.{has};
 ghost use Rattle.bf_sql.specs.migrations.Granules.{same_granule};
 ghost use Rattle.bf_sql.specs.migrations.Lazy.{done_by};
-ghost use Rattle.bf_store.specs.Marks.{AreFresh, AreInOrder, granules_in, marked, number_in, unmarked, with_mark};
+ghost use Rattle.bf_store.specs.Marks.{AreFresh, AreInOrder, granules_in, left_of, marked, number_in, numbered_of, unmarked, with_mark};
 
 use bf_base::{Granule, Memory};
 use std::alloc::Global;
 use std::collections::BTreeMap;
 use std::marker::Model;
 
-/// For each granule that has moved, the number of the record that moved it. Contracts see them in the
-/// order of unit and place.
+/// For each granule that has moved, the number of the record that moved it. Contracts see them in
+/// the order of unit and place.
 #[derive(Drop)]
 pub struct Done {
     numbers: BTreeMap<Granule, u64>,
@@ -50,12 +50,56 @@ impl Done {
         self.numbers.get(granule).copied()
     }
 
+    /// Whether a granule has moved. It compares about log n granules, and takes no memory.
+    pub fn has(&self, granule: &Granule) -> bool
+        ensures { result ≡ has same_granule (granules_in self.now) granule.now }
+    {
+        self.number(granule).is_some()
+    }
+
     /// How many granules have moved. Takes no memory.
     pub fn len(&self) -> usize
         ensures len { result ≡ length self.now }
         ensures ordered { AreInOrder self.now }
     {
         self.numbers.len()
+    }
+
+    /// Those of some granules that have not moved. For each it compares about log n granules.
+    ///
+    /// # Errors
+    /// Where memory runs out.
+    pub fn left(&self, alloc: Global, granules: &[Granule]) -> Result<Vec<Granule>, Memory>
+        ensures { IfOk result (λ left. left.items ≡ left_of self.now granules.now) }
+    {
+        let mut left = Vec::new(alloc);
+        for granule in granules {
+            if !self.has(granule) {
+                left.push(granule.copy(alloc)?)?;
+            }
+        }
+        Ok(left)
+    }
+
+    /// Those of some granules that have moved, each with the number of its record. For each it
+    /// compares about log n granules.
+    ///
+    /// # Errors
+    /// Where memory runs out.
+    pub fn numbered(
+        &self,
+        alloc: Global,
+        granules: &[Granule],
+    ) -> Result<Vec<(Granule, u64)>, Memory>
+        ensures { IfOk result (λ found. found.items ≡ numbered_of self.now granules.now) }
+    {
+        let mut found = Vec::new(alloc);
+        for granule in granules {
+            if let Some(number) = self.number(granule) {
+                found.push((granule.copy(alloc)?, number))?;
+            }
+        }
+        Ok(found)
     }
 
     /// Notes that one record has moved a granule, which had not moved.
@@ -92,8 +136,8 @@ impl Done {
         Ok(())
     }
 
-    /// Takes back that granules have moved. For each it compares about log n granules, and it takes no
-    /// memory.
+    /// Takes back that granules have moved. For each it compares about log n granules, and it takes
+    /// no memory.
     pub fn unmark(&mut self, granules: &[Granule])
         ensures { self.new ≡ unmarked self.old granules.now }
     {

@@ -1,10 +1,13 @@
-//! The lazy store: live tables into which the rows of a migration move late, and the laws of such states.
+//! The lazy store: live tables into which the rows of a migration move late, and the laws of such
+//! states.
 #![tactic(auto)]
 
 mod anchor;
 mod done;
+mod flip;
 pub mod laws;
 pub mod moved;
+mod movement;
 pub mod store;
 mod under_way;
 

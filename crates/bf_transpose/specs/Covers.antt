@@ -1,5 +1,5 @@
 -- COVERS: the granules that a bound statement needs moved.
-use Rattle.std.specs.Prelude.{◌≡◌, ℕ, Bool, true, List, [], Option, Some, None, is_some}
+use Rattle.std.specs.Prelude.{◌≡◌, Bool, true, false, List, [], Option, Some, None, is_some}
 use Rattle.std.specs.Option.{option_map_or}
 use Rattle.bf_base.specs.declared.granule.Granule.{Granule}
 use Rattle.bf_tree.specs.declared.bound.Action.{Action}

@@ -9,14 +9,16 @@ use Rattle.bf_sql.specs.migrations.Images.{flipped}
 use Rattle.bf_sql.specs.migrations.Lazy.{LazyState, pending_of, view_of}
 use Rattle.bf_sql.specs.migrations.MigrationObjections.{sources_of}
 use Rattle.bf_image.specs.Laws.{IsLawful}
+use Rattle.bf_image.proofs.items.Lists.{none_left, none_right}
 use Rattle.bf_image.proofs.keeping.Frozen.{frozen_same, frozen_lawful}
 use Rattle.bf_image.proofs.keeping.SameTables.{is_inside, target_table_same}
 use Rattle.bf_image.proofs.keeping.Sources.{arms_inside_sources, tables_same, images_same}
+use Rattle.bf_store.specs.Calls.{MayFlip}
 use Rattle.bf_store.specs.States.{IsLazy, IsSeenAs, frozen_lazily, set_aside}
 use Rattle.bf_store.proofs.changing.Flipping.{IsSameTarget, flips_keeping}
 
 -- the old tables set aside are a database, over which the migration is lawful
-aside_lawful : (db : Database) (m : Migrate) → IsLawful db m → IsLawful (set_aside db m) m
+pub aside_lawful : (db : Database) (m : Migrate) → IsLawful db m → IsLawful (set_aside db m) m
 aside_lawful db m lawful =
     let kept = frozen_lawful db m lawful in
     record {
@@ -47,6 +49,10 @@ same_kept db m = each m.targets (arms_inside_sources m)
           image = images_same (set_aside db m) db (sources_of m) (frozen_same db m) t.arms inside;
         } in
         (here, each ts (and_parts _ _ all).1)
+
+-- what may flip is lawful
+pub flip_lawful : (lazy : LazyState) (m : Migrate) → IsLazy lazy → MayFlip lazy m → IsLawful lazy.live m
+flip_lawful lazy m is may = record { database = is.live; unobjected = none_left _ _ may.unrefused; few = none_right _ _ may.unrefused }
 
 pub flips_frozen : (lazy : LazyState) (m : Migrate) → IsLazy lazy → pending_of lazy.last ≡ [] → IsLawful lazy.live m
     → IsSeenAs (flipped (view_of lazy) m) (frozen_lazily lazy m)

@@ -1,6 +1,6 @@
 -- Granules move, and those that have moved are kept in the order of unit and place.
-use Rattle.std.proofs.Common.{◌≡◌, ℕ, Bool, not, true, List, [], map, Option, Some, None, option_map, is_eq, refl, sym, ap, ap₂, subst, ◌∙◌}
-use Rattle.std.specs.List.{list_all, list_any, AllByRecursion}
+use Rattle.std.proofs.Common.{◌≡◌, ℕ, not, true, List, [], map, Option, Some, None, option_map, sym, ap, subst, ◌∙◌}
+use Rattle.std.specs.List.{list_all, AllByRecursion}
 use Rattle.std.specs.Ordering.{eq_by_cmp}
 use Rattle.bf_base.specs.declared.granule.Granule.{Granule}
 use Rattle.bf_base.specs.declared.value.Value.{Value}
@@ -13,8 +13,8 @@ use Rattle.std.proofs.lemmas.List.Folds.{list_all-map}
 use Rattle.bf_txn.specs.declared.write.Write.{Write}
 use Rattle.bf_sql.specs.Database.{Database, Stored}
 use Rattle.bf_sql.specs.migrations.Granules.{granules_of, same_granule}
-use Rattle.bf_sql.specs.migrations.Lazy.{DoneGranule, LazyState, Migration, due, is_done, moved, view_of}
-use Rattle.bf_store.specs.States.{AreGranulesIfAny, IsLazy, IsOpenLazily, IsQuiet, IsUnderWay, IsUnderWayIfAny, by_place, granule_cmp, granules_done, with_moved}
+use Rattle.bf_sql.specs.migrations.Lazy.{DoneGranule, LazyState, Migration, due, is_done, moved}
+use Rattle.bf_store.specs.States.{AreGranulesIfAny, IsLazy, IsOpenLazily, IsQuiet, IsUnderWay, by_place, granule_cmp, granules_done, with_moved}
 use Rattle.bf_store.proofs.Granules.{granule_cmp_total, granule_ties}
 use Rattle.bf_store.proofs.moving.Moves.{moves}
 use Rattle.bf_store.proofs.moving.Unordered.{same_due, same_view}
@@ -29,7 +29,7 @@ same_done last g =
     ∙ list_any-with_placed granule_cmp_total granule_of (λ d. same_granule g d.granule) [] last.done
     ∙ sym (list_any-map (same_granule g) granule_of last.done)
 
-ties : same_granule ≡ eq_by_cmp granule_cmp
+pub ties : same_granule ≡ eq_by_cmp granule_cmp
 ties i g h = granule_ties g h i
 
 module _ (last : Migration) where
