@@ -1,4 +1,3 @@
 pub mod interleaving
 pub mod keeping
 pub mod order
-pub mod served
