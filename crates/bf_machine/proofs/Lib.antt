@@ -1,3 +1,4 @@
 pub mod interleaving
 pub mod keeping
 pub mod order
+pub mod served

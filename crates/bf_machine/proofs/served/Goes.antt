@@ -1,0 +1,225 @@
+-- What an event of a session makes of the statements that have no reply.
+use Rattle.std.proofs.Common.{◌≡◌, ◌⊎◌, ℕ, zero, suc, ◌+◌, ◌-◌, ◌<◌, ◌≤◌, Bool, true, false, not, List, [], ◌∷◌, ◌++◌, length, drop, Option, Some, None, refl, sym, ap, subst, ◌∙◌, arith, inl, inr, append-nil, length-append}
+use Rattle.std.specs.Prelude.{nat_le}
+use Rattle.std.specs.Option.{option_map_or}
+use Rattle.std.specs.List.{list_any, slice_set}
+use Rattle.std.proofs.lemmas.Bool.{and_parts, false≢true}
+use Rattle.std.proofs.lemmas.Bool.Decides.{nat_tests}
+use Rattle.std.proofs.lemmas.Option.{same_Some}
+use Rattle.bf_tree.specs.declared.history.Entry.{Entry}
+use Rattle.bf_tree.specs.declared.history.Outcome.TheVariants.{Committed, RolledBack}
+use Rattle.bf_tree.specs.declared.reply.Refusal.TheVariants.{NoTransaction}
+use Rattle.bf_tree.specs.declared.reply.Reply.{Reply}
+use Rattle.bf_tree.specs.declared.reply.Reply.TheVariants as reply
+use Rattle.bf_tree.specs.declared.script.Script.{Script}
+use Rattle.bf_tree.specs.declared.statement.Statement.{Statement}
+use Rattle.bf_tree.specs.declared.statement.Statement.TheVariants.{Commit, Rollback}
+use Rattle.boxcar.specs.Table.{Where}
+use Rattle.bf_sql.specs.Database.{Database}
+use Rattle.bf_sql.specs.migrations.Lazy.{LazyState}
+use Rattle.bf_image.specs.declared.migration.Migration.{Migration}
+use Rattle.bf_sql.specs.Groups.{ends_block, groups_in, has_statement, session_at, statements_in}
+use Rattle.bf_machine.specs.interleaving.Calls.{replies_at, statements_at}
+use Rattle.bf_machine.specs.interleaving.Events.{Aborts, Begins, Commits, Event, Executes, Reaches, Refuses, aborts, at_once, begun, begun_again, commits_behind, commits_now, entry_of, one_more, opened, rest_of, stepped, text_of, with_open, put_into}
+use Rattle.bf_machine.specs.interleaving.Groups.{left_by}
+use Rattle.bf_machine.specs.interleaving.Kept.{IsKept}
+use Rattle.bf_machine.specs.interleaving.Machines.{Machine, Open, open_at, told_at, with_replies}
+use Rattle.bf_machine.specs.interleaving.Serving.{HasGoneOn, HasMore, HasReply, Serves, is_answered, unanswered}
+use Rattle.bf_machine.proofs.interleaving.Others.{has_place}
+use Rattle.bf_machine.proofs.interleaving.Places.{set_same, set_other}
+use Rattle.bf_machine.proofs.interleaving.Telling.{length-part}
+use Rattle.bf_machine.proofs.interleaving.Texts.{are_texts}
+use Rattle.bf_machine.proofs.served.Events.{closed_then, end_answers, end_serves, left_below, over, replies_are, serves_open}
+
+some_long : {X : Type 0} (p : X → Bool) (xs : List X) → list_any p xs ≡ true → 1 ≤ length xs
+some_long p [] any = absurd (false≢true any)
+some_long p (x ∷ xs) any = omega arith
+
+drop-all : {X : Type 0} (n : ℕ) (xs : List X) → length xs ≤ n → drop n xs ≡ []
+drop-all zero [] within = refl
+drop-all zero (x ∷ xs) within = absurd (omega (arith, within))
+drop-all (suc n) [] within = refl
+drop-all (suc n) (x ∷ xs) within = drop-all n xs (omega (arith, within))
+
+-- events one after the other
+pub reaches_both : (start : Database) (m now next : Machine) → Reaches start m now → Reaches start now next → Reaches start m next
+reaches_both start m now _ one at_once = one
+reaches_both start m now _ one (one_more {now = then} {next = next} before event) = one_more (reaches_both start m now then one before) event
+
+-- where no group is open, none has all its replies
+pub closed_more : (m : Machine) (s : ℕ) → open_at m s ≡ None → HasMore m s
+closed_more m s closed o is none = let clash : None ≡ Some o = sym closed ∙ is in cc
+
+pub closed_reply : (m : Machine) (s : ℕ) → open_at m s ≡ None → HasReply m s
+closed_reply m s closed o is none = let clash : None ≡ Some o = sym closed ∙ is in cc
+
+-- behind an EXEC the group has a reply
+pub exec_reply : (m : Machine) (s : ℕ) (next : Machine) → Executes m s next → HasReply next s
+exec_reply m s next by p is none =
+    let place = has_place m s by.o by.is in
+    let then : Open = stepped m s by.o by.statement by.bound in
+    let there : open_at next s ≡ Some then = ap (λ (k : Machine). open_at k s) by.goes ∙ set_same None None m.opens s (Some then) place.0 place.1 in
+    let same : p ≡ then = same_Some p then (sym is ∙ there) in
+    let more : length then.replies ≡ length by.o.replies + 1 = length-append by.o.replies _ in
+    let size : length p.replies ≡ length then.replies = ap (λ (q : Open). length q.replies) same in
+    let nothing : length p.replies ≡ 0 = ap (λ (rs : List Reply). length rs) none in
+    omega (arith, more, size, nothing)
+
+module _ {start : Database} (m : Machine) (kept : IsKept start m) (s : ℕ) where
+  -- EXEC
+  pub exec_goes_on : (next : Machine) → Executes m s next → Serves m s next × (unanswered m s ≡ unanswered next s + 1)
+  exec_goes_on next by =
+      subst (λ (next : Machine). Serves m s next × (unanswered m s ≡ unanswered next s + 1)) (sym by.goes)
+      (serves_open m s place.0 (Some then), omega (arith, below, size))
+    where
+      place : (1 ≤ s) × (s ≤ length m.opens)
+      place = has_place m s by.o by.is
+
+      then : Open
+      then = stepped m s by.o by.statement by.bound
+
+      below : length (replies_at m s) < length (statements_at m s)
+      below = left_below m kept (are_texts m.script) s by.o by.is by.statement by.later by.left
+
+      size : length (replies_at (with_open m s (Some then)) s) ≡ length (replies_at m s) + 1
+      size =
+          let now : replies_at (with_open m s (Some then)) s ≡ told_at m s ++ then.replies = ap (with_replies (told_at m s)) (set_same None None m.opens s (Some then) place.0 place.1) in
+          let was : replies_at m s ≡ told_at m s ++ by.o.replies = replies_are m kept (are_texts m.script) s by.o by.is in
+          let one = ap (λ (rs : List Reply). length rs) now in
+          let other = ap (λ (rs : List Reply). length rs) was in
+          let more : length then.replies ≡ length by.o.replies + 1 = length-append by.o.replies _ in
+          omega (arith, one, other, length-append (told_at m s) then.replies, length-append (told_at m s) by.o.replies, more)
+
+  -- EXEC of a COMMIT or ROLLBACK in no group
+  pub refuse_goes_on : (next : Machine) → Refuses m s next → Serves m s next × (unanswered m s ≡ unanswered next s + 1)
+  refuse_goes_on next by =
+      subst (λ (next : Machine). Serves m s next × (unanswered m s ≡ unanswered next s + 1)) (sym by.goes)
+      (serves, omega (arith, below, size))
+    where
+      refused : List Reply
+      refused = told_at m s ++ reply.Refused NoTransaction ∷ []
+
+      then : Machine
+      then = record m { told = slice_set m.told (s - 1) refused }
+
+      high : s ≤ length m.told
+      high = omega (arith, by.place.1, kept.shaped.told)
+
+      serves : Serves m s then
+      serves = record {
+        script = refl;
+        beside = λ t apart. (refl, set_other [] [] m.told s t refused by.place.0 apart);
+        deaths = λ n. refl;
+        entries = ([], tt, sym (append-nil m.history));
+      }
+
+      below : length (replies_at m s) < length (statements_at m s)
+      below =
+          let n = length (told_at m s) + 1 in
+          let parts = and_parts (list_any ends_block (statements_in m.script s (n, n))) (not (list_any (has_statement n) (groups_in m.script s))) by.stray in
+          let long = some_long ends_block (statements_in m.script s (n, n)) parts.0 in
+          let told : length (replies_at m s) ≡ length (told_at m s) = ap (λ (o : Option Open). length (with_replies (told_at m s) o)) by.closed in
+          omega (arith, long, told, length-part n n (session_at m.script s).statements)
+
+      size : length (replies_at then s) ≡ length (replies_at m s) + 1
+      size =
+          let was : replies_at m s ≡ told_at m s = ap (with_replies (told_at m s)) by.closed in
+          let now : replies_at then s ≡ refused = ap (with_replies (told_at then s)) by.closed ∙ set_same [] [] m.told s refused by.place.0 high in
+          let one = ap (λ (rs : List Reply). length rs) was in
+          let other = ap (λ (rs : List Reply). length rs) now in
+          let more : length refused ≡ length (told_at m s) + 1 = length-append (told_at m s) _ in
+          omega (arith, one, other, more)
+
+  -- the end of an open group
+  module _ (o : Open) (is : open_at m s ≡ Some o) (c : Statement) (left : (rest_of m s o ≡ []) ⊎ (rest_of m s o ≡ c ∷ [])) (r : Reply) (db : Database) (lazy : LazyState) (pass : Option (Where Migration)) (e : Entry) (same : e.session ≡ s) where
+    abbrev after : Machine
+    after = over m kept (are_texts m.script) s o is r db lazy pass e same
+
+    closed_after : open_at after s ≡ None
+    closed_after = closed_then m kept (are_texts m.script) s o is r db lazy pass e same
+
+    size_after : length (replies_at after s) ≡ length (replies_at m s) + length (rest_of m s o)
+    size_after = end_answers m kept (are_texts m.script) s o is r db lazy pass e same
+
+    end_adds_none : rest_of m s o ≡ [] → unanswered after s ≡ unanswered m s
+    end_adds_none none = let nothing = ap (λ (ss : List Statement). length ss) none in omega (arith, size_after, nothing)
+
+    end_goes_on : Event start m after → HasGoneOn m s start after
+    end_goes_on event = record {
+      serves = end_serves m kept (are_texts m.script) s o is r db lazy pass e same;
+      reached = one_more at_once event;
+      more = closed_more after s closed_after;
+      has_reply = closed_reply after s closed_after;
+      goes = elim left as (λ _. (unanswered m s ≡ unanswered after s + 1) ⊎ ((o : Open) × (open_at m s ≡ Some o) × (rest_of m s o ≡ []) × (open_at after s ≡ None) × (unanswered after s ≡ unanswered m s))) [
+        | inl nothing ↦ inr (o, is, nothing, closed_after, end_adds_none nothing)
+        | inr one ↦
+            let below = left_below m kept (are_texts m.script) s o is c [] one in
+            let some : length (rest_of m s o) ≡ 1 = ap (λ (ss : List Statement). length ss) one in
+            inl (omega (arith, size_after, below, some))
+      ];
+    }
+
+  pub commit_goes_on : (next : Machine) → Commits m s next → HasGoneOn m s start next
+  commit_goes_on next by =
+      let n = commits_behind 0 m.history + 1 in
+      subst (HasGoneOn m s start) (sym by.goes)
+      (end_goes_on by.can.o by.can.is Commit by.can.left (reply.Committed n) (left_by m.db by.can.o.pending) (put_into m.lazy by.can.o.pending) next.pass (entry_of m s by.can.o (Committed n)) refl (subst (Event start m) by.goes (commits_now s by)))
+
+  pub abort_goes_on : (next : Machine) → Aborts m s next → HasGoneOn m s start next
+  abort_goes_on next by =
+      subst (HasGoneOn m s start) (sym by.goes) (end_goes_on by.o by.is Rollback by.left reply.RolledBack m.db m.lazy m.pass (entry_of m s by.o RolledBack) refl (subst (Event start m) by.goes (aborts s by)))
+
+  -- and where each statement had its reply
+  module _ (answered : is_answered m s ≡ true) where
+    none_left : (o : Open) → open_at m s ≡ Some o → rest_of m s o ≡ []
+    none_left o is =
+        let here : nat_le (length (text_of m s o)) (length o.replies) ≡ true = sym (ap (λ (found : Option Open). option_map_or (λ (o : Open). nat_le (length (text_of m s o)) (length o.replies)) found false) is) ∙ answered in
+        let within : length (text_of m s o) ≤ length o.replies = grind (arith, nat_tests, here) in
+        drop-all (length o.replies) (text_of m s o) within
+
+    pub commit_adds_none : (next : Machine) → Commits m s next → unanswered next s ≡ unanswered m s
+    commit_adds_none next by =
+        let n = commits_behind 0 m.history + 1 in
+        subst (λ (next : Machine). unanswered next s ≡ unanswered m s) (sym by.goes)
+        (end_adds_none by.can.o by.can.is Commit by.can.left (reply.Committed n) (left_by m.db by.can.o.pending) (put_into m.lazy by.can.o.pending) next.pass (entry_of m s by.can.o (Committed n)) refl (none_left by.can.o by.can.is))
+
+    pub abort_adds_none : (next : Machine) → Aborts m s next → unanswered next s ≡ unanswered m s
+    abort_adds_none next by =
+        subst (λ (next : Machine). unanswered next s ≡ unanswered m s) (sym by.goes)
+        (end_adds_none by.o by.is Rollback by.left reply.RolledBack m.db m.lazy m.pass (entry_of m s by.o RolledBack) refl (none_left by.o by.is))
+
+  -- BEGIN: nothing has its reply yet
+  module _ (place : (1 ≤ s) × (s ≤ length m.opens)) where
+    begun_adds_none : (o : Open) → o.replies ≡ [] → open_at m s ≡ None → (next : Machine) → told_at next s ≡ told_at m s → open_at next s ≡ Some o → next.script ≡ m.script
+        → unanswered next s ≡ unanswered m s
+    begun_adds_none o none closed next told is script =
+        let now : replies_at next s ≡ told_at m s ++ o.replies = ap (with_replies (told_at next s)) is ∙ ap (λ (rs : List Reply). rs ++ o.replies) told in
+        let was : replies_at m s ≡ told_at m s = ap (with_replies (told_at m s)) closed in
+        let one = ap (λ (rs : List Reply). length rs) now in
+        let other = ap (λ (rs : List Reply). length rs) was in
+        let nothing = ap (λ (rs : List Reply). length rs) none in
+        let text : length (statements_at next s) ≡ length (statements_at m s) = ap (λ (t : Script). length (session_at t s).statements) script in
+        omega (arith, one, other, nothing, text, length-append (told_at m s) o.replies)
+
+    pub begin_adds_none : (next : Machine) → Begins m s next → unanswered next s ≡ unanswered m s
+    begin_adds_none next by = elim by.goes as (λ _. unanswered next s ≡ unanswered m s) [
+      | inl first ↦
+          let o : Open = opened m s (length m.began + 1) by.group in
+          subst (λ (next : Machine). unanswered next s ≡ unanswered m s) (sym first.1)
+          (begun_adds_none o refl by.closed (begun m s by.group) refl (set_same None None m.opens s (Some o) place.0 place.1) refl)
+      | inr again ↦
+          let o : Open = opened m s again.0 by.group in
+          subst (λ (next : Machine). unanswered next s ≡ unanswered m s) (sym again.3)
+          (begun_adds_none o refl by.closed (begun_again m s again.0 by.group) refl (set_same None None m.opens s (Some o) place.0 place.1) refl)
+    ]
+
+    -- and its group is open
+    pub begin_opens : (next : Machine) → Begins m s next → (o : Open) × (open_at next s ≡ Some o) × (o.replies ≡ [])
+    begin_opens next by = elim by.goes as (λ _. (o : Open) × (open_at next s ≡ Some o) × (o.replies ≡ [])) [
+      | inl first ↦
+          let o : Open = opened m s (length m.began + 1) by.group in
+          (o, ap (λ (next : Machine). open_at next s) first.1 ∙ set_same None None m.opens s (Some o) place.0 place.1, refl)
+      | inr again ↦
+          let o : Open = opened m s again.0 by.group in
+          (o, ap (λ (next : Machine). open_at next s) again.3 ∙ set_same None None m.opens s (Some o) place.0 place.1, refl)
+    ]
