@@ -1,0 +1,48 @@
+-- A group whose statements have their replies ends.
+use Rattle.std.proofs.Common.{refl, sym, subst, ◌∙◌}
+use Rattle.bf_machine.specs.interleaving.Events.{Reaches, aborts, at_once, commits_now, one_more}
+use Rattle.bf_machine.proofs.served.Events.{serves_not}
+use Rattle.bf_machine.proofs.served.Goes.{abort_goes_on, commit_goes_on}
+use Rattle.bf_machine.proofs.served.Left.{stands_more, unanswered_more}
+use Rattle.bf_machine.proofs.serving.end_if_answered.Goals as goal
+
+pub returns-then-not-is_answered-clause-reaches : goal.returns-then-not-is_answered-clause-reaches
+returns-then-not-is_answered-clause-reaches g c = at_once
+
+pub returns-then-not-is_answered-clause-more : goal.returns-then-not-is_answered-clause-more
+returns-then-not-is_answered-clause-more g c = unanswered_more c.args.machine.now c.args.session (sym c.is_answered.ensures ∙ c.if-not-is_answered.true)
+
+pub returns-in_ok-commit-in-Commit-clause-more : goal.returns-in_ok-commit-in-Commit-clause-more
+returns-in_ok-commit-in-Commit-clause-more g c =
+    (commit_goes_on c.args.machine.now c.requires.kept c.args.session c.commit.new.self c.in_ok-commit-in-Commit.ensures.commits).more
+
+pub returns-in-Abort-clause-more : goal.returns-in-Abort-clause-more
+returns-in-Abort-clause-more g c = (abort_goes_on c.args.machine.now c.requires.kept c.args.session c.abort.new.self c.abort.ensures).more
+
+pub returns-then-not-is_answered-clause-has_reply : goal.returns-then-not-is_answered-clause-has_reply
+returns-then-not-is_answered-clause-has_reply g c = c.requires.has_reply
+
+pub returns-in_ok-commit-in-Commit-clause-has_reply : goal.returns-in_ok-commit-in-Commit-clause-has_reply
+returns-in_ok-commit-in-Commit-clause-has_reply g c =
+    (commit_goes_on c.args.machine.now c.requires.kept c.args.session c.commit.new.self c.in_ok-commit-in-Commit.ensures.commits).has_reply
+
+pub returns-in-Abort-clause-has_reply : goal.returns-in-Abort-clause-has_reply
+returns-in-Abort-clause-has_reply g c = (abort_goes_on c.args.machine.now c.requires.kept c.args.session c.abort.new.self c.abort.ensures).has_reply
+
+pub returns-in_err-commit-in-Commit-clause-reaches : goal.returns-in_err-commit-in-Commit-clause-reaches
+returns-in_err-commit-in-Commit-clause-reaches g c = subst (Reaches g.N.Opened.opening c.args.machine.now) (sym c.in_err-commit-in-Commit.ensures.err) at_once
+
+pub returns-in_ok-commit-in-Commit-clause-reaches : goal.returns-in_ok-commit-in-Commit-clause-reaches
+returns-in_ok-commit-in-Commit-clause-reaches g c = one_more at_once (commits_now c.args.session c.in_ok-commit-in-Commit.ensures.commits)
+
+pub returns-in-Abort-clause-reaches : goal.returns-in-Abort-clause-reaches
+returns-in-Abort-clause-reaches g c = one_more at_once (aborts c.args.session c.abort.ensures)
+
+pub returns-in_default : goal.returns-in_default
+returns-in_default g c = record {
+  reaches = at_once;
+  serves = serves_not c.args.machine.now c.args.session;
+  replies = refl;
+  more = stands_more c.args.machine.now c.requires.kept c.args.session c.stand.result c.stand.ensures c.in_default.not-Commit c.in_default.not-Abort;
+  has_reply = c.requires.has_reply;
+}

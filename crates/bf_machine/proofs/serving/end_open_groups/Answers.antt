@@ -1,0 +1,77 @@
+-- The youngest open group goes on or ends; where it is alone, its session is served.
+use Rattle.std.proofs.Common.{◌≡◌, ◌≢◌, ℕ, ◌<◌, ◌≤◌, Some, None, length, refl, sym, ap, subst, ◌∙◌, arith, inl, inr}
+use Rattle.std.proofs.lemmas.Bool.{cases_eq}
+use Rattle.bf_tree.specs.declared.script.Script.{Script}
+use Rattle.bf_machine.specs.interleaving.Events.{at_once}
+use Rattle.bf_machine.specs.interleaving.Kept.{IsKept}
+use Rattle.bf_machine.specs.interleaving.Machines.{Machine, open_at}
+use Rattle.bf_machine.specs.interleaving.Serving.{HasGoneOn, IsAlone, IsServable, Serves, at_rest, one_driven, unanswered}
+use Rattle.bf_machine.proofs.interleaving.Reaching.{reached_keeps_all}
+use Rattle.bf_machine.proofs.served.Ending.{alone_open_goes_on, no_more_left, reached_script, youngest_leaves_less}
+use Rattle.bf_machine.proofs.served.Events.{serves_both, serves_not}
+use Rattle.bf_machine.proofs.served.Goes.{reaches_both}
+use Rattle.bf_machine.proofs.served.Open.{left_open}
+use Rattle.bf_machine.proofs.served.Totals.{total}
+use Rattle.bf_machine.proofs.serving.end_open_groups.Goals as goal
+
+pub loop-session-init : goal.loop-session-init
+loop-session-init g c = record {
+  reaches = at_once;
+  driven = at_rest;
+  nothing = λ none. refl;
+  alone = λ s alone. serves_not c.args.machine.now s;
+  no_more = λ s alone. omega arith;
+}
+
+pub take_turn-requires-clause-kept : goal.take_turn-requires-clause-kept
+take_turn-requires-clause-kept g c = reached_keeps_all g.N.Opened.opening c.args.machine.now c.loop-session.machine c.requires.kept c.loop-session.invariant.reaches
+
+pub take_turn-requires-clause-servable : goal.take_turn-requires-clause-servable
+take_turn-requires-clause-servable g c = subst IsServable (sym (reached_script g.N.Opened.opening c.args.machine.now c.loop-session.machine c.loop-session.invariant.reaches)) c.requires.servable
+
+pub loop-session-smaller : goal.loop-session-smaller
+loop-session-smaller g c =
+    let now : Machine = c.loop-session.machine in
+    let next : Machine = c.take_turn.new.machine in
+    let kept : IsKept g.N.Opened.opening now = reached_keeps_all g.N.Opened.opening c.args.machine.now now c.requires.kept c.loop-session.invariant.reaches in
+    let script : next.script ≡ now.script = reached_script g.N.Opened.opening now next c.in_ok-take_turn.ensures.reaches in
+    let less = youngest_leaves_less now kept c.in-Some.session c.in_ok-take_turn.field-0 next c.in_ok-take_turn.ensures.turn c.in-Some.ensures.youngest script c.in-Some.ensures.place in
+    subst (λ (k : Script). total (left_open next) (length k.sessions) < total (left_open now) (length now.script.sessions)) (sym script) less
+
+pub loop-session-preserved : goal.loop-session-preserved
+loop-session-preserved g c =
+    let m : Machine = c.args.machine.now in
+    let now : Machine = c.loop-session.machine in
+    let next : Machine = c.take_turn.new.machine in
+    let s = c.in-Some.session in
+    let kept : IsKept g.N.Opened.opening now = reached_keeps_all g.N.Opened.opening m now c.requires.kept c.loop-session.invariant.reaches in
+    let youngest = c.in-Some.ensures.youngest in
+    let goes_on : (u : ℕ) → IsAlone m u → (u ≡ s) × HasGoneOn now s g.N.Opened.opening next = λ u alone.
+    let before = c.loop-session.invariant.alone u alone in
+    let alone_now : IsAlone now u = λ t apart. (before.beside t apart).0 ∙ alone t apart in
+    elim (cases_eq u s) as (λ _. (u ≡ s) × HasGoneOn now s g.N.Opened.opening next) [
+      | inl same ↦ (same, alone_open_goes_on now kept s c.in_ok-take_turn.field-0 next c.in_ok-take_turn.ensures.turn (subst (IsAlone now) same alone_now) youngest.0 youngest.1)
+      | inr apart ↦
+          let other : s ≢ u = λ same. apart (sym same) in
+          let clash : None ≡ Some youngest.0 = sym (alone_now s other) ∙ youngest.1 in
+          absurd cc
+    ] in
+    record {
+      reaches = reaches_both g.N.Opened.opening m now next c.loop-session.invariant.reaches c.in_ok-take_turn.ensures.reaches;
+      driven = one_driven s c.loop-session.invariant.driven (inl youngest) c.in_ok-take_turn.field-0 c.in_ok-take_turn.ensures.turn;
+      nothing = λ none.
+          let clash : None ≡ Some youngest.0 = sym (none s) ∙ (ap (λ (k : Machine). open_at k s) (sym (c.loop-session.invariant.nothing none)) ∙ youngest.1) in
+          absurd cc;
+      alone = λ u alone.
+          let goes = goes_on u alone in
+          serves_both m u now next (c.loop-session.invariant.alone u alone) (subst (λ (v : ℕ). Serves now v next) (sym goes.0) goes.1.serves);
+      no_more = λ u alone.
+          let goes = goes_on u alone in
+          let less : unanswered next s ≤ unanswered now s = no_more_left now s g.N.Opened.opening next goes.1 in
+          let more : unanswered next u ≤ unanswered now u = subst (λ (v : ℕ). unanswered next v ≤ unanswered now v) (sym goes.0) less in
+          omega (arith, more, c.loop-session.invariant.no_more u alone);
+    }
+
+pub returns-in_err-take_turn-clause-reaches : goal.returns-in_err-take_turn-clause-reaches
+returns-in_err-take_turn-clause-reaches g c =
+    reaches_both g.N.Opened.opening c.args.machine.now c.loop-session.machine c.take_turn.new.machine c.loop-session.invariant.reaches c.take_turn.ensures.reaches
