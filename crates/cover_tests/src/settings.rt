@@ -23,17 +23,13 @@ pub type Case = (&'static str, &'static str);
 /// A script of three sessions: before a flip, the MIGRATE, and behind.
 fn text(alloc: Global, setting: Setting, behind: &str) -> Result<Vec<u8>, Memory> {
     let mut text = Vec::new(alloc);
-    for part in [
-        "PHASE; SESSION; ",
-        setting.0,
-        " SESSION; ",
-        setting.1,
-        "; SESSION; ",
-        behind,
-        ";",
-    ] {
-        put(&mut text, part)?;
-    }
+    put(&mut text, "PHASE; SESSION; ")?;
+    put(&mut text, setting.0)?;
+    put(&mut text, " SESSION; ")?;
+    put(&mut text, setting.1)?;
+    put(&mut text, "; SESSION; ")?;
+    put(&mut text, behind)?;
+    put(&mut text, ";")?;
     Ok(text)
 }
 
