@@ -3,9 +3,9 @@
 ghost use Rattle.std.specs.List.{AllByRecursion, list_all};
 ghost use Rattle.std.specs.Option.{option_map};
 ghost use Rattle.std.specs.Prelude.{◌≡◌, [], ◌∷◌, IfOk, IsTrue, OnErr, false, length, true};
-ghost use Rattle.bf_tree.specs.Limits.{IsNarrowIfMigrate, IsNarrowMigrate, is_narrow_statement};
+ghost use Rattle.bf_tree.specs.Limits.{HasNarrowTables, IsNarrowIfMigrate, IsNarrowMigrate, is_narrow_statement};
 ghost use Rattle.bf_sql.specs.Bound.{catalog_of, changes_schema};
-ghost use Rattle.bf_sql.specs.Database.{empty_database, stored_at};
+ghost use Rattle.bf_sql.specs.Database.{IsDatabase, empty_database, stored_at};
 ghost use Rattle.bf_sql.specs.History.{commits_with};
 ghost use Rattle.bf_eager.specs.Beginnings.{IsBegun};
 ghost use Rattle.bf_eager.specs.Eager.{IsWholeGroup, outcome_of, ran_entry};
@@ -98,9 +98,12 @@ impl Eager {
         })
     }
 
-    /// The catalog. Takes no memory.
+    /// The catalog, in which statements may be prepared: it is that of a database, and its tables are
+    /// within the limits of the language. Takes no memory.
     pub fn catalog(&self) -> &Catalog
-        ensures { result.now ≡ catalog_of self.now.database }
+        ensures catalog { result.now ≡ catalog_of self.now.database }
+        ensures database { IsDatabase self.now.database }
+        ensures narrow { HasNarrowTables result.now }
     {
         self.live.catalog()
     }

@@ -1,7 +1,8 @@
 //! The limits of the language, where a statement did not come out of a script that was read within them.
 
 ghost use Rattle.std.specs.List.{list_all};
-ghost use Rattle.std.specs.Prelude.{◌≡◌, [], ◌∷◌, IfSome, flat_map, length, true};
+ghost use Rattle.std.specs.Prelude.{◌≡◌, ◌≤◌, ◌↔◌, [], ◌∷◌, flat_map, length, true, IsTrue};
+ghost use Rattle.bf_base.specs.Limits.{longest_script};
 ghost use Rattle.bf_tree.specs.Limits.{IsNarrowMigrate, has_small_arms};
 ghost use Rattle.bf_eager.specs.Eager.{IsWholeGroup};
 
@@ -14,15 +15,18 @@ const MOST_COLUMNS: usize = 16;
 /// The most targets of a MIGRATE.
 const MOST_TARGETS: usize = 8;
 
-/// How many arms there are, where a number tells it.
-fn arm_count(targets: &[Target]) -> Option<usize>
-    ensures { IfSome result (λ count. count ≡ length (flat_map (λ t. t.arms) targets.now)) }
+/// Whether there are at most as many arms as a script has bytes.
+fn have_few_arms(targets: &[Target]) -> bool
+    ensures { IsTrue result ↔ (length (flat_map (λ t. t.arms) targets.now) ≤ longest_script) }
 {
-    let mut count = 0usize;
+    let mut room = LONGEST_SCRIPT as usize;
     for target in targets {
-        count = count.checked_add(target.arms.len())?;
+        let Some(left) = room.checked_sub(target.arms.len()) else {
+            return false;
+        };
+        room = left;
     }
-    Some(count)
+    true
 }
 
 fn has_small_arms(target: &Target) -> bool
@@ -43,21 +47,15 @@ fn have_small_arms(targets: &[Target]) -> bool
 
 /// Whether a MIGRATE is of a size that a script can have. It counts its targets, arms and items.
 pub fn is_narrow(migrate: &Migrate) -> bool
-    ensures { result ≡ true → IsNarrowMigrate migrate.now }
+    ensures { IsTrue result ↔ IsNarrowMigrate migrate.now }
 {
     let targets = migrate.targets.as_slice();
-    let Some(arms) = arm_count(targets) else {
-        return false;
-    };
-    if targets.len() > MOST_TARGETS || arms > LONGEST_SCRIPT as usize {
-        return false;
-    }
-    have_small_arms(targets)
+    targets.len() <= MOST_TARGETS && have_few_arms(targets) && have_small_arms(targets)
 }
 
 /// Whether a statement is a group of its own that commits, of a size that a script can have.
 pub fn is_alone(statement: &Statement) -> bool
-    ensures { result ≡ true → IsWholeGroup true (statement.now ∷ []) }
+    ensures { IsTrue result ↔ IsWholeGroup true (statement.now ∷ []) }
 {
     match statement {
         Statement::Begin | Statement::Commit | Statement::Rollback => false,

@@ -14,12 +14,13 @@ use Rattle.bf_base.proofs.Names.{name_cmp_total, same_name-tie, same_name-tie_ba
 use Rattle.bf_heap.specs.Heaps.{Entry}
 use Rattle.bf_tree.specs.Catalogs.{Catalog}
 use Rattle.bf_tree.specs.declared.catalog.IndexRule.{IndexRule}
+use Rattle.bf_sql.specs.Bound.{catalog_of}
 use Rattle.bf_sql.specs.Database.{Database, IsDatabase, Stored}
-use Rattle.bf_live.specs.Drafts.{AreNamedApart, Drafted, name_of_rows, rows_over, staying, staying_rows, staying_rules, with_more, with_rows_of}
+use Rattle.bf_live.specs.Drafts.{AreNamedApart, Drafted, IsExchangeOf, Prepared, name_of_rows, rows_over, staying, staying_rows, staying_rules, tables_after, with_more, with_rows_of}
 use Rattle.bf_live.specs.Live.{AreLiveTables, IsUnderOwnKeys, NamedRows, TableRows, database_of, exchanged, stored}
 use Rattle.bf_live.proofs.Drafts.{without_rows}
 use Rattle.bf_live.proofs.Heaps.{is_same}
-use Rattle.bf_live.proofs.Held.{name_of}
+use Rattle.bf_live.proofs.Held.{catalog_held, name_of}
 use Rattle.bf_live.proofs.Paired.{all_placed, named, one_each_again, paired, paired_again, rows_paired, table_of, tables_paired}
 
 filter_mapped : {X Y : Type 0} (f : X → Y) (test : Y → Bool) (xs : List X) → filter test (map f xs) ≡ map f (filter (λ x. test (f x)) xs)
@@ -99,93 +100,100 @@ names_placed tables = map-with_placed name_cmp_total name_of_rows (λ n. n) name
 rows_placed_alike : (rows : List NamedRows) (tables : List TableRows) → with_rows_of rows (with_more [] tables) ≡ with_more [] (with_rows_of rows tables)
 rows_placed_alike rows tables = map-with_placed name_cmp_total name_of_rows name_of_rows (λ (t : TableRows). (t.0, fold (rows_over t.0.name) t.1 rows)) (λ t. refl) [] tables
 
+-- the names of the tables after an exchange, with their rows and without
+names_after : (db : Database) (gone : List (List ℕ)) (new : List TableRows) → map name_of_rows (tables_after (catalog_of db) gone new) ≡ map name_of (exchanged db gone (map stored new)).tables
+names_after db gone new =
+    let left : List Stored = filter (λ s. stays gone s.table.name) db.tables in
+    let there : staying gone (catalog_of db).tables ≡ map (λ s. (s.table, [])) left = ap (map without_rows) (filter_mapped (λ (s : Stored). s.table) (λ t. stays gone t.name) db.tables) ∙ map-map without_rows (λ (s : Stored). s.table) left in
+    let names : map name_of_rows (new ++ staying gone (catalog_of db).tables) ≡ map name_of (map stored new ++ left) =
+    ap (λ (ts : List TableRows). map name_of_rows (new ++ ts)) there ∙ map-append name_of_rows new (map (λ s. (s.table, [])) left)
+    ∙ ap₂ (λ (ns ms : List (List ℕ)). ns ++ ms) (sym (map-map name_of stored new)) (map-map name_of_rows (λ (s : Stored). (s.table, [])) left)
+    ∙ sym (map-append name_of (map stored new) left) in
+    names_placed (new ++ staying gone (catalog_of db).tables) ∙ ap (in_order name_cmp (λ n. n)) names
+    ∙ sym (map-with_placed name_cmp_total name_of (λ n. n) name_of (λ s. refl) [] (map stored new ++ left))
+
+-- they are apart where the exchange leaves a database
+pub names_apart : (db : Database) (gone : List (List ℕ)) (new : List TableRows) → IsDatabase (exchanged db gone (map stored new)) → AreNamedApart (tables_after (catalog_of db) gone new)
+names_apart db gone new database = ap (rises name_cmp) (names_after db gone new) ∙ database.tables_by_name
+
 module _ (P : TableRows → Type 0) where
   all_more : (tables more : List TableRows) → All P tables → All P more → All P (with_more tables more)
   all_more tables [] all others = all
   all_more tables (t ∷ ts) all others = all_more (placed name_cmp name_of_rows tables t) ts (all_placed P t tables (others 0 t (omega arith)) all) (λ k d below. others (suc k) d (omega arith))
 
 -- ---- the tables that stay, and the new ones
-module _ (new stay : List TableRows) where
-  abbrev first : List TableRows
-  first = new ++ map emptied stay
+-- the rows are put in their places
+rows_filled : (new stay : List TableRows) → AreNamedApart (with_more [] (new ++ stay)) → with_rows_of (map named stay) (with_more [] (new ++ map emptied stay)) ≡ with_more [] (new ++ stay)
+rows_filled new stay apart =
+    let all : are_apart (eq_by_cmp name_cmp) (map name_of_rows new ++ map name_of_rows stay) ≡ true =
+    ap (are_apart (eq_by_cmp name_cmp)) (sym (map-append name_of_rows new stay))
+    ∙ are_apart-same_items name_cmp_total (mapped name_of_rows (with_placed-items name_cmp_total name_of_rows [] (new ++ stay)))
+    ∙ apart_from_rises name_cmp_total (map name_of_rows (with_more [] (new ++ stay))) apart in
+    let across = apart_across (eq_by_cmp name_cmp) (map name_of_rows new) (map name_of_rows stay) all in
+    let own = apart_right (eq_by_cmp name_cmp) (map name_of_rows new) (map name_of_rows stay) all in
+    rows_placed_alike (map named stay) (new ++ map emptied stay)
+    ∙ ap (with_more []) (map-append (λ (t : TableRows). (t.0, fold (rows_over t.0.name) t.1 (map named stay))) new (map emptied stay) ∙ ap₂ (λ (ts us : List TableRows). ts ++ us) (untouched stay new across) (filled stay own))
 
-  names_first : map name_of_rows first ≡ map name_of_rows (new ++ stay)
-  names_first = map-append name_of_rows new (map emptied stay) ∙ ap (λ ns. map name_of_rows new ++ ns) (names_emptied stay) ∙ sym (map-append name_of_rows new stay)
+module _ (catalog : Catalog) (rows : List NamedRows) (live : AreLiveTables catalog rows) (db : Database) (is : database_of catalog rows ≡ db) (gone : List (List ℕ)) (new : List TableRows) where
+  abbrev before : List TableRows
+  before = paired catalog.tables rows
 
-  -- the names are those of the tables with their rows
-  first_named_apart : AreNamedApart (with_more [] (new ++ stay)) → AreNamedApart (with_more [] first)
-  first_named_apart apart = ap (rises name_cmp) (names_placed first ∙ ap (in_order name_cmp (λ n. n)) names_first ∙ sym (names_placed (new ++ stay))) ∙ apart
+  abbrev after : List TableRows
+  after = with_more [] (new ++ kept gone before)
 
-  -- and the rows are put in their places
-  rows_filled : AreNamedApart (with_more [] (new ++ stay)) → with_rows_of (map named stay) (with_more [] first) ≡ with_more [] (new ++ stay)
-  rows_filled apart =
-      let all : are_apart (eq_by_cmp name_cmp) (map name_of_rows new ++ map name_of_rows stay) ≡ true =
-      ap (are_apart (eq_by_cmp name_cmp)) (sym (map-append name_of_rows new stay))
-      ∙ are_apart-same_items name_cmp_total (mapped name_of_rows (with_placed-items name_cmp_total name_of_rows [] (new ++ stay)))
-      ∙ apart_from_rises name_cmp_total (map name_of_rows (with_more [] (new ++ stay))) apart in
-      let across = apart_across (eq_by_cmp name_cmp) (map name_of_rows new) (map name_of_rows stay) all in
-      let own = apart_right (eq_by_cmp name_cmp) (map name_of_rows new) (map name_of_rows stay) all in
-      rows_placed_alike (map named stay) first
-      ∙ ap (with_more []) (map-append (λ (t : TableRows). (t.0, fold (rows_over t.0.name) t.1 (map named stay))) new (map emptied stay) ∙ ap₂ (λ (ts us : List TableRows). ts ++ us) (untouched stay new across) (filled stay own))
+  stored_after : map stored after ≡ (exchanged db gone (map stored new)).tables
+  stored_after =
+      stored_placed (new ++ kept gone before)
+      ∙ ap (in_order name_cmp name_of) (map-append stored new (kept gone before) ∙ ap (λ (ss : List Stored). map stored new ++ ss) (sym (stored_kept gone before)))
+      ∙ ap (λ (db : Database). (exchanged db gone (map stored new)).tables) is
 
-module _ (catalog : Catalog) (rows : List NamedRows) (live : AreLiveTables catalog rows) (db : Database) (is : database_of catalog rows ≡ db) where
-  module _ (gone : List (List ℕ)) (new : List TableRows) (database : IsDatabase (exchanged db gone (map stored new))) where
-    abbrev before : List TableRows
-    before = paired catalog.tables rows
+  named_apart : AreNamedApart (tables_after (catalog_of db) gone new) → AreNamedApart after
+  named_apart apart = ap (rises name_cmp) (sym (map-map name_of stored after) ∙ ap (map name_of) stored_after ∙ sym (names_after db gone new)) ∙ apart
 
-    abbrev pub after : List TableRows
-    after = with_more [] (new ++ kept gone before)
+  ends_after : AreNamedApart (tables_after (catalog_of db) gone new) → with_rows_of (staying_rows gone rows) (tables_after catalog gone new) ≡ after
+  ends_after apart =
+      let their_tables : staying gone catalog.tables ≡ map emptied (kept gone before) = ap (staying gone) (sym (tables_paired catalog.tables rows live.one_each)) ∙ staying_kept gone before in
+      let their_rows : staying_rows gone rows ≡ map named (kept gone before) = ap (staying_rows gone) (sym (rows_paired catalog.tables rows live.one_each)) ∙ rows_kept gone before in
+      ap₂ (λ (rs : List NamedRows) (ts : List TableRows). with_rows_of rs (with_more [] (new ++ ts))) their_rows their_tables ∙ rows_filled new (kept gone before) (named_apart apart)
 
-    stored_after : map stored after ≡ (exchanged db gone (map stored new)).tables
-    stored_after =
-        stored_placed (new ++ kept gone before)
-        ∙ ap (in_order name_cmp name_of) (map-append stored new (kept gone before) ∙ ap (λ (ss : List Stored). map stored new ++ ss) (sym (stored_kept gone before)))
-        ∙ ap (λ (db : Database). (exchanged db gone (map stored new)).tables) is
+  -- the catalog and the heaps of an exchange whose draft has the rows in their places
+  module _ (exchange : Prepared) (kept_rows : List NamedRows) (put : Drafted) (next : Catalog) (rows' : List NamedRows) where
+    pub record IsDone : Type 0 where
+      pub prepared : IsExchangeOf (catalog_of db) gone new exchange
+      pub apart : AreNamedApart (tables_after (catalog_of db) gone new)
+      pub kept : kept_rows ≡ rows
+      pub filled : put ≡ record exchange.drafted { tables = with_rows_of (staying_rows gone kept_rows) exchange.drafted.tables }
+      pub number : next.number ≡ exchange.number
+      pub tables : next.tables ≡ map table_of put.tables
+      pub rules : next.indexes ≡ put.indexes
+      pub rows_are : rows' ≡ map named put.tables
 
-    named_apart : AreNamedApart after
-    named_apart = ap (rises name_cmp) (sym (map-map name_of stored after) ∙ ap (map name_of) stored_after) ∙ database.tables_by_name
+    module _ (done : IsDone) where
+      tables_put : put.tables ≡ after
+      tables_put =
+          let drafted : exchange.drafted.tables ≡ tables_after catalog gone new = done.prepared.tables ∙ ap (λ (catalog : Catalog). tables_after catalog gone new) (sym (catalog_held catalog rows live db is)) in
+          ap (λ (d : Drafted). d.tables) done.filled ∙ ap₂ (λ rs (ts : List TableRows). with_rows_of (staying_rows gone rs) ts) done.kept drafted ∙ ends_after done.apart
 
-    pub starts_apart : AreNamedApart (with_more [] (new ++ staying gone catalog.tables))
-    starts_apart =
-        let stays : staying gone catalog.tables ≡ map emptied (kept gone before) = ap (staying gone) (sym (tables_paired catalog.tables rows live.one_each)) ∙ staying_kept gone before in
-        subst (λ (ts : List TableRows). AreNamedApart (with_more [] (new ++ ts))) (sym stays) (first_named_apart new (kept gone before) named_apart)
+      pairs : paired next.tables rows' ≡ after
+      pairs = ap₂ paired done.tables done.rows_are ∙ paired_again put.tables ∙ tables_put
 
-    pub ends_after : with_rows_of (staying_rows gone rows) (with_more [] (new ++ staying gone catalog.tables)) ≡ after
-    ends_after =
-        let stays : staying gone catalog.tables ≡ map emptied (kept gone before) = ap (staying gone) (sym (tables_paired catalog.tables rows live.one_each)) ∙ staying_kept gone before in
-        let their_rows : staying_rows gone rows ≡ map named (kept gone before) = ap (staying_rows gone) (sym (rows_paired catalog.tables rows live.one_each)) ∙ rows_kept gone before in
-        ap₂ (λ (rs : List NamedRows) (ts : List TableRows). with_rows_of rs (with_more [] (new ++ ts))) their_rows stays ∙ rows_filled new (kept gone before) named_apart
+      pub view_exchanged : database_of next rows' ≡ exchanged db gone (map stored new)
+      view_exchanged =
+          let parts : (n : ℕ) (ts : List Stored) (rs : List IndexRule) → Database = λ n ts rs. record { number = n; tables = ts; indexes = rs } in
+          let rules : next.indexes ≡ staying_rules gone db.indexes = done.rules ∙ ap (λ (d : Drafted). d.indexes) done.filled ∙ done.prepared.indexes in
+          ap (λ n. parts n (map stored (paired next.tables rows')) next.indexes) (done.number ∙ done.prepared.number)
+          ∙ ap₂ (parts (db.number + 1)) (ap (map stored) pairs ∙ stored_after) rules
 
-    -- the catalog and the heaps of a draft in which the rows are in their places
-    module _ (draft put : Drafted) (kept_rows : List NamedRows) (next : Catalog) (rows' : List NamedRows) where
-      pub record IsDone : Type 0 where
-        pub drafted : draft ≡ record { tables = with_more [] (new ++ staying gone catalog.tables); indexes = staying_rules gone catalog.indexes }
-        pub kept : kept_rows ≡ rows
-        pub filled : put ≡ record draft { tables = with_rows_of (staying_rows gone kept_rows) draft.tables }
-        pub number : next.number ≡ catalog.number + 1
-        pub tables : next.tables ≡ map table_of put.tables
-        pub rules : next.indexes ≡ put.indexes
-        pub rows_are : rows' ≡ map named put.tables
+      pub store_exchanged : IsDatabase (exchanged db gone (map stored new)) → All IsUnderOwnKeys new → AreLiveTables next rows'
+      store_exchanged database own = record {
+        one_each = ap keys_of done.rows_are ∙ one_each_again put.tables ∙ ap (map (λ t. t.name)) (sym done.tables);
+        under_own_keys = subst (All IsUnderOwnKeys) (sym pairs)
+            (all_more IsUnderOwnKeys [] (new ++ kept gone before) (λ k d below. absurd (omega arith))
+            (All-append IsUnderOwnKeys new (kept gone before) own (All-filter (λ t. not (has same_name gone t.0.name)) IsUnderOwnKeys before live.under_own_keys)));
+        database = subst IsDatabase (sym view_exchanged) database;
+      }
 
-      module _ (done : IsDone) where
-        tables_put : put.tables ≡ after
-        tables_put = ap (λ (d : Drafted). d.tables) done.filled ∙ ap₂ (λ rs (d : Drafted). with_rows_of (staying_rows gone rs) d.tables) done.kept done.drafted ∙ ends_after
-
-        pairs : paired next.tables rows' ≡ after
-        pairs = ap₂ paired done.tables done.rows_are ∙ paired_again put.tables ∙ tables_put
-
-        pub view_exchanged : database_of next rows' ≡ exchanged db gone (map stored new)
-        view_exchanged =
-            let parts : (n : ℕ) (ts : List Stored) (rs : List IndexRule) → Database = λ n ts rs. record { number = n; tables = ts; indexes = rs } in
-            let rules : next.indexes ≡ staying_rules gone catalog.indexes = done.rules ∙ ap (λ (d : Drafted). d.indexes) done.filled ∙ ap (λ (d : Drafted). d.indexes) done.drafted in
-            ap (λ n. parts n (map stored (paired next.tables rows')) next.indexes) (done.number ∙ ap (λ (db : Database). db.number + 1) is)
-            ∙ ap₂ (parts (db.number + 1)) (ap (map stored) pairs ∙ stored_after) (rules ∙ ap (λ (db : Database). staying_rules gone db.indexes) is)
-
-        pub store_exchanged : All IsUnderOwnKeys new → AreLiveTables next rows'
-        store_exchanged own = record {
-          one_each = ap keys_of done.rows_are ∙ one_each_again put.tables ∙ ap (map (λ t. t.name)) (sym done.tables);
-          under_own_keys = subst (All IsUnderOwnKeys) (sym pairs)
-              (all_more IsUnderOwnKeys [] (new ++ kept gone before) (λ k d below. absurd (omega arith))
-              (All-append IsUnderOwnKeys new (kept gone before) own (All-filter (λ t. not (has same_name gone t.0.name)) IsUnderOwnKeys before live.under_own_keys)));
-          database = subst IsDatabase (sym view_exchanged) database;
-        }
+-- what was built up for an exchange that leaves a database has its names apart
+pub prepared_apart : (db : Database) (gone : List (List ℕ)) (new other : List TableRows) (exchange : Prepared) → IsDatabase (exchanged db gone (map stored new)) → IsExchangeOf (catalog_of db) gone new exchange → IsExchangeOf (catalog_of db) gone other exchange
+    → AreNamedApart (tables_after (catalog_of db) gone other)
+prepared_apart db gone new other exchange database is is' = ap (λ (ts : List TableRows). rises name_cmp (map name_of_rows ts)) (sym is'.tables ∙ is.tables) ∙ names_apart db gone new database

@@ -1,10 +1,12 @@
+pub mod Aside
 mod Committed
 mod Created
 mod Drafts
-mod Exchanged
+pub mod Exchanged
 mod Heaps
 mod Held
 mod Paired
+mod Swapped
 mod Written
 pub mod keeps
 pub mod locking

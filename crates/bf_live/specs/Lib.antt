@@ -1,4 +1,5 @@
 pub mod Actions
+pub mod Aside
 pub mod Autocommit
 pub mod Commits
 pub mod Drafts

@@ -1,5 +1,5 @@
 -- What live tables hold: a catalog, and a heap for each of its tables.
-use Rattle.std.specs.Prelude.{◌≡◌, ℕ, ◌+◌, List, map, zip}
+use Rattle.std.specs.Prelude.{◌≡◌, ℕ, ◌+◌, List, map, zip, if◌then◌else◌}
 use Rattle.std.specs.List.{All}
 use Rattle.std.specs.Map.{keys_of, values_of}
 use Rattle.bf_base.specs.declared.table.Table.{Table}
@@ -20,6 +20,10 @@ NamedRows = List ℕ × List Entry
 
 abbrev pub rows_in : List NamedHeap → List NamedRows
 rows_in heaps = map (λ heap. (heap.0, heap.1.entries)) heaps
+
+-- the rows of heaps, with others in the place of those under a name
+abbrev pub with_rows_under : List ℕ → List Entry → List NamedRows → List NamedRows
+with_rows_under name entries rows = map (λ (r : NamedRows). (r.0, if same_name name r.0 then entries else r.1)) rows
 
 -- a table with its rows under their keys
 abbrev pub TableRows : Type 0

@@ -1,10 +1,11 @@
 //! What a schema change makes of the live tables, built up beside them.
 
-ghost use Rattle.std.specs.Prelude.{◌≡◌, [], ◌∷◌, ◌++◌, IfOk, None, map};
+ghost use Rattle.std.specs.Prelude.{◌≡◌, [], ◌∷◌, IfOk, None, map};
 ghost use Rattle.bf_base.specs.Lists.{has, name_cmp, placed, same_name};
 ghost use Rattle.bf_live.specs.Live.{held_in, rows_in};
-ghost use Rattle.bf_live.specs.Drafts.{AreNamedApart, drafted_at, name_of_rows, rule_named, staying, staying_rows, staying_rules, with_more, with_rows_of};
+ghost use Rattle.bf_live.specs.Drafts.{AreNamedApart, drafted_at, name_of_rows, rule_named, staying, staying_rows, staying_rules, tables_after, with_more, with_rows_of};
 
+use crate::by_name::exchange_heap;
 use bf_base::{Memory, Name, Table};
 use bf_heap::Heap;
 use bf_tree::{Catalog, IndexRule};
@@ -159,9 +160,9 @@ impl Draft {
         gone: &[Name],
         new: Vec<(Table, Heap)>,
     ) -> Result<Draft, Memory>
-        requires { AreNamedApart (with_more [] (held_in new.items ++ staying gone.now old.now.tables)) }
+        requires { AreNamedApart (tables_after old.now gone.now (held_in new.items)) }
         ensures { IfOk result (λ draft. draft ≡ record {
-          tables = with_more [] (held_in new.items ++ staying gone.now old.now.tables);
+          tables = tables_after old.now gone.now (held_in new.items);
           indexes = staying_rules gone.now old.now.indexes;
         }) }
     {
@@ -177,9 +178,7 @@ impl Draft {
           tables = with_rows_of ((name.now, heap.entries) ∷ []) self.old.tables;
         } }
     {
-        if let Some(place) = self.heaps.get_mut(name) {
-            *place = heap;
-        }
+        exchange_heap(&mut self.heaps, name, heap);
     }
 
     /// Puts the heaps of the tables that stay in their places, and lets go of the others. Takes no

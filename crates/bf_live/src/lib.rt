@@ -1,6 +1,7 @@
 //! The committed tables: a catalog, and the rows of each of its tables in a heap.
 #![tactic(auto)]
 
+mod by_name;
 mod commit;
 mod draft;
 pub mod footprint_laws;
@@ -8,5 +9,5 @@ pub mod laws;
 pub mod live_tables;
 pub mod on_table;
 
-pub use live_tables::LiveTables;
+pub use live_tables::{Exchange, LiveTables};
 pub use on_table::run_on_table;

@@ -1,15 +1,17 @@
 //! The live tables.
 
-ghost use Rattle.std.specs.Prelude.{◌≡◌, [], ◌∷◌, OnErr, OnOk, map};
+ghost use Rattle.std.specs.Prelude.{◌≡◌, List, [], ◌∷◌, IfOk, OnErr, OnOk, map};
 ghost use Rattle.std.specs.List.{All};
 ghost use Rattle.std.specs.Option.{option_map};
 ghost use Rattle.bf_query.specs.Meanings.{entries_of};
 ghost use Rattle.bf_query.specs.Merged.{StandUnderOwnKeys};
-ghost use Rattle.bf_sql.specs.Database.{IsDatabase, empty_database, stored_at, stored_in_order, with_tables};
+ghost use Rattle.bf_sql.specs.Database.{IsDatabase, Stored, empty_database, stored_at, stored_in_order, with_rows, with_tables};
 ghost use Rattle.bf_sql.specs.Meaning.{next_number, with_index};
 ghost use Rattle.bf_sql.specs.Bound.{catalog_of};
-ghost use Rattle.bf_live.specs.Live.{IsUnderOwnKeys, committed, exchanged, held_in, stored};
+ghost use Rattle.bf_live.specs.Drafts.{AreNamedApart, CanExchange, IsExchangeOf, tables_after};
+ghost use Rattle.bf_live.specs.Live.{IsUnderOwnKeys, TableRows, committed, exchanged, held_in, stored};
 
+use crate::by_name::exchange_heap;
 use crate::commit::{apply, make_room};
 use crate::draft::Draft;
 use bf_base::{Memory, Name, Table};
@@ -28,6 +30,24 @@ pub struct LiveTables {
     catalog: Catalog,
     /// For the name of each table of the catalog, the rows.
     heaps: BTreeMap<Name, Heap>,
+}
+
+/// What an exchange is to make of live tables, built up beside them.
+#[derive(Drop)]
+pub struct Exchange {
+    number: u64,
+    draft: Draft,
+}
+
+impl Model for Exchange {
+    ghost use Rattle.bf_live.specs.Drafts.{Prepared};
+
+    ghost Value = { Prepared };
+
+    ghost view = { λ exchange. record {
+      number = exchange.number;
+      drafted = exchange.draft;
+    } };
 }
 
 impl Model for LiveTables {
@@ -121,14 +141,69 @@ impl LiveTables {
             ≡ exchanged self.old gone.now (map stored (held_in new.items))) }
         ensures err { OnErr result (self.new ≡ self.old) }
     {
+        let exchange = self.prepare_exchange(gone, new)?;
+        self.exchange(gone, exchange);
+        Ok(())
+    }
+
+    /// Builds up beside the live tables what an exchange is to make of them, and reads their catalog
+    /// alone: their rows may change until then. Each table and each index rule is compared with the
+    /// names that leave, and a table is placed by about log n compares; the columns of those that stay
+    /// are copied.
+    ///
+    /// # Errors
+    /// Where memory runs out, or 2 ^ 64 schema changes were made.
+    pub fn prepare_exchange(
+        &self,
+        gone: &[Name],
+        new: Vec<(Table, Heap)>,
+    ) -> Result<Exchange, Memory>
+        requires { AreNamedApart (tables_after (catalog_of self.now) gone.now (held_in new.items)) }
+        ensures { IfOk result (λ exchange. IsExchangeOf
+            (catalog_of self.now) gone.now (held_in new.items) exchange) }
+    {
         let number = self.catalog.number().checked_add(1).ok_or(Memory)?;
-        let mut draft = Draft::of(self.alloc, &self.catalog, gone, new)?;
+        let draft = Draft::of(self.alloc, &self.catalog, gone, new)?;
+        Ok(Exchange { number, draft })
+    }
+
+    /// Tables leave with their index rules and their rows, and new ones come, as was built up: one
+    /// schema change. Each table is compared with the names that leave, and the heap of one that stays
+    /// is placed by about log n compares. Takes no memory.
+    pub fn exchange(&mut self, gone: &[Name], exchange: Exchange)
+        requires { CanExchange self.old gone.now exchange }
+        ensures { (new : List TableRows)
+            → IsExchangeOf (catalog_of self.old) gone.now new exchange
+            → self.new ≡ exchanged self.old gone.now (map stored new) }
+    {
+        let Exchange { number, mut draft } = exchange;
         let old = mem::replace(&mut self.heaps, BTreeMap::new(self.alloc));
         draft.put_staying(gone, old);
         let (catalog, heaps) = draft.into_parts();
         self.catalog = catalog.with_number(number);
         self.heaps = heaps;
-        Ok(())
+    }
+
+    /// Takes the rows of the table of a name out, which leaves it without rows: `None` exactly where no
+    /// table has the name. It compares about log n names. Takes no memory.
+    pub fn take_rows(&mut self, name: &Name) -> Option<Heap>
+        ensures live { self.new ≡ with_rows self.old name.now [] }
+        ensures rows { option_map (λ heap. heap.entries) result
+            ≡ option_map (λ s. entries_of s.table s.rows) (stored_at self.old name.now) }
+    {
+        exchange_heap(&mut self.heaps, name, Heap::new(self.alloc))
+    }
+
+    /// Puts rows into the table of a name in place of those that it has, if the table is there. It
+    /// compares about log n names. Takes no memory.
+    pub fn put_rows(&mut self, name: &Name, rows: Heap)
+        requires own_keys { (s : Stored) → stored_at self.old name.now ≡ Some s
+            → rows.entries ≡ entries_of s.table (map (λ entry. entry.1) rows.entries) }
+        requires database { IsDatabase
+            (with_rows self.old name.now (map (λ entry. entry.1) rows.entries)) }
+        ensures { self.new ≡ with_rows self.old name.now (map (λ entry. entry.1) rows.entries) }
+    {
+        exchange_heap(&mut self.heaps, name, rows);
     }
 
     /// The same tables and index rules, after as many schema changes as are told: what stands for other

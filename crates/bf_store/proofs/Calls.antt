@@ -9,23 +9,23 @@ use Rattle.bf_sql.specs.Database.{Stored}
 use Rattle.bf_sql.specs.migrations.Images.{flipped}
 use Rattle.bf_sql.specs.migrations.Lazy.{Migration, LazyState, view_of}
 use Rattle.bf_sql.specs.migrations.Need.{needed_for}
-use Rattle.bf_image.proofs.items.Lists.{none_left, none_right}
 use Rattle.bf_live.specs.Live.{committed, written_to}
 use Rattle.bf_live.specs.Open.{IsOpen}
 use Rattle.bf_store.specs.Calls.{cover_of, IsNeedOf, IsMoveOf, MayFlip, IsFlipOf, IsLegalCommit, IsCommitOf, with_commit}
 use Rattle.bf_store.specs.States.{AreFree, IsLazy, IsSeenAs, IsOpenLazily, IsQuiet, AreGranulesIfAny, HaveMoved, to_move}
-use Rattle.bf_store.proofs.changing.Keeping.{flips_frozen}
-use Rattle.bf_store.proofs.moving.Moves.{moves}
+use Rattle.bf_store.proofs.changing.Keeping.{flip_lawful, flips_frozen}
+use Rattle.bf_store.specs.declared.moved.Moved.{Moved}
+use Rattle.bf_store.proofs.moving.Ordered.{moves_in_order}
 use Rattle.bf_store.proofs.moving.Needing.{done_if_none_left}
 use Rattle.bf_store.proofs.seeing.Committing.{commits}
 
-pub move_call : (lazy after : LazyState) (gs : List Granule) (fresh already : List (Granule × ℕ)) → IsLazy lazy
-    → AreGranulesIfAny lazy.last gs → IsMoveOf lazy after gs fresh already → IsQuiet lazy after
-move_call lazy after gs fresh already is are call = subst (IsQuiet lazy) (sym call.state) (moves lazy gs is are)
+pub move_call : (lazy after : LazyState) (gs : List Granule) (told : Moved) → IsLazy lazy → AreGranulesIfAny lazy.last gs
+    → IsMoveOf lazy after gs told → IsQuiet lazy after
+move_call lazy after gs told is are call = subst (IsQuiet lazy) (sym call.state) (moves_in_order lazy gs is are)
 
 pub flip_call : (lazy after : LazyState) (m : Migrate) (number : ℕ) → IsLazy lazy → MayFlip lazy m → IsFlipOf lazy after m number
     → IsSeenAs (flipped (view_of lazy) m) after
-flip_call lazy after m number is may call = subst (IsSeenAs (flipped (view_of lazy) m)) (sym call.state) (flips_frozen lazy m is may.complete (record { database = is.live; unobjected = none_left _ _ may.unrefused; few = none_right _ _ may.unrefused }))
+flip_call lazy after m number is may call = subst (IsSeenAs (flipped (view_of lazy) m)) (sym call.state) (flips_frozen lazy m is may.complete (flip_lawful lazy m is may))
 
 pub commit_seen : (lazy : LazyState) (writes : List Write) → IsLazy lazy → IsOpenLazily lazy writes
     → IsSeenAs (committed (view_of lazy) writes) (with_commit lazy writes)

@@ -1,5 +1,9 @@
 pub mod Calls
+pub mod Granules
+pub mod Marking
+pub mod Storing
 pub mod WorkedMoves
+pub mod aside
 pub mod changing
 pub mod coming
 pub mod moving

@@ -1,7 +1,14 @@
 -- Granules move, and nobody sees it.
+pub mod Ahead
+pub mod Anchoring
 pub mod Moves
 pub mod Moving
 pub mod Needing
 pub mod Opened
+pub mod Ordered
+pub mod Put
+pub mod Putting
+pub mod Stored
 pub mod Sweeping
+pub mod Targets
 pub mod Unordered

@@ -14,9 +14,11 @@ use Rattle.bf_sql.specs.Database.{stored_at, table_at, table_rows}
 use Rattle.bf_sql.specs.Objections.{objections}
 use Rattle.bf_sql.specs.RowObjections.{row_objections}
 use Rattle.bf_sql.specs.migrations.Granules.{same_granule}
-use Rattle.bf_sql.specs.migrations.Lazy.{Migration, LazyState, migrations_so_far, pending_of, view_of, moved, sweep_of}
+use Rattle.bf_sql.specs.migrations.Lazy.{Migration, LazyState, migrations_so_far, pending_of, view_of, sweep_of}
 use Rattle.bf_live.specs.Live.{committed}
-use Rattle.bf_store.specs.States.{IsOpenLazily, frozen_lazily, need_of, to_move}
+use Rattle.bf_store.specs.declared.moved.Moved.{Moved}
+use Rattle.bf_store.specs.declared.moved.Receipt.{Receipt}
+use Rattle.bf_store.specs.States.{IsOpenLazily, frozen_lazily, need_of, to_move, with_moved}
 
 -- COVER: exactly what a bound statement needs, in order of unit and place: all granules for a MIGRATE, none where there is
 -- no migration
@@ -32,12 +34,16 @@ abbrev pub moved_by : Option Migration → Granule → Option ℕ
 moved_by None g = None
 moved_by (Some last) g = option_map (λ d. d.number) (find (λ d. same_granule d.granule g) last.done)
 
+-- what is told of a granule that has moved now
+abbrev pub receipt_of : LazyState → Granule → Receipt
+receipt_of lazy g = record { migration = migrations_so_far lazy.last; granule = g; number = lazy.records + 1 }
+
 -- MOVE, of granules of the migration that differ: by one record those that have not moved, each told with the number of that
 -- record, and those that had moved before with the number of theirs
-pub record IsMoveOf (lazy after : LazyState) (granules : List Granule) (fresh already : List (Granule × ℕ)) : Type 0 where
-  pub state : after ≡ moved lazy granules
-  pub receipts : fresh ≡ map (λ g. (g, lazy.records + 1)) (to_move lazy.last granules)
-  pub before : already ≡ filter_map (λ g. option_map (λ n. (g, n)) (moved_by lazy.last g)) granules
+pub record IsMoveOf (lazy after : LazyState) (granules : List Granule) (told : Moved) : Type 0 where
+  pub state : after ≡ with_moved lazy granules
+  pub fresh : told.fresh.items ≡ map (receipt_of lazy) (to_move lazy.last granules)
+  pub already : told.already.items ≡ filter_map (λ g. option_map (λ n. (g, n)) (moved_by lazy.last g)) granules
 
 -- FLIP: a caller sees that nothing is pending, and that neither the catalog nor the rows have anything against the MIGRATE
 pub record MayFlip (lazy : LazyState) (m : Migrate) : Type 0 where

@@ -1,10 +1,17 @@
 -- What is true of a lazy state, and of the writes of a transaction that is open over it.
 use Rattle.std.specs.Prelude.{◌≡◌, Bool, true, not, List, [], map, Option, Some, None, IsTrue}
 use Rattle.std.specs.List.{list_all, AllByRecursion}
+use Rattle.std.specs.Option.{option_map}
+use Rattle.std.specs.Ordering.{nat_cmp, on, then_cmp}
+use Rattle.std.specs.declared.cmp.Ordering.{Ordering}
+use Rattle.std.specs.declared.cmp.Ordering.TheVariants.{Less, Greater}
 use Rattle.bf_base.specs.declared.granule.Granule.{Granule}
+use Rattle.bf_base.specs.declared.granule.Place.{Place}
+use Rattle.bf_base.specs.declared.granule.Place.TheVariants.{Row, Group}
 use Rattle.bf_base.specs.declared.table.Table.{Table}
 use Rattle.bf_base.specs.declared.value.Value.{Value}
-use Rattle.bf_base.specs.Lists.{same_key, has}
+use Rattle.bf_base.specs.Lists.{same_key, has, in_order}
+use Rattle.bf_base.specs.Values.{key_cmp}
 use Rattle.bf_base.specs.Tables.{key_of}
 use Rattle.bf_base.proofs.Apart.{are_apart}
 use Rattle.bf_tree.specs.declared.bound.Action.{Action}
@@ -12,13 +19,23 @@ use Rattle.bf_tree.specs.declared.migration.Migrate.{Migrate}
 use Rattle.bf_txn.specs.declared.write.Write.{Write}
 use Rattle.bf_sql.specs.Database.{Database, IsDatabase}
 use Rattle.bf_sql.specs.migrations.Granules.{granules_of, same_granule}
-use Rattle.bf_sql.specs.migrations.Lazy.{Migration, LazyState, due, is_done, not_done, view_of, IsValid, begun, flipped_lazily}
+use Rattle.bf_sql.specs.migrations.Lazy.{Migration, LazyState, due, is_done, not_done, view_of, IsValid, begun, flipped_lazily, moved}
 use Rattle.bf_sql.specs.migrations.Need.{needed_for}
 use Rattle.bf_sql.specs.migrations.Targets.{target_table}
 use Rattle.bf_image.specs.Laws.{IsLawful}
 use Rattle.bf_image.specs.Sources.{frozen_of, table_under}
 use Rattle.bf_live.specs.Live.{committed}
 use Rattle.bf_live.specs.Open.{IsOpen}
+
+-- granules by unit, then by place: rows by position, before values in their order
+abbrev pub place_cmp : Place → Place → Ordering
+place_cmp (Row m) (Row n) = nat_cmp m n
+place_cmp (Row m) (Group w) = Less
+place_cmp (Group v) (Row n) = Greater
+place_cmp (Group v) (Group w) = key_cmp v w
+
+abbrev pub granule_cmp : Granule → Granule → Ordering
+granule_cmp = then_cmp (on (λ g. g.unit) nat_cmp) (on (λ g. g.place) place_cmp)
 
 -- the granules that have moved
 abbrev pub granules_done : Migration → List Granule
@@ -101,6 +118,24 @@ abbrev pub settled_by : Migration → Option Granule → Bool
 settled_by last None = true
 settled_by last (Some g) = is_done last g
 
--- the flip as a store can do it: of the old tables it keeps the sources alone
+-- the old tables of a MIGRATE, in the order of their names, without the number and the indexes of their database
+abbrev pub set_aside : Database → Migrate → Database
+set_aside db m = record { number = 0; tables = (frozen_of db m).tables; indexes = [] }
+
+-- the flip as a store can do it: of the old database it keeps the sources' tables alone
 abbrev pub frozen_lazily : LazyState → Migrate → LazyState
-frozen_lazily lazy m = record (flipped_lazily lazy m) { last = Some (begun lazy.last (frozen_of lazy.live m) m) }
+frozen_lazily lazy m = record (flipped_lazily lazy m) { last = Some (begun lazy.last (set_aside lazy.live m) m) }
+
+-- ORDER OF PLACE: the numbers tell in which order granules moved, so those that have moved are kept in the order of unit and place
+abbrev pub by_place : Migration → Migration
+by_place last = record last { done = in_order granule_cmp (λ d. d.granule) last.done }
+
+abbrev pub with_moved : LazyState → List Granule → LazyState
+with_moved lazy granules =
+    let after = moved lazy granules in
+    record after { last = option_map by_place after.last }
+
+-- the granules of the last migration that have moved
+abbrev pub granules_done_if_any : Option Migration → List Granule
+granules_done_if_any None = []
+granules_done_if_any (Some last) = granules_done last

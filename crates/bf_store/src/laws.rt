@@ -34,6 +34,7 @@ ghost use Rattle.bf_query.specs.Meanings.{IsBoundAs};
 ghost use Rattle.bf_image.specs.Laws.{IsLawful};
 ghost use Rattle.bf_live.specs.Live.{committed};
 ghost use Rattle.bf_live.specs.Open.{IsOpen, IsStep};
+ghost use Rattle.bf_store.specs.declared.moved.Moved.{Moved};
 ghost use Rattle.bf_store.specs.Calls.{cover_of, with_commit, IsCommitOf, IsFlipOf, IsLegalCommit, IsMoveOf, IsNeedOf, MayFlip};
 ghost use Rattle.bf_store.specs.States.{frozen_lazily, AreGranulesIfAny, HaveMoved, IsLazy, IsOpenLazily, IsQuiet, IsSeenAs, IsUnderWay, is_free, need_of, need_of_all, settled_by};
 
@@ -42,8 +43,8 @@ pub fn the_view_is_a_database()
     ensures { (lazy : LazyState) → IsLazy lazy → IsDatabase (view_of lazy) }
 {}
 
-/// Where nothing is left to move, a flip that keeps the old database and moves nothing is seen as the
-/// flip that makes whole images.
+/// Where nothing is left to move, a flip that keeps the old database and moves nothing is seen as
+/// the flip that makes whole images.
 pub fn a_lazy_flip_is_seen_as_the_flip()
     ensures { (lazy : LazyState) (m : Migrate) → IsLazy lazy → pending_of lazy.last ≡ []
         → IsLawful lazy.live m → IsSeenAs (flipped (view_of lazy) m) (flipped_lazily lazy m) }
@@ -82,8 +83,8 @@ pub fn a_transaction_begins_open()
         → IsStep (view_of lazy) before before in_block s (reply.Refused r) }
 {}
 
-/// A statement is prepared in the catalog of the live tables as it is in that of the database that is
-/// seen, and what it needs there is its cover here.
+/// A statement is prepared in the catalog of the live tables as it is in that of the database that
+/// is seen, and what it needs there is its cover here.
 pub fn a_statement_is_prepared_as_it_is_seen()
     ensures prepared { (lazy : LazyState) (in_block : Bool) (s : Statement) → IsLazy lazy
         → prepared_of (view_of lazy) in_block s ≡ prepared_of lazy.live in_block s }
@@ -93,10 +94,10 @@ pub fn a_statement_is_prepared_as_it_is_seen()
         → needed_by last.old last.migrate (view_of lazy) in_block s ≡ cover_of lazy.last bound }
 {}
 
-/// A SELECT, INSERT, UPDATE or DELETE of an open transaction, whose need has moved, which replies and
-/// writes on the live tables under the transaction's own writes what it means there, replies and
-/// writes what it means on the database that is seen, under the same writes; and the transaction
-/// stays open.
+/// A SELECT, INSERT, UPDATE or DELETE of an open transaction, whose need has moved, which replies
+/// and writes on the live tables under the transaction's own writes what it means there, replies
+/// and writes what it means on the database that is seen, under the same writes; and the
+/// transaction stays open.
 pub fn a_step_is_seen()
     ensures step { (lazy : LazyState) (before after : List Write) (in_block : Bool) (s : Statement)
         (act : Action) (table : Table) (answer : Reply) → IsLazy lazy → IsOpenLazily lazy before
@@ -113,9 +114,9 @@ pub fn a_step_is_seen()
         → IsStep lazy.live before after in_block s answer → IsOpenLazily lazy after }
 {}
 
-/// The writes of an open transaction leave a lazy state lazy once they are committed, and are seen as
-/// the same writes to the database that is seen. Another transaction that is still open over the live
-/// tables then is open still.
+/// The writes of an open transaction leave a lazy state lazy once they are committed, and are seen
+/// as the same writes to the database that is seen. Another transaction that is still open over the
+/// live tables then is open still.
 pub fn a_commit_is_seen()
     ensures committed { (lazy : LazyState) (writes : List Write) → IsLazy lazy
         → IsOpenLazily lazy writes
@@ -135,7 +136,8 @@ pub fn a_key_is_free_exactly_where_its_owner_has_moved()
 {}
 
 /// For a further MIGRATE all granules that are left move, nobody sees it, and then none is pending;
-/// where the catalog and the rows then have nothing against it, its lazy flip is seen as the statement.
+/// where the catalog and the rows then have nothing against it, its lazy flip is seen as the
+/// statement.
 pub fn a_further_migration_moves_all_first()
     ensures quiet { (lazy : LazyState) → IsLazy lazy
         → IsQuiet lazy (moved lazy (need_of_all lazy.last)) }
@@ -201,12 +203,13 @@ pub fn a_sweep_is_complete_exactly_where_nothing_is_pending()
         → (sweep_of (Some last) ≡ Complete last.number (length last.done)) ↔ (pending last ≡ []) }
 {}
 
-/// What each call of a store does is seen as what it stands for: nothing where granules move, the flip,
-/// and the commit. Where nothing is left of the cover of a bound statement, its need has moved.
+/// What each call of a store does is seen as what it stands for: nothing where granules move, the
+/// flip, and the commit. Where nothing is left of the cover of a bound statement, its need has
+/// moved.
 pub fn the_calls_of_a_store_are_seen()
     ensures moved { (lazy after : LazyState) (granules : List Granule)
-        (fresh already : List (Granule × ℕ)) → IsLazy lazy → AreGranulesIfAny lazy.last granules
-        → IsMoveOf lazy after granules fresh already → IsQuiet lazy after }
+        (told : Moved) → IsLazy lazy → AreGranulesIfAny lazy.last granules
+        → IsMoveOf lazy after granules told → IsQuiet lazy after }
     ensures flipped { (lazy after : LazyState) (m : Migrate) (number : ℕ) → IsLazy lazy
         → MayFlip lazy m → IsFlipOf lazy after m number
         → IsSeenAs (flipped (view_of lazy) m) after }

@@ -1,5 +1,15 @@
-//! A lazy store, of which there are the definitions and the laws so far: live tables into which the rows of a
-//! migration move late.
+//! The lazy store: live tables into which the rows of a migration move late, and the laws of such
+//! states.
 #![tactic(auto)]
 
+mod anchor;
+mod done;
+mod flip;
 pub mod laws;
+pub mod moved;
+mod movement;
+pub mod store;
+mod under_way;
+
+pub use moved::{Moved, Receipt};
+pub use store::Store;

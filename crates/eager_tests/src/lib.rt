@@ -7,3 +7,5 @@ mod entries;
 mod naive;
 #[cfg(test)]
 mod random;
+#[cfg(test)]
+mod registries;

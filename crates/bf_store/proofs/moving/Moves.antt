@@ -26,12 +26,12 @@ abbrev at_no_record : Database → Migration → LazyState
 at_no_record live last = record { live = live; last = Some last; records = 0 }
 
 -- what is left after a move that nobody sees
-record HasMoved (live : Database) (last : Migration) (tables : List Stored) (done : List DoneGranule) : Type 0 where
-  database : IsDatabase (record live { tables = tables })
-  way : IsUnderWay (record live { tables = tables }) (record last { done = done })
-  valid : list_all (is_on_time (Some (record last { done = done }))) tables ≡ true
-  view : map (seen (Some (record last { done = done }))) tables ≡ map (seen (Some last)) live.tables
-  opened : (writes : List Write) → IsOpenLazily (at_no_record live last) writes
+pub record HasMoved (live : Database) (last : Migration) (tables : List Stored) (done : List DoneGranule) : Type 0 where
+  pub database : IsDatabase (record live { tables = tables })
+  pub way : IsUnderWay (record live { tables = tables }) (record last { done = done })
+  pub valid : list_all (is_on_time (Some (record last { done = done }))) tables ≡ true
+  pub view : map (seen (Some (record last { done = done }))) tables ≡ map (seen (Some last)) live.tables
+  pub opened : (writes : List Write) → IsOpenLazily (at_no_record live last) writes
       → IsOpenLazily (at_no_record (record live { tables = tables }) (record last { done = done })) writes
 
 with_none : (last : Migration) (s : Stored) → with_rows_of last [] s ≡ s
@@ -49,7 +49,7 @@ with_more last g gs s =
     ∙ sym (fold-append (λ (rows : List (List Value)) (row : List Value). place rows (row ∷ [])) s.rows own others) in
     λ i. record { table = s.table; rows = rows i }
 
-moves_by : (number : ℕ) (gs : List Granule) (live : Database) (last : Migration) → IsDatabase live → IsUnderWay live last → list_all (is_on_time (Some last)) live.tables ≡ true
+pub moves_by : (number : ℕ) (gs : List Granule) (live : Database) (last : Migration) → IsDatabase live → IsUnderWay live last → list_all (is_on_time (Some last)) live.tables ≡ true
     → list_all (has same_granule (pending last)) gs ≡ true → are_apart same_granule gs ≡ true
     → HasMoved live last (map (with_rows_of last gs) live.tables) (last.done ++ map (done_by number) gs)
 moves_by number [] live last is way valid wait apart =

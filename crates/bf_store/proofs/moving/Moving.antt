@@ -28,7 +28,7 @@ use Rattle.bf_store.proofs.coming.Parts.{granules_apart}
 use Rattle.bf_store.proofs.seeing.Committing.{still_under_way}
 
 -- what a filter leaves passes its test
-passes_if_has : (test : Granule → Bool) (xs : List Granule) (g : Granule) → has same_granule (filter test xs) g ≡ true → test g ≡ true
+pub passes_if_has : (test : Granule → Bool) (xs : List Granule) (g : Granule) → has same_granule (filter test xs) g ≡ true → test g ≡ true
 passes_if_has test [] g there = absurd (false≢true there)
 passes_if_has test (x ∷ xs) g there = elim (cases_Bool (test x)) [
   | inl passes ↦

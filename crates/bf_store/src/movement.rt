@@ -1,0 +1,241 @@
+//! Granules move: the rows that come from them are put into the live tables.
+
+ghost use Rattle.std.specs.Prelude.{◌≡◌, ◌<◌, ◌^◌, [], fold, map, length, IfOk, OnErr, OnOk, Some};
+ghost use Rattle.bf_base.specs.Tables.{cell, key_of};
+ghost use Rattle.bf_sql.specs.migrations.Granules.{part_of};
+ghost use Rattle.bf_txn.specs.Writes.{with_write};
+ghost use Rattle.bf_image.specs.Migrations.{IsLawfulMigration, old_of, target_at, value_indexes};
+ghost use Rattle.bf_store.specs.Anchors.{next_from};
+ghost use Rattle.bf_store.specs.Marks.{AreFresh, marked, unmarked};
+ghost use Rattle.bf_store.specs.Puts.{MayMove, put_of, puts_of, with_rows_in};
+ghost use Rattle.bf_store.specs.Calls.{IsMoveOf};
+ghost use Rattle.bf_store.specs.States.{AreGranules, IsLazy};
+ghost use Rattle.bf_store.specs.Stores.{IsCounted, IsStore, last_seen, lazy_seen};
+
+use crate::anchor::{Anchor, next_anchor};
+use crate::done::Done;
+use crate::moved::{Moved, receipts};
+use crate::under_way::UnderWay;
+use bf_base::{Granule, Key, Memory, Row, Table, Value};
+use bf_image::{Migration, ValueIndexes, rows_of};
+use bf_live::LiveTables;
+use bf_txn::Workspace;
+use std::alloc::Global;
+
+/// The value of a column of a row.
+fn value_at(alloc: Global, row: &Row, place: u8) -> Result<Value, Memory>
+    ensures { IfOk result (λ value. value ≡ cell row.now place) }
+{
+    match row.as_slice().get(place as usize) {
+        Some(value) => value.copy(alloc),
+        None => Ok(Value::Int(0)),
+    }
+}
+
+/// The key of a row of a table.
+fn key_under(alloc: Global, table: &Table, row: &Row) -> Result<Key, Memory>
+    ensures { IfOk result (λ key. key ≡ key_of table.now row.now) }
+{
+    let places = table.key.as_slice();
+    let mut values = Vec::with_capacity(alloc, places.len())?;
+    for place in places {
+        values.push(value_at(alloc, row, *place)?)?;
+    }
+    Ok(Key::of(values))
+}
+
+/// Puts a row of a target under its key.
+fn put_row(
+    alloc: Global,
+    migration: &Migration,
+    target: u8,
+    row: Row,
+    writes: &mut Workspace,
+) -> Result<(), Memory>
+    requires { IsLawfulMigration migration.now }
+    ensures { OnOk result (0 < length (target_at migration.now target).arms
+        → writes.new ≡ with_write writes.old
+        (put_of (old_of migration.now) (target_at migration.now target, row))) }
+{
+    let Some(table) = migration.plan.tables.as_slice().get(target as usize) else {
+        return Ok(());
+    };
+    let name = table.name.copy(alloc)?;
+    let key = key_under(alloc, table, &row)?;
+    writes.write(name, key, Some(row))
+}
+
+/// Puts the rows that come from a granule under their keys.
+fn put_part(
+    alloc: Global,
+    migration: &Migration,
+    indexes: &ValueIndexes,
+    granule: &Granule,
+    writes: &mut Workspace,
+) -> Result<(), Memory>
+    requires lawful { IsLawfulMigration migration.now }
+    requires indexed { indexes.now ≡ value_indexes migration.now }
+    ensures { OnOk result (writes.new ≡ fold with_write writes.old
+        (map (put_of (old_of migration.now))
+        (part_of (old_of migration.now) migration.now.plan.migrate granule.now))) }
+{
+    let part = rows_of(alloc, migration, indexes, granule)?;
+    for (target, row) in part {
+        put_row(alloc, migration, target, row, writes)?;
+    }
+    Ok(())
+}
+
+/// The writes that put the rows that come from some granules into the tables of their targets.
+fn puts(
+    alloc: Global,
+    migration: &Migration,
+    indexes: &ValueIndexes,
+    granules: &[Granule],
+) -> Result<Workspace, Memory>
+    requires lawful { IsLawfulMigration migration.now }
+    requires indexed { indexes.now ≡ value_indexes migration.now }
+    ensures { IfOk result (λ writes. writes ≡ fold with_write []
+        (puts_of (old_of migration.now) migration.now.plan.migrate granules.now)) }
+{
+    let mut writes = Workspace::new(alloc);
+    for granule in granules {
+        put_part(alloc, migration, indexes, granule, &mut writes)?;
+    }
+    Ok(writes)
+}
+
+/// The first anchor from one on whose granule has not moved.
+///
+/// # Errors
+/// Where memory runs out, or 2 ^ 32 granules have moved.
+fn next_if_few(
+    alloc: Global,
+    migration: &Migration,
+    done: &Done,
+    from: Option<Anchor>,
+) -> Result<Option<Anchor>, Memory>
+    requires { IsLawfulMigration migration.now }
+    ensures few { OnOk result (length done.now < 2 ^ 32) }
+    ensures next { IfOk result (λ next. next ≡ next_from migration.now done.now from) }
+{
+    if done.len() > u32::MAX as usize {
+        return Err(Memory);
+    }
+    match from {
+        Some(from) => next_anchor(alloc, migration, done, from),
+        None => Ok(None),
+    }
+}
+
+/// Notes that one record has moved some granules, and finds the next anchor.
+///
+/// # Errors
+/// Where memory runs out, or 2 ^ 32 granules have moved. Nothing is noted then.
+fn note(
+    alloc: Global,
+    migration: &Migration,
+    done: &mut Done,
+    from: Option<Anchor>,
+    fresh: &[Granule],
+    number: u64,
+) -> Result<Option<Anchor>, Memory>
+    requires lawful { IsLawfulMigration migration.now }
+    requires fresh { AreFresh done.old fresh.now }
+    ensures done { OnOk result (done.new ≡ marked done.old fresh.now number) }
+    ensures back { OnOk result (unmarked done.new fresh.now ≡ done.old) }
+    ensures few { OnOk result (length done.new < 2 ^ 32) }
+    ensures next { IfOk result (λ next. next ≡ next_from migration.now done.new from) }
+    ensures err { OnErr result (done.new ≡ done.old) }
+{
+    done.mark(alloc, fresh, number)?;
+    match next_if_few(alloc, migration, done, from) {
+        Ok(next) => Ok(next),
+        Err(memory) => {
+            done.unmark(fresh);
+            Err(memory)
+        }
+    }
+}
+
+/// Moves those of some granules of a migration, which differ, that have not moved, as one change,
+/// and tells what it has come to. It costs what the granules have, and a look-up for each row and
+/// each granule.
+///
+/// # Errors
+/// Where memory runs out, or 2 ^ 32 granules have moved or 2 ^ 64 changes were made. All is as it
+/// was then.
+pub(crate) fn move_granules(
+    alloc: Global,
+    live: &mut LiveTables,
+    last: &mut UnderWay,
+    records: &mut u64,
+    migration: &Migration,
+    indexes: &ValueIndexes,
+    granules: &[Granule],
+) -> Result<Moved, Memory>
+    requires lawful { IsLawfulMigration migration.now }
+    requires indexed { indexes.now ≡ value_indexes migration.now }
+    requires one { last.old.pass.value ≡ migration.now }
+    requires store { IsStore live.old (Some last.old) records.old }
+    requires granules { AreGranules (last_seen last.old) granules.now }
+    ensures ok { IfOk result (IsMoveOf (lazy_seen live.old (Some last.old) records.old)
+        (lazy_seen live.new (Some last.new) records.new) granules.now) }
+    ensures store { IsStore live.new (Some last.new) records.new }
+    ensures pass { last.new.pass ≡ last.old.pass }
+    ensures live_stays { OnErr result (live.new ≡ live.old) }
+    ensures last_stays { OnErr result (last.new ≡ last.old) }
+    ensures records_stay { OnErr result (records.new ≡ records.old) }
+{
+    // Its contract says that the marks are in order.
+    let _ = last.done.len();
+    let already = last.done.numbered(alloc, granules)?;
+    let left = last.done.left(alloc, granules)?;
+    if left.is_empty() {
+        let fresh = Vec::new(alloc);
+        return Ok(Moved { fresh, already });
+    }
+    let number = records.checked_add(1).ok_or(Memory)?;
+    let fresh = receipts(alloc, last.number, &left, number)?;
+    move_in(alloc, live, last, migration, indexes, &left, number)?;
+    *records = number;
+    Ok(Moved { fresh, already })
+}
+
+/// Moves granules of a migration, which differ and have not moved, by one record: their rows are
+/// put into the live tables. It costs what the granules have, and a look-up for each row and each
+/// granule.
+///
+/// # Errors
+/// Where memory runs out, or 2 ^ 32 granules have moved. All is as it was then.
+pub(crate) fn move_in(
+    alloc: Global,
+    live: &mut LiveTables,
+    last: &mut UnderWay,
+    migration: &Migration,
+    indexes: &ValueIndexes,
+    fresh: &[Granule],
+    number: u64,
+) -> Result<(), Memory>
+    requires lawful { IsLawfulMigration migration.now }
+    requires indexed { indexes.now ≡ value_indexes migration.now }
+    requires one { last.old.pass.value ≡ migration.now }
+    requires counted { IsCounted last.old }
+    requires lazy_state { IsLazy (lazy_seen live.old (Some last.old) 0) }
+    requires fresh { MayMove (last_seen last.old) fresh.now }
+    ensures live { OnOk result (live.new ≡ with_rows_in live.old (last_seen last.old) fresh.now) }
+    ensures pass { last.new.pass ≡ last.old.pass }
+    ensures done { OnOk result (last.new.done ≡ marked last.old.done fresh.now number) }
+    ensures counted { OnOk result (IsCounted last.new) }
+    ensures live_stays { OnErr result (live.new ≡ live.old) }
+    ensures last_stays { OnErr result (last.new ≡ last.old) }
+{
+    let mut writes = puts(alloc, migration, indexes, fresh)?;
+    let next = note(alloc, migration, &mut last.done, last.next, fresh, number)?;
+    if let Err(memory) = live.commit(&mut writes) {
+        last.done.unmark(fresh);
+        return Err(memory);
+    }
+    last.next = next;
+    Ok(())
+}

@@ -1,0 +1,19 @@
+mod Alike
+mod Bounded
+mod Driving
+pub mod Finding
+pub mod Fixed
+pub mod Granules
+pub mod Inserted
+pub mod Keyed
+mod Merging
+pub mod Named
+pub mod Numbered
+mod Outside
+pub mod Owners
+mod Rising
+mod Sought
+mod Steps
+pub mod Told
+pub mod Unfilled
+mod Units

@@ -1,0 +1,12 @@
+//! Which granules of a migration a statement needs moved before it runs.
+#![tactic(auto)]
+
+mod bounds;
+mod condition;
+pub mod cover;
+mod merge;
+mod owning;
+mod scan;
+mod target;
+
+pub use cover::{Cover, can_need, cover_of};

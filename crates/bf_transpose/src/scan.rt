@@ -1,0 +1,363 @@
+//! Scans of a migration's granules: all of them, and those that give a row which a condition may
+//! pick.
+
+ghost use Rattle.std.specs.Prelude.{◌≡◌, ◌==◌, ◌∷◌, [], ◌++◌, ◌<◌, ◌≤◌, ℕ, false, IfOk, IfSome, OnOk, Some, filter, length, map};
+ghost use Rattle.std.specs.List.{list_any};
+ghost use Rattle.bf_base.specs.declared.granule.Place.TheVariants.{Row as At};
+ghost use Rattle.bf_sql.specs.migrations.Targets.{target_table};
+ghost use Rattle.bf_sql.specs.migrations.Granules.{granule, granules_of};
+ghost use Rattle.bf_sql.specs.migrations.Need.{giving, may_satisfy};
+ghost use Rattle.bf_image.specs.ByValues.{value_of};
+ghost use Rattle.bf_image.specs.Migrations.{IsLawfulMigration, anchors_in, old_of, target_at, value_indexes};
+ghost use Rattle.bf_transpose.specs.InOrder.{values_in};
+ghost use Rattle.bf_transpose.specs.Scans.{IsDriverOf, IsSearch, gives, granules_in, has_arm, is_sought, row_granules, value_granules, values_indexed};
+
+use crate::bounds::{range_behind, rows_before, rows_to_end};
+use crate::condition::{total_places, without_totals};
+use crate::merge::Merge;
+use bf_base::{Granule, Memory, Place, Row, Table};
+use bf_heap::KeyRange;
+use bf_image::value_indexes::UnitIndex;
+use bf_image::{ByValue, Frozen, Migration, ValueIndexes, positions, rows_of};
+use bf_tree::{Cond, Unit, UnitKind, holds};
+use std::alloc::Global;
+
+/// Adds the granules of a unit at the first positions, as many as are told.
+fn add_rows(unit: u8, count: u32, granules: &mut Vec<Granule>) -> Result<(), Memory>
+    ensures { OnOk result (granules.new.items
+        ≡ granules.old.items ++ row_granules unit count) }
+{
+    for position in 0..count {
+        let place = Place::Row(position);
+        granules.push(Granule { unit, place })?;
+    }
+    Ok(())
+}
+
+/// Adds the granules of a unit at the values of an index.
+fn add_values(
+    alloc: Global,
+    unit: u8,
+    values: &ByValue,
+    granules: &mut Vec<Granule>,
+) -> Result<(), Memory>
+    ensures { OnOk result (granules.new.items
+        ≡ granules.old.items ++ value_granules unit (map value_of values.now)) }
+{
+    for at in 0..values.len() {
+        if let Some((value, _)) = values.at(at) {
+            let place = Place::Group(value.copy(alloc)?);
+            granules.push(Granule { unit, place })?;
+        }
+    }
+    Ok(())
+}
+
+/// Adds the granules of a unit at the values of two indexes, in order, each value once.
+fn add_merged(
+    alloc: Global,
+    unit: u8,
+    from: &ByValue,
+    join: &ByValue,
+    granules: &mut Vec<Granule>,
+) -> Result<(), Memory>
+    ensures { OnOk result (granules.new.items
+        ≡ granules.old.items ++ value_granules unit
+        (values_in (map value_of from.now ++ map value_of join.now))) }
+{
+    let mut values = Merge::of(from, join);
+    while let Some(value) = values.advance() {
+        let place = Place::Group(value.copy(alloc)?);
+        granules.push(Granule { unit, place })?;
+    }
+    Ok(())
+}
+
+/// Adds the granules of a unit that goes by values.
+fn add_indexed(
+    alloc: Global,
+    unit: u8,
+    index: &UnitIndex,
+    granules: &mut Vec<Granule>,
+) -> Result<(), Memory>
+    ensures { OnOk result (granules.new.items
+        ≡ granules.old.items ++ value_granules unit (values_indexed index.now)) }
+{
+    match &index.join {
+        Some(join) => add_merged(alloc, unit, &index.from, join, granules),
+        None => add_values(alloc, unit, &index.from, granules),
+    }
+}
+
+/// Adds the granules of a unit.
+fn add_unit(
+    alloc: Global,
+    migration: &Migration,
+    indexes: &ValueIndexes,
+    unit: u8,
+    granules: &mut Vec<Granule>,
+) -> Result<(), Memory>
+    requires lawful { IsLawfulMigration migration.now }
+    requires indexed { indexes.now ≡ value_indexes migration.now }
+    ensures { OnOk result (granules.new.items
+        ≡ granules.old.items ++ granules_in migration.now unit) }
+{
+    match indexes.unit(unit) {
+        None => add_rows(unit, positions(migration, unit), granules),
+        Some(index) => add_indexed(alloc, unit, index, granules),
+    }
+}
+
+/// All granules of a migration, in the order of unit and place, each once. It takes time and memory
+/// linear in the rows of its old tables, and compares each value of a join's FROM with about one of
+/// its JOIN.
+///
+/// # Errors
+/// Where memory runs out.
+pub(crate) fn all(
+    alloc: Global,
+    migration: &Migration,
+    indexes: &ValueIndexes,
+) -> Result<Vec<Granule>, Memory>
+    requires lawful { IsLawfulMigration migration.now }
+    requires indexed { indexes.now ≡ value_indexes migration.now }
+    ensures { IfOk result (λ all.
+        all.items ≡ granules_of (old_of migration.now) migration.now.plan.migrate) }
+{
+    let mut granules = Vec::new(alloc);
+    for unit in 0..migration.plan.units.len() {
+        add_unit(alloc, migration, indexes, unit as u8, &mut granules)?;
+    }
+    Ok(granules)
+}
+
+/// Whether a unit has an arm of a target. Takes no memory.
+fn is_of(unit: &Unit, target: u8) -> bool
+    ensures { result ≡ list_any (λ arm. arm.0 == target) unit.now.arms }
+{
+    unit.arms.as_slice().iter().any(|(of, _)| *of == target)
+}
+
+/// The old table whose rows a unit goes by; none of a unit that goes by values. It compares about
+/// log n names, and takes no memory.
+fn driver_of(migration: &Migration, unit: u8) -> Option<&Frozen>
+    requires lawful { IsLawfulMigration migration.now }
+    ensures { IfSome result (λ frozen. IsDriverOf migration.now unit frozen.now) }
+{
+    let planned = migration.plan.units.as_slice().get(unit as usize)?;
+    match planned.kind {
+        UnitKind::Rows => migration.source(&planned.driver),
+        UnitKind::Groups | UnitKind::Joins => None,
+    }
+}
+
+/// The table that a target becomes.
+fn table_made(migration: &Migration, target: u8) -> &Table
+    requires lawful { IsLawfulMigration migration.now }
+    requires there { target < length migration.now.plan.migrate.targets }
+    ensures { result.now ≡ target_table (old_of migration.now) (target_at migration.now target) }
+{
+    &migration.plan.tables.as_slice()[target as usize]
+}
+
+/// A search for the granules that give a row of a target which a condition may pick.
+#[derive(Drop)]
+struct Search<'a> {
+    migration: &'a Migration,
+    indexes: &'a ValueIndexes,
+    target: u8,
+    cond: &'a Cond,
+    // The keys of a driver's rows from which such rows can come.
+    range: &'a KeyRange,
+}
+
+impl<'a> Search<'a> {
+    /// Whether a row, with the number of its target, is sought.
+    fn accepts(&self, alloc: Global, of: u8, row: &Row) -> Result<bool, Memory>
+        requires { IsSearch self.now }
+        ensures { IfOk result (λ found. found ≡ is_sought self.now.migration.now
+            self.now.target self.now.cond.now (of, row.now)) }
+    {
+        if of != self.target {
+            return Ok(false);
+        }
+        holds(alloc, self.cond, row)
+    }
+
+    /// Whether one of some rows, each with the number of its target, is sought.
+    fn is_among(&self, alloc: Global, rows: &[(u8, Row)]) -> Result<bool, Memory>
+        requires { IsSearch self.now }
+        ensures { IfOk result (λ found. found ≡ list_any
+            (is_sought self.now.migration.now self.now.target self.now.cond.now) rows.now) }
+    {
+        for (of, row) in rows {
+            if self.accepts(alloc, *of, row)? {
+                return Ok(true);
+            }
+        }
+        Ok(false)
+    }
+
+    /// Whether a granule gives a row that is sought.
+    fn finds(&self, alloc: Global, granule: &Granule) -> Result<bool, Memory>
+        requires { IsSearch self.now }
+        ensures { IfOk result (λ found. found
+            ≡ gives self.now.migration.now self.now.target self.now.cond.now granule.now) }
+    {
+        let rows = rows_of(alloc, self.migration, self.indexes, granule)?;
+        self.is_among(alloc, &rows)
+    }
+
+    /// Adds a granule if it gives a row that is sought.
+    fn add(
+        &self,
+        alloc: Global,
+        granule: Granule,
+        granules: &mut Vec<Granule>,
+    ) -> Result<(), Memory>
+        requires { IsSearch self.now }
+        ensures { OnOk result (granules.new.items ≡ granules.old.items ++ filter
+            (gives self.now.migration.now self.now.target self.now.cond.now) (granule ∷ [])) }
+    {
+        if self.finds(alloc, &granule)? {
+            granules.push(granule)?;
+        }
+        Ok(())
+    }
+
+    /// The positions, from the first number to before the second, outside which the rows that a unit
+    /// goes by give no row that is sought.
+    fn bounds(&self, unit: u8) -> (u32, u32)
+        requires { IsSearch self.now }
+        ensures first { result.0 ≤ anchors_in self.now.migration.now unit }
+        ensures end { result.1 ≤ anchors_in self.now.migration.now unit }
+        ensures before { (at : ℕ) → at < result.0 → gives self.now.migration.now self.now.target
+            self.now.cond.now (granule unit (At at)) ≡ false }
+        ensures behind { (at : ℕ) → result.1 ≤ at → at < anchors_in self.now.migration.now unit
+            → gives self.now.migration.now self.now.target self.now.cond.now
+            (granule unit (At at)) ≡ false }
+    {
+        match driver_of(self.migration, unit) {
+            Some(driver) => (
+                rows_before(&driver.rows, self.range),
+                rows_to_end(&driver.rows, self.range),
+            ),
+            None => (0, positions(self.migration, unit)),
+        }
+    }
+
+    /// Adds those granules of a unit that goes by rows. Only rows whose keys are in the range are
+    /// tried.
+    fn add_rows(&self, alloc: Global, unit: u8, granules: &mut Vec<Granule>) -> Result<(), Memory>
+        requires { IsSearch self.now }
+        ensures { OnOk result (granules.new.items ≡ granules.old.items ++ filter
+            (gives self.now.migration.now self.now.target self.now.cond.now)
+            (row_granules unit (anchors_in self.now.migration.now unit))) }
+    {
+        let (first, end) = self.bounds(unit);
+        for position in first..end {
+            let place = Place::Row(position);
+            self.add(alloc, Granule { unit, place }, granules)?;
+        }
+        Ok(())
+    }
+
+    /// Adds those granules of a unit that stand at the values of an index.
+    fn add_values(
+        &self,
+        alloc: Global,
+        unit: u8,
+        values: &ByValue,
+        granules: &mut Vec<Granule>,
+    ) -> Result<(), Memory>
+        requires { IsSearch self.now }
+        ensures { OnOk result (granules.new.items ≡ granules.old.items ++ filter
+            (gives self.now.migration.now self.now.target self.now.cond.now)
+            (value_granules unit (map value_of values.now))) }
+    {
+        for at in 0..values.len() {
+            if let Some((value, _)) = values.at(at) {
+                let place = Place::Group(value.copy(alloc)?);
+                self.add(alloc, Granule { unit, place }, granules)?;
+            }
+        }
+        Ok(())
+    }
+
+    /// Whether a unit has an arm of the target. Takes no memory.
+    fn has_arm(&self, unit: u8) -> bool
+        ensures { result ≡ has_arm self.now.migration.now self.now.target unit }
+    {
+        match self.migration.plan.units.as_slice().get(unit as usize) {
+            Some(planned) => is_of(planned, self.target),
+            None => false,
+        }
+    }
+
+    /// Adds those granules of a unit. A join's value without a row of FROM gives no row.
+    fn add_unit(&self, alloc: Global, unit: u8, granules: &mut Vec<Granule>) -> Result<(), Memory>
+        requires { IsSearch self.now }
+        ensures { OnOk result (granules.new.items ≡ granules.old.items ++ filter
+            (gives self.now.migration.now self.now.target self.now.cond.now)
+            (granules_in self.now.migration.now unit)) }
+    {
+        if !self.has_arm(unit) {
+            return Ok(());
+        }
+        match self.indexes.unit(unit) {
+            Some(index) => self.add_values(alloc, unit, &index.from, granules),
+            None => self.add_rows(alloc, unit, granules),
+        }
+    }
+
+    /// The granules that give a row that is sought, in the order of unit and place.
+    fn granules(&self, alloc: Global) -> Result<Vec<Granule>, Memory>
+        requires { IsSearch self.now }
+        ensures { IfOk result (λ granules. granules.items ≡ filter
+            (gives self.now.migration.now self.now.target self.now.cond.now)
+            (granules_of (old_of self.now.migration.now)
+            self.now.migration.now.plan.migrate)) }
+    {
+        let mut granules = Vec::new(alloc);
+        for unit in 0..self.migration.plan.units.len() {
+            self.add_unit(alloc, unit as u8, &mut granules)?;
+        }
+        Ok(granules)
+    }
+}
+
+/// The granules, in the order of unit and place, that give a row of a target which satisfies a
+/// condition, as far as that is known without its totals. It computes the parts of the granules of
+/// units that have an arm of the target: of a unit that goes by rows only those whose rows have keys
+/// in the range that the condition leaves, which are found by about log n compares.
+///
+/// # Errors
+/// Where memory runs out.
+pub(crate) fn giving(
+    alloc: Global,
+    migration: &Migration,
+    indexes: &ValueIndexes,
+    target: u8,
+    cond: &Cond,
+) -> Result<Vec<Granule>, Memory>
+    requires lawful { IsLawfulMigration migration.now }
+    requires indexed { indexes.now ≡ value_indexes migration.now }
+    requires there { target < length migration.now.plan.migrate.targets }
+    ensures { IfOk result (λ granules. granules.items
+        ≡ giving (old_of migration.now) migration.now.plan.migrate
+        (Some (target_at migration.now target)) (may_satisfy cond.now)) }
+{
+    let written = &migration.plan.migrate.targets.as_slice()[target as usize];
+    let totals = total_places(alloc, written)?;
+    let cond = without_totals(alloc, cond, &totals)?;
+    let made = table_made(migration, target);
+    let range = range_behind(alloc, made, written.arms.len() > 1, &cond)?;
+    let search = Search {
+        migration,
+        indexes,
+        target,
+        cond: &cond,
+        range: &range,
+    };
+    search.granules(alloc)
+}
