@@ -4,7 +4,15 @@ pub mod Entries
 pub mod Answers
 pub mod Texts
 pub mod Telling
+pub mod Planning
+pub mod Narrow
+pub mod Storing
+pub mod Opened
 pub mod Running
+pub mod Putting
+pub mod Settled
+pub mod Stirring
+pub mod Flipping
 pub mod Others
 pub mod Opens
 pub mod Legal

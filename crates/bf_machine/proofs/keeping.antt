@@ -3,6 +3,9 @@ pub mod Fresh
 pub mod Sessions
 pub mod Places
 pub mod Answered
+pub mod Migrating
+pub mod Settling
+pub mod Moving
 pub mod Committing
 pub mod Ending
 pub mod Dying
@@ -13,9 +16,9 @@ pub mod Stands
 pub mod Current
 pub mod LeastLeft
 pub mod Exchanging
-pub mod Catalogs
 pub mod Numbers
 pub mod Executing
 pub mod Lasts
 pub mod Opening
 pub mod PlacesInGroup
+pub mod Catalogs

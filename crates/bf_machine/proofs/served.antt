@@ -17,3 +17,7 @@ pub mod Replying
 pub mod Turning
 pub mod Ending
 pub mod Begun
+pub mod Moved
+pub mod Needs
+pub mod Behind
+pub mod Nexts

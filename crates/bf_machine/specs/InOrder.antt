@@ -9,11 +9,11 @@ use Rattle.bf_tree.specs.declared.reply.Reply.{Reply}
 use Rattle.bf_tree.specs.declared.history.Outcome.{Outcome}
 use Rattle.bf_tree.specs.declared.history.Entry.{Entry}
 use Rattle.bf_tree.specs.declared.history.Sweep.{Sweep}
-use Rattle.bf_tree.specs.declared.history.Sweep.TheVariants.{Never}
 use Rattle.bf_sql.specs.Database.{empty_database}
 use Rattle.bf_sql.specs.Groups.{groups_in, statements_in, outcomes_from}
 use Rattle.bf_tree.specs.Answered.{IsAllAnswered}
 use Rattle.bf_sql.specs.History.{IsLegalHistory}
+use Rattle.bf_machine.specs.Movement.{movement, sweep_told}
 
 abbrev pub is_migrate : Statement → Bool
 is_migrate (Migrate migrate) = true
@@ -47,10 +47,10 @@ NoCause session group cause = ⊥
 abbrev pub none_open : ℕ → ℕ × ℕ → Bool
 none_open session group = false
 
--- RUN of a plain script from the empty database: transcripts and history are legal, every statement has its reply, the
--- entries are those of the groups in the order of the text, and there was no migration
+-- RUN of a script from the empty database: transcripts and history are legal, every statement has its reply, the entries are
+-- those of the groups in the order of the text, and of the last migration what statements have needed has moved, and no more
 pub record IsRunInOrder (script : Script) (transcripts : List (List Reply)) (history : List Entry) (sweep : Sweep) : Type 0 where
   pub history_legal : IsLegalHistory script NoCause none_open empty_database transcripts history
   pub all_answered : IsAllAnswered script transcripts
   pub entries_are_in_order : history ≡ entries_in_order script
-  pub no_migration : sweep ≡ Never
+  pub moves_only_needed : sweep ≡ sweep_told (movement script empty_database history)

@@ -1,3 +1,4 @@
 pub mod InOrder
+pub mod Movement
 pub mod Runnable
 pub mod interleaving

@@ -1,35 +1,90 @@
-//! What a statement of an open group replies and leaves pending, and what is pending, put into the
-//! live tables.
+//! What a statement of an open group replies and leaves pending.
 
-ghost use Rattle.std.specs.Prelude.{◌≡◌, IfOk, OnErr, OnOk, ℕ, Bool};
+ghost use Rattle.std.specs.Prelude.{◌≡◌, [], IfOk, OnErr, OnOk, ℕ, Bool, false};
+ghost use Rattle.bf_tree.specs.Limits.{IsNarrowMigrate};
 ghost use Rattle.bf_tree.specs.declared.statement.Statement.{Statement};
-ghost use Rattle.bf_sql.specs.Database.{IsDatabase};
-ghost use Rattle.bf_machine.specs.interleaving.Groups.{left_by};
-ghost use Rattle.bf_machine.specs.interleaving.Answering.{CanAnswer, CanSettle, IsAnswer};
+ghost use Rattle.bf_tree.specs.declared.statement.Statement.TheVariants as statement;
+ghost use Rattle.bf_sql.specs.Meaning.{executed};
+ghost use Rattle.bf_sql.specs.Objections.{objections};
+ghost use Rattle.bf_sql.specs.RowObjections.{row_objections};
+ghost use Rattle.bf_sql.specs.migrations.Lazy.{view_of};
+ghost use Rattle.bf_sql.specs.migrations.MigrationObjections.{sources_of};
+ghost use Rattle.bf_machine.specs.interleaving.Groups.{flip_unless};
+ghost use Rattle.bf_machine.specs.interleaving.Answering.{CanAnswer, IsAnswer, first_oversize};
 ghost use Rattle.bf_machine.specs.interleaving.Seen.{pending_seen};
 
 use crate::so_far::Pending;
-use bf_base::Memory;
+use bf_base::{Memory, Name};
 use bf_live::{LiveTables, run_on_table};
-use bf_tree::{Action, Bound, Reply};
+use bf_store::Store;
+use bf_tree::{Action, Bound, Plan, Refusal, Reply};
 use std::alloc::Global;
 
-/// Replies to a statement, as it is bound in the catalog of the live tables, on what its group sees,
-/// and notes what the group is to leave behind it. It costs what the statement reads and writes of
-/// its table.
+/// The most rows of a table that a MIGRATE reads.
+const MOST_ROWS: u32 = 1 << 20;
+
+/// The refusal of the first old table with too many rows, if there is one. It compares about log n
+/// names for each old table.
+fn oversize(alloc: Global, live: &LiveTables, sources: &[Name]) -> Result<Option<Refusal>, Memory>
+    ensures { IfOk result (λ refusal. refusal ≡ first_oversize live.now sources.now) }
+{
+    for name in sources {
+        let count = match live.heap(name) {
+            Some(heap) => heap.len(),
+            None => 0,
+        };
+        if count > MOST_ROWS {
+            return Ok(Some(Refusal::TooManyRows(name.copy(alloc)?, count)));
+        }
+    }
+    Ok(None)
+}
+
+/// Replies to a MIGRATE that the catalog allows, by its plan, on tables into which all rows have moved.
+/// It is refused where an old table has too many rows, and else a flip is pending.
+///
+/// # Errors
+/// Where memory runs out. What is pending is as it was then.
+fn answer_migrate(
+    alloc: Global,
+    live: &LiveTables,
+    pending: &mut Pending,
+    plan: &Plan,
+) -> Result<Reply, Memory>
+    requires sources { plan.now.sources ≡ sources_of plan.now.migrate }
+    requires narrow { IsNarrowMigrate plan.now.migrate }
+    requires allowed { objections live.now false (statement.Migrate plan.now.migrate) ≡ [] }
+    ensures answer { IfOk result (λ reply.
+        reply ≡ (executed 0 live.now false (statement.Migrate plan.now.migrate)).0) }
+    ensures pending { OnOk result (pending_seen pending.new ≡ flip_unless
+        (row_objections live.now (statement.Migrate plan.now.migrate)) plan.now) }
+    ensures err { OnErr result (pending_seen pending.new ≡ pending_seen pending.old) }
+{
+    if let Some(refusal) = oversize(alloc, live, plan.sources.as_slice())? {
+        *pending = Pending::Nothing;
+        return Ok(Reply::Refused(refusal));
+    }
+    let count = plan.migrate.targets.len() as u8;
+    *pending = Pending::Flip(plan.copy(alloc)?);
+    Ok(Reply::Migrated(count))
+}
+
+/// Replies to a statement, as it is bound in the catalog of the store and planned, on what its group
+/// sees, and notes what the group is to leave behind it. What it needs has moved. It costs what the
+/// statement reads and writes of its table.
 ///
 /// # Errors
 /// Where memory runs out, or 2 ^ 32 rows or more change. What is pending is as it was then.
 pub(crate) fn answer(
     alloc: Global,
-    live: &LiveTables,
+    store: &Store,
     pending: &mut Pending,
     bound: &Bound,
 ) -> Result<Reply, Memory>
-    requires { CanAnswer live.now (pending_seen pending.old) bound.now }
+    requires { CanAnswer store.now.lazy (pending_seen pending.old) bound.now }
     ensures answer { (in_block : Bool) (s : Statement)
-        → IfOk result (λ reply. IsAnswer live.now (pending_seen pending.old) bound.now in_block s
-        reply (pending_seen pending.new)) }
+        → IfOk result (λ reply. IsAnswer (view_of store.now.lazy) (pending_seen pending.old)
+        bound.now in_block s reply (pending_seen pending.new)) }
     ensures err { OnErr result (pending_seen pending.new ≡ pending_seen pending.old) }
 {
     match &bound.action {
@@ -50,30 +105,9 @@ pub(crate) fn answer(
             let Pending::Rows(writes) = pending else {
                 unreachable!();
             };
-            run_on_table(alloc, live, writes, bound, table)
+            run_on_table(alloc, store.live(), writes, bound, table)
         }
-        Action::Migrate(_) | Action::Commit | Action::Rollback => unreachable!(),
-    }
-}
-
-/// Makes what a group was to leave part of the live tables.
-///
-/// # Errors
-/// Where memory runs out, or 2 ^ 64 schema changes were made. The live tables and what is pending
-/// are as they were then.
-pub(crate) fn settle(
-    alloc: Global,
-    live: &mut LiveTables,
-    pending: &mut Pending,
-) -> Result<(), Memory>
-    requires { CanSettle live.old (pending_seen pending.old) }
-    ensures ok { OnOk result (live.new ≡ left_by live.old (pending_seen pending.old)) }
-    ensures err { OnErr result (live.new ≡ live.old) }
-    ensures kept { OnErr result (pending_seen pending.new ≡ pending_seen pending.old) }
-{
-    match pending {
-        Pending::Rows(writes) => live.commit(writes),
-        Pending::NewTable(table) => live.create_table(table.copy(alloc)?),
-        Pending::NewIndex(index) => live.create_index(index.copy(alloc)?),
+        Action::Migrate(plan) => answer_migrate(alloc, store.live(), pending, plan),
+        Action::Commit | Action::Rollback => unreachable!(),
     }
 }

@@ -1,29 +1,39 @@
 //! Laws of a machine whose sessions take turns. Each is the contract of a function that does nothing.
 
-ghost use Rattle.std.specs.Prelude.{◌≡◌, ◌↔◌, ◌⊎◌, ℕ, ◌<◌, ◌≤◌, List, Some, IsTrue};
+ghost use Rattle.std.specs.Prelude.{◌≡◌, ◌≢◌, ◌↔◌, ◌⊎◌, ℕ, ◌<◌, ◌≤◌, Bool, List, [], Some, IsTrue};
 ghost use Rattle.bf_locks.specs.declared.answer.LockAnswer.{LockAnswer};
 ghost use Rattle.bf_locks.specs.declared.answer.LockAnswer.TheVariants.{Die, Granted, Wait};
 ghost use Rattle.bf_locks.specs.declared.mode.Mode.{Mode};
 ghost use Rattle.bf_locks.specs.declared.name.LockName.{LockName};
 ghost use Rattle.bf_locks.specs.Locks.{IsJudged};
-ghost use Rattle.bf_tree.specs.declared.history.Sweep.TheVariants.{Never};
+ghost use Rattle.bf_tree.specs.declared.bound.Bound.{Bound};
+ghost use Rattle.bf_tree.specs.declared.plan.Plan.{Plan};
 ghost use Rattle.bf_tree.specs.declared.script.Script.{Script};
-ghost use Rattle.bf_sql.specs.Database.{Database, IsDatabase, empty_database};
+ghost use Rattle.bf_tree.specs.declared.statement.Statement.{Statement};
+ghost use Rattle.bf_base.specs.declared.granule.Granule.{Granule};
+ghost use Rattle.bf_sql.specs.Database.{Database, empty_database};
+ghost use Rattle.bf_sql.specs.Footprints.{footprint_of};
+ghost use Rattle.bf_sql.specs.migrations.Lazy.{pending_of, sweep_of, view_of};
+ghost use Rattle.bf_sql.specs.migrations.Plans.{prepared_of};
+ghost use Rattle.bf_store.specs.Stores.{Store};
 ghost use Rattle.bf_machine.specs.InOrder.{IsRunInOrder};
+ghost use Rattle.bf_machine.specs.Movement.{movement, sweep_told};
 ghost use Rattle.bf_machine.specs.Runnable.{phases_rise_from};
 ghost use Rattle.bf_machine.specs.interleaving.Calls.{HasSessionEnded, IsPlace};
-ghost use Rattle.bf_machine.specs.interleaving.Events.{Aborts, Asks, Begins, Commits, Executes, LastHasEnded, Reaches, Refuses};
+ghost use Rattle.bf_machine.specs.interleaving.Events.{Aborts, Asks, Begins, Commits, Executes, LastHasEnded, Moves, Reaches, Refuses};
 ghost use Rattle.bf_machine.specs.interleaving.Examples.{YoungerIsRefused};
-ghost use Rattle.bf_machine.specs.interleaving.Kept.{HasEnded, HasStart, IsKept, IsToldACause, StandsInHistory, TranscriptsLegal, fresh};
+ghost use Rattle.bf_machine.specs.interleaving.Groups.{Flip, Rows, footprint_in};
+ghost use Rattle.bf_machine.specs.interleaving.Kept.{HasEnded, HasStart, IsKept, IsOpening, IsToldACause, IsWithinLimits, StandsInHistory, TranscriptsLegal, fresh};
 ghost use Rattle.bf_machine.specs.interleaving.Machines.{Group, Machine, Open, open_at, transcripts_of};
 ghost use Rattle.bf_machine.specs.interleaving.Serving.{IsInSequence};
 
-/// Histories stay legal, open groups replay, locks are consistent and deaths are allowed: in a new machine, and
-/// behind each begin, refusal of a stray COMMIT or ROLLBACK, statement, grant, wait, death, commit and abort. So
-/// they do in each machine that events reach, in whatever order they come.
+/// Histories stay legal, open groups replay, locks are consistent, deaths are allowed, and the store is
+/// seen as the database: in a new machine, and behind each begin, refusal of a stray COMMIT or ROLLBACK,
+/// statement, grant, wait, death, commit, abort and move of granules. So they do in each machine that
+/// events reach, in whatever order they come.
 pub fn events_keep_all()
-    ensures new { (start : Database) (script : Script) (retries : ℕ) → IsDatabase start
-        → IsKept start (fresh start script retries) }
+    ensures new { (store : Store) (script : Script) (retries : ℕ) → IsOpening store
+        → IsWithinLimits script → IsKept (view_of store.lazy) (fresh store script retries) }
     ensures begins { (start : Database) (m next : Machine) (s : ℕ) → IsKept start m
         → Begins m s next → IsKept start next }
     ensures refuses { (start : Database) (m next : Machine) (s : ℕ) → IsKept start m
@@ -42,8 +52,12 @@ pub fn events_keep_all()
         → Commits m s next → IsKept start next }
     ensures aborts { (start : Database) (m next : Machine) (s : ℕ) → IsKept start m
         → Aborts m s next → IsKept start next }
-    ensures reaches { (start : Database) (script : Script) (retries : ℕ) (m : Machine)
-        → IsDatabase start → Reaches start (fresh start script retries) m → IsKept start m }
+    ensures moves { (start : Database) (m next : Machine) (granules : List Granule) → IsKept start m
+        → Moves m granules next → IsKept start next }
+    ensures reaches { (store : Store) (script : Script) (retries : ℕ) (m : Machine)
+        → IsOpening store → IsWithinLimits script
+        → Reaches (view_of store.lazy) (fresh store script retries) m
+        → IsKept (view_of store.lazy) m }
 {}
 
 /// The transcripts as they stand, with the replies of open groups in their places, and the history are legal.
@@ -86,12 +100,32 @@ pub fn a_younger_session_is_refused()
     ensures { YoungerIsRefused }
 {}
 
+/// While a flip is pending, nothing of the last migration is left to move, and no other open group is to
+/// leave anything.
+pub fn a_flip_stands_alone()
+    ensures whole { (start : Database) (m : Machine) (s : ℕ) (o : Open) (plan : Plan)
+        → IsKept start m → open_at m s ≡ Some o → o.pending ≡ Flip plan
+        → pending_of m.lazy.last ≡ [] }
+    ensures alone { (start : Database) (m : Machine) (s t : ℕ) (o other : Open) (plan : Plan)
+        → IsKept start m → open_at m s ≡ Some o → o.pending ≡ Flip plan
+        → t ≢ s → open_at m t ≡ Some other → other.pending ≡ Rows [] }
+{}
+
+/// A statement asks for the locks of what it is prepared to in the catalog: a MIGRATE that is planned has
+/// the catalog to itself, and every other statement asks as it is bound.
+pub fn a_statement_asks_for_what_it_is_prepared_to()
+    ensures { (db : Database) (in_block : Bool) (s : Statement) (bound : Bound)
+        → prepared_of db in_block s ≡ Some bound → footprint_in db in_block s ≡ footprint_of bound }
+{}
+
 /// Sessions in sequence run in order. Nothing has happened in a new machine, so it is in sequence; and once each session
-/// of one that is in sequence has ended, its transcripts and history are those of a run in the order of the text.
+/// of one that is in sequence has ended, its transcripts and history are those of a run in the order of the text, where
+/// its store has moved what the statements of the history needed, and no more.
 pub fn sessions_in_sequence_run_in_order()
-    ensures new { (start : Database) (script : Script) (retries : ℕ)
-        → IsTrue (phases_rise_from 0 script.sessions) → IsInSequence (fresh start script retries) }
+    ensures new { (store : Store) (script : Script) (retries : ℕ)
+        → IsTrue (phases_rise_from 0 script.sessions) → IsInSequence (fresh store script retries) }
     ensures ran { (m : Machine) → IsKept empty_database m → IsInSequence m
         → ((s : ℕ) → IsPlace m.script s → HasSessionEnded m s)
-        → IsRunInOrder m.script (transcripts_of m) m.history Never }
+        → sweep_of m.lazy.last ≡ sweep_told (movement m.script empty_database m.history)
+        → IsRunInOrder m.script (transcripts_of m) m.history (sweep_of m.lazy.last) }
 {}

@@ -1,18 +1,20 @@
-//! The machine: sessions whose transactions take turns over the live tables under locks, the history of
+//! The machine: sessions whose transactions take turns over the store under locks, the history of
 //! what has ended, and sessions served on one thread.
 #![tactic(auto)]
 
 mod answer;
 pub mod interleaving_laws;
+mod lookups;
 pub mod machine;
 pub mod opened;
 pub mod scripts;
 pub mod serving;
+mod settle;
 pub mod so_far;
 pub mod stand;
 
 pub use machine::{Machine, Parts};
 pub use opened::Opened;
 pub use scripts::migrates_nothing;
-pub use serving::in_order;
-pub use stand::{Ending, Stand, Step};
+pub use serving::{in_order, prepare_next};
+pub use stand::{Ending, MoveError, Stand, Step};

@@ -1,39 +1,43 @@
-//! The machine: sessions that take turns over the live tables, under locks.
+//! The machine: sessions that take turns over the store, under locks.
 
 mod ends;
+mod moves;
 mod stands;
 mod statements;
 mod turns;
 
-ghost use Rattle.std.specs.Prelude.{◌≡◌, ◌↔◌, IfOk, None, OnOk, length, true};
+ghost use Rattle.std.specs.Prelude.{◌≡◌, ◌↔◌, IfOk, None, length, true};
 ghost use Rattle.std.specs.Option.{option_map};
 ghost use Rattle.bf_tree.specs.Limits.{HasNarrowTables};
 ghost use Rattle.bf_sql.specs.Bound.{catalog_of};
 ghost use Rattle.bf_sql.specs.Database.{IsDatabase};
 ghost use Rattle.bf_sql.specs.History.{replayed};
+ghost use Rattle.bf_sql.specs.migrations.Lazy.{view_of};
+ghost use Rattle.bf_store.specs.Stores.{IsOf};
 ghost use Rattle.bf_machine.specs.interleaving.Calls.{IsCovered, IsPlace, next_place, reply_at};
 ghost use Rattle.bf_machine.specs.interleaving.Serving.{is_answered, is_in_block};
-ghost use Rattle.bf_machine.specs.interleaving.Kept.{IsKept, TranscriptsLegal, fresh};
+ghost use Rattle.bf_machine.specs.interleaving.Kept.{IsKept, IsWithinLimits, TranscriptsLegal, fresh};
 ghost use Rattle.bf_machine.specs.interleaving.Machines.{open_at, transcripts_of};
 
 use crate::opened::Opened;
 use crate::so_far::{Began, SessionSoFar, all_replies, least_left, sessions_so_far};
 use bf_base::{Memory, Sequence, next_number};
-use bf_live::LiveTables;
 use bf_locks::{LockName, LockTable, Mode, join};
+use bf_store::Store;
 use bf_tree::{Catalog, Entry, History, Reply, Script, Transcripts};
 use std::alloc::Global;
 use std::marker::{Model, PhantomData};
 
-/// Sessions that take turns over live tables, under locks. Contracts see the script, how often a
-/// group may begin again, the database, the locks, the groups that have begun, those that are open,
-/// the replies before them, and the history. The type names what the run began with.
+/// Sessions that take turns over a store, under locks. Contracts see the script, how often a group may
+/// begin again, the database that sessions see, what the store keeps and the pass of its last migration,
+/// the locks, the groups that have begun, those that are open, the replies before them, and the history.
+/// The type names what the run began with.
 #[derive(Drop)]
 pub struct Machine<N: Opened> {
     alloc: Global,
     script: Script,
     retries: u16,
-    live: LiveTables,
+    store: Store,
     locks: LockTable,
     /// By start number, from 1 on.
     began: Vec<Began>,
@@ -49,11 +53,11 @@ pub struct Machine<N: Opened> {
     opened: PhantomData<N>,
 }
 
-/// What a machine leaves: its script, the live tables, and what its sessions were told.
+/// What a machine leaves: its script, the store, and what its sessions were told.
 #[derive(Drop)]
 pub struct Parts {
     pub script: Script,
-    pub live: LiveTables,
+    pub store: Store,
     pub transcripts: Transcripts,
     pub history: History,
 }
@@ -63,41 +67,46 @@ impl<N: Opened> Model for Machine<N> {
     ghost use Rattle.std.specs.Coded.{codes};
     ghost use Rattle.bf_tree.specs.contracts.raw.RawExpr as exprs;
     ghost use Rattle.bf_tree.specs.contracts.raw.RawCond as conds;
+    ghost use Rattle.bf_tree.specs.contracts.plan.Plan as plans;
     ghost use Rattle.bf_locks.specs.contracts.table.LockTable as tables;
+    ghost use Rattle.boxcar.specs.Table.{where_coded};
+    ghost use Rattle.bf_image.specs.contracts.migration.Migration as migrations;
 
     ghost Value = { Seen };
 
-    ghost coded = { Prim.hlevel (codes, exprs.the_row.coded, conds.the_row.coded, tables.the_row.coded) };
+    ghost coded = { Prim.hlevel (codes, exprs.the_row.coded, conds.the_row.coded, plans.the_row.coded, tables.the_row.coded, where_coded migrations.the_row.coded) };
 
     ghost use Rattle.std.specs.Prelude.{length};
     ghost use Rattle.bf_machine.specs.interleaving.Seen.{IsLeastLeft, IsSound, seen};
 
-    ghost view = { λ m. seen m.script m.retries m.live m.locks m.began.items m.sessions.items m.history.items };
+    ghost view = { λ m. seen m.script m.retries m.store m.locks m.began.items m.sessions.items m.history.items };
 
-    ghost invariant = { λ m. IsSound N.opening N.script m.script m.retries m.live m.locks m.began.items m.sessions.items m.history m.commits m.transcripts
+    ghost invariant = { λ m. IsSound N.opening N.registry N.script m.script m.retries m.store m.locks m.began.items m.sessions.items m.history m.commits m.transcripts
         × IsLeastLeft m.script.sessions m.sessions.items (length m.sessions.items) m.least_left };
 }
 
 impl<N: Opened> Machine<N> {
-    /// A machine over live tables, none of which is wide, in which nothing has begun. It makes room for
-    /// the reply to each statement.
+    /// A machine over a store, in which nothing has begun. It makes room for the reply to each
+    /// statement.
     ///
     /// # Errors
     /// Where memory runs out, or 2 ^ 32 - 1 sessions or more, or statements of a session, stand in the
-    /// script. The live tables and the script are dropped then.
+    /// script. The store and the script are dropped then.
     pub fn new(
         alloc: Global,
-        live: LiveTables,
+        store: Store,
         script: Script,
         retries: u16,
     ) -> Result<Machine<N>, Memory>
-        requires opening { live ≡ N.opening }
+        requires opening { view_of store.lazy ≡ N.opening }
+        requires registry { IsOf N.registry store.migration }
         requires script { script ≡ N.script }
-        requires narrow { HasNarrowTables (catalog_of live) }
-        ensures { IfOk result (λ machine. machine ≡ fresh N.opening script retries) }
+        requires limits { IsWithinLimits script }
+        ensures { IfOk result (λ machine. machine ≡ fresh store script retries) }
     {
-        // Its contract says that the live tables are a database.
-        let _ = live.catalog();
+        // Their contracts say that the store is a lazy state, and that the pass reads its migration.
+        let _ = store.live();
+        let _ = store.migration();
         next_number(script.sessions.len())?;
         let sessions = sessions_so_far(alloc, script.sessions.as_slice())?;
         let transcripts = Vec::with_capacity(alloc, sessions.len())?;
@@ -106,7 +115,7 @@ impl<N: Opened> Machine<N> {
             alloc,
             script,
             retries,
-            live,
+            store,
             locks: LockTable::new(alloc),
             began: Vec::new(alloc),
             sessions,
@@ -122,6 +131,7 @@ impl<N: Opened> Machine<N> {
     pub fn script(&self) -> &Script
         ensures script { result.now ≡ self.now.script }
         ensures opened { result.now ≡ N.script }
+        ensures within { IsWithinLimits self.now.script }
         ensures kept { IsKept N.opening self.now }
     {
         &self.script
@@ -144,7 +154,7 @@ impl<N: Opened> Machine<N> {
         ensures replay { self.now.db
             ≡ (replayed self.now.script N.opening self.now.history).1 }
     {
-        self.live.catalog()
+        self.store.live().catalog()
     }
 
     /// The reply to a statement of a session, both counted from 1, as it stands now, that of an open
@@ -234,7 +244,8 @@ impl<N: Opened> Machine<N> {
     /// What the machine leaves. Transcripts and history are legal, but for the groups that are open.
     pub fn into_parts(self) -> Parts
         ensures script { result.script ≡ self.script }
-        ensures live { result.live ≡ self.db }
+        ensures store { result.store ≡ record { lazy = self.lazy; migration = self.pass } }
+        ensures database { view_of result.store.lazy ≡ self.db }
         ensures transcripts { result.transcripts.sessions ≡ transcripts_of self }
         ensures history { result.history.entries ≡ self.history }
         ensures legal { TranscriptsLegal N.opening self }
@@ -242,7 +253,7 @@ impl<N: Opened> Machine<N> {
         let sessions = all_replies(self.sessions, self.transcripts);
         Parts {
             script: self.script,
-            live: self.live,
+            store: self.store,
             transcripts: Transcripts {
                 sessions: Sequence::of(sessions),
             },

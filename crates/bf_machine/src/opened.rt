@@ -2,12 +2,16 @@
 
 use std::marker::Brand;
 
-/// What a run began with: the database and the script. It has no functions; contracts alone read it.
+/// What a run began with: the database, the registry of its migrations, and the script. It has no
+/// functions; contracts alone read it.
 pub trait Opened {
+    ghost use Rattle.bf_image.specs.Registries.{Registry};
     ghost use Rattle.bf_tree.specs.declared.script.Script.{Script};
     ghost use Rattle.bf_sql.specs.Database.{Database};
 
     ghost opening: { Database };
+
+    ghost registry: { Registry };
 
     ghost script: { Script };
 }
@@ -17,6 +21,11 @@ impl Opened for Brand {
     ghost use Rattle.bf_sql.specs.Database.{empty_database};
 
     ghost opening = { empty_database };
+
+    ghost registry = { record {
+      catalogs = record { tag = []; buckets = [] };
+      migrations = record { tag = []; buckets = [] };
+    } };
 
     ghost script = { record { phases = 0; sessions = [] } };
 }

@@ -2,35 +2,31 @@
 
 ghost use Rattle.std.specs.Prelude.{◌≡◌, ◌≢◌, ◌⊎◌, ℕ, ◌<◌, ◌≤◌, [], IfOk, IfSome, OnErr, OnOk, None, Ok, false, length};
 ghost use Rattle.bf_machine.specs.declared.stand.Stand.TheVariants.{Begin, Statement};
-ghost use Rattle.bf_machine.specs.interleaving.Calls.{CanExec, CanRefuse, HasReplied, HasSessionEnded, IsPlace, StandsAs};
-ghost use Rattle.bf_machine.specs.interleaving.Events.{Begins, Reaches};
+ghost use Rattle.std.specs.Option.{option_map};
+ghost use Rattle.bf_query.specs.Actions.{IsWellBound};
+ghost use Rattle.bf_store.specs.States.{AreGranulesIfAny, to_move};
+ghost use Rattle.bf_store.specs.Stores.{IsOf};
+ghost use Rattle.bf_transpose.specs.Covers.{IsCoverOf};
+ghost use Rattle.bf_machine.specs.interleaving.Calls.{CanExec, CanRefuse, HasReplied, HasSessionEnded, IsPlace, IsPresent, StandsAs};
+ghost use Rattle.bf_machine.specs.interleaving.Events.{Begins, Moves, Reaches};
 ghost use Rattle.bf_machine.specs.interleaving.Kept.{IsKept};
 ghost use Rattle.bf_machine.specs.interleaving.Machines.{Machine as Seen, Open, open_at};
-ghost use Rattle.bf_machine.specs.interleaving.Serving.{CanGo, CannotGo, Driven, HasLocked, HasMore, HasReply, IsAlone, IsBoundNext, IsInSequence, IsServable, IsToLock, IsTurn, IsTurnOf, IsYoungest, Serves, Turned, can_go, deaths_at, unanswered};
-ghost use Rattle.bf_machine.specs.declared.serving.Turn.TheVariants.{Served};
+ghost use Rattle.bf_machine.specs.interleaving.Serving.{CanGo, CannotGo, Driven, HasLocked, HasMore, HasMovedNeed, HasReply, HasSettled, IsAlone, IsBoundNext, IsInSequence, IsPreparedNext, IsToLock, IsTurn, IsTurnOf, IsYoungest, Serves, Turned, can_go, deaths_at, unanswered};
+ghost use Rattle.bf_machine.specs.declared.stand.Turn.TheVariants.{Served};
 
+use crate::lookups::{Lookups, cover_with, look_up};
 use crate::machine::Machine;
 use crate::opened::Opened;
-use crate::stand::{Stand, Step};
-use bf_base::Memory;
-use bf_bind::bind;
+use crate::stand::{MoveError, Stand, Step, Turn};
+use bf_base::{Granule, Memory};
+use bf_image::{MigrationPass, Registry};
 use bf_locks::{LockAnswer, LockName, Mode};
+use bf_plan::prepare;
 use bf_sql::footprint;
+use bf_transpose::Cover;
 use bf_tree::Bound;
 use std::alloc::Global;
-
-/// How a turn of a session ended.
-#[derive(Clone, Copy, Debug, PartialEq, Eq)]
-pub enum Turn {
-    /// No call of the session can come.
-    Passed,
-    /// Its next statement has its reply, or its open group has ended.
-    Served,
-    /// Its open group waits for a lock.
-    Waited,
-    /// Its open group died.
-    Died,
-}
+use std::sync::Wait;
 
 /// Asks for locks, one after the other, until one is not granted.
 fn lock_all<N: Opened>(
@@ -57,7 +53,13 @@ fn lock_all<N: Opened>(
 }
 
 /// Ends a session's open group where each statement of it has its reply.
-fn end_if_answered<N: Opened>(machine: &mut Machine<N>, session: u32) -> Result<(), Memory>
+fn end_if_answered<N: Opened, R: Wait>(
+    rt: &R,
+    registry: &Registry,
+    machine: &mut Machine<N>,
+    session: u32,
+) -> Result<(), Memory>
+    requires registry { registry.now ≡ N.registry }
     requires place { IsPlace machine.old.script session }
     requires kept { IsKept N.opening machine.old }
     requires has_reply { HasReply machine.old session }
@@ -67,13 +69,14 @@ fn end_if_answered<N: Opened>(machine: &mut Machine<N>, session: u32) -> Result<
         (unanswered machine.new session ≡ unanswered machine.old session) }
     ensures more { OnOk result (HasMore machine.new session) }
     ensures has_reply { OnOk result (HasReply machine.new session) }
+    ensures settled { OnOk result (HasSettled machine.old session machine.new) }
 {
     if !machine.is_answered(session) {
         return Ok(());
     }
     match machine.stand(session) {
         Stand::Commit => {
-            machine.commit(session)?;
+            machine.commit(rt, registry, session)?;
         }
         Stand::Abort => machine.abort(session),
         _ => {}
@@ -81,11 +84,12 @@ fn end_if_answered<N: Opened>(machine: &mut Machine<N>, session: u32) -> Result<
     Ok(())
 }
 
-/// A session's next statement, as it is bound in the present catalog.
+/// A session's next statement, as it is prepared in the present catalog. It costs what
+/// [`bf_plan::prepare`] does.
 ///
 /// # Errors
 /// Where memory runs out.
-pub fn bind_next<N: Opened>(
+pub fn prepare_next<N: Opened>(
     alloc: Global,
     machine: &Machine<N>,
     session: u32,
@@ -93,15 +97,16 @@ pub fn bind_next<N: Opened>(
 ) -> Result<Bound, Memory>
     requires place { IsPlace machine.now.script session }
     requires kept { IsKept N.opening machine.now }
-    requires servable { IsServable machine.now.script }
     requires stands { StandsAs machine.now session (Statement place) }
     ensures next { IfOk result (λ bound.
         ((o : Open) × IsBoundNext machine.now session o bound) ⊎ CanRefuse machine.now session) }
+    ensures prepared { IfOk result (IsPreparedNext machine.now session) }
     ensures number { IfOk result (λ bound. bound.catalog ≡ machine.now.db.number) }
+    ensures well_bound { IfOk result (λ bound. IsWellBound bound.action) }
 {
     let sessions = machine.script().sessions.as_slice();
     let statement = &sessions[session as usize - 1].statements.as_slice()[place as usize - 1];
-    bind(
+    prepare(
         alloc,
         statement,
         machine.catalog(),
@@ -109,34 +114,120 @@ pub fn bind_next<N: Opened>(
     )
 }
 
-/// Replies to a session's next statement, as it is bound in the present catalog.
+/// Moves what is left of a need of the last migration, as one change.
+///
+/// # Errors
+/// Where memory runs out, or 2 ^ 32 granules or 2 ^ 64 changes were made. The machine is as it was
+/// then.
+fn move_need<N: Opened>(
+    alloc: Global,
+    registry: &Registry,
+    lookups: &mut Option<Lookups<N>>,
+    machine: &mut Machine<N>,
+    granules: &[Granule],
+) -> Result<(), Memory>
+    requires registry { registry.now ≡ N.registry }
+    requires granules { AreGranulesIfAny machine.old.lazy.last granules.now }
+    ensures moves { OnOk result (Moves machine.old granules.now machine.new) }
+    ensures err { OnErr result (machine.new ≡ machine.old) }
+{
+    let Some(pass) = machine.migration() else {
+        return Ok(());
+    };
+    look_up(alloc, registry, lookups, &pass)?;
+    let Some(found) = lookups else {
+        unreachable!();
+    };
+    match machine.moved(registry, &pass, found.indexes(), granules) {
+        Ok(_) => Ok(()),
+        Err(MoveError::Memory) => Err(Memory),
+        Err(MoveError::Old(_)) => unreachable!(),
+    }
+}
+
+/// Replies to a session's next statement, as it is prepared in the present catalog, of whose cover
+/// nothing is left to move.
 ///
 /// # Errors
 /// Where memory runs out, or 2 ^ 32 rows or more change. The machine is as it was then.
-fn reply_to<N: Opened>(machine: &mut Machine<N>, session: u32, bound: &Bound) -> Result<(), Memory>
+fn reply_behind_moves<N: Opened>(
+    registry: &Registry,
+    machine: &mut Machine<N>,
+    session: u32,
+    migration: Option<&MigrationPass>,
+    bound: &Bound,
+    cover: &Cover,
+) -> Result<(), Memory>
+    requires registry { registry.now ≡ N.registry }
     requires place { IsPlace machine.old.script session }
     requires can { CanExec machine.old session N.opening bound.now }
-    requires present { bound.now.catalog ≡ machine.old.db.number }
+    requires pass { IsOf N.registry (option_map (λ pass. pass.now) migration) }
+    requires cover { IsCoverOf (option_map (λ pass. pass.now.value) migration)
+        bound.now cover.now }
+    requires present { IsPresent machine.old (option_map (λ pass. pass.now) migration) bound.now }
+    requires moved { to_move machine.old.lazy.last cover.now.granules.items ≡ [] }
     ensures replied { OnOk result (HasReplied machine.old session bound.now machine.new) }
     ensures err { OnErr result (machine.new ≡ machine.old) }
 {
-    match machine.exec(session, bound)? {
+    match machine.exec(registry, session, migration, bound, cover)? {
         Step::Replied => Ok(()),
+        Step::Need(_) | Step::Stale(_) => unreachable!(),
+    }
+}
+
+/// Replies to a session's next statement, as it is prepared in the present catalog, once what it
+/// needs of the last migration has moved.
+///
+/// # Errors
+/// Where memory runs out, 2 ^ 32 rows or more change, or 2 ^ 32 granules or 2 ^ 64 changes were
+/// made. What it needs may have moved then, and else the machine is as it was.
+fn reply_to<N: Opened>(
+    alloc: Global,
+    registry: &Registry,
+    lookups: &mut Option<Lookups<N>>,
+    machine: &mut Machine<N>,
+    session: u32,
+    bound: &Bound,
+) -> Result<(), Memory>
+    requires registry { registry.now ≡ N.registry }
+    requires place { IsPlace machine.old.script session }
+    requires kept { IsKept N.opening machine.old }
+    requires can { CanExec machine.old session N.opening bound.now }
+    requires present { bound.now.catalog ≡ machine.old.db.number }
+    requires well_bound { IsWellBound bound.now.action }
+    ensures replied { OnOk result ((now : Seen) × HasMovedNeed machine.old bound.now now
+        × HasReplied now session bound.now machine.new) }
+    ensures err { OnErr result (HasMovedNeed machine.old bound.now machine.new) }
+{
+    let pass = machine.migration();
+    let migration = pass.as_ref();
+    let cover = cover_with(alloc, registry, lookups, migration, bound)?;
+    match machine.exec(registry, session, migration, bound, &cover)? {
+        Step::Replied => Ok(()),
+        Step::Need(granules) => {
+            move_need(alloc, registry, lookups, machine, granules.as_slice())?;
+            reply_behind_moves(registry, machine, session, migration, bound, &cover)
+        }
         Step::Stale(_) => unreachable!(),
     }
 }
 
-/// Gives the next statement of a session's open group its reply: asks for the locks of its footprint
-/// in their order, and ends the group where it is the last.
-fn serve_in_group<N: Opened>(
+/// Gives the next statement of a session's open group its reply: asks for the locks of its
+/// footprint in their order, moves what it needs, and ends the group where it is the last.
+fn serve_in_group<N: Opened, R: Wait>(
     alloc: Global,
+    rt: &R,
+    registry: &Registry,
+    lookups: &mut Option<Lookups<N>>,
     machine: &mut Machine<N>,
     session: u32,
     bound: &Bound,
 ) -> Result<Turn, Memory>
+    requires registry { registry.now ≡ N.registry }
     requires place { IsPlace machine.old.script session }
     requires kept { IsKept N.opening machine.old }
     requires next { (o : Open) × IsBoundNext machine.old session o bound.now }
+    requires well_bound { IsWellBound bound.now.action }
     ensures reaches { Reaches N.opening machine.old machine.new }
     ensures turn { IfOk result (λ turn. IsTurn machine.old session N.opening turn machine.new) }
 {
@@ -145,30 +236,33 @@ fn serve_in_group<N: Opened>(
         Turn::Served => {}
         turn => return Ok(turn),
     }
-    reply_to(machine, session, bound)?;
-    end_if_answered(machine, session)?;
+    reply_to(alloc, registry, lookups, machine, session, bound)?;
+    end_if_answered(rt, registry, machine, session)?;
     Ok(Turn::Served)
 }
 
 /// Gives a session's next statement its reply, or asks for its locks until one is not granted.
-fn serve<N: Opened>(
+fn serve<N: Opened, R: Wait>(
     alloc: Global,
+    rt: &R,
+    registry: &Registry,
+    lookups: &mut Option<Lookups<N>>,
     machine: &mut Machine<N>,
     session: u32,
     place: u32,
 ) -> Result<Turn, Memory>
+    requires registry { registry.now ≡ N.registry }
     requires place { IsPlace machine.old.script session }
     requires kept { IsKept N.opening machine.old }
-    requires servable { IsServable machine.old.script }
     requires stands { StandsAs machine.old session (Statement place) }
     ensures reaches { Reaches N.opening machine.old machine.new }
     ensures turn { IfOk result (λ turn. IsTurn machine.old session N.opening turn machine.new) }
 {
-    let bound = bind_next(alloc, machine, session, place)?;
+    let bound = prepare_next(alloc, machine, session, place)?;
     if machine.start(session).is_some() {
-        return serve_in_group(alloc, machine, session, &bound);
+        return serve_in_group(alloc, rt, registry, lookups, machine, session, &bound);
     }
-    reply_to(machine, session, &bound)?;
+    reply_to(alloc, registry, lookups, machine, session, &bound)?;
     Ok(Turn::Served)
 }
 
@@ -192,22 +286,26 @@ fn begin_if_due<N: Opened>(machine: &mut Machine<N>, session: u32) -> Result<Sta
 }
 
 /// One turn of a session: drives its next statement until it has its reply, waits or dies. A group
-/// begins with its first statement's turn and, but for its COMMIT or ROLLBACK, ends with its last one's.
-fn take_turn<N: Opened>(
+/// begins with its first statement's turn and, but for its COMMIT or ROLLBACK, ends with its last
+/// one's.
+fn take_turn<N: Opened, R: Wait>(
     alloc: Global,
+    rt: &R,
+    registry: &Registry,
+    lookups: &mut Option<Lookups<N>>,
     machine: &mut Machine<N>,
     session: u32,
 ) -> Result<Turn, Memory>
+    requires registry { registry.now ≡ N.registry }
     requires place { IsPlace machine.old.script session }
     requires kept { IsKept N.opening machine.old }
-    requires servable { IsServable machine.old.script }
     ensures reaches { Reaches N.opening machine.old machine.new }
     ensures turn { IfOk result (λ turn. IsTurn machine.old session N.opening turn machine.new) }
 {
     match begin_if_due(machine, session)? {
-        Stand::Statement(place) => serve(alloc, machine, session, place),
+        Stand::Statement(place) => serve(alloc, rt, registry, lookups, machine, session, place),
         Stand::Commit => {
-            machine.commit(session)?;
+            machine.commit(rt, registry, session)?;
             Ok(Turn::Served)
         }
         Stand::Abort => {
@@ -219,22 +317,25 @@ fn take_turn<N: Opened>(
 }
 
 /// A turn of the session of a number, if it is one of so many.
-fn turn_of<N: Opened>(
+fn turn_of<N: Opened, R: Wait>(
     alloc: Global,
+    rt: &R,
+    registry: &Registry,
+    lookups: &mut Option<Lookups<N>>,
     machine: &mut Machine<N>,
     count: u32,
     session: u32,
 ) -> Result<(), Memory>
+    requires registry { registry.now ≡ N.registry }
     requires count { count ≡ length machine.old.script.sessions }
     requires kept { IsKept N.opening machine.old }
-    requires servable { IsServable machine.old.script }
     ensures reaches { Reaches N.opening machine.old machine.new }
     ensures turn { OnOk result (IsTurnOf N.opening machine.old session machine.new) }
 {
     if session == 0 || count < session {
         return Ok(());
     }
-    take_turn(alloc, machine, session)?;
+    take_turn(alloc, rt, registry, lookups, machine, session)?;
     Ok(())
 }
 
@@ -276,9 +377,15 @@ fn first_to_go<N: Opened>(machine: &Machine<N>) -> Option<u32>
 }
 
 /// Drives the open groups to their ends, the youngest first. No group begins.
-fn end_open_groups<N: Opened>(alloc: Global, machine: &mut Machine<N>) -> Result<(), Memory>
+fn end_open_groups<N: Opened, R: Wait>(
+    alloc: Global,
+    rt: &R,
+    registry: &Registry,
+    lookups: &mut Option<Lookups<N>>,
+    machine: &mut Machine<N>,
+) -> Result<(), Memory>
+    requires registry { registry.now ≡ N.registry }
     requires kept { IsKept N.opening machine.old }
-    requires servable { IsServable machine.old.script }
     ensures reaches { Reaches N.opening machine.old machine.new }
     ensures closed { OnOk result ((s : ℕ) → open_at machine.new s ≡ None) }
     ensures driven { OnOk result (Driven N.opening machine.old machine.new) }
@@ -288,15 +395,21 @@ fn end_open_groups<N: Opened>(alloc: Global, machine: &mut Machine<N>) -> Result
         × (unanswered machine.new s ≤ unanswered machine.old s)) }
 {
     while let Some(session) = youngest(machine) {
-        take_turn(alloc, machine, session)?;
+        take_turn(alloc, rt, registry, lookups, machine, session)?;
     }
     Ok(())
 }
 
 /// Drives sessions of which no group is open to their ends, one group after the other.
-fn end_sessions<N: Opened>(alloc: Global, machine: &mut Machine<N>) -> Result<(), Memory>
+fn end_sessions<N: Opened, R: Wait>(
+    alloc: Global,
+    rt: &R,
+    registry: &Registry,
+    lookups: &mut Option<Lookups<N>>,
+    machine: &mut Machine<N>,
+) -> Result<(), Memory>
+    requires registry { registry.now ≡ N.registry }
     requires kept { IsKept N.opening machine.old }
-    requires servable { IsServable machine.old.script }
     requires closed { (s : ℕ) → open_at machine.old s ≡ None }
     ensures reaches { Reaches N.opening machine.old machine.new }
     ensures driven { OnOk result (Driven N.opening machine.old machine.new) }
@@ -306,28 +419,36 @@ fn end_sessions<N: Opened>(alloc: Global, machine: &mut Machine<N>) -> Result<()
     ensures sequence { OnOk result (IsInSequence machine.old → IsInSequence machine.new) }
 {
     while let Some(session) = first_to_go(machine) {
-        take_turn(alloc, machine, session)?;
-        end_open_groups(alloc, machine)?;
+        take_turn(alloc, rt, registry, lookups, machine, session)?;
+        end_open_groups(alloc, rt, registry, lookups, machine)?;
     }
     Ok(())
 }
 
 /// Serves the sessions of a machine on one thread. Each number of the order is one turn of that
 /// session: its next statement is driven until it has its reply, or waits, or dies. A number of no
-/// session, and a session that has ended, is of a later phase or waits for the end of another group,
-/// is passed over. Then all that is left is driven, the youngest open group first, and where none is
-/// open the first session that can go on. Linear in the turns, each of which looks at each session of
-/// the script, 64 at most in one that is read.
+/// session, and a session that has ended, is of a later phase or waits for the end of another
+/// group, is passed over. Then all that is left is driven, the youngest open group first, and where
+/// none is open the first session that can go on. What a statement needs of the last migration
+/// moves in its turn, and nothing else of it.
+///
+/// Linear in the turns, each of which looks at each session of the script, 64 at most in one that
+/// is read, and costs what its statement's cover, moves and reply do. The old rows of a migration
+/// are put in order by their values once, when a statement first can need some of it.
 ///
 /// # Errors
-/// Where memory runs out. The machine stands after some of the turns then, and maybe in the midst of
-/// one: its group has begun, holds some of its locks, or has its last reply and has not ended.
-pub fn in_order<N: Opened>(
+/// Where memory runs out, 2 ^ 32 rows or more change, or 2 ^ 32 granules or migrations or 2 ^ 64
+/// changes were made. The machine stands after some of the turns then, and maybe in the midst of
+/// one: its group has begun, holds some of its locks, has moved what it needs, or has its last
+/// reply and has not ended.
+pub fn in_order<N: Opened, R: Wait>(
     alloc: Global,
+    rt: &R,
+    registry: &Registry,
     machine: &mut Machine<N>,
     order: &[u32],
 ) -> Result<(), Memory>
-    requires servable { IsServable machine.old.script }
+    requires registry { registry.now ≡ N.registry }
     ensures reaches { Reaches N.opening machine.old machine.new }
     ensures turns { OnOk result ((behind : Seen)
         × Turned N.opening machine.old order.now behind
@@ -340,9 +461,10 @@ pub fn in_order<N: Opened>(
         (order.now ≡ [] → IsInSequence machine.old → IsInSequence machine.new) }
 {
     let count = machine.session_count();
+    let mut lookups = None;
     for session in order {
-        turn_of(alloc, machine, count, *session)?;
+        turn_of(alloc, rt, registry, &mut lookups, machine, count, *session)?;
     }
-    end_open_groups(alloc, machine)?;
-    end_sessions(alloc, machine)
+    end_open_groups(alloc, rt, registry, &mut lookups, machine)?;
+    end_sessions(alloc, rt, registry, &mut lookups, machine)
 }

@@ -8,16 +8,20 @@ ghost use Rattle.bf_sql.specs.Groups.{no_session};
 ghost use Rattle.bf_machine.specs.interleaving.Seen.{AreNew, HasEndedAt, IsLeastLeft, last_from};
 
 use bf_base::{Memory, Sequence, Table, next_number};
-use bf_tree::{Cause, IndexRule, Reply, Session, Statement};
+use bf_tree::{Cause, IndexRule, Plan, Reply, Session, Statement};
 use bf_txn::Workspace;
 use std::alloc::Global;
 
-/// What an open group is to leave: rows that it has written, or one change of the schema.
+/// What an open group is to leave: rows that it has written, one change of the schema, or nothing, where
+/// the rows have something against its MIGRATE.
 #[derive(Drop)]
 pub enum Pending {
     Rows(Workspace),
     NewTable(Table),
     NewIndex(IndexRule),
+    /// A MIGRATE, by its plan.
+    Flip(Plan),
+    Nothing,
 }
 
 /// A group that has begun, at the place of its start number, and the start numbers that its deaths

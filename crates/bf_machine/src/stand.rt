@@ -1,8 +1,9 @@
-//! Where a session stands, how a statement went, and how a group ends.
+//! Where a session stands, how a statement, a move and a turn went, and how a group ends.
 
 ghost use Rattle.std.specs.Prelude.{◌≡◌};
 ghost use Rattle.bf_machine.specs.interleaving.Serving.{can_go};
 
+use bf_base::Granule;
 use bf_tree::Cause;
 
 /// Where a session stands: which call is its next, if one is.
@@ -37,12 +38,23 @@ impl Stand {
 }
 
 /// How a statement went.
-#[derive(Clone, Copy, Debug, PartialEq, Eq)]
+#[derive(Debug, Drop)]
 pub enum Step {
     /// It has its reply.
     Replied,
-    /// The catalog has changed since it was bound, and has this number now: it is to be bound again.
+    /// These granules of its cover are to move first.
+    Need(Vec<Granule>),
+    /// The catalog has changed since it was bound, or the migration since its cover was made: it is to be
+    /// bound again, in the catalog that has this number now.
     Stale(u64),
+}
+
+/// Why granules did not move.
+#[derive(Clone, Copy, Debug, PartialEq, Eq)]
+pub enum MoveError {
+    /// The last migration is another one, with this number, which is 0 where there was none.
+    Old(u32),
+    Memory,
 }
 
 /// How a group ended that was to commit.
@@ -51,4 +63,17 @@ pub enum Ending {
     /// The number of the commit.
     Committed(u64),
     Ended(Cause),
+}
+
+/// How a turn of a session ended.
+#[derive(Clone, Copy, Debug, PartialEq, Eq)]
+pub enum Turn {
+    /// No call of the session can come.
+    Passed,
+    /// Its next statement has its reply, or its open group has ended.
+    Served,
+    /// Its open group waits for a lock.
+    Waited,
+    /// Its open group died.
+    Died,
 }

@@ -15,12 +15,14 @@ use Rattle.bf_sql.specs.Groups.{session_at, groups_in, groups_of, has_statement,
 use Rattle.bf_sql.specs.History.{IsApart, answered, stands_in}
 use Rattle.bf_machine.proofs.interleaving.Texts.{AreTexts, one_first}
 use Rattle.bf_machine.specs.interleaving.Machines.{Group, Began, Open, Machine, open_at, told_at, began_at}
-use Rattle.bf_machine.specs.interleaving.Kept.{IsKept, HistoryLegal, LocksConsistent, DeathsAllowed, HasStart, DiedFor, IsAllowed, IsCurrent, HasBegun, phase_of}
+use Rattle.bf_machine.specs.interleaving.Kept.{CanBePutInto, IsKept, HistoryLegal, LocksConsistent, DeathsAllowed, HasStart, DiedFor, IsAllowed, IsCurrent, HasBegun, phase_of}
 use Rattle.bf_machine.specs.InOrder.{none_open}
 use Rattle.bf_machine.specs.interleaving.Events.{Begins, LastHasEnded, begun, begun_again, opened}
 use Rattle.bf_machine.proofs.interleaving.Answers.{Told, still}
 use Rattle.bf_machine.proofs.interleaving.Places.{set_same, set_other, some_within, there_in}
 use Rattle.bf_machine.proofs.interleaving.Opens.{begin_keeps_open}
+use Rattle.bf_machine.proofs.interleaving.Storing.{each_with}
+use Rattle.bf_store.proofs.seeing.Opening.{begins}
 
 -- a start number of a list is one of a longer one
 module _ (began : List Began) (b : Began) where
@@ -289,6 +291,13 @@ module _ (start : Database) (m : Machine) (kept : IsKept start m) (texts : AreTe
   -- BEGIN KEEPS ALL, where a group begins for the first time
   pub begin_keeps_all : IsKept start after
   begin_keeps_all = record {
+    within = kept.within;
+    store_valid = record {
+      seen_as = kept.store_valid.seen_as;
+      narrow = kept.store_valid.narrow;
+      by_pass = kept.store_valid.by_pass;
+      puts = each_with m.opens s low high (λ q. CanBePutInto m.lazy q.pending) (opened m s (length m.began + 1) group) (begins m.lazy kept.store_valid.seen_as.lazy_state) kept.store_valid.puts;
+    };
     shaped = record { opens = length-set m.opens (s - 1) (Some (opened m s (length m.began + 1) group)) ∙ kept.shaped.opens; told = kept.shaped.told };
     history_legal = begin_keeps_legal;
     open_groups_replay = begin_keeps_open start m kept s (length m.began + 1) group low high whole first (more m.began b);
@@ -382,6 +391,13 @@ module _ (start : Database) (m : Machine) (kept : IsKept start m) (texts : AreTe
 
     again_keeps_all : IsKept start again
     again_keeps_all = record {
+      within = kept.within;
+      store_valid = record {
+        seen_as = kept.store_valid.seen_as;
+        narrow = kept.store_valid.narrow;
+        by_pass = kept.store_valid.by_pass;
+        puts = each_with m.opens s low high (λ q. CanBePutInto m.lazy q.pending) (opened m s n group) (begins m.lazy kept.store_valid.seen_as.lazy_state) kept.store_valid.puts;
+      };
       shaped = record { opens = length-set m.opens (s - 1) (Some (opened m s n group)) ∙ kept.shaped.opens; told = kept.shaped.told };
       history_legal = record {
         legal = kept.history_legal.legal;

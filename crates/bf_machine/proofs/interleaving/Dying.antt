@@ -33,6 +33,7 @@ use Rattle.bf_machine.proofs.interleaving.Opens.{unchanged_keeps_open}
 use Rattle.bf_machine.proofs.interleaving.Places.{set_other, set_same, some_within, there_in}
 use Rattle.bf_machine.proofs.interleaving.Others.{has_place}
 use Rattle.bf_machine.proofs.interleaving.Rest.{StaysAtEnd, current_then, deaths_then, end_keeps}
+use Rattle.bf_machine.proofs.interleaving.Storing.{kept_with, puts_without}
 use Rattle.bf_machine.proofs.interleaving.Telling.{apart_still, entries_alike, grows, length-part, others_told, placed_still, size_here, told_here}
 use Rattle.bf_machine.proofs.interleaving.Texts.{AreTexts}
 
@@ -480,8 +481,16 @@ module _ (start : Database) (m : Machine) (kept : IsKept start m) (texts : AreTe
 
   death_keeps : IsKept start after
   death_keeps =
-      end_keeps start m kept s o there answers closes m.db began m.history stays death_keeps_legal
-      (unchanged_keeps_open start m kept s o there answers began m.history) death_keeps_causes
+      let p = has_place m s o there in
+      kept_with start after
+      (end_keeps start m kept s o there answers closes m.db began m.history stays death_keeps_legal
+      (unchanged_keeps_open start m kept s o there answers began m.history) death_keeps_causes)
+      (record {
+        seen_as = kept.store_valid.seen_as;
+        narrow = kept.store_valid.narrow;
+        by_pass = kept.store_valid.by_pass;
+        puts = puts_without start m kept.store_valid s p.0 p.1;
+      })
 
 -- A DEATH KEEPS ALL
 pub death_keeps_all : (start : Database) (m : Machine) (kept : IsKept start m) (texts : AreTexts m.script) (s : ℕ) (name : LockName) (mode : Mode) (h : ℕ) (next : Machine)

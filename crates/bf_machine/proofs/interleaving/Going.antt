@@ -16,14 +16,18 @@ use Rattle.bf_tree.specs.declared.history.Entry.{Entry}
 use Rattle.bf_tree.specs.declared.statement.Statement.{Statement}
 use Rattle.bf_sql.specs.Database.{Database}
 use Rattle.bf_sql.specs.History.{replayed}
-use Rattle.bf_machine.specs.interleaving.Groups.{footprint_in}
+use Rattle.bf_sql.specs.migrations.Plans.{prepared_of}
+use Rattle.bf_machine.specs.interleaving.Groups.{footprint_in, pending_behind}
 use Rattle.bf_machine.proofs.interleaving.Texts.{AreTexts}
 use Rattle.bf_machine.specs.interleaving.Machines.{Group, Began, Open, Machine, open_at}
-use Rattle.bf_machine.specs.interleaving.Kept.{IsKept, OpenGroupsReplay, LocksConsistent, DeathsAllowed, HasStart, IsCurrent, IsJoin, wanted as is_wanted, joined, SomeOf, Wants}
+use Rattle.bf_machine.specs.interleaving.Kept.{CanBePutInto, IsKept, OpenGroupsReplay, LocksConsistent, DeathsAllowed, HasStart, IsCurrent, IsJoin, wanted as is_wanted, joined, SomeOf, Wants}
 use Rattle.bf_machine.specs.interleaving.Events.{Executes, Asks, with_open, stepped, stands_inside, rest_of, text_of}
 use Rattle.bf_machine.proofs.interleaving.Places.{set_same, set_other}
 use Rattle.bf_machine.proofs.interleaving.Opens.{answer_keeps_open, exec_keeps_open}
+use Rattle.bf_machine.proofs.interleaving.Narrow.{narrow_in, narrow_next}
 use Rattle.bf_machine.proofs.interleaving.Others.{has_place, starts_differ}
+use Rattle.bf_machine.proofs.interleaving.Putting.{next_puts}
+use Rattle.bf_machine.proofs.interleaving.Storing.{each_with}
 
 module _ (start : Database) (m : Machine) (kept : IsKept start m) (s : ℕ) (o : Open) (there : open_at m s ≡ Some o) where
   place : (1 ≤ s) × (s ≤ length m.opens)
@@ -121,8 +125,15 @@ module _ (start : Database) (m : Machine) (kept : IsKept start m) (s : ℕ) (o :
       by_phase = kept.locks_consistent.by_phase;
     }
 
-    pub exchange_keeps : OpenGroupsReplay start after → IsKept start after
-    exchange_keeps replay = record {
+    pub exchange_keeps : CanBePutInto m.lazy p.pending → OpenGroupsReplay start after → IsKept start after
+    exchange_keeps puts replay = record {
+      within = kept.within;
+      store_valid = record {
+        seen_as = kept.store_valid.seen_as;
+        narrow = kept.store_valid.narrow;
+        by_pass = kept.store_valid.by_pass;
+        puts = each_with m.opens s place.0 place.1 (λ q. CanBePutInto m.lazy q.pending) p puts kept.store_valid.puts;
+      };
       shaped = record { opens = length-set m.opens (s - 1) (Some p) ∙ kept.shaped.opens; told = kept.shaped.told };
       history_legal = record {
         legal = kept.history_legal.legal;
@@ -162,6 +173,13 @@ module _ (start : Database) (m : Machine) (kept : IsKept start m) (s : ℕ) (o :
 
     pub grant_keeps : IsJudged m.locks o.start name mode Granted → IsKept start granted
     grant_keeps none = record {
+      within = kept.within;
+      store_valid = record {
+        seen_as = kept.store_valid.seen_as;
+        narrow = kept.store_valid.narrow;
+        by_pass = kept.store_valid.by_pass;
+        puts = kept.store_valid.puts;
+      };
       shaped = record { opens = kept.shaped.opens; told = kept.shaped.told };
       history_legal = record {
         legal = kept.history_legal.legal;
@@ -236,11 +254,22 @@ module _ (start : Database) (m : Machine) (kept : IsKept start m) (s : ℕ) wher
       ] in
       (k, some_of P false (length o.replies) (text_of m s o) st later left (rw inside among))
 
+  -- what a statement leaves can be put
+  step_puts : (next : Machine) → (by : Executes m s next) → CanBePutInto m.lazy (stepped m s by.o by.statement by.bound).pending
+  step_puts next by =
+      let valid = kept.store_valid in
+      let inside = stands_inside by.o.replies in
+      let narrow = narrow_next (text_of m s by.o) (narrow_in m.script kept.within s by.o.group) (length by.o.replies) by.statement by.later by.left in
+      let P : Database → Type 0 = λ db. prepared_of db inside by.statement ≡ Some by.bound → CanBePutInto m.lazy (pending_behind db by.o.pending inside by.statement by.bound.action) in
+      (subst P valid.seen_as.view
+      (λ is_bound. next_puts m.lazy valid.seen_as.lazy_state inside by.statement by.goes_on by.bound is_bound by.moved narrow.migrates by.o.pending (valid.puts s by.o by.is)))
+      by.bound_so
+
   -- EXEC KEEPS ALL
   pub exec_keeps_all : AreTexts m.script → (next : Machine) → Executes m s next → IsKept start next
   exec_keeps_all texts next by =
       subst (IsKept start) (sym by.goes)
-      (exchange_keeps start m kept s by.o by.is (stepped m s by.o by.statement by.bound) refl refl
+      (exchange_keeps start m kept s by.o by.is (stepped m s by.o by.statement by.bound) refl refl (step_puts next by)
       (exec_keeps_open start m kept s texts by.o by.is by.statement by.later by.left by.goes_on by.bound by.bound_so by.held))
 
   -- GRANTED KEEPS ALL

@@ -8,9 +8,11 @@ use Rattle.bf_locks.proofs.Held.{consistent_empty}
 use Rattle.bf_tree.specs.declared.reply.Reply.{Reply}
 use Rattle.bf_tree.specs.declared.script.Script.{Script}
 use Rattle.bf_tree.specs.declared.script.Session.{Session}
-use Rattle.bf_sql.specs.Database.{Database, IsDatabase}
+use Rattle.bf_sql.specs.migrations.Lazy.{view_of}
+use Rattle.bf_store.specs.Stores.{Store}
+use Rattle.bf_store.proofs.seeing.Viewing.{view_is_database}
 use Rattle.bf_machine.specs.interleaving.Machines.{Began, began_at, told_at}
-use Rattle.bf_machine.specs.interleaving.Kept.{IsKept, fresh, no_group, no_replies}
+use Rattle.bf_machine.specs.interleaving.Kept.{IsKept, IsOpening, IsWithinLimits, fresh, no_group, no_replies}
 use Rattle.bf_machine.proofs.interleaving.Answers.{told_from}
 use Rattle.bf_machine.proofs.interleaving.Texts.{are_texts}
 
@@ -40,8 +42,15 @@ none_began : (n : ℕ) (b : Began) → began_at [] n ≡ Some b → ⊥
 none_began zero b is = cc
 none_began (suc n) b is = cc
 
-pub new_is_kept : (start : Database) (script : Script) (retries : ℕ) → IsDatabase start → IsKept start (fresh start script retries)
-new_is_kept start script retries is = record {
+pub new_is_kept : (store : Store) (script : Script) (retries : ℕ) → IsOpening store → IsWithinLimits script → IsKept (view_of store.lazy) (fresh store script retries)
+new_is_kept store script retries is within = record {
+  within = within;
+  store_valid = record {
+    seen_as = record { lazy_state = is.lazy_state; view = refl };
+    narrow = is.narrow;
+    by_pass = is.by_pass;
+    puts = λ s o there. let none = sym (none_at script.sessions s) ∙ there in absurd cc;
+  };
   shaped = record { opens = length-map script.sessions no_group; told = length-map script.sessions no_replies };
   history_legal = record {
     legal = record {
@@ -52,7 +61,7 @@ new_is_kept start script retries is = record {
       others = let none = none_told 1 script.sessions in rw none tt;
     };
     replay = refl;
-    database = is;
+    database = view_is_database store.lazy is.lazy_state;
     placed = tt;
     in_turn = tt;
   };
@@ -66,7 +75,7 @@ new_is_kept start script retries is = record {
     begun = λ s g n x. absurd (none_began n _ x.is);
     numbered = λ s g whole has_ended.
         let bounds = (are_texts script).bounds s g whole in
-        let none : length (told_at (fresh start script retries) s) ≡ 0 = ap (λ (rs : List Reply). length rs) (nothing_at script.sessions s) in
+        let none : length (told_at (fresh store script retries) s) ≡ 0 = ap (λ (rs : List Reply). length rs) (nothing_at script.sessions s) in
         absurd (omega (arith, has_ended, none, bounds.0, bounds.1));
     by_session = λ s one other i j x y before. absurd (none_began i _ x.is);
     by_phase = λ s t one other i j x y before. absurd (none_began i _ x.is);

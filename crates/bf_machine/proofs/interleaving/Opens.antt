@@ -11,10 +11,10 @@ use Rattle.bf_tree.specs.declared.bound.Bound.{Bound}
 use Rattle.bf_tree.specs.declared.history.Entry.{Entry}
 use Rattle.bf_tree.specs.declared.reply.Reply.{Reply}
 use Rattle.bf_tree.specs.declared.statement.Statement.{Statement}
-use Rattle.bf_sql.specs.Bound.{bound_of}
 use Rattle.bf_sql.specs.Database.{Database}
 use Rattle.bf_sql.specs.Footprints.{footprint_of}
 use Rattle.bf_sql.specs.Groups.{ends_block, groups_in}
+use Rattle.bf_sql.specs.migrations.Plans.{prepared_of}
 use Rattle.bf_live.specs.OpenGroups.{Holds}
 use Rattle.bf_live.proofs.locking.Granting.{answer_keeps, freeing_keeps}
 use Rattle.bf_machine.specs.interleaving.Groups.{HasRun, left_by}
@@ -63,7 +63,7 @@ module _ (start : Database) (m : Machine) (kept : IsKept start m) (s : ℕ) wher
 
   -- EXEC
   module _ (texts : AreTexts m.script) (o : Open) (there : open_at m s ≡ Some o) (statement : Statement) (later : List Statement) (left : rest_of m s o ≡ statement ∷ later)
-      (goes_on : ends_block statement ≡ false) (bound : Bound) (is_bound : bound_of m.db (stands_inside o.replies) statement ≡ Some bound)
+      (goes_on : ends_block statement ≡ false) (bound : Bound) (is_bound : prepared_of m.db (stands_inside o.replies) statement ≡ Some bound)
       (held : Holds m.locks o.start (footprint_of bound)) where
     abbrev now : Open
     now = stepped m s o statement bound

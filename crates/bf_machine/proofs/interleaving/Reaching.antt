@@ -5,9 +5,11 @@ use Rattle.bf_locks.specs.declared.answer.LockAnswer.TheVariants.{Granted, Wait,
 use Rattle.bf_locks.specs.declared.mode.Mode.{Mode}
 use Rattle.bf_locks.specs.declared.name.LockName.{LockName}
 use Rattle.bf_tree.specs.declared.script.Script.{Script}
-use Rattle.bf_sql.specs.Database.{Database, IsDatabase}
-use Rattle.bf_machine.specs.interleaving.Events.{Asks, Event, Reaches, asks, aborts, at_once, begins, commits_now, executes, finishes, one_more, refuses}
-use Rattle.bf_machine.specs.interleaving.Kept.{IsKept, fresh}
+use Rattle.bf_sql.specs.Database.{Database}
+use Rattle.bf_sql.specs.migrations.Lazy.{view_of}
+use Rattle.bf_store.specs.Stores.{Store}
+use Rattle.bf_machine.specs.interleaving.Events.{Asks, Event, Reaches, asks, aborts, at_once, begins, commits_now, executes, finishes, moves, one_more, refuses}
+use Rattle.bf_machine.specs.interleaving.Kept.{IsKept, IsOpening, IsWithinLimits, fresh}
 use Rattle.bf_machine.specs.interleaving.Machines.{Machine}
 use Rattle.bf_machine.proofs.interleaving.Beginning.{begins_keeps_all}
 use Rattle.bf_machine.proofs.interleaving.Dying.{death_keeps_all}
@@ -15,6 +17,7 @@ use Rattle.bf_machine.proofs.interleaving.Ends.{abort_keeps_all, commit_keeps_al
 use Rattle.bf_machine.proofs.interleaving.Going.{exec_keeps_all, grant_keeps_all, wait_keeps_all}
 use Rattle.bf_machine.proofs.interleaving.New.{new_is_kept}
 use Rattle.bf_machine.proofs.interleaving.Refusing.{refuse_keeps_all}
+use Rattle.bf_machine.proofs.interleaving.Stirring.{moves_keep_all}
 use Rattle.bf_machine.proofs.interleaving.Texts.{are_texts}
 
 module _ (start : Database) where
@@ -30,11 +33,13 @@ module _ (start : Database) where
   event_keeps_all m next kept (refuses s by) = refuse_keeps_all start m kept (are_texts m.script) s next by
   event_keeps_all m next kept (commits_now s by) = commit_keeps_all start m kept (are_texts m.script) s next by
   event_keeps_all m next kept (aborts s by) = abort_keeps_all start m kept (are_texts m.script) s next by
+  event_keeps_all m next kept (moves granules by) = moves_keep_all start m kept granules next by
   event_keeps_all m next kept (finishes s same) = subst (IsKept start) (sym same) kept
 
   pub reached_keeps_all : (m now : Machine) → IsKept start m → Reaches start m now → IsKept start now
   reached_keeps_all m _ kept at_once = kept
   reached_keeps_all m _ kept (one_more {now = now} {next = next} before event) = event_keeps_all now next (reached_keeps_all m now kept before) event
 
-pub reached_is_kept : (start : Database) (script : Script) (retries : ℕ) (m : Machine) → IsDatabase start → Reaches start (fresh start script retries) m → IsKept start m
-reached_is_kept start script retries m is reached = reached_keeps_all start (fresh start script retries) m (new_is_kept start script retries is) reached
+pub reached_is_kept : (store : Store) (script : Script) (retries : ℕ) (m : Machine) → IsOpening store → IsWithinLimits script → Reaches (view_of store.lazy) (fresh store script retries) m
+    → IsKept (view_of store.lazy) m
+reached_is_kept store script retries m is within reached = reached_keeps_all (view_of store.lazy) (fresh store script retries) m (new_is_kept store script retries is within) reached

@@ -110,6 +110,13 @@ module _ (start : Database) (m : Machine) (kept : IsKept start m) (texts : AreTe
 
   pub stray_keeps_all : IsKept start after
   stray_keeps_all = record {
+    within = kept.within;
+    store_valid = record {
+      seen_as = kept.store_valid.seen_as;
+      narrow = kept.store_valid.narrow;
+      by_pass = kept.store_valid.by_pass;
+      puts = kept.store_valid.puts;
+    };
     shaped = record { opens = kept.shaped.opens; told = length-set m.told (s - 1) (told_at m s ++ more) ∙ kept.shaped.told };
     history_legal = record {
       legal = record {

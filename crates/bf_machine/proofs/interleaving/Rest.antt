@@ -19,6 +19,7 @@ use Rattle.bf_machine.specs.interleaving.Events.{ended}
 use Rattle.bf_machine.proofs.interleaving.Places.{set_same, set_other}
 use Rattle.bf_machine.proofs.interleaving.Legal.{wants_more}
 use Rattle.bf_machine.proofs.interleaving.Others.{has_place}
+use Rattle.bf_machine.proofs.interleaving.Storing.{KeepsRest}
 use Rattle.bf_machine.proofs.interleaving.Telling.{grows, size_here, told_there}
 use Rattle.bf_machine.proofs.interleaving.Texts.{are_texts, one_first, one_group}
 
@@ -171,9 +172,10 @@ module _ (start : Database) (m : Machine) (kept : IsKept start m) (s : ℕ) (o :
     ];
   }
 
-  -- ALL is kept, where the history is legal, the open groups replay, and what deaths named is allowed
-  pub end_keeps : HistoryLegal start after → OpenGroupsReplay start after → CausesAllowed start after → IsKept start after
+  -- ALL but the store is kept, where the history is legal, the open groups replay, and what deaths named is allowed
+  pub end_keeps : HistoryLegal start after → OpenGroupsReplay start after → CausesAllowed start after → KeepsRest start after
   end_keeps legal replay causes = record {
+    within = kept.within;
     shaped = record {
       opens = length-set m.opens (s - 1) None ∙ kept.shaped.opens;
       told = length-set m.told (s - 1) (told_at m s ++ answers) ∙ kept.shaped.told;

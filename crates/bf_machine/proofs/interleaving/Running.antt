@@ -12,6 +12,7 @@ use Rattle.bf_tree.specs.declared.bound.Action.{Action}
 use Rattle.bf_tree.specs.declared.bound.Action.TheVariants as action
 use Rattle.bf_tree.specs.declared.bound.Bound.{Bound}
 use Rattle.bf_tree.specs.declared.catalog.IndexRule.{IndexRule}
+use Rattle.bf_tree.specs.declared.plan.Plan.{Plan}
 use Rattle.bf_tree.specs.declared.reply.Refusal.{Refusal}
 use Rattle.bf_tree.specs.declared.reply.Reply.{Reply}
 use Rattle.bf_tree.specs.declared.reply.Reply.TheVariants as reply
@@ -25,6 +26,10 @@ use Rattle.bf_sql.specs.History.{run_group}
 use Rattle.bf_sql.specs.Meaning.{effect, executed, unless_refused}
 use Rattle.bf_sql.specs.Objections.{objections}
 use Rattle.bf_sql.specs.RowObjections.{row_objections}
+use Rattle.bf_sql.specs.migrations.Images.{flipped}
+use Rattle.bf_sql.specs.migrations.MigrationObjections.{migrate_objections}
+use Rattle.bf_sql.specs.migrations.Plans.{prepared_of}
+use Rattle.bf_image.proofs.admitting.Flip.{flip_keeps}
 use Rattle.bf_query.specs.Actions.{action_table}
 use Rattle.bf_query.proofs.OwnKeys.{each}
 use Rattle.bf_txn.specs.declared.write.Write.{Write}
@@ -39,8 +44,9 @@ use Rattle.bf_live.proofs.locking.Placing.{is_on_rows}
 use Rattle.bf_live.proofs.locking.Reading.{by_place, parts_of}
 use Rattle.bf_live.proofs.statements.Creating.{creates, creates_index}
 use Rattle.bf_live.proofs.statements.Seeing.{begun, nothing_written, same_catalog}
-use Rattle.bf_machine.specs.interleaving.Groups.{Pending, Rows, NewTable, NewIndex, HasRun, IsSchemaStep, answered_by, left_by, pending_behind, reply_on}
+use Rattle.bf_machine.specs.interleaving.Groups.{Pending, Rows, NewTable, NewIndex, Flip, Nothing, HasRun, IsSchemaStep, answered_by, flip_unless, left_by, pending_behind, reply_on}
 use Rattle.bf_machine.specs.interleaving.Events.{stands_inside}
+use Rattle.bf_machine.proofs.interleaving.Planning.{IsPlain, planned_so, prepared_as_bound}
 use Rattle.bf_machine.proofs.interleaving.Texts.{IsText, lone, block}
 
 -- whether what comes behind some statements of a group stands in its block
@@ -89,38 +95,62 @@ pub run_is_database : (locks : Locks) (owner : ℕ) (db : Database) (told : List
 run_is_database locks owner db told (Rows writes) is run = (stays_open locks owner db told [] writes (begun db is) run).database
 run_is_database locks owner db told (NewTable table) is run = run.database
 run_is_database locks owner db told (NewIndex index) is run = run.database
+run_is_database locks owner db told (Flip plan) is run = run.database
+run_is_database locks owner db told Nothing is run = run.database
 
 -- UNDER OTHER LOCKS, where the owner holds what it held
+step_under : (locks more : Locks) (owner : ℕ) (db : Database) (told : List Answered) (change : Pending) → ((name : LockName) (mode : Mode) → HoldsIn locks owner name mode → HoldsIn more owner name mode)
+    → IsSchemaStep locks owner db told change → IsSchemaStep more owner db told change
+step_under locks more owner db told change still run = record {
+  statement = run.statement;
+  reply = run.reply;
+  changes = run.changes;
+  alone = run.alone;
+  meant = run.meant;
+  database = run.database;
+  holds = still Catalog X run.holds;
+}
+
 pub run_under : (locks more : Locks) (owner : ℕ) (db : Database) (told : List Answered) (p : Pending) → ((name : LockName) (mode : Mode) → HoldsIn locks owner name mode → HoldsIn more owner name mode)
     → HasRun locks owner db told p → HasRun more owner db told p
 run_under locks more owner db told (Rows writes) still run = under_more locks more owner db [] writes told still run
-run_under locks more owner db told (NewTable table) still run = record { statement = run.statement; reply = run.reply; alone = run.alone; meant = run.meant; database = run.database; holds = still Catalog X run.holds }
-run_under locks more owner db told (NewIndex index) still run = record { statement = run.statement; reply = run.reply; alone = run.alone; meant = run.meant; database = run.database; holds = still Catalog X run.holds }
+run_under locks more owner db told (NewTable table) still run = step_under locks more owner db told (NewTable table) still run
+run_under locks more owner db told (NewIndex index) still run = step_under locks more owner db told (NewIndex index) still run
+run_under locks more owner db told (Flip plan) still run = step_under locks more owner db told (Flip plan) still run
+run_under locks more owner db told Nothing still run = step_under locks more owner db told Nothing still run
 
 -- ON WHAT ANOTHER GROUP LEAVES
 module _ (locks : Locks) (consistent : IsConsistent locks) (owner other : ℕ) (apart : owner ≢ other) (db : Database) (is : IsDatabase db) (mine theirs : List Answered) where
+  -- beside a change of the schema nothing is written
+  beside_step : (change : Pending) (writes : List Write) → IsSchemaStep locks owner db mine change → Replays locks other db [] theirs writes → IsSchemaStep locks owner (committed db writes) mine change
+  beside_step change writes run replays =
+      let same = alone locks owner other consistent apart db writes run.holds (may_write_all locks other db theirs [] writes (begun db is) tt replays) in
+      subst (λ (db : Database). IsSchemaStep locks owner db mine change) (sym same) run
+
   -- where that has written rows
   beside_rows : (p : Pending) (writes : List Write) → HasRun locks owner db mine p → Replays locks other db [] theirs writes → HasRun locks owner (committed db writes) mine p
   beside_rows (Rows own) writes run replays =
       open_group_stays locks owner other db writes consistent apart is (stays_open locks other db theirs [] writes (begun db is) replays)
       (each (MayWrite locks other) writes (may_write_all locks other db theirs [] writes (begun db is) tt replays)) mine own run
-  beside_rows (NewTable table) writes run replays =
-      let same = alone locks owner other consistent apart db writes run.holds (may_write_all locks other db theirs [] writes (begun db is) tt replays) in
-      subst (λ (db : Database). HasRun locks owner db mine (NewTable table)) (sym same) run
-  beside_rows (NewIndex index) writes run replays =
-      let same = alone locks owner other consistent apart db writes run.holds (may_write_all locks other db theirs [] writes (begun db is) tt replays) in
-      subst (λ (db : Database). HasRun locks owner db mine (NewIndex index)) (sym same) run
+  beside_rows (NewTable table) writes run replays = beside_step (NewTable table) writes run replays
+  beside_rows (NewIndex index) writes run replays = beside_step (NewIndex index) writes run replays
+  beside_rows (Flip plan) writes run replays = beside_step (Flip plan) writes run replays
+  beside_rows Nothing writes run replays = beside_step Nothing writes run replays
 
   -- and where it has changed the schema: then this one has read nothing
   beside_schema : (p : Pending) (after : Database) → IsDatabase after → HoldsIn locks other Catalog X → HasRun locks owner db mine p → HasRun locks owner after mine p
   beside_schema (Rows own) after is_after whole run = group_outlasts locks owner other db after consistent apart whole is is_after mine own run
   beside_schema (NewTable table) after is_after whole run = absurd (none_held_beside locks owner other consistent apart Catalog X run.holds whole)
   beside_schema (NewIndex index) after is_after whole run = absurd (none_held_beside locks owner other consistent apart Catalog X run.holds whole)
+  beside_schema (Flip plan) after is_after whole run = absurd (none_held_beside locks owner other consistent apart Catalog X run.holds whole)
+  beside_schema Nothing after is_after whole run = absurd (none_held_beside locks owner other consistent apart Catalog X run.holds whole)
 
   pub run_beside : (p q : Pending) → HasRun locks owner db mine p → HasRun locks other db theirs q → HasRun locks owner (left_by db q) mine p
   run_beside p (Rows writes) run its = beside_rows p writes run its
   run_beside p (NewTable table) run its = beside_schema p (left_by db (NewTable table)) its.database its.holds run
   run_beside p (NewIndex index) run its = beside_schema p (left_by db (NewIndex index)) its.database its.holds run
+  run_beside p (Flip plan) run its = beside_schema p (left_by db (Flip plan)) its.database its.holds run
+  run_beside p Nothing run its = run
 
 -- AS THE REPLAY HAS IT: a group's whole text is its answered statements and what is left
 module _ (locks : Locks) (owner : ℕ) (db : Database) (n : ℕ) where
@@ -158,6 +188,8 @@ module _ (locks : Locks) (owner : ℕ) (db : Database) (n : ℕ) where
   ran (Rows writes) rs ss within run = ap (λ (d : Database). run_group n false d ss) (sym (nothing_written db)) ∙ ran_on false rs ss [] writes within run
   ran (NewTable table) rs ss within run = schema_ran (NewTable table) rs ss within run
   ran (NewIndex index) rs ss within run = schema_ran (NewIndex index) rs ss within run
+  ran (Flip plan) rs ss within run = schema_ran (Flip plan) rs ss within run
+  ran Nothing rs ss within run = schema_ran Nothing rs ss within run
 
 -- what ends a block stands in it
 pub inside_at_end : (ss : List Statement) → IsText ss → (rs : List Reply) (c : Statement) → ends_block c ≡ true → drop (length rs) ss ≡ c ∷ [] → inside false rs ≡ true
@@ -187,13 +219,25 @@ text_means locks owner db n p rs ss text within run c r ends ending left =
     ran locks owner db n p rs ss within run ∙ ended
 
 -- ONE STATEMENT MORE
-abbrev IsCreate : Action → Type 0
+abbrev pub IsCreate : Action → Type 0
 IsCreate (action.CreateTable table) = Unit {0}
 IsCreate (action.CreateIndex index) = Unit {0}
 IsCreate other = ⊥
 
+-- a CREATE, or a MIGRATE that is planned
+abbrev IsSchemaAction : Action → Type 0
+IsSchemaAction (action.CreateTable table) = Unit {0}
+IsSchemaAction (action.CreateIndex index) = Unit {0}
+IsSchemaAction (action.Migrate plan) = Unit {0}
+IsSchemaAction other = ⊥
+
+of_create : (act : Action) → IsCreate act → IsSchemaAction act
+of_create (action.CreateTable table) create = create
+of_create (action.CreateIndex index) create = create
+of_create other create = absurd create
+
 -- nothing stands in the way of what a statement is bound to, or it is the first refusal
-from_objections : (rs : List Refusal) (o : Option Action) (act : Action) → unless_objected rs o ≡ Some act
+pub from_objections : (rs : List Refusal) (o : Option Action) (act : Action) → unless_objected rs o ≡ Some act
     → ((rs ≡ []) × (o ≡ Some act)) ⊎ ((r : Refusal) × (more : List Refusal) × (rs ≡ r ∷ more) × (act ≡ action.Refused r))
 from_objections [] o act is = inl (refl, is)
 from_objections (r ∷ rs) o act is = inr (r, rs, refl, sym (same_Some (action.Refused r) act is))
@@ -251,7 +295,7 @@ module _ (db : Database) (is : IsDatabase db) (before : List Write) (opened : Is
         ]
       ]
 
-  row_step : IsStep db before after inner s (executed 0 seen inner s).0
+  pub row_step : IsStep db before after inner s (executed 0 seen inner s).0
   row_step = record {
     meant = λ commit.
         ap₂ (λ (r : Reply) (d : Database). (r, d)) (ap (λ (t : Reply × Database). t.0) (same_number commit 0 seen inner s goes_on)) (leaves.means commit);
@@ -285,16 +329,78 @@ module _ (db : Database) (is : IsDatabase db) (s : Statement) (bound : Bound) (i
       let made = creates_index db s index (record { database = is; admitted = free.0; action = free.1 }) in
       record { means = made.means; database = made.database }
 
-change_alone : (b : Bool) (act : Action) → IsCreate act → (if b then catalog_change else action_locks act) ≡ catalog_change
-change_alone true act create = refl
-change_alone false (action.CreateTable table) create = refl
-change_alone false (action.CreateIndex index) create = refl
-change_alone false other create = absurd create
+change_alone : (b : Bool) (act : Action) → IsSchemaAction act → (if b then catalog_change else action_locks act) ≡ catalog_change
+change_alone true act changes = refl
+change_alone false (action.CreateTable table) changes = refl
+change_alone false (action.CreateIndex index) changes = refl
+change_alone false (action.Migrate plan) changes = refl
+change_alone false other changes = absurd changes
+
+-- a CREATE is one outside a block
+create_changes : (db : Database) (s : Statement) (act : Action) → action_of db s ≡ Some act → IsCreate act → changes_schema false s ≡ true
+create_changes db (CreateTable name rules key) act is create = refl
+create_changes db (CreateIndex name table columns) act is create = refl
+create_changes db (Insert table tuples) act is create = absurd (subst IsCreate (sym (same_Some _ act is)) create)
+create_changes db (Select list table c) act is create = absurd (subst IsCreate (sym (same_Some _ act is)) create)
+create_changes db (Update table sets c) act is create = absurd (subst IsCreate (sym (same_Some _ act is)) create)
+create_changes db (Delete table c) act is create = absurd (subst IsCreate (sym (same_Some _ act is)) create)
+create_changes db Begin act is create = absurd (subst IsCreate (sym (same_Some _ act is)) create)
+create_changes db Commit act is create = absurd (subst IsCreate (sym (same_Some _ act is)) create)
+create_changes db Rollback act is create = absurd (subst IsCreate (sym (same_Some _ act is)) create)
+create_changes db (Migrate migrate) act is create = refl
+
+-- WHAT A MIGRATE LEAVES that the catalog allows, by what the rows have against it
+module _ (db : Database) (is : IsDatabase db) (plan : Plan) (allowed : migrate_objections db plan.migrate ≡ []) where
+  abbrev asked : Statement
+  asked = Migrate plan.migrate
+
+  migrate_means : (rs : List Refusal) → row_objections db asked ≡ rs → (commit : ℕ)
+      → executed commit db false asked ≡ ((executed 0 db false asked).0, left_by db (flip_unless rs plan))
+  migrate_means rs rows commit = by rs rows (all rs rows)
+    where
+      all : (rs : List Refusal) → row_objections db asked ≡ rs → (commit : ℕ) → executed commit db false asked ≡ unless_refused rs db (λ _. effect 0 db asked)
+      all rs rows commit =
+          ap (λ (os : List Refusal). unless_refused (os ++ row_objections db asked) db (λ _. effect commit db asked)) allowed
+          ∙ ap (λ (os : List Refusal). unless_refused os db (λ _. effect commit db asked)) rows
+
+      by : (rs : List Refusal) → row_objections db asked ≡ rs → ((commit : ℕ) → executed commit db false asked ≡ unless_refused rs db (λ _. effect 0 db asked))
+          → executed commit db false asked ≡ ((executed 0 db false asked).0, left_by db (flip_unless rs plan))
+      by [] rows means = means commit ∙ ap (λ (t : Reply × Database). (t.0, flipped db plan.migrate)) (sym (means 0))
+      by (r ∷ rs) rows means = means commit ∙ ap (λ (t : Reply × Database). (t.0, db)) (sym (means 0))
+
+  migrate_database : (rs : List Refusal) → row_objections db asked ≡ rs → IsDatabase (left_by db (flip_unless rs plan))
+  migrate_database [] rows = flip_keeps db plan.migrate (record { database = is; unobjected = allowed; few = rows })
+  migrate_database (r ∷ rs) rows = is
+
+  -- it stands alone, whatever it leaves
+  migrate_steps : (locks : Locks) (owner : ℕ) (told : List Answered) → told ≡ record { in_block = false; statement = asked; reply = (executed 0 db false asked).0 } ∷ [] → HoldsIn locks owner Catalog X
+      → (rs : List Refusal) → row_objections db asked ≡ rs → HasRun locks owner db told (flip_unless rs plan)
+  migrate_steps locks owner told alone holds [] rows = record {
+    statement = asked;
+    reply = (executed 0 db false asked).0;
+    changes = refl;
+    alone = alone;
+    meant = migrate_means [] rows;
+    database = migrate_database [] rows;
+    holds = holds;
+  }
+  migrate_steps locks owner told alone holds (r ∷ rs) rows = record {
+    statement = asked;
+    reply = (executed 0 db false asked).0;
+    changes = refl;
+    alone = alone;
+    meant = migrate_means (r ∷ rs) rows;
+    database = migrate_database (r ∷ rs) rows;
+    holds = holds;
+  }
 
 module _ (locks : Locks) (owner : ℕ) (db : Database) (is : IsDatabase db) (ss : List Statement) (text : IsText ss) (s : Statement) (later : List Statement) (goes_on : ends_block s ≡ false)
     (bound : Bound) (held : Holds locks owner (footprint_of bound)) where
   abbrev IsLeft : List Reply → Type 0
   IsLeft rs = drop (length rs) ss ≡ s ∷ later
+
+  abbrev IsPreparedNext : List Reply → Type 0
+  IsPreparedNext rs = prepared_of db (stands_inside rs) s ≡ Some bound
 
   abbrev IsNext : List Reply → Type 0
   IsNext rs = bound_of db (stands_inside rs) s ≡ Some bound
@@ -307,6 +413,10 @@ module _ (locks : Locks) (owner : ℕ) (db : Database) (is : IsDatabase db) (ss 
 
   abbrev more : Pending → List Reply → List Answered
   more p rs = answered_by false (rs ++ reply_on db p (stands_inside rs) s ∷ []) ss
+
+  -- what is not planned is bound so
+  plain : (rs : List Reply) → IsPreparedNext rs → IsPlain bound.action → IsNext rs
+  plain rs is_next is_plain = prepared_as_bound db (stands_inside rs) s bound is_next is_plain
 
   rows_next : (before : List Write) (rs : List Reply) → IsLeft rs → IsNext rs → Replays locks owner db [] (answered_by false rs ss) before → (IsCreate bound.action → ⊥)
       → Replays locks owner db [] (more (Rows before) rs) (writes_behind (committed db before) before (stands_inside rs) s)
@@ -328,16 +438,22 @@ module _ (locks : Locks) (owner : ℕ) (db : Database) (is : IsDatabase db) (ss 
       → (change : Pending) → (IsNext [] → Makes db s change) → IsSchemaStep locks owner db (more (Rows before) rs) change
   created before [] left is_bound same create change makes =
       let made = makes is_bound in
+      let parts = parts_of db.number (changes_schema false s) (unless_objected (objections db false s) (action_of db s)) bound is_bound in
+      let changes : changes_schema false s ≡ true = elim (from_objections (objections db false s) (action_of db s) bound.action parts.1) [
+        | inl free ↦ create_changes db s bound.action free.1 create
+        | inr refused ↦ absurd (subst IsCreate refused.3 create)
+      ] in
       let told : reply_on db (Rows before) false s ≡ reply.Created =
       ap (λ (ws : List Write). (executed 0 (committed db ws) false s).0) (sym same)
       ∙ (ap (λ (d : Database). (executed 0 d false s).0) (nothing_written db) ∙ ap (λ (t : Reply × Database). t.0) (made.means 0)) in
       record {
         statement = s;
         reply = reply_on db (Rows before) false s;
+        changes = changes;
         alone = ap (λ (ss : List Statement). answered_by false (reply_on db (Rows before) false s ∷ []) ss) left;
         meant = λ commit. made.means commit ∙ ap (λ (r : Reply). (r, left_by db change)) (sym told);
         database = made.database;
-        holds = (subst (Holds locks owner) (change_alone bound.schema_change bound.action create) held) 0 catalog_read (omega arith);
+        holds = (subst (Holds locks owner) (change_alone bound.schema_change bound.action (of_create bound.action create)) held) 0 catalog_read (omega arith);
       }
   created before (r ∷ rs) left is_bound run create change makes =
       let parts = parts_of db.number (changes_schema true s) (unless_objected (objections db true s) (action_of db s)) bound is_bound in
@@ -346,17 +462,33 @@ module _ (locks : Locks) (owner : ℕ) (db : Database) (is : IsDatabase db) (ss 
         | inr refused ↦ subst IsCreate refused.3 create
       ])
 
-  by_action : (before : List Write) (rs : List Reply) → IsLeft rs → IsNext rs → Replays locks owner db [] (answered_by false rs ss) before
+  -- and so is a MIGRATE that is planned
+  migrated : (before : List Write) (rs : List Reply) → IsLeft rs → IsPreparedNext rs → Replays locks owner db [] (answered_by false rs ss) before → (plan : Plan) → bound.action ≡ action.Migrate plan
+      → HasRun locks owner db (more (Rows before) rs) (flip_unless (row_objections db (Migrate plan.migrate)) plan)
+  migrated before [] left is_next same plan e =
+      let planned = planned_so db false s bound plan is_next e in
+      let told : reply_on db (Rows before) false s ≡ (executed 0 db false (Migrate plan.migrate)).0 =
+      ap (λ (ws : List Write). (executed 0 (committed db ws) false s).0) (sym same)
+      ∙ (ap (λ (d : Database). (executed 0 d false s).0) (nothing_written db) ∙ ap (λ (s : Statement). (executed 0 db false s).0) planned.statement_is) in
+      let one : Statement → Reply → List Answered = λ s r. record { in_block = false; statement = s; reply = r } ∷ [] in
+      migrate_steps db is plan planned.allowed locks owner (more (Rows before) [])
+      (ap (λ (ss : List Statement). answered_by false (reply_on db (Rows before) false s ∷ []) ss) left ∙ ap₂ one planned.statement_is told)
+      ((subst (Holds locks owner) (change_alone bound.schema_change bound.action (subst IsSchemaAction (sym e) tt)) held) 0 catalog_read (omega arith))
+      (row_objections db (Migrate plan.migrate)) refl
+  migrated before (r ∷ rs) left is_next run plan e = absurd (false≢true (sym (planned_so db true s bound plan is_next e).outside))
+
+  by_action : (before : List Write) (rs : List Reply) → IsLeft rs → IsPreparedNext rs → Replays locks owner db [] (answered_by false rs ss) before
       → (act : Action) → bound.action ≡ act → HasRun locks owner db (more (Rows before) rs) (pending_behind db (Rows before) (stands_inside rs) s act)
-  by_action before rs left is_bound run (action.CreateTable table) e =
-      created before rs left is_bound run (subst IsCreate (sym e) tt) (NewTable table) (λ is_bound. makes_table db is s bound is_bound table e)
-  by_action before rs left is_bound run (action.CreateIndex index) e =
-      created before rs left is_bound run (subst IsCreate (sym e) tt) (NewIndex index) (λ is_bound. makes_index db is s bound is_bound index e)
-  by_action before rs left is_bound run other e = rows_next before rs left is_bound run (λ create. subst IsCreate e create)
+  by_action before rs left is_next run (action.CreateTable table) e =
+      created before rs left (plain rs is_next (subst IsPlain (sym e) tt)) run (subst IsCreate (sym e) tt) (NewTable table) (λ is_bound. makes_table db is s bound is_bound table e)
+  by_action before rs left is_next run (action.CreateIndex index) e =
+      created before rs left (plain rs is_next (subst IsPlain (sym e) tt)) run (subst IsCreate (sym e) tt) (NewIndex index) (λ is_bound. makes_index db is s bound is_bound index e)
+  by_action before rs left is_next run (action.Migrate plan) e = migrated before rs left is_next run plan e
+  by_action before rs left is_next run other e = rows_next before rs left (plain rs is_next (subst IsPlain (sym e) tt)) run (λ create. subst IsCreate e create)
 
   -- behind a change of the schema nothing is left
-  pub nothing_left : (change : Pending) → (left_by db change).number ≡ db.number + 1 → (rs : List Reply) → IsLeft rs → IsSchemaStep locks owner db (answered_by false rs ss) change → ⊥
-  nothing_left change numbered rs left run = by_text ss text rs left run.alone
+  pub nothing_left : (change : Pending) (rs : List Reply) → IsLeft rs → IsSchemaStep locks owner db (answered_by false rs ss) change → ⊥
+  nothing_left change rs left run = by_text ss text rs left run.alone
     where
       by_text : (ss : List Statement) → IsText ss → (rs : List Reply) → drop (length rs) ss ≡ s ∷ later
           → answered_by false rs ss ≡ record { in_block = false; statement = run.statement; reply = run.reply } ∷ [] → ⊥
@@ -365,14 +497,14 @@ module _ (locks : Locks) (owner : ℕ) (db : Database) (is : IsDatabase db) (ss 
       by_text _ (lone t goes_on) (r ∷ q ∷ rs) left one = let sizes = ap (λ (ss : List Statement). length ss) left in omega (arith, sizes)
       by_text _ (block ss) (r ∷ []) left one =
           let told : Begin ≡ run.statement = ap (statement_of Begin) one in
-          let same : db ≡ left_by db change = ap (λ (s : Statement). (executed 0 db false s).1) told ∙ ap (λ (t : Reply × Database). t.1) (run.meant 0) in
-          let number : db.number ≡ db.number + 1 = ap (λ (d : Database). d.number) same ∙ numbered in
-          omega (arith, number)
+          false≢true (ap (changes_schema false) told ∙ run.changes)
       by_text _ (block []) (r ∷ q ∷ rs) left one = let sizes = ap (λ (ss : List Statement). length ss) left in omega (arith, sizes)
       by_text _ (block (t ∷ ss)) (r ∷ q ∷ rs) left one = let sizes = ap (λ (more : List Answered). length more) one in omega (arith, sizes)
 
-  pub run_next : (p : Pending) (rs : List Reply) → IsLeft rs → IsNext rs → HasRun locks owner db (answered_by false rs ss) p
+  pub run_next : (p : Pending) (rs : List Reply) → IsLeft rs → IsPreparedNext rs → HasRun locks owner db (answered_by false rs ss) p
       → HasRun locks owner db (more p rs) (pending_behind db p (stands_inside rs) s bound.action)
-  run_next (Rows before) rs left is_bound run = by_action before rs left is_bound run bound.action refl
-  run_next (NewTable table) rs left is_bound run = absurd (nothing_left (NewTable table) refl rs left run)
-  run_next (NewIndex index) rs left is_bound run = absurd (nothing_left (NewIndex index) refl rs left run)
+  run_next (Rows before) rs left is_next run = by_action before rs left is_next run bound.action refl
+  run_next (NewTable table) rs left is_next run = absurd (nothing_left (NewTable table) rs left run)
+  run_next (NewIndex index) rs left is_next run = absurd (nothing_left (NewIndex index) rs left run)
+  run_next (Flip plan) rs left is_next run = absurd (nothing_left (Flip plan) rs left run)
+  run_next Nothing rs left is_next run = absurd (nothing_left Nothing rs left run)

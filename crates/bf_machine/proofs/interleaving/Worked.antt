@@ -23,7 +23,7 @@ use Rattle.bf_sql.specs.Footprints.{Lock, catalog_change}
 use Rattle.bf_live.specs.OpenGroups.{Holds, HoldsIn}
 use Rattle.bf_query.proofs.OwnKeys.{each}
 use Rattle.bf_machine.specs.interleaving.Events.{Asks, Begins, Commits, Executes, asks, at_once, begins, begun, begun_again, asked, committed, commits_now, executes, one_more, opened, stepped, with_open}
-use Rattle.bf_machine.specs.interleaving.Examples.{YoungerIsRefused, two_creating}
+use Rattle.bf_machine.specs.interleaving.Examples.{YoungerIsRefused, empty_store, two_creating}
 use Rattle.bf_machine.specs.interleaving.Kept.{HasStart, IsCurrent, fresh, phase_of}
 use Rattle.bf_machine.specs.interleaving.Machines.{Began, Group, Machine, Open, open_at, told_at}
 
@@ -54,7 +54,7 @@ wants_alone : (locks : Locks) (owner : ℕ) → held locks Catalog owner ≡ Non
 wants_alone locks owner none = ap (λ (o : Option Mode). option_map_or (λ before. join_of before X) o X) none
 
 abbrev one : Machine
-one = begun (fresh empty_database two_creating 1) 1 (1, 1)
+one = begun (fresh empty_store two_creating 1) 1 (1, 1)
 
 abbrev two : Machine
 two = begun one 2 (1, 1)
@@ -140,9 +140,9 @@ refused = with_open granted_again 2 (Some second_open)
 abbrev last : Machine
 last = committed refused 2 second_open
 
-begins_one : Begins (fresh empty_database two_creating 1) 1 one
+begins_one : Begins (fresh empty_store two_creating 1) 1 one
 begins_one = record {
-  current = by_session (fresh empty_database two_creating 1) None None refl refl 1 refl;
+  current = by_session (fresh empty_store two_creating 1) None None refl refl 1 refl;
   closed = refl;
   group = (1, 1);
   whole = (0, omega arith, refl);
@@ -211,16 +211,21 @@ executes_one = record {
   bound = bound_in empty_database;
   bound_so = refl;
   held = holds_catalog dead.locks 1 first_keeps;
+  moved = tt;
   goes = refl;
 }
 
 commits_one : Commits made 1 first_ended
 commits_one = record {
-  current = by_session made (Some first_open) None refl refl 1 refl;
-  o = first_open;
-  is = refl;
-  commits_so = refl;
-  left = inl refl;
+  can = record {
+    current = by_session made (Some first_open) None refl refl 1 refl;
+    o = first_open;
+    is = refl;
+    commits_so = refl;
+    left = inl refl;
+  };
+  by_pass = tt;
+  same_pass = λ none. refl;
   goes = refl;
 }
 
@@ -268,16 +273,21 @@ executes_two = record {
   bound = bound_in first_ended.db;
   bound_so = refl;
   held = holds_catalog granted_again.locks 2 second_has;
+  moved = tt;
   goes = refl;
 }
 
 commits_two : Commits refused 2 last
 commits_two = record {
-  current = by_session refused None (Some second_open) refl refl 2 refl;
-  o = second_open;
-  is = refl;
-  commits_so = refl;
-  left = inl refl;
+  can = record {
+    current = by_session refused None (Some second_open) refl refl 2 refl;
+    o = second_open;
+    is = refl;
+    commits_so = refl;
+    left = inl refl;
+  };
+  by_pass = tt;
+  same_pass = λ none. refl;
   goes = refl;
 }
 

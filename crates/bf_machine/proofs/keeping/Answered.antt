@@ -18,6 +18,8 @@ use Rattle.bf_sql.specs.Database.{Database, IsDatabase}
 use Rattle.bf_sql.specs.Meaning.{effect, executed, unless_refused}
 use Rattle.bf_sql.specs.Objections.{objections}
 use Rattle.bf_sql.specs.RowObjections.{row_objections}
+use Rattle.bf_sql.specs.migrations.Lazy.{LazyState, view_of}
+use Rattle.bf_sql.specs.migrations.Need.{needed_for}
 use Rattle.bf_query.specs.Actions.{action_table}
 use Rattle.bf_query.specs.Meanings.{IsBoundAs, writes_after}
 use Rattle.bf_txn.specs.declared.write.Write.{Write}
@@ -30,8 +32,12 @@ use Rattle.bf_live.proofs.statements.Bare.{same_bound}
 use Rattle.bf_live.proofs.statements.Creating.{creates, creates_index}
 use Rattle.bf_live.proofs.statements.InCatalog.{bound_on, on_its_table}
 use Rattle.bf_live.proofs.statements.Seeing.{nothing_written, same_catalog}
+use Rattle.bf_store.specs.States.{HaveMoved, IsLazy, IsOpenLazily}
+use Rattle.bf_store.proofs.seeing.Preparing.{prepared_as_seen}
+use Rattle.bf_store.proofs.seeing.Stepping.{step_is_seen}
 use Rattle.bf_machine.specs.interleaving.Answering.{IsAnswer, IsNext}
 use Rattle.bf_machine.specs.interleaving.Groups.{Pending, Rows, NewTable, NewIndex, pending_behind, reply_on}
+use Rattle.bf_machine.proofs.interleaving.Planning.{IsPlain, prepared_as_bound}
 
 -- nothing objects, or the first objection is the refusal
 objected : (rs : List Refusal) (o : Option Action) (r : Refusal) → unless_objected rs o ≡ Some (action.Refused r) → (o ≡ Some (action.Refused r) → ⊥)
@@ -100,32 +106,40 @@ planned_on false (Migrate migrate) n b (r ∷ rs) db bound table is on =
 planned_on true s n b rs db bound table is on = refl
 planned_on false s n b rs db bound table is on = refl
 
--- only a CREATE leaves something else than rows
-rows_behind : (db : Database) (writes : List Write) (in_block : Bool) (s : Statement) (act : Action) → (IsCreate act → ⊥)
+-- only a CREATE and a MIGRATE leave something else than rows
+rows_behind : (db : Database) (writes : List Write) (in_block : Bool) (s : Statement) (act : Action) → (IsCreate act → ⊥) → IsPlain act
     → Rows (writes_behind (committed db writes) writes in_block s) ≡ pending_behind db (Rows writes) in_block s act
-rows_behind db writes in_block s (action.CreateTable table) none = absurd (none tt)
-rows_behind db writes in_block s (action.CreateIndex index) none = absurd (none tt)
-rows_behind db writes in_block s other none = refl
+rows_behind db writes in_block s (action.CreateTable table) none plain = absurd (none tt)
+rows_behind db writes in_block s (action.CreateIndex index) none plain = absurd (none tt)
+rows_behind db writes in_block s (action.Migrate plan) none plain = absurd plain
+rows_behind db writes in_block s other none plain = refl
 
 on_rows : (act : Action) (table : Table) → action_table act ≡ Some table → IsCreate act → ⊥
 on_rows (action.CreateTable t) table on create = absurd cc
 on_rows (action.CreateIndex i) table on create = absurd cc
 on_rows other table on create = create
 
-module _ (db : Database) (database : IsDatabase db) (writes : List Write) (bound : Bound) (in_block : Bool) (s : Statement) (next : IsNext db writes bound in_block s) where
+pub plain_on : (act : Action) (table : Table) → action_table act ≡ Some table → IsPlain act
+plain_on (action.Migrate plan) table on = absurd cc
+plain_on other table on = tt
+
+module _ (db : Database) (database : IsDatabase db) (writes : List Write) (bound : Bound) (in_block : Bool) (s : Statement) (next : IsNext db writes bound in_block s) (plain : IsPlain bound.action) where
   abbrev view : Database
   view = committed db writes
+
+  bound_so : bound_of db in_block s ≡ Some bound
+  bound_so = prepared_as_bound db in_block s bound next.is plain
 
   parts : (d : Database) → bound_of d in_block s ≡ Some bound → unless_objected (objections d in_block s) (action_of d s) ≡ Some bound.action
   parts d is = (parts_of d.number (changes_schema in_block s) (unless_objected (objections d in_block s) (action_of d s)) bound is).1
 
   -- it is bound so in what the group sees
   pub seen_bound : bound_of view in_block s ≡ Some bound
-  seen_bound = by_place in_block next
+  seen_bound = by_place in_block next.first bound_so
     where
-      by_place : (in_block : Bool) → IsNext db writes bound in_block s → bound_of view in_block s ≡ Some bound
-      by_place true n = bound_alike view db (same_catalog db writes) true s refl ∙ n.is
-      by_place false n = ap (λ (ws : List Write). bound_of (committed db ws) false s) (n.first refl) ∙ (ap (λ (d : Database). bound_of d false s) (nothing_written db) ∙ n.is)
+      by_place : (in_block : Bool) → (in_block ≡ false → writes ≡ []) → bound_of db in_block s ≡ Some bound → bound_of view in_block s ≡ Some bound
+      by_place true first is = bound_alike view db (same_catalog db writes) true s refl ∙ is
+      by_place false first is = ap (λ (ws : List Write). bound_of (committed db ws) false s) (first refl) ∙ (ap (λ (d : Database). bound_of d false s) (nothing_written db) ∙ is)
 
   -- where its action is on no table it writes nothing
   stays : action_table bound.action ≡ None → writes_behind view writes in_block s ≡ writes
@@ -135,7 +149,7 @@ module _ (db : Database) (database : IsDatabase db) (writes : List Write) (bound
       ∙ ap (λ (t : Option Table). unwrap_or (option_map (after bound) t) writes) none
 
   kept_rows : action_table bound.action ≡ None → (IsCreate bound.action → ⊥) → Rows writes ≡ pending_behind db (Rows writes) in_block s bound.action
-  kept_rows none no_create = ap Rows (sym (stays none)) ∙ rows_behind db writes in_block s bound.action no_create
+  kept_rows none no_create = ap Rows (sym (stays none)) ∙ rows_behind db writes in_block s bound.action no_create plain
 
   abbrev IsAnswered : Reply → Pending → Type 0
   IsAnswered answer after = (answer ≡ reply_on db (Rows writes) in_block s) × (after ≡ pending_behind db (Rows writes) in_block s bound.action)
@@ -153,7 +167,7 @@ module _ (db : Database) (database : IsDatabase db) (writes : List Write) (bound
       (begins view in_block s open_so.0 open_so.1, kept_rows (ap action_table act) (λ create. subst IsCreate act create))
 
   unobjected : (act : Action) → bound.action ≡ act → IsCreate act → (objections db in_block s ≡ []) × (action_of db s ≡ Some act)
-  unobjected act e create = free (objections db in_block s) (action_of db s) act (parts db next.is ∙ ap Some e) (λ r refused. subst IsCreate refused create)
+  unobjected act e create = free (objections db in_block s) (action_of db s) act (parts db bound_so ∙ ap Some e) (λ r refused. subst IsCreate refused create)
 
   told_created : in_block ≡ false → ((commit : ℕ) → (executed commit db false s).0 ≡ reply.Created) → reply.Created ≡ reply_on db (Rows writes) in_block s
   told_created out means =
@@ -177,10 +191,10 @@ module _ (db : Database) (database : IsDatabase db) (writes : List Write) (bound
 
   module _ (opened : IsOpen db writes) (table : Table) (on : action_table bound.action ≡ Some table) where
     planned : is_planned in_block s ≡ false
-    planned = planned_on in_block s db.number (changes_schema in_block s) (objections db in_block s) db bound table next.is on
+    planned = planned_on in_block s db.number (changes_schema in_block s) (objections db in_block s) db bound table bound_so on
 
     bare : bound_of (without_rows (catalog_of db)) in_block s ≡ Some bound
-    bare = same_bound db in_block s planned ∙ next.is
+    bare = same_bound db in_block s planned ∙ bound_so
 
     pub is_on_table : IsOn view table bound.action
     is_on_table = on_its_table db writes opened in_block s planned (catalog_of db) refl bound bare table on
@@ -188,10 +202,31 @@ module _ (db : Database) (database : IsDatabase db) (writes : List Write) (bound
     is_bound : IsBoundAs view in_block s bound.action
     is_bound = bound_on db writes opened in_block s planned (catalog_of db) refl bound bare table on
 
-    pub step_answer : (answer : Reply) (after : List Write) → (IsBoundAs view in_block s bound.action → IsStep db writes after in_block s answer) → IsAnswered answer (Rows after)
-    step_answer answer after by =
-        let step = by is_bound in
-        (sym (ap (λ (t : Reply × Database). t.0) (step.meant 0)), ap Rows step.writes ∙ rows_behind db writes in_block s bound.action (on_rows bound.action table on))
+-- OVER A LAZY STORE: what is next on what is seen is next on the live tables
+module _ (lazy : LazyState) (is : IsLazy lazy) (writes : List Write) (bound : Bound) (in_block : Bool) (s : Statement) (next : IsNext (view_of lazy) writes bound in_block s) where
+  next_live : IsNext lazy.live writes bound in_block s
+  next_live = record { is = sym (prepared_as_seen lazy is in_block s) ∙ next.is; goes_on = next.goes_on; first = next.first }
+
+  -- a statement on a table runs on the live one
+  module _ (opened : IsOpenLazily lazy writes) (table : Table) (on : action_table bound.action ≡ Some table) where
+    pub on_live : IsOn (committed lazy.live writes) table bound.action
+    on_live = is_on_table lazy.live is.live writes bound in_block s next_live (plain_on bound.action table on) opened.over_live table on
+
+    bound_live : IsBoundAs (committed lazy.live writes) in_block s bound.action
+    bound_live = is_bound lazy.live is.live writes bound in_block s next_live (plain_on bound.action table on) opened.over_live table on
+
+    unplanned_live : is_planned in_block s ≡ false
+    unplanned_live = planned lazy.live is.live writes bound in_block s next_live (plain_on bound.action table on) opened.over_live table on
+
+    -- and its step there is seen
+    pub step_answer : HaveMoved lazy.last (λ last. needed_for last.old last.migrate bound.action) → (answer : Reply) (after : List Write)
+        → (IsBoundAs (committed lazy.live writes) in_block s bound.action → IsStep lazy.live writes after in_block s answer)
+        → (answer ≡ reply_on (view_of lazy) (Rows writes) in_block s) × (Rows after ≡ pending_behind (view_of lazy) (Rows writes) in_block s bound.action)
+    step_answer moved answer after by =
+        let step = step_is_seen lazy is writes after opened in_block s unplanned_live bound.action table bound_live on moved answer (by bound_live) in (
+          sym (ap (λ (t : Reply × Database). t.0) (step.meant 0)),
+          ap Rows step.writes ∙ rows_behind (view_of lazy) writes in_block s bound.action (on_rows bound.action table on) (plain_on bound.action table on),
+        )
 
 -- of whatever stands pending
 pub answer_of : (db : Database) (before : Pending) (bound : Bound) (in_block : Bool) (s : Statement) (answer : Reply) (after : Pending)
@@ -210,14 +245,14 @@ stays_of db before bound in_block s answer by =
     answer_of db before bound in_block s answer before (λ writes same next.
     subst (λ (p : Pending). (answer ≡ reply_on db (Rows writes) in_block s) × (p ≡ pending_behind db (Rows writes) in_block s bound.action)) (sym same) (by writes same next))
 
-pub answers_of : (db : Database) (mine : List Write) (bound : Bound) (in_block : Bool) (s : Statement) (result : Result Reply Memory) (after : List Write)
-    → IsDatabase db → IsOpen db mine → (table : Table) → action_table bound.action ≡ Some table
-    → (IsBoundAs (committed db mine) in_block s bound.action → IfOk result (IsStep db mine after in_block s))
-    → IfOk result (λ answer. IsAnswer db (Rows mine) bound in_block s answer (Rows after))
-answers_of db mine bound in_block s (Err e) after is opened table on by = tt
-answers_of db mine bound in_block s (Ok answer) after is opened table on by =
-    answer_of db (Rows mine) bound in_block s answer (Rows after) (λ writes same next.
+pub answers_of : (lazy : LazyState) (mine : List Write) (bound : Bound) (in_block : Bool) (s : Statement) (result : Result Reply Memory) (after : List Write)
+    → IsLazy lazy → IsOpenLazily lazy mine → (table : Table) → action_table bound.action ≡ Some table
+    → HaveMoved lazy.last (λ last. needed_for last.old last.migrate bound.action)
+    → (IsBoundAs (committed lazy.live mine) in_block s bound.action → IfOk result (IsStep lazy.live mine after in_block s))
+    → IfOk result (λ answer. IsAnswer (view_of lazy) (Rows mine) bound in_block s answer (Rows after))
+answers_of lazy mine bound in_block s (Ok answer) after is opened table on moved by =
+    answer_of (view_of lazy) (Rows mine) bound in_block s answer (Rows after) (λ writes same next.
     let one : mine ≡ writes = cc in
-    let here : IsNext db mine bound in_block s = subst (λ (ws : List Write). IsNext db ws bound in_block s) (sym one) next in
-    subst (λ (ws : List Write). (answer ≡ reply_on db (Rows ws) in_block s) × (Rows after ≡ pending_behind db (Rows ws) in_block s bound.action)) one
-    (step_answer db is mine bound in_block s here opened table on answer after by))
+    subst (λ (ws : List Write). (answer ≡ reply_on (view_of lazy) (Rows ws) in_block s) × (Rows after ≡ pending_behind (view_of lazy) (Rows ws) in_block s bound.action)) one
+    (step_answer lazy is mine bound in_block s (subst (λ (ws : List Write). IsNext (view_of lazy) ws bound in_block s) (sym one) next) opened table on moved answer after by))
+answers_of lazy mine bound in_block s (Err e) after is opened table on moved by = tt

@@ -20,6 +20,7 @@ use Rattle.bf_tree.specs.declared.script.Script.{Script}
 use Rattle.bf_sql.specs.Database.{Database}
 use Rattle.bf_sql.specs.Groups.{session_at}
 use Rattle.bf_sql.specs.History.{replayed}
+use Rattle.bf_image.specs.Registries.{Registry}
 use Rattle.bf_machine.specs.declared.machine.Machine.TheInside.{Inside}
 use Rattle.bf_machine.specs.declared.so_far.Began.{Began as BeganGroup}
 use Rattle.bf_machine.specs.declared.so_far.OpenGroup.{OpenGroup}
@@ -114,14 +115,14 @@ module _ (began : List Began) (s : ℕ) (group : Group) (n : ℕ) (has : HasStar
 
 -- the machine with other locks, other groups that have begun and other sessions
 module _ {N : Type 0} (i : Inside N) (locks : Locks) (began : List BeganGroup) (sessions : List SessionSoFar) where
-  abbrev pub SoundWith : Database → Script → Type 0
-  SoundWith opening given = IsSound opening given i.script i.retries i.live locks began sessions i.history i.commits i.transcripts
+  abbrev pub SoundWith : Database → Registry → Script → Type 0
+  SoundWith opening registry given = IsSound opening registry given i.script i.retries i.store locks began sessions i.history i.commits i.transcripts
 
   abbrev pub seen_with : Machine
-  seen_with = seen i.script i.retries i.live locks began sessions i.history.items
+  seen_with = seen i.script i.retries i.store locks began sessions i.history.items
 
 -- THE OPEN GROUP g of a session, of which the code has x
-module _ {N : Type 0} {opening : Database} {given : Script} (i : Inside N) (sound : SoundWith i i.locks i.began.items i.sessions.items opening given) (before : Machine)
+module _ {N : Type 0} {opening : Database} {registry : Registry} {given : Script} (i : Inside N) (sound : SoundWith i i.locks i.began.items i.sessions.items opening registry given) (before : Machine)
     (view : seen_with i i.locks i.began.items i.sessions.items ≡ before)
     (s : ℕ) (place : IsPlace before.script s) (x : SessionSoFar) (at : slice_index_or i.sessions.items (s - 1) x ≡ x) (g : OpenGroup)
     (is : x.«open» ≡ Some g) where
@@ -141,12 +142,12 @@ module _ {N : Type 0} {opening : Database} {given : Script} (i : Inside N) (soun
 
   there : open_at m s ≡ Some o
   there =
-      open_there i.script i.retries i.live i.locks i.began.items i.sessions.items i.history.items x s low high at
+      open_there i.script i.retries i.store i.locks i.began.items i.sessions.items i.history.items x s low high at
       ∙ ap (option_map (group_seen x.replies.items)) is
 
   told_is : told_at m s ≡ take (g.first - 1) x.replies.items
   told_is =
-      told_there i.script i.retries i.live i.locks i.began.items i.sessions.items i.history.items x s low high at
+      told_there i.script i.retries i.store i.locks i.began.items i.sessions.items i.history.items x s low high at
       ∙ ap (told_before x.replies.items) is
 
   own : IsOpenGroup opening m s o
@@ -231,10 +232,11 @@ module _ {N : Type 0} {opening : Database} {given : Script} (i : Inside N) (soun
       asked_is (Wait owners) is = refl
       asked_is (Die h) is = absurd (lives h is)
 
-      pub lives_sound : SoundWith i locks i.began.items i.sessions.items opening given
+      pub lives_sound : SoundWith i locks i.began.items i.sessions.items opening registry given
       lives_sound = record {
         is_given = sound.is_given;
         narrow = sound.narrow;
+        one = sound.one;
         kept = subst (λ (locks : Locks). IsKept opening (record m { locks = locks })) (sym held_then) (locks_kept answer refl judged);
         counted = sound.counted;
         sessions_numbered = sound.sessions_numbered;
@@ -273,10 +275,11 @@ module _ {N : Type 0} {opening : Database} {given : Script} (i : Inside N) (soun
         pub unchanged : seen_with i locks began i.sessions.items ≡ before
         unchanged = seen_unchanged ∙ view
 
-        pub unchanged_sound : SoundWith i locks began i.sessions.items opening given
+        pub unchanged_sound : SoundWith i locks began i.sessions.items opening registry given
         unchanged_sound = record {
           is_given = sound.is_given;
           narrow = sound.narrow;
+          one = sound.one;
           kept = subst (IsKept opening) (sym seen_unchanged) sound.kept;
           counted = sound.counted;
           sessions_numbered = sound.sessions_numbered;
@@ -377,7 +380,7 @@ module _ {N : Type 0} {opening : Database} {given : Script} (i : Inside N) (soun
             subst (IsKept opening) (sym seen_died)
             (death_keeps_all opening m sound.kept (are_texts i.script) s name mode h next (asks_seen (Die h) fate next refl))
 
-        pub died_sound : SoundWith i free began sessions opening given
+        pub died_sound : SoundWith i free began sessions opening registry given
         died_sound =
             let below : s - 1 < length i.sessions.items = omega (arith, low, high) in
             let was = sound.roomy (s - 1) x below at in
@@ -386,6 +389,7 @@ module _ {N : Type 0} {opening : Database} {given : Script} (i : Inside N) (soun
             let fewer = one_closed i.sessions.items (s - 1) x y below at (ap is_some is) (ap is_some closed) in record {
               is_given = sound.is_given;
               narrow = sound.narrow;
+              one = sound.one;
               kept = died_kept;
               counted = sound.counted;
               sessions_numbered = sound.sessions_numbered;

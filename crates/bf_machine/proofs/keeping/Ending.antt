@@ -13,9 +13,12 @@ use Rattle.bf_tree.specs.declared.reply.Reply.TheVariants as reply
 use Rattle.bf_tree.specs.declared.script.Script.{Script}
 use Rattle.bf_tree.specs.declared.statement.Statement.{Statement}
 use Rattle.bf_tree.specs.declared.statement.Statement.TheVariants.{Rollback}
-use Rattle.bf_sql.specs.Database.{Database}
 use Rattle.bf_sql.specs.Groups.{commits as commits_text, session_at}
 use Rattle.bf_sql.specs.History.{commits_with}
+use Rattle.bf_sql.specs.Database.{Database}
+use Rattle.bf_sql.specs.migrations.Lazy.{view_of}
+use Rattle.bf_image.specs.Registries.{Registry}
+use Rattle.bf_store.specs.Stores.{IsOf, Store}
 use Rattle.bf_machine.specs.declared.so_far.Began.{Began as BeganGroup}
 use Rattle.bf_machine.specs.declared.so_far.OpenGroup.{OpenGroup}
 use Rattle.bf_machine.specs.declared.so_far.SessionSoFar.{SessionSoFar}
@@ -33,20 +36,20 @@ commits_more : (n : ℕ) (es : List Entry) (e : Entry) → commits_behind n (es 
 commits_more n [] e = refl
 commits_more n (d ∷ es) e = commits_more (commits_with n d.outcome) es e
 
-module _ {opening : Database} {given : Script} (script : Script) (retries : ℕ) (db : Database) (locks : Locks) (began : List BeganGroup) (sessions : List SessionSoFar) (history : Vec Entry) (commits : ℕ) (transcripts : Vec (List Reply))
-    (sound : IsSound opening given script retries db locks began sessions history commits transcripts)
+module _ {opening : Database} {registry : Registry} {given : Script} (script : Script) (retries : ℕ) (store : Store) (locks : Locks) (began : List BeganGroup) (sessions : List SessionSoFar) (history : Vec Entry) (commits : ℕ) (transcripts : Vec (List Reply))
+    (sound : IsSound opening registry given script retries store locks began sessions history commits transcripts)
     (s : ℕ) (low : 1 ≤ s) (high : s ≤ length sessions) (x : SessionSoFar) (at : slice_index_or sessions (s - 1) x ≡ x) (g : OpenGroup) (is : x.«open» ≡ Some g) where
   abbrev m : Machine
-  m = seen script retries db locks began sessions history.items
+  m = seen script retries store locks began sessions history.items
 
   abbrev o : Open
   o = group_seen x.replies.items g
 
   pub there : open_at m s ≡ Some o
-  there = open_there script retries db locks began sessions history.items x s low high at ∙ ap (option_map (group_seen x.replies.items)) is
+  there = open_there script retries store locks began sessions history.items x s low high at ∙ ap (option_map (group_seen x.replies.items)) is
 
   told_is : told_at m s ≡ take (g.first - 1) x.replies.items
-  told_is = told_there script retries db locks began sessions history.items x s low high at ∙ ap (told_before x.replies.items) is
+  told_is = told_there script retries store locks began sessions history.items x s low high at ∙ ap (told_before x.replies.items) is
 
   pub all_told : told_at m s ++ o.replies ≡ x.replies.items
   all_told = ap (λ (rs : List Reply). rs ++ drop (g.first - 1) x.replies.items) told_is ∙ take-append-drop (g.first - 1) x.replies.items
@@ -108,24 +111,27 @@ module _ {opening : Database} {given : Script} (script : Script) (retries : ℕ)
     ]
 
   -- what is seen once the group is closed, with such replies
-  module _ (answers : List Reply) (y : SessionSoFar) (closed : y.«open» ≡ None) (replies : y.replies.items ≡ x.replies.items ++ answers) (next : Database) (e : Entry) where
+  module _ (answers : List Reply) (y : SessionSoFar) (closed : y.«open» ≡ None) (replies : y.replies.items ≡ x.replies.items ++ answers) (next : Store) (e : Entry) where
+    abbrev after : Machine
+    after = record (ended m s o (o.replies ++ answers)) { db = view_of next.lazy; lazy = next.lazy; pass = next.migration; history = history.items ++ e ∷ [] }
+
     told_then_is : told_seen y ≡ told_at m s ++ (o.replies ++ answers)
     told_then_is =
         ap (told_before y.replies.items) closed
         ∙ (replies ∙ (ap (λ (rs : List Reply). rs ++ answers) (sym all_told) ∙ append_assoc (told_at m s) o.replies answers))
 
     pub seen_ended : seen script retries next (without_owner locks g.start) began (slice_set sessions (s - 1) y) (history.items ++ e ∷ [])
-        ≡ record (ended m s o (o.replies ++ answers)) { db = next; history = history.items ++ e ∷ [] }
+        ≡ after
     seen_ended =
-        ap₂ (λ (opens : List (Option Open)) (told : List (List Reply)). record (ended m s o (o.replies ++ answers)) { db = next; history = history.items ++ e ∷ []; opens = opens; told = told })
+        ap₂ (λ (opens : List (Option Open)) (told : List (List Reply)). record after { opens = opens; told = told })
         (opens_then sessions (s - 1) y ∙ ap (λ (p : Option Open). slice_set (map open_seen sessions) (s - 1) p) (ap (option_map (group_seen y.replies.items)) closed))
         (told_then sessions (s - 1) y ∙ ap (λ (rs : List Reply). slice_set (map told_seen sessions) (s - 1) rs) told_then_is)
 
     -- and the machine keeps what it kept
     module _ (commits_then : ℕ) (latest : y.latest ≡ x.latest) (capacity : vec_capacity x.replies ≤ vec_capacity y.replies) (entries : Vec Entry) (items : entries.items ≡ history.items ++ e ∷ [])
-        (space : vec_capacity entries ≡ vec_capacity history) (kept : IsKept opening (record (ended m s o (o.replies ++ answers)) { db = next; history = history.items ++ e ∷ [] }))
+        (space : vec_capacity entries ≡ vec_capacity history) (kept : IsKept opening after) (one : IsOf registry next.migration)
         (counted : commits_then ≡ commits_with (commits_behind 0 history.items) e.outcome) where
-      pub ended_sound : IsSound opening given script retries next (without_owner locks g.start) began (slice_set sessions (s - 1) y) entries commits_then transcripts
+      pub ended_sound : IsSound opening registry given script retries next (without_owner locks g.start) began (slice_set sessions (s - 1) y) entries commits_then transcripts
       ended_sound =
           let below : s - 1 < length sessions = omega (arith, low, high) in
           let was = sound.roomy (s - 1) x below at in
@@ -133,6 +139,7 @@ module _ {opening : Database} {given : Script} (script : Script) (retries : ℕ)
           let sizes : length entries.items ≡ length history.items + 1 = ap (λ (es : List Entry). length es) items ∙ length-append history.items (e ∷ []) in record {
             is_given = sound.is_given;
             narrow = sound.narrow;
+            one = one;
             kept = subst (λ (es : List Entry). IsKept opening (seen script retries next (without_owner locks g.start) began (slice_set sessions (s - 1) y) es)) (sym items)
                 (subst (IsKept opening) (sym seen_ended) kept);
             counted = counted ∙ (sym (commits_more 0 history.items e) ∙ ap (commits_behind 0) (sym items));
@@ -175,13 +182,13 @@ module _ {opening : Database} {given : Script} (script : Script) (retries : ℕ)
       replies : y.replies.items ≡ x.replies.items ++ answers
       replies = last_told Rollback reply.RolledBack left_to_abort y.replies.items told
 
-      pub abort_sound : IsSound opening given script retries db free began (slice_set sessions (s - 1) y) entries commits transcripts
+      pub abort_sound : IsSound opening registry given script retries store free began (slice_set sessions (s - 1) y) entries commits transcripts
       abort_sound =
-          subst (λ (locks : Locks). IsSound opening given script retries db locks began (slice_set sessions (s - 1) y) entries commits transcripts) (sym freed)
-          (ended_sound answers y closed replies db (entry_of m s o RolledBack) commits latest (omega (arith, capacity)) entries items space abort_kept sound.counted)
+          subst (λ (locks : Locks). IsSound opening registry given script retries store locks began (slice_set sessions (s - 1) y) entries commits transcripts) (sym freed)
+          (ended_sound answers y closed replies store (entry_of m s o RolledBack) commits latest (omega (arith, capacity)) entries items space abort_kept sound.one sound.counted)
 
-      pub abort_seen : Aborts m s (seen script retries db free began (slice_set sessions (s - 1) y) entries.items)
+      pub abort_seen : Aborts m s (seen script retries store free began (slice_set sessions (s - 1) y) entries.items)
       abort_seen =
-          aborted (seen script retries db free began (slice_set sessions (s - 1) y) entries.items)
-          (ap₂ (λ (locks : Locks) (es : List Entry). seen script retries db locks began (slice_set sessions (s - 1) y) es) freed items
-          ∙ seen_ended answers y closed replies db (entry_of m s o RolledBack))
+          aborted (seen script retries store free began (slice_set sessions (s - 1) y) entries.items)
+          (ap₂ (λ (locks : Locks) (es : List Entry). seen script retries store locks began (slice_set sessions (s - 1) y) es) freed items
+          ∙ seen_ended answers y closed replies store (entry_of m s o RolledBack))

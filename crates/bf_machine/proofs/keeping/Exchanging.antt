@@ -10,6 +10,8 @@ use Rattle.bf_tree.specs.declared.history.Entry.{Entry}
 use Rattle.bf_tree.specs.declared.reply.Reply.{Reply}
 use Rattle.bf_tree.specs.declared.script.Script.{Script}
 use Rattle.bf_sql.specs.Database.{Database}
+use Rattle.bf_image.specs.Registries.{Registry}
+use Rattle.bf_store.specs.Stores.{Store}
 use Rattle.bf_machine.specs.declared.so_far.Began.{Began as BeganGroup}
 use Rattle.bf_machine.specs.declared.so_far.SessionSoFar.{SessionSoFar}
 use Rattle.bf_machine.specs.interleaving.Events.{with_open}
@@ -18,13 +20,13 @@ use Rattle.bf_machine.specs.interleaving.Machines.{Machine, Open}
 use Rattle.bf_machine.specs.interleaving.Seen.{IsLatest, IsSound, began_seen, is_open, open_seen, seen, told_seen}
 use Rattle.bf_machine.proofs.keeping.Places.{opens_then, roomy_then, told_then}
 
-module _ (script : Script) (retries : ℕ) (db : Database) (locks : Locks) (began : List BeganGroup) (sessions : List SessionSoFar) (history : List Entry)
+module _ (script : Script) (retries : ℕ) (store : Store) (locks : Locks) (began : List BeganGroup) (sessions : List SessionSoFar) (history : List Entry)
     (s : ℕ) (x : SessionSoFar) (at : slice_index_or sessions (s - 1) x ≡ x) (y : SessionSoFar) where
   abbrev m : Machine
-  m = seen script retries db locks began sessions history
+  m = seen script retries store locks began sessions history
 
   abbrev then : Machine
-  then = seen script retries db locks began (slice_set sessions (s - 1) y) history
+  then = seen script retries store locks began (slice_set sessions (s - 1) y) history
 
   opens_same : open_seen y ≡ open_seen x → map open_seen (slice_set sessions (s - 1) y) ≡ map open_seen sessions
   opens_same alike = map-set_same open_seen sessions (s - 1) y x (alike ∙ ap open_seen (sym at))
@@ -50,8 +52,8 @@ module _ (script : Script) (retries : ℕ) (db : Database) (locks : Locks) (bega
       ap₂ with_lists (opens_same opens) (told_then sessions (s - 1) y ∙ ap (λ (rs : List Reply). slice_set (map told_seen sessions) (s - 1) rs) told)
 
 -- the machine stays sound where as many groups are open
-module _ {opening : Database} {given : Script} (script : Script) (retries : ℕ) (db : Database) (locks : Locks) (began : List BeganGroup) (sessions : List SessionSoFar) (history : Vec Entry) (commits : ℕ) (transcripts : Vec (List Reply))
-    (sound : IsSound opening given script retries db locks began sessions history commits transcripts)
+module _ {opening : Database} {registry : Registry} {given : Script} (script : Script) (retries : ℕ) (store : Store) (locks : Locks) (began : List BeganGroup) (sessions : List SessionSoFar) (history : Vec Entry) (commits : ℕ) (transcripts : Vec (List Reply))
+    (sound : IsSound opening registry given script retries store locks began sessions history commits transcripts)
     (s : ℕ) (low : 1 ≤ s) (high : s ≤ length sessions) (x : SessionSoFar) (at : slice_index_or sessions (s - 1) x ≡ x)
     (y : SessionSoFar) (alike : is_open y ≡ is_open x) (latest : y.latest ≡ x.latest) (capacity : vec_capacity x.replies ≤ vec_capacity y.replies) where
   below : s - 1 < length sessions
@@ -69,12 +71,13 @@ module _ {opening : Database} {given : Script} (script : Script) (retries : ℕ)
       let same : counts y ≡ counts x = ap (λ (b : Bool). cond b 1 0) alike in
       omega (arith, changed, mine, same)
 
-  pub exchanged_sound : IsKept opening (seen script retries db locks began (slice_set sessions (s - 1) y) history.items)
-      → IsSound opening given script retries db locks began (slice_set sessions (s - 1) y) history commits transcripts
+  pub exchanged_sound : IsKept opening (seen script retries store locks began (slice_set sessions (s - 1) y) history.items)
+      → IsSound opening registry given script retries store locks began (slice_set sessions (s - 1) y) history commits transcripts
   exchanged_sound kept =
       let was = sound.roomy (s - 1) x below at in record {
         is_given = sound.is_given;
         narrow = sound.narrow;
+        one = sound.one;
         kept = kept;
         counted = sound.counted;
         sessions_numbered = sound.sessions_numbered;

@@ -7,6 +7,7 @@ use Rattle.std.proofs.lemmas.Bool.{and_parts, false≢true}
 use Rattle.std.proofs.lemmas.List.{drop-append-le, take-append-le}
 use Rattle.std.proofs.lemmas.Option.{same_Some}
 use Rattle.bf_locks.specs.Locks.{Locks}
+use Rattle.bf_tree.specs.declared.bound.Action.{Action}
 use Rattle.bf_tree.specs.declared.bound.Bound.{Bound}
 use Rattle.bf_tree.specs.declared.history.Entry.{Entry}
 use Rattle.bf_tree.specs.declared.reply.Refusal.TheVariants.{NoTransaction}
@@ -14,14 +15,17 @@ use Rattle.bf_tree.specs.declared.reply.Reply.{Reply}
 use Rattle.bf_tree.specs.declared.reply.Reply.TheVariants as reply
 use Rattle.bf_tree.specs.declared.script.Script.{Script}
 use Rattle.bf_tree.specs.declared.statement.Statement.{Statement}
-use Rattle.bf_sql.specs.Bound.{bound_of}
 use Rattle.bf_sql.specs.Database.{Database, IsDatabase}
 use Rattle.bf_sql.specs.Footprints.{footprint_of}
+use Rattle.bf_sql.specs.migrations.Lazy.{view_of}
+use Rattle.bf_sql.specs.migrations.Need.{needed_for}
+use Rattle.bf_sql.specs.migrations.Plans.{prepared_of}
 use Rattle.bf_sql.specs.Groups.{ends_block, groups_in, has_statement, session_at, statements_in}
 use Rattle.bf_txn.specs.declared.write.Write.{Write}
-use Rattle.bf_live.specs.Open.{IsOpen}
 use Rattle.bf_live.specs.OpenGroups.{Holds, Replays}
-use Rattle.bf_live.proofs.statements.Seeing.{begun}
+use Rattle.bf_image.specs.Registries.{Registry}
+use Rattle.bf_store.specs.States.{HaveMoved}
+use Rattle.bf_store.specs.Stores.{Store}
 use Rattle.bf_machine.specs.declared.so_far.Began.{Began as BeganGroup}
 use Rattle.bf_machine.specs.declared.so_far.OpenGroup.{OpenGroup}
 use Rattle.bf_machine.specs.declared.so_far.Pending.{Pending as PendingChange}
@@ -29,25 +33,25 @@ use Rattle.bf_machine.specs.declared.so_far.SessionSoFar.{SessionSoFar}
 use Rattle.bf_machine.specs.interleaving.Calls.{CanExec, HasReplied, IsToExec}
 use Rattle.bf_machine.specs.interleaving.Answering.{CanAnswer, IsAnswer, IsNext}
 use Rattle.bf_machine.specs.interleaving.Events.{Executes, Refuses, rest_of, stands_inside, stepped, text_of, with_open}
-use Rattle.bf_machine.specs.interleaving.Groups.{HasRun, NewIndex, NewTable, Pending, Rows, answered_by, pending_behind, reply_on}
-use Rattle.bf_machine.specs.interleaving.Kept.{IsKept, IsOpenGroup}
+use Rattle.bf_machine.specs.interleaving.Groups.{Flip, HasRun, NewIndex, NewTable, Nothing, Pending, Rows, answered_by, pending_behind, reply_on}
+use Rattle.bf_machine.specs.interleaving.Kept.{CanBePutInto, IsKept, IsOpenGroup}
 use Rattle.bf_machine.specs.interleaving.Machines.{Machine, Open, open_at, told_at}
 use Rattle.bf_machine.specs.interleaving.Seen.{IsSound, group_seen, open_seen, pending_seen, seen, told_before, told_seen}
 use Rattle.bf_machine.proofs.interleaving.Going.{exec_keeps_all}
+use Rattle.bf_machine.proofs.interleaving.Narrow.{narrow_in, narrow_next}
 use Rattle.bf_machine.proofs.interleaving.Refusing.{refuse_keeps_all}
-use Rattle.bf_machine.proofs.interleaving.Running.{nothing_left, stays_open}
+use Rattle.bf_machine.proofs.interleaving.Running.{nothing_left}
 use Rattle.bf_machine.proofs.interleaving.Telling.{length-part}
 use Rattle.bf_machine.proofs.interleaving.Texts.{IsText, are_texts}
 use Rattle.bf_machine.proofs.keeping.Ending.{all_told, left_size, room_for_reply, there}
-use Rattle.bf_machine.proofs.keeping.Numbers.{bound_still}
+use Rattle.bf_machine.proofs.keeping.Numbers.{prepared_still}
 use Rattle.bf_machine.proofs.keeping.Exchanging.{exchanged_sound, seen_same, seen_with_open, seen_with_told}
 use Rattle.bf_machine.proofs.keeping.Places.{open_there, told_there}
 
 -- what is pending are rows, and none outside a block
-record AreRows (db : Database) (rs : List Reply) (p : Pending) : Type 0 where
+record AreRows (rs : List Reply) (p : Pending) : Type 0 where
   pub writes : List Write
   pub is_rows : p ≡ Rows writes
-  pub opened : IsOpen db writes
   pub first : stands_inside rs ≡ false → writes ≡ []
 
 module _ (locks : Locks) (owner : ℕ) (db : Database) (ss : List Statement) where
@@ -57,25 +61,27 @@ module _ (locks : Locks) (owner : ℕ) (db : Database) (ss : List Statement) whe
 
   -- where a statement is left that ends no block
   are_rows : IsDatabase db → IsText ss → (s : Statement) (later : List Statement) → ends_block s ≡ false → (bound : Bound) → Holds locks owner (footprint_of bound)
-      → (rs : List Reply) → drop (length rs) ss ≡ s ∷ later → (p : Pending) → HasRun locks owner db (answered_by false rs ss) p → AreRows db rs p
+      → (rs : List Reply) → drop (length rs) ss ≡ s ∷ later → (p : Pending) → HasRun locks owner db (answered_by false rs ss) p → AreRows rs p
   are_rows is text s later goes_on bound held rs left (Rows writes) run = record {
     writes = writes;
     is_rows = refl;
-    opened = stays_open locks owner db (answered_by false rs ss) [] writes (begun db is) run;
     first = nothing_first rs writes run;
   }
-  are_rows is text s later goes_on bound held rs left (NewTable table) run = absurd (nothing_left locks owner db is ss text s later goes_on bound held (NewTable table) refl rs left run)
-  are_rows is text s later goes_on bound held rs left (NewIndex index) run = absurd (nothing_left locks owner db is ss text s later goes_on bound held (NewIndex index) refl rs left run)
+  are_rows is text s later goes_on bound held rs left (NewTable table) run = absurd (nothing_left locks owner db is ss text s later goes_on bound held (NewTable table) rs left run)
+  are_rows is text s later goes_on bound held rs left (NewIndex index) run = absurd (nothing_left locks owner db is ss text s later goes_on bound held (NewIndex index) rs left run)
+  are_rows is text s later goes_on bound held rs left (Flip plan) run = absurd (nothing_left locks owner db is ss text s later goes_on bound held (Flip plan) rs left run)
+  are_rows is text s later goes_on bound held rs left Nothing run = absurd (nothing_left locks owner db is ss text s later goes_on bound held Nothing rs left run)
 
 -- what holds anyhow holds on an error
 pub on_err : {A E : Type 0} (r : Result A E) (P : Type 0) → P → OnErr r P
 on_err (Ok a) P p = tt
 on_err (Err e) P p = p
 
--- where the catalog has the number that it had when a statement was bound, the statement is bound so now
+-- where the catalog has the number that it had when a statement was prepared, the statement is prepared so now
 executes_as_bound : (start : Database) (m : Machine) → IsKept start m → (s : ℕ) (bound : Bound) → IsToExec m s start bound → bound.catalog ≡ m.db.number
+    → HaveMoved m.lazy.last (λ last. needed_for last.old last.migrate bound.action)
     → (next : Machine) × (by : Executes m s next) × (by.bound ≡ bound)
-executes_as_bound start m kept s bound there number =
+executes_as_bound start m kept s bound there number moved =
     let by : Executes m s (with_open m s (Some (stepped m s there.o there.statement bound))) = record {
       current = there.current;
       o = there.o;
@@ -85,8 +91,9 @@ executes_as_bound start m kept s bound there number =
       left = there.left;
       goes_on = there.goes_on;
       bound = bound;
-      bound_so = bound_still start m kept there.prefix (stands_inside there.o.replies) there.statement bound there.bound_so number;
+      bound_so = prepared_still start m kept there.prefix (stands_inside there.o.replies) there.statement bound there.bound_so number;
       held = there.held;
+      moved = moved;
       goes = refl;
     } in
     (with_open m s (Some (stepped m s there.o there.statement bound)), by, refl)
@@ -95,14 +102,21 @@ some_there : (ss : List Statement) → list_any ends_block ss ≡ true → 1 ≤
 some_there [] any = absurd (false≢true any)
 some_there (s ∷ ss) any = omega arith
 
-module _ {opening : Database} {given : Script} (script : Script) (retries : ℕ) (db : Database) (locks : Locks) (began : List BeganGroup) (sessions : List SessionSoFar) (history : Vec Entry) (commits : ℕ) (transcripts : Vec (List Reply))
-    (sound : IsSound opening given script retries db locks began sessions history commits transcripts)
+module _ {opening : Database} {registry : Registry} {given : Script} (script : Script) (retries : ℕ) (store : Store) (locks : Locks) (began : List BeganGroup) (sessions : List SessionSoFar) (history : Vec Entry) (commits : ℕ) (transcripts : Vec (List Reply))
+    (sound : IsSound opening registry given script retries store locks began sessions history commits transcripts)
     (s : ℕ) (low : 1 ≤ s) (high : s ≤ length sessions) (x : SessionSoFar) (at : slice_index_or sessions (s - 1) x ≡ x) where
   abbrev m : Machine
-  m = seen script retries db locks began sessions history.items
+  m = seen script retries store locks began sessions history.items
+
+  abbrev db : Database
+  db = view_of store.lazy
+
+  -- the need of an action has moved
+  abbrev NeedHasMoved : Action → Type 0
+  NeedHasMoved act = HaveMoved store.lazy.last (λ last. needed_for last.old last.migrate act)
 
   abbrev then : SessionSoFar → Machine
-  then y = seen script retries db locks began (slice_set sessions (s - 1) y) history.items
+  then y = seen script retries store locks began (slice_set sessions (s - 1) y) history.items
 
   -- IN AN OPEN GROUP
   module _ (g : OpenGroup) (is : x.«open» ≡ Some g) where
@@ -110,7 +124,7 @@ module _ {opening : Database} {given : Script} (script : Script) (retries : ℕ)
     o = group_seen x.replies.items g
 
     group_there : open_at m s ≡ Some o
-    group_there = there script retries db locks began sessions history commits transcripts sound s low high x at g is
+    group_there = there script retries store locks began sessions history commits transcripts sound s low high x at g is
 
     own : IsOpenGroup opening m s o
     own = sound.kept.open_groups_replay.each s o group_there
@@ -118,7 +132,7 @@ module _ {opening : Database} {given : Script} (script : Script) (retries : ℕ)
     -- the replies before the group's are there
     before : g.first - 1 ≤ length x.replies.items
     before =
-        let all = all_told script retries db locks began sessions history commits transcripts sound s low high x at g is in
+        let all = all_told script retries store locks began sessions history commits transcripts sound s low high x at g is in
         let sizes : length (told_at m s) + length o.replies ≡ length x.replies.items = sym (length-append (told_at m s) o.replies) ∙ ap (λ (rs : List Reply). length rs) all in
         omega (arith, sizes, own.next)
 
@@ -128,9 +142,9 @@ module _ {opening : Database} {given : Script} (script : Script) (retries : ℕ)
         let clash : None ≡ Some o = sym by.closed ∙ group_there in
         cc
 
-    executes_there : (bound : Bound) → bound.catalog ≡ db.number → CanExec m s opening bound → (next : Machine) × (by : Executes m s next) × (by.bound ≡ bound)
-    executes_there bound number can = elim can as (λ _. (next : Machine) × (by : Executes m s next) × (by.bound ≡ bound)) [
-      | inl there ↦ executes_as_bound opening m sound.kept s bound there number
+    executes_there : (bound : Bound) → bound.catalog ≡ db.number → NeedHasMoved bound.action → CanExec m s opening bound → (next : Machine) × (by : Executes m s next) × (by.bound ≡ bound)
+    executes_there bound number moved can = elim can as (λ _. (next : Machine) × (by : Executes m s next) × (by.bound ≡ bound)) [
+      | inl there ↦ executes_as_bound opening m sound.kept s bound there number moved
       | inr refused ↦ absurd (not_refused refused.0 refused.1)
     ]
 
@@ -156,13 +170,13 @@ module _ {opening : Database} {given : Script} (script : Script) (retries : ℕ)
       left : rest_of m s o ≡ by.statement ∷ by.later
       left = subst (λ (p : Open). rest_of m s p ≡ by.statement ∷ by.later) same_group by.left
 
-      bound_so : bound_of db inside by.statement ≡ Some by.bound
-      bound_so = subst (λ (p : Open). bound_of db (stands_inside p.replies) by.statement ≡ Some by.bound) same_group by.bound_so
+      bound_so : prepared_of db inside by.statement ≡ Some by.bound
+      bound_so = subst (λ (p : Open). prepared_of db (stands_inside p.replies) by.statement ≡ Some by.bound) same_group by.bound_so
 
       held : Holds locks g.start (footprint_of by.bound)
       held = subst (λ (p : Open). Holds locks p.start (footprint_of by.bound)) same_group by.held
 
-      rows : AreRows db o.replies o.pending
+      rows : AreRows o.replies o.pending
       rows =
           are_rows locks g.start db (text_of m s o) sound.kept.history_legal.database ((are_texts script).shape s o.group own.whole) by.statement by.later by.goes_on by.bound held
           o.replies left o.pending own.run
@@ -170,22 +184,24 @@ module _ {opening : Database} {given : Script} (script : Script) (retries : ℕ)
       next_is : IsNext db rows.writes by.bound inside by.statement
       next_is = record { is = bound_so; goes_on = by.goes_on; first = rows.first }
 
-      pub can_answer : CanAnswer db (pending_seen g.pending) by.bound
+      pub can_answer : CanAnswer store.lazy (pending_seen g.pending) by.bound
       can_answer = record {
-        database = sound.kept.history_legal.database;
+        lazy_state = sound.kept.store_valid.seen_as.lazy_state;
         writes = rows.writes;
         is_rows = rows.is_rows;
-        opened = rows.opened;
+        opened = subst (CanBePutInto store.lazy) rows.is_rows (sound.kept.store_valid.puts s o group_there);
         in_block = inside;
         statement = by.statement;
         next = next_is;
+        moved = by.moved;
+        narrow = (narrow_next (text_of m s o) (narrow_in script sound.kept.within s o.group) (length o.replies) by.statement by.later left).migrates;
       }
 
       pub has_room : length x.replies.items < vec_capacity x.replies
       has_room =
-          let size = left_size script retries db locks began sessions history commits transcripts sound s low high x at g is in
+          let size = left_size script retries store locks began sessions history commits transcripts sound s low high x at g is in
           let some : length (rest_of m s o) ≡ suc (length by.later) = ap (λ (ss : List Statement). length ss) left in
-          room_for_reply script retries db locks began sessions history commits transcripts sound s low high x at g is (omega (arith, size, some))
+          room_for_reply script retries store locks began sessions history commits transcripts sound s low high x at g is (omega (arith, size, some))
 
       -- it is answered
       module _ (p : PendingChange) (r : Reply) (answered : IsAnswer db (pending_seen g.pending) by.bound inside by.statement r (pending_seen p))
@@ -219,21 +235,22 @@ module _ {opening : Database} {given : Script} (script : Script) (retries : ℕ)
           bound = by.bound;
           bound_so = bound_so;
           held = held;
-          goes = seen_with_open script retries db locks began sessions history.items s x at y told_before_is (Some (stepped m s o by.statement by.bound)) open_stepped;
+          moved = by.moved;
+          goes = seen_with_open script retries store locks began sessions history.items s x at y told_before_is (Some (stepped m s o by.statement by.bound)) open_stepped;
         }
 
-        pub executed_sound : IsSound opening given script retries db locks began (slice_set sessions (s - 1) y) history commits transcripts
+        pub executed_sound : IsSound opening registry given script retries store locks began (slice_set sessions (s - 1) y) history commits transcripts
         executed_sound =
-            exchanged_sound script retries db locks began sessions history commits transcripts sound s low high x at y (ap is_some opened ∙ sym (ap is_some is)) latest capacity
+            exchanged_sound script retries store locks began sessions history commits transcripts sound s low high x at y (ap is_some opened ∙ sym (ap is_some is)) latest capacity
             (exec_keeps_all opening m sound.kept s (are_texts script) (then y) executes)
 
   -- IN NO GROUP
   module _ (is : x.«open» ≡ None) where
     none_there : open_at m s ≡ None
-    none_there = open_there script retries db locks began sessions history.items x s low high at ∙ ap (option_map (group_seen x.replies.items)) is
+    none_there = open_there script retries store locks began sessions history.items x s low high at ∙ ap (option_map (group_seen x.replies.items)) is
 
     all_before : told_at m s ≡ x.replies.items
-    all_before = told_there script retries db locks began sessions history.items x s low high at ∙ ap (told_before x.replies.items) is
+    all_before = told_there script retries store locks began sessions history.items x s low high at ∙ ap (told_before x.replies.items) is
 
     -- nothing is executed there
     refuses_there : (bound : Bound) → CanExec m s opening bound → (next : Machine) × Refuses m s next
@@ -270,12 +287,12 @@ module _ {opening : Database} {given : Script} (script : Script) (retries : ℕ)
           current = by.current;
           closed = by.closed;
           stray = by.stray;
-          goes = seen_with_told script retries db locks began sessions history.items s x at y open_as_before (told_at m s ++ reply.Refused NoTransaction ∷ []) told_more_is;
+          goes = seen_with_told script retries store locks began sessions history.items s x at y open_as_before (told_at m s ++ reply.Refused NoTransaction ∷ []) told_more_is;
         }
 
-        pub refused_sound : IsSound opening given script retries db locks began (slice_set sessions (s - 1) y) history commits transcripts
+        pub refused_sound : IsSound opening registry given script retries store locks began (slice_set sessions (s - 1) y) history commits transcripts
         refused_sound =
-            exchanged_sound script retries db locks began sessions history commits transcripts sound s low high x at y (ap is_some closed ∙ sym (ap is_some is)) latest capacity
+            exchanged_sound script retries store locks began sessions history commits transcripts sound s low high x at y (ap is_some closed ∙ sym (ap is_some is)) latest capacity
             (refuse_keeps_all opening m sound.kept (are_texts script) s (then y) refuses)
 
   -- IN EITHER: what the session's open group is behind the reply, or behind none
@@ -289,19 +306,19 @@ module _ {opening : Database} {given : Script} (script : Script) (retries : ℕ)
   abbrev session_of : Vec Reply → Option OpenGroup → SessionSoFar
   session_of replies after = record { replies = replies; «open» = after; latest = x.latest }
 
-  module _ (bound : Bound) (can : CanExec m s opening bound) (number : bound.catalog ≡ db.number) where
-    pub may_reply : IfSome x.«open» (λ g. CanAnswer db (pending_seen g.pending) bound)
+  module _ (bound : Bound) (can : CanExec m s opening bound) (number : bound.catalog ≡ db.number) (moved : NeedHasMoved bound.action) where
+    pub may_reply : IfSome x.«open» (λ g. CanAnswer store.lazy (pending_seen g.pending) bound)
     may_reply =
-        let P : Option OpenGroup → Type 0 = λ (o : Option OpenGroup). IfSome o (λ g. CanAnswer db (pending_seen g.pending) bound) in
+        let P : Option OpenGroup → Type 0 = λ (o : Option OpenGroup). IfSome o (λ g. CanAnswer store.lazy (pending_seen g.pending) bound) in
         by_open (P x.«open») (λ is. subst P (sym is) tt) (λ g is.
-        let there = executes_there g is bound number can in
-        let answers : CanAnswer db (pending_seen g.pending) bound = subst (CanAnswer db (pending_seen g.pending)) there.2 (can_answer g is there.0 there.1) in
+        let there = executes_there g is bound number moved can in
+        let answers : CanAnswer store.lazy (pending_seen g.pending) bound = subst (CanAnswer store.lazy (pending_seen g.pending)) there.2 (can_answer g is there.0 there.1) in
         subst P (sym is) answers)
 
     pub room_for_next : length x.replies.items < vec_capacity x.replies
     room_for_next =
         by_open (length x.replies.items < vec_capacity x.replies) (λ is. let there = refuses_there is bound can in has_room_to_refuse is there.0 there.1)
-        (λ g is. let there = executes_there g is bound number can in has_room g is there.0 there.1)
+        (λ g is. let there = executes_there g is bound number moved can in has_room g is there.0 there.1)
 
     -- there is a reply
     module _ (r : Reply) (after : Option OpenGroup) (refused : x.«open» ≡ None → (after ≡ None) × (r ≡ reply.Refused NoTransaction))
@@ -323,7 +340,7 @@ module _ {opening : Database} {given : Script} (script : Script) (retries : ℕ)
           let so = refused is in
           inr (refuses is there.0 there.1 y so.0 (more_is so.1) refl capacity))
           (λ g is.
-          let there = executes_there g is bound number can in
+          let there = executes_there g is bound number moved can in
           let so = answered g is in
           let by = there.1 in
           let block = stands_inside (drop (g.first - 1) x.replies.items) in
@@ -331,15 +348,15 @@ module _ {opening : Database} {given : Script} (script : Script) (retries : ℕ)
           subst (λ (b : Bound). IsAnswer db (pending_seen g.pending) b block by.statement r (pending_seen so.0)) (sym there.2) (so.2 block by.statement) in
           inl (executes g is there.0 by so.0 r means y so.1 items refl capacity, there.2))
 
-      pub replied_sound : IsSound opening given script retries db locks began (slice_set sessions (s - 1) y) history commits transcripts
+      pub replied_sound : IsSound opening registry given script retries store locks began (slice_set sessions (s - 1) y) history commits transcripts
       replied_sound =
-          by_open (IsSound opening given script retries db locks began (slice_set sessions (s - 1) y) history commits transcripts)
+          by_open (IsSound opening registry given script retries store locks began (slice_set sessions (s - 1) y) history commits transcripts)
           (λ is.
           let there = refuses_there is bound can in
           let so = refused is in
           refused_sound is there.0 there.1 y so.0 (more_is so.1) refl capacity)
           (λ g is.
-          let there = executes_there g is bound number can in
+          let there = executes_there g is bound number moved can in
           let so = answered g is in
           let by = there.1 in
           let block = stands_inside (drop (g.first - 1) x.replies.items) in
@@ -367,9 +384,9 @@ module _ {opening : Database} {given : Script} (script : Script) (retries : ℕ)
     as_open = by_open (is_some after ≡ is_some x.«open») (λ is. ap is_some (none is ∙ sym is)) (λ g is. let so = some g is in ap is_some so.1 ∙ sym (ap is_some is))
 
     pub seen_unanswered : then z ≡ m
-    seen_unanswered = seen_same script retries db locks began sessions history.items s x at z open_still told_still
+    seen_unanswered = seen_same script retries store locks began sessions history.items s x at z open_still told_still
 
-    pub unanswered_sound : IsSound opening given script retries db locks began (slice_set sessions (s - 1) z) history commits transcripts
+    pub unanswered_sound : IsSound opening registry given script retries store locks began (slice_set sessions (s - 1) z) history commits transcripts
     unanswered_sound =
-        exchanged_sound script retries db locks began sessions history commits transcripts sound s low high x at z as_open refl (omega arith)
+        exchanged_sound script retries store locks began sessions history commits transcripts sound s low high x at z as_open refl (omega arith)
         (subst (IsKept opening) (sym seen_unanswered) sound.kept)

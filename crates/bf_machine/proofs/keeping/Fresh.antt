@@ -9,13 +9,17 @@ use Rattle.bf_tree.specs.declared.reply.Reply.{Reply}
 use Rattle.bf_tree.specs.declared.script.Script.{Script}
 use Rattle.bf_tree.specs.declared.script.Session.{Session}
 use Rattle.bf_sql.specs.Bound.{catalog_of}
-use Rattle.bf_sql.specs.Database.{Database, IsDatabase}
+use Rattle.bf_sql.specs.Database.{Database}
+use Rattle.bf_sql.specs.migrations.Lazy.{view_of}
+use Rattle.bf_image.specs.Registries.{Registry}
+use Rattle.bf_store.specs.Stores.{IsOf, Store}
 use Rattle.bf_sql.specs.Groups.{no_session, session_at}
 use Rattle.bf_machine.specs.declared.so_far.SessionSoFar.{SessionSoFar}
-use Rattle.bf_machine.specs.interleaving.Kept.{IsKept, fresh, no_group, no_replies}
+use Rattle.bf_machine.specs.interleaving.Kept.{IsKept, IsOpening, IsWithinLimits, fresh, no_group, no_replies}
 use Rattle.bf_machine.specs.interleaving.Machines.{Began, Open, began_at}
 use Rattle.bf_machine.specs.interleaving.Seen.{AreNew, IsNew, IsSound, group_seen, is_open, open_seen, seen, told_before, told_seen}
 use Rattle.bf_machine.proofs.interleaving.New.{new_is_kept}
+use Rattle.bf_machine.proofs.interleaving.Settled.{narrow_view}
 
 -- one session more
 pub new_more : (sessions : List Session) (made : List SessionSoFar) (session : Session) (so_far : SessionSoFar) → AreNew sessions made → IsNew session so_far
@@ -71,19 +75,22 @@ item_new (s ∷ sessions) [] all i so_far below at = absurd all
 item_new (s ∷ sessions) (x ∷ made) all zero so_far below at = subst (IsNew s) at all.0
 item_new (s ∷ sessions) (x ∷ made) all (suc i) so_far below at = item_new sessions made all.1 i so_far (omega (arith, below)) at
 
-pub seen_new : (start : Database) (script : Script) (retries : ℕ) (sessions : List SessionSoFar) → AreNew script.sessions sessions
-    → seen script retries start fin.empty [] sessions [] ≡ fresh start script retries
-seen_new start script retries sessions all =
-    ap₂ (λ (opens : List (Option Open)) (told : List (List Reply)). record (fresh start script retries) { opens = opens; told = told })
+pub seen_new : (store : Store) (script : Script) (retries : ℕ) (sessions : List SessionSoFar) → AreNew script.sessions sessions
+    → seen script retries store fin.empty [] sessions [] ≡ fresh store script retries
+seen_new store script retries sessions all =
+    ap₂ (λ (opens : List (Option Open)) (told : List (List Reply)). record (fresh store script retries) { opens = opens; told = told })
     (opens_new script.sessions sessions all) (told_new script.sessions sessions all)
 
-pub new_is_sound : (start : Database) (given script : Script) (retries : ℕ) (sessions : List SessionSoFar) (history : Vec Entry) (transcripts : Vec (List Reply))
-    → IsDatabase start → HasNarrowTables (catalog_of start) → script ≡ given → AreNew script.sessions sessions → history.items ≡ [] → length script.sessions < 2 ^ 32 → transcripts.items ≡ [] → length sessions ≤ vec_capacity transcripts
-    → IsSound start given script retries start fin.empty [] sessions history 0 transcripts
-new_is_sound start given script retries sessions history transcripts database narrow same all none numbers empty room = record {
+pub new_is_sound : (opening : Database) (registry : Registry) (given : Script) (store : Store) (script : Script) (retries : ℕ) (sessions : List SessionSoFar) (history : Vec Entry) (transcripts : Vec (List Reply))
+    → view_of store.lazy ≡ opening → IsOpening store → IsOf registry store.migration → IsWithinLimits script → script ≡ given → AreNew script.sessions sessions → history.items ≡ [] → length script.sessions < 2 ^ 32 → transcripts.items ≡ [] → length sessions ≤ vec_capacity transcripts
+    → IsSound opening registry given script retries store fin.empty [] sessions history 0 transcripts
+new_is_sound opening registry given store script retries sessions history transcripts view is one within same all none numbers empty room = record {
   is_given = same;
-  narrow = narrow;
-  kept = rw none (subst (IsKept start) (sym (seen_new start script retries sessions all)) (new_is_kept start script retries database));
+  narrow = subst (λ (db : Database). HasNarrowTables (catalog_of db)) view (narrow_view store.lazy is.lazy_state is.narrow);
+  one = one;
+  kept =
+      let made : IsKept opening (fresh store script retries) = subst (λ (db : Database). IsKept db (fresh store script retries)) view (new_is_kept store script retries is within) in
+      rw none (subst (IsKept opening) (sym (seen_new store script retries sessions all)) made);
   counted = rw none refl;
   sessions_numbered = numbers;
   roomy = λ i so_far below at.

@@ -11,6 +11,7 @@ use Rattle.bf_tree.specs.declared.script.Script.{Script}
 use Rattle.bf_tree.specs.declared.script.Session.{Session}
 use Rattle.bf_sql.specs.Database.{Database}
 use Rattle.bf_sql.specs.Groups.{no_session, session_at}
+use Rattle.bf_store.specs.Stores.{Store}
 use Rattle.bf_machine.specs.declared.so_far.Began.{Began as BeganGroup}
 use Rattle.bf_machine.specs.declared.so_far.OpenGroup.{OpenGroup}
 use Rattle.bf_machine.specs.declared.so_far.SessionSoFar.{SessionSoFar}
@@ -160,9 +161,9 @@ open_goes_on m s o is ended =
     let clash : None ≡ Some o = sym ended.1 ∙ is in
     absurd cc
 
-module _ (script : Script) (retries : ℕ) (db : Database) (locks : Locks) (began : List BeganGroup) (sessions : List SessionSoFar) (history : List Entry) where
+module _ (script : Script) (retries : ℕ) (store : Store) (locks : Locks) (began : List BeganGroup) (sessions : List SessionSoFar) (history : List Entry) where
   abbrev m : Machine
-  m = seen script retries db locks began sessions history
+  m = seen script retries store locks began sessions history
 
   -- a session by its number
   pub goes_on_at : (s : ℕ) → 1 ≤ s → (HasSessionEnded m s → ⊥) → HasEndedAt script.sessions sessions (s - 1) → ⊥

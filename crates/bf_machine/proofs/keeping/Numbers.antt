@@ -1,5 +1,5 @@
 -- THE NUMBER OF THE CATALOG along a history: each statement leaves the catalog, or raises its number. So a catalog of some
--- prefix that has the present number is the present one, and binds statements as that does.
+-- prefix that has the present number is the present one, and statements are prepared in it as in that.
 use Rattle.std.proofs.Common.{◌≡◌, ◌⊎◌, ℕ, zero, suc, ◌+◌, ◌<◌, ◌≤◌, Bool, true, false, if◌then◌else◌, List, [], ◌∷◌, ◌++◌, length, map, take, Option, Some, None, option_map, refl, sym, ap, subst, ◌∙◌, arith, inl, inr}
 use Rattle.std.proofs.lemmas.List.{take_all}
 use Rattle.std.proofs.lemmas.Option.{same_Some}
@@ -17,16 +17,17 @@ use Rattle.bf_tree.specs.declared.reply.Reply.{Reply}
 use Rattle.bf_tree.specs.declared.script.Script.{Script}
 use Rattle.bf_tree.specs.declared.statement.Statement.{Statement}
 use Rattle.bf_tree.specs.declared.statement.Statement.TheVariants.{CreateTable, CreateIndex, Insert, Select, Update, Delete, Begin, Commit, Rollback, Migrate}
-use Rattle.bf_sql.specs.Bound.{action_of, bound_of, catalog_of, changes_schema, unless_objected}
+use Rattle.bf_sql.specs.Bound.{catalog_of, changes_schema, unless_objected}
 use Rattle.bf_sql.specs.Database.{Database, Stored, with_rows}
 use Rattle.bf_sql.specs.Groups.{statements_of}
 use Rattle.bf_sql.specs.History.{commits_with, replayed, replayed_behind, run_group, settled}
 use Rattle.bf_sql.specs.Meaning.{effect, executed, unless_refused}
 use Rattle.bf_sql.specs.Objections.{objections}
 use Rattle.bf_sql.specs.RowObjections.{row_objections}
+use Rattle.bf_sql.specs.migrations.Plans.{prepared_action, prepared_of}
+use Rattle.bf_image.proofs.keeping.Prepared.{prepared_alike}
 use Rattle.bf_machine.specs.interleaving.Kept.{IsKept}
 use Rattle.bf_machine.specs.interleaving.Machines.{Machine}
-use Rattle.bf_machine.proofs.keeping.Catalogs.{bound_in_catalog}
 
 -- a database has the catalog of an earlier one, or one of a greater number
 abbrev pub Follows : Database → Database → Type 0
@@ -130,14 +131,14 @@ of_number : (n : ℕ) (b : Bool) (o : Option Action) (bound : Bound) → option_
 of_number n b None bound is = absurd cc
 of_number n b (Some act) bound is = ap (λ (x : Bound). x.catalog) (sym (same_Some _ bound is))
 
-pub bound_number : (db : Database) (in_block : Bool) (s : Statement) (bound : Bound) → bound_of db in_block s ≡ Some bound → bound.catalog ≡ db.number
-bound_number db in_block s bound is = of_number db.number (changes_schema in_block s) (unless_objected (objections db in_block s) (action_of db s)) bound is
+pub prepared_number : (db : Database) (in_block : Bool) (s : Statement) (bound : Bound) → prepared_of db in_block s ≡ Some bound → bound.catalog ≡ db.number
+prepared_number db in_block s bound is = of_number db.number (changes_schema in_block s) (unless_objected (objections db in_block s) (prepared_action db s)) bound is
 
--- A BOUND OF SOME PREFIX whose catalog's number is the present one is the bound in the present database
-pub bound_still : (start : Database) (m : Machine) → IsKept start m → (k : ℕ) (in_block : Bool) (s : Statement) (bound : Bound)
-    → bound_of (at m.script start m.history k) in_block s ≡ Some bound → bound.catalog ≡ m.db.number → bound_of m.db in_block s ≡ Some bound
-bound_still start m kept k in_block s bound is number =
+-- WHAT IS PREPARED AT SOME PREFIX whose catalog's number is the present one is prepared so in the present database
+pub prepared_still : (start : Database) (m : Machine) → IsKept start m → (k : ℕ) (in_block : Bool) (s : Statement) (bound : Bound)
+    → prepared_of (at m.script start m.history k) in_block s ≡ Some bound → bound.catalog ≡ m.db.number → prepared_of m.db in_block s ≡ Some bound
+prepared_still start m kept k in_block s bound is number =
     let earlier = at m.script start m.history k in
     let follows : Follows earlier m.db = subst (Follows earlier) (sym kept.history_legal.replay) (whole_follows m.script start m.history k) in
-    let same : catalog_of earlier ≡ catalog_of m.db = same_number earlier m.db follows (sym (bound_number earlier in_block s bound is) ∙ number) in
-    sym (bound_in_catalog earlier m.db same in_block s) ∙ is
+    let same : catalog_of earlier ≡ catalog_of m.db = same_number earlier m.db follows (sym (prepared_number earlier in_block s bound is) ∙ number) in
+    sym (prepared_alike earlier m.db same in_block s) ∙ is

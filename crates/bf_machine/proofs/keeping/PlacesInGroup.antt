@@ -10,6 +10,8 @@ use Rattle.bf_tree.specs.declared.history.Entry.{Entry}
 use Rattle.bf_tree.specs.declared.reply.Reply.{Reply}
 use Rattle.bf_tree.specs.declared.script.Script.{Script}
 use Rattle.bf_sql.specs.Database.{Database}
+use Rattle.bf_image.specs.Registries.{Registry}
+use Rattle.bf_store.specs.Stores.{Store}
 use Rattle.bf_machine.specs.declared.so_far.Began.{Began as BeganGroup}
 use Rattle.bf_machine.specs.declared.so_far.OpenGroup.{OpenGroup}
 use Rattle.bf_machine.specs.declared.so_far.SessionSoFar.{SessionSoFar}
@@ -30,11 +32,11 @@ inside_behind (r ∷ rs) = let some : nat_le 1 (length (r ∷ rs)) ≡ true = gr
 block_of : (first : ℕ) (rs : List Reply) → 1 ≤ first → nat_le first (length rs) ≡ nat_le 1 (length (drop (first - 1) rs))
 block_of first rs low = let size = length-drop (first - 1) rs in grind (arith, nat_tests)
 
-module _ {opening : Database} {given : Script} {script : Script} {retries : ℕ} {db : Database} {locks : Locks} {began : List BeganGroup}
+module _ {opening : Database} {registry : Registry} {given : Script} {script : Script} {retries : ℕ} {store : Store} {locks : Locks} {began : List BeganGroup}
     {sessions : List SessionSoFar} {history : Vec Entry} {commits : ℕ} {transcripts : Vec (List Reply)}
-    {now : Machine} {s : ℕ} {x : SessionSoFar} (session : IsThere opening given script retries db locks began sessions history commits transcripts now s x) where
+    {now : Machine} {s : ℕ} {x : SessionSoFar} (session : IsThere opening registry given script retries store locks began sessions history commits transcripts now s x) where
   abbrev m : Machine
-  m = seen script retries db locks began sessions history.items
+  m = seen script retries store locks began sessions history.items
 
   low : 1 ≤ s
   low = session.place.0
@@ -47,7 +49,7 @@ module _ {opening : Database} {given : Script} {script : Script} {retries : ℕ}
   -- with no open group
   module _ (is : x.«open» ≡ None) where
     closed : open_at m s ≡ None
-    closed = open_there script retries db locks began sessions history.items x s low high (sym session.is) ∙ ap (option_map (group_seen x.replies.items)) is
+    closed = open_there script retries store locks began sessions history.items x s low high (sym session.is) ∙ ap (option_map (group_seen x.replies.items)) is
 
     pub in_no_block : false ≡ is_in_block now s
     in_no_block =
@@ -65,7 +67,7 @@ module _ {opening : Database} {given : Script} {script : Script} {retries : ℕ}
     o = group_seen x.replies.items g
 
     open_is : open_at m s ≡ Some o
-    open_is = there script retries db locks began sessions history commits transcripts session.sound s low high x (sym session.is) g is
+    open_is = there script retries store locks began sessions history commits transcripts session.sound s low high x (sym session.is) g is
 
     pub block_there : 1 ≤ g.first → nat_le g.first count ≡ is_in_block now s
     block_there first =
@@ -77,7 +79,7 @@ module _ {opening : Database} {given : Script} {script : Script} {retries : ℕ}
 
     all_answered : nat_le g.last count ≡ nat_le (length (text_of m s o)) (length o.replies)
     all_answered =
-        let left = left_size script retries db locks began sessions history commits transcripts session.sound s low high x (sym session.is) g is in
+        let left = left_size script retries store locks began sessions history commits transcripts session.sound s low high x (sym session.is) g is in
         let size = length-drop (length o.replies) (text_of m s o) in
         same_tests g.last count (length (text_of m s o)) (length o.replies) (length (rest_of m s o)) (omega (arith, left, counted)) size
       where

@@ -21,8 +21,8 @@ use Rattle.bf_sql.specs.Groups.{commits as commits_text, ends_block, groups_in, 
 use Rattle.bf_live.specs.OpenGroups.{Answered, Replays}
 use Rattle.bf_txn.specs.declared.write.Write.{Write}
 use Rattle.bf_machine.specs.interleaving.Calls.{CanAbort, CanBegin, CanCommit, CanRefuse, GoesOn, IsNamed, IsPlace}
-use Rattle.bf_machine.specs.interleaving.Events.{LastHasEnded, begun, begun_again, committed, rest_of, rolled_back, text_of}
-use Rattle.bf_machine.specs.interleaving.Groups.{HasRun, IsSchemaStep, NewIndex, NewTable, Pending, Rows, answered_by}
+use Rattle.bf_machine.specs.interleaving.Events.{LastHasEnded, begun, begun_again, rest_of, rolled_back, text_of}
+use Rattle.bf_machine.specs.interleaving.Groups.{Flip, HasRun, IsSchemaStep, NewIndex, NewTable, Nothing, Pending, Rows, answered_by}
 use Rattle.bf_machine.specs.interleaving.Kept.{HasStart, IsCurrent, IsKept, IsOpenGroup}
 use Rattle.bf_machine.specs.interleaving.Machines.{Began, Group, Machine, Open, began_at, open_at, told_at}
 use Rattle.bf_machine.specs.interleaving.Seen.{IsLatest}
@@ -63,6 +63,8 @@ module _ (locks : Locks) (owner : ℕ) (db : Database) where
   not_committed (Rows writes) (r ∷ rs) ss within (bound, next, is, holds, step, run) = not_replayed next writes rs ss (omega (arith, within)) run
   not_committed (NewTable table) (r ∷ rs) ss within run = schema_alone (NewTable table) r rs ss (omega (arith, within)) run
   not_committed (NewIndex index) (r ∷ rs) ss within run = schema_alone (NewIndex index) r rs ss (omega (arith, within)) run
+  not_committed (Flip plan) (r ∷ rs) ss within run = schema_alone (Flip plan) r rs ss (omega (arith, within)) run
+  not_committed Nothing (r ∷ rs) ss within run = schema_alone Nothing r rs ss (omega (arith, within)) run
 
 -- what is not BEGIN commits
 commits_alone : (s : Statement) (ss : List Statement) → (s ≡ Begin → ⊥) → commits_text (s ∷ ss) ≡ true
@@ -168,17 +170,13 @@ module _ (start : Database) (m : Machine) (kept : IsKept start m) (s : ℕ) (cur
 
       pub commit_next : statement ≡ Commit → CanCommit m s
       commit_next same =
-          let last = ends (ap ends_block same) in (
-            committed m s o,
-            record {
-              current = current;
-              o = o;
-              is = there;
-              commits_so = last.1 ∙ ap (λ (c : Statement). last_is_commit (c ∷ [])) same;
-              left = inr (left ∙ (ap (λ (ss : List Statement). statement ∷ ss) last.0 ∙ ap (λ (c : Statement). c ∷ []) same));
-              goes = refl;
-            },
-          )
+          let last = ends (ap ends_block same) in record {
+            current = current;
+            o = o;
+            is = there;
+            commits_so = last.1 ∙ ap (λ (c : Statement). last_is_commit (c ∷ [])) same;
+            left = inr (left ∙ (ap (λ (ss : List Statement). statement ∷ ss) last.0 ∙ ap (λ (c : Statement). c ∷ []) same));
+          }
 
       pub abort_next : statement ≡ Rollback → CanAbort m s
       abort_next same =
@@ -212,17 +210,13 @@ module _ (start : Database) (m : Machine) (kept : IsKept start m) (s : ℕ) (cur
       text = ap (take (o.group.1 - (o.group.0 - 1))) is ∙ take_more (o.group.1 - (o.group.0 - 1)) statement later (omega (arith, bounds.0, bounds.1))
 
       pub commit_end : (statement ≡ Begin → ⊥) → CanCommit m s
-      commit_end other = (
-        committed m s o,
-        record {
-          current = current;
-          o = o;
-          is = there;
-          commits_so = ap commits_text text ∙ commits_alone statement behind_first other;
-          left = inl nothing;
-          goes = refl;
-        },
-      )
+      commit_end other = record {
+        current = current;
+        o = o;
+        is = there;
+        commits_so = ap commits_text text ∙ commits_alone statement behind_first other;
+        left = inl nothing;
+      }
 
       pub abort_end : statement ≡ Begin → CanAbort m s
       abort_end same =

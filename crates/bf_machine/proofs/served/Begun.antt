@@ -3,7 +3,7 @@ use Rattle.std.proofs.Common.{◌≡◌, ℕ, zero, suc, true, List, [], ◌∷�
 use Rattle.std.specs.List.{slice_index_or}
 use Rattle.bf_tree.specs.declared.script.Script.{Script}
 use Rattle.bf_tree.specs.declared.script.Session.{Session}
-use Rattle.bf_sql.specs.Database.{Database}
+use Rattle.bf_store.specs.Stores.{Store}
 use Rattle.bf_machine.specs.Runnable.{phases_rise_from}
 use Rattle.bf_machine.specs.interleaving.Kept.{fresh, no_group}
 use Rattle.bf_machine.specs.interleaving.Machines.{open_at}
@@ -14,19 +14,19 @@ none_at [] i = refl
 none_at (x ∷ sessions) zero = refl
 none_at (x ∷ sessions) (suc i) = none_at sessions i
 
-pub none_open : (start : Database) (script : Script) (retries : ℕ) (s : ℕ) → open_at (fresh start script retries) s ≡ None
-none_open start script retries zero = refl
-none_open start script retries (suc s) = none_at script.sessions s
+pub none_open : (store : Store) (script : Script) (retries : ℕ) (s : ℕ) → open_at (fresh store script retries) s ≡ None
+none_open store script retries zero = refl
+none_open store script retries (suc s) = none_at script.sessions s
 
-none_died : (start : Database) (script : Script) (retries n : ℕ) → deaths_at (fresh start script retries) n ≡ []
-none_died start script retries zero = refl
-none_died start script retries (suc n) = refl
+none_died : (store : Store) (script : Script) (retries n : ℕ) → deaths_at (fresh store script retries) n ≡ []
+none_died store script retries zero = refl
+none_died store script retries (suc n) = refl
 
-pub fresh_is_in_sequence : (start : Database) (script : Script) (retries : ℕ) → phases_rise_from 0 script.sessions ≡ true → IsInSequence (fresh start script retries)
-fresh_is_in_sequence start script retries phases = record {
+pub fresh_is_in_sequence : (store : Store) (script : Script) (retries : ℕ) → phases_rise_from 0 script.sessions ≡ true → IsInSequence (fresh store script retries)
+fresh_is_in_sequence store script retries phases = record {
   phases = phases;
-  closed = none_open start script retries;
-  no_death = none_died start script retries;
+  closed = none_open store script retries;
+  no_death = none_died store script retries;
   rises = tt;
   ended = tt;
 }

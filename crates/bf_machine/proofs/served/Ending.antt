@@ -10,10 +10,10 @@ use Rattle.bf_tree.specs.declared.reply.Reply.{Reply}
 use Rattle.bf_tree.specs.declared.script.Script.{Script}
 use Rattle.bf_sql.specs.Database.{Database}
 use Rattle.bf_sql.specs.Groups.{session_at}
-use Rattle.bf_machine.specs.declared.serving.Turn.{Turn}
-use Rattle.bf_machine.specs.declared.serving.Turn.TheVariants as turn
+use Rattle.bf_machine.specs.declared.stand.Turn.{Turn}
+use Rattle.bf_machine.specs.declared.stand.Turn.TheVariants as turn
 use Rattle.bf_machine.specs.interleaving.Calls.{IsPlace, replies_at, statements_at}
-use Rattle.bf_machine.specs.interleaving.Events.{Event, Reaches, aborts, asked, asks, at_once, begins, commits_now, died, executes, finishes, one_more, refuses, told_at_death}
+use Rattle.bf_machine.specs.interleaving.Events.{Event, Reaches, aborts, asked, asks, at_once, begins, commits_now, died, executes, finishes, one_more, refuses, told_at_death, moves}
 use Rattle.bf_machine.specs.interleaving.Kept.{IsKept}
 use Rattle.bf_machine.specs.interleaving.Machines.{Machine, Open, open_at, told_at, with_replies}
 use Rattle.bf_machine.specs.interleaving.Serving.{CanGo, CannotGo, Driven, HasGoneOn, IsAlone, IsBeside, IsTurn, IsYoungest, Serves, at_rest, one_driven, unanswered}
@@ -41,6 +41,7 @@ module _ (start : Database) where
   event_script m next (executes s by) = ap (λ (k : Machine). k.script) by.goes
   event_script m next (refuses s by) = ap (λ (k : Machine). k.script) by.goes
   event_script m next (commits_now s by) = ap (λ (k : Machine). k.script) by.goes
+  event_script m next (moves granules by) = ap (λ (k : Machine). k.script) by.goes
   event_script m next (aborts s by) = ap (λ (k : Machine). k.script) by.goes
   event_script m next (finishes s same) = ap (λ (k : Machine). k.script) same
 
@@ -64,7 +65,7 @@ module _ (m next : Machine) (t : ℕ) (script : next.script ≡ m.script) (same 
 
 -- a turn that has gone on leaves no more of its session's statements
 pub no_more_left : (m : Machine) (s : ℕ) (start : Database) (next : Machine) → HasGoneOn m s start next → unanswered next s ≤ unanswered m s
-no_more_left m s start next gone = elim gone.goes as (λ _. unanswered next s ≤ unanswered m s) [ inl one ↦ omega (arith, one) | inr ended ↦ omega (arith, ended.4) ]
+no_more_left m s start next gone = elim gone.goes as (λ _. unanswered next s ≤ unanswered m s) [ inl one ↦ omega (arith, one.one_more) | inr ended ↦ omega (arith, ended.same) ]
 
 -- a death closes the session and leaves the others
 module _ (m : Machine) (s : ℕ) (o : Open) (is : open_at m s ≡ Some o) (older : ℕ) where
@@ -125,7 +126,7 @@ module _ {start : Database} (m : Machine) (kept : IsKept start m) (s : ℕ) (t :
         by_turn turn.Passed taken = absurd (open_can m kept s youngest.0 youngest.1 taken.0)
         by_turn turn.Served taken =
             by_beside taken.serves.beside
-            (elim taken.goes as (λ _. left_open next s < left_open m s) [ inl one ↦ answered_less (omega (arith, one)) | inr ended ↦ closed_less ended.3 ]) place
+            (elim taken.goes as (λ _. left_open next s < left_open m s) [ inl one ↦ answered_less (omega (arith, one.one_more)) | inr ended ↦ closed_less ended.closed ]) place
         by_turn turn.Waited taken = absurd (youngest_goes_on m kept s youngest taken.0 taken.1)
         by_turn turn.Died taken =
             let asked = taken.1 in
@@ -156,9 +157,9 @@ served_to_end m kept s closed goes t next taken then rest =
     let gone = alone_goes_on m kept s t next taken (λ u apart. closed u) goes in
     let more = rest s (λ u apart. (gone.serves.beside u apart).0 ∙ closed u) in
     let less : unanswered next s < unanswered m s = elim gone.goes as (λ _. unanswered next s < unanswered m s) [
-      | inl one ↦ omega (arith, one)
+      | inl one ↦ omega (arith, one.one_more)
       | inr ended ↦
-          let clash : None ≡ Some ended.0 = sym (closed s) ∙ ended.1 in
+          let clash : None ≡ Some ended.o = sym (closed s) ∙ ended.is in
           absurd cc
     ] in
     (serves_both m s next then gone.serves more.0, omega (arith, less, more.1))

@@ -7,7 +7,10 @@ use Rattle.bf_locks.specs.Locks.{Locks}
 use Rattle.bf_tree.specs.declared.history.Entry.{Entry}
 use Rattle.bf_tree.specs.declared.reply.Reply.{Reply}
 use Rattle.bf_tree.specs.declared.statement.Statement.{Statement}
+use Rattle.boxcar.specs.Table.{Where}
 use Rattle.bf_sql.specs.Database.{Database}
+use Rattle.bf_sql.specs.migrations.Lazy.{LazyState}
+use Rattle.bf_image.specs.declared.migration.Migration.{Migration}
 use Rattle.bf_sql.specs.Groups.{session_at}
 use Rattle.bf_machine.specs.interleaving.Calls.{replies_at, statements_at}
 use Rattle.bf_machine.specs.interleaving.Events.{Begins, ended, opened, rest_of, text_of, with_open}
@@ -104,10 +107,10 @@ module _ {start : Database} (m : Machine) (kept : IsKept start m) (texts : AreTe
       let some : length (rest_of m s o) ≡ suc (length later) = ap (λ (ss : List Statement). length ss) left in
       omega (arith, sizes, some, length-drop (length o.replies) (text_of m s o), length-part o.group.0 o.group.1 (session_at m.script s).statements, own.next, bounds.0, bounds.1, bounds.2)
 
-  -- its end, with replies to what was left, on whatever database and with an entry
-  module _ (r : Reply) (db : Database) (e : Entry) (same : e.session ≡ s) where
+  -- its end, with replies to what was left, on whatever database and store, and with an entry
+  module _ (r : Reply) (db : Database) (lazy : LazyState) (pass : Option (Where Migration)) (e : Entry) (same : e.session ≡ s) where
     abbrev pub over : Machine
-    over = record (ended m s o (o.replies ++ map (λ _. r) (rest_of m s o))) { db = db; history = m.history ++ e ∷ [] }
+    over = record (ended m s o (o.replies ++ map (λ _. r) (rest_of m s o))) { db = db; lazy = lazy; pass = pass; history = m.history ++ e ∷ [] }
 
     pub end_serves : Serves m s over
     end_serves =

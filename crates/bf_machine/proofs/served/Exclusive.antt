@@ -88,7 +88,7 @@ module _ {start : Database} (m : Machine) (kept : IsKept start m) (s : ℕ) wher
     | inl on ↦ by_open on.o on.is on.current
     | inr refused ↦ by_refuse refused.0
   ]
-  free stand.Commit can goes = by_open can.1.o can.1.is can.1.current
+  free stand.Commit can goes = by_open can.o can.is can.current
   free stand.Abort can goes = by_open can.1.o can.1.is can.1.current
 
   not_free : (at : Stand) → StandsAs m s at → can_go at ≡ false → IsFree → ⊥

@@ -14,18 +14,24 @@ use Rattle.bf_tree.specs.declared.reply.Reply.TheVariants as reply
 use Rattle.bf_tree.specs.declared.script.Script.{Script}
 use Rattle.bf_tree.specs.declared.statement.Statement.{Statement}
 use Rattle.bf_tree.specs.declared.statement.Statement.TheVariants.{Commit, Rollback}
+use Rattle.boxcar.specs.Table.{Where}
 use Rattle.bf_sql.specs.Database.{Database}
-use Rattle.bf_sql.specs.Groups.{ends_block, groups_in, has_statement, session_at, statements_in}
+use Rattle.bf_sql.specs.migrations.Lazy.{LazyState}
+use Rattle.bf_image.specs.declared.migration.Migration.{Migration}
+use Rattle.bf_sql.specs.Groups.{commits, ends_block, groups_in, has_statement, session_at, statements_in}
+use Rattle.bf_machine.specs.Movement.{moving_seen, with_need}
 use Rattle.bf_machine.specs.interleaving.Calls.{replies_at, statements_at}
-use Rattle.bf_machine.specs.interleaving.Events.{Aborts, Begins, Commits, Event, Executes, Reaches, Refuses, aborts, at_once, begun, begun_again, commits_behind, commits_now, entry_of, one_more, opened, rest_of, stepped, text_of, with_open}
+use Rattle.bf_machine.specs.interleaving.Events.{Aborts, Begins, Commits, Event, Executes, Reaches, Refuses, aborts, at_once, begun, begun_again, commits_behind, commits_now, entry_of, one_more, opened, rest_of, stepped, text_of, with_open, put_into}
 use Rattle.bf_machine.specs.interleaving.Groups.{left_by}
 use Rattle.bf_machine.specs.interleaving.Kept.{IsKept}
 use Rattle.bf_machine.specs.interleaving.Machines.{Machine, Open, open_at, told_at, with_replies}
-use Rattle.bf_machine.specs.interleaving.Serving.{HasGoneOn, HasMore, HasReply, Serves, is_answered, unanswered}
+use Rattle.bf_machine.specs.interleaving.Serving.{HasAnswered, HasEndedAlone, HasGoneOn, HasMore, HasReply, HasSettled, Serves, is_answered, is_in_block, sees, unanswered}
 use Rattle.bf_machine.proofs.interleaving.Others.{has_place}
 use Rattle.bf_machine.proofs.interleaving.Places.{set_same, set_other}
 use Rattle.bf_machine.proofs.interleaving.Telling.{length-part}
 use Rattle.bf_machine.proofs.interleaving.Texts.{are_texts}
+use Rattle.bf_machine.proofs.served.Behind.{end_begins_none, end_needs_none, put_same}
+use Rattle.bf_machine.proofs.served.Nexts.{next_of}
 use Rattle.bf_machine.proofs.served.Events.{closed_then, end_answers, end_serves, left_below, over, replies_are, serves_open}
 
 some_long : {X : Type 0} (p : X → Bool) (xs : List X) → list_any p xs ≡ true → 1 ≤ length xs
@@ -128,43 +134,77 @@ module _ {start : Database} (m : Machine) (kept : IsKept start m) (s : ℕ) wher
           omega (arith, one, other, more)
 
   -- the end of an open group
-  module _ (o : Open) (is : open_at m s ≡ Some o) (c : Statement) (left : (rest_of m s o ≡ []) ⊎ (rest_of m s o ≡ c ∷ [])) (r : Reply) (db : Database) (e : Entry) (same : e.session ≡ s) where
+  module _ (o : Open) (is : open_at m s ≡ Some o) (c : Statement) (left : (rest_of m s o ≡ []) ⊎ (rest_of m s o ≡ c ∷ [])) (r : Reply) (db : Database) (lazy : LazyState) (pass : Option (Where Migration)) (e : Entry) (same : e.session ≡ s) where
     abbrev after : Machine
-    after = over m kept (are_texts m.script) s o is r db e same
+    after = over m kept (are_texts m.script) s o is r db lazy pass e same
 
     closed_after : open_at after s ≡ None
-    closed_after = closed_then m kept (are_texts m.script) s o is r db e same
+    closed_after = closed_then m kept (are_texts m.script) s o is r db lazy pass e same
 
     size_after : length (replies_at after s) ≡ length (replies_at m s) + length (rest_of m s o)
-    size_after = end_answers m kept (are_texts m.script) s o is r db e same
+    size_after = end_answers m kept (are_texts m.script) s o is r db lazy pass e same
 
     end_adds_none : rest_of m s o ≡ [] → unanswered after s ≡ unanswered m s
     end_adds_none none = let nothing = ap (λ (ss : List Statement). length ss) none in omega (arith, size_after, nothing)
 
-    end_goes_on : Event start m after → HasGoneOn m s start after
-    end_goes_on event = record {
-      serves = end_serves m kept (are_texts m.script) s o is r db e same;
-      reached = one_more at_once event;
-      more = closed_more after s closed_after;
-      has_reply = closed_reply after s closed_after;
-      goes = elim left as (λ _. (unanswered m s ≡ unanswered after s + 1) ⊎ ((o : Open) × (open_at m s ≡ Some o) × (rest_of m s o ≡ []) × (open_at after s ≡ None) × (unanswered after s ≡ unanswered m s))) [
-        | inl nothing ↦ inr (o, is, nothing, closed_after, end_adds_none nothing)
-        | inr one ↦
-            let below = left_below m kept (are_texts m.script) s o is c [] one in
-            let some : length (rest_of m s o) ≡ 1 = ap (λ (ss : List Statement). length ss) one in
-            inl (omega (arith, size_after, below, some))
-      ];
-    }
+    module _ (ends : ends_block c ≡ true) (more : rest_of m s o ≡ c ∷ [] → lazy.last ≡ m.lazy.last) (none : rest_of m s o ≡ [] → moving_seen lazy.last ≡ moving_seen (put_into m.lazy o.pending).last) where
+      -- a COMMIT or ROLLBACK needs nothing, and begins no migration
+      answered : rest_of m s o ≡ c ∷ [] → HasAnswered m s after
+      answered one =
+          let below = left_below m kept (are_texts m.script) s o is c [] one in
+          let some : length (rest_of m s o) ≡ 1 = ap (λ (ss : List Statement). length ss) one in record {
+            one_more = omega (arith, size_after, below, some);
+            statement = c;
+            is = next_of m kept s o is c [] one;
+            moved = ap moving_seen (more one) ∙ sym (
+                end_begins_none (with_need (moving_seen m.lazy.last) (sees m s) (is_in_block m s) c) (sees m s) (is_in_block m s) c ends
+                ∙ end_needs_none m.lazy.last (sees m s) (is_in_block m s) c ends
+                );
+          }
+
+      end_goes_on : Event start m after → HasGoneOn m s start after
+      end_goes_on event = record {
+        serves = end_serves m kept (are_texts m.script) s o is r db lazy pass e same;
+        reached = one_more at_once event;
+        more = closed_more after s closed_after;
+        has_reply = closed_reply after s closed_after;
+        goes = elim left as (λ _. HasAnswered m s after ⊎ HasEndedAlone m s after) [
+          | inl nothing ↦ inr (record { o = o; is = is; answered = nothing; closed = closed_after; same = end_adds_none nothing; moved = none nothing })
+          | inr one ↦ inl (answered one)
+        ];
+      }
+
+  -- a statement that is left
+  some_left : (o : Open) (c : Statement) → rest_of m s o ≡ c ∷ [] → rest_of m s o ≡ [] → ⊥
+  some_left o c one none = let clash : c ∷ [] ≡ [] = sym one ∙ none in cc
 
   pub commit_goes_on : (next : Machine) → Commits m s next → HasGoneOn m s start next
   commit_goes_on next by =
       let n = commits_behind 0 m.history + 1 in
       subst (HasGoneOn m s start) (sym by.goes)
-      (end_goes_on by.o by.is Commit by.left (reply.Committed n) (left_by m.db by.o.pending) (entry_of m s by.o (Committed n)) refl (subst (Event start m) by.goes (commits_now s by)))
+      (end_goes_on by.can.o by.can.is Commit by.can.left (reply.Committed n) (left_by m.db by.can.o.pending) (put_into m.lazy by.can.o.pending) next.pass (entry_of m s by.can.o (Committed n)) refl
+      refl (λ one. put_same m kept s by.can.o by.can.is (inl (some_left by.can.o Commit one))) (λ none. refl) (subst (Event start m) by.goes (commits_now s by)))
 
   pub abort_goes_on : (next : Machine) → Aborts m s next → HasGoneOn m s start next
   abort_goes_on next by =
-      subst (HasGoneOn m s start) (sym by.goes) (end_goes_on by.o by.is Rollback by.left reply.RolledBack m.db (entry_of m s by.o RolledBack) refl (subst (Event start m) by.goes (aborts s by)))
+      subst (HasGoneOn m s start) (sym by.goes)
+      (end_goes_on by.o by.is Rollback by.left reply.RolledBack m.db m.lazy m.pass (entry_of m s by.o RolledBack) refl
+      refl (λ one. refl) (λ none. sym (ap moving_seen (put_same m kept s by.o by.is (inr by.commits_so)))) (subst (Event start m) by.goes (aborts s by)))
+
+  -- what they leave is told of
+  pub commit_settles : (next : Machine) → Commits m s next → HasSettled m s next
+  commit_settles next by o is =
+      let group : by.can.o ≡ o = same_Some by.can.o o (sym by.can.is ∙ is) in
+      ap (λ (k : Machine). moving_seen k.lazy.last) by.goes ∙ ap (λ (p : Open). moving_seen (put_into m.lazy p.pending).last) group
+
+  pub abort_settles : (next : Machine) → Aborts m s next → HasSettled m s next
+  abort_settles next by o is =
+      let group : by.o ≡ o = same_Some by.o o (sym by.is ∙ is) in
+      ap (λ (k : Machine). moving_seen k.lazy.last) by.goes ∙ sym (ap moving_seen (put_same m kept s o is (inr (subst (λ (p : Open). commits (text_of m s p) ≡ false) group by.commits_so))))
+
+  -- and so is what a group leaves that goes on
+  pub more_settles : HasMore m s → HasSettled m s m
+  more_settles more o is = sym (ap moving_seen (put_same m kept s o is (inl (more o is))))
 
   -- and where each statement had its reply
   module _ (answered : is_answered m s ≡ true) where
@@ -178,12 +218,12 @@ module _ {start : Database} (m : Machine) (kept : IsKept start m) (s : ℕ) wher
     commit_adds_none next by =
         let n = commits_behind 0 m.history + 1 in
         subst (λ (next : Machine). unanswered next s ≡ unanswered m s) (sym by.goes)
-        (end_adds_none by.o by.is Commit by.left (reply.Committed n) (left_by m.db by.o.pending) (entry_of m s by.o (Committed n)) refl (none_left by.o by.is))
+        (end_adds_none by.can.o by.can.is Commit by.can.left (reply.Committed n) (left_by m.db by.can.o.pending) (put_into m.lazy by.can.o.pending) next.pass (entry_of m s by.can.o (Committed n)) refl (none_left by.can.o by.can.is))
 
     pub abort_adds_none : (next : Machine) → Aborts m s next → unanswered next s ≡ unanswered m s
     abort_adds_none next by =
         subst (λ (next : Machine). unanswered next s ≡ unanswered m s) (sym by.goes)
-        (end_adds_none by.o by.is Rollback by.left reply.RolledBack m.db (entry_of m s by.o RolledBack) refl (none_left by.o by.is))
+        (end_adds_none by.o by.is Rollback by.left reply.RolledBack m.db m.lazy m.pass (entry_of m s by.o RolledBack) refl (none_left by.o by.is))
 
   -- BEGIN: nothing has its reply yet
   module _ (place : (1 ≤ s) × (s ≤ length m.opens)) where

@@ -100,6 +100,7 @@ module _ {start : Database} (m : Machine) (kept : IsKept start m) (s : ℕ) (o :
     serves = serves_locks m s locks;
     reached = reached;
     no_reply = refl;
+    no_move = refl;
     o = o;
     is = next.is;
     same = λ p is. ap (λ (q : Open). q.start) (same_Some p o (sym is ∙ next.is));

@@ -10,7 +10,7 @@ use Rattle.bf_base.specs.Lists.{with_before_from}
 use Rattle.bf_tree.specs.Answered.{IsAllAnswered}
 use Rattle.bf_tree.specs.declared.history.Entry.{Entry}
 use Rattle.bf_tree.specs.declared.history.Outcome.{Outcome}
-use Rattle.bf_tree.specs.declared.history.Sweep.TheVariants.{Never}
+use Rattle.bf_tree.specs.declared.history.Sweep.{Sweep}
 use Rattle.bf_tree.specs.declared.reply.Cause.{Cause}
 use Rattle.bf_tree.specs.declared.reply.Cause.TheVariants.{Died}
 use Rattle.bf_tree.specs.declared.reply.Reply.{Reply}
@@ -21,6 +21,7 @@ use Rattle.bf_sql.specs.Database.{Database, empty_database}
 use Rattle.bf_sql.specs.Groups.{ends_block, groups_in, has_statement, no_session, outcomes_from, session_at, statements_in, statements_of}
 use Rattle.bf_sql.specs.History.{IsApart, IsLegalHistory, is_whole_group, may_precede, stands_in}
 use Rattle.bf_machine.specs.InOrder.{IsRunInOrder, NoCause, entries_in_order, entry_of, groups_in_order, none_open}
+use Rattle.bf_machine.specs.Movement.{movement, sweep_told}
 use Rattle.bf_machine.specs.interleaving.Calls.{HasSessionEnded, IsPlace}
 use Rattle.bf_machine.specs.interleaving.Kept.{AllowedNow, IsKept}
 use Rattle.bf_machine.specs.interleaving.Machines.{Began, Group, Machine, Open, open_at, told_at, transcripts_of, with_replies}
@@ -368,10 +369,10 @@ module _ (m : Machine) (kept : IsKept empty_database m) (sequence : IsInSequence
   transcripts_told = with_none m.told m.opens (kept.shaped.told ∙ sym kept.shaped.opens)
       (λ i. let here : slice_index_or m.opens i None ≡ open_at m (i + 1) = there_next None None m.opens i in here ∙ sequence.closed (i + 1))
 
-  pub ran_in_order : IsRunInOrder m.script (transcripts_of m) m.history Never
-  ran_in_order = record {
+  pub ran_in_order : (sweep : Sweep) → sweep ≡ sweep_told (movement m.script empty_database m.history) → IsRunInOrder m.script (transcripts_of m) m.history sweep
+  ran_in_order sweep moved = record {
     history_legal = subst (λ (ts : List (List Reply)). IsLegalHistory m.script NoCause none_open empty_database ts m.history) (sym transcripts_told) legal_without_cause;
     all_answered = subst (IsAllAnswered m.script) (sym transcripts_told) all_answered;
     entries_are_in_order = entries_are;
-    no_migration = refl;
+    moves_only_needed = moved;
   }

@@ -1,31 +1,48 @@
--- A statement whose locks are held has its reply.
-use Rattle.std.proofs.Common.{◌≡◌, ℕ, ◌+◌, List, false, length, take, Option, Some, None, refl, sym, ap, subst, ◌∙◌, arith, inl, inr}
+-- A statement whose locks are held has its reply, once what it needs has moved.
+use Rattle.std.proofs.Common.{◌≡◌, ◌⊎◌, ℕ, ◌+◌, Bool, List, [], ◌∷◌, ◌++◌, true, false, length, take, Option, Some, None, refl, sym, ap, ap₂, subst, ◌∙◌, arith, inl, inr, append-nil}
 use Rattle.std.specs.Prelude.{is_some}
-use Rattle.std.specs.Option.{option_map}
+use Rattle.std.specs.Option.{option_map, option_map_or}
 use Rattle.std.proofs.Math.Seq.{take-length}
+use Rattle.std.proofs.lemmas.Bool.{false≢true}
 use Rattle.std.proofs.lemmas.Option.{same_Some}
+use Rattle.bf_locks.specs.Locks.{Locks}
 use Rattle.bf_tree.specs.declared.bound.Bound.{Bound}
 use Rattle.bf_tree.specs.declared.history.Entry.{Entry}
-use Rattle.bf_sql.specs.Bound.{bound_of}
+use Rattle.bf_tree.specs.declared.statement.Statement.{Statement}
+use Rattle.bf_sql.specs.migrations.Lazy.{LazyState, Migration}
+use Rattle.bf_sql.specs.migrations.Need.{needed_for}
+use Rattle.bf_sql.specs.migrations.Plans.{prepared_of}
 use Rattle.bf_sql.specs.Database.{Database}
 use Rattle.bf_sql.specs.Footprints.{footprint_of}
+use Rattle.bf_sql.specs.Groups.{ends_block}
 use Rattle.bf_sql.specs.History.{replayed}
+use Rattle.bf_sql.specs.Objections.{objections}
+use Rattle.bf_sql.specs.RowObjections.{row_objections}
+use Rattle.bf_live.specs.Live.{committed}
 use Rattle.bf_live.specs.OpenGroups.{Holds}
-use Rattle.bf_machine.specs.interleaving.Calls.{CanExec, HasReplied, IsToExec}
-use Rattle.bf_machine.specs.interleaving.Events.{Event, at_once, executes, one_more, refuses, stands_inside}
-use Rattle.bf_machine.specs.interleaving.Kept.{IsKept}
+use Rattle.bf_store.specs.States.{HaveMoved, need_of, to_move, with_moved}
+use Rattle.bf_machine.specs.Movement.{Moving, begun_unless, moving_behind, moving_seen, with_need}
+use Rattle.bf_machine.specs.interleaving.Calls.{CanExec, CanRefuse, HasReplied, IsToExec}
+use Rattle.bf_machine.specs.interleaving.Events.{Executes, Reaches, Refuses, at_once, moves, one_more, put_into, refuses, rest_of, stands_inside, stepped, text_of}
+use Rattle.bf_machine.specs.interleaving.Groups.{Pending, Rows, left_by, pending_behind}
+use Rattle.bf_machine.specs.interleaving.Kept.{IsKept, IsOpenGroup}
 use Rattle.bf_machine.specs.interleaving.Machines.{Machine, Open, open_at}
-use Rattle.bf_machine.specs.interleaving.Serving.{HasGoneOn, HasLocked, HasReply, IsBoundNext, Serves, unanswered}
-use Rattle.bf_machine.proofs.keeping.Numbers.{bound_number}
-use Rattle.bf_machine.proofs.served.Events.{serves_both, serves_locks}
-use Rattle.bf_machine.proofs.served.Goes.{closed_more, closed_reply, exec_goes_on, exec_reply, refuse_goes_on}
+use Rattle.bf_machine.specs.interleaving.Serving.{HasGoneOn, HasLocked, HasMore, HasMovedNeed, HasReply, HasSettled, IsBoundNext, IsPreparedNext, Serves, is_in_block, sees, unanswered}
+use Rattle.bf_machine.proofs.interleaving.Others.{has_place}
+use Rattle.bf_machine.proofs.interleaving.Places.{set_same}
+use Rattle.bf_machine.proofs.interleaving.Reaching.{reached_keeps_all}
+use Rattle.bf_machine.proofs.interleaving.Texts.{are_texts}
+use Rattle.bf_machine.proofs.keeping.Numbers.{prepared_number}
+use Rattle.bf_machine.proofs.served.Behind.{AreRows, are_rows, behind_reply, end_begins_none, end_needs_none, first_same, prepared_seen}
+use Rattle.bf_machine.proofs.served.Events.{serves_both}
+use Rattle.bf_machine.proofs.served.Goes.{closed_more, closed_reply, exec_goes_on, exec_reply, reaches_both, refuse_goes_on}
+use Rattle.bf_machine.proofs.served.Moved.{need_moved, none_needed}
+use Rattle.bf_machine.proofs.served.Needs.{HasCome, has_come, moved_reaches, need_granules}
+use Rattle.bf_machine.proofs.served.Nexts.{next_of, refused_ends}
 
-module _ (m : Machine) (s : ℕ) (o : Open) (bound : Bound) (next : IsBoundNext m s o bound) (now : Machine) (locked : HasLocked m s (footprint_of bound) now) where
+module _ (m : Machine) (s : ℕ) (o : Open) (bound : Bound) (next : IsBoundNext m s o bound) (locks : Locks) (held : Holds locks o.start (footprint_of bound)) where
   abbrev under : Machine
-  under = record m { locks = locked.2 }
-
-  held : Holds locked.2 o.start (footprint_of bound)
-  held = subst (λ (p : Open). Holds locked.2 p.start (footprint_of bound)) (same_Some locked.0 o (sym locked.1 ∙ next.to_lock.is)) locked.4
+  under = record m { locks = locks }
 
   -- it is bound in the catalog behind the whole history
   to_exec : (start : Database) → IsKept start m → IsToExec under s start bound
@@ -41,51 +58,205 @@ module _ (m : Machine) (s : ℕ) (o : Open) (bound : Bound) (next : IsBoundNext 
         left = next.to_lock.left;
         goes_on = next.goes_on;
         prefix = length m.history;
-        bound_so = subst (λ (db : Database). bound_of db (stands_inside o.replies) next.to_lock.statement ≡ Some bound) present next.bound_so;
+        bound_so = subst (λ (db : Database). prepared_of db (stands_inside o.replies) next.to_lock.statement ≡ Some bound) present next.bound_so;
         held = held;
       }
 
-  pub can_reply : (start : Database) → IsKept start m → CanExec now s start bound
-  can_reply start kept = subst (λ (k : Machine). CanExec k s start bound) (sym locked.3) (inl (to_exec start kept))
+  -- what it needs has moved
+  module _ (lazy : LazyState) (come : HasCome m bound lazy) where
+    abbrev moved : Machine
+    moved = record m { locks = locks; lazy = lazy }
 
-  -- and the catalog has not changed since
+    serves_moved : Serves m s moved
+    serves_moved = record { script = refl; beside = λ t apart. (refl, refl); deaths = λ n. refl; entries = ([], tt, sym (append-nil m.history)) }
+
+    -- and it has its reply: no other one, as it stands in the open group
+    module _ {start : Database} (kept : IsKept start moved) (then : Machine) (by : Executes moved s then) (same_bound : by.bound ≡ bound) where
+      same_open : by.o ≡ o
+      same_open = same_Some by.o o (sym by.is ∙ next.to_lock.is)
+
+      same_statement : by.statement ≡ next.to_lock.statement
+      same_statement = first_same by.statement next.to_lock.statement by.later next.to_lock.later (sym by.left ∙ (ap (λ (p : Open). rest_of m s p) same_open ∙ next.to_lock.left))
+
+      own : IsOpenGroup start moved s by.o
+      own = kept.open_groups_replay.each s by.o by.is
+
+      rows : AreRows by.o.replies by.o.pending
+      rows = are_rows locks by.o.start m.db (text_of moved s by.o) kept.history_legal.database ((are_texts m.script).shape s by.o.group own.whole) by.statement by.later by.goes_on by.bound by.held by.o.replies by.left by.o.pending own.run
+
+      abbrev inside : Bool
+      inside = stands_inside by.o.replies
+
+      came : with_need (moving_seen m.lazy.last) (committed m.db rows.writes) inside by.statement ≡ moving_seen lazy.last
+      came =
+          let seen = prepared_seen m.db rows.writes inside by.statement by.bound by.bound_so in
+          elim come as (λ _. with_need (moving_seen m.lazy.last) (committed m.db rows.writes) inside by.statement ≡ moving_seen lazy.last) [
+            | inl same ↦
+                let last : lazy.last ≡ m.lazy.last = ap (λ (l : LazyState). l.last) same in
+                none_needed (committed m.db rows.writes) inside by.statement by.bound seen m.lazy.last (subst (λ (last : Option Migration). HaveMoved last (λ last. needed_for last.old last.migrate by.bound.action)) last by.moved) ∙ ap moving_seen (sym last)
+            | inr more ↦
+                need_moved (committed m.db rows.writes) inside by.statement by.bound seen m.lazy
+                ∙ ap (λ (b : Bound). moving_seen (with_moved m.lazy (to_move m.lazy.last (need_of m.lazy.last b.action))).last) same_bound
+                ∙ ap (λ (l : LazyState). moving_seen l.last) (sym more)
+          ]
+
+      abbrev q : Open
+      q = stepped moved s by.o by.statement by.bound
+
+      open_then : open_at then s ≡ Some q
+      open_then =
+          let place = has_place moved s by.o by.is in
+          ap (λ (k : Machine). open_at k s) by.goes ∙ set_same None None m.opens s (Some q) place.0 place.1
+
+      -- of the last migration exactly what it needs has moved, once its group has ended where it is to
+      settled : moving_seen (put_into then.lazy q.pending).last ≡ moving_behind (moving_seen m.lazy.last) (sees m s) (is_in_block m s) next.to_lock.statement
+      settled =
+          let stored : then.lazy ≡ lazy = ap (λ (k : Machine). k.lazy) by.goes in
+          let left : q.pending ≡ pending_behind m.db (Rows rows.writes) inside by.statement by.bound.action = ap (λ (p : Pending). pending_behind m.db p inside by.statement by.bound.action) rows.is_rows in
+          let step = behind_reply m.db lazy kept.store_valid.seen_as.view rows.writes inside rows.first by.statement by.bound by.bound_so by.moved in
+          let whole : moving_seen (put_into lazy (pending_behind m.db (Rows rows.writes) inside by.statement by.bound.action)).last ≡ moving_behind (moving_seen m.lazy.last) (committed m.db rows.writes) inside by.statement =
+          step ∙ ap (λ (last : Option Moving). begun_unless (objections (committed m.db rows.writes) inside by.statement ++ row_objections (committed m.db rows.writes) by.statement) last (committed m.db rows.writes) by.statement) (sym came) in
+          let found : sees m s ≡ committed m.db rows.writes = ap (λ (f : Option Open). option_map_or (λ (p : Open). left_by m.db p.pending) f m.db) by.is ∙ ap (left_by m.db) rows.is_rows in
+          let block : is_in_block m s ≡ inside = ap (λ (f : Option Open). option_map_or (λ (p : Open). stands_inside p.replies) f false) by.is in
+          ap₂ (λ (l : LazyState) (p : Pending). moving_seen (put_into l p).last) stored left
+          ∙ whole
+          ∙ ap (λ (st : Statement). moving_behind (moving_seen m.lazy.last) (committed m.db rows.writes) inside st) same_statement
+          ∙ sym (ap₂ (λ (d : Database) (b : Bool). moving_behind (moving_seen m.lazy.last) d b next.to_lock.statement) found block)
+
+-- A REPLY behind locks and moves
+pub record HasStepped (start : Database) (m : Machine) (s : ℕ) (statement : Statement) (then : Machine) : Type 0 where
+  pub serves : Serves m s then
+  pub one_more : unanswered m s ≡ unanswered then s + 1
+  pub has_reply : HasReply then s
+  pub o : Open
+  pub is : open_at then s ≡ Some o
+  pub moved : moving_seen (put_into then.lazy o.pending).last ≡ moving_behind (moving_seen m.lazy.last) (sees m s) (is_in_block m s) statement
+
+module _ {start : Database} (m : Machine) (kept : IsKept start m) (s : ℕ) (o : Open) (bound : Bound) (next : IsBoundNext m s o bound) (now : Machine) (locked : HasLocked m s (footprint_of bound) now) where
+  own_locks : Holds locked.2 o.start (footprint_of bound)
+  own_locks = subst (λ (p : Open). Holds locked.2 p.start (footprint_of bound)) (same_Some locked.0 o (sym locked.1 ∙ next.to_lock.is)) locked.4
+
+  pub can_reply : CanExec now s start bound
+  can_reply = subst (λ (k : Machine). CanExec k s start bound) (sym locked.3) (inl (to_exec m s o bound next locked.2 own_locks start kept))
+
+  -- the catalog has not changed since
   pub is_present : bound.catalog ≡ now.db.number
-  is_present = bound_number m.db (stands_inside o.replies) next.to_lock.statement bound next.bound_so ∙ ap (λ (k : Machine). k.db.number) (sym locked.3)
+  is_present = prepared_number m.db (stands_inside o.replies) next.to_lock.statement bound next.bound_so ∙ ap (λ (k : Machine). k.db.number) (sym locked.3)
 
-  -- its group goes on
-  pub serves_now : Serves m s now
-  serves_now = subst (Serves m s) (sym locked.3) (serves_locks m s locked.2)
+  pub has_stepped : Reaches start m now → (moved : Machine) → HasMovedNeed now bound moved → (then : Machine) → HasReplied moved s bound then → HasStepped start m s next.to_lock.statement then
+  has_stepped reached moved need then by =
+      let under : Machine = record m { locks = locked.2 } in
+      let come = has_come under bound moved (subst (λ (k : Machine). HasMovedNeed k bound moved) locked.3 need) in
+      let whole : Machine = record m { locks = locked.2; lazy = come.0 } in
+      let kept_moved : IsKept start whole = subst (IsKept start) come.1 (reached_keeps_all start now moved (reached_keeps_all start m now kept reached) (moved_reaches start now bound moved need)) in
+      by_reply come.0 come.2 kept_moved (subst (λ (k : Machine). HasReplied k s bound then) come.1 by)
+    where
+      by_reply : (lazy : LazyState) → HasCome m bound lazy → IsKept start (record m { locks = locked.2; lazy = lazy }) → HasReplied (record m { locks = locked.2; lazy = lazy }) s bound then
+          → HasStepped start m s next.to_lock.statement then
+      by_reply lazy come kept_moved by = elim by as (λ _. HasStepped start m s next.to_lock.statement then) [
+        | inl executed ↦
+            let whole : Machine = record m { locks = locked.2; lazy = lazy } in
+            let goes = exec_goes_on whole kept_moved s then executed.0 in record {
+              serves = serves_both m s whole then (serves_moved m s o bound next locked.2 own_locks lazy come) goes.0;
+              one_more = goes.1;
+              has_reply = exec_reply whole s then executed.0;
+              o = q m s o bound next locked.2 own_locks lazy come kept_moved then executed.0 executed.1;
+              is = open_then m s o bound next locked.2 own_locks lazy come kept_moved then executed.0 executed.1;
+              moved = settled m s o bound next locked.2 own_locks lazy come kept_moved then executed.0 executed.1;
+            }
+        | inr refused ↦
+            let clash : None ≡ Some o = sym refused.closed ∙ next.to_lock.is in
+            absurd cc
+      ]
 
-  same_unanswered : unanswered now s ≡ unanswered m s
-  same_unanswered = ap (λ (k : Machine). unanswered k s) locked.3
-
-  -- the reply is not a refusal outside a group
-  is_open_now : open_at now s ≡ Some o
-  is_open_now = ap (λ (k : Machine). open_at k s) locked.3 ∙ next.to_lock.is
-
-  pub has_replied : {start : Database} (kept : IsKept start now) (then : Machine) → HasReplied now s bound then
-      → Event start now then × Serves m s then × (unanswered m s ≡ unanswered then s + 1) × HasReply then s
-  has_replied {start = start} kept then by = elim by as (λ _. Event start now then × Serves m s then × (unanswered m s ≡ unanswered then s + 1) × HasReply then s) [
-    | inl executed ↦
-        let goes = exec_goes_on now kept s then executed.0 in
-        (executes s executed.0, serves_both m s now then serves_now goes.0, omega (arith, goes.1, same_unanswered), exec_reply now s then executed.0)
-    | inr refused ↦
-        let clash : None ≡ Some o = sym refused.closed ∙ is_open_now in
-        absurd cc
-  ]
+-- and its group ends where that was the last: the turn is served
+pub goes_on_to : {start : Database} (m : Machine) → IsKept start m → (s : ℕ) (o : Open) (bound : Bound) (next : IsBoundNext m s o bound) (then : Machine) → Reaches start m then → HasStepped start m s next.to_lock.statement then
+    → (last : Machine) → Serves then s last → Reaches start then last → HasMore last s → HasReply last s → unanswered last s ≡ unanswered then s → HasSettled then s last → HasGoneOn m s start last
+goes_on_to {start = start} m kept s o bound next then reached step last serves on more has_reply same settled = record {
+  serves = serves_both m s then last step.serves serves;
+  reached = reaches_both start m then last reached on;
+  more = more;
+  has_reply = has_reply;
+  goes = inl (record {
+    one_more = omega (arith, step.one_more, same);
+    statement = next.to_lock.statement;
+    is = next_of m kept s o next.to_lock.is next.to_lock.statement next.to_lock.later next.to_lock.left;
+    moved = settled step.o step.is ∙ step.moved;
+  });
+}
 
 -- a reply in no group is a refusal
-pub refused_now : {start : Database} (m : Machine) (s : ℕ) → IsKept start m → open_at m s ≡ None → (bound : Bound) (then : Machine) → HasReplied m s bound then → HasGoneOn m s start then
-refused_now {start = start} m s kept closed bound then by = elim by as (λ _. HasGoneOn m s start then) [
-  | inl executed ↦
-      let clash : None ≡ Some executed.0.o = sym closed ∙ executed.0.is in
-      absurd cc
-  | inr refused ↦
-      let goes = refuse_goes_on m kept s then refused in
-      let none : open_at then s ≡ None = ap (λ (k : Machine). open_at k s) refused.goes ∙ refused.closed in
-      record { serves = goes.0; reached = one_more at_once (refuses s refused); more = closed_more then s none; has_reply = closed_reply then s none; goes = inl goes.1 }
-]
+module _ {start : Database} (m : Machine) (s : ℕ) (kept : IsKept start m) (closed : open_at m s ≡ None) (bound : Bound) (next : IsPreparedNext m s bound) (now : Machine) (need : HasMovedNeed m bound now) where
+  same_sees : sees m s ≡ m.db
+  same_sees = ap (λ (f : Option Open). option_map_or (λ (p : Open). left_by m.db p.pending) f m.db) closed
+
+  module _ (lazy : LazyState) (come : HasCome m bound lazy) (kept_now : IsKept start (record m { lazy = lazy })) (then : Machine) (by : Refuses (record m { lazy = lazy }) s then) where
+    ends : ends_block next.statement ≡ true
+    ends = refused_ends (record m { lazy = lazy }) kept_now s then by next.statement next.is
+
+    -- and needs nothing
+    told : moving_seen then.lazy.last ≡ moving_behind (moving_seen m.lazy.last) (sees m s) (is_in_block m s) next.statement
+    told =
+        let stored : then.lazy ≡ lazy = ap (λ (k : Machine). k.lazy) by.goes in
+        let came : with_need (moving_seen m.lazy.last) m.db (is_in_block m s) next.statement ≡ moving_seen lazy.last = elim come as (λ _. with_need (moving_seen m.lazy.last) m.db (is_in_block m s) next.statement ≡ moving_seen lazy.last) [
+          | inl same ↦ end_needs_none m.lazy.last m.db (is_in_block m s) next.statement ends ∙ ap (λ (l : LazyState). moving_seen l.last) (sym same)
+          | inr more ↦ need_moved m.db (is_in_block m s) next.statement bound next.prepared_so m.lazy ∙ ap (λ (l : LazyState). moving_seen l.last) (sym more)
+        ] in
+        ap (λ (l : LazyState). moving_seen l.last) stored
+        ∙ (sym came
+        ∙ (sym (end_begins_none (with_need (moving_seen m.lazy.last) m.db (is_in_block m s) next.statement) m.db (is_in_block m s) next.statement ends)
+        ∙ ap (λ (d : Database). moving_behind (moving_seen m.lazy.last) d (is_in_block m s) next.statement) (sym same_sees)))
+
+    refused_goes_on : HasGoneOn m s start then
+    refused_goes_on =
+        let whole : Machine = record m { lazy = lazy } in
+        let goes = refuse_goes_on whole kept_now s then by in
+        let none : open_at then s ≡ None = ap (λ (k : Machine). open_at k s) by.goes ∙ by.closed in
+        let here : Serves m s whole = record { script = refl; beside = λ t apart. (refl, refl); deaths = λ n. refl; entries = ([], tt, sym (append-nil m.history)) } in
+        let before : Reaches start m whole = elim come as (λ _. Reaches start m (record m { lazy = lazy })) [
+          | inl same ↦ subst (λ (l : LazyState). Reaches start m (record m { lazy = l })) (sym same) at_once
+          | inr more ↦ one_more at_once (moves (to_move m.lazy.last (need_of m.lazy.last bound.action)) (record {
+            granules_of_it = need_granules m.lazy bound.action kept.store_valid.seen_as.lazy_state;
+            goes = ap (λ (l : LazyState). record m { lazy = l }) more;
+          }))
+        ] in record {
+          serves = serves_both m s whole then here goes.0;
+          reached = one_more before (refuses s by);
+          more = closed_more then s none;
+          has_reply = closed_reply then s none;
+          goes = inl (record { one_more = goes.1; statement = next.statement; is = next.is; moved = told });
+        }
+
+  pub refused_now : (then : Machine) → HasReplied now s bound then → HasGoneOn m s start then
+  refused_now then by =
+      let come = has_come m bound now need in
+      let kept_now : IsKept start (record m { lazy = come.0 }) = subst (IsKept start) come.1 (reached_keeps_all start m now kept (moved_reaches start m bound now need)) in
+      by_reply come.0 come.2 kept_now (subst (λ (k : Machine). HasReplied k s bound then) come.1 by)
+    where
+      by_reply : (lazy : LazyState) → HasCome m bound lazy → IsKept start (record m { lazy = lazy }) → HasReplied (record m { lazy = lazy }) s bound then → HasGoneOn m s start then
+      by_reply lazy come kept_now by = elim by as (λ _. HasGoneOn m s start then) [
+        | inl executed ↦
+            let clash : None ≡ Some executed.0.o = sym closed ∙ executed.0.is in
+            absurd cc
+        | inr refused ↦ refused_goes_on lazy come kept_now then refused
+      ]
 
 pub none_started : (o : Option Open) → is_some (option_map (λ (o : Open). o.start) o) ≡ false → o ≡ None
 none_started None none = refl
 none_started (Some o) none = absurd cc
+
+some_started : (o : Option Open) → is_some (option_map (λ (o : Open). o.start) o) ≡ true → o ≡ None → ⊥
+some_started o some none = false≢true (sym (ap (λ (f : Option Open). is_some (option_map (λ (o : Open). o.start) f)) none) ∙ some)
+
+-- in a group that is open the next statement is its own, and else it may be refused
+module _ (m : Machine) (s : ℕ) (bound : Bound) where
+  pub in_group : is_some (option_map (λ (o : Open). o.start) (open_at m s)) ≡ true → ((o : Open) × IsBoundNext m s o bound) ⊎ CanRefuse m s → (o : Open) × IsBoundNext m s o bound
+  in_group some next = elim next as (λ _. (o : Open) × IsBoundNext m s o bound) [ inl its ↦ its | inr refused ↦ absurd (some_started (open_at m s) some refused.1.closed) ]
+
+  pub can_refuse : (start : Database) → open_at m s ≡ None → ((o : Open) × IsBoundNext m s o bound) ⊎ CanRefuse m s → CanExec m s start bound
+  can_refuse start closed next = elim next as (λ _. CanExec m s start bound) [
+    | inl its ↦
+        let clash : None ≡ Some its.0 = sym closed ∙ its.1.to_lock.is in
+        absurd cc
+    | inr refused ↦ inr refused
+  ]

@@ -1,12 +1,16 @@
 -- THE CONDITIONS of the machine's calls on a session, counted from 1, and where it stands by them.
-use Rattle.std.specs.Prelude.{◌≡◌, ◌⊎◌, ℕ, ◌+◌, ◌-◌, ◌≤◌, ◌==◌, false, List, [], ◌∷◌, ◌++◌, length, take, Option, Some, None, Contains, IsSomeAnd, nat_lt, slice_get, if◌then◌else◌}
+use Rattle.std.specs.Prelude.{◌≡◌, ◌≢◌, ◌⊎◌, ℕ, ◌+◌, ◌-◌, ◌≤◌, ◌==◌, false, List, [], ◌∷◌, ◌++◌, length, take, Option, Some, None, option_map, Contains, IsSomeAnd, nat_lt, slice_get, if◌then◌else◌}
 use Rattle.bf_locks.specs.declared.mode.Mode.{Mode}
 use Rattle.bf_locks.specs.declared.name.LockName.{LockName}
 use Rattle.bf_tree.specs.declared.bound.Bound.{Bound}
 use Rattle.bf_tree.specs.declared.reply.Reply.{Reply}
 use Rattle.bf_tree.specs.declared.script.Script.{Script}
 use Rattle.bf_tree.specs.declared.statement.Statement.{Statement}
-use Rattle.bf_sql.specs.Bound.{bound_of}
+use Rattle.bf_base.specs.declared.granule.Granule.{Granule}
+use Rattle.boxcar.specs.Table.{Where}
+use Rattle.bf_image.specs.declared.migration.Migration.{Migration}
+use Rattle.bf_sql.specs.migrations.Plans.{prepared_of}
+use Rattle.bf_store.specs.States.{to_move}
 use Rattle.bf_sql.specs.Database.{Database}
 use Rattle.bf_sql.specs.Footprints.{footprint_of}
 use Rattle.bf_sql.specs.Groups.{ends_block, groups_in, session_at}
@@ -15,8 +19,8 @@ use Rattle.bf_live.specs.OpenGroups.{Holds, HoldsIn}
 use Rattle.bf_machine.specs.declared.stand.Stand.{Stand}
 use Rattle.bf_machine.specs.declared.stand.Stand.TheVariants as stand
 use Rattle.bf_machine.specs.declared.stand.Step.{Step}
-use Rattle.bf_machine.specs.declared.stand.Step.TheVariants.{Replied, Stale}
-use Rattle.bf_machine.specs.interleaving.Events.{Aborts, Begins, Commits, Executes, Refuses, rest_of, stands_inside}
+use Rattle.bf_machine.specs.declared.stand.Step.TheVariants.{Need, Replied, Stale}
+use Rattle.bf_machine.specs.interleaving.Events.{Aborts, Begins, Executes, IsToCommit, Refuses, rest_of, stands_inside}
 use Rattle.bf_machine.specs.interleaving.Groups.{footprint_in}
 use Rattle.bf_machine.specs.interleaving.Kept.{HasEnded, HasStart, IsCurrent}
 use Rattle.bf_machine.specs.interleaving.Machines.{Group, Machine, Open, open_at, told_at, with_replies}
@@ -24,9 +28,24 @@ use Rattle.bf_machine.specs.interleaving.Machines.{Group, Machine, Open, open_at
 abbrev pub IsPlace : Script → ℕ → Type 0
 IsPlace script s = (1 ≤ s) × (s ≤ length script.sessions)
 
--- EXEC: how it goes, by the number of the catalog in which a statement is bound, and of the present one
-abbrev pub step_of : Machine → Bound → Step
-step_of m bound = if bound.catalog == m.db.number then Replied else Stale m.db.number
+-- CURRENT: a statement is bound in the present catalog, and its cover is of the present migration, by the slot of its pass
+abbrev pub slot_of : Option (Where Migration) → Option ℕ
+slot_of pass = option_map (λ (p : Where Migration). p.index) pass
+
+pub record IsPresent (m : Machine) (pass : Option (Where Migration)) (bound : Bound) : Type 0 where
+  pub catalog : bound.catalog ≡ m.db.number
+  pub migration : slot_of pass ≡ slot_of m.pass
+
+-- EXEC: how it goes, by whether that is so, and by what is left to move of the cover
+abbrev pub step_of : Machine → List Granule → Step → Type 0
+step_of m cover (Stale n) = n ≡ m.db.number
+step_of m cover (Need granules) = (granules.items ≡ to_move m.lazy.last cover) × (to_move m.lazy.last cover ≢ [])
+step_of m cover Replied = to_move m.lazy.last cover ≡ []
+
+abbrev pub IsStep : Machine → Option (Where Migration) → Bound → List Granule → Step → Type 0
+IsStep m pass bound cover step =
+    (IsPresent m pass bound × step_of m cover step × ((n : ℕ) → step ≢ Stale n))
+    ⊎ ((IsPresent m pass bound → ⊥) × (step ≡ Stale m.db.number))
 
 module _ (m : Machine) (s : ℕ) where
   -- the replies as they stand, those of an open group included
@@ -51,12 +70,12 @@ module _ (m : Machine) (s : ℕ) where
   abbrev pub IsCovered : LockName → Mode → Type 0
   IsCovered name mode = IsSomeAnd (open_at m s) (λ o. HoldsIn m.locks o.start name mode)
 
-  -- a call may be made where its event can come
+  -- a call may be made where its event can come; which pass a flip comes with is not known before
   abbrev pub CanBegin : Type 0
   CanBegin = (next : Machine) × Begins m s next
 
   abbrev pub CanCommit : Type 0
-  CanCommit = (next : Machine) × Commits m s next
+  CanCommit = IsToCommit m s
 
   abbrev pub CanAbort : Type 0
   CanAbort = (next : Machine) × Aborts m s next
@@ -74,7 +93,7 @@ module _ (m : Machine) (s : ℕ) where
     pub left : rest_of m s o ≡ statement ∷ later
     pub goes_on : ends_block statement ≡ false
     pub prefix : ℕ
-    pub bound_so : bound_of (replayed m.script start (take prefix m.history)).1 (stands_inside o.replies) statement ≡ Some bound
+    pub bound_so : prepared_of (replayed m.script start (take prefix m.history)).1 (stands_inside o.replies) statement ≡ Some bound
     pub held : Holds m.locks o.start (footprint_of bound)
 
   -- EXEC can come there, or at a COMMIT or ROLLBACK in no group

@@ -1,6 +1,7 @@
 -- EVENTS on the seen state: what a call makes of a machine.
 use Rattle.std.specs.Prelude.{◌≡◌, ◌⊎◌, ℕ, ◌+◌, ◌-◌, ◌≤◌, Bool, true, false, List, [], ◌∷◌, ◌++◌, length, map, take, drop, Option, Some, None, nat_lt, if◌then◌else◌, IsTrue, Contains, slice_set, slice_index_or}
 use Rattle.std.specs.Option.{option_map_or}
+use Rattle.bf_base.specs.declared.granule.Granule.{Granule}
 use Rattle.bf_locks.specs.declared.answer.LockAnswer.{LockAnswer}
 use Rattle.bf_locks.specs.declared.answer.LockAnswer.TheVariants.{Die}
 use Rattle.bf_locks.specs.declared.mode.Mode.{Mode}
@@ -10,19 +11,25 @@ use Rattle.bf_tree.specs.declared.bound.Bound.{Bound}
 use Rattle.bf_tree.specs.declared.history.Entry.{Entry}
 use Rattle.bf_tree.specs.declared.history.Outcome.{Outcome}
 use Rattle.bf_tree.specs.declared.history.Outcome.TheVariants.{Committed, RolledBack}
+use Rattle.bf_tree.specs.declared.plan.Plan.{Plan}
 use Rattle.bf_tree.specs.declared.reply.Cause.TheVariants.{Died}
 use Rattle.bf_tree.specs.declared.reply.Refusal.TheVariants.{NoTransaction}
 use Rattle.bf_tree.specs.declared.reply.Reply.{Reply}
 use Rattle.bf_tree.specs.declared.reply.Reply.TheVariants as reply
 use Rattle.bf_tree.specs.declared.statement.Statement.{Statement}
 use Rattle.bf_tree.specs.declared.statement.Statement.TheVariants.{Commit, Rollback}
-use Rattle.bf_sql.specs.Bound.{bound_of}
 use Rattle.bf_sql.specs.Database.{Database}
 use Rattle.bf_sql.specs.Footprints.{footprint_of}
 use Rattle.bf_sql.specs.Groups.{groups_in, statements_in, ends_block, commits, is_stray}
 use Rattle.bf_sql.specs.History.{commits_with, replayed}
 use Rattle.bf_live.specs.OpenGroups.{Holds}
-use Rattle.bf_machine.specs.interleaving.Groups.{Rows, footprint_in, left_by, pending_behind, reply_on}
+use Rattle.bf_sql.specs.migrations.Lazy.{LazyState}
+use Rattle.bf_sql.specs.migrations.Need.{needed_for}
+use Rattle.bf_sql.specs.migrations.Plans.{prepared_of}
+use Rattle.bf_store.specs.Calls.{with_commit}
+use Rattle.bf_store.specs.Stores.{IsByPass}
+use Rattle.bf_store.specs.States.{AreGranulesIfAny, HaveMoved, frozen_lazily, with_moved}
+use Rattle.bf_machine.specs.interleaving.Groups.{Pending, Rows, NewTable, NewIndex, Flip, Nothing, footprint_in, left_by, pending_behind, reply_on}
 use Rattle.bf_machine.specs.interleaving.Machines.{Group, Began, Open, Machine, open_at, told_at, began_at}
 use Rattle.bf_machine.specs.interleaving.Kept.{HasStart, HasEnded, IsCurrent}
 
@@ -42,6 +49,15 @@ rest_of m s o = drop (length o.replies) (text_of m s o)
 abbrev pub stands_inside : List Reply → Bool
 stands_inside [] = false
 stands_inside (r ∷ rs) = true
+
+-- what a group leaves, put into a lazy state, as one change of it where the group leaves something
+abbrev pub put_into : LazyState → Pending → LazyState
+put_into lazy (Rows []) = lazy
+put_into lazy (Rows (w ∷ ws)) = with_commit lazy (w ∷ ws)
+put_into lazy (NewTable table) = record lazy { live = left_by lazy.live (NewTable table); records = lazy.records + 1 }
+put_into lazy (NewIndex index) = record lazy { live = left_by lazy.live (NewIndex index); records = lazy.records + 1 }
+put_into lazy (Flip plan) = frozen_lazily lazy plan.migrate
+put_into lazy Nothing = lazy
 
 module _ (m : Machine) (s : ℕ) where
   abbrev pub with_open : Option Open → Machine
@@ -105,7 +121,7 @@ module _ (m : Machine) (s : ℕ) where
     pub judged : IsJudged m.locks o.start name mode answer
     pub goes : next ≡ asked o name mode answer
 
-  -- EXEC of an open group's next statement, as it is bound, whose footprint is held
+  -- EXEC of an open group's next statement, as it is bound, whose footprint is held and whose need has moved
   abbrev pub stepped : Open → Statement → Bound → Open
   stepped o statement bound =
       let inside = stands_inside o.replies in
@@ -120,8 +136,9 @@ module _ (m : Machine) (s : ℕ) where
     pub left : rest_of m s o ≡ statement ∷ later
     pub goes_on : ends_block statement ≡ false
     pub bound : Bound
-    pub bound_so : bound_of m.db (stands_inside o.replies) statement ≡ Some bound
+    pub bound_so : prepared_of m.db (stands_inside o.replies) statement ≡ Some bound
     pub held : Holds m.locks o.start (footprint_of bound)
+    pub moved : HaveMoved m.lazy.last (λ last. needed_for last.old last.migrate bound.action)
     pub goes : next ≡ with_open (Some (stepped o statement bound))
 
   -- EXEC of a COMMIT or ROLLBACK in no group
@@ -139,15 +156,21 @@ module _ (m : Machine) (s : ℕ) where
   abbrev pub committed : Open → Machine
   committed o =
       let n = commits_behind 0 m.history + 1 in
-      record (ended o (o.replies ++ map (λ _. reply.Committed n) (rest_of m s o))) { db = left_by m.db o.pending; history = m.history ++ entry_of o (Committed n) ∷ [] }
+      record (ended o (o.replies ++ map (λ _. reply.Committed n) (rest_of m s o))) { db = left_by m.db o.pending; lazy = put_into m.lazy o.pending; history = m.history ++ entry_of o (Committed n) ∷ [] }
 
-  pub record Commits (next : Machine) : Type 0 where
+  pub record IsToCommit : Type 0 where
     pub current : IsCurrent m s
     pub o : Open
     pub is : open_at m s ≡ Some o
     pub commits_so : commits (text_of m s o) ≡ true
     pub left : (rest_of m s o ≡ []) ⊎ (rest_of m s o ≡ Commit ∷ [])
-    pub goes : next ≡ committed o
+
+  pub record Commits (next : Machine) : Type 0 where
+    pub can : IsToCommit
+    -- a flip comes with a pass of its own, and nothing else changes it
+    pub by_pass : IsByPass next.lazy.last next.pass
+    pub same_pass : ((plan : Plan) → can.o.pending ≡ Flip plan → ⊥) → next.pass ≡ m.pass
+    pub goes : next ≡ record (committed can.o) { pass = next.pass }
 
   -- ABORT: what is left is the block's ROLLBACK, or nothing at the session's end
   abbrev pub rolled_back : Open → Machine
@@ -162,6 +185,11 @@ module _ (m : Machine) (s : ℕ) where
     pub left : (rest_of m s o ≡ []) ⊎ (rest_of m s o ≡ Rollback ∷ [])
     pub goes : next ≡ rolled_back o
 
+-- MOVE of granules of the last migration, which differ; no session goes on, and the database stays
+pub record Moves (m : Machine) (granules : List Granule) (next : Machine) : Type 0 where
+  pub granules_of_it : AreGranulesIfAny m.lazy.last granules
+  pub goes : next ≡ record m { lazy = with_moved m.lazy granules }
+
 -- an event of the machine. A session's end changes nothing that is seen
 pub data Event (start : Database) (m next : Machine) : Type 0 where
   begins : (s : ℕ) → Begins m s next → Event start m next
@@ -170,6 +198,7 @@ pub data Event (start : Database) (m next : Machine) : Type 0 where
   refuses : (s : ℕ) → Refuses m s next → Event start m next
   commits_now : (s : ℕ) → Commits m s next → Event start m next
   aborts : (s : ℕ) → Aborts m s next → Event start m next
+  moves : (granules : List Granule) → Moves m granules next → Event start m next
   finishes : (s : ℕ) → next ≡ m → Event start m next
 
 -- REACH: events one after the other, in whatever order

@@ -1,5 +1,5 @@
 -- WHAT EVERY EVENT KEEPS of a machine whose sessions take turns.
-use Rattle.std.specs.Prelude.{◌≡◌, ◌≢◌, ◌⊎◌, ℕ, ◌+◌, ◌<◌, ◌≤◌, Bool, true, false, List, [], ◌∷◌, ◌++◌, length, map, take, Option, Some, None, Contains, slice_index_or}
+use Rattle.std.specs.Prelude.{◌≡◌, ◌≢◌, ◌⊎◌, ℕ, ◌+◌, ◌<◌, ◌≤◌, Bool, true, false, List, [], ◌∷◌, ◌++◌, length, map, take, Option, Some, None, Contains, slice_index_or, IsTrue}
 use Rattle.std.specs.FinMap as fin
 use Rattle.std.specs.List.{AllByRecursion}
 use Rattle.bf_locks.specs.declared.mode.Mode.{Mode}
@@ -10,15 +10,23 @@ use Rattle.bf_tree.specs.declared.history.Entry.{Entry}
 use Rattle.bf_tree.specs.declared.history.Outcome.{Outcome}
 use Rattle.bf_tree.specs.declared.reply.Cause.{Cause}
 use Rattle.bf_tree.specs.declared.reply.Cause.TheVariants.{Died}
+use Rattle.bf_tree.specs.Limits.{HasNarrowTables, IsNarrowIfMigrate, IsNarrowMigrate, is_narrow_script}
+use Rattle.bf_tree.specs.declared.plan.Plan.{Plan}
 use Rattle.bf_tree.specs.declared.reply.Reply.{Reply}
 use Rattle.bf_tree.specs.declared.script.Script.{Script}
 use Rattle.bf_tree.specs.declared.script.Session.{Session}
 use Rattle.bf_tree.specs.declared.statement.Statement.{Statement}
+use Rattle.bf_sql.specs.Bound.{catalog_of}
 use Rattle.bf_sql.specs.Database.{Database, IsDatabase}
 use Rattle.bf_sql.specs.Groups.{session_at, groups_in, statements_in}
 use Rattle.bf_sql.specs.History.{IsEndedBy, IsLegalHistory, replayed}
+use Rattle.bf_sql.specs.migrations.Lazy.{LazyState, view_of}
+use Rattle.bf_sql.specs.migrations.Plans.{plan_made}
+use Rattle.bf_store.specs.Calls.{MayFlip}
+use Rattle.bf_store.specs.States.{IsLazy, IsOpenLazily, IsSeenAs}
+use Rattle.bf_store.specs.Stores.{IsByPass, Store}
 use Rattle.bf_machine.specs.InOrder.{none_open}
-use Rattle.bf_machine.specs.interleaving.Groups.{footprint_in, HasRun}
+use Rattle.bf_machine.specs.interleaving.Groups.{Pending, Rows, Flip, footprint_in, HasRun}
 use Rattle.bf_machine.specs.interleaving.Machines.{Group, Began, Open, Machine, open_at, told_at, began_at, answered_in, has_open, transcripts_of}
 
 -- something holds of one of a group's statements, given whether it stands in the group's block
@@ -70,6 +78,11 @@ IsToldACause m s group = (cause : Cause) × IsEndedBy m.script m.told s group ca
 abbrev pub IsCurrent : Machine → ℕ → Type 0
 IsCurrent m s = (t : ℕ) → phase_of m.script t < phase_of m.script s → (length (session_at m.script t).statements ≤ length (told_at m t)) × (open_at m t ≡ None)
 
+-- a script within the limits of the language, each MIGRATE too
+pub record IsWithinLimits (script : Script) : Type 0 where
+  pub narrow : IsTrue (is_narrow_script script)
+  pub migrates : AllByRecursion (λ (s : Session). AllByRecursion IsNarrowIfMigrate s.statements) script.sessions
+
 -- each session of the script has a place for its open group and for its replies
 pub record IsShaped (m : Machine) : Type 0 where
   pub opens : length m.opens ≡ length m.script.sessions
@@ -92,6 +105,18 @@ module _ (start : Database) (script : Script) (began : List Began) (history : Li
   abbrev pub IsAllowed : ℕ → ℕ → Group → Cause → Type 0
   IsAllowed retries s group (Died h) = (died : DiedFor s group h) × (before : List ℕ) × (died.has.deaths ≡ before ++ h ∷ []) × (length before ≡ retries)
   IsAllowed retries s group other = ⊥
+
+-- what can be put into a lazy state: the writes of an open transaction, and a flip, as it is planned in its catalog, of which
+-- nothing is against it
+pub record IsReadyToFlip (lazy : LazyState) (plan : Plan) : Type 0 where
+  pub may : MayFlip lazy plan.migrate
+  pub planned : plan ≡ plan_made lazy.live plan.migrate
+  pub narrow : IsNarrowMigrate plan.migrate
+
+abbrev pub CanBePutInto : LazyState → Pending → Type 0
+CanBePutInto lazy (Rows writes) = IsOpenLazily lazy writes
+CanBePutInto lazy (Flip plan) = IsReadyToFlip lazy plan
+CanBePutInto lazy other = Unit {0}
 
 module _ (start : Database) (m : Machine) where
   abbrev pub AllowedNow : ℕ → Group → Cause → Type 0
@@ -163,9 +188,18 @@ module _ (start : Database) (m : Machine) where
   pub record CausesAllowed : Type 0 where
     pub deaths : (n : ℕ) (b : Began) → began_at m.began n ≡ Some b → DeathsAllowed n b
 
+  -- STORE VALID: the database is what is seen of a lazy state, and what each open group is to leave can be put into that
+  pub record StoreValid : Type 0 where
+    pub seen_as : IsSeenAs m.db m.lazy
+    pub narrow : HasNarrowTables (catalog_of m.lazy.live)
+    pub by_pass : IsByPass m.lazy.last m.pass
+    pub puts : (s : ℕ) (o : Open) → open_at m s ≡ Some o → CanBePutInto m.lazy o.pending
+
   -- ALL OF THEM
   pub record IsKept : Type 0 where
+    pub within : IsWithinLimits m.script
     pub shaped : IsShaped m
+    pub store_valid : StoreValid
     pub history_legal : HistoryLegal
     pub open_groups_replay : OpenGroupsReplay
     pub locks_consistent : LocksConsistent
@@ -177,12 +211,20 @@ no_group s = None
 abbrev pub no_replies : Session → List Reply
 no_replies s = []
 
+-- what is true of the store that a machine begins with
+pub record IsOpening (store : Store) : Type 0 where
+  pub lazy_state : IsLazy store.lazy
+  pub narrow : HasNarrowTables (catalog_of store.lazy.live)
+  pub by_pass : IsByPass store.lazy.last store.migration
+
 -- NEW: nothing has begun
-abbrev pub fresh : Database → Script → ℕ → Machine
-fresh start script retries = record {
+abbrev pub fresh : Store → Script → ℕ → Machine
+fresh store script retries = record {
   script = script;
   retries = retries;
-  db = start;
+  db = view_of store.lazy;
+  lazy = store.lazy;
+  pass = store.migration;
   locks = fin.empty;
   began = [];
   opens = map no_group script.sessions;

@@ -1,11 +1,14 @@
 -- THE SEEN STATE of a machine whose sessions take turns, over one database.
 use Rattle.std.specs.Prelude.{ℕ, ◌&&◌, ◌==◌, Bool, false, List, [], ◌∷◌, ◌++◌, map, zip, Option, Some, None, slice_index_or}
+use Rattle.boxcar.specs.Table.{Where}
 use Rattle.bf_locks.specs.Locks.{Locks}
 use Rattle.bf_tree.specs.declared.history.Entry.{Entry}
 use Rattle.bf_tree.specs.declared.reply.Reply.{Reply}
 use Rattle.bf_tree.specs.declared.script.Script.{Script}
 use Rattle.bf_sql.specs.Database.{Database}
 use Rattle.bf_sql.specs.Groups.{statements_in}
+use Rattle.bf_sql.specs.migrations.Lazy.{LazyState}
+use Rattle.bf_image.specs.declared.migration.Migration.{Migration}
 use Rattle.bf_live.specs.OpenGroups.{Answered}
 use Rattle.bf_machine.specs.interleaving.Groups.{Pending, answered_by}
 
@@ -26,12 +29,15 @@ pub record Open : Type 0 where
   pub replies : List Reply
   pub pending : Pending
 
--- `began` has the groups in the order of their start numbers, from 1 on. `opens` and `told` have one item a session: its
--- open group, and the replies to its statements before that group
+-- `db` is what is seen of `lazy`, into which the rows of a migration move late, and `pass` reads that migration. `began` has the
+-- groups in the order of their start numbers, from 1 on. `opens` and `told` have one item a session: its open group, and the
+-- replies to its statements before that group
 pub record Machine : Type 0 where
   pub script : Script
   pub retries : ℕ
   pub db : Database
+  pub lazy : LazyState
+  pub pass : Option (Where Migration)
   pub locks : Locks
   pub began : List Began
   pub opens : List (Option Open)

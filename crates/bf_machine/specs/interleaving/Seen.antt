@@ -11,6 +11,9 @@ use Rattle.bf_tree.specs.declared.statement.Statement.{Statement}
 use Rattle.bf_tree.specs.declared.statement.Statement.TheVariants.{Begin}
 use Rattle.bf_sql.specs.Bound.{catalog_of}
 use Rattle.bf_sql.specs.Database.{Database}
+use Rattle.bf_sql.specs.migrations.Lazy.{view_of}
+use Rattle.bf_image.specs.Registries.{Registry}
+use Rattle.bf_store.specs.Stores.{IsOf, Store}
 use Rattle.bf_sql.specs.Groups.{ends_block, no_session, session_at}
 use Rattle.bf_machine.specs.declared.so_far.Began.{Began as BeganGroup}
 use Rattle.bf_machine.specs.declared.so_far.OpenGroup.{OpenGroup}
@@ -18,7 +21,7 @@ use Rattle.bf_machine.specs.declared.so_far.Pending.{Pending as PendingChange}
 use Rattle.bf_machine.specs.declared.so_far.Pending.TheVariants as change
 use Rattle.bf_machine.specs.declared.so_far.SessionSoFar.{SessionSoFar}
 use Rattle.bf_machine.specs.interleaving.Events.{commits_behind}
-use Rattle.bf_machine.specs.interleaving.Groups.{Pending, Rows, NewTable, NewIndex}
+use Rattle.bf_machine.specs.interleaving.Groups.{Pending, Rows, NewTable, NewIndex, Flip, Nothing}
 use Rattle.bf_machine.specs.interleaving.Kept.{HasStart, IsKept}
 use Rattle.bf_machine.specs.interleaving.Machines.{Group, Began, Open, Machine}
 
@@ -26,6 +29,8 @@ abbrev pub pending_seen : PendingChange → Pending
 pending_seen (change.Rows writes) = Rows writes
 pending_seen (change.NewTable table) = NewTable table
 pending_seen (change.NewIndex index) = NewIndex index
+pending_seen (change.Flip plan) = Flip plan
+pending_seen change.Nothing = Nothing
 
 abbrev pub began_seen : BeganGroup → Began
 began_seen b = record { session = b.session; group = (b.first, b.last); deaths = b.deaths.items }
@@ -44,11 +49,13 @@ told_before replies (Some o) = take (o.first - 1) replies
 abbrev pub told_seen : SessionSoFar → List Reply
 told_seen so_far = told_before so_far.replies.items so_far.open
 
-abbrev pub seen : Script → ℕ → Database → Locks → List BeganGroup → List SessionSoFar → List Entry → Machine
-seen script retries db locks began sessions history = record {
+abbrev pub seen : Script → ℕ → Store → Locks → List BeganGroup → List SessionSoFar → List Entry → Machine
+seen script retries store locks began sessions history = record {
   script = script;
   retries = retries;
-  db = db;
+  db = view_of store.lazy;
+  lazy = store.lazy;
+  pass = store.migration;
   locks = locks;
   began = map began_seen began;
   opens = map open_seen sessions;
@@ -85,12 +92,14 @@ pub record IsRoomy (script : Script) (began : List Began) (s : ℕ) (so_far : Se
   pub numbers : length (session_at script s).statements < 2 ^ 32
   pub latest : IsLatest began s so_far.latest
 
--- SOUND: the script is the one that the run began with, and the tables that it began with are narrow; what is seen is kept,
--- from the opening database on; the commits are counted; and there is room for each reply, and for the entry of each open group
-pub record IsSound (opening : Database) (given : Script) (script : Script) (retries : ℕ) (db : Database) (locks : Locks) (began : List BeganGroup) (sessions : List SessionSoFar) (history : Vec Entry) (commits : ℕ) (transcripts : Vec (List Reply)) : Type 0 where
+-- SOUND: the script is the one that the run began with, and the tables that it began with are narrow; the pass of the migration is
+-- of the run's registry; what is seen is kept, from the opening database on; the commits are counted; and there is room for each
+-- reply, and for the entry of each open group
+pub record IsSound (opening : Database) (registry : Registry) (given : Script) (script : Script) (retries : ℕ) (store : Store) (locks : Locks) (began : List BeganGroup) (sessions : List SessionSoFar) (history : Vec Entry) (commits : ℕ) (transcripts : Vec (List Reply)) : Type 0 where
   pub is_given : script ≡ given
   pub narrow : HasNarrowTables (catalog_of opening)
-  pub kept : IsKept opening (seen script retries db locks began sessions history.items)
+  pub one : IsOf registry store.migration
+  pub kept : IsKept opening (seen script retries store locks began sessions history.items)
   pub counted : commits ≡ commits_behind 0 history.items
   pub sessions_numbered : length script.sessions < 2 ^ 32
   pub roomy : (i : ℕ) (so_far : SessionSoFar) → i < length sessions → slice_index_or sessions i so_far ≡ so_far → IsRoomy script (map began_seen began) (i + 1) so_far

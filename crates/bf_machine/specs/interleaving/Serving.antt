@@ -1,5 +1,5 @@
 -- SERVING sessions on one thread: what a turn of a session makes of a machine.
-use Rattle.std.specs.Prelude.{◌≡◌, ◌≢◌, ◌⊎◌, ℕ, ◌+◌, ◌-◌, ◌<◌, ◌≤◌, Bool, true, false, List, [], ◌∷◌, ◌++◌, length, Some, None, Contains, nat_le, IsTrue}
+use Rattle.std.specs.Prelude.{◌≡◌, ◌≢◌, ◌⊎◌, ℕ, ◌+◌, ◌-◌, ◌<◌, ◌≤◌, Bool, true, false, List, [], ◌∷◌, ◌++◌, length, Some, None, Contains, nat_le, slice_get, IsTrue}
 use Rattle.std.specs.Option.{option_map_or}
 use Rattle.std.specs.List.{AllByRecursion}
 use Rattle.bf_locks.specs.declared.answer.LockAnswer.{LockAnswer}
@@ -7,32 +7,26 @@ use Rattle.bf_locks.specs.declared.answer.LockAnswer.TheVariants.{Die, Wait}
 use Rattle.bf_locks.specs.declared.mode.Mode.{Mode}
 use Rattle.bf_locks.specs.declared.name.LockName.{LockName}
 use Rattle.bf_locks.specs.Locks.{IsJudged, Locks}
-use Rattle.bf_tree.specs.Limits.{is_narrow_script}
 use Rattle.bf_tree.specs.declared.bound.Bound.{Bound}
 use Rattle.bf_tree.specs.declared.history.Entry.{Entry}
-use Rattle.bf_tree.specs.declared.script.Script.{Script}
 use Rattle.bf_tree.specs.declared.statement.Statement.{Statement}
 use Rattle.bf_sql.specs.Database.{Database}
-use Rattle.bf_sql.specs.Bound.{bound_of}
+use Rattle.bf_sql.specs.migrations.Plans.{prepared_of}
+use Rattle.bf_store.specs.States.{need_of, to_move}
 use Rattle.bf_sql.specs.Footprints.{Lock, footprint_of}
 use Rattle.bf_sql.specs.Groups.{ends_block}
 use Rattle.bf_live.specs.OpenGroups.{Holds}
-use Rattle.bf_machine.specs.InOrder.{migrates_nothing}
+use Rattle.bf_machine.specs.Movement.{moving_behind, moving_seen}
 use Rattle.bf_machine.specs.Runnable.{phases_rise_from}
-use Rattle.bf_machine.specs.declared.serving.Turn.{Turn}
-use Rattle.bf_machine.specs.declared.serving.Turn.TheVariants as turn
+use Rattle.bf_machine.specs.declared.stand.Turn.{Turn}
+use Rattle.bf_machine.specs.declared.stand.Turn.TheVariants as turn
 use Rattle.bf_machine.specs.declared.stand.Stand.{Stand}
 use Rattle.bf_machine.specs.declared.stand.Stand.TheVariants as stand
 use Rattle.bf_machine.specs.interleaving.Calls.{HasSessionEnded, IsPlace, StandsAs, replies_at, statements_at}
-use Rattle.bf_machine.specs.interleaving.Events.{Reaches, died, rest_of, stands_inside, text_of}
-use Rattle.bf_machine.specs.interleaving.Groups.{footprint_in}
+use Rattle.bf_machine.specs.interleaving.Events.{Moves, Reaches, died, put_into, rest_of, stands_inside, text_of}
+use Rattle.bf_machine.specs.interleaving.Groups.{footprint_in, left_by}
 use Rattle.bf_machine.specs.interleaving.Kept.{IsCurrent}
 use Rattle.bf_machine.specs.interleaving.Machines.{Began, Machine, Open, began_at, open_at, told_at}
-
--- a script that is served: without a MIGRATE, and within the limits
-pub record IsServable (script : Script) : Type 0 where
-  pub plain : IsTrue (migrates_nothing script)
-  pub narrow : IsTrue (is_narrow_script script)
 
 -- whether a call of a session that stands so can come
 abbrev pub can_go : Stand → Bool
@@ -77,14 +71,38 @@ module _ (m : Machine) (s : ℕ) where
     pub deaths : (n : ℕ) → deaths_at next n ≡ deaths_at m n
     pub entries : (more : List Entry) × AllByRecursion (λ e. e.session ≡ s) more × (next.history ≡ m.history ++ more)
 
-  -- exactly one statement more has its reply, or only its open group has ended, which had all its replies; a group that is open then has a reply, and a statement left
+  -- the database that the next statement is on: what its open group is to leave, or where none is open the present one
+  abbrev pub sees : Database
+  sees = option_map_or (λ (o : Open). left_by m.db o.pending) (open_at m s) m.db
+
+  -- ANSWERED: one statement more has its reply. Of the last migration exactly what the statement needs has moved besides; and where
+  -- it is a MIGRATE that nothing is against, the next one has begun, of which nothing has moved
+  pub record HasAnswered (next : Machine) : Type 0 where
+    pub one_more : unanswered m s ≡ unanswered next s + 1
+    pub statement : Statement
+    pub is : slice_get (statements_at m s) (length (replies_at m s)) ≡ Some statement
+    pub moved : moving_seen next.lazy.last ≡ moving_behind (moving_seen m.lazy.last) sees is_in_block statement
+
+  -- ENDED: only the open group has ended, which had all its replies
+  pub record HasEndedAlone (next : Machine) : Type 0 where
+    pub o : Open
+    pub is : open_at m s ≡ Some o
+    pub answered : rest_of m s o ≡ []
+    pub closed : open_at next s ≡ None
+    pub same : unanswered next s ≡ unanswered m s
+    pub moved : moving_seen next.lazy.last ≡ moving_seen (put_into m.lazy o.pending).last
+
+  -- SETTLED: what the open group is to leave is told of as if it had ended, whether it has or goes on
+  abbrev pub HasSettled : Machine → Type 0
+  HasSettled next = (o : Open) → open_at m s ≡ Some o → moving_seen next.lazy.last ≡ moving_seen (put_into m.lazy o.pending).last
+
+  -- exactly one statement more has its reply, or only its open group has ended; a group that is open then has a reply, and a statement left
   pub record HasGoneOn (start : Database) (next : Machine) : Type 0 where
     pub serves : Serves next
     pub reached : Reaches start m next
     pub more : HasMore next s
     pub has_reply : HasReply next s
-    pub goes : (unanswered m s ≡ unanswered next s + 1)
-        ⊎ ((o : Open) × (open_at m s ≡ Some o) × (rest_of m s o ≡ []) × (open_at next s ≡ None) × (unanswered next s ≡ unanswered m s))
+    pub goes : HasAnswered next ⊎ HasEndedAlone next
 
   -- ASKED: before a statement more has its reply, the session's open group, as it stands by then, asks for a lock of its next statement's footprint, and has this answer
   pub record IsAsked (start : Database) (answer : LockAnswer) : Type 0 where
@@ -92,6 +110,7 @@ module _ (m : Machine) (s : ℕ) where
     pub serves : Serves now
     pub reached : Reaches start m now
     pub no_reply : unanswered now s ≡ unanswered m s
+    pub no_move : now.lazy ≡ m.lazy
     pub o : Open
     pub is : open_at now s ≡ Some o
     pub same : (p : Open) → open_at m s ≡ Some p → p.start ≡ o.start
@@ -116,7 +135,13 @@ module _ (m : Machine) (s : ℕ) where
   pub record IsBoundNext (o : Open) (bound : Bound) : Type 0 where
     pub to_lock : IsToLock o (footprint_of bound)
     pub goes_on : ends_block to_lock.statement ≡ false
-    pub bound_so : bound_of m.db (stands_inside o.replies) to_lock.statement ≡ Some bound
+    pub bound_so : prepared_of m.db (stands_inside o.replies) to_lock.statement ≡ Some bound
+
+  -- the next statement, of an open group or not, is prepared so in the present catalog
+  pub record IsPreparedNext (bound : Bound) : Type 0 where
+    pub statement : Statement
+    pub is : slice_get (statements_at m s) (length (replies_at m s)) ≡ Some statement
+    pub prepared_so : prepared_of m.db is_in_block statement ≡ Some bound
 
   -- the group holds them, and nothing else has changed
   abbrev pub HasLocked : List Lock → Machine → Type 0
@@ -143,6 +168,10 @@ module _ (m : Machine) (s : ℕ) where
   IsTurn start turn.Served next = HasGoneOn start next
   IsTurn start turn.Waited next = (others : List ℕ) × (asked : IsAsked start (Wait others)) × (next ≡ asked.now)
   IsTurn start turn.Died next = (older : ℕ) × (asked : IsAsked start (Die older)) × (next ≡ died asked.now s asked.o older)
+
+-- of the last migration exactly what was left of a need has moved, if anything was
+abbrev pub HasMovedNeed : Machine → Bound → Machine → Type 0
+HasMovedNeed m bound next = (next ≡ m) ⊎ Moves m (to_move m.lazy.last (need_of m.lazy.last bound.action)) next
 
 -- the turn of one number of an order: its session's, and where there is none nothing
 pub record IsTurnOf (start : Database) (m : Machine) (n : ℕ) (next : Machine) : Type 0 where

@@ -5,22 +5,31 @@ ghost use Rattle.bf_machine.specs.declared.stand.Ending.TheVariants.{Committed};
 ghost use Rattle.bf_machine.specs.interleaving.Calls.{CanAbort, CanCommit, IsPlace};
 ghost use Rattle.bf_machine.specs.interleaving.Events.{Aborts, Commits, commits_behind};
 
-use crate::answer::settle;
 use crate::machine::Machine;
 use crate::opened::Opened;
+use crate::settle::settle;
 use crate::so_far::{SessionSoFar, least_left_behind};
 use crate::stand::Ending;
 use bf_base::Memory;
+use bf_image::Registry;
 use bf_tree::{Entry, Outcome, Reply};
+use std::sync::Wait;
 
 impl<N: Opened> Machine<N> {
-    /// Commits a session's open group: what it was to leave becomes part of the live tables, its
-    /// locks are freed, and its entry comes last. It costs what [`bf_live::LiveTables::commit`] does,
-    /// and the freeing of the locks.
+    /// Commits a session's open group: what it was to leave becomes part of the store, its locks are
+    /// freed, and its entry comes last. It costs what [`bf_store::Store::commit`] does, or where a
+    /// migration begins [`bf_store::Store::flip`], and the freeing of the locks.
     ///
     /// # Errors
-    /// Where memory runs out, or 2 ^ 64 schema changes were made. The machine is as it was then.
-    pub fn commit(&mut self, session: u32) -> Result<Ending, Memory>
+    /// Where memory runs out, or 2 ^ 32 migrations or 2 ^ 64 changes were made. The machine is as it
+    /// was then.
+    pub fn commit<R: Wait>(
+        &mut self,
+        rt: &R,
+        registry: &Registry,
+        session: u32,
+    ) -> Result<Ending, Memory>
+        requires registry { registry.now ≡ N.registry }
         requires place { IsPlace self.old.script session }
         requires can { CanCommit self.old session }
         ensures commits { OnOk result (Commits self.old session self.new) }
@@ -33,7 +42,13 @@ impl<N: Opened> Machine<N> {
         let Some(mut group) = so_far.open.take() else {
             unreachable!();
         };
-        if let Err(memory) = settle(self.alloc, &mut self.live, &mut group.pending) {
+        if let Err(memory) = settle(
+            self.alloc,
+            rt,
+            registry,
+            &mut self.store,
+            &mut group.pending,
+        ) {
             so_far.open = Some(group);
             return Err(memory);
         }

@@ -5,6 +5,7 @@ use Rattle.bf_machine.proofs.interleaving.Going.{exec_keeps_all, grant_keeps_all
 use Rattle.bf_machine.proofs.interleaving.New.{new_is_kept}
 use Rattle.bf_machine.proofs.interleaving.Reaching.{reached_is_kept}
 use Rattle.bf_machine.proofs.interleaving.Refusing.{refuse_keeps_all}
+use Rattle.bf_machine.proofs.interleaving.Stirring.{moves_keep_all}
 use Rattle.bf_machine.proofs.interleaving.Texts.{are_texts}
 use Rattle.bf_machine.proofs.interleaving_laws.events_keep_all.Goals as goal
 
@@ -34,6 +35,9 @@ returns-clause-commits c = λ start m next s kept by. commit_keeps_all start m k
 
 pub returns-clause-aborts : goal.returns-clause-aborts
 returns-clause-aborts c = λ start m next s kept by. abort_keeps_all start m kept (are_texts m.script) s next by
+
+pub returns-clause-moves : goal.returns-clause-moves
+returns-clause-moves c = λ start m next granules kept by. moves_keep_all start m kept granules next by
 
 pub returns-clause-reaches : goal.returns-clause-reaches
 returns-clause-reaches c = reached_is_kept

@@ -2,7 +2,7 @@
 use Rattle.std.proofs.Common.{refl, sym, subst, ◌∙◌}
 use Rattle.bf_machine.specs.interleaving.Events.{Reaches, aborts, at_once, commits_now, one_more}
 use Rattle.bf_machine.proofs.served.Events.{serves_not}
-use Rattle.bf_machine.proofs.served.Goes.{abort_goes_on, commit_goes_on}
+use Rattle.bf_machine.proofs.served.Goes.{abort_goes_on, abort_settles, commit_adds_none, commit_goes_on, commit_settles, more_settles}
 use Rattle.bf_machine.proofs.served.Left.{stands_more, unanswered_more}
 use Rattle.bf_machine.proofs.serving.end_if_answered.Goals as goal
 
@@ -45,4 +45,20 @@ returns-in_default g c = record {
   replies = refl;
   more = stands_more c.args.machine.now c.requires.kept c.args.session c.stand.result c.stand.ensures c.in_default.not-Commit c.in_default.not-Abort;
   has_reply = c.requires.has_reply;
+  settled = more_settles c.args.machine.now c.requires.kept c.args.session
+      (stands_more c.args.machine.now c.requires.kept c.args.session c.stand.result c.stand.ensures c.in_default.not-Commit c.in_default.not-Abort);
 }
+
+pub returns-then-not-is_answered-clause-settled : goal.returns-then-not-is_answered-clause-settled
+returns-then-not-is_answered-clause-settled g c =
+    more_settles c.args.machine.now c.requires.kept c.args.session (unanswered_more c.args.machine.now c.args.session (sym c.is_answered.ensures ∙ c.if-not-is_answered.true))
+
+pub returns-in_ok-commit-in-Commit-clause-settled : goal.returns-in_ok-commit-in-Commit-clause-settled
+returns-in_ok-commit-in-Commit-clause-settled g c = commit_settles c.args.machine.now c.requires.kept c.args.session c.commit.new.self c.in_ok-commit-in-Commit.ensures.commits
+
+pub returns-in-Abort-clause-settled : goal.returns-in-Abort-clause-settled
+returns-in-Abort-clause-settled g c = abort_settles c.args.machine.now c.requires.kept c.args.session c.abort.new.self c.abort.ensures
+
+pub returns-in_ok-commit-in-Commit-clause-replies : goal.returns-in_ok-commit-in-Commit-clause-replies
+returns-in_ok-commit-in-Commit-clause-replies g c =
+    commit_adds_none c.args.machine.now c.requires.kept c.args.session (sym c.is_answered.ensures ∙ c.if-not-is_answered.false) c.commit.new.self c.in_ok-commit-in-Commit.ensures.commits

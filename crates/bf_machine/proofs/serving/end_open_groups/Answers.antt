@@ -5,7 +5,7 @@ use Rattle.bf_tree.specs.declared.script.Script.{Script}
 use Rattle.bf_machine.specs.interleaving.Events.{at_once}
 use Rattle.bf_machine.specs.interleaving.Kept.{IsKept}
 use Rattle.bf_machine.specs.interleaving.Machines.{Machine, open_at}
-use Rattle.bf_machine.specs.interleaving.Serving.{HasGoneOn, IsAlone, IsServable, Serves, at_rest, one_driven, unanswered}
+use Rattle.bf_machine.specs.interleaving.Serving.{HasGoneOn, IsAlone, Serves, at_rest, one_driven, unanswered}
 use Rattle.bf_machine.proofs.interleaving.Reaching.{reached_keeps_all}
 use Rattle.bf_machine.proofs.served.Ending.{alone_open_goes_on, no_more_left, reached_script, youngest_leaves_less}
 use Rattle.bf_machine.proofs.served.Events.{serves_both, serves_not}
@@ -25,9 +25,6 @@ loop-session-init g c = record {
 
 pub take_turn-requires-clause-kept : goal.take_turn-requires-clause-kept
 take_turn-requires-clause-kept g c = reached_keeps_all g.N.Opened.opening c.args.machine.now c.loop-session.machine c.requires.kept c.loop-session.invariant.reaches
-
-pub take_turn-requires-clause-servable : goal.take_turn-requires-clause-servable
-take_turn-requires-clause-servable g c = subst IsServable (sym (reached_script g.N.Opened.opening c.args.machine.now c.loop-session.machine c.loop-session.invariant.reaches)) c.requires.servable
 
 pub loop-session-smaller : goal.loop-session-smaller
 loop-session-smaller g c =

@@ -4,7 +4,7 @@ use Rattle.bf_tree.specs.declared.script.Script.{Script}
 use Rattle.bf_machine.specs.interleaving.Events.{at_once}
 use Rattle.bf_machine.specs.interleaving.Kept.{IsKept}
 use Rattle.bf_machine.specs.interleaving.Machines.{Machine}
-use Rattle.bf_machine.specs.interleaving.Serving.{IsServable, at_rest, one_driven, unanswered}
+use Rattle.bf_machine.specs.interleaving.Serving.{at_rest, one_driven, unanswered}
 use Rattle.bf_machine.proofs.interleaving.Reaching.{reached_keeps_all}
 use Rattle.bf_machine.proofs.interleaving.Texts.{are_texts}
 use Rattle.bf_machine.proofs.served.Ending.{driven_both, none_of, reached_script, served_to_end, serves_less}
@@ -21,9 +21,6 @@ loop-session-init g c = record { reaches = at_once; driven = at_rest; closed = c
 pub take_turn-requires-clause-kept : goal.take_turn-requires-clause-kept
 take_turn-requires-clause-kept g c = reached_keeps_all g.N.Opened.opening c.args.machine.now c.loop-session.machine c.requires.kept c.loop-session.invariant.reaches
 
-pub take_turn-requires-clause-servable : goal.take_turn-requires-clause-servable
-take_turn-requires-clause-servable g c = subst IsServable (sym (reached_script g.N.Opened.opening c.args.machine.now c.loop-session.machine c.loop-session.invariant.reaches)) c.requires.servable
-
 pub returns-in_err-take_turn-clause-reaches : goal.returns-in_err-take_turn-clause-reaches
 returns-in_err-take_turn-clause-reaches g c =
     reaches_both g.N.Opened.opening c.args.machine.now c.loop-session.machine c.take_turn.new.machine c.loop-session.invariant.reaches c.take_turn.ensures.reaches
@@ -32,13 +29,6 @@ pub end_open_groups-requires-clause-kept : goal.end_open_groups-requires-clause-
 end_open_groups-requires-clause-kept g c =
     reached_keeps_all g.N.Opened.opening c.args.machine.now c.take_turn.new.machine c.requires.kept
     (reaches_both g.N.Opened.opening c.args.machine.now c.loop-session.machine c.take_turn.new.machine c.loop-session.invariant.reaches c.in_ok-take_turn.ensures.reaches)
-
-pub end_open_groups-requires-clause-servable : goal.end_open_groups-requires-clause-servable
-end_open_groups-requires-clause-servable g c =
-    subst IsServable
-    (sym (reached_script g.N.Opened.opening c.args.machine.now c.take_turn.new.machine
-    (reaches_both g.N.Opened.opening c.args.machine.now c.loop-session.machine c.take_turn.new.machine c.loop-session.invariant.reaches c.in_ok-take_turn.ensures.reaches)))
-    c.requires.servable
 
 pub loop-session-smaller : goal.loop-session-smaller
 loop-session-smaller g c =

@@ -6,7 +6,7 @@ use Rattle.bf_base.specs.declared.memory.Memory.{Memory}
 use Rattle.bf_tree.specs.declared.script.Script.{Script}
 use Rattle.bf_machine.specs.interleaving.Events.{at_once}
 use Rattle.bf_machine.specs.interleaving.Machines.{Machine, open_at}
-use Rattle.bf_machine.specs.interleaving.Serving.{IsInSequence, IsServable, Turned, deaths_at, no_turn, one_turn}
+use Rattle.bf_machine.specs.interleaving.Serving.{IsInSequence, Turned, deaths_at, no_turn, one_turn}
 use Rattle.bf_machine.proofs.interleaving.Reaching.{reached_keeps_all}
 use Rattle.bf_machine.proofs.served.Ending.{driven_both, reached_script}
 use Rattle.bf_machine.proofs.served.Goes.{reaches_both}
@@ -26,9 +26,6 @@ turn_of-requires-clause-count g c =
 
 pub turn_of-requires-clause-kept : goal.turn_of-requires-clause-kept
 turn_of-requires-clause-kept g c = reached_keeps_all g.N.Opened.opening c.args.machine.now c.loop-session.machine c.session_count-count.ensures.kept c.loop-session.invariant.reaches
-
-pub turn_of-requires-clause-servable : goal.turn_of-requires-clause-servable
-turn_of-requires-clause-servable g c = subst IsServable (sym (reached_script g.N.Opened.opening c.args.machine.now c.loop-session.machine c.loop-session.invariant.reaches)) c.requires.servable
 
 pub returns-in_err-turn_of-clause-reaches : goal.returns-in_err-turn_of-clause-reaches
 returns-in_err-turn_of-clause-reaches g c =
@@ -50,9 +47,6 @@ loop-session-preserved g c = record {
 pub end_open_groups-requires-clause-kept : goal.end_open_groups-requires-clause-kept
 end_open_groups-requires-clause-kept g c = reached_keeps_all g.N.Opened.opening c.args.machine.now c.loop-session.machine c.session_count-count.ensures.kept c.loop-session.invariant.reaches
 
-pub end_open_groups-requires-clause-servable : goal.end_open_groups-requires-clause-servable
-end_open_groups-requires-clause-servable g c = subst IsServable (sym (reached_script g.N.Opened.opening c.args.machine.now c.loop-session.machine c.loop-session.invariant.reaches)) c.requires.servable
-
 pub returns-in_err-end_open_groups-clause-reaches : goal.returns-in_err-end_open_groups-clause-reaches
 returns-in_err-end_open_groups-clause-reaches g c =
     reaches_both g.N.Opened.opening c.args.machine.now c.loop-session.machine c.end_open_groups.new.machine c.loop-session.invariant.reaches c.end_open_groups.ensures.reaches
@@ -61,13 +55,6 @@ pub end_sessions-requires-clause-kept : goal.end_sessions-requires-clause-kept
 end_sessions-requires-clause-kept g c =
     reached_keeps_all g.N.Opened.opening c.args.machine.now c.end_open_groups.new.machine c.session_count-count.ensures.kept
     (reaches_both g.N.Opened.opening c.args.machine.now c.loop-session.machine c.end_open_groups.new.machine c.loop-session.invariant.reaches c.in_ok-end_open_groups.ensures.reaches)
-
-pub end_sessions-requires-clause-servable : goal.end_sessions-requires-clause-servable
-end_sessions-requires-clause-servable g c =
-    subst IsServable
-    (sym (reached_script g.N.Opened.opening c.args.machine.now c.end_open_groups.new.machine
-    (reaches_both g.N.Opened.opening c.args.machine.now c.loop-session.machine c.end_open_groups.new.machine c.loop-session.invariant.reaches c.in_ok-end_open_groups.ensures.reaches)))
-    c.requires.servable
 
 pub returns-clause-reaches : goal.returns-clause-reaches
 returns-clause-reaches g c =

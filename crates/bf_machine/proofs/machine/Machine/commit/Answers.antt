@@ -1,9 +1,10 @@
--- What the group was to leave is in the live tables, what is left of it has its reply, and its entry comes last.
+-- What the group was to leave is in the store, what is left of it has its reply, and its entry comes last.
 use Rattle.std.proofs.Common.{◌-◌, ◌≤◌, List, length, sym, ap, subst, ◌∙◌, arith}
 use Rattle.std.specs.Prelude.{slice_set}
 use Rattle.std.proofs.lemmas.List.{length-map, length-set}
 use Rattle.bf_tree.specs.declared.script.Session.{Session}
-use Rattle.bf_sql.specs.Database.{Database}
+use Rattle.bf_image.specs.Registries.{Registry}
+use Rattle.bf_store.specs.Stores.{IsOf, Store}
 use Rattle.bf_machine.specs.declared.so_far.SessionSoFar.{SessionSoFar}
 use Rattle.bf_machine.specs.interleaving.Calls.{CanCommit, IsPlace}
 use Rattle.bf_machine.specs.interleaving.Events.{Commits}
@@ -14,14 +15,17 @@ use Rattle.bf_machine.proofs.keeping.Committing.{can_settle, commit_seen, commit
 use Rattle.bf_machine.proofs.keeping.LeastLeft.{goes_on_at, least_behind, open_goes_on}
 use Rattle.bf_machine.proofs.machine.Machine.commit.Goals as goal
 
-pub settle-requires : goal.settle-requires
-settle-requires g c =
+pub settle-requires-clause-one : goal.settle-requires-clause-one
+settle-requires-clause-one g c = subst (λ (registry : Registry). IsOf registry c.self.inside.store.migration) (sym c.requires.registry) c.self.invariant.0.one
+
+pub settle-requires-clause-can : goal.settle-requires-clause-can
+settle-requires-clause-can g c =
     let i = c.self.inside in
     let s = c.args.session in
     let x : SessionSoFar = c.index_mut-so_far.result.now in
     let place : IsPlace i.script s = subst (λ (m : Machine). IsPlace m.script s) (sym c.self.view_is) c.requires.place in
     let high : s ≤ length i.sessions.items = omega (arith, place.1, c.self.invariant.0.kept.shaped.opens, length-map i.sessions.items open_seen) in
-    can_settle i.script i.retries i.live i.locks i.began.items i.sessions.items i.history i.commits i.transcripts c.self.invariant.0
+    can_settle i.script i.retries i.store i.locks i.began.items i.sessions.items i.history i.commits i.transcripts c.self.invariant.0
     s place.0 high x (sym c.index_mut-so_far.ensures.value) c.in-Some.group (sym c.take.ensures.value ∙ c.in-Some.is)
 
 pub overflow_add-number : goal.overflow_add-number
@@ -32,7 +36,7 @@ overflow_add-number g c =
     let place : IsPlace i.script s = subst (λ (m : Machine). IsPlace m.script s) (sym c.self.view_is) c.requires.place in
     let high : s ≤ length i.sessions.items = omega (arith, place.1, c.self.invariant.0.kept.shaped.opens, length-map i.sessions.items open_seen) in
     let fits =
-    number_fits i.script i.retries i.live i.locks i.began.items i.sessions.items i.history i.commits i.transcripts c.self.invariant.0
+    number_fits i.script i.retries i.store i.locks i.began.items i.sessions.items i.history i.commits i.transcripts c.self.invariant.0
     s place.0 high x (sym c.index_mut-so_far.ensures.value) c.in-Some.group (sym c.take.ensures.value ∙ c.in-Some.is) in
     omega (arith, fits, i.history.ok.1)
 
@@ -43,7 +47,7 @@ close-requires g c =
     let x : SessionSoFar = c.index_mut-so_far.result.now in
     let place : IsPlace i.script s = subst (λ (m : Machine). IsPlace m.script s) (sym c.self.view_is) c.requires.place in
     let high : s ≤ length i.sessions.items = omega (arith, place.1, c.self.invariant.0.kept.shaped.opens, length-map i.sessions.items open_seen) in
-    room_for_reply i.script i.retries i.live i.locks i.began.items i.sessions.items i.history i.commits i.transcripts c.self.invariant.0
+    room_for_reply i.script i.retries i.store i.locks i.began.items i.sessions.items i.history i.commits i.transcripts c.self.invariant.0
     s place.0 high x (sym c.index_mut-so_far.ensures.value) c.in-Some.group (sym c.take.ensures.value ∙ c.in-Some.is)
 
 pub least_left_behind-self-inside-requires-clause-each : goal.least_left_behind-self-inside-requires-clause-each
@@ -67,18 +71,20 @@ invariant_of-self-2 g c =
     let x : SessionSoFar = c.index_mut-so_far.result.now in
     let place : IsPlace i.script s = subst (λ (m : Machine). IsPlace m.script s) (sym c.self.view_is) c.requires.place in
     let high : s ≤ length i.sessions.items = omega (arith, place.1, c.self.invariant.0.kept.shaped.opens, length-map i.sessions.items open_seen) in
-    let m : Machine = seen i.script i.retries i.live i.locks i.began.items i.sessions.items i.history.items in
+    let m : Machine = seen i.script i.retries i.store i.locks i.began.items i.sessions.items i.history.items in
     let can : CanCommit m s = subst (λ (m : Machine). CanCommit m s) (sym c.self.view_is) c.requires.can in
     let ends = c.close.ensures in
     let pushed = c.push_reserved in
-    let goes_on = goes_on_at i.script i.retries i.live i.locks i.began.items i.sessions.items i.history.items s place.0 (open_goes_on m s can.1.o can.1.is) in
+    let settled = c.in_default-settle.ensures in
+    let one = subst (λ (registry : Registry). IsOf registry c.settle.new.store.migration) c.requires.registry settled.one in
+    let goes_on = goes_on_at i.script i.retries i.store i.locks i.began.items i.sessions.items i.history.items s place.0 (open_goes_on m s can.o can.is) in
     let least =
     least_behind i.script.sessions i.sessions.items (s - 1) c.close.new.so_far i.least_left c.self.invariant.1 goes_on
     c.as_slice.ensures c.deref.ensures.value c.least_left_behind-self-inside.result c.least_left_behind-self-inside.ensures in (
-      commit_sound i.script i.retries i.live i.locks i.began.items i.sessions.items i.history i.commits i.transcripts c.self.invariant.0
-          s place.0 high x (sym c.index_mut-so_far.ensures.value) c.in-Some.group (sym c.take.ensures.value ∙ c.in-Some.is) can.0 can.1
+      commit_sound i.script i.retries i.store i.locks i.began.items i.sessions.items i.history i.commits i.transcripts c.self.invariant.0
+          s place.0 high x (sym c.index_mut-so_far.ensures.value) c.in-Some.group (sym c.take.ensures.value ∙ c.in-Some.is) can
           c.close.new.so_far ends.closed ends.latest ends.capacity ends.replies
-          c.free_all.new.self c.free_all.ensures.freed c.settle.new.live c.in_default-settle.ensures.ok pushed.new.self pushed.ensures.items pushed.ensures.capacity,
+          c.free_all.new.self c.free_all.ensures.freed c.settle.new.store settled.ok settled.by_pass one settled.same pushed.new.self pushed.ensures.items pushed.ensures.capacity,
       least,
     )
 
@@ -89,16 +95,18 @@ returns-clause-commits g c =
     let x : SessionSoFar = c.index_mut-so_far.result.now in
     let place : IsPlace i.script s = subst (λ (m : Machine). IsPlace m.script s) (sym c.self.view_is) c.requires.place in
     let high : s ≤ length i.sessions.items = omega (arith, place.1, c.self.invariant.0.kept.shaped.opens, length-map i.sessions.items open_seen) in
-    let m : Machine = seen i.script i.retries i.live i.locks i.began.items i.sessions.items i.history.items in
+    let m : Machine = seen i.script i.retries i.store i.locks i.began.items i.sessions.items i.history.items in
     let can : CanCommit m s = subst (λ (m : Machine). CanCommit m s) (sym c.self.view_is) c.requires.can in
     let ends = c.close.ensures in
     let pushed = c.push_reserved in
-    let next : Machine = seen i.script i.retries c.settle.new.live c.free_all.new.self i.began.items (slice_set i.sessions.items (s - 1) c.close.new.so_far) pushed.new.self.items in
+    let settled = c.in_default-settle.ensures in
+    let one = subst (λ (registry : Registry). IsOf registry c.settle.new.store.migration) c.requires.registry settled.one in
+    let next : Machine = seen i.script i.retries c.settle.new.store c.free_all.new.self i.began.items (slice_set i.sessions.items (s - 1) c.close.new.so_far) pushed.new.self.items in
     subst (λ (m : Machine). Commits m s next) c.self.view_is
-    (commit_seen i.script i.retries i.live i.locks i.began.items i.sessions.items i.history i.commits i.transcripts c.self.invariant.0
-    s place.0 high x (sym c.index_mut-so_far.ensures.value) c.in-Some.group (sym c.take.ensures.value ∙ c.in-Some.is) can.0 can.1
+    (commit_seen i.script i.retries i.store i.locks i.began.items i.sessions.items i.history i.commits i.transcripts c.self.invariant.0
+    s place.0 high x (sym c.index_mut-so_far.ensures.value) c.in-Some.group (sym c.take.ensures.value ∙ c.in-Some.is) can
     c.close.new.so_far ends.closed ends.latest ends.capacity ends.replies
-    c.free_all.new.self c.free_all.ensures.freed c.settle.new.live c.in_default-settle.ensures.ok pushed.new.self pushed.ensures.items pushed.ensures.capacity)
+    c.free_all.new.self c.free_all.ensures.freed c.settle.new.store settled.ok settled.by_pass one settled.same pushed.new.self pushed.ensures.items pushed.ensures.capacity)
 
 pub invariant_of-self : goal.invariant_of-self
 invariant_of-self g c =
@@ -108,8 +116,8 @@ invariant_of-self g c =
     let stays =
     sessions_stay i.sessions.items (s - 1) x (sym c.index_mut-so_far.ensures.value) c.in-Some.group
     (sym c.take.ensures.value ∙ c.in-Some.is) c.settle.new.pending c.in-Err.ensures.kept in (
-      subst (λ (sessions : List SessionSoFar). IsSound g.N.Opened.opening g.N.Opened.script i.script i.retries c.settle.new.live i.locks i.began.items sessions i.history i.commits i.transcripts) (sym stays)
-          (subst (λ (db : Database). IsSound g.N.Opened.opening g.N.Opened.script i.script i.retries db i.locks i.began.items i.sessions.items i.history i.commits i.transcripts) (sym c.in-Err.ensures.err) c.self.invariant.0),
+      subst (λ (sessions : List SessionSoFar). IsSound g.N.Opened.opening g.N.Opened.registry g.N.Opened.script i.script i.retries c.settle.new.store i.locks i.began.items sessions i.history i.commits i.transcripts) (sym stays)
+          (subst (λ (store : Store). IsSound g.N.Opened.opening g.N.Opened.registry g.N.Opened.script i.script i.retries store i.locks i.began.items i.sessions.items i.history i.commits i.transcripts) (sym c.in-Err.ensures.err) c.self.invariant.0),
       subst (λ (sessions : List SessionSoFar). IsLeastLeft i.script.sessions sessions (length sessions) i.least_left) (sym stays) c.self.invariant.1,
     )
 
@@ -121,5 +129,5 @@ returns-in-Err-clause-err g c =
     let stays =
     sessions_stay i.sessions.items (s - 1) x (sym c.index_mut-so_far.ensures.value) c.in-Some.group
     (sym c.take.ensures.value ∙ c.in-Some.is) c.settle.new.pending c.in-Err.ensures.kept in
-    ap (λ (sessions : List SessionSoFar). seen i.script i.retries c.settle.new.live i.locks i.began.items sessions i.history.items) stays
-    ∙ (ap (λ (db : Database). seen i.script i.retries db i.locks i.began.items i.sessions.items i.history.items) c.in-Err.ensures.err ∙ c.self.view_is)
+    ap (λ (sessions : List SessionSoFar). seen i.script i.retries c.settle.new.store i.locks i.began.items sessions i.history.items) stays
+    ∙ (ap (λ (store : Store). seen i.script i.retries store i.locks i.began.items i.sessions.items i.history.items) c.in-Err.ensures.err ∙ c.self.view_is)

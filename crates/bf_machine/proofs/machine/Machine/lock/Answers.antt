@@ -97,11 +97,11 @@ invariant_of-self-2 g c =
     let by = c.close_at_death.ensures in
     let i = c.self.inside in
     let s = c.args.session in
-    let m : Machine = seen i.script i.retries i.live i.locks i.began.items i.sessions.items i.history.items in
+    let m : Machine = seen i.script i.retries i.store i.locks i.began.items i.sessions.items i.history.items in
     let place : IsPlace i.script s = subst (λ (m : Machine). IsPlace m.script s) (sym c.self.view_is) c.requires.place in
     let can : CanAsk m s g.N.Opened.opening c.args.name.now c.args.mode =
     subst (λ (m : Machine). CanAsk m s g.N.Opened.opening c.args.name.now c.args.mode) (sym c.self.view_is) c.requires.can in
-    let goes_on = goes_on_at i.script i.retries i.live i.locks i.began.items i.sessions.items i.history.items s place.0 (open_goes_on m s can.o can.is) in
+    let goes_on = goes_on_at i.script i.retries i.store i.locks i.began.items i.sessions.items i.history.items s place.0 (open_goes_on m s can.o can.is) in
     let least =
     least_behind i.script.sessions i.sessions.items (s - 1) c.close_at_death.new.so_far i.least_left c.self.invariant.1 goes_on
     c.as_slice.ensures c.deref.ensures.value c.least_left_behind-self-inside.result c.least_left_behind-self-inside.ensures in (

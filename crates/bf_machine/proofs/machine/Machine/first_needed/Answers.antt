@@ -1,0 +1,48 @@
+-- Where nothing is left of the cover, what the statement needs has moved: the cover is of the migration that the store has.
+use Rattle.std.proofs.Common.{◌≡◌, ℕ, true, ◌==◌, List, [], ◌∷◌, length, Bor, Option, Some, None, refl, sym, ap, subst, ◌∙◌, arith, option_map}
+use Rattle.std.specs.Option.{option_copied}
+use Rattle.std.proofs.lemmas.Bool.Decides.{nat_tests}
+use Rattle.boxcar.specs.Table.{Where}
+use Rattle.bf_base.specs.declared.granule.Granule.{Granule}
+use Rattle.bf_tree.specs.declared.bound.Action.{Action}
+use Rattle.bf_sql.specs.migrations.Lazy.{Migration}
+use Rattle.bf_sql.specs.migrations.Need.{needed_for}
+use Rattle.bf_image.specs.declared.migration.Migration.{Migration as Kept}
+use Rattle.bf_store.specs.Calls.{cover_of}
+use Rattle.bf_store.specs.States.{HaveMoved, need_of, to_move}
+use Rattle.bf_store.specs.Stores.{IsByPass}
+use Rattle.bf_store.proofs.Calls.{cover_has_moved}
+use Rattle.bf_transpose.specs.Covers.{needed_in}
+use Rattle.bf_machine.specs.interleaving.Machines.{Machine}
+use Rattle.bf_machine.proofs.machine.Machine.first_needed.Goals as goal
+
+-- what is needed of the migration of a pass is the need under the last migration, which that pass reads
+need_by_pass : (last : Option Migration) (own : Option (Where Kept)) → IsByPass last own → (act : Action) → needed_in (option_map (λ (p : Where Kept). p.value) own) act ≡ need_of last act
+need_by_pass None None by act = refl
+need_by_pass None (Some own) by act = absurd by
+need_by_pass (Some last) None by act = absurd by
+need_by_pass (Some last) (Some own) by act = sym (ap (λ (l : Migration). needed_for l.old l.migrate act) by)
+
+by_copied : {P : Type 0} (f : P → Kept) (r : Option (Bor P)) → option_map (λ p. f p.now) r ≡ option_map f (option_copied r)
+by_copied f None = refl
+by_copied f (Some p) = refl
+
+nothing_there : (granules : List Granule) (n : ℕ) → (n == 0) ≡ true → n ≡ length granules → granules ≡ []
+nothing_there [] n zero size = refl
+nothing_there (g ∷ gs) n zero size =
+    let none : n ≡ 0 = grind (arith, nat_tests, zero) in
+    absurd (omega (arith, none, size))
+
+pub returns-then-is_empty-clause-moved : goal.returns-then-is_empty-clause-moved
+returns-then-is_empty-clause-moved g c = λ _.
+    let lazy = c.self.inside.store.lazy in
+    let own = c.self.inside.store.migration in
+    let act = c.args.bound.now.action in
+    let need = c.in_ok-need.need in
+    let same = c.are_same-same.ensures.values c.if-not-same.false in
+    let passes = by_copied (λ (p : Where Kept). p.value) c.as_ref.result ∙ ap (option_map (λ (p : Where Kept). p.value)) (c.as_ref.ensures.value ∙ c.migration-last.ensures.pass) in
+    let needs = ap (λ (last : Option Kept). needed_in last act) (same ∙ passes) ∙ need_by_pass lazy.last own c.migration-last.ensures.by_pass act in
+    let told : need.items ≡ to_move lazy.last (cover_of lazy.last c.args.bound.now) =
+    c.in_ok-need.ensures ∙ ap (to_move lazy.last) (c.as_slice.ensures.value ∙ (c.requires.cover.granules ∙ needs)) in
+    let empty : need.items ≡ [] = nothing_there need.items need.len (sym c.is_empty.ensures ∙ c.if-is_empty.true) (omega (arith, need.ok.0)) in
+    subst (λ (m : Machine). HaveMoved m.lazy.last (λ last. needed_for last.old last.migrate act)) c.self.view_is (cover_has_moved lazy c.args.bound.now need.items told empty)

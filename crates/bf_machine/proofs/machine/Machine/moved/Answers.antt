@@ -1,0 +1,114 @@
+-- The granules are of the last migration where the pass is its, and the store alone changes.
+use Rattle.std.proofs.Common.{◌≡◌, ℕ, true, false, Bor, Err, Option, Some, None, refl, sym, ap, subst, ◌∙◌, option_map}
+use Rattle.std.specs.Option.{option_copied, option_map_or}
+use Rattle.boxcar.specs.Table.{Where}
+use Rattle.bf_sql.specs.migrations.Lazy.{migrations_so_far}
+use Rattle.bf_image.specs.Registries.{Registry}
+use Rattle.bf_image.specs.declared.migration.Migration.{Migration as Kept}
+use Rattle.bf_store.specs.Calls.{IsMoveOf}
+use Rattle.bf_store.specs.States.{AreGranulesIfAny}
+use Rattle.bf_store.specs.Stores.{IsOf, Store}
+use Rattle.bf_machine.specs.declared.stand.MoveError.TheVariants.{Old}
+use Rattle.bf_machine.specs.interleaving.Calls.{slot_of}
+use Rattle.bf_machine.specs.interleaving.Events.{Moves}
+use Rattle.bf_machine.specs.interleaving.Machines.{Machine}
+use Rattle.bf_machine.specs.interleaving.Seen.{IsSound, seen}
+use Rattle.bf_machine.proofs.keeping.Moving.{indexes_of_it, moved_sound, moves, number_is, of_the_last}
+use Rattle.bf_machine.proofs.machine.Machine.moved.Goals as goal
+
+by_copied : {P : Type 0} (f : P → Kept) (r : Option (Bor P)) → option_map (λ p. f p.now) r ≡ option_map f (option_copied r)
+by_copied f None = refl
+by_copied f (Some p) = refl
+
+as_copied : {P : Type 0} (r : Option (Bor P)) → option_map (λ p. p.now) r ≡ option_copied r
+as_copied None = refl
+as_copied (Some p) = refl
+
+number_copied : (r : Option (Bor (Where Kept))) → option_map_or (λ p. p.now.value.number) r 0 ≡ option_map_or (λ (p : Where Kept). p.value.number) (option_copied r) 0
+number_copied None = refl
+number_copied (Some p) = refl
+
+pub move_granules-requires-clause-one : goal.move_granules-requires-clause-one
+move_granules-requires-clause-one g c = subst (λ (registry : Registry). IsOf registry c.self.inside.store.migration) (sym c.requires.registry) c.self.invariant.0.one
+
+pub move_granules-requires-clause-indexed : goal.move_granules-requires-clause-indexed
+move_granules-requires-clause-indexed g c =
+    let own = c.self.inside.store.migration in
+    let value = c.args.migration.now.value in
+    let passes = by_copied (λ (p : Where Kept). p.value) c.as_ref-last.result ∙ ap (option_map (λ (p : Where Kept). p.value)) (c.as_ref-last.ensures.value ∙ c.migration-last.ensures.pass) in
+    let same : option_map (λ (p : Where Kept). p.value) own ≡ Some value = sym (c.are_same-same.ensures.values c.if-not-same.false ∙ passes) in
+    indexes_of_it own value same c.args.indexes.now c.requires.indexed
+
+pub move_granules-requires-clause-granules : goal.move_granules-requires-clause-granules
+move_granules-requires-clause-granules g c =
+    let own = c.self.inside.store.migration in
+    let value = c.args.migration.now.value in
+    let passes = by_copied (λ (p : Where Kept). p.value) c.as_ref-last.result ∙ ap (option_map (λ (p : Where Kept). p.value)) (c.as_ref-last.ensures.value ∙ c.migration-last.ensures.pass) in
+    let same : option_map (λ (p : Where Kept). p.value) own ≡ Some value = sym (c.are_same-same.ensures.values c.if-not-same.false ∙ passes) in
+    of_the_last c.self.inside.store.lazy.last own c.migration-last.ensures.by_pass value same c.args.granules.now c.requires.granules
+
+pub returns-then-not-same-clause-old : goal.returns-then-not-same-clause-old
+returns-then-not-same-clause-old g c = λ _.
+    let i = c.self.inside in
+    let passes : option_copied c.as_ref-last.result ≡ i.store.migration = c.as_ref-last.ensures.value ∙ c.migration-last.ensures.pass in
+    let number = c.number_of.ensures ∙ number_copied c.as_ref-last.result ∙ ap (λ (own : Option (Where Kept)). option_map_or (λ (p : Where Kept). p.value.number) own 0) passes
+    ∙ number_is i.store.lazy.last i.store.migration c.migration-last.ensures.by_pass in
+    ap (λ (n : ℕ). Err (Old n)) (number ∙ ap (λ (m : Machine). migrations_so_far m.lazy.last) c.self.view_is)
+
+pub returns-then-not-same-clause-present : goal.returns-then-not-same-clause-present
+returns-then-not-same-clause-present g c = λ is n _.
+    let i = c.self.inside in
+    let passes = as_copied c.as_ref-last.result ∙ c.as_ref-last.ensures.value ∙ c.migration-last.ensures.pass in
+    let own : slot_of i.store.migration ≡ Some c.args.migration.now.index = ap (λ (m : Machine). slot_of m.pass) c.self.view_is ∙ is in
+    let same : c.are_same-same.result ≡ true = c.are_same-same.ensures.slots.1 (sym own ∙ sym (ap slot_of passes)) in
+    let differ : c.are_same-same.result ≡ false = c.if-not-same.true in
+    cc
+
+pub invariant_of-self : goal.invariant_of-self
+invariant_of-self g c =
+    let i = c.self.inside in
+    let value = c.args.migration.now.value in
+    let passes = by_copied (λ (p : Where Kept). p.value) c.as_ref-last.result ∙ ap (option_map (λ (p : Where Kept). p.value)) (c.as_ref-last.ensures.value ∙ c.migration-last.ensures.pass) in
+    let same : option_map (λ (p : Where Kept). p.value) i.store.migration ≡ Some value = sym (c.are_same-same.ensures.values c.if-not-same.false ∙ passes) in
+    let are : AreGranulesIfAny i.store.lazy.last c.args.granules.now = of_the_last i.store.lazy.last i.store.migration c.migration-last.ensures.by_pass value same c.args.granules.now c.requires.granules in
+    (moved_sound i.script i.retries i.store i.locks i.began.items i.sessions.items i.history i.commits i.transcripts c.self.invariant.0
+    c.args.granules.now are c.move_granules.new.self c.in-Ok.ensures.ok.state c.in-Ok.ensures.migration, c.self.invariant.1)
+
+pub invariant_of-self-2 : goal.invariant_of-self-2
+invariant_of-self-2 g c =
+    let i = c.self.inside in
+    (subst (λ (store : Store). IsSound g.N.Opened.opening g.N.Opened.registry g.N.Opened.script i.script i.retries store i.locks i.began.items i.sessions.items i.history i.commits i.transcripts) (sym c.in-Err.ensures.err) c.self.invariant.0, c.self.invariant.1)
+
+pub returns-in-Ok-clause-moves : goal.returns-in-Ok-clause-moves
+returns-in-Ok-clause-moves g c =
+    let i = c.self.inside in
+    let value = c.args.migration.now.value in
+    let passes = by_copied (λ (p : Where Kept). p.value) c.as_ref-last.result ∙ ap (option_map (λ (p : Where Kept). p.value)) (c.as_ref-last.ensures.value ∙ c.migration-last.ensures.pass) in
+    let same : option_map (λ (p : Where Kept). p.value) i.store.migration ≡ Some value = sym (c.are_same-same.ensures.values c.if-not-same.false ∙ passes) in
+    let are : AreGranulesIfAny i.store.lazy.last c.args.granules.now = of_the_last i.store.lazy.last i.store.migration c.migration-last.ensures.by_pass value same c.args.granules.now c.requires.granules in
+    let next : Machine = seen i.script i.retries c.move_granules.new.self i.locks i.began.items i.sessions.items i.history.items in
+    subst (λ (m : Machine). Moves m c.args.granules.now next) c.self.view_is
+    (moves i.script i.retries i.store i.locks i.began.items i.sessions.items i.history i.commits i.transcripts c.self.invariant.0
+    c.args.granules.now are c.move_granules.new.self c.in-Ok.ensures.ok.state c.in-Ok.ensures.migration)
+
+pub returns-in-Ok-clause-told : goal.returns-in-Ok-clause-told
+returns-in-Ok-clause-told g c = subst (λ (m : Machine). IsMoveOf m.lazy c.move_granules.new.self.lazy c.args.granules.now c.in-Ok.moved) c.self.view_is c.in-Ok.ensures.ok
+
+pub returns-in-Ok-clause-old : goal.returns-in-Ok-clause-old
+returns-in-Ok-clause-old g c = λ differs.
+    let i = c.self.inside in
+    let passes = as_copied c.as_ref-last.result ∙ c.as_ref-last.ensures.value ∙ c.migration-last.ensures.pass in
+    let own = c.are_same-same.ensures.slots.0 c.if-not-same.false ∙ ap slot_of passes ∙ ap (λ (m : Machine). slot_of m.pass) c.self.view_is in
+    absurd (differs (sym own))
+
+pub returns-in-Err-clause-old : goal.returns-in-Err-clause-old
+returns-in-Err-clause-old g c = λ differs.
+    let i = c.self.inside in
+    let passes = as_copied c.as_ref-last.result ∙ c.as_ref-last.ensures.value ∙ c.migration-last.ensures.pass in
+    let own = c.are_same-same.ensures.slots.0 c.if-not-same.false ∙ ap slot_of passes ∙ ap (λ (m : Machine). slot_of m.pass) c.self.view_is in
+    absurd (differs (sym own))
+
+pub returns-in-Err-clause-err : goal.returns-in-Err-clause-err
+returns-in-Err-clause-err g c =
+    let i = c.self.inside in
+    ap (λ (store : Store). seen i.script i.retries store i.locks i.began.items i.sessions.items i.history.items) c.in-Err.ensures.err ∙ c.self.view_is

@@ -1,0 +1,211 @@
+-- What a bound statement needs of the last migration moves, and then nothing of it is left.
+use Rattle.std.proofs.Common.{◌≡◌, ◌≢◌, ◌⊎◌, ℕ, Bool, false, ◌||◌, not, List, [], Bor, Option, Some, None, refl, sym, ap, ap₂, subst, ◌∙◌, inl, inr}
+use Rattle.std.specs.Prelude.{is_some}
+use Rattle.std.specs.Global.{Vec}
+use Rattle.std.specs.Option.{option_copied, option_map}
+use Rattle.std.proofs.lemmas.Bool.{or_right}
+use Rattle.bf_base.specs.declared.granule.Granule.{Granule}
+use Rattle.bf_base.specs.declared.table.Table.{Table}
+use Rattle.bf_base.specs.declared.value.Value.{Value}
+use Rattle.bf_base.specs.Lists.{has}
+use Rattle.bf_base.proofs.Apart.{apart-filter}
+use Rattle.bf_tree.specs.declared.bound.Action.{Action}
+use Rattle.bf_tree.specs.declared.bound.Action.TheVariants as action
+use Rattle.bf_tree.specs.declared.bound.Bound.{Bound}
+use Rattle.bf_tree.specs.declared.migration.Migrate.{Migrate}
+use Rattle.bf_tree.specs.declared.migration.Target.{Target}
+use Rattle.boxcar.specs.Table.{Where}
+use Rattle.bf_sql.specs.Database.{Database}
+use Rattle.bf_sql.specs.migrations.Granules.{granules_of, same_granule}
+use Rattle.bf_sql.specs.migrations.Lazy.{LazyState, Migration, is_done, not_done}
+use Rattle.bf_sql.specs.migrations.Need.{giving, has_key_of, may_satisfy, needed_for, target_of}
+use Rattle.bf_image.specs.Migrations.{old_of}
+use Rattle.bf_image.specs.declared.migration.Migration.{Migration as Kept}
+use Rattle.bf_image.proofs.finding.Found.{same_granule-itself}
+use Rattle.bf_image.proofs.items.Lists.{all_kept, all_so, has_own}
+use Rattle.bf_store.specs.States.{AreGranules, AreGranulesIfAny, IsLazy, IsUnderWayIfAny, need_of, to_move, with_moved}
+use Rattle.bf_store.specs.Stores.{IsByPass, migration_of}
+use Rattle.bf_store.proofs.coming.Parts.{granules_apart}
+use Rattle.bf_store.proofs.moving.Needing.{need_is_granules, none_left_if_done}
+use Rattle.bf_transpose.specs.Covers.{IsCoverOf, can_need, needed_in}
+use Rattle.bf_transpose.specs.declared.cover.Cover.{Cover}
+use Rattle.bf_machine.specs.declared.stand.Step.TheVariants.{Need, Stale}
+use Rattle.bf_machine.specs.interleaving.Calls.{CanExec, HasReplied, IsPresent, IsStep, slot_of}
+use Rattle.bf_machine.specs.interleaving.Events.{Event, Moves, Reaches, at_once, executes, moves, one_more, refuses}
+use Rattle.bf_machine.specs.interleaving.Kept.{IsKept}
+use Rattle.bf_machine.specs.interleaving.Machines.{Machine}
+use Rattle.bf_machine.specs.interleaving.Serving.{HasMovedNeed}
+use Rattle.bf_machine.proofs.served.Moved.{left_or_done, recorded}
+
+module _ (lazy : LazyState) (act : Action) where
+  pub need_granules : IsLazy lazy → AreGranulesIfAny lazy.last (to_move lazy.last (need_of lazy.last act))
+  need_granules is = on lazy.last is.last
+    where
+      on : (last : Option Migration) → IsUnderWayIfAny lazy.live last → AreGranulesIfAny last (to_move last (need_of last act))
+      on None way = tt
+      on (Some last) way =
+          let need = needed_for last.old last.migrate act in
+          let are = need_is_granules last (granules_apart last.old last.migrate) act in
+          record {
+            each = all_kept (has same_granule (granules_of last.old last.migrate)) (λ g. not (is_done last g)) need are.each;
+            apart = apart-filter same_granule (λ g. not (is_done last g)) need are.apart;
+          }
+
+  pub nothing_left : to_move (with_moved lazy (to_move lazy.last (need_of lazy.last act))).last (need_of lazy.last act) ≡ []
+  nothing_left = on lazy.last
+    where
+      on : (last : Option Migration) → to_move (with_moved (record lazy { last = last }) (to_move last (need_of last act))).last (need_of last act) ≡ []
+      on None = refl
+      on (Some last) =
+          let need = needed_for last.old last.migrate act in
+          let left = not_done last need in
+          let made = recorded lazy last need (not_done last left) (λ g. left_or_done last left g ∙ left_or_done last need g) in
+          let then : Migration = record last { done = made.0 } in
+          subst (λ (o : Option Migration). to_move o need ≡ []) (sym made.1)
+          (none_left_if_done then need (all_so (has same_granule need) (is_done then) (λ g there. made.2 g ∙ or_right (is_done last g) (has same_granule need g) there) need (has_own same_granule same_granule-itself need)))
+
+-- the need, by the pass of the last migration
+pub need_by_pass : (last : Option Migration) (pass : Option (Where Kept)) (act : Action) → IsByPass last pass → need_of last act ≡ needed_in (option_map (λ p. p.value) pass) act
+need_by_pass None None act is = refl
+need_by_pass (Some last) (Some pass) act is = ap (λ (l : Migration). needed_for l.old l.migrate act) is
+need_by_pass None (Some pass) act is = absurd is
+need_by_pass (Some last) None act is = absurd is
+
+pub granules_by_pass : (last : Option Migration) (pass : Where Kept) (gs : List Granule) → IsByPass last (Some pass) → AreGranulesIfAny last gs → AreGranules (migration_of pass.value []) gs
+granules_by_pass None pass gs is are = absurd is
+granules_by_pass (Some last) pass gs is are =
+    let same : AreGranules (migration_of pass.value last.done) gs = subst (λ (l : Migration). AreGranules l gs) is are in
+    record { each = same.each; apart = same.apart }
+
+pub none_by_pass : (last : Option Migration) → IsByPass last None → last ≡ None
+none_by_pass None is = refl
+none_by_pass (Some last) is = absurd is
+
+-- where there is no migration nothing moves
+pub moves_nothing : (m : Machine) (gs : List Granule) → m.lazy.last ≡ None → Moves m gs m
+moves_nothing m gs none = record {
+  granules_of_it = subst (λ (last : Option Migration). AreGranulesIfAny last gs) (sym none) tt;
+  goes = ap (λ (lazy : LazyState). record m { lazy = lazy }) (sym (on m.lazy.last none));
+}
+  where
+    on : (last : Option Migration) → last ≡ None → with_moved (record m.lazy { last = last }) gs ≡ record m.lazy { last = last }
+    on None e = refl
+    on (Some last) e = absurd cc
+
+-- MOVED: the store alone has changed
+abbrev pub HasCome : Machine → Bound → LazyState → Type 0
+HasCome m bound lazy = (lazy ≡ m.lazy) ⊎ (lazy ≡ with_moved m.lazy (to_move m.lazy.last (need_of m.lazy.last bound.action)))
+
+pub has_come : (m : Machine) (bound : Bound) (now : Machine) → HasMovedNeed m bound now → (lazy : LazyState) × (now ≡ record m { lazy = lazy }) × HasCome m bound lazy
+has_come m bound now moved = elim moved as (λ _. (lazy : LazyState) × (now ≡ record m { lazy = lazy }) × HasCome m bound lazy) [
+  | inl same ↦ (m.lazy, same, inl refl)
+  | inr by ↦ (with_moved m.lazy (to_move m.lazy.last (need_of m.lazy.last bound.action)), by.goes, inr refl)
+]
+
+pub moved_reaches : (start : Database) (m : Machine) (bound : Bound) (now : Machine) → HasMovedNeed m bound now → Reaches start m now
+moved_reaches start m bound now moved = elim moved as (λ _. Reaches start m now) [
+  | inl same ↦ subst (Reaches start m) (sym same) at_once
+  | inr by ↦ one_more at_once (moves (to_move m.lazy.last (need_of m.lazy.last bound.action)) by)
+]
+
+-- what may be replied to may be so still
+pub can_exec_still : (m : Machine) (s : ℕ) (start : Database) (bound : Bound) (lazy : LazyState) → CanExec m s start bound → CanExec (record m { lazy = lazy }) s start bound
+can_exec_still m s start bound lazy can = elim can as (λ _. CanExec (record m { lazy = lazy }) s start bound) [
+  | inl by ↦ inl (record {
+    current = by.current;
+    o = by.o;
+    is = by.is;
+    statement = by.statement;
+    later = by.later;
+    left = by.left;
+    goes_on = by.goes_on;
+    prefix = by.prefix;
+    bound_so = by.bound_so;
+    held = by.held;
+  })
+  | inr refused ↦
+      let by = refused.1 in
+      inr (_, record { place = by.place; current = by.current; closed = by.closed; stray = by.stray; goes = refl })
+]
+
+-- and a reply is reached behind moves
+pub reply_reached : (start : Database) (m : Machine) (s : ℕ) (bound : Bound) (now : Machine) → HasMovedNeed m bound now → (then : Machine) → HasReplied now s bound then → Reaches start m then
+reply_reached start m s bound now moved then by = one_more (moved_reaches start m bound now moved) (elim by as (λ _. Event start now then) [
+  | inl executed ↦ executes s executed.0
+  | inr refused ↦ refuses s refused
+])
+
+-- HOW IT GOES: a statement that is present has its reply, or what is left of its cover is needed
+module _ (m : Machine) (pass : Option (Where Kept)) (bound : Bound) (cover : List Granule) (present : IsPresent m pass bound) where
+  pub not_stale : (n : ℕ) → IsStep m pass bound cover (Stale n) → ⊥
+  not_stale n step = elim step as (λ _. ⊥) [ inl here ↦ here.2 n refl | inr gone ↦ gone.0 present ]
+
+  pub needs_left : (granules : Vec Granule) → IsStep m pass bound cover (Need granules) → (granules.items ≡ to_move m.lazy.last cover) × (to_move m.lazy.last cover ≢ [])
+  needs_left granules step = elim step as (λ _. (granules.items ≡ to_move m.lazy.last cover) × (to_move m.lazy.last cover ≢ [])) [ inl here ↦ here.1 | inr gone ↦ absurd (gone.0 present) ]
+
+  pub not_needed : to_move m.lazy.last cover ≡ [] → (granules : Vec Granule) → IsStep m pass bound cover (Need granules) → ⊥
+  not_needed none granules step = (needs_left granules step).1 none
+
+-- an option of what is lent, and of what it is
+pub lent : {P : Type 0} (r : Option (Bor P)) → option_map (λ p. p.now) r ≡ option_copied r
+lent None = refl
+lent (Some p) = refl
+
+pub lent_by : {P Q : Type 0} (f : P → Q) (r : Option (Bor P)) → option_map (λ p. f p.now) r ≡ option_map f (option_copied r)
+lent_by f None = refl
+lent_by f (Some p) = refl
+
+-- a cover is the need, by the pass of the last migration
+pub cover_is_need : (m : Machine) → IsByPass m.lazy.last m.pass → (bound : Bound) (cover : Cover) → IsCoverOf (option_map (λ (p : Where Kept). p.value) m.pass) bound cover → cover.granules.items ≡ need_of m.lazy.last bound.action
+cover_is_need m by bound cover is = is.granules ∙ sym (need_by_pass m.lazy.last m.pass bound.action by)
+
+-- an action that can need nothing needs nothing
+on_no_target : (old : Database) (m : Migrate) (table : Table) (test : Target → List Value → Bool) → is_some (target_of old m table) ≡ false → giving old m (target_of old m table) test ≡ []
+on_no_target old m table test none = by (target_of old m table) none
+  where
+    by : (t : Option Target) → is_some t ≡ false → giving old m t test ≡ []
+    by None none = refl
+    by (Some t) none = absurd cc
+
+pub needs_none : (m : Kept) (act : Action) → can_need m act ≡ false → needed_in (Some m) act ≡ []
+needs_none m (action.Migrate plan) none = absurd cc
+needs_none m (action.Insert table rows) none = on_no_target (old_of m) m.plan.migrate table (has_key_of table rows) none
+needs_none m (action.Select table items cond fixed) none = on_no_target (old_of m) m.plan.migrate table (may_satisfy cond) none
+needs_none m (action.Update table sets cond fixed) none = on_no_target (old_of m) m.plan.migrate table (may_satisfy cond) none
+needs_none m (action.Delete table cond fixed) none = on_no_target (old_of m) m.plan.migrate table (may_satisfy cond) none
+needs_none m other none = refl
+
+-- A NEED, of a statement that is prepared in the present catalog, by the pass of the last migration
+module _ {start : Database} (m : Machine) (kept : IsKept start m) (bound : Bound) (cover : Cover) (pass : Option (Where Kept)) (own : pass ≡ m.pass)
+    (is : IsCoverOf (option_map (λ (p : Where Kept). p.value) pass) bound cover) (number : bound.catalog ≡ m.db.number) where
+  pub is_present : IsPresent m pass bound
+  is_present = record { catalog = number; migration = ap slot_of own }
+
+  need : cover.granules.items ≡ need_of m.lazy.last bound.action
+  need = cover_is_need m kept.store_valid.by_pass bound cover (subst (λ (p : Option (Where Kept)). IsCoverOf (option_map (λ (p : Where Kept). p.value) p) bound cover) own is)
+
+  pub need_told : (granules : Vec Granule) → IsStep m pass bound cover.granules.items (Need granules) → granules.items ≡ to_move m.lazy.last (need_of m.lazy.last bound.action)
+  need_told granules step = (needs_left m pass bound cover.granules.items is_present granules step).0 ∙ ap (to_move m.lazy.last) need
+
+  module _ (gs : List Granule) (same : gs ≡ to_move m.lazy.last (need_of m.lazy.last bound.action)) where
+    pub may_move : AreGranulesIfAny m.lazy.last gs
+    may_move = subst (AreGranulesIfAny m.lazy.last) (sym same) (need_granules m.lazy bound.action kept.store_valid.seen_as.lazy_state)
+
+    -- behind its moves
+    module _ (now : Machine) (by : Moves m gs now) where
+      pub has_moved : HasMovedNeed m bound now
+      has_moved = inr (subst (λ (gs : List Granule). Moves m gs now) same by)
+
+      pub present_then : IsPresent now pass bound
+      present_then = record {
+        catalog = number ∙ sym (ap (λ (k : Machine). k.db.number) by.goes);
+        migration = ap slot_of (own ∙ sym (ap (λ (k : Machine). k.pass) by.goes));
+      }
+
+      pub none_then : to_move now.lazy.last cover.granules.items ≡ []
+      none_then =
+          let stored : now.lazy ≡ with_moved m.lazy (to_move m.lazy.last (need_of m.lazy.last bound.action)) = ap (λ (k : Machine). k.lazy) by.goes ∙ ap (with_moved m.lazy) same in
+          ap₂ (λ (l : LazyState) (ns : List Granule). to_move l.last ns) stored need ∙ nothing_left m.lazy bound.action
+
+      pub can_then : (s : ℕ) → CanExec m s start bound → CanExec now s start bound
+      can_then s can = subst (λ (k : Machine). CanExec k s start bound) (sym by.goes) (can_exec_still m s start bound (with_moved m.lazy gs) can)

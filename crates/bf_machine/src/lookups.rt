@@ -1,0 +1,153 @@
+//! The old rows of a migration by their values, kept while it is the last one.
+
+ghost use Rattle.std.specs.Prelude.{◌≡◌, IfOk, IsTrue, OnOk, Some};
+ghost use Rattle.std.specs.Option.{option_map};
+ghost use Rattle.boxcar.specs.Table.{Shows};
+ghost use Rattle.bf_image.specs.Migrations.{value_indexes};
+ghost use Rattle.bf_query.specs.Actions.{IsWellBound};
+ghost use Rattle.bf_store.specs.Stores.{IsOf};
+ghost use Rattle.bf_transpose.specs.Covers.{IsCoverOf};
+
+use crate::opened::Opened;
+use bf_base::Memory;
+use bf_image::{MigrationPass, Registry, ValueIndexes};
+use bf_transpose::{Cover, can_need, cover_of};
+use bf_tree::Bound;
+use std::alloc::Global;
+use std::marker::{Model, PhantomData};
+
+/// The old rows of a migration of the run's registry by their values: what covers are found by.
+/// Contracts see the pass of the migration.
+#[derive(Drop)]
+pub struct Lookups<N: Opened> {
+    pass: MigrationPass,
+    indexes: ValueIndexes,
+    opened: PhantomData<N>,
+}
+
+impl<N: Opened> Model for Lookups<N> {
+    ghost use Rattle.std.specs.Prelude.{◌≡◌};
+    ghost use Rattle.boxcar.specs.Table.{Shows, Where, where_coded};
+    ghost use Rattle.bf_image.specs.Migrations.{value_indexes};
+    ghost use Rattle.bf_image.specs.contracts.migration.Migration as migrations;
+    ghost use Rattle.bf_image.specs.declared.migration.Migration.{Migration as Seen};
+
+    ghost Value = { Where Seen };
+
+    ghost coded = { where_coded migrations.the_row.coded };
+
+    ghost view = { λ l. l.pass };
+
+    ghost invariant = { λ l. Shows N.registry.migrations l.pass
+        × (l.indexes ≡ value_indexes l.pass.value) };
+}
+
+impl<N: Opened> Lookups<N> {
+    /// The look-ups of a migration. It costs what [`ValueIndexes::of`] does.
+    ///
+    /// # Errors
+    /// Where memory runs out.
+    fn of(alloc: Global, registry: &Registry, pass: &MigrationPass) -> Result<Lookups<N>, Memory>
+        requires registry { registry.now ≡ N.registry }
+        requires pass { Shows N.registry.migrations pass.now }
+        ensures { IfOk result (λ lookups. lookups ≡ pass.now) }
+    {
+        let indexes = ValueIndexes::of(alloc, registry.migration(pass))?;
+        Ok(Lookups {
+            pass: pass.copy(),
+            indexes,
+            opened: PhantomData,
+        })
+    }
+
+    /// The old rows by their values.
+    pub fn indexes(&self) -> &ValueIndexes
+        ensures { result.now ≡ value_indexes self.now.value }
+    {
+        &self.indexes
+    }
+
+    /// Whether they are those of a migration.
+    fn are_of(&self, registry: &Registry, pass: &MigrationPass) -> bool
+        requires registry { registry.now ≡ N.registry }
+        requires pass { Shows N.registry.migrations pass.now }
+        ensures { IsTrue result → self.now.value ≡ pass.now.value }
+    {
+        registry.same_migration(&self.pass, pass)
+    }
+}
+
+/// Whether look-ups that are kept, if there are any, are those of a migration.
+fn are_kept<N: Opened>(
+    registry: &Registry,
+    lookups: &Option<Lookups<N>>,
+    pass: &MigrationPass,
+) -> bool
+    requires registry { registry.now ≡ N.registry }
+    requires pass { Shows N.registry.migrations pass.now }
+    ensures { IsTrue result
+        → option_map (λ found. found.value) lookups.now ≡ Some pass.now.value }
+{
+    match lookups {
+        Some(found) => found.are_of(registry, pass),
+        None => false,
+    }
+}
+
+/// Makes the look-ups of a migration, unless they are kept. It costs what [`ValueIndexes::of`] does
+/// then, and else takes no memory.
+///
+/// # Errors
+/// Where memory runs out.
+pub fn look_up<N: Opened>(
+    alloc: Global,
+    registry: &Registry,
+    lookups: &mut Option<Lookups<N>>,
+    pass: &MigrationPass,
+) -> Result<(), Memory>
+    requires registry { registry.now ≡ N.registry }
+    requires pass { Shows N.registry.migrations pass.now }
+    ensures { OnOk result
+        (option_map (λ found. found.value) lookups.new ≡ Some pass.now.value) }
+{
+    if !are_kept(registry, lookups, pass) {
+        *lookups = Some(Lookups::of(alloc, registry, pass)?);
+    }
+    Ok(())
+}
+
+/// The cover of a bound statement, and the look-ups of the migration are kept where it can need any
+/// of it. It costs what [`cover_of`] does, and what [`look_up`] does where it can.
+///
+/// # Errors
+/// Where memory runs out.
+pub fn cover_with<N: Opened>(
+    alloc: Global,
+    registry: &Registry,
+    lookups: &mut Option<Lookups<N>>,
+    migration: Option<&MigrationPass>,
+    bound: &Bound,
+) -> Result<Cover, Memory>
+    requires registry { registry.now ≡ N.registry }
+    requires pass { IsOf N.registry (option_map (λ pass. pass.now) migration) }
+    requires bound { IsWellBound bound.now.action }
+    ensures { IfOk result
+        (IsCoverOf (option_map (λ pass. pass.now.value) migration.entry) bound.now) }
+{
+    let Some(pass) = migration else {
+        return cover_of(alloc, bound, None);
+    };
+    let last = registry.migration(pass);
+    if !can_need(bound, last) {
+        return Ok(Cover {
+            catalog: bound.catalog,
+            migration: last.number,
+            granules: Vec::new(alloc),
+        });
+    }
+    look_up(alloc, registry, lookups, pass)?;
+    let Some(found) = lookups else {
+        unreachable!();
+    };
+    cover_of(alloc, bound, Some((last, found.indexes())))
+}
