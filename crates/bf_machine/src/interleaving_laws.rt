@@ -1,6 +1,6 @@
 //! Laws of a machine whose sessions take turns. Each is the contract of a function that does nothing.
 
-ghost use Rattle.std.specs.Prelude.{◌≡◌, ◌≢◌, ◌↔◌, ◌⊎◌, ℕ, ◌<◌, ◌≤◌, Bool, List, [], Some, IsTrue};
+ghost use Rattle.std.specs.Prelude.{◌≡◌, ◌≢◌, ◌↔◌, ◌⊎◌, ℕ, ◌<◌, ◌≤◌, Bool, List, [], None, Some, IsTrue};
 ghost use Rattle.bf_locks.specs.declared.answer.LockAnswer.{LockAnswer};
 ghost use Rattle.bf_locks.specs.declared.answer.LockAnswer.TheVariants.{Die, Granted, Wait};
 ghost use Rattle.bf_locks.specs.declared.mode.Mode.{Mode};
@@ -17,7 +17,6 @@ ghost use Rattle.bf_sql.specs.migrations.Lazy.{pending_of, sweep_of, view_of};
 ghost use Rattle.bf_sql.specs.migrations.Plans.{prepared_of};
 ghost use Rattle.bf_store.specs.Stores.{Store};
 ghost use Rattle.bf_machine.specs.InOrder.{IsRunInOrder};
-ghost use Rattle.bf_machine.specs.Movement.{movement, sweep_told};
 ghost use Rattle.bf_machine.specs.Runnable.{phases_rise_from};
 ghost use Rattle.bf_machine.specs.interleaving.Calls.{HasSessionEnded, IsPlace};
 ghost use Rattle.bf_machine.specs.interleaving.Events.{Aborts, Asks, Begins, Commits, Executes, LastHasEnded, Moves, Reaches, Refuses};
@@ -118,14 +117,14 @@ pub fn a_statement_asks_for_what_it_is_prepared_to()
         → prepared_of db in_block s ≡ Some bound → footprint_in db in_block s ≡ footprint_of bound }
 {}
 
-/// Sessions in sequence run in order. Nothing has happened in a new machine, so it is in sequence; and once each session
-/// of one that is in sequence has ended, its transcripts and history are those of a run in the order of the text, where
-/// its store has moved what the statements of the history needed, and no more.
+/// Sessions in sequence run in order. Nothing has happened in a new machine, and where its store has no migration yet it
+/// is in sequence; and once each session of one that is in sequence has ended, its transcripts and history are those of a
+/// run in the order of the text, where its store has moved what the statements of the history needed, and no more.
 pub fn sessions_in_sequence_run_in_order()
-    ensures new { (store : Store) (script : Script) (retries : ℕ)
-        → IsTrue (phases_rise_from 0 script.sessions) → IsInSequence (fresh store script retries) }
-    ensures ran { (m : Machine) → IsKept empty_database m → IsInSequence m
+    ensures new { (start : Database) (store : Store) (script : Script) (retries : ℕ)
+        → IsTrue (phases_rise_from 0 script.sessions) → store.lazy.last ≡ None
+        → IsInSequence start (fresh store script retries) }
+    ensures ran { (m : Machine) → IsKept empty_database m → IsInSequence empty_database m
         → ((s : ℕ) → IsPlace m.script s → HasSessionEnded m s)
-        → sweep_of m.lazy.last ≡ sweep_told (movement m.script empty_database m.history)
         → IsRunInOrder m.script (transcripts_of m) m.history (sweep_of m.lazy.last) }
 {}

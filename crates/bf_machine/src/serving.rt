@@ -11,7 +11,7 @@ ghost use Rattle.bf_machine.specs.interleaving.Calls.{CanExec, CanRefuse, HasRep
 ghost use Rattle.bf_machine.specs.interleaving.Events.{Begins, Moves, Reaches};
 ghost use Rattle.bf_machine.specs.interleaving.Kept.{IsKept};
 ghost use Rattle.bf_machine.specs.interleaving.Machines.{Machine as Seen, Open, open_at};
-ghost use Rattle.bf_machine.specs.interleaving.Serving.{CanGo, CannotGo, Driven, HasLocked, HasMore, HasMovedNeed, HasReply, HasSettled, IsAlone, IsBoundNext, IsInSequence, IsPreparedNext, IsToLock, IsTurn, IsTurnOf, IsYoungest, Serves, Turned, can_go, deaths_at, unanswered};
+ghost use Rattle.bf_machine.specs.interleaving.Serving.{CanGo, CannotGo, Driven, HasLocked, HasEndedAlone, HasMore, HasMovedNeed, HasReply, HasSettled, IsAlone, IsBoundNext, IsFollowed, IsInSequence, IsPreparedNext, IsToLock, IsTurn, IsTurnOf, IsYoungest, Serves, Turned, can_go, deaths_at, unanswered};
 ghost use Rattle.bf_machine.specs.declared.stand.Turn.TheVariants.{Served};
 
 use crate::lookups::{Lookups, cover_with, look_up};
@@ -70,6 +70,8 @@ fn end_if_answered<N: Opened, R: Wait>(
     ensures more { OnOk result (HasMore machine.new session) }
     ensures has_reply { OnOk result (HasReply machine.new session) }
     ensures settled { OnOk result (HasSettled machine.old session machine.new) }
+    ensures ended { OnOk result
+        ((machine.new ≡ machine.old) ⊎ HasEndedAlone machine.old session machine.new) }
 {
     if !machine.is_answered(session) {
         return Ok(());
@@ -393,6 +395,8 @@ fn end_open_groups<N: Opened, R: Wait>(
     ensures alone { OnOk result ((s : ℕ) → IsAlone machine.old s
         → Serves machine.old s machine.new
         × (unanswered machine.new s ≤ unanswered machine.old s)) }
+    ensures followed { OnOk result ((s : ℕ) → IsAlone machine.old s
+        → IsFollowed machine.old s N.opening → IsFollowed machine.new s N.opening) }
 {
     while let Some(session) = youngest(machine) {
         take_turn(alloc, rt, registry, lookups, machine, session)?;
@@ -416,7 +420,8 @@ fn end_sessions<N: Opened, R: Wait>(
     ensures ended { OnOk result
         ((s : ℕ) → IsPlace machine.new.script s → HasSessionEnded machine.new s) }
     ensures deaths { OnOk result ((n : ℕ) → deaths_at machine.new n ≡ deaths_at machine.old n) }
-    ensures sequence { OnOk result (IsInSequence machine.old → IsInSequence machine.new) }
+    ensures sequence { OnOk result
+        (IsInSequence N.opening machine.old → IsInSequence N.opening machine.new) }
 {
     while let Some(session) = first_to_go(machine) {
         take_turn(alloc, rt, registry, lookups, machine, session)?;
@@ -457,8 +462,8 @@ pub fn in_order<N: Opened, R: Wait>(
         ((s : ℕ) → IsPlace machine.new.script s → HasSessionEnded machine.new s) }
     ensures no_death { OnOk result (order.now ≡ [] → ((s : ℕ) → open_at machine.old s ≡ None)
         → (n : ℕ) → deaths_at machine.new n ≡ deaths_at machine.old n) }
-    ensures sequence { OnOk result
-        (order.now ≡ [] → IsInSequence machine.old → IsInSequence machine.new) }
+    ensures sequence { OnOk result (order.now ≡ []
+        → IsInSequence N.opening machine.old → IsInSequence N.opening machine.new) }
 {
     let count = machine.session_count();
     let mut lookups = None;

@@ -1,5 +1,5 @@
 -- SERVING sessions on one thread: what a turn of a session makes of a machine.
-use Rattle.std.specs.Prelude.{◌≡◌, ◌≢◌, ◌⊎◌, ℕ, ◌+◌, ◌-◌, ◌<◌, ◌≤◌, Bool, true, false, List, [], ◌∷◌, ◌++◌, length, Some, None, Contains, nat_le, slice_get, IsTrue}
+use Rattle.std.specs.Prelude.{◌≡◌, ◌≢◌, ◌⊎◌, ℕ, ◌+◌, ◌-◌, ◌<◌, ◌≤◌, Bool, true, false, List, [], ◌∷◌, ◌++◌, length, take, Some, None, Contains, nat_le, slice_get, IsTrue}
 use Rattle.std.specs.Option.{option_map_or}
 use Rattle.std.specs.List.{AllByRecursion}
 use Rattle.bf_locks.specs.declared.answer.LockAnswer.{LockAnswer}
@@ -14,9 +14,9 @@ use Rattle.bf_sql.specs.Database.{Database}
 use Rattle.bf_sql.specs.migrations.Plans.{prepared_of}
 use Rattle.bf_store.specs.States.{need_of, to_move}
 use Rattle.bf_sql.specs.Footprints.{Lock, footprint_of}
-use Rattle.bf_sql.specs.Groups.{ends_block}
+use Rattle.bf_sql.specs.Groups.{ends_block, statements_of}
 use Rattle.bf_live.specs.OpenGroups.{Holds}
-use Rattle.bf_machine.specs.Movement.{moving_behind, moving_seen}
+use Rattle.bf_machine.specs.Movement.{movement, moving_behind, moving_in, moving_seen}
 use Rattle.bf_machine.specs.Runnable.{phases_rise_from}
 use Rattle.bf_machine.specs.declared.stand.Turn.{Turn}
 use Rattle.bf_machine.specs.declared.stand.Turn.TheVariants as turn
@@ -75,6 +75,40 @@ module _ (m : Machine) (s : ℕ) where
   abbrev pub sees : Database
   sees = option_map_or (λ (o : Open). left_by m.db o.pending) (open_at m s) m.db
 
+  -- the statements of the open group that have their replies
+  abbrev pub answered_text : List Statement
+  answered_text = option_map_or (λ (o : Open). take (length o.replies) (text_of m s o)) (open_at m s) []
+
+  -- RECORDED: how statements of the session come into the history. Behind them the open group goes on, and no entry comes
+  pub record GoesOnWith (ss : List Statement) (next : Machine) : Type 0 where
+    pub o : Open
+    pub is : open_at next s ≡ Some o
+    pub text : answered_text next s ≡ answered_text m s ++ ss
+    pub history : next.history ≡ m.history
+
+  -- or the group has ended, and its entry comes last
+  pub record IsEnteredWith (ss : List Statement) (next : Machine) : Type 0 where
+    pub closed : open_at next s ≡ None
+    pub entry : Entry
+    pub text : statements_of m.script entry ≡ answered_text m s ++ ss
+    pub history : next.history ≡ m.history ++ entry ∷ []
+
+  -- or the statement is a COMMIT or ROLLBACK in no group, of which no entry comes
+  pub record IsStrayWith (ss : List Statement) (next : Machine) : Type 0 where
+    pub closed : open_at m s ≡ None
+    pub still : open_at next s ≡ None
+    pub statement : Statement
+    pub is : ss ≡ statement ∷ []
+    pub ends : ends_block statement ≡ true
+    pub history : next.history ≡ m.history
+
+  abbrev pub IsRecorded : List Statement → Machine → Type 0
+  IsRecorded ss next = GoesOnWith ss next ⊎ IsEnteredWith ss next ⊎ IsStrayWith ss next
+
+  -- FOLLOWED: of the last migration has moved what the statements of the history needed, and then those of the session's open group
+  abbrev pub IsFollowed : Database → Type 0
+  IsFollowed start = moving_seen m.lazy.last ≡ moving_in (movement m.script start m.history) false m.db answered_text
+
   -- ANSWERED: one statement more has its reply. Of the last migration exactly what the statement needs has moved besides; and where
   -- it is a MIGRATE that nothing is against, the next one has begun, of which nothing has moved
   pub record HasAnswered (next : Machine) : Type 0 where
@@ -82,6 +116,7 @@ module _ (m : Machine) (s : ℕ) where
     pub statement : Statement
     pub is : slice_get (statements_at m s) (length (replies_at m s)) ≡ Some statement
     pub moved : moving_seen next.lazy.last ≡ moving_behind (moving_seen m.lazy.last) sees is_in_block statement
+    pub recorded : IsRecorded (statement ∷ []) next
 
   -- ENDED: only the open group has ended, which had all its replies
   pub record HasEndedAlone (next : Machine) : Type 0 where
@@ -91,6 +126,7 @@ module _ (m : Machine) (s : ℕ) where
     pub closed : open_at next s ≡ None
     pub same : unanswered next s ≡ unanswered m s
     pub moved : moving_seen next.lazy.last ≡ moving_seen (put_into m.lazy o.pending).last
+    pub recorded : IsEnteredWith [] next
 
   -- SETTLED: what the open group is to leave is told of as if it had ended, whether it has or goes on
   abbrev pub HasSettled : Machine → Type 0
@@ -197,10 +233,12 @@ abbrev pub SessionsRiseFrom : ℕ → List Entry → Type 0
 SessionsRiseFrom s [] = Unit {0}
 SessionsRiseFrom s (e ∷ es) = (s ≤ e.session) × SessionsRiseFrom e.session es
 
--- IN SEQUENCE: no group is open or has died, and the entries are of one session after the other, each once those before it have ended
-pub record IsInSequence (m : Machine) : Type 0 where
+-- IN SEQUENCE: no group is open or has died, the entries are of one session after the other, each once those before it have ended,
+-- and of the last migration what their statements needed has moved, and no more
+pub record IsInSequence (start : Database) (m : Machine) : Type 0 where
   pub phases : IsTrue (phases_rise_from 0 m.script.sessions)
   pub closed : (s : ℕ) → open_at m s ≡ None
   pub no_death : (n : ℕ) → deaths_at m n ≡ []
   pub rises : SessionsRiseFrom 1 m.history
   pub ended : AllByRecursion (λ e. (s : ℕ) → 1 ≤ s → s < e.session → HasSessionEnded m s) m.history
+  pub moved : moving_seen m.lazy.last ≡ movement m.script start m.history

@@ -70,9 +70,11 @@ invariant_of-self g c =
     let value = c.args.migration.now.value in
     let passes = by_copied (λ (p : Where Kept). p.value) c.as_ref-last.result ∙ ap (option_map (λ (p : Where Kept). p.value)) (c.as_ref-last.ensures.value ∙ c.migration-last.ensures.pass) in
     let same : option_map (λ (p : Where Kept). p.value) i.store.migration ≡ Some value = sym (c.are_same-same.ensures.values c.if-not-same.false ∙ passes) in
-    let are : AreGranulesIfAny i.store.lazy.last c.args.granules.now = of_the_last i.store.lazy.last i.store.migration c.migration-last.ensures.by_pass value same c.args.granules.now c.requires.granules in
-    (moved_sound i.script i.retries i.store i.locks i.began.items i.sessions.items i.history i.commits i.transcripts c.self.invariant.0
-    c.args.granules.now are c.move_granules.new.self c.in-Ok.ensures.ok.state c.in-Ok.ensures.migration, c.self.invariant.1)
+    let are : AreGranulesIfAny i.store.lazy.last c.args.granules.now = of_the_last i.store.lazy.last i.store.migration c.migration-last.ensures.by_pass value same c.args.granules.now c.requires.granules in (
+      moved_sound i.script i.retries i.store i.locks i.began.items i.sessions.items i.history i.commits i.transcripts c.self.invariant.0
+          c.args.granules.now are c.move_granules.new.self c.in-Ok.ensures.ok.state c.in-Ok.ensures.migration,
+      c.self.invariant.1,
+    )
 
 pub invariant_of-self-2 : goal.invariant_of-self-2
 invariant_of-self-2 g c =
