@@ -1,5 +1,5 @@
 -- What a call of the program answers, when, and what it writes.
-use Rattle.std.specs.Prelude.{◌≡◌, ℕ, ◌+◌, ◌≤◌, ◌⊎◌, Bool, true, false, List, [], ◌∷◌, ◌++◌, length, codes, Option, None, Ok, Err, IsTrue}
+use Rattle.std.specs.Prelude.{◌≡◌, ℕ, ◌+◌, ◌≤◌, ◌⊎◌, Bool, true, false, List, [], ◌∷◌, ◌++◌, length, codes, Option, None, Ok, Err}
 use Rattle.std.specs.Io.KnownBytes.{Appends, Keeps, Consumes, IsAtEnd}
 use lib.Pointwise.{pointwise}
 use Rattle.bf_io.specs.Causes.{Rose}
@@ -16,9 +16,8 @@ use Rattle.bf_tree.specs.declared.history.Sweep.{Sweep}
 use Rattle.bf_text.specs.Replies.{newline, numbered}
 use Rattle.bf_text.specs.Report.{report_text}
 use Rattle.bf_run.specs.declared.status.Status.{Status}
-use Rattle.bf_run.specs.declared.status.Status.TheVariants.{Done, Usage, Script as ScriptError, ReadFault, WriteFault, Memory, NotBuilt}
-use Rattle.bf_machine.specs.InOrder.{migrates_nothing}
-use Rattle.bf_run.specs.Runs.{IsOfForm, IsRunOf}
+use Rattle.bf_run.specs.declared.status.Status.TheVariants.{Done, Usage, Script as ScriptError, ReadFault, WriteFault, Memory}
+use Rattle.bf_machine.specs.InOrder.{IsRunInOrder}
 
 -- STREAM: the bytes that a source has left, or that a sink took, where they are told, and its count of faults, each
 -- before and after a call
@@ -43,16 +42,12 @@ pub record IsReport (bytes text : List ℕ) : Type 0 where
   pub history : List Entry
   pub sweep : Sweep
   pub is_script : IsScriptText bytes (Ok script)
-  pub is_run : IsRunOf bytes script transcripts history sweep
+  pub is_run : IsRunInOrder script transcripts history sweep
   pub report_written : text ≡ report_text transcripts history None sweep
 
--- the text is a script that is served: a plain one, or one of the form that migrates one table
-abbrev pub IsServed : List ℕ → Type 0
-IsServed bytes = (script : Script) × IsScriptText bytes (Ok script) × (IsTrue (migrates_nothing script) ⊎ IsOfForm bytes)
-
--- the text is a script that is not served yet
-abbrev pub IsNotServed : List ℕ → Type 0
-IsNotServed bytes = (script : Script) × IsScriptText bytes (Ok script) × (migrates_nothing script ≡ false) × (IsOfForm bytes → ⊥)
+-- the text is a script; each one is served
+abbrev pub IsScript : List ℕ → Type 0
+IsScript bytes = (script : Script) × IsScriptText bytes (Ok script)
 
 -- the source had no more bytes than a script and was read to its end, or until it had given one byte more
 abbrev pub IsReadThrough : Stream → List ℕ → Type 0
@@ -61,14 +56,13 @@ IsReadThrough input bytes =
     ⊎ ((read : List ℕ) × (length read ≡ longest_script + 1) × Consumes input.bytes input.bytes_after read)
 
 -- CAUSES: when a status comes, for the words, the source and its bytes, before anything is written. No two of Usage,
--- Script with its fault, NotBuilt and Done can come for the same bytes, since a text has one reading; so where the source
+-- Script with its fault and Done can come for the same bytes, since a text has one reading; so where the source
 -- tells its bytes each of them comes exactly there, but for faults of the streams and want of memory
 abbrev pub Comes : List (List ℕ) → Stream → List ℕ → Status → Type 0
 Comes words input bytes Usage = (is_try words ≡ false) × Keeps input.bytes input.bytes_after × IsCalm input
 Comes words input bytes (ScriptError fault) =
     (is_try words ≡ true) × IsCalm input × IsScriptText bytes (Err fault) × IsReadThrough input bytes
-Comes words input bytes NotBuilt = (is_try words ≡ true) × IsCalm input × IsNotServed bytes × IsAtEnd input.bytes_after
-Comes words input bytes Done = (is_try words ≡ true) × IsCalm input × IsServed bytes × IsAtEnd input.bytes_after
+Comes words input bytes Done = (is_try words ≡ true) × IsCalm input × IsScript bytes × IsAtEnd input.bytes_after
 Comes words input bytes ReadFault = (is_try words ≡ true) × Rose input.faults input.faults_after
 Comes words input bytes WriteFault = ⊥
 Comes words input bytes Memory = Unit {0}
@@ -88,7 +82,6 @@ fault_text fault = numbered (codes "script error at ") fault.at ++ codes ": " ++
 abbrev pub IsTextOf : List ℕ → Status → List ℕ → Type 0
 IsTextOf bytes Usage text = text ≡ codes "usage error" ++ newline
 IsTextOf bytes (ScriptError fault) text = text ≡ fault_text fault
-IsTextOf bytes NotBuilt text = text ≡ codes "not built" ++ newline
 IsTextOf bytes Done text = IsReport bytes text
 IsTextOf bytes ReadFault text = text ≡ codes "read fault" ++ newline
 IsTextOf bytes WriteFault text = ⊥
@@ -123,7 +116,6 @@ Ends words input output Memory = Keeps output.bytes output.bytes_after × IsCalm
 Ends words input output Done = AnswersWhole words input output Done
 Ends words input output Usage = AnswersWhole words input output Usage
 Ends words input output (ScriptError fault) = AnswersWhole words input output (ScriptError fault)
-Ends words input output NotBuilt = AnswersWhole words input output NotBuilt
 Ends words input output ReadFault = AnswersWhole words input output ReadFault
 
 -- the number that the program ends with
@@ -134,4 +126,3 @@ number_of_status (ScriptError fault) = 2
 number_of_status ReadFault = 3
 number_of_status WriteFault = 4
 number_of_status Memory = 7
-number_of_status NotBuilt = 9

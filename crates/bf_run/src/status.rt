@@ -23,8 +23,6 @@ pub enum Status {
     WriteFault,
     /// Memory ran out, and nothing is written.
     Memory,
-    /// The input is a script with a MIGRATE, and is not of the one form that migrates a table.
-    NotBuilt,
 }
 
 impl Status {
@@ -39,7 +37,6 @@ impl Status {
             Status::ReadFault => 3,
             Status::WriteFault => 4,
             Status::Memory => 7,
-            Status::NotBuilt => 9,
         }
     }
 }

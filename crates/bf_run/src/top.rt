@@ -1,28 +1,29 @@
 //! The top call.
 
 ghost use Rattle.std.specs.Prelude.{◌≡◌, IfOk, IsTrue, map};
-ghost use Rattle.std.specs.Option.{option_map};
 ghost use Rattle.bf_sql.specs.Database.{empty_database};
 ghost use Rattle.bf_machine.specs.InOrder.{IsRunInOrder};
 ghost use Rattle.bf_machine.specs.Runnable.{phases_rise_from};
-ghost use Rattle.bf_machine.specs.interleaving.Serving.{IsServable};
+ghost use Rattle.bf_machine.specs.interleaving.Kept.{IsWithinLimits};
 ghost use Rattle.bf_run.specs.Outcome.{Ends, IsAnswer, fault_text};
-ghost use Rattle.bf_run.specs.Top.{FindsForm, IsAnswerTo, Tells};
+ghost use Rattle.bf_run.specs.Top.{IsAnswerTo, Tells};
 
 use crate::status::{Status, fault_line};
 use crate::words::are_try;
 use bf_base::{LONGEST_SCRIPT, Memory};
-use bf_form::read_script;
+use bf_image::Registry;
 use bf_io::{ReadError, Sink, Source, read_all, write_whole};
 use bf_lex::{ScriptError, ScriptFault, ScriptKind};
 use bf_live::LiveTables;
-use bf_machine::{Machine, Opened, in_order, migrates_nothing};
+use bf_machine::{Machine, Opened, in_order};
 use bf_parse::script;
+use bf_store::Store;
 use bf_text::report;
-use bf_tree::{Script, Sweep};
+use bf_tree::Script;
 use std::alloc::Global;
 use std::marker::Brand;
 use std::mem::forget;
+use std::sync::Wait;
 
 /// The status of a text that is no script, and what is written of its first fault.
 fn answer_fault(alloc: Global, fault: ScriptFault) -> Result<(Status, Vec<u8>), Memory>
@@ -35,72 +36,58 @@ fn answer_fault(alloc: Global, fault: ScriptFault) -> Result<(Status, Vec<u8>), 
 /// How often a group begins again after a death. None dies where sessions run one after the other.
 const RETRIES: u16 = 0;
 
-/// The report of a run of a plain script over the empty database, by a machine whose type names both.
-fn serve_plain<N: Opened>(alloc: Global, script: Script) -> Result<Vec<u8>, Memory>
+/// The report of a run of a script over the empty database, by a machine whose type names both and the registry
+/// of its migrations. The sessions are served one after the other.
+fn serve<N: Opened, R: Wait>(
+    alloc: Global,
+    rt: &R,
+    registry: &Registry,
+    script: Script,
+) -> Result<Vec<u8>, Memory>
     requires opening { N.opening ≡ empty_database }
+    requires registry { registry.now ≡ N.registry }
     requires script { script ≡ N.script }
-    requires servable { IsServable script }
+    requires limits { IsWithinLimits script }
     requires phases { IsTrue (phases_rise_from 0 script.sessions) }
     ensures { IfOk result (λ text. Tells (IsRunInOrder script) text.items) }
 {
-    let mut machine: Machine<N> = Machine::new(alloc, LiveTables::new(alloc), script, RETRIES)?;
-    in_order(alloc, &mut machine, &[])?;
+    let store = Store::of(alloc, LiveTables::new(alloc));
+    let mut machine: Machine<N> = Machine::new(alloc, store, script, RETRIES)?;
+    in_order(alloc, rt, registry, &mut machine, &[])?;
+    let sweep = machine.sweep();
     let parts = machine.into_parts();
-    let text = report(
-        alloc,
-        &parts.transcripts,
-        &parts.history,
-        None,
-        &Sweep::Never,
-    );
+    let text = report(alloc, &parts.transcripts, &parts.history, None, &sweep);
     // The program ends behind its report, and its memory goes with it: to free the tables row by row and
     // the script word by word would take a fifth of a run.
     forget(parts);
     text
 }
 
-/// The report of a run of a plain script, whose sessions are served one after the other.
-fn plain_report(alloc: Global, script: Script) -> Result<Vec<u8>, Memory>
-    requires servable { IsServable script }
+/// The report of a run of a script over the empty database.
+fn run_report<R: Wait>(alloc: Global, rt: &R, script: Script) -> Result<Vec<u8>, Memory>
+    requires limits { IsWithinLimits script }
     requires phases { IsTrue (phases_rise_from 0 script.sessions) }
     ensures { IfOk result (λ text. Tells (IsRunInOrder script) text.items) }
 {
-    serve_plain::<Brand>(alloc, script)
-}
-
-/// The report of a run of a text of the form that migrates one table lazily, if it is one.
-fn form_report(alloc: Global, text: &[u8]) -> Result<Option<Vec<u8>>, Memory>
-    ensures { IfOk result (λ found. FindsForm text.now (option_map (λ v. v.items) found)) }
-{
-    let Some(form) = read_script(alloc, text)? else {
-        return Ok(None);
-    };
-    let run = bf_move::run(alloc, &form)?;
-    let text = report(alloc, &run.transcripts, &run.history, None, &run.sweep)?;
-    Ok(Some(text))
+    let (registry, _empty) = Registry::new(alloc, rt)?;
+    serve::<Brand, R>(alloc, rt, &registry, script)
 }
 
 /// The status of an input that was read whole, and what is written.
-fn answer_text(alloc: Global, text: &[u8]) -> Result<(Status, Vec<u8>), Memory>
+fn answer_text<R: Wait>(alloc: Global, rt: &R, text: &[u8]) -> Result<(Status, Vec<u8>), Memory>
     ensures { IfOk result (λ a. IsAnswerTo text.now a.0 a.1.items) }
 {
-    let script = match script(alloc, text) {
-        Ok(script) => script,
-        Err(ScriptError::Fault(fault)) => return answer_fault(alloc, fault),
-        Err(ScriptError::Memory) => return Err(Memory),
-    };
-    if migrates_nothing(&script) {
-        return Ok((Status::Done, plain_report(alloc, script)?));
-    }
-    match form_report(alloc, text)? {
-        Some(report) => Ok((Status::Done, report)),
-        None => Ok((Status::NotBuilt, Vec::from_slice(alloc, b"not built\n")?)),
+    match script(alloc, text) {
+        Ok(script) => Ok((Status::Done, run_report(alloc, rt, script)?)),
+        Err(ScriptError::Fault(fault)) => answer_fault(alloc, fault),
+        Err(ScriptError::Memory) => Err(Memory),
     }
 }
 
 /// The status and its whole text, before a byte is written.
-fn answer<I: Source>(
+fn answer<I: Source, R: Wait>(
     alloc: Global,
+    rt: &R,
     words: &[&str],
     input: &mut I,
 ) -> Result<(Status, Vec<u8>), Memory>
@@ -116,7 +103,7 @@ fn answer<I: Source>(
         return Ok((Status::Usage, Vec::from_slice(alloc, b"usage error\n")?));
     }
     match read_all(alloc, input, LONGEST_SCRIPT) {
-        Ok(bytes) => answer_text(alloc, bytes.as_slice()),
+        Ok(bytes) => answer_text(alloc, rt, bytes.as_slice()),
         Err(ReadError::TooLong) => answer_fault(
             alloc,
             ScriptFault {
@@ -134,9 +121,11 @@ fn answer<I: Source>(
 ///
 /// The whole text is made before its first byte is written, so want of memory is answered with
 /// nothing written. The time is linear in the input and in the report; beside that each statement
-/// compares about log n names, and costs what it reads and writes of its table. Script and tables are not freed:
+/// compares about log n names, costs what it reads and writes of its table, and on a table that a migration made
+/// what it costs to find and move the rows that it needs. Script and tables are not freed:
 /// the call is a program's last, and their memory goes with the program.
-pub fn bullfrog<I: Source, O: Sink>(
+pub fn bullfrog<I: Source, O: Sink, R: Wait>(
+    rt: &R,
     alloc: Global,
     words: &[&str],
     input: &mut I,
@@ -156,7 +145,7 @@ pub fn bullfrog<I: Source, O: Sink>(
           faults_after = O.faults output.new;
         }) result }
 {
-    let Ok((status, text)) = answer(alloc, words, input) else {
+    let Ok((status, text)) = answer(alloc, rt, words, input) else {
         return Status::Memory;
     };
     match write_whole(output, text.as_slice()) {

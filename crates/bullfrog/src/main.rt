@@ -10,6 +10,7 @@ use std::alloc::{AllocError, Global};
 use std::env::Env;
 use std::io::ErrorKind;
 use std::process::ExitCode;
+use std::sync::Wait;
 use std::{env, io};
 use writing::Writing;
 
@@ -26,14 +27,14 @@ fn texts(alloc: Global, words: &[String]) -> Result<Vec<&str>, AllocError> {
     words.iter().map(|word| word.as_str()).collect(alloc)
 }
 
-fn serve<R: AllocGlobal + Input + Print>(rt: &R, words: &[&str]) -> Status {
+fn serve<R: AllocGlobal + Input + Print + Wait>(rt: &R, words: &[&str]) -> Status {
     let mut source = Reading::new(rt.reader());
     let mut sink = Writing::new(io::writer(rt));
-    bullfrog(rt.alloc(), words, &mut source, &mut sink)
+    bullfrog(rt, rt.alloc(), words, &mut source, &mut sink)
 }
 
 /// Words that are not UTF-8 are served as none, which are wrong too.
-fn run<R: Env + AllocGlobal + Input + Print>(rt: &R) -> Status {
+fn run<R: Env + AllocGlobal + Input + Print + Wait>(rt: &R) -> Status {
     match words(rt) {
         Ok(words) => match texts(rt.alloc(), words.as_slice()) {
             Ok(texts) => serve(rt, texts.as_slice()),

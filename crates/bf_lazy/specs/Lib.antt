@@ -1,9 +1,0 @@
-pub mod Conditions
-pub mod Database
-pub mod History
-pub mod Laws
-pub mod Lazy
-pub mod Meaning
-pub mod Migrations
-pub mod Movement
-pub mod Refusals
