@@ -104,7 +104,34 @@ class Joined:
         return f"SELECT * FROM bought WHERE id = {size // 2 + at};"
 
 
-KINDS = [Split(), Totals(), Joined()]
+class Pairs:
+    """Bidders with offers of one lot: four rows with four, all of which move as one."""
+
+    name = "four rows with four"
+    tables = ["bid (bidder INT, lot INT, PRIMARY KEY (bidder))", "offer (seller INT, lot INT, PRIMARY KEY (seller))"]
+    migrate = "MIGRATE (CREATE TABLE met AS SELECT bidder, seller, bid.lot FROM bid JOIN offer ON bid.lot = offer.lot);"
+    eager = [
+        "CREATE TABLE met (bidder INT, seller INT, lot INT, PRIMARY KEY (bidder, seller)) WITHOUT ROWID;",
+        "INSERT INTO met SELECT bidder, seller, bid.lot FROM bid JOIN offer ON bid.lot = offer.lot;",
+        "DROP TABLE bid;",
+        "DROP TABLE offer;",
+    ]
+    all = ["SELECT COUNT(*), SUM(lot) FROM met;"]
+
+    def fill(self, size):
+        rng = random.Random(size)
+        lots = size // 8
+        return [
+            line
+            for table in ("bid", "offer")
+            for line in inserts(table, [f"({key},{key % lots})" for key in rng.sample(range(size // 2), size // 2)])
+        ]
+
+    def first(self, size, at):
+        return f"SELECT * FROM met WHERE bidder = {size // 16 + at} AND seller = {size // 16 + at + size // 8};"
+
+
+KINDS = [Split(), Totals(), Joined(), Pairs()]
 
 
 def scripts(kind, size):
