@@ -1,5 +1,5 @@
 -- A sweep is complete exactly where each granule has moved once, and as many have moved then as there are.
-use Rattle.std.proofs.Common.{◌≡◌, Bool, true, false, not, List, [], ◌∷◌, filter, length, map, Some, ◌==◌, refl, sym, ap, ◌∙◌, inl, inr, arith}
+use Rattle.std.proofs.Common.{◌≡◌, Bool, true, false, not, List, [], ◌∷◌, filter, length, Some, ◌==◌, refl, sym, ap, ◌∙◌, inl, inr, arith}
 use Rattle.std.specs.Cmp.{IsEquivalence}
 use Rattle.std.specs.List.{list_all, count_by, AllByRecursion, IsDistinct}
 use Rattle.std.proofs.lemmas.Bool.{and_parts, and_from, or_parts, not-true, cases_Bool, eqb-true, eq-eqb, false≢true}
@@ -90,7 +90,7 @@ module _ (live : Database) (last : Migration) (way : IsUnderWay live last) where
 
   pub as_many : IsComplete last → length last.done ≡ length granules
   as_many once =
-      let same : length done ≡ length last.done = length-map (λ (d : DoneGranule). d.granule) last.done in
+      let same : length done ≡ length last.done = length-map last.done (λ (d : DoneGranule). d.granule) in
       let no_more = length-le_from_is_member same_granule_equiv done granules (distinct_if_apart done way.once) (λ g there. has_if_within done granules g way.granules there) in
       let no_fewer = length-le_from_is_member same_granule_equiv granules done (distinct_if_apart granules (granules_apart last.old last.migrate)) (λ g there. has_if_within granules done g (all_done once) there) in
       omega (arith, same, no_more, no_fewer)
