@@ -1,6 +1,7 @@
 -- Granules move, and nobody sees it.
 pub mod Ahead
 pub mod Anchoring
+pub mod Completing
 pub mod Moves
 pub mod Moving
 pub mod Needing

@@ -1,6 +1,6 @@
 -- What is true of a lazy state, and of the writes of a transaction that is open over it.
-use Rattle.std.specs.Prelude.{◌≡◌, Bool, true, not, List, [], map, Option, Some, None, IsTrue}
-use Rattle.std.specs.List.{list_all, AllByRecursion}
+use Rattle.std.specs.Prelude.{◌≡◌, ◌==◌, Bool, true, not, List, [], map, Option, Some, None, IsTrue}
+use Rattle.std.specs.List.{list_all, count_by, AllByRecursion}
 use Rattle.std.specs.Option.{option_map}
 use Rattle.std.specs.Ordering.{nat_cmp, on, then_cmp}
 use Rattle.std.specs.declared.cmp.Ordering.{Ordering}
@@ -47,6 +47,10 @@ pub record IsUnderWay (live : Database) (last : Migration) : Type 0 where
   pub targets : AllByRecursion (λ t. table_under live t.name ≡ Some (target_table last.old t)) last.migrate.targets
   pub granules : IsTrue (list_all (has same_granule (granules_of last.old last.migrate)) (granules_done last))
   pub once : IsTrue (are_apart same_granule (granules_done last))
+
+-- COMPLETE: each granule of the migration has moved exactly once
+abbrev pub IsComplete : Migration → Type 0
+IsComplete last = IsTrue (list_all (λ g. count_by (same_granule g) (granules_done last) == 1) (granules_of last.old last.migrate))
 
 abbrev pub IsUnderWayIfAny : Database → Option Migration → Type 0
 IsUnderWayIfAny live None = Unit {0}

@@ -24,7 +24,7 @@ ghost use Rattle.bf_sql.specs.Database.{Database, Stored, IsDatabase, stored_at,
 ghost use Rattle.bf_sql.specs.Meaning.{executed, next_number, with_index};
 ghost use Rattle.bf_sql.specs.Objections.{objections};
 ghost use Rattle.bf_sql.specs.RowObjections.{row_objections};
-ghost use Rattle.bf_sql.specs.migrations.Granules.{owner_of};
+ghost use Rattle.bf_sql.specs.migrations.Granules.{granules_of, owner_of};
 ghost use Rattle.bf_sql.specs.migrations.Images.{flipped};
 ghost use Rattle.bf_sql.specs.migrations.Lazy.{DoneGranule, Migration, LazyState, is_done, moved, pending, sweep_of, pending_of, view_of, flipped_lazily};
 ghost use Rattle.bf_sql.specs.migrations.Need.{needed_by, needed_for};
@@ -36,7 +36,7 @@ ghost use Rattle.bf_live.specs.Live.{committed};
 ghost use Rattle.bf_live.specs.Open.{IsOpen, IsStep};
 ghost use Rattle.bf_store.specs.declared.moved.Moved.{Moved};
 ghost use Rattle.bf_store.specs.Calls.{cover_of, with_commit, IsCommitOf, IsFlipOf, IsLegalCommit, IsMoveOf, IsNeedOf, MayFlip};
-ghost use Rattle.bf_store.specs.States.{frozen_lazily, AreGranulesIfAny, HaveMoved, IsLazy, IsOpenLazily, IsQuiet, IsSeenAs, IsUnderWay, is_free, need_of, need_of_all, settled_by};
+ghost use Rattle.bf_store.specs.States.{frozen_lazily, AreGranulesIfAny, HaveMoved, IsComplete, IsLazy, IsOpenLazily, IsQuiet, IsSeenAs, IsUnderWay, is_free, need_of, need_of_all, settled_by};
 
 /// The view of a lazy state is a database.
 pub fn the_view_is_a_database()
@@ -201,6 +201,15 @@ pub fn the_order_of_moves_is_not_seen()
 pub fn a_sweep_is_complete_exactly_where_nothing_is_pending()
     ensures { (last : Migration)
         → (sweep_of (Some last) ≡ Complete last.number (length last.done)) ↔ (pending last ≡ []) }
+{}
+
+/// A sweep is complete exactly where each granule has moved once, and as many have moved then as there
+/// are.
+pub fn a_sweep_is_complete_exactly_where_each_granule_has_moved_once()
+    ensures complete { (live : Database) (last : Migration) → IsUnderWay live last
+        → (sweep_of (Some last) ≡ Complete last.number (length last.done)) ↔ IsComplete last }
+    ensures as_many { (live : Database) (last : Migration) → IsUnderWay live last
+        → IsComplete last → length last.done ≡ length (granules_of last.old last.migrate) }
 {}
 
 /// What each call of a store does is seen as what it stands for: nothing where granules move, the
