@@ -1,4 +1,4 @@
-//! Migrations of more rows than move at a time, and of more than may migrate.
+//! Migrations of more rows than a page of a table has.
 
 use crate::call::reports_alone;
 use std::alloc::{AllocError, Global};
@@ -14,9 +14,8 @@ fn tuples(alloc: Global, first: u32, last: u32, beside: u32) -> Result<String, A
     Ok(text)
 }
 
-// A move has 64 rows at most.
 #[test]
-fn moves_more_rows_than_at_a_time(rt: HostRuntime) -> Result<(), Fail> {
+fn moves_rows_of_several_pages(rt: HostRuntime) -> Result<(), Fail> {
     let alloc = rt.alloc();
     let sevens = tuples(alloc, 1, 50, 7)?;
     let eights = tuples(alloc, 51, 130, 8)?;
@@ -34,32 +33,5 @@ fn moves_more_rows_than_at_a_time(rt: HostRuntime) -> Result<(), Fail> {
     assert!(rt; reports_alone(&rt, alloc, &start[..5], &[made], 4, told)?);
     let told = "2 moved 50 next unit 0 position 50";
     assert!(rt; reports_alone(&rt, alloc, &start, &[made, again], 6, told)?);
-    Ok(())
-}
-
-/// Statements behind a table of 1024 times 1024 rows and one more. It is refused as a source until that one is gone.
-const BIG: &str = "; MIGRATE (CREATE TABLE big AS SELECT aid, bid FROM a JOIN b ON a.v = b.v); \
-MIGRATE (CREATE TABLE c AS SELECT aid, bid FROM big); SELECT * FROM big WHERE aid = 1025; \
-DELETE FROM big WHERE aid = 1025 AND bid = 1025; MIGRATE (CREATE TABLE c AS SELECT aid, bid FROM big); \
-SELECT * FROM c WHERE aid = 1024 AND bid = 1023;";
-
-// Two rows of 1025 are one of the pairs each.
-#[test]
-fn refuses_a_source_with_too_many_rows(rt: HostRuntime) -> Result<(), Fail> {
-    let alloc = rt.alloc();
-    let ones = tuples(alloc, 1, 1024, 1)?;
-    let script = [
-        "PHASE; SESSION; CREATE TABLE a (aid INT, v INT, PRIMARY KEY (aid)); INSERT INTO a VALUES (1025, 2), ",
-        ones.as_str(),
-        "; CREATE TABLE b (bid INT, v INT, PRIMARY KEY (bid)); INSERT INTO b VALUES (1025, 2), ",
-        ones.as_str(),
-        BIG,
-    ];
-    let replies = "1.1 created\n1.2 inserted 1025\n1.3 created\n1.4 inserted 1025\n1.5 migrated 1\n\
-1.6 E17 too many rows big 1048577\n1.7 rows 1\n1.7 | 1025, 1025\n1.8 deleted 1\n1.9 migrated 1\n\
-1.10 rows 1\n1.10 | 1024, 1023\n";
-    // The last row of 1024 times 1024 but one.
-    let told = "2 moved 1 next unit 0 position 0";
-    assert!(rt; reports_alone(&rt, alloc, &script, &[replies], 10, told)?);
     Ok(())
 }

@@ -20,6 +20,8 @@ mod rows;
 #[cfg(test)]
 mod sessions;
 #[cfg(test)]
+mod shapes;
+#[cfg(test)]
 mod shipped;
 #[cfg(test)]
 mod statements;
