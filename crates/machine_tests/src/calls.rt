@@ -61,7 +61,7 @@ fn try_in<N: Opened, R: Abort + Wait>(
 }
 
 /// Makes a machine over the script of a text and the empty database, and tries it.
-pub fn tried<R: Abort + Wait>(
+fn tried<R: Abort + Wait>(
     rt: &R,
     alloc: Global,
     text: &[u8],
@@ -529,7 +529,7 @@ fn bind_again<N: Opened, R: Abort + Wait>(
     assert!(rt;
         covers(&machine, 2, &LockName::Catalog, Mode::S) && covers(&machine, 2, &table, Mode::S)
     );
-    assert_eq!(rt; step, Some(Step::Stale(2)));
+    assert!(rt; matches!(step, Some(Step::Stale(2))));
     assert!(rt; reply_at(&machine, 2, 1).is_none());
     assert!(rt; are_made(rt, alloc, registry, &mut machine, &READ)?);
     assert!(rt; matches!(reply_at(&machine, 2, 1), Some(Reply::Rows(rows)) if rows.is_empty()));

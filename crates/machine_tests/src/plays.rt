@@ -16,7 +16,10 @@ pub struct Play {
     pub last: Lines,
 }
 
-pub const PLAYS: [Play; 5] = [COUNTERS, TABLES, ACCOUNTS, SPLITS, TOTALS];
+pub const PLAYS: [Play; 3] = [COUNTERS, TABLES, ACCOUNTS];
+
+/// Those with migrations.
+pub const MIGRATING: [Play; 2] = [SPLITS, TOTALS];
 
 /// Rows that are read and written by their keys, and all together.
 const COUNTERS: Play = Play {

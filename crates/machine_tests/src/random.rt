@@ -1,7 +1,7 @@
 //! Random orders, each checked against its own history: a second machine serves the groups of the history,
 //! each as a session and a phase of its own, and gives the same replies.
 
-use crate::plays::{Lines, PLAYS, Play, put_session};
+use crate::plays::{Lines, MIGRATING, PLAYS, Play, put_session};
 use crate::runs::{Told, run};
 use bf_tree::{Cause, Entry, History, Refusal, Reply, Transcripts};
 use std::alloc::Global;
@@ -136,19 +136,43 @@ fn is_right(rt: &impl Wait, alloc: Global, play: &Play, told: &Told) -> Result<b
     Ok(is_whole && is_replayed(rt, alloc, play, told)?)
 }
 
+/// Whether a play whose sessions take turns in an order is what its own history tells, with 15 retries and with
+/// none, and nothing dies with 15.
+fn is_right_in(rt: &impl Wait, alloc: Global, play: &Play, order: &[u32]) -> Result<bool, Fail> {
+    let text = play.text(alloc)?;
+    let told = run(rt, alloc, text.as_slice(), 15, order)?;
+    let once = run(rt, alloc, text.as_slice(), 0, order)?;
+    let is_alive = count_outside(&told.0).deaths == 0;
+    Ok(is_alive && is_right(rt, alloc, play, &told)? && is_right(rt, alloc, play, &once)?)
+}
+
 #[test]
 fn random_orders_are_replayed(rt: HostRuntime) -> Result<(), Fail> {
     let alloc = rt.alloc();
     let mut seed = 1;
     for play in &PLAYS {
-        let text = play.text(alloc)?;
         for _order in 0..70 {
             let order = random_order(alloc, &mut seed, play)?;
-            let told = run(&rt, alloc, text.as_slice(), 15, order.as_slice())?;
-            assert!(rt; is_right(&rt, alloc, play, &told)?, "{order:?}");
-            assert_eq!(rt; count_outside(&told.0).deaths, 0, "{order:?}");
-            let once = run(&rt, alloc, text.as_slice(), 0, order.as_slice())?;
-            assert!(rt; is_right(&rt, alloc, play, &once)?, "no retries, {order:?}");
+            assert!(rt;
+                is_right_in(&rt, alloc, play, order.as_slice())?,
+                "{order:?}"
+            );
+        }
+    }
+    Ok(())
+}
+
+#[test]
+fn random_orders_with_migrations_are_replayed(rt: HostRuntime) -> Result<(), Fail> {
+    let alloc = rt.alloc();
+    let mut seed = 1;
+    for play in &MIGRATING {
+        for _order in 0..20 {
+            let order = random_order(alloc, &mut seed, play)?;
+            assert!(rt;
+                is_right_in(&rt, alloc, play, order.as_slice())?,
+                "{order:?}"
+            );
         }
     }
     Ok(())
