@@ -3,6 +3,7 @@ use Rattle.std.specs.Prelude.{◌≡◌, ℕ, ◌-◌, Bool, Some, take, slice_i
 use Rattle.bf_tree.specs.declared.bound.Bound.{Bound}
 use Rattle.bf_tree.specs.declared.statement.Statement.{Statement}
 use Rattle.bf_sql.specs.Database.{Database}
+use Rattle.bf_sql.specs.Footprints.{HasKeys}
 use Rattle.bf_sql.specs.History.{replayed}
 use Rattle.bf_sql.specs.migrations.Plans.{prepared_of}
 use Rattle.bf_machine.specs.interleaving.Calls.{statements_at}
@@ -19,3 +20,4 @@ pub record WasBound (start : Database) (m : Machine) (s n : ℕ) (in_block : Boo
   pub is : slice_index_or (statements_at m s) (n - 1) statement ≡ statement
   pub prefix : ℕ
   pub bound_so : prepared_of (replayed m.script start (take prefix m.history)).1 in_block statement ≡ Some bound
+  pub keys : HasKeys bound.action

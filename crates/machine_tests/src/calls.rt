@@ -138,7 +138,6 @@ pub fn are_made<N: Opened, R: Wait>(
     calls: &[(Act, Seen, Stand)],
 ) -> Result<bool, Fail>
     requires registry { registry.now ≡ N.registry }
-    ensures { IsBehind N.opening machine.old machine.new }
 {
     for (call, seen, stand) in calls {
         if make(rt, alloc, registry, machine, *call)? != *seen {

@@ -5,7 +5,6 @@ ghost use Rattle.std.specs.Prelude.{◌≡◌};
 ghost use Rattle.boxcar.specs.Table.{Shows};
 ghost use Rattle.bf_sql.specs.Database.{empty_database};
 ghost use Rattle.bf_machine.specs.interleaving.Kept.{IsWithinLimits};
-ghost use Rattle.machine_tests.specs.Behind.{IsBehind};
 
 use crate::acts::{Act, Seen, reply_at, stand_of};
 use crate::calls::{are_made, make_all};
@@ -111,7 +110,6 @@ fn move_cover<N: Opened>(
     session: u32,
 ) -> Result<Option<Moved>, Fail>
     requires registry { registry.now ≡ N.registry }
-    ensures { IsBehind N.opening machine.old machine.new }
 {
     let Some(Stand::Statement(place)) = stand_of(machine, session) else {
         return Ok(None);
@@ -315,7 +313,6 @@ fn come_to_the_flip<N: Opened, R: Wait>(
     machine: &mut Machine<N>,
 ) -> Result<bool, Fail>
     requires registry { registry.now ≡ N.registry }
-    ensures { IsBehind N.opening machine.old machine.new }
 {
     let is_right = are_made(rt, alloc, registry, machine, &TABLE)?
         && are_made(rt, alloc, registry, machine, &FIRST_MIGRATION)?
@@ -331,7 +328,6 @@ fn reads_behind_the_flip<N: Opened, R: Wait>(
     machine: &mut Machine<N>,
 ) -> Result<bool, Fail>
     requires registry { registry.now ≡ N.registry }
-    ensures { IsBehind N.opening machine.old machine.new }
 {
     let is_right = machine.catalog().number() == 3
         && machine.sweep() == running(2, 0, 0)
@@ -428,7 +424,6 @@ fn move_of_pass<N: Opened>(
 ) -> Result<Option<u32>, Fail>
     requires registry { registry.now ≡ N.registry }
     requires pass { Shows N.registry.migrations pass.now }
-    ensures { IsBehind N.opening machine.old machine.new }
 {
     let Some(Stand::Statement(place)) = stand_of(machine, session) else {
         return Ok(None);

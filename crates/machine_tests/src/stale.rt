@@ -152,7 +152,6 @@ pub fn exec_with_old_cover<N: Opened, R: Wait>(
     calls: &[Act],
 ) -> Result<Option<Step>, Fail>
     requires registry { registry.now ≡ N.registry }
-    ensures { IsBehind N.opening machine.old machine.new }
 {
     let pass = machine.migration();
     let pass = pass.as_ref();
