@@ -1,21 +1,27 @@
 //! Single calls of a machine. Each is made only where its condition holds, which is looked at first.
 
-ghost use Rattle.std.specs.Prelude.{◌⊎◌, ◌≡◌, IfSome, true};
+ghost use Rattle.std.specs.Prelude.{◌⊎◌, ◌≡◌, IfOk, IfSome, true};
 ghost use Rattle.std.specs.List.{All};
+ghost use Rattle.std.specs.Option.{option_map};
+ghost use Rattle.bf_query.specs.Actions.{IsWellBound};
+ghost use Rattle.bf_store.specs.Stores.{IsOf};
+ghost use Rattle.bf_transpose.specs.Covers.{IsCoverOf};
 ghost use Rattle.bf_machine.specs.declared.stand.Stand.TheVariants.{Statement};
-ghost use Rattle.bf_machine.specs.interleaving.Calls.{IsCovered, IsPlace, StandsAs};
+ghost use Rattle.bf_machine.specs.interleaving.Calls.{CanExec, IsCovered, IsPlace, StandsAs};
 ghost use Rattle.bf_machine.specs.interleaving.Kept.{IsKept};
 ghost use Rattle.bf_machine.specs.interleaving.Machines.{Open};
-ghost use Rattle.bf_machine.specs.interleaving.Serving.{IsBoundNext, IsServable, IsToLock};
+ghost use Rattle.bf_machine.specs.interleaving.Serving.{IsBoundNext, IsToLock};
 ghost use Rattle.machine_tests.specs.Behind.{IsBehind};
 
 use bf_base::Memory;
+use bf_image::{MigrationPass, Registry, ValueIndexes};
 use bf_locks::{LockAnswer, LockName, Mode};
-use bf_machine::serving::bind_next;
-use bf_machine::{Ending, Machine, Opened, Stand, Step};
+use bf_machine::{Ending, Machine, Opened, Stand, Step, prepare_next};
 use bf_sql::footprint;
+use bf_transpose::{Cover, cover_of};
 use bf_tree::{Bound, Reply};
 use std::alloc::Global;
+use std::sync::Wait;
 
 /// A call of a session.
 #[derive(Clone, Copy, Debug)]
@@ -35,8 +41,10 @@ pub enum Seen {
     /// Its condition does not hold.
     Idle,
     Done,
-    /// The catalog has this number now, and had another when the statement was bound.
+    /// The catalog has this number now, and the statement was bound or its cover made before.
     Stale(u64),
+    /// So many granules are to move first.
+    Needs(usize),
     Granted,
     /// The oldest for which it waits.
     Waited(u64),
@@ -98,7 +106,6 @@ pub fn covers<N: Opened>(machine: &Machine<N>, session: u32, name: &LockName, mo
 }
 
 fn begin<N: Opened>(machine: &mut Machine<N>, session: u32) -> Result<Seen, Memory>
-    requires { IsServable machine.old.script }
     ensures { IsBehind N.opening machine.old machine.new }
 {
     let Some(Stand::Begin) = stand_of(machine, session) else {
@@ -117,7 +124,6 @@ fn ask_for<N: Opened>(
     requires place { IsPlace machine.old.script session }
     requires kept { IsKept N.opening machine.old }
     requires next { (o : Open) × IsToLock machine.old session o locks.now }
-    requires servable { IsServable machine.old.script }
     ensures { IsBehind N.opening machine.old machine.new }
 {
     for (name, mode) in locks {
@@ -143,7 +149,6 @@ fn ask_in_group<N: Opened>(
     requires place { IsPlace machine.old.script session }
     requires kept { IsKept N.opening machine.old }
     requires next { (o : Open) × IsBoundNext machine.old session o bound.now }
-    requires servable { IsServable machine.old.script }
     ensures { IsBehind N.opening machine.old machine.new }
 {
     let locks = footprint(alloc, bound)?;
@@ -159,19 +164,17 @@ fn ask_at<N: Opened>(
 ) -> Result<Seen, Memory>
     requires place { IsPlace machine.old.script session }
     requires kept { IsKept N.opening machine.old }
-    requires servable { IsServable machine.old.script }
     requires stands { StandsAs machine.old session (Statement place) }
     ensures { IsBehind N.opening machine.old machine.new }
 {
     if machine.start(session).is_none() {
         return Ok(Seen::Idle);
     }
-    let bound = bind_next(alloc, machine, session, place)?;
+    let bound = prepare_next(alloc, machine, session, place)?;
     ask_in_group(alloc, machine, session, &bound)
 }
 
 fn ask<N: Opened>(alloc: Global, machine: &mut Machine<N>, session: u32) -> Result<Seen, Memory>
-    requires { IsServable machine.old.script }
     ensures { IsBehind N.opening machine.old machine.new }
 {
     let Some(Stand::Statement(place)) = stand_of(machine, session) else {
@@ -184,6 +187,7 @@ fn ask<N: Opened>(alloc: Global, machine: &mut Machine<N>, session: u32) -> Resu
 fn seen_of(step: Step) -> Seen {
     match step {
         Step::Replied => Seen::Done,
+        Step::Need(granules) => Seen::Needs(granules.len()),
         Step::Stale(number) => Seen::Stale(number),
     }
 }
@@ -206,71 +210,122 @@ pub fn are_covered<N: Opened>(
     true
 }
 
-/// Replies to the next statement of a session's open group, where it holds the locks.
-fn exec_in_group<N: Opened>(
+/// The cover of a bound statement, of the migration of a pass, or of none.
+pub fn cover_by<N: Opened>(
     alloc: Global,
+    registry: &Registry,
+    pass: Option<&MigrationPass>,
+    bound: &Bound,
+) -> Result<Cover, Memory>
+    requires registry { registry.now ≡ N.registry }
+    requires pass { IsOf N.registry (option_map (λ pass. pass.now) pass) }
+    requires bound { IsWellBound bound.now.action }
+    ensures { IfOk result (IsCoverOf (option_map (λ pass. pass.now.value) pass.entry) bound.now) }
+{
+    let Some(pass) = pass else {
+        return cover_of(alloc, bound, None);
+    };
+    let migration = registry.migration(pass);
+    let indexes = ValueIndexes::of(alloc, migration)?;
+    cover_of(alloc, bound, Some((migration, &indexes)))
+}
+
+/// Replies to a statement as it is bound, where what it needs of the last migration has moved.
+fn exec_bound<N: Opened>(
+    alloc: Global,
+    registry: &Registry,
     machine: &mut Machine<N>,
     session: u32,
     bound: &Bound,
 ) -> Result<Seen, Memory>
+    requires registry { registry.now ≡ N.registry }
+    requires place { IsPlace machine.old.script session }
+    requires can { CanExec machine.old session N.opening bound.now }
+    requires well_bound { IsWellBound bound.now.action }
+    ensures { IsBehind N.opening machine.old machine.new }
+{
+    let pass = machine.migration();
+    let cover = cover_by::<N>(alloc, registry, pass.as_ref(), bound)?;
+    Ok(seen_of(machine.exec(registry, session, pass.as_ref(), bound, &cover)?))
+}
+
+/// Replies to the next statement of a session's open group, where it holds the locks.
+fn exec_in_group<N: Opened>(
+    alloc: Global,
+    registry: &Registry,
+    machine: &mut Machine<N>,
+    session: u32,
+    bound: &Bound,
+) -> Result<Seen, Memory>
+    requires registry { registry.now ≡ N.registry }
     requires place { IsPlace machine.old.script session }
     requires kept { IsKept N.opening machine.old }
     requires next { (o : Open) × IsBoundNext machine.old session o bound.now }
-    requires servable { IsServable machine.old.script }
+    requires well_bound { IsWellBound bound.now.action }
     ensures { IsBehind N.opening machine.old machine.new }
 {
     let locks = footprint(alloc, bound)?;
     if !are_covered(machine, session, locks.as_slice()) {
         return Ok(Seen::Idle);
     }
-    Ok(seen_of(machine.exec(session, bound)?))
+    exec_bound(alloc, registry, machine, session, bound)
 }
 
 /// Replies to the statement at which a session stands.
 fn exec_at<N: Opened>(
     alloc: Global,
+    registry: &Registry,
     machine: &mut Machine<N>,
     session: u32,
     place: u32,
 ) -> Result<Seen, Memory>
+    requires registry { registry.now ≡ N.registry }
     requires place { IsPlace machine.old.script session }
     requires kept { IsKept N.opening machine.old }
-    requires servable { IsServable machine.old.script }
     requires stands { StandsAs machine.old session (Statement place) }
     ensures { IsBehind N.opening machine.old machine.new }
 {
-    let bound = bind_next(alloc, machine, session, place)?;
+    let bound = prepare_next(alloc, machine, session, place)?;
     if machine.start(session).is_some() {
-        return exec_in_group(alloc, machine, session, &bound);
+        return exec_in_group(alloc, registry, machine, session, &bound);
     }
-    Ok(seen_of(machine.exec(session, &bound)?))
+    exec_bound(alloc, registry, machine, session, &bound)
 }
 
-fn exec<N: Opened>(alloc: Global, machine: &mut Machine<N>, session: u32) -> Result<Seen, Memory>
-    requires { IsServable machine.old.script }
+fn exec<N: Opened>(
+    alloc: Global,
+    registry: &Registry,
+    machine: &mut Machine<N>,
+    session: u32,
+) -> Result<Seen, Memory>
+    requires registry { registry.now ≡ N.registry }
     ensures { IsBehind N.opening machine.old machine.new }
 {
     let Some(Stand::Statement(place)) = stand_of(machine, session) else {
         return Ok(Seen::Idle);
     };
-    exec_at(alloc, machine, session, place)
+    exec_at(alloc, registry, machine, session, place)
 }
 
-fn commit<N: Opened>(machine: &mut Machine<N>, session: u32) -> Result<Seen, Memory>
-    requires { IsServable machine.old.script }
+fn commit<N: Opened, R: Wait>(
+    rt: &R,
+    registry: &Registry,
+    machine: &mut Machine<N>,
+    session: u32,
+) -> Result<Seen, Memory>
+    requires registry { registry.now ≡ N.registry }
     ensures { IsBehind N.opening machine.old machine.new }
 {
     let Some(Stand::Commit) = stand_of(machine, session) else {
         return Ok(Seen::Idle);
     };
-    match machine.commit(session)? {
+    match machine.commit(rt, registry, session)? {
         Ending::Committed(number) => Ok(Seen::Committed(number)),
         Ending::Ended(_) => Ok(Seen::Done),
     }
 }
 
 fn abort<N: Opened>(machine: &mut Machine<N>, session: u32) -> Seen
-    requires { IsServable machine.old.script }
     ensures { IsBehind N.opening machine.old machine.new }
 {
     let Some(Stand::Abort) = stand_of(machine, session) else {
@@ -281,7 +336,6 @@ fn abort<N: Opened>(machine: &mut Machine<N>, session: u32) -> Seen
 }
 
 fn finish<N: Opened>(machine: &mut Machine<N>, session: u32) -> Seen
-    requires { IsServable machine.old.script }
     ensures { IsBehind N.opening machine.old machine.new }
 {
     let Some(Stand::Ended) = stand_of(machine, session) else {
@@ -292,15 +346,21 @@ fn finish<N: Opened>(machine: &mut Machine<N>, session: u32) -> Seen
 }
 
 /// Makes a call, where its condition holds.
-pub fn make<N: Opened>(alloc: Global, machine: &mut Machine<N>, act: Act) -> Result<Seen, Memory>
-    requires { IsServable machine.old.script }
+pub fn make<N: Opened, R: Wait>(
+    rt: &R,
+    alloc: Global,
+    registry: &Registry,
+    machine: &mut Machine<N>,
+    act: Act,
+) -> Result<Seen, Memory>
+    requires registry { registry.now ≡ N.registry }
     ensures { IsBehind N.opening machine.old machine.new }
 {
     match act {
         Act::Begin(session) => begin(machine, session),
         Act::Ask(session) => ask(alloc, machine, session),
-        Act::Exec(session) => exec(alloc, machine, session),
-        Act::Commit(session) => commit(machine, session),
+        Act::Exec(session) => exec(alloc, registry, machine, session),
+        Act::Commit(session) => commit(rt, registry, machine, session),
         Act::Abort(session) => Ok(abort(machine, session)),
         Act::Finish(session) => Ok(finish(machine, session)),
     }

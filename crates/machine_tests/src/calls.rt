@@ -2,21 +2,24 @@
 
 ghost use Rattle.std.specs.Prelude.{◌≡◌};
 ghost use Rattle.bf_sql.specs.Database.{empty_database};
-ghost use Rattle.bf_machine.specs.interleaving.Serving.{IsServable};
+ghost use Rattle.bf_machine.specs.interleaving.Kept.{IsWithinLimits};
 ghost use Rattle.machine_tests.specs.Behind.{IsBehind};
 
 use crate::acts::{Act, Look, Seen, covers, look_at, make, reply_at, session_of};
 use crate::runs::script_of;
 use crate::stale::exec_as_before;
 use bf_base::{Key, Name, Value};
+use bf_image::Registry;
 use bf_live::LiveTables;
 use bf_locks::{LockName, Mode};
 use bf_machine::{Machine, Opened, Stand, Step};
+use bf_store::Store;
 use bf_text::report;
 use bf_tree::{Cause, Reply, Script, Sweep};
 use std::alloc::Global;
 use std::marker::Brand;
 use std::process::Abort;
+use std::sync::Wait;
 use std::test::Fail;
 
 /// What is tried with a machine in which nothing has begun.
@@ -31,38 +34,43 @@ enum Trial {
     SchemaChange,
 }
 
-fn try_in<N: Opened, R: Abort>(
+fn try_in<N: Opened, R: Abort + Wait>(
     rt: &R,
     alloc: Global,
+    registry: &Registry,
     script: Script,
     retries: u16,
     trial: Trial,
 ) -> Result<(), Fail>
     requires opening { N.opening ≡ empty_database }
     requires script { script ≡ N.script }
-    requires servable { IsServable script }
+    requires registry { registry.now ≡ N.registry }
+    requires limits { IsWithinLimits script }
 {
-    let machine: Machine<N> = Machine::new(alloc, LiveTables::new(alloc), script, retries)?;
+    let store = Store::of(alloc, LiveTables::new(alloc));
+    let machine: Machine<N> = Machine::new(alloc, store, script, retries)?;
     match trial {
-        Trial::Calls => make_calls(rt, alloc, machine),
+        Trial::Calls => make_calls(rt, alloc, registry, machine),
         Trial::Fresh => look_at_the_first(rt, machine),
-        Trial::Block => look_behind_each(rt, alloc, machine),
-        Trial::Covered => cover(rt, alloc, machine),
-        Trial::LastDeath => die_for_good(rt, alloc, machine),
-        Trial::Death => die_once(rt, alloc, machine),
-        Trial::SchemaChange => bind_again(rt, alloc, machine),
+        Trial::Block => look_behind_each(rt, alloc, registry, machine),
+        Trial::Covered => cover(rt, alloc, registry, machine),
+        Trial::LastDeath => die_for_good(rt, alloc, registry, machine),
+        Trial::Death => die_once(rt, alloc, registry, machine),
+        Trial::SchemaChange => bind_again(rt, alloc, registry, machine),
     }
 }
 
 /// Makes a machine over the script of a text and the empty database, and tries it.
-fn tried<R: Abort>(
+fn tried<R: Abort + Wait>(
     rt: &R,
     alloc: Global,
     text: &[u8],
     retries: u16,
     trial: Trial,
 ) -> Result<(), Fail> {
-    try_in::<Brand, R>(rt, alloc, script_of(alloc, text)?, retries, trial)
+    let (registry, _empty) = Registry::new(alloc, rt)?;
+    let script = script_of(alloc, text)?;
+    try_in::<Brand, R>(rt, alloc, &registry, script, retries, trial)
 }
 
 /// A session that makes a row, then three that each have a block with it, and one without statements.
@@ -122,16 +130,17 @@ const BLOCKS: [(Act, Seen, Stand); 28] = [
 
 /// Whether calls are made one after the other, and what comes of each, and where its session stands then,
 /// is what is told.
-fn are_made<N: Opened>(
+pub fn are_made<N: Opened, R: Wait>(
+    rt: &R,
     alloc: Global,
+    registry: &Registry,
     machine: &mut Machine<N>,
     calls: &[(Act, Seen, Stand)],
 ) -> Result<bool, Fail>
-    requires { IsServable machine.old.script }
-    ensures { IsBehind N.opening machine.old machine.new }
+    requires registry { registry.now ≡ N.registry }
 {
     for (call, seen, stand) in calls {
-        if make(alloc, machine, *call)? != *seen {
+        if make(rt, alloc, registry, machine, *call)? != *seen {
             return Ok(false);
         }
         let Some(behind) = look_at(machine, session_of(*call)) else {
@@ -145,26 +154,33 @@ fn are_made<N: Opened>(
 }
 
 /// Makes calls one after the other, whatever comes of each.
-pub fn make_all<N: Opened>(
+pub fn make_all<N: Opened, R: Wait>(
+    rt: &R,
     alloc: Global,
+    registry: &Registry,
     machine: &mut Machine<N>,
     calls: &[Act],
 ) -> Result<(), Fail>
-    requires { IsServable machine.old.script }
+    requires registry { registry.now ≡ N.registry }
     ensures { IsBehind N.opening machine.old machine.new }
 {
     for call in calls {
-        make(alloc, machine, *call)?;
+        make(rt, alloc, registry, machine, *call)?;
     }
     Ok(())
 }
 
-fn make_calls<N: Opened, R: Abort>(rt: &R, alloc: Global, machine: Machine<N>) -> Result<(), Fail>
-    requires { IsServable machine.script }
+fn make_calls<N: Opened, R: Abort + Wait>(
+    rt: &R,
+    alloc: Global,
+    registry: &Registry,
+    machine: Machine<N>,
+) -> Result<(), Fail>
+    requires registry { registry.now ≡ N.registry }
 {
     let mut machine = machine;
-    assert!(rt; are_made(alloc, &mut machine, &SETUP)?);
-    assert!(rt; are_made(alloc, &mut machine, &BLOCKS)?);
+    assert!(rt; are_made(rt, alloc, registry, &mut machine, &SETUP)?);
+    assert!(rt; are_made(rt, alloc, registry, &mut machine, &BLOCKS)?);
     let parts = machine.into_parts();
     let text = report(
         alloc,
@@ -219,7 +235,7 @@ fn look_at_the_first<N: Opened, R: Abort>(rt: &R, machine: Machine<N>) -> Result
     assert!(rt; !covers(&machine, 1, &LockName::Catalog, Mode::IS));
     assert!(rt; reply_at(&machine, 1, 0).is_none() && reply_at(&machine, 1, 1).is_none());
     let parts = machine.into_parts();
-    assert_eq!(rt; parts.live.catalog().number(), 0);
+    assert_eq!(rt; parts.store.live().catalog().number(), 0);
     assert_eq!(rt; parts.transcripts.sessions.len(), 5);
     assert!(rt; parts.history.entries.is_empty());
     Ok(())
@@ -282,17 +298,18 @@ const BLOCK: [(Act, Look); 5] = [
     ),
 ];
 
-fn look_behind_each<N: Opened, R: Abort>(
+fn look_behind_each<N: Opened, R: Abort + Wait>(
     rt: &R,
     alloc: Global,
+    registry: &Registry,
     machine: Machine<N>,
 ) -> Result<(), Fail>
-    requires { IsServable machine.script }
+    requires registry { registry.now ≡ N.registry }
 {
     let mut machine = machine;
-    assert!(rt; are_made(alloc, &mut machine, &SETUP)?);
+    assert!(rt; are_made(rt, alloc, registry, &mut machine, &SETUP)?);
     for (call, behind) in &BLOCK {
-        make(alloc, &mut machine, *call)?;
+        make(rt, alloc, registry, &mut machine, *call)?;
         assert_eq!(rt; look_at(&machine, 2), Some(*behind));
     }
     assert!(rt; matches!(reply_at(&machine, 2, 1), Some(Reply::Begun)));
@@ -339,13 +356,20 @@ const COVERED: [([Mode; 3], bool); 6] = [
     ([Mode::X, Mode::IX, Mode::X], false),
 ];
 
-fn cover<N: Opened, R: Abort>(rt: &R, alloc: Global, machine: Machine<N>) -> Result<(), Fail>
-    requires { IsServable machine.script }
+fn cover<N: Opened, R: Abort + Wait>(
+    rt: &R,
+    alloc: Global,
+    registry: &Registry,
+    machine: Machine<N>,
+) -> Result<(), Fail>
+    requires registry { registry.now ≡ N.registry }
 {
     let mut machine = machine;
-    assert!(rt; are_made(alloc, &mut machine, &SETUP)?);
+    assert!(rt; are_made(rt, alloc, registry, &mut machine, &SETUP)?);
     make_all(
+        rt,
         alloc,
+        registry,
         &mut machine,
         &[Act::Begin(2), Act::Exec(2), Act::Ask(2)],
     )?;
@@ -354,7 +378,13 @@ fn cover<N: Opened, R: Abort>(rt: &R, alloc: Global, machine: Machine<N>) -> Res
         assert_eq!(rt; told, is_covered, "{modes:?}");
     }
     assert!(rt; !covers(&machine, 3, &LockName::Catalog, Mode::IS));
-    make_all(alloc, &mut machine, &[Act::Exec(2), Act::Commit(2)])?;
+    make_all(
+        rt,
+        alloc,
+        registry,
+        &mut machine,
+        &[Act::Exec(2), Act::Commit(2)],
+    )?;
     assert!(rt; !covers(&machine, 2, &LockName::Catalog, Mode::IS));
     Ok(())
 }
@@ -376,12 +406,17 @@ const LAST_DEATH: [(Act, Seen, Stand); 8] = [
     (Act::Commit(2), Seen::Committed(3), Stand::Statement(4)),
 ];
 
-fn die_for_good<N: Opened, R: Abort>(rt: &R, alloc: Global, machine: Machine<N>) -> Result<(), Fail>
-    requires { IsServable machine.script }
+fn die_for_good<N: Opened, R: Abort + Wait>(
+    rt: &R,
+    alloc: Global,
+    registry: &Registry,
+    machine: Machine<N>,
+) -> Result<(), Fail>
+    requires registry { registry.now ≡ N.registry }
 {
     let mut machine = machine;
-    assert!(rt; are_made(alloc, &mut machine, &SETUP)?);
-    assert!(rt; are_made(alloc, &mut machine, &LAST_DEATH)?);
+    assert!(rt; are_made(rt, alloc, registry, &mut machine, &SETUP)?);
+    assert!(rt; are_made(rt, alloc, registry, &mut machine, &LAST_DEATH)?);
     assert_eq!(rt; look_at(&machine, 3), Some(ENDED));
     for statement in [1, 2, 3] {
         let told = reply_at(&machine, 3, statement);
@@ -408,12 +443,17 @@ const DEATH: [Act; 6] = [
     Act::Ask(3),
 ];
 
-fn die_once<N: Opened, R: Abort>(rt: &R, alloc: Global, machine: Machine<N>) -> Result<(), Fail>
-    requires { IsServable machine.script }
+fn die_once<N: Opened, R: Abort + Wait>(
+    rt: &R,
+    alloc: Global,
+    registry: &Registry,
+    machine: Machine<N>,
+) -> Result<(), Fail>
+    requires registry { registry.now ≡ N.registry }
 {
     let mut machine = machine;
-    assert!(rt; are_made(alloc, &mut machine, &SETUP)?);
-    make_all(alloc, &mut machine, &DEATH)?;
+    assert!(rt; are_made(rt, alloc, registry, &mut machine, &SETUP)?);
+    make_all(rt, alloc, registry, &mut machine, &DEATH)?;
     assert_eq!(rt;
         look_at(&machine, 3),
         Some(Look {
@@ -423,12 +463,14 @@ fn die_once<N: Opened, R: Abort>(rt: &R, alloc: Global, machine: Machine<N>) -> 
     );
     assert!(rt; reply_at(&machine, 3, 1).is_none());
     make_all(
+        rt,
         alloc,
+        registry,
         &mut machine,
         &[Act::Begin(4), Act::Exec(2), Act::Commit(2)],
     )?;
     assert_eq!(rt; look_at(&machine, 3), Some(TO_BEGIN));
-    make(alloc, &mut machine, Act::Begin(3))?;
+    make(rt, alloc, registry, &mut machine, Act::Begin(3))?;
     let again = Look {
         stand: Stand::Statement(1),
         start: Some(4),
@@ -470,20 +512,25 @@ const READ: [(Act, Seen, Stand); 2] = [
     (Act::Commit(2), Seen::Committed(3), Stand::Ended),
 ];
 
-fn bind_again<N: Opened, R: Abort>(rt: &R, alloc: Global, machine: Machine<N>) -> Result<(), Fail>
-    requires { IsServable machine.script }
+fn bind_again<N: Opened, R: Abort + Wait>(
+    rt: &R,
+    alloc: Global,
+    registry: &Registry,
+    machine: Machine<N>,
+) -> Result<(), Fail>
+    requires registry { registry.now ≡ N.registry }
 {
     let mut machine = machine;
-    assert!(rt; are_made(alloc, &mut machine, &FIRST_TABLE)?);
+    assert!(rt; are_made(rt, alloc, registry, &mut machine, &FIRST_TABLE)?);
     assert_eq!(rt; machine.catalog().number(), 1);
-    let step = exec_as_before(alloc, &mut machine, 2, &SECOND_TABLE)?;
+    let step = exec_as_before(rt, alloc, registry, &mut machine, 2, &SECOND_TABLE)?;
     let table = LockName::Whole(Name::of(alloc, b"t")?);
     assert!(rt;
         covers(&machine, 2, &LockName::Catalog, Mode::S) && covers(&machine, 2, &table, Mode::S)
     );
-    assert_eq!(rt; step, Some(Step::Stale(2)));
+    assert!(rt; matches!(step, Some(Step::Stale(2))));
     assert!(rt; reply_at(&machine, 2, 1).is_none());
-    assert!(rt; are_made(alloc, &mut machine, &READ)?);
+    assert!(rt; are_made(rt, alloc, registry, &mut machine, &READ)?);
     assert!(rt; matches!(reply_at(&machine, 2, 1), Some(Reply::Rows(rows)) if rows.is_empty()));
     Ok(())
 }

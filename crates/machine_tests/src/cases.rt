@@ -2,6 +2,7 @@
 
 use crate::runs::{joined, report_of};
 use std::alloc::Global;
+use std::sync::Wait;
 use std::test::Fail;
 
 /// The first session, whose two statements have the start numbers 1 and 2.
@@ -26,7 +27,7 @@ pub struct Case {
 }
 
 /// Whether what is told of a case is what is told of its run.
-pub fn is_told(alloc: Global, case: &Case) -> Result<bool, Fail> {
+pub fn is_told(rt: &impl Wait, alloc: Global, case: &Case) -> Result<bool, Fail> {
     let script = joined(alloc, &[SETUP, case.sessions])?;
     let mut order = vec![in alloc; 1, 1]?;
     order.extend_from_slice(case.turns)?;
@@ -34,6 +35,6 @@ pub fn is_told(alloc: Global, case: &Case) -> Result<bool, Fail> {
         alloc,
         &[SETUP_REPLIES, case.replies, SETUP_ENTRIES, case.entries],
     )?;
-    let text = report_of(alloc, script.as_slice(), case.retries, order.as_slice())?;
+    let text = report_of(rt, alloc, script.as_slice(), case.retries, order.as_slice())?;
     Ok(text.as_slice() == told.as_slice())
 }

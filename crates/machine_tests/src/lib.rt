@@ -8,6 +8,10 @@ mod calls;
 #[cfg(test)]
 mod cases;
 #[cfg(test)]
+mod migrating;
+#[cfg(test)]
+mod moves;
+#[cfg(test)]
 mod orders;
 #[cfg(test)]
 mod plays;

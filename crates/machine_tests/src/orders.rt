@@ -40,7 +40,7 @@ entry 4 session 3 from 1 to 3 committed 4\nend commits 4 migration none\n",
 #[test]
 fn an_older_session_waits_and_a_younger_one_dies(rt: HostRuntime) -> Result<(), Fail> {
     for (retries, order, told) in TWO_UPDATES_TOLD {
-        let text = report_of(rt.alloc(), TWO_UPDATES.as_bytes(), retries, order)?;
+        let text = report_of(&rt, rt.alloc(), TWO_UPDATES.as_bytes(), retries, order)?;
         assert!(rt; text.as_slice() == told.as_bytes(), "{retries} {order:?}");
     }
     Ok(())
@@ -59,7 +59,7 @@ end commits 5 migration none\n";
 fn no_update_is_lost(rt: HostRuntime) -> Result<(), Fail> {
     let alloc = rt.alloc();
     let script = joined(alloc, &[TWO_UPDATES, " PHASE; SESSION; SELECT n FROM t;"])?;
-    let text = report_of(alloc, script.as_slice(), 0, &WAITED)?;
+    let text = report_of(&rt, alloc, script.as_slice(), 0, &WAITED)?;
     assert!(rt; text.as_slice() == READ_BEHIND.as_bytes());
     Ok(())
 }
@@ -99,7 +99,7 @@ entry 4 session 3 from 1 to 3 committed 4\nend commits 4 migration none\n",
 #[test]
 fn runs_session_after_session_without_an_order(rt: HostRuntime) -> Result<(), Fail> {
     for (script, told) in WITHOUT_AN_ORDER {
-        let text = report_of(rt.alloc(), script.as_bytes(), 0, &[])?;
+        let text = report_of(&rt, rt.alloc(), script.as_bytes(), 0, &[])?;
         assert!(rt; text.as_slice() == told.as_bytes(), "{script:?}");
     }
     Ok(())

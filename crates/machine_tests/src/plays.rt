@@ -18,6 +18,9 @@ pub struct Play {
 
 pub const PLAYS: [Play; 3] = [COUNTERS, TABLES, ACCOUNTS];
 
+/// Those with migrations.
+pub const MIGRATING: [Play; 2] = [SPLITS, TOTALS];
+
 /// Rows that are read and written by their keys, and all together.
 const COUNTERS: Play = Play {
     setup: &[
@@ -142,6 +145,81 @@ const ACCOUNTS: Play = Play {
         ],
     ],
     last: &["SELECT * FROM a;", "SELECT * FROM b;"],
+};
+
+/// A table that is split, and whose first part is turned round while others use both.
+const SPLITS: Play = Play {
+    setup: &[
+        "CREATE TABLE t (id INT, n INT, s VARCHAR(4), PRIMARY KEY (id));",
+        "INSERT INTO t VALUES (1, 10, 'a'), (2, 20, 'b'), (3, 30, 'c'), (4, 40, 'd');",
+        "MIGRATE (CREATE TABLE u AS SELECT id, n FROM t; CREATE TABLE v AS SELECT id, s FROM t WHERE n > 10);",
+    ],
+    players: &[
+        &[
+            "BEGIN;",
+            "UPDATE u SET n = n + 1 WHERE id = 2;",
+            "SELECT s FROM v WHERE id = 2;",
+            "INSERT INTO v VALUES (1, 'x'), (3, 'y');",
+            "COMMIT;",
+        ],
+        &[
+            "SELECT COUNT(*) FROM u WHERE n > 20;",
+            "MIGRATE (CREATE TABLE u AS SELECT n, id FROM u WHERE n < 40);",
+            "SELECT * FROM u WHERE id = 3;",
+        ],
+        &[
+            "BEGIN;",
+            "DELETE FROM v WHERE s > 'b';",
+            "DELETE FROM u WHERE id = 1;",
+            "ROLLBACK;",
+            "INSERT INTO u VALUES (5, 5);",
+        ],
+        &[
+            "BEGIN;",
+            "SELECT * FROM v WHERE s = 'd';",
+            "MIGRATE (CREATE TABLE w AS SELECT id FROM v);",
+            "UPDATE u SET n = n * 2 WHERE id > 2;",
+            "COMMIT;",
+        ],
+    ],
+    last: &["SELECT * FROM u;", "SELECT * FROM v;"],
+};
+
+/// Totals that are changed while their table is joined with another.
+const TOTALS: Play = Play {
+    setup: &[
+        "CREATE TABLE o (id INT, c INT, n INT CHECK (n BETWEEN 0 AND 99), PRIMARY KEY (id));",
+        "CREATE TABLE c (id INT, s VARCHAR(4), PRIMARY KEY (id));",
+        "INSERT INTO o VALUES (1, 7, 10), (2, 7, 30), (3, 8, 5), (4, 9, 50), (5, 9, 0);",
+        "INSERT INTO c VALUES (7, 'a'), (9, 'b');",
+    ],
+    players: &[
+        &[
+            "MIGRATE (CREATE TABLE o AS SELECT c, COUNT(*) AS m, SUM(n) AS n FROM o GROUP BY c);",
+            "UPDATE o SET n = n + 1 WHERE c = 7;",
+            "SELECT c FROM o WHERE n > 40 AND c < 9;",
+        ],
+        &[
+            "BEGIN;",
+            "SELECT n FROM o WHERE c = 9;",
+            "DELETE FROM o WHERE c = 8;",
+            "COMMIT;",
+            "INSERT INTO o VALUES (8, 1, 1);",
+        ],
+        &[
+            "SELECT SUM(n) FROM o;",
+            "MIGRATE (CREATE TABLE oc AS SELECT o.c, s, n FROM o JOIN c ON o.c = c.id);",
+            "SELECT * FROM oc WHERE s = 'a';",
+            "UPDATE oc SET n = 0 WHERE s = 'b';",
+        ],
+        &[
+            "BEGIN;",
+            "INSERT INTO c VALUES (8, 'c');",
+            "SELECT * FROM oc;",
+            "COMMIT;",
+        ],
+    ],
+    last: &["SELECT * FROM o;", "SELECT * FROM c;", "SELECT * FROM oc;"],
 };
 
 impl Play {

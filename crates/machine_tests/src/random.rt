@@ -1,10 +1,11 @@
 //! Random orders, each checked against its own history: a second machine serves the groups of the history,
 //! each as a session and a phase of its own, and gives the same replies.
 
-use crate::plays::{Lines, PLAYS, Play, put_session};
+use crate::plays::{Lines, MIGRATING, PLAYS, Play, put_session};
 use crate::runs::{Told, run};
 use bf_tree::{Cause, Entry, History, Refusal, Reply, Transcripts};
 use std::alloc::Global;
+use std::sync::Wait;
 use std::test::Fail;
 
 /// The next number below a limit, of a linear congruential generator.
@@ -44,7 +45,12 @@ fn replies_of<'a>(transcripts: &'a Transcripts, entry: &Entry) -> Option<&'a [Re
 }
 
 /// The replies to the groups of a history, one after the other.
-fn replay(alloc: Global, play: &Play, history: &History) -> Result<Transcripts, Fail> {
+fn replay(
+    rt: &impl Wait,
+    alloc: Global,
+    play: &Play,
+    history: &History,
+) -> Result<Transcripts, Fail> {
     let mut text = Vec::new(alloc);
     for entry in history.entries.as_slice() {
         text.extend_from_slice(b"PHASE; ")?;
@@ -53,14 +59,14 @@ fn replay(alloc: Global, play: &Play, history: &History) -> Result<Transcripts, 
         };
         put_session(&mut text, lines)?;
     }
-    let (transcripts, _) = run(alloc, text.as_slice(), 0, &[])?;
+    let (transcripts, _, _) = run(rt, alloc, text.as_slice(), 0, &[])?;
     Ok(transcripts)
 }
 
 /// Whether the replies to the groups of a history are those of its replay.
-fn is_replayed(alloc: Global, play: &Play, told: &Told) -> Result<bool, Fail> {
-    let (transcripts, history) = told;
-    let again = replay(alloc, play, history)?;
+fn is_replayed(rt: &impl Wait, alloc: Global, play: &Play, told: &Told) -> Result<bool, Fail> {
+    let (transcripts, history, _) = told;
+    let again = replay(rt, alloc, play, history)?;
     let entries = history.entries.as_slice();
     for (entry, replies) in entries.iter().zip(again.sessions.as_slice().iter()) {
         if replies_of(transcripts, entry) != Some(replies.as_slice()) {
@@ -123,11 +129,21 @@ fn without_entry(play: &Play, history: &History) -> usize {
 }
 
 /// Whether a run is what its own history tells, and its statements without an entry died, or are strays.
-fn is_right(alloc: Global, play: &Play, told: &Told) -> Result<bool, Fail> {
+fn is_right(rt: &impl Wait, alloc: Global, play: &Play, told: &Told) -> Result<bool, Fail> {
     let count = count_outside(&told.0);
     let others = count.deaths.saturating_add(count.strays);
     let is_whole = is_answered(play, &told.0) && without_entry(play, &told.1) == others;
-    Ok(is_whole && is_replayed(alloc, play, told)?)
+    Ok(is_whole && is_replayed(rt, alloc, play, told)?)
+}
+
+/// Whether a play whose sessions take turns in an order is what its own history tells, with 15 retries and with
+/// none, and nothing dies with 15.
+fn is_right_in(rt: &impl Wait, alloc: Global, play: &Play, order: &[u32]) -> Result<bool, Fail> {
+    let text = play.text(alloc)?;
+    let told = run(rt, alloc, text.as_slice(), 15, order)?;
+    let once = run(rt, alloc, text.as_slice(), 0, order)?;
+    let is_alive = count_outside(&told.0).deaths == 0;
+    Ok(is_alive && is_right(rt, alloc, play, &told)? && is_right(rt, alloc, play, &once)?)
 }
 
 #[test]
@@ -135,14 +151,28 @@ fn random_orders_are_replayed(rt: HostRuntime) -> Result<(), Fail> {
     let alloc = rt.alloc();
     let mut seed = 1;
     for play in &PLAYS {
-        let text = play.text(alloc)?;
         for _order in 0..70 {
             let order = random_order(alloc, &mut seed, play)?;
-            let told = run(alloc, text.as_slice(), 15, order.as_slice())?;
-            assert!(rt; is_right(alloc, play, &told)?, "{order:?}");
-            assert_eq!(rt; count_outside(&told.0).deaths, 0, "{order:?}");
-            let once = run(alloc, text.as_slice(), 0, order.as_slice())?;
-            assert!(rt; is_right(alloc, play, &once)?, "no retries, {order:?}");
+            assert!(rt;
+                is_right_in(&rt, alloc, play, order.as_slice())?,
+                "{order:?}"
+            );
+        }
+    }
+    Ok(())
+}
+
+#[test]
+fn random_orders_with_migrations_are_replayed(rt: HostRuntime) -> Result<(), Fail> {
+    let alloc = rt.alloc();
+    let mut seed = 1;
+    for play in &MIGRATING {
+        for _order in 0..20 {
+            let order = random_order(alloc, &mut seed, play)?;
+            assert!(rt;
+                is_right_in(&rt, alloc, play, order.as_slice())?,
+                "{order:?}"
+            );
         }
     }
     Ok(())

@@ -58,7 +58,7 @@ entry 5 session 2 from 1 to 4 committed 5\nend commits 5 migration none\n",
 #[test]
 fn creates_are_alone_with_the_catalog(rt: HostRuntime) -> Result<(), Fail> {
     for case in &CREATES {
-        assert!(rt; is_told(rt.alloc(), case)?, "{}", case.what);
+        assert!(rt; is_told(&rt, rt.alloc(), case)?, "{}", case.what);
     }
     Ok(())
 }
@@ -117,7 +117,7 @@ entry 5 session 4 from 1 to 1 committed 5\nend commits 5 migration none\n",
 #[test]
 fn rows_are_held_until_the_end(rt: HostRuntime) -> Result<(), Fail> {
     for case in &ROWS {
-        assert!(rt; is_told(rt.alloc(), case)?, "{}", case.what);
+        assert!(rt; is_told(&rt, rt.alloc(), case)?, "{}", case.what);
     }
     Ok(())
 }

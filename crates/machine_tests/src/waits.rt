@@ -69,7 +69,7 @@ entry 5 session 2 from 4 to 4 committed 4\nend commits 4 migration none\n",
 #[test]
 fn waits_end(rt: HostRuntime) -> Result<(), Fail> {
     for case in &WAITS {
-        assert!(rt; is_told(rt.alloc(), case)?, "{}", case.what);
+        assert!(rt; is_told(&rt, rt.alloc(), case)?, "{}", case.what);
     }
     Ok(())
 }
@@ -146,7 +146,7 @@ SESSION; UPDATE t SET n = 2 WHERE id = 1;",
 #[test]
 fn deaths_are_told_or_made_good(rt: HostRuntime) -> Result<(), Fail> {
     for case in &DEATHS {
-        assert!(rt; is_told(rt.alloc(), case)?, "{}", case.what);
+        assert!(rt; is_told(&rt, rt.alloc(), case)?, "{}", case.what);
     }
     Ok(())
 }
@@ -201,7 +201,7 @@ end commits 4 migration none\n",
 #[test]
 fn some_turns_do_nothing(rt: HostRuntime) -> Result<(), Fail> {
     for case in &PASSED_OVER {
-        assert!(rt; is_told(rt.alloc(), case)?, "{}", case.what);
+        assert!(rt; is_told(&rt, rt.alloc(), case)?, "{}", case.what);
     }
     Ok(())
 }

@@ -67,7 +67,7 @@ fn a_block_is_one_transaction(rt: HostRuntime) -> Result<(), Fail> {
     let alloc = rt.alloc();
     for (script, report) in BLOCKS {
         assert!(rt;
-            reports(alloc, &[TWO_COLUMNS, script], report)?,
+            reports(&rt, alloc, &[TWO_COLUMNS, script], report)?,
             "{script:?}"
         );
     }

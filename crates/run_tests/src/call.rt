@@ -4,6 +4,7 @@ use bf_base::Memory;
 use bf_io::{CalmSource, MemorySink};
 use bf_run::{Status, bullfrog};
 use std::alloc::Global;
+use std::sync::Wait;
 use std::test::Fail;
 
 /// The start of a script of one session.
@@ -26,6 +27,7 @@ pub fn joined(alloc: Global, pieces: &[&str]) -> Result<Vec<u8>, Memory> {
 
 /// Whether a call on a script ends with a status and writes a text, and no more.
 pub fn writes(
+    rt: &impl Wait,
     alloc: Global,
     words: &[&str],
     script: &[&str],
@@ -34,18 +36,24 @@ pub fn writes(
 ) -> Result<bool, Memory> {
     let mut input = CalmSource::new(joined(alloc, script)?);
     let mut output = MemorySink::new(alloc, 1 << 14, Vec::new(alloc))?;
-    let ended = bullfrog(alloc, words, &mut input, &mut output);
+    let ended = bullfrog(rt, alloc, words, &mut input, &mut output);
     Ok(ended == status && output.bytes() == text)
 }
 
 /// Whether a script is run, and its whole report is a text.
-pub fn reports(alloc: Global, script: &[&str], report: &str) -> Result<bool, Memory> {
-    writes(alloc, &["try"], script, Status::Done, report.as_bytes())
+pub fn reports(
+    rt: &impl Wait,
+    alloc: Global,
+    script: &[&str],
+    report: &str,
+) -> Result<bool, Memory> {
+    writes(rt, alloc, &["try"], script, Status::Done, report.as_bytes())
 }
 
 /// Whether a script of one session is run, whose statements are so many and each a transaction of
 /// its own, and gives these replies, and then this is told of migrations.
 pub fn reports_alone(
+    rt: &impl Wait,
     alloc: Global,
     script: &[&str],
     replies: &[&str],
@@ -59,5 +67,60 @@ pub fn reports_alone(
     }
     let end = format!(in alloc; "end commits {count} migration {migration}\n")?;
     report.extend_from_slice(end.as_bytes())?;
-    Ok(writes(alloc, &["try"], script, Status::Done, report.as_slice())?)
+    Ok(writes(rt, alloc, &["try"], script, Status::Done, report.as_slice())?)
+}
+
+/// Statements, each a transaction of its own, the replies to them, how many statements they are with those in
+/// front, and what is told of migrations.
+pub type Alone = (&'static str, &'static str, u32, &'static str);
+
+/// The first of these scripts whose report is another than told, if there is one. In front of each stand a script
+/// of one session and the replies to it.
+pub fn first_wrong(
+    rt: &impl Wait,
+    alloc: Global,
+    start: &str,
+    made: &str,
+    cases: &[Alone],
+) -> Result<Option<&'static str>, Fail> {
+    for &(script, replies, count, migration) in cases {
+        let script_pieces = [SESSION, start, script];
+        if !reports_alone(
+            rt,
+            alloc,
+            &script_pieces,
+            &[made, replies],
+            count,
+            migration,
+        )? {
+            return Ok(Some(script));
+        }
+    }
+    Ok(None)
+}
+
+/// The first of these scripts whose whole report is another than told, if there is one. In front of each stand a
+/// script of one session and the report of it.
+pub fn first_wrong_report(
+    rt: &impl Wait,
+    alloc: Global,
+    start: &str,
+    made: &str,
+    cases: &[(&'static str, &'static str)],
+) -> Result<Option<&'static str>, Fail> {
+    for &(script, report) in cases {
+        let text = joined(alloc, &[made, report])?;
+        let script_pieces = [start, script];
+        if !writes(
+            rt,
+            alloc,
+            &["try"],
+            &script_pieces,
+            Status::Done,
+            text.as_slice(),
+        )? {
+            return Ok(Some(script));
+        }
+    }
+    Ok(None)
 }

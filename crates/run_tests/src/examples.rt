@@ -77,7 +77,7 @@ fn a_turned_rule_would_show(rt: HostRuntime) -> Result<(), Fail> {
         (INSERT_ORDER, 13),
     ];
     for ((script, replies), count) in cases {
-        let is_right = reports_alone(alloc, &[SESSION, script], &[replies], count, "none")?;
+        let is_right = reports_alone(&rt, alloc, &[SESSION, script], &[replies], count, "none")?;
         assert!(rt; is_right, "{script:?}");
     }
     Ok(())
@@ -112,7 +112,7 @@ fn three_texts_are_as_long_as_a_text_may_be(rt: HostRuntime) -> Result<(), Fail>
         FIFTY,
         "xxxbc'\n",
     ];
-    assert!(rt; reports_alone(alloc, &script, &replies, 3, "none")?);
+    assert!(rt; reports_alone(&rt, alloc, &script, &replies, 3, "none")?);
     let script = [
         start,
         FIFTY,
@@ -122,6 +122,6 @@ fn three_texts_are_as_long_as_a_text_may_be(rt: HostRuntime) -> Result<(), Fail>
         FIFTY,
         "xxxx' || 'b' || 'c' FROM t;",
     ];
-    assert!(rt; reports_alone(alloc, &script, &[made, "E6 too long\n"], 3, "none")?);
+    assert!(rt; reports_alone(&rt, alloc, &script, &[made, "E6 too long\n"], 3, "none")?);
     Ok(())
 }

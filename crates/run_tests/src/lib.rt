@@ -8,14 +8,24 @@ mod call;
 #[cfg(test)]
 mod examples;
 #[cfg(test)]
-mod form;
+mod kinds;
 #[cfg(test)]
-mod form_run;
+mod large;
 #[cfg(test)]
 mod moving;
 #[cfg(test)]
 mod refusals;
 #[cfg(test)]
+mod rows;
+#[cfg(test)]
+mod sessions;
+#[cfg(test)]
+mod shapes;
+#[cfg(test)]
+mod shipped;
+#[cfg(test)]
 mod statements;
 #[cfg(test)]
 mod streams;
+#[cfg(test)]
+mod worked;

@@ -10,7 +10,14 @@ fn refuses_other_words(rt: HostRuntime) -> Result<(), Fail> {
     let alloc = rt.alloc();
     let none: [&str; 0] = [];
     for words in [none.as_slice(), &["go"], &["TRY"], &["try", "try"], &[""]] {
-        let is_right = writes(alloc, words, &[ONE_COLUMN], Status::Usage, b"usage error\n")?;
+        let is_right = writes(
+            &rt,
+            alloc,
+            words,
+            &[ONE_COLUMN],
+            Status::Usage,
+            b"usage error\n",
+        )?;
         assert!(rt; is_right, "{words:?}");
     }
     Ok(())
@@ -48,7 +55,7 @@ fn tells_the_first_fault(rt: HostRuntime) -> Result<(), Fail> {
     for (script, wanted) in FAULTS {
         let mut input = CalmSource::new(joined(alloc, &[script])?);
         let mut output = MemorySink::new(alloc, 100, Vec::new(alloc))?;
-        let status = bullfrog(alloc, &["try"], &mut input, &mut output);
+        let status = bullfrog(&rt, alloc, &["try"], &mut input, &mut output);
         assert_eq!(rt; status.number(), 2, "{script:?}");
         assert_eq!(rt; output.bytes(), wanted.as_bytes(), "{script:?}");
     }
@@ -60,7 +67,7 @@ fn tells_that_a_script_is_too_long(rt: HostRuntime) -> Result<(), Fail> {
     let alloc = rt.alloc();
     let mut input = CalmSource::new(vec![in alloc; b' '; (1 << 24) + 1]?);
     let mut output = MemorySink::new(alloc, 100, Vec::new(alloc))?;
-    let status = bullfrog(alloc, &["try"], &mut input, &mut output);
+    let status = bullfrog(&rt, alloc, &["try"], &mut input, &mut output);
     assert_eq!(rt; status.number(), 2);
     let wanted = b"script error at 16777216: script too long\n".as_slice();
     assert_eq!(rt; output.bytes(), wanted);

@@ -2,6 +2,7 @@
 
 use crate::call::{ONE_COLUMN, reports, reports_alone};
 use std::alloc::Global;
+use std::sync::Wait;
 use std::test::Fail;
 
 /// Statements behind a table with one column, the replies, and how many statements they are with it.
@@ -23,7 +24,7 @@ const FIRST: [(&str, &str, u32); 2] = [
 fn prints_the_replies_and_the_history(rt: HostRuntime) -> Result<(), Fail> {
     let alloc = rt.alloc();
     for (script, replies, count) in FIRST {
-        let is_right = reports_alone(alloc, &[ONE_COLUMN, script], &[replies], count, "none")?;
+        let is_right = reports_alone(&rt, alloc, &[ONE_COLUMN, script], &[replies], count, "none")?;
         assert!(rt; is_right, "{script:?}");
     }
     Ok(())
@@ -53,7 +54,7 @@ end commits 6 migration none\n",
 fn runs_sessions_in_the_order_of_the_text(rt: HostRuntime) -> Result<(), Fail> {
     let alloc = rt.alloc();
     for (script, report) in REPORTS {
-        assert!(rt; reports(alloc, &[script], report)?, "{script:?}");
+        assert!(rt; reports(&rt, alloc, &[script], report)?, "{script:?}");
     }
     Ok(())
 }
@@ -199,16 +200,16 @@ const REPLIES: [(&str, &str); 57] = [
 ];
 
 /// Whether a statement behind the tables has a reply.
-fn has_reply(alloc: Global, statement: &str, reply: &str) -> Result<bool, Fail> {
+fn has_reply(rt: &impl Wait, alloc: Global, statement: &str, reply: &str) -> Result<bool, Fail> {
     let replies = [TABLES_MADE, "1.6 ", reply, "\n"];
-    reports_alone(alloc, &[TABLES, statement], &replies, 6, "none")
+    reports_alone(rt, alloc, &[TABLES, statement], &replies, 6, "none")
 }
 
 #[test]
 fn replies_to_each_statement(rt: HostRuntime) -> Result<(), Fail> {
     let alloc = rt.alloc();
     for (statement, reply) in REPLIES {
-        let is_right = has_reply(alloc, statement, reply)?;
+        let is_right = has_reply(&rt, alloc, statement, reply)?;
         assert!(rt; is_right, "{statement:?}");
     }
     Ok(())
@@ -234,6 +235,6 @@ entry 11 session 2 from 2 to 2 committed 11\nend commits 11 migration none\n";
 #[test]
 fn statements_follow_one_another(rt: HostRuntime) -> Result<(), Fail> {
     let alloc = rt.alloc();
-    assert!(rt; reports(alloc, &[TABLES, TWO_SESSIONS], TWO_SESSIONS_REPORT)?);
+    assert!(rt; reports(&rt, alloc, &[TABLES, TWO_SESSIONS], TWO_SESSIONS_REPORT)?);
     Ok(())
 }
