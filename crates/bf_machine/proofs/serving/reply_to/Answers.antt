@@ -1,5 +1,5 @@
 -- What is needed has moved, and then the statement has its reply.
-use Rattle.std.proofs.Common.{◌≡◌, List, sym, ap, subst, ◌∙◌, inl}
+use Rattle.std.proofs.Common.{◌≡◌, List, Option, sym, ap, subst, ◌∙◌, inl}
 use Rattle.std.specs.Prelude.{Result, Ok, Err, OnErr, OnOk}
 use Rattle.std.specs.Option.{option_map}
 use Rattle.boxcar.specs.Table.{Where}
@@ -14,7 +14,7 @@ use Rattle.bf_machine.specs.interleaving.Calls.{IsStep}
 use Rattle.bf_machine.specs.interleaving.Events.{Moves}
 use Rattle.bf_machine.specs.interleaving.Machines.{Machine}
 use Rattle.bf_machine.specs.interleaving.Serving.{HasMovedNeed}
-use Rattle.bf_machine.proofs.served.Needs.{can_then, has_moved, is_present, lent, may_move, need_told, none_then, not_stale, present_then}
+use Rattle.bf_machine.proofs.served.Needs.{can_then, has_moved, is_present, lent, lent_then, may_move, need_told, none_then, not_stale, present_then}
 use Rattle.bf_machine.proofs.serving.reply_to.Goals as goal
 
 on_ok : {P Q : Type 0} {A : Type 0} (r : Result A Memory) → (P → Q) → OnOk r P → OnOk r Q
@@ -36,7 +36,7 @@ move_need-requires-clause-granules g c =
     let cover = c.in_ok-cover.cover in
     let pass = option_map (λ p. p.now) c.as_ref-migration.result in
     let own : pass ≡ m.pass = lent c.as_ref-migration.result ∙ (c.as_ref-migration.ensures.value ∙ c.migration-pass.ensures.pass) in
-    let is : IsCoverOf (option_map (λ (p : Where Kept). p.value) pass) bound cover = c.in_ok-cover.ensures in
+    let is : IsCoverOf (option_map (λ (p : Where Kept). p.value) pass) bound cover = subst (λ (o : Option Kept). IsCoverOf o bound cover) (lent_then (λ (p : Where Kept). p.value) c.as_ref-migration.result) c.in_ok-cover.ensures in
     let same : c.exec.new.self ≡ m = c.exec.ensures.same (λ e. cc) in
     let step : IsStep m pass bound cover.granules.items (Need c.in-Need.granules) = subst (λ (step : Step). IsStep m pass bound cover.granules.items step) c.in-Need.is c.in_ok-exec.ensures.step in
     let told = c.as_slice.ensures.value ∙ need_told m c.requires.kept bound cover pass own is c.requires.present c.in-Need.granules step in
@@ -49,7 +49,7 @@ reply_behind_moves-requires-clause-can g c =
     let cover = c.in_ok-cover.cover in
     let pass = option_map (λ p. p.now) c.as_ref-migration.result in
     let own : pass ≡ m.pass = lent c.as_ref-migration.result ∙ (c.as_ref-migration.ensures.value ∙ c.migration-pass.ensures.pass) in
-    let is : IsCoverOf (option_map (λ (p : Where Kept). p.value) pass) bound cover = c.in_ok-cover.ensures in
+    let is : IsCoverOf (option_map (λ (p : Where Kept). p.value) pass) bound cover = subst (λ (o : Option Kept). IsCoverOf o bound cover) (lent_then (λ (p : Where Kept). p.value) c.as_ref-migration.result) c.in_ok-cover.ensures in
     let same : c.exec.new.self ≡ m = c.exec.ensures.same (λ e. cc) in
     let step : IsStep m pass bound cover.granules.items (Need c.in-Need.granules) = subst (λ (step : Step). IsStep m pass bound cover.granules.items step) c.in-Need.is c.in_ok-exec.ensures.step in
     let told = c.as_slice.ensures.value ∙ need_told m c.requires.kept bound cover pass own is c.requires.present c.in-Need.granules step in
@@ -63,7 +63,7 @@ reply_behind_moves-requires-clause-present g c =
     let cover = c.in_ok-cover.cover in
     let pass = option_map (λ p. p.now) c.as_ref-migration.result in
     let own : pass ≡ m.pass = lent c.as_ref-migration.result ∙ (c.as_ref-migration.ensures.value ∙ c.migration-pass.ensures.pass) in
-    let is : IsCoverOf (option_map (λ (p : Where Kept). p.value) pass) bound cover = c.in_ok-cover.ensures in
+    let is : IsCoverOf (option_map (λ (p : Where Kept). p.value) pass) bound cover = subst (λ (o : Option Kept). IsCoverOf o bound cover) (lent_then (λ (p : Where Kept). p.value) c.as_ref-migration.result) c.in_ok-cover.ensures in
     let same : c.exec.new.self ≡ m = c.exec.ensures.same (λ e. cc) in
     let step : IsStep m pass bound cover.granules.items (Need c.in-Need.granules) = subst (λ (step : Step). IsStep m pass bound cover.granules.items step) c.in-Need.is c.in_ok-exec.ensures.step in
     let told = c.as_slice.ensures.value ∙ need_told m c.requires.kept bound cover pass own is c.requires.present c.in-Need.granules step in
@@ -77,7 +77,7 @@ reply_behind_moves-requires-clause-moved g c =
     let cover = c.in_ok-cover.cover in
     let pass = option_map (λ p. p.now) c.as_ref-migration.result in
     let own : pass ≡ m.pass = lent c.as_ref-migration.result ∙ (c.as_ref-migration.ensures.value ∙ c.migration-pass.ensures.pass) in
-    let is : IsCoverOf (option_map (λ (p : Where Kept). p.value) pass) bound cover = c.in_ok-cover.ensures in
+    let is : IsCoverOf (option_map (λ (p : Where Kept). p.value) pass) bound cover = subst (λ (o : Option Kept). IsCoverOf o bound cover) (lent_then (λ (p : Where Kept). p.value) c.as_ref-migration.result) c.in_ok-cover.ensures in
     let same : c.exec.new.self ≡ m = c.exec.ensures.same (λ e. cc) in
     let step : IsStep m pass bound cover.granules.items (Need c.in-Need.granules) = subst (λ (step : Step). IsStep m pass bound cover.granules.items step) c.in-Need.is c.in_ok-exec.ensures.step in
     let told = c.as_slice.ensures.value ∙ need_told m c.requires.kept bound cover pass own is c.requires.present c.in-Need.granules step in
@@ -91,7 +91,7 @@ unreachable-requires g c =
     let cover = c.in_ok-cover.cover in
     let pass = option_map (λ p. p.now) c.as_ref-migration.result in
     let own : pass ≡ m.pass = lent c.as_ref-migration.result ∙ (c.as_ref-migration.ensures.value ∙ c.migration-pass.ensures.pass) in
-    let is : IsCoverOf (option_map (λ (p : Where Kept). p.value) pass) bound cover = c.in_ok-cover.ensures in
+    let is : IsCoverOf (option_map (λ (p : Where Kept). p.value) pass) bound cover = subst (λ (o : Option Kept). IsCoverOf o bound cover) (lent_then (λ (p : Where Kept). p.value) c.as_ref-migration.result) c.in_ok-cover.ensures in
     not_stale m pass bound cover.granules.items (is_present m c.requires.kept bound cover pass own is c.requires.present) c.in-Stale.field-0
     (subst (λ (step : Step). IsStep m pass bound cover.granules.items step) c.in-Stale.is c.in_ok-exec.ensures.step)
 
@@ -102,7 +102,7 @@ returns-in-Need-clause-replied g c =
     let cover = c.in_ok-cover.cover in
     let pass = option_map (λ p. p.now) c.as_ref-migration.result in
     let own : pass ≡ m.pass = lent c.as_ref-migration.result ∙ (c.as_ref-migration.ensures.value ∙ c.migration-pass.ensures.pass) in
-    let is : IsCoverOf (option_map (λ (p : Where Kept). p.value) pass) bound cover = c.in_ok-cover.ensures in
+    let is : IsCoverOf (option_map (λ (p : Where Kept). p.value) pass) bound cover = subst (λ (o : Option Kept). IsCoverOf o bound cover) (lent_then (λ (p : Where Kept). p.value) c.as_ref-migration.result) c.in_ok-cover.ensures in
     let same : c.exec.new.self ≡ m = c.exec.ensures.same (λ e. cc) in
     let step : IsStep m pass bound cover.granules.items (Need c.in-Need.granules) = subst (λ (step : Step). IsStep m pass bound cover.granules.items step) c.in-Need.is c.in_ok-exec.ensures.step in
     let told = c.as_slice.ensures.value ∙ need_told m c.requires.kept bound cover pass own is c.requires.present c.in-Need.granules step in
@@ -116,7 +116,7 @@ returns-in-Need-clause-err g c =
     let cover = c.in_ok-cover.cover in
     let pass = option_map (λ p. p.now) c.as_ref-migration.result in
     let own : pass ≡ m.pass = lent c.as_ref-migration.result ∙ (c.as_ref-migration.ensures.value ∙ c.migration-pass.ensures.pass) in
-    let is : IsCoverOf (option_map (λ (p : Where Kept). p.value) pass) bound cover = c.in_ok-cover.ensures in
+    let is : IsCoverOf (option_map (λ (p : Where Kept). p.value) pass) bound cover = subst (λ (o : Option Kept). IsCoverOf o bound cover) (lent_then (λ (p : Where Kept). p.value) c.as_ref-migration.result) c.in_ok-cover.ensures in
     let same : c.exec.new.self ≡ m = c.exec.ensures.same (λ e. cc) in
     let step : IsStep m pass bound cover.granules.items (Need c.in-Need.granules) = subst (λ (step : Step). IsStep m pass bound cover.granules.items step) c.in-Need.is c.in_ok-exec.ensures.step in
     let told = c.as_slice.ensures.value ∙ need_told m c.requires.kept bound cover pass own is c.requires.present c.in-Need.granules step in
