@@ -21,3 +21,5 @@ pub mod Moved
 pub mod Needs
 pub mod Behind
 pub mod Nexts
+pub mod Following
+pub mod Swept

@@ -1,9 +1,11 @@
 -- A machine in which nothing has happened is in sequence.
-use Rattle.std.proofs.Common.{◌≡◌, ℕ, zero, suc, true, List, [], ◌∷◌, map, None, refl}
+use Rattle.std.proofs.Common.{◌≡◌, ℕ, zero, suc, true, List, [], ◌∷◌, map, None, refl, ap}
 use Rattle.std.specs.List.{slice_index_or}
 use Rattle.bf_tree.specs.declared.script.Script.{Script}
 use Rattle.bf_tree.specs.declared.script.Session.{Session}
+use Rattle.bf_sql.specs.Database.{Database}
 use Rattle.bf_store.specs.Stores.{Store}
+use Rattle.bf_machine.specs.Movement.{moving_seen}
 use Rattle.bf_machine.specs.Runnable.{phases_rise_from}
 use Rattle.bf_machine.specs.interleaving.Kept.{fresh, no_group}
 use Rattle.bf_machine.specs.interleaving.Machines.{open_at}
@@ -22,11 +24,13 @@ none_died : (store : Store) (script : Script) (retries n : ℕ) → deaths_at (f
 none_died store script retries zero = refl
 none_died store script retries (suc n) = refl
 
-pub fresh_is_in_sequence : (store : Store) (script : Script) (retries : ℕ) → phases_rise_from 0 script.sessions ≡ true → IsInSequence (fresh store script retries)
-fresh_is_in_sequence store script retries phases = record {
+pub fresh_is_in_sequence : (start : Database) (store : Store) (script : Script) (retries : ℕ) → phases_rise_from 0 script.sessions ≡ true → store.lazy.last ≡ None
+    → IsInSequence start (fresh store script retries)
+fresh_is_in_sequence start store script retries phases none = record {
   phases = phases;
   closed = none_open store script retries;
   no_death = none_died store script retries;
   rises = tt;
   ended = tt;
+  moved = ap moving_seen none;
 }

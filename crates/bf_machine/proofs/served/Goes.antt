@@ -1,6 +1,6 @@
 -- What an event of a session makes of the statements that have no reply.
-use Rattle.std.proofs.Common.{◌≡◌, ◌⊎◌, ℕ, zero, suc, ◌+◌, ◌-◌, ◌<◌, ◌≤◌, Bool, true, false, not, List, [], ◌∷◌, ◌++◌, length, drop, Option, Some, None, refl, sym, ap, subst, ◌∙◌, arith, inl, inr, append-nil, length-append}
-use Rattle.std.specs.Prelude.{nat_le}
+use Rattle.std.proofs.Common.{◌≡◌, ◌⊎◌, ℕ, zero, suc, ◌+◌, ◌-◌, ◌<◌, ◌≤◌, Bool, true, false, not, List, [], ◌∷◌, ◌++◌, length, drop, take, Option, Some, None, refl, sym, ap, ap₂, subst, ◌∙◌, arith, inl, inr, append-nil, length-append}
+use Rattle.std.specs.Prelude.{nat_le, slice_get}
 use Rattle.std.specs.Option.{option_map_or}
 use Rattle.std.specs.List.{list_any, slice_set}
 use Rattle.std.proofs.lemmas.Bool.{and_parts, false≢true}
@@ -18,20 +18,20 @@ use Rattle.boxcar.specs.Table.{Where}
 use Rattle.bf_sql.specs.Database.{Database}
 use Rattle.bf_sql.specs.migrations.Lazy.{LazyState}
 use Rattle.bf_image.specs.declared.migration.Migration.{Migration}
-use Rattle.bf_sql.specs.Groups.{commits, ends_block, groups_in, has_statement, session_at, statements_in}
+use Rattle.bf_sql.specs.Groups.{commits, ends_block, groups_in, has_statement, session_at, statements_in, statements_of}
 use Rattle.bf_machine.specs.Movement.{moving_seen, with_need}
 use Rattle.bf_machine.specs.interleaving.Calls.{replies_at, statements_at}
 use Rattle.bf_machine.specs.interleaving.Events.{Aborts, Begins, Commits, Event, Executes, Reaches, Refuses, aborts, at_once, begun, begun_again, commits_behind, commits_now, entry_of, one_more, opened, rest_of, stepped, text_of, with_open, put_into}
 use Rattle.bf_machine.specs.interleaving.Groups.{left_by}
 use Rattle.bf_machine.specs.interleaving.Kept.{IsKept}
 use Rattle.bf_machine.specs.interleaving.Machines.{Machine, Open, open_at, told_at, with_replies}
-use Rattle.bf_machine.specs.interleaving.Serving.{HasAnswered, HasEndedAlone, HasGoneOn, HasMore, HasReply, HasSettled, Serves, is_answered, is_in_block, sees, unanswered}
+use Rattle.bf_machine.specs.interleaving.Serving.{GoesOnWith, HasAnswered, HasEndedAlone, HasGoneOn, HasMore, HasReply, HasSettled, IsEnteredWith, IsStrayWith, Serves, answered_text, is_answered, is_in_block, sees, unanswered}
 use Rattle.bf_machine.proofs.interleaving.Others.{has_place}
 use Rattle.bf_machine.proofs.interleaving.Places.{set_same, set_other}
 use Rattle.bf_machine.proofs.interleaving.Telling.{length-part}
 use Rattle.bf_machine.proofs.interleaving.Texts.{are_texts}
 use Rattle.bf_machine.proofs.served.Behind.{end_begins_none, end_needs_none, put_same}
-use Rattle.bf_machine.proofs.served.Nexts.{next_of}
+use Rattle.bf_machine.proofs.served.Nexts.{next_of, refused_ends}
 use Rattle.bf_machine.proofs.served.Events.{closed_then, end_answers, end_serves, left_below, over, replies_are, serves_open}
 
 some_long : {X : Type 0} (p : X → Bool) (xs : List X) → list_any p xs ≡ true → 1 ≤ length xs
@@ -43,6 +43,22 @@ drop-all zero [] within = refl
 drop-all zero (x ∷ xs) within = absurd (omega (arith, within))
 drop-all (suc n) [] within = refl
 drop-all (suc n) (x ∷ xs) within = drop-all n xs (omega (arith, within))
+
+-- the front of a list, with one item more or with the rest
+take_one : {X : Type 0} (n : ℕ) (xs : List X) (x : X) (rest : List X) → drop n xs ≡ x ∷ rest → take (suc n) xs ≡ take n xs ++ x ∷ []
+take_one zero [] x rest is = absurd cc
+take_one zero (y ∷ xs) x rest is = let same : y ≡ x = cc in rw same refl
+take_one (suc n) [] x rest is = absurd cc
+take_one {X = X} (suc n) (y ∷ xs) x rest is = ap (λ (zs : List X). y ∷ zs) (take_one n xs x rest is)
+
+take_rest : {X : Type 0} (n : ℕ) (xs : List X) → take n xs ++ drop n xs ≡ xs
+take_rest zero xs = refl
+take_rest (suc n) [] = refl
+take_rest {X = X} (suc n) (x ∷ xs) = ap (λ (zs : List X). x ∷ zs) (take_rest n xs)
+
+-- what an open group has answered
+pub answered_of : (m : Machine) (s : ℕ) (o : Open) → open_at m s ≡ Some o → answered_text m s ≡ take (length o.replies) (text_of m s o)
+answered_of m s o is = ap (λ (found : Option Open). option_map_or (λ (p : Open). take (length p.replies) (text_of m s p)) found []) is
 
 -- events one after the other
 pub reaches_both : (start : Database) (m now next : Machine) → Reaches start m now → Reaches start now next → Reaches start m next
@@ -67,6 +83,27 @@ exec_reply m s next by p is none =
     let size : length p.replies ≡ length then.replies = ap (λ (q : Open). length q.replies) same in
     let nothing : length p.replies ≡ 0 = ap (λ (rs : List Reply). length rs) none in
     omega (arith, more, size, nothing)
+
+-- and its statement comes to those that are answered
+pub exec_records : (m : Machine) (s : ℕ) (next : Machine) → (by : Executes m s next) → GoesOnWith m s (by.statement ∷ []) next
+exec_records m s next by = record {
+  o = then;
+  is = there;
+  text = answered_of next s then there ∙ (ap₂ (λ (t : Script) (n : ℕ). take n (statements_in t s by.o.group)) script more ∙ (take_one (length by.o.replies) (text_of m s by.o) by.statement by.later by.left ∙ ap (λ (ss : List Statement). ss ++ by.statement ∷ []) (sym (answered_of m s by.o by.is))));
+  history = ap (λ (k : Machine). k.history) by.goes;
+}
+  where
+    then : Open
+    then = stepped m s by.o by.statement by.bound
+
+    there : open_at next s ≡ Some then
+    there = let place = has_place m s by.o by.is in ap (λ (k : Machine). open_at k s) by.goes ∙ set_same None None m.opens s (Some then) place.0 place.1
+
+    script : next.script ≡ m.script
+    script = ap (λ (k : Machine). k.script) by.goes
+
+    more : length then.replies ≡ suc (length by.o.replies)
+    more = let size : length then.replies ≡ length by.o.replies + 1 = length-append by.o.replies _ in omega (arith, size)
 
 module _ {start : Database} (m : Machine) (kept : IsKept start m) (s : ℕ) where
   -- EXEC
@@ -133,6 +170,16 @@ module _ {start : Database} (m : Machine) (kept : IsKept start m) (s : ℕ) wher
           let more : length refused ≡ length (told_at m s) + 1 = length-append (told_at m s) _ in
           omega (arith, one, other, more)
 
+  pub refuse_records : (next : Machine) → Refuses m s next → (statement : Statement) → slice_get (statements_at m s) (length (replies_at m s)) ≡ Some statement → IsStrayWith m s (statement ∷ []) next
+  refuse_records next by statement is = record {
+    closed = by.closed;
+    still = ap (λ (k : Machine). open_at k s) by.goes ∙ by.closed;
+    statement = statement;
+    is = refl;
+    ends = refused_ends m kept s next by statement is;
+    history = ap (λ (k : Machine). k.history) by.goes;
+  }
+
   -- the end of an open group
   module _ (o : Open) (is : open_at m s ≡ Some o) (c : Statement) (left : (rest_of m s o ≡ []) ⊎ (rest_of m s o ≡ c ∷ [])) (r : Reply) (db : Database) (lazy : LazyState) (pass : Option (Where Migration)) (e : Entry) (same : e.session ≡ s) where
     abbrev after : Machine
@@ -147,7 +194,16 @@ module _ {start : Database} (m : Machine) (kept : IsKept start m) (s : ℕ) wher
     end_adds_none : rest_of m s o ≡ [] → unanswered after s ≡ unanswered m s
     end_adds_none none = let nothing = ap (λ (ss : List Statement). length ss) none in omega (arith, size_after, nothing)
 
-    module _ (ends : ends_block c ≡ true) (more : rest_of m s o ≡ c ∷ [] → lazy.last ≡ m.lazy.last) (none : rest_of m s o ≡ [] → moving_seen lazy.last ≡ moving_seen (put_into m.lazy o.pending).last) where
+    -- the entry is of the whole text: of the answered statements, and of those that were left
+    entered : statements_of m.script e ≡ text_of m s o → (ss : List Statement) → rest_of m s o ≡ ss → IsEnteredWith m s ss after
+    entered text ss rest = record {
+      closed = closed_after;
+      entry = e;
+      text = text ∙ (sym (take_rest (length o.replies) (text_of m s o)) ∙ ap₂ (λ (front back : List Statement). front ++ back) (sym (answered_of m s o is)) rest);
+      history = refl;
+    }
+
+    module _ (text : statements_of m.script e ≡ text_of m s o) (ends : ends_block c ≡ true) (more : rest_of m s o ≡ c ∷ [] → lazy.last ≡ m.lazy.last) (none : rest_of m s o ≡ [] → moving_seen lazy.last ≡ moving_seen (put_into m.lazy o.pending).last) where
       -- a COMMIT or ROLLBACK needs nothing, and begins no migration
       answered : rest_of m s o ≡ c ∷ [] → HasAnswered m s after
       answered one =
@@ -160,6 +216,7 @@ module _ {start : Database} (m : Machine) (kept : IsKept start m) (s : ℕ) wher
                 end_begins_none (with_need (moving_seen m.lazy.last) (sees m s) (is_in_block m s) c) (sees m s) (is_in_block m s) c ends
                 ∙ end_needs_none m.lazy.last (sees m s) (is_in_block m s) c ends
                 );
+            recorded = inr (inl (entered text (c ∷ []) one));
           }
 
       end_goes_on : Event start m after → HasGoneOn m s start after
@@ -169,7 +226,7 @@ module _ {start : Database} (m : Machine) (kept : IsKept start m) (s : ℕ) wher
         more = closed_more after s closed_after;
         has_reply = closed_reply after s closed_after;
         goes = elim left as (λ _. HasAnswered m s after ⊎ HasEndedAlone m s after) [
-          | inl nothing ↦ inr (record { o = o; is = is; answered = nothing; closed = closed_after; same = end_adds_none nothing; moved = none nothing })
+          | inl nothing ↦ inr (record { o = o; is = is; answered = nothing; closed = closed_after; same = end_adds_none nothing; moved = none nothing; recorded = entered text [] nothing })
           | inr one ↦ inl (answered one)
         ];
       }
@@ -183,13 +240,13 @@ module _ {start : Database} (m : Machine) (kept : IsKept start m) (s : ℕ) wher
       let n = commits_behind 0 m.history + 1 in
       subst (HasGoneOn m s start) (sym by.goes)
       (end_goes_on by.can.o by.can.is Commit by.can.left (reply.Committed n) (left_by m.db by.can.o.pending) (put_into m.lazy by.can.o.pending) next.pass (entry_of m s by.can.o (Committed n)) refl
-      refl (λ one. put_same m kept s by.can.o by.can.is (inl (some_left by.can.o Commit one))) (λ none. refl) (subst (Event start m) by.goes (commits_now s by)))
+      refl refl (λ one. put_same m kept s by.can.o by.can.is (inl (some_left by.can.o Commit one))) (λ none. refl) (subst (Event start m) by.goes (commits_now s by)))
 
   pub abort_goes_on : (next : Machine) → Aborts m s next → HasGoneOn m s start next
   abort_goes_on next by =
       subst (HasGoneOn m s start) (sym by.goes)
       (end_goes_on by.o by.is Rollback by.left reply.RolledBack m.db m.lazy m.pass (entry_of m s by.o RolledBack) refl
-      refl (λ one. refl) (λ none. sym (ap moving_seen (put_same m kept s by.o by.is (inr by.commits_so)))) (subst (Event start m) by.goes (aborts s by)))
+      refl refl (λ one. refl) (λ none. sym (ap moving_seen (put_same m kept s by.o by.is (inr by.commits_so)))) (subst (Event start m) by.goes (aborts s by)))
 
   -- what they leave is told of
   pub commit_settles : (next : Machine) → Commits m s next → HasSettled m s next
@@ -224,6 +281,16 @@ module _ {start : Database} (m : Machine) (kept : IsKept start m) (s : ℕ) wher
     abort_adds_none next by =
         subst (λ (next : Machine). unanswered next s ≡ unanswered m s) (sym by.goes)
         (end_adds_none by.o by.is Rollback by.left reply.RolledBack m.db m.lazy m.pass (entry_of m s by.o RolledBack) refl (none_left by.o by.is))
+
+    -- only the group has ended
+    ends_alone : (next : Machine) → HasGoneOn m s start next → unanswered next s ≡ unanswered m s → HasEndedAlone m s next
+    ends_alone next gone same = elim gone.goes as (λ _. HasEndedAlone m s next) [ inl one ↦ absurd (omega (arith, one.one_more, same)) | inr ended ↦ ended ]
+
+    pub commit_ends : (next : Machine) → Commits m s next → HasEndedAlone m s next
+    commit_ends next by = ends_alone next (commit_goes_on next by) (commit_adds_none next by)
+
+    pub abort_ends : (next : Machine) → Aborts m s next → HasEndedAlone m s next
+    abort_ends next by = ends_alone next (abort_goes_on next by) (abort_adds_none next by)
 
   -- BEGIN: nothing has its reply yet
   module _ (place : (1 ≤ s) × (s ≤ length m.opens)) where

@@ -10,7 +10,6 @@ use Rattle.bf_base.specs.Lists.{with_before_from}
 use Rattle.bf_tree.specs.Answered.{IsAllAnswered}
 use Rattle.bf_tree.specs.declared.history.Entry.{Entry}
 use Rattle.bf_tree.specs.declared.history.Outcome.{Outcome}
-use Rattle.bf_tree.specs.declared.history.Sweep.{Sweep}
 use Rattle.bf_tree.specs.declared.reply.Cause.{Cause}
 use Rattle.bf_tree.specs.declared.reply.Cause.TheVariants.{Died}
 use Rattle.bf_tree.specs.declared.reply.Reply.{Reply}
@@ -20,8 +19,9 @@ use Rattle.bf_tree.specs.declared.statement.Statement.{Statement}
 use Rattle.bf_sql.specs.Database.{Database, empty_database}
 use Rattle.bf_sql.specs.Groups.{ends_block, groups_in, has_statement, no_session, outcomes_from, session_at, statements_in, statements_of}
 use Rattle.bf_sql.specs.History.{IsApart, IsLegalHistory, is_whole_group, may_precede, stands_in}
+use Rattle.bf_sql.specs.migrations.Lazy.{sweep_of}
 use Rattle.bf_machine.specs.InOrder.{IsRunInOrder, NoCause, entries_in_order, entry_of, groups_in_order, none_open}
-use Rattle.bf_machine.specs.Movement.{movement, sweep_told}
+use Rattle.bf_machine.specs.Movement.{sweep_told}
 use Rattle.bf_machine.specs.interleaving.Calls.{HasSessionEnded, IsPlace}
 use Rattle.bf_machine.specs.interleaving.Kept.{AllowedNow, IsKept}
 use Rattle.bf_machine.specs.interleaving.Machines.{Began, Group, Machine, Open, open_at, told_at, transcripts_of, with_replies}
@@ -32,6 +32,7 @@ use Rattle.bf_machine.proofs.interleaving.Places.{from_one}
 use Rattle.bf_machine.proofs.interleaving.Telling.{length-part}
 use Rattle.bf_machine.proofs.interleaving.Texts.{are_texts, one_group}
 use Rattle.bf_machine.proofs.served.Stuck.{group_place}
+use Rattle.bf_machine.proofs.served.Swept.{sweep_is}
 use Rattle.bf_machine.proofs.served.Whole.{IsBefore, Placed, Rises, in_placed, one_rising, placed_from, placed_in, placed_rise}
 
 -- the group of an entry
@@ -95,7 +96,7 @@ in_longer [] ys x there = absurd (omega (arith, there.1))
 in_longer (y ∷ xs) ys x (zero, within, is) = (0, omega arith, is)
 in_longer (y ∷ xs) ys x (suc k, within, is) = let rest = in_longer xs ys x (k, omega (arith, within), is) in (suc rest.0, omega (arith, rest.1), rest.2)
 
-last_in : {X : Type 0} (xs : List X) (x : X) → Contains (xs ++ x ∷ []) x
+pub last_in : {X : Type 0} (xs : List X) (x : X) → Contains (xs ++ x ∷ []) x
 last_in [] x = (0, omega arith, refl)
 last_in (y ∷ xs) x = let rest = last_in xs x in (suc rest.0, omega (arith, rest.1), rest.2)
 
@@ -214,7 +215,7 @@ module _ (script : Script) where
       (all_placed x es all, entries_rise (seen ++ x ∷ []) es x.session parts.1 rise.1 (λ e there. within e (suc there.0, omega (arith, there.1), there.2)))
 
   -- an entry is a group of its session
-  group_of : (history : List Entry) → list_all (is_whole_group script) history ≡ true → (e : Entry) → Contains history e → Contains (groups_in script e.session) (e.first, e.last)
+  pub group_of : (history : List Entry) → list_all (is_whole_group script) history ≡ true → (e : Entry) → Contains history e → Contains (groups_in script e.session) (e.first, e.last)
   group_of history whole e there =
       let found = found_in (λ (g : Group). e.first == g.0 && e.last == g.1) (groups_in script e.session) (each_of (is_whole_group script) history whole e there) in
       let parts = and_parts (e.first == found.item.0) (e.last == found.item.1) found.is in
@@ -276,7 +277,7 @@ module _ {start : Database} (m : Machine) (kept : IsKept start m) where
         ]
   ]
 
-module _ (m : Machine) (kept : IsKept empty_database m) (sequence : IsInSequence m) (ended : (s : ℕ) → IsPlace m.script s → HasSessionEnded m s) where
+module _ (m : Machine) (kept : IsKept empty_database m) (sequence : IsInSequence empty_database m) (ended : (s : ℕ) → IsPlace m.script s → HasSessionEnded m s) where
   abbrev legal : IsLegalHistory m.script (AllowedNow empty_database m) none_open empty_database m.told m.history
   legal = kept.history_legal.legal
 
@@ -369,10 +370,10 @@ module _ (m : Machine) (kept : IsKept empty_database m) (sequence : IsInSequence
   transcripts_told = with_none m.told m.opens (kept.shaped.told ∙ sym kept.shaped.opens)
       (λ i. let here : slice_index_or m.opens i None ≡ open_at m (i + 1) = there_next None None m.opens i in here ∙ sequence.closed (i + 1))
 
-  pub ran_in_order : (sweep : Sweep) → sweep ≡ sweep_told (movement m.script empty_database m.history) → IsRunInOrder m.script (transcripts_of m) m.history sweep
-  ran_in_order sweep moved = record {
+  pub ran_in_order : IsRunInOrder m.script (transcripts_of m) m.history (sweep_of m.lazy.last)
+  ran_in_order = record {
     history_legal = subst (λ (ts : List (List Reply)). IsLegalHistory m.script NoCause none_open empty_database ts m.history) (sym transcripts_told) legal_without_cause;
     all_answered = subst (IsAllAnswered m.script) (sym transcripts_told) all_answered;
     entries_are_in_order = entries_are;
-    moves_only_needed = moved;
+    moves_only_needed = sweep_is m.lazy.live m.lazy.last kept.store_valid.seen_as.lazy_state.last ∙ ap sweep_told sequence.moved;
   }

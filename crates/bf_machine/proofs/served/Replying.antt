@@ -8,13 +8,14 @@ use Rattle.std.proofs.lemmas.Option.{same_Some}
 use Rattle.bf_locks.specs.Locks.{Locks}
 use Rattle.bf_tree.specs.declared.bound.Bound.{Bound}
 use Rattle.bf_tree.specs.declared.history.Entry.{Entry}
+use Rattle.bf_tree.specs.declared.script.Script.{Script}
 use Rattle.bf_tree.specs.declared.statement.Statement.{Statement}
 use Rattle.bf_sql.specs.migrations.Lazy.{LazyState, Migration}
 use Rattle.bf_sql.specs.migrations.Need.{needed_for}
 use Rattle.bf_sql.specs.migrations.Plans.{prepared_of}
 use Rattle.bf_sql.specs.Database.{Database}
 use Rattle.bf_sql.specs.Footprints.{footprint_of}
-use Rattle.bf_sql.specs.Groups.{ends_block}
+use Rattle.bf_sql.specs.Groups.{ends_block, statements_of}
 use Rattle.bf_sql.specs.History.{replayed}
 use Rattle.bf_sql.specs.Objections.{objections}
 use Rattle.bf_sql.specs.RowObjections.{row_objections}
@@ -27,7 +28,7 @@ use Rattle.bf_machine.specs.interleaving.Events.{Executes, Reaches, Refuses, at_
 use Rattle.bf_machine.specs.interleaving.Groups.{Pending, Rows, left_by, pending_behind}
 use Rattle.bf_machine.specs.interleaving.Kept.{IsKept, IsOpenGroup}
 use Rattle.bf_machine.specs.interleaving.Machines.{Machine, Open, open_at}
-use Rattle.bf_machine.specs.interleaving.Serving.{HasGoneOn, HasLocked, HasMore, HasMovedNeed, HasReply, HasSettled, IsBoundNext, IsPreparedNext, Serves, is_in_block, sees, unanswered}
+use Rattle.bf_machine.specs.interleaving.Serving.{GoesOnWith, HasEndedAlone, HasGoneOn, HasLocked, HasMore, HasMovedNeed, HasReply, HasSettled, IsBoundNext, IsPreparedNext, IsRecorded, IsStrayWith, Serves, answered_text, is_in_block, sees, unanswered}
 use Rattle.bf_machine.proofs.interleaving.Others.{has_place}
 use Rattle.bf_machine.proofs.interleaving.Places.{set_same}
 use Rattle.bf_machine.proofs.interleaving.Reaching.{reached_keeps_all}
@@ -35,7 +36,7 @@ use Rattle.bf_machine.proofs.interleaving.Texts.{are_texts}
 use Rattle.bf_machine.proofs.keeping.Numbers.{prepared_number}
 use Rattle.bf_machine.proofs.served.Behind.{AreRows, are_rows, behind_reply, end_begins_none, end_needs_none, first_same, prepared_seen}
 use Rattle.bf_machine.proofs.served.Events.{serves_both}
-use Rattle.bf_machine.proofs.served.Goes.{closed_more, closed_reply, exec_goes_on, exec_reply, reaches_both, refuse_goes_on}
+use Rattle.bf_machine.proofs.served.Goes.{closed_more, closed_reply, exec_goes_on, exec_records, exec_reply, reaches_both, refuse_goes_on, refuse_records}
 use Rattle.bf_machine.proofs.served.Moved.{need_moved, none_needed}
 use Rattle.bf_machine.proofs.served.Needs.{HasCome, has_come, moved_reaches, need_granules}
 use Rattle.bf_machine.proofs.served.Nexts.{next_of, refused_ends}
@@ -123,6 +124,16 @@ module _ (m : Machine) (s : ℕ) (o : Open) (bound : Bound) (next : IsBoundNext 
           ∙ ap (λ (st : Statement). moving_behind (moving_seen m.lazy.last) (committed m.db rows.writes) inside st) same_statement
           ∙ sym (ap₂ (λ (d : Database) (b : Bool). moving_behind (moving_seen m.lazy.last) d b next.to_lock.statement) found block)
 
+      -- and it comes to the answered ones
+      its_text : GoesOnWith m s (next.to_lock.statement ∷ []) then
+      its_text =
+          let goes = exec_records moved s then by in record {
+            o = goes.o;
+            is = goes.is;
+            text = goes.text ∙ ap (λ (st : Statement). answered_text m s ++ st ∷ []) same_statement;
+            history = goes.history;
+          }
+
 -- A REPLY behind locks and moves
 pub record HasStepped (start : Database) (m : Machine) (s : ℕ) (statement : Statement) (then : Machine) : Type 0 where
   pub serves : Serves m s then
@@ -131,6 +142,7 @@ pub record HasStepped (start : Database) (m : Machine) (s : ℕ) (statement : St
   pub o : Open
   pub is : open_at then s ≡ Some o
   pub moved : moving_seen (put_into then.lazy o.pending).last ≡ moving_behind (moving_seen m.lazy.last) (sees m s) (is_in_block m s) statement
+  pub goes_on : GoesOnWith m s (statement ∷ []) then
 
 module _ {start : Database} (m : Machine) (kept : IsKept start m) (s : ℕ) (o : Open) (bound : Bound) (next : IsBoundNext m s o bound) (now : Machine) (locked : HasLocked m s (footprint_of bound) now) where
   own_locks : Holds locked.2 o.start (footprint_of bound)
@@ -163,16 +175,31 @@ module _ {start : Database} (m : Machine) (kept : IsKept start m) (s : ℕ) (o :
               o = q m s o bound next locked.2 own_locks lazy come kept_moved then executed.0 executed.1;
               is = open_then m s o bound next locked.2 own_locks lazy come kept_moved then executed.0 executed.1;
               moved = settled m s o bound next locked.2 own_locks lazy come kept_moved then executed.0 executed.1;
+              goes_on = its_text m s o bound next locked.2 own_locks lazy come kept_moved then executed.0 executed.1;
             }
         | inr refused ↦
             let clash : None ≡ Some o = sym refused.closed ∙ next.to_lock.is in
             absurd cc
       ]
 
+-- the group goes on so, or has ended since
+recorded_then : (m : Machine) (s : ℕ) (statement : Statement) (then : Machine) → then.script ≡ m.script → GoesOnWith m s (statement ∷ []) then → (last : Machine) → (last ≡ then) ⊎ HasEndedAlone then s last
+    → IsRecorded m s (statement ∷ []) last
+recorded_then m s statement then script goes last ended = elim ended as (λ _. IsRecorded m s (statement ∷ []) last) [
+  | inl same ↦ inl (subst (GoesOnWith m s (statement ∷ [])) (sym same) goes)
+  | inr alone ↦ inr (inl (record {
+    closed = alone.closed;
+    entry = alone.recorded.entry;
+    text = ap (λ (t : Script). statements_of t alone.recorded.entry) (sym script) ∙ (alone.recorded.text ∙ (append-nil (answered_text then s) ∙ goes.text));
+    history = alone.recorded.history ∙ ap (λ (es : List Entry). es ++ alone.recorded.entry ∷ []) goes.history;
+  }))
+]
+
 -- and its group ends where that was the last: the turn is served
 pub goes_on_to : {start : Database} (m : Machine) → IsKept start m → (s : ℕ) (o : Open) (bound : Bound) (next : IsBoundNext m s o bound) (then : Machine) → Reaches start m then → HasStepped start m s next.to_lock.statement then
-    → (last : Machine) → Serves then s last → Reaches start then last → HasMore last s → HasReply last s → unanswered last s ≡ unanswered then s → HasSettled then s last → HasGoneOn m s start last
-goes_on_to {start = start} m kept s o bound next then reached step last serves on more has_reply same settled = record {
+    → (last : Machine) → Serves then s last → Reaches start then last → HasMore last s → HasReply last s → unanswered last s ≡ unanswered then s → HasSettled then s last
+    → (last ≡ then) ⊎ HasEndedAlone then s last → HasGoneOn m s start last
+goes_on_to {start = start} m kept s o bound next then reached step last serves on more has_reply same settled ended = record {
   serves = serves_both m s then last step.serves serves;
   reached = reaches_both start m then last reached on;
   more = more;
@@ -182,6 +209,7 @@ goes_on_to {start = start} m kept s o bound next then reached step last serves o
     statement = next.to_lock.statement;
     is = next_of m kept s o next.to_lock.is next.to_lock.statement next.to_lock.later next.to_lock.left;
     moved = settled step.o step.is ∙ step.moved;
+    recorded = recorded_then m s next.to_lock.statement then step.serves.script step.goes_on last ended;
   });
 }
 
@@ -207,6 +235,11 @@ module _ {start : Database} (m : Machine) (s : ℕ) (kept : IsKept start m) (clo
         ∙ (sym (end_begins_none (with_need (moving_seen m.lazy.last) m.db (is_in_block m s) next.statement) m.db (is_in_block m s) next.statement ends)
         ∙ ap (λ (d : Database). moving_behind (moving_seen m.lazy.last) d (is_in_block m s) next.statement) (sym same_sees)))
 
+    strayed : IsStrayWith m s (next.statement ∷ []) then
+    strayed =
+        let stray = refuse_records (record m { lazy = lazy }) kept_now s then by next.statement next.is in
+        record { closed = stray.closed; still = stray.still; statement = stray.statement; is = stray.is; ends = stray.ends; history = stray.history }
+
     refused_goes_on : HasGoneOn m s start then
     refused_goes_on =
         let whole : Machine = record m { lazy = lazy } in
@@ -224,7 +257,7 @@ module _ {start : Database} (m : Machine) (s : ℕ) (kept : IsKept start m) (clo
           reached = one_more before (refuses s by);
           more = closed_more then s none;
           has_reply = closed_reply then s none;
-          goes = inl (record { one_more = goes.1; statement = next.statement; is = next.is; moved = told });
+          goes = inl (record { one_more = goes.1; statement = next.statement; is = next.is; moved = told; recorded = inr (inr strayed) });
         }
 
   pub refused_now : (then : Machine) → HasReplied now s bound then → HasGoneOn m s start then

@@ -9,7 +9,9 @@ use Rattle.bf_tree.specs.declared.history.Entry.{Entry}
 use Rattle.bf_tree.specs.declared.script.Script.{Script}
 use Rattle.bf_tree.specs.declared.script.Session.{Session}
 use Rattle.bf_tree.specs.declared.reply.Reply.{Reply}
+use Rattle.bf_sql.specs.Database.{Database}
 use Rattle.bf_sql.specs.Groups.{no_session, session_at}
+use Rattle.bf_machine.specs.Movement.{movement, moving_seen}
 use Rattle.bf_machine.specs.Runnable.{phases_rise_from}
 use Rattle.bf_machine.specs.declared.stand.Stand.{Stand}
 use Rattle.bf_machine.specs.declared.stand.Stand.TheVariants as stand
@@ -50,7 +52,7 @@ phase_rises script rise (suc s) zero low place below = absurd (omega (arith, pla
 phase_rises script rise (suc s) (suc t) low place below = rises 0 script.sessions s t rise (omega (arith, below)) (omega (arith, place.1))
 
 -- a session of which no call can come, where those before it have ended
-module _ (m : Machine) (sequence : IsInSequence m) (s : ℕ) (own : IsPlace m.script s) (earlier : (t : ℕ) → 1 ≤ t → t < s → HasSessionEnded m t) where
+module _ {start : Database} (m : Machine) (sequence : IsInSequence start m) (s : ℕ) (own : IsPlace m.script s) (earlier : (t : ℕ) → 1 ≤ t → t < s → HasSessionEnded m t) where
   current : IsCurrent m s
   current = λ t before. elim (place_or_none m.script t) as (λ _. HasSessionEnded m t) [
     | inl there ↦ elim (cases_Bool (nat_le s t)) as (λ _. HasSessionEnded m t) [
@@ -78,7 +80,7 @@ module _ (m : Machine) (sequence : IsInSequence m) (s : ℕ) (own : IsPlace m.sc
   has_ended_by stand.Commit at none = absurd cc
   has_ended_by stand.Abort at none = absurd cc
 
-module _ (m : Machine) (sequence : IsInSequence m) (first : ℕ) (place : IsPlace m.script first) (cannot : (s : ℕ) → 1 ≤ s → s < first → CannotGo m s) where
+module _ {start : Database} (m : Machine) (sequence : IsInSequence start m) (first : ℕ) (place : IsPlace m.script first) (cannot : (s : ℕ) → 1 ≤ s → s < first → CannotGo m s) where
   -- the sessions before the first that can go on have ended
   before_has_ended : (bound s : ℕ) → s < bound → 1 ≤ s → s < first → HasSessionEnded m s
   before_has_ended zero s less low before = absurd (omega (arith, less))
@@ -129,8 +131,8 @@ module _ (m : Machine) (sequence : IsInSequence m) (first : ℕ) (place : IsPlac
       both P [] ys here there = there
       both P (x ∷ xs) ys here there = (here.0, both P xs ys here.1 there)
 
-      pub stays_in_sequence : ((t : ℕ) → open_at next t ≡ None) → IsInSequence next
-      stays_in_sequence closed =
+      pub stays_in_sequence : ((t : ℕ) → open_at next t ≡ None) → moving_seen next.lazy.last ≡ movement next.script start next.history → IsInSequence start next
+      stays_in_sequence closed moved =
           let more = serves.entries.0 in
           let same : next.history ≡ m.history ++ more = serves.entries.2 in record {
             phases = subst (λ (script : Script). IsTrue (phases_rise_from 0 script.sessions)) (sym serves.script) sequence.phases;
@@ -139,4 +141,5 @@ module _ (m : Machine) (sequence : IsInSequence m) (first : ℕ) (place : IsPlac
             rises = subst (SessionsRiseFrom 1) (sym same) (rise_more 1 m.history more place.0 sequence.rises sequence.ended serves.entries.1);
             ended = subst (AllByRecursion (λ (e : Entry). (t : ℕ) → 1 ≤ t → t < e.session → HasSessionEnded next t)) (sym same)
                 (both (λ (e : Entry). (t : ℕ) → 1 ≤ t → t < e.session → HasSessionEnded next t) m.history more (ended_still m.history sequence.ended) (ended_new more serves.entries.1));
+            moved = moved;
           }

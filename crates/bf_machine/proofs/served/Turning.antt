@@ -1,15 +1,16 @@
 -- A turn is taken behind the begin of a group.
-use Rattle.std.proofs.Common.{◌≡◌, ◌⊎◌, ℕ, ◌+◌, ◌≤◌, Bool, false, List, [], length, drop, Option, Some, None, sym, ap, ap₂, subst, ◌∙◌, arith, inl, inr, length-append}
+use Rattle.std.proofs.Common.{◌≡◌, ◌⊎◌, ℕ, ◌+◌, ◌≤◌, Bool, false, List, [], ◌∷◌, ◌++◌, length, drop, take, Option, Some, None, sym, ap, ap₂, subst, ◌∙◌, arith, inl, inr, length-append}
 use Rattle.std.specs.Prelude.{slice_get}
 use Rattle.std.specs.Option.{option_map_or}
 use Rattle.std.proofs.lemmas.Option.{same_Some}
 use Rattle.bf_locks.specs.declared.answer.LockAnswer.{LockAnswer}
 use Rattle.bf_locks.specs.declared.answer.LockAnswer.TheVariants.{Die, Wait}
+use Rattle.bf_tree.specs.declared.history.Entry.{Entry}
 use Rattle.bf_tree.specs.declared.reply.Reply.{Reply}
 use Rattle.bf_tree.specs.declared.script.Script.{Script}
 use Rattle.bf_tree.specs.declared.statement.Statement.{Statement}
 use Rattle.bf_sql.specs.Database.{Database}
-use Rattle.bf_sql.specs.Groups.{session_at}
+use Rattle.bf_sql.specs.Groups.{session_at, statements_of}
 use Rattle.bf_sql.specs.migrations.Lazy.{LazyState}
 use Rattle.bf_live.specs.OpenGroups.{Answered}
 use Rattle.bf_live.proofs.statements.Seeing.{nothing_written}
@@ -21,12 +22,12 @@ use Rattle.bf_machine.specs.interleaving.Events.{Begins, begins, at_once, one_mo
 use Rattle.bf_machine.specs.interleaving.Groups.{Flip, HasRun, IsSchemaStep, NewIndex, NewTable, Nothing, Pending, Rows, answered_by, left_by}
 use Rattle.bf_machine.specs.interleaving.Kept.{IsKept}
 use Rattle.bf_machine.specs.interleaving.Machines.{Machine, Open, open_at, told_at, with_replies}
-use Rattle.bf_machine.specs.interleaving.Serving.{HasAnswered, HasEndedAlone, HasGoneOn, IsAsked, IsTurn, Serves, is_in_block, sees, unanswered}
+use Rattle.bf_machine.specs.interleaving.Serving.{HasAnswered, HasEndedAlone, HasGoneOn, IsAsked, IsRecorded, IsTurn, Serves, answered_text, is_in_block, sees, unanswered}
 use Rattle.bf_machine.proofs.interleaving.Telling.{length-part}
 use Rattle.bf_machine.proofs.interleaving.Texts.{are_texts}
 use Rattle.bf_machine.proofs.served.Events.{begin_serves, serves_both}
 use Rattle.bf_machine.proofs.served.Exclusive.{open_can}
-use Rattle.bf_machine.proofs.served.Goes.{begin_adds_none, begin_opens, reaches_both}
+use Rattle.bf_machine.proofs.served.Goes.{answered_of, begin_adds_none, begin_opens, reaches_both}
 
 module _ {start : Database} (m : Machine) (s : ℕ) (place : IsPlace m.script s) (kept : IsKept start m) (now : Machine) (kept_now : IsKept start now) (by : Begins m s now) where
   within : (1 ≤ s) × (s ≤ length m.opens)
@@ -101,6 +102,37 @@ module _ {start : Database} (m : Machine) (s : ℕ) (place : IsPlace m.script s)
       ∙ ap stands_inside opened_now.2
       ∙ sym (ap (λ (f : Option Open). option_map_or (λ (p : Open). stands_inside p.replies) f false) by.closed)
 
+  -- nothing of its group is answered yet, and no entry has come
+  same_text : answered_text now s ≡ answered_text m s
+  same_text =
+      answered_of now s opened_now.0 opened_now.1
+      ∙ ap (λ (rs : List Reply). take (length rs) (text_of now s opened_now.0)) opened_now.2
+      ∙ sym (ap (λ (f : Option Open). option_map_or (λ (p : Open). take (length p.replies) (text_of m s p)) f []) by.closed)
+
+  same_history : now.history ≡ m.history
+  same_history = elim by.goes as (λ _. now.history ≡ m.history) [ inl first ↦ ap (λ (k : Machine). k.history) first.1 | inr again ↦ ap (λ (k : Machine). k.history) again.3 ]
+
+  recorded_from : (ss : List Statement) (next : Machine) → IsRecorded now s ss next → IsRecorded m s ss next
+  recorded_from ss next so = elim so as (λ _. IsRecorded m s ss next) [
+    | inl goes ↦ inl (record {
+      o = goes.o;
+      is = goes.is;
+      text = goes.text ∙ ap (λ (front : List Statement). front ++ ss) same_text;
+      history = goes.history ∙ same_history;
+    })
+    | inr other ↦ elim other as (λ _. IsRecorded m s ss next) [
+      | inl entered ↦ inr (inl (record {
+        closed = entered.closed;
+        entry = entered.entry;
+        text = ap (λ (t : Script). statements_of t entered.entry) (sym begins_serves.script) ∙ (entered.text ∙ ap (λ (front : List Statement). front ++ ss) same_text);
+        history = entered.history ∙ ap (λ (es : List Entry). es ++ entered.entry ∷ []) same_history;
+      }))
+      | inr stray ↦
+          let clash : None ≡ Some opened_now.0 = sym stray.closed ∙ opened_now.1 in
+          absurd cc
+    ]
+  ]
+
   answered_from : (next : Machine) → HasAnswered now s next → HasAnswered m s next
   answered_from next one = record {
     one_more = omega (arith, one.one_more, same_left);
@@ -109,6 +141,7 @@ module _ {start : Database} (m : Machine) (s : ℕ) (place : IsPlace m.script s)
     moved = one.moved
         ∙ ap (λ (lazy : LazyState). moving_behind (moving_seen lazy.last) (sees now s) (is_in_block now s) one.statement) same_lazy
         ∙ ap₂ (λ (d : Database) (b : Bool). moving_behind (moving_seen m.lazy.last) d b one.statement) same_sees same_block;
+    recorded = recorded_from (one.statement ∷ []) next one.recorded;
   }
 
   gone_on : (next : Machine) → HasGoneOn now s start next → HasGoneOn m s start next

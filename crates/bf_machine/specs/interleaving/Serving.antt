@@ -1,5 +1,5 @@
 -- SERVING sessions on one thread: what a turn of a session makes of a machine.
-use Rattle.std.specs.Prelude.{◌≡◌, ◌≢◌, ◌⊎◌, ℕ, ◌+◌, ◌-◌, ◌<◌, ◌≤◌, Bool, true, false, List, [], ◌∷◌, ◌++◌, length, take, Some, None, Contains, nat_le, slice_get, IsTrue}
+use Rattle.std.specs.Prelude.{◌≡◌, ◌≢◌, ◌⊎◌, ℕ, ◌+◌, ◌-◌, ◌<◌, ◌≤◌, Bool, true, false, List, [], ◌∷◌, ◌++◌, length, take, Option, Some, None, Contains, nat_le, slice_get, IsTrue}
 use Rattle.std.specs.Option.{option_map_or}
 use Rattle.std.specs.List.{AllByRecursion}
 use Rattle.bf_locks.specs.declared.answer.LockAnswer.{LockAnswer}
@@ -11,6 +11,7 @@ use Rattle.bf_tree.specs.declared.bound.Bound.{Bound}
 use Rattle.bf_tree.specs.declared.history.Entry.{Entry}
 use Rattle.bf_tree.specs.declared.statement.Statement.{Statement}
 use Rattle.bf_sql.specs.Database.{Database}
+use Rattle.bf_sql.specs.migrations.Lazy.{Migration}
 use Rattle.bf_sql.specs.migrations.Plans.{prepared_of}
 use Rattle.bf_store.specs.States.{need_of, to_move}
 use Rattle.bf_sql.specs.Footprints.{Lock, footprint_of}
@@ -51,6 +52,10 @@ HasMore m s = (o : Open) → open_at m s ≡ Some o → rest_of m s o ≡ [] →
 abbrev pub HasReply : Machine → ℕ → Type 0
 HasReply m s = (o : Open) → open_at m s ≡ Some o → o.replies ≡ [] → ⊥
 
+-- the statements of the open group that have their replies
+abbrev pub answered_text : Machine → ℕ → List Statement
+answered_text m s = option_map_or (λ (o : Open). take (length o.replies) (text_of m s o)) (open_at m s) []
+
 module _ (m : Machine) (s : ℕ) where
   -- whether the next statement stands in an open block
   abbrev pub is_in_block : Bool
@@ -74,10 +79,6 @@ module _ (m : Machine) (s : ℕ) where
   -- the database that the next statement is on: what its open group is to leave, or where none is open the present one
   abbrev pub sees : Database
   sees = option_map_or (λ (o : Open). left_by m.db o.pending) (open_at m s) m.db
-
-  -- the statements of the open group that have their replies
-  abbrev pub answered_text : List Statement
-  answered_text = option_map_or (λ (o : Open). take (length o.replies) (text_of m s o)) (open_at m s) []
 
   -- RECORDED: how statements of the session come into the history. Behind them the open group goes on, and no entry comes
   pub record GoesOnWith (ss : List Statement) (next : Machine) : Type 0 where
@@ -105,9 +106,13 @@ module _ (m : Machine) (s : ℕ) where
   abbrev pub IsRecorded : List Statement → Machine → Type 0
   IsRecorded ss next = GoesOnWith ss next ⊎ IsEnteredWith ss next ⊎ IsStrayWith ss next
 
-  -- FOLLOWED: of the last migration has moved what the statements of the history needed, and then those of the session's open group
+  -- the last migration, once what the session's open group is to leave is put into the store
+  abbrev pub last_behind : Option Migration
+  last_behind = option_map_or (λ (o : Open). (put_into m.lazy o.pending).last) (open_at m s) m.lazy.last
+
+  -- FOLLOWED: of it has moved what the statements of the history needed, and then those of the session's open group
   abbrev pub IsFollowed : Database → Type 0
-  IsFollowed start = moving_seen m.lazy.last ≡ moving_in (movement m.script start m.history) false m.db answered_text
+  IsFollowed start = moving_seen last_behind ≡ moving_in (movement m.script start m.history) false m.db (answered_text m s)
 
   -- ANSWERED: one statement more has its reply. Of the last migration exactly what the statement needs has moved besides; and where
   -- it is a MIGRATE that nothing is against, the next one has begun, of which nothing has moved

@@ -1,6 +1,11 @@
 -- A group that is to begin has begun, and can go on.
-use Rattle.std.proofs.Common.{sym, subst}
+use Rattle.std.proofs.Common.{sym, subst, arith}
 use Rattle.bf_machine.specs.interleaving.Events.{Reaches, at_once, begins, one_more}
+use Rattle.bf_machine.specs.interleaving.Kept.{IsKept}
+use Rattle.bf_machine.specs.interleaving.Machines.{Machine}
+use Rattle.bf_machine.proofs.interleaving.Reaching.{reached_keeps_all}
+use Rattle.bf_machine.proofs.served.Exclusive.{open_can}
+use Rattle.bf_machine.proofs.served.Goes.{begin_opens}
 use Rattle.bf_machine.proofs.serving.begin_if_due.Goals as goal
 
 pub returns-then-ne-clause-reaches : goal.returns-then-ne-clause-reaches
@@ -11,3 +16,13 @@ returns-in_err-begin-clause-reaches g c = subst (Reaches g.N.Opened.opening c.ar
 
 pub returns-clause-reaches : goal.returns-clause-reaches
 returns-clause-reaches g c = one_more at_once (begins c.args.session c.in_ok-begin.ensures.begins)
+
+pub returns-clause-passed : goal.returns-clause-passed
+returns-clause-passed g c = λ none.
+    let m : Machine = c.args.machine.now in
+    let next : Machine = c.begin.new.self in
+    let s = c.args.session in
+    let by = c.in_ok-begin.ensures.begins in
+    let kept : IsKept g.N.Opened.opening next = reached_keeps_all g.N.Opened.opening m next c.requires.kept (one_more at_once (begins s by)) in
+    let open = begin_opens m c.requires.kept s (c.requires.place.0, omega (arith, c.requires.place.1, c.requires.kept.shaped.opens)) next by in
+    absurd (open_can next kept s open.0 open.1 (c.stand.result, c.stand.ensures, none))

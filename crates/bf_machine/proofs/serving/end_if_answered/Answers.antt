@@ -1,8 +1,8 @@
 -- A group whose statements have their replies ends.
-use Rattle.std.proofs.Common.{refl, sym, subst, ◌∙◌}
+use Rattle.std.proofs.Common.{refl, sym, subst, ◌∙◌, inl, inr}
 use Rattle.bf_machine.specs.interleaving.Events.{Reaches, aborts, at_once, commits_now, one_more}
 use Rattle.bf_machine.proofs.served.Events.{serves_not}
-use Rattle.bf_machine.proofs.served.Goes.{abort_goes_on, abort_settles, commit_adds_none, commit_goes_on, commit_settles, more_settles}
+use Rattle.bf_machine.proofs.served.Goes.{abort_ends, abort_goes_on, abort_settles, commit_adds_none, commit_ends, commit_goes_on, commit_settles, more_settles}
 use Rattle.bf_machine.proofs.served.Left.{stands_more, unanswered_more}
 use Rattle.bf_machine.proofs.serving.end_if_answered.Goals as goal
 
@@ -47,7 +47,19 @@ returns-in_default g c = record {
   has_reply = c.requires.has_reply;
   settled = more_settles c.args.machine.now c.requires.kept c.args.session
       (stands_more c.args.machine.now c.requires.kept c.args.session c.stand.result c.stand.ensures c.in_default.not-Commit c.in_default.not-Abort);
+  ended = inl refl;
 }
+
+pub returns-then-not-is_answered-clause-ended : goal.returns-then-not-is_answered-clause-ended
+returns-then-not-is_answered-clause-ended g c = inl refl
+
+pub returns-in_ok-commit-in-Commit-clause-ended : goal.returns-in_ok-commit-in-Commit-clause-ended
+returns-in_ok-commit-in-Commit-clause-ended g c =
+    inr (commit_ends c.args.machine.now c.requires.kept c.args.session (sym c.is_answered.ensures ∙ c.if-not-is_answered.false) c.commit.new.self c.in_ok-commit-in-Commit.ensures.commits)
+
+pub returns-in-Abort-clause-ended : goal.returns-in-Abort-clause-ended
+returns-in-Abort-clause-ended g c =
+    inr (abort_ends c.args.machine.now c.requires.kept c.args.session (sym c.is_answered.ensures ∙ c.if-not-is_answered.false) c.abort.new.self c.abort.ensures)
 
 pub returns-then-not-is_answered-clause-settled : goal.returns-then-not-is_answered-clause-settled
 returns-then-not-is_answered-clause-settled g c =

@@ -5,10 +5,11 @@ use Rattle.bf_tree.specs.declared.script.Script.{Script}
 use Rattle.bf_machine.specs.interleaving.Events.{at_once}
 use Rattle.bf_machine.specs.interleaving.Kept.{IsKept}
 use Rattle.bf_machine.specs.interleaving.Machines.{Machine, open_at}
-use Rattle.bf_machine.specs.interleaving.Serving.{HasGoneOn, IsAlone, Serves, at_rest, one_driven, unanswered}
+use Rattle.bf_machine.specs.interleaving.Serving.{HasGoneOn, IsAlone, IsFollowed, Serves, at_rest, one_driven, unanswered}
 use Rattle.bf_machine.proofs.interleaving.Reaching.{reached_keeps_all}
 use Rattle.bf_machine.proofs.served.Ending.{alone_open_goes_on, no_more_left, reached_script, youngest_leaves_less}
 use Rattle.bf_machine.proofs.served.Events.{serves_both, serves_not}
+use Rattle.bf_machine.proofs.served.Following.{followed_stays}
 use Rattle.bf_machine.proofs.served.Goes.{reaches_both}
 use Rattle.bf_machine.proofs.served.Open.{left_open}
 use Rattle.bf_machine.proofs.served.Totals.{total}
@@ -20,6 +21,7 @@ loop-session-init g c = record {
   driven = at_rest;
   nothing = λ none. refl;
   alone = λ s alone. serves_not c.args.machine.now s;
+  followed = λ s alone followed. followed;
   no_more = λ s alone. omega arith;
 }
 
@@ -42,6 +44,8 @@ loop-session-preserved g c =
     let next : Machine = c.take_turn.new.machine in
     let s = c.in-Some.session in
     let kept : IsKept g.N.Opened.opening now = reached_keeps_all g.N.Opened.opening m now c.requires.kept c.loop-session.invariant.reaches in
+    let reached = reaches_both g.N.Opened.opening m now next c.loop-session.invariant.reaches c.in_ok-take_turn.ensures.reaches in
+    let kept_next : IsKept g.N.Opened.opening next = reached_keeps_all g.N.Opened.opening m next c.requires.kept reached in
     let youngest = c.in-Some.ensures.youngest in
     let goes_on : (u : ℕ) → IsAlone m u → (u ≡ s) × HasGoneOn now s g.N.Opened.opening next = λ u alone.
     let before = c.loop-session.invariant.alone u alone in
@@ -54,7 +58,7 @@ loop-session-preserved g c =
           absurd cc
     ] in
     record {
-      reaches = reaches_both g.N.Opened.opening m now next c.loop-session.invariant.reaches c.in_ok-take_turn.ensures.reaches;
+      reaches = reached;
       driven = one_driven s c.loop-session.invariant.driven (inl youngest) c.in_ok-take_turn.field-0 c.in_ok-take_turn.ensures.turn;
       nothing = λ none.
           let clash : None ≡ Some youngest.0 = sym (none s) ∙ (ap (λ (k : Machine). open_at k s) (sym (c.loop-session.invariant.nothing none)) ∙ youngest.1) in
@@ -62,6 +66,11 @@ loop-session-preserved g c =
       alone = λ u alone.
           let goes = goes_on u alone in
           serves_both m u now next (c.loop-session.invariant.alone u alone) (subst (λ (v : ℕ). Serves now v next) (sym goes.0) goes.1.serves);
+      followed = λ u alone followed.
+          let goes = goes_on u alone in
+          let was : IsFollowed now s g.N.Opened.opening =
+          subst (λ (v : ℕ). IsFollowed now v g.N.Opened.opening) goes.0 (c.loop-session.invariant.followed u alone followed) in
+          subst (λ (v : ℕ). IsFollowed next v g.N.Opened.opening) (sym goes.0) (followed_stays now kept s next kept_next goes.1 was);
       no_more = λ u alone.
           let goes = goes_on u alone in
           let less : unanswered next s ≤ unanswered now s = no_more_left now s g.N.Opened.opening next goes.1 in

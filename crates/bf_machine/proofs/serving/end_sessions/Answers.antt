@@ -9,6 +9,7 @@ use Rattle.bf_machine.proofs.interleaving.Reaching.{reached_keeps_all}
 use Rattle.bf_machine.proofs.interleaving.Texts.{are_texts}
 use Rattle.bf_machine.proofs.served.Ending.{driven_both, none_of, reached_script, served_to_end, serves_less}
 use Rattle.bf_machine.proofs.served.Exclusive.{goes_has_not_ended}
+use Rattle.bf_machine.proofs.served.Following.{served_moves}
 use Rattle.bf_machine.proofs.served.Goes.{reaches_both}
 use Rattle.bf_machine.proofs.served.Sequence.{stays_in_sequence}
 use Rattle.bf_machine.proofs.served.Stuck.{all_have_ended}
@@ -49,6 +50,8 @@ loop-session-preserved g c =
     let kept : IsKept g.N.Opened.opening now = reached_keeps_all g.N.Opened.opening m now c.requires.kept c.loop-session.invariant.reaches in
     let goes = c.in-Some.ensures.goes in
     let served = served_to_end now kept c.in-Some.session c.loop-session.invariant.closed goes c.in_ok-take_turn.field-0 next c.in_ok-take_turn.ensures.turn then c.in_ok-end_open_groups.ensures.alone in
+    let kept_next : IsKept g.N.Opened.opening next =
+    reached_keeps_all g.N.Opened.opening m next c.requires.kept (reaches_both g.N.Opened.opening m now next c.loop-session.invariant.reaches c.in_ok-take_turn.ensures.reaches) in
     record {
       reaches = reaches_both g.N.Opened.opening m next then (reaches_both g.N.Opened.opening m now next c.loop-session.invariant.reaches c.in_ok-take_turn.ensures.reaches) c.in_ok-end_open_groups.ensures.reaches;
       driven = driven_both g.N.Opened.opening m next then
@@ -57,8 +60,11 @@ loop-session-preserved g c =
       closed = c.in_ok-end_open_groups.ensures.closed;
       deaths = λ n. served.0.deaths n ∙ c.loop-session.invariant.deaths n;
       sequence = λ sequence.
-          stays_in_sequence now (c.loop-session.invariant.sequence sequence) c.in-Some.session c.in-Some.ensures.place c.in-Some.ensures.first (goes_has_not_ended now kept c.in-Some.session goes) then served.0
-          c.in_ok-end_open_groups.ensures.closed;
+          let is = c.loop-session.invariant.sequence sequence in
+          stays_in_sequence now is c.in-Some.session c.in-Some.ensures.place c.in-Some.ensures.first (goes_has_not_ended now kept c.in-Some.session goes) then served.0
+          c.in_ok-end_open_groups.ensures.closed
+          (served_moves now kept c.in-Some.session c.loop-session.invariant.closed goes c.in_ok-take_turn.field-0 next kept_next c.in_ok-take_turn.ensures.turn then
+          c.in_ok-end_open_groups.ensures.followed c.in_ok-end_open_groups.ensures.closed is.moved);
     }
 
 pub returns-in_err-end_open_groups-clause-reaches : goal.returns-in_err-end_open_groups-clause-reaches

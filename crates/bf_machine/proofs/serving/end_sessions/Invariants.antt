@@ -12,7 +12,7 @@ invariant-loop-session g l = record {
   driven : Driven g.N.Opened.opening l.fn.machine l.machine;
   closed : (s : ℕ) → open_at l.machine s ≡ None;
   deaths : (n : ℕ) → deaths_at l.machine n ≡ deaths_at l.fn.machine n;
-  sequence : IsInSequence l.fn.machine → IsInSequence l.machine;
+  sequence : IsInSequence g.N.Opened.opening l.fn.machine → IsInSequence g.N.Opened.opening l.machine;
 }
 
 abbrev pub decreases-loop-session : goal.decreases-loop-session

@@ -94,5 +94,5 @@ returns-clause-sequence g c =
     let here : c.loop-session.machine ≡ m = c.loop-session.invariant.nothing empty in
     let none : (s : ℕ) → open_at c.loop-session.machine s ≡ None = λ s. ap (λ (k : Machine). open_at k s) here ∙ sequence.closed s in
     let same : c.end_open_groups.new.machine ≡ m = c.in_ok-end_open_groups.ensures.nothing none ∙ here in
-    stays (subst IsInSequence (sym same) sequence))
+    stays (subst (IsInSequence g.N.Opened.opening) (sym same) sequence))
     c.end_sessions.ensures.sequence

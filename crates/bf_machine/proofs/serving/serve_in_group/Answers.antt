@@ -96,4 +96,4 @@ returns-clause-turn g c =
     let then = reaches_both g.N.Opened.opening m c.lock_all.new.machine c.reply_to.new.machine c.in_ok-turn.ensures.reaches reached in
     let step = has_stepped m c.requires.kept s next.0 c.args.bound.now next.1 c.lock_all.new.machine locked c.in_ok-turn.ensures.reaches replied.0 replied.1 c.reply_to.new.machine replied.2 in
     let ended = c.in_ok-end_if_answered.ensures in
-    goes_on_to m c.requires.kept s next.0 c.args.bound.now next.1 c.reply_to.new.machine then step c.end_if_answered.new.machine ended.serves ended.reaches ended.more ended.has_reply ended.replies ended.settled
+    goes_on_to m c.requires.kept s next.0 c.args.bound.now next.1 c.reply_to.new.machine then step c.end_if_answered.new.machine ended.serves ended.reaches ended.more ended.has_reply ended.replies ended.settled ended.ended
