@@ -103,14 +103,14 @@ returns-in-Ok-clause-old g c = λ differs.
     let own = c.are_same-same.ensures.slots.0 c.if-not-same.false ∙ ap slot_of passes ∙ ap (λ (m : Machine). slot_of m.pass) c.self.view_is in
     absurd (differs (sym own))
 
-pub returns-in-Err-clause-old : goal.returns-in-Err-clause-old
-returns-in-Err-clause-old g c = λ differs.
+pub returns-clause-old : goal.returns-clause-old
+returns-clause-old g c = λ differs.
     let i = c.self.inside in
     let passes = as_copied c.as_ref-last.result ∙ c.as_ref-last.ensures.value ∙ c.migration-last.ensures.pass in
     let own = c.are_same-same.ensures.slots.0 c.if-not-same.false ∙ ap slot_of passes ∙ ap (λ (m : Machine). slot_of m.pass) c.self.view_is in
     absurd (differs (sym own))
 
-pub returns-in-Err-clause-err : goal.returns-in-Err-clause-err
-returns-in-Err-clause-err g c =
+pub returns-clause-err : goal.returns-clause-err
+returns-clause-err g c =
     let i = c.self.inside in
     ap (λ (store : Store). seen i.script i.retries store i.locks i.began.items i.sessions.items i.history.items) c.in-Err.ensures.err ∙ c.self.view_is
