@@ -9,5 +9,5 @@ pub unreachable-requires : goal.unreachable-requires
 unreachable-requires g c =
     no_other c.args.machine.now (option_map (λ p. p.now) c.args.migration) c.args.bound.now c.args.cover.now.granules.items c.requires.present c.requires.moved c.in_ok-exec.field-0 c.in_ok-exec.ensures.step c.in_default.not-Replied
 
-pub returns-in-Replied-clause-replied : goal.returns-in-Replied-clause-replied
-returns-in-Replied-clause-replied g c = c.in_ok-exec.ensures.replied (ap Ok c.in-Replied.is)
+pub returns-clause-replied : goal.returns-clause-replied
+returns-clause-replied g c = c.in_ok-exec.ensures.replied (ap Ok c.in-Replied.is)

@@ -1,15 +1,17 @@
 -- What is needed has moved, and then the statement has its reply.
 use Rattle.std.proofs.Common.{◌≡◌, List, Option, sym, ap, subst, ◌∙◌, inl}
 use Rattle.std.specs.Prelude.{Result, Ok, Err, OnErr, OnOk}
+use Rattle.std.specs.Global.{Vec}
 use Rattle.std.specs.Option.{option_map}
 use Rattle.boxcar.specs.Table.{Where}
+use Rattle.bf_base.specs.declared.granule.Granule.{Granule}
 use Rattle.bf_base.specs.declared.memory.Memory.{Memory}
 use Rattle.bf_image.specs.declared.migration.Migration.{Migration as Kept}
 use Rattle.bf_store.specs.States.{AreGranulesIfAny}
 use Rattle.bf_store.specs.Stores.{IsOf}
 use Rattle.bf_transpose.specs.Covers.{IsCoverOf}
 use Rattle.bf_machine.specs.declared.stand.Step.{Step}
-use Rattle.bf_machine.specs.declared.stand.Step.TheVariants.{Need}
+use Rattle.bf_machine.specs.declared.stand.Step.TheVariants.{Need, Replied}
 use Rattle.bf_machine.specs.interleaving.Calls.{IsStep}
 use Rattle.bf_machine.specs.interleaving.Events.{Moves}
 use Rattle.bf_machine.specs.interleaving.Machines.{Machine}
@@ -25,6 +27,9 @@ on_err : {P Q : Type 0} {A : Type 0} (r : Result A Memory) → (P → Q) → OnE
 on_err (Ok x) weaker so = so
 on_err (Err memory) weaker so = weaker so
 
+not_replied : (r : Result Step Memory) (granules : Vec Granule) → r ≡ Ok (Need granules) → r ≡ Ok Replied → ⊥
+not_replied r granules is e = let clash : ◌≡◌ {A = Result Step Memory} (Ok (Need granules)) (Ok Replied) = sym is ∙ e in cc
+
 pub cover_with-requires-clause-pass : goal.cover_with-requires-clause-pass
 cover_with-requires-clause-pass g c =
     subst (IsOf g.N.Opened.registry) (sym (lent c.as_ref-migration.result ∙ (c.as_ref-migration.ensures.value ∙ c.migration-pass.ensures.pass))) c.migration-pass.ensures.one
@@ -37,7 +42,7 @@ move_need-requires-clause-granules g c =
     let pass = option_map (λ p. p.now) c.as_ref-migration.result in
     let own : pass ≡ m.pass = lent c.as_ref-migration.result ∙ (c.as_ref-migration.ensures.value ∙ c.migration-pass.ensures.pass) in
     let is : IsCoverOf (option_map (λ (p : Where Kept). p.value) pass) bound cover = subst (λ (o : Option Kept). IsCoverOf o bound cover) (lent_then (λ (p : Where Kept). p.value) c.as_ref-migration.result) c.in_ok-cover.ensures in
-    let same : c.exec.new.self ≡ m = c.exec.ensures.same (λ e. cc) in
+    let same : c.exec.new.self ≡ m = c.exec.ensures.same (not_replied c.exec.result c.in-Need.granules (c.in_ok-exec.was ∙ ap Ok c.in-Need.is)) in
     let step : IsStep m pass bound cover.granules.items (Need c.in-Need.granules) = subst (λ (step : Step). IsStep m pass bound cover.granules.items step) c.in-Need.is c.in_ok-exec.ensures.step in
     let told = c.as_slice.ensures.value ∙ need_told m c.requires.kept bound cover pass own is c.requires.present c.in-Need.granules step in
     subst (λ (k : Machine). AreGranulesIfAny k.lazy.last c.as_slice.result.now) (sym same) (may_move m c.requires.kept bound cover pass own is c.requires.present c.as_slice.result.now told)
@@ -50,7 +55,7 @@ reply_behind_moves-requires-clause-can g c =
     let pass = option_map (λ p. p.now) c.as_ref-migration.result in
     let own : pass ≡ m.pass = lent c.as_ref-migration.result ∙ (c.as_ref-migration.ensures.value ∙ c.migration-pass.ensures.pass) in
     let is : IsCoverOf (option_map (λ (p : Where Kept). p.value) pass) bound cover = subst (λ (o : Option Kept). IsCoverOf o bound cover) (lent_then (λ (p : Where Kept). p.value) c.as_ref-migration.result) c.in_ok-cover.ensures in
-    let same : c.exec.new.self ≡ m = c.exec.ensures.same (λ e. cc) in
+    let same : c.exec.new.self ≡ m = c.exec.ensures.same (not_replied c.exec.result c.in-Need.granules (c.in_ok-exec.was ∙ ap Ok c.in-Need.is)) in
     let step : IsStep m pass bound cover.granules.items (Need c.in-Need.granules) = subst (λ (step : Step). IsStep m pass bound cover.granules.items step) c.in-Need.is c.in_ok-exec.ensures.step in
     let told = c.as_slice.ensures.value ∙ need_told m c.requires.kept bound cover pass own is c.requires.present c.in-Need.granules step in
     let by : Moves m c.as_slice.result.now c.move_need.new.machine = subst (λ (k : Machine). Moves k c.as_slice.result.now c.move_need.new.machine) same c.in_ok-move_need-in-Need.ensures.moves in
@@ -64,7 +69,7 @@ reply_behind_moves-requires-clause-present g c =
     let pass = option_map (λ p. p.now) c.as_ref-migration.result in
     let own : pass ≡ m.pass = lent c.as_ref-migration.result ∙ (c.as_ref-migration.ensures.value ∙ c.migration-pass.ensures.pass) in
     let is : IsCoverOf (option_map (λ (p : Where Kept). p.value) pass) bound cover = subst (λ (o : Option Kept). IsCoverOf o bound cover) (lent_then (λ (p : Where Kept). p.value) c.as_ref-migration.result) c.in_ok-cover.ensures in
-    let same : c.exec.new.self ≡ m = c.exec.ensures.same (λ e. cc) in
+    let same : c.exec.new.self ≡ m = c.exec.ensures.same (not_replied c.exec.result c.in-Need.granules (c.in_ok-exec.was ∙ ap Ok c.in-Need.is)) in
     let step : IsStep m pass bound cover.granules.items (Need c.in-Need.granules) = subst (λ (step : Step). IsStep m pass bound cover.granules.items step) c.in-Need.is c.in_ok-exec.ensures.step in
     let told = c.as_slice.ensures.value ∙ need_told m c.requires.kept bound cover pass own is c.requires.present c.in-Need.granules step in
     let by : Moves m c.as_slice.result.now c.move_need.new.machine = subst (λ (k : Machine). Moves k c.as_slice.result.now c.move_need.new.machine) same c.in_ok-move_need-in-Need.ensures.moves in
@@ -78,7 +83,7 @@ reply_behind_moves-requires-clause-moved g c =
     let pass = option_map (λ p. p.now) c.as_ref-migration.result in
     let own : pass ≡ m.pass = lent c.as_ref-migration.result ∙ (c.as_ref-migration.ensures.value ∙ c.migration-pass.ensures.pass) in
     let is : IsCoverOf (option_map (λ (p : Where Kept). p.value) pass) bound cover = subst (λ (o : Option Kept). IsCoverOf o bound cover) (lent_then (λ (p : Where Kept). p.value) c.as_ref-migration.result) c.in_ok-cover.ensures in
-    let same : c.exec.new.self ≡ m = c.exec.ensures.same (λ e. cc) in
+    let same : c.exec.new.self ≡ m = c.exec.ensures.same (not_replied c.exec.result c.in-Need.granules (c.in_ok-exec.was ∙ ap Ok c.in-Need.is)) in
     let step : IsStep m pass bound cover.granules.items (Need c.in-Need.granules) = subst (λ (step : Step). IsStep m pass bound cover.granules.items step) c.in-Need.is c.in_ok-exec.ensures.step in
     let told = c.as_slice.ensures.value ∙ need_told m c.requires.kept bound cover pass own is c.requires.present c.in-Need.granules step in
     let by : Moves m c.as_slice.result.now c.move_need.new.machine = subst (λ (k : Machine). Moves k c.as_slice.result.now c.move_need.new.machine) same c.in_ok-move_need-in-Need.ensures.moves in
@@ -103,7 +108,7 @@ returns-in-Need-clause-replied g c =
     let pass = option_map (λ p. p.now) c.as_ref-migration.result in
     let own : pass ≡ m.pass = lent c.as_ref-migration.result ∙ (c.as_ref-migration.ensures.value ∙ c.migration-pass.ensures.pass) in
     let is : IsCoverOf (option_map (λ (p : Where Kept). p.value) pass) bound cover = subst (λ (o : Option Kept). IsCoverOf o bound cover) (lent_then (λ (p : Where Kept). p.value) c.as_ref-migration.result) c.in_ok-cover.ensures in
-    let same : c.exec.new.self ≡ m = c.exec.ensures.same (λ e. cc) in
+    let same : c.exec.new.self ≡ m = c.exec.ensures.same (not_replied c.exec.result c.in-Need.granules (c.in_ok-exec.was ∙ ap Ok c.in-Need.is)) in
     let step : IsStep m pass bound cover.granules.items (Need c.in-Need.granules) = subst (λ (step : Step). IsStep m pass bound cover.granules.items step) c.in-Need.is c.in_ok-exec.ensures.step in
     let told = c.as_slice.ensures.value ∙ need_told m c.requires.kept bound cover pass own is c.requires.present c.in-Need.granules step in
     let by : Moves m c.as_slice.result.now c.move_need.new.machine = subst (λ (k : Machine). Moves k c.as_slice.result.now c.move_need.new.machine) same c.in_ok-move_need-in-Need.ensures.moves in
@@ -117,7 +122,7 @@ returns-in-Need-clause-err g c =
     let pass = option_map (λ p. p.now) c.as_ref-migration.result in
     let own : pass ≡ m.pass = lent c.as_ref-migration.result ∙ (c.as_ref-migration.ensures.value ∙ c.migration-pass.ensures.pass) in
     let is : IsCoverOf (option_map (λ (p : Where Kept). p.value) pass) bound cover = subst (λ (o : Option Kept). IsCoverOf o bound cover) (lent_then (λ (p : Where Kept). p.value) c.as_ref-migration.result) c.in_ok-cover.ensures in
-    let same : c.exec.new.self ≡ m = c.exec.ensures.same (λ e. cc) in
+    let same : c.exec.new.self ≡ m = c.exec.ensures.same (not_replied c.exec.result c.in-Need.granules (c.in_ok-exec.was ∙ ap Ok c.in-Need.is)) in
     let step : IsStep m pass bound cover.granules.items (Need c.in-Need.granules) = subst (λ (step : Step). IsStep m pass bound cover.granules.items step) c.in-Need.is c.in_ok-exec.ensures.step in
     let told = c.as_slice.ensures.value ∙ need_told m c.requires.kept bound cover pass own is c.requires.present c.in-Need.granules step in
     let by : Moves m c.as_slice.result.now c.move_need.new.machine = subst (λ (k : Machine). Moves k c.as_slice.result.now c.move_need.new.machine) same c.in_ok-move_need-in-Need.ensures.moves in
