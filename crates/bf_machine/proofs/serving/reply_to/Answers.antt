@@ -1,5 +1,5 @@
 -- What is needed has moved, and then the statement has its reply.
-use Rattle.std.proofs.Common.{◌≡◌, List, Option, sym, ap, subst, ◌∙◌, inl}
+use Rattle.std.proofs.Common.{◌≡◌, List, Option, refl, sym, ap, subst, ◌∙◌, inl}
 use Rattle.std.specs.Prelude.{Result, Ok, Err, OnErr, OnOk}
 use Rattle.std.specs.Global.{Vec}
 use Rattle.std.specs.Option.{option_map}
@@ -127,3 +127,6 @@ returns-in-Need-clause-err g c =
     let told = c.as_slice.ensures.value ∙ need_told m c.requires.kept bound cover pass own is c.requires.present c.in-Need.granules step in
     let by : Moves m c.as_slice.result.now c.move_need.new.machine = subst (λ (k : Machine). Moves k c.as_slice.result.now c.move_need.new.machine) same c.in_ok-move_need-in-Need.ensures.moves in
     on_err c.reply_behind_moves.result (λ stays. subst (λ (k : Machine). HasMovedNeed m bound k) (sym stays) (has_moved m c.requires.kept bound cover pass own is c.requires.present c.as_slice.result.now told c.move_need.new.machine by)) c.reply_behind_moves.ensures.err
+
+pub returns-in-Replied-clause-replied : goal.returns-in-Replied-clause-replied
+returns-in-Replied-clause-replied g c = (c.args.machine.now, inl refl, c.exec.ensures.replied (c.in_ok-exec.was ∙ ap Ok c.in-Replied.is))
