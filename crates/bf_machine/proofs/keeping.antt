@@ -21,4 +21,3 @@ pub mod Executing
 pub mod Lasts
 pub mod Opening
 pub mod PlacesInGroup
-pub mod Catalogs

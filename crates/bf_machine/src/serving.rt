@@ -173,7 +173,7 @@ fn reply_behind_moves<N: Opened>(
 {
     match machine.exec(registry, session, migration, bound, cover)? {
         Step::Replied => Ok(()),
-        Step::Need(_) | Step::Stale(_) => unreachable!(),
+        _ => unreachable!(),
     }
 }
 

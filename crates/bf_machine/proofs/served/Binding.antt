@@ -17,6 +17,9 @@ use Rattle.bf_sql.specs.Bound.{catalog_of, changes_schema, unless_objected, with
 use Rattle.bf_sql.specs.Database.{Database, IsDatabase}
 use Rattle.bf_sql.specs.Objections.{objections}
 use Rattle.bf_sql.specs.migrations.Plans.{prepared_action, prepared_of}
+use Rattle.bf_tree.specs.declared.bound.Action.{Action}
+use Rattle.bf_tree.specs.declared.bound.Action.TheVariants as action
+use Rattle.bf_sql.specs.Footprints.{HasKeys}
 use Rattle.bf_query.specs.Actions.{IsWellBound}
 use Rattle.bf_query.proofs.Binding.{well_bound}
 use Rattle.bf_live.proofs.locking.Reading.{parts_of}
@@ -148,3 +151,8 @@ module _ (db : Database) (database : IsDatabase db) (in_block : Bool) (bound : B
         | inl free ↦ of_action s free.0 free.1
         | inr refused ↦ subst IsWellBound (sym refused.3) tt
       ]
+
+-- and has keys
+pub has_keys : (act : Action) → IsWellBound act → HasKeys act
+has_keys (action.Insert table tuples) is = is
+has_keys other is = tt

@@ -29,7 +29,8 @@ use Rattle.bf_store.proofs.coming.Parts.{granules_apart}
 use Rattle.bf_store.proofs.moving.Needing.{need_is_granules, none_left_if_done}
 use Rattle.bf_transpose.specs.Covers.{IsCoverOf, can_need, needed_in}
 use Rattle.bf_transpose.specs.declared.cover.Cover.{Cover}
-use Rattle.bf_machine.specs.declared.stand.Step.TheVariants.{Need, Stale}
+use Rattle.bf_machine.specs.declared.stand.Step.{Step}
+use Rattle.bf_machine.specs.declared.stand.Step.TheVariants.{Need, Replied, Stale}
 use Rattle.bf_machine.specs.interleaving.Calls.{CanExec, HasReplied, IsPresent, IsStep, slot_of}
 use Rattle.bf_machine.specs.interleaving.Events.{Event, Moves, Reaches, at_once, executes, moves, one_more, refuses}
 use Rattle.bf_machine.specs.interleaving.Kept.{IsKept}
@@ -146,6 +147,11 @@ module _ (m : Machine) (pass : Option (Where Kept)) (bound : Bound) (cover : Lis
   pub not_needed : to_move m.lazy.last cover ≡ [] → (granules : Vec Granule) → IsStep m pass bound cover (Need granules) → ⊥
   not_needed none granules step = (needs_left granules step).1 none
 
+  pub no_other : to_move m.lazy.last cover ≡ [] → (step : Step) → IsStep m pass bound cover step → (step ≡ Replied → ⊥) → ⊥
+  no_other none (Need granules) step other = not_needed none granules step
+  no_other none (Stale n) step other = not_stale n step
+  no_other none Replied step other = other refl
+
 -- an option of what is lent, and of what it is
 pub lent : {P : Type 0} (r : Option (Bor P)) → option_map (λ p. p.now) r ≡ option_copied r
 lent None = refl
@@ -154,6 +160,10 @@ lent (Some p) = refl
 pub lent_by : {P Q : Type 0} (f : P → Q) (r : Option (Bor P)) → option_map (λ p. f p.now) r ≡ option_map f (option_copied r)
 lent_by f None = refl
 lent_by f (Some p) = refl
+
+pub lent_then : {P Q : Type 0} (f : P → Q) (r : Option (Bor P)) → option_map (λ p. f p.now) r ≡ option_map f (option_map (λ p. p.now) r)
+lent_then f None = refl
+lent_then f (Some p) = refl
 
 -- a cover is the need, by the pass of the last migration
 pub cover_is_need : (m : Machine) → IsByPass m.lazy.last m.pass → (bound : Bound) (cover : Cover) → IsCoverOf (option_map (λ (p : Where Kept). p.value) m.pass) bound cover → cover.granules.items ≡ need_of m.lazy.last bound.action

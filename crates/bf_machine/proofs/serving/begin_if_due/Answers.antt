@@ -24,5 +24,5 @@ returns-clause-passed g c = λ none.
     let s = c.args.session in
     let by = c.in_ok-begin.ensures.begins in
     let kept : IsKept g.N.Opened.opening next = reached_keeps_all g.N.Opened.opening m next c.requires.kept (one_more at_once (begins s by)) in
-    let open = begin_opens m c.requires.kept s (c.requires.place.0, omega (arith, c.requires.place.1, c.requires.kept.shaped.opens)) next by in
-    absurd (open_can next kept s open.0 open.1 (c.stand.result, c.stand.ensures, none))
+    let opened = begin_opens m c.requires.kept s (c.requires.place.0, omega (arith, c.requires.place.1, c.requires.kept.shaped.opens)) next by in
+    absurd (open_can next kept s opened.0 opened.1 (c.stand.result, c.stand.ensures, none))

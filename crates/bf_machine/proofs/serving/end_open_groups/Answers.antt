@@ -81,3 +81,6 @@ loop-session-preserved g c =
 pub returns-in_err-take_turn-clause-reaches : goal.returns-in_err-take_turn-clause-reaches
 returns-in_err-take_turn-clause-reaches g c =
     reaches_both g.N.Opened.opening c.args.machine.now c.loop-session.machine c.take_turn.new.machine c.loop-session.invariant.reaches c.take_turn.ensures.reaches
+
+pub returns-clause-alone : goal.returns-clause-alone
+returns-clause-alone g c = λ s alone. (c.loop-session.invariant.alone s alone, c.loop-session.invariant.no_more s alone)

@@ -1,23 +1,13 @@
 -- The statement is present, and nothing of its cover is left to move.
-use Rattle.std.proofs.Common.{subst}
+use Rattle.std.proofs.Common.{ap}
+use Rattle.std.specs.Prelude.{Ok}
 use Rattle.std.specs.Option.{option_map}
-use Rattle.bf_machine.specs.declared.stand.Step.{Step}
-use Rattle.bf_machine.specs.interleaving.Calls.{IsStep}
-use Rattle.bf_machine.proofs.served.Needs.{not_needed, not_stale}
+use Rattle.bf_machine.proofs.served.Needs.{no_other}
 use Rattle.bf_machine.proofs.serving.reply_behind_moves.Goals as goal
 
-pub unreachable-requires-in-Need : goal.unreachable-requires-in-Need
-unreachable-requires-in-Need g c =
-    let m = c.args.machine.now in
-    let pass = option_map (λ p. p.now) c.args.migration in
-    let cover = c.args.cover.now.granules.items in
-    not_needed m pass c.args.bound.now cover c.requires.present c.requires.moved c.in-Need.field-0
-    (subst (λ (step : Step). IsStep m pass c.args.bound.now cover step) c.in-Need.is c.in_ok-exec.ensures.step)
+pub unreachable-requires : goal.unreachable-requires
+unreachable-requires g c =
+    no_other c.args.machine.now (option_map (λ p. p.now) c.args.migration) c.args.bound.now c.args.cover.now.granules.items c.requires.present c.requires.moved c.in_ok-exec.field-0 c.in_ok-exec.ensures.step c.in_default.not-Replied
 
-pub unreachable-requires-in-Stale : goal.unreachable-requires-in-Stale
-unreachable-requires-in-Stale g c =
-    let m = c.args.machine.now in
-    let pass = option_map (λ p. p.now) c.args.migration in
-    let cover = c.args.cover.now.granules.items in
-    not_stale m pass c.args.bound.now cover c.requires.present c.in-Stale.field-0
-    (subst (λ (step : Step). IsStep m pass c.args.bound.now cover step) c.in-Stale.is c.in_ok-exec.ensures.step)
+pub returns-clause-replied : goal.returns-clause-replied
+returns-clause-replied g c = c.in_ok-exec.ensures.replied (ap Ok c.in-Replied.is)

@@ -18,7 +18,7 @@ serve_in_group-requires-clause-next g c =
 pub reply_to-requires-clause-can : goal.reply_to-requires-clause-can
 reply_to-requires-clause-can g c =
     let closed : open_at c.args.machine.now c.args.session ≡ None = none_started _ (subst (λ (r : Option ℕ). is_some r ≡ false) c.start.ensures (sym c.is_some.ensures ∙ c.if-is_some.false)) in
-    can_refuse g.N.Opened.opening c.args.machine.now c.args.session c.in_ok-bound.bound closed c.in_ok-bound.ensures.next
+    can_refuse c.args.machine.now c.args.session c.in_ok-bound.bound g.N.Opened.opening closed c.in_ok-bound.ensures.next
 
 pub returns-in_err-reply_to-clause-reaches : goal.returns-in_err-reply_to-clause-reaches
 returns-in_err-reply_to-clause-reaches g c = moved_reaches g.N.Opened.opening c.args.machine.now c.in_ok-bound.bound c.reply_to.new.machine c.in_err-reply_to.ensures.err

@@ -5,17 +5,15 @@ use Rattle.bf_sql.specs.Footprints.{Lock, footprint_of}
 use Rattle.bf_machine.specs.interleaving.Events.{at_once}
 use Rattle.bf_machine.specs.interleaving.Machines.{Machine}
 use Rattle.bf_machine.specs.interleaving.Serving.{HasLocked}
-use Rattle.bf_live.proofs.locking.Writing.{bound_has_keys}
 use Rattle.bf_machine.proofs.interleaving.Reaching.{reached_keeps_all}
+use Rattle.bf_machine.proofs.served.Binding.{has_keys}
 use Rattle.bf_machine.proofs.served.Goes.{reaches_both}
 use Rattle.bf_machine.proofs.served.Needs.{moved_reaches, reply_reached}
 use Rattle.bf_machine.proofs.served.Replying.{can_reply, goes_on_to, has_stepped, is_present}
 use Rattle.bf_machine.proofs.serving.serve_in_group.Goals as goal
 
 pub footprint-requires : goal.footprint-requires
-footprint-requires g c =
-    let next = c.requires.next in
-    bound_has_keys c.args.machine.now.db _ next.1.to_lock.statement c.args.bound.now (record { database = c.requires.kept.history_legal.database; is = next.1.bound_so })
+footprint-requires g c = has_keys c.args.bound.now.action c.requires.well_bound
 
 pub returns-in_err-locks-clause-reaches : goal.returns-in_err-locks-clause-reaches
 returns-in_err-locks-clause-reaches g c = at_once

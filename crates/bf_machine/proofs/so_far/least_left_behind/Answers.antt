@@ -1,5 +1,5 @@
 -- The one before stays, but where it has ended.
-use Rattle.std.proofs.Common.{Some, sym, ◌∙◌, arith, inr}
+use Rattle.std.proofs.Common.{sym, ◌∙◌, arith, inr}
 use Rattle.bf_machine.proofs.keeping.LeastLeft.{not_ended_at}
 use Rattle.bf_machine.proofs.so_far.least_left_behind.Goals as goal
 

@@ -1,5 +1,5 @@
 -- The open group has what the answer leaves.
-use Rattle.std.proofs.Common.{◌≡◌, Bool, Option, Some, refl, sym, subst, ◌∙◌}
+use Rattle.std.proofs.Common.{◌≡◌, Bool, Some, refl, sym, subst, ◌∙◌}
 use Rattle.std.specs.Prelude.{IfOk, OnErr}
 use Rattle.std.proofs.lemmas.Option.{same_Some}
 use Rattle.bf_tree.specs.declared.statement.Statement.{Statement}
