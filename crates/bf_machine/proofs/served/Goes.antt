@@ -21,7 +21,8 @@ use Rattle.bf_image.specs.declared.migration.Migration.{Migration}
 use Rattle.bf_sql.specs.Groups.{commits, ends_block, groups_in, has_statement, session_at, statements_in, statements_of}
 use Rattle.bf_machine.specs.Movement.{moving_seen, with_need}
 use Rattle.bf_machine.specs.interleaving.Calls.{replies_at, statements_at}
-use Rattle.bf_machine.specs.interleaving.Events.{Aborts, Begins, Commits, Event, Executes, Reaches, Refuses, aborts, at_once, begun, begun_again, commits_behind, commits_now, entry_of, one_more, opened, rest_of, stepped, text_of, with_open, put_into}
+use Rattle.bf_machine.specs.interleaving.Events.{Aborts, Begins, Commits, Event, Executes, Reaches, Refuses, aborts, at_once, begun}
+use Rattle.bf_machine.specs.interleaving.Events.{begun_again, commits_behind, commits_now, entry_of, one_more, opened, rest_of, stepped, text_of, with_open, put_into}
 use Rattle.bf_machine.specs.interleaving.Groups.{left_by}
 use Rattle.bf_machine.specs.interleaving.Kept.{IsKept}
 use Rattle.bf_machine.specs.interleaving.Machines.{Machine, Open, open_at, told_at, with_replies}
@@ -89,7 +90,10 @@ pub exec_records : (m : Machine) (s : ℕ) (next : Machine) → (by : Executes m
 exec_records m s next by = record {
   o = then;
   is = there;
-  text = answered_of next s then there ∙ (ap₂ (λ (t : Script) (n : ℕ). take n (statements_in t s by.o.group)) script more ∙ (take_one (length by.o.replies) (text_of m s by.o) by.statement by.later by.left ∙ ap (λ (ss : List Statement). ss ++ by.statement ∷ []) (sym (answered_of m s by.o by.is))));
+  text = answered_of next s then there
+      ∙ (ap₂ (λ (t : Script) (n : ℕ). take n (statements_in t s by.o.group)) script more
+      ∙ (take_one (length by.o.replies) (text_of m s by.o) by.statement by.later by.left
+      ∙ ap (λ (ss : List Statement). ss ++ by.statement ∷ []) (sym (answered_of m s by.o by.is))));
   history = ap (λ (k : Machine). k.history) by.goes;
 }
   where

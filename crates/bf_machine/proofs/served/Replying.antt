@@ -28,7 +28,8 @@ use Rattle.bf_machine.specs.interleaving.Events.{Executes, Reaches, Refuses, at_
 use Rattle.bf_machine.specs.interleaving.Groups.{Pending, Rows, left_by, pending_behind}
 use Rattle.bf_machine.specs.interleaving.Kept.{IsKept, IsOpenGroup}
 use Rattle.bf_machine.specs.interleaving.Machines.{Machine, Open, open_at}
-use Rattle.bf_machine.specs.interleaving.Serving.{GoesOnWith, HasEndedAlone, HasGoneOn, HasLocked, HasMore, HasMovedNeed, HasReply, HasSettled, IsBoundNext, IsPreparedNext, IsRecorded, IsStrayWith, Serves, answered_text, is_in_block, sees, unanswered}
+use Rattle.bf_machine.specs.interleaving.Serving.{GoesOnWith, HasEndedAlone, HasGoneOn, HasLocked, HasMore, HasMovedNeed, HasReply, HasSettled}
+use Rattle.bf_machine.specs.interleaving.Serving.{IsBoundNext, IsPreparedNext, IsRecorded, IsStrayWith, Serves, answered_text, is_in_block, sees, unanswered}
 use Rattle.bf_machine.proofs.interleaving.Others.{has_place}
 use Rattle.bf_machine.proofs.interleaving.Places.{set_same}
 use Rattle.bf_machine.proofs.interleaving.Reaching.{reached_keeps_all}
