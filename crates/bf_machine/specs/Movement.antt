@@ -1,5 +1,5 @@
 -- MOVEMENT of a history: which granules its statements have needed since the last flip, each in the catalog where it ran.
-use Rattle.std.specs.Prelude.{◌≡◌, ℕ, ◌+◌, Bool, true, false, ◌||◌, List, [], ◌∷◌, ◌++◌, map, filter, Option, None, Some, option_map}
+use Rattle.std.specs.Prelude.{ℕ, ◌+◌, Bool, true, false, ◌||◌, List, [], ◌∷◌, ◌++◌, map, filter, Option, None, Some, option_map}
 use Rattle.bf_base.specs.declared.granule.Granule.{Granule}
 use Rattle.bf_base.specs.Lists.{has}
 use Rattle.bf_tree.specs.declared.history.Entry.{Entry}

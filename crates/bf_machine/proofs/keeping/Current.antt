@@ -1,5 +1,5 @@
 -- Whether a session has ended, as the code reads it.
-use Rattle.std.proofs.Common.{◌≡◌, ◌≤◌, Bool, true, false, ◌&&◌, length, Option, Some, None, refl, ap, arith, option_map}
+use Rattle.std.proofs.Common.{◌≡◌, ◌≤◌, Bool, true, ◌&&◌, length, Option, Some, None, refl, ap, arith, option_map}
 use Rattle.std.specs.Prelude.{nat_le}
 use Rattle.std.specs.Option.{is_none}
 use Rattle.std.proofs.lemmas.Bool.{and_from, and_parts, false≢true}

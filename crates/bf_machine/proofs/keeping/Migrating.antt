@@ -1,10 +1,8 @@
 -- The answer to a MIGRATE that the catalog allows: it stands alone, outside a block, on tables into which all rows have moved.
-use Rattle.std.proofs.Common.{◌≡◌, ◌⊎◌, ℕ, Bool, true, false, List, [], ◌∷◌, ◌++◌, length, Option, None, Some, refl, sym, ap, ap₂, subst, ◌∙◌, option_map, inl, inr}
+use Rattle.std.proofs.Common.{◌≡◌, Bool, false, List, [], sym, ap, ap₂, subst, ◌∙◌}
 use Rattle.std.specs.Prelude.{Result, Ok, Err, IfOk, OnOk}
-use Rattle.std.proofs.lemmas.Option.{same_Some}
 use Rattle.bf_base.specs.declared.memory.Memory.{Memory}
 use Rattle.bf_tree.specs.Limits.{IsNarrowIfMigrate, IsNarrowMigrate}
-use Rattle.bf_tree.specs.declared.bound.Action.{Action}
 use Rattle.bf_tree.specs.declared.bound.Action.TheVariants as action
 use Rattle.bf_tree.specs.declared.bound.Bound.{Bound}
 use Rattle.bf_tree.specs.declared.plan.Plan.{Plan}
@@ -16,10 +14,9 @@ use Rattle.bf_sql.specs.Database.{Database}
 use Rattle.bf_sql.specs.Meaning.{executed}
 use Rattle.bf_sql.specs.Objections.{objections}
 use Rattle.bf_sql.specs.RowObjections.{row_objections}
-use Rattle.bf_sql.specs.migrations.Lazy.{LazyState, Migration, pending_of, view_of}
+use Rattle.bf_sql.specs.migrations.Lazy.{LazyState, view_of}
 use Rattle.bf_sql.specs.migrations.MigrationObjections.{migrate_objections, sources_of}
 use Rattle.bf_sql.specs.migrations.Need.{needed_for}
-use Rattle.bf_sql.specs.migrations.Plans.{plan_made}
 use Rattle.bf_live.specs.Live.{committed}
 use Rattle.bf_live.proofs.statements.Seeing.{nothing_written}
 use Rattle.bf_store.specs.States.{HaveMoved}

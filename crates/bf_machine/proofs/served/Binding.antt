@@ -1,10 +1,9 @@
 -- A session's next statement, as it is bound in the present catalog.
-use Rattle.std.proofs.Common.{◌≡◌, ◌⊎◌, ℕ, zero, suc, ◌+◌, ◌-◌, ◌<◌, ◌≤◌, Bool, false, List, [], ◌∷◌, length, take, drop, Option, Some, refl, sym, ap, subst, ◌∙◌, arith, inl, inr, length-append}
+use Rattle.std.proofs.Common.{◌≡◌, ◌⊎◌, ℕ, zero, suc, ◌+◌, ◌-◌, ◌<◌, ◌≤◌, Bool, false, List, [], ◌∷◌, length, Option, Some, refl, sym, ap, subst, ◌∙◌, arith, inl, inr, length-append}
 use Rattle.std.specs.Prelude.{Result, Ok, Err, IfOk, slice_get}
 use Rattle.std.specs.Option.{option_map_or}
 use Rattle.std.proofs.lemmas.Option.{same_Some}
 use Rattle.std.specs.List.{slice_index_or}
-use Rattle.bf_base.specs.Lists.{part}
 use Rattle.bf_base.specs.declared.memory.Memory.{Memory}
 use Rattle.bf_tree.specs.Limits.{IsNarrowIfMigrate, KeepsLimits}
 use Rattle.bf_tree.specs.declared.bound.Bound.{Bound}

@@ -1,8 +1,8 @@
 -- What has moved behind a need, as it is told of a migration.
-use Rattle.std.proofs.Common.{◌≡◌, ℕ, ◌+◌, Bool, true, false, not, ◌||◌, List, [], ◌∷◌, ◌++◌, map, filter, Option, Some, None, refl, sym, ap, subst, ◌∙◌, inl, inr, append-nil}
+use Rattle.std.proofs.Common.{◌≡◌, ℕ, ◌+◌, Bool, true, false, not, ◌||◌, List, [], ◌∷◌, ◌++◌, map, filter, Option, Some, None, refl, sym, ap, ◌∙◌, inl, inr, append-nil}
 use Rattle.std.specs.Option.{option_map, option_to_list}
 use Rattle.std.specs.List.{flat_map, list_all}
-use Rattle.std.proofs.lemmas.Bool.{cases_Bool, false≢true, or_cases}
+use Rattle.std.proofs.lemmas.Bool.{cases_Bool, false≢true}
 use Rattle.std.proofs.lemmas.List.{map-append}
 use Rattle.std.proofs.lemmas.List.Folds.{list_any-append}
 use Rattle.std.proofs.lemmas.Simd.{map-map}
@@ -21,9 +21,8 @@ use Rattle.bf_image.proofs.finding.Found.{same_granule-equal, same_granule-itsel
 use Rattle.bf_image.proofs.items.Lists.{filter_equal_where, has_own}
 use Rattle.bf_store.specs.States.{HaveMoved, by_place, need_of, to_move, with_moved}
 use Rattle.bf_store.proofs.moving.Moving.{has_if_passes}
-use Rattle.bf_store.proofs.moving.Needing.{done_if_none_left}
 use Rattle.bf_store.proofs.moving.Ordered.{same_done}
-use Rattle.bf_machine.specs.Movement.{Moving, moving_of, moving_seen, with_need}
+use Rattle.bf_machine.specs.Movement.{moving_of, moving_seen, with_need}
 
 -- what is left of a list is in it, and passes
 left_passes : (test : Granule → Bool) (xs : List Granule) (g : Granule) → test g ≡ false → has same_granule (filter test xs) g ≡ false

@@ -1,6 +1,5 @@
 -- A new machine is in sequence, and a sequence that has ended ran in order.
 use Rattle.bf_machine.proofs.served.Begun.{fresh_is_in_sequence}
-use Rattle.bf_machine.proofs.served.Following.{followed_stays}
 use Rattle.bf_machine.proofs.served.Ran.{ran_in_order}
 use Rattle.bf_machine.proofs.interleaving_laws.sessions_in_sequence_run_in_order.Goals as goal
 

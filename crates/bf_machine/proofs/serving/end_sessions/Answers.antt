@@ -7,7 +7,7 @@ use Rattle.bf_machine.specs.interleaving.Machines.{Machine}
 use Rattle.bf_machine.specs.interleaving.Serving.{at_rest, one_driven, unanswered}
 use Rattle.bf_machine.proofs.interleaving.Reaching.{reached_keeps_all}
 use Rattle.bf_machine.proofs.interleaving.Texts.{are_texts}
-use Rattle.bf_machine.proofs.served.Ending.{driven_both, none_of, reached_script, served_to_end, serves_less}
+use Rattle.bf_machine.proofs.served.Ending.{driven_both, none_of, served_to_end, serves_less}
 use Rattle.bf_machine.proofs.served.Exclusive.{goes_has_not_ended}
 use Rattle.bf_machine.proofs.served.Following.{served_moves}
 use Rattle.bf_machine.proofs.served.Goes.{reaches_both}

@@ -1,11 +1,11 @@
 -- The granules are of the last migration, whose look-ups are kept.
-use Rattle.std.proofs.Common.{◌≡◌, List, Option, Some, None, sym, ap, subst, ◌∙◌}
+use Rattle.std.proofs.Common.{◌≡◌, Option, Some, sym, ap, subst, ◌∙◌}
 use Rattle.std.specs.Option.{option_map}
 use Rattle.std.proofs.lemmas.Option.{same_Some}
 use Rattle.boxcar.specs.Table.{Where}
 use Rattle.bf_image.specs.declared.migration.Migration.{Migration as Kept}
 use Rattle.bf_image.specs.Migrations.{value_indexes}
-use Rattle.bf_store.specs.Stores.{IsByPass, IsOf}
+use Rattle.bf_store.specs.Stores.{IsByPass}
 use Rattle.bf_machine.proofs.served.Needs.{granules_by_pass, moves_nothing, none_by_pass}
 use Rattle.bf_machine.proofs.serving.move_need.Goals as goal
 

@@ -1,5 +1,5 @@
 -- The catalog is that of the live tables, which are seen under it.
-use Rattle.std.proofs.Common.{◌≡◌, ap, sym, ◌∙◌}
+use Rattle.std.proofs.Common.{ap, sym, ◌∙◌}
 use Rattle.bf_sql.specs.Bound.{catalog_of}
 use Rattle.bf_store.proofs.seeing.Viewing.{same_catalog_seen}
 use Rattle.bf_machine.specs.interleaving.Machines.{Machine}
