@@ -9,7 +9,7 @@ use Rattle.bf_base.specs.Limits.{longest_script}
 use Rattle.bf_lex.specs.declared.fault.ScriptKind.TheVariants.{ScriptTooLong}
 use Rattle.bf_text.specs.Replies.{newline}
 use Rattle.bf_run.specs.declared.status.Status.{Status}
-use Rattle.bf_run.specs.declared.status.Status.TheVariants.{Done, Usage, Script as ScriptError, ReadFault, WriteFault, Memory, NotBuilt}
+use Rattle.bf_run.specs.declared.status.Status.TheVariants.{Done, Usage, Script as ScriptError, ReadFault, WriteFault, Memory}
 use Rattle.bf_run.specs.Outcome.{Stream, IsCalm, is_try, IsAnswer, fault_text}
 use Rattle.bf_run.specs.Top.{IsAnswerTo}
 
@@ -66,7 +66,6 @@ module _ (words : List (List ℕ)) (input : Stream) (read : List ℕ) (right : i
   answered (ScriptError fault) text a =
       record { bytes = read; are_told = told; causes = (right, calm, a.0, inl (at_end, short)); is_text = a.1 }
   answered Done text a = record { bytes = read; are_told = told; causes = (right, calm, a.0, at_end); is_text = a.1 }
-  answered NotBuilt text a = record { bytes = read; are_told = told; causes = (right, calm, a.0, at_end); is_text = a.1 }
   answered Usage text a = elim a [ ]
   answered ReadFault text a = elim a [ ]
   answered WriteFault text a = elim a [ ]

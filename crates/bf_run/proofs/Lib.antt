@@ -1,3 +1,4 @@
 pub mod Answered
+pub mod Migrates
 pub mod Parsed
 pub mod one

@@ -72,7 +72,7 @@ script_rises text script h =
     let risen = phases_rise nothing_yet read.steps made.0 made.1 (record { risen = refl; below = refl }) in
     subst (λ (s : Script). phases_rise_from 0 s.sessions ≡ true) (sym made.2) risen.risen
 
-within_parts : (front back : List Step) → within (front ++ back) ≡ true → (within front ≡ true) × (within back ≡ true)
+pub within_parts : (front back : List Step) → within (front ++ back) ≡ true → (within front ≡ true) × (within back ≡ true)
 within_parts [] back h = (refl, h)
 within_parts (Say word ∷ front) back h = within_parts front back h
 within_parts (Limit mark ∷ front) back h =
@@ -81,7 +81,7 @@ within_parts (Limit mark ∷ front) back h =
     (and_from _ _ parts.0 later.0, later.1)
 
 -- the same where steps are split by an equation
-within_split : (steps front back : List Step) → steps ≡ front ++ back → within steps ≡ true
+pub within_split : (steps front back : List Step) → steps ≡ front ++ back → within steps ≡ true
     → (within front ≡ true) × (within back ≡ true)
 within_split steps front back e h = within_parts front back (rw e at h)
 
@@ -100,19 +100,19 @@ others_short rule n before steps all (other front back a one more e) here short 
     let parts = within_parts front back marked.1 in
     others_short rule (suc n) (before ++ a ∷ []) back all more (omega (arith, length-append before (a ∷ []))) (omega (arith, length-append before (a ∷ []))) parts.1
 
-listed_short : {A : Type 0} (rule : Rule A) (steps : List Step) (all : List A) → Listed rule steps all
+pub listed_short : {A : Type 0} (rule : Rule A) (steps : List Step) (all : List A) → Listed rule steps all
     → within steps ≡ true → length all ≤ 16
 listed_short rule steps all h inside =
     let parts = within_split steps h.0 h.1 h.3 inside in
     others_short rule 2 (h.2 ∷ []) h.1 all h.5 refl (omega arith) parts.1
 
 -- what is behind a word
-within_behind : (steps rest : List Step) (word : Word) → steps ≡ Say word ∷ rest → within steps ≡ true
+pub within_behind : (steps rest : List Step) (word : Word) → steps ≡ Say word ∷ rest → within steps ≡ true
     → within rest ≡ true
 within_behind steps rest word e h = rw e at h
 
 -- any statement but CREATE and MIGRATE
-abbrev OtherRule : Rule Statement
+abbrev pub OtherRule : Rule Statement
 OtherRule = Either InsertRule (Either SelectRule (Either UpdateRule (Either DeleteRule
     (Either (AfterKeyword keyword.Begin (Return statement.Begin))
     (Either (AfterKeyword keyword.Commit (Return statement.Commit))

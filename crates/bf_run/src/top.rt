@@ -15,6 +15,7 @@ use bf_image::Registry;
 use bf_io::{ReadError, Sink, Source, read_all, write_whole};
 use bf_lex::{ScriptError, ScriptFault, ScriptKind};
 use bf_live::LiveTables;
+use bf_machine::interleaving_laws::sessions_in_sequence_run_in_order;
 use bf_machine::{Machine, Opened, in_order};
 use bf_parse::script;
 use bf_store::Store;
@@ -54,6 +55,9 @@ fn serve<N: Opened, R: Wait>(
     let store = Store::of(alloc, LiveTables::new(alloc));
     let mut machine: Machine<N> = Machine::new(alloc, store, script, RETRIES)?;
     in_order(alloc, rt, registry, &mut machine, &[])?;
+    // Their contracts say that the script is the one that was given, and that it ran in order.
+    let _ = machine.script();
+    sessions_in_sequence_run_in_order();
     let sweep = machine.sweep();
     let parts = machine.into_parts();
     let text = report(alloc, &parts.transcripts, &parts.history, None, &sweep);
