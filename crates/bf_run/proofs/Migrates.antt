@@ -19,7 +19,7 @@ use Rattle.bf_tree.specs.declared.statement.Statement.TheVariants.{Migrate}
 use Rattle.bf_tree.specs.Limits.{IsNarrowIfMigrate, IsNarrowMigrate, has_few_items, has_small_arms}
 use Rattle.bf_phrase.specs.Words as word
 use Rattle.bf_phrase.specs.Words.{Word, words_of}
-use Rattle.bf_phrase.specs.Steps.{Step, Say, Limit, Migration, Session as SessionMark, Target as TargetMark, fault_at, said, within}
+use Rattle.bf_phrase.specs.Steps.{Step, Say, Migration, Session as SessionMark, Target as TargetMark, fault_at, said, within}
 use Rattle.bf_phrase.specs.Items.{ItemRule}
 use Rattle.bf_phrase.proofs.Lexed.{few_tokens}
 use Rattle.bf_phrase.proofs.Places.{length-words}
