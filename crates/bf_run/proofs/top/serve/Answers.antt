@@ -1,5 +1,5 @@
 -- A new machine is in sequence, stays so while its sessions are served, and ran in order.
-use Rattle.std.proofs.Common.{◌≡◌, List, None, refl, sym, ap, subst, ◌∙◌}
+use Rattle.std.proofs.Common.{◌≡◌, None, refl, sym, ap, subst, ◌∙◌}
 use Rattle.std.specs.Prelude.{ℕ, Result, Ok, Err, IfOk}
 use Rattle.std.specs.Global.{Vec}
 use Rattle.bf_base.specs.declared.memory.Memory.{Memory}
@@ -21,8 +21,8 @@ in_ok (Ok text) weaker so = weaker text so
 in_ok (Err memory) weaker so = so
 
 -- there is no table that could be wide
-pub of-requires : goal.of-requires
-of-requires g c = subst (λ (db : Database). HasNarrowTables (catalog_of db)) (sym c.new.ensures) refl
+pub of-store-requires : goal.of-store-requires
+of-store-requires g c = subst (λ (db : Database). HasNarrowTables (catalog_of db)) (sym c.new.ensures) refl
 
 -- no row is to come, so what is seen are the live tables
 pub new-requires-2-clause-opening : goal.new-requires-2-clause-opening
