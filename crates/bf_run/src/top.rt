@@ -74,7 +74,10 @@ fn run_report<R: Wait>(alloc: Global, rt: &R, script: Script) -> Result<Vec<u8>,
     ensures { IfOk result (λ text. Tells (IsRunInOrder script) text.items) }
 {
     let (registry, _empty) = Registry::new(alloc, rt)?;
-    serve::<Brand, R>(alloc, rt, &registry, script)
+    let text = serve::<Brand, R>(alloc, rt, &registry, script);
+    // What a migration set aside goes with the program too.
+    forget(registry);
+    text
 }
 
 /// The status of an input that was read whole, and what is written.
