@@ -111,6 +111,7 @@ class Pairs:
     tables = ["bid (bidder INT, lot INT, PRIMARY KEY (bidder))", "offer (seller INT, lot INT, PRIMARY KEY (seller))"]
     migrate = "MIGRATE (CREATE TABLE met AS SELECT bidder, seller, bid.lot FROM bid JOIN offer ON bid.lot = offer.lot);"
     eager = [
+        "CREATE INDEX offer_lot ON offer (lot);",
         "CREATE TABLE met (bidder INT, seller INT, lot INT, PRIMARY KEY (bidder, seller)) WITHOUT ROWID;",
         "INSERT INTO met SELECT bidder, seller, bid.lot FROM bid JOIN offer ON bid.lot = offer.lot;",
         "DROP TABLE bid;",

@@ -79,8 +79,8 @@ pub type Alone = (&'static str, &'static str, u32, &'static str);
 pub fn first_wrong(
     rt: &impl Wait,
     alloc: Global,
-    start: &str,
-    made: &str,
+    start: &'static str,
+    made: &'static str,
     cases: &[Alone],
 ) -> Result<Option<&'static str>, Fail> {
     for &(script, replies, count, migration) in cases {
@@ -104,8 +104,8 @@ pub fn first_wrong(
 pub fn first_wrong_report(
     rt: &impl Wait,
     alloc: Global,
-    start: &str,
-    made: &str,
+    start: &'static str,
+    made: &'static str,
     cases: &[(&'static str, &'static str)],
 ) -> Result<Option<&'static str>, Fail> {
     for &(script, report) in cases {
