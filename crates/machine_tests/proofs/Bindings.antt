@@ -17,22 +17,23 @@ use Rattle.bf_tree.specs.declared.history.Entry.{Entry}
 use Rattle.bf_tree.specs.declared.history.Outcome.TheVariants.{Committed, RolledBack}
 use Rattle.bf_tree.specs.declared.script.Script.{Script}
 use Rattle.bf_tree.specs.declared.statement.Statement.{Statement}
-use Rattle.bf_sql.specs.Bound.{bound_of}
 use Rattle.bf_sql.specs.Database.{Database}
 use Rattle.bf_sql.specs.Footprints.{Lock, footprint_of}
 use Rattle.bf_sql.specs.Groups.{session_at}
 use Rattle.bf_sql.specs.History.{replayed}
+use Rattle.bf_sql.specs.migrations.Plans.{prepared_of}
 use Rattle.bf_live.specs.OpenGroups.{HoldsIn}
-use Rattle.bf_live.proofs.locking.Writing.{bound_has_keys}
+use Rattle.bf_query.specs.Actions.{IsWellBound}
 use Rattle.bf_machine.specs.declared.stand.Stand.TheVariants.{Statement as AtStatement}
 use Rattle.bf_machine.specs.interleaving.Calls.{CanExec, CanRefuse, IsCovered, StandsAs, statements_at}
-use Rattle.bf_machine.specs.interleaving.Events.{Event, Reaches, aborts, asked, asks, at_once, begins, commits_behind, commits_now, entry_of, executes, finishes, one_more, refuses, rest_of, stands_inside}
+use Rattle.bf_machine.specs.interleaving.Events.{Event, Reaches, aborts, asked, asks, at_once, begins, commits_behind, commits_now, entry_of, executes, finishes, moves, one_more, refuses, rest_of, stands_inside}
 use Rattle.bf_machine.specs.interleaving.Kept.{IsKept}
 use Rattle.bf_machine.specs.interleaving.Machines.{Machine, Open, open_at}
 use Rattle.bf_machine.specs.interleaving.Serving.{IsBoundNext, is_in_block}
 use Rattle.bf_machine.proofs.interleaving.Texts.{are_texts}
-use Rattle.bf_machine.proofs.served.Binding.{of_part}
+use Rattle.bf_machine.proofs.served.Binding.{has_keys}
 use Rattle.bf_machine.proofs.served.Ending.{reached_script}
+use Rattle.bf_machine.proofs.served.Nexts.{of_part}
 use Rattle.machine_tests.specs.Behind.{WasBound}
 
 -- THE HISTORY GROWS at its end
@@ -57,7 +58,8 @@ event_grows start m next (asks s name mode answer by) = still m next (ap (λ (k 
 event_grows start m next (executes s by) = still m next (ap (λ (k : Machine). k.history) by.goes)
 event_grows start m next (refuses s by) = still m next (ap (λ (k : Machine). k.history) by.goes)
 event_grows start m next (commits_now s by) =
-    record { more = entry_of m s by.o (Committed (commits_behind 0 m.history + 1)) ∷ []; is = ap (λ (k : Machine). k.history) by.goes }
+    record { more = entry_of m s by.can.o (Committed (commits_behind 0 m.history + 1)) ∷ []; is = ap (λ (k : Machine). k.history) by.goes }
+event_grows start m next (moves granules by) = still m next (ap (λ (k : Machine). k.history) by.goes)
 event_grows start m next (aborts s by) = record { more = entry_of m s by.o RolledBack ∷ []; is = ap (λ (k : Machine). k.history) by.goes }
 event_grows start m next (finishes s same) = still m next (ap (λ (k : Machine). k.history) same)
 
@@ -84,8 +86,8 @@ bound_behind start m now reached s n in_block bound was =
       statement = was.statement;
       is = subst (λ (t : Script). slice_index_or (session_at t s).statements (n - 1) was.statement ≡ was.statement) (sym script) was.is;
       prefix = k;
-      bound_so = subst (λ (t : Script). bound_of (replayed t start (take k now.history)).1 in_block was.statement ≡ Some bound) (sym script)
-          (subst (λ (es : List Entry). bound_of (replayed m.script start es).1 in_block was.statement ≡ Some bound) (sym prefix) was.bound_so);
+      bound_so = subst (λ (t : Script). prepared_of (replayed t start (take k now.history)).1 in_block was.statement ≡ Some bound) (sym script)
+          (subst (λ (es : List Entry). prepared_of (replayed m.script start es).1 in_block was.statement ≡ Some bound) (sym prefix) was.bound_so);
       keys = was.keys;
     }
 
@@ -128,8 +130,8 @@ module _ (start : Database) (m : Machine) (kept : IsKept start m) (s n : ℕ) (s
       ∙ of_part d o.group.0 o.group.1 (length o.replies) (statements_at m s) st later bounds.0 left
 
   -- WHERE IT IS BOUND
-  pub bound_now : (bound : Bound) → ((o : Open) × IsBoundNext m s o bound) ⊎ CanRefuse m s → WasBound start m s n (is_in_block m s) bound
-  bound_now bound so = elim so as (λ _. WasBound start m s n (is_in_block m s) bound) [
+  pub bound_now : (bound : Bound) → IsWellBound bound.action → ((o : Open) × IsBoundNext m s o bound) ⊎ CanRefuse m s → WasBound start m s n (is_in_block m s) bound
+  bound_now bound well so = elim so as (λ _. WasBound start m s n (is_in_block m s) bound) [
     | inr refused ↦ absurd (none_refused refused)
     | inl next ↦ elim stands as (λ _. WasBound start m s n (is_in_block m s) bound) [
       | inr refused ↦ absurd (none_refused refused.0)
@@ -144,9 +146,9 @@ module _ (start : Database) (m : Machine) (kept : IsKept start m) (s n : ℕ) (s
             statement = st;
             is = item o next.1.to_lock.is st next.1.to_lock.later st number next.1.to_lock.left;
             prefix = length m.history;
-            bound_so = subst (λ (b : Bool). bound_of (replayed m.script start (take (length m.history) m.history)).1 b st ≡ Some bound) (sym (inside o next.1.to_lock.is))
-                (subst (λ (db : Database). bound_of db (stands_inside o.replies) st ≡ Some bound) present next.1.bound_so);
-            keys = bound_has_keys m.db (stands_inside o.replies) st bound (record { database = kept.history_legal.database; is = next.1.bound_so });
+            bound_so = subst (λ (b : Bool). prepared_of (replayed m.script start (take (length m.history) m.history)).1 b st ≡ Some bound) (sym (inside o next.1.to_lock.is))
+                (subst (λ (db : Database). prepared_of db (stands_inside o.replies) st ≡ Some bound) present next.1.bound_so);
+            keys = has_keys bound.action well;
           }
     ]
   ]
@@ -168,8 +170,8 @@ module _ (start : Database) (m : Machine) (kept : IsKept start m) (s n : ℕ) (s
           left = on.left;
           goes_on = on.goes_on;
           prefix = was.prefix;
-          bound_so = subst (λ (st : Statement). bound_of (replayed m.script start (take was.prefix m.history)).1 (stands_inside on.o.replies) st ≡ Some bound) same
-              (subst (λ (b : Bool). bound_of (replayed m.script start (take was.prefix m.history)).1 b was.statement ≡ Some bound) block was.bound_so);
+          bound_so = subst (λ (st : Statement). prepared_of (replayed m.script start (take was.prefix m.history)).1 (stands_inside on.o.replies) st ≡ Some bound) same
+              (subst (λ (b : Bool). prepared_of (replayed m.script start (take was.prefix m.history)).1 b was.statement ≡ Some bound) block was.bound_so);
           held = λ k d within.
               let lock : Lock = slice_index_or (footprint_of bound) k d in
               subst (λ (found : Option Open). IsSomeAnd found (λ (p : Open). HoldsIn m.locks p.start lock.0 lock.1)) on.is (covered k d within);

@@ -7,7 +7,7 @@ ghost use Rattle.bf_query.specs.Actions.{IsWellBound};
 ghost use Rattle.bf_store.specs.Stores.{IsOf};
 ghost use Rattle.bf_transpose.specs.Covers.{IsCoverOf};
 ghost use Rattle.bf_machine.specs.declared.stand.Stand.TheVariants.{Statement};
-ghost use Rattle.bf_machine.specs.interleaving.Calls.{CanExec, IsCovered, IsPlace, StandsAs};
+ghost use Rattle.bf_machine.specs.interleaving.Calls.{CanExec, CanRefuse, IsCovered, IsPlace, StandsAs};
 ghost use Rattle.bf_machine.specs.interleaving.Kept.{IsKept};
 ghost use Rattle.bf_machine.specs.interleaving.Machines.{Open};
 ghost use Rattle.bf_machine.specs.interleaving.Serving.{IsBoundNext, IsToLock};
@@ -149,6 +149,7 @@ fn ask_in_group<N: Opened>(
     requires place { IsPlace machine.old.script session }
     requires kept { IsKept N.opening machine.old }
     requires next { (o : Open) × IsBoundNext machine.old session o bound.now }
+    requires well_bound { IsWellBound bound.now.action }
     ensures { IsBehind N.opening machine.old machine.new }
 {
     let locks = footprint(alloc, bound)?;
@@ -244,9 +245,10 @@ fn exec_bound<N: Opened>(
     requires well_bound { IsWellBound bound.now.action }
     ensures { IsBehind N.opening machine.old machine.new }
 {
-    let pass = machine.migration();
-    let cover = cover_by::<N>(alloc, registry, pass.as_ref(), bound)?;
-    Ok(seen_of(machine.exec(registry, session, pass.as_ref(), bound, &cover)?))
+    let last = machine.migration();
+    let pass = last.as_ref();
+    let cover = cover_by::<N>(alloc, registry, pass, bound)?;
+    Ok(seen_of(machine.exec(registry, session, pass, bound, &cover)?))
 }
 
 /// Replies to the next statement of a session's open group, where it holds the locks.
@@ -271,6 +273,28 @@ fn exec_in_group<N: Opened>(
     exec_bound(alloc, registry, machine, session, bound)
 }
 
+/// Replies to a session's next statement, as it is bound in the present catalog.
+fn exec_prepared<N: Opened>(
+    alloc: Global,
+    registry: &Registry,
+    machine: &mut Machine<N>,
+    session: u32,
+    bound: &Bound,
+) -> Result<Seen, Memory>
+    requires registry { registry.now ≡ N.registry }
+    requires place { IsPlace machine.old.script session }
+    requires kept { IsKept N.opening machine.old }
+    requires next { ((o : Open) × IsBoundNext machine.old session o bound.now)
+        ⊎ CanRefuse machine.old session }
+    requires well_bound { IsWellBound bound.now.action }
+    ensures { IsBehind N.opening machine.old machine.new }
+{
+    if machine.start(session).is_some() {
+        return exec_in_group(alloc, registry, machine, session, bound);
+    }
+    exec_bound(alloc, registry, machine, session, bound)
+}
+
 /// Replies to the statement at which a session stands.
 fn exec_at<N: Opened>(
     alloc: Global,
@@ -286,10 +310,7 @@ fn exec_at<N: Opened>(
     ensures { IsBehind N.opening machine.old machine.new }
 {
     let bound = prepare_next(alloc, machine, session, place)?;
-    if machine.start(session).is_some() {
-        return exec_in_group(alloc, registry, machine, session, &bound);
-    }
-    exec_bound(alloc, registry, machine, session, &bound)
+    exec_prepared(alloc, registry, machine, session, &bound)
 }
 
 fn exec<N: Opened>(

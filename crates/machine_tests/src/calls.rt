@@ -48,15 +48,15 @@ fn try_in<N: Opened, R: Abort + Wait>(
     requires limits { IsWithinLimits script }
 {
     let store = Store::of(alloc, LiveTables::new(alloc));
-    let machine: Machine<N> = Machine::new(alloc, store, script, retries)?;
+    let mut machine: Machine<N> = Machine::new(alloc, store, script, retries)?;
     match trial {
         Trial::Calls => make_calls(rt, alloc, registry, machine),
         Trial::Fresh => look_at_the_first(rt, machine),
-        Trial::Block => look_behind_each(rt, alloc, registry, machine),
-        Trial::Covered => cover(rt, alloc, registry, machine),
-        Trial::LastDeath => die_for_good(rt, alloc, registry, machine),
-        Trial::Death => die_once(rt, alloc, registry, machine),
-        Trial::SchemaChange => bind_again(rt, alloc, registry, machine),
+        Trial::Block => look_behind_each(rt, alloc, registry, &mut machine),
+        Trial::Covered => cover(rt, alloc, registry, &mut machine),
+        Trial::LastDeath => die_for_good(rt, alloc, registry, &mut machine),
+        Trial::Death => die_once(rt, alloc, registry, &mut machine),
+        Trial::SchemaChange => bind_again(rt, alloc, registry, &mut machine),
     }
 }
 
@@ -302,20 +302,19 @@ fn look_behind_each<N: Opened, R: Abort + Wait>(
     rt: &R,
     alloc: Global,
     registry: &Registry,
-    machine: Machine<N>,
+    machine: &mut Machine<N>,
 ) -> Result<(), Fail>
     requires registry { registry.now ≡ N.registry }
 {
-    let mut machine = machine;
-    assert!(rt; are_made(rt, alloc, registry, &mut machine, &SETUP)?);
+    assert!(rt; are_made(rt, alloc, registry, machine, &SETUP)?);
     for (call, behind) in &BLOCK {
-        make(rt, alloc, registry, &mut machine, *call)?;
-        assert_eq!(rt; look_at(&machine, 2), Some(*behind));
+        make(rt, alloc, registry, machine, *call)?;
+        assert_eq!(rt; look_at(machine, 2), Some(*behind));
     }
-    assert!(rt; matches!(reply_at(&machine, 2, 1), Some(Reply::Begun)));
-    assert!(rt; matches!(reply_at(&machine, 2, 2), Some(Reply::Updated(1))));
-    assert!(rt; matches!(reply_at(&machine, 2, 3), Some(Reply::Committed(3))));
-    assert!(rt; reply_at(&machine, 2, 4).is_none());
+    assert!(rt; matches!(reply_at(machine, 2, 1), Some(Reply::Begun)));
+    assert!(rt; matches!(reply_at(machine, 2, 2), Some(Reply::Updated(1))));
+    assert!(rt; matches!(reply_at(machine, 2, 3), Some(Reply::Committed(3))));
+    assert!(rt; reply_at(machine, 2, 4).is_none());
     Ok(())
 }
 
@@ -360,32 +359,31 @@ fn cover<N: Opened, R: Abort + Wait>(
     rt: &R,
     alloc: Global,
     registry: &Registry,
-    machine: Machine<N>,
+    machine: &mut Machine<N>,
 ) -> Result<(), Fail>
     requires registry { registry.now ≡ N.registry }
 {
-    let mut machine = machine;
-    assert!(rt; are_made(rt, alloc, registry, &mut machine, &SETUP)?);
+    assert!(rt; are_made(rt, alloc, registry, machine, &SETUP)?);
     make_all(
         rt,
         alloc,
         registry,
-        &mut machine,
+        machine,
         &[Act::Begin(2), Act::Exec(2), Act::Ask(2)],
     )?;
     for (modes, is_covered) in COVERED {
-        let told = covers_all(alloc, &machine, 2, modes)?;
+        let told = covers_all(alloc, machine, 2, modes)?;
         assert_eq!(rt; told, is_covered, "{modes:?}");
     }
-    assert!(rt; !covers(&machine, 3, &LockName::Catalog, Mode::IS));
+    assert!(rt; !covers(machine, 3, &LockName::Catalog, Mode::IS));
     make_all(
         rt,
         alloc,
         registry,
-        &mut machine,
+        machine,
         &[Act::Exec(2), Act::Commit(2)],
     )?;
-    assert!(rt; !covers(&machine, 2, &LockName::Catalog, Mode::IS));
+    assert!(rt; !covers(machine, 2, &LockName::Catalog, Mode::IS));
     Ok(())
 }
 
@@ -410,16 +408,15 @@ fn die_for_good<N: Opened, R: Abort + Wait>(
     rt: &R,
     alloc: Global,
     registry: &Registry,
-    machine: Machine<N>,
+    machine: &mut Machine<N>,
 ) -> Result<(), Fail>
     requires registry { registry.now ≡ N.registry }
 {
-    let mut machine = machine;
-    assert!(rt; are_made(rt, alloc, registry, &mut machine, &SETUP)?);
-    assert!(rt; are_made(rt, alloc, registry, &mut machine, &LAST_DEATH)?);
-    assert_eq!(rt; look_at(&machine, 3), Some(ENDED));
+    assert!(rt; are_made(rt, alloc, registry, machine, &SETUP)?);
+    assert!(rt; are_made(rt, alloc, registry, machine, &LAST_DEATH)?);
+    assert_eq!(rt; look_at(machine, 3), Some(ENDED));
     for statement in [1, 2, 3] {
-        let told = reply_at(&machine, 3, statement);
+        let told = reply_at(machine, 3, statement);
         assert!(rt;
             matches!(told, Some(Reply::Ended(Cause::Died(3)))),
             "{statement}"
@@ -447,36 +444,35 @@ fn die_once<N: Opened, R: Abort + Wait>(
     rt: &R,
     alloc: Global,
     registry: &Registry,
-    machine: Machine<N>,
+    machine: &mut Machine<N>,
 ) -> Result<(), Fail>
     requires registry { registry.now ≡ N.registry }
 {
-    let mut machine = machine;
-    assert!(rt; are_made(rt, alloc, registry, &mut machine, &SETUP)?);
-    make_all(rt, alloc, registry, &mut machine, &DEATH)?;
+    assert!(rt; are_made(rt, alloc, registry, machine, &SETUP)?);
+    make_all(rt, alloc, registry, machine, &DEATH)?;
     assert_eq!(rt;
-        look_at(&machine, 3),
+        look_at(machine, 3),
         Some(Look {
             stand: Stand::Named(3),
             ..TO_BEGIN
         })
     );
-    assert!(rt; reply_at(&machine, 3, 1).is_none());
+    assert!(rt; reply_at(machine, 3, 1).is_none());
     make_all(
         rt,
         alloc,
         registry,
-        &mut machine,
+        machine,
         &[Act::Begin(4), Act::Exec(2), Act::Commit(2)],
     )?;
-    assert_eq!(rt; look_at(&machine, 3), Some(TO_BEGIN));
-    make(rt, alloc, registry, &mut machine, Act::Begin(3))?;
+    assert_eq!(rt; look_at(machine, 3), Some(TO_BEGIN));
+    make(rt, alloc, registry, machine, Act::Begin(3))?;
     let again = Look {
         stand: Stand::Statement(1),
         start: Some(4),
         ..TO_BEGIN
     };
-    assert_eq!(rt; look_at(&machine, 3), Some(again));
+    assert_eq!(rt; look_at(machine, 3), Some(again));
     Ok(())
 }
 
@@ -516,22 +512,21 @@ fn bind_again<N: Opened, R: Abort + Wait>(
     rt: &R,
     alloc: Global,
     registry: &Registry,
-    machine: Machine<N>,
+    machine: &mut Machine<N>,
 ) -> Result<(), Fail>
     requires registry { registry.now ≡ N.registry }
 {
-    let mut machine = machine;
-    assert!(rt; are_made(rt, alloc, registry, &mut machine, &FIRST_TABLE)?);
+    assert!(rt; are_made(rt, alloc, registry, machine, &FIRST_TABLE)?);
     assert_eq!(rt; machine.catalog().number(), 1);
-    let step = exec_as_before(rt, alloc, registry, &mut machine, 2, &SECOND_TABLE)?;
+    let step = exec_as_before(rt, alloc, registry, machine, 2, &SECOND_TABLE)?;
     let table = LockName::Whole(Name::of(alloc, b"t")?);
     assert!(rt;
-        covers(&machine, 2, &LockName::Catalog, Mode::S) && covers(&machine, 2, &table, Mode::S)
+        covers(machine, 2, &LockName::Catalog, Mode::S) && covers(machine, 2, &table, Mode::S)
     );
     assert!(rt; matches!(step, Some(Step::Stale(2))));
-    assert!(rt; reply_at(&machine, 2, 1).is_none());
-    assert!(rt; are_made(rt, alloc, registry, &mut machine, &READ)?);
-    assert!(rt; matches!(reply_at(&machine, 2, 1), Some(Reply::Rows(rows)) if rows.is_empty()));
+    assert!(rt; reply_at(machine, 2, 1).is_none());
+    assert!(rt; are_made(rt, alloc, registry, machine, &READ)?);
+    assert!(rt; matches!(reply_at(machine, 2, 1), Some(Reply::Rows(rows)) if rows.is_empty()));
     Ok(())
 }
 

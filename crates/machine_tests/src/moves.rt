@@ -3,6 +3,7 @@
 
 ghost use Rattle.std.specs.Prelude.{◌≡◌};
 ghost use Rattle.boxcar.specs.Table.{Shows};
+ghost use Rattle.bf_query.specs.Actions.{IsWellBound};
 ghost use Rattle.bf_sql.specs.Database.{empty_database};
 ghost use Rattle.bf_machine.specs.interleaving.Kept.{IsWithinLimits};
 
@@ -10,13 +11,13 @@ use crate::acts::{Act, Seen, reply_at, stand_of};
 use crate::calls::{are_made, make_all};
 use crate::runs::script_of;
 use crate::stale::{exec_as_before, exec_with_old_cover};
-use bf_base::{Granule, Place, Value};
+use bf_base::{Granule, Memory, Place, Value};
 use bf_image::{MigrationPass, Registry, ValueIndexes};
 use bf_live::LiveTables;
 use bf_machine::{Machine, MoveError, Opened, Stand, Step, prepare_next};
 use bf_store::{Moved, Store};
 use bf_transpose::cover_of;
-use bf_tree::{Cell, Reply, Script, Sweep};
+use bf_tree::{Bound, Cell, Reply, Script, Sweep};
 use std::alloc::Global;
 use std::marker::Brand;
 use std::process::Abort;
@@ -48,15 +49,15 @@ fn try_in<N: Opened, R: Abort + Wait>(
     requires limits { IsWithinLimits script }
 {
     let store = Store::of(alloc, LiveTables::new(alloc));
-    let machine: Machine<N> = Machine::new(alloc, store, script, 0)?;
+    let mut machine: Machine<N> = Machine::new(alloc, store, script, 0)?;
     match trial {
-        Trial::Moves => move_each_once(rt, alloc, registry, machine),
-        Trial::Need => reply_behind_the_need(rt, alloc, registry, machine),
-        Trial::StaleBound => bind_before(rt, alloc, registry, machine),
-        Trial::StaleCover => cover_before(rt, alloc, registry, machine),
-        Trial::NoCover => cover_before_the_first(rt, alloc, registry, machine),
-        Trial::Old => move_too_late(rt, alloc, registry, machine),
-        Trial::RolledBack => roll_back_what_moved(rt, alloc, registry, machine),
+        Trial::Moves => move_each_once(rt, alloc, registry, &mut machine),
+        Trial::Need => reply_behind_the_need(rt, alloc, registry, &mut machine),
+        Trial::StaleBound => bind_before(rt, alloc, registry, &mut machine),
+        Trial::StaleCover => cover_before(rt, alloc, registry, &mut machine),
+        Trial::NoCover => cover_before_the_first(rt, alloc, registry, &mut machine),
+        Trial::Old => move_too_late(rt, alloc, registry, &mut machine),
+        Trial::RolledBack => roll_back_what_moved(rt, alloc, registry, &mut machine),
     }
 }
 
@@ -101,6 +102,24 @@ fn row(position: u32) -> Granule {
     }
 }
 
+/// Moves what a bound statement needs of the migration of a pass, also what has moved before.
+fn move_need<N: Opened>(
+    alloc: Global,
+    registry: &Registry,
+    machine: &mut Machine<N>,
+    pass: &MigrationPass,
+    bound: &Bound,
+) -> Result<Result<Moved, MoveError>, Memory>
+    requires registry { registry.now ≡ N.registry }
+    requires pass { Shows N.registry.migrations pass.now }
+    requires well_bound { IsWellBound bound.now.action }
+{
+    let migration = registry.migration(pass);
+    let indexes = ValueIndexes::of(alloc, migration)?;
+    let cover = cover_of(alloc, bound, Some((migration, &indexes)))?;
+    Ok(machine.moved(registry, pass, &indexes, cover.granules.as_slice()))
+}
+
 /// Moves what the statement at which a session stands needs, also what has moved before. `None` where it
 /// stands at none, or there was no migration, or it is an older one.
 fn move_cover<N: Opened>(
@@ -118,10 +137,7 @@ fn move_cover<N: Opened>(
     let Some(pass) = machine.migration() else {
         return Ok(None);
     };
-    let migration = registry.migration(&pass);
-    let indexes = ValueIndexes::of(alloc, migration)?;
-    let cover = cover_of(alloc, &bound, Some((migration, &indexes)))?;
-    match machine.moved(registry, &pass, &indexes, cover.granules.as_slice()) {
+    match move_need(alloc, registry, machine, &pass, &bound)? {
         Ok(moved) => Ok(Some(moved)),
         Err(_) => Ok(None),
     }
@@ -170,49 +186,114 @@ fn running(migration: u32, moved: u32, position: u32) -> Sweep {
     }
 }
 
+/// Whether what a session needs is moved now by the record of a number, but for what moved before.
+fn does_move<N: Opened>(
+    alloc: Global,
+    registry: &Registry,
+    machine: &mut Machine<N>,
+    session: u32,
+    number: u64,
+    fresh: &[u32],
+    already: &[(u32, u64)],
+) -> Result<bool, Fail>
+    requires registry { registry.now ≡ N.registry }
+{
+    let moved = move_cover(alloc, registry, machine, session)?;
+    Ok(tells(&moved, number, fresh, already))
+}
+
+/// Makes the calls up to the first MIGRATE, and tells whether they come out as told and none has moved.
+fn come_to_the_table<N: Opened, R: Wait>(
+    rt: &R,
+    alloc: Global,
+    registry: &Registry,
+    machine: &mut Machine<N>,
+) -> Result<bool, Fail>
+    requires registry { registry.now ≡ N.registry }
+{
+    let is_right = are_made(rt, alloc, registry, machine, &TABLE)?
+        && machine.migration().is_none()
+        && machine.sweep() == Sweep::Never;
+    Ok(is_right && have_moved(alloc, machine, &[])?)
+}
+
+/// Makes the first MIGRATE, and tells whether none has moved behind it.
+fn begin_to_migrate<N: Opened, R: Wait>(
+    rt: &R,
+    alloc: Global,
+    registry: &Registry,
+    machine: &mut Machine<N>,
+) -> Result<bool, Fail>
+    requires registry { registry.now ≡ N.registry }
+{
+    let is_right = are_made(rt, alloc, registry, machine, &FIRST_MIGRATION)?
+        && machine.migration().is_some()
+        && machine.sweep() == running(1, 0, 0);
+    Ok(is_right && have_moved(alloc, machine, &[])?)
+}
+
+/// Whether the second session's row moves, and does not move again.
+fn move_one<N: Opened>(
+    alloc: Global,
+    registry: &Registry,
+    machine: &mut Machine<N>,
+) -> Result<bool, Fail>
+    requires registry { registry.now ≡ N.registry }
+{
+    let is_right = does_move(alloc, registry, machine, 2, 4, &[1], &[])?
+        && machine.sweep() == running(1, 1, 0)
+        && does_move(alloc, registry, machine, 2, 4, &[], &[(1, 4)])?
+        && machine.sweep() == running(1, 1, 0);
+    Ok(is_right && have_moved(alloc, machine, &[1])?)
+}
+
+/// Whether the other rows move for the third session, and none moves again.
+fn move_the_others<N: Opened>(
+    alloc: Global,
+    registry: &Registry,
+    machine: &mut Machine<N>,
+) -> Result<bool, Fail>
+    requires registry { registry.now ≡ N.registry }
+{
+    let complete = Sweep::Complete {
+        migration: 1,
+        moved: 3,
+    };
+    let is_right = does_move(alloc, registry, machine, 3, 5, &[0, 2], &[(1, 4)])?
+        && machine.sweep() == complete
+        && does_move(
+            alloc,
+            registry,
+            machine,
+            3,
+            5,
+            &[],
+            &[(0, 5), (1, 4), (2, 5)],
+        )?
+        && machine.sweep() == complete;
+    Ok(is_right && have_moved(alloc, machine, &[0, 1, 2])?)
+}
+
 // The table, its rows and the flip have the numbers 1 to 3.
 fn move_each_once<N: Opened, R: Abort + Wait>(
     rt: &R,
     alloc: Global,
     registry: &Registry,
-    machine: Machine<N>,
+    machine: &mut Machine<N>,
 ) -> Result<(), Fail>
     requires registry { registry.now ≡ N.registry }
 {
-    let mut machine = machine;
-    assert!(rt; are_made(rt, alloc, registry, &mut machine, &TABLE)?);
-    assert!(rt; machine.migration().is_none());
-    assert_eq!(rt; machine.sweep(), Sweep::Never);
-    assert!(rt; have_moved(alloc, &machine, &[])?);
-    assert!(rt; are_made(rt, alloc, registry, &mut machine, &FIRST_MIGRATION)?);
-    assert!(rt; machine.migration().is_some());
-    assert_eq!(rt; machine.sweep(), running(1, 0, 0));
-    assert!(rt; have_moved(alloc, &machine, &[])?);
+    assert!(rt; come_to_the_table(rt, alloc, registry, machine)?);
+    assert!(rt; begin_to_migrate(rt, alloc, registry, machine)?);
     make_all(
         rt,
         alloc,
         registry,
-        &mut machine,
+        machine,
         &[Act::Begin(2), Act::Begin(3)],
     )?;
-    let moved = move_cover(alloc, registry, &mut machine, 2)?;
-    assert!(rt; tells(&moved, 4, &[1], &[]));
-    assert_eq!(rt; machine.sweep(), running(1, 1, 0));
-    let moved = move_cover(alloc, registry, &mut machine, 2)?;
-    assert!(rt; tells(&moved, 4, &[], &[(1, 4)]));
-    assert_eq!(rt; machine.sweep(), running(1, 1, 0));
-    assert!(rt; have_moved(alloc, &machine, &[1])?);
-    let moved = move_cover(alloc, registry, &mut machine, 3)?;
-    assert!(rt; tells(&moved, 5, &[0, 2], &[(1, 4)]));
-    let complete = Sweep::Complete {
-        migration: 1,
-        moved: 3,
-    };
-    assert_eq!(rt; machine.sweep(), complete);
-    let moved = move_cover(alloc, registry, &mut machine, 3)?;
-    assert!(rt; tells(&moved, 5, &[], &[(0, 5), (1, 4), (2, 5)]));
-    assert_eq!(rt; machine.sweep(), complete);
-    assert!(rt; have_moved(alloc, &machine, &[0, 1, 2])?);
+    assert!(rt; move_one(alloc, registry, machine)?);
+    assert!(rt; move_the_others(alloc, registry, machine)?);
     Ok(())
 }
 
@@ -256,24 +337,37 @@ fn is_row(reply: Option<&Reply>, first: i64, second: i64) -> bool {
     *one == Cell::Value(Value::Int(first)) && *other == Cell::Value(Value::Int(second))
 }
 
+/// Whether the reader of the row needs it, and has no reply yet.
+fn come_to_the_need<N: Opened, R: Wait>(
+    rt: &R,
+    alloc: Global,
+    registry: &Registry,
+    machine: &mut Machine<N>,
+) -> Result<bool, Fail>
+    requires registry { registry.now ≡ N.registry }
+{
+    Ok(
+        are_made(rt, alloc, registry, machine, &TABLE)?
+            && are_made(rt, alloc, registry, machine, &FIRST_MIGRATION)?
+            && are_made(rt, alloc, registry, machine, &TO_NEED)?
+            && machine.sweep() == running(1, 0, 0)
+            && reply_at(machine, 2, 1).is_none(),
+    )
+}
+
 fn reply_behind_the_need<N: Opened, R: Abort + Wait>(
     rt: &R,
     alloc: Global,
     registry: &Registry,
-    machine: Machine<N>,
+    machine: &mut Machine<N>,
 ) -> Result<(), Fail>
     requires registry { registry.now ≡ N.registry }
 {
-    let mut machine = machine;
-    assert!(rt; are_made(rt, alloc, registry, &mut machine, &TABLE)?);
-    assert!(rt; are_made(rt, alloc, registry, &mut machine, &FIRST_MIGRATION)?);
-    assert!(rt; are_made(rt, alloc, registry, &mut machine, &TO_NEED)?);
-    assert_eq!(rt; machine.sweep(), running(1, 0, 0));
-    assert!(rt; reply_at(&machine, 2, 1).is_none());
-    assert!(rt; move_cover(alloc, registry, &mut machine, 2)?.is_some());
-    assert!(rt; are_made(rt, alloc, registry, &mut machine, &BEHIND_THE_NEED)?);
-    assert!(rt; is_row(reply_at(&machine, 2, 1), 20, 2));
-    assert!(rt; are_made(rt, alloc, registry, &mut machine, &THE_OTHERS)?);
+    assert!(rt; come_to_the_need(rt, alloc, registry, machine)?);
+    assert!(rt; move_cover(alloc, registry, machine, 2)?.is_some());
+    assert!(rt; are_made(rt, alloc, registry, machine, &BEHIND_THE_NEED)?);
+    assert!(rt; is_row(reply_at(machine, 2, 1), 20, 2));
+    assert!(rt; are_made(rt, alloc, registry, machine, &THE_OTHERS)?);
     assert_eq!(rt; machine.sweep(), running(1, 1, 0));
     Ok(())
 }
@@ -343,15 +437,14 @@ fn bind_before<N: Opened, R: Abort + Wait>(
     rt: &R,
     alloc: Global,
     registry: &Registry,
-    machine: Machine<N>,
+    machine: &mut Machine<N>,
 ) -> Result<(), Fail>
     requires registry { registry.now ≡ N.registry }
 {
-    let mut machine = machine;
-    assert!(rt; come_to_the_flip(rt, alloc, registry, &mut machine)?);
-    let step = exec_as_before(rt, alloc, registry, &mut machine, 2, &FLIP)?;
+    assert!(rt; come_to_the_flip(rt, alloc, registry, machine)?);
+    let step = exec_as_before(rt, alloc, registry, machine, 2, &FLIP)?;
     assert!(rt; matches!(step, Some(Step::Stale(3))));
-    assert!(rt; reads_behind_the_flip(rt, alloc, registry, &mut machine)?);
+    assert!(rt; reads_behind_the_flip(rt, alloc, registry, machine)?);
     Ok(())
 }
 
@@ -364,15 +457,14 @@ fn cover_before<N: Opened, R: Abort + Wait>(
     rt: &R,
     alloc: Global,
     registry: &Registry,
-    machine: Machine<N>,
+    machine: &mut Machine<N>,
 ) -> Result<(), Fail>
     requires registry { registry.now ≡ N.registry }
 {
-    let mut machine = machine;
-    assert!(rt; come_to_the_flip(rt, alloc, registry, &mut machine)?);
-    let step = exec_with_old_cover(rt, alloc, registry, &mut machine, 2, &FLIP)?;
+    assert!(rt; come_to_the_flip(rt, alloc, registry, machine)?);
+    let step = exec_with_old_cover(rt, alloc, registry, machine, 2, &FLIP)?;
     assert!(rt; matches!(step, Some(Step::Stale(3))));
-    assert!(rt; reads_behind_the_flip(rt, alloc, registry, &mut machine)?);
+    assert!(rt; reads_behind_the_flip(rt, alloc, registry, machine)?);
     Ok(())
 }
 
@@ -395,15 +487,14 @@ fn cover_before_the_first<N: Opened, R: Abort + Wait>(
     rt: &R,
     alloc: Global,
     registry: &Registry,
-    machine: Machine<N>,
+    machine: &mut Machine<N>,
 ) -> Result<(), Fail>
     requires registry { registry.now ≡ N.registry }
 {
-    let mut machine = machine;
-    assert!(rt; are_made(rt, alloc, registry, &mut machine, &TABLE)?);
-    let step = exec_with_old_cover(rt, alloc, registry, &mut machine, 2, &MIGRATE_AND_ASK)?;
+    assert!(rt; are_made(rt, alloc, registry, machine, &TABLE)?);
+    let step = exec_with_old_cover(rt, alloc, registry, machine, 2, &MIGRATE_AND_ASK)?;
     assert!(rt; matches!(step, Some(Step::Stale(2))));
-    assert!(rt; reply_at(&machine, 2, 1).is_none());
+    assert!(rt; reply_at(machine, 2, 1).is_none());
     assert_eq!(rt; machine.sweep(), running(1, 0, 0));
     Ok(())
 }
@@ -429,38 +520,45 @@ fn move_of_pass<N: Opened>(
         return Ok(None);
     };
     let bound = prepare_next(alloc, machine, session, place)?;
-    let migration = registry.migration(pass);
-    let indexes = ValueIndexes::of(alloc, migration)?;
-    let cover = cover_of(alloc, &bound, Some((migration, &indexes)))?;
-    match machine.moved(registry, pass, &indexes, cover.granules.as_slice()) {
+    match move_need(alloc, registry, machine, pass, &bound)? {
         Err(MoveError::Old(number)) => Ok(Some(number)),
         Err(MoveError::Memory) | Ok(_) => Ok(None),
     }
+}
+
+/// Moves what a statement needs of the migration of a pass, then lets another migration come in front of it, and
+/// tells whether none moves of the older one then.
+fn move_before_and_behind<N: Opened, R: Wait>(
+    rt: &R,
+    alloc: Global,
+    registry: &Registry,
+    machine: &mut Machine<N>,
+    pass: &MigrationPass,
+) -> Result<bool, Fail>
+    requires registry { registry.now ≡ N.registry }
+    requires pass { Shows N.registry.migrations pass.now }
+{
+    let before = move_of_pass(alloc, registry, machine, 2, pass)?;
+    make_all(rt, alloc, registry, machine, &FLIP)?;
+    let behind = move_of_pass(alloc, registry, machine, 2, pass)?;
+    let is_right = before.is_none() && behind == Some(2) && machine.sweep() == running(2, 0, 0);
+    Ok(is_right && have_moved(alloc, machine, &[])?)
 }
 
 fn move_too_late<N: Opened, R: Abort + Wait>(
     rt: &R,
     alloc: Global,
     registry: &Registry,
-    machine: Machine<N>,
+    machine: &mut Machine<N>,
 ) -> Result<(), Fail>
     requires registry { registry.now ≡ N.registry }
 {
-    let mut machine = machine;
-    assert!(rt; come_to_the_flip(rt, alloc, registry, &mut machine)?);
-    let pass = machine.migration().expect(rt, "a migration");
-    assert_eq!(rt;
-        move_of_pass(alloc, registry, &mut machine, 2, &pass)?,
-        None
-    );
-    make_all(rt, alloc, registry, &mut machine, &FLIP)?;
-    assert_eq!(rt;
-        move_of_pass(alloc, registry, &mut machine, 2, &pass)?,
-        Some(2)
-    );
-    assert_eq!(rt; machine.sweep(), running(2, 0, 0));
-    assert!(rt; have_moved(alloc, &machine, &[])?);
-    assert!(rt; reads_behind_the_flip(rt, alloc, registry, &mut machine)?);
+    assert!(rt; come_to_the_flip(rt, alloc, registry, machine)?);
+    let Some(pass) = machine.migration() else {
+        return Err(Fail::new("a machine without a migration"));
+    };
+    assert!(rt; move_before_and_behind(rt, alloc, registry, machine, &pass)?);
+    assert!(rt; reads_behind_the_flip(rt, alloc, registry, machine)?);
     Ok(())
 }
 
@@ -502,29 +600,49 @@ const MIGRATED: [(Act, Seen, Stand); 5] = [
     (Act::Exec(4), Seen::Needs(1), Stand::Statement(1)),
 ];
 
+/// Whether the block's row moves for it, and stays moved where the block is rolled back.
+fn move_for_the_block<N: Opened, R: Wait>(
+    rt: &R,
+    alloc: Global,
+    registry: &Registry,
+    machine: &mut Machine<N>,
+) -> Result<bool, Fail>
+    requires registry { registry.now ≡ N.registry }
+{
+    let is_right = are_made(rt, alloc, registry, machine, &TABLE)?
+        && are_made(rt, alloc, registry, machine, &FIRST_MIGRATION)?
+        && are_made(rt, alloc, registry, machine, &BLOCK_AND_MIGRATE)?
+        && does_move(alloc, registry, machine, 2, 4, &[1], &[])?
+        && are_made(rt, alloc, registry, machine, &ROLLED_BACK)?;
+    Ok(is_right && have_moved(alloc, machine, &[1])?)
+}
+
+/// Whether the other rows move for the MIGRATE, and the last reader finds the row as it was before the block.
+fn migrate_behind_the_block<N: Opened, R: Wait>(
+    rt: &R,
+    alloc: Global,
+    registry: &Registry,
+    machine: &mut Machine<N>,
+) -> Result<bool, Fail>
+    requires registry { registry.now ≡ N.registry }
+{
+    let is_right = does_move(alloc, registry, machine, 3, 5, &[0, 2], &[(1, 4)])?
+        && are_made(rt, alloc, registry, machine, &MIGRATED)?
+        && move_cover(alloc, registry, machine, 4)?.is_some();
+    make_all(rt, alloc, registry, machine, &[Act::Exec(4)])?;
+    Ok(is_right && is_row(reply_at(machine, 4, 1), 2, 20) && machine.sweep() == running(2, 1, 0))
+}
+
 fn roll_back_what_moved<N: Opened, R: Abort + Wait>(
     rt: &R,
     alloc: Global,
     registry: &Registry,
-    machine: Machine<N>,
+    machine: &mut Machine<N>,
 ) -> Result<(), Fail>
     requires registry { registry.now ≡ N.registry }
 {
-    let mut machine = machine;
-    assert!(rt; are_made(rt, alloc, registry, &mut machine, &TABLE)?);
-    assert!(rt; are_made(rt, alloc, registry, &mut machine, &FIRST_MIGRATION)?);
-    assert!(rt; are_made(rt, alloc, registry, &mut machine, &BLOCK_AND_MIGRATE)?);
-    let moved = move_cover(alloc, registry, &mut machine, 2)?;
-    assert!(rt; tells(&moved, 4, &[1], &[]));
-    assert!(rt; are_made(rt, alloc, registry, &mut machine, &ROLLED_BACK)?);
-    assert!(rt; have_moved(alloc, &machine, &[1])?);
-    let moved = move_cover(alloc, registry, &mut machine, 3)?;
-    assert!(rt; tells(&moved, 5, &[0, 2], &[(1, 4)]));
-    assert!(rt; are_made(rt, alloc, registry, &mut machine, &MIGRATED)?);
-    assert!(rt; move_cover(alloc, registry, &mut machine, 4)?.is_some());
-    make_all(rt, alloc, registry, &mut machine, &[Act::Exec(4)])?;
-    assert!(rt; is_row(reply_at(&machine, 4, 1), 2, 20));
-    assert_eq!(rt; machine.sweep(), running(2, 1, 0));
+    assert!(rt; move_for_the_block(rt, alloc, registry, machine)?);
+    assert!(rt; migrate_behind_the_block(rt, alloc, registry, machine)?);
     Ok(())
 }
 

@@ -107,8 +107,8 @@ fn exec_behind<N: Opened, R: Wait>(
     ensures { IsBehind N.opening machine.old machine.new }
 {
     let in_block = machine.is_in_block(session);
-    let pass = machine.migration();
-    let pass = pass.as_ref();
+    let last = machine.migration();
+    let pass = last.as_ref();
     let cover = cover_by::<N>(alloc, registry, pass, bound)?;
     make_all(rt, alloc, registry, machine, calls)?;
     Ok(exec_if_next(
@@ -140,6 +140,55 @@ pub fn exec_as_before<N: Opened, R: Wait>(
     exec_behind(rt, alloc, registry, machine, session, place, &bound, calls)
 }
 
+/// Replies to the statement at which a session stands, as it is bound now, with the cover of the migration of a
+/// pass, or of none.
+fn exec_covered_by<N: Opened>(
+    alloc: Global,
+    registry: &Registry,
+    machine: &mut Machine<N>,
+    session: u32,
+    place: u32,
+    pass: Option<&MigrationPass>,
+    bound: &Bound,
+) -> Result<Option<Step>, Memory>
+    requires registry { registry.now ≡ N.registry }
+    requires place { IsPlace machine.old.script session }
+    requires was { WasBound N.opening machine.old session place
+        (is_in_block machine.old session) bound.now }
+    requires pass { IsOf N.registry (option_map (λ pass. pass.now) pass) }
+    requires well_bound { IsWellBound bound.now.action }
+    ensures { IsBehind N.opening machine.old machine.new }
+{
+    let in_block = machine.is_in_block(session);
+    let cover = cover_by::<N>(alloc, registry, pass, bound)?;
+    exec_if_next(
+        alloc, registry, machine, session, place, in_block, pass, bound, &cover,
+    )
+}
+
+/// Binds the next statement of a session's open group, and replies to it with the cover of the migration of a
+/// pass, or of none. `None` where no group is open, or its locks are not held.
+fn exec_with_cover_of<N: Opened>(
+    alloc: Global,
+    registry: &Registry,
+    machine: &mut Machine<N>,
+    session: u32,
+    pass: Option<&MigrationPass>,
+) -> Result<Option<Step>, Memory>
+    requires registry { registry.now ≡ N.registry }
+    requires pass { IsOf N.registry (option_map (λ pass. pass.now) pass) }
+    ensures { IsBehind N.opening machine.old machine.new }
+{
+    let Some(Stand::Statement(place)) = stand_of(machine, session) else {
+        return Ok(None);
+    };
+    if machine.start(session).is_none() {
+        return Ok(None);
+    }
+    let bound = prepare_next(alloc, machine, session, place)?;
+    exec_covered_by(alloc, registry, machine, session, place, pass, &bound)
+}
+
 /// Makes calls, then binds the next statement of a session's open group, and replies to it with the cover of
 /// the migration from before the calls, which is none where there was none. `None` as in
 /// [`exec_as_before`].
@@ -152,20 +201,9 @@ pub fn exec_with_old_cover<N: Opened, R: Wait>(
     calls: &[Act],
 ) -> Result<Option<Step>, Fail>
     requires registry { registry.now ≡ N.registry }
+    ensures { IsBehind N.opening machine.old machine.new }
 {
-    let pass = machine.migration();
-    let pass = pass.as_ref();
+    let last = machine.migration();
     make_all(rt, alloc, registry, machine, calls)?;
-    let Some(Stand::Statement(place)) = stand_of(machine, session) else {
-        return Ok(None);
-    };
-    if machine.start(session).is_none() {
-        return Ok(None);
-    }
-    let in_block = machine.is_in_block(session);
-    let bound = prepare_next(alloc, machine, session, place)?;
-    let cover = cover_by::<N>(alloc, registry, pass, &bound)?;
-    Ok(exec_if_next(
-        alloc, registry, machine, session, place, in_block, pass, &bound, &cover,
-    )?)
+    Ok(exec_with_cover_of(alloc, registry, machine, session, last.as_ref())?)
 }

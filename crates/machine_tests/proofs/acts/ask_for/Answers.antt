@@ -10,13 +10,13 @@ use Rattle.bf_machine.specs.interleaving.Events.{Asks, asks, at_once}
 use Rattle.bf_machine.specs.interleaving.Machines.{Machine}
 use Rattle.bf_machine.specs.interleaving.Serving.{HasLocked}
 use Rattle.bf_machine.proofs.served.Locking.{can_ask, one_locked}
-use Rattle.machine_tests.proofs.Served.{behind_both, served_behind, still_served}
+use Rattle.machine_tests.proofs.Served.{behind_both, event_behind, still_behind}
 use Rattle.machine_tests.proofs.acts.ask_for.Goals as goal
 
 pub loop-name-init : goal.loop-name-init
 loop-name-init g c =
     let next = c.requires.next in
-    record { behind = record { servable = c.requires.servable; reached = at_once }; locked = (next.0, next.1.is, c.args.machine.now.locks, refl, λ k d within. absurd (omega (arith, within))) }
+    record { behind = at_once; locked = (next.0, next.1.is, c.args.machine.now.locks, refl, λ k d within. absurd (omega (arith, within))) }
 
 pub lock-requires-clause-can : goal.lock-requires-clause-can
 lock-requires-clause-can g c =
@@ -29,19 +29,19 @@ lock-requires-clause-can g c =
 pub returns-in_err-lock : goal.returns-in_err-lock
 returns-in_err-lock g c =
     behind_both g.N.Opened.opening c.args.machine.now c.loop-name.machine c.lock.new.self c.loop-name.invariant.behind
-    (still_served c.loop-name.machine c.lock.new.self c.loop-name.invariant.behind.servable c.in_err-lock.ensures.err)
+    (still_behind c.loop-name.machine c.lock.new.self c.in_err-lock.ensures.err)
 
 pub returns-in-Wait : goal.returns-in-Wait
 returns-in-Wait g c =
     let lock : Lock = c.loop-name-item.result in
     behind_both g.N.Opened.opening c.args.machine.now c.loop-name.machine c.lock.new.self c.loop-name.invariant.behind
-    (served_behind c.loop-name.machine c.lock.new.self c.loop-name.invariant.behind.servable (asks c.args.session lock.0 lock.1 c.in_ok-lock.field-0 c.in_ok-lock.ensures.asks))
+    (event_behind c.loop-name.machine c.lock.new.self (asks c.args.session lock.0 lock.1 c.in_ok-lock.field-0 c.in_ok-lock.ensures.asks))
 
 pub returns-in-Die : goal.returns-in-Die
 returns-in-Die g c =
     let lock : Lock = c.loop-name-item.result in
     behind_both g.N.Opened.opening c.args.machine.now c.loop-name.machine c.lock.new.self c.loop-name.invariant.behind
-    (served_behind c.loop-name.machine c.lock.new.self c.loop-name.invariant.behind.servable (asks c.args.session lock.0 lock.1 c.in_ok-lock.field-0 c.in_ok-lock.ensures.asks))
+    (event_behind c.loop-name.machine c.lock.new.self (asks c.args.session lock.0 lock.1 c.in_ok-lock.field-0 c.in_ok-lock.ensures.asks))
 
 pub loop-name-preserved : goal.loop-name-preserved
 loop-name-preserved g c =
@@ -53,7 +53,7 @@ loop-name-preserved g c =
     take_more c.args.locks.now c.loop-name.name-index lock c.loop-name-test.true ∙ ap (λ (x : Lock). held ++ x ∷ []) (sym c.loop-name-item.is) in
     record {
       behind = behind_both g.N.Opened.opening c.args.machine.now c.loop-name.machine c.lock.new.self c.loop-name.invariant.behind
-          (served_behind c.loop-name.machine c.lock.new.self c.loop-name.invariant.behind.servable (asks c.args.session lock.0 lock.1 c.in_ok-lock.field-0 c.in_ok-lock.ensures.asks));
+          (event_behind c.loop-name.machine c.lock.new.self (asks c.args.session lock.0 lock.1 c.in_ok-lock.field-0 c.in_ok-lock.ensures.asks));
       locked = subst (λ (locks : List Lock). HasLocked c.args.machine.now c.args.session locks c.lock.new.self) (sym more)
           (one_locked c.args.machine.now c.requires.kept c.args.session c.requires.next.0 c.args.locks.now c.requires.next.1 held lock.0 lock.1 c.loop-name.machine c.lock.new.self c.loop-name.invariant.locked by);
     }

@@ -1,9 +1,10 @@
 -- Each call is made behind those before it.
-use Rattle.machine_tests.proofs.Served.{behind_both, unmade}
+use Rattle.bf_machine.specs.interleaving.Events.{at_once}
+use Rattle.machine_tests.proofs.Served.{behind_both}
 use Rattle.machine_tests.proofs.calls.make_all.Goals as goal
 
 pub loop-call-init : goal.loop-call-init
-loop-call-init g c = unmade c.args.machine.now c.requires
+loop-call-init g c = at_once
 
 pub returns-in_err-make : goal.returns-in_err-make
 returns-in_err-make g c =

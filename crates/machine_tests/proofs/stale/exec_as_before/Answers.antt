@@ -3,22 +3,19 @@ use Rattle.std.proofs.Common.{◌∙◌}
 use Rattle.std.proofs.lemmas.Bool.{not_from_false}
 use Rattle.bf_machine.specs.declared.stand.Stand.TheVariants.{Statement}
 use Rattle.bf_machine.specs.interleaving.Calls.{StandsAs}
+use Rattle.bf_machine.specs.interleaving.Events.{at_once}
 use Rattle.bf_machine.specs.interleaving.Machines.{Machine}
 use Rattle.machine_tests.proofs.Bindings.{bound_now, has_open}
-use Rattle.machine_tests.proofs.Served.{unmade}
 use Rattle.machine_tests.proofs.stale.exec_as_before.Goals as goal
 
 pub returns-in_default : goal.returns-in_default
-returns-in_default g c = unmade c.args.machine.now c.requires
-
-pub returns-in_default-2 : goal.returns-in_default-2
-returns-in_default-2 g c = unmade c.args.machine.now c.requires
+returns-in_default g c = at_once
 
 pub returns-then-is_none : goal.returns-then-is_none
-returns-then-is_none g c = unmade c.args.machine.now c.requires
+returns-then-is_none g c = at_once
 
 pub returns-in_err-bound : goal.returns-in_err-bound
-returns-in_err-bound g c = unmade c.args.machine.now c.requires
+returns-in_err-bound g c = at_once
 
 pub exec_behind-requires-clause-was : goal.exec_behind-requires-clause-was
 exec_behind-requires-clause-was g c =
@@ -26,4 +23,4 @@ exec_behind-requires-clause-was g c =
     let s = c.args.session in
     let stands : StandsAs m s (Statement c.in-Some-Statement.place) = rw c.in-Some-Statement.field-0-is at c.in-Some-Statement.ensures.stands in
     let some = has_open m s c.start.result c.start.ensures (c.is_none.ensures ∙ not_from_false c.is_none.result c.if-is_none.false) in
-    bound_now g.N.Opened.opening m c.in-Some-Statement.ensures.kept s c.in-Some-Statement.place stands some c.in_ok-bound.bound c.in_ok-bound.ensures.next
+    bound_now g.N.Opened.opening m c.in-Some-Statement.ensures.kept s c.in-Some-Statement.place stands some c.in_ok-bound.bound c.in_ok-bound.ensures.well_bound c.in_ok-bound.ensures.next
