@@ -6,7 +6,7 @@ use Rattle.byteorder.specs.Numbers.{little_number-reads_back}
 use Rattle.bf_log.specs.Format.{open_gate, longest_payload, entry, IsChain, HasNoEntry, BreaksBehind}
 
 -- these payloads in entries, and behind the last of them bytes of this kind
-pub Entries : (List ℕ → Type 0) → List (List ℕ) → List ℕ → Type 0
+unfoldable pub Entries : (List ℕ → Type 0) → List (List ℕ) → List ℕ → Type 0
 Entries End [] bytes = End bytes
 Entries End (payload ∷ payloads) bytes =
     (chain : List ℕ) × (length payload ≤ longest_payload) × (bytes ≡ entry payload ++ chain) × Entries End payloads chain
@@ -37,7 +37,7 @@ length_there payload chain bytes small is =
     ap (λ (all : List ℕ). little_number 4 (drop 1 all)) is ∙ little_number-reads_back 4 (length payload) (payload ++ chain) (omega arith)
 
 -- an entry tells its payload and what is behind it
-one_entry : (payload other chain rest : List ℕ) → length payload ≤ longest_payload → length other ≤ longest_payload → entry payload ++ chain ≡ entry other ++ rest
+pub one_entry : (payload other chain rest : List ℕ) → length payload ≤ longest_payload → length other ≤ longest_payload → entry payload ++ chain ≡ entry other ++ rest
     → (payload ≡ other) × (chain ≡ rest)
 one_entry payload other chain rest small small_too same =
     let n = length payload in

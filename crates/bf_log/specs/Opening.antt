@@ -32,6 +32,10 @@ module _ {D : Type 0} {g : Ghosts D} where
   abbrev pub gate_of : Opening D g → ℕ
   gate_of opening = opening.gate
 
+  -- the length of the file, as it was found
+  abbrev pub len_of : Opening D g → ℕ
+  len_of opening = opening.len
+
   -- how many payloads it has read
   abbrev pub count_of : Opening D g → ℕ
   count_of opening = opening.count

@@ -1,6 +1,6 @@
 //! Making a log.
 
-ghost use Rattle.std.specs.Prelude.{◌≡◌, ℕ, ◌<◌, List, [], Some, Err, length, OnOk};
+ghost use Rattle.std.specs.Prelude.{◌≡◌, ℕ, ◌<◌, List, [], None, Some, Err, length, OnOk};
 ghost use Rattle.bf_io.specs.Whole.{IfTold};
 ghost use Rattle.bf_disk.specs.Images.{LeavesOnly, Only, OnlyRead, Torn};
 ghost use Rattle.bf_log.specs.Errors.{CountsFaults, is_create_fault};
@@ -17,6 +17,7 @@ use bf_disk::Disk;
 pub fn create_log<D: Disk>(disk: &mut D) -> Result<(), CreateError>
     ensures made { (file : List ℕ) → D.seen disk.old ≡ Some file → OnOk result
         ((file ≡ []) × (D.seen disk.new ≡ Some empty_log) × Only empty_log (D.may_leave disk.new)) }
+    ensures untold { D.seen disk.old ≡ None → D.seen disk.new ≡ None }
     ensures any_moment { Only [] (D.may_leave disk.old)
         → LeavesOnly D.moment D.left_since disk.old disk.new (Torn 0 (length empty_log) []) }
     ensures untouched { IfTold (D.seen disk.old) (λ file. 0 < length file

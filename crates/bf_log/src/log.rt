@@ -40,7 +40,7 @@ pub struct Log<D: Disk> {
 }
 
 impl<D: Disk> Log<D> {
-    ghost use Rattle.bf_log.specs.Append.{Holds, Outcome, BeforeOrAfter, StoppedAt, refusal, disk_of, end_of, count_of, standing_of, halted_of};
+    ghost use Rattle.bf_log.specs.Append.{Holds, Outcome, BeforeOrAfter, StoppedAt, Stops, refusal, disk_of, end_of, count_of, standing_of, halted_of};
     ghost use Rattle.bf_log.specs.Errors.{CountsFaults, is_append_fault};
     ghost use Rattle.bf_log.specs.Format.{with_entry};
 
@@ -102,6 +102,10 @@ impl<D: Disk> Log<D> {
             × LeavesOnly D.moment D.left_since (disk_of self.old) (disk_of self.new)
             (BeforeOrAfter before after) }
 
+        // Time does not go back, and a file is told as before, and is no shorter.
+        ensures later { D.moment (disk_of self.old) ≤ D.moment (disk_of self.new) }
+        ensures told { WhereTold (λ old new. length old ≤ length new)
+            (D.seen (disk_of self.old)) (D.seen (disk_of self.new)) }
         ensures faults { CountsFaults is_append_fault result (D.fault_count (disk_of self.old))
             (D.fault_count (disk_of self.new)) }
     {
@@ -148,6 +152,18 @@ impl<D: Disk> Log<D> {
             return Some(AppendError::LogFull(self.end, need));
         }
         None
+    }
+
+    /// Takes no more records: each later append answers `Memory`, as after want of memory in a call of
+    /// the device. The records stay, and the disk is not touched.
+    ///
+    /// It is for one whose own work after an append has failed, and who must not go on as though the
+    /// record had not been stored. It takes no memory.
+    pub fn give_up(&mut self)
+        ensures spent { Stops Standing.Spent self.old self.new }
+        ensures disk { disk_of self.new ≡ disk_of self.old }
+    {
+        self.standing = Standing::Spent;
     }
 
     /// The disk's count of faults after an append met a fault, `None` where none did. It takes no
@@ -204,6 +220,7 @@ fn store<D: Disk>(disk: &mut D, gate: u64, bytes: &[u8]) -> Result<(), DiskError
     ensures any_moment { (file : List ℕ) → D.seen disk.old ≡ Some file
         → Only file (D.may_leave disk.old)
         → LeavesOnly D.moment D.left_since disk.old disk.new (IsBeingStored file gate bytes.now) }
+    ensures later { D.moment disk.old ≤ D.moment disk.new }
     ensures faults { CountsFault result (D.fault_count disk.old) (D.fault_count disk.new) }
 {
     write_synced(disk, gate + 1, bytes)?;
@@ -222,6 +239,7 @@ fn write_synced<D: Disk>(disk: &mut D, at: u64, bytes: &[u8]) -> Result<(), Disk
         (IfTold (D.seen disk.new) (λ file. Only file (D.may_leave disk.new))) }
     ensures any_moment { (file : List ℕ) → Only file (D.may_leave disk.old)
         → LeavesOnly D.moment D.left_since disk.old disk.new (Torn at (length bytes.now) file) }
+    ensures later { D.moment disk.old ≤ D.moment disk.new }
     ensures faults { CountsFault result (D.fault_count disk.old) (D.fault_count disk.new) }
 {
     disk.write_at(at, bytes)?;

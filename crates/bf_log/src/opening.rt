@@ -54,7 +54,7 @@ impl<D: Disk> Opening<D> {
     ghost use Rattle.bf_log.specs.Errors.{CountsFaults, is_open_fault};
     ghost use Rattle.bf_log.specs.Format.{frame, longest_payload, magic, open_gate};
     ghost use Rattle.bf_log.specs.Append.{Holds, end_of, standing_of, disk_of as log_disk, count_of as log_count};
-    ghost use Rattle.bf_log.specs.Opening.{HasRead, ReadsNext, ProgressAfter, AnswersAgain, disk_of, gate_of, count_of, progress_of};
+    ghost use Rattle.bf_log.specs.Opening.{HasRead, ReadsNext, ProgressAfter, AnswersAgain, disk_of, gate_of, len_of, count_of, progress_of};
 
     /// The payload behind the next open gate, with that gate's offset, or `End` at a closed gate.
     ///
@@ -65,6 +65,7 @@ impl<D: Disk> Opening<D> {
         ensures next { (file : List ℕ) (payloads : List (List ℕ)) → HasRead file payloads self.old
             → ReadsNext file payloads self.new result }
         ensures progress { ProgressAfter self.old self.new result }
+        ensures len { len_of self.new ≡ len_of self.old }
         ensures again { AnswersAgain self.old self.new result }
 
         ensures disk { OnlyRead D.seen D.may_leave D.moment D.left_since (disk_of self.old)
@@ -104,6 +105,7 @@ impl<D: Disk> Opening<D> {
         ensures next { (file : List ℕ) (payloads : List (List ℕ)) → HasRead file payloads self.old
             → ReadsNext file payloads self.new result }
         ensures progress { ProgressAfter self.old self.new result }
+        ensures len { len_of self.new ≡ len_of self.old }
         ensures disk { OnlyRead D.seen D.may_leave D.moment D.left_since (disk_of self.old)
             (disk_of self.new) }
         ensures faults { CountsFaults is_open_fault result (D.fault_count (disk_of self.old))
@@ -144,6 +146,7 @@ impl<D: Disk> Opening<D> {
         ensures next { (file : List ℕ) (payloads : List (List ℕ)) → HasRead file payloads self.old
             → ReadsNext file payloads self.new result }
         ensures progress { ProgressAfter self.old self.new result }
+        ensures len { len_of self.new ≡ len_of self.old }
         ensures disk { OnlyRead D.seen D.may_leave D.moment D.left_since
             (disk_of self.old) (disk_of self.new) }
         ensures faults { CountsFaults is_open_fault result
