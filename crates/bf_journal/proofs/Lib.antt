@@ -1,0 +1,9 @@
+pub mod Answering
+pub mod Appended
+pub mod GivenUp
+pub mod Readings
+pub mod Refusals
+pub mod Reopened
+pub mod Replays
+pub mod Runs
+pub mod Somehow
