@@ -1,0 +1,5 @@
+pub mod Lists
+pub mod Numbers
+pub mod Parts
+pub mod Texts
+pub mod Writing
