@@ -1,0 +1,10 @@
+pub mod Apart
+pub mod Changes
+pub mod Conditions
+pub mod Expressions
+pub mod Migrations
+pub mod Operators
+pub mod Options
+pub mod Schema
+pub mod Shallow
+pub mod Within
