@@ -1,4 +1,4 @@
-//! Tests of heaps and of workspaces, by their public calls.
+//! Tests of heaps, of indexes and of workspaces, by their public calls.
 #![tactic(auto)]
 
 #[cfg(test)]
@@ -7,6 +7,8 @@ mod fixtures;
 mod frozen;
 #[cfg(test)]
 mod heaps;
+#[cfg(test)]
+mod indexes;
 #[cfg(test)]
 mod pages;
 #[cfg(test)]

@@ -1,0 +1,9 @@
+pub mod Finds
+pub mod Firsts
+pub mod Kept
+pub mod Keys
+pub mod Members
+pub mod Orders
+pub mod Places
+pub mod Puts
+pub mod Upkeep

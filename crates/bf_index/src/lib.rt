@@ -1,0 +1,13 @@
+//! Secondary indexes: for the values of some columns the keys of the rows that have them.
+//!
+//! An index is a set of pairs of a value and a key. It stands in pages of its own, kept as those of a
+//! heap are, by the definitions and the proofs of `bf_heap`. A heap whose keys are a value and a key
+//! in one would not do: to put the two together takes memory, for a look-up as well, and `add` and
+//! `take` may want none, so that an index follows rows that a heap puts and removes without any.
+#![tactic(auto)]
+
+pub mod index;
+pub mod laws;
+mod page;
+
+pub use index::Index;

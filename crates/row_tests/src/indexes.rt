@@ -1,0 +1,206 @@
+//! Indexes, by the keys that they find.
+
+ghost use Rattle.std.specs.Prelude.{◌≡◌, ◌≤◌, length, nat_lt};
+ghost use Rattle.std.specs.List.{list_all};
+
+use crate::fixtures::Cell::{self, Letters, Number};
+use crate::fixtures::{key, number_key, number_of_key};
+use bf_base::{Key, Row};
+use bf_index::Index;
+use std::alloc::Global;
+use std::test::Fail;
+
+/// Adds a pair, for which room is made where there is none.
+fn add_pair(index: &mut Index, value: Key, key: Key) -> Result<bool, Fail> {
+    index.reserve(1)?;
+    Ok(index.add(value, key))
+}
+
+/// Whether a value has these numbers as its keys.
+fn has_keys(alloc: Global, index: &Index, value: &Key, wanted: &[i64]) -> Result<bool, Fail> {
+    let keys = index.find(alloc, value)?;
+    for (found, number) in keys.iter().zip(wanted) {
+        if number_of_key(found) != Some(*number) {
+            return Ok(false);
+        }
+    }
+    Ok(keys.len() == wanted.len())
+}
+
+/// What is done to an index, and what it answers. Values and keys are numbers.
+#[derive(Clone, Copy)]
+enum Step {
+    /// Adds the pair of a value and a key, which is new or not.
+    Add(i64, i64, bool),
+    /// Takes the pair of a value and a key, which is there or not.
+    Take(i64, i64, bool),
+    /// Finds these keys of a value.
+    Find(i64, &'static [i64]),
+}
+
+use Step::{Add, Find, Take};
+
+fn answers(alloc: Global, index: &mut Index, step: Step) -> Result<bool, Fail> {
+    match step {
+        Add(value, key, new) => {
+            let told = add_pair(index, number_key(alloc, value)?, number_key(alloc, key)?)?;
+            Ok(told == new)
+        }
+        Take(value, key, there) => {
+            let told = index.take(&number_key(alloc, value)?, &number_key(alloc, key)?);
+            Ok(told == there)
+        }
+        Find(value, keys) => has_keys(alloc, index, &number_key(alloc, value)?, keys),
+    }
+}
+
+/// Rows 3, 1 and 2, of which two have a value, and then one less of those.
+const STEPS: [Step; 17] = [
+    Find(7, &[]),
+    Take(7, 1, false),
+    Add(7, 3, true),
+    Add(7, 1, true),
+    Add(8, 2, true),
+    Add(7, 3, false),
+    Find(7, &[1, 3]),
+    Find(8, &[2]),
+    Find(6, &[]),
+    Find(9, &[]),
+    Take(7, 2, false),
+    Take(7, 1, true),
+    Take(7, 1, false),
+    Find(7, &[3]),
+    Take(7, 3, true),
+    Find(7, &[]),
+    Find(8, &[2]),
+];
+
+#[test]
+fn finds_the_keys_of_a_value(rt: HostRuntime) -> Result<(), Fail> {
+    let alloc = rt.alloc();
+    let mut index = Index::new(alloc, vec![in alloc; 1]?);
+    assert!(rt; index.is_empty());
+    for (place, step) in STEPS.iter().enumerate() {
+        assert!(rt; answers(alloc, &mut index, *step)?, "step {place}");
+    }
+    assert_eq!(rt; (index.len(), index.is_empty()), (1, false));
+    Ok(())
+}
+
+/// Whether a row has a value at each column of an index.
+fn has_columns(index: &Index, row: &Row) -> bool
+    ensures { result ≡ list_all (λ place. nat_lt place (length row.now)) index.now.columns }
+{
+    let width = row.as_slice().len();
+    index
+        .columns()
+        .iter()
+        .all(|place| (*place as usize) < width)
+}
+
+/// The value of a row that has an index's columns.
+fn value_of(alloc: Global, index: &Index, row: &Row) -> Result<Key, Fail> {
+    if has_columns(index, row) {
+        Ok(index.value_of(alloc, row)?)
+    } else {
+        Err("a row that is too short")?
+    }
+}
+
+/// Values that a front or the columns of one make, in another order.
+const OTHERS: [&[Cell]; 3] = [&[Letters("a")], &[Number(5), Letters("a")], &[]];
+
+/// A value of two columns, in index order, which is compared as a whole: no front of it has its keys.
+#[test]
+fn keeps_values_of_two_columns(rt: HostRuntime) -> Result<(), Fail> {
+    let alloc = rt.alloc();
+    let mut index = Index::new(alloc, vec![in alloc; 2, 0]?);
+    assert_eq!(rt; index.columns(), [2, 0].as_slice());
+    let cells = key(alloc, &[Number(5), Number(1), Letters("a")])?;
+    let value = value_of(alloc, &index, &Row::of(cells.into_vec()))?;
+    assert!(rt; value.is_same(&key(alloc, &[Letters("a"), Number(5)])?));
+    assert!(rt; add_pair(&mut index, value, number_key(alloc, 1)?)?);
+    assert!(rt;
+        has_keys(
+            alloc,
+            &index,
+            &key(alloc, &[Letters("a"), Number(5)])?,
+            &[1]
+        )?
+    );
+    for cells in OTHERS {
+        assert!(rt;
+            has_keys(alloc, &index, &key(alloc, cells)?, &[])?,
+            "{cells:?}"
+        );
+    }
+    Ok(())
+}
+
+/// Adds keys in falling order, each to one of three values, in room that is there.
+fn fill(alloc: Global, index: &mut Index, count: u32) -> Result<(), Fail>
+    requires { count ≤ index.old.spare }
+{
+    for more in 0..count {
+        let at = 1000_i64.wrapping_sub(more as i64);
+        index.add(number_key(alloc, at % 3)?, number_key(alloc, at)?);
+    }
+    Ok(())
+}
+
+/// How many keys a value has, if they are so far apart, from the first on.
+fn count_apart(
+    alloc: Global,
+    index: &Index,
+    value: i64,
+    first: i64,
+    apart: i64,
+) -> Result<Option<usize>, Fail> {
+    let keys = index.find(alloc, &number_key(alloc, value)?)?;
+    let mut next = first;
+    for found in &keys {
+        if number_of_key(found) != Some(next) {
+            return Ok(None);
+        }
+        next = next.wrapping_add(apart);
+    }
+    Ok(Some(keys.len()))
+}
+
+/// The 601 keys from 400 to 1000 stand in several pages, 200 or 201 of them under each value.
+#[test]
+fn finds_keys_in_many_pages(rt: HostRuntime) -> Result<(), Fail> {
+    let alloc = rt.alloc();
+    let mut index = Index::new(alloc, vec![in alloc; 0]?);
+    index.reserve(601)?;
+    fill(alloc, &mut index, 601)?;
+    assert_eq!(rt; index.len(), 601);
+    assert_eq!(rt; count_apart(alloc, &index, 0, 402, 3)?, Some(200));
+    assert_eq!(rt; count_apart(alloc, &index, 1, 400, 3)?, Some(201));
+    assert_eq!(rt; count_apart(alloc, &index, 2, 401, 3)?, Some(200));
+    for even in 0..301_u32 {
+        let at = 400_i64.wrapping_add(2 * even as i64);
+        assert!(rt;
+            index.take(&number_key(alloc, at % 3)?, &number_key(alloc, at)?),
+            "key {at}"
+        );
+    }
+    assert_eq!(rt; index.len(), 300);
+    assert_eq!(rt; count_apart(alloc, &index, 0, 405, 6)?, Some(100));
+    assert_eq!(rt; count_apart(alloc, &index, 1, 403, 6)?, Some(100));
+    assert_eq!(rt; count_apart(alloc, &index, 2, 401, 6)?, Some(100));
+    assert_eq!(rt; count_apart(alloc, &index, 3, 0, 1)?, Some(0));
+    Ok(())
+}
+
+#[test]
+fn reserves_up_to_the_limit(rt: HostRuntime) -> Result<(), Fail> {
+    let alloc = rt.alloc();
+    let mut index = Index::new(alloc, vec![in alloc; 0]?);
+    index.reserve(3)?;
+    fill(alloc, &mut index, 3)?;
+    assert!(rt; index.reserve(u32::MAX).is_err());
+    assert_eq!(rt; index.len(), 3);
+    assert!(rt; has_keys(alloc, &index, &number_key(alloc, 2)?, &[998])?);
+    Ok(())
+}
