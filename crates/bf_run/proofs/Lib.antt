@@ -1,4 +1,5 @@
 pub mod Answered
 pub mod Migrates
+pub mod NewLogs
 pub mod Parsed
 pub mod one

@@ -1,2 +1,4 @@
+pub mod Creating
 pub mod Outcome
 pub mod Top
+pub mod Words

@@ -1,10 +1,8 @@
 -- What a call of the program answers, when, and what it writes.
-use Rattle.std.specs.Prelude.{◌≡◌, ℕ, ◌+◌, ◌≤◌, ◌⊎◌, Bool, true, false, List, [], ◌∷◌, ◌++◌, length, codes, Option, None, Ok, Err}
+use Rattle.std.specs.Prelude.{◌≡◌, ℕ, ◌+◌, ◌≤◌, ◌⊎◌, List, ◌++◌, length, codes, Option, None, Some, Ok, Err, ⊤}
 use Rattle.std.specs.Io.KnownBytes.{Appends, Keeps, Consumes, IsAtEnd}
-use lib.Pointwise.{pointwise}
 use Rattle.bf_io.specs.Causes.{Rose}
 use Rattle.bf_io.specs.Whole.{IfTold, TookPrefix}
-use Rattle.bf_base.specs.Lists.{same_name}
 use Rattle.bf_lex.specs.declared.fault.ScriptFault.{ScriptFault}
 use Rattle.bf_lex.specs.Faults.{kind_text}
 use Rattle.bf_base.specs.Limits.{longest_script}
@@ -16,7 +14,9 @@ use Rattle.bf_tree.specs.declared.history.Sweep.{Sweep}
 use Rattle.bf_text.specs.Replies.{newline, numbered}
 use Rattle.bf_text.specs.Report.{report_text}
 use Rattle.bf_run.specs.declared.status.Status.{Status}
-use Rattle.bf_run.specs.declared.status.Status.TheVariants.{Done, Usage, Script as ScriptError, ReadFault, WriteFault, Memory}
+use Rattle.bf_run.specs.declared.status.Status.TheVariants.{Done, Usage, Script as ScriptError, ReadFault, WriteFault, DiskFault, NotEmpty, Memory}
+use Rattle.bf_run.specs.Creating.{Shelving, Makes, Refuses, CountsOne, Spares}
+use Rattle.bf_run.specs.Words.{Asked, creating, trying, asked, IfCreating}
 use Rattle.bf_machine.specs.InOrder.{IsRunInOrder}
 
 -- STREAM: the bytes that a source has left, or that a sink took, where they are told, and its count of faults, each
@@ -31,9 +31,9 @@ pub record Stream : Type 0 where
 abbrev pub IsCalm : Stream → Type 0
 IsCalm stream = stream.faults_after ≡ stream.faults
 
--- the one word `try`
-abbrev pub is_try : List (List ℕ) → Bool
-is_try words = pointwise same_name words (codes "try" ∷ [])
+-- nothing was read
+abbrev pub IsUnread : Stream → Type 0
+IsUnread input = Keeps input.bytes input.bytes_after × IsCalm input
 
 -- the text is the report of a run of the script that the bytes are
 pub record IsReport (bytes text : List ℕ) : Type 0 where
@@ -55,68 +55,108 @@ IsReadThrough input bytes =
     (IsAtEnd input.bytes_after × (length bytes ≤ longest_script))
     ⊎ ((read : List ℕ) × (length read ≡ longest_script + 1) × Consumes input.bytes input.bytes_after read)
 
--- CAUSES: when a status comes, for the words, the source and its bytes, before anything is written. No two of Usage,
--- Script with its fault and Done can come for the same bytes, since a text has one reading; so where the source
--- tells its bytes each of them comes exactly there, but for faults of the streams and want of memory
-abbrev pub Comes : List (List ℕ) → Stream → List ℕ → Status → Type 0
-Comes words input bytes Usage = (is_try words ≡ false) × Keeps input.bytes input.bytes_after × IsCalm input
-Comes words input bytes (ScriptError fault) =
-    (is_try words ≡ true) × IsCalm input × IsScriptText bytes (Err fault) × IsReadThrough input bytes
-Comes words input bytes Done = (is_try words ≡ true) × IsCalm input × IsScript bytes × IsAtEnd input.bytes_after
-Comes words input bytes ReadFault = (is_try words ≡ true) × Rose input.faults input.faults_after
-Comes words input bytes WriteFault = ⊥
-Comes words input bytes Memory = Unit {0}
+-- when a status comes of words that ask for nothing
+abbrev pub ComesOfWords : Status → Type 0
+ComesOfWords Usage = ⊤
+ComesOfWords Memory = ⊤
+ComesOfWords other = ⊥
 
--- a status that comes of the words and the bytes, and not of a fault of a stream or of want of memory
+-- when a status comes of the input that is asked to be run, and of its bytes
+abbrev pub ComesOfInput : Stream → List ℕ → Status → Type 0
+ComesOfInput input bytes (ScriptError fault) = IsCalm input × IsScriptText bytes (Err fault) × IsReadThrough input bytes
+ComesOfInput input bytes Done = IsCalm input × IsScript bytes × IsAtEnd input.bytes_after
+ComesOfInput input bytes ReadFault = Rose input.faults input.faults_after
+ComesOfInput input bytes Memory = ⊤
+ComesOfInput input bytes other = ⊥
+
+-- when a status comes of the file that is asked to be made a log
+abbrev pub ComesOfFile : {V : Type 0} → List ℕ → Shelving V → Status → Type 0
+ComesOfFile path shelf Done = Makes shelf path
+ComesOfFile path shelf (NotEmpty n) = Refuses shelf path n
+ComesOfFile path shelf DiskFault = CountsOne shelf
+ComesOfFile path shelf Memory = ⊤
+ComesOfFile path shelf other = ⊥
+
+-- CAUSES: when a status comes, for what the words ask, the source and its bytes, and the shelf, before anything is
+-- written. No two of Usage, Script with its fault, Done and NotEmpty with its number can come for the same bytes and
+-- the same file, since a text has one reading; so where source and shelf tell theirs each of them comes exactly there,
+-- but for faults and want of memory
+abbrev pub Comes : {V : Type 0} → Option Asked → Stream → List ℕ → Shelving V → Status → Type 0
+Comes None input bytes shelf status = IsUnread input × ComesOfWords status
+Comes (Some trying) input bytes shelf status = ComesOfInput input bytes status
+Comes (Some (creating path)) input bytes shelf status = IsUnread input × ComesOfFile path shelf status
+
+-- a status that comes of the words, the bytes and the file, and not of a fault or of want of memory
 abbrev pub IsDetermined : Status → Type 0
 IsDetermined ReadFault = ⊥
 IsDetermined WriteFault = ⊥
+IsDetermined DiskFault = ⊥
 IsDetermined Memory = ⊥
-IsDetermined other = Unit {0}
+IsDetermined other = ⊤
 
 -- the first fault of a text that is no script, behind the byte where it stands
 abbrev pub fault_text : ScriptFault → List ℕ
 fault_text fault = numbered (codes "script error at ") fault.at ++ codes ": " ++ kind_text fault.kind ++ newline
 
--- the text of a status that has one, for the bytes of the source
-abbrev pub IsTextOf : List ℕ → Status → List ℕ → Type 0
-IsTextOf bytes Usage text = text ≡ codes "usage error" ++ newline
-IsTextOf bytes (ScriptError fault) text = text ≡ fault_text fault
-IsTextOf bytes Done text = IsReport bytes text
-IsTextOf bytes ReadFault text = text ≡ codes "read fault" ++ newline
-IsTextOf bytes WriteFault text = ⊥
-IsTextOf bytes Memory text = ⊥
+-- what refuses a file that has so many bytes
+abbrev pub not_empty_text : ℕ → List ℕ
+not_empty_text n = numbered (codes "not empty: ") n ++ codes " bytes" ++ newline
 
--- a status that comes, with its text, both of the same bytes: of those that the source tells, or of some
-pub record IsAnswer (words : List (List ℕ)) (input : Stream) (status : Status) (text : List ℕ) : Type 0 where
-  pub bytes : List ℕ
-  pub are_told : IfTold input.bytes (λ told. bytes ≡ told)
-  pub causes : Comes words input bytes status
-  pub is_text : IsTextOf bytes status text
+-- the text of Done, for what was asked and the bytes of the source
+abbrev pub IsDoneText : Option Asked → List ℕ → List ℕ → Type 0
+IsDoneText None bytes text = ⊥
+IsDoneText (Some trying) bytes text = IsReport bytes text
+IsDoneText (Some (creating path)) bytes text = text ≡ codes "created" ++ newline
 
--- the sink took the whole text of an answer, and no write failed
-pub record AnswersWhole (words : List (List ℕ)) (input output : Stream) (status : Status) : Type 0 where
-  pub text : List ℕ
-  pub answer : IsAnswer words input status text
-  pub written : Appends output.bytes output.bytes_after text
-  pub calm : IsCalm output
+-- the text of a status that has one
+abbrev pub IsTextOf : Option Asked → List ℕ → Status → List ℕ → Type 0
+IsTextOf asks bytes Usage text = text ≡ codes "usage error" ++ newline
+IsTextOf asks bytes (ScriptError fault) text = text ≡ fault_text fault
+IsTextOf asks bytes Done text = IsDoneText asks bytes text
+IsTextOf asks bytes ReadFault text = text ≡ codes "read fault" ++ newline
+IsTextOf asks bytes DiskFault text = text ≡ codes "disk fault" ++ newline
+IsTextOf asks bytes (NotEmpty n) text = text ≡ not_empty_text n
+IsTextOf asks bytes WriteFault text = ⊥
+IsTextOf asks bytes Memory text = ⊥
 
--- a write failed in the place of an answer, of whose text the sink took a prefix
-pub record IsCutShort (words : List (List ℕ)) (input output : Stream) : Type 0 where
-  pub status : Status
-  pub text : List ℕ
-  pub answer : IsAnswer words input status text
-  pub written : TookPrefix output.bytes output.bytes_after text
-  pub rose : Rose output.faults output.faults_after
+module _ {V : Type 0} (asks : Option Asked) (input : Stream) (shelf : Shelving V) where
+  -- a status that comes, with its text, both of the same bytes: of those that the source tells, or of some
+  pub record IsAnswer (status : Status) (text : List ℕ) : Type 0 where
+    pub bytes : List ℕ
+    pub are_told : IfTold input.bytes (λ told. bytes ≡ told)
+    pub causes : Comes asks input bytes shelf status
+    pub is_text : IsTextOf asks bytes status text
 
--- OUTCOME of a call: a whole answer, an answer cut short by a fault of the sink, or want of memory and nothing written
-abbrev pub Ends : List (List ℕ) → Stream → Stream → Status → Type 0
-Ends words input output WriteFault = IsCutShort words input output
-Ends words input output Memory = Keeps output.bytes output.bytes_after × IsCalm output
-Ends words input output Done = AnswersWhole words input output Done
-Ends words input output Usage = AnswersWhole words input output Usage
-Ends words input output (ScriptError fault) = AnswersWhole words input output (ScriptError fault)
-Ends words input output ReadFault = AnswersWhole words input output ReadFault
+  -- the sink took the whole text of an answer, and no write failed
+  pub record AnswersWhole (output : Stream) (status : Status) : Type 0 where
+    pub text : List ℕ
+    pub answer : IsAnswer status text
+    pub written : Appends output.bytes output.bytes_after text
+    pub calm : IsCalm output
+
+  -- a write failed in the place of an answer, of whose text the sink took a prefix
+  pub record IsCutShort (output : Stream) : Type 0 where
+    pub status : Status
+    pub text : List ℕ
+    pub answer : IsAnswer status text
+    pub written : TookPrefix output.bytes output.bytes_after text
+    pub rose : Rose output.faults output.faults_after
+
+  -- a whole answer, an answer cut short by a fault of the sink, or want of memory and nothing written
+  abbrev pub IsOutcome : Stream → Status → Type 0
+  IsOutcome output WriteFault = IsCutShort output
+  IsOutcome output Memory = Keeps output.bytes output.bytes_after × IsCalm output
+  IsOutcome output Done = AnswersWhole output Done
+  IsOutcome output Usage = AnswersWhole output Usage
+  IsOutcome output (ScriptError fault) = AnswersWhole output (ScriptError fault)
+  IsOutcome output ReadFault = AnswersWhole output ReadFault
+  IsOutcome output DiskFault = AnswersWhole output DiskFault
+  IsOutcome output (NotEmpty n) = AnswersWhole output (NotEmpty n)
+
+-- how a call ends for its words: with an outcome; and whatever that is, files that have bytes are spared
+pub record Ends {V : Type 0} (words : List (List ℕ)) (input output : Stream) (shelf : Shelving V) (status : Status) : Type 0 where
+  pub outcome : IsOutcome (asked words) input shelf output status
+  pub spares : IfCreating (asked words) (λ path. Spares shelf path)
 
 -- the number that the program ends with
 abbrev pub number_of_status : Status → ℕ
@@ -125,4 +165,6 @@ number_of_status Usage = 1
 number_of_status (ScriptError fault) = 2
 number_of_status ReadFault = 3
 number_of_status WriteFault = 4
+number_of_status DiskFault = 5
 number_of_status Memory = 7
+number_of_status (NotEmpty n) = 8

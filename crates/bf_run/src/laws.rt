@@ -1,11 +1,15 @@
 //! Laws of the definitions. Each is the contract of a function that does nothing.
 
-ghost use Rattle.std.specs.Prelude.{◌≡◌, ℕ, List, Result};
+ghost use Rattle.std.specs.Prelude.{◌≡◌, ℕ, List, Option, Result};
 ghost use Rattle.bf_lex.specs.declared.fault.ScriptFault.{ScriptFault};
 ghost use Rattle.bf_parse.specs.Scripts.{IsScriptText};
 ghost use Rattle.bf_tree.specs.declared.script.Script.{Script};
 ghost use Rattle.bf_run.specs.declared.status.Status.{Status};
+ghost use Rattle.bf_run.specs.Creating.{TellsFiles, shelf_of};
 ghost use Rattle.bf_run.specs.Outcome.{Comes, IsDetermined, Stream};
+ghost use Rattle.bf_run.specs.Words.{Asked};
+
+use bf_disk::Shelf;
 
 /// A text is one script or has one first fault, and no two answers.
 pub fn a_text_has_one_reading()
@@ -13,9 +17,10 @@ pub fn a_text_has_one_reading()
         → IsScriptText text other → one ≡ other }
 {}
 
-/// For the words and for one input of these bytes one status can come, but for faults of the source and want of memory.
-pub fn one_status_comes()
-    ensures { (words : List (List ℕ)) (input : Stream) (bytes : List ℕ) (one other : Status)
-        → IsDetermined one → IsDetermined other → Comes words input bytes one
-        → Comes words input bytes other → one ≡ other }
+/// For what words ask, for one input of these bytes, and for one shelf that tells its files, whatever becomes of it,
+/// one status can come, but for faults of the source and of the disk and want of memory.
+pub fn one_status_comes<S: Shelf>()
+    ensures { (asks : Option Asked) (input : Stream) (bytes : List ℕ) (old new other_new : S) (one other : Status)
+        → TellsFiles (shelf_of S.Disk.seen S.Disk.may_leave S.Disk.moment S.Disk.left_since S.held S.fault_count old new) → IsDetermined one → IsDetermined other
+        → Comes asks input bytes (shelf_of S.Disk.seen S.Disk.may_leave S.Disk.moment S.Disk.left_since S.held S.fault_count old new) one → Comes asks input bytes (shelf_of S.Disk.seen S.Disk.may_leave S.Disk.moment S.Disk.left_since S.held S.fault_count old other_new) other → one ≡ other }
 {}

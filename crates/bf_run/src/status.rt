@@ -1,7 +1,7 @@
 //! How a call ends.
 
 ghost use Rattle.std.specs.Prelude.{◌≡◌, IfOk};
-ghost use Rattle.bf_run.specs.Outcome.{fault_text, number_of_status};
+ghost use Rattle.bf_run.specs.Outcome.{fault_text, not_empty_text, number_of_status};
 
 use bf_base::Memory;
 use bf_lex::ScriptFault;
@@ -11,7 +11,7 @@ use std::alloc::Global;
 /// How a call of the program ends.
 #[derive(Clone, Copy, Debug, PartialEq, Eq)]
 pub enum Status {
-    /// The script was run, and its report is written.
+    /// The script was run, and its report is written; or the log was made.
     Done,
     /// The words are none of the program's.
     Usage,
@@ -21,6 +21,10 @@ pub enum Status {
     ReadFault,
     /// The sink failed.
     WriteFault,
+    /// The disk failed, or the folder that a file stands in.
+    DiskFault,
+    /// The file that was to be made a log has so many bytes already.
+    NotEmpty(u64),
     /// Memory ran out, and nothing is written.
     Memory,
 }
@@ -36,7 +40,9 @@ impl Status {
             Status::Script(_) => 2,
             Status::ReadFault => 3,
             Status::WriteFault => 4,
+            Status::DiskFault => 5,
             Status::Memory => 7,
+            Status::NotEmpty(_) => 8,
         }
     }
 }
@@ -50,5 +56,15 @@ pub(crate) fn fault_line(alloc: Global, fault: ScriptFault) -> Result<Vec<u8>, M
     text.extend_from_slice(b": ")?;
     text.extend_from_slice(fault.kind.words())?;
     text.extend_from_slice(b"\n")?;
+    Ok(text)
+}
+
+/// What refuses a file that has so many bytes.
+pub(crate) fn not_empty_line(alloc: Global, bytes: u64) -> Result<Vec<u8>, Memory>
+    ensures { IfOk result (λ text. text.items ≡ not_empty_text bytes) }
+{
+    let mut text = Vec::from_slice(alloc, b"not empty: ")?;
+    put_number(&mut text, bytes)?;
+    text.extend_from_slice(b" bytes\n")?;
     Ok(text)
 }

@@ -1,16 +1,21 @@
 //! The top call.
 
-ghost use Rattle.std.specs.Prelude.{◌≡◌, IfOk, IsTrue, map};
+ghost use Rattle.std.specs.Prelude.{◌≡◌, ℕ, List, ◌++◌, None, IfOk, IsTrue, codes, map};
 ghost use Rattle.bf_sql.specs.Database.{empty_database};
 ghost use Rattle.bf_machine.specs.InOrder.{IsRunInOrder};
 ghost use Rattle.bf_machine.specs.Runnable.{phases_rise_from};
 ghost use Rattle.bf_machine.specs.interleaving.Kept.{IsWithinLimits};
+ghost use Rattle.bf_text.specs.Replies.{newline};
+ghost use Rattle.bf_run.specs.Creating.{Spares, shelf_of};
 ghost use Rattle.bf_run.specs.Outcome.{Ends, IsAnswer, fault_text};
-ghost use Rattle.bf_run.specs.Top.{IsAnswerTo, Tells};
+ghost use Rattle.bf_run.specs.Top.{IsAnswerTo, IsInputAnswer, Tells};
+ghost use Rattle.bf_run.specs.Words.{IfCreating, IfNoPath, asked};
 
+use crate::creating::create;
 use crate::status::{Status, fault_line};
-use crate::words::are_try;
+use crate::words::{Words, WordsError, read_words};
 use bf_base::{LONGEST_SCRIPT, Memory};
+use bf_disk::Shelf;
 use bf_image::Registry;
 use bf_io::{ReadError, Sink, Source, read_all, write_whole};
 use bf_lex::{ScriptError, ScriptFault, ScriptKind};
@@ -25,6 +30,14 @@ use std::alloc::Global;
 use std::marker::Brand;
 use std::mem::forget;
 use std::sync::Wait;
+
+/// The status of words that ask for nothing, and what is written.
+fn usage(alloc: Global) -> Result<(Status, Vec<u8>), Memory>
+    ensures status { IfOk result (λ a. a.0 ≡ Status.Usage) }
+    ensures text { IfOk result (λ a. a.1.items ≡ codes "usage error" ++ newline) }
+{
+    Ok((Status::Usage, Vec::from_slice(alloc, b"usage error\n")?))
+}
 
 /// The status of a text that is no script, and what is written of its first fault.
 fn answer_fault(alloc: Global, fault: ScriptFault) -> Result<(Status, Vec<u8>), Memory>
@@ -91,14 +104,13 @@ fn answer_text<R: Wait>(alloc: Global, rt: &R, text: &[u8]) -> Result<(Status, V
     }
 }
 
-/// The status and its whole text, before a byte is written.
-fn answer<I: Source, R: Wait>(
+/// The status of an input that is asked to be run, and its whole text.
+fn try_input<I: Source, R: Wait>(
     alloc: Global,
     rt: &R,
-    words: &[&str],
     input: &mut I,
 ) -> Result<(Status, Vec<u8>), Memory>
-    ensures { IfOk result (λ a. IsAnswer (map (λ word. word.now) words.now)
+    ensures { IfOk result (λ a. IsInputAnswer
         (record {
           bytes = I.left input.old;
           bytes_after = I.left input.new;
@@ -106,9 +118,6 @@ fn answer<I: Source, R: Wait>(
           faults_after = I.faults input.new;
         }) a.0 a.1.items) }
 {
-    if !are_try(words) {
-        return Ok((Status::Usage, Vec::from_slice(alloc, b"usage error\n")?));
-    }
     match read_all(alloc, input, LONGEST_SCRIPT) {
         Ok(bytes) => answer_text(alloc, rt, bytes.as_slice()),
         Err(ReadError::TooLong) => answer_fault(
@@ -123,22 +132,57 @@ fn answer<I: Source, R: Wait>(
     }
 }
 
-/// Runs the script that the input is over a database that is empty and is not kept, and
-/// writes its report. The words are those behind the program's name.
+/// The status and its whole text, before a byte is written.
+fn answer<I: Source, S: Shelf, R: Wait>(
+    alloc: Global,
+    rt: &R,
+    words: &[&str],
+    input: &mut I,
+    shelf: &mut S,
+) -> Result<(Status, Vec<u8>), Memory>
+    requires { (path : List ℕ) → S.taken shelf.old path ≡ None }
+    ensures answer { IfOk result (λ a. IsAnswer (asked (map (λ word. word.now) words.now))
+        (record {
+          bytes = I.left input.old;
+          bytes_after = I.left input.new;
+          faults = I.faults input.old;
+          faults_after = I.faults input.new;
+        })
+        (shelf_of S.Disk.seen S.Disk.may_leave S.Disk.moment S.Disk.left_since S.held S.fault_count shelf.old
+        shelf.new) a.0 a.1.items) }
+    ensures spares { IfCreating (asked (map (λ word. word.now) words.now)) (λ path. Spares
+        (shelf_of S.Disk.seen S.Disk.may_leave S.Disk.moment S.Disk.left_since S.held S.fault_count shelf.old
+        shelf.new) path) }
+    ensures untouched { IfNoPath (asked (map (λ word. word.now) words.now))
+        (shelf.new ≡ shelf.old) }
+    ensures none_taken { (path : List ℕ) → S.taken shelf.new path ≡ None }
+{
+    match read_words(words) {
+        Ok(Words::Try) => try_input(alloc, rt, input),
+        Ok(Words::Create(path)) => create(alloc, path, shelf),
+        Err(WordsError::Usage) => usage(alloc),
+    }
+}
+
+/// Serves the words behind the program's name: `try` runs the script that the input is over a database that is
+/// empty and is not kept, and writes its report; `create` makes an empty log in the file under a path of the shelf,
+/// if it is new or empty, and reads nothing of the input.
 ///
 /// The whole text is made before its first byte is written, so want of memory is answered with
-/// nothing written. The time is linear in the input and in the report; beside that each statement
+/// nothing written. The time of `try` is linear in the input and in the report; beside that each statement
 /// compares about log n names, costs what it reads and writes of its table, and on a table that a migration made
 /// what it costs to find and move the rows that it needs. Script and tables are not freed:
 /// the call is a program's last, and their memory goes with the program.
-pub fn bullfrog<I: Source, O: Sink, R: Wait>(
+pub fn bullfrog<I: Source, O: Sink, S: Shelf, R: Wait>(
     rt: &R,
     alloc: Global,
     words: &[&str],
     input: &mut I,
     output: &mut O,
+    shelf: &mut S,
 ) -> Status
-    ensures { Ends (map (λ word. word.now) words.now)
+    requires { (path : List ℕ) → S.taken shelf.old path ≡ None }
+    ensures ends { Ends (map (λ word. word.now) words.now)
         (record {
           bytes = I.left input.old;
           bytes_after = I.left input.new;
@@ -150,9 +194,14 @@ pub fn bullfrog<I: Source, O: Sink, R: Wait>(
           bytes_after = O.taken output.new;
           faults = O.faults output.old;
           faults_after = O.faults output.new;
-        }) result }
+        })
+        (shelf_of S.Disk.seen S.Disk.may_leave S.Disk.moment S.Disk.left_since S.held S.fault_count shelf.old
+        shelf.new) result }
+    ensures untouched { IfNoPath (asked (map (λ word. word.now) words.now))
+        (shelf.new ≡ shelf.old) }
+    ensures none_taken { (path : List ℕ) → S.taken shelf.new path ≡ None }
 {
-    let Ok((status, text)) = answer(alloc, rt, words, input) else {
+    let Ok((status, text)) = answer(alloc, rt, words, input, shelf) else {
         return Status::Memory;
     };
     match write_whole(output, text.as_slice()) {

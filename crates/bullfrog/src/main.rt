@@ -1,13 +1,18 @@
-//! `bullfrog try`: runs the script of standard input, and prints its report.
+//! `bullfrog try` runs the script of standard input, and prints its report; `bullfrog create LOG` makes an empty log
+//! in a file that is new or empty.
 #![tactic(auto)]
 
+mod filing;
 mod reading;
+mod shelving;
 mod writing;
 
 use bf_run::{Status, bullfrog};
 use reading::Reading;
+use shelving::FileShelf;
 use std::alloc::{AllocError, Global};
 use std::env::Env;
+use std::fs::{File, Files};
 use std::io::ErrorKind;
 use std::process::ExitCode;
 use std::sync::Wait;
@@ -27,14 +32,21 @@ fn texts(alloc: Global, words: &[String]) -> Result<Vec<&str>, AllocError> {
     words.iter().map(|word| word.as_str()).collect(alloc)
 }
 
-fn serve<R: AllocGlobal + Input + Print + Wait>(rt: &R, words: &[&str]) -> Status {
+fn serve<R>(rt: &R, words: &[&str]) -> Status
+where
+    R: AllocGlobal + Files<File = File> + Input + Print + Wait,
+{
     let mut source = Reading::new(rt.reader());
     let mut sink = Writing::new(io::writer(rt));
-    bullfrog(rt, rt.alloc(), words, &mut source, &mut sink)
+    let mut shelf = FileShelf::new(rt);
+    bullfrog(rt, rt.alloc(), words, &mut source, &mut sink, &mut shelf)
 }
 
 /// Words that are not UTF-8 are served as none, which are wrong too.
-fn run<R: Env + AllocGlobal + Input + Print + Wait>(rt: &R) -> Status {
+fn run<R>(rt: &R) -> Status
+where
+    R: Env + AllocGlobal + Files<File = File> + Input + Print + Wait,
+{
     match words(rt) {
         Ok(words) => match texts(rt.alloc(), words.as_slice()) {
             Ok(texts) => serve(rt, texts.as_slice()),

@@ -6,6 +6,8 @@ mod blocks;
 #[cfg(test)]
 mod call;
 #[cfg(test)]
+mod creating;
+#[cfg(test)]
 mod examples;
 #[cfg(test)]
 mod kinds;

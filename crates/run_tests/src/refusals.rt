@@ -1,8 +1,8 @@
 //! Words and texts that are refused.
 
-use crate::call::{ONE_COLUMN, joined, writes};
+use crate::call::{ONE_COLUMN, ends, joined, writes};
 use bf_io::{CalmSource, MemorySink};
-use bf_run::{Status, bullfrog};
+use bf_run::Status;
 use std::test::Fail;
 
 #[test]
@@ -55,7 +55,7 @@ fn tells_the_first_fault(rt: HostRuntime) -> Result<(), Fail> {
     for (script, wanted) in FAULTS {
         let mut input = CalmSource::new(joined(alloc, &[script])?);
         let mut output = MemorySink::new(alloc, 100, Vec::new(alloc))?;
-        let status = bullfrog(&rt, alloc, &["try"], &mut input, &mut output);
+        let status = ends(&rt, alloc, &["try"], &mut input, &mut output);
         assert_eq!(rt; status.number(), 2, "{script:?}");
         assert_eq!(rt; output.bytes(), wanted.as_bytes(), "{script:?}");
     }
@@ -67,7 +67,7 @@ fn tells_that_a_script_is_too_long(rt: HostRuntime) -> Result<(), Fail> {
     let alloc = rt.alloc();
     let mut input = CalmSource::new(vec![in alloc; b' '; (1 << 24) + 1]?);
     let mut output = MemorySink::new(alloc, 100, Vec::new(alloc))?;
-    let status = bullfrog(&rt, alloc, &["try"], &mut input, &mut output);
+    let status = ends(&rt, alloc, &["try"], &mut input, &mut output);
     assert_eq!(rt; status.number(), 2);
     let wanted = b"script error at 16777216: script too long\n".as_slice();
     assert_eq!(rt; output.bytes(), wanted);

@@ -2,9 +2,9 @@
 
 ghost use Rattle.std.specs.Prelude.{Some};
 
-use crate::call::{ONE_COLUMN, joined};
+use crate::call::{ONE_COLUMN, ends, joined};
 use bf_io::{CalmSource, IoError, MemorySink, MemorySource, Sink};
-use bf_run::{Status, bullfrog};
+use bf_run::Status;
 use std::test::Fail;
 
 // The script is read in one piece, and a second read finds its end.
@@ -15,7 +15,7 @@ fn tells_each_failing_read(rt: HostRuntime) -> Result<(), Fail> {
         let bytes = joined(alloc, &[ONE_COLUMN])?;
         let mut input = MemorySource::new(bytes, vec![in alloc; failing]?);
         let mut output = MemorySink::new(alloc, 1000, Vec::new(alloc))?;
-        let status = bullfrog(&rt, alloc, &["try"], &mut input, &mut output);
+        let status = ends(&rt, alloc, &["try"], &mut input, &mut output);
         assert_eq!(rt; status, Status::ReadFault, "at read {failing}");
         assert_eq!(rt; input.faults(), 1);
         assert_eq!(rt; output.bytes(), b"read fault\n".as_slice());
@@ -23,7 +23,7 @@ fn tells_each_failing_read(rt: HostRuntime) -> Result<(), Fail> {
     let bytes = joined(alloc, &[ONE_COLUMN])?;
     let mut input = MemorySource::new(bytes, vec![in alloc; 3]?);
     let mut output = MemorySink::new(alloc, 1000, Vec::new(alloc))?;
-    let status = bullfrog(&rt, alloc, &["try"], &mut input, &mut output);
+    let status = ends(&rt, alloc, &["try"], &mut input, &mut output);
     assert_eq!(rt; status, Status::Done);
     Ok(())
 }
@@ -54,7 +54,7 @@ fn leaves_a_prefix_at_each_failing_write(rt: HostRuntime) -> Result<(), Fail> {
         let mut input = CalmSource::new(joined(alloc, &[ONE_COLUMN])?);
         let inner = MemorySink::new(alloc, 1000, vec![in alloc; failing]?)?;
         let mut output = Narrow { inner };
-        let status = bullfrog(&rt, alloc, &["try"], &mut input, &mut output);
+        let status = ends(&rt, alloc, &["try"], &mut input, &mut output);
         assert_eq!(rt; status, Status::WriteFault, "at write {failing}");
         let written = output.inner.bytes();
         assert_eq!(rt;

@@ -1,25 +1,18 @@
-use Rattle.std.proofs.Common.{ℕ, List, length, ap, sym, ◌∙◌, Err, rules}
-use Rattle.std.proofs.lemmas.Result.{IfOk-weaker}
-use Rattle.bf_run.proofs.Answered.{of_both, no_fault, usage, read_fault, too_long, answered}
+use Rattle.std.proofs.Common.{◌∙◌, Ok, ap, sym, rules}
+use Rattle.bf_run.specs.declared.words.Words.{Words}
+use Rattle.bf_run.specs.Words.{asked_of}
+use Rattle.bf_run.proofs.Answered.{of_both, of_words, of_file}
 use Rattle.bf_run.proofs.top.answer.Goals as goal
 
-pub returns-then-not-are_try : goal.returns-then-not-are_try
-returns-then-not-are_try g c = usage _ _ _ (search rules) (search rules) (search rules) (search rules)
+pub returns-in-Ok-Create-clause-answer : goal.returns-in-Ok-Create-clause-answer
+returns-in-Ok-Create-clause-answer g c =
+    let asks = ap (λ (words : Words). asked_of (Ok words)) (sym c.in-Ok-Create.field-0-is) ∙ c.in-Ok-Create.ensures in
+    of_both c.create.result _ _ _
+    (λ a causes spells. of_file _ _ _ c.in-Ok-Create.path.now a.0 a.1.items asks (search rules, search rules) causes spells)
+    c.create.ensures.causes c.create.ensures.text
 
-pub returns-in-Ok : goal.returns-in-Ok
-returns-in-Ok g c =
-    IfOk-weaker c.answer_text.result _ _
-    (λ a given. answered _ _ c.in-Ok.bytes.items (search rules) (c.in-Ok.ensures.calm (λ fault. cc)) c.in-Ok.ensures.all c.in-Ok.ensures.at_end (rw (ap (λ (z : List ℕ). length z) c.as_slice.ensures.value) at (rw (sym c.as_slice.ensures.len) at c.in-Ok.ensures.at_most)) a.0 a.1.items
-    (rw c.as_slice.ensures.value at given))
-    c.answer_text.ensures
-
-pub returns-in-Err-TooLong : goal.returns-in-Err-TooLong
-returns-in-Err-TooLong g c =
-    let calm = c.read_all.ensures.calm (no_fault c.read_all.result _ c.in-Err-TooLong.is c.in-Err-TooLong.field-0-is) in
-    let past = c.read_all.ensures.too_long (c.in-Err-TooLong.is ∙ ap Err c.in-Err-TooLong.field-0-is) in
-    of_both c.answer_fault.result _ _ _
-    (λ a same spells. too_long _ _ a.0 a.1.items same (search rules) calm past spells)
-    c.answer_fault.ensures.status c.answer_fault.ensures.text
-
-pub returns-in_ok-from_slice-in-Err-Fault : goal.returns-in_ok-from_slice-in-Err-Fault
-returns-in_ok-from_slice-in-Err-Fault g c = read_fault _ _ _ (search rules) (search rules) (search rules)
+pub returns-in-Err-Usage-clause-answer : goal.returns-in-Err-Usage-clause-answer
+returns-in-Err-Usage-clause-answer g c =
+    of_both c.usage.result _ _ _
+    (λ a same spells. of_words _ _ _ a.0 a.1.items c.in-Err-Usage.ensures (search rules, search rules) same spells)
+    c.usage.ensures.status c.usage.ensures.text
