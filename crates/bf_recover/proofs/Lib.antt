@@ -1,0 +1,11 @@
+pub mod Committing
+pub mod Completing
+pub mod Creating
+pub mod Freeing
+pub mod Known
+pub mod Legality
+pub mod Moving
+pub mod Opening
+pub mod Planning
+pub mod Rising
+pub mod Stepping
