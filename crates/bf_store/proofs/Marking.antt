@@ -6,7 +6,7 @@ use Rattle.std.specs.List.{cons_option, list_any, list_all}
 use Rattle.std.specs.Option.{option_to_list}
 use Rattle.std.specs.List.Sorted.{IsStrictlySortedBy}
 use Rattle.std.specs.Map.{keys_of, lookup, remove_entry}
-use Rattle.std.specs.Ordering.{match_ordering}
+use Rattle.std.specs.Ordering.{eq_by_cmp, match_ordering}
 use Rattle.std.proofs.lemmas.Bool.{and_parts, and_from, or_parts, or_from, or_right, cases_Bool, not_from_false, not-true}
 use Rattle.std.proofs.lemmas.Cmp.{tied_itself}
 use Rattle.std.proofs.lemmas.List.Elements.{filter_agree}
@@ -15,7 +15,8 @@ use Rattle.std.proofs.lemmas.Grind.{fold-append}
 use Rattle.std.proofs.lemmas.List.{append-nil, map-append, take_more}
 use Rattle.bf_base.specs.declared.granule.Granule.{Granule}
 use Rattle.bf_base.specs.Lists.{has, placed, with_placed, in_order, rises}
-use Rattle.bf_base.proofs.Apart.{are_apart, apart_left, filter-with_placed, in_order-rises}
+use Rattle.bf_base.proofs.Apart.{are_apart, apart_right, are_apart-same_items, filter-with_placed, in_order-rises, with_placed-same_items}
+use Rattle.bf_base.proofs.Items.{SameItems, before, behind, between, mapped, other_way, same_items_if, through}
 use Rattle.bf_base.proofs.Order.{list_any-map, equal_from_test, less_from_test, symmetric, turned_less, rises_tail, rises_skip, rises_alike, list_any-with_placed}
 use Rattle.bf_base.proofs.Parts.{filter_all, filter-filter}
 use Rattle.bf_sql.specs.migrations.Granules.{same_granule}
@@ -115,6 +116,9 @@ has_marked done gs g n =
 same_back : (g h : Granule) → same_granule g h ≡ same_granule h g
 same_back g h = granule_ties g h ∙ symmetric granule_cmp_total g h ∙ sym (granule_ties h g)
 
+ties : same_granule ≡ eq_by_cmp granule_cmp
+ties i g h = granule_ties g h i
+
 -- of granules that differ none comes before its place
 apart_before : (gs : List Granule) (g : Granule) (hs : List Granule) → are_apart same_granule (gs ++ g ∷ hs) ≡ true → has same_granule gs g ≡ false
 apart_before [] g hs apart = refl
@@ -123,27 +127,51 @@ apart_before (k ∷ gs) g hs apart =
     let behind = or_parts _ _ (sym (list_any-append (same_granule k) gs (g ∷ hs)) ∙ none) in
     or_from _ _ (same_back g k ∙ (or_parts _ _ behind.1).0) (apart_before gs g hs (and_parts _ _ apart).1)
 
+same_apart : {gs hs : List Granule} → SameItems gs hs → are_apart same_granule gs ≡ true → are_apart same_granule hs ≡ true
+same_apart {gs} {hs} same apart =
+    ap (λ test. are_apart test hs) ties ∙ sym (are_apart-same_items granule_cmp_total same) ∙ ap (λ test. are_apart test gs) (sym ties) ∙ apart
+
+-- the granules of marks that are there, and of those that come
+granules_then : (done : List DoneGranule) (gs : List Granule) (n : ℕ) → map granule_of (done ++ map (done_by n) gs) ≡ granules_in done ++ gs
+granules_then [] [] n = refl
+granules_then [] (g ∷ gs) n = ap (λ hs. g ∷ hs) (granules_then [] gs n)
+granules_then (d ∷ done) gs n = ap (λ hs. d.granule ∷ hs) (granules_then done gs n)
+
+-- in whatever order marks are made
+marked_alike : (done : List DoneGranule) {gs hs : List Granule} (n : ℕ) → SameItems gs hs → AreFresh done gs → marked done gs n ≡ marked done hs n
+marked_alike done {gs} {hs} n same fresh =
+    with_placed-same_items granule_cmp_total granule_of (behind done (mapped (done_by n) same)) []
+    (ap (are_apart (eq_by_cmp granule_cmp)) (granules_then done gs n) ∙ ap (λ test. are_apart test (granules_in done ++ gs)) (sym ties) ∙ fresh)
+
 module _ (done : List DoneGranule) (gs : List Granule) (fresh : AreFresh done gs) where
+  -- the last ones of them
+  pub fresh_last : (i : ℕ) → AreFresh done (drop i gs)
+  fresh_last i =
+      let both = granules_in done in
+      let others : SameItems (both ++ gs) (take i gs ++ (both ++ drop i gs)) =
+      through (same_items_if _ _ (ap (λ hs. both ++ hs) (sym (take-append-drop i gs)) ∙ sym (append_assoc both (take i gs) (drop i gs))))
+      (through (before (drop i gs) (other_way both (take i gs))) (same_items_if _ _ (append_assoc (take i gs) both (drop i gs)))) in
+      apart_right same_granule (take i gs) (both ++ drop i gs) (same_apart others fresh)
+
   module _ (i : ℕ) (g : Granule) (in_range : i < length gs) (is : g ≡ get_or gs i g) where
-    -- a granule at its place
-    split : gs ≡ take i gs ++ g ∷ drop (suc i) gs
-    split = sym (take-append-drop i gs) ∙ ap (λ hs. take i gs ++ hs) (drop-cons gs i g in_range ∙ ap (λ (h : Granule). h ∷ drop (suc i) gs) (sym is))
+    -- a granule before them
+    first_of : drop i gs ≡ g ∷ drop (suc i) gs
+    first_of = drop-cons gs i g in_range ∙ ap (λ (h : Granule). h ∷ drop (suc i) gs) (sym is)
 
-    pub fresh_next : (n : ℕ) → has same_granule (granules_in (marked done (take i gs) n)) g ≡ false
-    fresh_next n =
-        has_marked done (take i gs) g n
-        ∙ apart_before (granules_in done ++ take i gs) g (drop (suc i) gs)
-        (ap (are_apart same_granule) (append_assoc (granules_in done) (take i gs) (g ∷ drop (suc i) gs) ∙ ap (λ hs. granules_in done ++ hs) (sym split)) ∙ fresh)
+    fresh_of : AreFresh done (g ∷ drop (suc i) gs)
+    fresh_of = ap (λ hs. are_apart same_granule (granules_in done ++ hs)) (sym first_of) ∙ fresh_last i
 
-    pub marked_next : (n : ℕ) → marked done (take (i + 1) gs) n ≡ with_mark (marked done (take i gs) n) (done_by n g)
-    marked_next n =
-        ap (λ hs. marked done hs n) (take_more gs i g in_range ∙ ap (λ (h : Granule). take i gs ++ h ∷ []) (sym is))
-        ∙ marked_more done (take i gs) g n
+    pub fresh_before : (n : ℕ) → has same_granule (granules_in (marked done (drop (suc i) gs) n)) g ≡ false
+    fresh_before n =
+        let rest = drop (suc i) gs in
+        let behind_it : has same_granule rest g ≡ false = not-true _ (and_parts _ _ (apart_right same_granule (granules_in done) (g ∷ rest) fresh_of)).0 in
+        has_marked done rest g n ∙ list_any-append (same_granule g) (granules_in done) rest ∙ or_from _ _ (apart_before (granules_in done) g rest fresh_of) behind_it
 
-  pub fresh_first : (i : ℕ) → AreFresh done (take i gs)
-  fresh_first i =
-      apart_left same_granule (granules_in done ++ take i gs) (drop i gs)
-      (ap (are_apart same_granule) (append_assoc (granules_in done) (take i gs) (drop i gs) ∙ ap (λ hs. granules_in done ++ hs) (take-append-drop i gs)) ∙ fresh)
+    pub marked_before : (n : ℕ) → marked done (drop i gs) n ≡ with_mark (marked done (drop (suc i) gs) n) (done_by n g)
+    marked_before n =
+        let rest = drop (suc i) gs in
+        let last : SameItems (g ∷ rest) (rest ++ g ∷ []) = through (same_items_if _ _ (ap (λ hs. g ∷ hs) (sym (append-nil rest)))) (between g rest []) in
+        ap (λ hs. marked done hs n) first_of ∙ marked_alike done n last fresh_of ∙ marked_more done rest g n
 
 -- a granule has a number where it is there
 pub is_some-number_in : (done : List DoneGranule) (g : Granule) → is_some (number_in done g) ≡ has same_granule (granules_in done) g

@@ -115,7 +115,7 @@ impl Done {
     }
 
     /// Notes that one record has moved granules that differ, of which none had moved. For each it
-    /// compares about log n granules.
+    /// compares about log n granules, and least where they come in the order of unit and place.
     ///
     /// # Errors
     /// Where memory runs out. Nothing is noted then.
@@ -127,11 +127,14 @@ impl Done {
     {
         // Its contract says that the marks are in order.
         let _ = self.len();
-        for (at, granule) in granules.iter().enumerate() {
-            if let Err(memory) = self.mark_one(alloc, granule, number) {
-                self.unmark(&granules[..at]);
+        // From the last one on: a map looks at the entries of a node from its least one on.
+        let mut left = granules.len();
+        while left > 0 {
+            if let Err(memory) = self.mark_one(alloc, &granules[left - 1], number) {
+                self.unmark(&granules[left..]);
                 return Err(memory);
             }
+            left -= 1;
         }
         Ok(())
     }
