@@ -1,6 +1,7 @@
 pub mod Calls
 pub mod Granules
 pub mod Marking
+pub mod Recorded
 pub mod Storing
 pub mod WorkedMoves
 pub mod aside

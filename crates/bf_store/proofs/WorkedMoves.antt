@@ -26,7 +26,7 @@ use Rattle.bf_sql.proofs.Spelling.{one, number, given, arm, target, migration, a
 use Rattle.bf_sql.proofs.SplitTableMoves as split
 use Rattle.bf_image.specs.Laws.{IsLawful}
 use Rattle.bf_live.specs.Live.{committed}
-use Rattle.bf_store.specs.Calls.{moved_by, with_commit}
+use Rattle.bf_store.specs.Calls.{after_commit, moved_by, told_of, with_commit}
 use Rattle.bf_store.specs.States.{IsSeenAs, need_of_all, under}
 use Rattle.bf_store.proofs.changing.Flipping.{flips}
 
@@ -88,6 +88,16 @@ under_writes = refl
 
 then_committed : view_of (with_commit ready writes) ≡ committed (view_of flip) writes
 then_committed = refl
+
+-- a removal of a key that has no row is not told, and alone it makes no record
+abbrev absent : Write
+absent = record { table = codes "tot"; key = one (number 5); row = None }
+
+left_out : told_of ready (absent ∷ writes) ≡ writes
+left_out = refl
+
+no_record : after_commit ready (one absent) ≡ ready
+no_record = refl
 
 -- in the same block a SELECT needs nothing more, and sees them
 abbrev select : Statement

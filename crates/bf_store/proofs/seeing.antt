@@ -5,4 +5,5 @@ pub mod Placing
 pub mod Preparing
 pub mod Serving
 pub mod Stepping
+pub mod Telling
 pub mod Viewing

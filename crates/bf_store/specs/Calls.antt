@@ -1,6 +1,6 @@
 -- What the calls of a store do to the lazy state that it is seen as: `lazy` before a call, `after` after it.
-use Rattle.std.specs.Prelude.{◌≡◌, ℕ, ◌+◌, ◌||◌, List, [], ◌++◌, map, filter_map, find, Option, Some, None, is_some, option_map, false, IsTrue}
-use Rattle.std.specs.List.{list_all}
+use Rattle.std.specs.Prelude.{◌≡◌, ℕ, ◌+◌, Bool, ◌&&◌, ◌||◌, List, [], ◌++◌, map, filter, filter_map, find, Option, Some, None, is_some, option_map, false, if◌then◌else◌, IsTrue}
+use Rattle.std.specs.List.{list_all, list_any}
 use Rattle.bf_base.specs.declared.granule.Granule.{Granule}
 use Rattle.bf_base.specs.declared.value.Value.{Value}
 use Rattle.bf_base.specs.Lists.{has, same_key}
@@ -10,7 +10,7 @@ use Rattle.bf_tree.specs.declared.history.Sweep.{Sweep}
 use Rattle.bf_tree.specs.declared.migration.Migrate.{Migrate}
 use Rattle.bf_tree.specs.declared.statement.Statement.TheVariants as statement
 use Rattle.bf_txn.specs.declared.write.Write.{Write}
-use Rattle.bf_sql.specs.Database.{stored_at, table_at, table_rows}
+use Rattle.bf_sql.specs.Database.{Database, stored_at, table_at, table_rows}
 use Rattle.bf_sql.specs.Objections.{objections}
 use Rattle.bf_sql.specs.RowObjections.{row_objections}
 use Rattle.bf_sql.specs.migrations.Granules.{same_granule}
@@ -68,6 +68,26 @@ with_commit lazy writes = record lazy { live = committed lazy.live writes; recor
 pub record IsCommitOf (lazy after : LazyState) (writes : List Write) (number : ℕ) : Type 0 where
   pub state : after ≡ with_commit lazy writes
   pub numbered : number ≡ lazy.records + 1
+
+-- whether the table of a write has a row of its key
+abbrev pub stands_in : Database → Write → Bool
+stands_in db w = has same_key (map (key_of (table_at db w.table)) (table_rows db w.table)) w.key
+
+-- TOLD: of the writes of an open transaction a record of their commit tells those that put a row into a live table, and those
+-- that remove one that stands there
+abbrev pub is_told : Database → Write → Bool
+is_told live w = (is_some (stored_at live w.table) && is_some w.row) || stands_in live w
+
+abbrev pub told_of : LazyState → List Write → List Write
+told_of lazy writes = filter (is_told lazy.live) writes
+
+-- whether it tells anything
+abbrev pub tells : LazyState → List Write → Bool
+tells lazy writes = list_any (is_told lazy.live) writes
+
+-- so a commit is by one record where that tells anything, and else leaves all as it is
+abbrev pub after_commit : LazyState → List Write → LazyState
+after_commit lazy writes = if tells lazy writes then with_commit lazy writes else lazy
 
 -- VIEW: the rows of the table of a name as they are seen; nothing moves
 abbrev pub IsViewOf : LazyState → List ℕ → Option (List (List Value)) → Type 0

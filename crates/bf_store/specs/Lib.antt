@@ -5,3 +5,4 @@ pub mod Marks
 pub mod Puts
 pub mod States
 pub mod Stores
+pub mod Told

@@ -1,10 +1,12 @@
 //! Laws of lazy states. Each is the contract of a function that does nothing.
 
-ghost use Rattle.std.specs.Prelude.{◌≡◌, ◌↔◌, ℕ, Bool, false, List, [], ◌++◌, ◌∷◌, length, find, is_some, Some};
+ghost use Rattle.std.specs.Prelude.{◌≡◌, ◌↔◌, ℕ, Bool, false, List, [], ◌++◌, ◌∷◌, length, find, is_some, map, Some};
+ghost use Rattle.std.specs.List.{All};
 ghost use Rattle.bf_base.specs.declared.granule.Granule.{Granule};
 ghost use Rattle.bf_base.specs.declared.table.Table.{Table};
 ghost use Rattle.bf_base.specs.declared.value.Value.{Value};
-ghost use Rattle.bf_base.specs.Lists.{same_name};
+ghost use Rattle.bf_base.specs.Lists.{has, same_key, same_name};
+ghost use Rattle.bf_base.specs.Tables.{key_of};
 ghost use Rattle.bf_tree.specs.declared.bound.Action.{Action};
 ghost use Rattle.bf_tree.specs.declared.bound.Action.TheVariants as action;
 ghost use Rattle.bf_tree.specs.declared.bound.Bound.{Bound};
@@ -20,7 +22,7 @@ ghost use Rattle.bf_tree.specs.declared.statement.Statement.{Statement};
 ghost use Rattle.bf_tree.specs.declared.statement.Statement.TheVariants as statement;
 ghost use Rattle.bf_txn.specs.declared.write.Write.{Write};
 ghost use Rattle.bf_sql.specs.Bound.{is_planned, without_rows, bound_of, catalog_of};
-ghost use Rattle.bf_sql.specs.Database.{Database, Stored, IsDatabase, stored_at, with_tables};
+ghost use Rattle.bf_sql.specs.Database.{Database, Stored, IsDatabase, stored_at, table_at, table_rows, with_tables};
 ghost use Rattle.bf_sql.specs.Meaning.{executed, next_number, with_index};
 ghost use Rattle.bf_sql.specs.Objections.{objections};
 ghost use Rattle.bf_sql.specs.RowObjections.{row_objections};
@@ -35,7 +37,7 @@ ghost use Rattle.bf_image.specs.Laws.{IsLawful};
 ghost use Rattle.bf_live.specs.Live.{committed};
 ghost use Rattle.bf_live.specs.Open.{IsOpen, IsStep};
 ghost use Rattle.bf_store.specs.declared.moved.Moved.{Moved};
-ghost use Rattle.bf_store.specs.Calls.{cover_of, with_commit, IsCommitOf, IsFlipOf, IsLegalCommit, IsMoveOf, IsNeedOf, MayFlip};
+ghost use Rattle.bf_store.specs.Calls.{after_commit, cover_of, stands_in, tells, told_of, with_commit, IsCommitOf, IsFlipOf, IsLegalCommit, IsMoveOf, IsNeedOf, MayFlip};
 ghost use Rattle.bf_store.specs.States.{frozen_lazily, AreGranulesIfAny, HaveMoved, IsComplete, IsLazy, IsOpenLazily, IsQuiet, IsSeenAs, IsUnderWay, is_free, need_of, need_of_all, settled_by};
 
 /// The view of a lazy state is a database.
@@ -124,6 +126,48 @@ pub fn a_commit_is_seen()
     ensures others { (lazy : LazyState) (writes others : List Write) → IsOpenLazily lazy others
         → IsOpen (with_commit lazy writes).live others
         → IsOpenLazily (with_commit lazy writes) others }
+{}
+
+/// A record of a commit leaves out removals of keys that have no row: to commit what it tells is
+/// legal, and is to commit all that an open transaction has written. Of a key that is written a row
+/// stands in the live table exactly where it is seen.
+pub fn a_record_leaves_out_what_changes_nothing()
+    ensures live { (lazy : LazyState) (writes : List Write) → IsLazy lazy
+        → IsOpenLazily lazy writes
+        → committed lazy.live (told_of lazy writes) ≡ committed lazy.live writes }
+    ensures view { (lazy : LazyState) (writes : List Write) → IsLazy lazy
+        → IsOpenLazily lazy writes
+        → committed (view_of lazy) (told_of lazy writes) ≡ committed (view_of lazy) writes }
+    ensures legal { (lazy : LazyState) (writes : List Write) → IsLazy lazy
+        → IsOpenLazily lazy writes → IsLegalCommit lazy (told_of lazy writes) }
+    ensures seen { (lazy : LazyState) (writes : List Write) → IsLazy lazy
+        → IsOpenLazily lazy writes
+        → All (λ w. stands_in lazy.live w ≡ has same_key
+        (map (key_of (table_at lazy.live w.table)) (table_rows (view_of lazy) w.table)) w.key)
+        writes }
+{}
+
+/// Where a record of a commit would tell nothing, none is needed: the live tables and what is seen
+/// stay as they are under the commit. By a record where that tells anything, and else by none, a
+/// commit is seen as that of all writes, leaves the last migration, and leaves another transaction
+/// open.
+pub fn a_commit_that_tells_nothing_changes_nothing()
+    ensures told { (lazy : LazyState) (writes : List Write)
+        → (tells lazy writes ≡ false) ↔ (told_of lazy writes ≡ []) }
+    ensures live { (lazy : LazyState) (writes : List Write) → IsLazy lazy
+        → IsOpenLazily lazy writes → tells lazy writes ≡ false
+        → committed lazy.live writes ≡ lazy.live }
+    ensures view { (lazy : LazyState) (writes : List Write) → IsLazy lazy
+        → IsOpenLazily lazy writes → tells lazy writes ≡ false
+        → committed (view_of lazy) writes ≡ view_of lazy }
+    ensures seen { (lazy : LazyState) (writes : List Write) → IsLazy lazy
+        → IsOpenLazily lazy writes
+        → IsSeenAs (committed (view_of lazy) writes) (after_commit lazy writes) }
+    ensures last { (lazy : LazyState) (writes : List Write)
+        → (after_commit lazy writes).last ≡ lazy.last }
+    ensures others { (lazy : LazyState) (writes others : List Write) → IsOpenLazily lazy others
+        → IsOpen (with_commit lazy writes).live others
+        → IsOpenLazily (after_commit lazy writes) others }
 {}
 
 /// Of a live table that is a target, a key is free exactly where it has no owner or its owner has

@@ -9,6 +9,7 @@ pub mod laws;
 pub mod moved;
 mod movement;
 pub mod store;
+mod told;
 mod under_way;
 
 pub use moved::{Moved, Receipt};

@@ -6,11 +6,11 @@ ghost use Rattle.bf_sql.specs.migrations.Granules.{part_of};
 ghost use Rattle.bf_txn.specs.Writes.{with_write};
 ghost use Rattle.bf_image.specs.Migrations.{IsLawfulMigration, old_of, target_at, value_indexes};
 ghost use Rattle.bf_store.specs.Anchors.{next_from};
-ghost use Rattle.bf_store.specs.Marks.{AreFresh, marked, unmarked};
+ghost use Rattle.bf_store.specs.Marks.{AreFresh, left_of, marked, unmarked};
 ghost use Rattle.bf_store.specs.Puts.{MayMove, put_of, puts_of, with_rows_in};
 ghost use Rattle.bf_store.specs.Calls.{IsMoveOf};
 ghost use Rattle.bf_store.specs.States.{AreGranules, IsLazy};
-ghost use Rattle.bf_store.specs.Stores.{IsCounted, IsStore, last_seen, lazy_seen};
+ghost use Rattle.bf_store.specs.Stores.{IsCounted, IsStore, last_seen, lazy_seen, seen};
 
 use crate::anchor::{Anchor, next_anchor};
 use crate::done::Done;
@@ -183,6 +183,8 @@ pub(crate) fn move_granules(
         (lazy_seen live.new (Some last.new) records.new) granules.now) }
     ensures store { IsStore live.new (Some last.new) records.new }
     ensures pass { last.new.pass ≡ last.old.pass }
+    ensures nothing { left_of last.old.done granules.now ≡ []
+        → seen live.new (Some last.new) records.new ≡ seen live.old (Some last.old) records.old }
     ensures live_stays { OnErr result (live.new ≡ live.old) }
     ensures last_stays { OnErr result (last.new ≡ last.old) }
     ensures records_stay { OnErr result (records.new ≡ records.old) }

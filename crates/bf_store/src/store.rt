@@ -9,13 +9,14 @@ ghost use Rattle.bf_sql.specs.Database.{IsDatabase, stored_in_order, with_tables
 ghost use Rattle.bf_sql.specs.Meaning.{next_number, with_index};
 ghost use Rattle.bf_sql.specs.migrations.Lazy.{migrations_so_far};
 ghost use Rattle.bf_sql.specs.migrations.Plans.{plan_made};
-ghost use Rattle.bf_store.specs.Calls.{IsCommitOf, IsFlipOf, IsMoveOf, IsNeedOf, IsSweepOf, MayFlip};
-ghost use Rattle.bf_store.specs.States.{AreGranulesIfAny, IsLazy, IsOpenLazily, granules_done_if_any};
+ghost use Rattle.bf_store.specs.Calls.{IsCommitOf, IsFlipOf, IsMoveOf, IsNeedOf, IsSweepOf, MayFlip, tells};
+ghost use Rattle.bf_store.specs.States.{AreGranulesIfAny, IsLazy, IsOpenLazily, granules_done_if_any, to_move};
 ghost use Rattle.bf_store.specs.Stores.{AreIndexesOf, IsByPass, IsOf};
 
 use crate::flip::flip;
 use crate::moved::Moved;
 use crate::movement::move_granules;
+use crate::told::tells_any;
 use crate::under_way::UnderWay;
 use bf_base::{Granule, Memory, Table};
 use bf_image::{MigrationPass, Registry, ValueIndexes};
@@ -127,6 +128,16 @@ impl Store {
         }
     }
 
+    /// Whether a commit of what a transaction has written has anything to tell: it puts a row into a
+    /// live table, or it removes one that stands there. One that has nothing to tell would change
+    /// nothing. It looks up each table and the row of each removal, up to the first write that it
+    /// would tell. Takes no memory.
+    pub fn leaves(&self, writes: &Workspace) -> bool
+        ensures { result ≡ tells self.now.lazy writes.now }
+    {
+        tells_any(&self.live, writes)
+    }
+
     /// Makes what an open transaction has written part of the live tables, which costs what
     /// [`bf_live::LiveTables::commit`] does, and answers the number of the change.
     ///
@@ -229,8 +240,8 @@ impl Store {
     }
 
     /// Moves granules of the last migration, which differ, as one change: the rows that come from
-    /// those that have not moved are put into the live tables. It costs what the granules have, and
-    /// a look-up for each row and each granule.
+    /// those that have not moved are put into the live tables. Where all of them have moved, nothing
+    /// changes. It costs what the granules have, and a look-up for each row and each granule.
     ///
     /// # Errors
     /// Where memory runs out, or 2 ^ 32 granules or 2 ^ 64 changes were made. The store is as it
@@ -247,6 +258,7 @@ impl Store {
         ensures ok { IfOk result (λ moved.
             IsMoveOf self.old.lazy self.new.lazy granules.now moved) }
         ensures migration { self.new.migration ≡ self.old.migration }
+        ensures nothing { to_move self.old.lazy.last granules.now ≡ [] → self.new ≡ self.old }
         ensures err { OnErr result (self.new ≡ self.old) }
     {
         // The last migration is put back, whatever comes of the move.

@@ -13,7 +13,7 @@ use Rattle.bf_base.proofs.Parts.{filter_none, filter_same, none_fails}
 use Rattle.bf_tree.specs.declared.history.Sweep.TheVariants.{Complete}
 use Rattle.bf_sql.specs.Database.{Database}
 use Rattle.bf_sql.specs.migrations.Granules.{granules_of, same_granule}
-use Rattle.bf_sql.specs.migrations.Lazy.{DoneGranule, Migration, pending, sweep_of}
+use Rattle.bf_sql.specs.migrations.Lazy.{DoneGranule, Migration, sweep_of}
 use Rattle.bf_image.proofs.finding.Found.{same_granule-equal, same_granule-itself}
 use Rattle.bf_store.specs.States.{IsComplete, IsUnderWay, granules_done}
 use Rattle.bf_store.proofs.coming.Found.{same_granule-symmetric}

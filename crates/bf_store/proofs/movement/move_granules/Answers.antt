@@ -6,7 +6,7 @@ use Rattle.bf_sql.specs.Database.{Database}
 use Rattle.bf_store.specs.Calls.{receipt_of}
 use Rattle.bf_store.specs.Marks.{left_of}
 use Rattle.bf_store.specs.Puts.{MayMove}
-use Rattle.bf_store.specs.Stores.{IsStore, last_seen, lazy_seen}
+use Rattle.bf_store.specs.Stores.{IsStore, last_seen, lazy_seen, seen}
 use Rattle.bf_store.specs.declared.under_way.UnderWay.{UnderWay}
 use Rattle.bf_store.proofs.Storing.{one_more}
 use Rattle.bf_store.proofs.moving.Stored.{may_move, nothing_if, store_then, unmoved_state}
@@ -59,3 +59,13 @@ returns-clause-store c =
     let some : 0 < length moving = some_length c.in_ok-left.left moving (sym c.is_empty.ensures ∙ c.if-is_empty.false) c.deref-2.ensures.value in
     store_then c.args.live.now c.move_in.new.live u v c.args.records.now c.in_ok-number.number c.args.granules.now moving fresh some n c.in_ok-move_in.ensures.live c.in_ok-move_in.ensures.pass c.in_ok-move_in.ensures.done
     c.requires.store c.requires.granules c.in_ok-move_in.ensures.counted
+
+pub returns-in_err-move_in-clause-nothing : goal.returns-in_err-move_in-clause-nothing
+returns-in_err-move_in-clause-nothing c = λ none i. seen (c.in_err-move_in.ensures.live_stays i) (Some (c.in_err-move_in.ensures.last_stays i)) c.args.records.now
+
+pub returns-clause-nothing : goal.returns-clause-nothing
+returns-clause-nothing c = λ none.
+    let moving = c.deref-2.result.now in
+    let fresh : moving ≡ left_of c.args.last.now.done c.args.granules.now = c.deref-2.ensures.value ∙ c.in_ok-left.ensures in
+    let some : 0 < length moving = some_length c.in_ok-left.left moving (sym c.is_empty.ensures ∙ c.if-is_empty.false) c.deref-2.ensures.value in
+    absurd (omega (arith, some, ap (λ (gs : List Granule). length gs) (fresh ∙ none)))
