@@ -1,0 +1,12 @@
+pub mod Committing
+pub mod Completing
+pub mod Creating
+pub mod Freeing
+pub mod Known
+pub mod Legality
+pub mod Moving
+pub mod Opening
+pub mod Payloads
+pub mod Planning
+pub mod Replaying
+pub mod Rising

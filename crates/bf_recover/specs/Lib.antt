@@ -1,0 +1,10 @@
+pub mod Commits
+pub mod Flips
+pub mod Legal
+pub mod Lookups
+pub mod Moves
+pub mod Once
+pub mod Places
+pub mod Schemas
+pub mod Spoken
+pub mod Steps
