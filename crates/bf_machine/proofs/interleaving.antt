@@ -9,6 +9,7 @@ pub mod Narrow
 pub mod Storing
 pub mod Opened
 pub mod Running
+pub mod Stated
 pub mod Putting
 pub mod Settled
 pub mod Stirring
@@ -23,7 +24,9 @@ pub mod New
 pub mod Beginning
 pub mod Refusing
 pub mod Joins
+pub mod Caused
 pub mod Dying
+pub mod Failing
 pub mod Reaching
 pub mod Standing
 pub mod Progress

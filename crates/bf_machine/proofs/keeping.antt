@@ -6,9 +6,13 @@ pub mod Answered
 pub mod Migrating
 pub mod Settling
 pub mod Moving
+pub mod Records
 pub mod Committing
 pub mod Ending
+pub mod Beside
+pub mod Closing
 pub mod Dying
+pub mod Failing
 pub mod Told
 pub mod Ends
 pub mod Standing

@@ -9,6 +9,7 @@ pub mod Sequence
 pub mod Narrow
 pub mod Whole
 pub mod Ran
+pub mod Over
 pub mod Exclusive
 pub mod Open
 pub mod Locking
@@ -19,6 +20,10 @@ pub mod Ending
 pub mod Begun
 pub mod Moved
 pub mod Needs
+pub mod Records
+pub mod Keeping
+pub mod Failing
+pub mod EndsIf
 pub mod Behind
 pub mod Nexts
 pub mod Following

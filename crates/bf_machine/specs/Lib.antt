@@ -1,4 +1,5 @@
 pub mod InOrder
 pub mod Movement
+pub mod RunOver
 pub mod Runnable
 pub mod interleaving

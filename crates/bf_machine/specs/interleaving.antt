@@ -3,6 +3,7 @@ pub mod Groups
 pub mod Machines
 pub mod Kept
 pub mod Events
+pub mod Journals
 pub mod Examples
 pub mod Answering
 pub mod Seen

@@ -1,6 +1,6 @@
 //! Laws of a machine whose sessions take turns. Each is the contract of a function that does nothing.
 
-ghost use Rattle.std.specs.Prelude.{◌≡◌, ◌≢◌, ◌↔◌, ◌⊎◌, ℕ, ◌<◌, ◌≤◌, Bool, List, [], None, Some, IsTrue};
+ghost use Rattle.std.specs.Prelude.{◌≡◌, ◌≢◌, ◌↔◌, ◌⊎◌, ℕ, ◌<◌, ◌≤◌, Bool, false, List, [], None, Some, IsTrue};
 ghost use Rattle.bf_locks.specs.declared.answer.LockAnswer.{LockAnswer};
 ghost use Rattle.bf_locks.specs.declared.answer.LockAnswer.TheVariants.{Die, Granted, Wait};
 ghost use Rattle.bf_locks.specs.declared.mode.Mode.{Mode};
@@ -17,22 +17,24 @@ ghost use Rattle.bf_sql.specs.migrations.Lazy.{pending_of, sweep_of, view_of};
 ghost use Rattle.bf_sql.specs.migrations.Plans.{prepared_of};
 ghost use Rattle.bf_store.specs.Stores.{Store};
 ghost use Rattle.bf_machine.specs.InOrder.{IsRunInOrder};
+ghost use Rattle.bf_machine.specs.RunOver.{IsRunOver};
 ghost use Rattle.bf_machine.specs.Runnable.{phases_rise_from};
 ghost use Rattle.bf_machine.specs.interleaving.Calls.{HasSessionEnded, IsPlace};
-ghost use Rattle.bf_machine.specs.interleaving.Events.{Aborts, Asks, Begins, Commits, Executes, LastHasEnded, Moves, Reaches, Refuses};
+ghost use Rattle.bf_machine.specs.interleaving.Events.{Aborts, Asks, Begins, Commits, EndsByLog, Executes, LastHasEnded, Moves, Reaches, Refuses};
 ghost use Rattle.bf_machine.specs.interleaving.Examples.{YoungerIsRefused};
 ghost use Rattle.bf_machine.specs.interleaving.Groups.{Flip, Rows, footprint_in};
 ghost use Rattle.bf_machine.specs.interleaving.Kept.{HasEnded, HasStart, IsKept, IsOpening, IsToldACause, IsWithinLimits, StandsInHistory, TranscriptsLegal, fresh};
 ghost use Rattle.bf_machine.specs.interleaving.Machines.{Group, Machine, Open, open_at, transcripts_of};
-ghost use Rattle.bf_machine.specs.interleaving.Serving.{IsInSequence};
+ghost use Rattle.bf_machine.specs.interleaving.Serving.{IsInSequence, deaths_at};
 
 /// Histories stay legal, open groups replay, locks are consistent, deaths are allowed, and the store is
 /// seen as the database: in a new machine, and behind each begin, refusal of a stray COMMIT or ROLLBACK,
-/// statement, grant, wait, death, commit, abort and move of granules. So they do in each machine that
-/// events reach, in whatever order they come.
+/// statement, grant, wait, death, commit, abort, end by a cause of a log, and move of granules. So they do
+/// in each machine that events reach, in whatever order they come.
 pub fn events_keep_all()
-    ensures new { (store : Store) (script : Script) (retries : ℕ) → IsOpening store
-        → IsWithinLimits script → IsKept (view_of store.lazy) (fresh store script retries) }
+    ensures new { (logged : Bool) (store : Store) (script : Script) (retries : ℕ) → IsOpening store
+        → IsWithinLimits script
+        → IsKept (view_of store.lazy) (fresh logged store script retries) }
     ensures begins { (start : Database) (m next : Machine) (s : ℕ) → IsKept start m
         → Begins m s next → IsKept start next }
     ensures refuses { (start : Database) (m next : Machine) (s : ℕ) → IsKept start m
@@ -53,9 +55,11 @@ pub fn events_keep_all()
         → Aborts m s next → IsKept start next }
     ensures moves { (start : Database) (m next : Machine) (granules : List Granule) → IsKept start m
         → Moves m granules next → IsKept start next }
-    ensures reaches { (store : Store) (script : Script) (retries : ℕ) (m : Machine)
+    ensures ends_by_log { (start : Database) (m next : Machine) (s : ℕ) → IsKept start m
+        → EndsByLog m s next → IsKept start next }
+    ensures reaches { (logged : Bool) (store : Store) (script : Script) (retries : ℕ) (m : Machine)
         → IsOpening store → IsWithinLimits script
-        → Reaches (view_of store.lazy) (fresh store script retries) m
+        → Reaches (view_of store.lazy) (fresh logged store script retries) m
         → IsKept (view_of store.lazy) m }
 {}
 
@@ -117,14 +121,22 @@ pub fn a_statement_asks_for_what_it_is_prepared_to()
         → prepared_of db in_block s ≡ Some bound → footprint_in db in_block s ≡ footprint_of bound }
 {}
 
-/// Sessions in sequence run in order. Nothing has happened in a new machine, and where its store has no migration yet it
-/// is in sequence; and once each session of one that is in sequence has ended, its transcripts and history are those of a
+/// Sessions in sequence run in order. Nothing has happened in a new machine, and where its store has no migration yet and no
+/// log ends groups it is in sequence; and once each session of one that is in sequence has ended, its transcripts and history are those of a
 /// run in the order of the text, where its store has moved what the statements of the history needed, and no more.
 pub fn sessions_in_sequence_run_in_order()
     ensures new { (start : Database) (store : Store) (script : Script) (retries : ℕ)
         → IsTrue (phases_rise_from 0 script.sessions) → store.lazy.last ≡ None
-        → IsInSequence start (fresh store script retries) }
+        → IsInSequence start (fresh false store script retries) }
     ensures ran { (m : Machine) → IsKept empty_database m → IsInSequence empty_database m
         → ((s : ℕ) → IsPlace m.script s → HasSessionEnded m s)
         → IsRunInOrder m.script (transcripts_of m) m.history (sweep_of m.lazy.last) }
+{}
+
+/// Once each session has ended, of which no group died, the script has run over the opening database.
+pub fn sessions_that_have_ended_ran_over()
+    ensures { (start : Database) (m : Machine) → IsKept start m
+        → ((s : ℕ) → IsPlace m.script s → HasSessionEnded m s)
+        → ((n : ℕ) → deaths_at m n ≡ [])
+        → IsRunOver start m.script (transcripts_of m) m.history (sweep_of m.lazy.last) }
 {}

@@ -4,6 +4,7 @@
 
 mod answer;
 pub mod interleaving_laws;
+pub mod journal;
 mod lookups;
 pub mod machine;
 pub mod opened;
@@ -13,8 +14,10 @@ mod settle;
 pub mod so_far;
 pub mod stand;
 
+pub use journal::{Journal, KeepError, Unkept};
 pub use machine::{Machine, Parts};
 pub use opened::Opened;
 pub use scripts::migrates_nothing;
 pub use serving::{in_order, prepare_next};
+pub use so_far::Pending;
 pub use stand::{Ending, MoveError, Stand, Step};

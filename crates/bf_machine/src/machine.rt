@@ -79,9 +79,9 @@ impl<N: Opened> Model for Machine<N> {
     ghost use Rattle.std.specs.Prelude.{length};
     ghost use Rattle.bf_machine.specs.interleaving.Seen.{IsLeastLeft, IsSound, seen};
 
-    ghost view = { λ m. seen m.script m.retries m.store m.locks m.began.items m.sessions.items m.history.items };
+    ghost view = { λ m. seen N.logged m.script m.retries m.store m.locks m.began.items m.sessions.items m.history.items };
 
-    ghost invariant = { λ m. IsSound N.opening N.registry N.script m.script m.retries m.store m.locks m.began.items m.sessions.items m.history m.commits m.transcripts
+    ghost invariant = { λ m. IsSound N.opening N.registry N.script N.logged m.script m.retries m.store m.locks m.began.items m.sessions.items m.history m.commits m.transcripts
         × IsLeastLeft m.script.sessions m.sessions.items (length m.sessions.items) m.least_left };
 }
 
@@ -102,7 +102,7 @@ impl<N: Opened> Machine<N> {
         requires registry { IsOf N.registry store.migration }
         requires script { script ≡ N.script }
         requires limits { IsWithinLimits script }
-        ensures { IfOk result (λ machine. machine ≡ fresh store script retries) }
+        ensures { IfOk result (λ machine. machine ≡ fresh N.logged store script retries) }
     {
         // Their contracts say that the store is a lazy state, and that the pass reads its migration.
         let _ = store.live();

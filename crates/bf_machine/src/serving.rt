@@ -1,25 +1,32 @@
 //! Sessions served on one thread, in an order that is given, and then to their ends.
 
-ghost use Rattle.std.specs.Prelude.{◌≡◌, ◌≢◌, ◌⊎◌, ℕ, ◌<◌, ◌≤◌, [], IfOk, IfSome, OnErr, OnOk, None, Ok, false, length};
+ghost use Rattle.std.specs.Prelude.{◌≡◌, ◌≢◌, ◌⊎◌, ℕ, ◌<◌, ◌≤◌, [], IfOk, IfSome, IsTrue, OnErr, OnOk, None, Ok, Some, false, length, slice_get, take};
 ghost use Rattle.bf_machine.specs.declared.stand.Stand.TheVariants.{Begin, Statement};
+ghost use Rattle.std.specs.List.{AllByRecursion};
 ghost use Rattle.std.specs.Option.{option_map};
+ghost use Rattle.boxcar.specs.Table.{Shows};
+ghost use Rattle.bf_base.specs.declared.granule.Granule.{Granule as Moving};
+ghost use Rattle.bf_base.specs.Lists.{rises};
+ghost use Rattle.bf_image.specs.Migrations.{value_indexes};
 ghost use Rattle.bf_query.specs.Actions.{IsWellBound};
-ghost use Rattle.bf_store.specs.States.{AreGranulesIfAny, to_move};
-ghost use Rattle.bf_store.specs.Stores.{IsOf};
+ghost use Rattle.bf_store.specs.States.{AreGranules, AreGranulesIfAny, granule_cmp, to_move};
+ghost use Rattle.bf_store.specs.Stores.{IsOf, migration_of};
 ghost use Rattle.bf_transpose.specs.Covers.{IsCoverOf};
-ghost use Rattle.bf_machine.specs.interleaving.Calls.{CanExec, CanRefuse, HasReplied, HasSessionEnded, IsPlace, IsPresent, StandsAs};
+ghost use Rattle.bf_machine.specs.interleaving.Calls.{CanCommit, CanExec, CanRefuse, HasReplied, HasSessionEnded, IsPlace, IsPresent, StandsAs};
 ghost use Rattle.bf_machine.specs.interleaving.Events.{Begins, Moves, Reaches};
+ghost use Rattle.bf_machine.specs.interleaving.Journals.{AreSaid, IsOneRecord, IsToldIfEnded, Keeps, most_moved};
 ghost use Rattle.bf_machine.specs.interleaving.Kept.{IsKept};
 ghost use Rattle.bf_machine.specs.interleaving.Machines.{Machine as Seen, Open, open_at};
-ghost use Rattle.bf_machine.specs.interleaving.Serving.{CanGo, CannotGo, Driven, HasLocked, HasEndedAlone, HasMore, HasMovedNeed, HasReply, HasSettled, IsAlone, IsBoundNext, IsFollowed, IsInSequence, IsPreparedNext, IsToLock, IsTurn, IsTurnOf, IsYoungest, Serves, Turned, can_go, deaths_at, unanswered};
+ghost use Rattle.bf_machine.specs.interleaving.Serving.{CanGo, CannotGo, Driven, HasLocked, HasMovedFirst, HasMovedNeed, HasMovedSome, HasReply, IsAlone, IsBoundNext, IsCommit, IsEndIfAnswered, IsFollowed, IsInSequence, IsPreparedNext, IsToLock, IsTurn, IsTurnOf, IsYoungest, LeavesStore, MovesAll, Serves, Turned, can_go, deaths_at, unanswered};
 ghost use Rattle.bf_machine.specs.declared.stand.Turn.TheVariants.{Served};
 
+use crate::journal::{Journal, KeepError};
 use crate::lookups::{Lookups, cover_with, look_up};
 use crate::machine::Machine;
 use crate::opened::Opened;
-use crate::stand::{MoveError, Stand, Step, Turn};
+use crate::stand::{Ending, MoveError, Stand, Step, Turn};
 use bf_base::{Granule, Memory};
-use bf_image::{MigrationPass, Registry};
+use bf_image::{MigrationPass, Registry, ValueIndexes};
 use bf_locks::{LockAnswer, LockName, Mode};
 use bf_plan::prepare;
 use bf_sql::footprint;
@@ -27,6 +34,9 @@ use bf_transpose::Cover;
 use bf_tree::Bound;
 use std::alloc::Global;
 use std::sync::Wait;
+
+/// The most granules of one record.
+const MOST_MOVED: usize = 64;
 
 /// Asks for locks, one after the other, until one is not granted.
 fn lock_all<N: Opened>(
@@ -38,6 +48,7 @@ fn lock_all<N: Opened>(
     requires kept { IsKept N.opening machine.old }
     requires next { (o : Open) × IsToLock machine.old session o locks.now }
     ensures reaches { Reaches N.opening machine.old machine.new }
+    ensures leaves { LeavesStore N.opening machine.old machine.new }
     ensures locked { result ≡ Ok Served → HasLocked machine.old session locks.now machine.new }
     ensures turn { IfOk result (λ turn. turn ≢ Served
         → IsTurn machine.old session N.opening turn machine.new) }
@@ -52,38 +63,64 @@ fn lock_all<N: Opened>(
     Ok(Turn::Served)
 }
 
-/// Ends a session's open group where each statement of it has its reply.
-fn end_if_answered<N: Opened, R: Wait>(
+/// Commits a session's open group, and tells how the turn ends that does.
+///
+/// # Errors
+/// Where [`Machine::commit`] has one. The machine is as it was then.
+fn commit<N: Opened, J: Journal, R: Wait>(
     rt: &R,
     registry: &Registry,
+    journal: &mut J,
     machine: &mut Machine<N>,
     session: u32,
-) -> Result<(), Memory>
+) -> Result<Turn, Memory>
     requires registry { registry.now ≡ N.registry }
+    requires logged { J.ends ≡ N.logged }
+    requires said { AreSaid J.Says N.script }
+    requires place { IsPlace machine.old.script session }
+    requires can { CanCommit machine.old session }
+    ensures turn { IfOk result (λ turn. IsCommit machine.old session turn machine.new) }
+    ensures err { OnErr result (machine.new ≡ machine.old) }
+    ensures keeps { Keeps J.Answers J.Tells N.opening machine.old journal.old machine.new
+        journal.new }
+{
+    match machine.commit(rt, registry, journal, session)? {
+        Ending::Committed(_) => Ok(Turn::Served),
+        Ending::Ended(cause) => Ok(Turn::Ended(cause)),
+    }
+}
+
+/// Ends a session's open group where each statement of it has its reply. The turn that gave the last one
+/// is served, or has ended the group by a cause of the log.
+fn end_if_answered<N: Opened, J: Journal, R: Wait>(
+    rt: &R,
+    registry: &Registry,
+    journal: &mut J,
+    machine: &mut Machine<N>,
+    session: u32,
+) -> Result<Turn, Memory>
+    requires registry { registry.now ≡ N.registry }
+    requires logged { J.ends ≡ N.logged }
+    requires said { AreSaid J.Says N.script }
     requires place { IsPlace machine.old.script session }
     requires kept { IsKept N.opening machine.old }
     requires has_reply { HasReply machine.old session }
     ensures reaches { Reaches N.opening machine.old machine.new }
-    ensures serves { OnOk result (Serves machine.old session machine.new) }
-    ensures replies { OnOk result
-        (unanswered machine.new session ≡ unanswered machine.old session) }
-    ensures more { OnOk result (HasMore machine.new session) }
-    ensures has_reply { OnOk result (HasReply machine.new session) }
-    ensures settled { OnOk result (HasSettled machine.old session machine.new) }
-    ensures ended { OnOk result
-        ((machine.new ≡ machine.old) ⊎ HasEndedAlone machine.old session machine.new) }
+    ensures keeps { Keeps J.Answers J.Tells N.opening machine.old journal.old machine.new
+        journal.new }
+    ensures turn { IfOk result (λ turn. IsEndIfAnswered machine.old session turn machine.new) }
 {
     if !machine.is_answered(session) {
-        return Ok(());
+        return Ok(Turn::Served);
     }
     match machine.stand(session) {
-        Stand::Commit => {
-            machine.commit(rt, registry, session)?;
+        Stand::Commit => commit(rt, registry, journal, machine, session),
+        Stand::Abort => {
+            machine.abort(session);
+            Ok(Turn::Served)
         }
-        Stand::Abort => machine.abort(session),
-        _ => {}
+        _ => Ok(Turn::Served),
     }
-    Ok(())
 }
 
 /// A session's next statement, as it is prepared in the present catalog. It costs what
@@ -116,22 +153,117 @@ pub fn prepare_next<N: Opened>(
     )
 }
 
-/// Moves what is left of a need of the last migration, as one change.
+/// How many of some granules, which stand in the order of unit and place, one record may move: the first
+/// of one unit, 64 at most.
+fn record_len(granules: &[Granule]) -> usize
+    ensures within { result ≤ length granules.now }
+    ensures some { 0 < length granules.now → 0 < result }
+    ensures few { result ≤ most_moved }
+    ensures one_unit { (first : Moving) → slice_get granules.now 0 ≡ Some first
+        → AllByRecursion (λ g. g.unit ≡ first.unit) (take result granules.now) }
+    ensures whole { (first next : Moving) → slice_get granules.now 0 ≡ Some first
+        → slice_get granules.now result ≡ Some next
+        → (result ≡ most_moved) ⊎ (next.unit ≢ first.unit) }
+{
+    for (count, granule) in granules.iter().enumerate() {
+        if granule.unit != granules[0].unit || count == MOST_MOVED {
+            return count;
+        }
+    }
+    granules.len()
+}
+
+/// Moves granules of the last migration that one record may move.
 ///
 /// # Errors
-/// Where memory runs out, or 2 ^ 32 granules or 2 ^ 64 changes were made. The machine is as it was
-/// then.
-fn move_need<N: Opened>(
+/// Where [`Machine::moved`] has one. The machine is as it was then.
+fn move_record<N: Opened, J: Journal>(
+    registry: &Registry,
+    journal: &mut J,
+    machine: &mut Machine<N>,
+    pass: &MigrationPass,
+    indexes: &ValueIndexes,
+    granules: &[Granule],
+) -> Result<(), KeepError>
+    requires registry { registry.now ≡ N.registry }
+    requires logged { J.ends ≡ N.logged }
+    requires present { machine.old.pass ≡ Some pass.now }
+    requires shown { Shows N.registry.migrations pass.now }
+    requires indexed { indexes.now ≡ value_indexes pass.now.value }
+    requires granules { IsOneRecord (Some (migration_of pass.now.value [])) granules.now }
+    ensures moves { OnOk result (Moves machine.old granules.now machine.new) }
+    ensures err { OnErr result (machine.new ≡ machine.old) }
+    ensures keeps { Keeps J.Answers J.Tells N.opening machine.old journal.old machine.new
+        journal.new }
+    ensures told { IsToldIfEnded J.ends (J.Tells journal.new) result }
+{
+    match machine.moved(registry, journal, pass, indexes, granules) {
+        Ok(_) => Ok(()),
+        Err(MoveError::Ended(cause)) => Err(KeepError::Ended(cause)),
+        Err(MoveError::Memory) => Err(KeepError::Memory),
+        Err(MoveError::Old(_)) => unreachable!(),
+    }
+}
+
+/// Moves granules of the last migration, in the order of unit and place, by records of at most 64 granules
+/// of one unit.
+///
+/// # Errors
+/// Where [`move_record`] has one. The records before have moved then.
+fn move_records<N: Opened, J: Journal>(
+    registry: &Registry,
+    journal: &mut J,
+    machine: &mut Machine<N>,
+    pass: &MigrationPass,
+    indexes: &ValueIndexes,
+    granules: &[Granule],
+) -> Result<(), KeepError>
+    requires registry { registry.now ≡ N.registry }
+    requires logged { J.ends ≡ N.logged }
+    requires present { machine.old.pass ≡ Some pass.now }
+    requires shown { Shows N.registry.migrations pass.now }
+    requires indexed { indexes.now ≡ value_indexes pass.now.value }
+    requires granules { AreGranules (migration_of pass.now.value []) granules.now }
+    requires in_order { IsTrue (rises granule_cmp granules.now) }
+    ensures moves { OnOk result (MovesAll machine.old granules.now machine.new) }
+    ensures err { OnErr result (HasMovedFirst machine.old granules.now machine.new) }
+    ensures keeps { Keeps J.Answers J.Tells N.opening machine.old journal.old machine.new
+        journal.new }
+    ensures told { IsToldIfEnded J.ends (J.Tells journal.new) result }
+{
+    let mut left = granules;
+    while !left.is_empty() {
+        let count = record_len(left);
+        let (record, later) = left.split_at(count);
+        move_record(registry, journal, machine, pass, indexes, record)?;
+        left = later;
+    }
+    Ok(())
+}
+
+/// Moves what is left of a need of the last migration, in the order of unit and place, by records of at
+/// most 64 granules of one unit.
+///
+/// # Errors
+/// The cause by which the group ends that needs it; and where memory runs out, or 2 ^ 32 granules or
+/// 2 ^ 64 changes were made. Some of it may have moved then.
+fn move_need<N: Opened, J: Journal>(
     alloc: Global,
     registry: &Registry,
+    journal: &mut J,
     lookups: &mut Option<Lookups<N>>,
     machine: &mut Machine<N>,
     granules: &[Granule],
-) -> Result<(), Memory>
+) -> Result<(), KeepError>
     requires registry { registry.now ≡ N.registry }
+    requires logged { J.ends ≡ N.logged }
     requires granules { AreGranulesIfAny machine.old.lazy.last granules.now }
-    ensures moves { OnOk result (Moves machine.old granules.now machine.new) }
-    ensures err { OnErr result (machine.new ≡ machine.old) }
+    requires in_order { IsTrue (rises granule_cmp granules.now) }
+    ensures moves { OnOk result (MovesAll machine.old granules.now machine.new) }
+    ensures err { OnErr result (HasMovedFirst machine.old granules.now machine.new) }
+    ensures keeps { Keeps J.Answers J.Tells N.opening machine.old journal.old machine.new
+        journal.new }
+    ensures told { IsToldIfEnded J.ends (J.Tells journal.new) result }
 {
     let Some(pass) = machine.migration() else {
         return Ok(());
@@ -140,11 +272,7 @@ fn move_need<N: Opened>(
     let Some(found) = lookups else {
         unreachable!();
     };
-    match machine.moved(registry, &pass, found.indexes(), granules) {
-        Ok(_) => Ok(()),
-        Err(MoveError::Memory) => Err(Memory),
-        Err(MoveError::Old(_)) => unreachable!(),
-    }
+    move_records(registry, journal, machine, &pass, found.indexes(), granules)
 }
 
 /// Replies to a session's next statement, as it is prepared in the present catalog, of whose cover
@@ -181,9 +309,99 @@ fn reply_behind_moves<N: Opened>(
 /// needs of the last migration has moved.
 ///
 /// # Errors
-/// Where memory runs out, 2 ^ 32 rows or more change, or 2 ^ 32 granules or 2 ^ 64 changes were
-/// made. What it needs may have moved then, and else the machine is as it was.
-fn reply_to<N: Opened>(
+/// The cause by which its group ends, where the journal does not keep a move; and where memory runs out,
+/// 2 ^ 32 rows or more change, or 2 ^ 32 granules or 2 ^ 64 changes were made. A first part of what it
+/// needs may have moved then, and else the machine is as it was.
+fn reply_to<N: Opened, J: Journal>(
+    alloc: Global,
+    registry: &Registry,
+    journal: &mut J,
+    lookups: &mut Option<Lookups<N>>,
+    machine: &mut Machine<N>,
+    session: u32,
+    bound: &Bound,
+) -> Result<(), KeepError>
+    requires registry { registry.now ≡ N.registry }
+    requires logged { J.ends ≡ N.logged }
+    requires place { IsPlace machine.old.script session }
+    requires kept { IsKept N.opening machine.old }
+    requires can { CanExec machine.old session N.opening bound.now }
+    requires present { bound.now.catalog ≡ machine.old.db.number }
+    requires well_bound { IsWellBound bound.now.action }
+    ensures replied { OnOk result ((now : Seen) × HasMovedNeed machine.old bound.now now
+        × HasReplied now session bound.now machine.new) }
+    ensures err { OnErr result (HasMovedSome machine.old bound.now machine.new) }
+    ensures keeps { Keeps J.Answers J.Tells N.opening machine.old journal.old machine.new
+        journal.new }
+    ensures told { IsToldIfEnded J.ends (J.Tells journal.new) result }
+{
+    let pass = machine.migration();
+    let migration = pass.as_ref();
+    let cover = cover_with(alloc, registry, lookups, migration, bound)?;
+    match machine.exec(registry, session, migration, bound, &cover)? {
+        Step::Replied => Ok(()),
+        Step::Need(granules) => {
+            move_need(
+                alloc,
+                registry,
+                journal,
+                lookups,
+                machine,
+                granules.as_slice(),
+            )?;
+            reply_behind_moves(registry, machine, session, migration, bound, &cover)?;
+            Ok(())
+        }
+        Step::Stale(_) => unreachable!(),
+    }
+}
+
+/// Gives the next statement of a session's open group its reply: asks for the locks of its
+/// footprint in their order, moves what it needs, and ends the group where it is the last. Where the
+/// journal does not keep a move, the group ends by the journal's cause.
+fn serve_in_group<N: Opened, J: Journal, R: Wait>(
+    alloc: Global,
+    rt: &R,
+    registry: &Registry,
+    journal: &mut J,
+    lookups: &mut Option<Lookups<N>>,
+    machine: &mut Machine<N>,
+    session: u32,
+    bound: &Bound,
+) -> Result<Turn, Memory>
+    requires registry { registry.now ≡ N.registry }
+    requires logged { J.ends ≡ N.logged }
+    requires said { AreSaid J.Says N.script }
+    requires place { IsPlace machine.old.script session }
+    requires kept { IsKept N.opening machine.old }
+    requires next { (o : Open) × IsBoundNext machine.old session o bound.now }
+    requires well_bound { IsWellBound bound.now.action }
+    ensures reaches { Reaches N.opening machine.old machine.new }
+    ensures keeps { Keeps J.Answers J.Tells N.opening machine.old journal.old machine.new
+        journal.new }
+    ensures turn { IfOk result (λ turn. IsTurn machine.old session N.opening turn machine.new) }
+{
+    let locks = footprint(alloc, bound)?;
+    match lock_all(machine, session, locks.as_slice())? {
+        Turn::Served => {}
+        turn => return Ok(turn),
+    }
+    match reply_to(alloc, registry, journal, lookups, machine, session, bound) {
+        Ok(()) => end_if_answered(rt, registry, journal, machine, session),
+        Err(KeepError::Ended(cause)) => {
+            machine.fail(session, cause);
+            Ok(Turn::Ended(cause))
+        }
+        Err(KeepError::Memory) => Err(Memory),
+    }
+}
+
+/// Replies to a session's next statement where no group of it is open: a COMMIT or ROLLBACK, which needs
+/// nothing of the last migration and is refused.
+///
+/// # Errors
+/// Where memory runs out. The machine is as it was then.
+fn refuse<N: Opened>(
     alloc: Global,
     registry: &Registry,
     lookups: &mut Option<Lookups<N>>,
@@ -194,77 +412,48 @@ fn reply_to<N: Opened>(
     requires registry { registry.now ≡ N.registry }
     requires place { IsPlace machine.old.script session }
     requires kept { IsKept N.opening machine.old }
-    requires can { CanExec machine.old session N.opening bound.now }
+    requires can { CanRefuse machine.old session }
+    requires prepared { IsPreparedNext machine.old session bound.now }
     requires present { bound.now.catalog ≡ machine.old.db.number }
     requires well_bound { IsWellBound bound.now.action }
-    ensures replied { OnOk result ((now : Seen) × HasMovedNeed machine.old bound.now now
-        × HasReplied now session bound.now machine.new) }
-    ensures err { OnErr result (HasMovedNeed machine.old bound.now machine.new) }
+    ensures replied { OnOk result (HasReplied machine.old session bound.now machine.new) }
+    ensures err { OnErr result (machine.new ≡ machine.old) }
 {
     let pass = machine.migration();
     let migration = pass.as_ref();
     let cover = cover_with(alloc, registry, lookups, migration, bound)?;
-    match machine.exec(registry, session, migration, bound, &cover)? {
-        Step::Replied => Ok(()),
-        Step::Need(granules) => {
-            move_need(alloc, registry, lookups, machine, granules.as_slice())?;
-            reply_behind_moves(registry, machine, session, migration, bound, &cover)
-        }
-        Step::Stale(_) => unreachable!(),
-    }
-}
-
-/// Gives the next statement of a session's open group its reply: asks for the locks of its
-/// footprint in their order, moves what it needs, and ends the group where it is the last.
-fn serve_in_group<N: Opened, R: Wait>(
-    alloc: Global,
-    rt: &R,
-    registry: &Registry,
-    lookups: &mut Option<Lookups<N>>,
-    machine: &mut Machine<N>,
-    session: u32,
-    bound: &Bound,
-) -> Result<Turn, Memory>
-    requires registry { registry.now ≡ N.registry }
-    requires place { IsPlace machine.old.script session }
-    requires kept { IsKept N.opening machine.old }
-    requires next { (o : Open) × IsBoundNext machine.old session o bound.now }
-    requires well_bound { IsWellBound bound.now.action }
-    ensures reaches { Reaches N.opening machine.old machine.new }
-    ensures turn { IfOk result (λ turn. IsTurn machine.old session N.opening turn machine.new) }
-{
-    let locks = footprint(alloc, bound)?;
-    match lock_all(machine, session, locks.as_slice())? {
-        Turn::Served => {}
-        turn => return Ok(turn),
-    }
-    reply_to(alloc, registry, lookups, machine, session, bound)?;
-    end_if_answered(rt, registry, machine, session)?;
-    Ok(Turn::Served)
+    reply_behind_moves(registry, machine, session, migration, bound, &cover)
 }
 
 /// Gives a session's next statement its reply, or asks for its locks until one is not granted.
-fn serve<N: Opened, R: Wait>(
+fn serve<N: Opened, J: Journal, R: Wait>(
     alloc: Global,
     rt: &R,
     registry: &Registry,
+    journal: &mut J,
     lookups: &mut Option<Lookups<N>>,
     machine: &mut Machine<N>,
     session: u32,
     place: u32,
 ) -> Result<Turn, Memory>
     requires registry { registry.now ≡ N.registry }
+    requires logged { J.ends ≡ N.logged }
+    requires said { AreSaid J.Says N.script }
     requires place { IsPlace machine.old.script session }
     requires kept { IsKept N.opening machine.old }
     requires stands { StandsAs machine.old session (Statement place) }
     ensures reaches { Reaches N.opening machine.old machine.new }
+    ensures keeps { Keeps J.Answers J.Tells N.opening machine.old journal.old machine.new
+        journal.new }
     ensures turn { IfOk result (λ turn. IsTurn machine.old session N.opening turn machine.new) }
 {
     let bound = prepare_next(alloc, machine, session, place)?;
     if machine.start(session).is_some() {
-        return serve_in_group(alloc, rt, registry, lookups, machine, session, &bound);
+        return serve_in_group(
+            alloc, rt, registry, journal, lookups, machine, session, &bound,
+        );
     }
-    reply_to(alloc, registry, lookups, machine, session, &bound)?;
+    refuse(alloc, registry, lookups, machine, session, &bound)?;
     Ok(Turn::Served)
 }
 
@@ -273,6 +462,7 @@ fn begin_if_due<N: Opened>(machine: &mut Machine<N>, session: u32) -> Result<Sta
     requires place { IsPlace machine.old.script session }
     requires kept { IsKept N.opening machine.old }
     ensures reaches { Reaches N.opening machine.old machine.new }
+    ensures leaves { LeavesStore N.opening machine.old machine.new }
     ensures begins { OnOk result
         ((machine.new ≡ machine.old) ⊎ Begins machine.old session machine.new) }
     ensures stands { IfOk result (λ stand. StandsAs machine.new session stand) }
@@ -290,26 +480,30 @@ fn begin_if_due<N: Opened>(machine: &mut Machine<N>, session: u32) -> Result<Sta
 /// One turn of a session: drives its next statement until it has its reply, waits or dies. A group
 /// begins with its first statement's turn and, but for its COMMIT or ROLLBACK, ends with its last
 /// one's.
-fn take_turn<N: Opened, R: Wait>(
+fn take_turn<N: Opened, J: Journal, R: Wait>(
     alloc: Global,
     rt: &R,
     registry: &Registry,
+    journal: &mut J,
     lookups: &mut Option<Lookups<N>>,
     machine: &mut Machine<N>,
     session: u32,
 ) -> Result<Turn, Memory>
     requires registry { registry.now ≡ N.registry }
+    requires logged { J.ends ≡ N.logged }
+    requires said { AreSaid J.Says N.script }
     requires place { IsPlace machine.old.script session }
     requires kept { IsKept N.opening machine.old }
     ensures reaches { Reaches N.opening machine.old machine.new }
+    ensures keeps { Keeps J.Answers J.Tells N.opening machine.old journal.old machine.new
+        journal.new }
     ensures turn { IfOk result (λ turn. IsTurn machine.old session N.opening turn machine.new) }
 {
     match begin_if_due(machine, session)? {
-        Stand::Statement(place) => serve(alloc, rt, registry, lookups, machine, session, place),
-        Stand::Commit => {
-            machine.commit(rt, registry, session)?;
-            Ok(Turn::Served)
-        }
+        Stand::Statement(place) => serve(
+            alloc, rt, registry, journal, lookups, machine, session, place,
+        ),
+        Stand::Commit => commit(rt, registry, journal, machine, session),
         Stand::Abort => {
             machine.abort(session);
             Ok(Turn::Served)
@@ -319,25 +513,30 @@ fn take_turn<N: Opened, R: Wait>(
 }
 
 /// A turn of the session of a number, if it is one of so many.
-fn turn_of<N: Opened, R: Wait>(
+fn turn_of<N: Opened, J: Journal, R: Wait>(
     alloc: Global,
     rt: &R,
     registry: &Registry,
+    journal: &mut J,
     lookups: &mut Option<Lookups<N>>,
     machine: &mut Machine<N>,
     count: u32,
     session: u32,
 ) -> Result<(), Memory>
     requires registry { registry.now ≡ N.registry }
+    requires logged { J.ends ≡ N.logged }
+    requires said { AreSaid J.Says N.script }
     requires count { count ≡ length machine.old.script.sessions }
     requires kept { IsKept N.opening machine.old }
     ensures reaches { Reaches N.opening machine.old machine.new }
+    ensures keeps { Keeps J.Answers J.Tells N.opening machine.old journal.old machine.new
+        journal.new }
     ensures turn { OnOk result (IsTurnOf N.opening machine.old session machine.new) }
 {
     if session == 0 || count < session {
         return Ok(());
     }
-    take_turn(alloc, rt, registry, lookups, machine, session)?;
+    take_turn(alloc, rt, registry, journal, lookups, machine, session)?;
     Ok(())
 }
 
@@ -379,43 +578,54 @@ fn first_to_go<N: Opened>(machine: &Machine<N>) -> Option<u32>
 }
 
 /// Drives the open groups to their ends, the youngest first. No group begins.
-fn end_open_groups<N: Opened, R: Wait>(
+fn end_open_groups<N: Opened, J: Journal, R: Wait>(
     alloc: Global,
     rt: &R,
     registry: &Registry,
+    journal: &mut J,
     lookups: &mut Option<Lookups<N>>,
     machine: &mut Machine<N>,
 ) -> Result<(), Memory>
     requires registry { registry.now ≡ N.registry }
+    requires logged { J.ends ≡ N.logged }
+    requires said { AreSaid J.Says N.script }
     requires kept { IsKept N.opening machine.old }
     ensures reaches { Reaches N.opening machine.old machine.new }
+    ensures keeps { Keeps J.Answers J.Tells N.opening machine.old journal.old machine.new
+        journal.new }
     ensures closed { OnOk result ((s : ℕ) → open_at machine.new s ≡ None) }
     ensures driven { OnOk result (Driven N.opening machine.old machine.new) }
     ensures nothing { ((s : ℕ) → open_at machine.old s ≡ None) → machine.new ≡ machine.old }
     ensures alone { OnOk result ((s : ℕ) → IsAlone machine.old s
         → Serves machine.old s machine.new
         × (unanswered machine.new s ≤ unanswered machine.old s)) }
-    ensures followed { OnOk result ((s : ℕ) → IsAlone machine.old s
+    ensures followed { OnOk result (machine.old.logged ≡ false
+        → (s : ℕ) → IsAlone machine.old s
         → IsFollowed machine.old s N.opening → IsFollowed machine.new s N.opening) }
 {
     while let Some(session) = youngest(machine) {
-        take_turn(alloc, rt, registry, lookups, machine, session)?;
+        take_turn(alloc, rt, registry, journal, lookups, machine, session)?;
     }
     Ok(())
 }
 
 /// Drives sessions of which no group is open to their ends, one group after the other.
-fn end_sessions<N: Opened, R: Wait>(
+fn end_sessions<N: Opened, J: Journal, R: Wait>(
     alloc: Global,
     rt: &R,
     registry: &Registry,
+    journal: &mut J,
     lookups: &mut Option<Lookups<N>>,
     machine: &mut Machine<N>,
 ) -> Result<(), Memory>
     requires registry { registry.now ≡ N.registry }
+    requires logged { J.ends ≡ N.logged }
+    requires said { AreSaid J.Says N.script }
     requires kept { IsKept N.opening machine.old }
     requires closed { (s : ℕ) → open_at machine.old s ≡ None }
     ensures reaches { Reaches N.opening machine.old machine.new }
+    ensures keeps { Keeps J.Answers J.Tells N.opening machine.old journal.old machine.new
+        journal.new }
     ensures driven { OnOk result (Driven N.opening machine.old machine.new) }
     ensures ended { OnOk result
         ((s : ℕ) → IsPlace machine.new.script s → HasSessionEnded machine.new s) }
@@ -424,8 +634,8 @@ fn end_sessions<N: Opened, R: Wait>(
         (IsInSequence N.opening machine.old → IsInSequence N.opening machine.new) }
 {
     while let Some(session) = first_to_go(machine) {
-        take_turn(alloc, rt, registry, lookups, machine, session)?;
-        end_open_groups(alloc, rt, registry, lookups, machine)?;
+        take_turn(alloc, rt, registry, journal, lookups, machine, session)?;
+        end_open_groups(alloc, rt, registry, journal, lookups, machine)?;
     }
     Ok(())
 }
@@ -435,7 +645,9 @@ fn end_sessions<N: Opened, R: Wait>(
 /// session, and a session that has ended, is of a later phase or waits for the end of another
 /// group, is passed over. Then all that is left is driven, the youngest open group first, and where
 /// none is open the first session that can go on. What a statement needs of the last migration
-/// moves in its turn, and nothing else of it.
+/// moves in its turn, and nothing else of it, by records of at most 64 granules of one unit. The
+/// journal keeps each change of the store before it is made; where it does not keep one, the group
+/// that was to make it ends by the journal's cause.
 ///
 /// Linear in the turns, each of which looks at each session of the script, 64 at most in one that
 /// is read, and costs what its statement's cover, moves and reply do. The old rows of a migration
@@ -446,15 +658,20 @@ fn end_sessions<N: Opened, R: Wait>(
 /// changes were made. The machine stands after some of the turns then, and maybe in the midst of
 /// one: its group has begun, holds some of its locks, has moved what it needs, or has its last
 /// reply and has not ended.
-pub fn in_order<N: Opened, R: Wait>(
+pub fn in_order<N: Opened, J: Journal, R: Wait>(
     alloc: Global,
     rt: &R,
     registry: &Registry,
+    journal: &mut J,
     machine: &mut Machine<N>,
     order: &[u32],
 ) -> Result<(), Memory>
     requires registry { registry.now ≡ N.registry }
+    requires logged { J.ends ≡ N.logged }
+    requires said { AreSaid J.Says N.script }
     ensures reaches { Reaches N.opening machine.old machine.new }
+    ensures keeps { Keeps J.Answers J.Tells N.opening machine.old journal.old machine.new
+        journal.new }
     ensures turns { OnOk result ((behind : Seen)
         × Turned N.opening machine.old order.now behind
         × Driven N.opening behind machine.new) }
@@ -468,8 +685,17 @@ pub fn in_order<N: Opened, R: Wait>(
     let count = machine.session_count();
     let mut lookups = None;
     for session in order {
-        turn_of(alloc, rt, registry, &mut lookups, machine, count, *session)?;
+        turn_of(
+            alloc,
+            rt,
+            registry,
+            journal,
+            &mut lookups,
+            machine,
+            count,
+            *session,
+        )?;
     }
-    end_open_groups(alloc, rt, registry, &mut lookups, machine)?;
-    end_sessions(alloc, rt, registry, &mut lookups, machine)
+    end_open_groups(alloc, rt, registry, journal, &mut lookups, machine)?;
+    end_sessions(alloc, rt, registry, journal, &mut lookups, machine)
 }

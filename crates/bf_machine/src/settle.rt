@@ -1,39 +1,29 @@
 //! What is pending, put into the store.
 
-ghost use Rattle.std.specs.Prelude.{◌≡◌, ◌↔◌, [], IfOk, IsTrue, OnErr, OnOk};
+ghost use Rattle.std.specs.Prelude.{◌≡◌, OnErr, OnOk, true};
 ghost use Rattle.bf_tree.specs.declared.plan.Plan.{Plan};
+ghost use Rattle.bf_sql.specs.migrations.Lazy.{view_of};
 ghost use Rattle.bf_store.specs.Stores.{IsByPass, IsOf};
 ghost use Rattle.bf_machine.specs.interleaving.Answering.{CanSettle};
 ghost use Rattle.bf_machine.specs.interleaving.Events.{put_into};
 ghost use Rattle.bf_machine.specs.interleaving.Groups.{Flip};
+ghost use Rattle.bf_machine.specs.interleaving.Journals.{IsBeside, IsStated, IsToldIfEnded, leaves_something};
 ghost use Rattle.bf_machine.specs.interleaving.Seen.{pending_seen};
 
+use crate::journal::{Journal, KeepError};
 use crate::so_far::Pending;
 use bf_base::Memory;
 use bf_image::Registry;
 use bf_store::Store;
-use bf_txn::Workspace;
 use std::alloc::Global;
 use std::sync::Wait;
 
-/// Whether a transaction has written nothing. It looks at each table that it has written to.
-fn is_empty(writes: &Workspace) -> bool
-    ensures { IsTrue result ↔ (writes.now ≡ []) }
-{
-    for (_table, written) in writes.tables() {
-        if !written.is_empty() {
-            return false;
-        }
-    }
-    true
-}
-
-/// Makes what a group was to leave part of the store, as one change where it is to leave something.
+/// Makes what a group was to leave, which is something, part of the store as one change.
 ///
 /// # Errors
 /// Where memory runs out, or 2 ^ 32 migrations or 2 ^ 64 changes were made. The store and what is
 /// pending are as they were then.
-pub(crate) fn settle<R: Wait>(
+fn put<R: Wait>(
     alloc: Global,
     rt: &R,
     registry: &Registry,
@@ -42,6 +32,7 @@ pub(crate) fn settle<R: Wait>(
 ) -> Result<(), Memory>
     requires one { IsOf registry.now store.old.migration }
     requires can { CanSettle store.old.lazy (pending_seen pending.old) }
+    requires leaves { leaves_something store.old.lazy (pending_seen pending.old) ≡ true }
     ensures ok { OnOk result (store.new.lazy ≡ put_into store.old.lazy (pending_seen pending.old)) }
     ensures by_pass { OnOk result (IsByPass store.new.lazy.last store.new.migration) }
     ensures one { IsOf registry.now store.new.migration }
@@ -54,9 +45,7 @@ pub(crate) fn settle<R: Wait>(
     let _ = store.live();
     match pending {
         Pending::Rows(writes) => {
-            if !is_empty(writes) {
-                store.commit(writes)?;
-            }
+            store.commit(writes)?;
         }
         Pending::NewTable(table) => {
             store.create_table(table.copy(alloc)?)?;
@@ -67,9 +56,61 @@ pub(crate) fn settle<R: Wait>(
         Pending::Flip(plan) => {
             store.flip(rt, registry, plan)?;
         }
-        Pending::Nothing => {}
+        Pending::Nothing => unreachable!(),
     }
     // Its contract says that the last migration is the one that the pass reads.
     let _ = store.migration();
+    Ok(())
+}
+
+/// Whether a record tells something of what an open group is to leave. It looks up each table that
+/// the group has written to and the row of each removal, up to the first write that is told.
+fn leaves_something(store: &Store, pending: &Pending) -> bool
+    ensures { result ≡ leaves_something store.now.lazy (pending_seen pending.now) }
+{
+    match pending {
+        Pending::Rows(writes) => store.leaves(writes),
+        Pending::Nothing => false,
+        _ => true,
+    }
+}
+
+/// Keeps what a group was to leave, and then makes it part of the store. Where it is to leave nothing,
+/// neither journal nor store change.
+///
+/// # Errors
+/// The journal's cause by which the group ends; and where memory runs out, or 2 ^ 32 migrations or
+/// 2 ^ 64 changes were made. The store and what is pending are as they were then.
+pub(crate) fn settle<J: Journal, R: Wait>(
+    alloc: Global,
+    rt: &R,
+    registry: &Registry,
+    journal: &mut J,
+    store: &mut Store,
+    pending: &mut Pending,
+) -> Result<(), KeepError>
+    requires one { IsOf registry.now store.old.migration }
+    requires can { CanSettle store.old.lazy (pending_seen pending.old) }
+    requires stated { IsStated J.Says (view_of store.old.lazy) (pending_seen pending.old) }
+    ensures ok { OnOk result (store.new.lazy ≡ put_into store.old.lazy (pending_seen pending.old)) }
+    ensures by_pass { OnOk result (IsByPass store.new.lazy.last store.new.migration) }
+    ensures one { IsOf registry.now store.new.migration }
+    ensures same { ((plan : Plan) → pending_seen pending.old ≡ Flip plan → ⊥)
+        → store.new.migration ≡ store.old.migration }
+    ensures err { OnErr result (store.new ≡ store.old) }
+    ensures kept { OnErr result (pending_seen pending.new ≡ pending_seen pending.old) }
+    ensures beside { IsBeside J.Answers store.old.lazy store.new.lazy journal.old journal.new }
+    ensures told { IsToldIfEnded J.ends (J.Tells journal.new) result }
+{
+    // Its contract says that the last migration is the one that the pass reads.
+    let _ = store.migration();
+    if !leaves_something(store, pending) {
+        return Ok(());
+    }
+    journal.keep_group(store, pending)?;
+    if let Err(_memory) = put(alloc, rt, registry, store, pending) {
+        journal.give_up();
+        return Err(KeepError::Memory);
+    }
     Ok(())
 }

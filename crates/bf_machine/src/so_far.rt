@@ -2,7 +2,6 @@
 
 ghost use Rattle.std.specs.Prelude.{◌≡◌, ◌⊎◌, ◌+◌, ◌-◌, ◌<◌, ◌≤◌, ◌&&◌, ◌++◌, [], IfOk, None, Some, if◌then◌else◌, length, map, nat_le, nat_lt, replicate, slice_index_or, take, vec_capacity, vec_len};
 ghost use Rattle.std.specs.Option.{is_none};
-ghost use Rattle.bf_tree.specs.declared.reply.Cause.TheVariants.{Died};
 ghost use Rattle.bf_tree.specs.declared.reply.Reply.TheVariants.{Ended};
 ghost use Rattle.bf_sql.specs.Groups.{no_session};
 ghost use Rattle.bf_machine.specs.interleaving.Seen.{AreNew, HasEndedAt, IsLeastLeft, last_from};
@@ -196,15 +195,14 @@ pub(crate) fn last_of_group(statements: &[Statement], first: u32) -> u32
     last
 }
 
-/// Tells so many statements the death for an older group. Takes no memory.
-pub(crate) fn tell_death(replies: &mut Vec<Reply>, count: u32, older: u64)
+/// Tells so many statements a cause. Takes no memory.
+pub(crate) fn tell_cause(replies: &mut Vec<Reply>, count: u32, cause: Cause)
     requires { vec_len replies.old + count ≤ vec_capacity replies.old }
-    ensures replies { replies.new.items
-        ≡ replies.old.items ++ replicate count (Ended (Died older)) }
+    ensures replies { replies.new.items ≡ replies.old.items ++ replicate count (Ended cause) }
     ensures capacity { vec_capacity replies.new ≡ vec_capacity replies.old }
 {
     for _told in 0..count {
-        replies.push_reserved(Reply::Ended(Cause::Died(older)));
+        replies.push_reserved(Reply::Ended(cause));
     }
 }
 
@@ -222,18 +220,18 @@ pub(crate) fn told_count(first: u32, last: u32, deaths: usize, retries: u16) -> 
     }
 }
 
-/// Closes a session's open group, drops its replies, and tells so many of its statements the death
-/// for an older group. Takes no memory.
-pub(crate) fn close_at_death(so_far: &mut SessionSoFar, first: u32, told: u32, older: u64)
+/// Closes a session's open group, drops its replies, and tells so many of its statements a cause. Takes
+/// no memory.
+pub(crate) fn close_by(so_far: &mut SessionSoFar, first: u32, told: u32, cause: Cause)
     requires first { 1 ≤ first }
     requires room { first - 1 + told ≤ vec_capacity so_far.old.replies }
     ensures closed { so_far.new.«open» ≡ None }
     ensures latest { so_far.new.latest ≡ so_far.old.latest }
     ensures replies { so_far.new.replies.items
-        ≡ take (first - 1) so_far.old.replies.items ++ replicate told (Ended (Died older)) }
+        ≡ take (first - 1) so_far.old.replies.items ++ replicate told (Ended cause) }
     ensures capacity { vec_capacity so_far.new.replies ≡ vec_capacity so_far.old.replies }
 {
     so_far.open = None;
     so_far.replies.truncate(first as usize - 1);
-    tell_death(&mut so_far.replies, told, older);
+    tell_cause(&mut so_far.replies, told, cause);
 }

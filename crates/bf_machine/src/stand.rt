@@ -54,6 +54,8 @@ pub enum Step {
 pub enum MoveError {
     /// The last migration is another one, with this number, which is 0 where there was none.
     Old(u32),
+    /// The log does not keep the move. A group that needs it is to end by this cause.
+    Ended(Cause),
     Memory,
 }
 
@@ -76,4 +78,6 @@ pub enum Turn {
     Waited,
     /// Its open group died.
     Died,
+    /// Its open group has ended by this cause of the log.
+    Ended(Cause),
 }

@@ -1,40 +1,32 @@
 -- A death keeps all.
-use Rattle.std.proofs.Common.{◌≡◌, ◌≢◌, ◌⊎◌, ℕ, zero, suc, ◌+◌, ◌-◌, ◌<◌, ◌≤◌, Bool, false, not, ◌&&◌, ◌||◌, if◌then◌else◌, List, [], ◌∷◌, ◌++◌, length, map, filter, Option, Some, None, refl, sym, ap, subst, ◌∙◌, arith, inl, inr, length-append}
+use Rattle.std.proofs.Common.{◌≡◌, ◌≢◌, ◌⊎◌, ℕ, zero, suc, ◌+◌, ◌-◌, ◌<◌, ◌≤◌, Bool, false, if◌then◌else◌, List, [], ◌∷◌, ◌++◌, length, map, Option, Some, None, refl, sym, ap, subst, ◌∙◌, arith, inl, inr, length-append}
 use Rattle.std.specs.Prelude.{Contains, IsSomeAnd, nat_le, nat_lt, slice_set}
-use Rattle.std.specs.List.{AllByRecursion, list_any, slice_index_or}
+use Rattle.std.specs.List.{slice_index_or}
 use Rattle.std.specs.Option.{option_map_or}
 use Rattle.std.proofs.lemmas.Bool.{cases_eq, cases_Bool}
 use Rattle.std.proofs.lemmas.Bool.Decides.{nat_tests}
 use Rattle.std.proofs.lemmas.List.{length-map}
 use Rattle.std.proofs.lemmas.Option.{same_Some}
-use Rattle.bf_base.specs.Lists.{part}
 use Rattle.bf_locks.specs.declared.answer.LockAnswer.TheVariants.{Die}
 use Rattle.bf_locks.specs.declared.mode.Mode.{Mode}
 use Rattle.bf_locks.specs.declared.name.LockName.{LockName}
 use Rattle.bf_locks.specs.Locks.{held, wanted}
 use Rattle.bf_locks.specs.Modes.{are_compatible}
-use Rattle.bf_tree.specs.declared.history.Entry.{Entry}
 use Rattle.bf_tree.specs.declared.reply.Cause.{Cause}
 use Rattle.bf_tree.specs.declared.reply.Cause.TheVariants.{Died}
 use Rattle.bf_tree.specs.declared.reply.Reply.{Reply}
-use Rattle.bf_tree.specs.declared.reply.Reply.TheVariants.{Ended}
 use Rattle.bf_sql.specs.Database.{Database}
-use Rattle.bf_sql.specs.Groups.{session_at, groups_in, has_statement}
-use Rattle.bf_sql.specs.History.{IsApart, replies_to, stands_in}
-use Rattle.bf_machine.specs.InOrder.{none_open}
+use Rattle.bf_sql.specs.Groups.{session_at}
 use Rattle.bf_machine.specs.interleaving.Machines.{Group, Began, Open, Machine, open_at, told_at, began_at}
-use Rattle.bf_machine.specs.interleaving.Kept.{IsKept, HistoryLegal, CausesAllowed, DeathsAllowed, DiedFor, HasStart, HasEnded, IsAllowed, IsCurrent, phase_of}
-use Rattle.bf_machine.specs.interleaving.Events.{Asks, deaths_of, died, text_of, told_at_death, with_death}
-use Rattle.bf_machine.proofs.interleaving.Answers.{Told, all_so, told_from, told_in}
-use Rattle.bf_machine.proofs.interleaving.Entries.{part_behind}
+use Rattle.bf_machine.specs.interleaving.Kept.{IsKept, CausesAllowed, DeathsAllowed, DiedFor, HasStart, HasEnded, IsAllowed, IsCurrent, phase_of}
+use Rattle.bf_machine.specs.interleaving.Events.{Asks, deaths_of, died, told_at_death, with_death}
+use Rattle.bf_machine.proofs.interleaving.Caused.{bounds, caused_keeps, own_next, told_all, told_size}
 use Rattle.bf_machine.proofs.interleaving.Going.{joins, next_wants}
 use Rattle.bf_machine.proofs.interleaving.Joins.{clash_of, turned}
-use Rattle.bf_machine.proofs.interleaving.Opens.{unchanged_keeps_open}
 use Rattle.bf_machine.proofs.interleaving.Places.{set_other, set_same, some_within, there_in}
 use Rattle.bf_machine.proofs.interleaving.Others.{has_place}
-use Rattle.bf_machine.proofs.interleaving.Rest.{StaysAtEnd, current_then, deaths_then, end_keeps}
-use Rattle.bf_machine.proofs.interleaving.Storing.{kept_with, puts_without}
-use Rattle.bf_machine.proofs.interleaving.Telling.{apart_still, entries_alike, grows, length-part, others_told, placed_still, size_here, told_here}
+use Rattle.bf_machine.proofs.interleaving.Rest.{StaysAtEnd, deaths_then}
+use Rattle.bf_machine.proofs.interleaving.Telling.{grows, size_here}
 use Rattle.bf_machine.proofs.interleaving.Texts.{AreTexts}
 
 -- the open group for which another one dies
@@ -217,18 +209,15 @@ module _ (start : Database) (m : Machine) (kept : IsKept start m) (texts : AreTe
   stays : StaysAtEnd start m began m.history
   stays = record { start_then = start_then; start_was = start_was; join_then = λ t g name mode join. join; died_then = died_then }
 
+  abbrev cause : Cause
+  cause = Died h
+
   -- the group itself
-  own_next : o.group.0 ≡ length (told_at m s) + 1
-  own_next = (kept.open_groups_replay.each s o there).next
+  own_is_next : o.group.0 ≡ length (told_at m s) + 1
+  own_is_next = own_next start m kept texts s o there
 
-  own_whole : Contains (groups_in m.script s) o.group
-  own_whole = (kept.open_groups_replay.each s o there).whole
-
-  bounds : (1 ≤ o.group.0) × (o.group.0 ≤ o.group.1) × (o.group.1 ≤ length (session_at m.script s).statements)
-  bounds = texts.bounds s o.group own_whole
-
-  length-text : length (text_of m s o) ≡ o.group.1 - (o.group.0 - 1)
-  length-text = let whole = length-part o.group.0 o.group.1 (session_at m.script s).statements in omega (arith, whole, bounds.0, bounds.1, bounds.2)
+  own_bounds : (1 ≤ o.group.0) × (o.group.0 ≤ o.group.1) × (o.group.1 ≤ length (session_at m.script s).statements)
+  own_bounds = bounds start m kept texts s o there
 
   place : (1 ≤ s) × (s ≤ length m.told)
   place = let p = has_place m s o there in (p.0, omega (arith, p.1, kept.shaped.opens, kept.shaped.told))
@@ -240,17 +229,17 @@ module _ (start : Database) (m : Machine) (kept : IsKept start m) (texts : AreTe
   few : length deaths ≤ m.retries
   few = elim was_allowed.retried [
     | inl some_left ↦ some_left
-    | inr has_ended ↦ absurd (omega (arith, has_ended, own_next, bounds.1))
+    | inr has_ended ↦ absurd (omega (arith, has_ended, own_is_next, own_bounds.1))
   ]
 
-  abbrev told_all : List Reply
-  told_all = map (λ _. Ended (Died h)) (text_of m s o)
+  abbrev all_told : List Reply
+  all_told = told_all start m kept texts s o there cause
 
   -- so it begins again, or its statements are told the cause
-  ends : ((answers ≡ []) × (length deaths + 1 ≤ m.retries)) ⊎ ((answers ≡ told_all) × (length deaths ≡ m.retries))
+  ends : ((answers ≡ []) × (length deaths + 1 ≤ m.retries)) ⊎ ((answers ≡ all_told) × (length deaths ≡ m.retries))
   ends =
       let size : length (deaths_of m s o) ≡ length deaths = ap (λ (ds : List ℕ). length ds) deaths_are in
-      let Told : Bool → List Reply = λ b. if b then told_all else [] in
+      let Told : Bool → List Reply = λ b. if b then all_told else [] in
       elim (cases_Bool (nat_lt m.retries (length (deaths_of m s o) + 1))) [
         | inl last ↦
             let count : length deaths ≡ m.retries = grind (arith, nat_tests, size, few, last) in
@@ -260,15 +249,10 @@ module _ (start : Database) (m : Machine) (kept : IsKept start m) (texts : AreTe
             inl (ap Told again, count)
       ]
 
-  told_size : answers ≡ told_all → o.group.1 ≡ length (told_at m s) + length answers
-  told_size all =
-      let sizes : length answers ≡ length (text_of m s o) = ap (λ (rs : List Reply). length rs) all ∙ length-map (text_of m s o) (λ _. Ended (Died h)) in
-      omega (arith, sizes, length-text, own_next, bounds.0, bounds.1)
-
   closes : (answers ≡ []) ⊎ (o.group.1 ≡ length (told_at m s) + length answers)
   closes = elim ends [
     | inl again ↦ inl again.0
-    | inr last ↦ inr (told_size last.0)
+    | inr last ↦ inr (told_size start m kept texts s o there cause answers last.0)
   ]
 
   more : (t : ℕ) → length (told_at m t) ≤ length (told_at after t)
@@ -369,7 +353,7 @@ module _ (start : Database) (m : Machine) (kept : IsKept start m) (texts : AreTe
     most = omega (arith, few, length-append deaths (h ∷ []));
     retried = elim ends as (λ _. (length (deaths ++ h ∷ []) ≤ m.retries) ⊎ HasEnded after s o.group) [
       | inl again ↦ inl (omega (arith, again.1, length-append deaths (h ∷ [])))
-      | inr last ↦ inr (let size = told_size last.0 in omega (arith, size, size_here m s answers place.0 place.1))
+      | inr last ↦ inr (let size = told_size start m kept texts s o there cause answers last.0 in omega (arith, size, size_here m s answers place.0 place.1))
     ];
   }
 
@@ -386,10 +370,10 @@ module _ (start : Database) (m : Machine) (kept : IsKept start m) (texts : AreTe
 
   -- WHAT IS TOLD is allowed
   abbrev Allowed : ℕ → Group → Cause → Type 0
-  Allowed = IsAllowed start m.script m.began m.history m.retries
+  Allowed = IsAllowed start m.script m.began m.history m.logged m.retries
 
   abbrev AllowedThen : ℕ → Group → Cause → Type 0
-  AllowedThen = IsAllowed start m.script began m.history m.retries
+  AllowedThen = IsAllowed start m.script began m.history m.logged m.retries
 
   -- a group that has ended is another one
   allowed_then : (t : ℕ) (g : Group) (cause : Cause) → HasEnded m t g → Allowed t g cause → AllowedThen t g cause
@@ -399,7 +383,7 @@ module _ (start : Database) (m : Machine) (kept : IsKept start m) (texts : AreTe
       let own = is_own t g (subst (λ (n : ℕ). HasStart m.began t g n) same was.has) in
       let last : g.1 ≡ o.group.1 = ap (λ (g : Group). g.1) own.1 in
       let told : length (told_at m t) ≡ length (told_at m s) = ap (λ (t : ℕ). length (told_at m t)) own.0 in
-      omega (arith, has_ended, last, told, own_next, bounds.1) in (
+      omega (arith, has_ended, last, told, own_is_next, own_bounds.1) in (
         record {
           own = was.own;
           other = was.other;
@@ -417,80 +401,32 @@ module _ (start : Database) (m : Machine) (kept : IsKept start m) (texts : AreTe
       )
   allowed_then t g other has_ended allowed = allowed
 
-  abbrev Apart : Told → Type 0
-  Apart = IsApart m.script AllowedThen after.told
+  allowed_now : length deaths ≡ m.retries → AllowedThen s o.group cause
+  allowed_now count = (
+    record {
+      own = o.start;
+      other = named.died.other;
+      theirs = named.died.theirs;
+      has = record { deaths = dead.deaths; is = began_own };
+      named = start_then named.died.other named.died.theirs h named.died.named;
+      another = named.died.another;
+      one_phase = named.died.one_phase;
+      older = subst (λ (n : ℕ). h < n) (kept.locks_consistent.once s o.group named.died.own o.start named.died.has has) named.died.older;
+      clash = named.died.clash;
+    },
+    deaths_of m s o,
+    refl,
+    ap (λ (ds : List ℕ). length ds) deaths_are ∙ count,
+  )
 
-  abbrev kept_by : Told → Bool
-  kept_by a = not (list_any (stands_in a.0 a.1) m.history || list_any (λ g. none_open a.0 g && has_statement a.1 g) (groups_in m.script a.0))
-
-  still : (a : Told) → IsApart m.script Allowed m.told a → Apart a
-  still = apart_still m s answers place.0 place.1 texts Allowed AllowedThen allowed_then
-
-  -- the statements of the group, where they are told its cause
-  caused_now : answers ≡ told_all → length deaths ≡ m.retries → (j : ℕ) (r : Reply) → 1 + length (told_at m s) ≤ j → j < 1 + length (told_at m s) + length answers → Apart (s, j, r)
-  caused_now all count j r from to =
-      let size = told_size all in
-      let allowed : AllowedThen s o.group (Died h) = (
-        record {
-          own = o.start;
-          other = named.died.other;
-          theirs = named.died.theirs;
-          has = record { deaths = dead.deaths; is = began_own };
-          named = start_then named.died.other named.died.theirs h named.died.named;
-          another = named.died.another;
-          one_phase = named.died.one_phase;
-          older = subst (λ (n : ℕ). h < n) (kept.locks_consistent.once s o.group named.died.own o.start named.died.has has) named.died.older;
-          clash = named.died.clash;
-        },
-        deaths_of m s o,
-        refl,
-        ap (λ (ds : List ℕ). length ds) deaths_are ∙ count,
-      ) in
-      let told : replies_to after.told s o.group ≡ told_all =
-      ap (part o.group.0 o.group.1) (told_here m s answers place.0 place.1)
-      ∙ (part_behind o.group.0 o.group.1 (told_at m s) answers own_next (omega (arith, size, own_next)) ∙ all) in
-      inr (o.group, Died h, texts.found s o.group own_whole j (omega (arith, own_next, from)) (omega (arith, size, to)), allowed, told)
-
-  told_so : AllByRecursion Apart (filter kept_by (told_in s (1 + length (told_at m s)) answers))
-  told_so = elim ends [
-    | inl again ↦ subst (λ (rs : List Reply). AllByRecursion Apart (filter kept_by (told_in s (1 + length (told_at m s)) rs))) (sym again.0) tt
-    | inr last ↦ all_so (IsApart m.script Allowed m.told) Apart kept_by kept_by still (λ a h. h) s (1 + length (told_at m s)) answers (caused_now last.0 last.1)
+  ends_so : (answers ≡ []) ⊎ ((answers ≡ all_told) × AllowedThen s o.group cause)
+  ends_so = elim ends [
+    | inl again ↦ inl again.0
+    | inr last ↦ inr (last.0, allowed_now last.1)
   ]
 
-  others_still : AllByRecursion Apart (filter kept_by (told_from 1 after.told))
-  others_still = others_told m s answers place.0 place.1 (IsApart m.script Allowed m.told) Apart kept_by kept_by still (λ a h. h) told_so kept.history_legal.legal.others
-
-  turns_then : (history : List Entry) → AllByRecursion (λ d. IsCurrent m d.session) history → AllByRecursion (λ d. IsCurrent after d.session) history
-  turns_then [] turns = tt
-  turns_then (d ∷ history) turns = (current_then start m kept s o there answers closes m.db began m.history stays d.session turns.0, turns_then history turns.1)
-
-  death_keeps_legal : HistoryLegal start after
-  death_keeps_legal = record {
-    legal = record {
-      whole_groups = kept.history_legal.legal.whole_groups;
-      in_order = kept.history_legal.legal.in_order;
-      outcomes = kept.history_legal.legal.outcomes;
-      replies = entries_alike m s answers place.0 place.1 m.history kept.history_legal.placed ∙ kept.history_legal.legal.replies;
-      others = others_still;
-    };
-    replay = kept.history_legal.replay;
-    database = kept.history_legal.database;
-    placed = placed_still m s answers place.0 place.1 m.history kept.history_legal.placed;
-    in_turn = turns_then m.history kept.history_legal.in_turn;
-  }
-
   death_keeps : IsKept start after
-  death_keeps =
-      let p = has_place m s o there in
-      kept_with start after
-      (end_keeps start m kept s o there answers closes m.db began m.history stays death_keeps_legal
-      (unchanged_keeps_open start m kept s o there answers began m.history) death_keeps_causes)
-      (record {
-        seen_as = kept.store_valid.seen_as;
-        narrow = kept.store_valid.narrow;
-        by_pass = kept.store_valid.by_pass;
-        puts = puts_without start m kept.store_valid s p.0 p.1;
-      })
+  death_keeps = caused_keeps start m kept texts s o there cause answers began stays allowed_then ends_so death_keeps_causes
 
 -- A DEATH KEEPS ALL
 pub death_keeps_all : (start : Database) (m : Machine) (kept : IsKept start m) (texts : AreTexts m.script) (s : ℕ) (name : LockName) (mode : Mode) (h : ℕ) (next : Machine)

@@ -151,10 +151,10 @@ module _ (start : Database) (m : Machine) (kept : IsKept start m) (texts : AreTe
 
   -- causes that were allowed are
   abbrev Allowed : ℕ → Group → Cause → Type 0
-  Allowed = IsAllowed start m.script m.began m.history m.retries
+  Allowed = IsAllowed start m.script m.began m.history m.logged m.retries
 
   abbrev AllowedThen : ℕ → Group → Cause → Type 0
-  AllowedThen = IsAllowed start m.script m.began (m.history ++ e ∷ []) m.retries
+  AllowedThen = IsAllowed start m.script m.began (m.history ++ e ∷ []) m.logged m.retries
 
   allowed_still : (t : ℕ) (g : Group) (cause : Cause) → Allowed t g cause → AllowedThen t g cause
   allowed_still t g (Died h) allowed = (died_more start m.script m.history e m.began t g h allowed.0, allowed.1, allowed.2, allowed.3)

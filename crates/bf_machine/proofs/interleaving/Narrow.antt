@@ -6,7 +6,7 @@ use Rattle.std.proofs.lemmas.Bool.{and_parts}
 use Rattle.std.proofs.lemmas.List.{length-map}
 use Rattle.std.proofs.lemmas.List.FromFn.{length-enumerate_from}
 use Rattle.std.proofs.lemmas.List.Folds.{list_all-map}
-use Rattle.bf_base.specs.Lists.{has, same_name}
+use Rattle.bf_base.specs.Lists.{has, part, same_name}
 use Rattle.bf_base.specs.declared.table.Table.{Table}
 use Rattle.bf_base.specs.declared.value.Value.{Value}
 use Rattle.bf_base.proofs.Names.{name_cmp_total}
@@ -117,18 +117,26 @@ pub narrow_session : (script : Script) → IsWithinLimits script → (s : ℕ) �
 narrow_session script within zero = tt
 narrow_session script within (suc s) = narrow_at script.sessions s within.narrow within.migrates
 
-pub narrow_drop : (n : ℕ) (ss : List Statement) → AreNarrow ss → AreNarrow (drop n ss)
-narrow_drop zero ss all = all
-narrow_drop (suc n) [] all = all
-narrow_drop (suc n) (s ∷ ss) all = narrow_drop n ss all.1
+module _ {X : Type 0} (P : X → Type 0) where
+  pub all_drop : (n : ℕ) (xs : List X) → AllByRecursion P xs → AllByRecursion P (drop n xs)
+  all_drop zero xs all = all
+  all_drop (suc n) [] all = all
+  all_drop (suc n) (x ∷ xs) all = all_drop n xs all.1
 
-narrow_take : (n : ℕ) (ss : List Statement) → AreNarrow ss → AreNarrow (take n ss)
-narrow_take zero ss all = tt
-narrow_take (suc n) [] all = all
-narrow_take (suc n) (s ∷ ss) all = (all.0, narrow_take n ss all.1)
+  all_take : (n : ℕ) (xs : List X) → AllByRecursion P xs → AllByRecursion P (take n xs)
+  all_take zero xs all = tt
+  all_take (suc n) [] all = all
+  all_take (suc n) (x ∷ xs) all = (all.0, all_take n xs all.1)
+
+  -- of some part
+  pub all_part : (low high : ℕ) (xs : List X) → AllByRecursion P xs → AllByRecursion P (part low high xs)
+  all_part low high xs all = all_take (high - (low - 1)) (drop (low - 1) xs) (all_drop (low - 1) xs all)
+
+pub narrow_drop : (n : ℕ) (ss : List Statement) → AreNarrow ss → AreNarrow (drop n ss)
+narrow_drop = all_drop IsNarrowStatement
 
 pub narrow_in : (script : Script) → IsWithinLimits script → (s : ℕ) (group : ℕ × ℕ) → AreNarrow (statements_in script s group)
-narrow_in script within s group = narrow_take (group.1 - (group.0 - 1)) (drop (group.0 - 1) (session_at script s).statements) (narrow_drop (group.0 - 1) (session_at script s).statements (narrow_session script within s))
+narrow_in script within s group = all_part IsNarrowStatement group.0 group.1 (session_at script s).statements (narrow_session script within s)
 
 -- so is the first of what is left
 pub narrow_next : (ss : List Statement) → AreNarrow ss → (n : ℕ) (s : Statement) (later : List Statement) → drop n ss ≡ s ∷ later → IsNarrowStatement s

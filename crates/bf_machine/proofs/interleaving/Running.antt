@@ -44,7 +44,7 @@ use Rattle.bf_live.proofs.locking.Placing.{is_on_rows}
 use Rattle.bf_live.proofs.locking.Reading.{by_place, parts_of}
 use Rattle.bf_live.proofs.statements.Creating.{creates, creates_index}
 use Rattle.bf_live.proofs.statements.Seeing.{begun, nothing_written, same_catalog}
-use Rattle.bf_machine.specs.interleaving.Groups.{Pending, Rows, NewTable, NewIndex, Flip, Nothing, HasRun, IsSchemaStep, answered_by, flip_unless, left_by, pending_behind, reply_on}
+use Rattle.bf_machine.specs.interleaving.Groups.{Pending, Rows, NewTable, NewIndex, Flip, Nothing, HasRun, IsLeftBy, IsSchemaStep, answered_by, flip_unless, left_by, pending_behind, reply_on}
 use Rattle.bf_machine.specs.interleaving.Events.{stands_inside}
 use Rattle.bf_machine.proofs.interleaving.Planning.{IsPlain, planned_so, prepared_as_bound}
 use Rattle.bf_machine.proofs.interleaving.Texts.{IsText, lone, block}
@@ -107,6 +107,7 @@ step_under locks more owner db told change still run = record {
   changes = run.changes;
   alone = run.alone;
   meant = run.meant;
+  pends = run.pends;
   database = run.database;
   holds = still Catalog X run.holds;
 }
@@ -372,24 +373,33 @@ module _ (db : Database) (is : IsDatabase db) (plan : Plan) (allowed : migrate_o
   migrate_database [] rows = flip_keeps db plan.migrate (record { database = is; unobjected = allowed; few = rows })
   migrate_database (r ∷ rs) rows = is
 
+  -- it is prepared as what its plan is of
+  abbrev IsBoundToIt : Type 0
+  IsBoundToIt = (bound : Bound) × (prepared_of db false asked ≡ Some bound) × (bound.action ≡ action.Migrate plan)
+
+  migrate_pends : IsBoundToIt → (rs : List Refusal) → row_objections db asked ≡ rs → IsLeftBy db asked (flip_unless rs plan)
+  migrate_pends (bound, prepared, e) rs rows = (bound, prepared, sym (ap (pending_behind db (Rows []) false asked) e ∙ ap (λ (rs : List Refusal). flip_unless rs plan) rows))
+
   -- it stands alone, whatever it leaves
   migrate_steps : (locks : Locks) (owner : ℕ) (told : List Answered) → told ≡ record { in_block = false; statement = asked; reply = (executed 0 db false asked).0 } ∷ [] → HoldsIn locks owner Catalog X
-      → (rs : List Refusal) → row_objections db asked ≡ rs → HasRun locks owner db told (flip_unless rs plan)
-  migrate_steps locks owner told alone holds [] rows = record {
+      → IsBoundToIt → (rs : List Refusal) → row_objections db asked ≡ rs → HasRun locks owner db told (flip_unless rs plan)
+  migrate_steps locks owner told alone holds bound [] rows = record {
     statement = asked;
     reply = (executed 0 db false asked).0;
     changes = refl;
     alone = alone;
     meant = migrate_means [] rows;
+    pends = migrate_pends bound [] rows;
     database = migrate_database [] rows;
     holds = holds;
   }
-  migrate_steps locks owner told alone holds (r ∷ rs) rows = record {
+  migrate_steps locks owner told alone holds bound (r ∷ rs) rows = record {
     statement = asked;
     reply = (executed 0 db false asked).0;
     changes = refl;
     alone = alone;
     meant = migrate_means (r ∷ rs) rows;
+    pends = migrate_pends bound (r ∷ rs) rows;
     database = migrate_database (r ∷ rs) rows;
     holds = holds;
   }
@@ -434,9 +444,9 @@ module _ (locks : Locks) (owner : ℕ) (db : Database) (is : IsDatabase db) (ss 
       (step_added locks owner db [] before after told (last inner) bound run is_seen held (row_step db is before opened inner s goes_on bound is_seen none))
 
   -- a CREATE is the first and only one
-  created : (before : List Write) (rs : List Reply) → IsLeft rs → IsNext rs → Replays locks owner db [] (answered_by false rs ss) before → IsCreate bound.action
-      → (change : Pending) → (IsNext [] → Makes db s change) → IsSchemaStep locks owner db (more (Rows before) rs) change
-  created before [] left is_bound same create change makes =
+  created : (before : List Write) (rs : List Reply) → IsLeft rs → IsPreparedNext rs → IsNext rs → Replays locks owner db [] (answered_by false rs ss) before → IsCreate bound.action
+      → (change : Pending) → change ≡ pending_behind db (Rows []) false s bound.action → (IsNext [] → Makes db s change) → IsSchemaStep locks owner db (more (Rows before) rs) change
+  created before [] left is_next is_bound same create change pends makes =
       let made = makes is_bound in
       let parts = parts_of db.number (changes_schema false s) (unless_objected (objections db false s) (action_of db s)) bound is_bound in
       let changes : changes_schema false s ≡ true = elim (from_objections (objections db false s) (action_of db s) bound.action parts.1) [
@@ -452,10 +462,11 @@ module _ (locks : Locks) (owner : ℕ) (db : Database) (is : IsDatabase db) (ss 
         changes = changes;
         alone = ap (λ (ss : List Statement). answered_by false (reply_on db (Rows before) false s ∷ []) ss) left;
         meant = λ commit. made.means commit ∙ ap (λ (r : Reply). (r, left_by db change)) (sym told);
+        pends = (bound, is_next, pends);
         database = made.database;
         holds = (subst (Holds locks owner) (change_alone bound.schema_change bound.action (of_create bound.action create)) held) 0 catalog_read (omega arith);
       }
-  created before (r ∷ rs) left is_bound run create change makes =
+  created before (r ∷ rs) left is_next is_bound run create change pends makes =
       let parts = parts_of db.number (changes_schema true s) (unless_objected (objections db true s) (action_of db s)) bound is_bound in
       absurd (elim (from_objections (objections db true s) (action_of db s) bound.action parts.1) [
         | inl free ↦ create_outside db s bound.action free.0 free.1 create
@@ -474,15 +485,15 @@ module _ (locks : Locks) (owner : ℕ) (db : Database) (is : IsDatabase db) (ss 
       migrate_steps db is plan planned.allowed locks owner (more (Rows before) [])
       (ap (λ (ss : List Statement). answered_by false (reply_on db (Rows before) false s ∷ []) ss) left ∙ ap₂ one planned.statement_is told)
       ((subst (Holds locks owner) (change_alone bound.schema_change bound.action (subst IsSchemaAction (sym e) tt)) held) 0 catalog_read (omega arith))
-      (row_objections db (Migrate plan.migrate)) refl
+      (bound, subst (λ (t : Statement). prepared_of db false t ≡ Some bound) planned.statement_is is_next, e) (row_objections db (Migrate plan.migrate)) refl
   migrated before (r ∷ rs) left is_next run plan e = absurd (false≢true (sym (planned_so db true s bound plan is_next e).outside))
 
   by_action : (before : List Write) (rs : List Reply) → IsLeft rs → IsPreparedNext rs → Replays locks owner db [] (answered_by false rs ss) before
       → (act : Action) → bound.action ≡ act → HasRun locks owner db (more (Rows before) rs) (pending_behind db (Rows before) (stands_inside rs) s act)
   by_action before rs left is_next run (action.CreateTable table) e =
-      created before rs left (plain rs is_next (subst IsPlain (sym e) tt)) run (subst IsCreate (sym e) tt) (NewTable table) (λ is_bound. makes_table db is s bound is_bound table e)
+      created before rs left is_next (plain rs is_next (subst IsPlain (sym e) tt)) run (subst IsCreate (sym e) tt) (NewTable table) (sym (ap (pending_behind db (Rows []) false s) e)) (λ is_bound. makes_table db is s bound is_bound table e)
   by_action before rs left is_next run (action.CreateIndex index) e =
-      created before rs left (plain rs is_next (subst IsPlain (sym e) tt)) run (subst IsCreate (sym e) tt) (NewIndex index) (λ is_bound. makes_index db is s bound is_bound index e)
+      created before rs left is_next (plain rs is_next (subst IsPlain (sym e) tt)) run (subst IsCreate (sym e) tt) (NewIndex index) (sym (ap (pending_behind db (Rows []) false s) e)) (λ is_bound. makes_index db is s bound is_bound index e)
   by_action before rs left is_next run (action.Migrate plan) e = migrated before rs left is_next run plan e
   by_action before rs left is_next run other e = rows_next before rs left (plain rs is_next (subst IsPlain (sym e) tt)) run (λ create. subst IsCreate e create)
 

@@ -16,9 +16,10 @@ use Rattle.bf_sql.specs.migrations.Lazy.{LazyState, view_of}
 use Rattle.bf_live.specs.OpenGroups.{Answered, HoldsIn, MayWrite, Replays}
 use Rattle.bf_live.proofs.locking.Groups.{may_write_all}
 use Rattle.bf_live.proofs.locking.Isolation.{no_writes, none_held_beside}
-use Rattle.bf_live.proofs.statements.Seeing.{begun, narrow_seen, nothing_written}
+use Rattle.bf_live.proofs.statements.Seeing.{begun, narrow_seen}
 use Rattle.bf_store.specs.States.{IsLazy, IsOpenLazily, IsSeenAs, frozen_lazily}
-use Rattle.bf_store.proofs.Calls.{commit_seen, flip_call, open_behind_commit}
+use Rattle.bf_store.proofs.Calls.{flip_call}
+use Rattle.bf_store.proofs.Recorded.{after_seen, open_behind_after}
 use Rattle.bf_store.proofs.changing.Changing.{with_new_index, with_new_table}
 use Rattle.bf_store.proofs.seeing.Opening.{begins}
 use Rattle.bf_store.proofs.seeing.Viewing.{same_catalog_seen, view_is_database}
@@ -39,8 +40,7 @@ counted db lazy records seen = record {
 -- WHAT IS SEEN then is what the group leaves
 pub settles : (lazy : LazyState) → IsLazy lazy → (locks : Locks) (owner : ℕ) (told : List Answered) (p : Pending) → HasRun locks owner (view_of lazy) told p → CanBePutInto lazy p
     → IsSeenAs (left_by (view_of lazy) p) (put_into lazy p)
-settles lazy is locks owner told (Rows []) run puts = record { lazy_state = is; view = sym (nothing_written (view_of lazy)) }
-settles lazy is locks owner told (Rows (w ∷ ws)) run puts = commit_seen lazy (w ∷ ws) is puts
+settles lazy is locks owner told (Rows writes) run puts = after_seen lazy writes is puts
 settles lazy is locks owner told (NewTable table) run puts =
     let new = absent lazy is table run.database in
     let live = table_database lazy is table run.database in
@@ -100,19 +100,18 @@ module _ (lazy : LazyState) (is : IsLazy lazy) (locks : Locks) (consistent : IsC
   none_beside_change whole after is_after (Flip plan) run = absurd (none_held_beside locks owner other consistent apart Catalog X run.holds whole)
   none_beside_change whole after is_after Nothing run = tt
 
-  beside_writes : (w : Write) (ws : List Write) → Replays locks other db [] theirs (w ∷ ws) → IsOpenLazily lazy (w ∷ ws) → (q : Pending) → HasRun locks owner db mine q → CanBePutInto lazy q
-      → CanBePutInto (put_into lazy (Rows (w ∷ ws))) q
-  beside_writes w ws its opened (Rows writes) run puts = open_behind_commit lazy (w ∷ ws) writes puts (open_behind lazy.live (w ∷ ws) writes opened.over_live puts.over_live)
-  beside_writes w ws its opened (NewTable table) run puts = tt
-  beside_writes w ws its opened (NewIndex index) run puts = tt
-  beside_writes w ws its opened (Flip plan) run puts =
-      let none : w ∷ ws ≡ [] = no_writes locks owner other consistent apart run.holds (w ∷ ws) (may_write theirs other (w ∷ ws) its) in
-      absurd cc
-  beside_writes w ws its opened Nothing run puts = tt
+  beside_writes : (written : List Write) → Replays locks other db [] theirs written → IsOpenLazily lazy written → (q : Pending) → HasRun locks owner db mine q → CanBePutInto lazy q
+      → CanBePutInto (put_into lazy (Rows written)) q
+  beside_writes written its opened (Rows writes) run puts = open_behind_after lazy written writes puts (open_behind lazy.live written writes opened.over_live puts.over_live)
+  beside_writes written its opened (NewTable table) run puts = tt
+  beside_writes written its opened (NewIndex index) run puts = tt
+  beside_writes written its opened (Flip plan) run puts =
+      let none : written ≡ [] = no_writes locks owner other consistent apart run.holds written (may_write theirs other written its) in
+      subst (λ (ws : List Write). CanBePutInto (put_into lazy (Rows ws)) (Flip plan)) (sym none) puts
+  beside_writes written its opened Nothing run puts = tt
 
   pub others_put : (p q : Pending) → HasRun locks other db theirs p → CanBePutInto lazy p → HasRun locks owner db mine q → CanBePutInto lazy q → IsLazy (put_into lazy p) → CanBePutInto (put_into lazy p) q
-  others_put (Rows []) q its can run puts is_after = puts
-  others_put (Rows (w ∷ ws)) q its can run puts is_after = beside_writes w ws its can q run puts
+  others_put (Rows writes) q its can run puts is_after = beside_writes writes its can q run puts
   others_put (NewTable table) q its can run puts is_after = none_beside_change its.holds (put_into lazy (NewTable table)) is_after q run
   others_put (NewIndex index) q its can run puts is_after = none_beside_change its.holds (put_into lazy (NewIndex index)) is_after q run
   others_put (Flip plan) q its can run puts is_after = none_beside_change its.holds (put_into lazy (Flip plan)) is_after q run

@@ -54,7 +54,7 @@ wants_alone : (locks : Locks) (owner : ℕ) → held locks Catalog owner ≡ Non
 wants_alone locks owner none = ap (λ (o : Option Mode). option_map_or (λ before. join_of before X) o X) none
 
 abbrev one : Machine
-one = begun (fresh empty_store two_creating 1) 1 (1, 1)
+one = begun (fresh false empty_store two_creating 1) 1 (1, 1)
 
 abbrev two : Machine
 two = begun one 2 (1, 1)
@@ -140,9 +140,9 @@ refused = with_open granted_again 2 (Some second_open)
 abbrev last : Machine
 last = committed refused 2 second_open
 
-begins_one : Begins (fresh empty_store two_creating 1) 1 one
+begins_one : Begins (fresh false empty_store two_creating 1) 1 one
 begins_one = record {
-  current = by_session (fresh empty_store two_creating 1) None None refl refl 1 refl;
+  current = by_session (fresh false empty_store two_creating 1) None None refl refl 1 refl;
   closed = refl;
   group = (1, 1);
   whole = (0, omega arith, refl);

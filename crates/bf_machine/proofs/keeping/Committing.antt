@@ -1,5 +1,5 @@
 -- The commit of a session's open group: what it is to leave can be settled, and the machine behind it keeps what it kept.
-use Rattle.std.proofs.Common.{◌≡◌, ◌⊎◌, ℕ, ◌+◌, ◌-◌, ◌≤◌, true, cond, ltb, List, [], ◌∷◌, ◌++◌, length, map, Option, Some, None, refl, sym, ap, ap₂, subst, ◌∙◌, arith, vec_capacity}
+use Rattle.std.proofs.Common.{◌≡◌, ◌⊎◌, ℕ, ◌+◌, ◌-◌, ◌≤◌, Bool, true, cond, ltb, List, [], ◌∷◌, ◌++◌, length, map, Option, Some, None, refl, sym, ap, ap₂, subst, ◌∙◌, arith, vec_capacity}
 use Rattle.std.specs.Prelude.{slice_index_or, slice_set}
 use Rattle.std.specs.Global.{Vec}
 use Rattle.std.proofs.lemmas.List.{set-get_or}
@@ -12,6 +12,7 @@ use Rattle.bf_tree.specs.declared.plan.Plan.{Plan}
 use Rattle.bf_tree.specs.declared.reply.Reply.{Reply}
 use Rattle.bf_tree.specs.declared.reply.Reply.TheVariants as reply
 use Rattle.bf_tree.specs.declared.script.Script.{Script}
+use Rattle.bf_tree.specs.declared.statement.Statement.{Statement}
 use Rattle.bf_tree.specs.declared.statement.Statement.TheVariants.{Commit}
 use Rattle.bf_sql.specs.Database.{Database}
 use Rattle.bf_sql.specs.Groups.{commits as commits_text}
@@ -27,6 +28,7 @@ use Rattle.bf_machine.specs.declared.so_far.SessionSoFar.{SessionSoFar}
 use Rattle.bf_machine.specs.interleaving.Answering.{CanSettle}
 use Rattle.bf_machine.specs.interleaving.Events.{Commits, IsToCommit, commits_behind, committed, entry_of, put_into, rest_of, text_of}
 use Rattle.bf_machine.specs.interleaving.Groups.{Flip, left_by}
+use Rattle.bf_machine.specs.interleaving.Journals.{AreSaid, IsStated}
 use Rattle.bf_machine.specs.interleaving.Kept.{IsKept, IsOpenGroup, StoreValid}
 use Rattle.bf_machine.specs.interleaving.Machines.{Machine, Open, answered_in, open_at}
 use Rattle.bf_machine.specs.interleaving.Seen.{IsSound, group_seen, pending_seen, seen}
@@ -34,6 +36,7 @@ use Rattle.bf_machine.proofs.interleaving.Ends.{commit_keeps_all}
 use Rattle.bf_machine.proofs.interleaving.Narrow.{narrow_in}
 use Rattle.bf_machine.proofs.interleaving.Running.{run_is_database}
 use Rattle.bf_machine.proofs.interleaving.Settled.{left_narrow, narrow_view, settles}
+use Rattle.bf_machine.proofs.interleaving.Stated.{said_in, stated}
 use Rattle.bf_machine.proofs.interleaving.Texts.{are_texts}
 use Rattle.bf_machine.proofs.keeping.Ending.{ended_sound, last_told, room_for_entry, seen_ended, there}
 
@@ -85,17 +88,17 @@ sessions_stay sessions i x at g is p same =
     ap (λ (h : OpenGroup). record x { «open» = Some h }) group ∙ ap (λ (o : Option OpenGroup). record x { «open» = o }) (sym is) in
     ap (slice_set sessions i) (session ∙ sym at) ∙ set-get_or sessions i x
 
-module _ {opening : Database} {registry : Registry} {given : Script} (script : Script) (retries : ℕ) (store : Store) (locks : Locks) (began : List BeganGroup) (sessions : List SessionSoFar) (history : Vec Entry) (commits : ℕ) (transcripts : Vec (List Reply))
-    (sound : IsSound opening registry given script retries store locks began sessions history commits transcripts)
+module _ {opening : Database} {registry : Registry} {given : Script} (logged : Bool) (script : Script) (retries : ℕ) (store : Store) (locks : Locks) (began : List BeganGroup) (sessions : List SessionSoFar) (history : Vec Entry) (commits : ℕ) (transcripts : Vec (List Reply))
+    (sound : IsSound opening registry given logged script retries store locks began sessions history commits transcripts)
     (s : ℕ) (low : 1 ≤ s) (high : s ≤ length sessions) (x : SessionSoFar) (at : slice_index_or sessions (s - 1) x ≡ x) (g : OpenGroup) (is : x.«open» ≡ Some g) where
   abbrev m : Machine
-  m = seen script retries store locks began sessions history.items
+  m = seen logged script retries store locks began sessions history.items
 
   abbrev o : Open
   o = group_seen x.replies.items g
 
   here : open_at m s ≡ Some o
-  here = there script retries store locks began sessions history commits transcripts sound s low high x at g is
+  here = there logged script retries store locks began sessions history commits transcripts sound s low high x at g is
 
   abbrev db : Database
   db = view_of store.lazy
@@ -114,9 +117,12 @@ module _ {opening : Database} {registry : Registry} {given : Script} (script : S
         (narrow_view store.lazy valid.seen_as.lazy_state valid.narrow);
   }
 
+  pub is_stated : (Says : Statement → Type 0) → AreSaid Says script → IsStated Says db (pending_seen g.pending)
+  is_stated Says said = stated Says locks g.start db o.replies (text_of m s o) (said_in Says script said s o.group) (pending_seen g.pending) own.run
+
   pub number_fits : commits + 1 ≤ vec_capacity history
   number_fits =
-      let space = room_for_entry script retries store locks began sessions history commits transcripts sound s low high x at g is in
+      let space = room_for_entry logged script retries store locks began sessions history commits transcripts sound s low high x at g is in
       let within = commits_within 0 history.items in
       omega (arith, sound.counted, space, within)
 
@@ -166,7 +172,7 @@ module _ {opening : Database} {registry : Registry} {given : Script} (script : S
 
       replies : y.replies.items ≡ x.replies.items ++ answers
       replies =
-          last_told script retries store locks began sessions history commits transcripts sound s low high x at g is
+          last_told logged script retries store locks began sessions history commits transcripts sound s low high x at g is
           Commit (reply.Committed n) left_to_commit y.replies.items told_number
 
       -- what is seen of the store is what the group leaves
@@ -184,17 +190,17 @@ module _ {opening : Database} {registry : Registry} {given : Script} (script : S
           commit_keeps_all opening m sound.kept (are_texts script) s then
           (commits_so then (subst (λ (lazy : LazyState). IsByPass lazy.last after.migration) settled by_pass) same_pass refl)
 
-      pub commit_sound : IsSound opening registry given script retries after free began (slice_set sessions (s - 1) y) entries (commits + 1) transcripts
+      pub commit_sound : IsSound opening registry given logged script retries after free began (slice_set sessions (s - 1) y) entries (commits + 1) transcripts
       commit_sound =
-          subst (λ (locks : Locks). IsSound opening registry given script retries after locks began (slice_set sessions (s - 1) y) entries (commits + 1) transcripts) (sym freed)
-          (ended_sound script retries store locks began sessions history commits transcripts sound s low high x at g is
+          subst (λ (locks : Locks). IsSound opening registry given logged script retries after locks began (slice_set sessions (s - 1) y) entries (commits + 1) transcripts) (sym freed)
+          (ended_sound logged script retries store locks began sessions history commits transcripts sound s low high x at g is
           answers y closed replies after (entry_of m s o (Committed n)) (commits + 1) latest (omega (arith, capacity)) entries with_entry space
           (subst (IsKept opening) (sym as_committed) commit_kept) one count)
 
-      pub commit_seen : Commits m s (seen script retries after free began (slice_set sessions (s - 1) y) entries.items)
+      pub commit_seen : Commits m s (seen logged script retries after free began (slice_set sessions (s - 1) y) entries.items)
       commit_seen =
-          commits_so (seen script retries after free began (slice_set sessions (s - 1) y) entries.items) by_pass same_pass
-          (ap₂ (λ (locks : Locks) (es : List Entry). seen script retries after locks began (slice_set sessions (s - 1) y) es) freed with_entry
-          ∙ (seen_ended script retries store locks began sessions history commits transcripts sound s low high x at g is
+          commits_so (seen logged script retries after free began (slice_set sessions (s - 1) y) entries.items) by_pass same_pass
+          (ap₂ (λ (locks : Locks) (es : List Entry). seen logged script retries after locks began (slice_set sessions (s - 1) y) es) freed with_entry
+          ∙ (seen_ended logged script retries store locks began sessions history commits transcripts sound s low high x at g is
           answers y closed replies after (entry_of m s o (Committed n))
           ∙ as_committed))

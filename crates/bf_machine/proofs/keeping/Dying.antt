@@ -1,10 +1,10 @@
 -- The death of a session's open group: its start number stays, and what is seen of its end.
-use Rattle.std.proofs.Common.{◌≡◌, ◌≢◌, ℕ, zero, suc, ◌+◌, ◌-◌, ◌<◌, ◌≤◌, Bool, true, false, if◌then◌else◌, List, [], ◌∷◌, ◌++◌, length, map, take, replicate, Option, Some, None, refl, sym, ap, ap₂, subst, ◌∙◌, arith, inl, inr, option_map, length-append, vec_capacity}
-use Rattle.std.specs.Prelude.{Contains, is_some, nat_lt, slice_index_or, slice_set}
+use Rattle.std.proofs.Common.{◌≡◌, ◌≢◌, ℕ, zero, suc, ◌+◌, ◌-◌, ◌<◌, ◌≤◌, Bool, true, false, if◌then◌else◌, List, [], ◌∷◌, ◌++◌, length, map, take, replicate, Option, Some, None, refl, sym, ap, ap₂, subst, ◌∙◌, arith, inl, inr, length-append, vec_capacity}
+use Rattle.std.specs.Prelude.{Contains, nat_lt, slice_index_or, slice_set}
 use Rattle.std.specs.Global.{Vec}
 use Rattle.std.specs.Option.{option_map_or}
 use Rattle.std.proofs.lemmas.Bool.{cases_eq}
-use Rattle.std.proofs.lemmas.List.{length-map, length-set, map-set}
+use Rattle.std.proofs.lemmas.List.{length-map, map-set}
 use Rattle.std.proofs.lemmas.Option.{same_Some}
 use Rattle.std.proofs.Math.Seq.{map-set_same}
 use Rattle.bf_locks.specs.declared.answer.LockAnswer.{LockAnswer}
@@ -28,24 +28,20 @@ use Rattle.bf_machine.specs.declared.so_far.SessionSoFar.{SessionSoFar}
 use Rattle.bf_machine.specs.interleaving.Calls.{CanAsk, IsPlace}
 use Rattle.bf_machine.specs.interleaving.Events.{Asks, asked, deaths_of, died, rest_of, stands_inside, text_of, told_at_death, with_death}
 use Rattle.bf_machine.specs.interleaving.Groups.{footprint_in}
-use Rattle.bf_machine.specs.interleaving.Kept.{HasStart, IsKept, IsOpenGroup}
-use Rattle.bf_machine.specs.interleaving.Machines.{Began, Group, Machine, Open, began_at, open_at, told_at}
-use Rattle.bf_machine.specs.interleaving.Seen.{IsLatest, IsSound, began_seen, group_seen, open_seen, seen, told_before, told_seen}
+use Rattle.bf_machine.specs.interleaving.Kept.{HasStart, IsKept}
+use Rattle.bf_machine.specs.interleaving.Machines.{Began, Group, Machine, Open, began_at, open_at}
+use Rattle.bf_machine.specs.interleaving.Seen.{IsLatest, began_seen, group_seen}
 use Rattle.bf_machine.proofs.interleaving.Dying.{death_keeps_all}
 use Rattle.bf_machine.proofs.interleaving.Going.{grant_keeps_all}
 use Rattle.bf_machine.proofs.interleaving.Places.{set_other, set_same, some_within}
-use Rattle.bf_machine.proofs.interleaving.Telling.{length-part}
 use Rattle.bf_machine.proofs.interleaving.Texts.{are_texts}
-use Rattle.bf_machine.proofs.keeping.Places.{one_closed, open_there, opens_then, roomy_then, told_then, told_there}
+use Rattle.bf_machine.proofs.keeping.Closing as closing
+use Rattle.bf_machine.proofs.keeping.Closing.{SoundWith, seen_with}
 use Rattle.bf_machine.proofs.keeping.Sessions.{item_of}
 
 -- one item of a list, among those that have begun
 map_set : (xs : List Began) (i : ℕ) (x : Began) → map Some (slice_set xs i x) ≡ slice_set (map Some xs) i (Some x)
 map_set xs i x = map-set Some xs i x
-
-all_alike : {X Y : Type 0} (y : Y) (xs : List X) → map (λ _. y) xs ≡ replicate (length xs) y
-all_alike y [] = refl
-all_alike {Y = Y} y (x ∷ xs) = ap (λ (ys : List Y). y ∷ ys) (all_alike y xs)
 
 -- what is read twice at one place
 pub one_item : {X : Type 0} (xs : List X) (i : ℕ) (x y : X) → i < length xs → slice_index_or xs i x ≡ x → slice_index_or xs i y ≡ y → x ≡ y
@@ -113,21 +109,13 @@ module _ (began : List Began) (s : ℕ) (group : Group) (n : ℕ) (has : HasStar
       has = λ some. let h = was.has some in (h.0, start_then t h.0 k h.1);
     }
 
--- the machine with other locks, other groups that have begun and other sessions
-module _ {N : Type 0} (i : Inside N) (locks : Locks) (began : List BeganGroup) (sessions : List SessionSoFar) where
-  abbrev pub SoundWith : Database → Registry → Script → Type 0
-  SoundWith opening registry given = IsSound opening registry given i.script i.retries i.store locks began sessions i.history i.commits i.transcripts
-
-  abbrev pub seen_with : Machine
-  seen_with = seen i.script i.retries i.store locks began sessions i.history.items
-
 -- THE OPEN GROUP g of a session, of which the code has x
-module _ {N : Type 0} {opening : Database} {registry : Registry} {given : Script} (i : Inside N) (sound : SoundWith i i.locks i.began.items i.sessions.items opening registry given) (before : Machine)
-    (view : seen_with i i.locks i.began.items i.sessions.items ≡ before)
+module _ {N : Type 0} {opening : Database} {registry : Registry} {given : Script} {logged : Bool} (i : Inside N) (sound : SoundWith logged i i.locks i.began.items i.sessions.items opening registry given) (before : Machine)
+    (view : seen_with logged i i.locks i.began.items i.sessions.items ≡ before)
     (s : ℕ) (place : IsPlace before.script s) (x : SessionSoFar) (at : slice_index_or i.sessions.items (s - 1) x ≡ x) (g : OpenGroup)
     (is : x.«open» ≡ Some g) where
   abbrev m : Machine
-  m = seen_with i i.locks i.began.items i.sessions.items
+  m = seen_with logged i i.locks i.began.items i.sessions.items
 
   abbrev o : Open
   o = group_seen x.replies.items g
@@ -136,25 +124,13 @@ module _ {N : Type 0} {opening : Database} {registry : Registry} {given : Script
   low = place.0
 
   high : s ≤ length i.sessions.items
-  high =
-      let here : IsPlace i.script s = subst (λ (m : Machine). IsPlace m.script s) (sym view) place in
-      omega (arith, here.1, sound.kept.shaped.opens, length-map i.sessions.items open_seen)
+  high = closing.high i sound before view s place x at g is
 
   there : open_at m s ≡ Some o
-  there =
-      open_there i.script i.retries i.store i.locks i.began.items i.sessions.items i.history.items x s low high at
-      ∙ ap (option_map (group_seen x.replies.items)) is
-
-  told_is : told_at m s ≡ take (g.first - 1) x.replies.items
-  told_is =
-      told_there i.script i.retries i.store i.locks i.began.items i.sessions.items i.history.items x s low high at
-      ∙ ap (told_before x.replies.items) is
-
-  own : IsOpenGroup opening m s o
-  own = sound.kept.open_groups_replay.each s o there
+  there = closing.there i sound before view s place x at g is
 
   pub bounds : (1 ≤ g.first) × (g.first ≤ g.last) × (g.last ≤ length (session_at i.script s).statements)
-  bounds = (are_texts i.script).bounds s o.group own.whole
+  bounds = closing.bounds i sound before view s place x at g is
 
   has : HasStart (map began_seen i.began.items) s o.group g.start
   has = sound.kept.locks_consistent.starts s o there
@@ -163,11 +139,6 @@ module _ {N : Type 0} {opening : Database} {registry : Registry} {given : Script
   start_within =
       let within = number_high (map began_seen i.began.items) s o.group g.start has in
       (number_low (map began_seen i.began.items) s o.group g.start has, omega (arith, within, length-map i.began.items began_seen))
-
-  length-text : length (text_of m s o) ≡ g.last + 1 - g.first
-  length-text =
-      let whole = length-part g.first g.last (session_at i.script s).statements in
-      omega (arith, whole, bounds.0, bounds.1, bounds.2)
 
   -- the code reads the session again, as z. There is room for the replies of the whole group, so many as are told its death
   module _ (z : SessionSoFar) (again : slice_index_or i.sessions.items (s - 1) z ≡ z) (deaths count : ℕ)
@@ -179,11 +150,9 @@ module _ {N : Type 0} {opening : Database} {registry : Registry} {given : Script
 
     pub room_for_all : g.first - 1 + count ≤ vec_capacity z.replies
     room_for_all =
-        let next : s - 1 + 1 ≡ s = omega (arith, low) in
-        let room = (sound.roomy (s - 1) x (omega (arith, low, high)) at).room in
-        let here : length (session_at i.script s).statements ≤ vec_capacity x.replies = rw next at room in
+        let room = closing.room_for_text i sound before view s place x at g is in
         let same : vec_capacity z.replies ≡ vec_capacity x.replies = ap (λ (z : SessionSoFar). vec_capacity z.replies) same_session in
-        omega (arith, here, same, bounds.0, bounds.1, bounds.2, at_most (nat_lt i.retries deaths) (g.last + 1 - g.first) count counted)
+        omega (arith, room, same, bounds.0, bounds.1, at_most (nat_lt i.retries deaths) (g.last + 1 - g.first) count counted)
 
   -- THE ANSWER to what may be asked, and the locks behind it
   module _ (name : LockName) (mode : Mode) (can : CanAsk before s opening name mode) (answer : LockAnswer)
@@ -232,7 +201,7 @@ module _ {N : Type 0} {opening : Database} {registry : Registry} {given : Script
       asked_is (Wait owners) is = refl
       asked_is (Die h) is = absurd (lives h is)
 
-      pub lives_sound : SoundWith i locks i.began.items i.sessions.items opening registry given
+      pub lives_sound : SoundWith logged i locks i.began.items i.sessions.items opening registry given
       lives_sound = record {
         is_given = sound.is_given;
         narrow = sound.narrow;
@@ -246,9 +215,9 @@ module _ {N : Type 0} {opening : Database} {registry : Registry} {given : Script
         transcripts_room = sound.transcripts_room;
       }
 
-      pub lives_asks : Asks before s opening name mode answer (seen_with i locks i.began.items i.sessions.items)
+      pub lives_asks : Asks before s opening name mode answer (seen_with logged i locks i.began.items i.sessions.items)
       lives_asks =
-          asks_so answer refl (seen_with i locks i.began.items i.sessions.items)
+          asks_so answer refl (seen_with logged i locks i.began.items i.sessions.items)
           (ap (λ (locks : Locks). record m { locks = locks }) held_then ∙ asked_is answer refl)
 
     -- AT A DEATH the locks stay. The code has b of the group, and puts other deaths into it
@@ -269,13 +238,13 @@ module _ {N : Type 0} {opening : Database} {registry : Registry} {given : Script
             let alike : began_seen c ≡ began_seen b = ap (λ (ds : List ℕ). record (began_seen b) { deaths = ds }) same in
             map-set_same began_seen i.began.items (g.start - 1) c b (alike ∙ ap began_seen (sym at_start))
 
-        seen_unchanged : seen_with i locks began i.sessions.items ≡ m
+        seen_unchanged : seen_with logged i locks began i.sessions.items ≡ m
         seen_unchanged = ap₂ (λ (locks : Locks) (bs : List Began). record m { locks = locks; began = bs }) locks_stay began_stays
 
-        pub unchanged : seen_with i locks began i.sessions.items ≡ before
+        pub unchanged : seen_with logged i locks began i.sessions.items ≡ before
         unchanged = seen_unchanged ∙ view
 
-        pub unchanged_sound : SoundWith i locks began i.sessions.items opening registry given
+        pub unchanged_sound : SoundWith logged i locks began i.sessions.items opening registry given
         unchanged_sound = record {
           is_given = sound.is_given;
           narrow = sound.narrow;
@@ -334,8 +303,7 @@ module _ {N : Type 0} {opening : Database} {registry : Registry} {given : Script
             let size : length deaths.items ≡ length (deaths_of m s o) + 1 =
             ap (λ (ds : List ℕ). length ds) one_more
             ∙ (length-append b.deaths.items (h ∷ []) ∙ ap (λ (ds : List ℕ). length ds + 1) (sym deaths_are)) in
-            let all : map (λ _. Ended (Died h)) (text_of m s o) ≡ replicate (g.last + 1 - g.first) (Ended (Died h)) =
-            all_alike (Ended (Died h)) (text_of m s o) ∙ ap (λ (n : ℕ). replicate n (Ended (Died h))) length-text in
+            let all = closing.all_told i sound before view s place x at g is (Ended (Died h)) in
             ap (λ (n : ℕ). replicate n (Ended (Died h))) (counted ∙ ap (λ (n : ℕ). if nat_lt i.retries n then g.last + 1 - g.first else 0) size)
             ∙ each (nat_lt i.retries (length (deaths_of m s o) + 1)) all
           where
@@ -344,62 +312,35 @@ module _ {N : Type 0} {opening : Database} {registry : Registry} {given : Script
             each true all = sym all
             each false all = refl
 
-        told_seen_then : told_seen y ≡ told_at m s ++ told_at_death m s o h
-        told_seen_then =
-            let taken : take (g.first - 1) z.replies.items ≡ told_at m s =
-            ap (λ (z : SessionSoFar). take (g.first - 1) z.replies.items) same_there ∙ sym told_is in
-            ap (told_before y.replies.items) closed ∙ (replies ∙ ap₂ (λ (rs more : List Reply). rs ++ more) taken answers_are)
+        replies_of_it : y.replies.items ≡ take (g.first - 1) x.replies.items ++ told_at_death m s o h
+        replies_of_it = replies ∙ ap₂ (λ (z : SessionSoFar) (more : List Reply). take (g.first - 1) z.replies.items ++ more) same_there answers_are
 
         abbrev sessions : List SessionSoFar
         sessions = slice_set i.sessions.items (s - 1) y
 
-        seen_died : seen_with i free began sessions ≡ died m s o h
+        seen_died : seen_with logged i free began sessions ≡ died m s o h
         seen_died =
             let locks_then : free ≡ without_owner i.locks g.start = freed ∙ ap (λ (locks : Locks). without_owner locks g.start) locks_stay in
-            let opens_are : map open_seen sessions ≡ slice_set (map open_seen i.sessions.items) (s - 1) None =
-            opens_then i.sessions.items (s - 1) y
-            ∙ ap (λ (p : Option OpenGroup). slice_set (map open_seen i.sessions.items) (s - 1) (option_map (group_seen y.replies.items) p))
-            closed in
-            let told_are : map told_seen sessions ≡ slice_set (map told_seen i.sessions.items) (s - 1) (told_at m s ++ told_at_death m s o h) =
-            told_then i.sessions.items (s - 1) y ∙ ap (slice_set (map told_seen i.sessions.items) (s - 1)) told_seen_then in
-            ap₂ (λ (locks : Locks) (bs : List Began). record (seen_with i free began sessions) { locks = locks; began = bs }) locks_then began_then
-            ∙ ap₂ (λ (opens : List (Option Open)) (told : List (List Reply)). record (died m s o h) { opens = opens; told = told }) opens_are told_are
+            closing.closed_seen i sound before view s place x at g is (told_at_death m s o h) y closed replies_of_it free locks_then began
+            ∙ ap (λ (bs : List Began). record (died m s o h) { began = bs }) began_then
 
-        pub died_asks : Asks before s opening name mode answer (seen_with i free began sessions)
-        died_asks = asks_so (Die h) dies (seen_with i free began sessions) seen_died
+        pub died_asks : Asks before s opening name mode answer (seen_with logged i free began sessions)
+        died_asks = asks_so (Die h) dies (seen_with logged i free began sessions) seen_died
 
         latest_stays : (t k : ℕ) → IsLatest (map began_seen i.began.items) t k → IsLatest (map began_seen began) t k
         latest_stays t k was =
             subst (λ (bs : List Began). IsLatest bs t k) (sym began_then)
             (latest_then (map began_seen i.began.items) s o.group g.start has (deaths_of m s o ++ h ∷ []) t k was)
 
-        died_kept : IsKept opening (seen_with i free began sessions)
+        died_kept : IsKept opening (seen_with logged i free began sessions)
         died_kept =
             let fate = subst (IsJudged i.locks g.start name mode) dies judged in
             let next : Machine = died m s o h in
             subst (IsKept opening) (sym seen_died)
             (death_keeps_all opening m sound.kept (are_texts i.script) s name mode h next (asks_seen (Die h) fate next refl))
 
-        pub died_sound : SoundWith i free began sessions opening registry given
+        pub died_sound : SoundWith logged i free began sessions opening registry given
         died_sound =
-            let below : s - 1 < length i.sessions.items = omega (arith, low, high) in
-            let was = sound.roomy (s - 1) x below at in
             let same : vec_capacity y.replies ≡ vec_capacity x.replies = capacity ∙ ap (λ (z : SessionSoFar). vec_capacity z.replies) same_there in
-            let last : x.latest ≡ y.latest = sym (latest ∙ ap (λ (z : SessionSoFar). z.latest) same_there) in
-            let fewer = one_closed i.sessions.items (s - 1) x y below at (ap is_some is) (ap is_some closed) in record {
-              is_given = sound.is_given;
-              narrow = sound.narrow;
-              one = sound.one;
-              kept = died_kept;
-              counted = sound.counted;
-              sessions_numbered = sound.sessions_numbered;
-              roomy = roomy_then i.script (map began_seen began) i.sessions.items (s - 1) x y below at
-                  (λ j z within is.
-                  let old = sound.roomy j z within is in
-                  record { room = old.room; numbers = old.numbers; latest = latest_stays (j + 1) z.latest old.latest })
-                  (omega (arith, same))
-                  (latest_stays (s - 1 + 1) y.latest (subst (IsLatest (map began_seen i.began.items) (s - 1 + 1)) last was.latest));
-              room = omega (arith, sound.room, fewer);
-              no_transcripts = sound.no_transcripts;
-              transcripts_room = omega (arith, length-set i.sessions.items (s - 1) y, sound.transcripts_room);
-            }
+            let last : y.latest ≡ x.latest = latest ∙ ap (λ (z : SessionSoFar). z.latest) same_there in
+            closing.closed_sound i sound before view s place x at g is (told_at_death m s o h) y closed replies_of_it free began last same latest_stays died_kept

@@ -1,5 +1,5 @@
 -- The end of a session's open group: its replies, and what is seen of it.
-use Rattle.std.proofs.Common.{◌≡◌, ◌⊎◌, ℕ, ◌+◌, ◌-◌, ◌<◌, ◌≤◌, false, cond, ltb, List, [], ◌∷◌, ◌++◌, length, map, take, drop, Option, Some, None, refl, sym, ap, ap₂, subst, ◌∙◌, arith, inl, inr, option_map, append_assoc, append-nil, length-append, vec_capacity}
+use Rattle.std.proofs.Common.{◌≡◌, ◌⊎◌, ℕ, ◌+◌, ◌-◌, ◌<◌, ◌≤◌, Bool, false, cond, ltb, List, [], ◌∷◌, ◌++◌, length, map, take, drop, Option, Some, None, refl, sym, ap, ap₂, subst, ◌∙◌, arith, inl, inr, option_map, append_assoc, append-nil, length-append, vec_capacity}
 use Rattle.std.specs.Prelude.{is_some, slice_index_or, slice_set}
 use Rattle.std.specs.Global.{Vec}
 use Rattle.std.proofs.lemmas.Bool.{cases_lt, cond_above, cond_below}
@@ -36,20 +36,20 @@ commits_more : (n : ℕ) (es : List Entry) (e : Entry) → commits_behind n (es 
 commits_more n [] e = refl
 commits_more n (d ∷ es) e = commits_more (commits_with n d.outcome) es e
 
-module _ {opening : Database} {registry : Registry} {given : Script} (script : Script) (retries : ℕ) (store : Store) (locks : Locks) (began : List BeganGroup) (sessions : List SessionSoFar) (history : Vec Entry) (commits : ℕ) (transcripts : Vec (List Reply))
-    (sound : IsSound opening registry given script retries store locks began sessions history commits transcripts)
+module _ {opening : Database} {registry : Registry} {given : Script} (logged : Bool) (script : Script) (retries : ℕ) (store : Store) (locks : Locks) (began : List BeganGroup) (sessions : List SessionSoFar) (history : Vec Entry) (commits : ℕ) (transcripts : Vec (List Reply))
+    (sound : IsSound opening registry given logged script retries store locks began sessions history commits transcripts)
     (s : ℕ) (low : 1 ≤ s) (high : s ≤ length sessions) (x : SessionSoFar) (at : slice_index_or sessions (s - 1) x ≡ x) (g : OpenGroup) (is : x.«open» ≡ Some g) where
   abbrev m : Machine
-  m = seen script retries store locks began sessions history.items
+  m = seen logged script retries store locks began sessions history.items
 
   abbrev o : Open
   o = group_seen x.replies.items g
 
   pub there : open_at m s ≡ Some o
-  there = open_there script retries store locks began sessions history.items x s low high at ∙ ap (option_map (group_seen x.replies.items)) is
+  there = open_there logged script retries store locks began sessions history.items x s low high at ∙ ap (option_map (group_seen x.replies.items)) is
 
   told_is : told_at m s ≡ take (g.first - 1) x.replies.items
-  told_is = told_there script retries store locks began sessions history.items x s low high at ∙ ap (told_before x.replies.items) is
+  told_is = told_there logged script retries store locks began sessions history.items x s low high at ∙ ap (told_before x.replies.items) is
 
   pub all_told : told_at m s ++ o.replies ≡ x.replies.items
   all_told = ap (λ (rs : List Reply). rs ++ drop (g.first - 1) x.replies.items) told_is ∙ take-append-drop (g.first - 1) x.replies.items
@@ -120,7 +120,7 @@ module _ {opening : Database} {registry : Registry} {given : Script} (script : S
         ap (told_before y.replies.items) closed
         ∙ (replies ∙ (ap (λ (rs : List Reply). rs ++ answers) (sym all_told) ∙ append_assoc (told_at m s) o.replies answers))
 
-    pub seen_ended : seen script retries next (without_owner locks g.start) began (slice_set sessions (s - 1) y) (history.items ++ e ∷ [])
+    pub seen_ended : seen logged script retries next (without_owner locks g.start) began (slice_set sessions (s - 1) y) (history.items ++ e ∷ [])
         ≡ after
     seen_ended =
         ap₂ (λ (opens : List (Option Open)) (told : List (List Reply)). record after { opens = opens; told = told })
@@ -131,7 +131,7 @@ module _ {opening : Database} {registry : Registry} {given : Script} (script : S
     module _ (commits_then : ℕ) (latest : y.latest ≡ x.latest) (capacity : vec_capacity x.replies ≤ vec_capacity y.replies) (entries : Vec Entry) (items : entries.items ≡ history.items ++ e ∷ [])
         (space : vec_capacity entries ≡ vec_capacity history) (kept : IsKept opening after) (one : IsOf registry next.migration)
         (counted : commits_then ≡ commits_with (commits_behind 0 history.items) e.outcome) where
-      pub ended_sound : IsSound opening registry given script retries next (without_owner locks g.start) began (slice_set sessions (s - 1) y) entries commits_then transcripts
+      pub ended_sound : IsSound opening registry given logged script retries next (without_owner locks g.start) began (slice_set sessions (s - 1) y) entries commits_then transcripts
       ended_sound =
           let below : s - 1 < length sessions = omega (arith, low, high) in
           let was = sound.roomy (s - 1) x below at in
@@ -140,7 +140,7 @@ module _ {opening : Database} {registry : Registry} {given : Script} (script : S
             is_given = sound.is_given;
             narrow = sound.narrow;
             one = one;
-            kept = subst (λ (es : List Entry). IsKept opening (seen script retries next (without_owner locks g.start) began (slice_set sessions (s - 1) y) es)) (sym items)
+            kept = subst (λ (es : List Entry). IsKept opening (seen logged script retries next (without_owner locks g.start) began (slice_set sessions (s - 1) y) es)) (sym items)
                 (subst (IsKept opening) (sym seen_ended) kept);
             counted = counted ∙ (sym (commits_more 0 history.items e) ∙ ap (commits_behind 0) (sym items));
             sessions_numbered = sound.sessions_numbered;
@@ -182,13 +182,13 @@ module _ {opening : Database} {registry : Registry} {given : Script} (script : S
       replies : y.replies.items ≡ x.replies.items ++ answers
       replies = last_told Rollback reply.RolledBack left_to_abort y.replies.items told
 
-      pub abort_sound : IsSound opening registry given script retries store free began (slice_set sessions (s - 1) y) entries commits transcripts
+      pub abort_sound : IsSound opening registry given logged script retries store free began (slice_set sessions (s - 1) y) entries commits transcripts
       abort_sound =
-          subst (λ (locks : Locks). IsSound opening registry given script retries store locks began (slice_set sessions (s - 1) y) entries commits transcripts) (sym freed)
+          subst (λ (locks : Locks). IsSound opening registry given logged script retries store locks began (slice_set sessions (s - 1) y) entries commits transcripts) (sym freed)
           (ended_sound answers y closed replies store (entry_of m s o RolledBack) commits latest (omega (arith, capacity)) entries items space abort_kept sound.one sound.counted)
 
-      pub abort_seen : Aborts m s (seen script retries store free began (slice_set sessions (s - 1) y) entries.items)
+      pub abort_seen : Aborts m s (seen logged script retries store free began (slice_set sessions (s - 1) y) entries.items)
       abort_seen =
-          aborted (seen script retries store free began (slice_set sessions (s - 1) y) entries.items)
-          (ap₂ (λ (locks : Locks) (es : List Entry). seen script retries store locks began (slice_set sessions (s - 1) y) es) freed items
+          aborted (seen logged script retries store free began (slice_set sessions (s - 1) y) entries.items)
+          (ap₂ (λ (locks : Locks) (es : List Entry). seen logged script retries store locks began (slice_set sessions (s - 1) y) es) freed items
           ∙ seen_ended answers y closed replies store (entry_of m s o RolledBack))

@@ -20,13 +20,13 @@ use Rattle.bf_machine.specs.interleaving.Machines.{Machine, Open}
 use Rattle.bf_machine.specs.interleaving.Seen.{IsLatest, IsSound, began_seen, is_open, open_seen, seen, told_seen}
 use Rattle.bf_machine.proofs.keeping.Places.{opens_then, roomy_then, told_then}
 
-module _ (script : Script) (retries : ℕ) (store : Store) (locks : Locks) (began : List BeganGroup) (sessions : List SessionSoFar) (history : List Entry)
+module _ (logged : Bool) (script : Script) (retries : ℕ) (store : Store) (locks : Locks) (began : List BeganGroup) (sessions : List SessionSoFar) (history : List Entry)
     (s : ℕ) (x : SessionSoFar) (at : slice_index_or sessions (s - 1) x ≡ x) (y : SessionSoFar) where
   abbrev m : Machine
-  m = seen script retries store locks began sessions history
+  m = seen logged script retries store locks began sessions history
 
   abbrev then : Machine
-  then = seen script retries store locks began (slice_set sessions (s - 1) y) history
+  then = seen logged script retries store locks began (slice_set sessions (s - 1) y) history
 
   opens_same : open_seen y ≡ open_seen x → map open_seen (slice_set sessions (s - 1) y) ≡ map open_seen sessions
   opens_same alike = map-set_same open_seen sessions (s - 1) y x (alike ∙ ap open_seen (sym at))
@@ -52,8 +52,8 @@ module _ (script : Script) (retries : ℕ) (store : Store) (locks : Locks) (bega
       ap₂ with_lists (opens_same opens) (told_then sessions (s - 1) y ∙ ap (λ (rs : List Reply). slice_set (map told_seen sessions) (s - 1) rs) told)
 
 -- the machine stays sound where as many groups are open
-module _ {opening : Database} {registry : Registry} {given : Script} (script : Script) (retries : ℕ) (store : Store) (locks : Locks) (began : List BeganGroup) (sessions : List SessionSoFar) (history : Vec Entry) (commits : ℕ) (transcripts : Vec (List Reply))
-    (sound : IsSound opening registry given script retries store locks began sessions history commits transcripts)
+module _ {opening : Database} {registry : Registry} {given : Script} (logged : Bool) (script : Script) (retries : ℕ) (store : Store) (locks : Locks) (began : List BeganGroup) (sessions : List SessionSoFar) (history : Vec Entry) (commits : ℕ) (transcripts : Vec (List Reply))
+    (sound : IsSound opening registry given logged script retries store locks began sessions history commits transcripts)
     (s : ℕ) (low : 1 ≤ s) (high : s ≤ length sessions) (x : SessionSoFar) (at : slice_index_or sessions (s - 1) x ≡ x)
     (y : SessionSoFar) (alike : is_open y ≡ is_open x) (latest : y.latest ≡ x.latest) (capacity : vec_capacity x.replies ≤ vec_capacity y.replies) where
   below : s - 1 < length sessions
@@ -71,8 +71,8 @@ module _ {opening : Database} {registry : Registry} {given : Script} (script : S
       let same : counts y ≡ counts x = ap (λ (b : Bool). cond b 1 0) alike in
       omega (arith, changed, mine, same)
 
-  pub exchanged_sound : IsKept opening (seen script retries store locks began (slice_set sessions (s - 1) y) history.items)
-      → IsSound opening registry given script retries store locks began (slice_set sessions (s - 1) y) history commits transcripts
+  pub exchanged_sound : IsKept opening (seen logged script retries store locks began (slice_set sessions (s - 1) y) history.items)
+      → IsSound opening registry given logged script retries store locks began (slice_set sessions (s - 1) y) history commits transcripts
   exchanged_sound kept =
       let was = sound.roomy (s - 1) x below at in record {
         is_given = sound.is_given;

@@ -102,11 +102,11 @@ some_there : (ss : List Statement) → list_any ends_block ss ≡ true → 1 ≤
 some_there [] any = absurd (false≢true any)
 some_there (s ∷ ss) any = omega arith
 
-module _ {opening : Database} {registry : Registry} {given : Script} (script : Script) (retries : ℕ) (store : Store) (locks : Locks) (began : List BeganGroup) (sessions : List SessionSoFar) (history : Vec Entry) (commits : ℕ) (transcripts : Vec (List Reply))
-    (sound : IsSound opening registry given script retries store locks began sessions history commits transcripts)
+module _ {opening : Database} {registry : Registry} {given : Script} (logged : Bool) (script : Script) (retries : ℕ) (store : Store) (locks : Locks) (began : List BeganGroup) (sessions : List SessionSoFar) (history : Vec Entry) (commits : ℕ) (transcripts : Vec (List Reply))
+    (sound : IsSound opening registry given logged script retries store locks began sessions history commits transcripts)
     (s : ℕ) (low : 1 ≤ s) (high : s ≤ length sessions) (x : SessionSoFar) (at : slice_index_or sessions (s - 1) x ≡ x) where
   abbrev m : Machine
-  m = seen script retries store locks began sessions history.items
+  m = seen logged script retries store locks began sessions history.items
 
   abbrev db : Database
   db = view_of store.lazy
@@ -116,7 +116,7 @@ module _ {opening : Database} {registry : Registry} {given : Script} (script : S
   NeedHasMoved act = HaveMoved store.lazy.last (λ last. needed_for last.old last.migrate act)
 
   abbrev then : SessionSoFar → Machine
-  then y = seen script retries store locks began (slice_set sessions (s - 1) y) history.items
+  then y = seen logged script retries store locks began (slice_set sessions (s - 1) y) history.items
 
   -- IN AN OPEN GROUP
   module _ (g : OpenGroup) (is : x.«open» ≡ Some g) where
@@ -124,7 +124,7 @@ module _ {opening : Database} {registry : Registry} {given : Script} (script : S
     o = group_seen x.replies.items g
 
     group_there : open_at m s ≡ Some o
-    group_there = there script retries store locks began sessions history commits transcripts sound s low high x at g is
+    group_there = there logged script retries store locks began sessions history commits transcripts sound s low high x at g is
 
     own : IsOpenGroup opening m s o
     own = sound.kept.open_groups_replay.each s o group_there
@@ -132,7 +132,7 @@ module _ {opening : Database} {registry : Registry} {given : Script} (script : S
     -- the replies before the group's are there
     before : g.first - 1 ≤ length x.replies.items
     before =
-        let all = all_told script retries store locks began sessions history commits transcripts sound s low high x at g is in
+        let all = all_told logged script retries store locks began sessions history commits transcripts sound s low high x at g is in
         let sizes : length (told_at m s) + length o.replies ≡ length x.replies.items = sym (length-append (told_at m s) o.replies) ∙ ap (λ (rs : List Reply). length rs) all in
         omega (arith, sizes, own.next)
 
@@ -199,9 +199,9 @@ module _ {opening : Database} {registry : Registry} {given : Script} (script : S
 
       pub has_room : length x.replies.items < vec_capacity x.replies
       has_room =
-          let size = left_size script retries store locks began sessions history commits transcripts sound s low high x at g is in
+          let size = left_size logged script retries store locks began sessions history commits transcripts sound s low high x at g is in
           let some : length (rest_of m s o) ≡ suc (length by.later) = ap (λ (ss : List Statement). length ss) left in
-          room_for_reply script retries store locks began sessions history commits transcripts sound s low high x at g is (omega (arith, size, some))
+          room_for_reply logged script retries store locks began sessions history commits transcripts sound s low high x at g is (omega (arith, size, some))
 
       -- it is answered
       module _ (p : PendingChange) (r : Reply) (answered : IsAnswer db (pending_seen g.pending) by.bound inside by.statement r (pending_seen p))
@@ -236,21 +236,21 @@ module _ {opening : Database} {registry : Registry} {given : Script} (script : S
           bound_so = bound_so;
           held = held;
           moved = by.moved;
-          goes = seen_with_open script retries store locks began sessions history.items s x at y told_before_is (Some (stepped m s o by.statement by.bound)) open_stepped;
+          goes = seen_with_open logged script retries store locks began sessions history.items s x at y told_before_is (Some (stepped m s o by.statement by.bound)) open_stepped;
         }
 
-        pub executed_sound : IsSound opening registry given script retries store locks began (slice_set sessions (s - 1) y) history commits transcripts
+        pub executed_sound : IsSound opening registry given logged script retries store locks began (slice_set sessions (s - 1) y) history commits transcripts
         executed_sound =
-            exchanged_sound script retries store locks began sessions history commits transcripts sound s low high x at y (ap is_some opened ∙ sym (ap is_some is)) latest capacity
+            exchanged_sound logged script retries store locks began sessions history commits transcripts sound s low high x at y (ap is_some opened ∙ sym (ap is_some is)) latest capacity
             (exec_keeps_all opening m sound.kept s (are_texts script) (then y) executes)
 
   -- IN NO GROUP
   module _ (is : x.«open» ≡ None) where
     none_there : open_at m s ≡ None
-    none_there = open_there script retries store locks began sessions history.items x s low high at ∙ ap (option_map (group_seen x.replies.items)) is
+    none_there = open_there logged script retries store locks began sessions history.items x s low high at ∙ ap (option_map (group_seen x.replies.items)) is
 
     all_before : told_at m s ≡ x.replies.items
-    all_before = told_there script retries store locks began sessions history.items x s low high at ∙ ap (told_before x.replies.items) is
+    all_before = told_there logged script retries store locks began sessions history.items x s low high at ∙ ap (told_before x.replies.items) is
 
     -- nothing is executed there
     refuses_there : (bound : Bound) → CanExec m s opening bound → (next : Machine) × Refuses m s next
@@ -287,12 +287,12 @@ module _ {opening : Database} {registry : Registry} {given : Script} (script : S
           current = by.current;
           closed = by.closed;
           stray = by.stray;
-          goes = seen_with_told script retries store locks began sessions history.items s x at y open_as_before (told_at m s ++ reply.Refused NoTransaction ∷ []) told_more_is;
+          goes = seen_with_told logged script retries store locks began sessions history.items s x at y open_as_before (told_at m s ++ reply.Refused NoTransaction ∷ []) told_more_is;
         }
 
-        pub refused_sound : IsSound opening registry given script retries store locks began (slice_set sessions (s - 1) y) history commits transcripts
+        pub refused_sound : IsSound opening registry given logged script retries store locks began (slice_set sessions (s - 1) y) history commits transcripts
         refused_sound =
-            exchanged_sound script retries store locks began sessions history commits transcripts sound s low high x at y (ap is_some closed ∙ sym (ap is_some is)) latest capacity
+            exchanged_sound logged script retries store locks began sessions history commits transcripts sound s low high x at y (ap is_some closed ∙ sym (ap is_some is)) latest capacity
             (refuse_keeps_all opening m sound.kept (are_texts script) s (then y) refuses)
 
   -- IN EITHER: what the session's open group is behind the reply, or behind none
@@ -348,9 +348,9 @@ module _ {opening : Database} {registry : Registry} {given : Script} (script : S
           subst (λ (b : Bound). IsAnswer db (pending_seen g.pending) b block by.statement r (pending_seen so.0)) (sym there.2) (so.2 block by.statement) in
           inl (executes g is there.0 by so.0 r means y so.1 items refl capacity, there.2))
 
-      pub replied_sound : IsSound opening registry given script retries store locks began (slice_set sessions (s - 1) y) history commits transcripts
+      pub replied_sound : IsSound opening registry given logged script retries store locks began (slice_set sessions (s - 1) y) history commits transcripts
       replied_sound =
-          by_open (IsSound opening registry given script retries store locks began (slice_set sessions (s - 1) y) history commits transcripts)
+          by_open (IsSound opening registry given logged script retries store locks began (slice_set sessions (s - 1) y) history commits transcripts)
           (λ is.
           let there = refuses_there is bound can in
           let so = refused is in
@@ -384,9 +384,9 @@ module _ {opening : Database} {registry : Registry} {given : Script} (script : S
     as_open = by_open (is_some after ≡ is_some x.«open») (λ is. ap is_some (none is ∙ sym is)) (λ g is. let so = some g is in ap is_some so.1 ∙ sym (ap is_some is))
 
     pub seen_unanswered : then z ≡ m
-    seen_unanswered = seen_same script retries store locks began sessions history.items s x at z open_still told_still
+    seen_unanswered = seen_same logged script retries store locks began sessions history.items s x at z open_still told_still
 
-    pub unanswered_sound : IsSound opening registry given script retries store locks began (slice_set sessions (s - 1) z) history commits transcripts
+    pub unanswered_sound : IsSound opening registry given logged script retries store locks began (slice_set sessions (s - 1) z) history commits transcripts
     unanswered_sound =
-        exchanged_sound script retries store locks began sessions history commits transcripts sound s low high x at z as_open refl (omega arith)
+        exchanged_sound logged script retries store locks began sessions history commits transcripts sound s low high x at z as_open refl (omega arith)
         (subst (IsKept opening) (sym seen_unanswered) sound.kept)

@@ -1,5 +1,5 @@
 -- A machine in which nothing has begun.
-use Rattle.std.proofs.Common.{◌≡◌, ℕ, zero, suc, ◌+◌, ◌^◌, ◌<◌, ◌≤◌, List, [], ◌∷◌, ◌++◌, length, map, Option, Some, false, refl, sym, ap, ap₂, subst, ◌∙◌, arith, vec_capacity, option_map}
+use Rattle.std.proofs.Common.{◌≡◌, ℕ, zero, suc, ◌+◌, ◌^◌, ◌<◌, ◌≤◌, Bool, List, [], ◌∷◌, ◌++◌, length, map, Option, Some, false, refl, sym, ap, ap₂, subst, ◌∙◌, arith, vec_capacity, option_map}
 use Rattle.std.specs.Prelude.{count_by, is_some, slice_index_or}
 use Rattle.std.specs.FinMap as fin
 use Rattle.std.specs.Global.{Vec}
@@ -75,22 +75,22 @@ item_new (s ∷ sessions) [] all i so_far below at = absurd all
 item_new (s ∷ sessions) (x ∷ made) all zero so_far below at = subst (IsNew s) at all.0
 item_new (s ∷ sessions) (x ∷ made) all (suc i) so_far below at = item_new sessions made all.1 i so_far (omega (arith, below)) at
 
-pub seen_new : (store : Store) (script : Script) (retries : ℕ) (sessions : List SessionSoFar) → AreNew script.sessions sessions
-    → seen script retries store fin.empty [] sessions [] ≡ fresh store script retries
-seen_new store script retries sessions all =
-    ap₂ (λ (opens : List (Option Open)) (told : List (List Reply)). record (fresh store script retries) { opens = opens; told = told })
+pub seen_new : (logged : Bool) (store : Store) (script : Script) (retries : ℕ) (sessions : List SessionSoFar) → AreNew script.sessions sessions
+    → seen logged script retries store fin.empty [] sessions [] ≡ fresh logged store script retries
+seen_new logged store script retries sessions all =
+    ap₂ (λ (opens : List (Option Open)) (told : List (List Reply)). record (fresh logged store script retries) { opens = opens; told = told })
     (opens_new script.sessions sessions all) (told_new script.sessions sessions all)
 
-pub new_is_sound : (opening : Database) (registry : Registry) (given : Script) (store : Store) (script : Script) (retries : ℕ) (sessions : List SessionSoFar) (history : Vec Entry) (transcripts : Vec (List Reply))
+pub new_is_sound : (opening : Database) (registry : Registry) (given : Script) (logged : Bool) (store : Store) (script : Script) (retries : ℕ) (sessions : List SessionSoFar) (history : Vec Entry) (transcripts : Vec (List Reply))
     → view_of store.lazy ≡ opening → IsOpening store → IsOf registry store.migration → IsWithinLimits script → script ≡ given → AreNew script.sessions sessions → history.items ≡ [] → length script.sessions < 2 ^ 32 → transcripts.items ≡ [] → length sessions ≤ vec_capacity transcripts
-    → IsSound opening registry given script retries store fin.empty [] sessions history 0 transcripts
-new_is_sound opening registry given store script retries sessions history transcripts view is one within same all none numbers empty room = record {
+    → IsSound opening registry given logged script retries store fin.empty [] sessions history 0 transcripts
+new_is_sound opening registry given logged store script retries sessions history transcripts view is one within same all none numbers empty room = record {
   is_given = same;
   narrow = subst (λ (db : Database). HasNarrowTables (catalog_of db)) view (narrow_view store.lazy is.lazy_state is.narrow);
   one = one;
   kept =
-      let made : IsKept opening (fresh store script retries) = subst (λ (db : Database). IsKept db (fresh store script retries)) view (new_is_kept store script retries is within) in
-      rw none (subst (IsKept opening) (sym (seen_new store script retries sessions all)) made);
+      let made : IsKept opening (fresh logged store script retries) = subst (λ (db : Database). IsKept db (fresh logged store script retries)) view (new_is_kept logged store script retries is within) in
+      rw none (subst (IsKept opening) (sym (seen_new logged store script retries sessions all)) made);
   counted = rw none refl;
   sessions_numbered = numbers;
   roomy = λ i so_far below at.

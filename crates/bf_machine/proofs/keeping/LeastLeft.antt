@@ -1,5 +1,5 @@
 -- A session that is left, of the earliest phase of those that are, and the sessions whose turn it is by it.
-use Rattle.std.proofs.Common.{◌≡◌, ◌≢◌, ◌⊎◌, ℕ, zero, suc, ◌+◌, ◌-◌, ◌<◌, ◌≤◌, true, false, List, [], length, map, Option, Some, None, refl, sym, ap, subst, ◌∙◌, arith, inl, inr, option_map}
+use Rattle.std.proofs.Common.{◌≡◌, ◌≢◌, ◌⊎◌, ℕ, zero, suc, ◌+◌, ◌-◌, ◌<◌, ◌≤◌, Bool, true, false, List, [], length, map, Option, Some, None, refl, sym, ap, subst, ◌∙◌, arith, inl, inr, option_map}
 use Rattle.std.specs.Prelude.{slice_index_or, slice_set}
 use Rattle.std.proofs.lemmas.Bool.{cases_eq, cases_lt, false≢true}
 use Rattle.std.proofs.lemmas.List.{get_or-set_other, get_or-set_same, length-map, length-set}
@@ -161,9 +161,9 @@ open_goes_on m s o is ended =
     let clash : None ≡ Some o = sym ended.1 ∙ is in
     absurd cc
 
-module _ (script : Script) (retries : ℕ) (store : Store) (locks : Locks) (began : List BeganGroup) (sessions : List SessionSoFar) (history : List Entry) where
+module _ (logged : Bool) (script : Script) (retries : ℕ) (store : Store) (locks : Locks) (began : List BeganGroup) (sessions : List SessionSoFar) (history : List Entry) where
   abbrev m : Machine
-  m = seen script retries store locks began sessions history
+  m = seen logged script retries store locks began sessions history
 
   -- a session by its number
   pub goes_on_at : (s : ℕ) → 1 ≤ s → (HasSessionEnded m s → ⊥) → HasEndedAt script.sessions sessions (s - 1) → ⊥

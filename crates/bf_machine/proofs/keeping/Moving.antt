@@ -1,5 +1,5 @@
 -- Granules of the last migration move: the store has them, and nothing else that a machine keeps changes.
-use Rattle.std.proofs.Common.{◌≡◌, ℕ, List, [], Option, Some, None, refl, sym, ap, ap₂, subst, ◌∙◌, option_map}
+use Rattle.std.proofs.Common.{◌≡◌, ℕ, Bool, List, [], Option, Some, None, refl, sym, ap, ap₂, subst, ◌∙◌, option_map}
 use Rattle.std.specs.Global.{Vec}
 use Rattle.std.specs.Option.{option_map_or}
 use Rattle.std.proofs.lemmas.Option.{same_Some}
@@ -46,14 +46,14 @@ number_is None (Some own) by = absurd by
 number_is (Some last) None by = absurd by
 number_is (Some last) (Some own) by = sym (ap (λ (l : Migration). l.number) by)
 
-module _ {opening : Database} {registry : Registry} {given : Script} (script : Script) (retries : ℕ) (store : Store) (locks : Locks) (began : List BeganGroup) (sessions : List SessionSoFar) (history : Vec Entry) (commits : ℕ) (transcripts : Vec (List Reply))
-    (sound : IsSound opening registry given script retries store locks began sessions history commits transcripts)
+module _ {opening : Database} {registry : Registry} {given : Script} (logged : Bool) (script : Script) (retries : ℕ) (store : Store) (locks : Locks) (began : List BeganGroup) (sessions : List SessionSoFar) (history : Vec Entry) (commits : ℕ) (transcripts : Vec (List Reply))
+    (sound : IsSound opening registry given logged script retries store locks began sessions history commits transcripts)
     (granules : List Granule) (are : AreGranulesIfAny store.lazy.last granules) (after : Store) (state : after.lazy ≡ with_moved store.lazy granules) (same : after.migration ≡ store.migration) where
   abbrev m : Machine
-  m = seen script retries store locks began sessions history.items
+  m = seen logged script retries store locks began sessions history.items
 
   abbrev then : Machine
-  then = seen script retries after locks began sessions history.items
+  then = seen logged script retries after locks began sessions history.items
 
   pub moves : Moves m granules then
   moves = record {
@@ -64,7 +64,7 @@ module _ {opening : Database} {registry : Registry} {given : Script} (script : S
         ∙ ap (λ (db : Database). record m { db = db; lazy = now }) (moves_in_order store.lazy granules sound.kept.store_valid.seen_as.lazy_state are).seen_as.view;
   }
 
-  pub moved_sound : IsSound opening registry given script retries after locks began sessions history commits transcripts
+  pub moved_sound : IsSound opening registry given logged script retries after locks began sessions history commits transcripts
   moved_sound = record {
     is_given = sound.is_given;
     narrow = sound.narrow;

@@ -1,5 +1,5 @@
 -- A session's next group begins, for the first time or again.
-use Rattle.std.proofs.Common.{◌≡◌, ◌≢◌, ◌⊎◌, ℕ, zero, suc, ◌+◌, ◌-◌, ◌<◌, ◌≤◌, ◌^◌, List, [], ◌∷◌, ◌++◌, length, map, take, drop, Option, Some, None, refl, sym, ap, ap₂, subst, ◌∙◌, arith, inl, inr, option_map, length-append, vec_capacity}
+use Rattle.std.proofs.Common.{◌≡◌, ◌≢◌, ◌⊎◌, ℕ, zero, suc, ◌+◌, ◌-◌, ◌<◌, ◌≤◌, ◌^◌, Bool, List, [], ◌∷◌, ◌++◌, length, map, take, drop, Option, Some, None, refl, sym, ap, ap₂, subst, ◌∙◌, arith, inl, inr, option_map, length-append, vec_capacity}
 use Rattle.std.specs.Prelude.{slice_index_or, slice_set}
 use Rattle.std.specs.Global.{Vec}
 use Rattle.std.proofs.Math.ListN.{drop_of_length-le}
@@ -86,13 +86,13 @@ module _ (began : List Began) (s : ℕ) (group : Group) where
     has = λ some. (group, start_new began new);
   }
 
-module _ {opening : Database} {registry : Registry} {given : Script} (script : Script) (retries : ℕ) (store : Store) (locks : Locks) (began : List BeganGroup) (sessions : List SessionSoFar) (history : Vec Entry) (commits : ℕ) (transcripts : Vec (List Reply))
-    (sound : IsSound opening registry given script retries store locks began sessions history commits transcripts) where
+module _ {opening : Database} {registry : Registry} {given : Script} (logged : Bool) (script : Script) (retries : ℕ) (store : Store) (locks : Locks) (began : List BeganGroup) (sessions : List SessionSoFar) (history : Vec Entry) (commits : ℕ) (transcripts : Vec (List Reply))
+    (sound : IsSound opening registry given logged script retries store locks began sessions history commits transcripts) where
   abbrev m : Machine
-  m = seen script retries store locks began sessions history.items
+  m = seen logged script retries store locks began sessions history.items
 
   -- more room for entries
-  pub reserved_sound : (entries : Vec Entry) → entries.items ≡ history.items → vec_capacity history ≤ vec_capacity entries → IsSound opening registry given script retries store locks began sessions entries commits transcripts
+  pub reserved_sound : (entries : Vec Entry) → entries.items ≡ history.items → vec_capacity history ≤ vec_capacity entries → IsSound opening registry given logged script retries store locks began sessions entries commits transcripts
   reserved_sound entries items capacity =
       let size : length entries.items ≡ length history.items = ap (λ (es : List Entry). length es) items in record {
         is_given = sound.is_given;
@@ -134,7 +134,7 @@ module _ {opening : Database} {registry : Registry} {given : Script} (script : S
       closed : (o : Option OpenGroup) → x.«open» ≡ o → x.«open» ≡ None
       closed None is = is
       closed (Some g) is =
-          let there = open_there script retries store locks began sessions history.items x s low high at ∙ ap (option_map (group_seen x.replies.items)) is in
+          let there = open_there logged script retries store locks began sessions history.items x s low high at ∙ ap (option_map (group_seen x.replies.items)) is in
           let clash : None ≡ Some (group_seen x.replies.items g) = sym by.closed ∙ there in
           absurd cc
 
@@ -142,7 +142,7 @@ module _ {opening : Database} {registry : Registry} {given : Script} (script : S
       none_open = closed x.«open» refl
 
       all_told : told_at m s ≡ x.replies.items
-      all_told = told_there script retries store locks began sessions history.items x s low high at ∙ ap (told_before x.replies.items) none_open
+      all_told = told_there logged script retries store locks began sessions history.items x s low high at ∙ ap (told_before x.replies.items) none_open
 
       -- the group begins at the session's next statement
       pub begins_at : by.group.0 ≡ length x.replies.items + 1
@@ -254,11 +254,11 @@ module _ {opening : Database} {registry : Registry} {given : Script} (script : S
             let all : take (first - 1) y.replies.items ≡ y.replies.items = take_all (first - 1) y.replies.items (omega (arith, starts, size)) in
             ap (told_before y.replies.items) opens ∙ (all ∙ (replies ∙ sym (ap (told_before x.replies.items) none_open)))
 
-        pub seen_again : seen script retries store locks began sessions_then history.items ≡ begun_again m s start by.group
-        seen_again = seen_with_open script retries store locks began sessions history.items s x at y told_as_before (Some (opened m s start by.group)) open_then
+        pub seen_again : seen logged script retries store locks began sessions_then history.items ≡ begun_again m s start by.group
+        seen_again = seen_with_open logged script retries store locks began sessions history.items s x at y told_as_before (Some (opened m s start by.group)) open_then
 
         pub seen_begun : (began_then : List BeganGroup) → map began_seen began_then ≡ more m.began s by.group → start ≡ length m.began + 1
-            → seen script retries store locks began_then sessions_then history.items ≡ begun m s by.group
+            → seen logged script retries store locks began_then sessions_then history.items ≡ begun m s by.group
         seen_begun began_then is number =
             ap₂ (λ (k : Machine) (bs : List Began). record k { began = bs }) seen_again is
             ∙ ap (λ (n : ℕ). record (begun_again m s n by.group) { began = more m.began s by.group }) number
@@ -266,9 +266,9 @@ module _ {opening : Database} {registry : Registry} {given : Script} (script : S
         -- and the machine is sound
         module _ (entries : Vec Entry) (items : entries.items ≡ history.items) (reserved : length history.items + length sessions ≤ vec_capacity entries)
             (capacity : vec_capacity x.replies ≤ vec_capacity y.replies) where
-          assembled : (began_then : List BeganGroup) → IsKept opening (seen script retries store locks began_then sessions_then history.items)
+          assembled : (began_then : List BeganGroup) → IsKept opening (seen logged script retries store locks began_then sessions_then history.items)
               → ((j : ℕ) (z : SessionSoFar) → j < length sessions_then → slice_index_or sessions_then j z ≡ z → IsRoomy script (map began_seen began_then) (j + 1) z)
-              → IsSound opening registry given script retries store locks began_then sessions_then entries commits transcripts
+              → IsSound opening registry given logged script retries store locks began_then sessions_then entries commits transcripts
           assembled began_then kept roomy =
               let as_many : length sessions_then ≡ length sessions = length-set sessions (s - 1) y in
               let entries_size : length entries.items ≡ length history.items = ap (λ (es : List Entry). length es) items in record {
@@ -284,8 +284,8 @@ module _ {opening : Database} {registry : Registry} {given : Script} (script : S
                 transcripts_room = omega (arith, as_many, sound.transcripts_room);
               }
 
-          pub again_sound : Begins m s (seen script retries store locks began sessions_then history.items) → y.latest ≡ x.latest
-              → IsSound opening registry given script retries store locks began sessions_then entries commits transcripts
+          pub again_sound : Begins m s (seen logged script retries store locks began sessions_then history.items) → y.latest ≡ x.latest
+              → IsSound opening registry given logged script retries store locks began sessions_then entries commits transcripts
           again_sound begins latest =
               assembled began (begins_keeps_all opening m sound.kept (are_texts script) s _ begins)
               (roomy_then script m.began sessions (s - 1) x y below at sound.roomy capacity (subst (IsLatest m.began (s - 1 + 1)) (sym latest) (sound.roomy (s - 1) x below at).latest))
@@ -310,8 +310,8 @@ module _ {opening : Database} {registry : Registry} {given : Script} (script : S
                 record { room = was.room; numbers = was.numbers; latest = latest_elsewhere m.began s by.group (j + 1) z.latest elsewhere was.latest }
           ]
 
-          pub begun_sound : (began_then : List BeganGroup) → map began_seen began_then ≡ more m.began s by.group → Begins m s (seen script retries store locks began_then sessions_then history.items)
-              → y.latest ≡ length m.began + 1 → IsSound opening registry given script retries store locks began_then sessions_then entries commits transcripts
+          pub begun_sound : (began_then : List BeganGroup) → map began_seen began_then ≡ more m.began s by.group → Begins m s (seen logged script retries store locks began_then sessions_then history.items)
+              → y.latest ≡ length m.began + 1 → IsSound opening registry given logged script retries store locks began_then sessions_then entries commits transcripts
           begun_sound began_then is begins latest =
               assembled began_then (begins_keeps_all opening m sound.kept (are_texts script) s _ begins)
               (subst (λ (bs : List Began). (j : ℕ) (z : SessionSoFar) → j < length sessions_then → slice_index_or sessions_then j z ≡ z → IsRoomy script bs (j + 1) z) (sym is) (roomy_begun latest))
@@ -320,10 +320,10 @@ module _ {opening : Database} {registry : Registry} {given : Script} (script : S
       module _ (entries : Vec Entry) (items : entries.items ≡ history.items) (reserved : length history.items + length sessions ≤ vec_capacity entries)
           (y : SessionSoFar) (replies : y.replies ≡ x.replies) (first : ℕ) (starts : first ≡ length x.replies.items + 1) where
         abbrev next_of : List BeganGroup → Machine
-        next_of began_then = seen script retries store locks began_then (slice_set sessions (s - 1) y) entries.items
+        next_of began_then = seen logged script retries store locks began_then (slice_set sessions (s - 1) y) entries.items
 
         abbrev SoundWith : List BeganGroup → Type 0
-        SoundWith began_then = IsSound opening registry given script retries store locks began_then (slice_set sessions (s - 1) y) entries commits transcripts
+        SoundWith began_then = IsSound opening registry given logged script retries store locks began_then (slice_set sessions (s - 1) y) entries commits transcripts
 
         same_items : y.replies.items ≡ x.replies.items
         same_items = ap (λ (v : Vec Reply). v.items) replies
@@ -339,10 +339,10 @@ module _ {opening : Database} {registry : Registry} {given : Script} (script : S
         again_all some b is b_first last b_last opens latest =
             let b_starts : b.first ≡ length x.replies.items + 1 = b_first ∙ starts in
             let ends : last ≡ by.group.1 = sym b_last ∙ its_last some b is b_starts in
-            let begins : Begins m s (seen script retries store locks began (slice_set sessions (s - 1) y) history.items) =
-            goes_again some b is b_starts (seen script retries store locks began (slice_set sessions (s - 1) y) history.items)
+            let begins : Begins m s (seen logged script retries store locks began (slice_set sessions (s - 1) y) history.items) =
+            goes_again some b is b_starts (seen logged script retries store locks began (slice_set sessions (s - 1) y) history.items)
             (seen_again y x.latest first last [] opens same_items starts ends refl) in (
-              subst (λ (es : List Entry). Begins m s (seen script retries store locks began (slice_set sessions (s - 1) y) es)) (sym items) begins,
+              subst (λ (es : List Entry). Begins m s (seen logged script retries store locks began (slice_set sessions (s - 1) y) es)) (sym items) begins,
               again_sound y x.latest first last [] opens same_items starts ends refl entries items reserved same_room begins latest,
             )
 
@@ -366,9 +366,9 @@ module _ {opening : Database} {registry : Registry} {given : Script} (script : S
               | inl zero_so ↦ inl zero_so
               | inr apart ↦ inr (apart.0, apart.1, λ same. apart.2 (same ∙ sym starts))
             ] in
-            let begins : Begins m s (seen script retries store locks began_then (slice_set sessions (s - 1) y) history.items) =
-            goes_first never_so (seen script retries store locks began_then (slice_set sessions (s - 1) y) history.items)
+            let begins : Begins m s (seen logged script retries store locks began_then (slice_set sessions (s - 1) y) history.items) =
+            goes_first never_so (seen logged script retries store locks began_then (slice_set sessions (s - 1) y) history.items)
             (seen_begun y start first last [] opens same_items starts ends refl began_then is number) in (
-              subst (λ (es : List Entry). Begins m s (seen script retries store locks began_then (slice_set sessions (s - 1) y) es)) (sym items) begins,
+              subst (λ (es : List Entry). Begins m s (seen logged script retries store locks began_then (slice_set sessions (s - 1) y) es)) (sym items) begins,
               begun_sound y start first last [] opens same_items starts ends refl entries items reserved same_room began_then is begins (latest ∙ number),
             )

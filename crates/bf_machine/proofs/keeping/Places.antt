@@ -15,14 +15,14 @@ use Rattle.bf_machine.specs.interleaving.Seen.{IsLatest, IsRoomy, is_open, open_
 use Rattle.bf_machine.proofs.keeping.Sessions.{item_of}
 
 -- what is seen of the session at a place
-module _ (script : Script) (retries : ℕ) (store : Store) (locks : Locks) (began : List BeganGroup) (sessions : List SessionSoFar) (history : List Entry) (x : SessionSoFar) where
-  pub open_there : (s : ℕ) → 1 ≤ s → s ≤ length sessions → slice_index_or sessions (s - 1) x ≡ x → open_at (seen script retries store locks began sessions history) s ≡ open_seen x
+module _ (logged : Bool) (script : Script) (retries : ℕ) (store : Store) (locks : Locks) (began : List BeganGroup) (sessions : List SessionSoFar) (history : List Entry) (x : SessionSoFar) where
+  pub open_there : (s : ℕ) → 1 ≤ s → s ≤ length sessions → slice_index_or sessions (s - 1) x ≡ x → open_at (seen logged script retries store locks began sessions history) s ≡ open_seen x
   open_there zero low high at = absurd (omega (arith, low))
   open_there (suc s) low high at =
       let here : suc s - 1 ≡ s = omega arith in
       item_of open_seen sessions s x None (omega (arith, high)) (rw here at at)
 
-  pub told_there : (s : ℕ) → 1 ≤ s → s ≤ length sessions → slice_index_or sessions (s - 1) x ≡ x → told_at (seen script retries store locks began sessions history) s ≡ told_seen x
+  pub told_there : (s : ℕ) → 1 ≤ s → s ≤ length sessions → slice_index_or sessions (s - 1) x ≡ x → told_at (seen logged script retries store locks began sessions history) s ≡ told_seen x
   told_there zero low high at = absurd (omega (arith, low))
   told_there (suc s) low high at =
       let here : suc s - 1 ≡ s = omega arith in

@@ -1,5 +1,5 @@
 -- Whether a session's next statement stands in its open block, and whether its open group has all its replies.
-use Rattle.std.proofs.Common.{◌≡◌, ℕ, ◌+◌, ◌-◌, ◌≤◌, true, false, List, [], ◌∷◌, length, drop, Option, Some, None, refl, sym, ap, subst, ◌∙◌, arith, option_map}
+use Rattle.std.proofs.Common.{◌≡◌, ℕ, ◌+◌, ◌-◌, ◌≤◌, Bool, true, false, List, [], ◌∷◌, length, drop, Option, Some, None, refl, sym, ap, subst, ◌∙◌, arith, option_map}
 use Rattle.std.specs.Prelude.{nat_le}
 use Rattle.std.specs.Global.{Vec}
 use Rattle.std.specs.Option.{option_map_or}
@@ -32,11 +32,11 @@ inside_behind (r ∷ rs) = let some : nat_le 1 (length (r ∷ rs)) ≡ true = gr
 block_of : (first : ℕ) (rs : List Reply) → 1 ≤ first → nat_le first (length rs) ≡ nat_le 1 (length (drop (first - 1) rs))
 block_of first rs low = let size = length-drop (first - 1) rs in grind (arith, nat_tests)
 
-module _ {opening : Database} {registry : Registry} {given : Script} {script : Script} {retries : ℕ} {store : Store} {locks : Locks} {began : List BeganGroup}
+module _ {opening : Database} {registry : Registry} {given : Script} {logged : Bool} {script : Script} {retries : ℕ} {store : Store} {locks : Locks} {began : List BeganGroup}
     {sessions : List SessionSoFar} {history : Vec Entry} {commits : ℕ} {transcripts : Vec (List Reply)}
-    {now : Machine} {s : ℕ} {x : SessionSoFar} (session : IsThere opening registry given script retries store locks began sessions history commits transcripts now s x) where
+    {now : Machine} {s : ℕ} {x : SessionSoFar} (session : IsThere opening registry given logged script retries store locks began sessions history commits transcripts now s x) where
   abbrev m : Machine
-  m = seen script retries store locks began sessions history.items
+  m = seen logged script retries store locks began sessions history.items
 
   low : 1 ≤ s
   low = session.place.0
@@ -49,7 +49,7 @@ module _ {opening : Database} {registry : Registry} {given : Script} {script : S
   -- with no open group
   module _ (is : x.«open» ≡ None) where
     closed : open_at m s ≡ None
-    closed = open_there script retries store locks began sessions history.items x s low high (sym session.is) ∙ ap (option_map (group_seen x.replies.items)) is
+    closed = open_there logged script retries store locks began sessions history.items x s low high (sym session.is) ∙ ap (option_map (group_seen x.replies.items)) is
 
     pub in_no_block : false ≡ is_in_block now s
     in_no_block =
@@ -67,7 +67,7 @@ module _ {opening : Database} {registry : Registry} {given : Script} {script : S
     o = group_seen x.replies.items g
 
     open_is : open_at m s ≡ Some o
-    open_is = there script retries store locks began sessions history commits transcripts session.sound s low high x (sym session.is) g is
+    open_is = there logged script retries store locks began sessions history commits transcripts session.sound s low high x (sym session.is) g is
 
     pub block_there : 1 ≤ g.first → nat_le g.first count ≡ is_in_block now s
     block_there first =
@@ -79,7 +79,7 @@ module _ {opening : Database} {registry : Registry} {given : Script} {script : S
 
     all_answered : nat_le g.last count ≡ nat_le (length (text_of m s o)) (length o.replies)
     all_answered =
-        let left = left_size script retries store locks began sessions history commits transcripts session.sound s low high x (sym session.is) g is in
+        let left = left_size logged script retries store locks began sessions history commits transcripts session.sound s low high x (sym session.is) g is in
         let size = length-drop (length o.replies) (text_of m s o) in
         same_tests g.last count (length (text_of m s o)) (length o.replies) (length (rest_of m s o)) (omega (arith, left, counted)) size
       where

@@ -1,5 +1,5 @@
 -- Where a session stands, by the fields of the machine.
-use Rattle.std.proofs.Common.{◌≡◌, ◌≢◌, ℕ, zero, suc, ◌+◌, ◌-◌, ◌^◌, ◌<◌, ◌≤◌, true, false, List, [], ◌∷◌, ◌++◌, length, map, drop, take, Option, Some, None, refl, sym, ap, ap₂, subst, ◌∙◌, arith, inl, inr, option_map}
+use Rattle.std.proofs.Common.{◌≡◌, ◌≢◌, ℕ, zero, suc, ◌+◌, ◌-◌, ◌^◌, ◌<◌, ◌≤◌, Bool, true, false, List, [], ◌∷◌, ◌++◌, length, map, drop, take, Option, Some, None, refl, sym, ap, ap₂, subst, ◌∙◌, arith, inl, inr, option_map}
 use Rattle.std.specs.Prelude.{Contains, IfSome, is_some, nat_lt, slice_get, slice_index_or}
 use Rattle.std.proofs.lemmas.Bool.{cases_Bool, false≢true}
 use Rattle.std.proofs.lemmas.Bool.Decides.{nat_tests}
@@ -66,27 +66,27 @@ began_there began (suc n) b low high at =
     some_there (c ∷ began) (suc n) b below at = some_there began n b (omega (arith, below)) at
 
 -- A SESSION at its place, in the fields of a machine, and the machine as it is seen
-pub record IsThere (opening : Database) (registry : Registry) (given : Script) (script : Script) (retries : ℕ) (store : Store) (locks : Locks) (began : List BeganGroup)
+pub record IsThere (opening : Database) (registry : Registry) (given : Script) (logged : Bool) (script : Script) (retries : ℕ) (store : Store) (locks : Locks) (began : List BeganGroup)
     (sessions : List SessionSoFar) (history : Vec Entry) (commits : ℕ) (transcripts : Vec (List Reply))
     (now : Machine) (s : ℕ) (x : SessionSoFar) : Type 0 where
-  pub sound : IsSound opening registry given script retries store locks began sessions history commits transcripts
-  pub view : seen script retries store locks began sessions history.items ≡ now
+  pub sound : IsSound opening registry given logged script retries store locks began sessions history commits transcripts
+  pub view : seen logged script retries store locks began sessions history.items ≡ now
   pub place : IsPlace now.script s
   pub is : x ≡ slice_index_or sessions (s - 1) x
 
-pub is_there : {opening : Database} {registry : Registry} {given : Script} {script : Script} {retries : ℕ} {store : Store} {locks : Locks} {began : List BeganGroup}
+pub is_there : {opening : Database} {registry : Registry} {given : Script} {logged : Bool} {script : Script} {retries : ℕ} {store : Store} {locks : Locks} {began : List BeganGroup}
     {sessions : List SessionSoFar} {history : Vec Entry} {commits : ℕ} {transcripts : Vec (List Reply)}
     {now : Machine} {s : ℕ} {x : SessionSoFar}
-    → IsSound opening registry given script retries store locks began sessions history commits transcripts → seen script retries store locks began sessions history.items ≡ now
+    → IsSound opening registry given logged script retries store locks began sessions history commits transcripts → seen logged script retries store locks began sessions history.items ≡ now
     → IsPlace now.script s
-    → x ≡ slice_index_or sessions (s - 1) x → IsThere opening registry given script retries store locks began sessions history commits transcripts now s x
+    → x ≡ slice_index_or sessions (s - 1) x → IsThere opening registry given logged script retries store locks began sessions history commits transcripts now s x
 is_there sound view place is = record { sound = sound; view = view; place = place; is = is }
 
-module _ {opening : Database} {registry : Registry} {given : Script} {script : Script} {retries : ℕ} {store : Store} {locks : Locks} {began : List BeganGroup}
+module _ {opening : Database} {registry : Registry} {given : Script} {logged : Bool} {script : Script} {retries : ℕ} {store : Store} {locks : Locks} {began : List BeganGroup}
     {sessions : List SessionSoFar} {history : Vec Entry} {commits : ℕ} {transcripts : Vec (List Reply)}
-    {now : Machine} {s : ℕ} {x : SessionSoFar} (session : IsThere opening registry given script retries store locks began sessions history commits transcripts now s x) where
+    {now : Machine} {s : ℕ} {x : SessionSoFar} (session : IsThere opening registry given logged script retries store locks began sessions history commits transcripts now s x) where
   abbrev m : Machine
-  m = seen script retries store locks began sessions history.items
+  m = seen logged script retries store locks began sessions history.items
 
   abbrev own : List Statement
   own = (session_at now.script s).statements
@@ -120,10 +120,10 @@ module _ {opening : Database} {registry : Registry} {given : Script} {script : S
 
   -- what is seen of it
   opened : open_at now s ≡ open_seen x
-  opened = subst (λ (m : Machine). open_at m s ≡ open_seen x) session.view (open_there script retries store locks began sessions history.items x s low high at)
+  opened = subst (λ (m : Machine). open_at m s ≡ open_seen x) session.view (open_there logged script retries store locks began sessions history.items x s low high at)
 
   pub told : told_at now s ≡ told_seen x
-  told = subst (λ (m : Machine). told_at m s ≡ told_seen x) session.view (told_there script retries store locks began sessions history.items x s low high at)
+  told = subst (λ (m : Machine). told_at m s ≡ told_seen x) session.view (told_there logged script retries store locks began sessions history.items x s low high at)
 
   pub all_replies_there : replies_at now s ≡ x.replies.items
   all_replies_there = ap₂ (λ (rs : List Reply) (o : Option Open). with_replies rs o) told opened ∙ replies_joined x.replies.items x.«open»

@@ -1,5 +1,5 @@
 -- A machine in which nothing has happened is in sequence.
-use Rattle.std.proofs.Common.{◌≡◌, ℕ, zero, suc, true, List, [], ◌∷◌, map, None, refl, ap}
+use Rattle.std.proofs.Common.{◌≡◌, ℕ, zero, suc, true, false, List, [], ◌∷◌, map, None, refl, ap}
 use Rattle.std.specs.List.{slice_index_or}
 use Rattle.bf_tree.specs.declared.script.Script.{Script}
 use Rattle.bf_tree.specs.declared.script.Session.{Session}
@@ -16,17 +16,18 @@ none_at [] i = refl
 none_at (x ∷ sessions) zero = refl
 none_at (x ∷ sessions) (suc i) = none_at sessions i
 
-pub none_open : (store : Store) (script : Script) (retries : ℕ) (s : ℕ) → open_at (fresh store script retries) s ≡ None
+pub none_open : (store : Store) (script : Script) (retries : ℕ) (s : ℕ) → open_at (fresh false store script retries) s ≡ None
 none_open store script retries zero = refl
 none_open store script retries (suc s) = none_at script.sessions s
 
-none_died : (store : Store) (script : Script) (retries n : ℕ) → deaths_at (fresh store script retries) n ≡ []
+none_died : (store : Store) (script : Script) (retries n : ℕ) → deaths_at (fresh false store script retries) n ≡ []
 none_died store script retries zero = refl
 none_died store script retries (suc n) = refl
 
 pub fresh_is_in_sequence : (start : Database) (store : Store) (script : Script) (retries : ℕ) → phases_rise_from 0 script.sessions ≡ true → store.lazy.last ≡ None
-    → IsInSequence start (fresh store script retries)
+    → IsInSequence start (fresh false store script retries)
 fresh_is_in_sequence start store script retries phases none = record {
+  unlogged = refl;
   phases = phases;
   closed = none_open store script retries;
   no_death = none_died store script retries;

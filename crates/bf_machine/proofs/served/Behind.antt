@@ -32,6 +32,7 @@ use Rattle.bf_live.specs.OpenGroups.{Answered, Holds, Replays}
 use Rattle.bf_live.proofs.statements.Seeing.{nothing_written, same_catalog}
 use Rattle.bf_store.specs.States.{HaveMoved, set_aside}
 use Rattle.bf_store.proofs.changing.Flipping.{view_itself}
+use Rattle.bf_store.proofs.Recorded.{after_last}
 use Rattle.bf_machine.specs.Movement.{Moving, begun_unless, flips_so_far, moving_seen, with_need}
 use Rattle.bf_machine.specs.interleaving.Events.{put_into, rest_of, stands_inside, text_of}
 use Rattle.bf_machine.specs.interleaving.Groups.{Flip, HasRun, IsSchemaStep, NewIndex, NewTable, Nothing, Pending, Rows, answered_by, flip_unless, pending_behind}
@@ -49,8 +50,7 @@ IsFlip other = ⊥
 -- only a flip changes what is told of the last migration
 module _ (lazy : LazyState) where
   rows_last : (writes : List Write) → (put_into lazy (Rows writes)).last ≡ lazy.last
-  rows_last [] = refl
-  rows_last (w ∷ writes) = refl
+  rows_last writes = after_last lazy writes
 
   pub put_last : (p : Pending) → (IsFlip p → ⊥) → (put_into lazy p).last ≡ lazy.last
   put_last (Rows writes) plain = rows_last writes
@@ -191,7 +191,7 @@ ended_alike : (b : Bool) (n : ℕ) (rs : List Refusal) (act : Action) (old : Dat
 ended_alike b n [] act old first none = append-nil (needed_for old first act) ∙ none
 ended_alike b n (r ∷ rs) act old first none = refl
 
-end_needs : (old db : Database) (first : Migrate) (in_block : Bool) (s : Statement) → ends_block s ≡ true → needed_by old first db in_block s ≡ []
+pub end_needs : (old db : Database) (first : Migrate) (in_block : Bool) (s : Statement) → ends_block s ≡ true → needed_by old first db in_block s ≡ []
 end_needs old db first in_block statement.Commit ends = ended_alike (changes_schema in_block statement.Commit) db.number (objections db in_block statement.Commit) action.Commit old first refl
 end_needs old db first in_block statement.Rollback ends = ended_alike (changes_schema in_block statement.Rollback) db.number (objections db in_block statement.Rollback) action.Rollback old first refl
 end_needs old db first in_block s ends = absurd (false≢true ends)

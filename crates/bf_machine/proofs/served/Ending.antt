@@ -1,11 +1,12 @@
 -- What a turn makes of the groups that are open, and of the statements that are left.
-use Rattle.std.proofs.Common.{◌≡◌, ℕ, ◌+◌, ◌<◌, ◌≤◌, List, [], ◌++◌, length, Option, Some, None, refl, sym, ap, ap₂, subst, ◌∙◌, arith, inl, inr}
+use Rattle.std.proofs.Common.{◌≡◌, ◌⊎◌, ℕ, ◌+◌, ◌<◌, ◌≤◌, false, List, [], ◌++◌, length, Option, Some, None, refl, sym, ap, ap₂, subst, ◌∙◌, arith, inl, inr}
 use Rattle.std.specs.Option.{option_map_or}
-use Rattle.std.proofs.lemmas.Bool.{cases_eq}
+use Rattle.std.proofs.lemmas.Bool.{cases_eq, false≢true}
 use Rattle.bf_locks.specs.declared.answer.LockAnswer.{LockAnswer}
 use Rattle.bf_locks.specs.declared.answer.LockAnswer.TheVariants.{Die, Granted, Wait}
 use Rattle.bf_locks.specs.declared.mode.Mode.{Mode}
 use Rattle.bf_locks.specs.declared.name.LockName.{LockName}
+use Rattle.bf_tree.specs.declared.reply.Cause.{Cause}
 use Rattle.bf_tree.specs.declared.reply.Reply.{Reply}
 use Rattle.bf_tree.specs.declared.script.Script.{Script}
 use Rattle.bf_sql.specs.Database.{Database}
@@ -13,14 +14,15 @@ use Rattle.bf_sql.specs.Groups.{session_at}
 use Rattle.bf_machine.specs.declared.stand.Turn.{Turn}
 use Rattle.bf_machine.specs.declared.stand.Turn.TheVariants as turn
 use Rattle.bf_machine.specs.interleaving.Calls.{IsPlace, replies_at, statements_at}
-use Rattle.bf_machine.specs.interleaving.Events.{Event, Reaches, aborts, asked, asks, at_once, begins, commits_now, died, executes, finishes, one_more, refuses, told_at_death, moves}
+use Rattle.bf_machine.specs.interleaving.Events.{Event, Reaches, aborts, asked, asks, at_once, begins, commits_now, died, ends_by_log, executes, finishes, one_more, refuses, told_at_death, moves}
 use Rattle.bf_machine.specs.interleaving.Kept.{IsKept}
 use Rattle.bf_machine.specs.interleaving.Machines.{Machine, Open, open_at, told_at, with_replies}
-use Rattle.bf_machine.specs.interleaving.Serving.{CanGo, CannotGo, Driven, HasGoneOn, IsAlone, IsBeside, IsTurn, IsYoungest, Serves, at_rest, one_driven, unanswered}
+use Rattle.bf_machine.specs.interleaving.Serving.{CanGo, CannotGo, Driven, HasFailed, HasGoneOn, IsAlone, IsBeside, IsTurn, IsYoungest, Serves, at_rest, one_driven, unanswered}
 use Rattle.bf_machine.proofs.interleaving.Others.{has_place}
 use Rattle.bf_machine.proofs.interleaving.Places.{set_other, set_same}
 use Rattle.bf_machine.proofs.served.Events.{serves_both}
 use Rattle.bf_machine.proofs.served.Exclusive.{one_or_other, open_can}
+use Rattle.bf_machine.proofs.served.Failing.{has_failed_closed, has_failed_less, has_failed_no_more, has_failed_serves}
 use Rattle.bf_machine.proofs.served.Judged.{alone_dies_not, alone_waits_not, youngest_goes_on}
 use Rattle.bf_machine.proofs.served.Open.{left_open}
 use Rattle.bf_machine.proofs.served.Totals.{total, total_less}
@@ -43,11 +45,37 @@ module _ (start : Database) where
   event_script m next (commits_now s by) = ap (λ (k : Machine). k.script) by.goes
   event_script m next (moves granules by) = ap (λ (k : Machine). k.script) by.goes
   event_script m next (aborts s by) = ap (λ (k : Machine). k.script) by.goes
+  event_script m next (ends_by_log s by) = ap (λ (k : Machine). k.script) by.goes
   event_script m next (finishes s same) = ap (λ (k : Machine). k.script) same
 
   pub reached_script : (m now : Machine) → Reaches start m now → now.script ≡ m.script
   reached_script m _ at_once = refl
   reached_script m _ (one_more {now = now} {next = next} before event) = event_script now next event ∙ reached_script m now before
+
+-- and so it stays whether a log may end groups
+module _ (start : Database) where
+  asked_logged : (m : Machine) (s : ℕ) (answer : LockAnswer) (o : Open) (name : LockName) (mode : Mode) → (asked m s o name mode answer).logged ≡ m.logged
+  asked_logged m s Granted o name mode = refl
+  asked_logged m s (Wait others) o name mode = refl
+  asked_logged m s (Die older) o name mode = refl
+
+  event_logged : (m next : Machine) → Event start m next → next.logged ≡ m.logged
+  event_logged m next (begins s by) = elim by.goes as (λ _. next.logged ≡ m.logged) [
+    | inl first ↦ ap (λ (k : Machine). k.logged) first.1
+    | inr again ↦ ap (λ (k : Machine). k.logged) again.3
+  ]
+  event_logged m next (asks s name mode answer by) = ap (λ (k : Machine). k.logged) by.goes ∙ asked_logged m s answer by.o name mode
+  event_logged m next (executes s by) = ap (λ (k : Machine). k.logged) by.goes
+  event_logged m next (refuses s by) = ap (λ (k : Machine). k.logged) by.goes
+  event_logged m next (commits_now s by) = ap (λ (k : Machine). k.logged) by.goes
+  event_logged m next (moves granules by) = ap (λ (k : Machine). k.logged) by.goes
+  event_logged m next (aborts s by) = ap (λ (k : Machine). k.logged) by.goes
+  event_logged m next (ends_by_log s by) = ap (λ (k : Machine). k.logged) by.goes
+  event_logged m next (finishes s same) = ap (λ (k : Machine). k.logged) same
+
+  pub reached_logged : (m now : Machine) → Reaches start m now → now.logged ≡ m.logged
+  reached_logged m _ at_once = refl
+  reached_logged m _ (one_more {now = now} {next = next} before event) = event_logged now next event ∙ reached_logged m now before
 
 -- what is seen of another session
 module _ (m next : Machine) (t : ℕ) (script : next.script ≡ m.script) (same : (open_at next t ≡ open_at m t) × (told_at next t ≡ told_at m t)) where
@@ -63,9 +91,39 @@ module _ (m next : Machine) (t : ℕ) (script : next.script ≡ m.script) (same 
       ap (λ (n : ℕ). option_map_or (λ (_ : Open). 1 + n) (open_at next t) 0) same_unanswered
       ∙ ap (λ (o : Option Open). option_map_or (λ (_ : Open). 1 + unanswered m t) o 0) same.0
 
+-- SERVED: a session has gone on, or its open group has ended by a cause of the log
+abbrev pub HasBeenServed : Machine → ℕ → Database → Machine → Type 0
+HasBeenServed m s start next = HasGoneOn m s start next ⊎ ((cause : Cause) × HasFailed m s start cause next)
+
 -- a turn that has gone on leaves no more of its session's statements
-pub no_more_left : (m : Machine) (s : ℕ) (start : Database) (next : Machine) → HasGoneOn m s start next → unanswered next s ≤ unanswered m s
+no_more_left : (m : Machine) (s : ℕ) (start : Database) (next : Machine) → HasGoneOn m s start next → unanswered next s ≤ unanswered m s
 no_more_left m s start next gone = elim gone.goes as (λ _. unanswered next s ≤ unanswered m s) [ inl one ↦ omega (arith, one.one_more) | inr ended ↦ omega (arith, ended.same) ]
+
+module _ {start : Database} (m : Machine) (s : ℕ) (next : Machine) (served : HasBeenServed m s start next) where
+  pub served_serves : Serves m s next
+  served_serves = elim served as (λ _. Serves m s next) [ inl gone ↦ gone.serves | inr failed ↦ has_failed_serves m s failed.0 next failed.1 ]
+
+  pub served_no_more : unanswered next s ≤ unanswered m s
+  served_no_more = elim served as (λ _. unanswered next s ≤ unanswered m s) [ inl gone ↦ no_more_left m s start next gone | inr failed ↦ has_failed_no_more m s failed.0 next failed.1 ]
+
+  -- where no group was open a statement has its reply
+  served_less : open_at m s ≡ None → unanswered next s < unanswered m s
+  served_less closed = elim served as (λ _. unanswered next s < unanswered m s) [
+    | inl gone ↦ elim gone.goes as (λ _. unanswered next s < unanswered m s) [
+      | inl one ↦ omega (arith, one.one_more)
+      | inr ended ↦
+          let clash : None ≡ Some ended.o = sym closed ∙ ended.is in
+          absurd cc
+    ]
+    | inr failed ↦ has_failed_less m s failed.0 next failed.1 closed
+  ]
+
+  -- and where no log ends groups it has gone on
+  pub served_goes_on : m.logged ≡ false → HasGoneOn m s start next
+  served_goes_on unlogged = elim served as (λ _. HasGoneOn m s start next) [
+    | inl gone ↦ gone
+    | inr failed ↦ absurd (false≢true (sym unlogged ∙ (sym (reached_logged start m failed.1.now failed.1.reached) ∙ failed.1.by.logged)))
+  ]
 
 -- a death closes the session and leaves the others
 module _ (m : Machine) (s : ℕ) (o : Open) (is : open_at m s ≡ Some o) (older : ℕ) where
@@ -79,19 +137,20 @@ module _ (m : Machine) (s : ℕ) (o : Open) (is : open_at m s ≡ Some o) (older
 
 module _ {start : Database} (m : Machine) (kept : IsKept start m) (s : ℕ) (t : Turn) (next : Machine) (taken : IsTurn m s start t next) where
   -- the one open group, or the only session that goes on, is served
-  alone_is_served : IsAlone m s → (CannotGo m s → ⊥) → HasGoneOn m s start next
+  alone_is_served : IsAlone m s → (CannotGo m s → ⊥) → HasBeenServed m s start next
   alone_is_served alone goes_on = by_turn t taken
     where
-      by_turn : (t : Turn) → IsTurn m s start t next → HasGoneOn m s start next
+      by_turn : (t : Turn) → IsTurn m s start t next → HasBeenServed m s start next
       by_turn turn.Passed taken = absurd (goes_on taken.0)
-      by_turn turn.Served taken = taken
+      by_turn turn.Served taken = inl taken
+      by_turn (turn.Ended cause) taken = inr (cause, taken)
       by_turn turn.Waited taken = absurd (alone_waits_not m kept s alone taken.0 taken.1)
       by_turn turn.Died taken = absurd (alone_dies_not m kept s alone taken.0 taken.1)
 
-  pub alone_open_goes_on : IsAlone m s → (o : Open) → open_at m s ≡ Some o → HasGoneOn m s start next
+  pub alone_open_goes_on : IsAlone m s → (o : Open) → open_at m s ≡ Some o → HasBeenServed m s start next
   alone_open_goes_on alone o is = alone_is_served alone (open_can m kept s o is)
 
-  pub alone_goes_on : IsAlone m s → CanGo m s → HasGoneOn m s start next
+  pub alone_goes_on : IsAlone m s → CanGo m s → HasBeenServed m s start next
   alone_goes_on alone goes = alone_is_served alone (one_or_other m kept s goes)
 
   -- the youngest open group goes on or ends
@@ -127,6 +186,7 @@ module _ {start : Database} (m : Machine) (kept : IsKept start m) (s : ℕ) (t :
         by_turn turn.Served taken =
             by_beside taken.serves.beside
             (elim taken.goes as (λ _. left_open next s < left_open m s) [ inl one ↦ answered_less (omega (arith, one.one_more)) | inr ended ↦ closed_less ended.closed ]) place
+        by_turn (turn.Ended cause) taken = by_beside (has_failed_serves m s cause next taken).beside (closed_less (has_failed_closed m s cause next taken)) place
         by_turn turn.Waited taken = absurd (youngest_goes_on m kept s youngest taken.0 taken.1)
         by_turn turn.Died taken =
             let asked = taken.1 in
@@ -154,15 +214,11 @@ serves_less m next s place serves less =
 pub served_to_end : {start : Database} (m : Machine) → IsKept start m → (s : ℕ) → ((u : ℕ) → open_at m u ≡ None) → CanGo m s → (t : Turn) (next : Machine) → IsTurn m s start t next → (then : Machine)
     → ((u : ℕ) → IsAlone next u → Serves next u then × (unanswered then u ≤ unanswered next u)) → Serves m s then × (unanswered then s < unanswered m s)
 served_to_end m kept s closed goes t next taken then rest =
-    let gone = alone_goes_on m kept s t next taken (λ u apart. closed u) goes in
-    let more = rest s (λ u apart. (gone.serves.beside u apart).0 ∙ closed u) in
-    let less : unanswered next s < unanswered m s = elim gone.goes as (λ _. unanswered next s < unanswered m s) [
-      | inl one ↦ omega (arith, one.one_more)
-      | inr ended ↦
-          let clash : None ≡ Some ended.o = sym (closed s) ∙ ended.is in
-          absurd cc
-    ] in
-    (serves_both m s next then gone.serves more.0, omega (arith, less, more.1))
+    let served = alone_goes_on m kept s t next taken (λ u apart. closed u) goes in
+    let serves = served_serves m s next served in
+    let more = rest s (λ u apart. (serves.beside u apart).0 ∙ closed u) in
+    let less : unanswered next s < unanswered m s = served_less m s next served (closed s) in
+    (serves_both m s next then serves more.0, omega (arith, less, more.1))
 
 -- those that are next, behind others that were
 pub driven_both : (start : Database) (m now next : Machine) → Driven start m now → Driven start now next → Driven start m next

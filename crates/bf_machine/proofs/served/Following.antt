@@ -28,7 +28,7 @@ use Rattle.bf_machine.specs.interleaving.Serving.{CanGo, HasAnswered, HasEndedAl
 use Rattle.bf_machine.proofs.interleaving.Running.{inside, ran}
 use Rattle.bf_machine.proofs.interleaving.Texts.{IsText, are_texts, block, lone}
 use Rattle.bf_machine.proofs.served.Behind.{IsFlip, end_begins_none, end_needs_none, put_last, put_same}
-use Rattle.bf_machine.proofs.served.Ending.{alone_goes_on}
+use Rattle.bf_machine.proofs.served.Ending.{alone_goes_on, served_goes_on}
 use Rattle.bf_machine.proofs.served.Ran.{group_of, last_in}
 
 -- whether what comes behind some statements of a group stands in its block
@@ -270,9 +270,9 @@ module _ {start : Database} (m : Machine) (kept : IsKept start m) (s : ℕ) wher
 
 -- where nothing is open, a session's turn and the end of its group move what they need
 pub served_moves : {start : Database} (m : Machine) → IsKept start m → (s : ℕ) → ((u : ℕ) → open_at m u ≡ None) → CanGo m s → (t : Turn) (next : Machine) → IsKept start next → IsTurn m s start t next
-    → (then : Machine) → ((u : ℕ) → IsAlone next u → IsFollowed next u start → IsFollowed then u start) → ((u : ℕ) → open_at then u ≡ None)
+    → m.logged ≡ false → (then : Machine) → ((u : ℕ) → IsAlone next u → IsFollowed next u start → IsFollowed then u start) → ((u : ℕ) → open_at then u ≡ None)
     → moving_seen m.lazy.last ≡ movement m.script start m.history → moving_seen then.lazy.last ≡ movement then.script start then.history
-served_moves {start = start} m kept s closed goes t next kept_next taken then rest closed_then moved =
-    let gone = alone_goes_on m kept s t next taken (λ u apart. closed u) goes in
+served_moves {start = start} m kept s closed goes t next kept_next taken unlogged then rest closed_then moved =
+    let gone = served_goes_on m s next (alone_goes_on m kept s t next taken (λ u apart. closed u) goes) unlogged in
     let behind : IsFollowed next s start = followed_stays m kept s next kept_next gone (followed_if_closed m s (closed s) start moved) in
     moved_if_followed then s (closed_then s) start (rest s (λ u apart. (gone.serves.beside u apart).0 ∙ closed u) behind)

@@ -1,8 +1,8 @@
 -- What has moved behind a need, as it is told of a migration.
-use Rattle.std.proofs.Common.{◌≡◌, ℕ, ◌+◌, Bool, true, false, not, ◌||◌, List, [], ◌∷◌, ◌++◌, map, filter, Option, Some, None, refl, sym, ap, ◌∙◌, inl, inr, append-nil}
+use Rattle.std.proofs.Common.{◌≡◌, ℕ, ◌+◌, Bool, true, false, not, ◌||◌, List, [], ◌∷◌, ◌++◌, map, filter, Option, Some, None, refl, sym, ap, subst, ◌∙◌, inl, inr, append-nil}
 use Rattle.std.specs.Option.{option_map, option_to_list}
-use Rattle.std.specs.List.{flat_map, list_all}
-use Rattle.std.proofs.lemmas.Bool.{cases_Bool, false≢true}
+use Rattle.std.specs.List.{flat_map}
+use Rattle.std.proofs.lemmas.Bool.{cases_Bool, false≢true, or_right}
 use Rattle.std.proofs.lemmas.List.{map-append}
 use Rattle.std.proofs.lemmas.List.Folds.{list_any-append}
 use Rattle.std.proofs.lemmas.Simd.{map-map}
@@ -18,9 +18,10 @@ use Rattle.bf_sql.specs.migrations.Lazy.{DoneGranule, LazyState, Migration, done
 use Rattle.bf_sql.specs.migrations.Need.{needed, needed_by, needed_for}
 use Rattle.bf_sql.specs.migrations.Plans.{prepared_of}
 use Rattle.bf_image.proofs.finding.Found.{same_granule-equal, same_granule-itself}
-use Rattle.bf_image.proofs.items.Lists.{filter_equal_where, has_own}
-use Rattle.bf_store.specs.States.{HaveMoved, by_place, need_of, to_move, with_moved}
+use Rattle.bf_image.proofs.items.Lists.{all_so, filter_equal_where, has_own}
+use Rattle.bf_store.specs.States.{by_place, need_of, to_move, with_moved}
 use Rattle.bf_store.proofs.moving.Moving.{has_if_passes}
+use Rattle.bf_store.proofs.moving.Needing.{none_left_if_done}
 use Rattle.bf_store.proofs.moving.Ordered.{same_done}
 use Rattle.bf_machine.specs.Movement.{moving_of, moving_seen, with_need}
 
@@ -58,7 +59,7 @@ left_or_done last need g = elim (cases_Bool (is_done last g)) as (λ _. (is_done
 ]
 
 -- behind a record of moves
-abbrev DoneBehind : Migration → List DoneGranule → List Granule → Type 0
+abbrev pub DoneBehind : Migration → List DoneGranule → List Granule → Type 0
 DoneBehind last done need = (g : Granule) → is_done (record last { done = done }) g ≡ (is_done last g || has same_granule need g)
 
 module _ (last : Migration) (done : List DoneGranule) (need : List Granule) (so : DoneBehind last done need) where
@@ -93,7 +94,7 @@ granules_then last number fresh =
     map-append (λ (d : DoneGranule). d.granule) last.done (map (done_by number) fresh)
     ∙ ap (λ gs. map (λ (d : DoneGranule). d.granule) last.done ++ gs) (map-map (λ (d : DoneGranule). d.granule) (done_by number) fresh ∙ map_itself (λ g. g) (λ g. refl) fresh)
 
-pub recorded : (lazy : LazyState) (last : Migration) (need fresh : List Granule) → ((g : Granule) → (is_done last g || has same_granule fresh g) ≡ (is_done last g || has same_granule need g))
+recorded : (lazy : LazyState) (last : Migration) (need fresh : List Granule) → ((g : Granule) → (is_done last g || has same_granule fresh g) ≡ (is_done last g || has same_granule need g))
     → (done : List DoneGranule) × (option_map by_place (with_record_of_moves (record lazy { last = Some last }) last fresh).last ≡ Some (record last { done = done })) × DoneBehind last done need
 recorded lazy last need [] so = ((by_place last).done, refl, λ g. same_done last g ∙ (none (is_done last g) ∙ so g))
   where
@@ -110,8 +111,59 @@ recorded lazy last need (x ∷ xs) so =
           ∙ (list_any-append (same_granule g) (map (λ (d : DoneGranule). d.granule) last.done) fresh ∙ so g)),
     )
 
+-- BESIDES: of the last migration these granules have moved besides, and nothing else of it has changed
+abbrev pub HaveMovedBesides : Option Migration → List Granule → Option Migration → Type 0
+HaveMovedBesides None gs then = then ≡ None
+HaveMovedBesides (Some last) gs then = (done : List DoneGranule) × (then ≡ Some (record last { done = done })) × DoneBehind last done gs
+
+pub none_besides : (last : Option Migration) → HaveMovedBesides last [] last
+none_besides None = refl
+none_besides (Some last) = (last.done, refl, λ g. none (is_done last g))
+  where
+    none : (b : Bool) → b ≡ (b || false)
+    none true = refl
+    none false = refl
+
+-- behind one move
+pub one_besides : (lazy : LazyState) (gs : List Granule) → HaveMovedBesides lazy.last gs (with_moved lazy gs).last
+one_besides lazy gs = on lazy.last
+  where
+    on : (last : Option Migration) → HaveMovedBesides last gs (with_moved (record lazy { last = last }) gs).last
+    on None = refl
+    on (Some last) = recorded lazy last gs (not_done last gs) (λ g. left_or_done last gs g)
+
+-- behind one after the other
+over : (a b c : Bool) → ((a || b) || c) ≡ (a || (b || c))
+over true b c = refl
+over false b c = refl
+
+pub both_besides : (last now then : Option Migration) (gs hs : List Granule) → HaveMovedBesides last gs now → HaveMovedBesides now hs then → HaveMovedBesides last (gs ++ hs) then
+both_besides None now then gs hs one other = subst (λ (o : Option Migration). HaveMovedBesides o hs then) one other
+both_besides (Some last) now then gs hs one other =
+    let made : Migration = record last { done = one.0 } in
+    let more : HaveMovedBesides (Some made) hs then = subst (λ (o : Option Migration). HaveMovedBesides o hs then) one.1 other in (
+      more.0,
+      more.1,
+      λ g. more.2 g ∙ (ap (λ (b : Bool). b || has same_granule hs g) (one.2 g) ∙ (over (is_done last g) (has same_granule gs g) (has same_granule hs g)
+          ∙ ap (λ (b : Bool). is_done last g || b) (sym (list_any-append (same_granule g) gs hs)))),
+    )
+
+-- what is left of a need, and all of it
+pub need_besides : (last then : Option Migration) (need : List Granule) → HaveMovedBesides last (to_move last need) then → HaveMovedBesides last need then
+need_besides None then need moved = moved
+need_besides (Some last) then need moved = (moved.0, moved.1, λ g. moved.2 g ∙ left_or_done last need g)
+
+-- and then nothing of it is left
+pub none_to_move : (last then : Option Migration) (need : List Granule) → HaveMovedBesides last need then → to_move then need ≡ []
+none_to_move None then need moved = subst (λ (o : Option Migration). to_move o need ≡ []) (sym moved) refl
+none_to_move (Some last) then need moved =
+    let made : Migration = record last { done = moved.0 } in
+    subst (λ (o : Option Migration). to_move o need ≡ []) (sym moved.1)
+    (none_left_if_done made need
+    (all_so (has same_granule need) (is_done made) (λ g there. moved.2 g ∙ or_right (is_done last g) (has same_granule need g) there) need (has_own same_granule same_granule-itself need)))
+
 -- the need of what is prepared
-needed_is : (old : Migration) (db : Database) (in_block : Bool) (s : Statement) (bound : Bound) → prepared_of db in_block s ≡ Some bound
+pub needed_is : (old : Migration) (db : Database) (in_block : Bool) (s : Statement) (bound : Bound) → prepared_of db in_block s ≡ Some bound
     → needed_by old.old old.migrate db in_block s ≡ needed_for old.old old.migrate bound.action
 needed_is old db in_block s bound is =
     ap (λ (o : Option Bound). flat_map (needed old.old old.migrate) (option_to_list o)) is ∙ append-nil (needed_for old.old old.migrate bound.action)
@@ -124,37 +176,7 @@ module _ (db : Database) (in_block : Bool) (s : Statement) (bound : Bound) (is :
       (needed_is last db in_block s bound is)
       ∙ with_granules last done (needed_for last.old last.migrate bound.action) so
 
-  -- NOTHING is left of it
-  pub none_needed : (last : Option Migration) → HaveMoved last (λ last. needed_for last.old last.migrate bound.action) → with_need (moving_seen last) db in_block s ≡ moving_seen last
-  none_needed None moved = refl
-  none_needed (Some last) moved = behind last last.done (λ g. sym (none_more last (needed_for last.old last.migrate bound.action) moved g))
-    where
-      none_more : (last : Migration) (need : List Granule) → list_all (is_done last) need ≡ true → (g : Granule) → (is_done last g || has same_granule need g) ≡ is_done last g
-      none_more last need moved g = elim (cases_Bool (is_done last g)) as (λ _. (is_done last g || has same_granule need g) ≡ is_done last g) [
-        | inl done ↦ ap (λ b. b || has same_granule need g) done ∙ sym done
-        | inr waits ↦ ap (λ b. b || has same_granule need g) waits ∙ (not_in need moved waits ∙ sym waits)
-      ]
-        where
-          not_in : (need : List Granule) → list_all (is_done last) need ≡ true → is_done last g ≡ false → has same_granule need g ≡ false
-          not_in [] all waits = refl
-          not_in (x ∷ need) all waits = elim (cases_Bool (is_done last x)) as (λ _. has same_granule (x ∷ need) g ≡ false) [
-            | inl done ↦
-                let rest : list_all (is_done last) need ≡ true = rw done at all in
-                elim (cases_Bool (same_granule g x)) as (λ _. has same_granule (x ∷ need) g ≡ false) [
-                  | inl same ↦ absurd (false≢true (sym waits ∙ (ap (is_done last) (same_granule-equal g x same) ∙ done)))
-                  | inr other ↦ rw other (not_in need rest waits)
-                ]
-            | inr out ↦ absurd (false≢true (rw out at all))
-          ]
-
-  -- WHAT is left of it moves
-  pub need_moved : (lazy : LazyState) → with_need (moving_seen lazy.last) db in_block s ≡ moving_seen (with_moved lazy (to_move lazy.last (need_of lazy.last bound.action))).last
-  need_moved lazy = on lazy.last
-    where
-      on : (last : Option Migration) → with_need (moving_seen last) db in_block s ≡ moving_seen (with_moved (record lazy { last = last }) (to_move last (need_of last bound.action))).last
-      on None = refl
-      on (Some last) =
-          let need = needed_for last.old last.migrate bound.action in
-          let left = not_done last need in
-          let made = recorded lazy last need (not_done last left) (λ g. left_or_done last left g ∙ left_or_done last need g) in
-          behind last made.0 made.2 ∙ ap moving_seen (sym made.1)
+  -- ALL of it has moved
+  pub need_moved : (last then : Option Migration) → HaveMovedBesides last (need_of last bound.action) then → with_need (moving_seen last) db in_block s ≡ moving_seen then
+  need_moved None then moved = ap moving_seen (sym moved)
+  need_moved (Some last) then moved = behind last moved.0 moved.2 ∙ ap moving_seen (sym moved.1)

@@ -1,9 +1,8 @@
 -- What a bound statement needs of the last migration moves, and then nothing of it is left.
-use Rattle.std.proofs.Common.{◌≡◌, ◌≢◌, ◌⊎◌, ℕ, Bool, false, not, List, [], Bor, Option, Some, None, refl, sym, ap, ap₂, subst, ◌∙◌, inl, inr}
+use Rattle.std.proofs.Common.{◌≡◌, ◌≢◌, ℕ, Bool, false, not, List, [], Bor, Option, Some, None, refl, sym, ap, ap₂, subst, ◌∙◌, inl, inr, append-nil}
 use Rattle.std.specs.Prelude.{is_some}
 use Rattle.std.specs.Global.{Vec}
 use Rattle.std.specs.Option.{option_copied, option_map}
-use Rattle.std.proofs.lemmas.Bool.{or_right}
 use Rattle.bf_base.specs.declared.granule.Granule.{Granule}
 use Rattle.bf_base.specs.declared.table.Table.{Table}
 use Rattle.bf_base.specs.declared.value.Value.{Value}
@@ -17,26 +16,25 @@ use Rattle.bf_tree.specs.declared.migration.Target.{Target}
 use Rattle.boxcar.specs.Table.{Where}
 use Rattle.bf_sql.specs.Database.{Database}
 use Rattle.bf_sql.specs.migrations.Granules.{granules_of, same_granule}
-use Rattle.bf_sql.specs.migrations.Lazy.{LazyState, Migration, is_done, not_done}
+use Rattle.bf_sql.specs.migrations.Lazy.{LazyState, Migration, is_done}
 use Rattle.bf_sql.specs.migrations.Need.{giving, has_key_of, may_satisfy, needed_for, target_of}
 use Rattle.bf_image.specs.Migrations.{old_of}
 use Rattle.bf_image.specs.declared.migration.Migration.{Migration as Kept}
-use Rattle.bf_image.proofs.finding.Found.{same_granule-itself}
-use Rattle.bf_image.proofs.items.Lists.{all_kept, all_so, has_own}
+use Rattle.bf_image.proofs.items.Lists.{all_kept}
 use Rattle.bf_store.specs.States.{AreGranules, AreGranulesIfAny, IsLazy, IsUnderWayIfAny, need_of, to_move, with_moved}
 use Rattle.bf_store.specs.Stores.{IsByPass, migration_of}
 use Rattle.bf_store.proofs.coming.Parts.{granules_apart}
-use Rattle.bf_store.proofs.moving.Needing.{need_is_granules, none_left_if_done}
+use Rattle.bf_store.proofs.moving.Needing.{need_is_granules}
 use Rattle.bf_transpose.specs.Covers.{IsCoverOf, can_need, needed_in}
 use Rattle.bf_transpose.specs.declared.cover.Cover.{Cover}
 use Rattle.bf_machine.specs.declared.stand.Step.{Step}
 use Rattle.bf_machine.specs.declared.stand.Step.TheVariants.{Need, Replied, Stale}
-use Rattle.bf_machine.specs.interleaving.Calls.{CanExec, HasReplied, IsPresent, IsStep, slot_of}
+use Rattle.bf_machine.specs.interleaving.Calls.{CanExec, HasReplied, IsPlace, IsPresent, IsStep, slot_of}
 use Rattle.bf_machine.specs.interleaving.Events.{Event, Moves, Reaches, at_once, executes, moves, one_more, refuses}
 use Rattle.bf_machine.specs.interleaving.Kept.{IsKept}
 use Rattle.bf_machine.specs.interleaving.Machines.{Machine}
-use Rattle.bf_machine.specs.interleaving.Serving.{HasMovedNeed}
-use Rattle.bf_machine.proofs.served.Moved.{left_or_done, recorded}
+use Rattle.bf_machine.specs.interleaving.Serving.{HasMovedFirst, HasMovedNeed, HasMovedSome, MovesAll, left_of_need, no_move, one_record}
+use Rattle.bf_machine.proofs.served.Moved.{HaveMovedBesides, both_besides, need_besides, none_besides, none_to_move, one_besides}
 
 module _ (lazy : LazyState) (act : Action) where
   pub need_granules : IsLazy lazy → AreGranulesIfAny lazy.last (to_move lazy.last (need_of lazy.last act))
@@ -51,19 +49,6 @@ module _ (lazy : LazyState) (act : Action) where
             each = all_kept (has same_granule (granules_of last.old last.migrate)) (λ g. not (is_done last g)) need are.each;
             apart = apart-filter same_granule (λ g. not (is_done last g)) need are.apart;
           }
-
-  pub nothing_left : to_move (with_moved lazy (to_move lazy.last (need_of lazy.last act))).last (need_of lazy.last act) ≡ []
-  nothing_left = on lazy.last
-    where
-      on : (last : Option Migration) → to_move (with_moved (record lazy { last = last }) (to_move last (need_of last act))).last (need_of last act) ≡ []
-      on None = refl
-      on (Some last) =
-          let need = needed_for last.old last.migrate act in
-          let left = not_done last need in
-          let made = recorded lazy last need (not_done last left) (λ g. left_or_done last left g ∙ left_or_done last need g) in
-          let then : Migration = record last { done = made.0 } in
-          subst (λ (o : Option Migration). to_move o need ≡ []) (sym made.1)
-          (none_left_if_done then need (all_so (has same_granule need) (is_done then) (λ g there. made.2 g ∙ or_right (is_done last g) (has same_granule need g) there) need (has_own same_granule same_granule-itself need)))
 
 -- the need, by the pass of the last migration
 pub need_by_pass : (last : Option Migration) (pass : Option (Where Kept)) (act : Action) → IsByPass last pass → need_of last act ≡ needed_in (option_map (λ p. p.value) pass) act
@@ -93,21 +78,36 @@ moves_nothing m gs none = record {
     on None e = refl
     on (Some last) e = absurd cc
 
--- MOVED: the store alone has changed
+-- MOVED: the store alone has changed, and of the last migration these granules have moved besides
+pub has_come : (m : Machine) (gs : List Granule) (now : Machine) → MovesAll m gs now → (lazy : LazyState) × (now ≡ record m { lazy = lazy }) × HaveMovedBesides m.lazy.last gs lazy.last
+has_come m _ _ no_move = (m.lazy, refl, none_besides m.lazy.last)
+has_come m _ _ (one_record {before = before} {now = now} {next = next} moved granules by) =
+    let was = has_come m before now moved in
+    let then = with_moved was.0 granules in (
+      then,
+      by.goes ∙ ap (λ (k : Machine). record k { lazy = with_moved k.lazy granules }) was.1,
+      both_besides m.lazy.last was.0.last then.last before granules was.2 (one_besides was.0 granules),
+    )
+
+-- a bound statement's need
 abbrev pub HasCome : Machine → Bound → LazyState → Type 0
-HasCome m bound lazy = (lazy ≡ m.lazy) ⊎ (lazy ≡ with_moved m.lazy (to_move m.lazy.last (need_of m.lazy.last bound.action)))
+HasCome m bound lazy = HaveMovedBesides m.lazy.last (need_of m.lazy.last bound.action) lazy.last
 
-pub has_come : (m : Machine) (bound : Bound) (now : Machine) → HasMovedNeed m bound now → (lazy : LazyState) × (now ≡ record m { lazy = lazy }) × HasCome m bound lazy
-has_come m bound now moved = elim moved as (λ _. (lazy : LazyState) × (now ≡ record m { lazy = lazy }) × HasCome m bound lazy) [
-  | inl same ↦ (m.lazy, same, inl refl)
-  | inr by ↦ (with_moved m.lazy (to_move m.lazy.last (need_of m.lazy.last bound.action)), by.goes, inr refl)
-]
+pub need_has_come : (m : Machine) (bound : Bound) (now : Machine) → HasMovedNeed m bound now → (lazy : LazyState) × (now ≡ record m { lazy = lazy }) × HasCome m bound lazy
+need_has_come m bound now moved =
+    let come = has_come m (left_of_need m bound) now moved in
+    (come.0, come.1, need_besides m.lazy.last come.0.last (need_of m.lazy.last bound.action) come.2)
 
-pub moved_reaches : (start : Database) (m : Machine) (bound : Bound) (now : Machine) → HasMovedNeed m bound now → Reaches start m now
-moved_reaches start m bound now moved = elim moved as (λ _. Reaches start m now) [
-  | inl same ↦ subst (Reaches start m) (sym same) at_once
-  | inr by ↦ one_more at_once (moves (to_move m.lazy.last (need_of m.lazy.last bound.action)) by)
-]
+-- all of it, or none, is a first part
+pub all_is_some : (m : Machine) (bound : Bound) (now : Machine) → HasMovedNeed m bound now → HasMovedSome m bound now
+all_is_some m bound now moved = record { front = left_of_need m bound; back = []; parts = sym (append-nil (left_of_need m bound)); moves = moved }
+
+pub none_is_some : (m : Machine) (bound : Bound) → HasMovedSome m bound m
+none_is_some m bound = record { front = []; back = left_of_need m bound; parts = refl; moves = no_move }
+
+pub moved_reaches : (start : Database) (m : Machine) (gs : List Granule) (now : Machine) → MovesAll m gs now → Reaches start m now
+moved_reaches start m _ _ no_move = at_once
+moved_reaches start m _ _ (one_record {before = before} {now = now} {next = next} moved granules by) = one_more (moved_reaches start m before now moved) (moves granules by)
 
 -- what may be replied to may be so still
 pub can_exec_still : (m : Machine) (s : ℕ) (start : Database) (bound : Bound) (lazy : LazyState) → CanExec m s start bound → CanExec (record m { lazy = lazy }) s start bound
@@ -131,7 +131,7 @@ can_exec_still m s start bound lazy can = elim can as (λ _. CanExec (record m {
 
 -- and a reply is reached behind moves
 pub reply_reached : (start : Database) (m : Machine) (s : ℕ) (bound : Bound) (now : Machine) → HasMovedNeed m bound now → (then : Machine) → HasReplied now s bound then → Reaches start m then
-reply_reached start m s bound now moved then by = one_more (moved_reaches start m bound now moved) (elim by as (λ _. Event start now then) [
+reply_reached start m s bound now moved then by = one_more (moved_reaches start m (left_of_need m bound) now moved) (elim by as (λ _. Event start now then) [
   | inl executed ↦ executes s executed.0
   | inr refused ↦ refuses s refused
 ])
@@ -197,25 +197,52 @@ module _ {start : Database} (m : Machine) (kept : IsKept start m) (bound : Bound
   pub need_told : (granules : Vec Granule) → IsStep m pass bound cover.granules.items (Need granules) → granules.items ≡ to_move m.lazy.last (need_of m.lazy.last bound.action)
   need_told granules step = (needs_left m pass bound cover.granules.items is_present granules step).0 ∙ ap (to_move m.lazy.last) need
 
+  -- where nothing is needed
+  pub none_if_none : need_of m.lazy.last bound.action ≡ [] → to_move m.lazy.last cover.granules.items ≡ []
+  none_if_none none = ap (to_move m.lazy.last) (need ∙ none) ∙ empty m.lazy.last
+    where
+      empty : (last : Option Migration) → to_move last [] ≡ []
+      empty None = refl
+      empty (Some last) = refl
+
+  -- where it has its reply at once
+  pub nothing_to_move : IsStep m pass bound cover.granules.items Replied → left_of_need m bound ≡ []
+  nothing_to_move step =
+      ap (to_move m.lazy.last) (sym need)
+      ∙ elim step as (λ _. to_move m.lazy.last cover.granules.items ≡ []) [ inl here ↦ here.1 | inr gone ↦ absurd (gone.0 is_present) ]
+
   module _ (gs : List Granule) (same : gs ≡ to_move m.lazy.last (need_of m.lazy.last bound.action)) where
     pub may_move : AreGranulesIfAny m.lazy.last gs
     may_move = subst (AreGranulesIfAny m.lazy.last) (sym same) (need_granules m.lazy bound.action kept.store_valid.seen_as.lazy_state)
 
     -- behind its moves
-    module _ (now : Machine) (by : Moves m gs now) where
+    module _ (now : Machine) (by : MovesAll m gs now) where
+      come : (lazy : LazyState) × (now ≡ record m { lazy = lazy }) × HaveMovedBesides m.lazy.last gs lazy.last
+      come = has_come m gs now by
+
       pub has_moved : HasMovedNeed m bound now
-      has_moved = inr (subst (λ (gs : List Granule). Moves m gs now) same by)
+      has_moved = subst (λ (gs : List Granule). MovesAll m gs now) same by
 
       pub present_then : IsPresent now pass bound
       present_then = record {
-        catalog = number ∙ sym (ap (λ (k : Machine). k.db.number) by.goes);
-        migration = ap slot_of (own ∙ sym (ap (λ (k : Machine). k.pass) by.goes));
+        catalog = number ∙ sym (ap (λ (k : Machine). k.db.number) come.1);
+        migration = ap slot_of (own ∙ sym (ap (λ (k : Machine). k.pass) come.1));
       }
 
       pub none_then : to_move now.lazy.last cover.granules.items ≡ []
       none_then =
-          let stored : now.lazy ≡ with_moved m.lazy (to_move m.lazy.last (need_of m.lazy.last bound.action)) = ap (λ (k : Machine). k.lazy) by.goes ∙ ap (with_moved m.lazy) same in
-          ap₂ (λ (l : LazyState) (ns : List Granule). to_move l.last ns) stored need ∙ nothing_left m.lazy bound.action
+          let stored : now.lazy ≡ come.0 = ap (λ (k : Machine). k.lazy) come.1 in
+          let needed = need_of m.lazy.last bound.action in
+          let all : HaveMovedBesides m.lazy.last needed come.0.last =
+          need_besides m.lazy.last come.0.last needed (subst (λ (gs : List Granule). HaveMovedBesides m.lazy.last gs come.0.last) same come.2) in
+          ap₂ (λ (l : LazyState) (ns : List Granule). to_move l.last ns) stored need ∙ none_to_move m.lazy.last come.0.last needed all
+
+      pub place_then : (s : ℕ) → IsPlace m.script s → IsPlace now.script s
+      place_then s place = subst (λ (k : Machine). IsPlace k.script s) (sym come.1) place
 
       pub can_then : (s : ℕ) → CanExec m s start bound → CanExec now s start bound
-      can_then s can = subst (λ (k : Machine). CanExec k s start bound) (sym by.goes) (can_exec_still m s start bound (with_moved m.lazy gs) can)
+      can_then s can = subst (λ (k : Machine). CanExec k s start bound) (sym come.1) (can_exec_still m s start bound come.0 can)
+
+    -- or behind some of them
+    pub has_moved_some : (now : Machine) → HasMovedFirst m gs now → HasMovedSome m bound now
+    has_moved_some now moved = subst (λ (gs : List Granule). HasMovedFirst m gs now) same moved

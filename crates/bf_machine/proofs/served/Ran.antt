@@ -145,13 +145,14 @@ lengths_are (t ∷ told) [] same each = absurd (omega (arith, same))
 lengths_are (t ∷ told) (s ∷ sessions) same each =
     ap₂ (λ (n : ℕ) (ns : List ℕ). n ∷ ns) (each 0 (omega arith)) (lengths_are told sessions (omega (arith, same)) (λ i within. each (suc i) (omega (arith, within))))
 
-with_none : (told : List (List Reply)) (opens : List (Option Open)) → length told ≡ length opens → ((i : ℕ) → slice_index_or opens i None ≡ None)
+with_none : (told : List (List Reply)) (opens : List (Option Open)) → length told ≡ length opens → ((i : ℕ) → i < length opens → slice_index_or opens i None ≡ None)
     → map (λ (p : List Reply × Option Open). with_replies p.0 p.1) (zip told opens) ≡ told
 with_none [] [] same each = refl
 with_none [] (o ∷ opens) same each = absurd (omega (arith, same))
 with_none (t ∷ told) [] same each = absurd (omega (arith, same))
 with_none (t ∷ told) (o ∷ opens) same each =
-    ap₂ (λ (x : List Reply) (xs : List (List Reply)). x ∷ xs) (ap (with_replies t) (each 0)) (with_none told opens (omega (arith, same)) (λ i. each (suc i)))
+    ap₂ (λ (x : List Reply) (xs : List (List Reply)). x ∷ xs) (ap (with_replies t) (each 0 (omega arith)))
+    (with_none told opens (omega (arith, same)) (λ i within. each (suc i) (omega (arith, within))))
 
 some_long : {X : Type 0} (p : X → Bool) (xs : List X) → list_any p xs ≡ true → 1 ≤ length xs
 some_long p [] any = absurd (false≢true any)
@@ -277,6 +278,27 @@ module _ {start : Database} (m : Machine) (kept : IsKept start m) where
         ]
   ]
 
+module _ {start : Database} (m : Machine) (kept : IsKept start m) (ended : (s : ℕ) → IsPlace m.script s → HasSessionEnded m s) where
+  -- sessions that have ended have all their replies
+  pub all_are_answered : IsAllAnswered m.script m.told
+  all_are_answered =
+      lengths_are m.told m.script.sessions kept.shaped.told
+      (λ i within.
+      let told : slice_index_or m.told i [] ≡ told_at m (i + 1) = there_next [] [] m.told i in
+      let text : slice_index_or m.script.sessions i no_session ≡ session_at m.script (i + 1) = there_next no_session no_session m.script.sessions i in
+      let most = no_more_than m kept (i + 1) (omega arith) in
+      let done = (ended (i + 1) (omega arith, omega (arith, within, kept.shaped.told))).0 in
+      let one : length (slice_index_or m.told i []) ≡ length (told_at m (i + 1)) = ap (λ (rs : List Reply). length rs) told in
+      let other : length (slice_index_or m.script.sessions i no_session).statements ≡ length (session_at m.script (i + 1)).statements = ap (λ (x : Session). length x.statements) text in
+      omega (arith, one, other, most, done))
+
+  -- and none of them has an open group
+  pub transcripts_are_told : transcripts_of m ≡ m.told
+  transcripts_are_told = with_none m.told m.opens (kept.shaped.told ∙ sym kept.shaped.opens)
+      (λ i within.
+      let here : slice_index_or m.opens i None ≡ open_at m (i + 1) = there_next None None m.opens i in
+      here ∙ (ended (i + 1) (omega arith, omega (arith, within, kept.shaped.opens))).1)
+
 module _ (m : Machine) (kept : IsKept empty_database m) (sequence : IsInSequence empty_database m) (ended : (s : ℕ) → IsPlace m.script s → HasSessionEnded m s) where
   abbrev legal : IsLegalHistory m.script (AllowedNow empty_database m) none_open empty_database m.told m.history
   legal = kept.history_legal.legal
@@ -288,7 +310,7 @@ module _ (m : Machine) (kept : IsKept empty_database m) (sequence : IsInSequence
       let alive : deaths_at m allowed.0.own ≡ has.deaths = ap (λ (found : Option Began). option_map_or (λ (b : Began). b.deaths) found []) has.is in
       let size : length (allowed.1 ++ h ∷ []) ≡ 0 = ap (λ (ds : List ℕ). length ds) (sym allowed.2 ∙ (sym alive ∙ sequence.no_death allowed.0.own)) in
       omega (arith, size, length-append allowed.1 (h ∷ []))
-  no_cause s group other allowed = allowed
+  no_cause s group other allowed = false≢true (sym sequence.unlogged ∙ allowed)
 
   -- each group of the text has its entry
   in_history : (s : ℕ) (g : Group) → IsPlace m.script s → Contains (groups_in m.script s) g → Contains {X = Placed} (map placed m.history) (s, g)
@@ -354,26 +376,10 @@ module _ (m : Machine) (kept : IsKept empty_database m) (sequence : IsInSequence
     others = weaker m.script (AllowedNow empty_database m) m.told no_cause _ legal.others;
   }
 
-  all_answered : IsAllAnswered m.script m.told
-  all_answered =
-      lengths_are m.told m.script.sessions kept.shaped.told
-      (λ i within.
-      let told : slice_index_or m.told i [] ≡ told_at m (i + 1) = there_next [] [] m.told i in
-      let text : slice_index_or m.script.sessions i no_session ≡ session_at m.script (i + 1) = there_next no_session no_session m.script.sessions i in
-      let most = no_more_than m kept (i + 1) (omega arith) in
-      let done = (ended (i + 1) (omega arith, omega (arith, within))).0 in
-      let one : length (slice_index_or m.told i []) ≡ length (told_at m (i + 1)) = ap (λ (rs : List Reply). length rs) told in
-      let other : length (slice_index_or m.script.sessions i no_session).statements ≡ length (session_at m.script (i + 1)).statements = ap (λ (x : Session). length x.statements) text in
-      omega (arith, one, other, most, done))
-
-  transcripts_told : transcripts_of m ≡ m.told
-  transcripts_told = with_none m.told m.opens (kept.shaped.told ∙ sym kept.shaped.opens)
-      (λ i. let here : slice_index_or m.opens i None ≡ open_at m (i + 1) = there_next None None m.opens i in here ∙ sequence.closed (i + 1))
-
   pub ran_in_order : IsRunInOrder m.script (transcripts_of m) m.history (sweep_of m.lazy.last)
   ran_in_order = record {
-    history_legal = subst (λ (ts : List (List Reply)). IsLegalHistory m.script NoCause none_open empty_database ts m.history) (sym transcripts_told) legal_without_cause;
-    all_answered = subst (IsAllAnswered m.script) (sym transcripts_told) all_answered;
+    history_legal = subst (λ (ts : List (List Reply)). IsLegalHistory m.script NoCause none_open empty_database ts m.history) (sym (transcripts_are_told m kept ended)) legal_without_cause;
+    all_answered = subst (IsAllAnswered m.script) (sym (transcripts_are_told m kept ended)) (all_are_answered m kept ended);
     entries_are_in_order = entries_are;
     moves_only_needed = sweep_is m.lazy.live m.lazy.last kept.store_valid.seen_as.lazy_state.last ∙ ap sweep_told sequence.moved;
   }

@@ -8,10 +8,10 @@ use Rattle.std.proofs.lemmas.Option.{same_Some}
 use Rattle.bf_locks.specs.Locks.{Locks}
 use Rattle.bf_tree.specs.declared.bound.Bound.{Bound}
 use Rattle.bf_tree.specs.declared.history.Entry.{Entry}
+use Rattle.bf_tree.specs.declared.reply.Cause.{Cause}
 use Rattle.bf_tree.specs.declared.script.Script.{Script}
 use Rattle.bf_tree.specs.declared.statement.Statement.{Statement}
 use Rattle.bf_sql.specs.migrations.Lazy.{LazyState, Migration}
-use Rattle.bf_sql.specs.migrations.Need.{needed_for}
 use Rattle.bf_sql.specs.migrations.Plans.{prepared_of}
 use Rattle.bf_sql.specs.Database.{Database}
 use Rattle.bf_sql.specs.Footprints.{footprint_of}
@@ -21,25 +21,28 @@ use Rattle.bf_sql.specs.Objections.{objections}
 use Rattle.bf_sql.specs.RowObjections.{row_objections}
 use Rattle.bf_live.specs.Live.{committed}
 use Rattle.bf_live.specs.OpenGroups.{Holds}
-use Rattle.bf_store.specs.States.{HaveMoved, need_of, to_move, with_moved}
+use Rattle.bf_store.specs.States.{need_of}
 use Rattle.bf_machine.specs.Movement.{Moving, begun_unless, moving_behind, moving_seen, with_need}
-use Rattle.bf_machine.specs.interleaving.Calls.{CanExec, CanRefuse, HasReplied, IsToExec}
-use Rattle.bf_machine.specs.interleaving.Events.{Executes, Reaches, Refuses, at_once, moves, one_more, put_into, refuses, rest_of, stands_inside, stepped, text_of}
+use Rattle.bf_machine.specs.declared.stand.Turn.{Turn}
+use Rattle.bf_machine.specs.declared.stand.Turn.TheVariants as turn
+use Rattle.bf_machine.specs.interleaving.Calls.{CanExec, CanFail, CanRefuse, HasReplied, IsToExec}
+use Rattle.bf_machine.specs.interleaving.Events.{EndsByLog, Executes, Reaches, Refuses, at_once, one_more, put_into, refuses, rest_of, stands_inside, stepped, text_of}
 use Rattle.bf_machine.specs.interleaving.Groups.{Pending, Rows, left_by, pending_behind}
 use Rattle.bf_machine.specs.interleaving.Kept.{IsKept, IsOpenGroup}
 use Rattle.bf_machine.specs.interleaving.Machines.{Machine, Open, open_at}
-use Rattle.bf_machine.specs.interleaving.Serving.{GoesOnWith, HasEndedAlone, HasGoneOn, HasLocked, HasMore, HasMovedNeed, HasReply, HasSettled}
-use Rattle.bf_machine.specs.interleaving.Serving.{IsBoundNext, IsPreparedNext, IsRecorded, IsStrayWith, Serves, answered_text, is_in_block, sees, unanswered}
+use Rattle.bf_machine.specs.interleaving.Serving.{EndsIfAnswered, GoesOnWith, HasEndedAlone, HasFailed, HasGoneOn, HasLocked, HasMovedNeed, HasMovedSome, HasReply}
+use Rattle.bf_machine.specs.interleaving.Serving.{IsBoundNext, IsEndIfAnswered, IsPreparedNext, IsRecorded, IsTurn, Serves, answered_text, is_in_block, left_of_need, sees, unanswered}
 use Rattle.bf_machine.proofs.interleaving.Others.{has_place}
 use Rattle.bf_machine.proofs.interleaving.Places.{set_same}
 use Rattle.bf_machine.proofs.interleaving.Reaching.{reached_keeps_all}
 use Rattle.bf_machine.proofs.interleaving.Texts.{are_texts}
 use Rattle.bf_machine.proofs.keeping.Numbers.{prepared_number}
-use Rattle.bf_machine.proofs.served.Behind.{AreRows, are_rows, behind_reply, end_begins_none, end_needs_none, first_same, prepared_seen}
+use Rattle.bf_machine.proofs.served.Behind.{AreRows, are_rows, behind_reply, end_begins_none, end_needs, end_needs_none, first_same, prepared_seen}
 use Rattle.bf_machine.proofs.served.Events.{serves_both}
 use Rattle.bf_machine.proofs.served.Goes.{closed_more, closed_reply, exec_goes_on, exec_records, exec_reply, reaches_both, refuse_goes_on, refuse_records}
-use Rattle.bf_machine.proofs.served.Moved.{need_moved, none_needed}
-use Rattle.bf_machine.proofs.served.Needs.{HasCome, has_come, moved_reaches, need_granules}
+use Rattle.bf_machine.proofs.served.Failing.{failed_behind, failed_less, failed_no_more}
+use Rattle.bf_machine.proofs.served.Moved.{HaveMovedBesides, need_moved, needed_is}
+use Rattle.bf_machine.proofs.served.Needs.{HasCome, has_come, moved_reaches, need_has_come}
 use Rattle.bf_machine.proofs.served.Nexts.{next_of, refused_ends}
 
 module _ (m : Machine) (s : ℕ) (o : Open) (bound : Bound) (next : IsBoundNext m s o bound) (locks : Locks) (held : Holds locks o.start (footprint_of bound)) where
@@ -92,15 +95,8 @@ module _ (m : Machine) (s : ℕ) (o : Open) (bound : Bound) (next : IsBoundNext 
       came : with_need (moving_seen m.lazy.last) (committed m.db rows.writes) inside by.statement ≡ moving_seen lazy.last
       came =
           let seen = prepared_seen m.db rows.writes inside by.statement by.bound by.bound_so in
-          elim come as (λ _. with_need (moving_seen m.lazy.last) (committed m.db rows.writes) inside by.statement ≡ moving_seen lazy.last) [
-            | inl same ↦
-                let last : lazy.last ≡ m.lazy.last = ap (λ (l : LazyState). l.last) same in
-                none_needed (committed m.db rows.writes) inside by.statement by.bound seen m.lazy.last (subst (λ (last : Option Migration). HaveMoved last (λ last. needed_for last.old last.migrate by.bound.action)) last by.moved) ∙ ap moving_seen (sym last)
-            | inr more ↦
-                need_moved (committed m.db rows.writes) inside by.statement by.bound seen m.lazy
-                ∙ ap (λ (b : Bound). moving_seen (with_moved m.lazy (to_move m.lazy.last (need_of m.lazy.last b.action))).last) same_bound
-                ∙ ap (λ (l : LazyState). moving_seen l.last) (sym more)
-          ]
+          need_moved (committed m.db rows.writes) inside by.statement by.bound seen m.lazy.last lazy.last
+          (subst (λ (b : Bound). HaveMovedBesides m.lazy.last (need_of m.lazy.last b.action) lazy.last) (sym same_bound) come)
 
       abbrev q : Open
       q = stepped moved s by.o by.statement by.bound
@@ -156,12 +152,34 @@ module _ {start : Database} (m : Machine) (kept : IsKept start m) (s : ℕ) (o :
   pub is_present : bound.catalog ≡ now.db.number
   is_present = prepared_number m.db (stands_inside o.replies) next.to_lock.statement bound next.bound_so ∙ ap (λ (k : Machine). k.db.number) (sym locked.3)
 
+  -- where its need is not kept, its group can end
+  module _ (moved : Machine) (some : HasMovedSome now bound moved) where
+    come_to : (lazy : LazyState) × (moved ≡ record m { locks = locked.2; lazy = lazy })
+    come_to =
+        let come = has_come now some.front moved some.moves in
+        (come.0, come.1 ∙ ap (λ (k : Machine). record k { lazy = come.0 }) locked.3)
+
+    pub can_fail : CanFail moved s
+    can_fail = subst (λ (k : Machine). CanFail k s) (sym come_to.1) (record { current = next.to_lock.current; o = o; is = next.to_lock.is })
+
+    pub fails : Reaches start m now → (last : Machine) (by : EndsByLog moved s last) (cause : Cause) → by.cause ≡ cause → HasFailed m s start cause last
+    fails reached last by cause is =
+        let then = reaches_both start m now moved reached (moved_reaches start now some.front moved some.moves) in
+        let kept_then : IsKept start moved = reached_keeps_all start m moved kept then in
+        let serves : Serves m s moved = subst (Serves m s) (sym come_to.1) (record { script = refl; beside = λ t apart. (refl, refl); deaths = λ n. refl; entries = ([], tt, sym (append-nil m.history)) }) in
+        let here : open_at moved s ≡ Some o = ap (λ (k : Machine). open_at k s) come_to.1 ∙ next.to_lock.is in
+        let group : by.o ≡ o = same_Some by.o o (sym by.is ∙ here) in
+        let left : rest_of moved s by.o ≡ next.to_lock.statement ∷ next.to_lock.later = ap₂ (λ (k : Machine) (p : Open). rest_of k s p) come_to.1 group ∙ next.to_lock.left in
+        let less = failed_less moved s last by kept_then next.to_lock.statement next.to_lock.later left in
+        let same : unanswered moved s ≡ unanswered m s = ap (λ (k : Machine). unanswered k s) come_to.1 in
+        failed_behind moved s last by kept_then m serves then (omega (arith, less, same)) cause is
+
   pub has_stepped : Reaches start m now → (moved : Machine) → HasMovedNeed now bound moved → (then : Machine) → HasReplied moved s bound then → HasStepped start m s next.to_lock.statement then
   has_stepped reached moved need then by =
       let under : Machine = record m { locks = locked.2 } in
-      let come = has_come under bound moved (subst (λ (k : Machine). HasMovedNeed k bound moved) locked.3 need) in
+      let come = need_has_come under bound moved (subst (λ (k : Machine). HasMovedNeed k bound moved) locked.3 need) in
       let whole : Machine = record m { locks = locked.2; lazy = come.0 } in
-      let kept_moved : IsKept start whole = subst (IsKept start) come.1 (reached_keeps_all start now moved (reached_keeps_all start m now kept reached) (moved_reaches start now bound moved need)) in
+      let kept_moved : IsKept start whole = subst (IsKept start) come.1 (reached_keeps_all start now moved (reached_keeps_all start m now kept reached) (moved_reaches start now (left_of_need now bound) moved need)) in
       by_reply come.0 come.2 kept_moved (subst (λ (k : Machine). HasReplied k s bound then) come.1 by)
     where
       by_reply : (lazy : LazyState) → HasCome m bound lazy → IsKept start (record m { locks = locked.2; lazy = lazy }) → HasReplied (record m { locks = locked.2; lazy = lazy }) s bound then
@@ -198,82 +216,76 @@ recorded_then m s statement then script goes last ended = elim ended as (λ _. I
 
 -- and its group ends where that was the last: the turn is served
 pub goes_on_to : {start : Database} (m : Machine) → IsKept start m → (s : ℕ) (o : Open) (bound : Bound) (next : IsBoundNext m s o bound) (then : Machine) → Reaches start m then → HasStepped start m s next.to_lock.statement then
-    → (last : Machine) → Serves then s last → Reaches start then last → HasMore last s → HasReply last s → unanswered last s ≡ unanswered then s → HasSettled then s last
-    → (last ≡ then) ⊎ HasEndedAlone then s last → HasGoneOn m s start last
-goes_on_to {start = start} m kept s o bound next then reached step last serves on more has_reply same settled ended = record {
-  serves = serves_both m s then last step.serves serves;
+    → (last : Machine) → Reaches start then last → EndsIfAnswered then s last → HasGoneOn m s start last
+goes_on_to {start = start} m kept s o bound next then reached step last on ends = record {
+  serves = serves_both m s then last step.serves ends.serves;
   reached = reaches_both start m then last reached on;
-  more = more;
-  has_reply = has_reply;
+  more = ends.more;
+  has_reply = ends.has_reply;
   goes = inl (record {
-    one_more = omega (arith, step.one_more, same);
+    one_more = omega (arith, step.one_more, ends.replies);
     statement = next.to_lock.statement;
     is = next_of m kept s o next.to_lock.is next.to_lock.statement next.to_lock.later next.to_lock.left;
-    moved = settled step.o step.is ∙ step.moved;
-    recorded = recorded_then m s next.to_lock.statement then step.serves.script step.goes_on last ended;
+    moved = ends.settled step.o step.is ∙ step.moved;
+    recorded = recorded_then m s next.to_lock.statement then step.serves.script step.goes_on last ends.ended;
   });
 }
 
+-- or by a cause of the log: a turn ends either way
+pub turn_to : {start : Database} (m : Machine) → IsKept start m → (s : ℕ) (o : Open) (bound : Bound) (next : IsBoundNext m s o bound) (then : Machine) → Reaches start m then → HasStepped start m s next.to_lock.statement then
+    → (t : Turn) (last : Machine) → Reaches start then last → IsEndIfAnswered then s t last → IsTurn m s start t last
+turn_to m kept s o bound next then reached step turn.Served last on ends = goes_on_to m kept s o bound next then reached step last on ends
+turn_to {start = start} m kept s o bound next then reached step (turn.Ended cause) last on ends =
+    let kept_then : IsKept start then = reached_keeps_all start m then kept reached in
+    let no_more = failed_no_more then s last ends.0 kept_then in
+    failed_behind then s last ends.0 kept_then m step.serves reached (omega (arith, step.one_more, no_more)) cause ends.1
+turn_to m kept s o bound next then reached step turn.Passed last on ends = absurd ends
+turn_to m kept s o bound next then reached step turn.Waited last on ends = absurd ends
+turn_to m kept s o bound next then reached step turn.Died last on ends = absurd ends
+
 -- a reply in no group is a refusal
-module _ {start : Database} (m : Machine) (s : ℕ) (kept : IsKept start m) (closed : open_at m s ≡ None) (bound : Bound) (next : IsPreparedNext m s bound) (now : Machine) (need : HasMovedNeed m bound now) where
+module _ {start : Database} (m : Machine) (s : ℕ) (kept : IsKept start m) (closed : open_at m s ≡ None) (bound : Bound) (next : IsPreparedNext m s bound) where
   same_sees : sees m s ≡ m.db
   same_sees = ap (λ (f : Option Open). option_map_or (λ (p : Open). left_by m.db p.pending) f m.db) closed
 
-  module _ (lazy : LazyState) (come : HasCome m bound lazy) (kept_now : IsKept start (record m { lazy = lazy })) (then : Machine) (by : Refuses (record m { lazy = lazy }) s then) where
+  module _ (then : Machine) (by : Refuses m s then) where
     ends : ends_block next.statement ≡ true
-    ends = refused_ends (record m { lazy = lazy }) kept_now s then by next.statement next.is
+    ends = refused_ends m kept s then by next.statement next.is
 
-    -- and needs nothing
+    -- which needs nothing
+    pub needs_nothing : (last : Option Migration) → need_of last bound.action ≡ []
+    needs_nothing None = refl
+    needs_nothing (Some last) =
+        sym (needed_is last m.db (is_in_block m s) next.statement bound next.prepared_so) ∙ end_needs last.old m.db last.migrate (is_in_block m s) next.statement ends
+
     told : moving_seen then.lazy.last ≡ moving_behind (moving_seen m.lazy.last) (sees m s) (is_in_block m s) next.statement
     told =
-        let stored : then.lazy ≡ lazy = ap (λ (k : Machine). k.lazy) by.goes in
-        let came : with_need (moving_seen m.lazy.last) m.db (is_in_block m s) next.statement ≡ moving_seen lazy.last = elim come as (λ _. with_need (moving_seen m.lazy.last) m.db (is_in_block m s) next.statement ≡ moving_seen lazy.last) [
-          | inl same ↦ end_needs_none m.lazy.last m.db (is_in_block m s) next.statement ends ∙ ap (λ (l : LazyState). moving_seen l.last) (sym same)
-          | inr more ↦ need_moved m.db (is_in_block m s) next.statement bound next.prepared_so m.lazy ∙ ap (λ (l : LazyState). moving_seen l.last) (sym more)
-        ] in
-        ap (λ (l : LazyState). moving_seen l.last) stored
-        ∙ (sym came
+        ap (λ (k : Machine). moving_seen k.lazy.last) by.goes
+        ∙ (sym (end_needs_none m.lazy.last m.db (is_in_block m s) next.statement ends)
         ∙ (sym (end_begins_none (with_need (moving_seen m.lazy.last) m.db (is_in_block m s) next.statement) m.db (is_in_block m s) next.statement ends)
         ∙ ap (λ (d : Database). moving_behind (moving_seen m.lazy.last) d (is_in_block m s) next.statement) (sym same_sees)))
 
-    strayed : IsStrayWith m s (next.statement ∷ []) then
-    strayed =
-        let stray = refuse_records (record m { lazy = lazy }) kept_now s then by next.statement next.is in
-        record { closed = stray.closed; still = stray.still; statement = stray.statement; is = stray.is; ends = stray.ends; history = stray.history }
-
     refused_goes_on : HasGoneOn m s start then
     refused_goes_on =
-        let whole : Machine = record m { lazy = lazy } in
-        let goes = refuse_goes_on whole kept_now s then by in
-        let none : open_at then s ≡ None = ap (λ (k : Machine). open_at k s) by.goes ∙ by.closed in
-        let here : Serves m s whole = record { script = refl; beside = λ t apart. (refl, refl); deaths = λ n. refl; entries = ([], tt, sym (append-nil m.history)) } in
-        let before : Reaches start m whole = elim come as (λ _. Reaches start m (record m { lazy = lazy })) [
-          | inl same ↦ subst (λ (l : LazyState). Reaches start m (record m { lazy = l })) (sym same) at_once
-          | inr more ↦ one_more at_once (moves (to_move m.lazy.last (need_of m.lazy.last bound.action)) (record {
-            granules_of_it = need_granules m.lazy bound.action kept.store_valid.seen_as.lazy_state;
-            goes = ap (λ (l : LazyState). record m { lazy = l }) more;
-          }))
-        ] in record {
-          serves = serves_both m s whole then here goes.0;
-          reached = one_more before (refuses s by);
+        let goes = refuse_goes_on m kept s then by in
+        let none : open_at then s ≡ None = ap (λ (k : Machine). open_at k s) by.goes ∙ by.closed in record {
+          serves = goes.0;
+          reached = one_more at_once (refuses s by);
           more = closed_more then s none;
           has_reply = closed_reply then s none;
-          goes = inl (record { one_more = goes.1; statement = next.statement; is = next.is; moved = told; recorded = inr (inr strayed) });
+          goes = inl (record { one_more = goes.1; statement = next.statement; is = next.is; moved = told; recorded = inr (inr (refuse_records m kept s then by next.statement next.is)) });
         }
 
-  pub refused_now : (then : Machine) → HasReplied now s bound then → HasGoneOn m s start then
-  refused_now then by =
-      let come = has_come m bound now need in
-      let kept_now : IsKept start (record m { lazy = come.0 }) = subst (IsKept start) come.1 (reached_keeps_all start m now kept (moved_reaches start m bound now need)) in
-      by_reply come.0 come.2 kept_now (subst (λ (k : Machine). HasReplied k s bound then) come.1 by)
-    where
-      by_reply : (lazy : LazyState) → HasCome m bound lazy → IsKept start (record m { lazy = lazy }) → HasReplied (record m { lazy = lazy }) s bound then → HasGoneOn m s start then
-      by_reply lazy come kept_now by = elim by as (λ _. HasGoneOn m s start then) [
-        | inl executed ↦
-            let clash : None ≡ Some executed.0.o = sym closed ∙ executed.0.is in
-            absurd cc
-        | inr refused ↦ refused_goes_on lazy come kept_now then refused
-      ]
+  refused_by : (then : Machine) → HasReplied m s bound then → Refuses m s then
+  refused_by then by = elim by as (λ _. Refuses m s then) [
+    | inl executed ↦
+        let clash : None ≡ Some executed.0.o = sym closed ∙ executed.0.is in
+        absurd cc
+    | inr refused ↦ refused
+  ]
+
+  pub refused_now : (then : Machine) → HasReplied m s bound then → HasGoneOn m s start then
+  refused_now then by = refused_goes_on then (refused_by then by)
 
 pub none_started : (o : Option Open) → is_some (option_map (λ (o : Open). o.start) o) ≡ false → o ≡ None
 none_started None none = refl
@@ -287,10 +299,10 @@ module _ (m : Machine) (s : ℕ) (bound : Bound) where
   pub in_group : is_some (option_map (λ (o : Open). o.start) (open_at m s)) ≡ true → ((o : Open) × IsBoundNext m s o bound) ⊎ CanRefuse m s → (o : Open) × IsBoundNext m s o bound
   in_group some next = elim next as (λ _. (o : Open) × IsBoundNext m s o bound) [ inl its ↦ its | inr refused ↦ absurd (some_started (open_at m s) some refused.1.closed) ]
 
-  pub can_refuse : (start : Database) → open_at m s ≡ None → ((o : Open) × IsBoundNext m s o bound) ⊎ CanRefuse m s → CanExec m s start bound
-  can_refuse start closed next = elim next as (λ _. CanExec m s start bound) [
+  pub can_refuse : open_at m s ≡ None → ((o : Open) × IsBoundNext m s o bound) ⊎ CanRefuse m s → CanRefuse m s
+  can_refuse closed next = elim next as (λ _. CanRefuse m s) [
     | inl its ↦
         let clash : None ≡ Some its.0 = sym closed ∙ its.1.to_lock.is in
         absurd cc
-    | inr refused ↦ inr refused
+    | inr refused ↦ refused
   ]

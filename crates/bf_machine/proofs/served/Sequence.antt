@@ -131,10 +131,11 @@ module _ {start : Database} (m : Machine) (sequence : IsInSequence start m) (fir
       both P [] ys here there = there
       both P (x ∷ xs) ys here there = (here.0, both P xs ys here.1 there)
 
-      pub stays_in_sequence : ((t : ℕ) → open_at next t ≡ None) → moving_seen next.lazy.last ≡ movement next.script start next.history → IsInSequence start next
-      stays_in_sequence closed moved =
+      pub stays_in_sequence : next.logged ≡ false → ((t : ℕ) → open_at next t ≡ None) → moving_seen next.lazy.last ≡ movement next.script start next.history → IsInSequence start next
+      stays_in_sequence unlogged closed moved =
           let more = serves.entries.0 in
           let same : next.history ≡ m.history ++ more = serves.entries.2 in record {
+            unlogged = unlogged;
             phases = subst (λ (script : Script). IsTrue (phases_rise_from 0 script.sessions)) (sym serves.script) sequence.phases;
             closed = closed;
             no_death = λ n. serves.deaths n ∙ sequence.no_death n;

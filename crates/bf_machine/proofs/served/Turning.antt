@@ -1,11 +1,12 @@
 -- A turn is taken behind the begin of a group.
-use Rattle.std.proofs.Common.{◌≡◌, ◌⊎◌, ℕ, ◌≤◌, Bool, false, List, [], ◌∷◌, ◌++◌, length, drop, take, Option, Some, None, sym, ap, ap₂, subst, ◌∙◌, arith, inl, inr, length-append}
+use Rattle.std.proofs.Common.{◌≡◌, ◌⊎◌, ℕ, ◌<◌, ◌≤◌, Bool, false, List, [], ◌∷◌, ◌++◌, length, drop, take, Option, Some, None, sym, ap, ap₂, subst, ◌∙◌, arith, inl, inr, length-append}
 use Rattle.std.specs.Prelude.{slice_get}
 use Rattle.std.specs.Option.{option_map_or}
 use Rattle.std.proofs.lemmas.Option.{same_Some}
 use Rattle.bf_locks.specs.declared.answer.LockAnswer.{LockAnswer}
 use Rattle.bf_locks.specs.declared.answer.LockAnswer.TheVariants.{Die, Wait}
 use Rattle.bf_tree.specs.declared.history.Entry.{Entry}
+use Rattle.bf_tree.specs.declared.reply.Cause.{Cause}
 use Rattle.bf_tree.specs.declared.reply.Reply.{Reply}
 use Rattle.bf_tree.specs.declared.script.Script.{Script}
 use Rattle.bf_tree.specs.declared.statement.Statement.{Statement}
@@ -22,7 +23,7 @@ use Rattle.bf_machine.specs.interleaving.Events.{Begins, begins, at_once, one_mo
 use Rattle.bf_machine.specs.interleaving.Groups.{Flip, HasRun, IsSchemaStep, NewIndex, NewTable, Nothing, Pending, Rows, answered_by, left_by}
 use Rattle.bf_machine.specs.interleaving.Kept.{IsKept}
 use Rattle.bf_machine.specs.interleaving.Machines.{Machine, Open, open_at, told_at, with_replies}
-use Rattle.bf_machine.specs.interleaving.Serving.{HasAnswered, HasEndedAlone, HasGoneOn, IsAsked, IsRecorded, IsTurn, Serves, answered_text, is_in_block, sees, unanswered}
+use Rattle.bf_machine.specs.interleaving.Serving.{HadAllReplies, HasAnswered, HasEndedAlone, HasFailed, HasGoneOn, IsAsked, IsRecorded, IsTurn, Serves, answered_text, is_in_block, sees, unanswered}
 use Rattle.bf_machine.proofs.interleaving.Telling.{length-part}
 use Rattle.bf_machine.proofs.interleaving.Texts.{are_texts}
 use Rattle.bf_machine.proofs.served.Events.{begin_serves, serves_both}
@@ -175,11 +176,25 @@ module _ {start : Database} (m : Machine) (s : ℕ) (place : IsPlace m.script s)
     judged = asked.judged;
   }
 
+  failed_from : (cause : Cause) (next : Machine) → HasFailed now s start cause next → HasFailed m s start cause next
+  failed_from cause next failed = record {
+    now = failed.now;
+    serves = serves_both m s now failed.now begins_serves failed.serves;
+    reached = reaches_both start m now failed.now (one_more at_once (begins s by)) failed.reached;
+    by = failed.by;
+    told = failed.told;
+    left = elim failed.left as (λ _. (unanswered next s < unanswered m s) ⊎ HadAllReplies m s next) [
+      | inl less ↦ inl (omega (arith, less, same_left))
+      | inr had ↦ absurd (some_left had.o had.is had.answered)
+    ];
+  }
+
   turn_behind : (t : Turn) (next : Machine) → IsTurn now s start t next → IsTurn m s start t next
   turn_behind turn.Passed next taken = absurd (open_can now kept_now s opened_now.0 opened_now.1 taken.0)
   turn_behind turn.Served next taken = gone_on next taken
   turn_behind turn.Waited next taken = (taken.0, asked_from (Wait taken.0) taken.1, taken.2)
   turn_behind turn.Died next taken = (taken.0, asked_from (Die taken.0) taken.1, taken.2)
+  turn_behind (turn.Ended cause) next taken = failed_from cause next taken
 
 -- or where none was to begin
 pub turn_from : {start : Database} (m : Machine) (s : ℕ) → IsPlace m.script s → IsKept start m → (now : Machine) → IsKept start now → (now ≡ m) ⊎ Begins m s now

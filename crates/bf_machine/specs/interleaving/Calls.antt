@@ -16,11 +16,13 @@ use Rattle.bf_sql.specs.Footprints.{footprint_of}
 use Rattle.bf_sql.specs.Groups.{ends_block, groups_in, session_at}
 use Rattle.bf_sql.specs.History.{replayed}
 use Rattle.bf_live.specs.OpenGroups.{Holds, HoldsIn}
+use Rattle.bf_machine.specs.declared.stand.Ending.{Ending}
+use Rattle.bf_machine.specs.declared.stand.Ending.TheVariants as ending
 use Rattle.bf_machine.specs.declared.stand.Stand.{Stand}
 use Rattle.bf_machine.specs.declared.stand.Stand.TheVariants as stand
 use Rattle.bf_machine.specs.declared.stand.Step.{Step}
 use Rattle.bf_machine.specs.declared.stand.Step.TheVariants.{Need, Replied, Stale}
-use Rattle.bf_machine.specs.interleaving.Events.{Aborts, Begins, Executes, IsToCommit, Refuses, rest_of, stands_inside}
+use Rattle.bf_machine.specs.interleaving.Events.{Aborts, Begins, Commits, EndsByLog, Executes, IsToCommit, Refuses, commits_behind, rest_of, stands_inside}
 use Rattle.bf_machine.specs.interleaving.Groups.{footprint_in}
 use Rattle.bf_machine.specs.interleaving.Kept.{HasEnded, HasStart, IsCurrent}
 use Rattle.bf_machine.specs.interleaving.Machines.{Group, Machine, Open, open_at, told_at, with_replies}
@@ -79,6 +81,17 @@ module _ (m : Machine) (s : ℕ) where
 
   abbrev pub CanAbort : Type 0
   CanAbort = (next : Machine) × Aborts m s next
+
+  -- FAIL: a group is open
+  pub record CanFail : Type 0 where
+    pub current : IsCurrent m s
+    pub o : Open
+    pub is : open_at m s ≡ Some o
+
+  -- how a group ended that was to commit: by its entry, which is one more commit, or by a cause of the log
+  abbrev pub IsEnding : Machine → Ending → Type 0
+  IsEnding next (ending.Committed n) = Commits m s next × (n ≡ commits_behind 0 m.history + 1)
+  IsEnding next (ending.Ended cause) = (by : EndsByLog m s next) × (by.cause ≡ cause)
 
   abbrev pub CanRefuse : Type 0
   CanRefuse = (next : Machine) × Refuses m s next

@@ -12,6 +12,7 @@ use Rattle.bf_tree.specs.declared.history.Entry.{Entry}
 use Rattle.bf_tree.specs.declared.history.Outcome.{Outcome}
 use Rattle.bf_tree.specs.declared.history.Outcome.TheVariants.{Committed, RolledBack}
 use Rattle.bf_tree.specs.declared.plan.Plan.{Plan}
+use Rattle.bf_tree.specs.declared.reply.Cause.{Cause}
 use Rattle.bf_tree.specs.declared.reply.Cause.TheVariants.{Died}
 use Rattle.bf_tree.specs.declared.reply.Refusal.TheVariants.{NoTransaction}
 use Rattle.bf_tree.specs.declared.reply.Reply.{Reply}
@@ -26,12 +27,12 @@ use Rattle.bf_live.specs.OpenGroups.{Holds}
 use Rattle.bf_sql.specs.migrations.Lazy.{LazyState}
 use Rattle.bf_sql.specs.migrations.Need.{needed_for}
 use Rattle.bf_sql.specs.migrations.Plans.{prepared_of}
-use Rattle.bf_store.specs.Calls.{with_commit}
+use Rattle.bf_store.specs.Calls.{after_commit}
 use Rattle.bf_store.specs.Stores.{IsByPass}
 use Rattle.bf_store.specs.States.{AreGranulesIfAny, HaveMoved, frozen_lazily, with_moved}
 use Rattle.bf_machine.specs.interleaving.Groups.{Pending, Rows, NewTable, NewIndex, Flip, Nothing, footprint_in, left_by, pending_behind, reply_on}
 use Rattle.bf_machine.specs.interleaving.Machines.{Group, Began, Open, Machine, open_at, told_at, began_at}
-use Rattle.bf_machine.specs.interleaving.Kept.{HasStart, HasEnded, IsCurrent}
+use Rattle.bf_machine.specs.interleaving.Kept.{HasStart, HasEnded, IsCurrent, is_of_log}
 
 -- how many entries are committed, behind n that are
 abbrev pub commits_behind : ℕ → List Entry → ℕ
@@ -50,10 +51,9 @@ abbrev pub stands_inside : List Reply → Bool
 stands_inside [] = false
 stands_inside (r ∷ rs) = true
 
--- what a group leaves, put into a lazy state, as one change of it where the group leaves something
+-- what a group leaves, put into a lazy state, as one change of it where a record tells anything of that
 abbrev pub put_into : LazyState → Pending → LazyState
-put_into lazy (Rows []) = lazy
-put_into lazy (Rows (w ∷ ws)) = with_commit lazy (w ∷ ws)
+put_into lazy (Rows writes) = after_commit lazy writes
 put_into lazy (NewTable table) = record lazy { live = left_by lazy.live (NewTable table); records = lazy.records + 1 }
 put_into lazy (NewIndex index) = record lazy { live = left_by lazy.live (NewIndex index); records = lazy.records + 1 }
 put_into lazy (Flip plan) = frozen_lazily lazy plan.migrate
@@ -185,6 +185,16 @@ module _ (m : Machine) (s : ℕ) where
     pub left : (rest_of m s o ≡ []) ⊎ (rest_of m s o ≡ Rollback ∷ [])
     pub goes : next ≡ rolled_back o
 
+  -- END BY A LOG: the group that is open ends by a cause of the log, which each of its statements is told
+  pub record EndsByLog (next : Machine) : Type 0 where
+    pub current : IsCurrent m s
+    pub o : Open
+    pub is : open_at m s ≡ Some o
+    pub cause : Cause
+    pub logged : m.logged ≡ true
+    pub of_log : is_of_log cause ≡ true
+    pub goes : next ≡ ended o (map (λ _. reply.Ended cause) (text_of m s o))
+
 -- MOVE of granules of the last migration, which differ; no session goes on, and the database stays
 pub record Moves (m : Machine) (granules : List Granule) (next : Machine) : Type 0 where
   pub granules_of_it : AreGranulesIfAny m.lazy.last granules
@@ -199,6 +209,7 @@ pub data Event (start : Database) (m next : Machine) : Type 0 where
   commits_now : (s : ℕ) → Commits m s next → Event start m next
   aborts : (s : ℕ) → Aborts m s next → Event start m next
   moves : (granules : List Granule) → Moves m granules next → Event start m next
+  ends_by_log : (s : ℕ) → EndsByLog m s next → Event start m next
   finishes : (s : ℕ) → next ≡ m → Event start m next
 
 -- REACH: events one after the other, in whatever order

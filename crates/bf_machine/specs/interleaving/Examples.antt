@@ -1,6 +1,6 @@
 -- A worked run of events: two sessions create one table. The younger one dies for the older, begins again once that has
 -- ended, and is refused then.
-use Rattle.std.specs.Prelude.{◌≡◌, ℕ, [], ◌∷◌, None}
+use Rattle.std.specs.Prelude.{◌≡◌, ℕ, false, [], ◌∷◌, None}
 use Rattle.bf_tree.specs.declared.history.Entry.{Entry}
 use Rattle.bf_tree.specs.declared.history.Outcome.TheVariants.{Committed}
 use Rattle.bf_tree.specs.declared.reply.Refusal.TheVariants.{TableExists}
@@ -29,7 +29,7 @@ entry_of_session s n = record { session = s; first = 1; last = 1; outcome = Comm
 
 -- what the machine of that run has come to, where a group may begin again once
 pub record IsYoungerRefused (m : Machine) : Type 0 where
-  pub reached : Reaches empty_database (fresh empty_store two_creating 1) m
+  pub reached : Reaches empty_database (fresh false empty_store two_creating 1) m
   pub told : m.told ≡ (Created ∷ []) ∷ (Refused (TableExists t) ∷ []) ∷ []
   pub entered : m.history ≡ entry_of_session 1 1 ∷ entry_of_session 2 2 ∷ []
   pub died : m.began ≡ record { session = 1; group = (1, 1); deaths = [] } ∷ record { session = 2; group = (1, 1); deaths = 1 ∷ [] } ∷ []

@@ -1,5 +1,5 @@
 -- What an open group has come to: the replies to its statements so far, and what it is to leave.
-use Rattle.std.specs.Prelude.{◌≡◌, ℕ, Bool, true, false, List, [], ◌∷◌}
+use Rattle.std.specs.Prelude.{◌≡◌, ℕ, Bool, true, false, List, [], ◌∷◌, Some}
 use Rattle.std.specs.Option.{option_map_or}
 use Rattle.bf_base.specs.declared.table.Table.{Table}
 use Rattle.bf_locks.specs.declared.mode.Mode.TheVariants.{X}
@@ -7,6 +7,7 @@ use Rattle.bf_locks.specs.declared.name.LockName.TheVariants.{Catalog}
 use Rattle.bf_locks.specs.Locks.{Locks}
 use Rattle.bf_tree.specs.declared.bound.Action.{Action}
 use Rattle.bf_tree.specs.declared.bound.Action.TheVariants as action
+use Rattle.bf_tree.specs.declared.bound.Bound.{Bound}
 use Rattle.bf_tree.specs.declared.catalog.IndexRule.{IndexRule}
 use Rattle.bf_tree.specs.declared.plan.Plan.{Plan}
 use Rattle.bf_tree.specs.declared.reply.Refusal.{Refusal}
@@ -19,6 +20,7 @@ use Rattle.bf_sql.specs.Footprints.{Lock, catalog_change, footprint_of}
 use Rattle.bf_sql.specs.Meaning.{executed, next_number, with_index}
 use Rattle.bf_sql.specs.RowObjections.{row_objections}
 use Rattle.bf_sql.specs.migrations.Images.{flipped}
+use Rattle.bf_sql.specs.migrations.Plans.{prepared_of}
 use Rattle.bf_live.specs.Live.{committed}
 use Rattle.bf_live.specs.Open.{writes_behind}
 use Rattle.bf_live.specs.OpenGroups.{Answered, HoldsIn, Replays}
@@ -68,6 +70,10 @@ answered_by in_block [] ss = []
 answered_by in_block (r ∷ rs) [] = []
 answered_by in_block (r ∷ rs) (s ∷ ss) = record { in_block = in_block; statement = s; reply = r } ∷ answered_by true rs ss
 
+-- LEFT BY: what a statement alone is to leave, by the action that it is bound to
+abbrev pub IsLeftBy : Database → Statement → Pending → Type 0
+IsLeftBy db s change = (bound : Bound) × (prepared_of db false s ≡ Some bound) × (change ≡ pending_behind db (Rows []) false s bound.action)
+
 -- SCHEMA STEP: a CREATE or a MIGRATE alone has its reply, and makes the database that it is to leave, while its owner has the
 -- catalog to itself
 pub record IsSchemaStep (locks : Locks) (owner : ℕ) (db : Database) (told : List Answered) (change : Pending) : Type 0 where
@@ -76,6 +82,7 @@ pub record IsSchemaStep (locks : Locks) (owner : ℕ) (db : Database) (told : Li
   pub changes : changes_schema false statement ≡ true
   pub alone : told ≡ record { in_block = false; statement = statement; reply = reply } ∷ []
   pub meant : (commit : ℕ) → executed commit db false statement ≡ (reply, left_by db change)
+  pub pends : IsLeftBy db statement change
   pub database : IsDatabase (left_by db change)
   pub holds : HoldsIn locks owner Catalog X
 

@@ -88,6 +88,11 @@ pub record IsShaped (m : Machine) : Type 0 where
   pub opens : length m.opens ≡ length m.script.sessions
   pub told : length m.told ≡ length m.script.sessions
 
+-- the causes of a log
+abbrev pub is_of_log : Cause → Bool
+is_of_log (Died h) = false
+is_of_log other = true
+
 module _ (start : Database) (script : Script) (began : List Began) (history : List Entry) where
   -- a group died for an older one of another session of its phase, with which it clashes
   pub record DiedFor (s : ℕ) (group : Group) (h : ℕ) : Type 0 where
@@ -101,10 +106,11 @@ module _ (start : Database) (script : Script) (began : List Began) (history : Li
     pub older : h < own
     pub clash : Clash start script history s group other theirs
 
-  -- the causes of a machine without a log: a group ends by the last of its deaths, where it has died once more than the retries
-  abbrev pub IsAllowed : ℕ → ℕ → Group → Cause → Type 0
-  IsAllowed retries s group (Died h) = (died : DiedFor s group h) × (before : List ℕ) × (died.has.deaths ≡ before ++ h ∷ []) × (length before ≡ retries)
-  IsAllowed retries s group other = ⊥
+  -- a group ends by the last of its deaths, where it has died once more than the retries; or, where a log may end groups, by one of
+  -- its causes
+  abbrev pub IsAllowed : Bool → ℕ → ℕ → Group → Cause → Type 0
+  IsAllowed logged retries s group (Died h) = (died : DiedFor s group h) × (before : List ℕ) × (died.has.deaths ≡ before ++ h ∷ []) × (length before ≡ retries)
+  IsAllowed logged retries s group other = IsTrue logged
 
 -- what can be put into a lazy state: the writes of an open transaction, and a flip, as it is planned in its catalog, of which
 -- nothing is against it
@@ -120,7 +126,7 @@ CanBePutInto lazy other = Unit {0}
 
 module _ (start : Database) (m : Machine) where
   abbrev pub AllowedNow : ℕ → Group → Cause → Type 0
-  AllowedNow = IsAllowed start m.script m.began m.history m.retries
+  AllowedNow = IsAllowed start m.script m.began m.history m.logged m.retries
 
   -- HISTORY LEGAL: transcripts and history are legal from the opening database, and the database is the replay's. No group is
   -- open in the transcripts: the replies of open groups stand apart
@@ -218,10 +224,11 @@ pub record IsOpening (store : Store) : Type 0 where
   pub by_pass : IsByPass store.lazy.last store.migration
 
 -- NEW: nothing has begun
-abbrev pub fresh : Store → Script → ℕ → Machine
-fresh store script retries = record {
+abbrev pub fresh : Bool → Store → Script → ℕ → Machine
+fresh logged store script retries = record {
   script = script;
   retries = retries;
+  logged = logged;
   db = view_of store.lazy;
   lazy = store.lazy;
   pass = store.migration;

@@ -31,10 +31,11 @@ pub record Open : Type 0 where
 
 -- `db` is what is seen of `lazy`, into which the rows of a migration move late, and `pass` reads that migration. `began` has the
 -- groups in the order of their start numbers, from 1 on. `opens` and `told` have one item a session: its open group, and the
--- replies to its statements before that group
+-- replies to its statements before that group. `logged` tells whether a log may end groups
 pub record Machine : Type 0 where
   pub script : Script
   pub retries : ℕ
+  pub logged : Bool
   pub db : Database
   pub lazy : LazyState
   pub pass : Option (Where Migration)

@@ -49,10 +49,11 @@ told_before replies (Some o) = take (o.first - 1) replies
 abbrev pub told_seen : SessionSoFar → List Reply
 told_seen so_far = told_before so_far.replies.items so_far.open
 
-abbrev pub seen : Script → ℕ → Store → Locks → List BeganGroup → List SessionSoFar → List Entry → Machine
-seen script retries store locks began sessions history = record {
+abbrev pub seen : Bool → Script → ℕ → Store → Locks → List BeganGroup → List SessionSoFar → List Entry → Machine
+seen logged script retries store locks began sessions history = record {
   script = script;
   retries = retries;
+  logged = logged;
   db = view_of store.lazy;
   lazy = store.lazy;
   pass = store.migration;
@@ -95,11 +96,11 @@ pub record IsRoomy (script : Script) (began : List Began) (s : ℕ) (so_far : Se
 -- SOUND: the script is the one that the run began with, and the tables that it began with are narrow; the pass of the migration is
 -- of the run's registry; what is seen is kept, from the opening database on; the commits are counted; and there is room for each
 -- reply, and for the entry of each open group
-pub record IsSound (opening : Database) (registry : Registry) (given : Script) (script : Script) (retries : ℕ) (store : Store) (locks : Locks) (began : List BeganGroup) (sessions : List SessionSoFar) (history : Vec Entry) (commits : ℕ) (transcripts : Vec (List Reply)) : Type 0 where
+pub record IsSound (opening : Database) (registry : Registry) (given : Script) (logged : Bool) (script : Script) (retries : ℕ) (store : Store) (locks : Locks) (began : List BeganGroup) (sessions : List SessionSoFar) (history : Vec Entry) (commits : ℕ) (transcripts : Vec (List Reply)) : Type 0 where
   pub is_given : script ≡ given
   pub narrow : HasNarrowTables (catalog_of opening)
   pub one : IsOf registry store.migration
-  pub kept : IsKept opening (seen script retries store locks began sessions history.items)
+  pub kept : IsKept opening (seen logged script retries store locks began sessions history.items)
   pub counted : commits ≡ commits_behind 0 history.items
   pub sessions_numbered : length script.sessions < 2 ^ 32
   pub roomy : (i : ℕ) (so_far : SessionSoFar) → i < length sessions → slice_index_or sessions i so_far ≡ so_far → IsRoomy script (map began_seen began) (i + 1) so_far

@@ -7,8 +7,10 @@ use Rattle.bf_locks.specs.declared.answer.LockAnswer.TheVariants.{Die, Wait}
 use Rattle.bf_locks.specs.declared.mode.Mode.{Mode}
 use Rattle.bf_locks.specs.declared.name.LockName.{LockName}
 use Rattle.bf_locks.specs.Locks.{IsJudged, Locks}
+use Rattle.bf_base.specs.declared.granule.Granule.{Granule}
 use Rattle.bf_tree.specs.declared.bound.Bound.{Bound}
 use Rattle.bf_tree.specs.declared.history.Entry.{Entry}
+use Rattle.bf_tree.specs.declared.reply.Cause.{Cause}
 use Rattle.bf_tree.specs.declared.statement.Statement.{Statement}
 use Rattle.bf_sql.specs.Database.{Database}
 use Rattle.bf_sql.specs.migrations.Lazy.{Migration}
@@ -24,8 +26,9 @@ use Rattle.bf_machine.specs.declared.stand.Turn.TheVariants as turn
 use Rattle.bf_machine.specs.declared.stand.Stand.{Stand}
 use Rattle.bf_machine.specs.declared.stand.Stand.TheVariants as stand
 use Rattle.bf_machine.specs.interleaving.Calls.{HasSessionEnded, IsPlace, StandsAs, replies_at, statements_at}
-use Rattle.bf_machine.specs.interleaving.Events.{Moves, Reaches, died, put_into, rest_of, stands_inside, text_of}
+use Rattle.bf_machine.specs.interleaving.Events.{Commits, EndsByLog, Moves, Reaches, died, put_into, rest_of, stands_inside, text_of}
 use Rattle.bf_machine.specs.interleaving.Groups.{footprint_in, left_by}
+use Rattle.bf_machine.specs.interleaving.Journals.{Keeps}
 use Rattle.bf_machine.specs.interleaving.Kept.{IsCurrent}
 use Rattle.bf_machine.specs.interleaving.Machines.{Began, Machine, Open, began_at, open_at, told_at}
 
@@ -145,6 +148,42 @@ module _ (m : Machine) (s : ℕ) where
     pub has_reply : HasReply next s
     pub goes : HasAnswered next ⊎ HasEndedAlone next
 
+  -- ENDED BY ITS LOG: the session's open group, as it stands by then, has ended by a cause of the log. Fewer statements have no reply,
+  -- or the open group had all of its replies before, and as many have none
+  pub record HadAllReplies (next : Machine) : Type 0 where
+    pub o : Open
+    pub is : open_at m s ≡ Some o
+    pub answered : rest_of m s o ≡ []
+    pub same : unanswered next s ≡ unanswered m s
+
+  pub record HasFailed (start : Database) (cause : Cause) (next : Machine) : Type 0 where
+    pub now : Machine
+    pub serves : Serves now
+    pub reached : Reaches start m now
+    pub by : EndsByLog now s next
+    pub told : by.cause ≡ cause
+    pub left : (unanswered next s < unanswered m s) ⊎ HadAllReplies next
+
+  -- how a turn ends that commits the open group: by its entry, or by a cause of the log
+  abbrev pub IsCommit : Turn → Machine → Type 0
+  IsCommit turn.Served next = Commits m s next
+  IsCommit (turn.Ended cause) next = (by : EndsByLog m s next) × (by.cause ≡ cause)
+  IsCommit other next = ⊥
+
+  -- the open group goes on, or has ended where all of its statements had their replies
+  pub record EndsIfAnswered (next : Machine) : Type 0 where
+    pub serves : Serves next
+    pub replies : unanswered next s ≡ unanswered m s
+    pub more : HasMore next s
+    pub has_reply : HasReply next s
+    pub settled : HasSettled next
+    pub ended : (next ≡ m) ⊎ HasEndedAlone next
+
+  abbrev pub IsEndIfAnswered : Turn → Machine → Type 0
+  IsEndIfAnswered turn.Served next = EndsIfAnswered next
+  IsEndIfAnswered (turn.Ended cause) next = (by : EndsByLog m s next) × (by.cause ≡ cause)
+  IsEndIfAnswered other next = ⊥
+
   -- ASKED: before a statement more has its reply, the session's open group, as it stands by then, asks for a lock of its next statement's footprint, and has this answer
   pub record IsAsked (start : Database) (answer : LockAnswer) : Type 0 where
     pub now : Machine
@@ -209,10 +248,33 @@ module _ (m : Machine) (s : ℕ) where
   IsTurn start turn.Served next = HasGoneOn start next
   IsTurn start turn.Waited next = (others : List ℕ) × (asked : IsAsked start (Wait others)) × (next ≡ asked.now)
   IsTurn start turn.Died next = (older : ℕ) × (asked : IsAsked start (Die older)) × (next ≡ died asked.now s asked.o older)
+  IsTurn start (turn.Ended cause) next = HasFailed start cause next
 
--- of the last migration exactly what was left of a need has moved, if anything was
+-- MOVED: granules of the last migration, by one record after the other
+pub data MovesAll (m : Machine) : List Granule → Machine → Type 0 where
+  no_move : MovesAll m [] m
+  one_record : {before : List Granule} {now next : Machine} → MovesAll m before now → (granules : List Granule) → Moves now granules next → MovesAll m (before ++ granules) next
+
+-- or those of a first part
+pub record HasMovedFirst (m : Machine) (granules : List Granule) (next : Machine) : Type 0 where
+  pub front : List Granule
+  pub back : List Granule
+  pub parts : granules ≡ front ++ back
+  pub moves : MovesAll m front next
+
+-- what is left of a bound statement's need, and of the last migration exactly that has moved, or a first part of it
+abbrev pub left_of_need : Machine → Bound → List Granule
+left_of_need m bound = to_move m.lazy.last (need_of m.lazy.last bound.action)
+
 abbrev pub HasMovedNeed : Machine → Bound → Machine → Type 0
-HasMovedNeed m bound next = (next ≡ m) ⊎ Moves m (to_move m.lazy.last (need_of m.lazy.last bound.action)) next
+HasMovedNeed m bound next = MovesAll m (left_of_need m bound) next
+
+abbrev pub HasMovedSome : Machine → Bound → Machine → Type 0
+HasMovedSome m bound next = HasMovedFirst m (left_of_need m bound) next
+
+-- events one after the other that leave the store, so that no journal is asked for any
+abbrev pub LeavesStore : Database → Machine → Machine → Type 0
+LeavesStore start m next = Keeps {J = Unit {0}} (λ lazy then before after answer. ⊥) (λ journal cause. ⊥) start m tt next tt
 
 -- the turn of one number of an order: its session's, and where there is none nothing
 pub record IsTurnOf (start : Database) (m : Machine) (n : ℕ) (next : Machine) : Type 0 where
@@ -238,9 +300,10 @@ abbrev pub SessionsRiseFrom : ℕ → List Entry → Type 0
 SessionsRiseFrom s [] = Unit {0}
 SessionsRiseFrom s (e ∷ es) = (s ≤ e.session) × SessionsRiseFrom e.session es
 
--- IN SEQUENCE: no group is open or has died, the entries are of one session after the other, each once those before it have ended,
+-- IN SEQUENCE: no log ends groups, no group is open or has died, the entries are of one session after the other, each once those before it have ended,
 -- and of the last migration what their statements needed has moved, and no more
 pub record IsInSequence (start : Database) (m : Machine) : Type 0 where
+  pub unlogged : m.logged ≡ false
   pub phases : IsTrue (phases_rise_from 0 m.script.sessions)
   pub closed : (s : ℕ) → open_at m s ≡ None
   pub no_death : (n : ℕ) → deaths_at m n ≡ []

@@ -1,56 +1,72 @@
 //! Ends of groups.
 
-ghost use Rattle.std.specs.Prelude.{◌≡◌, ◌+◌, ◌<◌, ◌++◌, ◌∷◌, [], IfOk, None, OnErr, OnOk, if◌then◌else◌, length, nat_lt, vec_capacity};
-ghost use Rattle.bf_machine.specs.declared.stand.Ending.TheVariants.{Committed};
-ghost use Rattle.bf_machine.specs.interleaving.Calls.{CanAbort, CanCommit, IsPlace};
-ghost use Rattle.bf_machine.specs.interleaving.Events.{Aborts, Commits, commits_behind};
+ghost use Rattle.std.specs.Prelude.{◌≡◌, ◌+◌, ◌<◌, ◌++◌, ◌∷◌, [], IfOk, None, OnErr, if◌then◌else◌, length, nat_lt, true, vec_capacity};
+ghost use Rattle.bf_machine.specs.declared.stand.Ending.TheVariants.{Ended};
+ghost use Rattle.bf_tree.specs.declared.reply.Cause.{Cause};
+ghost use Rattle.bf_machine.specs.interleaving.Calls.{CanAbort, CanCommit, CanFail, IsEnding, IsPlace};
+ghost use Rattle.bf_machine.specs.interleaving.Events.{Aborts, EndsByLog};
+ghost use Rattle.bf_machine.specs.interleaving.Journals.{AreSaid, IsBeside};
+ghost use Rattle.bf_machine.specs.interleaving.Kept.{is_of_log};
 
+use crate::journal::{Journal, KeepError};
 use crate::machine::Machine;
 use crate::opened::Opened;
 use crate::settle::settle;
-use crate::so_far::{SessionSoFar, least_left_behind};
+use crate::so_far::{SessionSoFar, close_by, least_left_behind};
 use crate::stand::Ending;
 use bf_base::Memory;
 use bf_image::Registry;
-use bf_tree::{Entry, Outcome, Reply};
+use bf_tree::{Cause, Entry, Outcome, Reply};
 use std::sync::Wait;
 
 impl<N: Opened> Machine<N> {
-    /// Commits a session's open group: what it was to leave becomes part of the store, its locks are
-    /// freed, and its entry comes last. It costs what [`bf_store::Store::commit`] does, or where a
-    /// migration begins [`bf_store::Store::flip`], and the freeing of the locks.
+    /// Commits a session's open group: what it was to leave is kept in the journal and becomes part of
+    /// the store, its locks are freed, and its entry comes last. Where the journal does not keep it, the
+    /// group ends by the journal's cause. It costs what the journal does, what
+    /// [`bf_store::Store::commit`] does, or where a migration begins [`bf_store::Store::flip`], and the
+    /// freeing of the locks.
     ///
     /// # Errors
     /// Where memory runs out, or 2 ^ 32 migrations or 2 ^ 64 changes were made. The machine is as it
     /// was then.
-    pub fn commit<R: Wait>(
+    pub fn commit<J: Journal, R: Wait>(
         &mut self,
         rt: &R,
         registry: &Registry,
+        journal: &mut J,
         session: u32,
     ) -> Result<Ending, Memory>
         requires registry { registry.now ≡ N.registry }
+        requires logged { J.ends ≡ N.logged }
+        requires said { AreSaid J.Says N.script }
         requires place { IsPlace self.old.script session }
         requires can { CanCommit self.old session }
-        ensures commits { OnOk result (Commits self.old session self.new) }
-        ensures number { IfOk result (λ ending.
-            ending ≡ Committed (commits_behind 0 self.old.history + 1)) }
+        ensures ending { IfOk result (λ ending. IsEnding self.old session self.new ending) }
         ensures err { OnErr result (self.new ≡ self.old) }
+        ensures beside { IsBeside J.Answers self.old.lazy self.new.lazy journal.old journal.new }
+        ensures told { (cause : Cause) → result ≡ Ok (Ended cause) → J.Tells journal.new cause }
     {
         let place = session as usize - 1;
         let so_far = &mut self.sessions[place];
         let Some(mut group) = so_far.open.take() else {
             unreachable!();
         };
-        if let Err(memory) = settle(
+        if let Err(error) = settle(
             self.alloc,
             rt,
             registry,
+            journal,
             &mut self.store,
             &mut group.pending,
         ) {
             so_far.open = Some(group);
-            return Err(memory);
+            return match error {
+                KeepError::Memory => Err(Memory),
+                KeepError::Ended(cause) => {
+                    self.fail(session, cause);
+                    Ok(Ending::Ended(cause))
+                }
+            };
         }
         let (start, first, last) = (group.start, group.first, group.last);
         let number = self.commits + 1;
@@ -70,6 +86,31 @@ impl<N: Opened> Machine<N> {
             place,
         );
         Ok(Ending::Committed(number))
+    }
+
+    /// Ends a session's open group by a cause of the log, which each of its statements is told: what it
+    /// was to leave is dropped, and its locks are freed. No entry comes. Takes no memory.
+    pub fn fail(&mut self, session: u32, cause: Cause)
+        requires place { IsPlace self.old.script session }
+        requires logged { N.logged ≡ true }
+        requires of_log { is_of_log cause ≡ true }
+        requires open { CanFail self.old session }
+        ensures { (by : EndsByLog self.old session self.new) × (by.cause ≡ cause) }
+    {
+        let place = session as usize - 1;
+        let so_far = &mut self.sessions[place];
+        let Some(group) = &so_far.open else {
+            unreachable!();
+        };
+        let (start, first, last) = (group.start, group.first, group.last);
+        close_by(so_far, first, last - first + 1, cause);
+        self.locks.free_all(start);
+        self.least_left = least_left_behind(
+            self.script.sessions.as_slice(),
+            &self.sessions,
+            self.least_left,
+            place,
+        );
     }
 
     /// Rolls a session's open block back: what it was to leave is dropped, its locks are freed, and

@@ -1,24 +1,28 @@
 //! The migration under way, and granules of it that move.
 
-ghost use Rattle.std.specs.Prelude.{◌≡◌, ◌≢◌, ℕ, [], Err, IfOk, OnErr, OnOk, Some};
+ghost use Rattle.std.specs.Prelude.{◌≡◌, ◌≢◌, ℕ, [], Err, IfOk, Ok, OnErr, OnOk, Some, false, true};
 ghost use Rattle.std.specs.Option.{option_map, option_map_or};
 ghost use Rattle.boxcar.specs.Table.{Shows};
 ghost use Rattle.bf_sql.specs.migrations.Lazy.{migrations_so_far};
 ghost use Rattle.bf_image.specs.Migrations.{value_indexes};
 ghost use Rattle.bf_store.specs.Calls.{IsMoveOf, IsSweepOf};
-ghost use Rattle.bf_store.specs.States.{AreGranules, granules_done_if_any};
+ghost use Rattle.bf_store.specs.States.{granules_done_if_any, to_move, with_moved};
 ghost use Rattle.bf_store.specs.Stores.{IsByPass, IsOf, migration_of};
-ghost use Rattle.bf_machine.specs.declared.stand.MoveError.TheVariants.{Old};
+ghost use Rattle.bf_tree.specs.declared.reply.Cause.{Cause};
+ghost use Rattle.bf_machine.specs.declared.stand.MoveError.TheVariants.{Ended, Old};
 ghost use Rattle.bf_machine.specs.interleaving.Calls.{slot_of};
 ghost use Rattle.bf_machine.specs.interleaving.Events.{Moves};
+ghost use Rattle.bf_machine.specs.interleaving.Journals.{IsBeside, IsOneRecord};
+ghost use Rattle.bf_machine.specs.interleaving.Kept.{is_of_log};
 
+use crate::journal::{Journal, KeepError};
 use crate::machine::Machine;
 use crate::machine::statements::are_same;
 use crate::opened::Opened;
 use crate::stand::MoveError;
 use bf_base::{Granule, Memory};
 use bf_image::{MigrationPass, Registry, ValueIndexes};
-use bf_store::Moved;
+use bf_store::{Moved, Store};
 use bf_tree::Sweep;
 use std::alloc::Global;
 
@@ -49,16 +53,19 @@ impl<N: Opened> Machine<N> {
         self.store.done(alloc)
     }
 
-    /// Moves granules of a migration, which differ, as one change, given its old rows by their values.
-    /// No session goes on, and the database that sessions see stays. It costs what
-    /// [`bf_store::Store::move_granules`] does.
+    /// Moves granules of a migration that one record may move, as one change, given its old rows by their
+    /// values. The move of those that have not moved is kept in the journal before; where all have, nothing
+    /// is kept. No session goes on, and the database that sessions see stays. It costs what the journal
+    /// does, and what [`bf_store::Store::move_granules`] does.
     ///
     /// # Errors
-    /// `Old` exactly where the migration is not the last one; and where memory runs out, or 2 ^ 32
-    /// granules or 2 ^ 64 changes were made. The machine is as it was then.
-    pub fn moved(
+    /// `Old` exactly where the migration is not the last one; `Ended` where the journal does not keep the
+    /// move, with the cause that it tells; and where memory runs out, or 2 ^ 32 granules or 2 ^ 64 changes
+    /// were made. The machine is as it was then.
+    pub fn moved<J: Journal>(
         &mut self,
         registry: &Registry,
+        journal: &mut J,
         migration: &MigrationPass,
         indexes: &ValueIndexes,
         granules: &[Granule],
@@ -66,7 +73,8 @@ impl<N: Opened> Machine<N> {
         requires registry { registry.now ≡ N.registry }
         requires pass { Shows N.registry.migrations migration.now }
         requires indexed { indexes.now ≡ value_indexes migration.now.value }
-        requires granules { AreGranules (migration_of migration.now.value []) granules.now }
+        requires logged { J.ends ≡ N.logged }
+        requires granules { IsOneRecord (Some (migration_of migration.now.value [])) granules.now }
         ensures moves { OnOk result (Moves self.old granules.now self.new) }
         ensures told { IfOk result (λ moved.
             IsMoveOf self.old.lazy self.new.lazy granules.now moved) }
@@ -75,6 +83,9 @@ impl<N: Opened> Machine<N> {
         ensures present { slot_of self.old.pass ≡ Some migration.now.index
             → (n : ℕ) → result ≢ Err (Old n) }
         ensures err { OnErr result (self.new ≡ self.old) }
+        ensures beside { IsBeside J.Answers self.old.lazy self.new.lazy journal.old journal.new }
+        ensures ended { (cause : Cause) → result ≡ Err (Ended cause)
+            → (J.ends ≡ true) × (is_of_log cause ≡ true) × J.Tells journal.new cause }
     {
         let last = self.store.migration();
         let last = last.as_ref();
@@ -82,10 +93,50 @@ impl<N: Opened> Machine<N> {
         if !same {
             return Err(MoveError::Old(number_of(registry, last)));
         }
+        let kept = keep_left(self.alloc, journal, &self.store, granules)?;
         match self.store.move_granules(registry, indexes, granules) {
             Ok(moved) => Ok(moved),
-            Err(_) => Err(MoveError::Memory),
+            Err(_) => {
+                if kept {
+                    journal.give_up();
+                }
+                Err(MoveError::Memory)
+            }
         }
+    }
+}
+
+/// Keeps the move of those granules that have not moved, and tells whether there are any.
+///
+/// # Errors
+/// Where the journal has one, and where memory runs out.
+fn keep_left<J: Journal>(
+    alloc: Global,
+    journal: &mut J,
+    store: &Store,
+    granules: &[Granule],
+) -> Result<bool, MoveError>
+    requires { IsOneRecord store.now.lazy.last granules.now }
+    ensures kept { result ≡ Ok true → J.Answers store.now.lazy
+        (with_moved store.now.lazy granules.now) journal.old journal.new (Ok tt) }
+    ensures nothing { result ≡ Ok false → (to_move store.now.lazy.last granules.now ≡ [])
+        × (journal.new ≡ journal.old) }
+    ensures err { OnErr result
+        (IsBeside J.Answers store.now.lazy store.now.lazy journal.old journal.new) }
+    ensures present { (n : ℕ) → result ≢ Err (Old n) }
+    ensures ended { (cause : Cause) → result ≡ Err (Ended cause)
+        → (J.ends ≡ true) × (is_of_log cause ≡ true) × J.Tells journal.new cause }
+{
+    let Ok(left) = store.need(alloc, granules) else {
+        return Err(MoveError::Memory);
+    };
+    if left.is_empty() {
+        return Ok(false);
+    }
+    match journal.keep_moves(store, left.as_slice()) {
+        Ok(()) => Ok(true),
+        Err(KeepError::Ended(cause)) => Err(MoveError::Ended(cause)),
+        Err(KeepError::Memory) => Err(MoveError::Memory),
     }
 }
 

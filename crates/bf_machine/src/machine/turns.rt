@@ -9,11 +9,11 @@ ghost use Rattle.bf_machine.specs.interleaving.Events.{Asks, Begins};
 use crate::machine::Machine;
 use crate::opened::Opened;
 use crate::so_far::{
-    Began, OpenGroup, Pending, SessionSoFar, close_at_death, last_of_group, least_left_behind,
-    told_count,
+    Began, OpenGroup, Pending, SessionSoFar, close_by, last_of_group, least_left_behind, told_count,
 };
 use bf_base::Memory;
 use bf_locks::{LockAnswer, LockName, Mode};
+use bf_tree::Cause;
 use bf_txn::Workspace;
 use std::alloc::Global;
 
@@ -78,7 +78,7 @@ impl<N: Opened> Machine<N> {
         let deaths = &mut self.began[start as usize - 1].deaths;
         deaths.push(*older)?;
         let told = told_count(first, last, deaths.len(), self.retries);
-        close_at_death(&mut self.sessions[place], first, told, *older);
+        close_by(&mut self.sessions[place], first, told, Cause::Died(*older));
         self.locks.free_all(start);
         self.least_left = least_left_behind(
             self.script.sessions.as_slice(),

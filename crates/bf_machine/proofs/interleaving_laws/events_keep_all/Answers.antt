@@ -1,6 +1,7 @@
 use Rattle.bf_machine.proofs.interleaving.Beginning.{begins_keeps_all}
 use Rattle.bf_machine.proofs.interleaving.Dying.{death_keeps_all}
 use Rattle.bf_machine.proofs.interleaving.Ends.{commit_keeps_all, abort_keeps_all}
+use Rattle.bf_machine.proofs.interleaving.Failing.{log_keeps_all}
 use Rattle.bf_machine.proofs.interleaving.Going.{exec_keeps_all, grant_keeps_all, wait_keeps_all}
 use Rattle.bf_machine.proofs.interleaving.New.{new_is_kept}
 use Rattle.bf_machine.proofs.interleaving.Reaching.{reached_is_kept}
@@ -38,6 +39,9 @@ returns-clause-aborts c = λ start m next s kept by. abort_keeps_all start m kep
 
 pub returns-clause-moves : goal.returns-clause-moves
 returns-clause-moves c = λ start m next granules kept by. moves_keep_all start m kept granules next by
+
+pub returns-clause-ends_by_log : goal.returns-clause-ends_by_log
+returns-clause-ends_by_log c = λ start m next s kept by. log_keeps_all start m kept (are_texts m.script) s next by
 
 pub returns-clause-reaches : goal.returns-clause-reaches
 returns-clause-reaches c = reached_is_kept

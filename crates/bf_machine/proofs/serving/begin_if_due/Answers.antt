@@ -1,11 +1,12 @@
 -- A group that is to begin has begun, and can go on.
-use Rattle.std.proofs.Common.{sym, subst, arith}
+use Rattle.std.proofs.Common.{refl, sym, subst, arith}
 use Rattle.bf_machine.specs.interleaving.Events.{Reaches, at_once, begins, one_more}
 use Rattle.bf_machine.specs.interleaving.Kept.{IsKept}
 use Rattle.bf_machine.specs.interleaving.Machines.{Machine}
 use Rattle.bf_machine.proofs.interleaving.Reaching.{reached_keeps_all}
 use Rattle.bf_machine.proofs.served.Exclusive.{open_can}
 use Rattle.bf_machine.proofs.served.Goes.{begin_opens}
+use Rattle.bf_machine.proofs.served.Keeping.{leaves_beginning, leaves_not}
 use Rattle.bf_machine.proofs.serving.begin_if_due.Goals as goal
 
 pub returns-then-ne-clause-reaches : goal.returns-then-ne-clause-reaches
@@ -16,6 +17,15 @@ returns-in_err-begin-clause-reaches g c = subst (Reaches g.N.Opened.opening c.ar
 
 pub returns-clause-reaches : goal.returns-clause-reaches
 returns-clause-reaches g c = one_more at_once (begins c.args.session c.in_ok-begin.ensures.begins)
+
+pub returns-then-ne-clause-leaves : goal.returns-then-ne-clause-leaves
+returns-then-ne-clause-leaves g c = leaves_not g.N.Opened.opening c.args.machine.now c.args.machine.now refl
+
+pub returns-in_err-begin-clause-leaves : goal.returns-in_err-begin-clause-leaves
+returns-in_err-begin-clause-leaves g c = leaves_not g.N.Opened.opening c.args.machine.now c.begin.new.self c.in_err-begin.ensures.err
+
+pub returns-clause-leaves : goal.returns-clause-leaves
+returns-clause-leaves g c = leaves_beginning g.N.Opened.opening c.args.machine.now c.begin.new.self c.args.session c.in_ok-begin.ensures.begins
 
 pub returns-clause-passed : goal.returns-clause-passed
 returns-clause-passed g c = λ none.

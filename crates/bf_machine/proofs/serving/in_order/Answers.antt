@@ -5,11 +5,13 @@ use Rattle.std.proofs.lemmas.List.{take_all, take_more}
 use Rattle.bf_base.specs.declared.memory.Memory.{Memory}
 use Rattle.bf_tree.specs.declared.script.Script.{Script}
 use Rattle.bf_machine.specs.interleaving.Events.{at_once}
+use Rattle.bf_machine.specs.interleaving.Journals.{nothing_yet}
 use Rattle.bf_machine.specs.interleaving.Machines.{Machine, open_at}
 use Rattle.bf_machine.specs.interleaving.Serving.{IsInSequence, Turned, deaths_at, no_turn, one_turn}
 use Rattle.bf_machine.proofs.interleaving.Reaching.{reached_keeps_all}
 use Rattle.bf_machine.proofs.served.Ending.{driven_both, reached_script}
 use Rattle.bf_machine.proofs.served.Goes.{reaches_both}
+use Rattle.bf_machine.proofs.served.Keeping.{keeps_both}
 use Rattle.bf_machine.proofs.serving.in_order.Goals as goal
 
 on_ok : {P Q : Type 0} {A : Type 0} (r : Result A Memory) → (P → Q) → OnOk r P → OnOk r Q
@@ -17,7 +19,7 @@ on_ok (Ok x) weaker so = weaker so
 on_ok (Err memory) weaker so = so
 
 pub loop-session-init : goal.loop-session-init
-loop-session-init g c = record { reaches = at_once; turned = no_turn; nothing = λ empty. refl }
+loop-session-init g c = record { reaches = at_once; keeps = nothing_yet; turned = no_turn; nothing = λ empty. refl }
 
 pub turn_of-requires-clause-count : goal.turn_of-requires-clause-count
 turn_of-requires-clause-count g c =
@@ -34,6 +36,8 @@ returns-in_err-turn_of-clause-reaches g c =
 pub loop-session-preserved : goal.loop-session-preserved
 loop-session-preserved g c = record {
   reaches = reaches_both g.N.Opened.opening c.args.machine.now c.loop-session.machine c.turn_of.new.machine c.loop-session.invariant.reaches c.in_ok-turn_of.ensures.reaches;
+  keeps = keeps_both g.J.Journal.Answers g.J.Journal.Tells g.N.Opened.opening c.args.machine.now c.args.journal.now c.loop-session.machine c.loop-session.journal c.turn_of.new.machine c.turn_of.new.journal
+      c.loop-session.invariant.keeps c.in_ok-turn_of.ensures.keeps;
   turned =
       let i = c.loop-session.session-index in
       let order = c.args.order.now in
@@ -43,6 +47,25 @@ loop-session-preserved g c = record {
       let none : length c.args.order.now ≡ 0 = ap (λ (xs : List ℕ). length xs) empty in
       absurd (omega (arith, none, c.loop-session-test.true));
 }
+
+pub returns-in_err-turn_of-clause-keeps : goal.returns-in_err-turn_of-clause-keeps
+returns-in_err-turn_of-clause-keeps g c =
+    keeps_both g.J.Journal.Answers g.J.Journal.Tells g.N.Opened.opening c.args.machine.now c.args.journal.now c.loop-session.machine c.loop-session.journal c.turn_of.new.machine c.turn_of.new.journal
+    c.loop-session.invariant.keeps c.turn_of.ensures.keeps
+
+pub returns-in_err-end_open_groups-clause-keeps : goal.returns-in_err-end_open_groups-clause-keeps
+returns-in_err-end_open_groups-clause-keeps g c =
+    keeps_both g.J.Journal.Answers g.J.Journal.Tells g.N.Opened.opening c.args.machine.now c.args.journal.now c.loop-session.machine c.loop-session.journal c.end_open_groups.new.machine c.end_open_groups.new.journal
+    c.loop-session.invariant.keeps c.end_open_groups.ensures.keeps
+
+pub returns-clause-keeps : goal.returns-clause-keeps
+returns-clause-keeps g c =
+    let m : Machine = c.args.machine.now in
+    let now : Machine = c.loop-session.machine in
+    let then : Machine = c.end_open_groups.new.machine in
+    keeps_both g.J.Journal.Answers g.J.Journal.Tells g.N.Opened.opening m c.args.journal.now then c.end_open_groups.new.journal c.end_sessions.new.machine c.end_sessions.new.journal
+    (keeps_both g.J.Journal.Answers g.J.Journal.Tells g.N.Opened.opening m c.args.journal.now now c.loop-session.journal then c.end_open_groups.new.journal c.loop-session.invariant.keeps c.in_ok-end_open_groups.ensures.keeps)
+    c.end_sessions.ensures.keeps
 
 pub end_open_groups-requires-clause-kept : goal.end_open_groups-requires-clause-kept
 end_open_groups-requires-clause-kept g c = reached_keeps_all g.N.Opened.opening c.args.machine.now c.loop-session.machine c.session_count-count.ensures.kept c.loop-session.invariant.reaches

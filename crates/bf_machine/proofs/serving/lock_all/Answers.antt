@@ -8,14 +8,15 @@ use Rattle.bf_sql.specs.Footprints.{Lock}
 use Rattle.bf_machine.specs.interleaving.Calls.{CanAsk}
 use Rattle.bf_machine.specs.interleaving.Events.{Asks, asks, at_once, one_more}
 use Rattle.bf_machine.specs.interleaving.Machines.{Machine}
-use Rattle.bf_machine.specs.interleaving.Serving.{HasLocked}
+use Rattle.bf_machine.specs.interleaving.Serving.{HasLocked, LeavesStore}
+use Rattle.bf_machine.proofs.served.Keeping.{leaves_asking, leaves_not}
 use Rattle.bf_machine.proofs.served.Locking.{can_ask, dies_as, has_asked, one_locked}
 use Rattle.bf_machine.proofs.serving.lock_all.Goals as goal
 
 pub loop-name-init : goal.loop-name-init
 loop-name-init g c =
     let next = c.requires.next in
-    record { reaches = at_once; locked = (next.0, next.1.is, c.args.machine.now.locks, refl, λ k d within. absurd (omega (arith, within))) }
+    record { reaches = at_once; leaves = leaves_not g.N.Opened.opening c.args.machine.now c.args.machine.now refl; locked = (next.0, next.1.is, c.args.machine.now.locks, refl, λ k d within. absurd (omega (arith, within))) }
 
 pub lock-requires-clause-can : goal.lock-requires-clause-can
 lock-requires-clause-can g c =
@@ -60,6 +61,7 @@ loop-name-preserved g c =
     take_more c.args.locks.now c.loop-name.name-index lock c.loop-name-test.true ∙ ap (λ (x : Lock). held ++ x ∷ []) (sym c.loop-name-item.is) in
     record {
       reaches = one_more c.loop-name.invariant.reaches (asks c.args.session lock.0 lock.1 c.in_ok-lock.field-0 c.in_ok-lock.ensures.asks);
+      leaves = leaves_asking g.N.Opened.opening c.args.machine.now c.loop-name.machine c.lock.new.self c.loop-name.invariant.leaves c.args.session lock.0 lock.1 c.in_ok-lock.field-0 c.in_ok-lock.ensures.asks;
       locked = subst (λ (locks : List Lock). HasLocked c.args.machine.now c.args.session locks c.lock.new.self) (sym more)
           (one_locked c.args.machine.now c.requires.kept c.args.session c.requires.next.0 c.args.locks.now c.requires.next.1 held lock.0 lock.1 c.loop-name.machine c.lock.new.self c.loop-name.invariant.locked by);
     }
@@ -68,3 +70,17 @@ pub returns-clause-locked : goal.returns-clause-locked
 returns-clause-locked g c = λ served.
     let all : take c.loop-name.name-index c.args.locks.now ≡ c.args.locks.now = take_all c.loop-name.name-index c.args.locks.now (omega (arith, c.loop-name-test.false)) in
     subst (λ (locks : List Lock). HasLocked c.args.machine.now c.args.session locks c.loop-name.machine) all c.loop-name.invariant.locked
+
+pub returns-in-Wait-clause-leaves : goal.returns-in-Wait-clause-leaves
+returns-in-Wait-clause-leaves g c =
+    let lock : Lock = c.loop-name-item.result in
+    leaves_asking g.N.Opened.opening c.args.machine.now c.loop-name.machine c.lock.new.self c.loop-name.invariant.leaves c.args.session lock.0 lock.1 c.in_ok-lock.field-0 c.in_ok-lock.ensures.asks
+
+pub returns-in-Die-clause-leaves : goal.returns-in-Die-clause-leaves
+returns-in-Die-clause-leaves g c =
+    let lock : Lock = c.loop-name-item.result in
+    leaves_asking g.N.Opened.opening c.args.machine.now c.loop-name.machine c.lock.new.self c.loop-name.invariant.leaves c.args.session lock.0 lock.1 c.in_ok-lock.field-0 c.in_ok-lock.ensures.asks
+
+pub returns-in_err-lock-clause-leaves : goal.returns-in_err-lock-clause-leaves
+returns-in_err-lock-clause-leaves g c =
+    subst (LeavesStore g.N.Opened.opening c.args.machine.now) (sym c.in_err-lock.ensures.err) c.loop-name.invariant.leaves

@@ -19,7 +19,7 @@ close-requires g c =
     let x : SessionSoFar = c.index_mut-so_far.result.now in
     let place : IsPlace i.script s = subst (λ (m : Machine). IsPlace m.script s) (sym c.self.view_is) c.requires.place in
     let high : s ≤ length i.sessions.items = omega (arith, place.1, c.self.invariant.0.kept.shaped.opens, length-map i.sessions.items open_seen) in
-    room_for_reply i.script i.retries i.store i.locks i.began.items i.sessions.items i.history i.commits i.transcripts c.self.invariant.0
+    room_for_reply g.N.Opened.logged i.script i.retries i.store i.locks i.began.items i.sessions.items i.history i.commits i.transcripts c.self.invariant.0
     s place.0 high x (sym c.index_mut-so_far.ensures.value) c.in-Some.group c.in-Some.is
 
 pub least_left_behind-self-inside-requires-clause-each : goal.least_left_behind-self-inside-requires-clause-each
@@ -43,15 +43,15 @@ invariant_of-self g c =
     let x : SessionSoFar = c.index_mut-so_far.result.now in
     let place : IsPlace i.script s = subst (λ (m : Machine). IsPlace m.script s) (sym c.self.view_is) c.requires.place in
     let high : s ≤ length i.sessions.items = omega (arith, place.1, c.self.invariant.0.kept.shaped.opens, length-map i.sessions.items open_seen) in
-    let m : Machine = seen i.script i.retries i.store i.locks i.began.items i.sessions.items i.history.items in
+    let m : Machine = seen g.N.Opened.logged i.script i.retries i.store i.locks i.began.items i.sessions.items i.history.items in
     let can : CanAbort m s = subst (λ (m : Machine). CanAbort m s) (sym c.self.view_is) c.requires.can in
     let ends = c.close.ensures in
     let pushed = c.push_reserved in
-    let goes_on = goes_on_at i.script i.retries i.store i.locks i.began.items i.sessions.items i.history.items s place.0 (open_goes_on m s can.1.o can.1.is) in
+    let goes_on = goes_on_at g.N.Opened.logged i.script i.retries i.store i.locks i.began.items i.sessions.items i.history.items s place.0 (open_goes_on m s can.1.o can.1.is) in
     let least =
     least_behind i.script.sessions i.sessions.items (s - 1) c.close.new.so_far i.least_left c.self.invariant.1 goes_on
     c.as_slice.ensures c.deref.ensures.value c.least_left_behind-self-inside.result c.least_left_behind-self-inside.ensures in (
-      abort_sound i.script i.retries i.store i.locks i.began.items i.sessions.items i.history i.commits i.transcripts c.self.invariant.0
+      abort_sound g.N.Opened.logged i.script i.retries i.store i.locks i.began.items i.sessions.items i.history i.commits i.transcripts c.self.invariant.0
           s place.0 high x (sym c.index_mut-so_far.ensures.value) c.in-Some.group c.in-Some.is can.0 can.1
           c.close.new.so_far ends.closed ends.latest ends.capacity ends.replies
           c.free_all.new.self c.free_all.ensures.freed pushed.new.self pushed.ensures.items pushed.ensures.capacity,
@@ -65,13 +65,13 @@ returns g c =
     let x : SessionSoFar = c.index_mut-so_far.result.now in
     let place : IsPlace i.script s = subst (λ (m : Machine). IsPlace m.script s) (sym c.self.view_is) c.requires.place in
     let high : s ≤ length i.sessions.items = omega (arith, place.1, c.self.invariant.0.kept.shaped.opens, length-map i.sessions.items open_seen) in
-    let m : Machine = seen i.script i.retries i.store i.locks i.began.items i.sessions.items i.history.items in
+    let m : Machine = seen g.N.Opened.logged i.script i.retries i.store i.locks i.began.items i.sessions.items i.history.items in
     let can : CanAbort m s = subst (λ (m : Machine). CanAbort m s) (sym c.self.view_is) c.requires.can in
     let ends = c.close.ensures in
     let pushed = c.push_reserved in
-    let next : Machine = seen i.script i.retries i.store c.free_all.new.self i.began.items (slice_set i.sessions.items (s - 1) c.close.new.so_far) pushed.new.self.items in
+    let next : Machine = seen g.N.Opened.logged i.script i.retries i.store c.free_all.new.self i.began.items (slice_set i.sessions.items (s - 1) c.close.new.so_far) pushed.new.self.items in
     subst (λ (m : Machine). Aborts m s next) c.self.view_is
-    (abort_seen i.script i.retries i.store i.locks i.began.items i.sessions.items i.history i.commits i.transcripts c.self.invariant.0
+    (abort_seen g.N.Opened.logged i.script i.retries i.store i.locks i.began.items i.sessions.items i.history i.commits i.transcripts c.self.invariant.0
     s place.0 high x (sym c.index_mut-so_far.ensures.value) c.in-Some.group c.in-Some.is can.0 can.1
     c.close.new.so_far ends.closed ends.latest ends.capacity ends.replies
     c.free_all.new.self c.free_all.ensures.freed pushed.new.self pushed.ensures.items pushed.ensures.capacity)

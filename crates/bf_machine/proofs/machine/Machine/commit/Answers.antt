@@ -1,17 +1,19 @@
 -- What the group was to leave is in the store, what is left of it has its reply, and its entry comes last.
-use Rattle.std.proofs.Common.{◌-◌, ◌≤◌, List, length, sym, ap, subst, ◌∙◌, arith}
+use Rattle.std.proofs.Common.{◌≡◌, ℕ, ◌+◌, ◌-◌, ◌≤◌, List, length, Some, sym, ap, subst, ◌∙◌, arith}
 use Rattle.std.specs.Prelude.{slice_set}
 use Rattle.std.proofs.lemmas.List.{length-map, length-set}
 use Rattle.bf_tree.specs.declared.script.Session.{Session}
+use Rattle.bf_sql.specs.migrations.Lazy.{LazyState}
 use Rattle.bf_image.specs.Registries.{Registry}
 use Rattle.bf_store.specs.Stores.{IsOf, Store}
 use Rattle.bf_machine.specs.declared.so_far.SessionSoFar.{SessionSoFar}
-use Rattle.bf_machine.specs.interleaving.Calls.{CanCommit, IsPlace}
-use Rattle.bf_machine.specs.interleaving.Events.{Commits}
+use Rattle.bf_machine.specs.interleaving.Calls.{CanCommit, CanFail, IsPlace}
+use Rattle.bf_machine.specs.interleaving.Events.{Commits, EndsByLog, commits_behind}
+use Rattle.bf_machine.specs.interleaving.Journals.{AreSaid, IsBeside}
 use Rattle.bf_machine.specs.interleaving.Machines.{Machine}
 use Rattle.bf_machine.specs.interleaving.Seen.{IsLeastLeft, IsSound, open_seen, seen}
 use Rattle.bf_machine.proofs.keeping.Ending.{room_for_reply}
-use Rattle.bf_machine.proofs.keeping.Committing.{can_settle, commit_seen, commit_sound, number_fits, sessions_stay}
+use Rattle.bf_machine.proofs.keeping.Committing.{can_settle, commit_seen, commit_sound, is_stated, number_fits, sessions_stay}
 use Rattle.bf_machine.proofs.keeping.LeastLeft.{goes_on_at, least_behind, open_goes_on}
 use Rattle.bf_machine.proofs.machine.Machine.commit.Goals as goal
 
@@ -25,8 +27,20 @@ settle-requires-clause-can g c =
     let x : SessionSoFar = c.index_mut-so_far.result.now in
     let place : IsPlace i.script s = subst (λ (m : Machine). IsPlace m.script s) (sym c.self.view_is) c.requires.place in
     let high : s ≤ length i.sessions.items = omega (arith, place.1, c.self.invariant.0.kept.shaped.opens, length-map i.sessions.items open_seen) in
-    can_settle i.script i.retries i.store i.locks i.began.items i.sessions.items i.history i.commits i.transcripts c.self.invariant.0
+    can_settle g.N.Opened.logged i.script i.retries i.store i.locks i.began.items i.sessions.items i.history i.commits i.transcripts c.self.invariant.0
     s place.0 high x (sym c.index_mut-so_far.ensures.value) c.in-Some.group (sym c.take.ensures.value ∙ c.in-Some.is)
+
+pub settle-requires-clause-stated : goal.settle-requires-clause-stated
+settle-requires-clause-stated g c =
+    let i = c.self.inside in
+    let s = c.args.session in
+    let x : SessionSoFar = c.index_mut-so_far.result.now in
+    let Says = g.J.Journal.Says in
+    let place : IsPlace i.script s = subst (λ (m : Machine). IsPlace m.script s) (sym c.self.view_is) c.requires.place in
+    let high : s ≤ length i.sessions.items = omega (arith, place.1, c.self.invariant.0.kept.shaped.opens, length-map i.sessions.items open_seen) in
+    is_stated g.N.Opened.logged i.script i.retries i.store i.locks i.began.items i.sessions.items i.history i.commits i.transcripts c.self.invariant.0
+    s place.0 high x (sym c.index_mut-so_far.ensures.value) c.in-Some.group (sym c.take.ensures.value ∙ c.in-Some.is)
+    Says (subst (AreSaid Says) (sym c.self.invariant.0.is_given) c.requires.said)
 
 pub overflow_add-number : goal.overflow_add-number
 overflow_add-number g c =
@@ -36,7 +50,7 @@ overflow_add-number g c =
     let place : IsPlace i.script s = subst (λ (m : Machine). IsPlace m.script s) (sym c.self.view_is) c.requires.place in
     let high : s ≤ length i.sessions.items = omega (arith, place.1, c.self.invariant.0.kept.shaped.opens, length-map i.sessions.items open_seen) in
     let fits =
-    number_fits i.script i.retries i.store i.locks i.began.items i.sessions.items i.history i.commits i.transcripts c.self.invariant.0
+    number_fits g.N.Opened.logged i.script i.retries i.store i.locks i.began.items i.sessions.items i.history i.commits i.transcripts c.self.invariant.0
     s place.0 high x (sym c.index_mut-so_far.ensures.value) c.in-Some.group (sym c.take.ensures.value ∙ c.in-Some.is) in
     omega (arith, fits, i.history.ok.1)
 
@@ -47,7 +61,7 @@ close-requires g c =
     let x : SessionSoFar = c.index_mut-so_far.result.now in
     let place : IsPlace i.script s = subst (λ (m : Machine). IsPlace m.script s) (sym c.self.view_is) c.requires.place in
     let high : s ≤ length i.sessions.items = omega (arith, place.1, c.self.invariant.0.kept.shaped.opens, length-map i.sessions.items open_seen) in
-    room_for_reply i.script i.retries i.store i.locks i.began.items i.sessions.items i.history i.commits i.transcripts c.self.invariant.0
+    room_for_reply g.N.Opened.logged i.script i.retries i.store i.locks i.began.items i.sessions.items i.history i.commits i.transcripts c.self.invariant.0
     s place.0 high x (sym c.index_mut-so_far.ensures.value) c.in-Some.group (sym c.take.ensures.value ∙ c.in-Some.is)
 
 pub least_left_behind-self-inside-requires-clause-each : goal.least_left_behind-self-inside-requires-clause-each
@@ -71,42 +85,43 @@ invariant_of-self-2 g c =
     let x : SessionSoFar = c.index_mut-so_far.result.now in
     let place : IsPlace i.script s = subst (λ (m : Machine). IsPlace m.script s) (sym c.self.view_is) c.requires.place in
     let high : s ≤ length i.sessions.items = omega (arith, place.1, c.self.invariant.0.kept.shaped.opens, length-map i.sessions.items open_seen) in
-    let m : Machine = seen i.script i.retries i.store i.locks i.began.items i.sessions.items i.history.items in
+    let m : Machine = seen g.N.Opened.logged i.script i.retries i.store i.locks i.began.items i.sessions.items i.history.items in
     let can : CanCommit m s = subst (λ (m : Machine). CanCommit m s) (sym c.self.view_is) c.requires.can in
     let ends = c.close.ensures in
     let pushed = c.push_reserved in
     let settled = c.in_default-settle.ensures in
     let one = subst (λ (registry : Registry). IsOf registry c.settle.new.store.migration) c.requires.registry settled.one in
-    let goes_on = goes_on_at i.script i.retries i.store i.locks i.began.items i.sessions.items i.history.items s place.0 (open_goes_on m s can.o can.is) in
+    let goes_on = goes_on_at g.N.Opened.logged i.script i.retries i.store i.locks i.began.items i.sessions.items i.history.items s place.0 (open_goes_on m s can.o can.is) in
     let least =
     least_behind i.script.sessions i.sessions.items (s - 1) c.close.new.so_far i.least_left c.self.invariant.1 goes_on
     c.as_slice.ensures c.deref.ensures.value c.least_left_behind-self-inside.result c.least_left_behind-self-inside.ensures in (
-      commit_sound i.script i.retries i.store i.locks i.began.items i.sessions.items i.history i.commits i.transcripts c.self.invariant.0
+      commit_sound g.N.Opened.logged i.script i.retries i.store i.locks i.began.items i.sessions.items i.history i.commits i.transcripts c.self.invariant.0
           s place.0 high x (sym c.index_mut-so_far.ensures.value) c.in-Some.group (sym c.take.ensures.value ∙ c.in-Some.is) can
           c.close.new.so_far ends.closed ends.latest ends.capacity ends.replies
           c.free_all.new.self c.free_all.ensures.freed c.settle.new.store settled.ok settled.by_pass one settled.same pushed.new.self pushed.ensures.items pushed.ensures.capacity,
       least,
     )
 
-pub returns-clause-commits : goal.returns-clause-commits
-returns-clause-commits g c =
+pub returns-clause-ending : goal.returns-clause-ending
+returns-clause-ending g c =
     let i = c.self.inside in
     let s = c.args.session in
     let x : SessionSoFar = c.index_mut-so_far.result.now in
     let place : IsPlace i.script s = subst (λ (m : Machine). IsPlace m.script s) (sym c.self.view_is) c.requires.place in
     let high : s ≤ length i.sessions.items = omega (arith, place.1, c.self.invariant.0.kept.shaped.opens, length-map i.sessions.items open_seen) in
-    let m : Machine = seen i.script i.retries i.store i.locks i.began.items i.sessions.items i.history.items in
+    let m : Machine = seen g.N.Opened.logged i.script i.retries i.store i.locks i.began.items i.sessions.items i.history.items in
     let can : CanCommit m s = subst (λ (m : Machine). CanCommit m s) (sym c.self.view_is) c.requires.can in
     let ends = c.close.ensures in
     let pushed = c.push_reserved in
     let settled = c.in_default-settle.ensures in
     let one = subst (λ (registry : Registry). IsOf registry c.settle.new.store.migration) c.requires.registry settled.one in
-    let next : Machine = seen i.script i.retries c.settle.new.store c.free_all.new.self i.began.items (slice_set i.sessions.items (s - 1) c.close.new.so_far) pushed.new.self.items in
-    subst (λ (m : Machine). Commits m s next) c.self.view_is
-    (commit_seen i.script i.retries i.store i.locks i.began.items i.sessions.items i.history i.commits i.transcripts c.self.invariant.0
+    let next : Machine = seen g.N.Opened.logged i.script i.retries c.settle.new.store c.free_all.new.self i.began.items (slice_set i.sessions.items (s - 1) c.close.new.so_far) pushed.new.self.items in
+    let commits = subst (λ (m : Machine). Commits m s next) c.self.view_is
+    (commit_seen g.N.Opened.logged i.script i.retries i.store i.locks i.began.items i.sessions.items i.history i.commits i.transcripts c.self.invariant.0
     s place.0 high x (sym c.index_mut-so_far.ensures.value) c.in-Some.group (sym c.take.ensures.value ∙ c.in-Some.is) can
     c.close.new.so_far ends.closed ends.latest ends.capacity ends.replies
-    c.free_all.new.self c.free_all.ensures.freed c.settle.new.store settled.ok settled.by_pass one settled.same pushed.new.self pushed.ensures.items pushed.ensures.capacity)
+    c.free_all.new.self c.free_all.ensures.freed c.settle.new.store settled.ok settled.by_pass one settled.same pushed.new.self pushed.ensures.items pushed.ensures.capacity) in
+    (commits, ap (λ (n : ℕ). n + 1) c.self.invariant.0.counted ∙ ap (λ (m : Machine). commits_behind 0 m.history + 1) c.self.view_is)
 
 pub invariant_of-self : goal.invariant_of-self
 invariant_of-self g c =
@@ -116,18 +131,77 @@ invariant_of-self g c =
     let stays =
     sessions_stay i.sessions.items (s - 1) x (sym c.index_mut-so_far.ensures.value) c.in-Some.group
     (sym c.take.ensures.value ∙ c.in-Some.is) c.settle.new.pending c.in-Err.ensures.kept in (
-      subst (λ (sessions : List SessionSoFar). IsSound g.N.Opened.opening g.N.Opened.registry g.N.Opened.script i.script i.retries c.settle.new.store i.locks i.began.items sessions i.history i.commits i.transcripts) (sym stays)
-          (subst (λ (store : Store). IsSound g.N.Opened.opening g.N.Opened.registry g.N.Opened.script i.script i.retries store i.locks i.began.items i.sessions.items i.history i.commits i.transcripts) (sym c.in-Err.ensures.err) c.self.invariant.0),
+      subst (λ (sessions : List SessionSoFar). IsSound g.N.Opened.opening g.N.Opened.registry g.N.Opened.script g.N.Opened.logged i.script i.retries c.settle.new.store i.locks i.began.items sessions i.history i.commits i.transcripts) (sym stays)
+          (subst (λ (store : Store). IsSound g.N.Opened.opening g.N.Opened.registry g.N.Opened.script g.N.Opened.logged i.script i.retries store i.locks i.began.items i.sessions.items i.history i.commits i.transcripts) (sym c.in-Err.ensures.err) c.self.invariant.0),
       subst (λ (sessions : List SessionSoFar). IsLeastLeft i.script.sessions sessions (length sessions) i.least_left) (sym stays) c.self.invariant.1,
     )
 
-pub returns-in-Err-clause-err : goal.returns-in-Err-clause-err
-returns-in-Err-clause-err g c =
+pub invariant_of-self-in-Ended : goal.invariant_of-self-in-Ended
+invariant_of-self-in-Ended g c =
     let i = c.self.inside in
     let s = c.args.session in
     let x : SessionSoFar = c.index_mut-so_far.result.now in
     let stays =
     sessions_stay i.sessions.items (s - 1) x (sym c.index_mut-so_far.ensures.value) c.in-Some.group
+    (sym c.take.ensures.value ∙ c.in-Some.is) c.settle.new.pending c.in-Err.ensures.kept in (
+      subst (λ (sessions : List SessionSoFar). IsSound g.N.Opened.opening g.N.Opened.registry g.N.Opened.script g.N.Opened.logged i.script i.retries c.settle.new.store i.locks i.began.items sessions i.history i.commits i.transcripts) (sym stays)
+          (subst (λ (store : Store). IsSound g.N.Opened.opening g.N.Opened.registry g.N.Opened.script g.N.Opened.logged i.script i.retries store i.locks i.began.items i.sessions.items i.history i.commits i.transcripts) (sym c.in-Err.ensures.err) c.self.invariant.0),
+      subst (λ (sessions : List SessionSoFar). IsLeastLeft i.script.sessions sessions (length sessions) i.least_left) (sym stays) c.self.invariant.1,
+    )
+
+pub fail-requires-clause-open : goal.fail-requires-clause-open
+fail-requires-clause-open g c =
+    let i = c.self.inside in
+    let s = c.args.session in
+    let x : SessionSoFar = c.index_mut-so_far.result.now in
+    let z : SessionSoFar = record { replies = x.replies; «open» = Some (record c.in-Some.group { pending = c.settle.new.pending }); latest = x.latest } in
+    let stays =
+    sessions_stay i.sessions.items (s - 1) x (sym c.index_mut-so_far.ensures.value) c.in-Some.group
     (sym c.take.ensures.value ∙ c.in-Some.is) c.settle.new.pending c.in-Err.ensures.kept in
-    ap (λ (sessions : List SessionSoFar). seen i.script i.retries c.settle.new.store i.locks i.began.items sessions i.history.items) stays
-    ∙ (ap (λ (store : Store). seen i.script i.retries store i.locks i.began.items i.sessions.items i.history.items) c.in-Err.ensures.err ∙ c.self.view_is)
+    let back : seen g.N.Opened.logged i.script i.retries c.settle.new.store i.locks i.began.items (slice_set i.sessions.items (s - 1) z) i.history.items ≡ c.args.self.now =
+    ap (λ (sessions : List SessionSoFar). seen g.N.Opened.logged i.script i.retries c.settle.new.store i.locks i.began.items sessions i.history.items) stays
+    ∙ (ap (λ (store : Store). seen g.N.Opened.logged i.script i.retries store i.locks i.began.items i.sessions.items i.history.items) c.in-Err.ensures.err ∙ c.self.view_is) in
+    let can = c.requires.can in
+    let may : CanFail c.args.self.now s = record { current = can.current; o = can.o; is = can.is } in
+    subst (λ (m : Machine). CanFail m s) (sym back) may
+
+pub returns-in-Memory-clause-err : goal.returns-in-Memory-clause-err
+returns-in-Memory-clause-err g c =
+    let i = c.self.inside in
+    let s = c.args.session in
+    let x : SessionSoFar = c.index_mut-so_far.result.now in
+    let z : SessionSoFar = record { replies = x.replies; «open» = Some (record c.in-Some.group { pending = c.settle.new.pending }); latest = x.latest } in
+    let stays =
+    sessions_stay i.sessions.items (s - 1) x (sym c.index_mut-so_far.ensures.value) c.in-Some.group
+    (sym c.take.ensures.value ∙ c.in-Some.is) c.settle.new.pending c.in-Err.ensures.kept in
+    let back : seen g.N.Opened.logged i.script i.retries c.settle.new.store i.locks i.began.items (slice_set i.sessions.items (s - 1) z) i.history.items ≡ c.args.self.now =
+    ap (λ (sessions : List SessionSoFar). seen g.N.Opened.logged i.script i.retries c.settle.new.store i.locks i.began.items sessions i.history.items) stays
+    ∙ (ap (λ (store : Store). seen g.N.Opened.logged i.script i.retries store i.locks i.began.items i.sessions.items i.history.items) c.in-Err.ensures.err ∙ c.self.view_is) in
+    back
+
+pub returns-in-Ended-clause-ending : goal.returns-in-Ended-clause-ending
+returns-in-Ended-clause-ending g c =
+    let i = c.self.inside in
+    let s = c.args.session in
+    let x : SessionSoFar = c.index_mut-so_far.result.now in
+    let z : SessionSoFar = record { replies = x.replies; «open» = Some (record c.in-Some.group { pending = c.settle.new.pending }); latest = x.latest } in
+    let stays =
+    sessions_stay i.sessions.items (s - 1) x (sym c.index_mut-so_far.ensures.value) c.in-Some.group
+    (sym c.take.ensures.value ∙ c.in-Some.is) c.settle.new.pending c.in-Err.ensures.kept in
+    let back : seen g.N.Opened.logged i.script i.retries c.settle.new.store i.locks i.began.items (slice_set i.sessions.items (s - 1) z) i.history.items ≡ c.args.self.now =
+    ap (λ (sessions : List SessionSoFar). seen g.N.Opened.logged i.script i.retries c.settle.new.store i.locks i.began.items sessions i.history.items) stays
+    ∙ (ap (λ (store : Store). seen g.N.Opened.logged i.script i.retries store i.locks i.began.items i.sessions.items i.history.items) c.in-Err.ensures.err ∙ c.self.view_is) in
+    subst (λ (m : Machine). (by : EndsByLog m s c.fail.new.self) × (by.cause ≡ c.in-Ended.cause)) back c.fail.ensures
+
+pub returns-in-Ended-clause-beside : goal.returns-in-Ended-clause-beside
+returns-in-Ended-clause-beside g c =
+    let Answers = g.J.Journal.Answers in
+    let store = c.settle.new.store in
+    let stays : c.fail.new.self.lazy ≡ store.lazy = ap (λ (m : Machine). m.lazy) c.fail.ensures.0.goes in
+    subst (λ (next : LazyState). IsBeside Answers c.args.self.now.lazy next c.args.journal.now c.settle.new.journal) (sym stays)
+    (subst (λ (m : Machine). IsBeside Answers m.lazy store.lazy c.args.journal.now c.settle.new.journal) c.self.view_is c.in-Err.ensures.beside)
+
+pub returns-clause-beside : goal.returns-clause-beside
+returns-clause-beside g c =
+    let Answers = g.J.Journal.Answers in
+    subst (λ (m : Machine). IsBeside Answers m.lazy c.settle.new.store.lazy c.args.journal.now c.settle.new.journal) c.self.view_is c.in_default-settle.ensures.beside

@@ -14,5 +14,5 @@ returns-clause-transcripts g c =
 pub returns-clause-legal : goal.returns-clause-legal
 returns-clause-legal g c =
     let i = c.self.inside in
-    let m : Machine = seen i.script i.retries i.store i.locks i.began.items i.sessions.items i.history.items in
+    let m : Machine = seen g.N.Opened.logged i.script i.retries i.store i.locks i.began.items i.sessions.items i.history.items in
     subst (TranscriptsLegal g.N.Opened.opening) c.self.view_is (transcripts_legal g.N.Opened.opening m c.self.invariant.0.kept)

@@ -31,7 +31,7 @@ pub returns-in-Some : goal.returns-in-Some
 returns-in-Some g c =
     let i = c.self.inside in
     let s = c.args.session in
-    let m : Machine = seen i.script i.retries i.store i.locks i.began.items i.sessions.items i.history.items in
+    let m : Machine = seen g.N.Opened.logged i.script i.retries i.store i.locks i.began.items i.sessions.items i.history.items in
     let place : IsPlace i.script s = subst (λ (m : Machine). IsPlace m.script s) (sym c.self.view_is) c.requires in
     let kept = c.self.invariant.0.kept in
     let xs = c.as_slice-sessions.result.now in
@@ -47,11 +47,11 @@ returns-in-Some g c =
           let low : (slice_index_or xs (s - 1) no_session).phase ≤ (slice_index_or xs least no_session).phase = grind (arith, nat_tests, sym c.is_no_later.ensures ∙ holds) in
           let below : phase_of i.script s ≤ phase_of i.script (suc least) = omega (arith, low, mine, theirs) in
           subst (λ (m : Machine). IsCurrent m s) c.self.view_is
-          (current_by_phase i.script i.retries i.store i.locks i.began.items i.sessions.items i.history.items kept i.least_left c.self.invariant.1 s
+          (current_by_phase g.N.Opened.logged i.script i.retries i.store i.locks i.began.items i.sessions.items i.history.items kept i.least_left c.self.invariant.1 s
           (λ p is. subst (λ (p : ℕ). phase_of i.script s ≤ phase_of i.script (suc p)) (found p is) below)),
       λ is.
           let low =
-          phase_if_current i.script i.retries i.store i.locks i.began.items i.sessions.items i.history.items kept i.least_left c.self.invariant.1 s
+          phase_if_current g.N.Opened.logged i.script i.retries i.store i.locks i.began.items i.sessions.items i.history.items kept i.least_left c.self.invariant.1 s
           (subst (λ (m : Machine). IsCurrent m s) (sym c.self.view_is) is) least c.in-Some.is in
           let below : (slice_index_or xs (s - 1) no_session).phase ≤ (slice_index_or xs least no_session).phase = omega (arith, low, mine, theirs) in
           let holds : nat_le (slice_index_or xs (s - 1) no_session).phase (slice_index_or xs least no_session).phase ≡ true = grind (arith, nat_tests, below) in
@@ -64,7 +64,7 @@ returns-in-None g c =
     let s = c.args.session in (
       λ holds.
           subst (λ (m : Machine). IsCurrent m s) c.self.view_is
-          (current_by_phase i.script i.retries i.store i.locks i.began.items i.sessions.items i.history.items c.self.invariant.0.kept i.least_left c.self.invariant.1 s
+          (current_by_phase g.N.Opened.logged i.script i.retries i.store i.locks i.began.items i.sessions.items i.history.items c.self.invariant.0.kept i.least_left c.self.invariant.1 s
           (λ p is.
           let clash : None ≡ Some p = sym c.in-None.is ∙ is in
           absurd cc)),

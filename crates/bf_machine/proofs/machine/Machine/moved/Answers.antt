@@ -1,6 +1,8 @@
 -- The granules are of the last migration where the pass is its, and the store alone changes.
-use Rattle.std.proofs.Common.{◌≡◌, ℕ, true, false, Bor, Err, Option, Some, None, refl, sym, ap, subst, ◌∙◌, option_map}
+use Rattle.std.proofs.Common.{◌≡◌, ℕ, Bool, true, false, Bor, Err, Ok, Result, Option, Some, None, refl, sym, ap, subst, ◌∙◌, option_map}
 use Rattle.std.specs.Option.{option_copied, option_map_or}
+use Rattle.std.specs.Result.{IsErr, IsErrAnd}
+use Rattle.std.proofs.lemmas.Bool.{false≢true}
 use Rattle.boxcar.specs.Table.{Where}
 use Rattle.bf_sql.specs.migrations.Lazy.{migrations_so_far}
 use Rattle.bf_image.specs.Registries.{Registry}
@@ -8,12 +10,16 @@ use Rattle.bf_image.specs.declared.migration.Migration.{Migration as Kept}
 use Rattle.bf_store.specs.Calls.{IsMoveOf}
 use Rattle.bf_store.specs.States.{AreGranulesIfAny}
 use Rattle.bf_store.specs.Stores.{IsOf, Store}
-use Rattle.bf_machine.specs.declared.stand.MoveError.TheVariants.{Old}
+use Rattle.bf_machine.specs.declared.stand.MoveError.{MoveError}
+use Rattle.bf_machine.specs.declared.stand.MoveError.TheVariants.{Ended, Old}
 use Rattle.bf_machine.specs.interleaving.Calls.{slot_of}
 use Rattle.bf_machine.specs.interleaving.Events.{Moves}
+use Rattle.bf_machine.specs.interleaving.Journals.{IsBeside}
 use Rattle.bf_machine.specs.interleaving.Machines.{Machine}
 use Rattle.bf_machine.specs.interleaving.Seen.{IsSound, seen}
+use Rattle.bf_machine.proofs.keeping.Beside.{moved_beside}
 use Rattle.bf_machine.proofs.keeping.Moving.{indexes_of_it, moved_sound, moves, number_is, of_the_last}
+use Rattle.bf_machine.proofs.keeping.Records.{one_record_of_the_last}
 use Rattle.bf_machine.proofs.machine.Machine.moved.Goals as goal
 
 by_copied : {P : Type 0} (f : P → Kept) (r : Option (Bor P)) → option_map (λ p. f p.now) r ≡ option_map f (option_copied r)
@@ -28,6 +34,16 @@ number_copied : (r : Option (Bor (Where Kept))) → option_map_or (λ p. p.now.v
 number_copied None = refl
 number_copied (Some p) = refl
 
+-- a `?` hands on the error that it finds
+same_error : {A E : Type 0} (r : Result A E) (e : E) → IsErr r → IsErrAnd r (λ (x : E). x ≡ e) → r ≡ Err e
+same_error (Ok a) e none same = absurd (false≢true none)
+same_error (Err x) e none same = ap Err same
+
+error_of : {A E : Type 0} (r : Result A E) (d e : E) → r ≡ Err d → r ≡ Err e → d ≡ e
+error_of {A = A} {E = E} r d e one other =
+    let both : ◌≡◌ {A = Result A E} (Err d) (Err e) = sym one ∙ other in
+    cc
+
 pub move_granules-requires-clause-one : goal.move_granules-requires-clause-one
 move_granules-requires-clause-one g c = subst (λ (registry : Registry). IsOf registry c.self.inside.store.migration) (sym c.requires.registry) c.self.invariant.0.one
 
@@ -39,13 +55,21 @@ move_granules-requires-clause-indexed g c =
     let same : option_map (λ (p : Where Kept). p.value) own ≡ Some value = sym (c.are_same-same.ensures.values c.if-not-same.false ∙ passes) in
     indexes_of_it own value same c.args.indexes.now c.requires.indexed
 
+pub keep_left-requires : goal.keep_left-requires
+keep_left-requires g c =
+    let own = c.self.inside.store.migration in
+    let value = c.args.migration.now.value in
+    let passes = by_copied (λ (p : Where Kept). p.value) c.as_ref-last.result ∙ ap (option_map (λ (p : Where Kept). p.value)) (c.as_ref-last.ensures.value ∙ c.migration-last.ensures.pass) in
+    let same : option_map (λ (p : Where Kept). p.value) own ≡ Some value = sym (c.are_same-same.ensures.values c.if-not-same.false ∙ passes) in
+    one_record_of_the_last c.self.inside.store.lazy.last own c.migration-last.ensures.by_pass value same c.args.granules.now c.requires.granules
+
 pub move_granules-requires-clause-granules : goal.move_granules-requires-clause-granules
 move_granules-requires-clause-granules g c =
     let own = c.self.inside.store.migration in
     let value = c.args.migration.now.value in
     let passes = by_copied (λ (p : Where Kept). p.value) c.as_ref-last.result ∙ ap (option_map (λ (p : Where Kept). p.value)) (c.as_ref-last.ensures.value ∙ c.migration-last.ensures.pass) in
     let same : option_map (λ (p : Where Kept). p.value) own ≡ Some value = sym (c.are_same-same.ensures.values c.if-not-same.false ∙ passes) in
-    of_the_last c.self.inside.store.lazy.last own c.migration-last.ensures.by_pass value same c.args.granules.now c.requires.granules
+    of_the_last c.self.inside.store.lazy.last own c.migration-last.ensures.by_pass value same c.args.granules.now c.requires.granules.of_it
 
 pub returns-then-not-same-clause-old : goal.returns-then-not-same-clause-old
 returns-then-not-same-clause-old g c = λ _.
@@ -70,8 +94,8 @@ invariant_of-self g c =
     let value = c.args.migration.now.value in
     let passes = by_copied (λ (p : Where Kept). p.value) c.as_ref-last.result ∙ ap (option_map (λ (p : Where Kept). p.value)) (c.as_ref-last.ensures.value ∙ c.migration-last.ensures.pass) in
     let same : option_map (λ (p : Where Kept). p.value) i.store.migration ≡ Some value = sym (c.are_same-same.ensures.values c.if-not-same.false ∙ passes) in
-    let are : AreGranulesIfAny i.store.lazy.last c.args.granules.now = of_the_last i.store.lazy.last i.store.migration c.migration-last.ensures.by_pass value same c.args.granules.now c.requires.granules in (
-      moved_sound i.script i.retries i.store i.locks i.began.items i.sessions.items i.history i.commits i.transcripts c.self.invariant.0
+    let are : AreGranulesIfAny i.store.lazy.last c.args.granules.now = of_the_last i.store.lazy.last i.store.migration c.migration-last.ensures.by_pass value same c.args.granules.now c.requires.granules.of_it in (
+      moved_sound g.N.Opened.logged i.script i.retries i.store i.locks i.began.items i.sessions.items i.history i.commits i.transcripts c.self.invariant.0
           c.args.granules.now are c.move_granules.new.self c.in-Ok.ensures.ok.state c.in-Ok.ensures.migration,
       c.self.invariant.1,
     )
@@ -79,7 +103,7 @@ invariant_of-self g c =
 pub invariant_of-self-2 : goal.invariant_of-self-2
 invariant_of-self-2 g c =
     let i = c.self.inside in
-    (subst (λ (store : Store). IsSound g.N.Opened.opening g.N.Opened.registry g.N.Opened.script i.script i.retries store i.locks i.began.items i.sessions.items i.history i.commits i.transcripts) (sym c.in-Err.ensures.err) c.self.invariant.0, c.self.invariant.1)
+    (subst (λ (store : Store). IsSound g.N.Opened.opening g.N.Opened.registry g.N.Opened.script g.N.Opened.logged i.script i.retries store i.locks i.began.items i.sessions.items i.history i.commits i.transcripts) (sym c.in-Err.ensures.err) c.self.invariant.0, c.self.invariant.1)
 
 pub returns-in-Ok-clause-moves : goal.returns-in-Ok-clause-moves
 returns-in-Ok-clause-moves g c =
@@ -87,10 +111,10 @@ returns-in-Ok-clause-moves g c =
     let value = c.args.migration.now.value in
     let passes = by_copied (λ (p : Where Kept). p.value) c.as_ref-last.result ∙ ap (option_map (λ (p : Where Kept). p.value)) (c.as_ref-last.ensures.value ∙ c.migration-last.ensures.pass) in
     let same : option_map (λ (p : Where Kept). p.value) i.store.migration ≡ Some value = sym (c.are_same-same.ensures.values c.if-not-same.false ∙ passes) in
-    let are : AreGranulesIfAny i.store.lazy.last c.args.granules.now = of_the_last i.store.lazy.last i.store.migration c.migration-last.ensures.by_pass value same c.args.granules.now c.requires.granules in
-    let next : Machine = seen i.script i.retries c.move_granules.new.self i.locks i.began.items i.sessions.items i.history.items in
+    let are : AreGranulesIfAny i.store.lazy.last c.args.granules.now = of_the_last i.store.lazy.last i.store.migration c.migration-last.ensures.by_pass value same c.args.granules.now c.requires.granules.of_it in
+    let next : Machine = seen g.N.Opened.logged i.script i.retries c.move_granules.new.self i.locks i.began.items i.sessions.items i.history.items in
     subst (λ (m : Machine). Moves m c.args.granules.now next) c.self.view_is
-    (moves i.script i.retries i.store i.locks i.began.items i.sessions.items i.history i.commits i.transcripts c.self.invariant.0
+    (moves g.N.Opened.logged i.script i.retries i.store i.locks i.began.items i.sessions.items i.history i.commits i.transcripts c.self.invariant.0
     c.args.granules.now are c.move_granules.new.self c.in-Ok.ensures.ok.state c.in-Ok.ensures.migration)
 
 pub returns-in-Ok-clause-told : goal.returns-in-Ok-clause-told
@@ -113,4 +137,22 @@ returns-clause-old g c = λ differs.
 pub returns-clause-err : goal.returns-clause-err
 returns-clause-err g c =
     let i = c.self.inside in
-    ap (λ (store : Store). seen i.script i.retries store i.locks i.began.items i.sessions.items i.history.items) c.in-Err.ensures.err ∙ c.self.view_is
+    ap (λ (store : Store). seen g.N.Opened.logged i.script i.retries store i.locks i.began.items i.sessions.items i.history.items) c.in-Err.ensures.err ∙ c.self.view_is
+
+pub returns-in_err-kept-clause-ended : goal.returns-in_err-kept-clause-ended
+returns-in_err-kept-clause-ended g c = λ cause is.
+    let error = c.in_err-kept.field-0.0 in
+    let same : c.from_residual.result ≡ Err error = same_error c.from_residual.result error c.from_residual.ensures.0 c.from_residual.ensures.1 in
+    let ends : ◌≡◌ {A = Result Bool MoveError} (Err error) (Err (Ended cause)) = ap (λ (e : MoveError). Err e) (error_of c.from_residual.result error (Ended cause) same is) in
+    c.in_err-kept.ensures.ended cause ends
+
+pub returns-in-Ok-clause-beside : goal.returns-in-Ok-clause-beside
+returns-in-Ok-clause-beside g c =
+    let lazy = c.self.inside.store.lazy in
+    let next = c.move_granules.new.self.lazy in
+    let kept = c.in_ok-kept.kept in
+    let Answers = g.J.Journal.Answers in
+    subst (λ (m : Machine). IsBeside Answers m.lazy next c.args.journal.now c.keep_left.new.journal) c.self.view_is
+    (moved_beside Answers lazy c.args.granules.now c.args.journal.now c.keep_left.new.journal kept
+    (λ some. c.in_ok-kept.ensures.kept (ap (λ (b : Bool). Ok b) some)) (λ none. c.in_ok-kept.ensures.nothing (ap (λ (b : Bool). Ok b) none))
+    next c.in-Ok.ensures.ok.state (λ none. ap (λ (store : Store). store.lazy) (c.in-Ok.ensures.nothing none)))

@@ -24,9 +24,9 @@ invariant_of-result g c =
     let numbers : length script.sessions < 2 ^ 32 = omega (arith, c.in_ok-next_number.ensures.fits, c.len.ensures) in
     let room : length sessions ≤ vec_capacity c.in_ok-transcripts.transcripts = omega (arith, c.in_ok-transcripts.ensures.exact, c.len-2.ensures, c.in_ok-sessions.sessions.ok.0) in
     let opening : IsOpening c.args.store = record { lazy_state = c.live.ensures.lazy_state; narrow = c.live.ensures.narrow; by_pass = c.migration.ensures.by_pass } in
-    let sound : IsSound g.N.Opened.opening g.N.Opened.registry g.N.Opened.script script c.args.retries c.args.store c.new.result c.new-2.result.items sessions c.new-3.result 0 c.in_ok-transcripts.transcripts =
+    let sound : IsSound g.N.Opened.opening g.N.Opened.registry g.N.Opened.script g.N.Opened.logged script c.args.retries c.args.store c.new.result c.new-2.result.items sessions c.new-3.result 0 c.in_ok-transcripts.transcripts =
     rw (c.new.ensures.empty, c.new-2.ensures.items)
-    (new_is_sound g.N.Opened.opening g.N.Opened.registry g.N.Opened.script c.args.store script c.args.retries sessions c.new-3.result c.in_ok-transcripts.transcripts c.requires.opening opening c.requires.registry c.requires.limits
+    (new_is_sound g.N.Opened.opening g.N.Opened.registry g.N.Opened.script g.N.Opened.logged c.args.store script c.args.retries sessions c.new-3.result c.in_ok-transcripts.transcripts c.requires.opening opening c.requires.registry c.requires.limits
     c.requires.script all c.new-3.ensures.items numbers c.in_ok-transcripts.ensures.items room) in
     let least : IsLeastLeft script.sessions sessions (length sessions) c.least_left-least_left.result =
     subst (λ (ys : List SessionSoFar). IsLeastLeft script.sessions ys (length ys) c.least_left-least_left.result) c.deref.ensures.value
@@ -38,6 +38,6 @@ returns g c =
     let script = c.args.script in
     let sessions = c.in_ok-sessions.sessions.items in
     let all : AreNew script.sessions sessions = subst (λ (ss : List Session). AreNew ss sessions) c.as_slice.ensures c.in_ok-sessions.ensures in
-    let same : seen script c.args.retries c.args.store c.new.result c.new-2.result.items sessions c.new-3.result.items ≡ fresh c.args.store script c.args.retries =
-    rw (c.new.ensures.empty, c.new-2.ensures.items, c.new-3.ensures.items) (seen_new c.args.store script c.args.retries sessions all) in
+    let same : seen g.N.Opened.logged script c.args.retries c.args.store c.new.result c.new-2.result.items sessions c.new-3.result.items ≡ fresh g.N.Opened.logged c.args.store script c.args.retries =
+    rw (c.new.ensures.empty, c.new-2.ensures.items, c.new-3.ensures.items) (seen_new g.N.Opened.logged c.args.store script c.args.retries sessions all) in
     same

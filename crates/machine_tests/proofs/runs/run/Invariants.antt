@@ -1,6 +1,0 @@
-use Rattle.bf_sql.specs.Database.{empty_database}
-use Rattle.machine_tests.proofs.runs.run.Given as goal
-
--- the machine begins with the empty database, a new registry and the script
-abbrev pub ghosts-serve : goal.ghosts-serve
-ghosts-serve g a = record { opening = empty_database; registry = a.registry.now; script = a.script }
