@@ -1,0 +1,9 @@
+pub mod crashing
+pub mod Committed
+pub mod Created
+pub mod Moved
+pub mod Naming
+pub mod Recorded
+pub mod Stating
+pub mod Telling
+pub mod Told

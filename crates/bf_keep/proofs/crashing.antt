@@ -1,0 +1,4 @@
+-- What a crash leaves of a machine beside its log.
+pub mod Changing
+pub mod Growing
+pub mod Beside

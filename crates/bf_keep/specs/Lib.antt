@@ -1,0 +1,4 @@
+pub mod Answers
+pub mod Crashing
+pub mod Records
+pub mod Sayable

@@ -1,0 +1,166 @@
+//! The journal that is a log.
+
+ghost use Rattle.std.specs.Prelude.{◌≡◌, Err, IfOk};
+ghost use Rattle.bf_tree.specs.declared.reply.Cause.TheVariants.{DiskFault};
+ghost use Rattle.bf_log.specs.Append.{disk_of, standing_of};
+ghost use Rattle.bf_log.specs.declared.error.AppendError.{AppendError as Refused};
+ghost use Rattle.bf_sql.specs.migrations.Lazy.{LazyState};
+ghost use Rattle.bf_recover.specs.Steps.{StepsTo};
+ghost use Rattle.bf_keep.specs.Answers.{IsAppended, IsFaultCause, Tells, TellsOf, is_ready, told_as};
+ghost use Rattle.bf_keep.specs.Records.{IsRecordOf};
+
+use crate::changes::{change_of, move_of};
+use bf_base::{Granule, Memory};
+use bf_disk::Disk;
+use bf_journal::{append_change, give_up};
+use bf_log::{AppendError, Log};
+use bf_machine::{Journal, KeepError, Pending};
+use bf_record::{Change, encode};
+use bf_recover::LazyTables;
+use bf_store::Store;
+use bf_tree::Cause;
+use std::alloc::Global;
+use std::marker::PhantomData;
+
+/// The most bytes of a record.
+const LARGEST: u32 = 1 << 30;
+
+/// The most bytes that a log comes to take.
+const LIMIT: u64 = 1 << 36;
+
+/// Keeps each change of a store as a record of a log, which is synced before the change is made. A change costs its
+/// record, and the four calls of the device that an append makes.
+#[derive(Drop)]
+pub struct LogJournal<D: Disk> {
+    alloc: Global,
+    log: Log<D>,
+}
+
+/// The bytes of a change, if it could be made: they make of a state what the change makes of it.
+///
+/// # Errors
+/// Where memory runs out, or ran out before.
+fn payload_of(alloc: Global, change: Result<Change, Memory>) -> Result<Vec<u8>, Memory>
+    ensures { IfOk result (λ payload. (lazy next : LazyState)
+        → IfOk change (λ told. IsRecordOf lazy told next) → StepsTo lazy payload.items next) }
+{
+    let change = change?;
+    encode(alloc, &change)
+}
+
+impl<D: Disk> LogJournal<D> {
+    /// The journal that goes on with a log. Takes no memory.
+    pub fn of(alloc: Global, log: Log<D>) -> LogJournal<D>
+        ensures { result.log ≡ log }
+    {
+        LogJournal { alloc, log }
+    }
+
+    /// The log's disk, given back.
+    pub fn into_disk(self) -> D
+        ensures { result ≡ disk_of self.log }
+    {
+        self.log.into_disk()
+    }
+
+    /// How many calls of the disk have failed, or 2^64 - 1 if it was more.
+    pub fn faults(&self) -> u64
+        ensures { result ≡ D.fault_count (disk_of self.now.log) }
+    {
+        self.log.disk().faults()
+    }
+
+    /// Whether it takes changes still: neither has its device failed, nor was it given up.
+    pub fn is_ready(&self) -> bool
+        ensures { result ≡ is_ready (standing_of self.now.log) }
+    {
+        !matches!(
+            self.log.refusal(0, LARGEST, LIMIT),
+            Some(AppendError::Memory | AppendError::Halted(_))
+        )
+    }
+
+    /// Why a group ends whose need could not move since the device failed.
+    fn fault_cause(&self) -> Cause
+        ensures fault { IsFaultCause result }
+        ensures tells { Tells self.now.log DiskFault → Tells self.now.log result }
+    {
+        match self.log.halted() {
+            Some(faults) => Cause::Halted(faults),
+            None => Cause::DiskFault,
+        }
+    }
+
+    /// Appends the record of a change, if it could be made.
+    ///
+    /// # Errors
+    /// Those of [`append_change`], and `Memory` where there was none for the record.
+    fn append(&mut self, change: Result<Change, Memory>) -> Result<(), AppendError>
+        ensures appended { (lazy next : LazyState) → IfOk change (λ told. IsRecordOf lazy told next)
+            → IsAppended lazy next self.old.log self.new.log result }
+        ensures tells { (error : Refused) → result ≡ Err error
+            → TellsOf self.new.log error }
+    {
+        let Ok(payload) = payload_of(self.alloc, change) else {
+            return Err(AppendError::Memory);
+        };
+        let appended = append_change(
+            &mut self.log,
+            payload.as_slice(),
+            LARGEST,
+            LIMIT,
+            PhantomData::<LazyTables>,
+        );
+        match appended {
+            Ok(_) => Ok(()),
+            Err(error) => Err(error),
+        }
+    }
+}
+
+/// Why a group ends whose change was not kept.
+fn keep_error(error: AppendError) -> KeepError
+    ensures { result ≡ told_as error }
+{
+    match error {
+        AppendError::Halted(faults) => KeepError::Ended(Cause::Halted(faults)),
+        AppendError::TooLarge(size) => KeepError::Ended(Cause::TooLarge(size)),
+        AppendError::LogFull(end, need) => KeepError::Ended(Cause::LogFull(end, need)),
+        AppendError::DiskFault => KeepError::Ended(Cause::DiskFault),
+        AppendError::Memory => KeepError::Memory,
+    }
+}
+
+impl<D: Disk> Journal for LogJournal<D> {
+    ghost use Rattle.std.specs.Prelude.{true};
+    ghost use Rattle.bf_keep.specs.Answers.{IsKept, Tells as HasTold};
+    ghost use Rattle.bf_keep.specs.Sayable.{IsSayable};
+
+    ghost ends = { true };
+
+    ghost Answers = { λ lazy next old new answer. IsKept lazy next old.log new.log answer };
+
+    ghost Tells = { λ journal cause. HasTold journal.log cause };
+
+    ghost Says = { IsSayable };
+
+    fn keep_group(&mut self, store: &Store, pending: &Pending) -> Result<(), KeepError> {
+        match self.append(change_of(self.alloc, store, pending)) {
+            Ok(()) => Ok(()),
+            Err(error) => Err(keep_error(error)),
+        }
+    }
+
+    /// A device that fails at a move has halted the log, and no group is told that it failed at its commit.
+    fn keep_moves(&mut self, store: &Store, granules: &[Granule]) -> Result<(), KeepError> {
+        match self.append(move_of(self.alloc, store, granules)) {
+            Ok(()) => Ok(()),
+            Err(AppendError::DiskFault) => Err(KeepError::Ended(self.fault_cause())),
+            Err(error) => Err(keep_error(error)),
+        }
+    }
+
+    fn give_up(&mut self) {
+        give_up(&mut self.log, PhantomData::<LazyTables>);
+    }
+}
