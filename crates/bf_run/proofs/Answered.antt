@@ -1,5 +1,6 @@
 -- The answers of the top call, with bytes that are those of the source where it tells them.
-use Rattle.std.proofs.Common.{◌≡◌, ℕ, ◌+◌, ◌<◌, ◌≤◌, true, false, List, [], ◌++◌, length, codes, Option, Some, None, Result, Ok, Err, IfOk, inl, inr, refl, sym, ap, subst, ◌∙◌, arith, length-append}
+use Rattle.std.proofs.Common.{◌≡◌, ℕ, ◌+◌, ◌<◌, ◌≤◌, List, [], ◌++◌, length, codes, Option, Some, None, Result, Ok, Err, IfOk, inl, inr, refl, sym, ap, subst, ◌∙◌, arith, length-append}
+use Rattle.std.specs.Global.{Vec}
 use Rattle.std.specs.Io.KnownBytes.{IsAtEnd}
 use Rattle.bf_io.specs.Causes.{Rose}
 use Rattle.bf_io.specs.Whole.{IfTold, ReadPast}
@@ -9,11 +10,14 @@ use Rattle.bf_base.specs.Limits.{longest_script}
 use Rattle.bf_lex.specs.declared.fault.ScriptKind.TheVariants.{ScriptTooLong}
 use Rattle.bf_text.specs.Replies.{newline}
 use Rattle.bf_run.specs.declared.status.Status.{Status}
-use Rattle.bf_run.specs.declared.status.Status.TheVariants.{Done, Usage, Script as ScriptError, ReadFault, WriteFault, DiskFault, NotEmpty, Memory}
+use Rattle.bf_run.specs.declared.status.Status.TheVariants.{Done, Usage, Script as ScriptError, ReadFault, WriteFault, DiskFault, NotALog, NotEmpty, Memory}
 use Rattle.bf_run.specs.Creating.{Shelving}
-use Rattle.bf_run.specs.Outcome.{Stream, IsCalm, IsUnread, ComesOfFile, IsAnswer, IsTextOf, fault_text}
-use Rattle.bf_run.specs.Top.{IsAnswerTo, IsInputAnswer}
-use Rattle.bf_run.specs.Words.{Asked, creating, trying}
+use Rattle.bf_parse.specs.Scripts.{IsScriptText}
+use Rattle.bf_sql.specs.Database.{Database}
+use Rattle.bf_tree.specs.declared.script.Script.{Script}
+use Rattle.bf_run.specs.Outcome.{Ground, HoldsAsked, Stream, IsCalm, IsUnread, IsUntouched, ComesOfFile, ComesOfInput, ComesOfLog, ComesOfRun, IsAnswer, IsTextOf, fault_text}
+use Rattle.bf_run.specs.Top.{HasRead, IsInputAnswer, IsNoScript, IsScriptOf, IsTextOfRun}
+use Rattle.bf_run.specs.Words.{Asked, creating, running, trying}
 
 -- what follows of two facts of a value, if there is one
 pub of_both : {X E : Type 0} (r : Result X E) (P Q R : X → Type 0) → ((x : X) → P x → Q x → R x) → IfOk r P → IfOk r Q → IfOk r R
@@ -43,32 +47,79 @@ pub no_fault : {X : Type 0} (r : Result X ReadError) (e : ReadError) → r ≡ E
 no_fault r e is too_long fault = cc
 
 module _ (input : Stream) where
-  pub read_fault : (text : List ℕ) → Rose input.faults input.faults_after → text ≡ codes "read fault" ++ newline
-      → IsInputAnswer input ReadFault text
-  read_fault text rose spells =
-      record { bytes = bytes_of input.bytes; are_told = told_of input.bytes; causes = rose; is_text = spells }
+  -- a source that failed
+  pub not_read : (told : Status × Vec ℕ) → told.0 ≡ ReadFault → told.1.items ≡ codes "read fault" ++ newline → Rose input.faults input.faults_after
+      → HasRead input (Err told)
+  not_read told same spells rose = record {
+    bytes = bytes_of input.bytes;
+    are_told = told_of input.bytes;
+    is_read = subst (λ (s : Status). IsNoScript input (bytes_of input.bytes) s told.1.items) (sym same) (rose, spells);
+  }
 
-  pub too_long : (status : Status) (text : List ℕ) → status ≡ ScriptError (record { at = longest_script; kind = ScriptTooLong })
-      → IsCalm input → ReadPast longest_script input.bytes input.bytes_after
-      → text ≡ fault_text (record { at = longest_script; kind = ScriptTooLong }) → IsInputAnswer input status text
-  too_long status text same calm past spells =
+  -- one with more bytes than a script
+  pub too_long : (told : Status × Vec ℕ) → told.0 ≡ ScriptError (record { at = longest_script; kind = ScriptTooLong })
+      → told.1.items ≡ fault_text (record { at = longest_script; kind = ScriptTooLong })
+      → IsCalm input → ReadPast longest_script input.bytes input.bytes_after → HasRead input (Err told)
+  too_long told same spells calm past =
       let long = more_than longest_script input.bytes input.bytes_after past in
-      subst (λ (s : Status). IsInputAnswer input s text) (sym same)
-      (record { bytes = long.0; are_told = long.1; causes = (calm, inl (long.2, refl), inr past); is_text = spells })
+      record {
+        bytes = long.0;
+        are_told = long.1;
+        is_read = subst (λ (s : Status). IsNoScript input long.0 s told.1.items) (sym same) ((calm, inl (long.2, refl), inr past), spells);
+      }
 
--- the answer to the bytes that were read is the answer to the source that gave them
+-- what the bytes are that were read is what the source is that gave them
 module _ (input : Stream) (read : List ℕ) (calm : IsCalm input) (told : IfTold input.bytes (λ all. read ≡ all))
     (at_end : IsAtEnd input.bytes_after) (short : length read ≤ longest_script) where
-  pub answered : (status : Status) (text : List ℕ) → IsAnswerTo read status text → IsInputAnswer input status text
-  answered (ScriptError fault) text a =
-      record { bytes = read; are_told = told; causes = (calm, a.0, inl (at_end, short)); is_text = a.1 }
-  answered Done text a = record { bytes = read; are_told = told; causes = (calm, a.0, at_end); is_text = a.1 }
-  answered Usage text a = elim a [ ]
-  answered ReadFault text a = elim a [ ]
-  answered WriteFault text a = elim a [ ]
-  answered DiskFault text a = elim a [ ]
-  answered (NotEmpty n) text a = elim a [ ]
-  answered Memory text a = elim a [ ]
+  pub read_whole : (r : Result Script (Status × Vec ℕ)) → IsScriptOf read r → HasRead input r
+  read_whole (Ok script) is = record { bytes = read; are_told = told; is_read = ((calm, (script, is), at_end), is) }
+  read_whole (Err why) is = record {
+    bytes = read;
+    are_told = told;
+    is_read = subst (λ (s : Status). IsNoScript input read s why.1.items) (sym is.2) ((calm, is.1, inl (at_end, short)), is.3);
+  }
+
+-- where there is no script the status and its text answer any call that asked for one
+module _ (input : Stream) (bytes : List ℕ) where
+  pub no_script : (asks : Option Asked) (Holds : Ground) (status : Status) (text : List ℕ) → IsNoScript input bytes status text
+      → ComesOfInput input bytes status × IsTextOf asks Holds bytes status text
+  no_script asks Holds (ScriptError fault) text is = is
+  no_script asks Holds ReadFault text is = is
+  no_script asks Holds Done text is = absurd is
+  no_script asks Holds Usage text is = absurd is
+  no_script asks Holds WriteFault text is = absurd is
+  no_script asks Holds DiskFault text is = absurd is
+  no_script asks Holds (NotALog at) text is = absurd is
+  no_script asks Holds (NotEmpty n) text is = absurd is
+  no_script asks Holds Memory text is = absurd is
+
+  -- of a run over a log, of which the shelf was not asked
+  pub none_run : {V : Type 0} (path : List ℕ) (shelf : Shelving V) (status : Status) (text : List ℕ) → IsUntouched shelf → IsNoScript input bytes status text
+      → ComesOfRun path input bytes shelf status
+  none_run path shelf (ScriptError fault) text untouched is = (is.0, untouched)
+  none_run path shelf ReadFault text untouched is = (is.0, untouched)
+  none_run path shelf Done text untouched is = absurd is
+  none_run path shelf Usage text untouched is = absurd is
+  none_run path shelf WriteFault text untouched is = absurd is
+  none_run path shelf DiskFault text untouched is = absurd is
+  none_run path shelf (NotALog at) text untouched is = absurd is
+  none_run path shelf (NotEmpty n) text untouched is = absurd is
+  none_run path shelf Memory text untouched is = absurd is
+
+  -- and of one that was run
+  module _ {V : Type 0} (path : List ℕ) (shelf : Shelving V) (script : Script) (comes : ComesOfInput input bytes Done) (reads : IsScriptText bytes (Ok script)) where
+    pub ran_over : (status : Status) (text : List ℕ) → ComesOfLog path shelf status → IsTextOfRun (HoldsAsked (Some (running path)) shelf) script status text
+        → ComesOfRun path input bytes shelf status × IsTextOf (Some (running path)) (HoldsAsked (Some (running path)) shelf) bytes status text
+    ran_over Done text log told = ((comes, log), (script, reads, told))
+    ran_over DiskFault text log (inl fault) = ((comes, log), inl fault)
+    ran_over DiskFault text log (inr told) = ((comes, log), inr (script, reads, told))
+    ran_over (NotALog at) text log told = ((comes, log), told)
+    ran_over Usage text log told = absurd log
+    ran_over (ScriptError fault) text log told = absurd log
+    ran_over ReadFault text log told = absurd log
+    ran_over WriteFault text log told = absurd log
+    ran_over (NotEmpty n) text log told = absurd log
+    ran_over Memory text log told = absurd told
 
 -- the answers to what the words ask
 module _ {V : Type 0} (input : Stream) (shelf : Shelving V) where
@@ -85,8 +136,28 @@ module _ {V : Type 0} (input : Stream) (shelf : Shelving V) where
       subst (λ (a : Option Asked). IsAnswer a input shelf status text) try
       (record { bytes = given.bytes; are_told = given.are_told; causes = given.causes; is_text = given.is_text })
 
+  -- a run over a log, of a script or of none
+  pub of_run : (path : List ℕ) (script : Script) (status : Status) (text : List ℕ) → HasRead input (Ok script) → ComesOfLog path shelf status
+      → IsTextOfRun (HoldsAsked (Some (running path)) shelf) script status text → IsAnswer (Some (running path)) input shelf status text
+  of_run path script status text read log told =
+      let both = ran_over input read.bytes path shelf script read.is_read.0 read.is_read.1 status text log told in
+      record { bytes = read.bytes; are_told = read.are_told; causes = both.0; is_text = both.1 }
+
+  pub of_none_run : (path : List ℕ) (told : Status × Vec ℕ) → HasRead input (Err told) → IsUntouched shelf
+      → IsAnswer (Some (running path)) input shelf told.0 told.1.items
+  of_none_run path told read untouched = record {
+    bytes = read.bytes;
+    are_told = read.are_told;
+    causes = none_run input read.bytes path shelf told.0 told.1.items untouched read.is_read;
+    is_text = (no_script input read.bytes (Some (running path)) (HoldsAsked (Some (running path)) shelf) told.0 told.1.items read.is_read).1;
+  }
+
+  pub of_running : (asks : Option Asked) (path : List ℕ) (status : Status) (text : List ℕ) → Some (running path) ≡ asks
+      → IsAnswer (Some (running path)) input shelf status text → IsAnswer asks input shelf status text
+  of_running asks path status text run given = subst (λ (a : Option Asked). IsAnswer a input shelf status text) run given
+
   pub of_file : (asks : Option Asked) (path : List ℕ) (status : Status) (text : List ℕ) → Some (creating path) ≡ asks → IsUnread input
-      → ComesOfFile path shelf status → ((bytes : List ℕ) → IsTextOf (Some (creating path)) bytes status text)
+      → ComesOfFile path shelf status → ((bytes : List ℕ) → IsTextOf (Some (creating path)) (λ status script start history. ⊥) bytes status text)
       → IsAnswer asks input shelf status text
   of_file asks path status text create unread causes spells =
       subst (λ (a : Option Asked). IsAnswer a input shelf status text) create

@@ -1,5 +1,10 @@
 pub mod Answered
+pub mod Kept
 pub mod Migrates
 pub mod NewLogs
 pub mod Parsed
+pub mod Running
+pub mod Sayable
+pub mod Served
 pub mod one
+pub mod saying

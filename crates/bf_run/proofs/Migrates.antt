@@ -41,7 +41,7 @@ words_split : (steps front back : List Step) → steps ≡ front ++ back → wor
 words_split steps front back e = rw e (words_parts front back)
 
 -- one more at the end of a list whose items all are so
-all_one_more : {X : Type 0} (P : X → Type 0) (xs : List X) (x : X) → AllByRecursion P xs → P x → AllByRecursion P (xs ++ x ∷ [])
+pub all_one_more : {X : Type 0} (P : X → Type 0) (xs : List X) (x : X) → AllByRecursion P xs → P x → AllByRecursion P (xs ++ x ∷ [])
 all_one_more P [] x all one = (one, tt)
 all_one_more P (y ∷ xs) x all one = (all.0, all_one_more P xs x all.1 one)
 
@@ -121,7 +121,7 @@ arms_one_more [] t = omega (arith, length-append t.arms [])
 arms_one_more (x ∷ ts) t = omega (arith, length-append x.arms (arms_of (ts ++ t ∷ [])), length-append x.arms (arms_of ts), arms_one_more ts t)
 
 -- a target within the limits is at most the eighth
-target_within : (n : ℕ) → is_none (fault_at (TargetMark n)) ≡ true → n ≤ 8
+pub target_within : (n : ℕ) → is_none (fault_at (TargetMark n)) ≡ true → n ≤ 8
 target_within n h = grind (arith, nat_tests)
 
 small_one_more : (ts : List Target) (n k : ℕ) (t : Target) (steps : List Step) → AreSmall ts n → IsSmall t steps → length ts < 8

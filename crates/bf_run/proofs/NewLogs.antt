@@ -1,11 +1,12 @@
 -- What becomes of a file that a shelf gives, in which a log is made, and that is put back.
-use Rattle.std.proofs.Common.{◌≡◌, ◌≢◌, ◌⊎◌, inl, inr, ℕ, ◌+◌, ◌-◌, ◌<◌, ◌≤◌, min, Bool, true, false, if◌then◌else◌, nat_lt, List, [], length, Option, None, Some, Result, Ok, Err, OnOk, refl, sym, ap, subst, ◌∙◌, arith}
-use Rattle.std.specs.Prelude.{⊤}
+use Rattle.std.proofs.Common.{◌≡◌, ◌⊎◌, inl, inr, ℕ, ◌+◌, ◌-◌, ◌<◌, ◌≤◌, min, Bool, true, false, if◌then◌else◌, nat_lt, List, [], length, Option, None, Some, Result, Ok, Err, OnOk, refl, sym, ap, subst, ◌∙◌, arith}
 use Rattle.std.proofs.lemmas.Option.{same_Some}
-use Rattle.bf_io.specs.Causes.{last_count}
+use Rattle.std.proofs.lemmas.Bool.{cases_Bool}
+use Rattle.std.proofs.lemmas.Bool.Decides.{nat_tests}
+use Rattle.bf_io.specs.Causes.{Rose, last_count}
 use Rattle.bf_io.specs.Whole.{IfTold}
 use Rattle.bf_disk.specs.Images.{Only, OnlyRead}
-use Rattle.bf_disk.specs.Shelves.{ByPath, Puts, PutsWhereTold, IsHeldOrEmpty, GivesHeld, with_rises}
+use Rattle.bf_disk.specs.Shelves.{ByPath, PutsWhereTold, IsHeldOrEmpty, GivesHeld, with_rises}
 use Rattle.bf_log.specs.Errors.{CountsFaults, is_create_fault}
 use Rattle.bf_log.specs.Format.{empty_log}
 use Rattle.bf_log.specs.declared.error.CreateError.{CreateError}
@@ -20,20 +21,34 @@ told_none : (told : Option (List ℕ)) (file : List ℕ) → told ≡ None → t
 told_none told file none some = cc
 
 -- of a disk whose own count stayed, a shelf counts nothing, or its count goes to its last value
-stays_or_last : (b : Bool) (count lent : ℕ) → count ≤ last_count
-    → (min (count + (if b then lent - lent else last_count)) last_count ≡ count) ⊎ (min (count + (if b then lent - lent else last_count)) last_count ≡ last_count)
-stays_or_last true count lent le = inl (omega arith)
-stays_or_last false count lent le = inr (omega arith)
+stays_or_last : (b : Bool) (count lent now : ℕ) → count ≤ last_count → now ≤ lent
+    → (min (count + (if b then now - lent else last_count)) last_count ≡ count) ⊎ (min (count + (if b then now - lent else last_count)) last_count ≡ last_count)
+stays_or_last true count lent now le stays = inl (omega (arith, le, stays))
+stays_or_last false count lent now le stays = inr (omega arith)
 
-pub counted_none : (before mid lent now after : ℕ) (taken : Option ℕ) → mid ≡ before → mid ≤ last_count → taken ≡ Some lent → now ≡ lent
+pub counted_none : (before mid lent now after : ℕ) (taken : Option ℕ) → mid ≡ before → mid ≤ last_count → taken ≡ Some lent → now ≤ lent
     → after ≡ with_rises mid taken now → (after ≡ before) ⊎ (after ≡ last_count)
 counted_none before mid lent now after taken same le given stays counted =
-    let rises : after ≡ with_rises mid (Some lent) lent =
-    counted ∙ ap (λ (was : Option ℕ). with_rises mid was now) given ∙ ap (λ (n : ℕ). with_rises mid (Some lent) n) stays in
-    elim (stays_or_last (nat_lt lent last_count) mid lent le) [ inl e ↦ inl (rises ∙ e ∙ same) | inr e ↦ inr (rises ∙ e) ]
+    let rises : after ≡ with_rises mid (Some lent) now = counted ∙ ap (λ (was : Option ℕ). with_rises mid was now) given in
+    elim (stays_or_last (nat_lt now last_count) mid lent now le stays) [ inl e ↦ inl (rises ∙ e ∙ same) | inr e ↦ inr (rises ∙ e) ]
+
+-- of one whose own count rose, the count rises
+pub counted_one : (before mid lent now after : ℕ) (taken : Option ℕ) → mid ≡ before → taken ≡ Some lent → Rose lent now
+    → after ≡ with_rises mid taken now → Rose before after
+counted_one before mid lent now after taken same given rose counted =
+    let rises : after ≡ with_rises mid (Some lent) now = counted ∙ ap (λ (was : Option ℕ). with_rises mid was now) given in
+    elim (cases_Bool (nat_lt now last_count)) as (λ _. Rose before after) [
+      | inl below ↦
+          let less : now < last_count = grind (arith, nat_tests, below) in
+          let is : with_rises mid (Some lent) now ≡ min (mid + (now - lent)) last_count = rw below refl in
+          omega (arith, less, rose, rises, is, same)
+      | inr last ↦
+          let is : with_rises mid (Some lent) now ≡ min (mid + last_count) last_count = rw last refl in
+          omega (arith, rises, is, same)
+    ]
 
 -- what holds of a table before and after, from what holds under a path whose disk was given, and then put back
-where_held : {V : Type 0} (seen : V → Option (List ℕ)) (may_leave : V → List ℕ → Type 0) (path : List ℕ) (disk now : V)
+pub where_held : {V : Type 0} (seen : V → Option (List ℕ)) (may_leave : V → List ℕ → Type 0) (path : List ℕ) (disk now : V)
     (R : Option V → Option V → Type 0) (old mid new : Option (ByPath V)) → GivesHeld seen may_leave old path disk
     → PutsWhereTold path None old mid → PutsWhereTold path (Some now) mid new
     → ((was : Option V) → IsHeldOrEmpty seen may_leave was disk → R was (Some now))

@@ -86,7 +86,7 @@ pub within_split : (steps front back : List Step) → steps ≡ front ++ back �
 within_split steps front back e h = within_parts front back (rw e at h)
 
 -- a part within the limits is at most the sixteenth
-part_within : (n : ℕ) → is_none (fault_at (Part n)) ≡ true → n ≤ 16
+pub part_within : (n : ℕ) → is_none (fault_at (Part n)) ≡ true → n ≤ 16
 part_within n h = grind (arith, nat_tests)
 
 -- a list within the limits is no longer than a table may be wide

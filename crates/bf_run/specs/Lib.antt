@@ -1,4 +1,6 @@
 pub mod Creating
+pub mod Keeping
 pub mod Outcome
+pub mod Running
 pub mod Top
 pub mod Words

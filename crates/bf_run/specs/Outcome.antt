@@ -14,10 +14,14 @@ use Rattle.bf_tree.specs.declared.history.Sweep.{Sweep}
 use Rattle.bf_text.specs.Replies.{newline, numbered}
 use Rattle.bf_text.specs.Report.{report_text}
 use Rattle.bf_run.specs.declared.status.Status.{Status}
-use Rattle.bf_run.specs.declared.status.Status.TheVariants.{Done, Usage, Script as ScriptError, ReadFault, WriteFault, DiskFault, NotEmpty, Memory}
-use Rattle.bf_run.specs.Creating.{Shelving, Makes, Refuses, CountsOne, Spares}
-use Rattle.bf_run.specs.Words.{Asked, creating, trying, asked, IfCreating}
+use Rattle.bf_run.specs.declared.status.Status.TheVariants.{Done, Usage, Script as ScriptError, ReadFault, WriteFault, DiskFault, NotALog, NotEmpty, Memory}
+use Rattle.bf_run.specs.Creating.{Shelving, Makes, Refuses, CountsNone, CountsOne, Spares}
+use Rattle.bf_run.specs.Keeping.{KeepsLog}
+use Rattle.bf_run.specs.Running.{KeepsOthers, Opens, RefusesLog}
+use Rattle.bf_run.specs.Words.{Asked, creating, running, trying, asked, IfCreating, IfRunning}
 use Rattle.bf_machine.specs.InOrder.{IsRunInOrder}
+use Rattle.bf_machine.specs.RunOver.{IsRunOver}
+use Rattle.bf_sql.specs.Database.{Database}
 
 -- STREAM: the bytes that a source has left, or that a sink took, where they are told, and its count of faults, each
 -- before and after a call
@@ -45,6 +49,24 @@ pub record IsReport (bytes text : List ℕ) : Type 0 where
   pub is_run : IsRunInOrder script transcripts history sweep
   pub report_written : text ≡ report_text transcripts history None sweep
 
+-- GROUND: what holds of a run over a log, for its status: of its script, of the database that it begins with and of its history
+abbrev pub Ground : Type 1
+Ground = Status → Script → Database → List Entry → Type 0
+
+-- the text is the report of a run of a script, of whose begin and history this holds
+pub record IsRunTold (Holds : Database → List Entry → Type 0) (script : Script) (text : List ℕ) : Type 0 where
+  pub start : Database
+  pub transcripts : List (List Reply)
+  pub history : List Entry
+  pub sweep : Sweep
+  pub holds : Holds start history
+  pub is_run : IsRunOver start script transcripts history sweep
+  pub report_written : text ≡ report_text transcripts history None sweep
+
+-- and the script is the one that the bytes are
+abbrev pub IsRunReport : (Script → Database → List Entry → Type 0) → List ℕ → List ℕ → Type 0
+IsRunReport Holds bytes text = (script : Script) × IsScriptText bytes (Ok script) × IsRunTold (Holds script) script text
+
 -- the text is a script; each one is served
 abbrev pub IsScript : List ℕ → Type 0
 IsScript bytes = (script : Script) × IsScriptText bytes (Ok script)
@@ -69,6 +91,25 @@ ComesOfInput input bytes ReadFault = Rose input.faults input.faults_after
 ComesOfInput input bytes Memory = ⊤
 ComesOfInput input bytes other = ⊥
 
+-- the shelf is as it was
+abbrev pub IsUntouched : {V : Type 0} → Shelving V → Type 0
+IsUntouched shelf = (shelf.held_after ≡ shelf.held) × (shelf.faults_after ≡ shelf.faults)
+
+-- when a status comes of the log under a path that a script is run over
+abbrev pub ComesOfLog : {V : Type 0} → List ℕ → Shelving V → Status → Type 0
+ComesOfLog path shelf Done = CountsNone shelf × ((start : Database) × Opens shelf path start)
+ComesOfLog path shelf DiskFault = CountsOne shelf
+ComesOfLog path shelf (NotALog at) = RefusesLog shelf path at
+ComesOfLog path shelf Memory = ⊤
+ComesOfLog path shelf other = ⊥
+
+-- when a status comes of the input that is asked to be run over the log under a path, of its bytes, and of the log
+abbrev pub ComesOfRun : {V : Type 0} → List ℕ → Stream → List ℕ → Shelving V → Status → Type 0
+ComesOfRun path input bytes shelf (ScriptError fault) = ComesOfInput input bytes (ScriptError fault) × IsUntouched shelf
+ComesOfRun path input bytes shelf ReadFault = ComesOfInput input bytes ReadFault × IsUntouched shelf
+ComesOfRun path input bytes shelf Memory = ⊤
+ComesOfRun path input bytes shelf status = ComesOfInput input bytes Done × ComesOfLog path shelf status
+
 -- when a status comes of the file that is asked to be made a log
 abbrev pub ComesOfFile : {V : Type 0} → List ℕ → Shelving V → Status → Type 0
 ComesOfFile path shelf Done = Makes shelf path
@@ -78,13 +119,14 @@ ComesOfFile path shelf Memory = ⊤
 ComesOfFile path shelf other = ⊥
 
 -- CAUSES: when a status comes, for what the words ask, the source and its bytes, and the shelf, before anything is
--- written. No two of Usage, Script with its fault, Done and NotEmpty with its number can come for the same bytes and
--- the same file, since a text has one reading; so where source and shelf tell theirs each of them comes exactly there,
--- but for faults and want of memory
+-- written. No two of Usage, Script with its fault, Done, and NotEmpty and NotALog with their numbers can come for the
+-- same bytes and the same file, since a text and a log have one reading; so where source and shelf tell theirs each of
+-- them comes exactly there, but for faults and want of memory
 abbrev pub Comes : {V : Type 0} → Option Asked → Stream → List ℕ → Shelving V → Status → Type 0
 Comes None input bytes shelf status = IsUnread input × ComesOfWords status
 Comes (Some trying) input bytes shelf status = ComesOfInput input bytes status
 Comes (Some (creating path)) input bytes shelf status = IsUnread input × ComesOfFile path shelf status
+Comes (Some (running path)) input bytes shelf status = ComesOfRun path input bytes shelf status
 
 -- a status that comes of the words, the bytes and the file, and not of a fault or of want of memory
 abbrev pub IsDetermined : Status → Type 0
@@ -102,22 +144,42 @@ fault_text fault = numbered (codes "script error at ") fault.at ++ codes ": " ++
 abbrev pub not_empty_text : ℕ → List ℕ
 not_empty_text n = numbered (codes "not empty: ") n ++ codes " bytes" ++ newline
 
--- the text of Done, for what was asked and the bytes of the source
-abbrev pub IsDoneText : Option Asked → List ℕ → List ℕ → Type 0
-IsDoneText None bytes text = ⊥
-IsDoneText (Some trying) bytes text = IsReport bytes text
-IsDoneText (Some (creating path)) bytes text = text ≡ codes "created" ++ newline
+-- what refuses a log, for the offset of the first thing that is wrong
+abbrev pub not_a_log_text : ℕ → List ℕ
+not_a_log_text at = numbered (codes "not a log at ") at ++ newline
+
+-- the text of a failed disk where no run was told of
+abbrev pub fault_of_disk : List ℕ
+fault_of_disk = codes "disk fault" ++ newline
+
+-- the text of Done, for what was asked, what holds of a run over a log, and the bytes of the source
+abbrev pub IsDoneText : Option Asked → Ground → List ℕ → List ℕ → Type 0
+IsDoneText None Holds bytes text = ⊥
+IsDoneText (Some trying) Holds bytes text = IsReport bytes text
+IsDoneText (Some (creating path)) Holds bytes text = text ≡ codes "created" ++ newline
+IsDoneText (Some (running path)) Holds bytes text = IsRunReport (Holds Done) bytes text
+
+-- the text of DiskFault: the report of a run in whose course the disk failed, or that it failed before
+abbrev pub IsFaultText : Option Asked → Ground → List ℕ → List ℕ → Type 0
+IsFaultText (Some (running path)) Holds bytes text = (text ≡ fault_of_disk) ⊎ IsRunReport (Holds DiskFault) bytes text
+IsFaultText other Holds bytes text = text ≡ fault_of_disk
 
 -- the text of a status that has one
-abbrev pub IsTextOf : Option Asked → List ℕ → Status → List ℕ → Type 0
-IsTextOf asks bytes Usage text = text ≡ codes "usage error" ++ newline
-IsTextOf asks bytes (ScriptError fault) text = text ≡ fault_text fault
-IsTextOf asks bytes Done text = IsDoneText asks bytes text
-IsTextOf asks bytes ReadFault text = text ≡ codes "read fault" ++ newline
-IsTextOf asks bytes DiskFault text = text ≡ codes "disk fault" ++ newline
-IsTextOf asks bytes (NotEmpty n) text = text ≡ not_empty_text n
-IsTextOf asks bytes WriteFault text = ⊥
-IsTextOf asks bytes Memory text = ⊥
+abbrev pub IsTextOf : Option Asked → Ground → List ℕ → Status → List ℕ → Type 0
+IsTextOf asks Holds bytes Usage text = text ≡ codes "usage error" ++ newline
+IsTextOf asks Holds bytes (ScriptError fault) text = text ≡ fault_text fault
+IsTextOf asks Holds bytes Done text = IsDoneText asks Holds bytes text
+IsTextOf asks Holds bytes ReadFault text = text ≡ codes "read fault" ++ newline
+IsTextOf asks Holds bytes DiskFault text = IsFaultText asks Holds bytes text
+IsTextOf asks Holds bytes (NotALog at) text = text ≡ not_a_log_text at
+IsTextOf asks Holds bytes (NotEmpty n) text = text ≡ not_empty_text n
+IsTextOf asks Holds bytes WriteFault text = ⊥
+IsTextOf asks Holds bytes Memory text = ⊥
+
+-- a run over the log that is asked for begins with a database that this opens to, and a crash leaves a prefix of what it commits
+abbrev pub HoldsAsked : {V : Type 0} → Option Asked → Shelving V → Ground
+HoldsAsked (Some (running path)) shelf status script start history = Opens shelf path start × KeepsLog shelf path status script start history
+HoldsAsked other shelf status script start history = ⊥
 
 module _ {V : Type 0} (asks : Option Asked) (input : Stream) (shelf : Shelving V) where
   -- a status that comes, with its text, both of the same bytes: of those that the source tells, or of some
@@ -125,7 +187,7 @@ module _ {V : Type 0} (asks : Option Asked) (input : Stream) (shelf : Shelving V
     pub bytes : List ℕ
     pub are_told : IfTold input.bytes (λ told. bytes ≡ told)
     pub causes : Comes asks input bytes shelf status
-    pub is_text : IsTextOf asks bytes status text
+    pub is_text : IsTextOf asks (HoldsAsked asks shelf) bytes status text
 
   -- the sink took the whole text of an answer, and no write failed
   pub record AnswersWhole (output : Stream) (status : Status) : Type 0 where
@@ -151,12 +213,15 @@ module _ {V : Type 0} (asks : Option Asked) (input : Stream) (shelf : Shelving V
   IsOutcome output (ScriptError fault) = AnswersWhole output (ScriptError fault)
   IsOutcome output ReadFault = AnswersWhole output ReadFault
   IsOutcome output DiskFault = AnswersWhole output DiskFault
+  IsOutcome output (NotALog at) = AnswersWhole output (NotALog at)
   IsOutcome output (NotEmpty n) = AnswersWhole output (NotEmpty n)
 
--- how a call ends for its words: with an outcome; and whatever that is, files that have bytes are spared
+-- how a call ends for its words: with an outcome; and whatever that is, files that have bytes are spared where a log is to be
+-- made, and files that were not asked for where a script is run over one
 pub record Ends {V : Type 0} (words : List (List ℕ)) (input output : Stream) (shelf : Shelving V) (status : Status) : Type 0 where
   pub outcome : IsOutcome (asked words) input shelf output status
   pub spares : IfCreating (asked words) (λ path. Spares shelf path)
+  pub others : IfRunning (asked words) (λ path. KeepsOthers shelf path)
 
 -- the number that the program ends with
 abbrev pub number_of_status : Status → ℕ
@@ -166,5 +231,6 @@ number_of_status (ScriptError fault) = 2
 number_of_status ReadFault = 3
 number_of_status WriteFault = 4
 number_of_status DiskFault = 5
+number_of_status (NotALog at) = 6
 number_of_status Memory = 7
 number_of_status (NotEmpty n) = 8

@@ -2,6 +2,7 @@
 #![tactic(auto)]
 
 mod creating;
+mod keeping;
 pub mod laws;
 pub mod status;
 pub mod top;

@@ -1,6 +1,6 @@
 //! The top call.
 
-ghost use Rattle.std.specs.Prelude.{◌≡◌, ℕ, List, ◌++◌, None, IfOk, IsTrue, codes, map};
+ghost use Rattle.std.specs.Prelude.{◌≡◌, ℕ, List, ◌++◌, None, Some, IfOk, IsTrue, codes, false, map};
 ghost use Rattle.bf_sql.specs.Database.{empty_database};
 ghost use Rattle.bf_machine.specs.InOrder.{IsRunInOrder};
 ghost use Rattle.bf_machine.specs.Runnable.{phases_rise_from};
@@ -8,10 +8,12 @@ ghost use Rattle.bf_machine.specs.interleaving.Kept.{IsWithinLimits};
 ghost use Rattle.bf_text.specs.Replies.{newline};
 ghost use Rattle.bf_run.specs.Creating.{Spares, shelf_of};
 ghost use Rattle.bf_run.specs.Outcome.{Ends, IsAnswer, fault_text};
-ghost use Rattle.bf_run.specs.Top.{IsAnswerTo, IsInputAnswer, Tells};
-ghost use Rattle.bf_run.specs.Words.{IfCreating, IfNoPath, asked};
+ghost use Rattle.bf_run.specs.Running.{KeepsOthers};
+ghost use Rattle.bf_run.specs.Top.{HasRead, IsInputAnswer, IsScriptOf, Tells};
+ghost use Rattle.bf_run.specs.Words.{IfCreating, IfNoPath, IfRunning, asked, running};
 
 use crate::creating::create;
+use crate::keeping::run;
 use crate::status::{Status, fault_line};
 use crate::words::{Words, WordsError, read_words};
 use bf_base::{LONGEST_SCRIPT, Memory};
@@ -21,7 +23,7 @@ use bf_io::{ReadError, Sink, Source, read_all, write_whole};
 use bf_lex::{ScriptError, ScriptFault, ScriptKind};
 use bf_live::LiveTables;
 use bf_machine::interleaving_laws::sessions_in_sequence_run_in_order;
-use bf_machine::{Machine, Opened, in_order};
+use bf_machine::{Machine, Opened, Unkept, in_order};
 use bf_parse::script;
 use bf_store::Store;
 use bf_text::report;
@@ -61,13 +63,14 @@ fn serve<N: Opened, R: Wait>(
     requires opening { N.opening ≡ empty_database }
     requires registry { registry.now ≡ N.registry }
     requires script { script ≡ N.script }
+    requires unlogged { N.logged ≡ false }
     requires limits { IsWithinLimits script }
     requires phases { IsTrue (phases_rise_from 0 script.sessions) }
     ensures { IfOk result (λ text. Tells (IsRunInOrder script) text.items) }
 {
     let store = Store::of(alloc, LiveTables::new(alloc));
     let mut machine: Machine<N> = Machine::new(alloc, store, script, RETRIES)?;
-    in_order(alloc, rt, registry, &mut machine, &[])?;
+    in_order(alloc, rt, registry, &mut Unkept, &mut machine, &[])?;
     // Their contracts say that the script is the one that was given, and that it ran in order.
     let _ = machine.script();
     sessions_in_sequence_run_in_order();
@@ -93,14 +96,44 @@ fn run_report<R: Wait>(alloc: Global, rt: &R, script: Script) -> Result<Vec<u8>,
     text
 }
 
-/// The status of an input that was read whole, and what is written.
-fn answer_text<R: Wait>(alloc: Global, rt: &R, text: &[u8]) -> Result<(Status, Vec<u8>), Memory>
-    ensures { IfOk result (λ a. IsAnswerTo text.now a.0 a.1.items) }
+/// A script, or why there is none: a status, and its whole text.
+type ScriptRead = Result<Script, (Status, Vec<u8>)>;
+
+/// The script that a text is which was read whole.
+fn script_of(alloc: Global, text: &[u8]) -> Result<ScriptRead, Memory>
+    ensures { IfOk result (IsScriptOf text.now) }
 {
     match script(alloc, text) {
-        Ok(script) => Ok((Status::Done, run_report(alloc, rt, script)?)),
-        Err(ScriptError::Fault(fault)) => answer_fault(alloc, fault),
+        Ok(script) => Ok(Ok(script)),
+        Err(ScriptError::Fault(fault)) => Ok(Err(answer_fault(alloc, fault)?)),
         Err(ScriptError::Memory) => Err(Memory),
+    }
+}
+
+/// The script that the input is, which is read to its end.
+fn read_script<I: Source>(alloc: Global, input: &mut I) -> Result<ScriptRead, Memory>
+    ensures { IfOk result (HasRead
+        (record {
+          bytes = I.left input.old;
+          bytes_after = I.left input.new;
+          faults = I.faults input.old;
+          faults_after = I.faults input.new;
+        })) }
+{
+    match read_all(alloc, input, LONGEST_SCRIPT) {
+        Ok(bytes) => script_of(alloc, bytes.as_slice()),
+        Err(ReadError::TooLong) => Ok(Err(answer_fault(
+            alloc,
+            ScriptFault {
+                at: LONGEST_SCRIPT,
+                kind: ScriptKind::ScriptTooLong,
+            },
+        )?)),
+        Err(ReadError::Fault) => Ok(Err((
+            Status::ReadFault,
+            Vec::from_slice(alloc, b"read fault\n")?,
+        ))),
+        Err(ReadError::Memory) => Err(Memory),
     }
 }
 
@@ -118,17 +151,38 @@ fn try_input<I: Source, R: Wait>(
           faults_after = I.faults input.new;
         }) a.0 a.1.items) }
 {
-    match read_all(alloc, input, LONGEST_SCRIPT) {
-        Ok(bytes) => answer_text(alloc, rt, bytes.as_slice()),
-        Err(ReadError::TooLong) => answer_fault(
-            alloc,
-            ScriptFault {
-                at: LONGEST_SCRIPT,
-                kind: ScriptKind::ScriptTooLong,
-            },
-        ),
-        Err(ReadError::Fault) => Ok((Status::ReadFault, Vec::from_slice(alloc, b"read fault\n")?)),
-        Err(ReadError::Memory) => Err(Memory),
+    match read_script(alloc, input)? {
+        Ok(script) => Ok((Status::Done, run_report(alloc, rt, script)?)),
+        Err(told) => Ok(told),
+    }
+}
+
+/// The status of an input that is asked to be run over a log, and its whole text.
+fn run_input<I: Source, S: Shelf, R: Wait>(
+    alloc: Global,
+    rt: &R,
+    path: &str,
+    input: &mut I,
+    shelf: &mut S,
+) -> Result<(Status, Vec<u8>), Memory>
+    requires { (path : List ℕ) → S.taken shelf.old path ≡ None }
+    ensures answer { IfOk result (λ a. IsAnswer (Some (running path.now))
+        (record {
+          bytes = I.left input.old;
+          bytes_after = I.left input.new;
+          faults = I.faults input.old;
+          faults_after = I.faults input.new;
+        })
+        (shelf_of S.Disk.seen S.Disk.may_leave S.Disk.moment S.Disk.left_since S.held S.fault_count
+        shelf.old shelf.new) a.0 a.1.items) }
+    ensures others { KeepsOthers
+        (shelf_of S.Disk.seen S.Disk.may_leave S.Disk.moment S.Disk.left_since S.held S.fault_count
+        shelf.old shelf.new) path.now }
+    ensures none_taken { (path : List ℕ) → S.taken shelf.new path ≡ None }
+{
+    match read_script(alloc, input)? {
+        Ok(script) => run(alloc, rt, path, shelf, script),
+        Err(told) => Ok(told),
     }
 }
 
@@ -148,17 +202,21 @@ fn answer<I: Source, S: Shelf, R: Wait>(
           faults = I.faults input.old;
           faults_after = I.faults input.new;
         })
-        (shelf_of S.Disk.seen S.Disk.may_leave S.Disk.moment S.Disk.left_since S.held S.fault_count shelf.old
-        shelf.new) a.0 a.1.items) }
+        (shelf_of S.Disk.seen S.Disk.may_leave S.Disk.moment S.Disk.left_since S.held S.fault_count
+        shelf.old shelf.new) a.0 a.1.items) }
     ensures spares { IfCreating (asked (map (λ word. word.now) words.now)) (λ path. Spares
-        (shelf_of S.Disk.seen S.Disk.may_leave S.Disk.moment S.Disk.left_since S.held S.fault_count shelf.old
-        shelf.new) path) }
+        (shelf_of S.Disk.seen S.Disk.may_leave S.Disk.moment S.Disk.left_since S.held S.fault_count
+        shelf.old shelf.new) path) }
+    ensures others { IfRunning (asked (map (λ word. word.now) words.now)) (λ path. KeepsOthers
+        (shelf_of S.Disk.seen S.Disk.may_leave S.Disk.moment S.Disk.left_since S.held S.fault_count
+        shelf.old shelf.new) path) }
     ensures untouched { IfNoPath (asked (map (λ word. word.now) words.now))
         (shelf.new ≡ shelf.old) }
     ensures none_taken { (path : List ℕ) → S.taken shelf.new path ≡ None }
 {
     match read_words(words) {
         Ok(Words::Try) => try_input(alloc, rt, input),
+        Ok(Words::Run(path)) => run_input(alloc, rt, path, input, shelf),
         Ok(Words::Create(path)) => create(alloc, path, shelf),
         Err(WordsError::Usage) => usage(alloc),
     }
@@ -166,12 +224,14 @@ fn answer<I: Source, S: Shelf, R: Wait>(
 
 /// Serves the words behind the program's name: `try` runs the script that the input is over a database that is
 /// empty and is not kept, and writes its report; `create` makes an empty log in the file under a path of the shelf,
-/// if it is new or empty, and reads nothing of the input.
+/// if it is new or empty, and reads nothing of the input; `run` runs the script over the database that the log under
+/// a path keeps, which it reads first, and adds to the log what the script changes.
 ///
 /// The whole text is made before its first byte is written, so want of memory is answered with
-/// nothing written. The time of `try` is linear in the input and in the report; beside that each statement
+/// nothing written. The time of a run is linear in the input and in the report; beside that each statement
 /// compares about log n names, costs what it reads and writes of its table, and on a table that a migration made
-/// what it costs to find and move the rows that it needs. Script and tables are not freed:
+/// what it costs to find and move the rows that it needs. `run` reads the log once before that, and adds a record for
+/// each change, which is synced twice before its reply. Script and tables are not freed:
 /// the call is a program's last, and their memory goes with the program.
 pub fn bullfrog<I: Source, O: Sink, S: Shelf, R: Wait>(
     rt: &R,
@@ -195,8 +255,8 @@ pub fn bullfrog<I: Source, O: Sink, S: Shelf, R: Wait>(
           faults = O.faults output.old;
           faults_after = O.faults output.new;
         })
-        (shelf_of S.Disk.seen S.Disk.may_leave S.Disk.moment S.Disk.left_since S.held S.fault_count shelf.old
-        shelf.new) result }
+        (shelf_of S.Disk.seen S.Disk.may_leave S.Disk.moment S.Disk.left_since S.held S.fault_count
+        shelf.old shelf.new) result }
     ensures untouched { IfNoPath (asked (map (λ word. word.now) words.now))
         (shelf.new ≡ shelf.old) }
     ensures none_taken { (path : List ℕ) → S.taken shelf.new path ≡ None }

@@ -10,6 +10,8 @@ use thiserror::Error;
 pub enum Words<'a> {
     /// To make an empty log in the file under this path, which is new or empty.
     Create(&'a str),
+    /// To run the script of the input over the database that the log under this path keeps.
+    Run(&'a str),
     /// To run the script of the input over a database that is not kept.
     Try,
 }
@@ -22,7 +24,7 @@ pub enum WordsError {
     Usage,
 }
 
-/// Reads the words behind the program's name: `try` alone, or `create` and a path. It takes no memory.
+/// Reads the words behind the program's name: `try` alone, or `create` or `run` and a path. It takes no memory.
 ///
 /// # Errors
 /// `Usage` for all other words. A word that begins with `-` is no path, so that an option to come changes the
@@ -32,12 +34,13 @@ pub fn read_words<'a>(words: &[&'a str]) -> Result<Words<'a>, WordsError>
 {
     match words {
         [word] if *word == "try" => Ok(Words::Try),
+        [word, path] if *word == "run" && is_path(path) => Ok(Words::Run(path)),
         [word, path] if *word == "create" && is_path(path) => Ok(Words::Create(path)),
         _ => Err(WordsError::Usage),
     }
 }
 
-// Whether a word may name a file.
+/// Whether a word may name a file.
 fn is_path(word: &str) -> bool
     ensures { result ≡ is_path word.now }
 {

@@ -1,5 +1,6 @@
-//! `bullfrog try` runs the script of standard input, and prints its report; `bullfrog create LOG` makes an empty log
-//! in a file that is new or empty.
+//! `bullfrog run LOG` runs the script of standard input over the database that a log keeps, and prints its report;
+//! `bullfrog try` does over an empty database, which is not kept; `bullfrog create LOG` makes an empty log in a file
+//! that is new or empty.
 #![tactic(auto)]
 
 mod filing;

@@ -10,6 +10,8 @@ mod creating;
 #[cfg(test)]
 mod examples;
 #[cfg(test)]
+mod keeping;
+#[cfg(test)]
 mod kinds;
 #[cfg(test)]
 mod large;

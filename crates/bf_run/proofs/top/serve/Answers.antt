@@ -1,9 +1,12 @@
 -- A new machine is in sequence, stays so while its sessions are served, and ran in order.
-use Rattle.std.proofs.Common.{◌≡◌, None, refl, sym, ap, subst, ◌∙◌}
-use Rattle.std.specs.Prelude.{ℕ, Result, Ok, Err, IfOk}
+use Rattle.std.proofs.Common.{◌≡◌, Bool, false, List, [], ◌∷◌, None, refl, sym, ap, subst, ◌∙◌}
+use Rattle.std.specs.Prelude.{ℕ, Result, Ok, Err, IfOk, ⊤}
+use Rattle.std.specs.List.{AllByRecursion}
 use Rattle.std.specs.Global.{Vec}
 use Rattle.bf_base.specs.declared.memory.Memory.{Memory}
 use Rattle.bf_tree.specs.declared.script.Script.{Script}
+use Rattle.bf_tree.specs.declared.script.Session.{Session}
+use Rattle.bf_tree.specs.declared.statement.Statement.{Statement}
 use Rattle.bf_tree.specs.Limits.{HasNarrowTables}
 use Rattle.bf_sql.specs.Bound.{catalog_of}
 use Rattle.bf_sql.specs.Database.{Database, empty_database}
@@ -34,6 +37,21 @@ new-requires-2-clause-opening g c =
 pub new-requires-2-clause-registry : goal.new-requires-2-clause-registry
 new-requires-2-clause-registry g c = subst (λ (s : Store). IsOf g.N.Opened.registry s.migration) (sym c.of-store.ensures) tt
 
+pub in_order-requires-clause-logged : goal.in_order-requires-clause-logged
+in_order-requires-clause-logged g c = sym c.requires.unlogged
+
+-- a journal that keeps nothing asks nothing of a statement
+any_session : (statements : List Statement) → AllByRecursion (λ (s : Statement). ⊤) statements
+any_session [] = tt
+any_session (s ∷ statements) = (tt, any_session statements)
+
+any_script : (sessions : List Session) → AllByRecursion (λ (session : Session). AllByRecursion (λ (s : Statement). ⊤) session.statements) sessions
+any_script [] = tt
+any_script (session ∷ sessions) = (any_session session.statements, any_script sessions)
+
+pub in_order-requires-clause-said : goal.in_order-requires-clause-said
+in_order-requires-clause-said g c = any_script g.N.Opened.script.sessions
+
 pub returns : goal.returns
 returns g c =
     let script : Script = c.args.script in
@@ -44,7 +62,7 @@ returns g c =
     let law = c.sessions_in_sequence_run_in_order.ensures in
     let served = c.in_ok-in_order.ensures in
     let last : store.lazy.last ≡ None = ap (λ (s : Store). s.lazy.last) c.of-store.ensures in
-    let new : m ≡ fresh store script 0 = c.in_ok-machine.ensures in
+    let new : m ≡ fresh false store script 0 = c.in_ok-machine.ensures ∙ ap (λ (logged : Bool). fresh logged store script 0) c.requires.unlogged in
     let sequence : IsInSequence opening m = subst (IsInSequence opening) (sym new) (law.new opening store script 0 c.requires.phases last) in
     let sequence_now : IsInSequence empty_database now = subst (λ (db : Database). IsInSequence db now) c.requires.opening (served.sequence refl sequence) in
     let kept : IsKept empty_database now = subst (λ (db : Database). IsKept db now) c.requires.opening c.script.ensures.kept in

@@ -1,22 +1,23 @@
-use Rattle.std.proofs.Common.{ℕ, List, length, ap, sym, ◌∙◌, Err, rules}
-use Rattle.std.proofs.lemmas.Result.{IfOk-weaker}
-use Rattle.bf_run.proofs.Answered.{of_both, no_fault, read_fault, too_long, answered}
+use Rattle.std.proofs.Common.{Some, subst}
+use Rattle.bf_run.specs.Top.{HasRead}
+use Rattle.bf_run.specs.Words.{trying}
+use Rattle.bf_run.proofs.Answered.{no_script}
+use Rattle.bf_run.proofs.Migrates.{script_within}
+use Rattle.bf_run.proofs.Parsed.{script_rises}
 use Rattle.bf_run.proofs.top.try_input.Goals as goal
 
-pub returns-in-Ok : goal.returns-in-Ok
-returns-in-Ok g c =
-    IfOk-weaker c.answer_text.result _ _
-    (λ a given. answered _ c.in-Ok.bytes.items (c.in-Ok.ensures.calm (λ fault. cc)) c.in-Ok.ensures.all c.in-Ok.ensures.at_end (rw (ap (λ (z : List ℕ). length z) c.as_slice.ensures.value) at (rw (sym c.as_slice.ensures.len) at c.in-Ok.ensures.at_most)) a.0 a.1.items
-    (rw c.as_slice.ensures.value at given))
-    c.answer_text.ensures
+pub run_report-requires-clause-limits : goal.run_report-requires-clause-limits
+run_report-requires-clause-limits g c =
+    let read = subst (HasRead _) c.in-Ok.is c.in_ok-script.ensures in
+    script_within read.bytes c.in-Ok.script read.is_read.1
 
-pub returns-in-Err-TooLong : goal.returns-in-Err-TooLong
-returns-in-Err-TooLong g c =
-    let calm = c.read_all.ensures.calm (no_fault c.read_all.result _ c.in-Err-TooLong.is c.in-Err-TooLong.field-0-is) in
-    let past = c.read_all.ensures.too_long (c.in-Err-TooLong.is ∙ ap Err c.in-Err-TooLong.field-0-is) in
-    of_both c.answer_fault.result _ _ _
-    (λ a same spells. too_long _ a.0 a.1.items same calm past spells)
-    c.answer_fault.ensures.status c.answer_fault.ensures.text
+pub run_report-requires-clause-phases : goal.run_report-requires-clause-phases
+run_report-requires-clause-phases g c =
+    let read = subst (HasRead _) c.in-Ok.is c.in_ok-script.ensures in
+    script_rises read.bytes c.in-Ok.script read.is_read.1
 
-pub returns-in_ok-from_slice-in-Err-Fault : goal.returns-in_ok-from_slice-in-Err-Fault
-returns-in_ok-from_slice-in-Err-Fault g c = read_fault _ _ (search rules) (search rules)
+pub returns-in-Err : goal.returns-in-Err
+returns-in-Err g c =
+    let read = subst (HasRead _) c.in-Err.is c.in_ok-script.ensures in
+    let both = no_script _ read.bytes (Some trying) (λ status script start history. ⊥) c.in-Err.told.0 c.in-Err.told.1.items read.is_read in
+    record { bytes = read.bytes; are_told = read.are_told; causes = both.0; is_text = both.1 }

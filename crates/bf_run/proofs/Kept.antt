@@ -1,0 +1,100 @@
+-- What a crash leaves of a machine beside its log, said of its script and its history alone.
+use Rattle.std.proofs.Common.{◌≡◌, ℕ, ◌≤◌, true, List, [], ◌∷◌, ◌++◌, map, Option, None, Some, inl, inr, refl, sym, ap, ap₂, subst, ◌∙◌}
+use Rattle.bf_disk.specs.declared.disk.Disk.{Ghosts}
+use Rattle.bf_journal.specs.Crashes.{IsAfterPrefix, ReopensWith, replayed as run_in_turn}
+use Rattle.bf_journal.specs.Reopening.{ReopensTo}
+use Rattle.bf_journal.specs.States.{IsReady, MayLeave, StandsOn, moment_of}
+use Rattle.bf_log.specs.declared.log.Log.{Log}
+use Rattle.bf_log.specs.declared.log.Standing.{Standing}
+use Rattle.bf_log.specs.declared.log.Standing.TheVariants.{Ready, Halted, Spent}
+use Rattle.bf_machine.specs.interleaving.Kept.{IsKept}
+use Rattle.bf_machine.specs.interleaving.Machines.{Machine}
+use Rattle.bf_recover.specs.Legal.{first_state}
+use Rattle.bf_recover.specs.Steps.{StepsTo, entry_of, run_entry}
+use Rattle.bf_recover.proofs.Replaying.{runs_entries}
+use Rattle.bf_sql.specs.Database.{Database}
+use Rattle.bf_sql.specs.History.{replayed}
+use Rattle.bf_sql.specs.migrations.Lazy.{LazyState, view_of}
+use Rattle.bf_tree.specs.declared.history.Entry.{Entry}
+use Rattle.bf_tree.specs.declared.script.Script.{Script}
+use Rattle.bf_keep.specs.Answers.{is_ready}
+use Rattle.bf_keep.specs.Crashing.{KeepsOnLog, Recovers}
+use Rattle.bf_keep.specs.declared.log_journal.LogJournal.{LogJournal}
+use Rattle.bf_run.specs.Keeping.{IsBehind, IsBehindPrefix, KeepsOn, Leaves, OpensAs}
+use Rattle.bf_run.specs.declared.status.Status.TheVariants.{Done, DiskFault}
+
+-- a prefix of a list that is mapped is that of a prefix
+prefix_of_map : {X Y : Type 0} (f : X → Y) (xs : List X) (front back : List Y) → front ++ back ≡ map f xs
+    → (one two : List X) × (one ++ two ≡ xs) × (map f one ≡ front)
+prefix_of_map f xs [] back same = ([], xs, refl, refl)
+prefix_of_map f [] (y ∷ front) back same = absurd cc
+prefix_of_map f (x ∷ xs) (y ∷ front) back same =
+    let here : f x ≡ y = cc in
+    let later : front ++ back ≡ map f xs = cc in
+    let rest = prefix_of_map f xs front back later in
+    (x ∷ rest.0, rest.1, ap (λ zs. x ∷ zs) rest.2, ap₂ (λ z zs. z ∷ zs) here rest.3)
+
+reopens_weaker : (P Q : Database → Type 0) (failed : Option Database) (left : Option LazyState) → ((db : Database) → P db → Q db)
+    → ReopensWith view_of failed P left → ReopensWith view_of failed Q left
+reopens_weaker P Q failed left so (state, is, inl holds) = (state, is, inl (so (view_of state) holds))
+reopens_weaker P Q failed left so (state, is, inr fails) = (state, is, inr fails)
+
+module _ {D : Type 0} {g : Ghosts D} (start : Database) (m : Machine) (log : Log D g) (since : ℕ) (recovers : Recovers start since m log) where
+  runs : (history : List Entry) → (replayed m.script start history).1 ≡ run_in_turn run_entry start (map (entry_of m.script) history)
+  runs history = runs_entries 0 m.script start history
+
+  behind_prefix : (db : Database) → IsAfterPrefix run_entry start (map (entry_of m.script) m.history) db → IsBehindPrefix m.script start m.history db
+  behind_prefix db after =
+      let parts = prefix_of_map (entry_of m.script) m.history after.prefix after.behind after.split in
+      (parts.0, parts.1, parts.2, after.is ∙ ap (run_in_turn run_entry start) (sym parts.3) ∙ sym (runs parts.0))
+
+  behind_all : (db : Database) → db ≡ view_of m.lazy → IsBehind m.script start m.history db
+  behind_all db is = is ∙ (recovers.images.view_is ∙ sym (runs m.history))
+
+  module _ (file : List ℕ) (told : g.seen log.disk ≡ Some file) where
+    may_be_left : (t : ℕ) (image : List ℕ) (left : Option LazyState) → g.left_since log.disk t image → ReopensTo first_state StepsTo image left
+        → MayLeave first_state StepsTo log t left
+    may_be_left t image left may opens = ((file, told), (image, may, opens))
+
+    leaves_now : (image : List ℕ) → g.left_since log.disk (g.moment log.disk) image → OpensAs (IsBehind m.script start m.history) recovers.failed image
+    leaves_now image may left opens =
+        reopens_weaker (λ db. db ≡ view_of m.lazy) (IsBehind m.script start m.history) recovers.failed left behind_all
+        (recovers.images.now left (may_be_left (g.moment log.disk) image left may opens))
+
+    leaves_ever : (image : List ℕ) → g.left_since log.disk since image → OpensAs (IsBehindPrefix m.script start m.history) recovers.failed image
+    leaves_ever image may left opens =
+        reopens_weaker (IsAfterPrefix run_entry start (map (entry_of m.script) m.history)) (IsBehindPrefix m.script start m.history) recovers.failed left behind_prefix
+        (recovers.images.ever left (may_be_left since image left may opens))
+
+    pub leaves : Leaves g.seen g.may_leave g.moment g.left_since log.disk since m.script start m.history recovers.failed
+    leaves = record { now = leaves_now; ever = leaves_ever }
+
+-- a run whose machine recovers, since each moment since when a crash has left alone the state that it begins with
+module _ {D : Type 0} {g : Ghosts D} (opening : Database) (lazy : LazyState) (now : Machine) (log last : Log D g)
+    (recovers : (since : ℕ) → since ≤ moment_of log → ((left : Option LazyState) → MayLeave first_state StepsTo log since left → left ≡ Some lazy) → Recovers opening since now last) where
+  pub keeps_at_fault : KeepsOn lazy log last.disk DiskFault now.script opening now.history
+  keeps_at_fault since by alone file told =
+      let r = recovers since by alone in
+      (r.failed, leaves opening now last since r file told)
+
+  pub keeps_at_done : IsReady last → KeepsOn lazy log last.disk Done now.script opening now.history
+  keeps_at_done ready since by alone file told =
+      let r = recovers since by alone in
+      subst (λ (failed : Option Database). Leaves g.seen g.may_leave g.moment g.left_since last.disk since now.script opening now.history failed)
+      (r.images.none_failed ready) (leaves opening now last since r file told)
+
+-- a machine whose events stand beside its log recovers
+pub recovered : {D : Type 0} {g : Ghosts D} (opening : Database) (lazy : LazyState) (m now : Machine) (j k : LogJournal D g) → m.lazy ≡ lazy
+    → IsKept opening m → StandsOn first_state StepsTo lazy j.log → KeepsOnLog opening m j now k
+    → ((start : Database) (m next : Machine) (j k : LogJournal D g) (since : ℕ) → IsKept start m → StandsOn first_state StepsTo m.lazy j.log → since ≤ moment_of j.log
+    → ((left : Option LazyState) → MayLeave first_state StepsTo j.log since left → left ≡ Some m.lazy) → KeepsOnLog start m j next k → Recovers start since next k.log)
+    → (since : ℕ) → since ≤ moment_of j.log → ((left : Option LazyState) → MayLeave first_state StepsTo j.log since left → left ≡ Some lazy) → Recovers opening since now k.log
+recovered opening lazy m now j k same kept stands keeps law since by alone =
+    law opening m now j k since kept (subst (λ (state : LazyState). StandsOn first_state StepsTo state j.log) (sym same) stands) by
+    (λ left may. alone left may ∙ ap Some (sym same)) keeps
+
+-- a log that says so takes records
+pub ready_if : (s : Standing) → true ≡ is_ready s → s ≡ Ready
+ready_if Ready says = refl
+ready_if (Halted faults) says = absurd cc
+ready_if Spent says = absurd cc

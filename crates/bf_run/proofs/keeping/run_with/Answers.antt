@@ -1,0 +1,43 @@
+use Rattle.std.proofs.Common.{◌≡◌, ℕ, List, Some, refl, sym, subst, arith}
+use Rattle.std.proofs.lemmas.Result.{IfOk-weaker}
+use Rattle.bf_sql.specs.Database.{Database}
+use Rattle.bf_sql.specs.migrations.Lazy.{view_of}
+use Rattle.bf_tree.specs.declared.history.Entry.{Entry}
+use Rattle.bf_run.specs.declared.status.Status.{Status}
+use Rattle.bf_run.specs.Keeping.{IsKept}
+use Rattle.bf_run.specs.Top.{HoldsOver, IsOpened, ServedOn}
+use Rattle.bf_run.proofs.Running.{if_told, not_opened, opened_to, served}
+use Rattle.bf_run.proofs.keeping.run_with.Goals as goal
+
+-- the log that was opened keeps what the run commits, and so does its file since the start
+pub returns-in-Ok : goal.returns-in-Ok
+returns-in-Ok g c =
+    let Disk = g.D.Disk in
+    let disk = c.args.disk in
+    let now = c.serve_over.result.0 in
+    let lazy = c.in-Ok.store.lazy in
+    let opened = c.in-Ok.ensures.reopened in
+    let holds : (status : Status) (start : Database) (history : List Entry) → ServedOn (view_of lazy) lazy c.in-Ok.log now status c.args.script start history
+    → HoldsOver Disk.seen Disk.may_leave Disk.moment Disk.left_since Disk.fault_count disk now status c.args.script start history = λ status start history is. (
+      subst (IsOpened Disk.seen Disk.may_leave Disk.moment Disk.left_since Disk.fault_count disk) (sym is.0)
+          (opened_to Disk.seen Disk.may_leave Disk.moment Disk.left_since Disk.fault_count c.args.script disk now lazy opened.gives),
+      if_told (Disk.seen now) _
+          (λ file told. record {
+            opened = Disk.moment c.in-Ok.log.disk;
+            later = opened.later;
+            since_opening = is.1 (Disk.moment c.in-Ok.log.disk) (omega arith) opened.alone file told;
+            since_start = λ before seen only. is.1 (Disk.moment disk) opened.later (opened.since_start before seen only) file told;
+          }),
+    ) in
+    IfOk-weaker c.serve_over.result.1 _ _
+    (λ a is. served Disk.seen Disk.may_leave Disk.moment Disk.left_since Disk.fault_count c.args.script disk now (ServedOn {g = Disk} (view_of lazy) lazy c.in-Ok.log now) _ _ a.0 a.1.items is c.in-Ok.ensures.faults refl holds)
+    c.serve_over.ensures
+
+pub returns-in-Err : goal.returns-in-Err
+returns-in-Err g c =
+    IfOk-weaker c.tell_open_error.result _ _
+    (λ a is. not_opened g.D.Disk.seen g.D.Disk.may_leave g.D.Disk.moment g.D.Disk.left_since g.D.Disk.fault_count c.args.script c.args.disk c.in-Err.disk c.in-Err.error a.0 a.1.items is c.in-Err.ensures.refused c.in-Err.ensures.disk c.in-Err.ensures.faults)
+    c.tell_open_error.ensures
+
+pub serve_over-requires-clause-stands : goal.serve_over-requires-clause-stands
+serve_over-requires-clause-stands g c = c.in-Ok.ensures.reopened.stands

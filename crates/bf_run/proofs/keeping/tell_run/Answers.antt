@@ -1,0 +1,80 @@
+-- A new machine over a log that is served to its end has run over the opening database, and its log keeps what it committed.
+use Rattle.std.proofs.Common.{◌≡◌, None, refl, sym, ap, subst, ◌∙◌, arith}
+use Rattle.std.proofs.lemmas.Bool.Decides.{nat_tests}
+use Rattle.bf_tree.specs.declared.script.Script.{Script}
+use Rattle.bf_sql.specs.migrations.Lazy.{sweep_of}
+use Rattle.bf_text.specs.Report.{report_text}
+use Rattle.bf_keep.specs.Sayable.{IsSayableScript}
+use Rattle.bf_machine.specs.RunOver.{IsRunOver}
+use Rattle.bf_machine.specs.interleaving.Kept.{fresh}
+use Rattle.bf_machine.specs.interleaving.Machines.{Machine, transcripts_of}
+use Rattle.bf_run.specs.Keeping.{KeepsOn}
+use Rattle.bf_run.specs.Outcome.{IsRunTold}
+use Rattle.bf_run.specs.Top.{ServedOn}
+use Rattle.bf_run.specs.declared.status.Status.TheVariants.{Done, DiskFault}
+use Rattle.bf_run.proofs.Kept.{keeps_at_done, keeps_at_fault, ready_if, recovered}
+use Rattle.bf_run.proofs.Served.{ran_over}
+use Rattle.bf_run.proofs.keeping.tell_run.Goals as goal
+
+pub in_order-requires-clause-said : goal.in_order-requires-clause-said
+in_order-requires-clause-said g c = subst IsSayableScript c.requires.script c.requires.sayable
+
+pub returns-then-faults : goal.returns-then-faults
+returns-then-faults g c =
+    let script : Script = c.args.script in
+    let opening = g.N.Opened.opening in
+    let lazy = c.args.store.lazy in
+    let m : Machine = c.in_ok-machine.machine in
+    let now : Machine = c.in_order.new.machine in
+    let log = c.args.journal.now.log in
+    let last = c.in_order.new.journal.log in
+    let new : m ≡ fresh g.N.Opened.logged c.args.store script 15 = c.in_ok-machine.ensures in
+    let ran = ran_over opening c.args.store script 15 m now c.sessions_that_have_ended_ran_over.ensures new c.script.ensures.kept c.in_ok-in_order.ensures.answered
+    (c.in_ok-in_order.ensures.no_death refl) in
+    let own : now.script ≡ script = sym c.script.ensures.script ∙ c.script.ensures.opened ∙ sym c.requires.script in
+    let same : m.lazy ≡ lazy = ap (λ (k : Machine). k.lazy) new in
+    let recovers = recovered {g = g.D.Disk} opening lazy m now c.args.journal.now c.in_order.new.journal same c.session_count.ensures.kept c.requires.stands c.in_order.ensures.keeps
+    c.every_crash_leaves_a_prefix.ensures.whole in
+    let keeps = subst (λ (k : Script). KeepsOn lazy log last.disk DiskFault k opening now.history) own (keeps_at_fault opening lazy now log last recovers) in
+    let parts = c.into_parts-parts.ensures in
+    let swept = c.sweep-sweep.ensures in
+    let told : IsRunTold (ServedOn opening lazy log last.disk DiskFault script) script c.in_ok-text.text.items = record {
+      start = opening;
+      transcripts = transcripts_of now;
+      history = now.history;
+      sweep = sweep_of now.lazy.last;
+      holds = (refl, keeps);
+      is_run = subst (λ (k : Script). IsRunOver opening k (transcripts_of now) now.history (sweep_of now.lazy.last)) own ran;
+      report_written = c.in_ok-text.ensures ∙ (λ i. report_text (parts.transcripts i) (parts.history i) None (swept i));
+    } in
+    (told, grind (arith, nat_tests, c.if-faults.true, c.faults.ensures, c.faults-faults.ensures))
+
+pub returns-then-is_ready : goal.returns-then-is_ready
+returns-then-is_ready g c =
+    let script : Script = c.args.script in
+    let opening = g.N.Opened.opening in
+    let lazy = c.args.store.lazy in
+    let m : Machine = c.in_ok-machine.machine in
+    let now : Machine = c.in_order.new.machine in
+    let log = c.args.journal.now.log in
+    let last = c.in_order.new.journal.log in
+    let new : m ≡ fresh g.N.Opened.logged c.args.store script 15 = c.in_ok-machine.ensures in
+    let ran = ran_over opening c.args.store script 15 m now c.sessions_that_have_ended_ran_over.ensures new c.script.ensures.kept c.in_ok-in_order.ensures.answered
+    (c.in_ok-in_order.ensures.no_death refl) in
+    let own : now.script ≡ script = sym c.script.ensures.script ∙ c.script.ensures.opened ∙ sym c.requires.script in
+    let same : m.lazy ≡ lazy = ap (λ (k : Machine). k.lazy) new in
+    let recovers = recovered {g = g.D.Disk} opening lazy m now c.args.journal.now c.in_order.new.journal same c.session_count.ensures.kept c.requires.stands c.in_order.ensures.keeps
+    c.every_crash_leaves_a_prefix.ensures.whole in
+    let keeps = subst (λ (k : Script). KeepsOn lazy log last.disk Done k opening now.history) own (keeps_at_done opening lazy now log last recovers (ready_if last.standing (sym c.if-is_ready.true ∙ c.is_ready.ensures))) in
+    let parts = c.into_parts-parts.ensures in
+    let swept = c.sweep-sweep.ensures in
+    let told : IsRunTold (ServedOn opening lazy log last.disk Done script) script c.in_ok-text.text.items = record {
+      start = opening;
+      transcripts = transcripts_of now;
+      history = now.history;
+      sweep = sweep_of now.lazy.last;
+      holds = (refl, keeps);
+      is_run = subst (λ (k : Script). IsRunOver opening k (transcripts_of now) now.history (sweep_of now.lazy.last)) own ran;
+      report_written = c.in_ok-text.ensures ∙ (λ i. report_text (parts.transcripts i) (parts.history i) None (swept i));
+    } in
+    (told, grind (arith, nat_tests, c.if-faults.false, c.faults.ensures, c.faults-faults.ensures))

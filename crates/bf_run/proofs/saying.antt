@@ -1,0 +1,4 @@
+pub mod Gives
+pub mod Migrating
+pub mod Nodes
+pub mod Plain

@@ -1,0 +1,193 @@
+//! Running a script over the database that a log keeps.
+
+ghost use Rattle.std.specs.Prelude.{◌≡◌, ℕ, List, None, Some, IfOk, true};
+ghost use Rattle.bf_journal.specs.States.{StandsOn};
+ghost use Rattle.bf_keep.specs.Sayable.{IsSayableScript};
+ghost use Rattle.bf_log.specs.Append.{disk_of};
+ghost use Rattle.bf_machine.specs.interleaving.Kept.{IsWithinLimits};
+ghost use Rattle.bf_recover.specs.Legal.{first_state};
+ghost use Rattle.bf_recover.specs.Steps.{StepsTo};
+ghost use Rattle.bf_sql.specs.migrations.Lazy.{view_of};
+ghost use Rattle.bf_store.specs.Stores.{IsOf};
+ghost use Rattle.bf_run.specs.Creating.{shelf_of};
+ghost use Rattle.bf_run.specs.Outcome.{ComesOfLog, HoldsAsked};
+ghost use Rattle.bf_run.specs.Running.{KeepsOthers};
+ghost use Rattle.bf_run.specs.Top.{IsOpenErrorTold, IsRunOverDisk, IsServed, IsTextOfRun, ServedOn};
+ghost use Rattle.bf_run.specs.Words.{running};
+
+use crate::status::{Status, disk_fault, not_a_log_line};
+use bf_base::Memory;
+use bf_disk::{Disk, DiskError, Shelf};
+use bf_image::Registry;
+use bf_keep::LogJournal;
+use bf_keep::laws::every_crash_leaves_a_prefix;
+use bf_log::{Log, OpenError};
+use bf_machine::interleaving_laws::sessions_that_have_ended_ran_over;
+use bf_machine::{Machine, Opened, in_order};
+use bf_recover::reopen;
+use bf_store::Store;
+use bf_text::report;
+use bf_tree::Script;
+use std::alloc::Global;
+use std::marker::{Brand, PhantomData};
+use std::mem::forget;
+use std::sync::Wait;
+
+/// How often a group begins again after a death, where the words give no number. None dies where sessions run one
+/// after the other.
+const RETRIES: u16 = 15;
+
+/// The status of a run of a script over a store, whose changes a journal keeps, and its whole report. The
+/// sessions are served one after the other.
+fn tell_run<N: Opened, D: Disk, R: Wait>(
+    alloc: Global,
+    rt: &R,
+    registry: &Registry,
+    store: Store,
+    journal: &mut LogJournal<D>,
+    script: Script,
+) -> Result<(Status, Vec<u8>), Memory>
+    requires opening { view_of store.lazy ≡ N.opening }
+    requires migration { IsOf N.registry store.migration }
+    requires registry { registry.now ≡ N.registry }
+    requires script { script ≡ N.script }
+    requires logged { N.logged ≡ true }
+    requires limits { IsWithinLimits script }
+    requires sayable { IsSayableScript script }
+    requires stands { StandsOn first_state StepsTo store.lazy journal.old.log }
+    ensures { IfOk result (λ a. IsServed
+        (ServedOn N.opening store.lazy journal.old.log (disk_of journal.new.log)) script
+        (D.fault_count (disk_of journal.old.log)) (D.fault_count (disk_of journal.new.log))
+        a.0 a.1.items) }
+{
+    let faults = journal.faults();
+    let mut machine: Machine<N> = Machine::new(alloc, store, script, RETRIES)?;
+    // Its contract says what a machine keeps.
+    let _ = machine.session_count();
+    in_order(alloc, rt, registry, journal, &mut machine, &[])?;
+    // Their contracts say that the script is the one that was given, that all of it ran, and what a crash leaves.
+    let _ = machine.script();
+    sessions_that_have_ended_ran_over();
+    every_crash_leaves_a_prefix(PhantomData::<D>);
+    let sweep = machine.sweep();
+    let parts = machine.into_parts();
+    let text = report(alloc, &parts.transcripts, &parts.history, None, &sweep)?;
+    // The program ends behind its report, and its memory goes with it.
+    forget(parts);
+    if journal.faults() > faults {
+        Ok((Status::DiskFault, text))
+    } else if journal.is_ready() {
+        Ok((Status::Done, text))
+    } else {
+        Err(Memory)
+    }
+}
+
+/// Serves a script over a store that was reopened, and gives back the disk of its log, whatever came of it.
+fn serve_over<N: Opened, D: Disk, R: Wait>(
+    alloc: Global,
+    rt: &R,
+    registry: &Registry,
+    store: Store,
+    log: Log<D>,
+    script: Script,
+) -> (D, Result<(Status, Vec<u8>), Memory>)
+    requires opening { view_of store.lazy ≡ N.opening }
+    requires migration { IsOf N.registry store.migration }
+    requires registry { registry.now ≡ N.registry }
+    requires script { script ≡ N.script }
+    requires logged { N.logged ≡ true }
+    requires limits { IsWithinLimits script }
+    requires sayable { IsSayableScript script }
+    requires stands { StandsOn first_state StepsTo store.lazy log }
+    ensures { IfOk result.1 (λ a. IsServed (ServedOn N.opening store.lazy log result.0) script
+        (D.fault_count (disk_of log)) (D.fault_count result.0) a.0 a.1.items) }
+{
+    let mut journal = LogJournal::of(alloc, log);
+    let told = tell_run::<N, D, R>(alloc, rt, registry, store, &mut journal, script);
+    (journal.into_disk(), told)
+}
+
+/// The status of a log that could not be read, and its whole text.
+fn tell_open_error(alloc: Global, error: OpenError) -> Result<(Status, Vec<u8>), Memory>
+    ensures { IfOk result (λ a. IsOpenErrorTold error a.0 a.1.items) }
+{
+    match error {
+        OpenError::NotALog(at) => Ok((Status::NotALog(at), not_a_log_line(alloc, at)?)),
+        OpenError::DiskFault => disk_fault(alloc),
+        OpenError::Memory => Err(Memory),
+    }
+}
+
+/// Reopens the log of a disk with a registry for its migrations, and runs a script over the database that it keeps.
+fn run_with<D: Disk, R: Wait>(
+    alloc: Global,
+    rt: &R,
+    registry: &Registry,
+    disk: D,
+    script: Script,
+) -> (D, Result<(Status, Vec<u8>), Memory>)
+    requires limits { IsWithinLimits script }
+    requires sayable { IsSayableScript script }
+    ensures { IfOk result.1 (λ a. IsRunOverDisk D.seen D.may_leave D.moment D.left_since D.fault_count
+        script disk result.0 a.0 a.1.items) }
+{
+    match reopen(alloc, rt, registry, disk) {
+        Ok((store, log)) => serve_over::<Brand, D, R>(alloc, rt, registry, store, log, script),
+        Err((disk, error)) => (disk, tell_open_error(alloc, error)),
+    }
+}
+
+/// Runs a script over the database that the log of a disk keeps.
+fn run_over<D: Disk, R: Wait>(
+    alloc: Global,
+    rt: &R,
+    disk: D,
+    script: Script,
+) -> (D, Result<(Status, Vec<u8>), Memory>)
+    requires limits { IsWithinLimits script }
+    requires sayable { IsSayableScript script }
+    ensures { IfOk result.1 (λ a. IsRunOverDisk D.seen D.may_leave D.moment D.left_since D.fault_count
+        script disk result.0 a.0 a.1.items) }
+{
+    let Ok((registry, _empty)) = Registry::new(alloc, rt) else {
+        return (disk, Err(Memory));
+    };
+    let ran = run_with(alloc, rt, &registry, disk, script);
+    // What a migration set aside goes with the program too.
+    forget(registry);
+    ran
+}
+
+/// The status of a script that is asked to be run over the log under a path, and its whole text. The file is
+/// put back whatever came of it.
+pub(crate) fn run<S: Shelf, R: Wait>(
+    alloc: Global,
+    rt: &R,
+    path: &str,
+    shelf: &mut S,
+    script: Script,
+) -> Result<(Status, Vec<u8>), Memory>
+    requires none_taken { (path : List ℕ) → S.taken shelf.old path ≡ None }
+    requires limits { IsWithinLimits script }
+    requires sayable { IsSayableScript script }
+    ensures causes { IfOk result (λ a. ComesOfLog path.now
+        (shelf_of S.Disk.seen S.Disk.may_leave S.Disk.moment S.Disk.left_since S.held S.fault_count
+        shelf.old shelf.new) a.0) }
+    ensures text { IfOk result (λ a. IsTextOfRun (HoldsAsked (Some (running path.now))
+        (shelf_of S.Disk.seen S.Disk.may_leave S.Disk.moment S.Disk.left_since S.held S.fault_count
+        shelf.old shelf.new)) script a.0 a.1.items) }
+    ensures others { KeepsOthers
+        (shelf_of S.Disk.seen S.Disk.may_leave S.Disk.moment S.Disk.left_since S.held S.fault_count
+        shelf.old shelf.new) path.now }
+    ensures none_taken { (path : List ℕ) → S.taken shelf.new path ≡ None }
+{
+    let disk = match shelf.take(path) {
+        Ok(disk) => disk,
+        Err(DiskError::Fault) => return disk_fault(alloc),
+        Err(DiskError::Memory) => return Err(Memory),
+    };
+    let (disk, told) = run_over(alloc, rt, disk, script);
+    shelf.put_back(path, disk);
+    told
+}
