@@ -66,7 +66,7 @@ module _ {D : Type 0} {g : Ghosts D} (start : Database) (m : Machine) (log : Log
         reopens_weaker (IsAfterPrefix run_entry start (map (entry_of m.script) m.history)) (IsBehindPrefix m.script start m.history) recovers.failed left behind_prefix
         (recovers.images.ever left (may_be_left since image left may opens))
 
-    pub leaves : Leaves g.seen g.may_leave g.moment g.left_since log.disk since m.script start m.history recovers.failed
+    pub leaves : Leaves g.moment g.left_since log.disk since m.script start m.history recovers.failed
     leaves = record { now = leaves_now; ever = leaves_ever }
 
 -- a run whose machine recovers, since each moment since when a crash has left alone the state that it begins with
@@ -80,7 +80,7 @@ module _ {D : Type 0} {g : Ghosts D} (opening : Database) (lazy : LazyState) (no
   pub keeps_at_done : IsReady last → KeepsOn lazy log last.disk Done now.script opening now.history
   keeps_at_done ready since by alone file told =
       let r = recovers since by alone in
-      subst (λ (failed : Option Database). Leaves g.seen g.may_leave g.moment g.left_since last.disk since now.script opening now.history failed)
+      subst (λ (failed : Option Database). Leaves g.moment g.left_since last.disk since now.script opening now.history failed)
       (r.images.none_failed ready) (leaves opening now last since r file told)
 
 -- a machine whose events stand beside its log recovers

@@ -31,7 +31,7 @@ module _ (script : Script) (start : Database) where
 abbrev pub OpensAs : (Database → Type 0) → Option Database → List ℕ → Type 0
 OpensAs Is failed image = (left : Option LazyState) → ReopensTo first_state StepsTo image left → ReopensWith view_of failed Is left
 
-module _ {V : Type 0} (seen : V → Option (List ℕ)) (may_leave : V → List ℕ → Type 0) (moment : V → ℕ) (left_since : V → ℕ → List ℕ → Type 0) where
+module _ {V : Type 0} (moment : V → ℕ) (left_since : V → ℕ → List ℕ → Type 0) where
   -- LEAVES: every image that a crash now may leave reopens to the database behind the history, and every image since a moment to the
   -- one behind a prefix of it
   pub record Leaves (disk : V) (since : ℕ) (script : Script) (start : Database) (history : List Entry) (failed : Option Database) : Type 0 where
@@ -43,12 +43,13 @@ module _ {V : Type 0} (seen : V → Option (List ℕ)) (may_leave : V → List �
   LeavesAt Done disk since script start history = Leaves disk since script start history None
   LeavesAt other disk since script start history = (failed : Option Database) × Leaves disk since script start history failed
 
+module _ {V : Type 0} (seen : V → Option (List ℕ)) (may_leave : V → List ℕ → Type 0) (moment : V → ℕ) (left_since : V → ℕ → List ℕ → Type 0) where
   -- KEPT: this holds since the log was opened; and since the start of the call, where nothing was pending on the file then
   pub record IsKept (old new : V) (status : Status) (script : Script) (start : Database) (history : List Entry) : Type 0 where
     pub opened : ℕ
     pub later : moment old ≤ opened
-    pub since_opening : LeavesAt status new opened script start history
-    pub since_start : (file : List ℕ) → seen old ≡ Some file → Only file (may_leave old) → LeavesAt status new (moment old) script start history
+    pub since_opening : LeavesAt moment left_since status new opened script start history
+    pub since_start : (file : List ℕ) → seen old ≡ Some file → Only file (may_leave old) → LeavesAt moment left_since status new (moment old) script start history
 
 module _ {V : Type 0} (shelf : Shelving V) where
   -- of a file that was held, or of a new one, and of the one that is held behind it, where this one tells its bytes
@@ -68,4 +69,4 @@ module _ {D : Type 0} {g : Ghosts D} where
   abbrev pub KeepsOn : LazyState → Log D g → D → Status → Script → Database → List Entry → Type 0
   KeepsOn lazy log disk status script start history =
       (since : ℕ) → since ≤ moment_of log → ((left : Option LazyState) → MayLeave first_state StepsTo log since left → left ≡ Some lazy)
-      → (file : List ℕ) → g.seen disk ≡ Some file → LeavesAt g.seen g.may_leave g.moment g.left_since status disk since script start history
+      → (file : List ℕ) → g.seen disk ≡ Some file → LeavesAt g.moment g.left_since status disk since script start history
