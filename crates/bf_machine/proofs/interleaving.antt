@@ -28,6 +28,7 @@ pub mod Caused
 pub mod Dying
 pub mod Failing
 pub mod Reaching
+pub mod Naming
 pub mod Standing
 pub mod Progress
 pub mod EndsAs

@@ -23,9 +23,13 @@ ghost use Rattle.bf_machine.specs.interleaving.Calls.{HasSessionEnded, IsPlace};
 ghost use Rattle.bf_machine.specs.interleaving.Events.{Aborts, Asks, Begins, Commits, EndsByLog, Executes, LastHasEnded, Moves, Reaches, Refuses};
 ghost use Rattle.bf_machine.specs.interleaving.Examples.{YoungerIsRefused};
 ghost use Rattle.bf_machine.specs.interleaving.Groups.{Flip, Rows, footprint_in};
+ghost use Rattle.bf_machine.specs.interleaving.Journals.{Keeps, ended_in};
 ghost use Rattle.bf_machine.specs.interleaving.Kept.{HasEnded, HasStart, IsKept, IsOpening, IsToldACause, IsWithinLimits, StandsInHistory, TranscriptsLegal, fresh};
 ghost use Rattle.bf_machine.specs.interleaving.Machines.{Group, Machine, Open, open_at, transcripts_of};
 ghost use Rattle.bf_machine.specs.interleaving.Serving.{IsInSequence, deaths_at};
+
+use crate::journal::Journal;
+use std::marker::PhantomData;
 
 /// Histories stay legal, open groups replay, locks are consistent, deaths are allowed, and the store is
 /// seen as the database: in a new machine, and behind each begin, refusal of a stray COMMIT or ROLLBACK,
@@ -133,10 +137,14 @@ pub fn sessions_in_sequence_run_in_order()
         → IsRunInOrder m.script (transcripts_of m) m.history (sweep_of m.lazy.last) }
 {}
 
-/// Once each session has ended, of which no group died, the script has run over the opening database.
-pub fn sessions_that_have_ended_ran_over()
-    ensures { (start : Database) (m : Machine) → IsKept start m
-        → ((s : ℕ) → IsPlace m.script s → HasSessionEnded m s)
-        → ((n : ℕ) → deaths_at m n ≡ [])
-        → IsRunOver start m.script (transcripts_of m) m.history (sweep_of m.lazy.last) }
+/// Once each session of a machine beside a journal has ended, of which no group died, the script has run over the
+/// opening database, and of its groups those ended by a cause of a log for which the journal did not keep a change.
+pub fn sessions_that_have_ended_ran_over<J: Journal>(_of: PhantomData<J>)
+    ensures { (start : Database) (logged : Bool) (store : Store) (script : Script) (retries : ℕ)
+        (m next : Machine) (j l : J) (keeps : Keeps J.Answers start m j next l)
+        → m ≡ fresh logged store script retries → IsKept start m
+        → ((s : ℕ) → IsPlace next.script s → HasSessionEnded next s)
+        → ((n : ℕ) → deaths_at next n ≡ [])
+        → IsRunOver start next.script (ended_in J.Answers keeps) (transcripts_of next) next.history
+        (sweep_of next.lazy.last) }
 {}

@@ -2,14 +2,13 @@
 
 ghost use Rattle.std.specs.Prelude.{◌≡◌, Bool, Err, Ok, Result, true};
 ghost use Rattle.bf_sql.specs.migrations.Lazy.{LazyState, view_of};
-ghost use Rattle.bf_tree.specs.declared.reply.Cause.{Cause as CauseOf};
 ghost use Rattle.bf_tree.specs.declared.statement.Statement.{Statement as StatementOf};
 ghost use Rattle.bf_store.specs.States.{to_move, with_moved};
 ghost use Rattle.bf_machine.specs.declared.journal.KeepError.{KeepError as Why};
 ghost use Rattle.bf_machine.specs.declared.journal.KeepError.TheVariants.{Memory as NoMemory};
 ghost use Rattle.bf_machine.specs.interleaving.Answering.{CanSettle};
 ghost use Rattle.bf_machine.specs.interleaving.Events.{put_into};
-ghost use Rattle.bf_machine.specs.interleaving.Journals.{IsOneRecord, IsStated, IsToldIfEnded, leaves_something};
+ghost use Rattle.bf_machine.specs.interleaving.Journals.{IsOfLogIfEnded, IsOneRecord, IsStated, leaves_something};
 ghost use Rattle.bf_machine.specs.interleaving.Seen.{pending_seen};
 
 use crate::so_far::Pending;
@@ -42,9 +41,6 @@ pub trait Journal {
     /// another.
     ghost Answers: { LazyState → LazyState → Self → Self → Result (Unit {0}) Why → Type 0 };
 
-    /// The causes that it may have told so far.
-    ghost Tells: { Self → CauseOf → Type 0 };
-
     /// The statements of which it can keep the change of the schema.
     ghost Says: { StatementOf → Type 0 };
 
@@ -58,7 +54,7 @@ pub trait Journal {
         requires stated { IsStated Says (view_of store.now.lazy) (pending_seen pending.now) }
         ensures answers { Answers store.now.lazy
             (put_into store.now.lazy (pending_seen pending.now)) self.old self.new result }
-        ensures told { IsToldIfEnded ends (Tells self.new) result };
+        ensures ended { IsOfLogIfEnded ends result };
 
     /// Keeps a move of granules of the last migration, none of which has moved, before it is made.
     ///
@@ -69,7 +65,7 @@ pub trait Journal {
         requires left { to_move store.now.lazy.last granules.now ≡ granules.now }
         ensures answers { Answers store.now.lazy (with_moved store.now.lazy granules.now) self.old
             self.new result }
-        ensures told { IsToldIfEnded ends (Tells self.new) result };
+        ensures ended { IsOfLogIfEnded ends result };
 
     /// Tells it that the change that it kept last is not made, for want of memory. It takes no memory.
     fn give_up(&mut self)
@@ -87,8 +83,6 @@ impl Journal for Unkept {
     ghost ends = { false };
 
     ghost Answers = { λ lazy next old new answer. ⊤ };
-
-    ghost Tells = { λ journal cause. ⊥ };
 
     ghost Says = { λ statement. ⊤ };
 

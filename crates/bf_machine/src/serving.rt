@@ -14,9 +14,9 @@ ghost use Rattle.bf_store.specs.Stores.{IsOf, migration_of};
 ghost use Rattle.bf_transpose.specs.Covers.{IsCoverOf};
 ghost use Rattle.bf_machine.specs.interleaving.Calls.{CanCommit, CanExec, CanRefuse, HasReplied, HasSessionEnded, IsPlace, IsPresent, StandsAs};
 ghost use Rattle.bf_machine.specs.interleaving.Events.{Begins, Moves, Reaches};
-ghost use Rattle.bf_machine.specs.interleaving.Journals.{AreSaid, IsOneRecord, IsToldIfEnded, Keeps, most_moved};
+ghost use Rattle.bf_machine.specs.interleaving.Journals.{AreSaid, IsOneRecord, IsRefusedIfEnded, Keeps, most_moved};
 ghost use Rattle.bf_machine.specs.interleaving.Kept.{IsKept};
-ghost use Rattle.bf_machine.specs.interleaving.Machines.{Machine as Seen, Open, open_at};
+ghost use Rattle.bf_machine.specs.interleaving.Machines.{Machine as Seen, Open, open_at, these};
 ghost use Rattle.bf_machine.specs.interleaving.Serving.{CanGo, CannotGo, Driven, HasLocked, HasMovedFirst, HasMovedNeed, HasMovedSome, HasReply, IsAlone, IsBoundNext, IsCommit, IsEndIfAnswered, IsFollowed, IsInSequence, IsPreparedNext, IsToLock, IsTurn, IsTurnOf, IsYoungest, LeavesStore, MovesAll, Serves, Turned, can_go, deaths_at, unanswered};
 ghost use Rattle.bf_machine.specs.declared.stand.Turn.TheVariants.{Served};
 
@@ -81,7 +81,7 @@ fn commit<N: Opened, J: Journal, R: Wait>(
     requires can { CanCommit machine.old session }
     ensures turn { IfOk result (λ turn. IsCommit machine.old session turn machine.new) }
     ensures err { OnErr result (machine.new ≡ machine.old) }
-    ensures keeps { Keeps J.Answers J.Tells N.opening machine.old journal.old machine.new
+    ensures keeps { Keeps J.Answers N.opening machine.old journal.old machine.new
         journal.new }
 {
     match machine.commit(rt, registry, journal, session)? {
@@ -106,7 +106,7 @@ fn end_if_answered<N: Opened, J: Journal, R: Wait>(
     requires kept { IsKept N.opening machine.old }
     requires has_reply { HasReply machine.old session }
     ensures reaches { Reaches N.opening machine.old machine.new }
-    ensures keeps { Keeps J.Answers J.Tells N.opening machine.old journal.old machine.new
+    ensures keeps { Keeps J.Answers N.opening machine.old journal.old machine.new
         journal.new }
     ensures turn { IfOk result (λ turn. IsEndIfAnswered machine.old session turn machine.new) }
 {
@@ -193,9 +193,10 @@ fn move_record<N: Opened, J: Journal>(
     requires granules { IsOneRecord (Some (migration_of pass.now.value [])) granules.now }
     ensures moves { OnOk result (Moves machine.old granules.now machine.new) }
     ensures err { OnErr result (machine.new ≡ machine.old) }
-    ensures keeps { Keeps J.Answers J.Tells N.opening machine.old journal.old machine.new
+    ensures keeps { Keeps J.Answers N.opening machine.old journal.old machine.new
         journal.new }
-    ensures told { IsToldIfEnded J.ends (J.Tells journal.new) result }
+    ensures refused { IsRefusedIfEnded J.Answers J.ends N.opening machine.old journal.old
+        machine.new journal.new result }
 {
     match machine.moved(registry, journal, pass, indexes, granules) {
         Ok(_) => Ok(()),
@@ -227,9 +228,10 @@ fn move_records<N: Opened, J: Journal>(
     requires in_order { IsTrue (rises granule_cmp granules.now) }
     ensures moves { OnOk result (MovesAll machine.old granules.now machine.new) }
     ensures err { OnErr result (HasMovedFirst machine.old granules.now machine.new) }
-    ensures keeps { Keeps J.Answers J.Tells N.opening machine.old journal.old machine.new
+    ensures keeps { Keeps J.Answers N.opening machine.old journal.old machine.new
         journal.new }
-    ensures told { IsToldIfEnded J.ends (J.Tells journal.new) result }
+    ensures refused { IsRefusedIfEnded J.Answers J.ends N.opening machine.old journal.old
+        machine.new journal.new result }
 {
     let mut left = granules;
     while !left.is_empty() {
@@ -261,9 +263,10 @@ fn move_need<N: Opened, J: Journal>(
     requires in_order { IsTrue (rises granule_cmp granules.now) }
     ensures moves { OnOk result (MovesAll machine.old granules.now machine.new) }
     ensures err { OnErr result (HasMovedFirst machine.old granules.now machine.new) }
-    ensures keeps { Keeps J.Answers J.Tells N.opening machine.old journal.old machine.new
+    ensures keeps { Keeps J.Answers N.opening machine.old journal.old machine.new
         journal.new }
-    ensures told { IsToldIfEnded J.ends (J.Tells journal.new) result }
+    ensures refused { IsRefusedIfEnded J.Answers J.ends N.opening machine.old journal.old
+        machine.new journal.new result }
 {
     let Some(pass) = machine.migration() else {
         return Ok(());
@@ -331,9 +334,10 @@ fn reply_to<N: Opened, J: Journal>(
     ensures replied { OnOk result ((now : Seen) × HasMovedNeed machine.old bound.now now
         × HasReplied now session bound.now machine.new) }
     ensures err { OnErr result (HasMovedSome machine.old bound.now machine.new) }
-    ensures keeps { Keeps J.Answers J.Tells N.opening machine.old journal.old machine.new
+    ensures keeps { Keeps J.Answers N.opening machine.old journal.old machine.new
         journal.new }
-    ensures told { IsToldIfEnded J.ends (J.Tells journal.new) result }
+    ensures refused { IsRefusedIfEnded J.Answers J.ends N.opening machine.old journal.old
+        machine.new journal.new result }
 {
     let pass = machine.migration();
     let migration = pass.as_ref();
@@ -377,7 +381,7 @@ fn serve_in_group<N: Opened, J: Journal, R: Wait>(
     requires next { (o : Open) × IsBoundNext machine.old session o bound.now }
     requires well_bound { IsWellBound bound.now.action }
     ensures reaches { Reaches N.opening machine.old machine.new }
-    ensures keeps { Keeps J.Answers J.Tells N.opening machine.old journal.old machine.new
+    ensures keeps { Keeps J.Answers N.opening machine.old journal.old machine.new
         journal.new }
     ensures turn { IfOk result (λ turn. IsTurn machine.old session N.opening turn machine.new) }
 {
@@ -443,7 +447,7 @@ fn serve<N: Opened, J: Journal, R: Wait>(
     requires kept { IsKept N.opening machine.old }
     requires stands { StandsAs machine.old session (Statement place) }
     ensures reaches { Reaches N.opening machine.old machine.new }
-    ensures keeps { Keeps J.Answers J.Tells N.opening machine.old journal.old machine.new
+    ensures keeps { Keeps J.Answers N.opening machine.old journal.old machine.new
         journal.new }
     ensures turn { IfOk result (λ turn. IsTurn machine.old session N.opening turn machine.new) }
 {
@@ -495,7 +499,7 @@ fn take_turn<N: Opened, J: Journal, R: Wait>(
     requires place { IsPlace machine.old.script session }
     requires kept { IsKept N.opening machine.old }
     ensures reaches { Reaches N.opening machine.old machine.new }
-    ensures keeps { Keeps J.Answers J.Tells N.opening machine.old journal.old machine.new
+    ensures keeps { Keeps J.Answers N.opening machine.old journal.old machine.new
         journal.new }
     ensures turn { IfOk result (λ turn. IsTurn machine.old session N.opening turn machine.new) }
 {
@@ -529,7 +533,7 @@ fn turn_of<N: Opened, J: Journal, R: Wait>(
     requires count { count ≡ length machine.old.script.sessions }
     requires kept { IsKept N.opening machine.old }
     ensures reaches { Reaches N.opening machine.old machine.new }
-    ensures keeps { Keeps J.Answers J.Tells N.opening machine.old journal.old machine.new
+    ensures keeps { Keeps J.Answers N.opening machine.old journal.old machine.new
         journal.new }
     ensures turn { OnOk result (IsTurnOf N.opening machine.old session machine.new) }
 {
@@ -591,7 +595,7 @@ fn end_open_groups<N: Opened, J: Journal, R: Wait>(
     requires said { AreSaid J.Says N.script }
     requires kept { IsKept N.opening machine.old }
     ensures reaches { Reaches N.opening machine.old machine.new }
-    ensures keeps { Keeps J.Answers J.Tells N.opening machine.old journal.old machine.new
+    ensures keeps { Keeps J.Answers N.opening machine.old journal.old machine.new
         journal.new }
     ensures closed { OnOk result ((s : ℕ) → open_at machine.new s ≡ None) }
     ensures driven { OnOk result (Driven N.opening machine.old machine.new) }
@@ -599,7 +603,7 @@ fn end_open_groups<N: Opened, J: Journal, R: Wait>(
     ensures alone { OnOk result ((s : ℕ) → IsAlone machine.old s
         → Serves machine.old s machine.new
         × (unanswered machine.new s ≤ unanswered machine.old s)) }
-    ensures followed { OnOk result (machine.old.logged ≡ false
+    ensures followed { OnOk result (machine.old.may_end ≡ these []
         → (s : ℕ) → IsAlone machine.old s
         → IsFollowed machine.old s N.opening → IsFollowed machine.new s N.opening) }
 {
@@ -624,7 +628,7 @@ fn end_sessions<N: Opened, J: Journal, R: Wait>(
     requires kept { IsKept N.opening machine.old }
     requires closed { (s : ℕ) → open_at machine.old s ≡ None }
     ensures reaches { Reaches N.opening machine.old machine.new }
-    ensures keeps { Keeps J.Answers J.Tells N.opening machine.old journal.old machine.new
+    ensures keeps { Keeps J.Answers N.opening machine.old journal.old machine.new
         journal.new }
     ensures driven { OnOk result (Driven N.opening machine.old machine.new) }
     ensures ended { OnOk result
@@ -670,7 +674,7 @@ pub fn in_order<N: Opened, J: Journal, R: Wait>(
     requires logged { J.ends ≡ N.logged }
     requires said { AreSaid J.Says N.script }
     ensures reaches { Reaches N.opening machine.old machine.new }
-    ensures keeps { Keeps J.Answers J.Tells N.opening machine.old journal.old machine.new
+    ensures keeps { Keeps J.Answers N.opening machine.old journal.old machine.new
         journal.new }
     ensures turns { OnOk result ((behind : Seen)
         × Turned N.opening machine.old order.now behind

@@ -1,13 +1,15 @@
 //! What is pending, put into the store.
 
-ghost use Rattle.std.specs.Prelude.{◌≡◌, OnErr, OnOk, true};
+ghost use Rattle.std.specs.Prelude.{◌≡◌, Err, OnErr, OnOk, true};
+ghost use Rattle.bf_tree.specs.declared.reply.Cause.{Cause};
 ghost use Rattle.bf_tree.specs.declared.plan.Plan.{Plan};
 ghost use Rattle.bf_sql.specs.migrations.Lazy.{view_of};
 ghost use Rattle.bf_store.specs.Stores.{IsByPass, IsOf};
+ghost use Rattle.bf_machine.specs.declared.journal.KeepError.TheVariants.{Ended};
 ghost use Rattle.bf_machine.specs.interleaving.Answering.{CanSettle};
 ghost use Rattle.bf_machine.specs.interleaving.Events.{put_into};
 ghost use Rattle.bf_machine.specs.interleaving.Groups.{Flip};
-ghost use Rattle.bf_machine.specs.interleaving.Journals.{IsBeside, IsStated, IsToldIfEnded, leaves_something};
+ghost use Rattle.bf_machine.specs.interleaving.Journals.{IsBeside, IsOfLogIfEnded, IsPutInto, IsRefused, IsStated, leaves_something};
 ghost use Rattle.bf_machine.specs.interleaving.Seen.{pending_seen};
 
 use crate::journal::{Journal, KeepError};
@@ -99,8 +101,12 @@ pub(crate) fn settle<J: Journal, R: Wait>(
         → store.new.migration ≡ store.old.migration }
     ensures err { OnErr result (store.new ≡ store.old) }
     ensures kept { OnErr result (pending_seen pending.new ≡ pending_seen pending.old) }
-    ensures beside { IsBeside J.Answers store.old.lazy store.new.lazy journal.old journal.new }
-    ensures told { IsToldIfEnded J.ends (J.Tells journal.new) result }
+    ensures beside { IsBeside J.Answers (IsPutInto store.old.lazy (pending_seen pending.old))
+        store.old.lazy store.new.lazy journal.old journal.new }
+    ensures ended { IsOfLogIfEnded J.ends result }
+    ensures refused { (cause : Cause) → result ≡ Err (Ended cause)
+        → IsRefused J.Answers (IsPutInto store.old.lazy (pending_seen pending.old)) store.old.lazy
+        journal.old journal.new cause }
 {
     // Its contract says that the last migration is the one that the pass reads.
     let _ = store.migration();

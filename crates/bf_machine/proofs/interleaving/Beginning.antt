@@ -128,18 +128,18 @@ module _ (start : Database) (m : Machine) (kept : IsKept start m) (texts : AreTe
     clash = was.clash;
   }
 
-  allowed_then : (t : ℕ) (g : Group) (cause : Cause) → IsAllowed start m.script m.began m.history m.logged m.retries t g cause → IsAllowed start m.script (more m.began b) m.history m.logged m.retries t g cause
+  allowed_then : (t : ℕ) (g : Group) (cause : Cause) → IsAllowed start m.script m.began m.history m.may_end m.retries t g cause → IsAllowed start m.script (more m.began b) m.history m.may_end m.retries t g cause
   allowed_then t g (Died h) was = (died_then t g h was.0, was.1, was.2, was.3)
   allowed_then t g other was = was
 
-  apart_then : (a : Told) → IsApart m.script (IsAllowed start m.script m.began m.history m.logged m.retries) m.told a → IsApart m.script (IsAllowed start m.script (more m.began b) m.history m.logged m.retries) m.told a
-  apart_then a was = elim was as (λ _. IsApart m.script (IsAllowed start m.script (more m.began b) m.history m.logged m.retries) m.told a) [
+  apart_then : (a : Told) → IsApart m.script (IsAllowed start m.script m.began m.history m.may_end m.retries) m.told a → IsApart m.script (IsAllowed start m.script (more m.began b) m.history m.may_end m.retries) m.told a
+  apart_then a was = elim was as (λ _. IsApart m.script (IsAllowed start m.script (more m.began b) m.history m.may_end m.retries) m.told a) [
     | inl stray ↦ inl stray
     | inr caused ↦ inr (caused.0, caused.1, caused.2, allowed_then a.0 caused.0 caused.1 caused.3, caused.4)
   ]
 
-  others_then : (p : Told → Bool) (xs : List Told) → AllByRecursion (IsApart m.script (IsAllowed start m.script m.began m.history m.logged m.retries) m.told) (filter p xs)
-      → AllByRecursion (IsApart m.script (IsAllowed start m.script (more m.began b) m.history m.logged m.retries) m.told) (filter p xs)
+  others_then : (p : Told → Bool) (xs : List Told) → AllByRecursion (IsApart m.script (IsAllowed start m.script m.began m.history m.may_end m.retries) m.told) (filter p xs)
+      → AllByRecursion (IsApart m.script (IsAllowed start m.script (more m.began b) m.history m.may_end m.retries) m.told) (filter p xs)
   others_then p xs all = still _ _ p p apart_then (λ a h. h) xs all
 
   -- what is open then is the new group, or was open in another session

@@ -53,10 +53,10 @@ module _ (start : Database) (m : Machine) (kept : IsKept start m) (texts : AreTe
 
     module _ (answers : List Reply) (began : List Began) (stays : StaysAtEnd start m began m.history) where
       abbrev Allowed : ℕ → Group → Cause → Type 0
-      Allowed = IsAllowed start m.script m.began m.history m.logged m.retries
+      Allowed = IsAllowed start m.script m.began m.history m.may_end m.retries
 
       abbrev AllowedThen : ℕ → Group → Cause → Type 0
-      AllowedThen = IsAllowed start m.script began m.history m.logged m.retries
+      AllowedThen = IsAllowed start m.script began m.history m.may_end m.retries
 
       abbrev after : Machine
       after = record (ended m s o answers) { began = began }

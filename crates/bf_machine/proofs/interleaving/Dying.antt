@@ -370,10 +370,10 @@ module _ (start : Database) (m : Machine) (kept : IsKept start m) (texts : AreTe
 
   -- WHAT IS TOLD is allowed
   abbrev Allowed : ℕ → Group → Cause → Type 0
-  Allowed = IsAllowed start m.script m.began m.history m.logged m.retries
+  Allowed = IsAllowed start m.script m.began m.history m.may_end m.retries
 
   abbrev AllowedThen : ℕ → Group → Cause → Type 0
-  AllowedThen = IsAllowed start m.script began m.history m.logged m.retries
+  AllowedThen = IsAllowed start m.script began m.history m.may_end m.retries
 
   -- a group that has ended is another one
   allowed_then : (t : ℕ) (g : Group) (cause : Cause) → HasEnded m t g → Allowed t g cause → AllowedThen t g cause

@@ -11,7 +11,7 @@ use Rattle.bf_tree.specs.declared.statement.Statement.{Statement}
 use Rattle.bf_tree.specs.declared.statement.Statement.TheVariants.{Commit, Rollback}
 use Rattle.bf_sql.specs.Database.{Database}
 use Rattle.bf_sql.specs.Groups.{ends_block, outcome_by, session_at}
-use Rattle.bf_sql.specs.History.{run_group}
+use Rattle.bf_sql.specs.History.{replayed, run_group}
 use Rattle.bf_sql.specs.Meaning.{executed}
 use Rattle.bf_sql.specs.migrations.Lazy.{LazyState, view_of}
 use Rattle.bf_store.specs.States.{IsSeenAs}
@@ -19,9 +19,9 @@ use Rattle.bf_store.specs.Stores.{IsByPass}
 use Rattle.bf_machine.specs.interleaving.Groups.{HasRun, left_by}
 use Rattle.bf_machine.specs.interleaving.Machines.{Open, Machine, open_at, told_at, answered_in}
 use Rattle.bf_machine.specs.interleaving.Kept.{IsKept, HistoryLegal, OpenGroupsReplay, StoreValid}
-use Rattle.bf_machine.specs.interleaving.Events.{Commits, Aborts, ended, entry_of, commits_behind, put_into, rolled_back, text_of, rest_of}
+use Rattle.bf_machine.specs.interleaving.Events.{Commits, Aborts, IsToCommit, ended, entry_of, commits_behind, put_into, rolled_back, text_of, rest_of}
 use Rattle.bf_machine.proofs.interleaving.Entries.{length-run_group}
-use Rattle.bf_machine.proofs.interleaving.Legal.{died_more, end_keeps_legal}
+use Rattle.bf_machine.proofs.interleaving.Legal.{died_more, end_keeps_legal, replay_with}
 use Rattle.bf_machine.proofs.interleaving.Narrow.{IsNarrow, narrow_in}
 use Rattle.bf_machine.proofs.interleaving.Opens.{commit_keeps_open, unchanged_keeps_open}
 use Rattle.bf_machine.proofs.interleaving.Others.{has_place, starts_differ}
@@ -94,6 +94,21 @@ settled_valid start m kept s o there answers history pass by =
           others_put m.lazy lazily m.locks kept.locks_consistent.apart q.start o.start starts (answered_in m.script t q) (answered_in m.script s o) o.pending q.pending
           (on_view s o own.run) (valid.puts s o there) (on_view t q other.run) (valid.puts t q was.1) seen.lazy_state;
     }
+
+-- WOULD MAKE: what a group that is to commit is to leave makes of the database what a replay of the history makes with its entry
+pub would_make : (start : Database) (m : Machine) (kept : IsKept start m) (texts : AreTexts m.script) (s : ℕ) (can : IsToCommit m s)
+    → view_of (put_into m.lazy can.o.pending) ≡ (replayed m.script start (m.history ++ entry_of m s can.o (Committed (commits_behind 0 m.history + 1)) ∷ [])).1
+would_make start m kept texts s can =
+    let o = can.o in
+    let count = commits_behind 0 m.history + 1 in
+    let valid = kept.store_valid in
+    let own = kept.open_groups_replay.each s o can.is in
+    let ran = whole_run start m kept texts s o can.is count Commit (reply.Committed count) refl (λ view. refl) can.left in
+    let on_view : HasRun m.locks o.start (view_of m.lazy) (answered_in m.script s o) o.pending =
+    subst (λ (db : Database). HasRun m.locks o.start db (answered_in m.script s o) o.pending) (sym valid.seen_as.view) own.run in
+    let left : view_of (put_into m.lazy o.pending) ≡ left_by m.db o.pending =
+    (settles m.lazy valid.seen_as.lazy_state m.locks o.start (answered_in m.script s o) o.pending on_view (valid.puts s o can.is)).view ∙ ap (λ (db : Database). left_by db o.pending) valid.seen_as.view in
+    left ∙ sym (ap (λ (t : List (List Reply) × Database). t.1) (replay_with start m kept s o (Committed count) (o.replies ++ map (λ _. reply.Committed count) (rest_of m s o)) (left_by m.db o.pending) ran))
 
 -- COMMIT KEEPS ALL
 pub commit_keeps_all : (start : Database) (m : Machine) (kept : IsKept start m) (texts : AreTexts m.script) (s : ℕ) (next : Machine) → Commits m s next → IsKept start next

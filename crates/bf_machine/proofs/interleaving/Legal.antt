@@ -66,6 +66,16 @@ module _ (start : Database) (script : Script) (history : List Entry) (e : Entry)
     clash = clash_more s group died.other died.theirs died.clash;
   }
 
+-- a replay of the history with one more entry of an open group
+pub replay_with : (start : Database) (m : Machine) (kept : IsKept start m) (s : ℕ) (o : Open) (outcome : Outcome) (answers : List Reply) (next : Database)
+    → settled (commits_with (commits_behind 0 m.history) outcome) m.db outcome (text_of m s o) ≡ (answers, next)
+    → replayed m.script start (m.history ++ entry_of m s o outcome ∷ []) ≡ ((replayed m.script start m.history).0 ++ answers ∷ [], next)
+replay_with start m kept s o outcome answers next settles =
+    let front = replayed m.script start m.history in
+    replayed-end m.script 0 start m.history (entry_of m s o outcome)
+    ∙ (ap (λ (db : Database). let last = settled (commits_with (commits_behind 0 m.history) outcome) db outcome (text_of m s o) in (front.0 ++ last.0 ∷ [], last.1)) (sym kept.history_legal.replay)
+    ∙ ap (λ (last : List Reply × Database). (front.0 ++ last.0 ∷ [], last.1)) settles)
+
 -- AN END of a group of session s: its statements have these replies, and its entry stands last
 module _ (start : Database) (m : Machine) (kept : IsKept start m) (texts : AreTexts m.script) (s : ℕ) (o : Open) (there : open_at m s ≡ Some o)
     (outcome : Outcome) (answers : List Reply) (next : Database) (is_next : IsDatabase next)
@@ -107,11 +117,7 @@ module _ (start : Database) (m : Machine) (kept : IsKept start m) (texts : AreTe
   told_now = ap (part o.group.0 o.group.1) (told_here m s answers place.0 place.1) ∙ part_behind o.group.0 o.group.1 (told_at m s) answers begins level
 
   replay_now : replayed m.script start (m.history ++ e ∷ []) ≡ ((replayed m.script start m.history).0 ++ answers ∷ [], next)
-  replay_now =
-      let front = replayed m.script start m.history in
-      replayed-end m.script 0 start m.history e
-      ∙ (ap (λ (db : Database). let last = settled (commits_with (commits_behind 0 m.history) outcome) db outcome (text_of m s o) in (front.0 ++ last.0 ∷ [], last.1)) (sym kept.history_legal.replay)
-      ∙ ap (λ (last : List Reply × Database). (front.0 ++ last.0 ∷ [], last.1)) settles)
+  replay_now = replay_with start m kept s o outcome answers next settles
 
   replies_now : map (told after.told) (m.history ++ e ∷ []) ≡ (replayed m.script start (m.history ++ e ∷ [])).0
   replies_now =
@@ -151,10 +157,10 @@ module _ (start : Database) (m : Machine) (kept : IsKept start m) (texts : AreTe
 
   -- causes that were allowed are
   abbrev Allowed : ℕ → Group → Cause → Type 0
-  Allowed = IsAllowed start m.script m.began m.history m.logged m.retries
+  Allowed = IsAllowed start m.script m.began m.history m.may_end m.retries
 
   abbrev AllowedThen : ℕ → Group → Cause → Type 0
-  AllowedThen = IsAllowed start m.script m.began (m.history ++ e ∷ []) m.logged m.retries
+  AllowedThen = IsAllowed start m.script m.began (m.history ++ e ∷ []) m.may_end m.retries
 
   allowed_still : (t : ℕ) (g : Group) (cause : Cause) → Allowed t g cause → AllowedThen t g cause
   allowed_still t g (Died h) allowed = (died_more start m.script m.history e m.began t g h allowed.0, allowed.1, allowed.2, allowed.3)

@@ -1,5 +1,5 @@
 -- A new machine has all that is kept.
-use Rattle.std.proofs.Common.{◌≡◌, ℕ, zero, suc, ◌+◌, Bool, List, [], ◌∷◌, length, map, Some, None, refl, sym, ap, ◌∙◌, arith}
+use Rattle.std.proofs.Common.{◌≡◌, ℕ, zero, suc, ◌+◌, List, [], ◌∷◌, length, map, Some, None, refl, sym, ap, ◌∙◌, arith}
 use Rattle.std.specs.FinMap.{get-empty}
 use Rattle.std.specs.List.{slice_index_or}
 use Rattle.std.proofs.lemmas.List.{length-map}
@@ -11,8 +11,8 @@ use Rattle.bf_tree.specs.declared.script.Session.{Session}
 use Rattle.bf_sql.specs.migrations.Lazy.{view_of}
 use Rattle.bf_store.specs.Stores.{Store}
 use Rattle.bf_store.proofs.seeing.Viewing.{view_is_database}
-use Rattle.bf_machine.specs.interleaving.Machines.{Began, began_at, told_at}
-use Rattle.bf_machine.specs.interleaving.Kept.{IsKept, IsOpening, IsWithinLimits, fresh, no_group, no_replies}
+use Rattle.bf_machine.specs.interleaving.Machines.{Began, MayEnd, began_at, told_at}
+use Rattle.bf_machine.specs.interleaving.Kept.{IsKept, IsOpening, IsWithinLimits, fresh_with, no_group, no_replies}
 use Rattle.bf_machine.proofs.interleaving.Answers.{told_from}
 use Rattle.bf_machine.proofs.interleaving.Texts.{are_texts}
 
@@ -42,8 +42,8 @@ none_began : (n : ℕ) (b : Began) → began_at [] n ≡ Some b → ⊥
 none_began zero b is = cc
 none_began (suc n) b is = cc
 
-pub new_is_kept : (logged : Bool) (store : Store) (script : Script) (retries : ℕ) → IsOpening store → IsWithinLimits script → IsKept (view_of store.lazy) (fresh logged store script retries)
-new_is_kept logged store script retries is within = record {
+pub new_is_kept : (may_end : MayEnd) (store : Store) (script : Script) (retries : ℕ) → IsOpening store → IsWithinLimits script → IsKept (view_of store.lazy) (fresh_with may_end store script retries)
+new_is_kept may_end store script retries is within = record {
   within = within;
   store_valid = record {
     seen_as = record { lazy_state = is.lazy_state; view = refl };
@@ -75,7 +75,7 @@ new_is_kept logged store script retries is within = record {
     begun = λ s g n x. absurd (none_began n _ x.is);
     numbered = λ s g whole has_ended.
         let bounds = (are_texts script).bounds s g whole in
-        let none : length (told_at (fresh logged store script retries) s) ≡ 0 = ap (λ (rs : List Reply). length rs) (nothing_at script.sessions s) in
+        let none : length (told_at (fresh_with may_end store script retries) s) ≡ 0 = ap (λ (rs : List Reply). length rs) (nothing_at script.sessions s) in
         absurd (omega (arith, has_ended, none, bounds.0, bounds.1));
     by_session = λ s one other i j x y before. absurd (none_began i _ x.is);
     by_phase = λ s t one other i j x y before. absurd (none_began i _ x.is);

@@ -1,5 +1,5 @@
 -- What events keep, in whatever order they come.
-use Rattle.std.proofs.Common.{ℕ, Bool, sym, subst}
+use Rattle.std.proofs.Common.{ℕ, sym, subst}
 use Rattle.bf_locks.specs.declared.answer.LockAnswer.{LockAnswer}
 use Rattle.bf_locks.specs.declared.answer.LockAnswer.TheVariants.{Granted, Wait, Die}
 use Rattle.bf_locks.specs.declared.mode.Mode.{Mode}
@@ -9,8 +9,8 @@ use Rattle.bf_sql.specs.Database.{Database}
 use Rattle.bf_sql.specs.migrations.Lazy.{view_of}
 use Rattle.bf_store.specs.Stores.{Store}
 use Rattle.bf_machine.specs.interleaving.Events.{Asks, Event, Reaches, asks, aborts, at_once, begins, commits_now, ends_by_log, executes, finishes, moves, one_more, refuses}
-use Rattle.bf_machine.specs.interleaving.Kept.{IsKept, IsOpening, IsWithinLimits, fresh}
-use Rattle.bf_machine.specs.interleaving.Machines.{Machine}
+use Rattle.bf_machine.specs.interleaving.Kept.{IsKept, IsOpening, IsWithinLimits, fresh_with}
+use Rattle.bf_machine.specs.interleaving.Machines.{Machine, MayEnd}
 use Rattle.bf_machine.proofs.interleaving.Beginning.{begins_keeps_all}
 use Rattle.bf_machine.proofs.interleaving.Dying.{death_keeps_all}
 use Rattle.bf_machine.proofs.interleaving.Ends.{abort_keeps_all, commit_keeps_all}
@@ -42,6 +42,6 @@ module _ (start : Database) where
   reached_keeps_all m _ kept at_once = kept
   reached_keeps_all m _ kept (one_more {now = now} {next = next} before event) = event_keeps_all now next (reached_keeps_all m now kept before) event
 
-pub reached_is_kept : (logged : Bool) (store : Store) (script : Script) (retries : ℕ) (m : Machine) → IsOpening store → IsWithinLimits script → Reaches (view_of store.lazy) (fresh logged store script retries) m
+pub reached_is_kept : (may_end : MayEnd) (store : Store) (script : Script) (retries : ℕ) (m : Machine) → IsOpening store → IsWithinLimits script → Reaches (view_of store.lazy) (fresh_with may_end store script retries) m
     → IsKept (view_of store.lazy) m
-reached_is_kept logged store script retries m is within reached = reached_keeps_all (view_of store.lazy) (fresh logged store script retries) m (new_is_kept logged store script retries is within) reached
+reached_is_kept may_end store script retries m is within reached = reached_keeps_all (view_of store.lazy) (fresh_with may_end store script retries) m (new_is_kept may_end store script retries is within) reached

@@ -38,7 +38,7 @@ module _ (start : Database) (m : Machine) (kept : IsKept start m) (texts : AreTe
   one_if p P x here = elim (p x) as (λ b. AllByRecursion P (cond b (x ∷ []) [])) [ true ↦ (here, tt) | false ↦ tt ]
 
   abbrev Allowed : ℕ → Group → Cause → Type 0
-  Allowed = IsAllowed start m.script m.began m.history m.logged m.retries
+  Allowed = IsAllowed start m.script m.began m.history m.may_end m.retries
 
   others_still : AllByRecursion (IsApart m.script Allowed after.told) (filter kept_by (told_from 1 after.told))
   others_still =

@@ -18,22 +18,28 @@ nothing_put lazy (NewIndex index) none = absurd cc
 nothing_put lazy (Flip plan) none = absurd cc
 nothing_put lazy Nothing none = refl
 
-module _ {J : Type 0} (Answers : LazyState → LazyState → J → J → Result (Unit {0}) KeepError → Type 0) (lazy next : LazyState) (j k : J) where
-  pub none_beside : next ≡ lazy → k ≡ j → IsBeside Answers lazy next j k
+module _ {J : Type 0} (Answers : LazyState → LazyState → J → J → Result (Unit {0}) KeepError → Type 0) (Change : LazyState → Type 0) (lazy next : LazyState) (j k : J) where
+  pub none_beside : next ≡ lazy → k ≡ j → IsBeside Answers Change lazy next j k
   none_beside same alike = inl (same, alike)
 
-  pub made_beside : (change : LazyState) → next ≡ change → Answers lazy change j k (Ok tt) → IsBeside Answers lazy next j k
+  pub made_beside : (change : LazyState) → next ≡ change → Answers lazy change j k (Ok tt) → IsBeside Answers Change lazy next j k
   made_beside change is kept = inr (inl (subst (λ (next : LazyState). Answers lazy next j k (Ok tt)) (sym is) kept))
 
-  pub unkept_beside : (change : LazyState) (why : KeepError) → next ≡ lazy → Answers lazy change j k (Err why) → IsBeside Answers lazy next j k
-  unkept_beside change why same unkept = inr (inr (same, (change, why, unkept)))
+  pub unkept_beside : (change : LazyState) → Change change → (why : KeepError) → next ≡ lazy → Answers lazy change j k (Err why) → IsBeside Answers Change lazy next j k
+  unkept_beside change is why same unkept = inr (inr (same, (change, is, (why, unkept))))
+
+  -- of other changes
+  pub beside_weaker : (Other : LazyState → Type 0) → ((change : LazyState) → Change change → Other change) → IsBeside Answers Change lazy next j k → IsBeside Answers Other lazy next j k
+  beside_weaker Other weaker (inl same) = inl same
+  beside_weaker Other weaker (inr (inl kept)) = inr (inl kept)
+  beside_weaker Other weaker (inr (inr not)) = inr (inr (not.0, (not.1.0, weaker not.1.0 not.1.1, not.1.2)))
 
 -- A MOVE beside what was kept of it: that of the granules which had not moved, or nothing, where all had
-module _ {J : Type 0} (Answers : LazyState → LazyState → J → J → Result (Unit {0}) KeepError → Type 0) (lazy : LazyState) (granules : List Granule) (j k : J) (kept : Bool)
+module _ {J : Type 0} (Answers : LazyState → LazyState → J → J → Result (Unit {0}) KeepError → Type 0) (Change : LazyState → Type 0) (lazy : LazyState) (granules : List Granule) (j k : J) (kept : Bool)
     (one : kept ≡ true → Answers lazy (with_moved lazy granules) j k (Ok tt))
     (nothing : kept ≡ false → (to_move lazy.last granules ≡ []) × (k ≡ j)) where
-  pub moved_beside : (next : LazyState) → next ≡ with_moved lazy granules → (to_move lazy.last granules ≡ [] → next ≡ lazy) → IsBeside Answers lazy next j k
-  moved_beside next is none_moved = elim (cases_Bool kept) as (λ _. IsBeside Answers lazy next j k) [
-    | inl some ↦ made_beside Answers lazy next j k (with_moved lazy granules) is (one some)
-    | inr none ↦ let was = nothing none in none_beside Answers lazy next j k (none_moved was.0) was.1
+  pub moved_beside : (next : LazyState) → next ≡ with_moved lazy granules → (to_move lazy.last granules ≡ [] → next ≡ lazy) → IsBeside Answers Change lazy next j k
+  moved_beside next is none_moved = elim (cases_Bool kept) as (λ _. IsBeside Answers Change lazy next j k) [
+    | inl some ↦ made_beside Answers Change lazy next j k (with_moved lazy granules) is (one some)
+    | inr none ↦ let was = nothing none in none_beside Answers Change lazy next j k (none_moved was.0) was.1
   ]

@@ -14,11 +14,15 @@ use Rattle.bf_machine.specs.declared.so_far.SessionSoFar.{SessionSoFar}
 use Rattle.bf_machine.specs.interleaving.Calls.{CanFail, IsPlace}
 use Rattle.bf_machine.specs.interleaving.Events.{EndsByLog, ended, text_of}
 use Rattle.bf_machine.specs.interleaving.Kept.{is_of_log}
-use Rattle.bf_machine.specs.interleaving.Machines.{Machine, Open, open_at}
+use Rattle.bf_machine.specs.interleaving.Machines.{EndedGroup, IsAmong, Machine, Open, any_if, open_at}
 use Rattle.bf_machine.specs.interleaving.Seen.{group_seen}
 use Rattle.bf_machine.proofs.interleaving.Failing.{log_keeps_all}
 use Rattle.bf_machine.proofs.interleaving.Texts.{are_texts}
 use Rattle.bf_machine.proofs.keeping.Closing.{SoundWith, all_told, bounds, closed_seen, closed_sound, room_for_text, seen_with, there}
+
+-- where a log may end any group it may end this one
+any_may : (logged : Bool) → logged ≡ true → (g : EndedGroup) → IsAmong (any_if logged) g
+any_may logged may g = subst (λ (b : Bool). IsAmong (any_if b) g) (sym may) tt
 
 -- THE OPEN GROUP g of a session, of which the code has x
 module _ {N : Type 0} {opening : Database} {registry : Registry} {given : Script} {logged : Bool} (i : Inside N) (sound : SoundWith logged i i.locks i.began.items i.sessions.items opening registry given) (before : Machine)
@@ -61,7 +65,7 @@ module _ {N : Type 0} {opening : Database} {registry : Registry} {given : Script
     ends : EndsByLog m s then
     ends =
         let seen_so : CanFail m s = subst (λ (m : Machine). CanFail m s) (sym view) can in
-        record { current = seen_so.current; o = o; is = is_open; cause = cause; logged = may; of_log = of_log; goes = then_is }
+        record { current = seen_so.current; o = o; is = is_open; cause = cause; may = any_may logged may (record { session = s; group = o.group; cause = cause }); of_log = of_log; goes = then_is }
 
     pub fails : (by : EndsByLog before s then) × (by.cause ≡ cause)
     unfolding ends

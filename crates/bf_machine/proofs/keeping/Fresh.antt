@@ -16,7 +16,7 @@ use Rattle.bf_store.specs.Stores.{IsOf, Store}
 use Rattle.bf_sql.specs.Groups.{no_session, session_at}
 use Rattle.bf_machine.specs.declared.so_far.SessionSoFar.{SessionSoFar}
 use Rattle.bf_machine.specs.interleaving.Kept.{IsKept, IsOpening, IsWithinLimits, fresh, no_group, no_replies}
-use Rattle.bf_machine.specs.interleaving.Machines.{Began, Open, began_at}
+use Rattle.bf_machine.specs.interleaving.Machines.{Began, Open, any_if, began_at}
 use Rattle.bf_machine.specs.interleaving.Seen.{AreNew, IsNew, IsSound, group_seen, is_open, open_seen, seen, told_before, told_seen}
 use Rattle.bf_machine.proofs.interleaving.New.{new_is_kept}
 use Rattle.bf_machine.proofs.interleaving.Settled.{narrow_view}
@@ -89,7 +89,7 @@ new_is_sound opening registry given logged store script retries sessions history
   narrow = subst (λ (db : Database). HasNarrowTables (catalog_of db)) view (narrow_view store.lazy is.lazy_state is.narrow);
   one = one;
   kept =
-      let made : IsKept opening (fresh logged store script retries) = subst (λ (db : Database). IsKept db (fresh logged store script retries)) view (new_is_kept logged store script retries is within) in
+      let made : IsKept opening (fresh logged store script retries) = subst (λ (db : Database). IsKept db (fresh logged store script retries)) view (new_is_kept (any_if logged) store script retries is within) in
       rw none (subst (IsKept opening) (sym (seen_new logged store script retries sessions all)) made);
   counted = rw none refl;
   sessions_numbered = numbers;

@@ -1,7 +1,7 @@
 -- What a turn makes of the groups that are open, and of the statements that are left.
 use Rattle.std.proofs.Common.{◌≡◌, ◌⊎◌, ℕ, ◌+◌, ◌<◌, ◌≤◌, false, List, [], ◌++◌, length, Option, Some, None, refl, sym, ap, ap₂, subst, ◌∙◌, arith, inl, inr}
 use Rattle.std.specs.Option.{option_map_or}
-use Rattle.std.proofs.lemmas.Bool.{cases_eq, false≢true}
+use Rattle.std.proofs.lemmas.Bool.{cases_eq}
 use Rattle.bf_locks.specs.declared.answer.LockAnswer.{LockAnswer}
 use Rattle.bf_locks.specs.declared.answer.LockAnswer.TheVariants.{Die, Granted, Wait}
 use Rattle.bf_locks.specs.declared.mode.Mode.{Mode}
@@ -16,8 +16,9 @@ use Rattle.bf_machine.specs.declared.stand.Turn.TheVariants as turn
 use Rattle.bf_machine.specs.interleaving.Calls.{IsPlace, replies_at, statements_at}
 use Rattle.bf_machine.specs.interleaving.Events.{Event, Reaches, aborts, asked, asks, at_once, begins, commits_now, died, ends_by_log, executes, finishes, one_more, refuses, told_at_death, moves}
 use Rattle.bf_machine.specs.interleaving.Kept.{IsKept}
-use Rattle.bf_machine.specs.interleaving.Machines.{Machine, Open, open_at, told_at, with_replies}
+use Rattle.bf_machine.specs.interleaving.Machines.{IsAmong, Machine, MayEnd, Open, these, open_at, told_at, with_replies}
 use Rattle.bf_machine.specs.interleaving.Serving.{CanGo, CannotGo, Driven, HasFailed, HasGoneOn, IsAlone, IsBeside, IsTurn, IsYoungest, Serves, at_rest, one_driven, unanswered}
+use Rattle.bf_machine.proofs.interleaving.Naming.{none_among}
 use Rattle.bf_machine.proofs.interleaving.Others.{has_place}
 use Rattle.bf_machine.proofs.interleaving.Places.{set_other, set_same}
 use Rattle.bf_machine.proofs.served.Events.{serves_both}
@@ -52,30 +53,30 @@ module _ (start : Database) where
   reached_script m _ at_once = refl
   reached_script m _ (one_more {now = now} {next = next} before event) = event_script now next event ∙ reached_script m now before
 
--- and so it stays whether a log may end groups
+-- and so stay the groups that a log may end
 module _ (start : Database) where
-  asked_logged : (m : Machine) (s : ℕ) (answer : LockAnswer) (o : Open) (name : LockName) (mode : Mode) → (asked m s o name mode answer).logged ≡ m.logged
-  asked_logged m s Granted o name mode = refl
-  asked_logged m s (Wait others) o name mode = refl
-  asked_logged m s (Die older) o name mode = refl
+  asked_may_end : (m : Machine) (s : ℕ) (answer : LockAnswer) (o : Open) (name : LockName) (mode : Mode) → (asked m s o name mode answer).may_end ≡ m.may_end
+  asked_may_end m s Granted o name mode = refl
+  asked_may_end m s (Wait others) o name mode = refl
+  asked_may_end m s (Die older) o name mode = refl
 
-  event_logged : (m next : Machine) → Event start m next → next.logged ≡ m.logged
-  event_logged m next (begins s by) = elim by.goes as (λ _. next.logged ≡ m.logged) [
-    | inl first ↦ ap (λ (k : Machine). k.logged) first.1
-    | inr again ↦ ap (λ (k : Machine). k.logged) again.3
+  event_may_end : (m next : Machine) → Event start m next → next.may_end ≡ m.may_end
+  event_may_end m next (begins s by) = elim by.goes as (λ _. next.may_end ≡ m.may_end) [
+    | inl first ↦ ap (λ (k : Machine). k.may_end) first.1
+    | inr again ↦ ap (λ (k : Machine). k.may_end) again.3
   ]
-  event_logged m next (asks s name mode answer by) = ap (λ (k : Machine). k.logged) by.goes ∙ asked_logged m s answer by.o name mode
-  event_logged m next (executes s by) = ap (λ (k : Machine). k.logged) by.goes
-  event_logged m next (refuses s by) = ap (λ (k : Machine). k.logged) by.goes
-  event_logged m next (commits_now s by) = ap (λ (k : Machine). k.logged) by.goes
-  event_logged m next (moves granules by) = ap (λ (k : Machine). k.logged) by.goes
-  event_logged m next (aborts s by) = ap (λ (k : Machine). k.logged) by.goes
-  event_logged m next (ends_by_log s by) = ap (λ (k : Machine). k.logged) by.goes
-  event_logged m next (finishes s same) = ap (λ (k : Machine). k.logged) same
+  event_may_end m next (asks s name mode answer by) = ap (λ (k : Machine). k.may_end) by.goes ∙ asked_may_end m s answer by.o name mode
+  event_may_end m next (executes s by) = ap (λ (k : Machine). k.may_end) by.goes
+  event_may_end m next (refuses s by) = ap (λ (k : Machine). k.may_end) by.goes
+  event_may_end m next (commits_now s by) = ap (λ (k : Machine). k.may_end) by.goes
+  event_may_end m next (moves granules by) = ap (λ (k : Machine). k.may_end) by.goes
+  event_may_end m next (aborts s by) = ap (λ (k : Machine). k.may_end) by.goes
+  event_may_end m next (ends_by_log s by) = ap (λ (k : Machine). k.may_end) by.goes
+  event_may_end m next (finishes s same) = ap (λ (k : Machine). k.may_end) same
 
-  pub reached_logged : (m now : Machine) → Reaches start m now → now.logged ≡ m.logged
-  reached_logged m _ at_once = refl
-  reached_logged m _ (one_more {now = now} {next = next} before event) = event_logged now next event ∙ reached_logged m now before
+  pub reached_may_end : (m now : Machine) → Reaches start m now → now.may_end ≡ m.may_end
+  reached_may_end m _ at_once = refl
+  reached_may_end m _ (one_more {now = now} {next = next} before event) = event_may_end now next event ∙ reached_may_end m now before
 
 -- what is seen of another session
 module _ (m next : Machine) (t : ℕ) (script : next.script ≡ m.script) (same : (open_at next t ≡ open_at m t) × (told_at next t ≡ told_at m t)) where
@@ -119,10 +120,10 @@ module _ {start : Database} (m : Machine) (s : ℕ) (next : Machine) (served : H
   ]
 
   -- and where no log ends groups it has gone on
-  pub served_goes_on : m.logged ≡ false → HasGoneOn m s start next
+  pub served_goes_on : m.may_end ≡ these [] → HasGoneOn m s start next
   served_goes_on unlogged = elim served as (λ _. HasGoneOn m s start next) [
     | inl gone ↦ gone
-    | inr failed ↦ absurd (false≢true (sym unlogged ∙ (sym (reached_logged start m failed.1.now failed.1.reached) ∙ failed.1.by.logged)))
+    | inr failed ↦ let by = failed.1.by in absurd (none_among (record { session = s; group = by.o.group; cause = by.cause }) (subst (λ (may_end : MayEnd). IsAmong may_end (record { session = s; group = by.o.group; cause = by.cause })) (reached_may_end start m failed.1.now failed.1.reached ∙ unlogged) by.may))
   ]
 
 -- a death closes the session and leaves the others

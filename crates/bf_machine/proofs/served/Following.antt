@@ -23,7 +23,7 @@ use Rattle.bf_machine.specs.declared.stand.Turn.{Turn}
 use Rattle.bf_machine.specs.interleaving.Events.{put_into, stands_inside, text_of}
 use Rattle.bf_machine.specs.interleaving.Groups.{Flip, HasRun, IsSchemaStep, NewIndex, NewTable, Nothing, Pending, Rows, answered_by, left_by}
 use Rattle.bf_machine.specs.interleaving.Kept.{IsKept, IsOpenGroup}
-use Rattle.bf_machine.specs.interleaving.Machines.{Machine, Open, answered_in, open_at}
+use Rattle.bf_machine.specs.interleaving.Machines.{Machine, Open, these, answered_in, open_at}
 use Rattle.bf_machine.specs.interleaving.Serving.{CanGo, HasAnswered, HasEndedAlone, HasGoneOn, HasMore, IsAlone, IsEnteredWith, IsFollowed, IsRecorded, IsTurn, answered_text, is_in_block, last_behind, sees}
 use Rattle.bf_machine.proofs.interleaving.Running.{inside, ran}
 use Rattle.bf_machine.proofs.interleaving.Texts.{IsText, are_texts, block, lone}
@@ -270,7 +270,7 @@ module _ {start : Database} (m : Machine) (kept : IsKept start m) (s : ℕ) wher
 
 -- where nothing is open, a session's turn and the end of its group move what they need
 pub served_moves : {start : Database} (m : Machine) → IsKept start m → (s : ℕ) → ((u : ℕ) → open_at m u ≡ None) → CanGo m s → (t : Turn) (next : Machine) → IsKept start next → IsTurn m s start t next
-    → m.logged ≡ false → (then : Machine) → ((u : ℕ) → IsAlone next u → IsFollowed next u start → IsFollowed then u start) → ((u : ℕ) → open_at then u ≡ None)
+    → m.may_end ≡ these [] → (then : Machine) → ((u : ℕ) → IsAlone next u → IsFollowed next u start → IsFollowed then u start) → ((u : ℕ) → open_at then u ≡ None)
     → moving_seen m.lazy.last ≡ movement m.script start m.history → moving_seen then.lazy.last ≡ movement then.script start then.history
 served_moves {start = start} m kept s closed goes t next kept_next taken unlogged then rest closed_then moved =
     let gone = served_goes_on m s next (alone_goes_on m kept s t next taken (λ u apart. closed u) goes) unlogged in

@@ -24,8 +24,9 @@ use Rattle.bf_machine.specs.InOrder.{IsRunInOrder, NoCause, entries_in_order, en
 use Rattle.bf_machine.specs.Movement.{sweep_told}
 use Rattle.bf_machine.specs.interleaving.Calls.{HasSessionEnded, IsPlace}
 use Rattle.bf_machine.specs.interleaving.Kept.{AllowedNow, IsKept}
-use Rattle.bf_machine.specs.interleaving.Machines.{Began, Group, Machine, Open, open_at, told_at, transcripts_of, with_replies}
+use Rattle.bf_machine.specs.interleaving.Machines.{Began, Group, IsAmong, Machine, MayEnd, Open, open_at, told_at, transcripts_of, with_replies}
 use Rattle.bf_machine.specs.interleaving.Serving.{IsInSequence, SessionsRiseFrom, deaths_at}
+use Rattle.bf_machine.proofs.interleaving.Naming.{none_among}
 use Rattle.bf_machine.proofs.interleaving.Answers.{Told, all_of_back, all_of_front, told_from, told_in}
 use Rattle.bf_machine.proofs.interleaving.Entries.{any_of}
 use Rattle.bf_machine.proofs.interleaving.Places.{from_one}
@@ -310,7 +311,7 @@ module _ (m : Machine) (kept : IsKept empty_database m) (sequence : IsInSequence
       let alive : deaths_at m allowed.0.own ≡ has.deaths = ap (λ (found : Option Began). option_map_or (λ (b : Began). b.deaths) found []) has.is in
       let size : length (allowed.1 ++ h ∷ []) ≡ 0 = ap (λ (ds : List ℕ). length ds) (sym allowed.2 ∙ (sym alive ∙ sequence.no_death allowed.0.own)) in
       omega (arith, size, length-append allowed.1 (h ∷ []))
-  no_cause s group other allowed = false≢true (sym sequence.unlogged ∙ allowed)
+  no_cause s group other allowed = none_among (record { session = s; group = group; cause = other }) (subst (λ (may_end : MayEnd). IsAmong may_end (record { session = s; group = group; cause = other })) sequence.unlogged allowed)
 
   -- each group of the text has its entry
   in_history : (s : ℕ) (g : Group) → IsPlace m.script s → Contains (groups_in m.script s) g → Contains {X = Placed} (map placed m.history) (s, g)

@@ -17,7 +17,7 @@ use Rattle.bf_machine.specs.declared.stand.Stand.{Stand}
 use Rattle.bf_machine.specs.declared.stand.Stand.TheVariants as stand
 use Rattle.bf_machine.specs.interleaving.Calls.{HasSessionEnded, IsPlace, StandsAs, statements_at}
 use Rattle.bf_machine.specs.interleaving.Kept.{IsCurrent, phase_of}
-use Rattle.bf_machine.specs.interleaving.Machines.{Began, Machine, open_at, told_at}
+use Rattle.bf_machine.specs.interleaving.Machines.{Began, Machine, these, open_at, told_at}
 use Rattle.bf_machine.specs.interleaving.Serving.{CannotGo, IsInSequence, Serves, SessionsRiseFrom, can_go, deaths_at}
 use Rattle.bf_machine.proofs.served.Stuck.{place_or_none}
 
@@ -131,7 +131,7 @@ module _ {start : Database} (m : Machine) (sequence : IsInSequence start m) (fir
       both P [] ys here there = there
       both P (x ∷ xs) ys here there = (here.0, both P xs ys here.1 there)
 
-      pub stays_in_sequence : next.logged ≡ false → ((t : ℕ) → open_at next t ≡ None) → moving_seen next.lazy.last ≡ movement next.script start next.history → IsInSequence start next
+      pub stays_in_sequence : next.may_end ≡ these [] → ((t : ℕ) → open_at next t ≡ None) → moving_seen next.lazy.last ≡ movement next.script start next.history → IsInSequence start next
       stays_in_sequence unlogged closed moved =
           let more = serves.entries.0 in
           let same : next.history ≡ m.history ++ more = serves.entries.2 in record {

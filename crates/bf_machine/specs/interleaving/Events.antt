@@ -31,7 +31,7 @@ use Rattle.bf_store.specs.Calls.{after_commit}
 use Rattle.bf_store.specs.Stores.{IsByPass}
 use Rattle.bf_store.specs.States.{AreGranulesIfAny, HaveMoved, frozen_lazily, with_moved}
 use Rattle.bf_machine.specs.interleaving.Groups.{Pending, Rows, NewTable, NewIndex, Flip, Nothing, footprint_in, left_by, pending_behind, reply_on}
-use Rattle.bf_machine.specs.interleaving.Machines.{Group, Began, Open, Machine, open_at, told_at, began_at}
+use Rattle.bf_machine.specs.interleaving.Machines.{Group, Began, Open, Machine, IsAmong, open_at, told_at, began_at}
 use Rattle.bf_machine.specs.interleaving.Kept.{HasStart, HasEnded, IsCurrent, is_of_log}
 
 -- how many entries are committed, behind n that are
@@ -191,7 +191,7 @@ module _ (m : Machine) (s : ℕ) where
     pub o : Open
     pub is : open_at m s ≡ Some o
     pub cause : Cause
-    pub logged : m.logged ≡ true
+    pub may : IsAmong m.may_end (record { session = s; group = o.group; cause = cause })
     pub of_log : is_of_log cause ≡ true
     pub goes : next ≡ ended o (map (λ _. reply.Ended cause) (text_of m s o))
 

@@ -1,22 +1,22 @@
 -- A MACHINE BESIDE A JOURNAL, which keeps each change of its store before it is made.
-use Rattle.std.specs.Prelude.{◌≡◌, ◌⊎◌, ℕ, ◌≤◌, Bool, true, false, List, [], length, map, Option, Result, Ok, Err, IsTrue, ⊤}
+use Rattle.std.specs.Prelude.{◌≡◌, ◌⊎◌, ℕ, ◌≤◌, Bool, true, false, List, [], ◌∷◌, ◌++◌, length, map, Option, Result, Ok, Err, IsTrue, ⊤}
 use Rattle.std.specs.List.{AllByRecursion}
 use Rattle.bf_base.specs.declared.granule.Granule.{Granule}
 use Rattle.bf_base.specs.Lists.{rises}
 use Rattle.bf_sql.specs.Database.{Database}
 use Rattle.bf_sql.specs.migrations.Lazy.{LazyState, Migration}
 use Rattle.bf_store.specs.Calls.{tells}
-use Rattle.bf_store.specs.States.{AreGranulesIfAny, place_cmp}
+use Rattle.bf_store.specs.States.{AreGranulesIfAny, place_cmp, with_moved}
 use Rattle.bf_tree.specs.declared.reply.Cause.{Cause}
 use Rattle.bf_tree.specs.declared.script.Script.{Script}
 use Rattle.bf_tree.specs.declared.script.Session.{Session}
 use Rattle.bf_tree.specs.declared.statement.Statement.{Statement}
 use Rattle.bf_machine.specs.declared.journal.KeepError.{KeepError}
 use Rattle.bf_machine.specs.declared.journal.KeepError.TheVariants.{Ended, Memory}
-use Rattle.bf_machine.specs.interleaving.Events.{Event, ends_by_log}
+use Rattle.bf_machine.specs.interleaving.Events.{Event, IsToCommit, ends_by_log, put_into}
 use Rattle.bf_machine.specs.interleaving.Groups.{IsLeftBy, Pending, Rows, Nothing}
 use Rattle.bf_machine.specs.interleaving.Kept.{is_of_log}
-use Rattle.bf_machine.specs.interleaving.Machines.{Machine}
+use Rattle.bf_machine.specs.interleaving.Machines.{EndedGroup, Machine}
 
 -- a record tells something of what an open group is to leave
 abbrev pub leaves_something : LazyState → Pending → Bool
@@ -47,29 +47,63 @@ IsStated Says db (Rows writes) = ⊤
 IsStated Says db Nothing = ⊤
 IsStated Says db change = (s : Statement) × Says s × IsLeftBy db s change
 
--- a journal ends a group by a cause of a log alone, where it may end groups, and then it tells the cause
-abbrev pub IsToldIfEnded : Bool → (Cause → Type 0) → Result (Unit {0}) KeepError → Type 0
-IsToldIfEnded ends Tells (Ok done) = ⊤
-IsToldIfEnded ends Tells (Err (Ended cause)) = (ends ≡ true) × IsTrue (is_of_log cause) × Tells cause
-IsToldIfEnded ends Tells (Err Memory) = ⊤
+-- a journal ends a group by a cause of a log alone, and where it may end groups
+abbrev pub IsOfLogIfEnded : Bool → Result (Unit {0}) KeepError → Type 0
+IsOfLogIfEnded ends (Ok done) = ⊤
+IsOfLogIfEnded ends (Err (Ended cause)) = (ends ≡ true) × IsTrue (is_of_log cause)
+IsOfLogIfEnded ends (Err Memory) = ⊤
+
+-- A CHANGE of a lazy state: what a group is to leave
+abbrev pub IsPutInto : LazyState → Pending → LazyState → Type 0
+IsPutInto lazy pending next = next ≡ put_into lazy pending
+
+-- or a move of granules of the last migration
+abbrev pub IsMoveIn : LazyState → LazyState → Type 0
+IsMoveIn lazy next = (granules : List Granule) × AreGranulesIfAny lazy.last granules × (next ≡ with_moved lazy granules)
+
+-- for the open group of session s, which is to commit or needs the move
+abbrev pub IsChangeFor : Machine → ℕ → LazyState → Type 0
+IsChangeFor m s next = ((can : IsToCommit m s) × IsPutInto m.lazy can.o.pending next) ⊎ IsMoveIn m.lazy next
+
+-- for that of some session
+abbrev pub IsChangeOf : Machine → LazyState → Type 0
+IsChangeOf m next = (s : ℕ) × IsChangeFor m s next
+
+-- the group that an event ends by a cause of a log, if it does
+abbrev pub ended_by : {start : Database} {m next : Machine} → Event start m next → List EndedGroup
+ended_by (ends_by_log s by) = record { session = s; group = by.o.group; cause = by.cause } ∷ []
+ended_by other = []
 
 module _ {J : Type 0} (Answers : LazyState → LazyState → J → J → Result (Unit {0}) KeepError → Type 0) where
-  -- BESIDE: where the store stays, the journal does, or it has answered why it does not keep some change; and where the store
-  -- changes, the journal has kept that change
-  abbrev pub IsBeside : LazyState → LazyState → J → J → Type 0
-  IsBeside lazy next j k =
+  -- BESIDE: the store changes where the journal has kept that change; else both stay, or the journal has not kept one of these changes
+  abbrev pub IsBeside : (LazyState → Type 0) → LazyState → LazyState → J → J → Type 0
+  IsBeside Change lazy next j k =
       ((next ≡ lazy) × (k ≡ j))
       ⊎ Answers lazy next j k (Ok tt)
-      ⊎ ((next ≡ lazy) × ((other : LazyState) × (why : KeepError) × Answers lazy other j k (Err why)))
+      ⊎ ((next ≡ lazy) × ((other : LazyState) × Change other × ((why : KeepError) × Answers lazy other j k (Err why))))
 
-module _ {J : Type 0} (Answers : LazyState → LazyState → J → J → Result (Unit {0}) KeepError → Type 0) (Tells : J → Cause → Type 0) (start : Database) where
-  -- a group ends by a cause that the journal tells
-  abbrev pub IsToldBy : {m next : Machine} → Event start m next → J → Type 0
-  IsToldBy (ends_by_log s by) j = Tells j by.cause
-  IsToldBy other j = ⊤
+  -- REFUSED: the journal has not kept one of these changes, for this cause
+  abbrev pub IsRefused : (LazyState → Type 0) → LazyState → J → J → Cause → Type 0
+  IsRefused Change lazy j k cause = (other : LazyState) × Change other × Answers lazy other j k (Err (Ended cause))
+
+  -- an event beside the journal: a group ends by the cause for which the journal does not keep a change for it
+  abbrev pub IsEventBeside : {start : Database} {m next : Machine} → Event start m next → J → J → Type 0
+  IsEventBeside {m = m} (ends_by_log s by) j k = IsRefused (IsChangeFor m s) m.lazy j k by.cause
+  IsEventBeside {m = m} {next = next} other j k = IsBeside (IsChangeOf m) m.lazy next.lazy j k
 
   -- KEEPS: events one after the other, each beside the journal
-  pub data Keeps (m : Machine) (j : J) : Machine → J → Type 0 where
-    nothing_yet : Keeps m j m j
-    one_beside : {now next : Machine} {k l : J} → Keeps m j now k → (event : Event start now next) → IsToldBy event k
-        → IsBeside Answers now.lazy next.lazy k l → Keeps m j next l
+  pub data Keeps (start : Database) (m : Machine) (j : J) : Machine → J → Type 0 where
+    nothing_yet : Keeps start m j m j
+    one_beside : {now next : Machine} {k l : J} → Keeps start m j now k → (event : Event start now next) → IsEventBeside event k l → Keeps start m j next l
+
+  -- the groups that they end by a cause of the log, in order
+  abbrev pub ended_in : {start : Database} {m : Machine} {j : J} {next : Machine} {l : J} → Keeps start m j next l → List EndedGroup
+  ended_in nothing_yet = []
+  ended_in (one_beside before event beside) = ended_in before ++ ended_by event
+
+  -- NOT MOVED: a call that tells a cause, of a log that may end groups, has come to a move that the journal has not kept for it
+  abbrev pub IsRefusedIfEnded : Bool → Database → Machine → J → Machine → J → Result (Unit {0}) KeepError → Type 0
+  IsRefusedIfEnded ends start m j next l (Ok done) = ⊤
+  IsRefusedIfEnded ends start m j next l (Err (Ended cause)) =
+      (ends ≡ true) × IsTrue (is_of_log cause) × ((k : J) × Keeps start m j next k × IsRefused (IsMoveIn next.lazy) next.lazy k l cause)
+  IsRefusedIfEnded ends start m j next l (Err Memory) = ⊤

@@ -27,7 +27,7 @@ use Rattle.bf_store.specs.States.{IsLazy, IsOpenLazily, IsSeenAs}
 use Rattle.bf_store.specs.Stores.{IsByPass, Store}
 use Rattle.bf_machine.specs.InOrder.{none_open}
 use Rattle.bf_machine.specs.interleaving.Groups.{Pending, Rows, Flip, footprint_in, HasRun}
-use Rattle.bf_machine.specs.interleaving.Machines.{Group, Began, Open, Machine, open_at, told_at, began_at, answered_in, has_open, transcripts_of}
+use Rattle.bf_machine.specs.interleaving.Machines.{Group, Began, Open, Machine, MayEnd, IsAmong, any_if, open_at, told_at, began_at, answered_in, has_open, transcripts_of}
 
 -- something holds of one of a group's statements, given whether it stands in the group's block
 abbrev pub SomeOf : (Bool → Statement → Type 0) → Bool → List Statement → Type 0
@@ -106,11 +106,10 @@ module _ (start : Database) (script : Script) (began : List Began) (history : Li
     pub older : h < own
     pub clash : Clash start script history s group other theirs
 
-  -- a group ends by the last of its deaths, where it has died once more than the retries; or, where a log may end groups, by one of
-  -- its causes
-  abbrev pub IsAllowed : Bool → ℕ → ℕ → Group → Cause → Type 0
-  IsAllowed logged retries s group (Died h) = (died : DiedFor s group h) × (before : List ℕ) × (died.has.deaths ≡ before ++ h ∷ []) × (length before ≡ retries)
-  IsAllowed logged retries s group other = IsTrue logged
+  -- a group ends by the last of its deaths, where it has died once more than the retries; or by a cause by which a log may end it
+  abbrev pub IsAllowed : MayEnd → ℕ → ℕ → Group → Cause → Type 0
+  IsAllowed may_end retries s group (Died h) = (died : DiedFor s group h) × (before : List ℕ) × (died.has.deaths ≡ before ++ h ∷ []) × (length before ≡ retries)
+  IsAllowed may_end retries s group other = IsAmong may_end (record { session = s; group = group; cause = other })
 
 -- what can be put into a lazy state: the writes of an open transaction, and a flip, as it is planned in its catalog, of which
 -- nothing is against it
@@ -126,7 +125,7 @@ CanBePutInto lazy other = Unit {0}
 
 module _ (start : Database) (m : Machine) where
   abbrev pub AllowedNow : ℕ → Group → Cause → Type 0
-  AllowedNow = IsAllowed start m.script m.began m.history m.logged m.retries
+  AllowedNow = IsAllowed start m.script m.began m.history m.may_end m.retries
 
   -- HISTORY LEGAL: transcripts and history are legal from the opening database, and the database is the replay's. No group is
   -- open in the transcripts: the replies of open groups stand apart
@@ -224,11 +223,11 @@ pub record IsOpening (store : Store) : Type 0 where
   pub by_pass : IsByPass store.lazy.last store.migration
 
 -- NEW: nothing has begun
-abbrev pub fresh : Bool → Store → Script → ℕ → Machine
-fresh logged store script retries = record {
+abbrev pub fresh_with : MayEnd → Store → Script → ℕ → Machine
+fresh_with may_end store script retries = record {
   script = script;
   retries = retries;
-  logged = logged;
+  may_end = may_end;
   db = view_of store.lazy;
   lazy = store.lazy;
   pass = store.migration;
@@ -238,3 +237,7 @@ fresh logged store script retries = record {
   told = map no_replies script.sessions;
   history = [];
 }
+
+-- and a log may end any group, or none
+abbrev pub fresh : Bool → Store → Script → ℕ → Machine
+fresh logged = fresh_with (any_if logged)

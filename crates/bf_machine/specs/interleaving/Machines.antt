@@ -1,8 +1,9 @@
 -- THE SEEN STATE of a machine whose sessions take turns, over one database.
-use Rattle.std.specs.Prelude.{ℕ, ◌&&◌, ◌==◌, Bool, false, List, [], ◌∷◌, ◌++◌, map, zip, Option, Some, None, slice_index_or}
+use Rattle.std.specs.Prelude.{ℕ, ◌&&◌, ◌==◌, Bool, true, false, List, [], ◌∷◌, ◌++◌, map, zip, Option, Some, None, slice_index_or, Contains}
 use Rattle.boxcar.specs.Table.{Where}
 use Rattle.bf_locks.specs.Locks.{Locks}
 use Rattle.bf_tree.specs.declared.history.Entry.{Entry}
+use Rattle.bf_tree.specs.declared.reply.Cause.{Cause}
 use Rattle.bf_tree.specs.declared.reply.Reply.{Reply}
 use Rattle.bf_tree.specs.declared.script.Script.{Script}
 use Rattle.bf_sql.specs.Database.{Database}
@@ -29,13 +30,33 @@ pub record Open : Type 0 where
   pub replies : List Reply
   pub pending : Pending
 
+-- a group that a log has ended, by this cause
+pub record EndedGroup : Type 0 where
+  pub session : ℕ
+  pub group : Group
+  pub cause : Cause
+
+-- which groups a log may end, and by which causes: any, or these alone
+pub data MayEnd : Type 0 where
+  any : MayEnd
+  these : List EndedGroup → MayEnd
+
+abbrev pub IsAmong : MayEnd → EndedGroup → Type 0
+IsAmong any g = Unit {0}
+IsAmong (these groups) g = Contains groups g
+
+-- any where there is a log, and none else
+abbrev pub any_if : Bool → MayEnd
+any_if true = any
+any_if false = these []
+
 -- `db` is what is seen of `lazy`, into which the rows of a migration move late, and `pass` reads that migration. `began` has the
 -- groups in the order of their start numbers, from 1 on. `opens` and `told` have one item a session: its open group, and the
--- replies to its statements before that group. `logged` tells whether a log may end groups
+-- replies to its statements before that group. `may_end` tells which groups a log may end
 pub record Machine : Type 0 where
   pub script : Script
   pub retries : ℕ
-  pub logged : Bool
+  pub may_end : MayEnd
   pub db : Database
   pub lazy : LazyState
   pub pass : Option (Where Migration)

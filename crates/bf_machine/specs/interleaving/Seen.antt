@@ -23,7 +23,7 @@ use Rattle.bf_machine.specs.declared.so_far.SessionSoFar.{SessionSoFar}
 use Rattle.bf_machine.specs.interleaving.Events.{commits_behind}
 use Rattle.bf_machine.specs.interleaving.Groups.{Pending, Rows, NewTable, NewIndex, Flip, Nothing}
 use Rattle.bf_machine.specs.interleaving.Kept.{HasStart, IsKept}
-use Rattle.bf_machine.specs.interleaving.Machines.{Group, Began, Open, Machine}
+use Rattle.bf_machine.specs.interleaving.Machines.{Group, Began, Open, Machine, any_if}
 
 abbrev pub pending_seen : PendingChange → Pending
 pending_seen (change.Rows writes) = Rows writes
@@ -53,7 +53,7 @@ abbrev pub seen : Bool → Script → ℕ → Store → Locks → List BeganGrou
 seen logged script retries store locks began sessions history = record {
   script = script;
   retries = retries;
-  logged = logged;
+  may_end = any_if logged;
   db = view_of store.lazy;
   lazy = store.lazy;
   pass = store.migration;

@@ -30,7 +30,7 @@ use Rattle.bf_machine.specs.interleaving.Events.{Commits, EndsByLog, Moves, Reac
 use Rattle.bf_machine.specs.interleaving.Groups.{footprint_in, left_by}
 use Rattle.bf_machine.specs.interleaving.Journals.{Keeps}
 use Rattle.bf_machine.specs.interleaving.Kept.{IsCurrent}
-use Rattle.bf_machine.specs.interleaving.Machines.{Began, Machine, Open, began_at, open_at, told_at}
+use Rattle.bf_machine.specs.interleaving.Machines.{Began, Machine, Open, these, began_at, open_at, told_at}
 
 -- whether a call of a session that stands so can come
 abbrev pub can_go : Stand → Bool
@@ -274,7 +274,7 @@ HasMovedSome m bound next = HasMovedFirst m (left_of_need m bound) next
 
 -- events one after the other that leave the store, so that no journal is asked for any
 abbrev pub LeavesStore : Database → Machine → Machine → Type 0
-LeavesStore start m next = Keeps {J = Unit {0}} (λ lazy then before after answer. ⊥) (λ journal cause. ⊥) start m tt next tt
+LeavesStore start m next = Keeps {J = Unit {0}} (λ lazy then before after answer. ⊥) start m tt next tt
 
 -- the turn of one number of an order: its session's, and where there is none nothing
 pub record IsTurnOf (start : Database) (m : Machine) (n : ℕ) (next : Machine) : Type 0 where
@@ -303,7 +303,7 @@ SessionsRiseFrom s (e ∷ es) = (s ≤ e.session) × SessionsRiseFrom e.session 
 -- IN SEQUENCE: no log ends groups, no group is open or has died, the entries are of one session after the other, each once those before it have ended,
 -- and of the last migration what their statements needed has moved, and no more
 pub record IsInSequence (start : Database) (m : Machine) : Type 0 where
-  pub unlogged : m.logged ≡ false
+  pub unlogged : m.may_end ≡ these []
   pub phases : IsTrue (phases_rise_from 0 m.script.sessions)
   pub closed : (s : ℕ) → open_at m s ≡ None
   pub no_death : (n : ℕ) → deaths_at m n ≡ []

@@ -12,7 +12,7 @@ ghost use Rattle.bf_tree.specs.declared.reply.Cause.{Cause};
 ghost use Rattle.bf_machine.specs.declared.stand.MoveError.TheVariants.{Ended, Old};
 ghost use Rattle.bf_machine.specs.interleaving.Calls.{slot_of};
 ghost use Rattle.bf_machine.specs.interleaving.Events.{Moves};
-ghost use Rattle.bf_machine.specs.interleaving.Journals.{IsBeside, IsOneRecord};
+ghost use Rattle.bf_machine.specs.interleaving.Journals.{IsBeside, IsMoveIn, IsOneRecord, IsRefused};
 ghost use Rattle.bf_machine.specs.interleaving.Kept.{is_of_log};
 
 use crate::journal::{Journal, KeepError};
@@ -83,9 +83,12 @@ impl<N: Opened> Machine<N> {
         ensures present { slot_of self.old.pass ≡ Some migration.now.index
             → (n : ℕ) → result ≢ Err (Old n) }
         ensures err { OnErr result (self.new ≡ self.old) }
-        ensures beside { IsBeside J.Answers self.old.lazy self.new.lazy journal.old journal.new }
+        ensures beside { IsBeside J.Answers (IsMoveIn self.old.lazy) self.old.lazy self.new.lazy
+            journal.old journal.new }
         ensures ended { (cause : Cause) → result ≡ Err (Ended cause)
-            → (J.ends ≡ true) × (is_of_log cause ≡ true) × J.Tells journal.new cause }
+            → (J.ends ≡ true) × (is_of_log cause ≡ true)
+            × IsRefused J.Answers (IsMoveIn self.old.lazy) self.old.lazy journal.old journal.new
+            cause }
     {
         let last = self.store.migration();
         let last = last.as_ref();
@@ -122,10 +125,13 @@ fn keep_left<J: Journal>(
     ensures nothing { result ≡ Ok false → (to_move store.now.lazy.last granules.now ≡ [])
         × (journal.new ≡ journal.old) }
     ensures err { OnErr result
-        (IsBeside J.Answers store.now.lazy store.now.lazy journal.old journal.new) }
+        (IsBeside J.Answers (IsMoveIn store.now.lazy) store.now.lazy store.now.lazy journal.old
+        journal.new) }
     ensures present { (n : ℕ) → result ≢ Err (Old n) }
     ensures ended { (cause : Cause) → result ≡ Err (Ended cause)
-        → (J.ends ≡ true) × (is_of_log cause ≡ true) × J.Tells journal.new cause }
+        → (J.ends ≡ true) × (is_of_log cause ≡ true)
+        × IsRefused J.Answers (IsMoveIn store.now.lazy) store.now.lazy journal.old journal.new
+        cause }
 {
     let Ok(left) = store.need(alloc, granules) else {
         return Err(MoveError::Memory);

@@ -1,3 +1,4 @@
+use Rattle.bf_machine.specs.interleaving.Machines.{any_if}
 use Rattle.bf_machine.proofs.interleaving.Beginning.{begins_keeps_all}
 use Rattle.bf_machine.proofs.interleaving.Dying.{death_keeps_all}
 use Rattle.bf_machine.proofs.interleaving.Ends.{commit_keeps_all, abort_keeps_all}
@@ -11,7 +12,7 @@ use Rattle.bf_machine.proofs.interleaving.Texts.{are_texts}
 use Rattle.bf_machine.proofs.interleaving_laws.events_keep_all.Goals as goal
 
 pub returns-clause-new : goal.returns-clause-new
-returns-clause-new c = new_is_kept
+returns-clause-new c = λ logged. new_is_kept (any_if logged)
 
 pub returns-clause-begins : goal.returns-clause-begins
 returns-clause-begins c = λ start m next s kept by. begins_keeps_all start m kept (are_texts m.script) s next by
@@ -44,4 +45,4 @@ pub returns-clause-ends_by_log : goal.returns-clause-ends_by_log
 returns-clause-ends_by_log c = λ start m next s kept by. log_keeps_all start m kept (are_texts m.script) s next by
 
 pub returns-clause-reaches : goal.returns-clause-reaches
-returns-clause-reaches c = reached_is_kept
+returns-clause-reaches c = λ logged. reached_is_kept (any_if logged)

@@ -1,13 +1,13 @@
 -- A group whose statements have their replies ends.
-use Rattle.std.proofs.Common.{sym, ap, ◌∙◌}
+use Rattle.std.proofs.Common.{refl, sym, ap, ◌∙◌, inl}
 use Rattle.std.specs.Prelude.{Result, Ok, Err, IfOk}
 use Rattle.bf_base.specs.declared.memory.Memory.{Memory}
 use Rattle.bf_machine.specs.declared.stand.Turn.{Turn}
 use Rattle.bf_machine.specs.interleaving.Events.{aborts, at_once, one_more}
-use Rattle.bf_machine.specs.interleaving.Journals.{nothing_yet}
+use Rattle.bf_machine.specs.interleaving.Journals.{nothing_yet, one_beside}
 use Rattle.bf_machine.specs.interleaving.Machines.{Machine}
 use Rattle.bf_machine.proofs.served.EndsIf.{abort_if, commit_if, goes_on_if}
-use Rattle.bf_machine.proofs.served.Keeping.{keeps_more, keeps_reach}
+use Rattle.bf_machine.proofs.served.Keeping.{keeps_reach}
 use Rattle.bf_machine.proofs.served.Left.{stands_more, unanswered_more}
 use Rattle.bf_machine.proofs.serving.end_if_answered.Goals as goal
 
@@ -28,7 +28,7 @@ returns-then-not-is_answered-clause-turn g c =
 
 pub returns-in-Commit-clause-reaches : goal.returns-in-Commit-clause-reaches
 returns-in-Commit-clause-reaches g c =
-    keeps_reach g.J.Journal.Answers g.J.Journal.Tells g.N.Opened.opening c.args.machine.now c.args.journal.now c.commit.new.machine c.commit.new.journal c.commit.ensures.keeps
+    keeps_reach g.J.Journal.Answers g.N.Opened.opening c.args.machine.now c.args.journal.now c.commit.new.machine c.commit.new.journal c.commit.ensures.keeps
 
 pub returns-in-Commit-clause-turn : goal.returns-in-Commit-clause-turn
 returns-in-Commit-clause-turn g c =
@@ -39,9 +39,7 @@ returns-in-Abort-clause-reaches g c = one_more at_once (aborts c.args.session c.
 
 pub returns-in-Abort-clause-keeps : goal.returns-in-Abort-clause-keeps
 returns-in-Abort-clause-keeps g c =
-    let m : Machine = c.args.machine.now in
-    keeps_more g.J.Journal.Answers g.J.Journal.Tells g.N.Opened.opening m c.args.journal.now m c.args.journal.now c.abort.new.self nothing_yet (aborts c.args.session c.abort.ensures) tt
-    (ap (λ (k : Machine). k.lazy) c.abort.ensures.goes)
+    one_beside nothing_yet (aborts c.args.session c.abort.ensures) (inl (ap (λ (k : Machine). k.lazy) c.abort.ensures.goes, refl))
 
 pub returns-in-Abort-clause-turn : goal.returns-in-Abort-clause-turn
 returns-in-Abort-clause-turn g c =

@@ -8,7 +8,7 @@ use Rattle.bf_machine.specs.interleaving.Kept.{IsKept}
 use Rattle.bf_machine.specs.interleaving.Machines.{Machine, open_at}
 use Rattle.bf_machine.specs.interleaving.Serving.{IsAlone, IsFollowed, Serves, at_rest, one_driven, unanswered}
 use Rattle.bf_machine.proofs.interleaving.Reaching.{reached_keeps_all}
-use Rattle.bf_machine.proofs.served.Ending.{HasBeenServed, alone_open_goes_on, reached_logged, reached_script, served_goes_on, served_no_more, served_serves, youngest_leaves_less}
+use Rattle.bf_machine.proofs.served.Ending.{HasBeenServed, alone_open_goes_on, reached_may_end, reached_script, served_goes_on, served_no_more, served_serves, youngest_leaves_less}
 use Rattle.bf_machine.proofs.served.Events.{serves_both, serves_not}
 use Rattle.bf_machine.proofs.served.Following.{followed_stays}
 use Rattle.bf_machine.proofs.served.Goes.{reaches_both}
@@ -62,7 +62,7 @@ loop-session-preserved g c =
     ] in
     record {
       reaches = reached;
-      keeps = keeps_both g.J.Journal.Answers g.J.Journal.Tells g.N.Opened.opening m c.args.journal.now now c.loop-session.journal next c.take_turn.new.journal c.loop-session.invariant.keeps c.in_ok-take_turn.ensures.keeps;
+      keeps = keeps_both g.J.Journal.Answers g.N.Opened.opening m c.args.journal.now now c.loop-session.journal next c.take_turn.new.journal c.loop-session.invariant.keeps c.in_ok-take_turn.ensures.keeps;
       driven = one_driven s c.loop-session.invariant.driven (inl youngest) c.in_ok-take_turn.field-0 c.in_ok-take_turn.ensures.turn;
       nothing = λ none.
           let clash : None ≡ Some youngest.0 = sym (none s) ∙ (ap (λ (k : Machine). open_at k s) (sym (c.loop-session.invariant.nothing none)) ∙ youngest.1) in
@@ -74,7 +74,7 @@ loop-session-preserved g c =
           let goes = served u alone in
           let was : IsFollowed now s g.N.Opened.opening =
           subst (λ (v : ℕ). IsFollowed now v g.N.Opened.opening) goes.0 (c.loop-session.invariant.followed unlogged u alone followed) in
-          let gone = served_goes_on now s next goes.1 (reached_logged g.N.Opened.opening m now c.loop-session.invariant.reaches ∙ unlogged) in
+          let gone = served_goes_on now s next goes.1 (reached_may_end g.N.Opened.opening m now c.loop-session.invariant.reaches ∙ unlogged) in
           subst (λ (v : ℕ). IsFollowed next v g.N.Opened.opening) (sym goes.0) (followed_stays now kept s next kept_next gone was);
       no_more = λ u alone.
           let goes = served u alone in
@@ -89,7 +89,7 @@ returns-in_err-take_turn-clause-reaches g c =
 
 pub returns-in_err-take_turn-clause-keeps : goal.returns-in_err-take_turn-clause-keeps
 returns-in_err-take_turn-clause-keeps g c =
-    keeps_both g.J.Journal.Answers g.J.Journal.Tells g.N.Opened.opening c.args.machine.now c.args.journal.now c.loop-session.machine c.loop-session.journal c.take_turn.new.machine c.take_turn.new.journal
+    keeps_both g.J.Journal.Answers g.N.Opened.opening c.args.machine.now c.args.journal.now c.loop-session.machine c.loop-session.journal c.take_turn.new.machine c.take_turn.new.journal
     c.loop-session.invariant.keeps c.take_turn.ensures.keeps
 
 pub returns-clause-alone : goal.returns-clause-alone

@@ -10,7 +10,7 @@ use Rattle.bf_machine.proofs.serving.end_sessions.Given as goal
 abbrev pub invariant-loop-session : goal.invariant-loop-session
 invariant-loop-session g l = record {
   reaches : Reaches g.N.Opened.opening l.fn.machine l.machine;
-  keeps : Keeps g.J.Journal.Answers g.J.Journal.Tells g.N.Opened.opening l.fn.machine l.fn.journal l.machine l.journal;
+  keeps : Keeps g.J.Journal.Answers g.N.Opened.opening l.fn.machine l.fn.journal l.machine l.journal;
   driven : Driven g.N.Opened.opening l.fn.machine l.machine;
   closed : (s : ℕ) → open_at l.machine s ≡ None;
   deaths : (n : ℕ) → deaths_at l.machine n ≡ deaths_at l.fn.machine n;

@@ -36,7 +36,7 @@ returns-in_err-turn_of-clause-reaches g c =
 pub loop-session-preserved : goal.loop-session-preserved
 loop-session-preserved g c = record {
   reaches = reaches_both g.N.Opened.opening c.args.machine.now c.loop-session.machine c.turn_of.new.machine c.loop-session.invariant.reaches c.in_ok-turn_of.ensures.reaches;
-  keeps = keeps_both g.J.Journal.Answers g.J.Journal.Tells g.N.Opened.opening c.args.machine.now c.args.journal.now c.loop-session.machine c.loop-session.journal c.turn_of.new.machine c.turn_of.new.journal
+  keeps = keeps_both g.J.Journal.Answers g.N.Opened.opening c.args.machine.now c.args.journal.now c.loop-session.machine c.loop-session.journal c.turn_of.new.machine c.turn_of.new.journal
       c.loop-session.invariant.keeps c.in_ok-turn_of.ensures.keeps;
   turned =
       let i = c.loop-session.session-index in
@@ -50,12 +50,12 @@ loop-session-preserved g c = record {
 
 pub returns-in_err-turn_of-clause-keeps : goal.returns-in_err-turn_of-clause-keeps
 returns-in_err-turn_of-clause-keeps g c =
-    keeps_both g.J.Journal.Answers g.J.Journal.Tells g.N.Opened.opening c.args.machine.now c.args.journal.now c.loop-session.machine c.loop-session.journal c.turn_of.new.machine c.turn_of.new.journal
+    keeps_both g.J.Journal.Answers g.N.Opened.opening c.args.machine.now c.args.journal.now c.loop-session.machine c.loop-session.journal c.turn_of.new.machine c.turn_of.new.journal
     c.loop-session.invariant.keeps c.turn_of.ensures.keeps
 
 pub returns-in_err-end_open_groups-clause-keeps : goal.returns-in_err-end_open_groups-clause-keeps
 returns-in_err-end_open_groups-clause-keeps g c =
-    keeps_both g.J.Journal.Answers g.J.Journal.Tells g.N.Opened.opening c.args.machine.now c.args.journal.now c.loop-session.machine c.loop-session.journal c.end_open_groups.new.machine c.end_open_groups.new.journal
+    keeps_both g.J.Journal.Answers g.N.Opened.opening c.args.machine.now c.args.journal.now c.loop-session.machine c.loop-session.journal c.end_open_groups.new.machine c.end_open_groups.new.journal
     c.loop-session.invariant.keeps c.end_open_groups.ensures.keeps
 
 pub returns-clause-keeps : goal.returns-clause-keeps
@@ -63,8 +63,8 @@ returns-clause-keeps g c =
     let m : Machine = c.args.machine.now in
     let now : Machine = c.loop-session.machine in
     let then : Machine = c.end_open_groups.new.machine in
-    keeps_both g.J.Journal.Answers g.J.Journal.Tells g.N.Opened.opening m c.args.journal.now then c.end_open_groups.new.journal c.end_sessions.new.machine c.end_sessions.new.journal
-    (keeps_both g.J.Journal.Answers g.J.Journal.Tells g.N.Opened.opening m c.args.journal.now now c.loop-session.journal then c.end_open_groups.new.journal c.loop-session.invariant.keeps c.in_ok-end_open_groups.ensures.keeps)
+    keeps_both g.J.Journal.Answers g.N.Opened.opening m c.args.journal.now then c.end_open_groups.new.journal c.end_sessions.new.machine c.end_sessions.new.journal
+    (keeps_both g.J.Journal.Answers g.N.Opened.opening m c.args.journal.now now c.loop-session.journal then c.end_open_groups.new.journal c.loop-session.invariant.keeps c.in_ok-end_open_groups.ensures.keeps)
     c.end_sessions.ensures.keeps
 
 pub end_open_groups-requires-clause-kept : goal.end_open_groups-requires-clause-kept

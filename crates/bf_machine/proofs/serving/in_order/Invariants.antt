@@ -8,7 +8,7 @@ use Rattle.bf_machine.proofs.serving.in_order.Given as goal
 abbrev pub invariant-loop-session : goal.invariant-loop-session
 invariant-loop-session g l = record {
   reaches : Reaches g.N.Opened.opening l.fn.machine l.machine;
-  keeps : Keeps g.J.Journal.Answers g.J.Journal.Tells g.N.Opened.opening l.fn.machine l.fn.journal l.machine l.journal;
+  keeps : Keeps g.J.Journal.Answers g.N.Opened.opening l.fn.machine l.fn.journal l.machine l.journal;
   turned : Turned g.N.Opened.opening l.fn.machine (take l.session-index l.order) l.machine;
   nothing : l.order ≡ [] → l.machine ≡ l.fn.machine;
 }

@@ -8,7 +8,7 @@ use Rattle.bf_machine.proofs.serving.move_records.Given as goal
 abbrev pub invariant-loop-left : goal.invariant-loop-left
 invariant-loop-left g l = record {
   moved : (before : List Granule) × (l.granules ≡ before ++ l.left) × MovesAll l.fn.machine before l.machine;
-  keeps : Keeps g.J.Journal.Answers g.J.Journal.Tells g.N.Opened.opening l.fn.machine l.fn.journal l.machine l.journal;
+  keeps : Keeps g.J.Journal.Answers g.N.Opened.opening l.fn.machine l.fn.journal l.machine l.journal;
   pass : l.machine.pass ≡ l.fn.machine.pass;
 }
 

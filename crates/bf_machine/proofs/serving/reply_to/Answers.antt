@@ -159,7 +159,7 @@ returns-in_err-move_need-in-Need-clause-keeps g c =
     let m : Machine = c.args.machine.now in
     let same : c.exec.new.self ≡ m = c.exec.ensures.same (not_replied c.exec.result c.in-Need.granules (c.in_ok-exec.was ∙ ap Ok c.in-Need.is)) in
     let journal = c.args.journal.now in
-    subst (λ (k : Machine). Keeps g.J.Journal.Answers g.J.Journal.Tells g.N.Opened.opening k journal c.move_need.new.machine c.move_need.new.journal) same c.in_err-move_need-in-Need.ensures.keeps
+    subst (λ (k : Machine). Keeps g.J.Journal.Answers g.N.Opened.opening k journal c.move_need.new.machine c.move_need.new.journal) same c.in_err-move_need-in-Need.ensures.keeps
 
 pub returns-in_err-reply_behind_moves-in-Need-clause-err : goal.returns-in_err-reply_behind_moves-in-Need-clause-err
 returns-in_err-reply_behind_moves-in-Need-clause-err g c =
@@ -181,16 +181,16 @@ returns-in_err-reply_behind_moves-in-Need-clause-keeps g c =
     let m : Machine = c.args.machine.now in
     let same : c.exec.new.self ≡ m = c.exec.ensures.same (not_replied c.exec.result c.in-Need.granules (c.in_ok-exec.was ∙ ap Ok c.in-Need.is)) in
     let journal = c.args.journal.now in
-    let moved = subst (λ (k : Machine). Keeps g.J.Journal.Answers g.J.Journal.Tells g.N.Opened.opening k journal c.move_need.new.machine c.move_need.new.journal) same c.in_ok-move_need-in-Need.ensures.keeps in
-    subst (λ (k : Machine). Keeps g.J.Journal.Answers g.J.Journal.Tells g.N.Opened.opening m journal k c.move_need.new.journal) (sym c.in_err-reply_behind_moves-in-Need.ensures.err) moved
+    let moved = subst (λ (k : Machine). Keeps g.J.Journal.Answers g.N.Opened.opening k journal c.move_need.new.machine c.move_need.new.journal) same c.in_ok-move_need-in-Need.ensures.keeps in
+    subst (λ (k : Machine). Keeps g.J.Journal.Answers g.N.Opened.opening m journal k c.move_need.new.journal) (sym c.in_err-reply_behind_moves-in-Need.ensures.err) moved
 
 pub returns-in-Need-clause-keeps : goal.returns-in-Need-clause-keeps
 returns-in-Need-clause-keeps g c =
     let m : Machine = c.args.machine.now in
     let same : c.exec.new.self ≡ m = c.exec.ensures.same (not_replied c.exec.result c.in-Need.granules (c.in_ok-exec.was ∙ ap Ok c.in-Need.is)) in
     let journal = c.args.journal.now in
-    let moved = subst (λ (k : Machine). Keeps g.J.Journal.Answers g.J.Journal.Tells g.N.Opened.opening k journal c.move_need.new.machine c.move_need.new.journal) same c.in_ok-move_need-in-Need.ensures.keeps in
-    keeps_reply g.J.Journal.Answers g.J.Journal.Tells g.N.Opened.opening m journal c.move_need.new.machine c.move_need.new.journal c.args.session c.args.bound.now c.reply_behind_moves.new.machine moved
+    let moved = subst (λ (k : Machine). Keeps g.J.Journal.Answers g.N.Opened.opening k journal c.move_need.new.machine c.move_need.new.journal) same c.in_ok-move_need-in-Need.ensures.keeps in
+    keeps_reply g.J.Journal.Answers g.N.Opened.opening m journal c.move_need.new.machine c.move_need.new.journal c.args.session c.args.bound.now c.reply_behind_moves.new.machine moved
     c.in_ok-reply_behind_moves-in-Need.ensures.replied
 
 pub returns-in-Replied-clause-replied : goal.returns-in-Replied-clause-replied
@@ -208,7 +208,7 @@ returns-in-Replied-clause-replied g c =
 pub returns-in-Replied-clause-keeps : goal.returns-in-Replied-clause-keeps
 returns-in-Replied-clause-keeps g c =
     let m : Machine = c.args.machine.now in
-    keeps_reply g.J.Journal.Answers g.J.Journal.Tells g.N.Opened.opening m c.args.journal.now m c.args.journal.now c.args.session c.args.bound.now c.exec.new.self nothing_yet
+    keeps_reply g.J.Journal.Answers g.N.Opened.opening m c.args.journal.now m c.args.journal.now c.args.session c.args.bound.now c.exec.new.self nothing_yet
     (c.exec.ensures.replied (c.in_ok-exec.was ∙ ap Ok c.in-Replied.is))
 
 pub returns-in_err-cover-clause-err : goal.returns-in_err-cover-clause-err
@@ -223,4 +223,4 @@ returns-in_err-exec-clause-err g c =
 
 pub returns-in_err-exec-clause-keeps : goal.returns-in_err-exec-clause-keeps
 returns-in_err-exec-clause-keeps g c =
-    keeps_not g.J.Journal.Answers g.J.Journal.Tells g.N.Opened.opening c.args.machine.now c.exec.new.self c.args.journal.now c.args.journal.now (c.in_err-exec.ensures.same (λ e. cc)) refl
+    keeps_not g.J.Journal.Answers g.N.Opened.opening c.args.machine.now c.exec.new.self c.args.journal.now c.args.journal.now (c.in_err-exec.ensures.same (λ e. cc)) refl

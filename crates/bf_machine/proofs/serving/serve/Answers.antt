@@ -29,7 +29,7 @@ returns-in_err-refuse-clause-reaches g c = subst (Reaches g.N.Opened.opening c.a
 
 pub returns-in_err-refuse-clause-keeps : goal.returns-in_err-refuse-clause-keeps
 returns-in_err-refuse-clause-keeps g c =
-    keeps_not g.J.Journal.Answers g.J.Journal.Tells g.N.Opened.opening c.args.machine.now c.refuse.new.machine c.args.journal.now c.args.journal.now c.in_err-refuse.ensures.err refl
+    keeps_not g.J.Journal.Answers g.N.Opened.opening c.args.machine.now c.refuse.new.machine c.args.journal.now c.args.journal.now c.in_err-refuse.ensures.err refl
 
 pub returns-clause-reaches : goal.returns-clause-reaches
 returns-clause-reaches g c =
@@ -38,7 +38,7 @@ returns-clause-reaches g c =
 
 pub returns-clause-keeps : goal.returns-clause-keeps
 returns-clause-keeps g c =
-    keeps_reply g.J.Journal.Answers g.J.Journal.Tells g.N.Opened.opening c.args.machine.now c.args.journal.now c.args.machine.now c.args.journal.now c.args.session c.in_ok-bound.bound c.refuse.new.machine nothing_yet
+    keeps_reply g.J.Journal.Answers g.N.Opened.opening c.args.machine.now c.args.journal.now c.args.machine.now c.args.journal.now c.args.session c.in_ok-bound.bound c.refuse.new.machine nothing_yet
     c.in_ok-refuse.ensures.replied
 
 pub returns-clause-turn : goal.returns-clause-turn

@@ -1,5 +1,5 @@
 -- The locks are held, what is needed has moved, and the statement has its reply.
-use Rattle.std.proofs.Common.{◌∙◌, List, sym, ap, subst}
+use Rattle.std.proofs.Common.{◌∙◌, List, sym, ap, subst, inr}
 use Rattle.std.specs.Prelude.{Result, Ok, Err, IfOk}
 use Rattle.bf_base.specs.declared.memory.Memory.{Memory}
 use Rattle.bf_sql.specs.Footprints.{Lock, footprint_of}
@@ -8,7 +8,7 @@ use Rattle.bf_machine.specs.declared.journal.KeepError.{KeepError}
 use Rattle.bf_machine.specs.declared.stand.Turn.{Turn}
 use Rattle.bf_machine.specs.interleaving.Calls.{IsPlace}
 use Rattle.bf_machine.specs.interleaving.Events.{at_once, ends_by_log, one_more}
-use Rattle.bf_machine.specs.interleaving.Journals.{IsToldIfEnded, nothing_yet}
+use Rattle.bf_machine.specs.interleaving.Journals.{IsRefusedIfEnded, nothing_yet}
 use Rattle.bf_machine.specs.interleaving.Machines.{Machine}
 use Rattle.bf_machine.specs.interleaving.Serving.{HasLocked}
 use Rattle.bf_machine.proofs.interleaving.Reaching.{reached_keeps_all}
@@ -55,10 +55,10 @@ pub returns-in_err-locks-clause-keeps : goal.returns-in_err-locks-clause-keeps
 returns-in_err-locks-clause-keeps g c = nothing_yet
 
 pub returns-in_err-turn-clause-keeps : goal.returns-in_err-turn-clause-keeps
-returns-in_err-turn-clause-keeps g c = keeps_leaves g.J.Journal.Answers g.J.Journal.Tells g.N.Opened.opening c.args.machine.now c.lock_all.new.machine c.args.journal.now c.in_err-turn.ensures.leaves
+returns-in_err-turn-clause-keeps g c = keeps_leaves g.J.Journal.Answers g.N.Opened.opening c.args.machine.now c.lock_all.new.machine c.args.journal.now c.in_err-turn.ensures.leaves
 
 pub returns-in_default-clause-keeps : goal.returns-in_default-clause-keeps
-returns-in_default-clause-keeps g c = keeps_leaves g.J.Journal.Answers g.J.Journal.Tells g.N.Opened.opening c.args.machine.now c.lock_all.new.machine c.args.journal.now c.in_ok-turn.ensures.leaves
+returns-in_default-clause-keeps g c = keeps_leaves g.J.Journal.Answers g.N.Opened.opening c.args.machine.now c.lock_all.new.machine c.args.journal.now c.in_ok-turn.ensures.leaves
 
 -- the script stays
 pub fail-requires-clause-place : goal.fail-requires-clause-place
@@ -66,7 +66,7 @@ fail-requires-clause-place g c =
     let m : Machine = c.args.machine.now in
     let now : Machine = c.lock_all.new.machine in
     let then : Machine = c.reply_to.new.machine in
-    let reached = reaches_both g.N.Opened.opening m now then c.in_ok-turn.ensures.reaches (keeps_reach g.J.Journal.Answers g.J.Journal.Tells g.N.Opened.opening now c.args.journal.now then c.reply_to.new.journal c.reply_to.ensures.keeps) in
+    let reached = reaches_both g.N.Opened.opening m now then c.in_ok-turn.ensures.reaches (keeps_reach g.J.Journal.Answers g.N.Opened.opening now c.args.journal.now then c.reply_to.new.journal c.reply_to.ensures.keeps) in
     subst (λ (script : Script). IsPlace script c.args.session) (sym (reached_script g.N.Opened.opening m then reached)) c.requires.place
 
 pub end_if_answered-requires-clause-place : goal.end_if_answered-requires-clause-place
@@ -74,7 +74,7 @@ end_if_answered-requires-clause-place g c =
     let m : Machine = c.args.machine.now in
     let now : Machine = c.lock_all.new.machine in
     let then : Machine = c.reply_to.new.machine in
-    let reached = reaches_both g.N.Opened.opening m now then c.in_ok-turn.ensures.reaches (keeps_reach g.J.Journal.Answers g.J.Journal.Tells g.N.Opened.opening now c.args.journal.now then c.reply_to.new.journal c.reply_to.ensures.keeps) in
+    let reached = reaches_both g.N.Opened.opening m now then c.in_ok-turn.ensures.reaches (keeps_reach g.J.Journal.Answers g.N.Opened.opening now c.args.journal.now then c.reply_to.new.journal c.reply_to.ensures.keeps) in
     subst (λ (script : Script). IsPlace script c.args.session) (sym (reached_script g.N.Opened.opening m then reached)) c.requires.place
 
 -- behind a need that was not kept
@@ -91,16 +91,20 @@ pub returns-in-Err-Ended-clause-keeps : goal.returns-in-Err-Ended-clause-keeps
 returns-in-Err-Ended-clause-keeps g c =
     let m : Machine = c.args.machine.now in
     let now : Machine = c.lock_all.new.machine in
-    let told = subst (λ (error : KeepError). IsToldIfEnded g.J.Journal.ends (g.J.Journal.Tells c.reply_to.new.journal) (Err error)) c.in-Err-Ended.field-0-is c.in-Err-Ended.ensures.told in
-    keeps_end g.J.Journal.Answers g.J.Journal.Tells g.N.Opened.opening m c.args.journal.now c.reply_to.new.machine c.reply_to.new.journal c.args.session c.fail.new.self c.in-Err-Ended.cause
-    (keeps_both g.J.Journal.Answers g.J.Journal.Tells g.N.Opened.opening m c.args.journal.now now c.args.journal.now c.reply_to.new.machine c.reply_to.new.journal
-    (keeps_leaves g.J.Journal.Answers g.J.Journal.Tells g.N.Opened.opening m now c.args.journal.now c.in_ok-turn.ensures.leaves) c.reply_to.ensures.keeps)
-    c.fail.ensures.0 c.fail.ensures.1 told.2
+    let then : Machine = c.reply_to.new.machine in
+    let refused =
+    subst (λ (error : KeepError). IsRefusedIfEnded g.J.Journal.Answers g.J.Journal.ends g.N.Opened.opening now c.args.journal.now then c.reply_to.new.journal (Err error)) c.in-Err-Ended.field-0-is
+    c.in-Err-Ended.ensures.refused in
+    let last = refused.2 in
+    keeps_end g.J.Journal.Answers g.N.Opened.opening m c.args.journal.now then last.0 c.reply_to.new.journal c.args.session c.fail.new.self c.in-Err-Ended.cause
+    (keeps_both g.J.Journal.Answers g.N.Opened.opening m c.args.journal.now now c.args.journal.now then last.0
+    (keeps_leaves g.J.Journal.Answers g.N.Opened.opening m now c.args.journal.now c.in_ok-turn.ensures.leaves) last.1)
+    c.fail.ensures.0 c.fail.ensures.1 (last.2.0, inr last.2.1, last.2.2)
 
 pub returns-in-Err-Ended-clause-reaches : goal.returns-in-Err-Ended-clause-reaches
 returns-in-Err-Ended-clause-reaches g c =
     one_more (reaches_both g.N.Opened.opening c.args.machine.now c.lock_all.new.machine c.reply_to.new.machine c.in_ok-turn.ensures.reaches
-    (keeps_reach g.J.Journal.Answers g.J.Journal.Tells g.N.Opened.opening c.lock_all.new.machine c.args.journal.now c.reply_to.new.machine c.reply_to.new.journal c.reply_to.ensures.keeps))
+    (keeps_reach g.J.Journal.Answers g.N.Opened.opening c.lock_all.new.machine c.args.journal.now c.reply_to.new.machine c.reply_to.new.journal c.reply_to.ensures.keeps))
     (ends_by_log c.args.session c.fail.ensures.0)
 
 pub returns-in-Err-Ended-clause-turn : goal.returns-in-Err-Ended-clause-turn
@@ -115,14 +119,14 @@ returns-in-Err-Ended-clause-turn g c =
 pub returns-clause-reaches : goal.returns-clause-reaches
 returns-clause-reaches g c =
     reaches_both g.N.Opened.opening c.args.machine.now c.lock_all.new.machine c.reply_to.new.machine c.in_ok-turn.ensures.reaches
-    (keeps_reach g.J.Journal.Answers g.J.Journal.Tells g.N.Opened.opening c.lock_all.new.machine c.args.journal.now c.reply_to.new.machine c.reply_to.new.journal c.reply_to.ensures.keeps)
+    (keeps_reach g.J.Journal.Answers g.N.Opened.opening c.lock_all.new.machine c.args.journal.now c.reply_to.new.machine c.reply_to.new.journal c.reply_to.ensures.keeps)
 
 pub returns-clause-keeps : goal.returns-clause-keeps
 returns-clause-keeps g c =
     let m : Machine = c.args.machine.now in
     let now : Machine = c.lock_all.new.machine in
-    keeps_both g.J.Journal.Answers g.J.Journal.Tells g.N.Opened.opening m c.args.journal.now now c.args.journal.now c.reply_to.new.machine c.reply_to.new.journal
-    (keeps_leaves g.J.Journal.Answers g.J.Journal.Tells g.N.Opened.opening m now c.args.journal.now c.in_ok-turn.ensures.leaves) c.reply_to.ensures.keeps
+    keeps_both g.J.Journal.Answers g.N.Opened.opening m c.args.journal.now now c.args.journal.now c.reply_to.new.machine c.reply_to.new.journal
+    (keeps_leaves g.J.Journal.Answers g.N.Opened.opening m now c.args.journal.now c.in_ok-turn.ensures.leaves) c.reply_to.ensures.keeps
 
 -- behind the reply
 pub end_if_answered-requires-clause-kept : goal.end_if_answered-requires-clause-kept
@@ -158,9 +162,9 @@ pub returns-in-Ok-clause-keeps : goal.returns-in-Ok-clause-keeps
 returns-in-Ok-clause-keeps g c =
     let m : Machine = c.args.machine.now in
     let now : Machine = c.lock_all.new.machine in
-    keeps_both g.J.Journal.Answers g.J.Journal.Tells g.N.Opened.opening m c.args.journal.now c.reply_to.new.machine c.reply_to.new.journal c.end_if_answered.new.machine c.end_if_answered.new.journal
-    (keeps_both g.J.Journal.Answers g.J.Journal.Tells g.N.Opened.opening m c.args.journal.now now c.args.journal.now c.reply_to.new.machine c.reply_to.new.journal
-    (keeps_leaves g.J.Journal.Answers g.J.Journal.Tells g.N.Opened.opening m now c.args.journal.now c.in_ok-turn.ensures.leaves) c.reply_to.ensures.keeps)
+    keeps_both g.J.Journal.Answers g.N.Opened.opening m c.args.journal.now c.reply_to.new.machine c.reply_to.new.journal c.end_if_answered.new.machine c.end_if_answered.new.journal
+    (keeps_both g.J.Journal.Answers g.N.Opened.opening m c.args.journal.now now c.args.journal.now c.reply_to.new.machine c.reply_to.new.journal
+    (keeps_leaves g.J.Journal.Answers g.N.Opened.opening m now c.args.journal.now c.in_ok-turn.ensures.leaves) c.reply_to.ensures.keeps)
     c.end_if_answered.ensures.keeps
 
 pub returns-in-Ok-clause-turn : goal.returns-in-Ok-clause-turn

@@ -1,16 +1,17 @@
 -- A group that is to begin has begun; then the session's next call is made.
-use Rattle.std.proofs.Common.{ap}
+use Rattle.std.proofs.Common.{refl, ap, inl}
 use Rattle.std.specs.Prelude.{Result, Ok, Err, IfOk}
 use Rattle.bf_base.specs.declared.memory.Memory.{Memory}
 use Rattle.bf_machine.specs.declared.stand.Turn.{Turn}
 use Rattle.bf_machine.specs.declared.stand.Turn.TheVariants as turn
 use Rattle.bf_machine.specs.interleaving.Events.{aborts, one_more}
 use Rattle.bf_machine.specs.interleaving.Kept.{IsKept}
+use Rattle.bf_machine.specs.interleaving.Journals.{one_beside}
 use Rattle.bf_machine.specs.interleaving.Machines.{Machine}
 use Rattle.bf_machine.proofs.interleaving.Reaching.{reached_keeps_all}
 use Rattle.bf_machine.proofs.served.EndsIf.{commit_turn}
 use Rattle.bf_machine.proofs.served.Goes.{abort_goes_on, reaches_both}
-use Rattle.bf_machine.proofs.served.Keeping.{keeps_both, keeps_leaves, keeps_more, keeps_reach}
+use Rattle.bf_machine.proofs.served.Keeping.{keeps_both, keeps_leaves, keeps_reach}
 use Rattle.bf_machine.proofs.served.Turning.{turn_from}
 use Rattle.bf_machine.proofs.serving.take_turn.Goals as goal
 
@@ -19,7 +20,7 @@ in_ok (Ok t) weaker so = weaker t so
 in_ok (Err memory) weaker so = so
 
 pub returns-in_err-place-clause-keeps : goal.returns-in_err-place-clause-keeps
-returns-in_err-place-clause-keeps g c = keeps_leaves g.J.Journal.Answers g.J.Journal.Tells g.N.Opened.opening c.args.machine.now c.begin_if_due.new.machine c.args.journal.now c.in_err-place.ensures.leaves
+returns-in_err-place-clause-keeps g c = keeps_leaves g.J.Journal.Answers g.N.Opened.opening c.args.machine.now c.begin_if_due.new.machine c.args.journal.now c.in_err-place.ensures.leaves
 
 pub serve-requires-clause-kept : goal.serve-requires-clause-kept
 serve-requires-clause-kept g c = reached_keeps_all g.N.Opened.opening c.args.machine.now c.begin_if_due.new.machine c.requires.kept c.in_ok-place.ensures.reaches
@@ -32,8 +33,8 @@ pub returns-in-Statement-clause-keeps : goal.returns-in-Statement-clause-keeps
 returns-in-Statement-clause-keeps g c =
     let m : Machine = c.args.machine.now in
     let now : Machine = c.begin_if_due.new.machine in
-    keeps_both g.J.Journal.Answers g.J.Journal.Tells g.N.Opened.opening m c.args.journal.now now c.args.journal.now c.serve.new.machine c.serve.new.journal
-    (keeps_leaves g.J.Journal.Answers g.J.Journal.Tells g.N.Opened.opening m now c.args.journal.now c.in_ok-place.ensures.leaves) c.serve.ensures.keeps
+    keeps_both g.J.Journal.Answers g.N.Opened.opening m c.args.journal.now now c.args.journal.now c.serve.new.machine c.serve.new.journal
+    (keeps_leaves g.J.Journal.Answers g.N.Opened.opening m now c.args.journal.now c.in_ok-place.ensures.leaves) c.serve.ensures.keeps
 
 pub returns-in-Statement-clause-turn : goal.returns-in-Statement-clause-turn
 returns-in-Statement-clause-turn g c =
@@ -46,14 +47,14 @@ pub returns-in-Commit-clause-reaches : goal.returns-in-Commit-clause-reaches
 returns-in-Commit-clause-reaches g c =
     let now : Machine = c.begin_if_due.new.machine in
     reaches_both g.N.Opened.opening c.args.machine.now now c.commit.new.machine c.in_ok-place.ensures.reaches
-    (keeps_reach g.J.Journal.Answers g.J.Journal.Tells g.N.Opened.opening now c.args.journal.now c.commit.new.machine c.commit.new.journal c.commit.ensures.keeps)
+    (keeps_reach g.J.Journal.Answers g.N.Opened.opening now c.args.journal.now c.commit.new.machine c.commit.new.journal c.commit.ensures.keeps)
 
 pub returns-in-Commit-clause-keeps : goal.returns-in-Commit-clause-keeps
 returns-in-Commit-clause-keeps g c =
     let m : Machine = c.args.machine.now in
     let now : Machine = c.begin_if_due.new.machine in
-    keeps_both g.J.Journal.Answers g.J.Journal.Tells g.N.Opened.opening m c.args.journal.now now c.args.journal.now c.commit.new.machine c.commit.new.journal
-    (keeps_leaves g.J.Journal.Answers g.J.Journal.Tells g.N.Opened.opening m now c.args.journal.now c.in_ok-place.ensures.leaves) c.commit.ensures.keeps
+    keeps_both g.J.Journal.Answers g.N.Opened.opening m c.args.journal.now now c.args.journal.now c.commit.new.machine c.commit.new.journal
+    (keeps_leaves g.J.Journal.Answers g.N.Opened.opening m now c.args.journal.now c.in_ok-place.ensures.leaves) c.commit.ensures.keeps
 
 pub returns-in-Commit-clause-turn : goal.returns-in-Commit-clause-turn
 returns-in-Commit-clause-turn g c =
@@ -71,9 +72,8 @@ pub returns-in-Abort-clause-keeps : goal.returns-in-Abort-clause-keeps
 returns-in-Abort-clause-keeps g c =
     let m : Machine = c.args.machine.now in
     let now : Machine = c.begin_if_due.new.machine in
-    keeps_more g.J.Journal.Answers g.J.Journal.Tells g.N.Opened.opening m c.args.journal.now now c.args.journal.now c.abort.new.self
-    (keeps_leaves g.J.Journal.Answers g.J.Journal.Tells g.N.Opened.opening m now c.args.journal.now c.in_ok-place.ensures.leaves) (aborts c.args.session c.abort.ensures) tt
-    (ap (λ (k : Machine). k.lazy) c.abort.ensures.goes)
+    one_beside (keeps_leaves g.J.Journal.Answers g.N.Opened.opening m now c.args.journal.now c.in_ok-place.ensures.leaves) (aborts c.args.session c.abort.ensures)
+    (inl (ap (λ (k : Machine). k.lazy) c.abort.ensures.goes, refl))
 
 pub returns-in-Abort-clause-turn : goal.returns-in-Abort-clause-turn
 returns-in-Abort-clause-turn g c =
@@ -84,4 +84,4 @@ returns-in-Abort-clause-turn g c =
     (abort_goes_on now kept_now c.args.session c.abort.new.self c.abort.ensures)
 
 pub returns-in_default-clause-keeps : goal.returns-in_default-clause-keeps
-returns-in_default-clause-keeps g c = keeps_leaves g.J.Journal.Answers g.J.Journal.Tells g.N.Opened.opening c.args.machine.now c.begin_if_due.new.machine c.args.journal.now c.in_ok-place.ensures.leaves
+returns-in_default-clause-keeps g c = keeps_leaves g.J.Journal.Answers g.N.Opened.opening c.args.machine.now c.begin_if_due.new.machine c.args.journal.now c.in_ok-place.ensures.leaves

@@ -1,19 +1,23 @@
 -- What the group was to leave is in the store, what is left of it has its reply, and its entry comes last.
-use Rattle.std.proofs.Common.{◌≡◌, ℕ, ◌+◌, ◌-◌, ◌≤◌, List, length, Some, sym, ap, subst, ◌∙◌, arith}
+use Rattle.std.proofs.Common.{◌≡◌, ℕ, ◌+◌, ◌-◌, ◌≤◌, Err, List, length, Some, sym, ap, subst, ◌∙◌, arith}
 use Rattle.std.specs.Prelude.{slice_set}
 use Rattle.std.proofs.lemmas.List.{length-map, length-set}
 use Rattle.bf_tree.specs.declared.script.Session.{Session}
 use Rattle.bf_sql.specs.migrations.Lazy.{LazyState}
 use Rattle.bf_image.specs.Registries.{Registry}
+use Rattle.bf_tree.specs.declared.reply.Cause.{Cause}
+use Rattle.bf_machine.specs.declared.journal.KeepError.{KeepError}
+use Rattle.bf_machine.specs.declared.journal.KeepError.TheVariants.{Ended}
 use Rattle.bf_store.specs.Stores.{IsOf, Store}
 use Rattle.bf_machine.specs.declared.so_far.SessionSoFar.{SessionSoFar}
 use Rattle.bf_machine.specs.interleaving.Calls.{CanCommit, CanFail, IsPlace}
 use Rattle.bf_machine.specs.interleaving.Events.{Commits, EndsByLog, commits_behind}
-use Rattle.bf_machine.specs.interleaving.Journals.{AreSaid, IsBeside}
+use Rattle.bf_machine.specs.interleaving.Journals.{AreSaid, IsBeside, IsChangeFor, IsPutInto, IsRefused}
 use Rattle.bf_machine.specs.interleaving.Machines.{Machine}
-use Rattle.bf_machine.specs.interleaving.Seen.{IsLeastLeft, IsSound, open_seen, seen}
+use Rattle.bf_machine.specs.interleaving.Seen.{IsLeastLeft, IsSound, open_seen, pending_seen, seen}
 use Rattle.bf_machine.proofs.keeping.Ending.{room_for_reply}
-use Rattle.bf_machine.proofs.keeping.Committing.{can_settle, commit_seen, commit_sound, is_stated, number_fits, sessions_stay}
+use Rattle.bf_machine.proofs.keeping.Committing.{can_settle, change_for, commit_seen, commit_sound, is_stated, number_fits, sessions_stay}
+use Rattle.bf_machine.proofs.keeping.Beside.{beside_weaker}
 use Rattle.bf_machine.proofs.keeping.LeastLeft.{goes_on_at, least_behind, open_goes_on}
 use Rattle.bf_machine.proofs.machine.Machine.commit.Goals as goal
 
@@ -195,13 +199,76 @@ returns-in-Ended-clause-ending g c =
 
 pub returns-in-Ended-clause-beside : goal.returns-in-Ended-clause-beside
 returns-in-Ended-clause-beside g c =
+    let i = c.self.inside in
+    let s = c.args.session in
+    let x : SessionSoFar = c.index_mut-so_far.result.now in
+    let place : IsPlace i.script s = subst (λ (m : Machine). IsPlace m.script s) (sym c.self.view_is) c.requires.place in
+    let high : s ≤ length i.sessions.items = omega (arith, place.1, c.self.invariant.0.kept.shaped.opens, length-map i.sessions.items open_seen) in
+    let m : Machine = seen g.N.Opened.logged i.script i.retries i.store i.locks i.began.items i.sessions.items i.history.items in
+    let can : CanCommit m s = subst (λ (m : Machine). CanCommit m s) (sym c.self.view_is) c.requires.can in
+    let own : (next : LazyState) → IsPutInto i.store.lazy (pending_seen c.in-Some.group.pending) next → IsChangeFor m s next =
+    change_for g.N.Opened.logged i.script i.retries i.store i.locks i.began.items i.sessions.items i.history i.commits i.transcripts c.self.invariant.0
+    s place.0 high x (sym c.index_mut-so_far.ensures.value) c.in-Some.group (sym c.take.ensures.value ∙ c.in-Some.is) can in
     let Answers = g.J.Journal.Answers in
+    let j = c.args.journal.now in
+    let k = c.settle.new.journal in
     let store = c.settle.new.store in
     let stays : c.fail.new.self.lazy ≡ store.lazy = ap (λ (m : Machine). m.lazy) c.fail.ensures.0.goes in
-    subst (λ (next : LazyState). IsBeside Answers c.args.self.now.lazy next c.args.journal.now c.settle.new.journal) (sym stays)
-    (subst (λ (m : Machine). IsBeside Answers m.lazy store.lazy c.args.journal.now c.settle.new.journal) c.self.view_is c.in-Err.ensures.beside)
+    subst (λ (next : LazyState). IsBeside Answers (IsChangeFor c.args.self.now s) c.args.self.now.lazy next j k) (sym stays)
+    (subst (λ (m : Machine). IsBeside Answers (IsChangeFor m s) m.lazy store.lazy j k) c.self.view_is
+    (beside_weaker Answers (IsPutInto i.store.lazy (pending_seen c.in-Some.group.pending)) i.store.lazy store.lazy j k (IsChangeFor m s) own c.in-Err.ensures.beside))
+
+pub returns-in-Memory-clause-beside : goal.returns-in-Memory-clause-beside
+returns-in-Memory-clause-beside g c =
+    let i = c.self.inside in
+    let s = c.args.session in
+    let x : SessionSoFar = c.index_mut-so_far.result.now in
+    let place : IsPlace i.script s = subst (λ (m : Machine). IsPlace m.script s) (sym c.self.view_is) c.requires.place in
+    let high : s ≤ length i.sessions.items = omega (arith, place.1, c.self.invariant.0.kept.shaped.opens, length-map i.sessions.items open_seen) in
+    let m : Machine = seen g.N.Opened.logged i.script i.retries i.store i.locks i.began.items i.sessions.items i.history.items in
+    let can : CanCommit m s = subst (λ (m : Machine). CanCommit m s) (sym c.self.view_is) c.requires.can in
+    let own : (next : LazyState) → IsPutInto i.store.lazy (pending_seen c.in-Some.group.pending) next → IsChangeFor m s next =
+    change_for g.N.Opened.logged i.script i.retries i.store i.locks i.began.items i.sessions.items i.history i.commits i.transcripts c.self.invariant.0
+    s place.0 high x (sym c.index_mut-so_far.ensures.value) c.in-Some.group (sym c.take.ensures.value ∙ c.in-Some.is) can in
+    let Answers = g.J.Journal.Answers in
+    let j = c.args.journal.now in
+    let k = c.settle.new.journal in
+    subst (λ (m : Machine). IsBeside Answers (IsChangeFor m s) m.lazy c.settle.new.store.lazy j k) c.self.view_is
+    (beside_weaker Answers (IsPutInto i.store.lazy (pending_seen c.in-Some.group.pending)) i.store.lazy c.settle.new.store.lazy j k (IsChangeFor m s) own c.in-Err.ensures.beside)
+
+pub returns-in-Ended-clause-refused : goal.returns-in-Ended-clause-refused
+returns-in-Ended-clause-refused g c = λ cause is.
+    let i = c.self.inside in
+    let s = c.args.session in
+    let x : SessionSoFar = c.index_mut-so_far.result.now in
+    let place : IsPlace i.script s = subst (λ (m : Machine). IsPlace m.script s) (sym c.self.view_is) c.requires.place in
+    let high : s ≤ length i.sessions.items = omega (arith, place.1, c.self.invariant.0.kept.shaped.opens, length-map i.sessions.items open_seen) in
+    let m : Machine = seen g.N.Opened.logged i.script i.retries i.store i.locks i.began.items i.sessions.items i.history.items in
+    let can : CanCommit m s = subst (λ (m : Machine). CanCommit m s) (sym c.self.view_is) c.requires.can in
+    let own : (next : LazyState) → IsPutInto i.store.lazy (pending_seen c.in-Some.group.pending) next → IsChangeFor m s next =
+    change_for g.N.Opened.logged i.script i.retries i.store i.locks i.began.items i.sessions.items i.history i.commits i.transcripts c.self.invariant.0
+    s place.0 high x (sym c.index_mut-so_far.ensures.value) c.in-Some.group (sym c.take.ensures.value ∙ c.in-Some.is) can in
+    let Answers = g.J.Journal.Answers in
+    let j = c.args.journal.now in
+    let k = c.settle.new.journal in
+    let same : c.in-Ended.cause ≡ cause = cc in
+    let refused = c.in-Err.ensures.refused cause (ap (λ (why : KeepError). Err why) (c.in-Ended.is ∙ ap (λ (d : Cause). Ended d) same)) in
+    subst (λ (m : Machine). IsRefused Answers (IsChangeFor m s) m.lazy j k cause) c.self.view_is (refused.0, own refused.0 refused.1, refused.2)
 
 pub returns-clause-beside : goal.returns-clause-beside
 returns-clause-beside g c =
+    let i = c.self.inside in
+    let s = c.args.session in
+    let x : SessionSoFar = c.index_mut-so_far.result.now in
+    let place : IsPlace i.script s = subst (λ (m : Machine). IsPlace m.script s) (sym c.self.view_is) c.requires.place in
+    let high : s ≤ length i.sessions.items = omega (arith, place.1, c.self.invariant.0.kept.shaped.opens, length-map i.sessions.items open_seen) in
+    let m : Machine = seen g.N.Opened.logged i.script i.retries i.store i.locks i.began.items i.sessions.items i.history.items in
+    let can : CanCommit m s = subst (λ (m : Machine). CanCommit m s) (sym c.self.view_is) c.requires.can in
+    let own : (next : LazyState) → IsPutInto i.store.lazy (pending_seen c.in-Some.group.pending) next → IsChangeFor m s next =
+    change_for g.N.Opened.logged i.script i.retries i.store i.locks i.began.items i.sessions.items i.history i.commits i.transcripts c.self.invariant.0
+    s place.0 high x (sym c.index_mut-so_far.ensures.value) c.in-Some.group (sym c.take.ensures.value ∙ c.in-Some.is) can in
     let Answers = g.J.Journal.Answers in
-    subst (λ (m : Machine). IsBeside Answers m.lazy c.settle.new.store.lazy c.args.journal.now c.settle.new.journal) c.self.view_is c.in_default-settle.ensures.beside
+    let j = c.args.journal.now in
+    let k = c.settle.new.journal in
+    subst (λ (m : Machine). IsBeside Answers (IsChangeFor m s) m.lazy c.settle.new.store.lazy j k) c.self.view_is
+    (beside_weaker Answers (IsPutInto i.store.lazy (pending_seen c.in-Some.group.pending)) i.store.lazy c.settle.new.store.lazy j k (IsChangeFor m s) own c.in_default-settle.ensures.beside)

@@ -8,18 +8,21 @@ use Rattle.bf_sql.specs.migrations.Lazy.{migrations_so_far}
 use Rattle.bf_image.specs.Registries.{Registry}
 use Rattle.bf_image.specs.declared.migration.Migration.{Migration as Kept}
 use Rattle.bf_store.specs.Calls.{IsMoveOf}
-use Rattle.bf_store.specs.States.{AreGranulesIfAny}
+use Rattle.bf_store.specs.States.{AreGranulesIfAny, with_moved}
 use Rattle.bf_store.specs.Stores.{IsOf, Store}
+use Rattle.bf_machine.specs.declared.journal.KeepError.TheVariants.{Memory}
 use Rattle.bf_machine.specs.declared.stand.MoveError.{MoveError}
 use Rattle.bf_machine.specs.declared.stand.MoveError.TheVariants.{Ended, Old}
 use Rattle.bf_machine.specs.interleaving.Calls.{slot_of}
 use Rattle.bf_machine.specs.interleaving.Events.{Moves}
-use Rattle.bf_machine.specs.interleaving.Journals.{IsBeside}
+use Rattle.bf_machine.specs.interleaving.Journals.{IsBeside, IsMoveIn, IsRefused}
+use Rattle.bf_machine.specs.interleaving.Kept.{is_of_log}
 use Rattle.bf_machine.specs.interleaving.Machines.{Machine}
 use Rattle.bf_machine.specs.interleaving.Seen.{IsSound, seen}
-use Rattle.bf_machine.proofs.keeping.Beside.{moved_beside}
+use Rattle.bf_machine.proofs.keeping.Beside.{moved_beside, none_beside, unkept_beside}
 use Rattle.bf_machine.proofs.keeping.Moving.{indexes_of_it, moved_sound, moves, number_is, of_the_last}
 use Rattle.bf_machine.proofs.keeping.Records.{one_record_of_the_last}
+use Rattle.bf_machine.proofs.machine.Machine.moved.Goals.{then-kept, else-kept}
 use Rattle.bf_machine.proofs.machine.Machine.moved.Goals as goal
 
 by_copied : {P : Type 0} (f : P → Kept) (r : Option (Bor P)) → option_map (λ p. f p.now) r ≡ option_map f (option_copied r)
@@ -144,7 +147,8 @@ returns-in_err-kept-clause-ended g c = λ cause is.
     let error = c.in_err-kept.field-0.0 in
     let same : c.from_residual.result ≡ Err error = same_error c.from_residual.result error c.from_residual.ensures.0 c.from_residual.ensures.1 in
     let ends : ◌≡◌ {A = Result Bool MoveError} (Err error) (Err (Ended cause)) = ap (λ (e : MoveError). Err e) (error_of c.from_residual.result error (Ended cause) same is) in
-    c.in_err-kept.ensures.ended cause ends
+    subst (λ (m : Machine). (g.J.Journal.ends ≡ true) × (is_of_log cause ≡ true) × IsRefused g.J.Journal.Answers (IsMoveIn m.lazy) m.lazy c.args.journal.now c.keep_left.new.journal cause) c.self.view_is
+    (c.in_err-kept.ensures.ended cause ends)
 
 pub returns-in-Ok-clause-beside : goal.returns-in-Ok-clause-beside
 returns-in-Ok-clause-beside g c =
@@ -152,7 +156,31 @@ returns-in-Ok-clause-beside g c =
     let next = c.move_granules.new.self.lazy in
     let kept = c.in_ok-kept.kept in
     let Answers = g.J.Journal.Answers in
-    subst (λ (m : Machine). IsBeside Answers m.lazy next c.args.journal.now c.keep_left.new.journal) c.self.view_is
-    (moved_beside Answers lazy c.args.granules.now c.args.journal.now c.keep_left.new.journal kept
+    subst (λ (m : Machine). IsBeside Answers (IsMoveIn m.lazy) m.lazy next c.args.journal.now c.keep_left.new.journal) c.self.view_is
+    (moved_beside Answers (IsMoveIn lazy) lazy c.args.granules.now c.args.journal.now c.keep_left.new.journal kept
     (λ some. c.in_ok-kept.ensures.kept (ap (λ (b : Bool). Ok b) some)) (λ none. c.in_ok-kept.ensures.nothing (ap (λ (b : Bool). Ok b) none))
     next c.in-Ok.ensures.ok.state (λ none. ap (λ (store : Store). store.lazy) (c.in-Ok.ensures.nothing none)))
+
+pub returns-clause-beside : goal.returns-clause-beside
+returns-clause-beside g c =
+    let i = c.self.inside in
+    let lazy = i.store.lazy in
+    let value = c.args.migration.now.value in
+    let passes = by_copied (λ (p : Where Kept). p.value) c.as_ref-last.result ∙ ap (option_map (λ (p : Where Kept). p.value)) (c.as_ref-last.ensures.value ∙ c.migration-last.ensures.pass) in
+    let same : option_map (λ (p : Where Kept). p.value) i.store.migration ≡ Some value = sym (c.are_same-same.ensures.values c.if-not-same.false ∙ passes) in
+    let are : AreGranulesIfAny lazy.last c.args.granules.now = of_the_last lazy.last i.store.migration c.migration-last.ensures.by_pass value same c.args.granules.now c.requires.granules.of_it in
+    let next = c.move_granules.new.self.lazy in
+    let stays : next ≡ lazy = ap (λ (store : Store). store.lazy) c.in-Err.ensures.err in
+    let Answers = g.J.Journal.Answers in
+    let j = c.args.journal.now in
+    subst (λ (m : Machine). IsBeside Answers (IsMoveIn m.lazy) m.lazy next j c.if-kept.journal) c.self.view_is
+    (elim c.if-kept.branch as (λ _. IsBeside Answers (IsMoveIn lazy) lazy next j c.if-kept.journal) [
+      | then-kept w ↦
+          let kept = c.in_ok-kept.ensures.kept (ap (λ (b : Bool). Ok b) w.if-kept.true) in
+          subst (IsBeside Answers (IsMoveIn lazy) lazy next j) (sym w.journal-is)
+          (unkept_beside Answers (IsMoveIn lazy) lazy next j w.give_up.new.self (with_moved lazy c.args.granules.now) (c.args.granules.now, are, refl) Memory stays
+          (w.give_up.ensures lazy (with_moved lazy c.args.granules.now) j kept))
+      | else-kept w ↦
+          let none = c.in_ok-kept.ensures.nothing (ap (λ (b : Bool). Ok b) w.if-kept.false) in
+          subst (IsBeside Answers (IsMoveIn lazy) lazy next j) (sym w.journal-is) (none_beside Answers (IsMoveIn lazy) lazy next j c.keep_left.new.journal stays none.1)
+    ])
