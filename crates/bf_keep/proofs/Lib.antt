@@ -1,6 +1,7 @@
 pub mod crashing
 pub mod Committed
 pub mod Created
+pub mod Ending
 pub mod Moved
 pub mod Naming
 pub mod Recorded

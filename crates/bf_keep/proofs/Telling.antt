@@ -1,26 +1,28 @@
 -- What a log tells by its answers.
-use Rattle.std.proofs.Common.{◌≡◌, ℕ, ◌+◌, ◌<◌, ◌≤◌, true, Some, Result, Ok, Err, refl, sym, subst, ◌∙◌, inl, inr, arith}
+use Rattle.std.proofs.Common.{◌≡◌, ℕ, ◌+◌, ◌<◌, ◌≤◌, true, None, Some, Result, Ok, Err, refl, sym, ap, subst, ◌∙◌, inl, inr, arith}
 use Rattle.std.specs.Prelude.{IfNone, IfSome, nat_lt}
 use Rattle.std.proofs.lemmas.Bool.{cases_Bool}
 use Rattle.std.proofs.lemmas.Bool.Decides.{nat_tests}
+use Rattle.std.proofs.lemmas.Option.{same_Some}
 use Rattle.bf_disk.specs.declared.disk.Disk.{Ghosts}
 use Rattle.bf_journal.specs.Leaving.{Fails, Stores}
 use Rattle.bf_journal.specs.States.{StandsOn}
-use Rattle.bf_log.specs.Append.{Outcome, end_of, halted_of, refusal}
+use Rattle.bf_log.specs.Append.{Outcome, Stops, disk_of, end_of, halted_of, refusal}
 use Rattle.bf_log.specs.Format.{frame}
 use Rattle.bf_log.specs.declared.error.AppendError.{AppendError}
 use Rattle.bf_log.specs.declared.error.AppendError.TheVariants as appends
 use Rattle.bf_log.specs.declared.log.Log.{Log}
 use Rattle.bf_log.specs.declared.log.Standing.{Standing}
 use Rattle.bf_log.specs.declared.log.Standing.TheVariants.{Ready, Halted as Stopped, Spent}
+use Rattle.bf_machine.specs.declared.journal.KeepError.{KeepError}
 use Rattle.bf_machine.specs.declared.journal.KeepError.TheVariants as keeps
-use Rattle.bf_machine.specs.interleaving.Journals.{IsToldIfEnded}
+use Rattle.bf_machine.specs.interleaving.Journals.{IsOfLogIfEnded}
 use Rattle.bf_recover.specs.Legal.{first_state}
 use Rattle.bf_recover.specs.Steps.{StepsTo}
 use Rattle.bf_sql.specs.migrations.Lazy.{LazyState}
 use Rattle.bf_tree.specs.declared.reply.Cause.{Cause}
 use Rattle.bf_tree.specs.declared.reply.Cause.TheVariants.{Died, DiskFault, Halted, LogFull, TooLarge}
-use Rattle.bf_keep.specs.Answers.{IsFaultCause, IsKept, IsToldAs, Tells, TellsOf, largest_log, largest_record, told_as}
+use Rattle.bf_keep.specs.Answers.{GoesOn, IsFaultCause, IsKept, IsToldAs, StandsBehind, Tells, TellsNow, largest_log, largest_record, told_as}
 
 -- an error as a group is told of it
 pub is_told_as : (error : AppendError) → IsToldAs (Err error) (Err (told_as error))
@@ -30,66 +32,150 @@ is_told_as (appends.Halted faults) = refl
 is_told_as (appends.TooLarge size) = refl
 is_told_as (appends.LogFull end need) = refl
 
+-- a journal's answer for an append that told the number of its record
+abbrev pub answer_by : Result ℕ AppendError → Result (Unit {0}) KeepError
+answer_by (Ok number) = Ok tt
+answer_by (Err error) = Err (told_as error)
+
+pub is_of_log_as : (error : AppendError) → IsOfLogIfEnded true (Err (told_as error))
+is_of_log_as appends.Memory = tt
+is_of_log_as appends.DiskFault = (refl, refl)
+is_of_log_as (appends.Halted faults) = (refl, refl)
+is_of_log_as (appends.TooLarge size) = (refl, refl)
+is_of_log_as (appends.LogFull end need) = (refl, refl)
+
+pub fault_is_of_log : (cause : Cause) → IsFaultCause cause → IsOfLogIfEnded true (Err (keeps.Ended cause))
+fault_is_of_log (Died older) fault = absurd fault
+fault_is_of_log DiskFault fault = (refl, refl)
+fault_is_of_log (Halted faults) fault = (refl, refl)
+fault_is_of_log (LogFull end need) fault = absurd fault
+fault_is_of_log (TooLarge size) fault = absurd fault
+
 module _ {D : Type 0} {g : Ghosts D} where
-  module _ (old new : Log D g) (size : ℕ) (r : Result ℕ AppendError) (error : AppendError) (is : r ≡ Err error) where
+  -- a log that takes records is not halted
+  not_halted : (log : Log D g) → log.standing ≡ Ready → halted_of log ≡ None
+  not_halted log ready = rw ready refl
+
+  -- A LOG THAT STAYS
+  module _ (old new : Log D g) (same : new ≡ old) where
+    stays_counted : (faults : ℕ) → halted_of old ≡ None → halted_of new ≡ Some faults → g.fault_count (disk_of new) ≡ faults
+    stays_counted faults none some =
+        let clash : None ≡ Some faults = sym none ∙ (sym (ap (λ (log : Log D g). halted_of log) same) ∙ some) in
+        absurd cc
+
+    stays_rises : end_of old ≤ end_of new
+    stays_rises = subst (λ (log : Log D g). end_of old ≤ end_of log) (sym same) (omega arith)
+
+    pub goes_at_rest : (answer : Result (Unit {0}) KeepError) → StandsBehind old new answer → GoesOn old new answer
+    goes_at_rest answer stands = record { stays = λ faults halted. same; counted = stays_counted; rises = stays_rises; stands = stands }
+
+  -- A LOG THAT TOOK RECORDS, where the append was not refused
+  module _ (old new : Log D g) (ready : old.standing ≡ Ready) where
+    never_halted : (faults : ℕ) → halted_of old ≡ Some faults → new ≡ old
+    never_halted faults some =
+        let clash : None ≡ Some faults = sym (not_halted old ready) ∙ some in
+        absurd cc
+
+    takes_records : (becomes : Standing) → new.standing ≡ becomes → ((faults : ℕ) → becomes ≡ Stopped faults → ⊥) → (faults : ℕ) → halted_of old ≡ None → halted_of new ≡ Some faults
+        → g.fault_count (disk_of new) ≡ faults
+    takes_records Ready is not faults none some = let clash : None ≡ Some faults = sym (rw is refl) ∙ some in absurd cc
+    takes_records Spent is not faults none some = let clash : None ≡ Some faults = sym (rw is refl) ∙ some in absurd cc
+    takes_records (Stopped n) is not faults none some = absurd (not n refl)
+
+    not_stopped : (faults : ℕ) → Ready ≡ Stopped faults → ⊥
+    not_stopped faults clash = cc
+
+    not_stopped_spent : (faults : ℕ) → Spent ≡ Stopped faults → ⊥
+    not_stopped_spent faults clash = cc
+
+    goes_by_outcome : (size : ℕ) (r : Result ℕ AppendError) → Outcome size old new r → GoesOn old new (answer_by r)
+    goes_by_outcome size (Ok number) came = record {
+      stays = never_halted;
+      counted = takes_records Ready came.ready not_stopped;
+      rises = omega (arith, came.end);
+      stands = came.ready;
+    }
+    goes_by_outcome size (Err appends.DiskFault) came =
+        let halted : halted_of new ≡ Some (g.fault_count new.disk) = rw came.standing refl in record {
+          stays = never_halted;
+          counted = λ faults none some. same_Some (g.fault_count new.disk) faults (sym halted ∙ some);
+          rises = omega (arith, came.end);
+          stands = (not_halted old ready, (g.fault_count new.disk, halted));
+        }
+    goes_by_outcome size (Err appends.Memory) came = elim came as (λ _. GoesOn old new (Err keeps.Memory)) [
+      | inl same ↦ goes_at_rest old new same (Err keeps.Memory) tt
+      | inr stops ↦ record { stays = never_halted; counted = takes_records Spent stops.standing not_stopped_spent; rises = omega (arith, stops.end); stands = tt }
+    ]
+    goes_by_outcome size (Err (appends.Halted faults)) came = absurd came
+    goes_by_outcome size (Err (appends.TooLarge n)) came = absurd came
+    goes_by_outcome size (Err (appends.LogFull end need)) came = absurd came
+
+  -- BY AN APPEND
+  module _ (old new : Log D g) (size : ℕ) (r : Result ℕ AppendError) where
     abbrev Refuses : Standing → Type 0
     Refuses s = IfSome (refusal s (end_of old) size largest_record largest_log) (λ e. (r ≡ Err e) × (new ≡ old))
 
     abbrev Comes : Standing → Type 0
     Comes s = IfNone (refusal s (end_of old) size largest_record largest_log) (Outcome size old new r)
 
-    same : (e : AppendError) → r ≡ Err e → e ≡ error
-    same e given = let both : ◌≡◌ {A = Result ℕ AppendError} (Err e) (Err error) = sym given ∙ is in cc
+    refused_so : (e : AppendError) → (r ≡ Err e) × (new ≡ old) → StandsBehind old new (Err (told_as e)) → GoesOn old new (answer_by r)
+    refused_so e refused stands = subst (λ (r : Result ℕ AppendError). GoesOn old new (answer_by r)) (sym refused.0) (goes_at_rest old new refused.1 (Err (told_as e)) stands)
 
-    told_by : (e : AppendError) → r ≡ Err e → TellsOf new e → TellsOf new error
-    told_by e given tells = subst (TellsOf new) (same e given) tells
-
-    by_outcome : (e : AppendError) → r ≡ Err e → Outcome size old new (Err e) → TellsOf new e
-    by_outcome appends.Memory given came = tt
-    by_outcome appends.DiskFault given came = (g.fault_count new.disk, rw came.standing refl)
-    by_outcome (appends.Halted faults) given came = absurd came
-    by_outcome (appends.TooLarge n) given came = absurd came
-    by_outcome (appends.LogFull end need) given came = absurd came
-
-    tells_at : (s : Standing) → old.standing ≡ s → Refuses s → Comes s → TellsOf new error
-    tells_at Spent at refused came = told_by appends.Memory refused.0 tt
-    tells_at (Stopped faults) at refused came =
+    goes_at : (s : Standing) → old.standing ≡ s → Refuses s → Comes s → GoesOn old new (answer_by r)
+    goes_at Spent at refused came = refused_so appends.Memory refused tt
+    goes_at (Stopped faults) at refused came =
         let here : halted_of old ≡ Some faults = rw at refl in
-        told_by (appends.Halted faults) refused.0 (subst (λ (log : Log D g). halted_of log ≡ Some faults) (sym refused.1) here)
-    tells_at Ready at refused came = elim (cases_Bool (nat_lt largest_record size)) as (λ _. TellsOf new error) [
+        refused_so (appends.Halted faults) refused (subst (λ (log : Log D g). halted_of log ≡ Some faults) (sym refused.1) here)
+    goes_at Ready at refused came = elim (cases_Bool (nat_lt largest_record size)) as (λ _. GoesOn old new (answer_by r)) [
       | inl over ↦
           let got : (r ≡ Err (appends.TooLarge size)) × (new ≡ old) = rw over at refused in
-          told_by (appends.TooLarge size) got.0 (grind (arith, nat_tests, over))
-      | inr fits ↦ elim (cases_Bool (nat_lt largest_log (end_of old + 1 + (size + frame)))) as (λ _. TellsOf new error) [
+          refused_so (appends.TooLarge size) got (grind (arith, nat_tests, over))
+      | inr fits ↦ elim (cases_Bool (nat_lt largest_log (end_of old + 1 + (size + frame)))) as (λ _. GoesOn old new (answer_by r)) [
         | inl full ↦
             let got : (r ≡ Err (appends.LogFull (end_of old) (size + frame))) × (new ≡ old) = rw (fits, full) at refused in
             let most : size ≤ largest_record = grind (arith, nat_tests, fits) in
             let over : largest_log < end_of old + 1 + (size + frame) = grind (arith, nat_tests, full) in
-            let ends : end_of old ≤ end_of new = subst (λ (log : Log D g). end_of old ≤ end_of log) (sym got.1) (omega arith) in
-            told_by (appends.LogFull (end_of old) (size + frame)) got.0 (ends, over, omega (arith, most))
+            refused_so (appends.LogFull (end_of old) (size + frame)) got (stays_rises old new got.1, over, omega (arith, most))
         | inr room ↦
             let got : Outcome size old new r = rw (fits, room) at came in
-            by_outcome error is (subst (Outcome size old new) is got)
+            goes_by_outcome old new at size r got
       ]
     ]
 
-  pub tells_of : (old new : Log D g) (size : ℕ) (r : Result ℕ AppendError) (error : AppendError) → (is : r ≡ Err error) → Refuses old new size r error is old.standing
-      → Comes old new size r error is old.standing → TellsOf new error
-  tells_of old new size r error is refused came = tells_at old new size r error is old.standing refl refused came
+    pub goes_on_by : Refuses old.standing → Comes old.standing → GoesOn old new (answer_by r)
+    goes_on_by refused came = goes_at old.standing refl refused came
 
-  pub is_told : (log : Log D g) (error : AppendError) → TellsOf log error → IsToldIfEnded true (Tells log) (Err (told_as error))
-  is_told log appends.Memory tells = tt
-  is_told log appends.DiskFault tells = (refl, refl, tells)
-  is_told log (appends.Halted faults) tells = (refl, refl, tells)
-  is_told log (appends.TooLarge size) tells = (refl, refl, tells)
-  is_told log (appends.LogFull end need) tells = (refl, refl, tells)
+  -- a fault at a move is told by its cause
+  fault_now : (old new : Log D g) (cause : Cause) → IsFaultCause cause → halted_of old ≡ None → Tells new cause → TellsNow old new cause
+  fault_now old new (Died older) fault none tells = absurd fault
+  fault_now old new DiskFault fault none tells = (none, tells)
+  fault_now old new (Halted faults) fault none tells = tells
+  fault_now old new (LogFull end need) fault none tells = absurd fault
+  fault_now old new (TooLarge size) fault none tells = absurd fault
 
-  pub fault_is_told : (log : Log D g) (cause : Cause) → IsFaultCause cause → Tells log cause → IsToldIfEnded true (Tells log) (Err (keeps.Ended cause))
-  fault_is_told log (Died older) fault tells = absurd fault
-  fault_is_told log DiskFault fault tells = (refl, refl, tells)
-  fault_is_told log (Halted faults) fault tells = (refl, refl, tells)
-  fault_is_told log (LogFull end need) fault tells = absurd fault
-  fault_is_told log (TooLarge size) fault tells = absurd fault
+  pub goes_by_fault : (old new : Log D g) (cause : Cause) → IsFaultCause cause → GoesOn old new (Err (keeps.Ended DiskFault)) → (Tells new DiskFault → Tells new cause)
+      → GoesOn old new (Err (keeps.Ended cause))
+  goes_by_fault old new cause fault goes tells = record {
+    stays = goes.stays;
+    counted = goes.counted;
+    rises = goes.rises;
+    stands = fault_now old new cause fault goes.stands.0 (tells goes.stands.1);
+  }
+
+  -- a log that is given up behind a record that it took
+  pub goes_given_up : (older old new : Log D g) → GoesOn older old (Ok tt) → Stops Spent old new → GoesOn older new (Err keeps.Memory)
+  goes_given_up older old new goes stops = record {
+    stays = λ faults halted.
+        let same : halted_of old ≡ Some faults = subst (λ (log : Log D g). halted_of log ≡ Some faults) (sym (goes.stays faults halted)) halted in
+        let clash : None ≡ Some faults = sym (not_halted old goes.stands) ∙ same in
+        absurd cc;
+    counted = λ faults none some.
+        let spent : halted_of new ≡ None = rw stops.standing refl in
+        let clash : None ≡ Some faults = sym spent ∙ some in
+        absurd cc;
+    rises = omega (arith, goes.rises, stops.end);
+    stands = tt;
+  }
 
   -- a record that was kept and is given up
   pub given_up : (lazy next : LazyState) (older old new : Log D g) → IsKept lazy next older old (Ok tt)

@@ -1,9 +1,10 @@
 -- WHAT A JOURNAL THAT IS A LOG ANSWERS, and what a crash leaves of it then.
-use Rattle.std.specs.Prelude.{◌≡◌, Bool, true, false, ℕ, ◌+◌, ◌<◌, ◌≤◌, ◌^◌, List, Some, Result, Ok, Err}
+use Rattle.std.specs.Prelude.{◌≡◌, Bool, true, false, ℕ, ◌+◌, ◌<◌, ◌≤◌, ◌^◌, List, filter, length, None, Some, Result, Ok, Err}
+use Rattle.std.specs.List.{AllByRecursion}
 use Rattle.bf_disk.specs.declared.disk.Disk.{Ghosts}
 use Rattle.bf_journal.specs.Answered.{IsAnsweredBy}
 use Rattle.bf_journal.specs.States.{StandsOn}
-use Rattle.bf_log.specs.Append.{end_of, halted_of}
+use Rattle.bf_log.specs.Append.{disk_of, end_of, halted_of, standing_of}
 use Rattle.bf_log.specs.declared.error.AppendError.{AppendError}
 use Rattle.bf_log.specs.declared.error.AppendError.TheVariants as appends
 use Rattle.bf_log.specs.declared.log.Log.{Log}
@@ -11,6 +12,7 @@ use Rattle.bf_log.specs.declared.log.Standing.{Standing}
 use Rattle.bf_log.specs.declared.log.Standing.TheVariants.{Ready}
 use Rattle.bf_machine.specs.declared.journal.KeepError.{KeepError}
 use Rattle.bf_machine.specs.declared.journal.KeepError.TheVariants as keeps
+use Rattle.bf_machine.specs.interleaving.Machines.{EndedGroup}
 use Rattle.bf_recover.specs.Legal.{first_state}
 use Rattle.bf_recover.specs.Steps.{StepsTo}
 use Rattle.bf_sql.specs.migrations.Lazy.{LazyState}
@@ -52,6 +54,11 @@ told_as (appends.Halted faults) = keeps.Ended (Halted faults)
 told_as (appends.TooLarge size) = keeps.Ended (TooLarge size)
 told_as (appends.LogFull end need) = keeps.Ended (LogFull end need)
 
+-- the answer of a journal by that of an append
+abbrev pub answer_as : Result (Unit {0}) AppendError → Result (Unit {0}) KeepError
+answer_as (Ok done) = Ok tt
+answer_as (Err error) = Err (told_as error)
+
 -- an append of which the number of the record is told too
 abbrev pub numbered : Result (Unit {0}) AppendError → Result ℕ AppendError
 numbered (Ok done) = Ok 0
@@ -75,10 +82,37 @@ module _ {D : Type 0} {g : Ghosts D} where
   Tells log (LogFull end need) = (end ≤ end_of log) × (largest_log < end + 1 + need) × (need ≤ largest_record + 5)
   Tells log (TooLarge size) = largest_record < size
 
-  -- by the error of an append
-  abbrev pub TellsOf : Log D g → AppendError → Type 0
-  TellsOf log appends.DiskFault = Tells log DiskFault
-  TellsOf log (appends.Halted faults) = Tells log (Halted faults)
-  TellsOf log (appends.TooLarge size) = Tells log (TooLarge size)
-  TellsOf log (appends.LogFull end need) = Tells log (LogFull end need)
-  TellsOf log appends.Memory = Unit {0}
+  -- and which it tells now: that its device has failed it tells once
+  abbrev pub TellsNow : Log D g → Log D g → Cause → Type 0
+  TellsNow old new DiskFault = (halted_of old ≡ None) × Tells new DiskFault
+  TellsNow old new other = Tells new other
+
+  -- how a log stands behind an answer
+  abbrev pub StandsBehind : Log D g → Log D g → Result (Unit {0}) KeepError → Type 0
+  StandsBehind old new (Ok done) = standing_of new ≡ Ready
+  StandsBehind old new (Err (keeps.Ended cause)) = TellsNow old new cause
+  StandsBehind old new (Err keeps.Memory) = Unit {0}
+
+  -- GOES ON: a log that is halted stays as it is; one that halts keeps the count of its device's faults; its end does not fall back
+  pub record GoesOn (old new : Log D g) (answer : Result (Unit {0}) KeepError) : Type 0 where
+    pub stays : (faults : ℕ) → halted_of old ≡ Some faults → new ≡ old
+    pub counted : (faults : ℕ) → halted_of old ≡ None → halted_of new ≡ Some faults → g.fault_count (disk_of new) ≡ faults
+    pub rises : end_of old ≤ end_of new
+    pub stands : StandsBehind old new answer
+
+  -- ANSWERS: the answer of the journal is that of an append, and the log goes on so
+  abbrev pub HasAnswered : LazyState → LazyState → Log D g → Log D g → Result (Unit {0}) KeepError → Type 0
+  HasAnswered lazy next old new answer = IsKept lazy next old new answer × GoesOn old new answer
+
+-- a group that is told of a fault of the device
+abbrev pub tells_fault : Cause → Bool
+tells_fault DiskFault = true
+tells_fault other = false
+
+module _ {D : Type 0} {g : Ghosts D} where
+  -- TOLD: each group that the log has ended is told what the log can tell, one at most that the device failed; and where it has
+  -- halted the log has kept the count of the device's faults
+  pub record AreTold (log : Log D g) (groups : List EndedGroup) : Type 0 where
+    pub each : AllByRecursion (λ group. Tells log group.cause) groups
+    pub one_fault : length (filter (λ group. tells_fault group.cause) groups) ≤ 1
+    pub counted : (faults : ℕ) → halted_of log ≡ Some faults → g.fault_count (disk_of log) ≡ faults

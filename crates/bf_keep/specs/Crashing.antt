@@ -1,19 +1,30 @@
 -- WHAT A CRASH LEAVES of a machine beside the journal that is a log.
-use Rattle.std.specs.Prelude.{ℕ, List, map, Option}
+use Rattle.std.specs.Prelude.{◌≡◌, ◌⊎◌, ℕ, Contains, List, map, Option, Some}
 use Rattle.bf_disk.specs.declared.disk.Disk.{Ghosts}
 use Rattle.bf_journal.specs.Crashes.{CrashImages, Machine as OnLog}
 use Rattle.bf_journal.specs.States.{StandsOn}
 use Rattle.bf_log.specs.declared.log.Log.{Log}
-use Rattle.bf_machine.specs.interleaving.Journals.{Keeps}
-use Rattle.bf_machine.specs.interleaving.Machines.{Machine}
+use Rattle.bf_machine.specs.interleaving.Journals.{Keeps, ended_in}
+use Rattle.bf_machine.specs.interleaving.Machines.{EndedGroup, Machine}
 use Rattle.bf_recover.specs.Legal.{first_state}
 use Rattle.bf_recover.specs.Steps.{StepsTo, entry_of, run_entry}
 use Rattle.bf_sql.specs.Database.{Database}
+use Rattle.bf_sql.specs.Groups.{groups_in}
 use Rattle.bf_sql.specs.migrations.Lazy.{LazyState, view_of}
+use Rattle.bf_tree.specs.declared.history.Entry.{Entry}
 use Rattle.bf_tree.specs.declared.history.Outcome.{Outcome}
+use Rattle.bf_tree.specs.declared.script.Script.{Script}
 use Rattle.bf_tree.specs.declared.statement.Statement.{Statement}
-use Rattle.bf_keep.specs.Answers.{IsKept, Tells}
+use Rattle.bf_keep.specs.Answers.{HasAnswered}
 use Rattle.bf_keep.specs.declared.log_journal.LogJournal.{LogJournal}
+
+-- what a group of the script makes of a database
+abbrev pub IsOneGroup : Script → Database → Database → Type 0
+IsOneGroup script now db = (entry : Entry) × Contains (groups_in script entry.session) (entry.first, entry.last) × (db ≡ run_entry now (entry_of script entry))
+
+-- or what a move makes of it, which is not seen
+abbrev pub IsOneChange : Script → Database → Database → Type 0
+IsOneChange script now db = (db ≡ now) ⊎ IsOneGroup script now db
 
 module _ {D : Type 0} {g : Ghosts D} where
   -- A machine beside its log, as a state on a log: what is seen of it at the opening, the moment from which on crashes are spoken
@@ -29,13 +40,18 @@ module _ {D : Type 0} {g : Ghosts D} where
   }
 
   -- RECOVERS: the state of the store stands on the log. Every image that a crash now may leave reopens to the database, and every
-  -- image since that moment to the database after a prefix of the history; or to that of the one change that failed
+  -- image since that moment to the database after a prefix of the history; or to that of the one change that failed, which is the
+  -- same, or what one more group of the script makes of it
   pub record Recovers (opening : Database) (since : ℕ) (m : Machine) (log : Log D g) : Type 0 where
     pub stands : StandsOn first_state StepsTo m.lazy log
     pub failed : Option Database
     pub images : CrashImages first_state StepsTo view_of run_entry (beside m log opening since failed)
+    pub failed_is : (db : Database) → failed ≡ Some db → IsOneChange m.script (view_of m.lazy) db
 
   -- events one after the other, each beside the journal
   abbrev pub KeepsOnLog : Database → Machine → LogJournal D g → Machine → LogJournal D g → Type 0
-  KeepsOnLog =
-      Keeps {J = LogJournal D g} (λ lazy next old new answer. IsKept lazy next old.log new.log answer) (λ journal cause. Tells journal.log cause)
+  KeepsOnLog = Keeps {J = LogJournal D g} (λ lazy next old new answer. HasAnswered lazy next old.log new.log answer)
+
+  -- the groups that the log has ended by them
+  abbrev pub ended_on_log : {start : Database} {m : Machine} {j : LogJournal D g} {next : Machine} {k : LogJournal D g} → KeepsOnLog start m j next k → List EndedGroup
+  ended_on_log = ended_in {J = LogJournal D g} (λ lazy next old new answer. HasAnswered lazy next old.log new.log answer)

@@ -9,7 +9,10 @@ ghost use Rattle.bf_recover.specs.Legal.{first_state};
 ghost use Rattle.bf_recover.specs.Steps.{StepsTo};
 ghost use Rattle.bf_sql.specs.Database.{Database};
 ghost use Rattle.bf_sql.specs.migrations.Lazy.{LazyState};
-ghost use Rattle.bf_keep.specs.Crashing.{KeepsOnLog, Recovers};
+ghost use Rattle.bf_log.specs.Append.{standing_of};
+ghost use Rattle.bf_log.specs.declared.log.Standing.TheVariants.{Ready};
+ghost use Rattle.bf_keep.specs.Answers.{AreTold};
+ghost use Rattle.bf_keep.specs.Crashing.{KeepsOnLog, Recovers, ended_on_log};
 ghost use Rattle.bf_keep.specs.declared.log_journal.LogJournal.{LogJournal as JournalOf};
 
 use bf_disk::Disk;
@@ -34,4 +37,12 @@ pub fn every_crash_leaves_a_prefix<D: Disk>(_of: PhantomData<D>)
         → ((left : Option LazyState) → MayLeave first_state StepsTo j.log since left
         → left ≡ Some m.lazy)
         → KeepsOnLog start m j next k → Recovers start since next k.log }
+{}
+
+/// Whatever the events beside a log that takes records: each group that it has ended is told what the log can tell, with
+/// its numbers, and one at most that the device failed.
+pub fn what_ends_groups_is_told<D: Disk>(_of: PhantomData<D>)
+    ensures { (start : Database) (m next : Machine) (j k : JournalOf D D.Disk)
+        (keeps : KeepsOnLog start m j next k) → standing_of j.log ≡ Ready
+        → AreTold k.log (ended_on_log keeps) }
 {}

@@ -3,10 +3,9 @@
 ghost use Rattle.std.specs.Prelude.{◌≡◌, Err, IfOk};
 ghost use Rattle.bf_tree.specs.declared.reply.Cause.TheVariants.{DiskFault};
 ghost use Rattle.bf_log.specs.Append.{disk_of, standing_of};
-ghost use Rattle.bf_log.specs.declared.error.AppendError.{AppendError as Refused};
 ghost use Rattle.bf_sql.specs.migrations.Lazy.{LazyState};
 ghost use Rattle.bf_recover.specs.Steps.{StepsTo};
-ghost use Rattle.bf_keep.specs.Answers.{IsAppended, IsFaultCause, Tells, TellsOf, is_ready, told_as};
+ghost use Rattle.bf_keep.specs.Answers.{GoesOn, IsAppended, IsFaultCause, Tells, answer_as, is_ready, told_as};
 ghost use Rattle.bf_keep.specs.Records.{IsRecordOf};
 
 use crate::changes::{change_of, move_of};
@@ -98,8 +97,7 @@ impl<D: Disk> LogJournal<D> {
     fn append(&mut self, change: Result<Change, Memory>) -> Result<(), AppendError>
         ensures appended { (lazy next : LazyState) → IfOk change (λ told. IsRecordOf lazy told next)
             → IsAppended lazy next self.old.log self.new.log result }
-        ensures tells { (error : Refused) → result ≡ Err error
-            → TellsOf self.new.log error }
+        ensures goes_on { GoesOn self.old.log self.new.log (answer_as result) }
     {
         let Ok(payload) = payload_of(self.alloc, change) else {
             return Err(AppendError::Memory);
@@ -133,14 +131,12 @@ fn keep_error(error: AppendError) -> KeepError
 
 impl<D: Disk> Journal for LogJournal<D> {
     ghost use Rattle.std.specs.Prelude.{true};
-    ghost use Rattle.bf_keep.specs.Answers.{IsKept, Tells as HasTold};
+    ghost use Rattle.bf_keep.specs.Answers.{HasAnswered};
     ghost use Rattle.bf_keep.specs.Sayable.{IsSayable};
 
     ghost ends = { true };
 
-    ghost Answers = { λ lazy next old new answer. IsKept lazy next old.log new.log answer };
-
-    ghost Tells = { λ journal cause. HasTold journal.log cause };
+    ghost Answers = { λ lazy next old new answer. HasAnswered lazy next old.log new.log answer };
 
     ghost Says = { IsSayable };
 
