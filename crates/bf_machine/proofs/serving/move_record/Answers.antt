@@ -46,10 +46,14 @@ returns-clause-refused g c =
           let cause = w.in-Err-Ended.cause in
           let ended = c.moved.ensures.ended cause (w.in-Err-Ended.is ∙ ap Err w.in-Err-Ended.field-0-is) in
           let stays : next ≡ m = w.in-Err-Ended.ensures.err in
-          subst Goal (sym w.result-is) (ended.0, ended.1, (
-            j,
-            keeps_not Answers g.N.Opened.opening m next j j stays refl,
-            subst (λ (n : Machine). IsRefused Answers (IsMoveIn n.lazy) n.lazy j k cause) (sym stays) ended.2,
-          ))
+          subst Goal (sym w.result-is) (
+            ended.0,
+            ended.1,
+            (
+              j,
+              keeps_not Answers g.N.Opened.opening m next j j stays refl,
+              subst (λ (n : Machine). IsRefused Answers (IsMoveIn n.lazy) n.lazy j k cause) (sym stays) ended.2,
+            ),
+          )
       | in-Err-Memory w ↦ subst Goal (sym w.result-is) tt
     ]

@@ -28,8 +28,8 @@ returns-in-Err-DiskFault-clause-ended g c = fault_is_of_log c.fault_cause.result
 pub returns-in-Err : goal.returns-in-Err
 returns-in-Err g c = record {
   answers = (
-      (Err c.in-Err.error, c.in-Err.ensures.appended _ _ c.move_of.ensures, subst (λ (why : KeepError). IsToldAs (Err c.in-Err.error) (Err why)) (sym c.keep_error.ensures) (is_told_as c.in-Err.error)),
-      subst (λ (why : KeepError). GoesOn {g = g.D.Disk} c.args.self.now.log c.append.new.self.log (Err why)) (sym c.keep_error.ensures) c.in-Err.ensures.goes_on,
-    );
+    (Err c.in-Err.error, c.in-Err.ensures.appended _ _ c.move_of.ensures, subst (λ (why : KeepError). IsToldAs (Err c.in-Err.error) (Err why)) (sym c.keep_error.ensures) (is_told_as c.in-Err.error)),
+    subst (λ (why : KeepError). GoesOn {g = g.D.Disk} c.args.self.now.log c.append.new.self.log (Err why)) (sym c.keep_error.ensures) c.in-Err.ensures.goes_on,
+  );
   ended = subst (λ (why : KeepError). IsOfLogIfEnded _ (Err why)) (sym c.keep_error.ensures) (is_of_log_as c.in-Err.error);
 }

@@ -48,11 +48,14 @@ returns-in-Err-Ended-clause-err g c =
     let left = c.in-Ok.left in
     let is : c.as_slice.result.now ≡ to_move lazy.last c.args.granules.now = c.as_slice.ensures.value ∙ c.in-Ok.ensures in
     let some : 1 ≤ length left.items = some_there left.items left.len (sym c.is_empty.ensures ∙ c.if-is_empty.false) (omega (arith, left.ok.0)) in
-    inr (inr (refl, (
-      with_moved lazy c.as_slice.result.now,
-      unkept lazy c.args.granules.now c.as_slice.result.now c.requires is (subst (λ (gs : List Granule). 1 ≤ length gs) (sym c.as_slice.ensures.value) some),
-      (c.in-Err-Ended.field-0, c.in-Err-Ended.ensures.answers),
-    )))
+    inr (inr (
+      refl,
+      (
+        with_moved lazy c.as_slice.result.now,
+        unkept lazy c.args.granules.now c.as_slice.result.now c.requires is (subst (λ (gs : List Granule). 1 ≤ length gs) (sym c.as_slice.ensures.value) some),
+        (c.in-Err-Ended.field-0, c.in-Err-Ended.ensures.answers),
+      ),
+    ))
 
 pub returns-in-Err-Ended-clause-ended : goal.returns-in-Err-Ended-clause-ended
 returns-in-Err-Ended-clause-ended g c = λ cause same.
@@ -63,12 +66,15 @@ returns-in-Err-Ended-clause-ended g c = λ cause same.
     let one : c.in-Err-Ended.cause ≡ cause = cc in
     let told : c.in-Err-Ended.field-0 ≡ Ended cause = c.in-Err-Ended.field-0-is ∙ ap (λ (d : Cause). Ended d) one in
     let ended = subst (λ (why : KeepError). IsOfLogIfEnded g.J.Journal.ends (Err why)) told c.in-Err-Ended.ensures.ended in
-    let answers = subst (λ (why : KeepError). g.J.Journal.Answers lazy (with_moved lazy c.as_slice.result.now) c.args.journal.now c.keep_moves.new.self (Err why)) told c.in-Err-Ended.ensures.answers in
-    (ended.0, ended.1, (
-      with_moved lazy c.as_slice.result.now,
-      unkept lazy c.args.granules.now c.as_slice.result.now c.requires is (subst (λ (gs : List Granule). 1 ≤ length gs) (sym c.as_slice.ensures.value) some),
-      answers,
-    ))
+    let answers = subst (λ (why : KeepError). g.J.Journal.Answers lazy (with_moved lazy c.as_slice.result.now) c.args.journal.now c.keep_moves.new.self (Err why)) told c.in-Err-Ended.ensures.answers in (
+      ended.0,
+      ended.1,
+      (
+        with_moved lazy c.as_slice.result.now,
+        unkept lazy c.args.granules.now c.as_slice.result.now c.requires is (subst (λ (gs : List Granule). 1 ≤ length gs) (sym c.as_slice.ensures.value) some),
+        answers,
+      ),
+    )
 
 pub returns-clause-err : goal.returns-clause-err
 returns-clause-err g c =
@@ -76,8 +82,11 @@ returns-clause-err g c =
     let left = c.in-Ok.left in
     let is : c.as_slice.result.now ≡ to_move lazy.last c.args.granules.now = c.as_slice.ensures.value ∙ c.in-Ok.ensures in
     let some : 1 ≤ length left.items = some_there left.items left.len (sym c.is_empty.ensures ∙ c.if-is_empty.false) (omega (arith, left.ok.0)) in
-    inr (inr (refl, (
-      with_moved lazy c.as_slice.result.now,
-      unkept lazy c.args.granules.now c.as_slice.result.now c.requires is (subst (λ (gs : List Granule). 1 ≤ length gs) (sym c.as_slice.ensures.value) some),
-      (c.in-Err-Memory.field-0, c.in-Err-Memory.ensures.answers),
-    )))
+    inr (inr (
+      refl,
+      (
+        with_moved lazy c.as_slice.result.now,
+        unkept lazy c.args.granules.now c.as_slice.result.now c.requires is (subst (λ (gs : List Granule). 1 ≤ length gs) (sym c.as_slice.ensures.value) some),
+        (c.in-Err-Memory.field-0, c.in-Err-Memory.ensures.answers),
+      ),
+    ))
