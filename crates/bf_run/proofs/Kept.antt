@@ -1,8 +1,10 @@
 -- What a crash leaves of a machine beside its log, said of its script and its history alone.
-use Rattle.std.proofs.Common.{◌≡◌, ℕ, ◌≤◌, true, List, [], ◌∷◌, ◌++◌, map, Option, None, Some, inl, inr, refl, sym, ap, ap₂, subst, ◌∙◌}
+use Rattle.std.proofs.Common.{◌≡◌, ◌⊎◌, ℕ, ◌≤◌, true, List, [], ◌∷◌, ◌++◌, map, Option, None, Some, inl, inr, refl, sym, ap, ap₂, subst, ◌∙◌}
+use Rattle.std.proofs.lemmas.List.{map-append}
 use Rattle.bf_disk.specs.declared.disk.Disk.{Ghosts}
 use Rattle.bf_journal.specs.Crashes.{IsAfterPrefix, ReopensWith, replayed as run_in_turn}
 use Rattle.bf_journal.specs.Reopening.{ReopensTo}
+use Rattle.bf_journal.proofs.Runs.{replayed_more}
 use Rattle.bf_journal.specs.States.{IsReady, MayLeave, StandsOn, moment_of}
 use Rattle.bf_log.specs.declared.log.Log.{Log}
 use Rattle.bf_log.specs.declared.log.Standing.{Standing}
@@ -20,7 +22,7 @@ use Rattle.bf_tree.specs.declared.script.Script.{Script}
 use Rattle.bf_keep.specs.Answers.{is_ready}
 use Rattle.bf_keep.specs.Crashing.{KeepsOnLog, Recovers}
 use Rattle.bf_keep.specs.declared.log_journal.LogJournal.{LogJournal}
-use Rattle.bf_run.specs.Keeping.{IsBehind, IsBehindPrefix, KeepsOn, Leaves, OpensAs}
+use Rattle.bf_run.specs.Keeping.{IsBehind, IsBehindOneMore, IsBehindPrefix, IsFailed, KeepsOn, Leaves, OpensAs}
 use Rattle.bf_run.specs.declared.status.Status.TheVariants.{Done, DiskFault}
 
 -- a prefix of a list that is mapped is that of a prefix
@@ -51,6 +53,21 @@ module _ {D : Type 0} {g : Ghosts D} (start : Database) (m : Machine) (log : Log
   behind_all : (db : Database) → db ≡ view_of m.lazy → IsBehind m.script start m.history db
   behind_all db is = is ∙ (recovers.images.view_is ∙ sym (runs m.history))
 
+  -- what failed would have made is behind it too, or behind one group more
+  pub failed_so : IsFailed m.script start m.history recovers.failed
+  failed_so db is = elim (recovers.failed_is db is) as (λ _. IsBehind m.script start m.history db ⊎ IsBehindOneMore m.script start m.history db) [
+    | inl same ↦ inl (behind_all db same)
+    | inr one ↦
+        let entry : Entry = one.0 in
+        let now : view_of m.lazy ≡ run_in_turn run_entry start (map (entry_of m.script) m.history) = recovers.images.view_is in
+        let more : (replayed m.script start (m.history ++ entry ∷ [])).1 ≡ run_entry (view_of m.lazy) (entry_of m.script entry) =
+        runs (m.history ++ entry ∷ [])
+        ∙ ap (run_in_turn run_entry start) (map-append (entry_of m.script) m.history (entry ∷ []))
+        ∙ replayed_more run_entry (map (entry_of m.script) m.history) (entry_of m.script entry) start
+        ∙ ap (λ (view : Database). run_entry view (entry_of m.script entry)) (sym now) in
+        inr (entry, one.1, one.2 ∙ sym more)
+  ]
+
   module _ (file : List ℕ) (told : g.seen log.disk ≡ Some file) where
     may_be_left : (t : ℕ) (image : List ℕ) (left : Option LazyState) → g.left_since log.disk t image → ReopensTo first_state StepsTo image left
         → MayLeave first_state StepsTo log t left
@@ -75,7 +92,7 @@ module _ {D : Type 0} {g : Ghosts D} (opening : Database) (lazy : LazyState) (no
   pub keeps_at_fault : KeepsOn lazy log last.disk DiskFault now.script opening now.history
   keeps_at_fault since by alone file told =
       let r = recovers since by alone in
-      (r.failed, leaves opening now last since r file told)
+      (r.failed, failed_so opening now last since r, leaves opening now last since r file told)
 
   pub keeps_at_done : IsReady last → KeepsOn lazy log last.disk Done now.script opening now.history
   keeps_at_done ready since by alone file told =

@@ -1,4 +1,5 @@
 pub mod Answered
+pub mod Caused
 pub mod Kept
 pub mod Migrates
 pub mod NewLogs

@@ -14,6 +14,7 @@ use Rattle.bf_sql.specs.Database.{Database}
 use Rattle.bf_sql.specs.migrations.Lazy.{LazyState, view_of}
 use Rattle.bf_tree.specs.declared.history.Entry.{Entry}
 use Rattle.bf_tree.specs.declared.script.Script.{Script}
+use Rattle.bf_machine.specs.interleaving.Machines.{EndedGroup}
 use Rattle.bf_run.specs.declared.status.Status.{Status}
 use Rattle.bf_run.specs.declared.status.Status.TheVariants.{Done, Usage, Script as ScriptError, ReadFault, WriteFault, DiskFault, NotALog, NotEmpty, Memory}
 use Rattle.bf_run.specs.Creating.{CountsNone, CountsOne, Shelving, WhereHeld}
@@ -41,8 +42,8 @@ module _ {V : Type 0} (seen : V → Option (List ℕ)) (may_leave : V → List �
     (script : Script) (disk now : V) where
   pub served : (Served : Ground) (before after : ℕ) (status : Status) (text : List ℕ) → IsServed Served script before after status text
       → before ≡ fault_count disk → after ≡ fault_count now
-      → ((status : Status) (start : Database) (history : List Entry) → Served status script start history
-      → HoldsOver seen may_leave moment left_since fault_count disk now status script start history)
+      → ((status : Status) (start : Database) (history : List Entry) (ended : List EndedGroup) → Served status script start history ended
+      → HoldsOver seen may_leave moment left_since fault_count disk now status script start history ended)
       → IsRunOverDisk seen may_leave moment left_since fault_count script disk now status text
   served Served before after status text is first last so = by status is
     where
@@ -52,8 +53,9 @@ module _ {V : Type 0} (seen : V → Option (List ℕ)) (may_leave : V → List �
         start = run.start;
         transcripts = run.transcripts;
         history = run.history;
+        ended = run.ended;
         sweep = run.sweep;
-        holds = so status run.start run.history run.holds;
+        holds = so status run.start run.history run.ended run.holds;
         is_run = run.is_run;
         report_written = run.report_written;
       }
@@ -117,8 +119,9 @@ module _ {V : Type 0} (shelf : Shelving V) (path : List ℕ) (mid : Option (ByPa
       start = told.start;
       transcripts = told.transcripts;
       history = told.history;
+      ended = told.ended;
       sweep = told.sweep;
-      holds = (opens told.start told.holds.0, keeps_log status script told.start told.history told.holds.1);
+      holds = (opens told.start told.holds.0, keeps_log status script told.start told.history told.holds.1, told.holds.2);
       is_run = told.is_run;
       report_written = told.report_written;
     }

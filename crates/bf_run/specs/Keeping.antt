@@ -1,5 +1,5 @@
 -- WHAT A CRASH LEAVES of the log that a script was run over.
-use Rattle.std.specs.Prelude.{◌≡◌, ℕ, ◌≤◌, List, ◌++◌, Option, None, Some}
+use Rattle.std.specs.Prelude.{◌≡◌, ◌⊎◌, ℕ, ◌≤◌, List, [], ◌∷◌, ◌++◌, Contains, Option, None, Some}
 use Rattle.bf_disk.specs.declared.disk.Disk.{Ghosts}
 use Rattle.bf_disk.specs.Images.{Only}
 use Rattle.bf_disk.specs.Shelves.{IsHeldOrEmpty}
@@ -11,6 +11,7 @@ use Rattle.bf_log.specs.declared.log.Log.{Log}
 use Rattle.bf_recover.specs.Legal.{first_state}
 use Rattle.bf_recover.specs.Steps.{StepsTo}
 use Rattle.bf_sql.specs.Database.{Database}
+use Rattle.bf_sql.specs.Groups.{groups_in}
 use Rattle.bf_sql.specs.History.{replayed}
 use Rattle.bf_sql.specs.migrations.Lazy.{LazyState, view_of}
 use Rattle.bf_tree.specs.declared.history.Entry.{Entry}
@@ -27,7 +28,16 @@ module _ (script : Script) (start : Database) where
   abbrev pub IsBehindPrefix : List Entry → Database → Type 0
   IsBehindPrefix history db = (prefix later : List Entry) × (prefix ++ later ≡ history) × IsBehind prefix db
 
--- an image reopens to such a database, or to the one that the one failed change would have made
+  -- and one behind a history and one group more of the script
+  abbrev pub IsBehindOneMore : List Entry → Database → Type 0
+  IsBehindOneMore history db =
+      (entry : Entry) × Contains (groups_in script entry.session) (entry.first, entry.last) × IsBehind (history ++ entry ∷ []) db
+
+  -- FAILED: what the one change that failed would have made is behind the history, or behind it and one group more
+  abbrev pub IsFailed : List Entry → Option Database → Type 0
+  IsFailed history failed = (db : Database) → failed ≡ Some db → IsBehind history db ⊎ IsBehindOneMore history db
+
+-- an image that reopens does so to such a database, or to the one that the one failed change would have made
 abbrev pub OpensAs : (Database → Type 0) → Option Database → List ℕ → Type 0
 OpensAs Is failed image = (left : Option LazyState) → ReopensTo first_state StepsTo image left → ReopensWith view_of failed Is left
 
@@ -41,7 +51,7 @@ module _ {V : Type 0} (moment : V → ℕ) (left_since : V → ℕ → List ℕ 
   -- at Done no change has failed
   abbrev pub LeavesAt : Status → V → ℕ → Script → Database → List Entry → Type 0
   LeavesAt Done disk since script start history = Leaves disk since script start history None
-  LeavesAt other disk since script start history = (failed : Option Database) × Leaves disk since script start history failed
+  LeavesAt other disk since script start history = (failed : Option Database) × IsFailed script start history failed × Leaves disk since script start history failed
 
 module _ {V : Type 0} (seen : V → Option (List ℕ)) (may_leave : V → List ℕ → Type 0) (moment : V → ℕ) (left_since : V → ℕ → List ℕ → Type 0) where
   -- KEPT: this holds since the log was opened; and since the start of the call, where nothing was pending on the file then

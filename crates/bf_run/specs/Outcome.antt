@@ -15,12 +15,14 @@ use Rattle.bf_text.specs.Replies.{newline, numbered}
 use Rattle.bf_text.specs.Report.{report_text}
 use Rattle.bf_run.specs.declared.status.Status.{Status}
 use Rattle.bf_run.specs.declared.status.Status.TheVariants.{Done, Usage, Script as ScriptError, ReadFault, WriteFault, DiskFault, NotALog, NotEmpty, Memory}
+use Rattle.bf_run.specs.Causes.{AreCaused}
 use Rattle.bf_run.specs.Creating.{Shelving, Makes, Refuses, CountsNone, CountsOne, Spares}
 use Rattle.bf_run.specs.Keeping.{KeepsLog}
 use Rattle.bf_run.specs.Running.{KeepsOthers, Opens, RefusesLog}
 use Rattle.bf_run.specs.Words.{Asked, creating, running, trying, asked, IfCreating, IfRunning}
 use Rattle.bf_machine.specs.InOrder.{IsRunInOrder}
 use Rattle.bf_machine.specs.RunOver.{IsRunOver}
+use Rattle.bf_machine.specs.interleaving.Machines.{EndedGroup}
 use Rattle.bf_sql.specs.Database.{Database}
 
 -- STREAM: the bytes that a source has left, or that a sink took, where they are told, and its count of faults, each
@@ -49,22 +51,24 @@ pub record IsReport (bytes text : List ℕ) : Type 0 where
   pub is_run : IsRunInOrder script transcripts history sweep
   pub report_written : text ≡ report_text transcripts history None sweep
 
--- GROUND: what holds of a run over a log, for its status: of its script, of the database that it begins with and of its history
+-- GROUND: what holds of a run over a log, for its status: of its script, of the database that it begins with, of its history, and of
+-- the groups that the log has ended
 abbrev pub Ground : Type 1
-Ground = Status → Script → Database → List Entry → Type 0
+Ground = Status → Script → Database → List Entry → List EndedGroup → Type 0
 
--- the text is the report of a run of a script, of whose begin and history this holds
-pub record IsRunTold (Holds : Database → List Entry → Type 0) (script : Script) (text : List ℕ) : Type 0 where
+-- the text is the report of a run of a script, of whose begin, history and ended groups this holds
+pub record IsRunTold (Holds : Database → List Entry → List EndedGroup → Type 0) (script : Script) (text : List ℕ) : Type 0 where
   pub start : Database
   pub transcripts : List (List Reply)
   pub history : List Entry
+  pub ended : List EndedGroup
   pub sweep : Sweep
-  pub holds : Holds start history
-  pub is_run : IsRunOver start script transcripts history sweep
+  pub holds : Holds start history ended
+  pub is_run : IsRunOver start script ended transcripts history sweep
   pub report_written : text ≡ report_text transcripts history None sweep
 
 -- and the script is the one that the bytes are
-abbrev pub IsRunReport : (Script → Database → List Entry → Type 0) → List ℕ → List ℕ → Type 0
+abbrev pub IsRunReport : (Script → Database → List Entry → List EndedGroup → Type 0) → List ℕ → List ℕ → Type 0
 IsRunReport Holds bytes text = (script : Script) × IsScriptText bytes (Ok script) × IsRunTold (Holds script) script text
 
 -- the text is a script; each one is served
@@ -176,10 +180,12 @@ IsTextOf asks Holds bytes (NotEmpty n) text = text ≡ not_empty_text n
 IsTextOf asks Holds bytes WriteFault text = ⊥
 IsTextOf asks Holds bytes Memory text = ⊥
 
--- a run over the log that is asked for begins with a database that this opens to, and a crash leaves a prefix of what it commits
+-- a run over the log that is asked for begins with a database that this opens to, a crash leaves a prefix of what it commits, and
+-- the log has ended groups by its causes alone
 abbrev pub HoldsAsked : {V : Type 0} → Option Asked → Shelving V → Ground
-HoldsAsked (Some (running path)) shelf status script start history = Opens shelf path start × KeepsLog shelf path status script start history
-HoldsAsked other shelf status script start history = ⊥
+HoldsAsked (Some (running path)) shelf status script start history ended =
+    Opens shelf path start × KeepsLog shelf path status script start history × AreCaused status ended
+HoldsAsked other shelf status script start history ended = ⊥
 
 module _ {V : Type 0} (asks : Option Asked) (input : Stream) (shelf : Shelving V) where
   -- a status that comes, with its text, both of the same bytes: of those that the source tells, or of some

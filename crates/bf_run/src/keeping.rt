@@ -1,7 +1,7 @@
 //! Running a script over the database that a log keeps.
 
 ghost use Rattle.std.specs.Prelude.{◌≡◌, ℕ, List, None, Some, IfOk, true};
-ghost use Rattle.bf_journal.specs.States.{StandsOn};
+ghost use Rattle.bf_journal.specs.States.{IsReady, StandsOn};
 ghost use Rattle.bf_keep.specs.Sayable.{IsSayableScript};
 ghost use Rattle.bf_log.specs.Append.{disk_of};
 ghost use Rattle.bf_machine.specs.interleaving.Kept.{IsWithinLimits};
@@ -20,7 +20,7 @@ use bf_base::Memory;
 use bf_disk::{Disk, DiskError, Shelf};
 use bf_image::Registry;
 use bf_keep::LogJournal;
-use bf_keep::laws::every_crash_leaves_a_prefix;
+use bf_keep::laws::{every_crash_leaves_a_prefix, what_ends_groups_is_told};
 use bf_log::{Log, OpenError};
 use bf_machine::interleaving_laws::sessions_that_have_ended_ran_over;
 use bf_machine::{Machine, Opened, in_order};
@@ -55,6 +55,7 @@ fn tell_run<N: Opened, D: Disk, R: Wait>(
     requires limits { IsWithinLimits script }
     requires sayable { IsSayableScript script }
     requires stands { StandsOn first_state StepsTo store.lazy journal.old.log }
+    requires ready { IsReady journal.old.log }
     ensures { IfOk result (λ a. IsServed
         (ServedOn N.opening store.lazy journal.old.log (disk_of journal.new.log)) script
         (D.fault_count (disk_of journal.old.log)) (D.fault_count (disk_of journal.new.log))
@@ -65,10 +66,12 @@ fn tell_run<N: Opened, D: Disk, R: Wait>(
     // Its contract says what a machine keeps.
     let _ = machine.session_count();
     in_order(alloc, rt, registry, journal, &mut machine, &[])?;
-    // Their contracts say that the script is the one that was given, that all of it ran, and what a crash leaves.
+    // Their contracts say that the script is the one that was given, that all of it ran, what a crash leaves, and by which causes
+    // groups ended.
     let _ = machine.script();
-    sessions_that_have_ended_ran_over();
+    sessions_that_have_ended_ran_over(PhantomData::<LogJournal<D>>);
     every_crash_leaves_a_prefix(PhantomData::<D>);
+    what_ends_groups_is_told(PhantomData::<D>);
     let sweep = machine.sweep();
     let parts = machine.into_parts();
     let text = report(alloc, &parts.transcripts, &parts.history, None, &sweep)?;
@@ -100,6 +103,7 @@ fn serve_over<N: Opened, D: Disk, R: Wait>(
     requires limits { IsWithinLimits script }
     requires sayable { IsSayableScript script }
     requires stands { StandsOn first_state StepsTo store.lazy log }
+    requires ready { IsReady log }
     ensures { IfOk result.1 (λ a. IsServed (ServedOn N.opening store.lazy log result.0) script
         (D.fault_count (disk_of log)) (D.fault_count result.0) a.0 a.1.items) }
 {

@@ -3,6 +3,7 @@ use Rattle.std.proofs.lemmas.Result.{IfOk-weaker}
 use Rattle.bf_sql.specs.Database.{Database}
 use Rattle.bf_sql.specs.migrations.Lazy.{view_of}
 use Rattle.bf_tree.specs.declared.history.Entry.{Entry}
+use Rattle.bf_machine.specs.interleaving.Machines.{EndedGroup}
 use Rattle.bf_run.specs.declared.status.Status.{Status}
 use Rattle.bf_run.specs.Keeping.{IsKept}
 use Rattle.bf_run.specs.Top.{HoldsOver, IsOpened, ServedOn}
@@ -17,8 +18,8 @@ returns-in-Ok g c =
     let now = c.serve_over.result.0 in
     let lazy = c.in-Ok.store.lazy in
     let opened = c.in-Ok.ensures.reopened in
-    let holds : (status : Status) (start : Database) (history : List Entry) → ServedOn (view_of lazy) lazy c.in-Ok.log now status c.args.script start history
-    → HoldsOver Disk.seen Disk.may_leave Disk.moment Disk.left_since Disk.fault_count disk now status c.args.script start history = λ status start history is. (
+    let holds : (status : Status) (start : Database) (history : List Entry) (ended : List EndedGroup) → ServedOn (view_of lazy) lazy c.in-Ok.log now status c.args.script start history ended
+    → HoldsOver Disk.seen Disk.may_leave Disk.moment Disk.left_since Disk.fault_count disk now status c.args.script start history ended = λ status start history ended is. (
       subst (IsOpened Disk.seen Disk.may_leave Disk.moment Disk.left_since Disk.fault_count disk) (sym is.0)
           (opened_to Disk.seen Disk.may_leave Disk.moment Disk.left_since Disk.fault_count c.args.script disk now lazy opened.gives),
       if_told (Disk.seen now) _
@@ -28,6 +29,7 @@ returns-in-Ok g c =
             since_opening = is.1 (Disk.moment c.in-Ok.log.disk) (omega arith) opened.alone file told;
             since_start = λ before seen only. is.1 (Disk.moment disk) opened.later (opened.since_start before seen only) file told;
           }),
+      is.2,
     ) in
     IfOk-weaker c.serve_over.result.1 _ _
     (λ a is. served Disk.seen Disk.may_leave Disk.moment Disk.left_since Disk.fault_count c.args.script disk now (ServedOn {g = Disk} (view_of lazy) lazy c.in-Ok.log now) _ _ a.0 a.1.items is c.in-Ok.ensures.faults refl holds)
@@ -41,3 +43,6 @@ returns-in-Err g c =
 
 pub serve_over-requires-clause-stands : goal.serve_over-requires-clause-stands
 serve_over-requires-clause-stands g c = c.in-Ok.ensures.reopened.stands
+
+pub serve_over-requires-clause-ready : goal.serve_over-requires-clause-ready
+serve_over-requires-clause-ready g c = c.in-Ok.ensures.reopened.ready

@@ -4,14 +4,19 @@ use Rattle.std.proofs.lemmas.Bool.Decides.{nat_tests}
 use Rattle.bf_tree.specs.declared.script.Script.{Script}
 use Rattle.bf_sql.specs.migrations.Lazy.{sweep_of}
 use Rattle.bf_text.specs.Report.{report_text}
+use Rattle.bf_keep.specs.Answers.{HasAnswered}
+use Rattle.bf_keep.specs.Crashing.{KeepsOnLog, ended_on_log}
 use Rattle.bf_keep.specs.Sayable.{IsSayableScript}
+use Rattle.bf_keep.specs.declared.log_journal.LogJournal.{LogJournal}
 use Rattle.bf_machine.specs.RunOver.{IsRunOver}
 use Rattle.bf_machine.specs.interleaving.Kept.{fresh}
 use Rattle.bf_machine.specs.interleaving.Machines.{Machine, transcripts_of}
+use Rattle.bf_run.specs.Causes.{AreCaused}
 use Rattle.bf_run.specs.Keeping.{KeepsOn}
 use Rattle.bf_run.specs.Outcome.{IsRunTold}
 use Rattle.bf_run.specs.Top.{ServedOn}
 use Rattle.bf_run.specs.declared.status.Status.TheVariants.{Done, DiskFault}
+use Rattle.bf_run.proofs.Caused.{caused}
 use Rattle.bf_run.proofs.Kept.{keeps_at_done, keeps_at_fault, ready_if, recovered}
 use Rattle.bf_run.proofs.Served.{ran_over}
 use Rattle.bf_run.proofs.keeping.tell_run.Goals as goal
@@ -29,22 +34,27 @@ returns-then-faults g c =
     let log = c.args.journal.now.log in
     let last = c.in_order.new.journal.log in
     let new : m ≡ fresh g.N.Opened.logged c.args.store script 15 = c.in_ok-machine.ensures in
-    let ran = ran_over opening c.args.store script 15 m now c.sessions_that_have_ended_ran_over.ensures new c.script.ensures.kept c.in_ok-in_order.ensures.answered
-    (c.in_ok-in_order.ensures.no_death refl) in
+    let keeps_all : KeepsOnLog opening m c.args.journal.now now c.in_order.new.journal = c.in_order.ensures.keeps in
+    let ended = ended_on_log keeps_all in
+    let ran = ran_over (λ lazy next (old : LogJournal g.row.D.Denot g.D.Disk) new answer. HasAnswered lazy next old.log new.log answer) g.N.Opened.logged opening c.args.store script 15 m now c.args.journal.now c.in_order.new.journal keeps_all
+    c.sessions_that_have_ended_ran_over.ensures new c.session_count.ensures.kept c.in_ok-in_order.ensures.answered (c.in_ok-in_order.ensures.no_death refl) in
+    let told_causes = c.what_ends_groups_is_told.ensures opening m now c.args.journal.now c.in_order.new.journal keeps_all c.requires.ready in
     let own : now.script ≡ script = sym c.script.ensures.script ∙ c.script.ensures.opened ∙ sym c.requires.script in
     let same : m.lazy ≡ lazy = ap (λ (k : Machine). k.lazy) new in
-    let recovers = recovered {g = g.D.Disk} opening lazy m now c.args.journal.now c.in_order.new.journal same c.session_count.ensures.kept c.requires.stands c.in_order.ensures.keeps
+    let recovers = recovered {g = g.D.Disk} opening lazy m now c.args.journal.now c.in_order.new.journal same c.session_count.ensures.kept c.requires.stands keeps_all
     c.every_crash_leaves_a_prefix.ensures.whole in
     let keeps = subst (λ (k : Script). KeepsOn lazy log last.disk DiskFault k opening now.history) own (keeps_at_fault opening lazy now log last recovers) in
+    let causes : AreCaused DiskFault ended = caused last ended told_causes DiskFault (λ is. absurd cc) in
     let parts = c.into_parts-parts.ensures in
     let swept = c.sweep-sweep.ensures in
     let told : IsRunTold (ServedOn opening lazy log last.disk DiskFault script) script c.in_ok-text.text.items = record {
       start = opening;
       transcripts = transcripts_of now;
       history = now.history;
+      ended = ended;
       sweep = sweep_of now.lazy.last;
-      holds = (refl, keeps);
-      is_run = subst (λ (k : Script). IsRunOver opening k (transcripts_of now) now.history (sweep_of now.lazy.last)) own ran;
+      holds = (refl, keeps, causes);
+      is_run = subst (λ (k : Script). IsRunOver opening k ended (transcripts_of now) now.history (sweep_of now.lazy.last)) own ran;
       report_written = c.in_ok-text.ensures ∙ (λ i. report_text (parts.transcripts i) (parts.history i) None (swept i));
     } in
     (told, grind (arith, nat_tests, c.if-faults.true, c.faults.ensures, c.faults-faults.ensures))
@@ -59,22 +69,27 @@ returns-then-is_ready g c =
     let log = c.args.journal.now.log in
     let last = c.in_order.new.journal.log in
     let new : m ≡ fresh g.N.Opened.logged c.args.store script 15 = c.in_ok-machine.ensures in
-    let ran = ran_over opening c.args.store script 15 m now c.sessions_that_have_ended_ran_over.ensures new c.script.ensures.kept c.in_ok-in_order.ensures.answered
-    (c.in_ok-in_order.ensures.no_death refl) in
+    let keeps_all : KeepsOnLog opening m c.args.journal.now now c.in_order.new.journal = c.in_order.ensures.keeps in
+    let ended = ended_on_log keeps_all in
+    let ran = ran_over (λ lazy next (old : LogJournal g.row.D.Denot g.D.Disk) new answer. HasAnswered lazy next old.log new.log answer) g.N.Opened.logged opening c.args.store script 15 m now c.args.journal.now c.in_order.new.journal keeps_all
+    c.sessions_that_have_ended_ran_over.ensures new c.session_count.ensures.kept c.in_ok-in_order.ensures.answered (c.in_ok-in_order.ensures.no_death refl) in
+    let told_causes = c.what_ends_groups_is_told.ensures opening m now c.args.journal.now c.in_order.new.journal keeps_all c.requires.ready in
     let own : now.script ≡ script = sym c.script.ensures.script ∙ c.script.ensures.opened ∙ sym c.requires.script in
     let same : m.lazy ≡ lazy = ap (λ (k : Machine). k.lazy) new in
-    let recovers = recovered {g = g.D.Disk} opening lazy m now c.args.journal.now c.in_order.new.journal same c.session_count.ensures.kept c.requires.stands c.in_order.ensures.keeps
+    let recovers = recovered {g = g.D.Disk} opening lazy m now c.args.journal.now c.in_order.new.journal same c.session_count.ensures.kept c.requires.stands keeps_all
     c.every_crash_leaves_a_prefix.ensures.whole in
     let keeps = subst (λ (k : Script). KeepsOn lazy log last.disk Done k opening now.history) own (keeps_at_done opening lazy now log last recovers (ready_if last.standing (sym c.if-is_ready.true ∙ c.is_ready.ensures))) in
+    let causes : AreCaused Done ended = caused last ended told_causes Done (λ _. ready_if last.standing (sym c.if-is_ready.true ∙ c.is_ready.ensures)) in
     let parts = c.into_parts-parts.ensures in
     let swept = c.sweep-sweep.ensures in
     let told : IsRunTold (ServedOn opening lazy log last.disk Done script) script c.in_ok-text.text.items = record {
       start = opening;
       transcripts = transcripts_of now;
       history = now.history;
+      ended = ended;
       sweep = sweep_of now.lazy.last;
-      holds = (refl, keeps);
-      is_run = subst (λ (k : Script). IsRunOver opening k (transcripts_of now) now.history (sweep_of now.lazy.last)) own ran;
+      holds = (refl, keeps, causes);
+      is_run = subst (λ (k : Script). IsRunOver opening k ended (transcripts_of now) now.history (sweep_of now.lazy.last)) own ran;
       report_written = c.in_ok-text.ensures ∙ (λ i. report_text (parts.transcripts i) (parts.history i) None (swept i));
     } in
     (told, grind (arith, nat_tests, c.if-faults.false, c.faults.ensures, c.faults-faults.ensures))
