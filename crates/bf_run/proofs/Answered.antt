@@ -17,6 +17,7 @@ use Rattle.bf_sql.specs.Database.{Database}
 use Rattle.bf_tree.specs.declared.script.Script.{Script}
 use Rattle.bf_run.specs.Outcome.{Ground, HoldsAsked, Stream, IsCalm, IsUnread, IsUntouched, ComesOfFile, ComesOfInput, ComesOfLog, ComesOfRun, IsAnswer, IsTextOf, fault_text}
 use Rattle.bf_run.specs.Top.{HasRead, IsInputAnswer, IsNoScript, IsScriptOf, IsTextOfRun}
+use Rattle.bf_run.specs.Untold.{ReadsLog}
 use Rattle.bf_run.specs.Words.{Asked, creating, running, trying}
 
 -- what follows of two facts of a value, if there is one
@@ -81,17 +82,17 @@ module _ (input : Stream) (read : List ℕ) (calm : IsCalm input) (told : IfTold
 
 -- where there is no script the status and its text answer any call that asked for one
 module _ (input : Stream) (bytes : List ℕ) where
-  pub no_script : (asks : Option Asked) (Holds : Ground) (status : Status) (text : List ℕ) → IsNoScript input bytes status text
-      → ComesOfInput input bytes status × IsTextOf asks Holds bytes status text
-  no_script asks Holds (ScriptError fault) text is = is
-  no_script asks Holds ReadFault text is = is
-  no_script asks Holds Done text is = absurd is
-  no_script asks Holds Usage text is = absurd is
-  no_script asks Holds WriteFault text is = absurd is
-  no_script asks Holds DiskFault text is = absurd is
-  no_script asks Holds (NotALog at) text is = absurd is
-  no_script asks Holds (NotEmpty n) text is = absurd is
-  no_script asks Holds Memory text is = absurd is
+  pub no_script : (asks : Option Asked) (Holds : Ground) (Before : Type 0) (status : Status) (text : List ℕ) → IsNoScript input bytes status text
+      → ComesOfInput input bytes status × IsTextOf asks Holds Before bytes status text
+  no_script asks Holds Before (ScriptError fault) text is = is
+  no_script asks Holds Before ReadFault text is = is
+  no_script asks Holds Before Done text is = absurd is
+  no_script asks Holds Before Usage text is = absurd is
+  no_script asks Holds Before WriteFault text is = absurd is
+  no_script asks Holds Before DiskFault text is = absurd is
+  no_script asks Holds Before (NotALog at) text is = absurd is
+  no_script asks Holds Before (NotEmpty n) text is = absurd is
+  no_script asks Holds Before Memory text is = absurd is
 
   -- of a run over a log, of which the shelf was not asked
   pub none_run : {V : Type 0} (path : List ℕ) (shelf : Shelving V) (status : Status) (text : List ℕ) → IsUntouched shelf → IsNoScript input bytes status text
@@ -108,8 +109,8 @@ module _ (input : Stream) (bytes : List ℕ) where
 
   -- and of one that was run
   module _ {V : Type 0} (path : List ℕ) (shelf : Shelving V) (script : Script) (comes : ComesOfInput input bytes Done) (reads : IsScriptText bytes (Ok script)) where
-    pub ran_over : (status : Status) (text : List ℕ) → ComesOfLog path shelf status → IsTextOfRun (HoldsAsked (Some (running path)) shelf) script status text
-        → ComesOfRun path input bytes shelf status × IsTextOf (Some (running path)) (HoldsAsked (Some (running path)) shelf) bytes status text
+    pub ran_over : (status : Status) (text : List ℕ) → ComesOfLog path shelf status → IsTextOfRun (HoldsAsked (Some (running path)) shelf) (ReadsLog shelf path) script status text
+        → ComesOfRun path input bytes shelf status × IsTextOf (Some (running path)) (HoldsAsked (Some (running path)) shelf) (ReadsLog shelf path) bytes status text
     ran_over Done text log told = ((comes, log), (script, reads, told))
     ran_over DiskFault text log (inl fault) = ((comes, log), inl fault)
     ran_over DiskFault text log (inr told) = ((comes, log), inr (script, reads, told))
@@ -138,7 +139,7 @@ module _ {V : Type 0} (input : Stream) (shelf : Shelving V) where
 
   -- a run over a log, of a script or of none
   pub of_run : (path : List ℕ) (script : Script) (status : Status) (text : List ℕ) → HasRead input (Ok script) → ComesOfLog path shelf status
-      → IsTextOfRun (HoldsAsked (Some (running path)) shelf) script status text → IsAnswer (Some (running path)) input shelf status text
+      → IsTextOfRun (HoldsAsked (Some (running path)) shelf) (ReadsLog shelf path) script status text → IsAnswer (Some (running path)) input shelf status text
   of_run path script status text read log told =
       let both = ran_over input read.bytes path shelf script read.is_read.0 read.is_read.1 status text log told in
       record { bytes = read.bytes; are_told = read.are_told; causes = both.0; is_text = both.1 }
@@ -149,7 +150,7 @@ module _ {V : Type 0} (input : Stream) (shelf : Shelving V) where
     bytes = read.bytes;
     are_told = read.are_told;
     causes = none_run input read.bytes path shelf told.0 told.1.items untouched read.is_read;
-    is_text = (no_script input read.bytes (Some (running path)) (HoldsAsked (Some (running path)) shelf) told.0 told.1.items read.is_read).1;
+    is_text = (no_script input read.bytes (Some (running path)) (HoldsAsked (Some (running path)) shelf) (ReadsLog shelf path) told.0 told.1.items read.is_read).1;
   }
 
   pub of_running : (asks : Option Asked) (path : List ℕ) (status : Status) (text : List ℕ) → Some (running path) ≡ asks
@@ -157,7 +158,7 @@ module _ {V : Type 0} (input : Stream) (shelf : Shelving V) where
   of_running asks path status text run given = subst (λ (a : Option Asked). IsAnswer a input shelf status text) run given
 
   pub of_file : (asks : Option Asked) (path : List ℕ) (status : Status) (text : List ℕ) → Some (creating path) ≡ asks → IsUnread input
-      → ComesOfFile path shelf status → ((bytes : List ℕ) → IsTextOf (Some (creating path)) (λ status script start history ended. ⊥) bytes status text)
+      → ComesOfFile path shelf status → ((bytes : List ℕ) → IsTextOf (Some (creating path)) (λ status script start history ended. ⊥) (Unit {0}) bytes status text)
       → IsAnswer asks input shelf status text
   of_file asks path status text create unread causes spells =
       subst (λ (a : Option Asked). IsAnswer a input shelf status text) create

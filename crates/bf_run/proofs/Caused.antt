@@ -1,5 +1,5 @@
 -- The groups that a log has ended, by causes that it can tell.
-use Rattle.std.proofs.Common.{◌≡◌, ℕ, zero, false, List, [], ◌∷◌, Option, None, Some, refl, sym, ap, ◌∙◌}
+use Rattle.std.proofs.Common.{◌≡◌, ℕ, zero, false, List, [], ◌∷◌, Option, None, Some, refl, sym, ap, ◌∙◌, arith}
 use Rattle.std.specs.List.{AllByRecursion}
 use Rattle.bf_disk.specs.declared.disk.Disk.{Ghosts}
 use Rattle.bf_journal.specs.States.{IsReady}
@@ -12,6 +12,7 @@ use Rattle.bf_keep.specs.Answers.{AreTold, Tells}
 use Rattle.bf_run.specs.Causes.{AreCaused, IsCause, is_of_fault}
 use Rattle.bf_run.specs.declared.status.Status.{Status}
 use Rattle.bf_run.specs.declared.status.Status.TheVariants.{Done}
+use Rattle.bf_run.proofs.Running.{if_told}
 
 -- the count that a log keeps which has halted
 abbrev kept_count : Option ℕ → ℕ
@@ -19,14 +20,14 @@ kept_count None = 0
 kept_count (Some faults) = faults
 
 module _ {D : Type 0} {g : Ghosts D} (log : Log D g) where
-  cause_is : (cause : Cause) → Tells log cause → IsCause (kept_count (halted_of log)) cause
+  cause_is : (cause : Cause) → Tells log cause → IsCause (g.seen log.disk) (kept_count (halted_of log)) cause
   cause_is (Died older) tells = absurd tells
   cause_is DiskFault tells = tt
   cause_is (Halted faults) tells = sym (ap kept_count tells)
-  cause_is (LogFull end need) tells = (tells.1, tells.2)
+  cause_is (LogFull end need) tells = (if_told (g.seen log.disk) _ (λ file told. omega (arith, tells.0, log.within file told)), tells.1, tells.2)
   cause_is (TooLarge size) tells = tells
 
-  causes_are : (groups : List EndedGroup) → AllByRecursion (λ (group : EndedGroup). Tells log group.cause) groups → AllByRecursion (λ (group : EndedGroup). IsCause (kept_count (halted_of log)) group.cause) groups
+  causes_are : (groups : List EndedGroup) → AllByRecursion (λ (group : EndedGroup). Tells log group.cause) groups → AllByRecursion (λ (group : EndedGroup). IsCause (g.seen log.disk) (kept_count (halted_of log)) group.cause) groups
   causes_are [] each = tt
   causes_are (group ∷ groups) each = (cause_is group.cause each.0, causes_are groups each.1)
 
@@ -48,7 +49,7 @@ module _ {D : Type 0} {g : Ghosts D} (log : Log D g) where
   none_of_fault ready [] each = tt
   none_of_fault ready (group ∷ groups) each = (not_of_fault ready group.cause each.0, none_of_fault ready groups each.1)
 
-  pub caused : (groups : List EndedGroup) → AreTold log groups → (status : Status) → (status ≡ Done → IsReady log) → AreCaused status groups
+  pub caused : (groups : List EndedGroup) → AreTold log groups → (status : Status) → (status ≡ Done → IsReady log) → AreCaused (g.seen log.disk) status groups
   caused groups told status ready = record {
     faults = kept_count (halted_of log);
     each = causes_are groups told.each;

@@ -23,7 +23,7 @@ use Rattle.bf_keep.specs.Answers.{is_ready}
 use Rattle.bf_keep.specs.Crashing.{KeepsOnLog, Recovers}
 use Rattle.bf_keep.specs.declared.log_journal.LogJournal.{LogJournal}
 use Rattle.bf_run.specs.Keeping.{IsBehind, IsBehindOneMore, IsBehindPrefix, IsFailed, KeepsOn, Leaves, OpensAs}
-use Rattle.bf_run.specs.declared.status.Status.TheVariants.{Done, DiskFault}
+use Rattle.bf_run.specs.declared.status.Status.TheVariants.{Done, DiskFault, Memory}
 
 -- a prefix of a list that is mapped is that of a prefix
 prefix_of_map : {X Y : Type 0} (f : X → Y) (xs : List X) (front back : List Y) → front ++ back ≡ map f xs
@@ -91,6 +91,11 @@ module _ {D : Type 0} {g : Ghosts D} (opening : Database) (lazy : LazyState) (no
     (recovers : (since : ℕ) → since ≤ moment_of log → ((left : Option LazyState) → MayLeave first_state StepsTo log since left → left ≡ Some lazy) → Recovers opening since now last) where
   pub keeps_at_fault : KeepsOn lazy log last.disk DiskFault now.script opening now.history
   keeps_at_fault since by alone file told =
+      let r = recovers since by alone in
+      (r.failed, failed_so opening now last since r, leaves opening now last since r file told)
+
+  pub keeps_at_memory : KeepsOn lazy log last.disk Memory now.script opening now.history
+  keeps_at_memory since by alone file told =
       let r = recovers since by alone in
       (r.failed, failed_so opening now last since r, leaves opening now last since r file told)
 

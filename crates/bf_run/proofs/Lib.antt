@@ -7,5 +7,6 @@ pub mod Parsed
 pub mod Running
 pub mod Sayable
 pub mod Served
+pub mod Untold
 pub mod one
 pub mod saying

@@ -1,5 +1,5 @@
 -- What becomes of a file that a shelf gives, over which a script is run, and that is put back.
-use Rattle.std.proofs.Common.{◌≡◌, ◌≢◌, ℕ, ◌≤◌, List, Option, None, Some, inl, inr, refl, sym, subst, ◌∙◌, arith}
+use Rattle.std.proofs.Common.{◌≡◌, ◌≢◌, ◌⊎◌, ℕ, ◌≤◌, List, Option, None, Some, inl, inr, refl, sym, subst, ◌∙◌, arith}
 use Rattle.bf_io.specs.Causes.{Rose}
 use Rattle.bf_io.specs.Whole.{IfTold}
 use Rattle.bf_disk.specs.Shelves.{ByPath, GivesHeld, PutsWhereTold}
@@ -17,11 +17,13 @@ use Rattle.bf_tree.specs.declared.script.Script.{Script}
 use Rattle.bf_machine.specs.interleaving.Machines.{EndedGroup}
 use Rattle.bf_run.specs.declared.status.Status.{Status}
 use Rattle.bf_run.specs.declared.status.Status.TheVariants.{Done, Usage, Script as ScriptError, ReadFault, WriteFault, DiskFault, NotALog, NotEmpty, Memory}
+use Rattle.bf_run.specs.Causes.{AreCaused, AreCausedIn, CausesEnds}
 use Rattle.bf_run.specs.Creating.{CountsNone, CountsOne, Shelving, WhereHeld}
 use Rattle.bf_run.specs.Keeping.{IsKept, IsKeptFile, KeepsLog}
 use Rattle.bf_run.specs.Outcome.{ComesOfLog, Ground, HoldsAsked, IsRunTold}
 use Rattle.bf_run.specs.Running.{IsLogOf, IsRefusedLog, KeepsOthers, Opens, OpensTo}
 use Rattle.bf_run.specs.Top.{HoldsOver, IsOpenErrorTold, IsOpened, IsRunOverDisk, IsServed, IsTextOfRun}
+use Rattle.bf_run.specs.Untold.{IsLogBrokenOff, IsReadAtMost, IsReadLog, IsUntold, LeavesUntold, ReadsLog}
 use Rattle.bf_run.specs.Words.{running}
 use Rattle.bf_run.proofs.NewLogs.{where_held}
 
@@ -30,8 +32,23 @@ others_itself : {V : Type 0} (path : List ℕ) (held : Option (ByPath V)) → Wh
 others_itself path None = tt
 others_itself path (Some held) = λ other apart. refl
 
+read_itself : {V : Type 0} (shelf : Shelving V) (path : List ℕ) (held : Option (ByPath V)) → WhereHeld (λ old new. IsReadLog shelf (old path) (new path)) held held
+read_itself shelf path None = tt
+read_itself shelf path (Some held) = inl refl
+
+untold_itself : {V : Type 0} (shelf : Shelving V) (path : List ℕ) (script : Script) (held : Option (ByPath V)) → WhereHeld (λ old new. IsReadLog shelf (old path) (new path) ⊎ IsLogBrokenOff shelf script (old path) (new path)) held held
+untold_itself shelf path script None = tt
+untold_itself shelf path script (Some held) = inl (inl refl)
+
 pub others_stay : {V : Type 0} (shelf : Shelving V) (path : List ℕ) → shelf.held_after ≡ shelf.held → KeepsOthers shelf path
 others_stay shelf path same = rw same (others_itself path shelf.held)
+
+-- what is held was not looked at
+pub nothing_read : {V : Type 0} (shelf : Shelving V) (path : List ℕ) → shelf.held_after ≡ shelf.held → ReadsLog shelf path
+nothing_read shelf path same = rw same (read_itself shelf path shelf.held)
+
+pub nothing_done : {V : Type 0} (shelf : Shelving V) (path : List ℕ) (script : Script) → shelf.held_after ≡ shelf.held → LeavesUntold shelf path script
+nothing_done shelf path script same = rw same (untold_itself shelf path script shelf.held)
 
 pub if_told : (told : Option (List ℕ)) (P : List ℕ → Type 0) → ((file : List ℕ) → told ≡ Some file → P file) → IfTold told P
 if_told None P each = tt
@@ -83,7 +100,7 @@ module _ {V : Type 0} (seen : V → Option (List ℕ)) (may_leave : V → List �
       subst (λ (s : Status). IsRunOverDisk seen may_leave moment left_since fault_count script disk now s text) (sym told.0)
       (told.1, if_told (seen disk) _ (λ file is. (refused at refl file is).0), read, omega (arith, counts))
   not_opened errors.DiskFault status text told refused read counts =
-      subst (λ (s : Status). IsRunOverDisk seen may_leave moment left_since fault_count script disk now s text) (sym told.0) (inl told.1, counts.0)
+      subst (λ (s : Status). IsRunOverDisk seen may_leave moment left_since fault_count script disk now s text) (sym told.0) (inl (told.1, inr read), counts.0)
   not_opened errors.Memory status text told refused read counts = absurd told
 
 module _ {V : Type 0} (shelf : Shelving V) (path : List ℕ) (mid : Option (ByPath V)) (disk now : V)
@@ -107,6 +124,24 @@ module _ {V : Type 0} (shelf : Shelving V) (path : List ℕ) (mid : Option (ByPa
   keeps_log status script start history kept = where_held shelf.seen shelf.may_leave path disk now (IsKeptFile shelf status script start history)
       shelf.held mid shelf.held_after given away back (λ was held. (disk, now, held, refl, kept))
 
+  -- the groups that the log has ended
+  caused : (status : Status) (ended : List EndedGroup) → AreCaused (shelf.seen now) status ended → CausesEnds shelf path status ended
+  caused status ended are = where_held shelf.seen shelf.may_leave path disk now (λ old new. AreCausedIn shelf status ended new)
+      shelf.held mid shelf.held_after given away back (λ was held. (now, refl, are))
+
+  -- a log that was read at most, and a run over it that was broken off
+  reads : IsReadAtMost shelf.seen shelf.may_leave shelf.moment shelf.left_since disk now → ReadsLog shelf path
+  reads read = where_held shelf.seen shelf.may_leave path disk now (IsReadLog shelf)
+      shelf.held mid shelf.held_after given away back (λ was held. inr (disk, held, read))
+
+  pub untold : (script : Script) → IsUntold shelf.seen shelf.may_leave shelf.moment shelf.left_since script disk now → LeavesUntold shelf path script
+  untold script left = where_held shelf.seen shelf.may_leave path disk now (λ old new. IsReadLog shelf old new ⊎ IsLogBrokenOff shelf script old new)
+      shelf.held mid shelf.held_after given away back
+      (λ was held. elim left as (λ _. IsReadLog shelf was (Some now) ⊎ IsLogBrokenOff shelf script was (Some now)) [
+        | inl read ↦ inl (inr (disk, held, read))
+        | inr off ↦ inr (disk, now, held, refl, off)
+      ])
+
   opens : (start : Database) → IfTold (shelf.seen disk) (λ file. OpensTo file start) → Opens shelf path start
   opens start told = where_held shelf.seen shelf.may_leave path disk now (λ old new. IsLogOf shelf start old)
       shelf.held mid shelf.held_after given away back (λ was held. (disk, held, told))
@@ -121,15 +156,15 @@ module _ {V : Type 0} (shelf : Shelving V) (path : List ℕ) (mid : Option (ByPa
       history = told.history;
       ended = told.ended;
       sweep = told.sweep;
-      holds = (opens told.start told.holds.0, keeps_log status script told.start told.history told.holds.1, told.holds.2);
+      holds = (opens told.start told.holds.0, keeps_log status script told.start told.history told.holds.1, caused status told.ended told.holds.2);
       is_run = told.is_run;
       report_written = told.report_written;
     }
 
     pub comes : (status : Status) (text : List ℕ) → IsRunOverDisk shelf.seen shelf.may_leave shelf.moment shelf.left_since fault_count script disk now status text
-        → ComesOfLog path shelf status × IsTextOfRun (HoldsAsked (Some (running path)) shelf) script status text
+        → ComesOfLog path shelf status × IsTextOfRun (HoldsAsked (Some (running path)) shelf) (ReadsLog shelf path) script status text
     comes Done text is = ((none is.1, (is.0.start, opens is.0.start is.0.holds.0)), over Done text is.0)
-    comes DiskFault text (inl fault, rose) = (one rose, inl fault)
+    comes DiskFault text (inl fault, rose) = (one rose, inl (fault.0, reads fault.1))
     comes DiskFault text (inr told, rose) = (one rose, inr (over DiskFault text told))
     comes (NotALog at) text is = (
       (

@@ -4,4 +4,5 @@ pub mod Keeping
 pub mod Outcome
 pub mod Running
 pub mod Top
+pub mod Untold
 pub mod Words

@@ -15,10 +15,11 @@ use Rattle.bf_text.specs.Replies.{newline, numbered}
 use Rattle.bf_text.specs.Report.{report_text}
 use Rattle.bf_run.specs.declared.status.Status.{Status}
 use Rattle.bf_run.specs.declared.status.Status.TheVariants.{Done, Usage, Script as ScriptError, ReadFault, WriteFault, DiskFault, NotALog, NotEmpty, Memory}
-use Rattle.bf_run.specs.Causes.{AreCaused}
+use Rattle.bf_run.specs.Causes.{CausesEnds}
 use Rattle.bf_run.specs.Creating.{Shelving, Makes, Refuses, CountsNone, CountsOne, Spares}
 use Rattle.bf_run.specs.Keeping.{KeepsLog}
 use Rattle.bf_run.specs.Running.{KeepsOthers, Opens, RefusesLog}
+use Rattle.bf_run.specs.Untold.{ReadsLog, RunsOut}
 use Rattle.bf_run.specs.Words.{Asked, creating, running, trying, asked, IfCreating, IfRunning}
 use Rattle.bf_machine.specs.InOrder.{IsRunInOrder}
 use Rattle.bf_machine.specs.RunOver.{IsRunOver}
@@ -163,29 +164,34 @@ IsDoneText (Some trying) Holds bytes text = IsReport bytes text
 IsDoneText (Some (creating path)) Holds bytes text = text ≡ codes "created" ++ newline
 IsDoneText (Some (running path)) Holds bytes text = IsRunReport (Holds Done) bytes text
 
--- the text of DiskFault: the report of a run in whose course the disk failed, or that it failed before
-abbrev pub IsFaultText : Option Asked → Ground → List ℕ → List ℕ → Type 0
-IsFaultText (Some (running path)) Holds bytes text = (text ≡ fault_of_disk) ⊎ IsRunReport (Holds DiskFault) bytes text
-IsFaultText other Holds bytes text = text ≡ fault_of_disk
+-- the text of DiskFault: the report of a run in whose course the disk failed, or that it failed before, where this holds
+abbrev pub IsFaultText : Option Asked → Ground → Type 0 → List ℕ → List ℕ → Type 0
+IsFaultText (Some (running path)) Holds Before bytes text = ((text ≡ fault_of_disk) × Before) ⊎ IsRunReport (Holds DiskFault) bytes text
+IsFaultText other Holds Before bytes text = text ≡ fault_of_disk
 
 -- the text of a status that has one
-abbrev pub IsTextOf : Option Asked → Ground → List ℕ → Status → List ℕ → Type 0
-IsTextOf asks Holds bytes Usage text = text ≡ codes "usage error" ++ newline
-IsTextOf asks Holds bytes (ScriptError fault) text = text ≡ fault_text fault
-IsTextOf asks Holds bytes Done text = IsDoneText asks Holds bytes text
-IsTextOf asks Holds bytes ReadFault text = text ≡ codes "read fault" ++ newline
-IsTextOf asks Holds bytes DiskFault text = IsFaultText asks Holds bytes text
-IsTextOf asks Holds bytes (NotALog at) text = text ≡ not_a_log_text at
-IsTextOf asks Holds bytes (NotEmpty n) text = text ≡ not_empty_text n
-IsTextOf asks Holds bytes WriteFault text = ⊥
-IsTextOf asks Holds bytes Memory text = ⊥
+abbrev pub IsTextOf : Option Asked → Ground → Type 0 → List ℕ → Status → List ℕ → Type 0
+IsTextOf asks Holds Before bytes Usage text = text ≡ codes "usage error" ++ newline
+IsTextOf asks Holds Before bytes (ScriptError fault) text = text ≡ fault_text fault
+IsTextOf asks Holds Before bytes Done text = IsDoneText asks Holds bytes text
+IsTextOf asks Holds Before bytes ReadFault text = text ≡ codes "read fault" ++ newline
+IsTextOf asks Holds Before bytes DiskFault text = IsFaultText asks Holds Before bytes text
+IsTextOf asks Holds Before bytes (NotALog at) text = text ≡ not_a_log_text at
+IsTextOf asks Holds Before bytes (NotEmpty n) text = text ≡ not_empty_text n
+IsTextOf asks Holds Before bytes WriteFault text = ⊥
+IsTextOf asks Holds Before bytes Memory text = ⊥
 
 -- a run over the log that is asked for begins with a database that this opens to, a crash leaves a prefix of what it commits, and
 -- the log has ended groups by its causes alone
 abbrev pub HoldsAsked : {V : Type 0} → Option Asked → Shelving V → Ground
 HoldsAsked (Some (running path)) shelf status script start history ended =
-    Opens shelf path start × KeepsLog shelf path status script start history × AreCaused status ended
+    Opens shelf path start × KeepsLog shelf path status script start history × CausesEnds shelf path status ended
 HoldsAsked other shelf status script start history ended = ⊥
+
+-- and before one the log that is asked for was read at most
+abbrev pub ReadsAsked : {V : Type 0} → Option Asked → Shelving V → Type 0
+ReadsAsked (Some (running path)) shelf = ReadsLog shelf path
+ReadsAsked other shelf = ⊤
 
 module _ {V : Type 0} (asks : Option Asked) (input : Stream) (shelf : Shelving V) where
   -- a status that comes, with its text, both of the same bytes: of those that the source tells, or of some
@@ -193,7 +199,7 @@ module _ {V : Type 0} (asks : Option Asked) (input : Stream) (shelf : Shelving V
     pub bytes : List ℕ
     pub are_told : IfTold input.bytes (λ told. bytes ≡ told)
     pub causes : Comes asks input bytes shelf status
-    pub is_text : IsTextOf asks (HoldsAsked asks shelf) bytes status text
+    pub is_text : IsTextOf asks (HoldsAsked asks shelf) (ReadsAsked asks shelf) bytes status text
 
   -- the sink took the whole text of an answer, and no write failed
   pub record AnswersWhole (output : Stream) (status : Status) : Type 0 where
@@ -223,11 +229,12 @@ module _ {V : Type 0} (asks : Option Asked) (input : Stream) (shelf : Shelving V
   IsOutcome output (NotEmpty n) = AnswersWhole output (NotEmpty n)
 
 -- how a call ends for its words: with an outcome; and whatever that is, files that have bytes are spared where a log is to be
--- made, and files that were not asked for where a script is run over one
+-- made, and files that were not asked for where a script is run over one; and where memory ran out, a crash leaves such a log still
 pub record Ends {V : Type 0} (words : List (List ℕ)) (input output : Stream) (shelf : Shelving V) (status : Status) : Type 0 where
   pub outcome : IsOutcome (asked words) input shelf output status
   pub spares : IfCreating (asked words) (λ path. Spares shelf path)
   pub others : IfRunning (asked words) (λ path. KeepsOthers shelf path)
+  pub out_of_memory : status ≡ Memory → IfRunning (asked words) (λ path. RunsOut input.bytes shelf path)
 
 -- the number that the program ends with
 abbrev pub number_of_status : Status → ℕ

@@ -1,5 +1,5 @@
 -- What the parts of the top call owe: the report of a run, and the script that a source is.
-use Rattle.std.specs.Prelude.{◌≡◌, ◌⊎◌, ℕ, ◌<◌, ◌≤◌, List, ◌++◌, codes, Option, None, Some, Result, Ok, Err}
+use Rattle.std.specs.Prelude.{◌≡◌, ◌⊎◌, ℕ, ◌<◌, ◌≤◌, List, ◌++◌, codes, Option, None, Some, Result, Ok, Err, ⊤}
 use Rattle.std.specs.Global.{Vec}
 use Rattle.bf_disk.specs.declared.disk.Disk.{Ghosts}
 use Rattle.bf_disk.specs.Images.{OnlyRead}
@@ -27,6 +27,7 @@ use Rattle.bf_run.specs.declared.status.Status.TheVariants.{Done, DiskFault, Not
 use Rattle.bf_run.specs.Causes.{AreCaused}
 use Rattle.bf_run.specs.Keeping.{IsKept, KeepsOn}
 use Rattle.bf_run.specs.Outcome.{Ground, Stream, ComesOfInput, IsRunTold, IsTextOf, fault_of_disk, fault_text, not_a_log_text}
+use Rattle.bf_run.specs.Untold.{IsReadAtMost}
 use Rattle.bf_run.specs.Words.{trying}
 
 -- the text is the report of what a run leaves
@@ -57,12 +58,12 @@ pub record HasRead (input : Stream) (read : Result Script (Status × Vec ℕ)) :
   pub are_told : IfTold input.bytes (λ told. bytes ≡ told)
   pub is_read : IsScriptRead input bytes read
 
--- the text of a run over a log, of which this holds, for its status
-abbrev pub IsTextOfRun : Ground → Script → Status → List ℕ → Type 0
-IsTextOfRun Holds script Done text = IsRunTold (Holds Done script) script text
-IsTextOfRun Holds script DiskFault text = (text ≡ fault_of_disk) ⊎ IsRunTold (Holds DiskFault script) script text
-IsTextOfRun Holds script (NotALog at) text = text ≡ not_a_log_text at
-IsTextOfRun Holds script other text = ⊥
+-- the text of a run over a log, of which this holds, or of none, before which that does, for its status
+abbrev pub IsTextOfRun : Ground → Type 0 → Script → Status → List ℕ → Type 0
+IsTextOfRun Holds Before script Done text = IsRunTold (Holds Done script) script text
+IsTextOfRun Holds Before script DiskFault text = ((text ≡ fault_of_disk) × Before) ⊎ IsRunTold (Holds DiskFault script) script text
+IsTextOfRun Holds Before script (NotALog at) text = text ≡ not_a_log_text at
+IsTextOfRun Holds Before script other text = ⊥
 
 -- a script was served, of which this holds: its status, by a disk's count of faults before and after, and the report
 abbrev pub IsServed : Ground → Script → ℕ → ℕ → Status → List ℕ → Type 0
@@ -72,8 +73,8 @@ IsServed Holds script before after other text = ⊥
 
 -- over a database, that is what is seen of the state which a log keeps
 abbrev pub ServedOn : {D : Type 0} {g : Ghosts D} → Database → LazyState → Log D g → D → Ground
-ServedOn opening lazy log disk status script start history ended =
-    (start ≡ opening) × KeepsOn lazy log disk status script start history × AreCaused status ended
+ServedOn {g = g} opening lazy log disk status script start history ended =
+    (start ≡ opening) × KeepsOn lazy log disk status script start history × AreCaused (g.seen disk) status ended
 
 -- what is told of a log that could not be read
 abbrev pub IsOpenErrorTold : OpenError → Status → List ℕ → Type 0
@@ -89,12 +90,13 @@ module _ {V : Type 0} (seen : V → Option (List ℕ)) (may_leave : V → List �
   -- a run begins with what its file opens to, a crash leaves a prefix of what it commits, and groups end by causes of its log
   abbrev pub HoldsOver : V → V → Ground
   HoldsOver old new status script start history ended =
-      IsOpened old start × IfTold (seen new) (λ file. IsKept seen may_leave moment left_since old new status script start history) × AreCaused status ended
+      IsOpened old start × IfTold (seen new) (λ file. IsKept seen may_leave moment left_since old new status script start history) × AreCaused (seen new) status ended
 
   abbrev pub IsRunOverDisk : Script → V → V → Status → List ℕ → Type 0
   IsRunOverDisk script old new Done text = IsRunTold (HoldsOver old new Done script) script text × (fault_count new ≤ fault_count old)
   IsRunOverDisk script old new DiskFault text =
-      ((text ≡ fault_of_disk) ⊎ IsRunTold (HoldsOver old new DiskFault script) script text) × Rose (fault_count old) (fault_count new)
+      (((text ≡ fault_of_disk) × IsReadAtMost seen may_leave moment left_since old new) ⊎ IsRunTold (HoldsOver old new DiskFault script) script text)
+      × Rose (fault_count old) (fault_count new)
   IsRunOverDisk script old new (NotALog at) text =
       (text ≡ not_a_log_text at) × IfTold (seen old) (λ file. RefusedAt first_state StepsTo file at)
       × OnlyRead seen may_leave moment left_since old new × (fault_count new ≤ fault_count old)
@@ -105,4 +107,4 @@ pub record IsInputAnswer (input : Stream) (status : Status) (text : List ℕ) : 
   pub bytes : List ℕ
   pub are_told : IfTold input.bytes (λ told. bytes ≡ told)
   pub causes : ComesOfInput input bytes status
-  pub is_text : IsTextOf (Some trying) (λ status script start history ended. ⊥) bytes status text
+  pub is_text : IsTextOf (Some trying) (λ status script start history ended. ⊥) ⊤ bytes status text

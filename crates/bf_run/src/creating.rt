@@ -1,6 +1,6 @@
 //! Making a log in a file of a shelf.
 
-ghost use Rattle.std.specs.Prelude.{◌≡◌, ℕ, List, None, Some, Err, IfOk, OnOk};
+ghost use Rattle.std.specs.Prelude.{◌≡◌, ℕ, List, None, Some, Err, IfOk, OnOk, ⊤};
 ghost use Rattle.bf_run.specs.Creating.{CountsOne, Makes, Refuses, Spares, shelf_of};
 ghost use Rattle.bf_run.specs.Outcome.{ComesOfFile, IsTextOf};
 ghost use Rattle.bf_run.specs.Words.{creating};
@@ -45,7 +45,7 @@ pub(crate) fn create<S: Shelf>(
         (shelf_of S.Disk.seen S.Disk.may_leave S.Disk.moment S.Disk.left_since S.held S.fault_count
         shelf.old shelf.new) a.0) }
     ensures text { IfOk result (λ a. (bytes : List ℕ) →
-        IsTextOf (Some (creating path.now)) (λ status script start history ended. ⊥) bytes a.0 a.1.items) }
+        IsTextOf (Some (creating path.now)) (λ status script start history ended. ⊥) ⊤ bytes a.0 a.1.items) }
     ensures spares { Spares
         (shelf_of S.Disk.seen S.Disk.may_leave S.Disk.moment S.Disk.left_since S.held S.fault_count
         shelf.old shelf.new) path.now }

@@ -1,6 +1,6 @@
 //! Running a script over the database that a log keeps.
 
-ghost use Rattle.std.specs.Prelude.{◌≡◌, ℕ, List, None, Some, IfOk, true};
+ghost use Rattle.std.specs.Prelude.{◌≡◌, ℕ, List, None, Some, IfOk, OnErr, true};
 ghost use Rattle.bf_journal.specs.States.{IsReady, StandsOn};
 ghost use Rattle.bf_keep.specs.Sayable.{IsSayableScript};
 ghost use Rattle.bf_log.specs.Append.{disk_of};
@@ -13,6 +13,7 @@ ghost use Rattle.bf_run.specs.Creating.{shelf_of};
 ghost use Rattle.bf_run.specs.Outcome.{ComesOfLog, HoldsAsked};
 ghost use Rattle.bf_run.specs.Running.{KeepsOthers};
 ghost use Rattle.bf_run.specs.Top.{IsOpenErrorTold, IsRunOverDisk, IsServed, IsTextOfRun, ServedOn};
+ghost use Rattle.bf_run.specs.Untold.{IsBrokenOffOn, IsUntold, LeavesUntold, ReadsLog};
 ghost use Rattle.bf_run.specs.Words.{running};
 
 use crate::status::{Status, disk_fault, not_a_log_line};
@@ -56,22 +57,23 @@ fn tell_run<N: Opened, D: Disk, R: Wait>(
     requires sayable { IsSayableScript script }
     requires stands { StandsOn first_state StepsTo store.lazy journal.old.log }
     requires ready { IsReady journal.old.log }
-    ensures { IfOk result (λ a. IsServed
+    ensures served { IfOk result (λ a. IsServed
         (ServedOn N.opening store.lazy journal.old.log (disk_of journal.new.log)) script
         (D.fault_count (disk_of journal.old.log)) (D.fault_count (disk_of journal.new.log))
         a.0 a.1.items) }
+    ensures broken_off { OnErr result
+        (IsBrokenOffOn N.opening store.lazy journal.old.log (disk_of journal.new.log) script) }
 {
     let faults = journal.faults();
     let mut machine: Machine<N> = Machine::new(alloc, store, script, RETRIES)?;
-    // Its contract says what a machine keeps.
+    // Its contract says what a machine keeps; and then laws of what comes of it beside a log.
     let _ = machine.session_count();
-    in_order(alloc, rt, registry, journal, &mut machine, &[])?;
-    // Their contracts say that the script is the one that was given, that all of it ran, what a crash leaves, and by which causes
-    // groups ended.
-    let _ = machine.script();
     sessions_that_have_ended_ran_over(PhantomData::<LogJournal<D>>);
     every_crash_leaves_a_prefix(PhantomData::<D>);
     what_ends_groups_is_told(PhantomData::<D>);
+    in_order(alloc, rt, registry, journal, &mut machine, &[])?;
+    // Its contract says that the script is the one that was given.
+    let _ = machine.script();
     let sweep = machine.sweep();
     let parts = machine.into_parts();
     let text = report(alloc, &parts.transcripts, &parts.history, None, &sweep)?;
@@ -104,8 +106,10 @@ fn serve_over<N: Opened, D: Disk, R: Wait>(
     requires sayable { IsSayableScript script }
     requires stands { StandsOn first_state StepsTo store.lazy log }
     requires ready { IsReady log }
-    ensures { IfOk result.1 (λ a. IsServed (ServedOn N.opening store.lazy log result.0) script
+    ensures served { IfOk result.1 (λ a. IsServed (ServedOn N.opening store.lazy log result.0) script
         (D.fault_count (disk_of log)) (D.fault_count result.0) a.0 a.1.items) }
+    ensures broken_off { OnErr result.1
+        (IsBrokenOffOn N.opening store.lazy log result.0 script) }
 {
     let mut journal = LogJournal::of(alloc, log);
     let told = tell_run::<N, D, R>(alloc, rt, registry, store, &mut journal, script);
@@ -133,8 +137,10 @@ fn run_with<D: Disk, R: Wait>(
 ) -> (D, Result<(Status, Vec<u8>), Memory>)
     requires limits { IsWithinLimits script }
     requires sayable { IsSayableScript script }
-    ensures { IfOk result.1 (λ a. IsRunOverDisk D.seen D.may_leave D.moment D.left_since D.fault_count
+    ensures told { IfOk result.1 (λ a. IsRunOverDisk D.seen D.may_leave D.moment D.left_since D.fault_count
         script disk result.0 a.0 a.1.items) }
+    ensures untold { OnErr result.1
+        (IsUntold D.seen D.may_leave D.moment D.left_since script disk result.0) }
 {
     match reopen(alloc, rt, registry, disk) {
         Ok((store, log)) => serve_over::<Brand, D, R>(alloc, rt, registry, store, log, script),
@@ -151,8 +157,10 @@ fn run_over<D: Disk, R: Wait>(
 ) -> (D, Result<(Status, Vec<u8>), Memory>)
     requires limits { IsWithinLimits script }
     requires sayable { IsSayableScript script }
-    ensures { IfOk result.1 (λ a. IsRunOverDisk D.seen D.may_leave D.moment D.left_since D.fault_count
+    ensures told { IfOk result.1 (λ a. IsRunOverDisk D.seen D.may_leave D.moment D.left_since D.fault_count
         script disk result.0 a.0 a.1.items) }
+    ensures untold { OnErr result.1
+        (IsUntold D.seen D.may_leave D.moment D.left_since script disk result.0) }
 {
     let Ok((registry, _empty)) = Registry::new(alloc, rt) else {
         return (disk, Err(Memory));
@@ -180,7 +188,12 @@ pub(crate) fn run<S: Shelf, R: Wait>(
         shelf.old shelf.new) a.0) }
     ensures text { IfOk result (λ a. IsTextOfRun (HoldsAsked (Some (running path.now))
         (shelf_of S.Disk.seen S.Disk.may_leave S.Disk.moment S.Disk.left_since S.held S.fault_count
-        shelf.old shelf.new)) script a.0 a.1.items) }
+        shelf.old shelf.new))
+        (ReadsLog (shelf_of S.Disk.seen S.Disk.may_leave S.Disk.moment S.Disk.left_since S.held
+        S.fault_count shelf.old shelf.new) path.now) script a.0 a.1.items) }
+    ensures untold { OnErr result (LeavesUntold
+        (shelf_of S.Disk.seen S.Disk.may_leave S.Disk.moment S.Disk.left_since S.held S.fault_count
+        shelf.old shelf.new) path.now script) }
     ensures others { KeepsOthers
         (shelf_of S.Disk.seen S.Disk.may_leave S.Disk.moment S.Disk.left_since S.held S.fault_count
         shelf.old shelf.new) path.now }

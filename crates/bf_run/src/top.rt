@@ -1,6 +1,6 @@
 //! The top call.
 
-ghost use Rattle.std.specs.Prelude.{◌≡◌, ℕ, List, ◌++◌, None, Some, IfOk, IsTrue, codes, false, map};
+ghost use Rattle.std.specs.Prelude.{◌≡◌, ℕ, List, ◌++◌, None, Some, IfOk, OnErr, IsTrue, codes, false, map};
 ghost use Rattle.bf_sql.specs.Database.{empty_database};
 ghost use Rattle.bf_machine.specs.InOrder.{IsRunInOrder};
 ghost use Rattle.bf_machine.specs.Runnable.{phases_rise_from};
@@ -10,6 +10,7 @@ ghost use Rattle.bf_run.specs.Creating.{Spares, shelf_of};
 ghost use Rattle.bf_run.specs.Outcome.{Ends, IsAnswer, fault_text};
 ghost use Rattle.bf_run.specs.Running.{KeepsOthers};
 ghost use Rattle.bf_run.specs.Top.{HasRead, IsInputAnswer, IsScriptOf, Tells};
+ghost use Rattle.bf_run.specs.Untold.{RunsOut};
 ghost use Rattle.bf_run.specs.Words.{IfCreating, IfNoPath, IfRunning, asked, running};
 
 use crate::creating::create;
@@ -175,6 +176,9 @@ fn run_input<I: Source, S: Shelf, R: Wait>(
         })
         (shelf_of S.Disk.seen S.Disk.may_leave S.Disk.moment S.Disk.left_since S.held S.fault_count
         shelf.old shelf.new) a.0 a.1.items) }
+    ensures out_of_memory { OnErr result (RunsOut (I.left input.old)
+        (shelf_of S.Disk.seen S.Disk.may_leave S.Disk.moment S.Disk.left_since S.held S.fault_count
+        shelf.old shelf.new) path.now) }
     ensures others { KeepsOthers
         (shelf_of S.Disk.seen S.Disk.may_leave S.Disk.moment S.Disk.left_since S.held S.fault_count
         shelf.old shelf.new) path.now }
@@ -207,6 +211,10 @@ fn answer<I: Source, S: Shelf, R: Wait>(
     ensures spares { IfCreating (asked (map (λ word. word.now) words.now)) (λ path. Spares
         (shelf_of S.Disk.seen S.Disk.may_leave S.Disk.moment S.Disk.left_since S.held S.fault_count
         shelf.old shelf.new) path) }
+    ensures out_of_memory { OnErr result
+        (IfRunning (asked (map (λ word. word.now) words.now)) (λ path. RunsOut (I.left input.old)
+        (shelf_of S.Disk.seen S.Disk.may_leave S.Disk.moment S.Disk.left_since S.held S.fault_count
+        shelf.old shelf.new) path)) }
     ensures others { IfRunning (asked (map (λ word. word.now) words.now)) (λ path. KeepsOthers
         (shelf_of S.Disk.seen S.Disk.may_leave S.Disk.moment S.Disk.left_since S.held S.fault_count
         shelf.old shelf.new) path) }

@@ -1,4 +1,6 @@
-use Rattle.std.proofs.Common.{◌≡◌, ℕ, List, Some, refl, sym, subst, arith}
+use Rattle.std.proofs.Common.{◌≡◌, ℕ, List, Some, inl, inr, refl, sym, subst, arith}
+use Rattle.std.specs.Prelude.{Result, Ok, Err, OnErr}
+use Rattle.bf_disk.specs.Images.{OnlyRead}
 use Rattle.std.proofs.lemmas.Result.{IfOk-weaker}
 use Rattle.bf_sql.specs.Database.{Database}
 use Rattle.bf_sql.specs.migrations.Lazy.{view_of}
@@ -7,12 +9,21 @@ use Rattle.bf_machine.specs.interleaving.Machines.{EndedGroup}
 use Rattle.bf_run.specs.declared.status.Status.{Status}
 use Rattle.bf_run.specs.Keeping.{IsKept}
 use Rattle.bf_run.specs.Top.{HoldsOver, IsOpened, ServedOn}
+use Rattle.bf_run.specs.Untold.{IsUntold}
 use Rattle.bf_run.proofs.Running.{if_told, not_opened, opened_to, served}
 use Rattle.bf_run.proofs.keeping.run_with.Goals as goal
 
+on_err : {P : Type 0} {A E : Type 0} (r : Result A E) → P → OnErr r P
+on_err (Ok x) so = tt
+on_err (Err error) so = so
+
+on_err_weaker : {P Q : Type 0} {A E : Type 0} (r : Result A E) → (P → Q) → OnErr r P → OnErr r Q
+on_err_weaker (Ok x) weaker so = tt
+on_err_weaker (Err error) weaker so = weaker so
+
 -- the log that was opened keeps what the run commits, and so does its file since the start
-pub returns-in-Ok : goal.returns-in-Ok
-returns-in-Ok g c =
+pub returns-in-Ok-clause-told : goal.returns-in-Ok-clause-told
+returns-in-Ok-clause-told g c =
     let Disk = g.D.Disk in
     let disk = c.args.disk in
     let now = c.serve_over.result.0 in
@@ -33,10 +44,10 @@ returns-in-Ok g c =
     ) in
     IfOk-weaker c.serve_over.result.1 _ _
     (λ a is. served Disk.seen Disk.may_leave Disk.moment Disk.left_since Disk.fault_count c.args.script disk now (ServedOn {g = Disk} (view_of lazy) lazy c.in-Ok.log now) _ _ a.0 a.1.items is c.in-Ok.ensures.faults refl holds)
-    c.serve_over.ensures
+    c.serve_over.ensures.served
 
-pub returns-in-Err : goal.returns-in-Err
-returns-in-Err g c =
+pub returns-in-Err-clause-told : goal.returns-in-Err-clause-told
+returns-in-Err-clause-told g c =
     IfOk-weaker c.tell_open_error.result _ _
     (λ a is. not_opened g.D.Disk.seen g.D.Disk.may_leave g.D.Disk.moment g.D.Disk.left_since g.D.Disk.fault_count c.args.script c.args.disk c.in-Err.disk c.in-Err.error a.0 a.1.items is c.in-Err.ensures.refused c.in-Err.ensures.disk c.in-Err.ensures.faults)
     c.tell_open_error.ensures
@@ -46,3 +57,33 @@ serve_over-requires-clause-stands g c = c.in-Ok.ensures.reopened.stands
 
 pub serve_over-requires-clause-ready : goal.serve_over-requires-clause-ready
 serve_over-requires-clause-ready g c = c.in-Ok.ensures.reopened.ready
+
+pub returns-in-Ok-clause-untold : goal.returns-in-Ok-clause-untold
+returns-in-Ok-clause-untold g c =
+    let Disk = g.D.Disk in
+    let disk = c.args.disk in
+    let now = c.serve_over.result.0 in
+    let lazy = c.in-Ok.store.lazy in
+    let opened = c.in-Ok.ensures.reopened in
+    let Goal = IsUntold Disk.seen Disk.may_leave Disk.moment Disk.left_since c.args.script disk now in
+    on_err_weaker c.serve_over.result.1
+    (λ off. elim off as (λ _. Goal) [
+      | inl same ↦ inl (inr (subst (OnlyRead Disk.seen Disk.may_leave Disk.moment Disk.left_since disk) (sym same) c.in-Ok.ensures.disk))
+      | inr run ↦ inr (record {
+        start = view_of lazy;
+        opens = opened_to Disk.seen Disk.may_leave Disk.moment Disk.left_since Disk.fault_count c.args.script disk now lazy opened.gives;
+        history = run.0;
+        groups = run.1;
+        kept = if_told (Disk.seen now) _
+            (λ file told. record {
+              opened = Disk.moment c.in-Ok.log.disk;
+              later = opened.later;
+              since_opening = run.2 (Disk.moment c.in-Ok.log.disk) (omega arith) opened.alone file told;
+              since_start = λ before seen only. run.2 (Disk.moment disk) opened.later (opened.since_start before seen only) file told;
+            });
+      })
+    ])
+    c.serve_over.ensures.broken_off
+
+pub returns-in-Err-clause-untold : goal.returns-in-Err-clause-untold
+returns-in-Err-clause-untold g c = on_err c.tell_open_error.result (inl (inr c.in-Err.ensures.disk))

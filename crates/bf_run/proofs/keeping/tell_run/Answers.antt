@@ -1,5 +1,6 @@
 -- A new machine over a log that is served to its end has run over the opening database, and its log keeps what it committed.
 use Rattle.std.proofs.Common.{◌≡◌, None, refl, sym, ap, subst, ◌∙◌, arith}
+use Rattle.std.specs.Prelude.{Result, Ok, Err, OnErr}
 use Rattle.std.proofs.lemmas.Bool.Decides.{nat_tests}
 use Rattle.bf_tree.specs.declared.script.Script.{Script}
 use Rattle.bf_sql.specs.migrations.Lazy.{sweep_of}
@@ -19,13 +20,18 @@ use Rattle.bf_run.specs.declared.status.Status.TheVariants.{Done, DiskFault}
 use Rattle.bf_run.proofs.Caused.{caused}
 use Rattle.bf_run.proofs.Kept.{keeps_at_done, keeps_at_fault, ready_if, recovered}
 use Rattle.bf_run.proofs.Served.{ran_over}
+use Rattle.bf_run.proofs.Untold.{broken_off}
 use Rattle.bf_run.proofs.keeping.tell_run.Goals as goal
+
+on_err : {P : Type 0} {A E : Type 0} (r : Result A E) → P → OnErr r P
+on_err (Ok x) so = tt
+on_err (Err error) so = so
 
 pub in_order-requires-clause-said : goal.in_order-requires-clause-said
 in_order-requires-clause-said g c = subst IsSayableScript c.requires.script c.requires.sayable
 
-pub returns-then-faults : goal.returns-then-faults
-returns-then-faults g c =
+pub returns-then-faults-clause-served : goal.returns-then-faults-clause-served
+returns-then-faults-clause-served g c =
     let script : Script = c.args.script in
     let opening = g.N.Opened.opening in
     let lazy = c.args.store.lazy in
@@ -44,7 +50,7 @@ returns-then-faults g c =
     let recovers = recovered {g = g.D.Disk} opening lazy m now c.args.journal.now c.in_order.new.journal same c.session_count.ensures.kept c.requires.stands keeps_all
     c.every_crash_leaves_a_prefix.ensures.whole in
     let keeps = subst (λ (k : Script). KeepsOn lazy log last.disk DiskFault k opening now.history) own (keeps_at_fault opening lazy now log last recovers) in
-    let causes : AreCaused DiskFault ended = caused last ended told_causes DiskFault (λ is. absurd cc) in
+    let causes : AreCaused (g.D.Disk.seen last.disk) DiskFault ended = caused {g = g.D.Disk} last ended told_causes DiskFault (λ is. absurd cc) in
     let parts = c.into_parts-parts.ensures in
     let swept = c.sweep-sweep.ensures in
     let told : IsRunTold (ServedOn opening lazy log last.disk DiskFault script) script c.in_ok-text.text.items = record {
@@ -59,8 +65,8 @@ returns-then-faults g c =
     } in
     (told, grind (arith, nat_tests, c.if-faults.true, c.faults.ensures, c.faults-faults.ensures))
 
-pub returns-then-is_ready : goal.returns-then-is_ready
-returns-then-is_ready g c =
+pub returns-then-is_ready-clause-served : goal.returns-then-is_ready-clause-served
+returns-then-is_ready-clause-served g c =
     let script : Script = c.args.script in
     let opening = g.N.Opened.opening in
     let lazy = c.args.store.lazy in
@@ -79,7 +85,7 @@ returns-then-is_ready g c =
     let recovers = recovered {g = g.D.Disk} opening lazy m now c.args.journal.now c.in_order.new.journal same c.session_count.ensures.kept c.requires.stands keeps_all
     c.every_crash_leaves_a_prefix.ensures.whole in
     let keeps = subst (λ (k : Script). KeepsOn lazy log last.disk Done k opening now.history) own (keeps_at_done opening lazy now log last recovers (ready_if last.standing (sym c.if-is_ready.true ∙ c.is_ready.ensures))) in
-    let causes : AreCaused Done ended = caused last ended told_causes Done (λ _. ready_if last.standing (sym c.if-is_ready.true ∙ c.is_ready.ensures)) in
+    let causes : AreCaused (g.D.Disk.seen last.disk) Done ended = caused {g = g.D.Disk} last ended told_causes Done (λ _. ready_if last.standing (sym c.if-is_ready.true ∙ c.is_ready.ensures)) in
     let parts = c.into_parts-parts.ensures in
     let swept = c.sweep-sweep.ensures in
     let told : IsRunTold (ServedOn opening lazy log last.disk Done script) script c.in_ok-text.text.items = record {
@@ -93,3 +99,27 @@ returns-then-is_ready g c =
       report_written = c.in_ok-text.ensures ∙ (λ i. report_text (parts.transcripts i) (parts.history i) None (swept i));
     } in
     (told, grind (arith, nat_tests, c.if-faults.false, c.faults.ensures, c.faults-faults.ensures))
+
+pub returns-in_err-in_order-clause-broken_off : goal.returns-in_err-in_order-clause-broken_off
+returns-in_err-in_order-clause-broken_off g c =
+    let script : Script = c.args.script in
+    let m : Machine = c.in_ok-machine.machine in
+    let new : m ≡ fresh g.N.Opened.logged c.args.store script 15 = c.in_ok-machine.ensures in
+    on_err c.from_residual-in_err-in_order.result (broken_off {g = g.D.Disk} g.N.Opened.opening c.args.store.lazy script m c.in_order.new.machine c.args.journal.now c.in_order.new.journal
+    (ap (λ (k : Machine). k.script) new) (ap (λ (k : Machine). k.lazy) new) c.session_count.ensures.kept c.requires.stands c.in_order.ensures.keeps c.every_crash_leaves_a_prefix.ensures.whole)
+
+pub returns-in_err-text-clause-broken_off : goal.returns-in_err-text-clause-broken_off
+returns-in_err-text-clause-broken_off g c =
+    let script : Script = c.args.script in
+    let m : Machine = c.in_ok-machine.machine in
+    let new : m ≡ fresh g.N.Opened.logged c.args.store script 15 = c.in_ok-machine.ensures in
+    on_err c.from_residual-in_err-text.result (broken_off {g = g.D.Disk} g.N.Opened.opening c.args.store.lazy script m c.in_order.new.machine c.args.journal.now c.in_order.new.journal
+    (ap (λ (k : Machine). k.script) new) (ap (λ (k : Machine). k.lazy) new) c.session_count.ensures.kept c.requires.stands c.in_order.ensures.keeps c.every_crash_leaves_a_prefix.ensures.whole)
+
+pub returns-else-is_ready-clause-broken_off : goal.returns-else-is_ready-clause-broken_off
+returns-else-is_ready-clause-broken_off g c =
+    let script : Script = c.args.script in
+    let m : Machine = c.in_ok-machine.machine in
+    let new : m ≡ fresh g.N.Opened.logged c.args.store script 15 = c.in_ok-machine.ensures in
+    broken_off {g = g.D.Disk} g.N.Opened.opening c.args.store.lazy script m c.in_order.new.machine c.args.journal.now c.in_order.new.journal
+    (ap (λ (k : Machine). k.script) new) (ap (λ (k : Machine). k.lazy) new) c.session_count.ensures.kept c.requires.stands c.in_order.ensures.keeps c.every_crash_leaves_a_prefix.ensures.whole

@@ -1,0 +1,40 @@
+-- A run over a log that ended for want of memory.
+use Rattle.std.proofs.Common.{◌≡◌, ℕ, ◌≤◌, List, Option, Some, Result, inr, ap, subst, ◌∙◌}
+use Rattle.bf_disk.specs.declared.disk.Disk.{Ghosts}
+use Rattle.bf_journal.specs.States.{MayLeave, StandsOn, moment_of}
+use Rattle.bf_keep.specs.Answers.{HasAnswered}
+use Rattle.bf_keep.specs.Crashing.{KeepsOnLog, Recovers}
+use Rattle.bf_keep.specs.declared.log_journal.LogJournal.{LogJournal}
+use Rattle.bf_machine.specs.declared.journal.KeepError.{KeepError}
+use Rattle.bf_machine.specs.interleaving.Events.{Reaches}
+use Rattle.bf_machine.specs.interleaving.Kept.{IsKept}
+use Rattle.bf_machine.specs.interleaving.Machines.{Machine}
+use Rattle.bf_machine.proofs.interleaving.Reaching.{reached_keeps_all}
+use Rattle.bf_machine.proofs.served.Ending.{reached_script}
+use Rattle.bf_machine.proofs.served.Keeping.{keeps_reach}
+use Rattle.bf_recover.specs.Legal.{first_state}
+use Rattle.bf_recover.specs.Steps.{StepsTo}
+use Rattle.bf_sql.specs.Database.{Database}
+use Rattle.bf_sql.specs.migrations.Lazy.{LazyState}
+use Rattle.bf_tree.specs.declared.script.Script.{Script}
+use Rattle.bf_run.specs.Keeping.{KeepsOn}
+use Rattle.bf_run.specs.Untold.{AreGroupsInOrder, IsBrokenOffOn}
+use Rattle.bf_run.specs.declared.status.Status.TheVariants.{Memory}
+use Rattle.bf_run.proofs.Kept.{keeps_at_memory, recovered}
+
+pub broken_off : {D : Type 0} {g : Ghosts D} (opening : Database) (lazy : LazyState) (script : Script) (m now : Machine) (j k : LogJournal D g) → m.script ≡ script → m.lazy ≡ lazy
+    → IsKept opening m → StandsOn first_state StepsTo lazy j.log → KeepsOnLog opening m j now k
+    → ((start : Database) (m next : Machine) (j k : LogJournal D g) (since : ℕ) → IsKept start m → StandsOn first_state StepsTo m.lazy j.log → since ≤ moment_of j.log
+    → ((left : Option LazyState) → MayLeave first_state StepsTo j.log since left → left ≡ Some m.lazy) → KeepsOnLog start m j next k → Recovers start since next k.log)
+    → IsBrokenOffOn opening lazy j.log k.log.disk script
+broken_off {D = D} {g = g} opening lazy script m now j k of_script same kept stands keeps law =
+    let reach : Reaches opening m now = keeps_reach (λ lazy next (old : LogJournal D g) new answer. HasAnswered lazy next old.log new.log answer) opening m j now k keeps in
+    let kept_now : IsKept opening now = reached_keeps_all opening m now kept reach in
+    let own : now.script ≡ script = reached_script opening m now reach ∙ of_script in
+    let legal = kept_now.history_legal.legal in
+    let recovers = recovered opening lazy m now j k same kept stands keeps law in
+    inr (
+      now.history,
+      subst (λ (s : Script). AreGroupsInOrder s now.history) own (legal.whole_groups, legal.in_order),
+      subst (λ (s : Script). KeepsOn lazy j.log k.log.disk Memory s opening now.history) own (keeps_at_memory opening lazy now j.log k.log recovers),
+    )
