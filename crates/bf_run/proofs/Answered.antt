@@ -158,7 +158,7 @@ module _ {V : Type 0} (input : Stream) (shelf : Shelving V) where
   of_running asks path status text run given = subst (λ (a : Option Asked). IsAnswer a input shelf status text) run given
 
   pub of_file : (asks : Option Asked) (path : List ℕ) (status : Status) (text : List ℕ) → Some (creating path) ≡ asks → IsUnread input
-      → ComesOfFile path shelf status → ((bytes : List ℕ) → IsTextOf (Some (creating path)) (λ status script start history ended. ⊥) (Unit {0}) bytes status text)
+      → ComesOfFile path shelf status → ((bytes : List ℕ) → IsTextOf (Some (creating path)) (λ status script start history ended last. ⊥) (Unit {0}) bytes status text)
       → IsAnswer asks input shelf status text
   of_file asks path status text create unread causes spells =
       subst (λ (a : Option Asked). IsAnswer a input shelf status text) create

@@ -1,11 +1,14 @@
 -- What a crash leaves of a machine beside its log, said of its script and its history alone.
 use Rattle.std.proofs.Common.{◌≡◌, ◌⊎◌, ℕ, ◌≤◌, true, List, [], ◌∷◌, ◌++◌, map, Option, None, Some, inl, inr, refl, sym, ap, ap₂, subst, ◌∙◌}
 use Rattle.std.proofs.lemmas.List.{map-append}
+use Rattle.std.proofs.lemmas.Option.{same_Some}
 use Rattle.bf_disk.specs.declared.disk.Disk.{Ghosts}
 use Rattle.bf_journal.specs.Crashes.{IsAfterPrefix, ReopensWith, replayed as run_in_turn}
 use Rattle.bf_journal.specs.Reopening.{ReopensTo}
+use Rattle.bf_journal.proofs.Readings.{after_change}
 use Rattle.bf_journal.proofs.Runs.{replayed_more}
 use Rattle.bf_journal.specs.States.{IsReady, MayLeave, StandsOn, moment_of}
+use Rattle.bf_log.specs.Format.{IsLog}
 use Rattle.bf_log.specs.declared.log.Log.{Log}
 use Rattle.bf_log.specs.declared.log.Standing.{Standing}
 use Rattle.bf_log.specs.declared.log.Standing.TheVariants.{Ready, Halted, Spent}
@@ -22,8 +25,9 @@ use Rattle.bf_tree.specs.declared.script.Script.{Script}
 use Rattle.bf_keep.specs.Answers.{is_ready}
 use Rattle.bf_keep.specs.Crashing.{KeepsOnLog, Recovers}
 use Rattle.bf_keep.specs.declared.log_journal.LogJournal.{LogJournal}
-use Rattle.bf_run.specs.Keeping.{IsBehind, IsBehindOneMore, IsBehindPrefix, IsFailed, KeepsOn, Leaves, OpensAs}
+use Rattle.bf_run.specs.Keeping.{GivesOrMore, IsBehind, IsBehindOneMore, IsBehindPrefix, IsFailed, IsGivenBy, KeepsOn, Leaves, OpensAs}
 use Rattle.bf_run.specs.declared.status.Status.TheVariants.{Done, DiskFault, Memory}
+use Rattle.bf_run.proofs.Running.{if_told}
 
 -- a prefix of a list that is mapped is that of a prefix
 prefix_of_map : {X Y : Type 0} (f : X → Y) (xs : List X) (front back : List Y) → front ++ back ≡ map f xs
@@ -104,6 +108,25 @@ module _ {D : Type 0} {g : Ghosts D} (opening : Database) (lazy : LazyState) (no
       let r = recovers since by alone in
       subst (λ (failed : Option Database). Leaves g.moment g.left_since last.disk since now.script opening now.history failed)
       (r.images.none_failed ready) (leaves opening now last since r file told)
+
+-- the records of the log give the state that stands on it, or where it has stopped perhaps one that the failed record makes
+module _ {D : Type 0} {g : Ghosts D} (lazy : LazyState) (log : Log D g) (on : StandsOn first_state StepsTo lazy log) where
+  pub given_at_done : IsReady log → IsGivenBy g.seen g.may_leave Done log.disk lazy
+  given_at_done ready = if_told (g.seen log.disk) _ (λ file told. elim (on file told) as (λ _. ReopensTo first_state StepsTo file (Some lazy)) [
+    | inl stored ↦
+        let same : stored.file ≡ file = same_Some stored.file file (sym stored.holds.told ∙ told) in
+        (stored.payloads, subst (IsLog stored.payloads) same stored.holds.is_log, stored.gives)
+    | inr stopped ↦ absurd (stopped.images.stopped ready)
+  ])
+
+  pub given_at_fault : IsGivenBy g.seen g.may_leave DiskFault log.disk lazy
+  given_at_fault = if_told (g.seen log.disk) _ (λ file told image may. elim (on file told) as (λ _. GivesOrMore lazy image) [
+    | inl stored ↦ inl (stored.payloads, subst (IsLog stored.payloads) (sym (stored.holds.durable image may)) stored.holds.is_log, stored.gives)
+    | inr stopped ↦ elim (stopped.images.images image may) as (λ _. GivesOrMore lazy image) [
+      | inl before ↦ inl (stopped.payloads, before, stopped.gives)
+      | inr after ↦ inr (stopped.failed, stopped.next, stopped.legal, (stopped.payloads ++ stopped.failed ∷ [], after, after_change StepsTo stopped.payloads stopped.failed first_state lazy stopped.next stopped.gives stopped.legal))
+    ]
+  ])
 
 -- a machine whose events stand beside its log recovers
 pub recovered : {D : Type 0} {g : Ghosts D} (opening : Database) (lazy : LazyState) (m now : Machine) (j k : LogJournal D g) → m.lazy ≡ lazy

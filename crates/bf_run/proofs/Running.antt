@@ -19,7 +19,7 @@ use Rattle.bf_run.specs.declared.status.Status.{Status}
 use Rattle.bf_run.specs.declared.status.Status.TheVariants.{Done, Usage, Script as ScriptError, ReadFault, WriteFault, DiskFault, NotALog, NotEmpty, Memory}
 use Rattle.bf_run.specs.Causes.{AreCaused, AreCausedIn, CausesEnds}
 use Rattle.bf_run.specs.Creating.{CountsNone, CountsOne, Shelving, WhereHeld}
-use Rattle.bf_run.specs.Keeping.{IsKept, IsKeptFile, KeepsLog}
+use Rattle.bf_run.specs.Keeping.{GivesSweep, IsGivenBy, IsGivenHeld, IsKept, IsKeptFile, KeepsLog}
 use Rattle.bf_run.specs.Outcome.{ComesOfLog, Ground, HoldsAsked, IsRunTold}
 use Rattle.bf_run.specs.Running.{IsLogOf, IsRefusedLog, KeepsOthers, Opens, OpensTo}
 use Rattle.bf_run.specs.Top.{HoldsOver, IsOpenErrorTold, IsOpened, IsRunOverDisk, IsServed, IsTextOfRun}
@@ -59,8 +59,8 @@ module _ {V : Type 0} (seen : V → Option (List ℕ)) (may_leave : V → List �
     (script : Script) (disk now : V) where
   pub served : (Served : Ground) (before after : ℕ) (status : Status) (text : List ℕ) → IsServed Served script before after status text
       → before ≡ fault_count disk → after ≡ fault_count now
-      → ((status : Status) (start : Database) (history : List Entry) (ended : List EndedGroup) → Served status script start history ended
-      → HoldsOver seen may_leave moment left_since fault_count disk now status script start history ended)
+      → ((status : Status) (start : Database) (history : List Entry) (ended : List EndedGroup) (last : LazyState) → Served status script start history ended last
+      → HoldsOver seen may_leave moment left_since fault_count disk now status script start history ended last)
       → IsRunOverDisk seen may_leave moment left_since fault_count script disk now status text
   served Served before after status text is first last so = by status is
     where
@@ -72,8 +72,8 @@ module _ {V : Type 0} (seen : V → Option (List ℕ)) (may_leave : V → List �
         history = run.history;
         ended = run.ended;
         sweep = run.sweep;
-        holds = so status run.start run.history run.ended run.holds;
         is_run = run.is_run;
+        holds = so status run.start run.history run.ended run.is_run.last run.holds;
         report_written = run.report_written;
       }
 
@@ -129,6 +129,11 @@ module _ {V : Type 0} (shelf : Shelving V) (path : List ℕ) (mid : Option (ByPa
   caused status ended are = where_held shelf.seen shelf.may_leave path disk now (λ old new. AreCausedIn shelf status ended new)
       shelf.held mid shelf.held_after given away back (λ was held. (now, refl, are))
 
+  -- the state whose sweep is told
+  gives : (status : Status) (last : LazyState) → IsGivenBy shelf.seen shelf.may_leave status now last → GivesSweep shelf path status last
+  gives status last given_by = where_held shelf.seen shelf.may_leave path disk now (λ old new. IsGivenHeld shelf status last new)
+      shelf.held mid shelf.held_after given away back (λ was held. (now, refl, given_by))
+
   -- a log that was read at most, and a run over it that was broken off
   reads : IsReadAtMost shelf.seen shelf.may_leave shelf.moment shelf.left_since disk now → ReadsLog shelf path
   reads read = where_held shelf.seen shelf.may_leave path disk now (IsReadLog shelf)
@@ -156,8 +161,13 @@ module _ {V : Type 0} (shelf : Shelving V) (path : List ℕ) (mid : Option (ByPa
       history = told.history;
       ended = told.ended;
       sweep = told.sweep;
-      holds = (opens told.start told.holds.0, keeps_log status script told.start told.history told.holds.1, caused status told.ended told.holds.2);
       is_run = told.is_run;
+      holds = (
+        opens told.start told.holds.0,
+        keeps_log status script told.start told.history told.holds.1,
+        caused status told.ended told.holds.2,
+        gives status told.is_run.last told.holds.3,
+      );
       report_written = told.report_written;
     }
 

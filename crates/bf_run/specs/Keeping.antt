@@ -41,6 +41,18 @@ module _ (script : Script) (start : Database) where
 abbrev pub OpensAs : (Database → Type 0) → Option Database → List ℕ → Type 0
 OpensAs Is failed image = (left : Option LazyState) → ReopensTo first_state StepsTo image left → ReopensWith view_of failed Is left
 
+-- an image whose records give this state, or one that a record more makes of it
+abbrev pub GivesOrMore : LazyState → List ℕ → Type 0
+GivesOrMore last image =
+    ReopensTo first_state StepsTo image (Some last)
+    ⊎ ((payload : List ℕ) × (next : LazyState) × StepsTo last payload next × ReopensTo first_state StepsTo image (Some next))
+
+module _ {V : Type 0} (seen : V → Option (List ℕ)) (may_leave : V → List ℕ → Type 0) where
+  -- GIVEN: at the end the records of the file give this state; or where a change may have failed those of each image do, or one more
+  abbrev pub IsGivenBy : Status → V → LazyState → Type 0
+  IsGivenBy Done disk last = IfTold (seen disk) (λ file. ReopensTo first_state StepsTo file (Some last))
+  IsGivenBy other disk last = IfTold (seen disk) (λ file. (image : List ℕ) → may_leave disk image → GivesOrMore last image)
+
 module _ {V : Type 0} (moment : V → ℕ) (left_since : V → ℕ → List ℕ → Type 0) where
   -- LEAVES: every image that a crash now may leave reopens to the database behind the history, and every image since a moment to the
   -- one behind a prefix of it
@@ -72,6 +84,13 @@ module _ {V : Type 0} (shelf : Shelving V) where
   abbrev pub KeepsLog : List ℕ → Status → Script → Database → List Entry → Type 0
   KeepsLog path status script start history =
       WhereHeld (λ old new. IsKeptFile status script start history (old path) (new path)) shelf.held shelf.held_after
+
+  -- the state whose sweep is told is what that log gives
+  abbrev pub IsGivenHeld : Status → LazyState → Option V → Type 0
+  IsGivenHeld status last held_after = (disk : V) × (held_after ≡ Some disk) × IsGivenBy shelf.seen shelf.may_leave status disk last
+
+  abbrev pub GivesSweep : List ℕ → Status → LazyState → Type 0
+  GivesSweep path status last = WhereHeld (λ old new. IsGivenHeld status last (new path)) shelf.held shelf.held_after
 
 module _ {D : Type 0} {g : Ghosts D} where
   -- of a log that a run goes on with, and of its disk at the end, since each moment since when a crash has left alone the state that

@@ -17,7 +17,7 @@ use Rattle.bf_run.specs.declared.status.Status.{Status}
 use Rattle.bf_run.specs.declared.status.Status.TheVariants.{Done, Usage, Script as ScriptError, ReadFault, WriteFault, DiskFault, NotALog, NotEmpty, Memory}
 use Rattle.bf_run.specs.Causes.{CausesEnds}
 use Rattle.bf_run.specs.Creating.{Shelving, Makes, Refuses, CountsNone, CountsOne, Spares}
-use Rattle.bf_run.specs.Keeping.{KeepsLog}
+use Rattle.bf_run.specs.Keeping.{GivesSweep, KeepsLog}
 use Rattle.bf_run.specs.Running.{KeepsOthers, Opens, RefusesLog}
 use Rattle.bf_run.specs.Untold.{ReadsLog, RunsOut}
 use Rattle.bf_run.specs.Words.{Asked, creating, running, trying, asked, IfCreating, IfRunning}
@@ -25,6 +25,7 @@ use Rattle.bf_machine.specs.InOrder.{IsRunInOrder}
 use Rattle.bf_machine.specs.RunOver.{IsRunOver}
 use Rattle.bf_machine.specs.interleaving.Machines.{EndedGroup}
 use Rattle.bf_sql.specs.Database.{Database}
+use Rattle.bf_sql.specs.migrations.Lazy.{LazyState}
 
 -- STREAM: the bytes that a source has left, or that a sink took, where they are told, and its count of faults, each
 -- before and after a call
@@ -52,24 +53,24 @@ pub record IsReport (bytes text : List ℕ) : Type 0 where
   pub is_run : IsRunInOrder script transcripts history sweep
   pub report_written : text ≡ report_text transcripts history None sweep
 
--- GROUND: what holds of a run over a log, for its status: of its script, of the database that it begins with, of its history, and of
--- the groups that the log has ended
+-- GROUND: what holds of a run over a log, for its status: of its script, of the database that it begins with, of its history, of
+-- the groups that the log has ended, and of the state whose sweep is told
 abbrev pub Ground : Type 1
-Ground = Status → Script → Database → List Entry → List EndedGroup → Type 0
+Ground = Status → Script → Database → List Entry → List EndedGroup → LazyState → Type 0
 
--- the text is the report of a run of a script, of whose begin, history and ended groups this holds
-pub record IsRunTold (Holds : Database → List Entry → List EndedGroup → Type 0) (script : Script) (text : List ℕ) : Type 0 where
+-- the text is the report of a run of a script, of whose begin, history, ended groups and last state this holds
+pub record IsRunTold (Holds : Database → List Entry → List EndedGroup → LazyState → Type 0) (script : Script) (text : List ℕ) : Type 0 where
   pub start : Database
   pub transcripts : List (List Reply)
   pub history : List Entry
   pub ended : List EndedGroup
   pub sweep : Sweep
-  pub holds : Holds start history ended
   pub is_run : IsRunOver start script ended transcripts history sweep
+  pub holds : Holds start history ended is_run.last
   pub report_written : text ≡ report_text transcripts history None sweep
 
 -- and the script is the one that the bytes are
-abbrev pub IsRunReport : (Script → Database → List Entry → List EndedGroup → Type 0) → List ℕ → List ℕ → Type 0
+abbrev pub IsRunReport : (Script → Database → List Entry → List EndedGroup → LazyState → Type 0) → List ℕ → List ℕ → Type 0
 IsRunReport Holds bytes text = (script : Script) × IsScriptText bytes (Ok script) × IsRunTold (Holds script) script text
 
 -- the text is a script; each one is served
@@ -181,12 +182,12 @@ IsTextOf asks Holds Before bytes (NotEmpty n) text = text ≡ not_empty_text n
 IsTextOf asks Holds Before bytes WriteFault text = ⊥
 IsTextOf asks Holds Before bytes Memory text = ⊥
 
--- a run over the log that is asked for begins with a database that this opens to, a crash leaves a prefix of what it commits, and
--- the log has ended groups by its causes alone
+-- a run over the log that is asked for begins with a database that this opens to, a crash leaves a prefix of what it commits, the
+-- log has ended groups by its causes alone, and the sweep is that of the state which its records give
 abbrev pub HoldsAsked : {V : Type 0} → Option Asked → Shelving V → Ground
-HoldsAsked (Some (running path)) shelf status script start history ended =
-    Opens shelf path start × KeepsLog shelf path status script start history × CausesEnds shelf path status ended
-HoldsAsked other shelf status script start history ended = ⊥
+HoldsAsked (Some (running path)) shelf status script start history ended last =
+    Opens shelf path start × KeepsLog shelf path status script start history × CausesEnds shelf path status ended × GivesSweep shelf path status last
+HoldsAsked other shelf status script start history ended last = ⊥
 
 -- and before one the log that is asked for was read at most
 abbrev pub ReadsAsked : {V : Type 0} → Option Asked → Shelving V → Type 0

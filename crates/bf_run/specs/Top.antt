@@ -25,7 +25,7 @@ use Rattle.bf_text.specs.Report.{report_text}
 use Rattle.bf_run.specs.declared.status.Status.{Status}
 use Rattle.bf_run.specs.declared.status.Status.TheVariants.{Done, DiskFault, NotALog, ReadFault, Script as ScriptError}
 use Rattle.bf_run.specs.Causes.{AreCaused}
-use Rattle.bf_run.specs.Keeping.{IsKept, KeepsOn}
+use Rattle.bf_run.specs.Keeping.{IsGivenBy, IsKept, KeepsOn}
 use Rattle.bf_run.specs.Outcome.{Ground, Stream, ComesOfInput, IsRunTold, IsTextOf, fault_of_disk, fault_text, not_a_log_text}
 use Rattle.bf_run.specs.Untold.{IsReadAtMost}
 use Rattle.bf_run.specs.Words.{trying}
@@ -73,8 +73,9 @@ IsServed Holds script before after other text = ⊥
 
 -- over a database, that is what is seen of the state which a log keeps
 abbrev pub ServedOn : {D : Type 0} {g : Ghosts D} → Database → LazyState → Log D g → D → Ground
-ServedOn {g = g} opening lazy log disk status script start history ended =
+ServedOn {g = g} opening lazy log disk status script start history ended last =
     (start ≡ opening) × KeepsOn lazy log disk status script start history × AreCaused (g.seen disk) status ended
+    × IsGivenBy g.seen g.may_leave status disk last
 
 -- what is told of a log that could not be read
 abbrev pub IsOpenErrorTold : OpenError → Status → List ℕ → Type 0
@@ -87,10 +88,12 @@ module _ {V : Type 0} (seen : V → Option (List ℕ)) (may_leave : V → List �
   abbrev pub IsOpened : V → Database → Type 0
   IsOpened disk start = IfTold (seen disk) (λ file. OpensTo file start)
 
-  -- a run begins with what its file opens to, a crash leaves a prefix of what it commits, and groups end by causes of its log
+  -- a run begins with what its file opens to, a crash leaves a prefix of what it commits, groups end by causes of its log,
+  -- and the sweep is that of the state which its records give
   abbrev pub HoldsOver : V → V → Ground
-  HoldsOver old new status script start history ended =
-      IsOpened old start × IfTold (seen new) (λ file. IsKept seen may_leave moment left_since old new status script start history) × AreCaused (seen new) status ended
+  HoldsOver old new status script start history ended last =
+      IsOpened old start × IfTold (seen new) (λ file. IsKept seen may_leave moment left_since old new status script start history)
+      × AreCaused (seen new) status ended × IsGivenBy seen may_leave status new last
 
   abbrev pub IsRunOverDisk : Script → V → V → Status → List ℕ → Type 0
   IsRunOverDisk script old new Done text = IsRunTold (HoldsOver old new Done script) script text × (fault_count new ≤ fault_count old)
@@ -107,4 +110,4 @@ pub record IsInputAnswer (input : Stream) (status : Status) (text : List ℕ) : 
   pub bytes : List ℕ
   pub are_told : IfTold input.bytes (λ told. bytes ≡ told)
   pub causes : ComesOfInput input bytes status
-  pub is_text : IsTextOf (Some trying) (λ status script start history ended. ⊥) ⊤ bytes status text
+  pub is_text : IsTextOf (Some trying) (λ status script start history ended last. ⊥) ⊤ bytes status text

@@ -45,7 +45,7 @@ pub(crate) fn create<S: Shelf>(
         (shelf_of S.Disk.seen S.Disk.may_leave S.Disk.moment S.Disk.left_since S.held S.fault_count
         shelf.old shelf.new) a.0) }
     ensures text { IfOk result (λ a. (bytes : List ℕ) →
-        IsTextOf (Some (creating path.now)) (λ status script start history ended. ⊥) ⊤ bytes a.0 a.1.items) }
+        IsTextOf (Some (creating path.now)) (λ status script start history ended last. ⊥) ⊤ bytes a.0 a.1.items) }
     ensures spares { Spares
         (shelf_of S.Disk.seen S.Disk.may_leave S.Disk.moment S.Disk.left_since S.held S.fault_count
         shelf.old shelf.new) path.now }

@@ -3,7 +3,7 @@ use Rattle.std.specs.Prelude.{Result, Ok, Err, OnErr}
 use Rattle.bf_disk.specs.Images.{OnlyRead}
 use Rattle.std.proofs.lemmas.Result.{IfOk-weaker}
 use Rattle.bf_sql.specs.Database.{Database}
-use Rattle.bf_sql.specs.migrations.Lazy.{view_of}
+use Rattle.bf_sql.specs.migrations.Lazy.{LazyState, view_of}
 use Rattle.bf_tree.specs.declared.history.Entry.{Entry}
 use Rattle.bf_machine.specs.interleaving.Machines.{EndedGroup}
 use Rattle.bf_run.specs.declared.status.Status.{Status}
@@ -29,8 +29,8 @@ returns-in-Ok-clause-told g c =
     let now = c.serve_over.result.0 in
     let lazy = c.in-Ok.store.lazy in
     let opened = c.in-Ok.ensures.reopened in
-    let holds : (status : Status) (start : Database) (history : List Entry) (ended : List EndedGroup) → ServedOn (view_of lazy) lazy c.in-Ok.log now status c.args.script start history ended
-    → HoldsOver Disk.seen Disk.may_leave Disk.moment Disk.left_since Disk.fault_count disk now status c.args.script start history ended = λ status start history ended is. (
+    let holds : (status : Status) (start : Database) (history : List Entry) (ended : List EndedGroup) (last : LazyState) → ServedOn (view_of lazy) lazy c.in-Ok.log now status c.args.script start history ended last
+    → HoldsOver Disk.seen Disk.may_leave Disk.moment Disk.left_since Disk.fault_count disk now status c.args.script start history ended last = λ status start history ended last is. (
       subst (IsOpened Disk.seen Disk.may_leave Disk.moment Disk.left_since Disk.fault_count disk) (sym is.0)
           (opened_to Disk.seen Disk.may_leave Disk.moment Disk.left_since Disk.fault_count c.args.script disk now lazy opened.gives),
       if_told (Disk.seen now) _
@@ -41,6 +41,7 @@ returns-in-Ok-clause-told g c =
             since_start = λ before seen only. is.1 (Disk.moment disk) opened.later (opened.since_start before seen only) file told;
           }),
       is.2,
+      is.3,
     ) in
     IfOk-weaker c.serve_over.result.1 _ _
     (λ a is. served Disk.seen Disk.may_leave Disk.moment Disk.left_since Disk.fault_count c.args.script disk now (ServedOn {g = Disk} (view_of lazy) lazy c.in-Ok.log now) _ _ a.0 a.1.items is c.in-Ok.ensures.faults refl holds)
@@ -87,3 +88,6 @@ returns-in-Ok-clause-untold g c =
 
 pub returns-in-Err-clause-untold : goal.returns-in-Err-clause-untold
 returns-in-Err-clause-untold g c = on_err c.tell_open_error.result (inl (inr c.in-Err.ensures.disk))
+
+pub serve_over-requires-clause-alone : goal.serve_over-requires-clause-alone
+serve_over-requires-clause-alone g c = c.in-Ok.ensures.reopened.alone

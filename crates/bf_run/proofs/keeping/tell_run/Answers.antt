@@ -10,17 +10,20 @@ use Rattle.bf_keep.specs.Crashing.{KeepsOnLog, ended_on_log}
 use Rattle.bf_keep.specs.Sayable.{IsSayableScript}
 use Rattle.bf_keep.specs.declared.log_journal.LogJournal.{LogJournal}
 use Rattle.bf_machine.specs.RunOver.{IsRunOver}
-use Rattle.bf_machine.specs.interleaving.Kept.{fresh}
+use Rattle.bf_machine.specs.interleaving.Kept.{IsKept, fresh}
+use Rattle.bf_journal.specs.States.{StandsOn, moment_of}
+use Rattle.bf_recover.specs.Legal.{first_state}
+use Rattle.bf_recover.specs.Steps.{StepsTo}
 use Rattle.bf_machine.specs.interleaving.Machines.{Machine, transcripts_of}
 use Rattle.bf_run.specs.Causes.{AreCaused}
-use Rattle.bf_run.specs.Keeping.{KeepsOn}
+use Rattle.bf_run.specs.Keeping.{IsGivenBy, KeepsOn}
 use Rattle.bf_run.specs.Outcome.{IsRunTold}
 use Rattle.bf_run.specs.Top.{ServedOn}
 use Rattle.bf_run.specs.declared.status.Status.TheVariants.{Done, DiskFault}
 use Rattle.bf_run.proofs.Caused.{caused}
-use Rattle.bf_run.proofs.Kept.{keeps_at_done, keeps_at_fault, ready_if, recovered}
+use Rattle.bf_run.proofs.Kept.{given_at_done, given_at_fault, keeps_at_done, keeps_at_fault, ready_if, recovered}
 use Rattle.bf_run.proofs.Served.{ran_over}
-use Rattle.bf_run.proofs.Untold.{broken_off}
+use Rattle.bf_run.proofs.Untold.{broken_off, kept_behind, run_with_last}
 use Rattle.bf_run.proofs.keeping.tell_run.Goals as goal
 
 on_err : {P : Type 0} {A E : Type 0} (r : Result A E) → P → OnErr r P
@@ -51,6 +54,11 @@ returns-then-faults-clause-served g c =
     c.every_crash_leaves_a_prefix.ensures.whole in
     let keeps = subst (λ (k : Script). KeepsOn lazy log last.disk DiskFault k opening now.history) own (keeps_at_fault opening lazy now log last recovers) in
     let causes : AreCaused (g.D.Disk.seen last.disk) DiskFault ended = caused {g = g.D.Disk} last ended told_causes DiskFault (λ is. absurd cc) in
+    let kept_now : IsKept opening now = kept_behind {g = g.D.Disk} opening m now c.args.journal.now c.in_order.new.journal c.session_count.ensures.kept keeps_all in
+    let stands : StandsOn first_state StepsTo now.lazy last = (recovers (moment_of log) (omega arith) c.requires.alone).stands in
+    let over : IsRunOver opening script ended (transcripts_of now) now.history (sweep_of now.lazy.last) =
+    run_with_last opening script now ended own kept_now ran in
+    let given : IsGivenBy g.D.Disk.seen g.D.Disk.may_leave DiskFault last.disk now.lazy = given_at_fault {g = g.D.Disk} now.lazy last stands in
     let parts = c.into_parts-parts.ensures in
     let swept = c.sweep-sweep.ensures in
     let told : IsRunTold (ServedOn opening lazy log last.disk DiskFault script) script c.in_ok-text.text.items = record {
@@ -59,8 +67,8 @@ returns-then-faults-clause-served g c =
       history = now.history;
       ended = ended;
       sweep = sweep_of now.lazy.last;
-      holds = (refl, keeps, causes);
-      is_run = subst (λ (k : Script). IsRunOver opening k ended (transcripts_of now) now.history (sweep_of now.lazy.last)) own ran;
+      is_run = over;
+      holds = (refl, keeps, causes, given);
       report_written = c.in_ok-text.ensures ∙ (λ i. report_text (parts.transcripts i) (parts.history i) None (swept i));
     } in
     (told, grind (arith, nat_tests, c.if-faults.true, c.faults.ensures, c.faults-faults.ensures))
@@ -86,6 +94,11 @@ returns-then-is_ready-clause-served g c =
     c.every_crash_leaves_a_prefix.ensures.whole in
     let keeps = subst (λ (k : Script). KeepsOn lazy log last.disk Done k opening now.history) own (keeps_at_done opening lazy now log last recovers (ready_if last.standing (sym c.if-is_ready.true ∙ c.is_ready.ensures))) in
     let causes : AreCaused (g.D.Disk.seen last.disk) Done ended = caused {g = g.D.Disk} last ended told_causes Done (λ _. ready_if last.standing (sym c.if-is_ready.true ∙ c.is_ready.ensures)) in
+    let kept_now : IsKept opening now = kept_behind {g = g.D.Disk} opening m now c.args.journal.now c.in_order.new.journal c.session_count.ensures.kept keeps_all in
+    let stands : StandsOn first_state StepsTo now.lazy last = (recovers (moment_of log) (omega arith) c.requires.alone).stands in
+    let over : IsRunOver opening script ended (transcripts_of now) now.history (sweep_of now.lazy.last) =
+    run_with_last opening script now ended own kept_now ran in
+    let given : IsGivenBy g.D.Disk.seen g.D.Disk.may_leave Done last.disk now.lazy = given_at_done {g = g.D.Disk} now.lazy last stands (ready_if last.standing (sym c.if-is_ready.true ∙ c.is_ready.ensures)) in
     let parts = c.into_parts-parts.ensures in
     let swept = c.sweep-sweep.ensures in
     let told : IsRunTold (ServedOn opening lazy log last.disk Done script) script c.in_ok-text.text.items = record {
@@ -94,8 +107,8 @@ returns-then-is_ready-clause-served g c =
       history = now.history;
       ended = ended;
       sweep = sweep_of now.lazy.last;
-      holds = (refl, keeps, causes);
-      is_run = subst (λ (k : Script). IsRunOver opening k ended (transcripts_of now) now.history (sweep_of now.lazy.last)) own ran;
+      is_run = over;
+      holds = (refl, keeps, causes, given);
       report_written = c.in_ok-text.ensures ∙ (λ i. report_text (parts.transcripts i) (parts.history i) None (swept i));
     } in
     (told, grind (arith, nat_tests, c.if-faults.false, c.faults.ensures, c.faults-faults.ensures))

@@ -19,5 +19,5 @@ run_report-requires-clause-phases g c =
 pub returns-in-Err : goal.returns-in-Err
 returns-in-Err g c =
     let read = subst (HasRead _) c.in-Err.is c.in_ok-script.ensures in
-    let both = no_script _ read.bytes (Some trying) (λ status script start history ended. ⊥) (Unit {0}) c.in-Err.told.0 c.in-Err.told.1.items read.is_read in
+    let both = no_script _ read.bytes (Some trying) (λ status script start history ended last. ⊥) (Unit {0}) c.in-Err.told.0 c.in-Err.told.1.items read.is_read in
     record { bytes = read.bytes; are_told = read.are_told; causes = both.0; is_text = both.1 }
