@@ -5,6 +5,7 @@ pub mod Ending
 pub mod Moved
 pub mod Naming
 pub mod Recorded
+pub mod Sizing
 pub mod Stating
 pub mod Telling
 pub mod Told

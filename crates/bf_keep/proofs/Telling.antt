@@ -1,5 +1,5 @@
 -- What a log tells by its answers.
-use Rattle.std.proofs.Common.{◌≡◌, ℕ, ◌+◌, ◌<◌, ◌≤◌, true, None, Some, Result, Ok, Err, refl, sym, ap, subst, ◌∙◌, inl, inr, arith}
+use Rattle.std.proofs.Common.{◌≡◌, ℕ, ◌+◌, ◌<◌, ◌≤◌, true, List, length, None, Some, Result, Ok, Err, refl, sym, ap, subst, ◌∙◌, inl, inr, arith}
 use Rattle.std.specs.Prelude.{IfNone, IfSome, nat_lt}
 use Rattle.std.proofs.lemmas.Bool.{cases_Bool}
 use Rattle.std.proofs.lemmas.Bool.Decides.{nat_tests}
@@ -22,7 +22,7 @@ use Rattle.bf_recover.specs.Steps.{StepsTo}
 use Rattle.bf_sql.specs.migrations.Lazy.{LazyState}
 use Rattle.bf_tree.specs.declared.reply.Cause.{Cause}
 use Rattle.bf_tree.specs.declared.reply.Cause.TheVariants.{Died, DiskFault, Halted, LogFull, TooLarge}
-use Rattle.bf_keep.specs.Answers.{GoesOn, IsFaultCause, IsKept, IsToldAs, StandsBehind, Tells, TellsNow, largest_log, largest_record, told_as}
+use Rattle.bf_keep.specs.Answers.{GoesOn, IsFaultCause, IsKept, IsSizeTold, IsToldAs, StandsBehind, Tells, TellsNow, largest_log, largest_record, told_as}
 
 -- an error as a group is told of it
 pub is_told_as : (error : AppendError) → IsToldAs (Err error) (Err (told_as error))
@@ -44,12 +44,26 @@ is_of_log_as (appends.Halted faults) = (refl, refl)
 is_of_log_as (appends.TooLarge size) = (refl, refl)
 is_of_log_as (appends.LogFull end need) = (refl, refl)
 
+pub no_size : (lazy next : LazyState) (cause : Cause) → IsFaultCause cause → IsSizeTold lazy next (Err (keeps.Ended cause))
+no_size lazy next (Died older) fault = absurd fault
+no_size lazy next DiskFault fault = tt
+no_size lazy next (Halted faults) fault = tt
+no_size lazy next (LogFull end need) fault = absurd fault
+no_size lazy next (TooLarge size) fault = absurd fault
+
 pub fault_is_of_log : (cause : Cause) → IsFaultCause cause → IsOfLogIfEnded true (Err (keeps.Ended cause))
 fault_is_of_log (Died older) fault = absurd fault
 fault_is_of_log DiskFault fault = (refl, refl)
 fault_is_of_log (Halted faults) fault = (refl, refl)
 fault_is_of_log (LogFull end need) fault = absurd fault
 fault_is_of_log (TooLarge size) fault = absurd fault
+
+size_in : (lazy next : LazyState) (payload : List ℕ) → StepsTo lazy payload next → (error : AppendError) → ((n : ℕ) → error ≡ appends.TooLarge n → n ≡ length payload) → IsSizeTold lazy next (Err (told_as error))
+size_in lazy next payload steps appends.Memory so = tt
+size_in lazy next payload steps appends.DiskFault so = tt
+size_in lazy next payload steps (appends.Halted faults) so = tt
+size_in lazy next payload steps (appends.TooLarge n) so = (payload, steps, so n refl)
+size_in lazy next payload steps (appends.LogFull end need) so = tt
 
 module _ {D : Type 0} {g : Ghosts D} where
   -- a log that takes records is not halted
@@ -144,6 +158,42 @@ module _ {D : Type 0} {g : Ghosts D} where
 
     pub goes_on_by : Refuses old.standing → Comes old.standing → GoesOn old new (answer_by r)
     goes_on_by refused came = goes_at old.standing refl refused came
+
+  -- a record that is too large is told to be as large as it is
+  module _ (old new : Log D g) (size : ℕ) (r : Result ℕ AppendError) where
+    not_other : (e : AppendError) (n : ℕ) → r ≡ Err e → (e ≡ appends.TooLarge n → ⊥) → r ≡ Err (appends.TooLarge n) → ⊥
+    not_other e n is other same = other (same_error is same)
+      where
+        same_error : r ≡ Err e → r ≡ Err (appends.TooLarge n) → e ≡ appends.TooLarge n
+        same_error one two =
+            let both : ◌≡◌ {A = Result ℕ AppendError} (Err e) (Err (appends.TooLarge n)) = sym one ∙ two in
+            cc
+
+    not_of_outcome : (n : ℕ) → Outcome size old new r → r ≡ Err (appends.TooLarge n) → ⊥
+    not_of_outcome n came same = absurd (subst (Outcome size old new) same came)
+
+    size_at : (s : Standing) → old.standing ≡ s → Refuses old new size r s → Comes old new size r s → (n : ℕ) → r ≡ Err (appends.TooLarge n) → n ≡ size
+    size_at Spent at refused came n same = absurd (not_other appends.Memory n refused.0 (λ clash. cc) same)
+    size_at (Stopped faults) at refused came n same = absurd (not_other (appends.Halted faults) n refused.0 (λ clash. cc) same)
+    size_at Ready at refused came n same = elim (cases_Bool (nat_lt largest_record size)) as (λ _. n ≡ size) [
+      | inl over ↦
+          let got : (r ≡ Err (appends.TooLarge size)) × (new ≡ old) = rw over at refused in
+          let both : ◌≡◌ {A = Result ℕ AppendError} (Err (appends.TooLarge n)) (Err (appends.TooLarge size)) = sym same ∙ got.0 in
+          cc
+      | inr fits ↦ elim (cases_Bool (nat_lt largest_log (end_of old + 1 + (size + frame)))) as (λ _. n ≡ size) [
+        | inl full ↦
+            let got : (r ≡ Err (appends.LogFull (end_of old) (size + frame))) × (new ≡ old) = rw (fits, full) at refused in
+            absurd (not_other (appends.LogFull (end_of old) (size + frame)) n got.0 (λ clash. cc) same)
+        | inr room ↦
+            let got : Outcome size old new r = rw (fits, room) at came in
+            absurd (not_of_outcome n got same)
+      ]
+    ]
+
+  pub size_told : (old new : Log D g) (lazy next : LazyState) (payload : List ℕ) → StepsTo lazy payload next → (error : AppendError) → Refuses old new (length payload) (Err error) old.standing
+      → Comes old new (length payload) (Err error) old.standing → IsSizeTold lazy next (Err (told_as error))
+  size_told old new lazy next payload steps error refused came =
+      size_in lazy next payload steps error (λ n is. size_at old new (length payload) (Err error) old.standing refl refused came n (ap (λ (e : AppendError). Err e) is))
 
   -- a fault at a move is told by its cause
   fault_now : (old new : Log D g) (cause : Cause) → IsFaultCause cause → halted_of old ≡ None → Tells new cause → TellsNow old new cause

@@ -1,4 +1,5 @@
 -- What a crash leaves of a machine beside its log.
 pub mod Changing
 pub mod Growing
+pub mod Makes
 pub mod Beside

@@ -1,5 +1,5 @@
 -- WHAT A JOURNAL THAT IS A LOG ANSWERS, and what a crash leaves of it then.
-use Rattle.std.specs.Prelude.{◌≡◌, Bool, true, false, ℕ, ◌+◌, ◌<◌, ◌≤◌, ◌^◌, List, filter, length, None, Some, Result, Ok, Err}
+use Rattle.std.specs.Prelude.{◌≡◌, Bool, true, false, ℕ, ◌+◌, ◌<◌, ◌≤◌, ◌^◌, ◌⊎◌, List, ◌++◌, filter, length, None, Some, Result, Ok, Err}
 use Rattle.std.specs.List.{AllByRecursion}
 use Rattle.bf_disk.specs.declared.disk.Disk.{Ghosts}
 use Rattle.bf_journal.specs.Answered.{IsAnsweredBy}
@@ -14,8 +14,13 @@ use Rattle.bf_machine.specs.declared.journal.KeepError.{KeepError}
 use Rattle.bf_machine.specs.declared.journal.KeepError.TheVariants as keeps
 use Rattle.bf_machine.specs.interleaving.Machines.{EndedGroup}
 use Rattle.bf_recover.specs.Legal.{first_state}
-use Rattle.bf_recover.specs.Steps.{StepsTo}
-use Rattle.bf_sql.specs.migrations.Lazy.{LazyState}
+use Rattle.bf_recover.specs.Steps.{StepsTo, entry_of, run_entry}
+use Rattle.bf_sql.specs.Database.{Database}
+use Rattle.bf_sql.specs.History.{replayed}
+use Rattle.bf_sql.specs.migrations.Lazy.{LazyState, view_of}
+use Rattle.bf_tree.specs.declared.history.Entry.{Entry}
+use Rattle.bf_tree.specs.declared.history.Outcome.TheVariants.{Committed}
+use Rattle.bf_tree.specs.declared.script.Script.{Script}
 use Rattle.bf_tree.specs.declared.reply.Cause.{Cause}
 use Rattle.bf_tree.specs.declared.reply.Cause.TheVariants.{Died, DiskFault, Halted, LogFull, TooLarge}
 
@@ -30,6 +35,15 @@ largest_log = 2 ^ 36
 abbrev pub is_ready : Standing → Bool
 is_ready Ready = true
 is_ready other = false
+
+-- a record that makes the one lazy state of the other has so many bytes
+abbrev pub HasRecordOf : LazyState → LazyState → ℕ → Type 0
+HasRecordOf lazy next size = (payload : List ℕ) × StepsTo lazy payload next × (size ≡ length payload)
+
+-- and so has the one that is told to be too large
+abbrev pub IsSizeTold : LazyState → LazyState → Result (Unit {0}) KeepError → Type 0
+IsSizeTold lazy next (Err (keeps.Ended (TooLarge size))) = HasRecordOf lazy next size
+IsSizeTold lazy next other = Unit {0}
 
 -- the cause of a fault of the device
 abbrev pub IsFaultCause : Cause → Type 0
@@ -100,9 +114,9 @@ module _ {D : Type 0} {g : Ghosts D} where
     pub rises : end_of old ≤ end_of new
     pub stands : StandsBehind old new answer
 
-  -- ANSWERS: the answer of the journal is that of an append, and the log goes on so
+  -- ANSWERS: the answer of the journal is that of an append, the log goes on so, and a size that is told is that of the change's record
   abbrev pub HasAnswered : LazyState → LazyState → Log D g → Log D g → Result (Unit {0}) KeepError → Type 0
-  HasAnswered lazy next old new answer = IsKept lazy next old new answer × GoesOn old new answer
+  HasAnswered lazy next old new answer = IsKept lazy next old new answer × GoesOn old new answer × IsSizeTold lazy next answer
 
 -- a group that is told of a fault of the device
 abbrev pub tells_fault : Cause → Bool
@@ -116,3 +130,27 @@ module _ {D : Type 0} {g : Ghosts D} where
     pub each : AllByRecursion (λ group. Tells log group.cause) groups
     pub one_fault : length (filter (λ group. tells_fault group.cause) groups) ≤ 1
     pub counted : (faults : ℕ) → halted_of log ≡ Some faults → g.fault_count (disk_of log) ≡ faults
+
+-- TOO LARGE: a group is told the bytes of a record of its own, in a state that is seen as the database behind a prefix of the history: of what
+-- it makes of that, or of a move, which is not seen
+abbrev pub MakesOf : Script → EndedGroup → Database → Database → Type 0
+MakesOf script group now then =
+    (then ≡ now)
+    ⊎ ((n : ℕ) × (then ≡ run_entry now (entry_of script (record { session = group.session; first = group.group.0; last = group.group.1; outcome = Committed n }))))
+
+pub record IsTooLarge (start : Database) (script : Script) (history : List Entry) (group : EndedGroup) (size : ℕ) : Type 0 where
+  pub prefix : List Entry
+  pub later : List Entry
+  pub of_history : prefix ++ later ≡ history
+  pub lazy : LazyState
+  pub next : LazyState
+  pub seen : view_of lazy ≡ (replayed script start prefix).1
+  pub makes : MakesOf script group (view_of lazy) (view_of next)
+  pub has_record : HasRecordOf lazy next size
+
+abbrev pub IsSizeOf : Database → Script → List Entry → EndedGroup → Cause → Type 0
+IsSizeOf start script history group (TooLarge size) = IsTooLarge start script history group size
+IsSizeOf start script history group other = Unit {0}
+
+abbrev pub AreSizesOf : Database → Script → List Entry → List EndedGroup → Type 0
+AreSizesOf start script history groups = AllByRecursion (λ group. IsSizeOf start script history group group.cause) groups

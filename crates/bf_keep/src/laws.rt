@@ -11,7 +11,7 @@ ghost use Rattle.bf_sql.specs.Database.{Database};
 ghost use Rattle.bf_sql.specs.migrations.Lazy.{LazyState};
 ghost use Rattle.bf_log.specs.Append.{standing_of};
 ghost use Rattle.bf_log.specs.declared.log.Standing.TheVariants.{Ready};
-ghost use Rattle.bf_keep.specs.Answers.{AreTold};
+ghost use Rattle.bf_keep.specs.Answers.{AreSizesOf, AreTold};
 ghost use Rattle.bf_keep.specs.Crashing.{KeepsOnLog, Recovers, ended_on_log};
 ghost use Rattle.bf_keep.specs.declared.log_journal.LogJournal.{LogJournal as JournalOf};
 
@@ -45,4 +45,11 @@ pub fn what_ends_groups_is_told<D: Disk>(_of: PhantomData<D>)
     ensures { (start : Database) (m next : Machine) (j k : JournalOf D D.Disk)
         (keeps : KeepsOnLog start m j next k) → standing_of j.log ≡ Ready
         → AreTold k.log (ended_on_log keeps) }
+{}
+
+/// And where such a group is told that its record is too large, it has one of that size, behind some prefix of the history.
+pub fn a_group_that_is_too_large_has_a_record_so_large<D: Disk>(_of: PhantomData<D>)
+    ensures { (start : Database) (m next : Machine) (j k : JournalOf D D.Disk)
+        (keeps : KeepsOnLog start m j next k) → IsKept start m
+        → AreSizesOf start next.script next.history (ended_on_log keeps) }
 {}

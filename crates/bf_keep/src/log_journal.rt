@@ -5,7 +5,7 @@ ghost use Rattle.bf_tree.specs.declared.reply.Cause.TheVariants.{DiskFault};
 ghost use Rattle.bf_log.specs.Append.{disk_of, standing_of};
 ghost use Rattle.bf_sql.specs.migrations.Lazy.{LazyState};
 ghost use Rattle.bf_recover.specs.Steps.{StepsTo};
-ghost use Rattle.bf_keep.specs.Answers.{GoesOn, IsAppended, IsFaultCause, Tells, answer_as, is_ready, told_as};
+ghost use Rattle.bf_keep.specs.Answers.{GoesOn, IsAppended, IsFaultCause, IsSizeTold, Tells, answer_as, is_ready, told_as};
 ghost use Rattle.bf_keep.specs.Records.{IsRecordOf};
 
 use crate::changes::{change_of, move_of};
@@ -98,6 +98,8 @@ impl<D: Disk> LogJournal<D> {
         ensures appended { (lazy next : LazyState) → IfOk change (λ told. IsRecordOf lazy told next)
             → IsAppended lazy next self.old.log self.new.log result }
         ensures goes_on { GoesOn self.old.log self.new.log (answer_as result) }
+        ensures sized { (lazy next : LazyState) → IfOk change (λ told. IsRecordOf lazy told next)
+            → IsSizeTold lazy next (answer_as result) }
     {
         let Ok(payload) = payload_of(self.alloc, change) else {
             return Err(AppendError::Memory);

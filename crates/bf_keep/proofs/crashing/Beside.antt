@@ -36,15 +36,8 @@ use Rattle.bf_keep.specs.Answers.{HasAnswered, IsKept as HasKept}
 use Rattle.bf_keep.specs.Crashing.{IsOneChange, IsOneGroup, Recovers}
 use Rattle.bf_keep.proofs.crashing.Changing.{IsChanged, grows, stays}
 use Rattle.bf_keep.proofs.crashing.Changing as changing
+use Rattle.bf_keep.proofs.crashing.Makes.{entries, group_is_one, move_unseen, own_entry, seen}
 use Rattle.bf_keep.proofs.crashing.Growing.{Grows, grows_by}
-
--- the entries of the history of a machine, each with the statements of its group
-abbrev entries : Machine → List (List Statement × Outcome)
-entries m = map (entry_of m.script) m.history
-
--- what is seen of the store of a machine is what its history makes of the opening database
-seen : (start : Database) (m : Machine) → IsKept start m → view_of m.lazy ≡ replayed run_entry start (entries m)
-seen start m kept = kept.store_valid.seen_as.view ∙ kept.history_legal.replay ∙ runs_entries 0 m.script start m.history
 
 -- a machine that stays at its history has the same entries, and one whose history grows has one more
 same_entries : (now next : Machine) → next.script ≡ now.script → next.history ≡ now.history → entries next ≡ entries now
@@ -77,25 +70,6 @@ module _ {D : Type 0} {g : Ghosts D} where
 
   module _ (earlier : (log : Log D g) (t u : ℕ) (left : Option LazyState) → t ≤ u → MayLeave first_state StepsTo log u left → MayLeave first_state StepsTo log t left)
       (start : Database) (since : ℕ) where
-    -- what a group that is to commit would make of the database is what its entry makes of it
-    group_is_one : (m : Machine) → IsKept start m → (s : ℕ) (can : IsToCommit m s) (other : LazyState) → IsPutInto m.lazy can.o.pending other → IsOneGroup m.script (view_of m.lazy) (view_of other)
-    group_is_one m kept s can other is =
-        let entry = events.entry_of m s can.o (Committed (commits_behind 0 m.history + 1)) in
-        let made = would_make start m kept (are_texts m.script) s can in
-        let whole : (history.replayed m.script start (m.history ++ entry ∷ [])).1 ≡ run_entry (view_of m.lazy) (entry_of m.script entry) =
-        runs_entries 0 m.script start (m.history ++ entry ∷ [])
-        ∙ ap (replayed run_entry start) (map-append (entry_of m.script) m.history (entry ∷ []))
-        ∙ replayed_more run_entry (entries m) (entry_of m.script entry) start
-        ∙ ap (λ (db : Database). run_entry db (entry_of m.script entry)) (sym (seen start m kept)) in
-        (entry, (kept.open_groups_replay.each s can.o can.is).whole, ap view_of is ∙ made ∙ whole)
-
-    -- and what a move makes of it is not seen
-    move_unseen : (m : Machine) → IsKept start m → (granules : List Granule) → AreGranulesIfAny m.lazy.last granules → view_of (with_moved m.lazy granules) ≡ view_of m.lazy
-    move_unseen m kept granules are =
-        let next : Machine = record m { lazy = with_moved m.lazy granules } in
-        let kept_next : IsKept start next = reached_keeps_all start m next kept (one_more at_once (moves granules (record { granules_of_it = are; goes = refl }))) in
-        kept_next.store_valid.seen_as.view ∙ sym kept.store_valid.seen_as.view
-
     -- a machine at whose moment a crash leaves the state of its store alone
     pub starts : (m : Machine) (log : Log D g) → IsKept start m → StandsOn first_state StepsTo m.lazy log → since ≤ moment_of log
         → ((left : Option LazyState) → MayLeave first_state StepsTo log since left → left ≡ Some m.lazy) → Recovers start since m log
@@ -121,8 +95,8 @@ module _ {D : Type 0} {g : Ghosts D} where
 
       -- a change of a machine is one that its script may make of the database
       one_change : (m : Machine) → IsKept start m → (other : LazyState) → IsChangeOf m other → IsOneChange m.script (view_of m.lazy) (view_of other)
-      one_change m kept other (s, inl own) = inr (group_is_one m kept s own.0 other own.1)
-      one_change m kept other (s, inr (granules, are, is)) = inl (ap view_of is ∙ move_unseen m kept granules are)
+      one_change m kept other (s, inl own) = inr (own_entry m s own.0, (kept.open_groups_replay.each s own.0.o own.0.is).whole, group_is_one start m kept s own.0 other own.1)
+      one_change m kept other (s, inr (granules, are, is)) = inl (ap view_of is ∙ move_unseen start m kept granules are)
 
       changed : (m : Machine) → IsKept start m → (next : LazyState) (old new : J) → StandsOn first_state StepsTo m.lazy (log_of old) → IsBeside Answers (IsChangeOf m) m.lazy next old new
           → IsChanged first_state StepsTo view_of run_entry (IsOneChange m.script) m.lazy next (log_of old) (log_of new)

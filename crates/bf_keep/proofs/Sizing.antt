@@ -1,0 +1,118 @@
+-- A group that is told to be too large has a record so large.
+use Rattle.std.proofs.Common.{◌≡◌, ◌⊎◌, ℕ, ◌+◌, List, [], ◌∷◌, ◌++◌, Some, Result, Err, inl, inr, refl, sym, ap, subst, ◌∙◌, append_assoc, append-nil}
+use Rattle.std.specs.List.{AllByRecursion}
+use Rattle.std.proofs.lemmas.Option.{same_Some}
+use Rattle.bf_disk.specs.declared.disk.Disk.{Ghosts}
+use Rattle.bf_log.specs.declared.log.Log.{Log}
+use Rattle.bf_machine.specs.declared.journal.KeepError.{KeepError}
+use Rattle.bf_machine.specs.declared.journal.KeepError.TheVariants.{Ended}
+use Rattle.bf_machine.specs.interleaving.Events.{Event, aborts, asks, at_once, begins, commits_behind, commits_now, ends_by_log, executes, finishes, moves, refuses}
+use Rattle.bf_machine.specs.interleaving.Events as events
+use Rattle.bf_machine.specs.interleaving.Journals.{IsChangeFor, IsEventBeside, Keeps, ended_by, ended_in, nothing_yet, one_beside}
+use Rattle.bf_machine.specs.interleaving.Kept.{IsKept}
+use Rattle.bf_machine.specs.interleaving.Machines.{EndedGroup, Machine, Open, open_at}
+use Rattle.bf_machine.proofs.interleaving.Reaching.{reached_keeps_all}
+use Rattle.bf_sql.specs.Database.{Database}
+use Rattle.bf_sql.specs.History.{replayed}
+use Rattle.bf_sql.specs.migrations.Lazy.{LazyState, view_of}
+use Rattle.bf_tree.specs.declared.history.Entry.{Entry}
+use Rattle.bf_tree.specs.declared.reply.Cause.{Cause}
+use Rattle.bf_tree.specs.declared.reply.Cause.TheVariants.{Died, DiskFault, Halted, LogFull, TooLarge}
+use Rattle.bf_tree.specs.declared.script.Script.{Script}
+use Rattle.bf_keep.specs.Answers.{AreSizesOf, HasAnswered, HasRecordOf, IsSizeOf, IsSizeTold, IsTooLarge, MakesOf}
+use Rattle.bf_keep.proofs.crashing.Growing.{Grows, grows_by}
+use Rattle.bf_keep.proofs.crashing.Makes.{group_is_one, move_unseen}
+
+-- what holds behind a history holds when it grows
+too_large_later : (start : Database) (script : Script) (history more : List Entry) (group : EndedGroup) (size : ℕ) → IsTooLarge start script history group size → IsTooLarge start script (history ++ more) group size
+too_large_later start script history more group size is = record {
+  prefix = is.prefix;
+  later = is.later ++ more;
+  of_history = sym (append_assoc is.prefix is.later more) ∙ ap (λ (es : List Entry). es ++ more) is.of_history;
+  lazy = is.lazy;
+  next = is.next;
+  seen = is.seen;
+  makes = is.makes;
+  has_record = is.has_record;
+}
+
+size_later : (start : Database) (script : Script) (history more : List Entry) (group : EndedGroup) (cause : Cause) → IsSizeOf start script history group cause → IsSizeOf start script (history ++ more) group cause
+size_later start script history more group (Died h) is = tt
+size_later start script history more group DiskFault is = tt
+size_later start script history more group (Halted faults) is = tt
+size_later start script history more group (LogFull end need) is = tt
+size_later start script history more group (TooLarge size) is = too_large_later start script history more group size is
+
+sizes_later : (start : Database) (script : Script) (history more : List Entry) (groups : List EndedGroup) → AreSizesOf start script history groups → AreSizesOf start script (history ++ more) groups
+sizes_later start script history more [] all = tt
+sizes_later start script history more (group ∷ groups) all = (size_later start script history more group group.cause all.0, sizes_later start script history more groups all.1)
+
+sizes_then : (start : Database) (now next : Machine) (groups : List EndedGroup) → Grows now next → AreSizesOf start now.script now.history groups → AreSizesOf start next.script next.history groups
+sizes_then start now next groups (script, inl same) all =
+    subst (λ (k : Script). AreSizesOf start k next.history groups) (sym script) (subst (λ (es : List Entry). AreSizesOf start now.script es groups) (sym same) all)
+sizes_then start now next groups (script, inr (entry, grew)) all =
+    subst (λ (k : Script). AreSizesOf start k next.history groups) (sym script)
+    (subst (λ (es : List Entry). AreSizesOf start now.script es groups) (sym grew) (sizes_later start now.script now.history (entry ∷ []) groups all))
+
+one_more : (start : Database) (script : Script) (history : List Entry) (groups : List EndedGroup) (group : EndedGroup) → AreSizesOf start script history groups → IsSizeOf start script history group group.cause
+    → AreSizesOf start script history (groups ++ group ∷ [])
+one_more start script history [] group all last = (last, tt)
+one_more start script history (first ∷ groups) group all last = (all.0, one_more start script history groups group all.1 last)
+
+-- what the change of a group makes
+makes_of : (start : Database) (m : Machine) → IsKept start m → (s : ℕ) (o : Open) → open_at m s ≡ Some o → (cause : Cause) (other : LazyState) → IsChangeFor m s other
+    → MakesOf m.script (record { session = s; group = o.group; cause = cause }) (view_of m.lazy) (view_of other)
+makes_of start m kept s o is cause other (inl own) =
+    let can = own.0 in
+    let same : can.o ≡ o = same_Some can.o o (sym can.is ∙ is) in
+    subst (λ (p : Open). MakesOf m.script (record { session = s; group = p.group; cause = cause }) (view_of m.lazy) (view_of other)) same
+    (inr (commits_behind 0 m.history + 1, group_is_one start m kept s can other own.1))
+makes_of start m kept s o is cause other (inr (granules, are, goes)) = inl (ap view_of goes ∙ move_unseen start m kept granules are)
+
+module _ {D : Type 0} {g : Ghosts D} {J : Type 0} (log_of : J → Log D g) (start : Database) where
+  abbrev Answers : LazyState → LazyState → J → J → Result (Unit {0}) KeepError → Type 0
+  Answers lazy next old new answer = HasAnswered lazy next (log_of old) (log_of new) answer
+
+  size_now : (m : Machine) → IsKept start m → (s : ℕ) (o : Open) → open_at m s ≡ Some o → (cause other_cause : Cause) (other : LazyState) → IsChangeFor m s other
+      → ((size : ℕ) → cause ≡ TooLarge size → HasRecordOf m.lazy other size) → IsSizeOf start m.script m.history (record { session = s; group = o.group; cause = other_cause }) cause
+  size_now m kept s o is (Died h) c other change sized = tt
+  size_now m kept s o is DiskFault c other change sized = tt
+  size_now m kept s o is (Halted faults) c other change sized = tt
+  size_now m kept s o is (LogFull end need) c other change sized = tt
+  size_now m kept s o is (TooLarge size) c other change sized = record {
+    prefix = m.history;
+    later = [];
+    of_history = append-nil m.history;
+    lazy = m.lazy;
+    next = other;
+    seen = kept.store_valid.seen_as.view ∙ kept.history_legal.replay;
+    makes = makes_of start m kept s o is c other change;
+    has_record = sized size refl;
+  }
+
+  none_more : (now next : Machine) (groups : List EndedGroup) → Grows now next → AreSizesOf start now.script now.history groups → AreSizesOf start next.script next.history (groups ++ [])
+  none_more now next groups grows all = subst (AreSizesOf start next.script next.history) (sym (append-nil groups)) (sizes_then start now next groups grows all)
+
+  size_of : (lazy other : LazyState) (cause : Cause) (size : ℕ) → cause ≡ TooLarge size → IsSizeTold lazy other (Err (Ended cause)) → HasRecordOf lazy other size
+  size_of lazy other cause size is told = subst (λ (c : Cause). IsSizeTold lazy other (Err (Ended c))) is told
+
+  event_sized : (now next : Machine) (event : Event start now next) (j k : J) → IsKept start now → IsEventBeside Answers event j k → (groups : List EndedGroup) → AreSizesOf start now.script now.history groups
+      → AreSizesOf start next.script next.history (groups ++ ended_by event)
+  event_sized now next (ends_by_log s by) j k kept refused groups all =
+      sizes_then start now next (groups ++ record { session = s; group = by.o.group; cause = by.cause } ∷ []) (grows_by now next start (ends_by_log s by))
+      (one_more start now.script now.history groups (record { session = s; group = by.o.group; cause = by.cause }) all
+      (size_now now kept s by.o by.is by.cause by.cause refused.0 refused.1 (λ size is. size_of now.lazy refused.0 by.cause size is refused.2.2)))
+  event_sized now next (begins s by) j k kept beside groups all = none_more now next groups (grows_by now next start (begins s by)) all
+  event_sized now next (asks s name mode answer by) j k kept beside groups all = none_more now next groups (grows_by now next start (asks s name mode answer by)) all
+  event_sized now next (executes s by) j k kept beside groups all = none_more now next groups (grows_by now next start (executes s by)) all
+  event_sized now next (refuses s by) j k kept beside groups all = none_more now next groups (grows_by now next start (refuses s by)) all
+  event_sized now next (commits_now s by) j k kept beside groups all = none_more now next groups (grows_by now next start (commits_now s by)) all
+  event_sized now next (aborts s by) j k kept beside groups all = none_more now next groups (grows_by now next start (aborts s by)) all
+  event_sized now next (moves granules by) j k kept beside groups all = none_more now next groups (grows_by now next start (moves granules by)) all
+  event_sized now next (finishes s same) j k kept beside groups all = none_more now next groups (grows_by now next start (finishes s same)) all
+
+  pub events_sized : (m : Machine) (j : J) (next : Machine) (k : J) (keeps : Keeps Answers start m j next k) → IsKept start m → IsKept start next × AreSizesOf start next.script next.history (ended_in Answers keeps)
+  events_sized m j _ _ nothing_yet kept = (kept, tt)
+  events_sized m j _ _ (one_beside {now = now} {next = next} {k = k} {l = l} before event beside) kept =
+      let so_far = events_sized m j now k before kept in
+      (reached_keeps_all start now next so_far.0 (events.one_more at_once event), event_sized now next event k l so_far.0 beside (ended_in Answers before) so_far.1)

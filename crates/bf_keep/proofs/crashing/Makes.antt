@@ -1,0 +1,73 @@
+-- What a change of a machine makes of the database.
+use Rattle.std.proofs.Common.{◌≡◌, inl, inr, ℕ, ◌+◌, ◌≤◌, List, [], ◌∷◌, ◌++◌, map, Option, None, Some, Result, Ok, Err, refl, sym, ◌∙◌, ap, subst}
+use Rattle.std.proofs.lemmas.List.{map-append}
+use Rattle.bf_disk.specs.declared.disk.Disk.{Ghosts}
+use Rattle.bf_journal.specs.Answered.{IsAnsweredBy}
+use Rattle.bf_journal.specs.Crashes.{replayed}
+use Rattle.bf_journal.specs.States.{MayLeave, StandsOn, moment_of}
+use Rattle.bf_journal.proofs.Runs.{replayed_more, whole}
+use Rattle.bf_log.specs.declared.error.AppendError.{AppendError}
+use Rattle.bf_log.specs.declared.error.AppendError.TheVariants as appends
+use Rattle.bf_log.specs.declared.log.Log.{Log}
+use Rattle.bf_machine.specs.declared.journal.KeepError.{KeepError}
+use Rattle.bf_base.specs.declared.granule.Granule.{Granule}
+use Rattle.bf_machine.specs.interleaving.Events.{IsToCommit, at_once, commits_behind, moves, one_more}
+use Rattle.bf_machine.specs.interleaving.Events as events
+use Rattle.bf_machine.specs.interleaving.Journals.{IsBeside, IsChangeOf, IsPutInto, Keeps, nothing_yet, one_beside}
+use Rattle.bf_machine.specs.interleaving.Kept.{IsKept}
+use Rattle.bf_machine.specs.interleaving.Machines.{Machine}
+use Rattle.bf_machine.proofs.interleaving.Ends.{would_make}
+use Rattle.bf_machine.proofs.interleaving.Reaching.{reached_keeps_all}
+use Rattle.bf_machine.proofs.interleaving.Texts.{are_texts}
+use Rattle.bf_machine.proofs.served.Keeping.{event_beside}
+use Rattle.bf_recover.specs.Legal.{first_state}
+use Rattle.bf_recover.specs.Steps.{StepsTo, entry_of, run_entry}
+use Rattle.bf_recover.proofs.Replaying.{runs_entries}
+use Rattle.bf_sql.specs.Database.{Database}
+use Rattle.bf_sql.specs.History as history
+use Rattle.bf_sql.specs.migrations.Lazy.{LazyState, view_of}
+use Rattle.bf_tree.specs.declared.history.Entry.{Entry}
+use Rattle.bf_store.specs.States.{AreGranulesIfAny, with_moved}
+use Rattle.bf_tree.specs.declared.history.Outcome.{Outcome}
+use Rattle.bf_tree.specs.declared.history.Outcome.TheVariants.{Committed}
+use Rattle.bf_tree.specs.declared.script.Script.{Script}
+use Rattle.bf_tree.specs.declared.statement.Statement.{Statement}
+use Rattle.bf_keep.specs.Answers.{HasAnswered, IsKept as HasKept}
+use Rattle.bf_keep.specs.Crashing.{IsOneChange, IsOneGroup, Recovers}
+use Rattle.bf_keep.proofs.crashing.Changing.{IsChanged, grows, stays}
+use Rattle.bf_keep.proofs.crashing.Changing as changing
+use Rattle.bf_keep.proofs.crashing.Growing.{Grows, grows_by}
+
+-- the entries of the history of a machine, each with the statements of its group
+abbrev pub entries : Machine → List (List Statement × Outcome)
+entries m = map (entry_of m.script) m.history
+
+-- what is seen of the store of a machine is what its history makes of the opening database
+pub seen : (start : Database) (m : Machine) → IsKept start m → view_of m.lazy ≡ replayed run_entry start (entries m)
+seen start m kept = kept.store_valid.seen_as.view ∙ kept.history_legal.replay ∙ runs_entries 0 m.script start m.history
+
+-- what the entry of a group that is to commit makes of a database
+abbrev pub own_entry : (m : Machine) (s : ℕ) → IsToCommit m s → Entry
+own_entry m s can = events.entry_of m s can.o (Committed (commits_behind 0 m.history + 1))
+
+abbrev pub IsMadeBy : (m : Machine) (s : ℕ) → IsToCommit m s → Database → Database → Type 0
+IsMadeBy m s can now db = db ≡ run_entry now (entry_of m.script (own_entry m s can))
+
+-- that is what it would make of the database of its machine
+pub group_is_one : (start : Database) (m : Machine) → IsKept start m → (s : ℕ) (can : IsToCommit m s) (other : LazyState) → IsPutInto m.lazy can.o.pending other → IsMadeBy m s can (view_of m.lazy) (view_of other)
+group_is_one start m kept s can other is =
+    let entry = own_entry m s can in
+    let made = would_make start m kept (are_texts m.script) s can in
+    let whole : (history.replayed m.script start (m.history ++ entry ∷ [])).1 ≡ run_entry (view_of m.lazy) (entry_of m.script entry) =
+    runs_entries 0 m.script start (m.history ++ entry ∷ [])
+    ∙ ap (replayed run_entry start) (map-append (entry_of m.script) m.history (entry ∷ []))
+    ∙ replayed_more run_entry (entries m) (entry_of m.script entry) start
+    ∙ ap (λ (db : Database). run_entry db (entry_of m.script entry)) (sym (seen start m kept)) in
+    ap view_of is ∙ made ∙ whole
+
+-- and what a move makes of it is not seen
+pub move_unseen : (start : Database) (m : Machine) → IsKept start m → (granules : List Granule) → AreGranulesIfAny m.lazy.last granules → view_of (with_moved m.lazy granules) ≡ view_of m.lazy
+move_unseen start m kept granules are =
+    let next : Machine = record m { lazy = with_moved m.lazy granules } in
+    let kept_next : IsKept start next = reached_keeps_all start m next kept (one_more at_once (moves granules (record { granules_of_it = are; goes = refl }))) in
+    kept_next.store_valid.seen_as.view ∙ sym kept.store_valid.seen_as.view
