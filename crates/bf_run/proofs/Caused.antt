@@ -6,9 +6,12 @@ use Rattle.bf_journal.specs.States.{IsReady}
 use Rattle.bf_log.specs.Append.{halted_of}
 use Rattle.bf_log.specs.declared.log.Log.{Log}
 use Rattle.bf_machine.specs.interleaving.Machines.{EndedGroup}
+use Rattle.bf_sql.specs.Database.{Database}
+use Rattle.bf_tree.specs.declared.history.Entry.{Entry}
+use Rattle.bf_tree.specs.declared.script.Script.{Script}
 use Rattle.bf_tree.specs.declared.reply.Cause.{Cause}
 use Rattle.bf_tree.specs.declared.reply.Cause.TheVariants.{Died, DiskFault, Halted, LogFull, TooLarge}
-use Rattle.bf_keep.specs.Answers.{AreTold, Tells}
+use Rattle.bf_keep.specs.Answers.{AreSizesOf, AreTold, Tells}
 use Rattle.bf_run.specs.Causes.{AreCaused, IsCause, is_of_fault}
 use Rattle.bf_run.specs.declared.status.Status.{Status}
 use Rattle.bf_run.specs.declared.status.Status.TheVariants.{Done}
@@ -49,10 +52,12 @@ module _ {D : Type 0} {g : Ghosts D} (log : Log D g) where
   none_of_fault ready [] each = tt
   none_of_fault ready (group ∷ groups) each = (not_of_fault ready group.cause each.0, none_of_fault ready groups each.1)
 
-  pub caused : (groups : List EndedGroup) → AreTold log groups → (status : Status) → (status ≡ Done → IsReady log) → AreCaused (g.seen log.disk) status groups
-  caused groups told status ready = record {
+  pub caused : (start : Database) (script : Script) (history : List Entry) (groups : List EndedGroup) → AreTold log groups → AreSizesOf start script history groups → (status : Status) → (status ≡ Done → IsReady log)
+      → AreCaused start script history (g.seen log.disk) status groups
+  caused start script history groups told sized status ready = record {
     faults = kept_count (halted_of log);
     each = causes_are groups told.each;
     one_fault = told.one_fault;
     calm = λ done. none_of_fault (ready done) groups told.each;
+    sized = sized;
   }

@@ -125,8 +125,8 @@ module _ {V : Type 0} (shelf : Shelving V) (path : List ℕ) (mid : Option (ByPa
       shelf.held mid shelf.held_after given away back (λ was held. (disk, now, held, refl, kept))
 
   -- the groups that the log has ended
-  caused : (status : Status) (ended : List EndedGroup) → AreCaused (shelf.seen now) status ended → CausesEnds shelf path status ended
-  caused status ended are = where_held shelf.seen shelf.may_leave path disk now (λ old new. AreCausedIn shelf status ended new)
+  caused : (status : Status) (script : Script) (start : Database) (history : List Entry) (ended : List EndedGroup) → AreCaused start script history (shelf.seen now) status ended → CausesEnds shelf path status script start history ended
+  caused status script start history ended are = where_held shelf.seen shelf.may_leave path disk now (λ old new. AreCausedIn shelf status script start history ended new)
       shelf.held mid shelf.held_after given away back (λ was held. (now, refl, are))
 
   -- the state whose sweep is told
@@ -165,7 +165,7 @@ module _ {V : Type 0} (shelf : Shelving V) (path : List ℕ) (mid : Option (ByPa
       holds = (
         opens told.start told.holds.0,
         keeps_log status script told.start told.history told.holds.1,
-        caused status told.ended told.holds.2,
+        caused status script told.start told.history told.ended told.holds.2,
         gives status told.is_run.last told.holds.3,
       );
       report_written = told.report_written;

@@ -2,8 +2,11 @@
 use Rattle.std.specs.Prelude.{◌≡◌, ℕ, ◌+◌, ◌<◌, ◌≤◌, Bool, true, false, List, Option, Some, filter, length, ⊤}
 use Rattle.std.specs.List.{AllByRecursion}
 use Rattle.bf_io.specs.Whole.{IfTold}
-use Rattle.bf_keep.specs.Answers.{largest_log, largest_record, tells_fault}
+use Rattle.bf_keep.specs.Answers.{AreSizesOf, largest_log, largest_record, tells_fault}
 use Rattle.bf_machine.specs.interleaving.Machines.{EndedGroup}
+use Rattle.bf_sql.specs.Database.{Database}
+use Rattle.bf_tree.specs.declared.history.Entry.{Entry}
+use Rattle.bf_tree.specs.declared.script.Script.{Script}
 use Rattle.bf_tree.specs.declared.reply.Cause.{Cause}
 use Rattle.bf_tree.specs.declared.reply.Cause.TheVariants.{Died, DiskFault, Halted, LogFull, TooLarge}
 use Rattle.bf_run.specs.Creating.{Shelving, WhereHeld}
@@ -27,18 +30,19 @@ is_of_fault (Halted n) = true
 is_of_fault other = false
 
 -- CAUSED: each group that the log has ended is told such a cause, one at most that the device failed, and each that the log has
--- halted the same count; at Done none is told either
-pub record AreCaused (file : Option (List ℕ)) (status : Status) (ended : List EndedGroup) : Type 0 where
+-- halted the same count; at Done none is told either. A size that is told is that of a record of the group's
+pub record AreCaused (start : Database) (script : Script) (history : List Entry) (file : Option (List ℕ)) (status : Status) (ended : List EndedGroup) : Type 0 where
   pub faults : ℕ
   pub each : AllByRecursion (λ group. IsCause file faults group.cause) ended
   pub one_fault : length (filter (λ group. tells_fault group.cause) ended) ≤ 1
   pub calm : status ≡ Done → AllByRecursion (λ group. is_of_fault group.cause ≡ false) ended
+  pub sized : AreSizesOf start script history ended
 
 module _ {V : Type 0} (shelf : Shelving V) where
   -- of the file that is held behind the run
-  abbrev pub AreCausedIn : Status → List EndedGroup → Option V → Type 0
-  AreCausedIn status ended held = (disk : V) × (held ≡ Some disk) × AreCaused (shelf.seen disk) status ended
+  abbrev pub AreCausedIn : Status → Script → Database → List Entry → List EndedGroup → Option V → Type 0
+  AreCausedIn status script start history ended held = (disk : V) × (held ≡ Some disk) × AreCaused start script history (shelf.seen disk) status ended
 
   -- under a path
-  abbrev pub CausesEnds : List ℕ → Status → List EndedGroup → Type 0
-  CausesEnds path status ended = WhereHeld (λ old new. AreCausedIn status ended (new path)) shelf.held shelf.held_after
+  abbrev pub CausesEnds : List ℕ → Status → Script → Database → List Entry → List EndedGroup → Type 0
+  CausesEnds path status script start history ended = WhereHeld (λ old new. AreCausedIn status script start history ended (new path)) shelf.held shelf.held_after

@@ -186,7 +186,7 @@ IsTextOf asks Holds Before bytes Memory text = ⊥
 -- log has ended groups by its causes alone, and the sweep is that of the state which its records give
 abbrev pub HoldsAsked : {V : Type 0} → Option Asked → Shelving V → Ground
 HoldsAsked (Some (running path)) shelf status script start history ended last =
-    Opens shelf path start × KeepsLog shelf path status script start history × CausesEnds shelf path status ended × GivesSweep shelf path status last
+    Opens shelf path start × KeepsLog shelf path status script start history × CausesEnds shelf path status script start history ended × GivesSweep shelf path status last
 HoldsAsked other shelf status script start history ended last = ⊥
 
 -- and before one the log that is asked for was read at most

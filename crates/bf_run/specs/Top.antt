@@ -74,7 +74,7 @@ IsServed Holds script before after other text = ⊥
 -- over a database, that is what is seen of the state which a log keeps
 abbrev pub ServedOn : {D : Type 0} {g : Ghosts D} → Database → LazyState → Log D g → D → Ground
 ServedOn {g = g} opening lazy log disk status script start history ended last =
-    (start ≡ opening) × KeepsOn lazy log disk status script start history × AreCaused (g.seen disk) status ended
+    (start ≡ opening) × KeepsOn lazy log disk status script start history × AreCaused start script history (g.seen disk) status ended
     × IsGivenBy g.seen g.may_leave status disk last
 
 -- what is told of a log that could not be read
@@ -93,7 +93,7 @@ module _ {V : Type 0} (seen : V → Option (List ℕ)) (may_leave : V → List �
   abbrev pub HoldsOver : V → V → Ground
   HoldsOver old new status script start history ended last =
       IsOpened old start × IfTold (seen new) (λ file. IsKept seen may_leave moment left_since old new status script start history)
-      × AreCaused (seen new) status ended × IsGivenBy seen may_leave status new last
+      × AreCaused start script history (seen new) status ended × IsGivenBy seen may_leave status new last
 
   abbrev pub IsRunOverDisk : Script → V → V → Status → List ℕ → Type 0
   IsRunOverDisk script old new Done text = IsRunTold (HoldsOver old new Done script) script text × (fault_count new ≤ fault_count old)

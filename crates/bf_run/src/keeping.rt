@@ -22,7 +22,10 @@ use bf_base::Memory;
 use bf_disk::{Disk, DiskError, Shelf};
 use bf_image::Registry;
 use bf_keep::LogJournal;
-use bf_keep::laws::{every_crash_leaves_a_prefix, what_ends_groups_is_told};
+use bf_keep::laws::{
+    a_group_that_is_too_large_has_a_record_so_large, every_crash_leaves_a_prefix,
+    what_ends_groups_is_told,
+};
 use bf_log::{Log, OpenError};
 use bf_machine::interleaving_laws::sessions_that_have_ended_ran_over;
 use bf_machine::{Machine, Opened, in_order};
@@ -73,6 +76,7 @@ fn tell_run<N: Opened, D: Disk, R: Wait>(
     sessions_that_have_ended_ran_over(PhantomData::<LogJournal<D>>);
     every_crash_leaves_a_prefix(PhantomData::<D>);
     what_ends_groups_is_told(PhantomData::<D>);
+    a_group_that_is_too_large_has_a_record_so_large(PhantomData::<D>);
     in_order(alloc, rt, registry, journal, &mut machine, &[])?;
     // Its contract says that the script is the one that was given.
     let _ = machine.script();

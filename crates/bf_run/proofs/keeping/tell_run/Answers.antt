@@ -5,7 +5,7 @@ use Rattle.std.proofs.lemmas.Bool.Decides.{nat_tests}
 use Rattle.bf_tree.specs.declared.script.Script.{Script}
 use Rattle.bf_sql.specs.migrations.Lazy.{sweep_of}
 use Rattle.bf_text.specs.Report.{report_text}
-use Rattle.bf_keep.specs.Answers.{HasAnswered}
+use Rattle.bf_keep.specs.Answers.{AreSizesOf, HasAnswered}
 use Rattle.bf_keep.specs.Crashing.{KeepsOnLog, ended_on_log}
 use Rattle.bf_keep.specs.Sayable.{IsSayableScript}
 use Rattle.bf_keep.specs.declared.log_journal.LogJournal.{LogJournal}
@@ -53,7 +53,9 @@ returns-then-faults-clause-served g c =
     let recovers = recovered {g = g.D.Disk} opening lazy m now c.args.journal.now c.in_order.new.journal same c.session_count.ensures.kept c.requires.stands keeps_all
     c.every_crash_leaves_a_prefix.ensures.whole in
     let keeps = subst (λ (k : Script). KeepsOn lazy log last.disk DiskFault k opening now.history) own (keeps_at_fault opening lazy now log last recovers) in
-    let causes : AreCaused (g.D.Disk.seen last.disk) DiskFault ended = caused {g = g.D.Disk} last ended told_causes DiskFault (λ is. absurd cc) in
+    let sizes : AreSizesOf opening script now.history ended =
+    subst (λ (k : Script). AreSizesOf opening k now.history ended) own (c.a_group_that_is_too_large_has_a_record_so_large.ensures opening m now c.args.journal.now c.in_order.new.journal keeps_all c.session_count.ensures.kept) in
+    let causes : AreCaused opening script now.history (g.D.Disk.seen last.disk) DiskFault ended = caused {g = g.D.Disk} last opening script now.history ended told_causes sizes DiskFault (λ is. absurd cc) in
     let kept_now : IsKept opening now = kept_behind {g = g.D.Disk} opening m now c.args.journal.now c.in_order.new.journal c.session_count.ensures.kept keeps_all in
     let stands : StandsOn first_state StepsTo now.lazy last = (recovers (moment_of log) (omega arith) c.requires.alone).stands in
     let over : IsRunOver opening script ended (transcripts_of now) now.history (sweep_of now.lazy.last) =
@@ -93,7 +95,9 @@ returns-then-is_ready-clause-served g c =
     let recovers = recovered {g = g.D.Disk} opening lazy m now c.args.journal.now c.in_order.new.journal same c.session_count.ensures.kept c.requires.stands keeps_all
     c.every_crash_leaves_a_prefix.ensures.whole in
     let keeps = subst (λ (k : Script). KeepsOn lazy log last.disk Done k opening now.history) own (keeps_at_done opening lazy now log last recovers (ready_if last.standing (sym c.if-is_ready.true ∙ c.is_ready.ensures))) in
-    let causes : AreCaused (g.D.Disk.seen last.disk) Done ended = caused {g = g.D.Disk} last ended told_causes Done (λ _. ready_if last.standing (sym c.if-is_ready.true ∙ c.is_ready.ensures)) in
+    let sizes : AreSizesOf opening script now.history ended =
+    subst (λ (k : Script). AreSizesOf opening k now.history ended) own (c.a_group_that_is_too_large_has_a_record_so_large.ensures opening m now c.args.journal.now c.in_order.new.journal keeps_all c.session_count.ensures.kept) in
+    let causes : AreCaused opening script now.history (g.D.Disk.seen last.disk) Done ended = caused {g = g.D.Disk} last opening script now.history ended told_causes sizes Done (λ _. ready_if last.standing (sym c.if-is_ready.true ∙ c.is_ready.ensures)) in
     let kept_now : IsKept opening now = kept_behind {g = g.D.Disk} opening m now c.args.journal.now c.in_order.new.journal c.session_count.ensures.kept keeps_all in
     let stands : StandsOn first_state StepsTo now.lazy last = (recovers (moment_of log) (omega arith) c.requires.alone).stands in
     let over : IsRunOver opening script ended (transcripts_of now) now.history (sweep_of now.lazy.last) =
