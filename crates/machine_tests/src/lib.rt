@@ -1,0 +1,31 @@
+//! Tests of sessions that take turns, over public calls.
+#![tactic(auto)]
+
+#[cfg(test)]
+mod acts;
+#[cfg(test)]
+mod calls;
+#[cfg(test)]
+mod cases;
+#[cfg(test)]
+mod migrating;
+#[cfg(test)]
+mod moves;
+#[cfg(test)]
+mod orders;
+#[cfg(test)]
+mod plays;
+#[cfg(test)]
+mod random;
+#[cfg(test)]
+mod refusals;
+#[cfg(test)]
+mod runs;
+#[cfg(test)]
+mod schema;
+#[cfg(test)]
+mod scripts;
+#[cfg(test)]
+mod stale;
+#[cfg(test)]
+mod waits;
