@@ -1,5 +1,6 @@
 pub mod Finds
 pub mod Firsts
+pub mod Following
 pub mod Kept
 pub mod Keys
 pub mod Members

@@ -168,7 +168,7 @@ module _ (columns : List ℕ) where
         ∙ sym (has_pair-index_of (without_row entries key) pair (rows_rise (remove key)) ∙ ap (λ r. stands r pair.0) (row_under-without_row entries key pair.1))
 
     -- one edit
-    one_edit : (edit : RowEdit) → pairs_after columns entries (index_of columns entries) edit ≡ index_of columns (rows_after entries edit)
+    pub one_edit : (edit : RowEdit) → pairs_after columns entries (index_of columns entries) edit ≡ index_of columns (rows_after entries edit)
     one_edit edit = same_from_members pair_cmp_total pair_cmp-IsAntisymmetric (pairs_after columns entries (index_of columns entries) edit) (index_of columns (rows_after entries edit)) (pairs_rise edit) (index_rises (rows_after entries edit) (rows_rise edit)) (same_members edit)
 
     -- a row that changes at other columns alone

@@ -1,6 +1,5 @@
 -- An index: a set of pairs of a value and a key that has it, and the number of pairs for which there is room.
-use Rattle.std.specs.Prelude.{ℕ, ◌+◌, ◌-◌, ◌<◌, ◌^◌, Bool, List, [], length, map, filter, is_some, nat_lt, if◌then◌else◌, IsTrue}
-use Rattle.std.specs.List.{list_all}
+use Rattle.std.specs.Prelude.{ℕ, ◌+◌, ◌-◌, ◌<◌, ◌^◌, Bool, List, [], length, map, filter, is_some, if◌then◌else◌, IsTrue}
 use Rattle.std.specs.declared.cmp.Ordering.{Ordering}
 use Rattle.std.specs.Ordering.{ordering_then}
 use Rattle.bf_base.specs.declared.value.Value.{Value}
@@ -48,10 +47,6 @@ spare_after index pair = if has_pair index.pairs pair then index.spare else inde
 pub record IsIndex (index : PairSet) : Type 0 where
   pub in_order : IsTrue (is_map pair_cmp itself index.pairs)
   pub within : length index.pairs + index.spare < 2 ^ 32
-
--- a row has a value at each of these columns
-abbrev pub HasColumns : List ℕ → List Value → Type 0
-HasColumns columns row = IsTrue (list_all (λ place. nat_lt place (length row)) columns)
 
 abbrev pub empty_index : List ℕ → PairSet
 empty_index columns = record { columns = columns; pairs = []; spare = 0 }

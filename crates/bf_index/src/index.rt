@@ -1,12 +1,12 @@
 //! Secondary indexes.
 
 ghost use Rattle.std.specs.Prelude.{◌≡◌, ◌↔◌, [], ◌+◌, ◌*◌, ◌<◌, ◌≤◌, ◌⊎◌, IfErr, IfOk, IsTrue, OnOk, OnErr, length, not, ◌-◌, vec_len, vec_capacity};
-ghost use Rattle.std.specs.List.{list_all};
+ghost use Rattle.std.specs.List.{All, list_all};
 ghost use Rattle.bf_base.specs.Maps.{is_map};
-ghost use Rattle.bf_base.specs.Tables.{cells};
+ghost use Rattle.bf_base.specs.Tables.{cell, cells};
 ghost use Rattle.bf_heap.specs.Pages.{IsPutNew, IsTakenOut, page_at, is_empty_page, is_used_page, first_page};
 ghost use Rattle.bf_index.specs.Pages.{IsGapAt, IsPageOf, IsPairAt, pairs_of};
-ghost use Rattle.bf_index.specs.Pairs.{empty_index, has_pair, HasColumns, IsIndex, itself, keys_with, pair_cmp, spare_after, with_pair, without_pair};
+ghost use Rattle.bf_index.specs.Pairs.{empty_index, has_pair, IsIndex, itself, keys_with, pair_cmp, spare_after, with_pair, without_pair};
 
 use crate::page::{FULL, HALF, Page};
 use bf_base::{Key, Memory, Row, Value};
@@ -116,16 +116,45 @@ fn keys_in(alloc: Global, pages: &[Page], value: &Key) -> Result<Vec<Key>, Memor
     Ok(keys)
 }
 
-/// Copies of the values of a row at some columns.
+/// A copy of the value of a row at a column, and the number 0 where the row lacks it.
+fn cell(alloc: Global, row: &[Value], column: u8) -> Result<Value, Memory>
+    ensures { IfOk result (λ copy. copy ≡ cell row.now column) }
+{
+    match row.get(column as usize) {
+        Some(value) => value.copy(alloc),
+        None => Ok(Value::Int(0)),
+    }
+}
+
+/// Whether two rows have the same value at a column. Takes no memory.
+fn is_same_cell(row: &[Value], other: &[Value], column: u8) -> bool
+    ensures { IsTrue result ↔ (cell row.now column ≡ cell other.now column) }
+{
+    match (row.get(column as usize), other.get(column as usize)) {
+        (Some(value), Some(other)) => value.is_same(other),
+        (Some(value), None) | (None, Some(value)) => value.is_same(&Value::Int(0)),
+        (None, None) => true,
+    }
+}
+
+/// Copies of the values of a row at some columns, with the number 0 for each that the row lacks.
 fn value_at(alloc: Global, columns: &[u8], row: &[Value]) -> Result<Key, Memory>
-    requires { HasColumns columns.now row.now }
     ensures { IfOk result (λ value. value ≡ cells columns.now row.now) }
 {
     let mut values = Vec::with_capacity(alloc, columns.len())?;
     for place in columns {
-        values.push(row[*place as usize].copy(alloc)?)?;
+        values.push(cell(alloc, row, *place)?)?;
     }
     Ok(Key::of(values))
+}
+
+/// Whether two rows have the same values at some columns. Takes no memory.
+fn is_same_at(columns: &[u8], row: &[Value], other: &[Value]) -> bool
+    ensures { IsTrue result ↔ All (λ column. cell row.now column ≡ cell other.now column) columns.now }
+{
+    columns
+        .iter()
+        .all(|column| is_same_cell(row, other, *column))
 }
 
 /// Adds pages to the spare ones until there are this many.
@@ -292,13 +321,19 @@ impl Index {
         self.count == 0
     }
 
-    /// The value of a row: the values at the indexed columns, in index order. It takes time and memory
-    /// linear in those.
+    /// The value of a row: the values at the indexed columns, in index order, with the number 0 for a
+    /// column that the row lacks. It takes time and memory linear in those.
     pub fn value_of(&self, alloc: Global, row: &Row) -> Result<Key, Memory>
-        requires { HasColumns self.now.columns row.now }
         ensures { IfOk result (λ value. value ≡ cells self.now.columns row.now) }
     {
         value_at(alloc, &self.columns, row.as_slice())
+    }
+
+    /// Whether two rows have the same value. It takes time linear in the indexed columns, and no memory.
+    pub(crate) fn is_same_value(&self, row: &Row, other: &Row) -> bool
+        ensures { IsTrue result ↔ (cells self.now.columns row.now ≡ cells self.now.columns other.now) }
+    {
+        is_same_at(&self.columns, row.as_slice(), other.as_slice())
     }
 
     /// Copies of the keys of a value, in order. It compares about log n pairs, and then takes time

@@ -4,10 +4,17 @@
 //! heap are, by the definitions and the proofs of `bf_heap`. A heap whose keys are a value and a key
 //! in one would not do: to put the two together takes memory, for a look-up as well, and `add` and
 //! `take` may want none, so that an index follows rows that a heap puts and removes without any.
+//!
+//! An `IndexedHeap` is a heap whose indexes follow its rows. Its contracts see the heap alone, and that
+//! each index that it has is that of the rows.
 #![tactic(auto)]
 
+pub mod frozen_indexed_heap;
 pub mod index;
+pub mod indexed_heap;
 pub mod laws;
 mod page;
 
+pub use frozen_indexed_heap::FrozenIndexedHeap;
 pub use index::Index;
+pub use indexed_heap::IndexedHeap;

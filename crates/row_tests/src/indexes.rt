@@ -1,12 +1,12 @@
 //! Indexes, by the keys that they find.
 
-ghost use Rattle.std.specs.Prelude.{◌≡◌, ◌≤◌, length, nat_lt};
-ghost use Rattle.std.specs.List.{list_all};
+ghost use Rattle.std.specs.Prelude.{◌≤◌};
 
 use crate::fixtures::Cell::{self, Letters, Number};
-use crate::fixtures::{key, number_key, number_of_key};
-use bf_base::{Key, Row};
-use bf_index::Index;
+use crate::fixtures::{key, number_key, number_of_key, row};
+use bf_base::{Key, Row, Value};
+use bf_heap::Heap;
+use bf_index::{Index, IndexedHeap};
 use std::alloc::Global;
 use std::test::Fail;
 
@@ -87,26 +87,6 @@ fn finds_the_keys_of_a_value(rt: HostRuntime) -> Result<(), Fail> {
     Ok(())
 }
 
-/// Whether a row has a value at each column of an index.
-fn has_columns(index: &Index, row: &Row) -> bool
-    ensures { result ≡ list_all (λ place. nat_lt place (length row.now)) index.now.columns }
-{
-    let width = row.as_slice().len();
-    index
-        .columns()
-        .iter()
-        .all(|place| (*place as usize) < width)
-}
-
-/// The value of a row that has an index's columns.
-fn value_of(alloc: Global, index: &Index, row: &Row) -> Result<Key, Fail> {
-    if has_columns(index, row) {
-        Ok(index.value_of(alloc, row)?)
-    } else {
-        Err("a row that is too short")?
-    }
-}
-
 /// Values that a front or the columns of one make, in another order.
 const OTHERS: [&[Cell]; 3] = [&[Letters("a")], &[Number(5), Letters("a")], &[]];
 
@@ -117,7 +97,7 @@ fn keeps_values_of_two_columns(rt: HostRuntime) -> Result<(), Fail> {
     let mut index = Index::new(alloc, vec![in alloc; 2, 0]?);
     assert_eq!(rt; index.columns(), [2, 0].as_slice());
     let cells = key(alloc, &[Number(5), Number(1), Letters("a")])?;
-    let value = value_of(alloc, &index, &Row::of(cells.into_vec()))?;
+    let value = index.value_of(alloc, &Row::of(cells.into_vec()))?;
     assert!(rt; value.is_same(&key(alloc, &[Letters("a"), Number(5)])?));
     assert!(rt; add_pair(&mut index, value, number_key(alloc, 1)?)?);
     assert!(rt;
@@ -202,5 +182,112 @@ fn reserves_up_to_the_limit(rt: HostRuntime) -> Result<(), Fail> {
     assert!(rt; index.reserve(u32::MAX).is_err());
     assert_eq!(rt; index.len(), 3);
     assert!(rt; has_keys(alloc, &index, &number_key(alloc, 2)?, &[998])?);
+    Ok(())
+}
+
+/// What is done to a heap with an index of the second column, and what it finds. Keys and values
+/// are numbers.
+#[derive(Clone, Copy)]
+enum Change {
+    /// Puts a row that has a value in the second column under a key.
+    Put(i64, i64),
+    /// Puts a row that has no second column under a key.
+    PutShort(i64),
+    /// Removes the row under a key.
+    Remove(i64),
+    /// Adds the index, or has the one that is there serve.
+    AddIndex,
+    /// So many indexes find these keys of a value.
+    Have(usize, i64, &'static [i64]),
+}
+
+use Change::{AddIndex, Have, Put, PutShort, Remove};
+
+fn put(alloc: Global, heap: &mut IndexedHeap, number: i64, row: Row) -> Result<(), Fail> {
+    heap.reserve(1)?;
+    heap.put(number_key(alloc, number)?, row);
+    Ok(())
+}
+
+/// Whether there are so many indexes, each of which finds these keys of a value.
+fn all_have(
+    alloc: Global,
+    indexes: &[Index],
+    count: usize,
+    value: i64,
+    wanted: &[i64],
+) -> Result<bool, Fail> {
+    let value = number_key(alloc, value)?;
+    for index in indexes {
+        if !has_keys(alloc, index, &value, wanted)? {
+            return Ok(false);
+        }
+    }
+    Ok(indexes.len() == count)
+}
+
+/// Makes a change, and tells whether what it has to find is found.
+fn changes(alloc: Global, heap: &mut IndexedHeap, change: Change) -> Result<bool, Fail> {
+    match change {
+        Put(number, value) => {
+            let values = vec![in alloc; Value::Int(number), Value::Int(value)]?;
+            put(alloc, heap, number, Row::of(values))?;
+        }
+        PutShort(number) => put(alloc, heap, number, row(alloc, number)?)?,
+        Remove(number) => {
+            heap.remove(&number_key(alloc, number)?);
+        }
+        AddIndex => heap.add_index(vec![in alloc; 1]?)?,
+        Have(count, value, keys) => {
+            return all_have(alloc, heap.indexes(), count, value, keys);
+        }
+    }
+    Ok(true)
+}
+
+/// An index that is built from three rows, and follows them then.
+const CHANGES: [Change; 28] = [
+    Put(2, 7),
+    Put(1, 7),
+    Put(3, 8),
+    AddIndex,
+    Have(1, 7, &[1, 2]),
+    Have(1, 8, &[3]),
+    Have(1, 9, &[]),
+    // One of the same columns is there.
+    AddIndex,
+    Have(1, 7, &[1, 2]),
+    // The same value.
+    Put(1, 7),
+    Have(1, 7, &[1, 2]),
+    // Another value.
+    Put(1, 8),
+    Have(1, 7, &[2]),
+    Have(1, 8, &[1, 3]),
+    Remove(2),
+    Have(1, 7, &[]),
+    Remove(2),
+    Have(1, 8, &[1, 3]),
+    // A row without the column has the number 0 there.
+    PutShort(4),
+    Have(1, 0, &[4]),
+    Put(5, 0),
+    PutShort(5),
+    Have(1, 0, &[4, 5]),
+    PutShort(3),
+    Have(1, 0, &[3, 4, 5]),
+    Have(1, 8, &[1]),
+    Remove(1),
+    Have(1, 8, &[]),
+];
+
+#[test]
+fn follows_the_rows_of_a_heap(rt: HostRuntime) -> Result<(), Fail> {
+    let alloc = rt.alloc();
+    let mut heap = IndexedHeap::of(alloc, Heap::new(alloc));
+    for (place, change) in CHANGES.iter().enumerate() {
+        assert!(rt; changes(alloc, &mut heap, *change)?, "change {place}");
+    }
+    assert_eq!(rt; heap.heap().len(), 3);
     Ok(())
 }
