@@ -1,11 +1,14 @@
 pub mod AsWritten
 pub mod Binding
+pub mod Chosen
 pub mod Effects
 pub mod FixedKey
 pub mod Held
+pub mod IndexRows
 pub mod Inserting
 pub mod Keeping
 pub mod Keyed
+pub mod Listing
 pub mod Merging
 pub mod OwnKeys
 pub mod RangeRows

@@ -27,7 +27,7 @@ abbrev pub rows_of : List Entry → List (List Value)
 rows_of entries = map (λ entry. entry.1) entries
 
 -- nothing is taken out of entries whose keys are all greater
-nothing_below : (key : List Value) (entries : List Entry) → RisesFrom key (keys_of entries) → without_row entries key ≡ entries
+pub nothing_below : (key : List Value) (entries : List Entry) → RisesFrom key (keys_of entries) → without_row entries key ≡ entries
 nothing_below key [] h = refl
 nothing_below key (e ∷ es) h =
     let later = turned_less key_cmp_total key e.0 (less_from_test _ (and_parts _ _ h).0) in

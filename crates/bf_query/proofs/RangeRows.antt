@@ -43,13 +43,13 @@ module _ (table : Table) (c : Cond ℕ) where
         ]
       ]
 
-  range_selected : (entries : List Entry) (writes : List Write) → is_map key_cmp key_of_entry entries ≡ true → StandUnderOwnKeys table entries writes
+  pub range_selected : (entries : List Entry) (writes : List Write) → is_map key_cmp key_of_entry entries ≡ true → StandUnderOwnKeys table entries writes
       → selected cell c (rows_of (fold applied (kept in_range entries) (kept_writes in_range (writes_to table.name writes)))) ≡ selected cell c (rows_under entries writes table.name)
   range_selected entries writes in_order stand =
       ap (λ (es : List Entry). filter holds (rows_of es)) (sym (kept-fold in_range (writes_to table.name writes) entries in_order))
       ∙ none_outside (entries_under entries writes table.name) (own_keys table entries writes stand)
 
-  kept-named : (writes : List Write) → filter (λ (w : KeyWrite). in_range w.0) (map key_write_of writes) ≡ map key_write_of (kept_writes in_range writes)
+  pub kept-named : (writes : List Write) → filter (λ (w : KeyWrite). in_range w.0) (map key_write_of writes) ≡ map key_write_of (kept_writes in_range writes)
   kept-named [] = refl
   kept-named (w ∷ writes) = elim (in_range w.key) as (λ b. cond b (key_write_of w ∷ filter (λ (w : KeyWrite). in_range w.0) (map key_write_of writes)) (filter (λ (w : KeyWrite). in_range w.0) (map key_write_of writes)) ≡ map key_write_of (cond b (w ∷ kept_writes in_range writes) (kept_writes in_range writes))) [
     | true ↦ ap (λ ws. key_write_of w ∷ ws) (kept-named writes)

@@ -11,19 +11,19 @@ use Rattle.bf_txn.specs.declared.write.Write.{Write}
 use Rattle.bf_query.specs.Merged.{changed_by, applied}
 use Rattle.bf_query.proofs.Keyed.{is_map-fold}
 
+-- a row that is put before all entries
+pub put_first : (x : Entry) (entries : List Entry) → is_map key_cmp key_of_entry (x ∷ entries) ≡ true → with_row entries x.0 x.1 ≡ x ∷ entries
+put_first x [] h = refl
+put_first x (e ∷ es) h =
+    let less : key_cmp x.0 e.0 ≡ Less = less_from_test _ (rises_first key_cmp_total x.0 (map key_of_entry (e ∷ es)) h) in
+    rw less refl
+
 module _ (test : List Value → Bool) where
   abbrev pub kept : List Entry → List Entry
   kept entries = filter (λ e. test e.0) entries
 
   abbrev pub kept_writes : List Write → List Write
   kept_writes writes = filter (λ w. test w.key) writes
-
-  -- a row that is put before all entries
-  put_first : (x : Entry) (entries : List Entry) → is_map key_cmp key_of_entry (x ∷ entries) ≡ true → with_row entries x.0 x.1 ≡ x ∷ entries
-  put_first x [] h = refl
-  put_first x (e ∷ es) h =
-      let less : key_cmp x.0 e.0 ≡ Less = less_from_test _ (rises_first key_cmp_total x.0 (map key_of_entry (e ∷ es)) h) in
-      rw less refl
 
   -- a row that is put among entries in order
   kept-with_row : (entries : List Entry) (x : Entry) → is_map key_cmp key_of_entry entries ≡ true → kept (with_row entries x.0 x.1) ≡ cond (test x.0) (with_row (kept entries) x.0 x.1) (kept entries)

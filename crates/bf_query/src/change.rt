@@ -10,6 +10,7 @@ ghost use Rattle.bf_sql.specs.Queries.{changed};
 ghost use Rattle.bf_sql.specs.RowObjections.{change_objections, fit_objections, insert_objections, unfit_objections, unfit_row_objections, value_objections};
 ghost use Rattle.bf_query.specs.Actions.{HaveOwnKeys, IsChange, IsWellBound, action_table, admitted_at, change_reply, objections_on, rows_for, write_of, writes_of, written};
 ghost use Rattle.bf_query.specs.Changes.{counted, is_taken, planned};
+ghost use Rattle.bf_index.specs.Edits.{AreIndexesOf};
 ghost use Rattle.bf_txn.specs.Writes.{gathered};
 ghost use Rattle.bf_query.specs.Merged.{StandUnderOwnKeys, rows_under};
 ghost use Rattle.bf_tree.specs.Settling.{Settles, first_of};
@@ -18,6 +19,7 @@ use crate::merge::{row_at, selected_rows};
 use crate::running::value_or_refusal;
 use bf_base::{Fit, Key, Memory, Row, Table, Value, admits, key_of};
 use bf_heap::Heap;
+use bf_index::Index;
 use bf_tree::{Action, Bound, Expr, Refusal, Reply, StatementError};
 use bf_txn::{TableWrites, Workspace};
 use std::alloc::Global;
@@ -206,9 +208,11 @@ struct Planned {
 fn plan(
     alloc: Global,
     heap: &Heap,
+    indexes: &[Index],
     workspace: &Workspace,
     action: &Action,
 ) -> Result<Planned, StatementError>
+    requires indexes { AreIndexesOf heap.now.entries indexes.now }
     requires change { IsChange action.now }
     requires bound { IsWellBound action.now }
     requires keys { HaveOwnKeys heap.now.entries workspace.now action.now }
@@ -231,7 +235,7 @@ fn plan(
             cond,
             fixed,
         } => {
-            let rows = selected_rows(alloc, heap, workspace, table, cond, fixed)?;
+            let rows = selected_rows(alloc, heap, indexes, workspace, table, cond, fixed)?;
             let writes = plan_update(alloc, table, sets.as_slice(), rows.as_slice())?;
             Ok(Planned {
                 count: rows.len(),
@@ -239,7 +243,7 @@ fn plan(
             })
         }
         Action::Delete { table, cond, fixed } => {
-            let rows = selected_rows(alloc, heap, workspace, table, cond, fixed)?;
+            let rows = selected_rows(alloc, heap, indexes, workspace, table, cond, fixed)?;
             let writes = plan_delete(alloc, table, rows.as_slice())?;
             Ok(Planned {
                 count: rows.len(),
@@ -280,8 +284,9 @@ fn reply(action: &Action, count: u32) -> Reply
 /// the transaction has written, and notes what it writes in the workspace. Where something stands
 /// in its way, the reply is the first refusal, and the workspace stays as it was. A statement whose
 /// condition fixes a key, and each tuple of an INSERT, costs a look-up and a write in time
-/// logarithmic in the rows; else an UPDATE or a DELETE goes once over the rows whose keys are in the
-/// range that its condition leaves.
+/// logarithmic in the rows. Else an UPDATE or a DELETE looks up each row that has the value, where
+/// `index_for` gives an index, and goes once over those rows and the writes to the table; or it goes
+/// once over the rows and the writes whose keys are in the range that its condition leaves.
 ///
 /// # Errors
 /// Where memory runs out, or 2 ^ 32 rows or more change. The workspace is as it was then.
@@ -289,8 +294,10 @@ pub fn changes(
     alloc: Global,
     bound: &Bound,
     heap: &Heap,
+    indexes: &[Index],
     workspace: &mut Workspace,
 ) -> Result<Reply, Memory>
+    requires indexes { AreIndexesOf heap.now.entries indexes.now }
     requires change { IsChange bound.now.action }
     requires bound { IsWellBound bound.now.action }
     requires keys { HaveOwnKeys heap.now.entries workspace.old bound.now.action }
@@ -304,7 +311,7 @@ pub fn changes(
     ensures err { OnErr result (workspace.new ≡ workspace.old) }
 {
     let action = &bound.action;
-    let plan = match plan(alloc, heap, workspace, action) {
+    let plan = match plan(alloc, heap, indexes, workspace, action) {
         Ok(plan) => plan,
         Err(StatementError::Refused(refusal)) => return Ok(Reply::Refused(refusal)),
         Err(StatementError::Memory) => return Err(Memory),

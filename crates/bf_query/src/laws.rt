@@ -6,18 +6,21 @@ ghost use Rattle.bf_base.specs.declared.table.Table.{Table};
 ghost use Rattle.bf_base.specs.declared.value.Value.{Value};
 ghost use Rattle.bf_base.specs.Lists.{with_placed};
 ghost use Rattle.bf_base.specs.Maps.{is_map};
-ghost use Rattle.bf_base.specs.Tables.{IsKeyWithin, cell, key_of};
+ghost use Rattle.bf_base.specs.Tables.{IsKeyWithin, cell, cells, key_of};
 ghost use Rattle.bf_base.specs.Values.{key_cmp};
 ghost use Rattle.bf_tree.specs.Evaluation.{holds_on};
 ghost use Rattle.bf_tree.specs.Trees.{Cond, Expr};
 ghost use Rattle.bf_heap.specs.Heaps.{Entry, key_of_entry};
 ghost use Rattle.bf_heap.specs.KeyRanges.{is_within};
-ghost use Rattle.bf_sql.specs.Queries.{changed};
+ghost use Rattle.bf_index.specs.Edits.{index_of};
+ghost use Rattle.bf_index.specs.Pairs.{keys_with};
+ghost use Rattle.bf_sql.specs.Queries.{changed, selected};
 ghost use Rattle.bf_tree.specs.declared.bound.Action.{Action};
 ghost use Rattle.bf_tree.specs.declared.bound.Action.TheVariants as action;
 ghost use Rattle.bf_txn.specs.declared.write.Write.{Write};
 ghost use Rattle.bf_txn.specs.Writes.{AreWrites, with_write};
 ghost use Rattle.bf_query.specs.Actions.{IsWellBound, objections_on, action_table, writes_of};
+ghost use Rattle.bf_query.specs.ByIndex.{all_fixed, entries_at, entries_with, fixed_value};
 ghost use Rattle.bf_query.specs.Changes.{LeavesKeys};
 ghost use Rattle.bf_query.specs.Merged.{StandUnderOwnKeys, applied, rows_under};
 ghost use Rattle.bf_query.specs.Ranges.{key_range_of};
@@ -84,6 +87,26 @@ pub fn a_key_range_has_the_keys_of_its_rows()
     ensures { (table : Table) (cond : Cond ℕ) (row : List Value)
         → IsTrue (holds_on (cell row) cond)
         → IsTrue (is_within (key_range_of table cond) (key_of table row)) }
+{}
+
+/// An index whose columns a condition all fixes lists the rows that may satisfy it. A row that does
+/// has the value that the condition fixes the columns to. Under the keys that the index of a table's
+/// rows has with a value stand the rows that have it. And of entries under writes the condition
+/// selects the rows that it selects of the entries with the value under the same writes.
+pub fn an_index_has_the_rows_of_its_value()
+    ensures value { (cond : Cond ℕ) (columns : List ℕ) (row : List Value)
+        → IsTrue (all_fixed cond columns) → IsTrue (holds_on (cell row) cond)
+        → cells columns row ≡ fixed_value cond columns }
+    ensures entries { (columns : List ℕ) (value : List Value) (entries : List Entry)
+        → IsTrue (is_map key_cmp key_of_entry entries)
+        → entries_at entries (keys_with (index_of columns entries) value)
+        ≡ entries_with columns value entries }
+    ensures rows { (cond : Cond ℕ) (columns : List ℕ) (entries : List Entry)
+        (writes : List Write) (table : List ℕ) → IsTrue (all_fixed cond columns)
+        → IsTrue (is_map key_cmp key_of_entry entries)
+        → selected cell cond
+        (rows_under (entries_with columns (fixed_value cond columns) entries) writes table)
+        ≡ selected cell cond (rows_under entries writes table) }
 {}
 
 /// Of entries under writes, the keys that pass a test have the rows that the writes to such keys

@@ -2,11 +2,13 @@
 #![tactic(auto)]
 
 pub mod answer;
+pub mod by_index;
 pub mod change;
 pub mod laws;
 pub mod meaning;
 pub mod merge;
 pub mod range;
+mod rows_ahead;
 pub mod running;
 pub mod selection;
 mod sum;

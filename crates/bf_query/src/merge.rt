@@ -6,13 +6,18 @@ ghost use Rattle.bf_base.specs.Maps.{is_map};
 ghost use Rattle.bf_base.specs.Tables.{cell};
 ghost use Rattle.bf_base.specs.Values.{key_cmp};
 ghost use Rattle.bf_heap.specs.Heaps.{key_of_entry, row_under};
+ghost use Rattle.bf_index.specs.Edits.{AreIndexesOf};
 ghost use Rattle.bf_sql.specs.Conditions.{fixed_key};
 ghost use Rattle.bf_sql.specs.Queries.{selected};
+ghost use Rattle.bf_query.specs.RowsAhead.{entries_ahead};
 ghost use Rattle.bf_query.specs.Merged.{AreByKey, StandUnderOwnKeys, entries_under, rows_ahead, rows_stepped, rows_under, steps_ahead};
 
+use crate::by_index::{index_for, rows_by_index};
 use crate::range::key_range;
+use crate::rows_ahead::{Listed, RowsAhead};
 use bf_base::{Key, Memory, Name, Row, Table};
-use bf_heap::{Cursor, Heap};
+use bf_heap::Heap;
+use bf_index::Index;
 use bf_tree::{Cond, holds};
 use bf_txn::{Workspace, WritesAhead};
 use std::alloc::Global;
@@ -35,25 +40,25 @@ pub fn row_at<'a>(
     }
 }
 
-/// A pass over the rows of a heap and the writes to its table, in the order of keys.
+/// A pass over rows of a heap and writes to its table, in the order of keys.
 #[derive(Drop)]
-struct Merge<'a, 'r> {
-    rows: Cursor<'a>,
+struct Merge<'a, 'k, 'r> {
+    rows: RowsAhead<'a, 'k>,
     writes: WritesAhead<'a, 'r>,
-    ghost in_order: { IsTrue (is_map key_cmp key_of_entry rows) },
+    ghost in_order: { IsTrue (is_map key_cmp key_of_entry (entries_ahead rows)) },
     ghost by_key: { AreByKey writes },
 }
 
-impl<'a, 'r> Merge<'a, 'r> {
+impl<'a, 'k, 'r> Merge<'a, 'k, 'r> {
     /// Goes to the next key, and gives the row that stands there, or none where it is removed;
     /// `None` behind the last key. It takes constant time over many keys, and compares one pair of
     /// keys at most.
     fn advance(&mut self) -> Option<Option<&'a Row>>
         ensures rows { rows_stepped (option_map (λ row. option_map (λ r. r.now) row) result)
-            (rows_ahead self.new.rows self.new.writes)
-            ≡ rows_ahead self.old.rows self.old.writes }
-        ensures nearer { OnSome result (steps_ahead self.new.rows self.new.writes
-            < steps_ahead self.old.rows self.old.writes) }
+            (rows_ahead (entries_ahead self.new.rows) self.new.writes)
+            ≡ rows_ahead (entries_ahead self.old.rows) self.old.writes }
+        ensures nearer { OnSome result (steps_ahead (entries_ahead self.new.rows) self.new.writes
+            < steps_ahead (entries_ahead self.old.rows) self.old.writes) }
     {
         match (self.rows.get(), self.writes.get()) {
             (None, None) => None,
@@ -85,17 +90,17 @@ impl<'a, 'r> Merge<'a, 'r> {
 }
 
 /// The rows that satisfy a condition, in one pass over rows and the writes to their table.
-fn scan<'a, 'r>(
+fn scan<'a, 'k, 'r>(
     alloc: Global,
-    rows: Cursor<'a>,
+    rows: RowsAhead<'a, 'k>,
     writes: WritesAhead<'a, 'r>,
     cond: &Cond,
 ) -> Result<Vec<&'a Row>, Memory>
-    requires rows { IsTrue (is_map key_cmp key_of_entry rows) }
+    requires rows { IsTrue (is_map key_cmp key_of_entry (entries_ahead rows)) }
     requires writes { AreByKey writes }
     ensures { IfOk result (λ found.
         map (λ row. row.now) found.items ≡ selected cell cond.now
-        (rows_ahead rows.entry writes.entry)) }
+        (rows_ahead (entries_ahead rows.entry) writes.entry)) }
 {
     let mut merge = Merge { rows, writes };
     let mut found = Vec::new(alloc);
@@ -131,17 +136,23 @@ fn if_it_holds<'a>(
 }
 
 /// The rows of a table that satisfy a condition, in key order, where they stand. A key that the
-/// condition fixes is looked up, in time logarithmic in the rows; else one pass goes over the rows of
-/// the heap and the writes to the table whose keys are in the range that the condition leaves. Memory
-/// is taken for the references and the ends of the range alone.
+/// condition fixes is looked up, in time logarithmic in the rows. Else one pass goes over rows of the
+/// heap and the writes to the table whose keys are in the range that the condition leaves. Where
+/// `index_for` gives an index, these are the rows that have the value which the condition fixes its
+/// columns to: finding them takes time logarithmic in the rows, and that again for each of them. Else
+/// they are the rows whose keys are in the range, and finding the first takes that time. The pass is
+/// linear in the rows and the writes that it goes over. Memory is taken for the references, the ends
+/// of the range, and the keys that the index gives.
 pub fn selected_rows<'a>(
     alloc: Global,
     heap: &'a Heap,
+    indexes: &[Index],
     workspace: &'a Workspace,
     table: &Table,
     cond: &Cond,
     fixed: &Option<Key>,
 ) -> Result<Vec<&'a Row>, Memory>
+    requires indexes { AreIndexesOf heap.now.entries indexes.now }
     requires fixed { fixed.now ≡ fixed_key table.now cond.now }
     requires keys { StandUnderOwnKeys table.now heap.now.entries workspace.now }
     ensures { IfOk result (λ rows.
@@ -150,12 +161,21 @@ pub fn selected_rows<'a>(
 {
     // By its contract the heap is in the order of its keys.
     let _ = heap.len();
-    match fixed {
-        Some(key) => if_it_holds(alloc, row_at(heap, workspace, &table.name, key), cond),
+    if let Some(key) = fixed {
+        return if_it_holds(alloc, row_at(heap, workspace, &table.name, key), cond);
+    }
+    let range = key_range(alloc, table, cond)?;
+    let writes = workspace.range(&table.name, &range);
+    match index_for(indexes, table, cond) {
+        Some(index) => {
+            let listed = rows_by_index(alloc, heap, index, cond)?;
+            let rows = RowsAhead::Listed(Listed {
+                rows: listed.as_slice(),
+            });
+            scan(alloc, rows, writes, cond)
+        }
         None => {
-            let range = key_range(alloc, table, cond)?;
-            let rows = heap.range(&range);
-            let writes = workspace.range(&table.name, &range);
+            let rows = RowsAhead::InRange(heap.range(&range));
             scan(alloc, rows, writes, cond)
         }
     }

@@ -12,7 +12,7 @@ ghost use Rattle.query_tests.specs.Ready.{IsReadyOn};
 
 use crate::fixtures::{Line, heap_of, row, rows_of, table, text};
 use bf_base::{Key, Row, Sequence, Table, Value};
-use bf_heap::Heap;
+use bf_index::IndexedHeap;
 use bf_query::changes;
 use bf_query::merge::selected_rows;
 use bf_tree::{Action, Bound, Compare, Cond, Expr, Node, Refusal, Reply, Test};
@@ -40,6 +40,10 @@ enum Where {
     All,
     /// By the second column.
     Number(i64),
+    /// By the first column.
+    Letters(&'static str),
+    /// By the third column.
+    Small(i64),
     /// By both key columns, which fixes the key.
     Both(&'static str, i64),
     /// By a comparison of the second column, the first of the key.
@@ -116,6 +120,8 @@ fn bound(alloc: Global, which: Where) -> Result<(Cond, Option<Key>), Fail>
     match which {
         Where::All => Ok((Cond::of(Test::Always), None)),
         Where::Number(number) => Ok((is_at(1, Value::Int(number)), None)),
+        Where::Letters(letters) => Ok((is_at(0, text(alloc, letters)?), None)),
+        Where::Small(number) => Ok((is_at(2, Value::Int(number)), None)),
         Where::Both(letters, number) => {
             let letters = text(alloc, letters)?;
             let mut key = Vec::new(alloc);
@@ -227,7 +233,7 @@ fn action_of(alloc: Global, table: &Table, statement: &Statement) -> Result<Acti
 fn run(
     alloc: Global,
     table: &Table,
-    heap: &Heap,
+    heap: &IndexedHeap,
     workspace: &mut Workspace,
     bound: &Bound,
 ) -> Result<Told, Fail>
@@ -235,14 +241,14 @@ fn run(
     requires keys { StandUnderOwnKeys table.now heap.now.entries workspace.old }
     ensures { OnOk result (StandUnderOwnKeys table.now heap.now.entries workspace.new) }
 {
-    let reply = changes(alloc, bound, heap, workspace)?;
+    let reply = changes(alloc, bound, heap.heap(), heap.indexes(), workspace)?;
     Ok(reply_seen(&reply))
 }
 
 fn run_statement(
     alloc: Global,
     table: &Table,
-    heap: &Heap,
+    heap: &IndexedHeap,
     workspace: &mut Workspace,
     statement: &Statement,
 ) -> Result<Told, Fail>
@@ -262,7 +268,7 @@ fn run_statement(
 fn are_selected(
     alloc: Global,
     table: &Table,
-    heap: &Heap,
+    heap: &IndexedHeap,
     workspace: &Workspace,
     which: Where,
     lines: &[Line],
@@ -271,7 +277,8 @@ fn are_selected(
     requires keys { StandUnderOwnKeys table.now heap.now.entries workspace.now }
 {
     let (cond, fixed) = bound(alloc, which)?;
-    let found = selected_rows(alloc, heap, workspace, table, &cond, &fixed)?;
+    let (rows, indexes) = (heap.heap(), heap.indexes());
+    let found = selected_rows(alloc, rows, indexes, workspace, table, &cond, &fixed)?;
     are_lines(alloc, found.as_slice(), lines)
 }
 
@@ -291,7 +298,7 @@ fn are_lines(alloc: Global, rows: &[&Row], lines: &[Line]) -> Result<bool, Fail>
 fn run_all(
     alloc: Global,
     table: &Table,
-    heap: &Heap,
+    heap: &IndexedHeap,
     workspace: &mut Workspace,
     steps: &[Step],
 ) -> Result<Option<usize>, Fail>
@@ -308,8 +315,42 @@ fn run_all(
     Ok(None)
 }
 
-/// Runs statements on the rows of a heap, and answers the place of the first that has another
-/// reply than its own, and whether the rows that satisfy a condition then are these.
+/// The rows, with the indexes of the columns at these places.
+fn indexed(
+    alloc: Global,
+    table: &Table,
+    lines: &[Line],
+    indexes: &[&[u8]],
+) -> Result<IndexedHeap, Fail>
+    requires { table.now.key ≡ 1 ∷ 0 ∷ [] }
+    ensures { IfOk result (λ heap. StandUnderOwnKeys table.now heap.entries []) }
+{
+    let mut heap = IndexedHeap::of(alloc, heap_of(alloc, table, lines)?);
+    for places in indexes {
+        heap.add_index(places.to_vec(alloc)?)?;
+    }
+    Ok(heap)
+}
+
+/// Runs statements on the rows of a heap with indexes, and answers the place of the first that has
+/// another reply than its own, and whether the rows that satisfy a condition then are these.
+fn outcome_by(
+    alloc: Global,
+    lines: &[Line],
+    indexes: &[&[u8]],
+    steps: &[Step],
+    which: Where,
+    left: &[Line],
+) -> Result<(Option<usize>, bool), Fail> {
+    let table = table(alloc)?;
+    let heap = indexed(alloc, &table, lines, indexes)?;
+    let mut workspace = Workspace::new(alloc);
+    let other = run_all(alloc, &table, &heap, &mut workspace, steps)?;
+    let selected = are_selected(alloc, &table, &heap, &workspace, which, left)?;
+    Ok((other, selected))
+}
+
+/// The same on a heap without indexes.
 fn outcome(
     alloc: Global,
     lines: &[Line],
@@ -317,12 +358,7 @@ fn outcome(
     which: Where,
     left: &[Line],
 ) -> Result<(Option<usize>, bool), Fail> {
-    let table = table(alloc)?;
-    let heap = heap_of(alloc, &table, lines)?;
-    let mut workspace = Workspace::new(alloc);
-    let other = run_all(alloc, &table, &heap, &mut workspace, steps)?;
-    let selected = are_selected(alloc, &table, &heap, &workspace, which, left)?;
-    Ok((other, selected))
+    outcome_by(alloc, lines, &[], steps, which, left)
 }
 
 /// In key order: by number, then by letters, a text before the longer ones that it begins.
@@ -561,6 +597,54 @@ fn ranges_change_rows(rt: HostRuntime) -> Result<(), Fail> {
     for (what, steps, which, left) in &CHANGED {
         let outcome = outcome(rt.alloc(), &RANGED, steps, *which, left)?;
         assert_eq!(rt; outcome, (None, true), "where {what}");
+    }
+    Ok(())
+}
+
+/// The places of the columns of each index: the letters, the small numbers, and both.
+const INDEXES: [&[u8]; 3] = [&[0], &[2], &[0, 2]];
+
+/// Statements on those rows by columns that do not begin the key, with own writes of rows that have
+/// the value, get it, lose it and are removed.
+const LOOKED_UP: [(&str, &[Step], Where, &[Line]); 3] = [
+    (
+        "no row is written",
+        &[(Add(2, Where::Small(9)), Told::OutOfRange)],
+        Where::Letters("b"),
+        &[("b", -1, 1), ("b", 4, 6)],
+    ),
+    (
+        "rows with the letters are put and removed",
+        &[
+            (Insert(&[("a", 3, 1), ("a", -5, 2)]), Told::Inserted(2)),
+            (Delete(Where::Both("a", 4)), Told::Deleted(1)),
+            (Add(-1, Where::Letters("a")), Told::Updated(3)),
+        ],
+        Where::Letters("a"),
+        &[("a", -5, 1), ("a", 1, 8), ("a", 3, 0)],
+    ),
+    (
+        "rows get the small number and lose it",
+        &[
+            (Add(1, Where::Both("b", -1)), Told::Updated(1)),
+            (Add(1, Where::Small(2)), Told::Updated(2)),
+            (Delete(Where::Both("ab", 1)), Told::Deleted(1)),
+            (Insert(&[("m", 9, 3)]), Told::Inserted(1)),
+            (Add(-3, Where::Small(3)), Told::Updated(3)),
+            (Delete(Where::Small(3)), Told::Deleted(0)),
+        ],
+        Where::Small(0),
+        &[("b", -1, 0), ("", 1, 0), ("c", 2, 0), ("m", 9, 0)],
+    ),
+];
+
+#[test]
+fn indexes_leave_the_replies(rt: HostRuntime) -> Result<(), Fail> {
+    for (what, steps, which, left) in &LOOKED_UP {
+        let scanned = outcome(rt.alloc(), &RANGED, steps, *which, left)?;
+        assert_eq!(rt; scanned, (None, true), "without indexes, where {what}");
+        let found = outcome_by(rt.alloc(), &RANGED, &INDEXES, steps, *which, left)?;
+        assert_eq!(rt; found, (None, true), "with indexes, where {what}");
     }
     Ok(())
 }

@@ -24,7 +24,7 @@ fn reads_the_heap(rt: HostRuntime) -> Result<(), Fail> {
             fixed: None,
         },
     };
-    let told = select(alloc, &bound, &heap, &Workspace::new(alloc))?;
+    let told = select(alloc, &bound, &heap, &[], &Workspace::new(alloc))?;
     let cells = Sequence::of(vec![in alloc; Cell::Value(Value::Int(1))]?);
     assert_eq!(rt; told, Reply::Rows(Sequence::of(vec![in alloc; cells]?)));
     Ok(())
