@@ -6,8 +6,9 @@ ghost use Rattle.bf_eager.specs.Freezing.{AreFrozen, CanFreeze};
 
 use crate::filling::heap_of;
 use bf_base::{Memory, Name, Row, Table};
-use bf_heap::{FrozenHeap, Heap};
+use bf_heap::Heap;
 use bf_image::Frozen;
+use bf_index::{FrozenIndexedHeap, IndexedHeap};
 use bf_live::LiveTables;
 use std::alloc::Global;
 
@@ -33,7 +34,8 @@ fn frozen(alloc: Global, table: &Table, heap: &Heap) -> Result<Frozen, Memory>
     let copy = table.copy(alloc)?;
     let rows = rows_in(alloc, heap)?;
     let heap = heap_of(alloc, table, rows)?;
-    match FrozenHeap::of(alloc, heap) {
+    let indexed = IndexedHeap::of(alloc, heap);
+    match FrozenIndexedHeap::of(alloc, indexed) {
         Ok(rows) => Ok(Frozen { table: copy, rows }),
         Err((_, memory)) => Err(memory),
     }

@@ -7,14 +7,14 @@ ghost use Rattle.bf_base.specs.Lists.{name_cmp};
 ghost use Rattle.bf_image.specs.Migrations.{IsLawfulMigration, source_of};
 
 use bf_base::{Name, Sequence, Table};
-use bf_heap::FrozenHeap;
+use bf_index::FrozenIndexedHeap;
 use bf_tree::Plan;
 
 /// An old table with its rows as they were at the flip.
 #[derive(Drop)]
 pub struct Frozen {
     pub table: Table,
-    pub rows: FrozenHeap,
+    pub rows: FrozenIndexedHeap,
 }
 
 /// A migration: its number, counted from 1, its plan, and the old tables that it is made of, in the

@@ -32,11 +32,11 @@ fn index_of_arm(alloc: Global, arm: &FrozenArm<'_>) -> Result<UnitIndex, Memory>
     ensures { IfOk result (λ index. index ≡ arm_index arm.now) }
 {
     let places = arm.from_places(alloc)?;
-    let from = ByValue::of(alloc, &arm.from.rows, places.as_slice())?;
+    let from = ByValue::of(alloc, arm.from.rows.heap(), places.as_slice())?;
     let join = match arm.join {
         Some(join) => {
             let places = arm.join_places(alloc)?;
-            Some(ByValue::of(alloc, &join.rows, places.as_slice())?)
+            Some(ByValue::of(alloc, join.rows.heap(), places.as_slice())?)
         }
         None => None,
     };

@@ -7,13 +7,13 @@ ghost use Rattle.bf_live.specs.Live.{rows_in};
 ghost use Rattle.bf_live.specs.Commits.{HasRoomIn, HaveRoomFor, KeepRoom, LeaveRoom, key_puts, put_by, taken_by, with_writes, with_writes_to};
 
 use bf_base::{Key, Memory, Name, Row};
-use bf_heap::Heap;
+use bf_index::IndexedHeap;
 use bf_txn::{TableWrites, Workspace};
 use std::collections::BTreeMap;
 
 /// Makes room in a table's heap for the rows that are put there, if the table is there.
 fn make_room_in(
-    heaps: &mut BTreeMap<Name, Heap>,
+    heaps: &mut BTreeMap<Name, IndexedHeap>,
     table: &Name,
     writes: &TableWrites,
 ) -> Result<(), Memory>
@@ -35,7 +35,7 @@ fn make_room_in(
 ///
 /// # Errors
 /// Where memory runs out. The heaps have their rows then, and may have more room.
-pub fn make_room(heaps: &mut BTreeMap<Name, Heap>, writes: &Workspace) -> Result<(), Memory>
+pub fn make_room(heaps: &mut BTreeMap<Name, IndexedHeap>, writes: &Workspace) -> Result<(), Memory>
     ensures rows { rows_in heaps.new.entries ≡ rows_in heaps.old.entries }
     ensures room { OnOk result (HaveRoomFor writes.now heaps.new.entries) }
 {
@@ -46,7 +46,7 @@ pub fn make_room(heaps: &mut BTreeMap<Name, Heap>, writes: &Workspace) -> Result
 }
 
 /// Puts a row under its key into a heap, or removes the one that is there. Takes no memory.
-fn change(heap: &mut Heap, key: Key, row: Option<Row>)
+fn change(heap: &mut IndexedHeap, key: Key, row: Option<Row>)
     requires { put_by row ≤ heap.old.spare }
     ensures entries { heap.new.entries ≡ applied_to heap.old.entries (key, row) }
     ensures spare { heap.old.spare ≤ heap.new.spare + put_by row }
@@ -62,7 +62,7 @@ fn change(heap: &mut Heap, key: Key, row: Option<Row>)
 }
 
 /// Makes each write to a table in its heap, in the order of the keys. Takes no memory.
-fn change_all(heap: &mut Heap, writes: TableWrites)
+fn change_all(heap: &mut IndexedHeap, writes: TableWrites)
     requires { key_puts writes ≤ heap.old.spare }
     ensures entries { heap.new.entries ≡ fold applied_to heap.old.entries writes }
     ensures spare { heap.old.spare ≤ heap.new.spare + key_puts writes }
@@ -73,7 +73,7 @@ fn change_all(heap: &mut Heap, writes: TableWrites)
 }
 
 /// Makes each write to a table in its heap, if the table is there. Takes no memory.
-fn apply_in(heaps: &mut BTreeMap<Name, Heap>, table: &Name, writes: TableWrites)
+fn apply_in(heaps: &mut BTreeMap<Name, IndexedHeap>, table: &Name, writes: TableWrites)
     requires { All (HasRoomIn table.now writes) heaps.old.entries }
     ensures rows { rows_in heaps.new.entries
         ≡ with_writes_to table.now writes (rows_in heaps.old.entries) }
@@ -86,7 +86,7 @@ fn apply_in(heaps: &mut BTreeMap<Name, Heap>, table: &Name, writes: TableWrites)
 
 /// Makes each write in its table's heap, and passes over those to tables that are not there. It
 /// looks a table up once. Takes no memory.
-pub fn apply(heaps: &mut BTreeMap<Name, Heap>, writes: Workspace)
+pub fn apply(heaps: &mut BTreeMap<Name, IndexedHeap>, writes: Workspace)
     requires { HaveRoomFor writes heaps.old.entries }
     ensures { rows_in heaps.new.entries ≡ with_writes writes (rows_in heaps.old.entries) }
 {

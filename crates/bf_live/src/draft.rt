@@ -8,6 +8,7 @@ ghost use Rattle.bf_live.specs.Drafts.{AreNamedApart, drafted_at, name_of_rows, 
 use crate::by_name::exchange_heap;
 use bf_base::{Memory, Name, Table};
 use bf_heap::Heap;
+use bf_index::IndexedHeap;
 use bf_tree::{Catalog, IndexRule};
 use std::alloc::Global;
 use std::collections::BTreeMap;
@@ -20,7 +21,7 @@ pub struct Draft {
     alloc: Global,
     catalog: Catalog,
     /// For the name of each table of the catalog, the rows.
-    heaps: BTreeMap<Name, Heap>,
+    heaps: BTreeMap<Name, IndexedHeap>,
 }
 
 impl Model for Draft {
@@ -73,7 +74,7 @@ impl Draft {
         } = self;
         let name = table.name.copy(alloc)?;
         catalog.add_table(table)?;
-        heaps.insert(name, heap)?;
+        heaps.insert(name, IndexedHeap::of(alloc, heap))?;
         Ok(Draft {
             alloc,
             catalog,
@@ -173,7 +174,7 @@ impl Draft {
     }
 
     /// Puts a heap in the place of the one of a name, if that is there. Takes no memory.
-    fn put(&mut self, name: &Name, heap: Heap)
+    fn put(&mut self, name: &Name, heap: IndexedHeap)
         ensures { self.new ≡ record self.old {
           tables = with_rows_of ((name.now, heap.entries) ∷ []) self.old.tables;
         } }
@@ -183,7 +184,7 @@ impl Draft {
 
     /// Puts the heaps of the tables that stay in their places, and lets go of the others. Takes no
     /// memory.
-    pub fn put_staying(&mut self, gone: &[Name], heaps: BTreeMap<Name, Heap>)
+    pub fn put_staying(&mut self, gone: &[Name], heaps: BTreeMap<Name, IndexedHeap>)
         ensures { self.new ≡ record self.old {
           tables = with_rows_of (staying_rows gone.now (rows_in heaps.entries)) self.old.tables;
         } }
@@ -196,7 +197,7 @@ impl Draft {
     }
 
     /// The catalog of the tables, and their heaps by their names. Takes no memory.
-    pub fn into_parts(self) -> (Catalog, BTreeMap<Name, Heap>)
+    pub fn into_parts(self) -> (Catalog, BTreeMap<Name, IndexedHeap>)
         ensures tables { result.0.tables ≡ map (λ t. t.0) self.tables }
         ensures indexes { result.0.indexes ≡ self.indexes }
         ensures rows { rows_in result.1.entries ≡ map (λ t. (t.0.name, t.1)) self.tables }

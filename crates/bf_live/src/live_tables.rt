@@ -11,11 +11,12 @@ ghost use Rattle.bf_sql.specs.Bound.{catalog_of};
 ghost use Rattle.bf_live.specs.Drafts.{AreNamedApart, CanExchange, IsExchangeOf, tables_after};
 ghost use Rattle.bf_live.specs.Live.{IsUnderOwnKeys, TableRows, committed, exchanged, held_in, stored};
 
-use crate::by_name::exchange_heap;
+use crate::by_name::{build_index, exchange_heap};
 use crate::commit::{apply, make_room};
 use crate::draft::Draft;
 use bf_base::{Memory, Name, Table};
 use bf_heap::Heap;
+use bf_index::IndexedHeap;
 use bf_tree::{Catalog, IndexRule};
 use bf_txn::Workspace;
 use std::alloc::Global;
@@ -29,7 +30,7 @@ pub struct LiveTables {
     alloc: Global,
     catalog: Catalog,
     /// For the name of each table of the catalog, the rows.
-    heaps: BTreeMap<Name, Heap>,
+    heaps: BTreeMap<Name, IndexedHeap>,
 }
 
 /// What an exchange is to make of live tables, built up beside them.
@@ -87,6 +88,18 @@ impl LiveTables {
         ensures { option_map (λ heap. heap.now.entries) result
             ≡ option_map (λ s. entries_of s.table s.rows) (stored_at self.now table.now) }
     {
+        match self.heaps.get(table) {
+            Some(indexed) => Some(indexed.heap()),
+            None => None,
+        }
+    }
+
+    /// The rows of the table of a name with the indexes that are kept of them, and `None` exactly where no
+    /// table has the name. It compares about log n names, and takes no memory.
+    pub fn indexed_heap(&self, table: &Name) -> Option<&IndexedHeap>
+        ensures { option_map (λ heap. heap.now.entries) result
+            ≡ option_map (λ s. entries_of s.table s.rows) (stored_at self.now table.now) }
+    {
         self.heaps.get(table)
     }
 
@@ -103,7 +116,8 @@ impl LiveTables {
     {
         let name = table.name.copy(self.alloc)?;
         let under = table.name.copy(self.alloc)?;
-        self.heaps.insert(under, Heap::new(self.alloc))?;
+        self.heaps
+            .insert(under, IndexedHeap::of(self.alloc, Heap::new(self.alloc)))?;
         match self.catalog.add_table(table) {
             Ok(()) => Ok(()),
             Err(e) => {
@@ -113,8 +127,8 @@ impl LiveTables {
         }
     }
 
-    /// Adds an index rule, and counts a schema change. It compares about log n names. No index is
-    /// built.
+    /// Adds an index rule, builds its index over the rows of its table, and counts a schema change. It compares
+    /// about log n names, and takes time n log n in the rows.
     ///
     /// # Errors
     /// Where memory runs out, or 2 ^ 64 schema changes were made. The live tables are as they were then.
@@ -123,6 +137,8 @@ impl LiveTables {
         ensures ok { OnOk result (self.new ≡ next_number (with_index index self.old)) }
         ensures err { OnErr result (self.new ≡ self.old) }
     {
+        let columns = index.columns.copy(self.alloc)?.into_vec();
+        build_index(&mut self.heaps, &index.table, columns)?;
         self.catalog.add_index(index)
     }
 
@@ -186,17 +202,18 @@ impl LiveTables {
 
     /// Takes the rows of the table of a name out, which leaves it without rows: `None` exactly where no
     /// table has the name. It compares about log n names. Takes no memory.
-    pub fn take_rows(&mut self, name: &Name) -> Option<Heap>
+    pub fn take_rows(&mut self, name: &Name) -> Option<IndexedHeap>
         ensures live { self.new ≡ with_rows self.old name.now [] }
         ensures rows { option_map (λ heap. heap.entries) result
             ≡ option_map (λ s. entries_of s.table s.rows) (stored_at self.old name.now) }
     {
-        exchange_heap(&mut self.heaps, name, Heap::new(self.alloc))
+        let none = IndexedHeap::of(self.alloc, Heap::new(self.alloc));
+        exchange_heap(&mut self.heaps, name, none)
     }
 
     /// Puts rows into the table of a name in place of those that it has, if the table is there. It
     /// compares about log n names. Takes no memory.
-    pub fn put_rows(&mut self, name: &Name, rows: Heap)
+    pub fn put_rows(&mut self, name: &Name, rows: IndexedHeap)
         requires own_keys { (s : Stored) → stored_at self.old name.now ≡ Some s
             → rows.entries ≡ entries_of s.table (map (λ entry. entry.1) rows.entries) }
         requires database { IsDatabase

@@ -36,11 +36,12 @@ pub fn run_on_table(
         → IfOk result (IsStep live.now writes.old writes.new in_block s) }
     ensures err { OnErr result (writes.new ≡ writes.old) }
 {
-    let Some(heap) = live.heap(&table.name) else {
+    let Some(heap) = live.indexed_heap(&table.name) else {
         unreachable!();
     };
+    let (rows, indexes) = (heap.heap(), heap.indexes());
     if let Action::Select { .. } = &bound.action {
-        return select(alloc, bound, heap, writes);
+        return select(alloc, bound, rows, indexes, writes);
     }
-    changes(alloc, bound, heap, writes)
+    changes(alloc, bound, rows, indexes, writes)
 }

@@ -20,8 +20,9 @@ use crate::anchor::Anchor;
 use crate::done::Done;
 use crate::under_way::UnderWay;
 use bf_base::{Memory, Name, Sequence, Table};
-use bf_heap::{FrozenHeap, Heap};
+use bf_heap::Heap;
 use bf_image::{Frozen, Migration, Registry, positions};
+use bf_index::FrozenIndexedHeap;
 use bf_live::LiveTables;
 use bf_tree::Plan;
 use std::alloc::Global;
@@ -31,7 +32,11 @@ use std::sync::Wait;
 ///
 /// # Errors
 /// Where memory runs out. The live tables are as they were then.
-fn take_frozen(alloc: Global, live: &mut LiveTables, name: &Name) -> Result<FrozenHeap, Memory>
+fn take_frozen(
+    alloc: Global,
+    live: &mut LiveTables,
+    name: &Name,
+) -> Result<FrozenIndexedHeap, Memory>
     requires database { IsDatabase live.old }
     requires there { IsTrue (is_some (stored_at live.old name.now)) }
     ensures rows { IfOk result (λ rows. Some rows
@@ -42,7 +47,7 @@ fn take_frozen(alloc: Global, live: &mut LiveTables, name: &Name) -> Result<Froz
     let Some(heap) = live.take_rows(name) else {
         unreachable!();
     };
-    match FrozenHeap::of(alloc, heap) {
+    match FrozenIndexedHeap::of(alloc, heap) {
         Ok(rows) => Ok(rows),
         Err((heap, memory)) => {
             live.put_rows(name, heap);
@@ -58,7 +63,7 @@ fn put_back(live: &mut LiveTables, frozen: Vec<Frozen>)
 {
     for old in frozen {
         let Frozen { table, rows } = old;
-        live.put_rows(&table.name, rows.into_heap());
+        live.put_rows(&table.name, rows.into_indexed_heap());
     }
 }
 

@@ -14,14 +14,14 @@ put_rows-requires-clause-own_keys c =
     let live = c.loop-old.live in
     let may = subst (λ (fs : List Frozen). MayComeBack live fs) c.in-Some.ensures.steps.0 c.loop-old.invariant.may in
     let name = c.in-Some.old.table.name in
-    subst (λ (entries : List Entry). (s : Stored) → stored_at live name ≡ Some s → entries ≡ entries_of s.table (map (λ (e : Entry). e.1) entries)) (sym c.into_heap.ensures.entries) may.0.own_keys
+    subst (λ (entries : List Entry). (s : Stored) → stored_at live name ≡ Some s → entries ≡ entries_of s.table (map (λ (e : Entry). e.1) entries)) (sym c.into_indexed_heap.ensures.entries) may.0.own_keys
 
 pub put_rows-requires-clause-database : goal.put_rows-requires-clause-database
 put_rows-requires-clause-database c =
     let live = c.loop-old.live in
     let may = subst (λ (fs : List Frozen). MayComeBack live fs) c.in-Some.ensures.steps.0 c.loop-old.invariant.may in
     let name = c.in-Some.old.table.name in
-    subst (λ (entries : List Entry). IsDatabase (with_rows live name (map (λ (e : Entry). e.1) entries))) (sym c.into_heap.ensures.entries) may.0.database
+    subst (λ (entries : List Entry). IsDatabase (with_rows live name (map (λ (e : Entry). e.1) entries))) (sym c.into_indexed_heap.ensures.entries) may.0.database
 
 pub loop-old-preserved : goal.loop-old-preserved
 loop-old-preserved c =
@@ -31,7 +31,7 @@ loop-old-preserved c =
     let steps = c.in-Some.ensures.steps.0 in
     let may = subst (λ (fs : List Frozen). MayComeBack live fs) steps inv.may in
     let rest = into_iter_items c.next.new.self in
-    let next : c.put_rows.new.self ≡ with_back live old = c.put_rows.ensures ∙ ap (λ (entries : List Entry). with_rows live old.table.name (map (λ (e : Entry). e.1) entries)) c.into_heap.ensures.entries in
+    let next : c.put_rows.new.self ≡ with_back live old = c.put_rows.ensures ∙ ap (λ (entries : List Entry). with_rows live old.table.name (map (λ (e : Entry). e.1) entries)) c.into_indexed_heap.ensures.entries in
     record {
       can = tt;
       ends = tt;

@@ -17,7 +17,7 @@ pub invariant_of-result : goal.invariant_of-result
 invariant_of-result c =
     let heaps = c.self.inside.heaps.entries in
     let inserted : rows_in c.insert.new.self.entries ≡ insert_entry name_cmp (rows_in heaps) c.args.table.name c.args.heap.entries =
-    ap rows_in (c.in_ok-insert.ensures.entries ∙ ap (λ n. insert_entry name_cmp heaps n c.args.heap) c.in_ok-name.ensures) ∙ rows_inserted c.args.table.name c.args.heap heaps in
+    ap rows_in (c.in_ok-insert.ensures.entries ∙ ap₂ (λ n h. insert_entry name_cmp heaps n h) c.in_ok-name.ensures c.of.ensures) ∙ rows_inserted c.args.table.name c.args.heap heaps in
     one_each_with c.self.inside.catalog.tables (rows_in heaps) c.self.invariant c.args.self.tables (ap (λ (d : Drafted). d.tables) c.self.view_is) c.args.table c.args.heap.entries c.requires
     c.add_table.new.self.tables (rows_in c.insert.new.self.entries) (ap (λ (catalog : Catalog). catalog.tables) c.in_ok-add_table.ensures.ok) inserted
 
@@ -25,7 +25,7 @@ pub returns : goal.returns
 returns c =
     let heaps = c.self.inside.heaps.entries in
     let inserted : rows_in c.insert.new.self.entries ≡ insert_entry name_cmp (rows_in heaps) c.args.table.name c.args.heap.entries =
-    ap rows_in (c.in_ok-insert.ensures.entries ∙ ap (λ n. insert_entry name_cmp heaps n c.args.heap) c.in_ok-name.ensures) ∙ rows_inserted c.args.table.name c.args.heap heaps in
+    ap rows_in (c.in_ok-insert.ensures.entries ∙ ap₂ (λ n h. insert_entry name_cmp heaps n h) c.in_ok-name.ensures c.of.ensures) ∙ rows_inserted c.args.table.name c.args.heap heaps in
     ap₂ (λ ts is. record { tables = ts; indexes = is })
     (paired_with c.self.inside.catalog.tables (rows_in heaps) c.self.invariant c.args.self.tables (ap (λ (d : Drafted). d.tables) c.self.view_is) c.args.table c.args.heap.entries c.requires
     c.add_table.new.self.tables (rows_in c.insert.new.self.entries) (ap (λ (catalog : Catalog). catalog.tables) c.in_ok-add_table.ensures.ok) inserted)

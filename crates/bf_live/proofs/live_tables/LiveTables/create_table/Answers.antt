@@ -20,7 +20,7 @@ invariant_of-self-in-Ok c =
     let heaps = c.self.inside.heaps.entries in
     let rows = rows_in heaps in
     let name = c.args.table.name in
-    let inserted : c.insert.new.self.entries ≡ insert_entry name_cmp heaps name empty_heap = c.in_ok-insert.ensures.entries ∙ ap₂ (λ n h. insert_entry name_cmp heaps n h) c.in_ok-under.ensures c.new.ensures in
+    let inserted : c.insert.new.self.entries ≡ insert_entry name_cmp heaps name empty_heap = c.in_ok-insert.ensures.entries ∙ ap₂ (λ n h. insert_entry name_cmp heaps n h) c.in_ok-under.ensures (c.of.ensures ∙ c.new.ensures) in
     let rows_now : rows_in c.insert.new.self.entries ≡ insert_entry name_cmp rows name [] = ap rows_in inserted ∙ rows_inserted name empty_heap heaps in
     subst (AreLiveTables c.add_table.new.self) (sym rows_now)
     (subst (λ (catalog : Catalog). AreLiveTables catalog (insert_entry name_cmp rows name [])) (sym c.in-Ok.ensures.ok)
@@ -31,7 +31,7 @@ returns-in-Ok-clause-ok c =
     let heaps = c.self.inside.heaps.entries in
     let rows = rows_in heaps in
     let name = c.args.table.name in
-    let inserted : c.insert.new.self.entries ≡ insert_entry name_cmp heaps name empty_heap = c.in_ok-insert.ensures.entries ∙ ap₂ (λ n h. insert_entry name_cmp heaps n h) c.in_ok-under.ensures c.new.ensures in
+    let inserted : c.insert.new.self.entries ≡ insert_entry name_cmp heaps name empty_heap = c.in_ok-insert.ensures.entries ∙ ap₂ (λ n h. insert_entry name_cmp heaps n h) c.in_ok-under.ensures (c.of.ensures ∙ c.new.ensures) in
     let rows_now : rows_in c.insert.new.self.entries ≡ insert_entry name_cmp rows name [] = ap rows_in inserted ∙ rows_inserted name empty_heap heaps in
     ap₂ database_of c.in-Ok.ensures.ok rows_now ∙ view_created c.self.inside.catalog rows c.self.invariant c.args.self.now c.self.view_is c.args.table c.requires.database
 
@@ -41,7 +41,7 @@ invariant_of-self-in-Err c =
     let heaps = c.self.inside.heaps.entries in
     let rows = rows_in heaps in
     let name = c.args.table.name in
-    let inserted : c.insert.new.self.entries ≡ insert_entry name_cmp heaps name empty_heap = c.in_ok-insert.ensures.entries ∙ ap₂ (λ n h. insert_entry name_cmp heaps n h) c.in_ok-under.ensures c.new.ensures in
+    let inserted : c.insert.new.self.entries ≡ insert_entry name_cmp heaps name empty_heap = c.in_ok-insert.ensures.entries ∙ ap₂ (λ n h. insert_entry name_cmp heaps n h) c.in_ok-under.ensures (c.of.ensures ∙ c.new.ensures) in
     let same : c.remove.new.self.entries ≡ heaps =
     c.remove.ensures.entries ∙ ap (λ n. remove_entry (is_at (name_cmp n)) c.insert.new.self.entries) c.in_ok-name.ensures ∙ ap (λ (es : List NamedHeap). remove_entry (is_at (name_cmp name)) es) inserted
     ∙ removed_again name empty_heap heaps (none_found name heaps (rows_are_new c.self.inside.catalog rows c.self.invariant c.args.self.now c.self.view_is c.args.table c.requires.database)) in
@@ -53,7 +53,7 @@ returns-clause-err c =
     let heaps = c.self.inside.heaps.entries in
     let rows = rows_in heaps in
     let name = c.args.table.name in
-    let inserted : c.insert.new.self.entries ≡ insert_entry name_cmp heaps name empty_heap = c.in_ok-insert.ensures.entries ∙ ap₂ (λ n h. insert_entry name_cmp heaps n h) c.in_ok-under.ensures c.new.ensures in
+    let inserted : c.insert.new.self.entries ≡ insert_entry name_cmp heaps name empty_heap = c.in_ok-insert.ensures.entries ∙ ap₂ (λ n h. insert_entry name_cmp heaps n h) c.in_ok-under.ensures (c.of.ensures ∙ c.new.ensures) in
     let same : c.remove.new.self.entries ≡ heaps =
     c.remove.ensures.entries ∙ ap (λ n. remove_entry (is_at (name_cmp n)) c.insert.new.self.entries) c.in_ok-name.ensures ∙ ap (λ (es : List NamedHeap). remove_entry (is_at (name_cmp name)) es) inserted
     ∙ removed_again name empty_heap heaps (none_found name heaps (rows_are_new c.self.inside.catalog rows c.self.invariant c.args.self.now c.self.view_is c.args.table c.requires.database)) in

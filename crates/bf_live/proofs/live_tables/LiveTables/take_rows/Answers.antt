@@ -11,13 +11,13 @@ pub invariant_of-self : goal.invariant_of-self
 invariant_of-self c =
     let rows = rows_in c.self.inside.heaps.entries in
     let database = keeps_without_rows c.args.self.now c.args.name.now (subst IsDatabase c.self.view_is c.self.invariant.database) in
-    subst (AreLiveTables c.self.inside.catalog) (sym (c.exchange_heap.ensures.rows ∙ ap (λ (h : Rows). with_rows_under c.args.name.now h.entries rows) c.new.ensures))
+    subst (AreLiveTables c.self.inside.catalog) (sym (c.exchange_heap.ensures.rows ∙ ap (λ (h : Rows). with_rows_under c.args.name.now h.entries rows) (c.of-none.ensures ∙ c.new.ensures)))
     (store_put c.self.inside.catalog rows c.self.invariant c.args.self.now c.self.view_is c.args.name.now [] (λ s found. refl) database)
 
 pub returns-clause-live : goal.returns-clause-live
 returns-clause-live c =
     let rows = rows_in c.self.inside.heaps.entries in
-    ap (database_of c.self.inside.catalog) (c.exchange_heap.ensures.rows ∙ ap (λ (h : Rows). with_rows_under c.args.name.now h.entries rows) c.new.ensures)
+    ap (database_of c.self.inside.catalog) (c.exchange_heap.ensures.rows ∙ ap (λ (h : Rows). with_rows_under c.args.name.now h.entries rows) (c.of-none.ensures ∙ c.new.ensures))
     ∙ view_put c.self.inside.catalog rows c.self.invariant c.args.self.now c.self.view_is c.args.name.now []
 
 pub returns-clause-rows : goal.returns-clause-rows
