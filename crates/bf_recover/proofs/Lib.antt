@@ -5,8 +5,11 @@ pub mod Freeing
 pub mod Known
 pub mod Legality
 pub mod Moving
+pub mod MovingOnce
 pub mod Opening
 pub mod Payloads
 pub mod Planning
+pub mod Recorded
 pub mod Replaying
 pub mod Rising
+pub mod WorkedMoves

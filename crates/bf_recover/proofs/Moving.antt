@@ -31,7 +31,7 @@ module _ (unit : ℕ) where
   granules_rise (p ∷ []) = refl
   granules_rise (p ∷ q ∷ places) = ap₂ (λ r b. is_lt r && b) (in_one_unit p q) (granules_rise (q ∷ places))
 
-  granules_differ : (places : List Place) → rises place_cmp places ≡ true → are_apart same_granule (granules_at unit places) ≡ true
+  pub granules_differ : (places : List Place) → rises place_cmp places ≡ true → are_apart same_granule (granules_at unit places) ≡ true
   granules_differ places rising =
       ap (λ same. are_apart same (granules_at unit places)) ties
       ∙ apart_from_rises granule_cmp_total (granules_at unit places) (granules_rise places ∙ rising)

@@ -2,6 +2,7 @@ pub mod Commits
 pub mod Flips
 pub mod Legal
 pub mod Lookups
+pub mod MovedOnce
 pub mod Moves
 pub mod Once
 pub mod Places
