@@ -3,8 +3,8 @@
 use crate::call::{TWO_COLUMNS, reports};
 use std::test::Fail;
 
-/// Statements behind a table with two columns.
-const BLOCKS: [(&str, &str); 6] = [
+/// Statements behind a table with two columns, the last ones with an index of one of them.
+const BLOCKS: [(&str, &str); 7] = [
     (
         "INSERT INTO t VALUES (1, 10); BEGIN; UPDATE t SET n = n + 1 WHERE id = 1; \
 INSERT INTO t VALUES (2, 20), (1, 0); DELETE FROM t WHERE id = 5; COMMIT; SELECT * FROM t;",
@@ -59,6 +59,23 @@ entry 1 session 1 from 1 to 1 committed 1\nentry 2 session 1 from 2 to 2 committ
 entry 3 session 1 from 3 to 7 committed 3\nentry 4 session 2 from 1 to 2 rolled back\n\
 entry 5 session 3 from 1 to 1 committed 4\nentry 6 session 3 from 2 to 2 committed 5\n\
 end commits 5 migration none\n",
+    ),
+    (
+        "INSERT INTO t VALUES (1, 7), (2, 8), (3, 7); CREATE INDEX i ON t (n); \
+SELECT id FROM t WHERE n = 7; BEGIN; UPDATE t SET n = 9 WHERE n = 7 AND id > 1; \
+INSERT INTO t VALUES (4, 7); DELETE FROM t WHERE n = 8; SELECT id FROM t WHERE 7 = n; ROLLBACK; \
+UPDATE t SET n = 9 WHERE n = 8; SELECT id FROM t WHERE n = 9; SELECT id FROM t WHERE n = 7; \
+DELETE FROM t WHERE n = 7; SELECT * FROM t;",
+        "1.1 created\n1.2 inserted 3\n1.3 created\n1.4 rows 2\n1.4 | 1\n1.4 | 3\n1.5 begun\n\
+1.6 updated 1\n1.7 inserted 1\n1.8 deleted 1\n1.9 rows 2\n1.9 | 1\n1.9 | 4\n1.10 rolled back\n\
+1.11 updated 1\n1.12 rows 1\n1.12 | 2\n1.13 rows 2\n1.13 | 1\n1.13 | 3\n1.14 deleted 2\n\
+1.15 rows 1\n1.15 | 2, 9\n\
+entry 1 session 1 from 1 to 1 committed 1\nentry 2 session 1 from 2 to 2 committed 2\n\
+entry 3 session 1 from 3 to 3 committed 3\nentry 4 session 1 from 4 to 4 committed 4\n\
+entry 5 session 1 from 5 to 10 rolled back\nentry 6 session 1 from 11 to 11 committed 5\n\
+entry 7 session 1 from 12 to 12 committed 6\nentry 8 session 1 from 13 to 13 committed 7\n\
+entry 9 session 1 from 14 to 14 committed 8\nentry 10 session 1 from 15 to 15 committed 9\n\
+end commits 9 migration none\n",
     ),
 ];
 
