@@ -1,7 +1,10 @@
+pub mod ByUnit
 pub mod Calls
 pub mod Granules
+pub mod Kept
 pub mod Marking
 pub mod Recorded
+pub mod RowNumbers
 pub mod Storing
 pub mod WorkedMoves
 pub mod aside

@@ -21,48 +21,42 @@ use Rattle.bf_base.proofs.Parts.{filter_all, filter-filter}
 use Rattle.bf_sql.specs.migrations.Granules.{same_granule}
 use Rattle.bf_sql.specs.migrations.Lazy.{DoneGranule, done_by}
 use Rattle.bf_txn.proofs.KeyWrites.{rises_from_sorted}
+use Rattle.bf_store.specs.ByUnit.{Numbered, marks_of}
 use Rattle.bf_store.specs.Marks.{AreFresh, granules_in, marked, number_in, numbered_of, unmarked, with_mark}
 use Rattle.bf_store.specs.States.{granule_cmp}
 use Rattle.bf_store.proofs.Granules.{granule_cmp_total, granule_ties}
 
-abbrev pub Numbered : Type 0
-Numbered = Granule × ℕ
-
--- the marks that a map has
-abbrev pub seen : List Numbered → List DoneGranule
-seen es = map (λ (e : Numbered). record { granule = e.0; number = e.1 }) es
-
 abbrev pub granule_of : DoneGranule → Granule
 granule_of d = d.granule
 
-pub looked_up : (es : List Numbered) (g : Granule) → lookup (is_at (granule_cmp g)) es ≡ number_in (seen es) g
+pub looked_up : (es : List Numbered) (g : Granule) → lookup (is_at (granule_cmp g)) es ≡ number_in (marks_of es) g
 looked_up [] g = refl
 looked_up (e ∷ es) g =
     let tie : is_eq (granule_cmp g e.0) ≡ same_granule e.0 g = symmetric granule_cmp_total g e.0 ∙ sym (granule_ties e.0 g) in
     ap₂ (λ b o. cond b (Some e.1) o) tie (looked_up es g)
-    ∙ elim (same_granule e.0 g) as (λ b. cond b (Some e.1) (number_in (seen es) g) ≡ option_map (λ (d : DoneGranule). d.number) (cond b (Some (record { granule = e.0; number = e.1 })) (find (λ d. same_granule d.granule g) (seen es)))) [ true ↦ refl | false ↦ refl ]
+    ∙ elim (same_granule e.0 g) as (λ b. cond b (Some e.1) (number_in (marks_of es) g) ≡ option_map (λ (d : DoneGranule). d.number) (cond b (Some (record { granule = e.0; number = e.1 })) (find (λ d. same_granule d.granule g) (marks_of es)))) [ true ↦ refl | false ↦ refl ]
 
-pub seen_keys : (es : List Numbered) → granules_in (seen es) ≡ keys_of es
+pub seen_keys : (es : List Numbered) → granules_in (marks_of es) ≡ keys_of es
 seen_keys [] = refl
 seen_keys (e ∷ es) = ap (λ gs. e.0 ∷ gs) (seen_keys es)
 
 -- a map is in order
-pub in_order_if_sorted : (es : List Numbered) → IsStrictlySortedBy granule_cmp (keys_of es) → rises granule_cmp (granules_in (seen es)) ≡ true
+pub in_order_if_sorted : (es : List Numbered) → IsStrictlySortedBy granule_cmp (keys_of es) → rises granule_cmp (granules_in (marks_of es)) ≡ true
 in_order_if_sorted es sorted = ap (rises granule_cmp) (seen_keys es) ∙ rises_from_sorted granule_cmp_total es sorted
 
 -- a granule that is not there
 pub placed_if_absent : (es : List Numbered) (g : Granule) (n : ℕ) → lookup (is_at (granule_cmp g)) es ≡ None
-    → seen (insert_entry granule_cmp es g n) ≡ placed granule_cmp granule_of (seen es) (done_by n g)
+    → marks_of (insert_entry granule_cmp es g n) ≡ placed granule_cmp granule_of (marks_of es) (done_by n g)
 placed_if_absent [] g n none = refl
 placed_if_absent (e ∷ es) g n none =
     elim (granule_cmp g e.0) as (λ r. cond (is_eq r) (Some e.1) (lookup (is_at (granule_cmp g)) es) ≡ None
-    → seen (match_ordering r ((g, n) ∷ e ∷ es) ((e.0, n) ∷ es) (e ∷ insert_entry granule_cmp es g n)) ≡ cond (is_lt r) (done_by n g ∷ seen (e ∷ es)) (record { granule = e.0; number = e.1 } ∷ placed granule_cmp granule_of (seen es) (done_by n g))) [
+    → marks_of (match_ordering r ((g, n) ∷ e ∷ es) ((e.0, n) ∷ es) (e ∷ insert_entry granule_cmp es g n)) ≡ cond (is_lt r) (done_by n g ∷ marks_of (e ∷ es)) (record { granule = e.0; number = e.1 } ∷ placed granule_cmp granule_of (marks_of es) (done_by n g))) [
       | Less ↦ λ h. refl
       | Equal ↦ λ h. absurd cc
       | Greater ↦ λ h. ap (λ (ds : List DoneGranule). record { granule = e.0; number = e.1 } ∷ ds) (placed_if_absent es g n h)
     ] none
 
-pub none_if_fresh : (es : List Numbered) (g : Granule) → has same_granule (granules_in (seen es)) g ≡ false → lookup (is_at (granule_cmp g)) es ≡ None
+pub none_if_fresh : (es : List Numbered) (g : Granule) → has same_granule (granules_in (marks_of es)) g ≡ false → lookup (is_at (granule_cmp g)) es ≡ None
 none_if_fresh [] g fresh = refl
 none_if_fresh (e ∷ es) g fresh =
     let parts = or_parts _ _ fresh in
@@ -73,14 +67,14 @@ none_if_fresh (e ∷ es) g fresh =
 abbrev pub without : Granule → List DoneGranule → List DoneGranule
 without g ds = filter (λ d. not (same_granule d.granule g)) ds
 
-none_behind : (g : Granule) (es : List Numbered) → rises granule_cmp (g ∷ keys_of es) ≡ true → without g (seen es) ≡ seen es
+none_behind : (g : Granule) (es : List Numbered) → rises granule_cmp (g ∷ keys_of es) ≡ true → without g (marks_of es) ≡ marks_of es
 none_behind g [] h = refl
 none_behind g (e ∷ es) h =
     let less : granule_cmp g e.0 ≡ Less = less_from_test _ (and_parts _ _ h).0 in
     let later : same_granule e.0 g ≡ false = granule_ties e.0 g ∙ ap is_eq (turned_less granule_cmp_total g e.0 less) in
     rw later (ap (λ (ds : List DoneGranule). record { granule = e.0; number = e.1 } ∷ ds) (none_behind g es (rises_skip granule_cmp_total g e.0 (keys_of es) h)))
 
-pub removed : (g : Granule) (es : List Numbered) → rises granule_cmp (keys_of es) ≡ true → seen (remove_entry (is_at (granule_cmp g)) es) ≡ without g (seen es)
+pub removed : (g : Granule) (es : List Numbered) → rises granule_cmp (keys_of es) ≡ true → marks_of (remove_entry (is_at (granule_cmp g)) es) ≡ without g (marks_of es)
 removed g [] h = refl
 removed g (e ∷ es) h = elim (cases_Bool (is_eq (granule_cmp g e.0))) [
   | inl tied ↦

@@ -1,8 +1,10 @@
 pub mod Anchors
+pub mod ByUnit
 pub mod Calls
 pub mod Flips
 pub mod Marks
 pub mod Puts
+pub mod RowNumbers
 pub mod States
 pub mod Stores
 pub mod Told

@@ -1,35 +1,36 @@
 //! The granules of a migration that have moved.
 
-ghost use Rattle.std.specs.Prelude.{◌≡◌, [], IfOk, OnErr, OnOk, false, length};
+ghost use Rattle.std.specs.Prelude.{◌≡◌, [], IfOk, OnErr, OnOk, false, filter, length, not};
 ghost use Rattle.bf_base.specs.Lists.{has};
 ghost use Rattle.bf_sql.specs.migrations.Granules.{same_granule};
 ghost use Rattle.bf_sql.specs.migrations.Lazy.{done_by};
 ghost use Rattle.bf_store.specs.Marks.{AreFresh, AreInOrder, granules_in, left_of, marked, number_in, numbered_of, unmarked, with_mark};
 
+use crate::unit_marks::{UnitMarks, make_unit};
 use bf_base::{Granule, Memory};
 use std::alloc::Global;
-use std::collections::BTreeMap;
 use std::marker::Model;
 
 /// For each granule that has moved, the number of the record that moved it. Contracts see them in
 /// the order of unit and place.
 #[derive(Drop)]
 pub struct Done {
-    numbers: BTreeMap<Granule, u64>,
+    // Those of each unit, by its number, up to the last unit of which any has moved.
+    units: Vec<UnitMarks>,
+    // How many there are.
+    count: usize,
 }
 
 impl Model for Done {
-    ghost use Rattle.std.specs.Prelude.{List, map};
-    ghost use Rattle.std.specs.List.Sorted.{IsStrictlySortedBy};
-    ghost use Rattle.std.specs.Map.{keys_of};
+    ghost use Rattle.std.specs.Prelude.{List};
     ghost use Rattle.bf_sql.specs.migrations.Lazy.{DoneGranule};
-    ghost use Rattle.bf_store.specs.States.{granule_cmp};
+    ghost use Rattle.bf_store.specs.ByUnit.{AreKept, from_unit, marks_of};
 
     ghost Value = { List DoneGranule };
 
-    ghost view = { λ done. map (λ e. record { granule = e.0; number = e.1 }) done.numbers.entries };
+    ghost view = { λ done. marks_of (from_unit 0 done.units.items) };
 
-    ghost invariant = { λ done. IsStrictlySortedBy granule_cmp (keys_of done.numbers.entries) };
+    ghost invariant = { λ done. AreKept done.units.items done.count };
 }
 
 impl Done {
@@ -38,19 +39,23 @@ impl Done {
         ensures { result ≡ [] }
     {
         Done {
-            numbers: BTreeMap::new(alloc),
+            units: Vec::new(alloc),
+            count: 0,
         }
     }
 
     /// The number of the record that moved a granule, if it has moved. It compares about log n
-    /// granules, and takes no memory.
+    /// values, or reads two places for a row. Takes no memory.
     pub fn number(&self, granule: &Granule) -> Option<u64>
         ensures { result ≡ number_in self.now granule.now }
     {
-        self.numbers.get(granule).copied()
+        match self.units.get(granule.unit as usize) {
+            Some(marks) => marks.number(&granule.place),
+            None => None,
+        }
     }
 
-    /// Whether a granule has moved. It compares about log n granules, and takes no memory.
+    /// Whether a granule has moved. It costs what `number` does.
     pub fn has(&self, granule: &Granule) -> bool
         ensures { result ≡ has same_granule (granules_in self.now) granule.now }
     {
@@ -62,10 +67,10 @@ impl Done {
         ensures len { result ≡ length self.now }
         ensures ordered { AreInOrder self.now }
     {
-        self.numbers.len()
+        self.count
     }
 
-    /// Those of some granules that have not moved. For each it compares about log n granules.
+    /// Those of some granules that have not moved. For each it costs what `number` does, and a copy.
     ///
     /// # Errors
     /// Where memory runs out.
@@ -82,7 +87,7 @@ impl Done {
     }
 
     /// Those of some granules that have moved, each with the number of its record. For each it
-    /// compares about log n granules.
+    /// costs what `number` does, and a copy.
     ///
     /// # Errors
     /// Where memory runs out.
@@ -109,13 +114,15 @@ impl Done {
             (self.new ≡ with_mark self.old (done_by number granule.now)) }
         ensures err { OnErr result (self.new ≡ self.old) }
     {
-        let granule = granule.copy(alloc)?;
-        self.numbers.insert(granule, number)?;
+        let count = self.count.checked_add(1).ok_or(Memory)?;
+        make_unit(alloc, &mut self.units, granule.unit)?;
+        self.units[granule.unit as usize].mark(alloc, &granule.place, number)?;
+        self.count = count;
         Ok(())
     }
 
     /// Notes that one record has moved granules that differ, of which none had moved. For each it
-    /// compares about log n granules.
+    /// compares about log n values, or writes one place for a row, whose page is made with the first.
     ///
     /// # Errors
     /// Where memory runs out. Nothing is noted then.
@@ -136,13 +143,23 @@ impl Done {
         Ok(())
     }
 
-    /// Takes back that granules have moved. For each it compares about log n granules, and it takes
-    /// no memory.
+    /// Takes back that a granule has moved, if it has.
+    fn unmark_one(&mut self, granule: &Granule)
+        ensures { self.new ≡ filter (λ d. not (same_granule d.granule granule.now)) self.old }
+    {
+        let unit = granule.unit as usize;
+        if unit < self.units.len() && self.units[unit].unmark(&granule.place) {
+            self.count -= 1;
+        }
+    }
+
+    /// Takes back that granules have moved. For each it compares about log n values, or writes one place for
+    /// a row. Takes no memory.
     pub fn unmark(&mut self, granules: &[Granule])
         ensures { self.new ≡ unmarked self.old granules.now }
     {
         for granule in granules {
-            self.numbers.remove(granule);
+            self.unmark_one(granule);
         }
     }
 
@@ -153,9 +170,9 @@ impl Done {
     pub fn granules(&self, alloc: Global) -> Result<Vec<Granule>, Memory>
         ensures { IfOk result (λ granules. granules.items ≡ granules_in self.now) }
     {
-        let mut granules = Vec::with_capacity(alloc, self.numbers.len())?;
-        for granule in self.numbers.keys() {
-            granules.push(granule.copy(alloc)?)?;
+        let mut granules = Vec::with_capacity(alloc, self.count)?;
+        for (at, marks) in self.units.iter().enumerate() {
+            marks.add_granules(alloc, at as u8, &mut granules)?;
         }
         Ok(granules)
     }

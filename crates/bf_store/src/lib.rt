@@ -8,9 +8,11 @@ mod flip;
 pub mod laws;
 pub mod moved;
 mod movement;
+mod row_numbers;
 pub mod store;
 mod told;
 mod under_way;
+mod unit_marks;
 
 pub use moved::{Moved, Receipt};
 pub use store::Store;

@@ -1,0 +1,20 @@
+-- NUMBERS OF ROWS, as they are kept: in pages of 64 slots, a slot for each position.
+use Rattle.std.specs.Prelude.{ℕ, suc, ◌*◌, ◌^◌, ◌≤◌, List, [], ◌∷◌, ◌++◌, length, Option, None, Some}
+use Rattle.std.specs.Global.{Vec}
+use Rattle.std.specs.List.{AllByRecursion}
+
+-- the positions of slots, counted from one, with their numbers
+abbrev pub from_slot : ℕ → List (Option ℕ) → List (ℕ × ℕ)
+from_slot at [] = []
+from_slot at (None ∷ slots) = from_slot (suc at) slots
+from_slot at (Some number ∷ slots) = (at, number) ∷ from_slot (suc at) slots
+
+-- those of pages that are numbered from one on
+abbrev pub from_page : ℕ → List (Vec (Option ℕ)) → List (ℕ × ℕ)
+from_page page [] = []
+from_page page (slots ∷ pages) = from_slot (64 * page) slots.items ++ from_page (suc page) pages
+
+-- no page has more slots, and no more pages than positions take
+pub record ArePages (pages : List (Vec (Option ℕ))) : Type 0 where
+  pub each : AllByRecursion (λ page. length page.items ≤ 64) pages
+  pub few : length pages ≤ 2 ^ 26
