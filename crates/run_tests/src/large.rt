@@ -35,3 +35,23 @@ fn moves_rows_of_several_pages(rt: HostRuntime) -> Result<(), Fail> {
     assert!(rt; reports_alone(&rt, alloc, &start, &[made, again], 6, told)?);
     Ok(())
 }
+
+/// The most rows that a table may have of which a MIGRATE makes others.
+const MOST_ROWS: u32 = 1 << 20;
+
+#[test]
+fn a_migrate_reads_so_many_rows_and_no_more(rt: HostRuntime) -> Result<(), Fail> {
+    let alloc = rt.alloc();
+    let rows = tuples(alloc, 0, MOST_ROWS, 7)?;
+    let script = [
+        "PHASE; SESSION; CREATE TABLE t (id INT, n INT, PRIMARY KEY (id)); INSERT INTO t VALUES ",
+        rows.as_str(),
+        "; MIGRATE (CREATE TABLE u AS SELECT id, n FROM t); DELETE FROM t WHERE id = 0;",
+        "MIGRATE (CREATE TABLE u AS SELECT id, n FROM t); SELECT * FROM u WHERE id = 3;",
+    ];
+    let made = "1.1 created\n1.2 inserted 1048577\n1.3 E17 too many rows t 1048577\n";
+    let again = "1.4 deleted 1\n1.5 migrated 1\n1.6 rows 1\n1.6 | 3, 7\n";
+    let told = "1 moved 1 next unit 0 position 0";
+    assert!(rt; reports_alone(&rt, alloc, &script, &[made, again], 6, told)?);
+    Ok(())
+}
