@@ -30,7 +30,7 @@ fn add_values(alloc: Global, values: &mut Vec<Value>, row: &Row) -> Result<(), M
 }
 
 /// A row with the values of another behind its own.
-fn side_by_side(alloc: Global, left: &Row, right: &Row) -> Result<Row, Memory>
+pub(crate) fn side_by_side(alloc: Global, left: &Row, right: &Row) -> Result<Row, Memory>
     ensures { IfOk result (λ row. row ≡ left.now ++ right.now) }
 {
     let mut values = Vec::with_capacity(alloc, left.as_slice().len() + right.as_slice().len())?;

@@ -14,10 +14,12 @@ ghost use Rattle.bf_sql.specs.migrations.Placed.{placed_pair};
 ghost use Rattle.bf_sql.specs.migrations.Targets.{arm_kind};
 ghost use Rattle.bf_image.specs.ArmRows.{CanMake};
 ghost use Rattle.bf_image.specs.BoundArms.{IsFrozenArm};
+ghost use Rattle.bf_image.specs.Giving.{has_any};
 ghost use Rattle.bf_image.specs.Lookup.{partner, join_rows_met, from_rows_met};
 ghost use Rattle.bf_image.specs.Migrations.{IsLawfulMigration, old_of};
 ghost use Rattle.bf_image.specs.declared.migration.Migration.{Migration};
 
+use crate::arm_gives::makes_any;
 use crate::arm_rows::rows_made;
 use crate::arms::FrozenArm;
 use bf_base::{Key, Memory, Row, Value};
@@ -143,5 +145,27 @@ impl<'a> FrozenArm<'a> {
         }
         let met = self.join_row_met(alloc, row)?;
         rows_made(alloc, self.placed, &[row], met.as_slice())
+    }
+
+    /// Whether the arm makes a row of one row of its driver, and of the one row of the other table that it
+    /// can meet.
+    pub(crate) fn gives_of_driver(&self, alloc: Global, row: &Row) -> Result<bool, Memory>
+        ensures from { IfOk result (λ gives. (m : Migration) (target : ℕ) (arm : Arm)
+            → IsLawfulMigration m → IsFrozenArm m target arm self.now
+            → arm_kind (old_of m) arm ≡ ByFrom → gives ≡ has_any
+            (arm_rows (old_of m) arm (row.now ∷ []) (join_rows_met (old_of m) arm row.now))) }
+        ensures join { IfOk result (λ gives. (m : Migration) (target : ℕ) (arm : Arm)
+            → IsLawfulMigration m → IsFrozenArm m target arm self.now
+            → arm_kind (old_of m) arm ≡ ByJoin → gives ≡ has_any
+            (arm_rows (old_of m) arm (from_rows_met (old_of m) arm row.now) (row.now ∷ []))) }
+    {
+        if self.placed.kind != ArmKind::ByJoin {
+            let met = self.join_row_met(alloc, row)?;
+            return makes_any(alloc, self.placed, row, met);
+        }
+        match self.from_row_met(alloc, row)? {
+            Some(met) => makes_any(alloc, self.placed, met, Some(row)),
+            None => Ok(false),
+        }
     }
 }

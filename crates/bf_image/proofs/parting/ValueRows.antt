@@ -1,6 +1,6 @@
 -- The old rows with a value, and what an arm makes of them.
 use Rattle.std.proofs.Common.{◌≡◌, ℕ, zero, suc, Bool, not, List, [], ◌∷◌, map, filter, Option, Some, None, refl, sym, ap, ap₂, ◌∙◌, subst, arith}
-use Rattle.std.specs.Prelude.{option_map, slice_get}
+use Rattle.std.specs.Prelude.{option_map, slice_get, unwrap_or}
 use Rattle.std.specs.List.{AllByRecursion, Contains, flat_map}
 use Rattle.std.specs.Option.{option_to_list}
 use Rattle.bf_base.specs.declared.value.Value.{Value}
@@ -20,7 +20,7 @@ use Rattle.bf_sql.specs.migrations.Placed.{placed_arm}
 use Rattle.bf_sql.specs.migrations.Plans.{numbered_arms}
 use Rattle.bf_sql.specs.migrations.Targets.{arm_kind}
 use Rattle.bf_image.specs.ArmRows.{AreOfOne, CanMake}
-use Rattle.bf_image.specs.BoundArms.{IsFrozenArm, IsJoined}
+use Rattle.bf_image.specs.BoundArms.{IsFrozenArm, IsJoined, entries_of}
 use Rattle.bf_image.specs.ByValues.{Valued, by_value, positions_under}
 use Rattle.bf_image.specs.Laws.{IsLawful}
 use Rattle.bf_image.specs.Migrations.{from_values, old_of, unit_at, unit_index, units_in}
@@ -89,6 +89,19 @@ module _ (m : Migration) (target : ℕ) (arm : Arm) (bound : FrozenArm) (frozen 
       → rows_at (map (λ (e : Entry). e.1) table.rows) (positions_under valued value) ≡ join_with old arm value
   join_rows_with table valued there indexed =
       join_by arm.join (option_map (λ j. j.now) bound.join) frozen.join table valued there (ap (λ (i : UnitIndex). i.join) same_index ∙ indexed)
+
+  all_by : (o : Option Join) (joined : Option Frozen) → IsJoined m o joined
+      → rows_at (map (λ (e : Entry). e.1) (entries_of joined)) (unwrap_or (option_map (λ valued. positions_under valued value) (index_of_join o)) []) ≡ filter (λ row. same_key value (right_value old arm row)) (rows_of_join old o)
+  all_by None None same = refl
+  all_by None (Some found) same = absurd same
+  all_by (Some j) None same = absurd same
+  all_by (Some j) (Some found) same = join_by (Some j) (Some found) same found (by_value (map (right_value old arm) (table_rows old j.table))) refl refl
+
+  -- and where there is no JOIN, none
+  pub joined_rows_with : rows_at (map (λ (e : Entry). e.1) (entries_of (option_map (λ j. j.now) bound.join))) (unwrap_or (option_map (λ valued. positions_under valued value) index.join) []) ≡ join_with old arm value
+  joined_rows_with =
+      ap (λ (i : UnitIndex). rows_at (map (λ (e : Entry). e.1) (entries_of (option_map (λ j. j.now) bound.join))) (unwrap_or (option_map (λ valued. positions_under valued value) i.join) [])) (sym same_index)
+      ∙ all_by arm.join (option_map (λ j. j.now) bound.join) frozen.join
 
 -- AN ARM OF A TARGET: both are the migration's
 pub record IsOf (m : Migrate) (t : Target) (arm : Arm) : Type 0 where

@@ -1,0 +1,2 @@
+-- Whether an arm makes a row, by tests of the rows of its tables.
+pub mod Any

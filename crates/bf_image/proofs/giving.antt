@@ -1,0 +1,3 @@
+-- Whether a granule gives a row of a target.
+pub mod DriverRows
+pub mod ValueRows
