@@ -1,11 +1,14 @@
 mod Alike
 mod Bounded
+mod Chosen
+mod Coming
 mod Driving
 pub mod Finding
 pub mod Fixed
 pub mod Granules
 pub mod Inserted
 pub mod Keyed
+mod Listed
 mod Merging
 pub mod Named
 pub mod Numbered
@@ -15,5 +18,6 @@ mod Rising
 mod Sought
 mod Steps
 pub mod Told
+mod Transposing
 pub mod Unfilled
 mod Units

@@ -50,7 +50,7 @@ each_of_mapped : {X Y : Type 0} (P : Y → Type 0) (Q : X → Type 0) (f : X →
 each_of_mapped P Q f one [] all = tt
 each_of_mapped P Q f one (x ∷ xs) all = (one x all.0, each_of_mapped P Q f one xs all.1)
 
-filter_mapped : {X Y : Type 0} (p : Y → Bool) (f : X → Y) (xs : List X) → filter p (map f xs) ≡ map f (filter (λ x. p (f x)) xs)
+pub filter_mapped : {X Y : Type 0} (p : Y → Bool) (f : X → Y) (xs : List X) → filter p (map f xs) ≡ map f (filter (λ x. p (f x)) xs)
 filter_mapped p f [] = refl
 filter_mapped p f (x ∷ xs) = elim (p (f x)) as (λ b. cond b (f x ∷ filter p (map f xs)) (filter p (map f xs)) ≡ map f (cond b (x ∷ filter (λ x. p (f x)) xs) (filter (λ x. p (f x)) xs))) [
   | true ↦ ap (λ ys. f x ∷ ys) (filter_mapped p f xs)

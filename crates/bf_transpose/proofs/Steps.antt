@@ -1,6 +1,6 @@
 -- One granule more.
-use Rattle.std.proofs.Common.{◌≡◌, ℕ, zero, suc, ◌+◌, ◌-◌, ◌<◌, ◌≤◌, Bool, false, cond, List, [], ◌∷◌, ◌++◌, None, Some, filter, map, slice_get, take, refl, sym, ap, ◌∙◌, arith}
-use Rattle.std.proofs.lemmas.List.{append-nil, map-append}
+use Rattle.std.proofs.Common.{◌≡◌, ℕ, zero, suc, ◌+◌, ◌-◌, ◌<◌, ◌≤◌, Bool, false, cond, List, [], ◌∷◌, ◌++◌, None, Some, filter, length, get_or, map, slice_get, take, refl, sym, ap, ◌∙◌, arith}
+use Rattle.std.proofs.lemmas.List.{append-nil, map-append, take_more}
 use Rattle.std.proofs.lemmas.List.Elements.{filter-append}
 use Rattle.std.proofs.lemmas.List.FromFn.{map-range_with_len_more}
 use Rattle.std.proofs.lemmas.Option.{same_Some}
@@ -8,7 +8,7 @@ use Rattle.bf_base.specs.declared.granule.Granule.{Granule}
 use Rattle.bf_base.specs.declared.granule.Place.TheVariants.{Group, Row}
 use Rattle.bf_sql.specs.migrations.Granules.{granule}
 use Rattle.bf_image.specs.ByValues.{Valued, value_of}
-use Rattle.bf_transpose.specs.Scans.{row_granules, value_granules}
+use Rattle.bf_transpose.specs.Scans.{granules_at, row_granules, value_granules}
 
 -- the first items and the next, if there is one
 take_some : {X : Type 0} (xs : List X) (i : ℕ) (x : X) → Some x ≡ slice_get xs i → take (i + 1) xs ≡ take i xs ++ x ∷ []
@@ -40,6 +40,13 @@ module _ (unit : ℕ) where
       ∙ (ap (value_granules unit) (map-append value_of (take at values) (entry ∷ [])) ∙ map-append (λ value. granule unit (Group value)) (map value_of (take at values)) (entry.0 ∷ []))
 
   module _ (test : Granule → Bool) where
+    pub listed_tested : (positions : List ℕ) (i : ℕ) → i < length positions
+        → filter test (granules_at unit (take (i + 1) positions)) ≡ filter test (granules_at unit (take i positions)) ++ filter test (granule unit (Row (get_or positions i 0)) ∷ [])
+    listed_tested positions i below =
+        ap (λ ps. filter test (granules_at unit ps)) (take_more positions i 0 below)
+        ∙ (ap (filter test) (map-append (λ at. granule unit (Row at)) (take i positions) (get_or positions i 0 ∷ []))
+        ∙ filter-append test (granules_at unit (take i positions)) (granule unit (Row (get_or positions i 0)) ∷ []))
+
     pub row_tested : (position : ℕ) → filter test (row_granules unit (position + 1)) ≡ filter test (row_granules unit position) ++ filter test (granule unit (Row position) ∷ [])
     row_tested position = ap (filter test) (row_more position) ∙ filter-append test (row_granules unit position) (granule unit (Row position) ∷ [])
 

@@ -20,9 +20,12 @@ use Rattle.bf_transpose.specs.InOrder.{values_in}
 use Rattle.bf_transpose.specs.KeysBehind.{with_key_behind}
 use Rattle.bf_transpose.specs.declared.scan.Search.{Search}
 
--- the granules of a unit at the first positions, and at some values
+-- the granules of a unit at some positions, at the first ones, and at some values
+abbrev pub granules_at : ℕ → List ℕ → List Granule
+granules_at unit positions = map (λ at. granule unit (Row at)) positions
+
 abbrev pub row_granules : ℕ → ℕ → List Granule
-row_granules unit count = map (λ at. granule unit (Row at)) (range_with_len 0 count)
+row_granules unit count = granules_at unit (range_with_len 0 count)
 
 abbrev pub value_granules : ℕ → List (List Value) → List Granule
 value_granules unit values = map (λ value. granule unit (Group value)) values

@@ -1,14 +1,14 @@
-//! Where in a table the rows stand whose keys are in a range.
+//! Where in a table the rows stand whose keys are in a range, or are listed.
 
 ghost use Rattle.std.specs.Prelude.{◌≡◌, ◌≤◌, IfOk, IsTrue, drop, length, slice_get, take};
 ghost use Rattle.std.specs.List.{list_all};
 ghost use Rattle.bf_heap.specs.KeyRanges.{is_before, is_behind};
 ghost use Rattle.bf_query.specs.Ranges.{key_range_of};
 ghost use Rattle.bf_transpose.specs.KeysBehind.{passes_at, with_key_behind};
+ghost use Rattle.bf_transpose.specs.Positions.{positions_under};
 
-use bf_base::{Memory, Sequence, Table};
-use bf_heap::KeyRange;
-use bf_index::FrozenIndexedHeap;
+use bf_base::{Key, Memory, Sequence, Table};
+use bf_heap::{FrozenHeap, KeyRange};
 use bf_query::range::key_range;
 use bf_tree::Cond;
 use std::alloc::Global;
@@ -51,7 +51,7 @@ pub(crate) fn range_behind(
 }
 
 /// Whether the key at a position is before a range; not where there is none.
-fn is_before_at(heap: &FrozenIndexedHeap, range: &KeyRange, position: u32) -> bool
+fn is_before_at(heap: &FrozenHeap, range: &KeyRange, position: u32) -> bool
     ensures { result ≡ passes_at (is_before range.now.low) (slice_get heap.now position) }
 {
     match heap.at(position) {
@@ -61,7 +61,7 @@ fn is_before_at(heap: &FrozenIndexedHeap, range: &KeyRange, position: u32) -> bo
 }
 
 /// Whether the key at a position is behind a range; not where there is none.
-fn is_behind_at(heap: &FrozenIndexedHeap, range: &KeyRange, position: u32) -> bool
+fn is_behind_at(heap: &FrozenHeap, range: &KeyRange, position: u32) -> bool
     ensures { result ≡ passes_at (is_behind range.now.high) (slice_get heap.now position) }
 {
     match heap.at(position) {
@@ -71,7 +71,7 @@ fn is_behind_at(heap: &FrozenIndexedHeap, range: &KeyRange, position: u32) -> bo
 }
 
 /// How many rows are before a range. It compares about log n keys, and takes no memory.
-pub(crate) fn rows_before(heap: &FrozenIndexedHeap, range: &KeyRange) -> u32
+pub(crate) fn rows_before(heap: &FrozenHeap, range: &KeyRange) -> u32
     ensures bound { result ≤ length heap.now }
     ensures before { IsTrue (list_all (λ entry. is_before range.now.low entry.0)
         (take result heap.now)) }
@@ -90,7 +90,7 @@ pub(crate) fn rows_before(heap: &FrozenIndexedHeap, range: &KeyRange) -> u32
 }
 
 /// How many rows are before a range or in it. It compares about log n keys, and takes no memory.
-pub(crate) fn rows_to_end(heap: &FrozenIndexedHeap, range: &KeyRange) -> u32
+pub(crate) fn rows_to_end(heap: &FrozenHeap, range: &KeyRange) -> u32
     ensures bound { result ≤ length heap.now }
     ensures behind { IsTrue (list_all (λ entry. is_behind range.now.high entry.0)
         (drop result heap.now)) }
@@ -106,4 +106,25 @@ pub(crate) fn rows_to_end(heap: &FrozenIndexedHeap, range: &KeyRange) -> u32
         }
     }
     high
+}
+
+/// The positions of the rows under some keys, in the order of the keys. For each it compares about
+/// log n keys.
+///
+/// # Errors
+/// Where memory runs out.
+pub(crate) fn positions_of(
+    alloc: Global,
+    heap: &FrozenHeap,
+    keys: &[Key],
+) -> Result<Vec<u32>, Memory>
+    ensures { IfOk result (λ positions. positions.items ≡ positions_under heap.now keys.now) }
+{
+    let mut positions = Vec::new(alloc);
+    for key in keys {
+        if let Some(position) = heap.position(key) {
+            positions.push(position)?;
+        }
+    }
+    Ok(positions)
 }

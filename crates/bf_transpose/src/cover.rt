@@ -143,7 +143,7 @@ fn needed(
 /// The cover of a bound statement. A MIGRATE takes time and memory linear in the old rows, an
 /// INSERT a look-up of an owner for each tuple, and a statement whose condition fixes the key of its
 /// table one; any other on a table that the migration makes looks at each granule that can have a
-/// row of it.
+/// row of it, as far as its key, or an index of the old table from which it comes, tells.
 ///
 /// # Errors
 /// Where memory runs out.

@@ -4,9 +4,11 @@
 mod bounds;
 mod condition;
 pub mod cover;
+mod drivers;
 mod merge;
 mod owning;
 mod scan;
 mod target;
+mod transposed;
 
 pub use cover::{Cover, can_need, cover_of};

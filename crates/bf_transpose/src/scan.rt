@@ -10,16 +10,19 @@ ghost use Rattle.bf_sql.specs.migrations.Need.{giving, may_satisfy};
 ghost use Rattle.bf_image.specs.ByValues.{value_of};
 ghost use Rattle.bf_image.specs.Migrations.{IsLawfulMigration, anchors_in, old_of, target_at, value_indexes};
 ghost use Rattle.bf_transpose.specs.InOrder.{values_in};
-ghost use Rattle.bf_transpose.specs.Scans.{IsDriverOf, IsSearch, gives, granules_in, has_arm, is_sought, row_granules, value_granules, values_indexed};
+ghost use Rattle.bf_transpose.specs.Scans.{IsSearch, gives, granules_at, granules_in, has_arm, is_sought, row_granules, value_granules, values_indexed};
+ghost use Rattle.bf_transpose.specs.Transposed.{IsTransposed};
 
-use crate::bounds::{range_behind, rows_before, rows_to_end};
+use crate::bounds::{positions_of, range_behind, rows_before, rows_to_end};
 use crate::condition::{total_places, without_totals};
+use crate::drivers::{copies_of, driver_of};
 use crate::merge::Merge;
 use bf_base::{Granule, Memory, Place, Row, Table};
 use bf_heap::KeyRange;
 use bf_image::value_indexes::UnitIndex;
 use bf_image::{ByValue, Frozen, Migration, ValueIndexes, positions, rows_of};
-use bf_tree::{Cond, Unit, UnitKind, holds};
+use bf_query::by_index::{index_for, keys_by_index};
+use bf_tree::{Cond, Unit, holds};
 use std::alloc::Global;
 
 /// Adds the granules of a unit at the first positions, as many as are told.
@@ -138,19 +141,6 @@ fn is_of(unit: &Unit, target: u8) -> bool
     unit.arms.as_slice().iter().any(|(of, _)| *of == target)
 }
 
-/// The old table whose rows a unit goes by; none of a unit that goes by values. It compares about
-/// log n names, and takes no memory.
-fn driver_of(migration: &Migration, unit: u8) -> Option<&Frozen>
-    requires lawful { IsLawfulMigration migration.now }
-    ensures { IfSome result (λ frozen. IsDriverOf migration.now unit frozen.now) }
-{
-    let planned = migration.plan.units.as_slice().get(unit as usize)?;
-    match planned.kind {
-        UnitKind::Rows => migration.source(&planned.driver),
-        UnitKind::Groups | UnitKind::Joins => None,
-    }
-}
-
 /// The table that a target becomes.
 fn table_made(migration: &Migration, target: u8) -> &Table
     requires lawful { IsLawfulMigration migration.now }
@@ -238,17 +228,101 @@ impl<'a> Search<'a> {
             (granule unit (At at)) ≡ false }
     {
         match driver_of(self.migration, unit) {
-            Some(driver) => (
-                rows_before(&driver.rows, self.range),
-                rows_to_end(&driver.rows, self.range),
-            ),
+            Some(driver) => {
+                let heap = driver.rows.heap();
+                (rows_before(heap, self.range), rows_to_end(heap, self.range))
+            }
             None => (0, positions(self.migration, unit)),
+        }
+    }
+
+    /// What each row of a unit's driver satisfies from which a row that is sought comes, with the
+    /// driver; none where the target has several arms in the unit.
+    fn transposed(&self, alloc: Global, unit: u8) -> Result<Option<(&'a Frozen, Cond)>, Memory>
+        requires { IsSearch self.now }
+        ensures { IfOk result (λ found. IfSome found (λ both. IsTransposed self.now.migration.now
+            self.now.target self.now.cond.now unit both.0.now both.1)) }
+    {
+        let Some(driver) = driver_of(self.migration, unit) else {
+            return Ok(None);
+        };
+        let Some(planned) = self.migration.plan.units.as_slice().get(unit as usize) else {
+            return Ok(None);
+        };
+        let Some(copies) = copies_of(self.migration, planned, driver, self.target) else {
+            return Ok(None);
+        };
+        let part = copies.transposed(alloc, self.cond)?;
+        Ok(Some((driver, part)))
+    }
+
+    /// The positions of the rows of a unit's driver that an index finds, among which are all from which
+    /// a row that is sought comes; none where no index is better than the range of keys.
+    fn positions_by_index(&self, alloc: Global, unit: u8) -> Result<Option<Vec<u32>>, Memory>
+        requires { IsSearch self.now }
+        ensures { IfOk result (λ found. IfSome found (λ positions.
+            filter (gives self.now.migration.now self.now.target self.now.cond.now)
+            (granules_at unit positions.items)
+            ≡ filter (gives self.now.migration.now self.now.target self.now.cond.now)
+            (row_granules unit (anchors_in self.now.migration.now unit)))) }
+    {
+        let Some((driver, part)) = self.transposed(alloc, unit)? else {
+            return Ok(None);
+        };
+        let indexes = driver.rows.indexes();
+        let Some(index) = index_for(indexes, &driver.table, &part) else {
+            return Ok(None);
+        };
+        let keys = keys_by_index(alloc, index, &part)?;
+        let heap = driver.rows.heap();
+        // By its contract the heap is in the order of its keys.
+        let _ = heap.len();
+        let positions = positions_of(alloc, heap, &keys)?;
+        Ok(Some(positions))
+    }
+
+    /// Adds those granules of a unit that stand at some positions.
+    fn add_at(
+        &self,
+        alloc: Global,
+        unit: u8,
+        positions: &[u32],
+        granules: &mut Vec<Granule>,
+    ) -> Result<(), Memory>
+        requires { IsSearch self.now }
+        ensures { OnOk result (granules.new.items ≡ granules.old.items ++ filter
+            (gives self.now.migration.now self.now.target self.now.cond.now)
+            (granules_at unit positions.now)) }
+    {
+        for position in positions {
+            let place = Place::Row(*position);
+            self.add(alloc, Granule { unit, place }, granules)?;
+        }
+        Ok(())
+    }
+
+    /// Adds those granules of a unit that goes by rows. Only the rows that an index finds are tried, or
+    /// else those whose keys are in the range.
+    fn add_rows(&self, alloc: Global, unit: u8, granules: &mut Vec<Granule>) -> Result<(), Memory>
+        requires { IsSearch self.now }
+        ensures { OnOk result (granules.new.items ≡ granules.old.items ++ filter
+            (gives self.now.migration.now self.now.target self.now.cond.now)
+            (row_granules unit (anchors_in self.now.migration.now unit))) }
+    {
+        match self.positions_by_index(alloc, unit)? {
+            Some(positions) => self.add_at(alloc, unit, &positions, granules),
+            None => self.add_in_range(alloc, unit, granules),
         }
     }
 
     /// Adds those granules of a unit that goes by rows. Only rows whose keys are in the range are
     /// tried.
-    fn add_rows(&self, alloc: Global, unit: u8, granules: &mut Vec<Granule>) -> Result<(), Memory>
+    fn add_in_range(
+        &self,
+        alloc: Global,
+        unit: u8,
+        granules: &mut Vec<Granule>,
+    ) -> Result<(), Memory>
         requires { IsSearch self.now }
         ensures { OnOk result (granules.new.items ≡ granules.old.items ++ filter
             (gives self.now.migration.now self.now.target self.now.cond.now)
@@ -328,8 +402,12 @@ impl<'a> Search<'a> {
 
 /// The granules, in the order of unit and place, that give a row of a target which satisfies a
 /// condition, as far as that is known without its totals. It computes the parts of the granules of
-/// units that have an arm of the target: of a unit that goes by rows only those whose rows have keys
-/// in the range that the condition leaves, which are found by about log n compares.
+/// units that have an arm of the target. Of a unit that goes by rows those are only the ones whose rows
+/// have keys in the range that the condition leaves, which are found by about log n compares. Where an
+/// index of the old table serves what the condition says of the columns that are copied from it, and
+/// has more columns than the range has fixed ones, they are only the rows that it finds, each by about
+/// log n compares of pairs and of keys. A target with several arms in a unit keeps to the range there.
+/// A unit that goes by values is gone through.
 ///
 /// # Errors
 /// Where memory runs out.

@@ -93,6 +93,45 @@ fn tables_that_are_no_targets_need_nothing(rt: HostRuntime) -> Result<(), Fail> 
     expect_covers(&rt, alloc, SPLIT, &NAMED_ALIKE)
 }
 
+const RENAMED: &str =
+    "MIGRATE (CREATE TABLE home AS SELECT id, city AS town, pin AS code FROM cust)";
+
+const LISTED: Setting = (
+    "CREATE TABLE cust (id INT, city VARCHAR(9), pin INT, PRIMARY KEY (id)); \
+CREATE INDEX by_city ON cust (city); \
+INSERT INTO cust VALUES (1, 'Rome', 11), (2, 'Oslo', 22), (3, 'Rome', 33), (4, 'Bonn', 11);",
+    RENAMED,
+);
+
+const UNLISTED: Setting = (
+    "CREATE TABLE cust (id INT, city VARCHAR(9), pin INT, PRIMARY KEY (id)); \
+INSERT INTO cust VALUES (1, 'Rome', 11), (2, 'Oslo', 22), (3, 'Rome', 33), (4, 'Bonn', 11);",
+    RENAMED,
+);
+
+/// An index of the old table spares compares, and leaves the cover as it is.
+const OF_TOWNS: [Case; 6] = [
+    ("SELECT * FROM home WHERE town = 'Rome'", "0:0 0:2"),
+    ("UPDATE home SET code = 0 WHERE 'Bonn' = town", "0:3"),
+    ("DELETE FROM home WHERE town = 'Rome' AND id > 1", "0:2"),
+    (
+        "SELECT * FROM home WHERE code = 11 AND town = 'Bonn'",
+        "0:3",
+    ),
+    ("SELECT * FROM home WHERE town = 'Kiel'", ""),
+    (
+        "SELECT * FROM home WHERE town = 'Rome' OR town = 'Bonn'",
+        "0:0 0:2 0:3",
+    ),
+];
+
+#[test]
+fn an_old_index_leaves_the_cover(rt: HostRuntime) -> Result<(), Fail> {
+    let alloc = rt.alloc();
+    expect_covers(&rt, alloc, LISTED, &OF_TOWNS)?;
+    expect_covers(&rt, alloc, UNLISTED, &OF_TOWNS)
+}
+
 const TAGGED: Setting = (
     "CREATE TABLE c (id INT, h INT, w INT, PRIMARY KEY (id)); \
 INSERT INTO c VALUES (1, 20, 30), (2, 40, 50), (3, 60, 70);",

@@ -7,7 +7,7 @@ use Rattle.bf_sql.specs.migrations.Granules.{granule}
 use Rattle.bf_image.specs.Migrations.{anchors_in}
 use Rattle.bf_transpose.specs.Scans.{gives, row_granules}
 use Rattle.bf_transpose.proofs.Steps.{none_from, none_to, row_tested}
-use Rattle.bf_transpose.proofs.scan.Search.add_rows.Goals as goal
+use Rattle.bf_transpose.proofs.scan.Search.add_in_range.Goals as goal
 
 pub loop-position-init : goal.loop-position-init
 loop-position-init c =

@@ -8,7 +8,7 @@ use Rattle.bf_image.specs.declared.migration.Frozen.{Frozen}
 use Rattle.bf_image.specs.declared.migration.Migration.{Migration}
 use Rattle.bf_image.proofs.planning.Units.{unit_at_number}
 use Rattle.bf_transpose.specs.Scans.{IsDriverOf}
-use Rattle.bf_transpose.proofs.scan.driver_of.Goals as goal
+use Rattle.bf_transpose.proofs.drivers.driver_of.Goals as goal
 
 its_table : (m : Migration) (unit : ℕ) (driver : List ℕ) → unit_at m unit ≡ Some (rows_unit driver) → (o : Option (Bor Frozen)) → option_map (λ (f : Bor Frozen). f.now) o ≡ source_of m driver → IfSome o (λ f. IsDriverOf m unit f.now)
 its_table m unit driver form None found = tt

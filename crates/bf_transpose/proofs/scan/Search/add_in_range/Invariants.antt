@@ -1,7 +1,7 @@
 use Rattle.std.proofs.Common.{◌≡◌, ◌≤◌, ◌++◌, filter}
 use Rattle.bf_image.specs.Migrations.{anchors_in}
 use Rattle.bf_transpose.specs.Scans.{gives, row_granules}
-use Rattle.bf_transpose.proofs.scan.Search.add_rows.Given as goal
+use Rattle.bf_transpose.proofs.scan.Search.add_in_range.Given as goal
 
 -- those of the positions so far
 abbrev pub invariant-loop-position : goal.invariant-loop-position
