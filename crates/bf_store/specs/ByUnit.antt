@@ -20,7 +20,7 @@ marks_of es = map (λ (e : Numbered). record { granule = e.0; number = e.1 }) es
 abbrev pub at_place : ℕ → Place → Granule
 at_place unit place = record { unit = unit; place = place }
 
--- numbers under granules that are named by what a unit goes by: positions, or values
+-- numbers, each under another name
 abbrev pub named : {K L : Type 0} → (K → L) → List (K × ℕ) → List (L × ℕ)
 named name es = map (λ e. (name e.0, e.1)) es
 
@@ -30,7 +30,7 @@ of_rows unit es = named (λ position. at_place unit (Row position)) es
 abbrev pub of_values : ℕ → List (List Value × ℕ) → List Numbered
 of_values unit es = named (λ value. at_place unit (Group value)) es
 
--- all of a unit, and all of units that are numbered from one on
+-- all of a unit, those of rows before those of values; and all of units, counted from a unit on
 abbrev pub of_unit : ℕ → UnitMarks → List Numbered
 of_unit unit m = of_rows unit m.rows ++ of_values unit m.values.entries
 
@@ -38,7 +38,7 @@ abbrev pub from_unit : ℕ → List UnitMarks → List Numbered
 from_unit unit [] = []
 from_unit unit (m ∷ ms) = of_unit unit m ++ from_unit (suc unit) ms
 
--- they come in order, and are counted
+-- the marks stand in the order of unit and place, are counted, and are of 256 units at most
 pub record AreKept (units : List UnitMarks) (count : ℕ) : Type 0 where
   pub sorted : IsStrictlySortedBy granule_cmp (keys_of (from_unit 0 units))
   pub counted : count ≡ length (from_unit 0 units)

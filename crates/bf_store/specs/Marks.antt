@@ -25,15 +25,15 @@ numbered_of done granules = filter_map (λ g. option_map (λ n. (g, n)) (number_
 abbrev pub with_mark : List DoneGranule → DoneGranule → List DoneGranule
 with_mark = placed granule_cmp (λ d. d.granule)
 
--- further granules, which one record has moved
+-- the marks with those of further granules, which one record has moved
 abbrev pub marked : List DoneGranule → List Granule → ℕ → List DoneGranule
 marked done granules number = in_order granule_cmp (λ d. d.granule) (done ++ map (done_by number) granules)
 
--- those of other granules
+-- the marks but those of some granules
 abbrev pub unmarked : List DoneGranule → List Granule → List DoneGranule
 unmarked done granules = filter (λ d. not (has same_granule granules d.granule)) done
 
--- granules that differ, of which none has moved
+-- granules that differ, of which none has moved; nor do the marks name one twice
 abbrev pub AreFresh : List DoneGranule → List Granule → Type 0
 AreFresh done granules = IsTrue (are_apart same_granule (granules_in done ++ granules))
 

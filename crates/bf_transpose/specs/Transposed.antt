@@ -42,14 +42,16 @@ abbrev pub fixing : Option ℕ → Value → Cond ℕ
 fixing None v = always
 fixing (Some place) v = compared Equal (column place) (literal v)
 
--- TRANSPOSED: each conjunct `column = literal` speaks of the old column that its column copies, and any other is true of each row
+-- TRANSPOSED: each conjunct `column = literal` or `literal = column` speaks of the old column that its column copies; one whose column
+-- copies none of the old table, and any other conjunct, is true of each row
 abbrev pub transposed : (ℕ → Option ℕ) → Cond ℕ → Cond ℕ
 transposed copied (both c d) = both (transposed copied c) (transposed copied d)
 transposed copied (compared Equal (column at) (literal v)) = fixing (copied at) v
 transposed copied (compared Equal (literal v) (column at)) = fixing (copied at) v
 transposed copied c = always
 
--- the place in an arm's rows at which the columns of its driver begin, by how many columns FROM has: those of JOIN stand behind them
+-- the place in an arm's rows at which the columns of its driver begin, by how many columns FROM has: those of JOIN stand behind them. An
+-- arm by pairs or groups has no driver, and its place is not read
 abbrev pub begins_at : ArmKind → ℕ → ℕ
 begins_at ByFrom columns = 0
 begins_at ByJoin columns = columns
@@ -66,7 +68,7 @@ pub record AreCopies (m : Migration) (target : ℕ) (unit : Planned) (frozen : F
   pub first : copies.first ≡ begins_at (arm_kind (old_of m) arm) (width (old_of m) arm)
   pub count : copies.count ≡ length frozen.table.columns
 
--- a condition on a driver's rows which each satisfies from which a row of a target comes that satisfies another condition
+-- FOLLOWS: each row of the unit's driver from which a row of the target comes that satisfies the wanted condition satisfies this one
 pub record IsTransposed (m : Migration) (target : ℕ) (wanted : Cond ℕ) (unit : ℕ) (frozen : Frozen) (part : Cond ℕ) : Type 0 where
   pub driver : IsDriverOf m unit frozen
   pub held : (at : ℕ) (entry : Entry) → slice_get frozen.rows at ≡ Some entry → IsTrue (gives m target wanted (granule unit (Row at))) → IsTrue (holds_on (cell entry.1) part)

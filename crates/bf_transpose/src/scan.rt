@@ -237,7 +237,7 @@ impl<'a> Search<'a> {
     }
 
     /// What each row of a unit's driver satisfies from which a row that is sought comes, with the
-    /// driver; none where the target has several arms in the unit.
+    /// driver; none where the unit goes by values, and where the target has no arm in it or several.
     fn transposed(&self, alloc: Global, unit: u8) -> Result<Option<(&'a Frozen, Cond)>, Memory>
         requires { IsSearch self.now }
         ensures { IfOk result (λ found. IfSome found (λ both. IsTransposed self.now.migration.now
@@ -257,7 +257,7 @@ impl<'a> Search<'a> {
     }
 
     /// The positions of the rows of a unit's driver that an index finds, among which are all from which
-    /// a row that is sought comes; none where no index is better than the range of keys.
+    /// a row that is sought comes; none where no index of it serves better than its key.
     fn positions_by_index(&self, alloc: Global, unit: u8) -> Result<Option<Vec<u32>>, Memory>
         requires { IsSearch self.now }
         ensures { IfOk result (λ found. IfSome found (λ positions.
@@ -405,9 +405,9 @@ impl<'a> Search<'a> {
 /// units that have an arm of the target. Of a unit that goes by rows those are only the ones whose rows
 /// have keys in the range that the condition leaves, which are found by about log n compares. Where an
 /// index of the old table serves what the condition says of the columns that are copied from it, and
-/// has more columns than the range has fixed ones, they are only the rows that it finds, each by about
-/// log n compares of pairs and of keys. A target with several arms in a unit keeps to the range there.
-/// A unit that goes by values is gone through.
+/// has more columns than this fixes of the front of its key, they are only the rows that it finds, each
+/// by about log n compares of pairs and of keys. A target with several arms in a unit keeps to the range
+/// there. A unit that goes by values is gone through.
 ///
 /// # Errors
 /// Where memory runs out.
