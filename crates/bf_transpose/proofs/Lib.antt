@@ -5,6 +5,7 @@ mod Coming
 mod Driving
 pub mod Finding
 pub mod Fixed
+mod Given
 pub mod Granules
 pub mod Inserted
 pub mod Keyed

@@ -4,6 +4,7 @@
 ghost use Rattle.std.specs.Prelude.{◌≡◌, ◌==◌, ◌∷◌, [], ◌++◌, ◌<◌, ◌≤◌, ℕ, false, IfOk, IfSome, OnOk, Some, filter, length, map};
 ghost use Rattle.std.specs.List.{list_any};
 ghost use Rattle.bf_base.specs.declared.granule.Place.TheVariants.{Row as At};
+ghost use Rattle.bf_tree.specs.Trees.{always};
 ghost use Rattle.bf_sql.specs.migrations.Targets.{target_table};
 ghost use Rattle.bf_sql.specs.migrations.Granules.{granule, granules_of};
 ghost use Rattle.bf_sql.specs.migrations.Need.{giving, may_satisfy};
@@ -20,9 +21,9 @@ use crate::merge::Merge;
 use bf_base::{Granule, Memory, Place, Row, Table};
 use bf_heap::KeyRange;
 use bf_image::value_indexes::UnitIndex;
-use bf_image::{ByValue, Frozen, Migration, ValueIndexes, positions, rows_of};
+use bf_image::{ByValue, Frozen, Migration, ValueIndexes, gives_row, positions, rows_of};
 use bf_query::by_index::{index_for, keys_by_index};
-use bf_tree::{Cond, Unit, holds};
+use bf_tree::{Cond, Test, Unit, holds};
 use std::alloc::Global;
 
 /// Adds the granules of a unit at the first positions, as many as are told.
@@ -188,12 +189,24 @@ impl<'a> Search<'a> {
         Ok(false)
     }
 
+    /// Whether a granule gives a row of the target. It makes none.
+    fn gives_any(&self, alloc: Global, granule: &Granule) -> Result<bool, Memory>
+        requires { IsSearch self.now }
+        ensures { IfOk result (λ any.
+            any ≡ gives self.now.migration.now self.now.target always granule.now) }
+    {
+        gives_row(alloc, self.migration, self.indexes, granule, self.target)
+    }
+
     /// Whether a granule gives a row that is sought.
     fn finds(&self, alloc: Global, granule: &Granule) -> Result<bool, Memory>
         requires { IsSearch self.now }
         ensures { IfOk result (λ found. found
             ≡ gives self.now.migration.now self.now.target self.now.cond.now granule.now) }
     {
+        if let Test::Always = self.cond.node() {
+            return self.gives_any(alloc, granule);
+        }
         let rows = rows_of(alloc, self.migration, self.indexes, granule)?;
         self.is_among(alloc, &rows)
     }
@@ -402,7 +415,8 @@ impl<'a> Search<'a> {
 
 /// The granules, in the order of unit and place, that give a row of a target which satisfies a
 /// condition, as far as that is known without its totals. It computes the parts of the granules of
-/// units that have an arm of the target. Of a unit that goes by rows those are only the ones whose rows
+/// units that have an arm of the target, or only finds out whether they have a row of it where the
+/// condition is true of each row. Of a unit that goes by rows those are only the ones whose rows
 /// have keys in the range that the condition leaves, which are found by about log n compares. Where an
 /// index of the old table serves what the condition says of the columns that are copied from it, and
 /// has more columns than this fixes of the front of its key, they are only the rows that it finds, each
