@@ -13,8 +13,7 @@ use Rattle.bf_base.proofs.Names.{name_cmp_total, same_name-tie}
 use Rattle.bf_base.proofs.Order.{equal_from_test}
 use Rattle.bf_base.proofs.Ties.{name_ties}
 use Rattle.bf_heap.specs.Heaps.{Entry, Rows}
-use Rattle.bf_txn.specs.Writes.{KeyWrite}
-use Rattle.bf_live.specs.Commits.{HasRoomIn, LeaveRoom, key_puts}
+use Rattle.bf_live.specs.Commits.{HasRoomIn, LeaveRoom}
 use Rattle.bf_live.specs.Live.{NamedHeap, NamedRows, rows_in}
 
 pub is_same : (a b : List ℕ) → a ≡ b → same_name a b ≡ true
@@ -68,22 +67,22 @@ module _ (n : List ℕ) where
   room_same taken [] = tt
   room_same taken (h ∷ hs) = ((refl, omega arith), room_same taken hs)
 
-  pub room_apart : (writes : List KeyWrite) (heaps : List NamedHeap) → Apart heaps → All (HasRoomIn n writes) heaps
-  room_apart writes [] apart = λ k d below. absurd (omega arith)
-  room_apart writes (h ∷ hs) apart =
-      All-cons (HasRoomIn n writes) h hs (λ same. absurd (false≢true (sym apart.0 ∙ is_same n h.0 (sym same)))) (room_apart writes hs apart.1)
+  pub room_apart : (count : ℕ) (heaps : List NamedHeap) → Apart heaps → All (HasRoomIn n count) heaps
+  room_apart count [] apart = λ k d below. absurd (omega arith)
+  room_apart count (h ∷ hs) apart =
+      All-cons (HasRoomIn n count) h hs (λ same. absurd (false≢true (sym apart.0 ∙ is_same n h.0 (sym same)))) (room_apart count hs apart.1)
 
   -- a heap has the room that is said of the name's
-  pub room_found : (writes : List KeyWrite) (heaps : List NamedHeap) (heap : Rows) → All (HasRoomIn n writes) heaps → lookup (is_at (name_cmp n)) heaps ≡ Some heap → key_puts writes ≤ heap.spare
-  room_found writes [] heap all found = absurd cc
-  room_found writes (h ∷ hs) heap all found = elim (cases_Bool (is_eq (name_cmp n h.0))) [
+  pub room_found : (count : ℕ) (heaps : List NamedHeap) (heap : Rows) → All (HasRoomIn n count) heaps → lookup (is_at (name_cmp n)) heaps ≡ Some heap → count ≤ heap.spare
+  room_found count [] heap all found = absurd cc
+  room_found count (h ∷ hs) heap all found = elim (cases_Bool (is_eq (name_cmp n h.0))) [
     | inl tied ↦
         let here : Some h.1 ≡ Some heap = rw tied at found in
         let same : h.0 ≡ n = sym ((name_ties n h.0).0 (equal_from_test _ tied)) in
         omega (arith, all 0 h (omega arith) same, ap (λ (r : Rows). r.spare) (same_Some h.1 heap here))
     | inr apart ↦
         let rest : lookup (is_at (name_cmp n)) hs ≡ Some heap = rw apart at found in
-        room_found writes hs heap (λ k d below. all (suc k) d (omega arith)) rest
+        room_found count hs heap (λ k d below. all (suc k) d (omega arith)) rest
   ]
 
   -- another heap in the place of the name's
@@ -121,11 +120,11 @@ module _ (n : List ℕ) where
           rw apart ((refl, omega arith), room_left taken left hs rest)
     ]
 
-    pub room_made : (writes : List KeyWrite) → key_puts writes ≤ now.spare → (heaps : List NamedHeap) → IsStrictlySortedBy name_cmp (keys_of heaps) → All (HasRoomIn n writes) (with_heap heaps)
-    room_made writes enough [] sorted = λ k d below. absurd (omega arith)
-    room_made writes enough (h ∷ hs) sorted = elim (cases_Bool (is_eq (name_cmp n h.0))) [
-      | inl tied ↦ rw tied (All-cons (HasRoomIn n writes) (h.0, now) hs (λ same. enough) (room_apart writes hs (apart_behind h hs sorted tied)))
+    pub room_made : (count : ℕ) → count ≤ now.spare → (heaps : List NamedHeap) → IsStrictlySortedBy name_cmp (keys_of heaps) → All (HasRoomIn n count) (with_heap heaps)
+    room_made count enough [] sorted = λ k d below. absurd (omega arith)
+    room_made count enough (h ∷ hs) sorted = elim (cases_Bool (is_eq (name_cmp n h.0))) [
+      | inl tied ↦ rw tied (All-cons (HasRoomIn n count) (h.0, now) hs (λ same. enough) (room_apart count hs (apart_behind h hs sorted tied)))
       | inr apart ↦
           let other : same_name n h.0 ≡ false = same_name-tie n h.0 ∙ apart in
-          rw apart (All-cons (HasRoomIn n writes) h (with_heap hs) (λ same. absurd (false≢true (sym other ∙ is_same n h.0 (sym same)))) (room_made writes enough hs (sorted_tail name_cmp h.0 (keys_of hs) sorted)))
+          rw apart (All-cons (HasRoomIn n count) h (with_heap hs) (λ same. absurd (false≢true (sym other ∙ is_same n h.0 (sym same)))) (room_made count enough hs (sorted_tail name_cmp h.0 (keys_of hs) sorted)))
     ]

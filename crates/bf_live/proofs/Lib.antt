@@ -6,6 +6,7 @@ pub mod Exchanged
 mod Heaps
 mod Held
 mod Paired
+pub mod Putting
 mod Swapped
 mod Written
 pub mod keeps

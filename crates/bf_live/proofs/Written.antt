@@ -50,7 +50,7 @@ own : (n name : List ℕ) (ws : List KeyWrite) → same_name n name ≡ true →
 own n name [] same = refl
 own n name (w ∷ ws) same = rw same (ap (λ (vs : List Write). record { table = n; key = w.0; row = w.1 } ∷ vs) (own n name ws same))
 
-foreign : (n name : List ℕ) (ws : List KeyWrite) → same_name n name ≡ false → writes_to name (writes_in n ws) ≡ []
+pub foreign : (n name : List ℕ) (ws : List KeyWrite) → same_name n name ≡ false → writes_to name (writes_in n ws) ≡ []
 foreign n name [] other = refl
 foreign n name (w ∷ ws) other = rw other (foreign n name ws other)
 
@@ -61,12 +61,12 @@ to_other : (first : List Write) (n : List ℕ) (ws : List KeyWrite) (name : List
 to_other first n ws name other =
     filter-append (λ v. same_name v.table name) first (writes_in n ws) ∙ ap (λ (vs : List Write). writes_to name first ++ vs) (foreign n name ws other) ∙ append-nil (writes_to name first)
 
-first_here : (n : List ℕ) (ws : List KeyWrite) (rest : List Write) (name : List ℕ) → same_name n name ≡ true → puts (writes_to name (writes_in n ws ++ rest)) ≡ key_puts ws + puts (writes_to name rest)
+pub first_here : (n : List ℕ) (ws : List KeyWrite) (rest : List Write) (name : List ℕ) → same_name n name ≡ true → puts (writes_to name (writes_in n ws ++ rest)) ≡ key_puts ws + puts (writes_to name rest)
 first_here n ws rest name same =
     ap puts (filter-append (λ v. same_name v.table name) (writes_in n ws) rest ∙ ap (λ (vs : List Write). vs ++ writes_to name rest) (own n name ws same))
     ∙ puts_append (writes_in n ws) (writes_to name rest) ∙ ap (λ p. p + puts (writes_to name rest)) (puts_in n ws)
 
-first_other : (n : List ℕ) (ws : List KeyWrite) (rest : List Write) (name : List ℕ) → same_name n name ≡ false → writes_to name (writes_in n ws ++ rest) ≡ writes_to name rest
+pub first_other : (n : List ℕ) (ws : List KeyWrite) (rest : List Write) (name : List ℕ) → same_name n name ≡ false → writes_to name (writes_in n ws ++ rest) ≡ writes_to name rest
 first_other n ws rest name other = filter-append (λ v. same_name v.table name) (writes_in n ws) rest ∙ ap (λ (vs : List Write). vs ++ writes_to name rest) (foreign n name ws other)
 
 -- the entries under the further writes to their table
@@ -104,7 +104,7 @@ own_puts so_far rest t all are is =
 
 -- ---- room
 -- a table gets its room when its writes come
-pub room_step : (first all : List Write) (n : List ℕ) (ws : List KeyWrite) (heaps now : List NamedHeap) → key_puts ws ≡ puts (writes_to n all) → HaveRoomSoFar first all heaps → KeepRoom heaps now → All (HasRoomIn n ws) now
+pub room_step : (first all : List Write) (n : List ℕ) (ws : List KeyWrite) (heaps now : List NamedHeap) → key_puts ws ≡ puts (writes_to n all) → HaveRoomSoFar first all heaps → KeepRoom heaps now → All (HasRoomIn n (key_puts ws)) now
     → HaveRoomSoFar (first ++ writes_in n ws) all now
 room_step first all n ws [] [] own so_far kept room = λ i h below. absurd (omega arith)
 room_step first all n ws [] (g ∷ gs) own so_far kept room = absurd kept
@@ -124,7 +124,7 @@ room_step first all n ws (h ∷ hs) (g ∷ gs) own so_far kept room =
 
 module _ (n : List ℕ) (ws : List KeyWrite) (rest : List Write) where
   -- the room for the next writes to a table
-  pub room_for : (heaps : List NamedHeap) → HaveRoomFor (writes_in n ws ++ rest) heaps → All (HasRoomIn n ws) heaps
+  pub room_for : (heaps : List NamedHeap) → HaveRoomFor (writes_in n ws ++ rest) heaps → All (HasRoomIn n (key_puts ws)) heaps
   room_for heaps room i h below is =
       let heap = get_or heaps i h in
       omega (arith, room i h below, first_here n ws rest heap.0 (is_same n heap.0 (sym is)))

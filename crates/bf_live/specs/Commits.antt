@@ -20,9 +20,9 @@ key_puts writes = count_by (λ row. is_some row) (values_of writes)
 abbrev pub puts : List Write → ℕ
 puts writes = count_by (λ write. is_some write.row) writes
 
--- the heap of a table, if it is there, has room for all rows that writes to the table put
-abbrev pub HasRoomIn : List ℕ → List KeyWrite → NamedHeap → Type 0
-HasRoomIn table writes heap = heap.0 ≡ table → key_puts writes ≤ heap.1.spare
+-- the heap of a table, if it is there, has room for this many rows
+abbrev pub HasRoomIn : List ℕ → ℕ → NamedHeap → Type 0
+HasRoomIn table count heap = heap.0 ≡ table → count ≤ heap.1.spare
 
 -- a heap has room for all rows that are put into its table
 abbrev pub HasRoom : List Write → NamedHeap → Type 0

@@ -7,3 +7,4 @@ pub mod FootprintLaw
 pub mod Live
 pub mod Open
 pub mod OpenGroups
+pub mod Puts

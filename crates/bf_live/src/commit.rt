@@ -11,21 +11,21 @@ use bf_index::IndexedHeap;
 use bf_txn::{TableWrites, Workspace};
 use std::collections::BTreeMap;
 
-/// Makes room in a table's heap for the rows that are put there, if the table is there.
-fn make_room_in(
+/// Makes room in a table's heap for this many rows, if the table is there.
+pub(crate) fn make_room_in(
     heaps: &mut BTreeMap<Name, IndexedHeap>,
     table: &Name,
-    writes: &TableWrites,
+    count: usize,
 ) -> Result<(), Memory>
     ensures rows { rows_in heaps.new.entries ≡ rows_in heaps.old.entries }
     ensures kept { KeepRoom heaps.old.entries heaps.new.entries }
-    ensures room { OnOk result (All (HasRoomIn table.now writes.now) heaps.new.entries) }
+    ensures room { OnOk result (All (HasRoomIn table.now count) heaps.new.entries) }
 {
     if let Some(heap) = heaps.get_mut(table) {
-        let Ok(count) = u32::try_from(writes.count_puts()) else {
+        let Ok(more) = u32::try_from(count) else {
             return Err(Memory);
         };
-        return heap.reserve(count);
+        return heap.reserve(more);
     }
     Ok(())
 }
@@ -40,13 +40,14 @@ pub fn make_room(heaps: &mut BTreeMap<Name, IndexedHeap>, writes: &Workspace) ->
     ensures room { OnOk result (HaveRoomFor writes.now heaps.new.entries) }
 {
     for (table, writes) in writes.tables() {
-        make_room_in(heaps, table, writes)?;
+        make_room_in(heaps, table, writes.count_puts())?;
     }
     Ok(())
 }
 
-/// Puts a row under its key into a heap, or removes the one that is there. Takes no memory.
-fn change(heap: &mut IndexedHeap, key: Key, row: Option<Row>)
+/// Puts a row under its key into a heap, or removes the one that is there. Takes no memory but for the
+/// heap's indexes, of which one is given up where it runs out.
+pub(crate) fn change(heap: &mut IndexedHeap, key: Key, row: Option<Row>)
     requires { put_by row ≤ heap.old.spare }
     ensures entries { heap.new.entries ≡ applied_to heap.old.entries (key, row) }
     ensures spare { heap.old.spare ≤ heap.new.spare + put_by row }
@@ -61,7 +62,8 @@ fn change(heap: &mut IndexedHeap, key: Key, row: Option<Row>)
     }
 }
 
-/// Makes each write to a table in its heap, in the order of the keys. Takes no memory.
+/// Makes each write to a table in its heap, in the order of the keys. Takes no memory but for the heap's
+/// indexes.
 fn change_all(heap: &mut IndexedHeap, writes: TableWrites)
     requires { key_puts writes ≤ heap.old.spare }
     ensures entries { heap.new.entries ≡ fold applied_to heap.old.entries writes }
@@ -72,9 +74,10 @@ fn change_all(heap: &mut IndexedHeap, writes: TableWrites)
     }
 }
 
-/// Makes each write to a table in its heap, if the table is there. Takes no memory.
+/// Makes each write to a table in its heap, if the table is there. Takes no memory but for the heap's
+/// indexes.
 fn apply_in(heaps: &mut BTreeMap<Name, IndexedHeap>, table: &Name, writes: TableWrites)
-    requires { All (HasRoomIn table.now writes) heaps.old.entries }
+    requires { All (HasRoomIn table.now (key_puts writes)) heaps.old.entries }
     ensures rows { rows_in heaps.new.entries
         ≡ with_writes_to table.now writes (rows_in heaps.old.entries) }
     ensures room { LeaveRoom (taken_by table.now writes) heaps.old.entries heaps.new.entries }
@@ -85,7 +88,7 @@ fn apply_in(heaps: &mut BTreeMap<Name, IndexedHeap>, table: &Name, writes: Table
 }
 
 /// Makes each write in its table's heap, and passes over those to tables that are not there. It
-/// looks a table up once. Takes no memory.
+/// looks a table up once. Takes no memory but for the heaps' indexes.
 pub fn apply(heaps: &mut BTreeMap<Name, IndexedHeap>, writes: Workspace)
     requires { HaveRoomFor writes heaps.old.entries }
     ensures { rows_in heaps.new.entries ≡ with_writes writes (rows_in heaps.old.entries) }

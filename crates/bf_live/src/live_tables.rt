@@ -9,11 +9,13 @@ ghost use Rattle.bf_sql.specs.Database.{IsDatabase, Stored, empty_database, stor
 ghost use Rattle.bf_sql.specs.Meaning.{next_number, with_index};
 ghost use Rattle.bf_sql.specs.Bound.{catalog_of};
 ghost use Rattle.bf_live.specs.Drafts.{AreNamedApart, CanExchange, IsExchangeOf, tables_after};
+ghost use Rattle.bf_live.specs.Puts.{AreOfDifferentTables, all_puts};
 ghost use Rattle.bf_live.specs.Live.{IsUnderOwnKeys, TableRows, committed, exchanged, held_in, stored};
 
 use crate::by_name::{build_index, exchange_heap};
 use crate::commit::{apply, make_room};
 use crate::draft::Draft;
+use crate::puts::{Puts, make_room_for, put_all};
 use bf_base::{Memory, Name, Table};
 use bf_heap::Heap;
 use bf_index::IndexedHeap;
@@ -237,8 +239,8 @@ impl LiveTables {
     /// Makes what a transaction has written part of its tables, and each other table stays. The
     /// writes move into the tables, which leaves the workspace empty. A table is looked up twice, and
     /// a write to it costs a look-up by key, in time logarithmic in its rows; a new or a removed row
-    /// moves the rows behind it in its page. Room is made for as many rows as are put; what is left of it stays
-    /// as room for later rows.
+    /// moves the rows behind it in its page, and each index of the table follows. Room is made for as
+    /// many rows as are put; what is left of it stays as room for later rows.
     ///
     /// # Errors
     /// Where memory runs out. The live tables and the workspace are as they were then.
@@ -254,6 +256,27 @@ impl LiveTables {
         make_room(&mut self.heaps, writes)?;
         let taken = mem::replace(writes, Workspace::new(self.alloc));
         apply(&mut self.heaps, taken);
+        Ok(())
+    }
+
+    /// Puts rows under their keys into tables, each of which is told once; each other table stays. A
+    /// table is looked up twice, and a row costs a look-up by key, in time logarithmic in the rows of
+    /// its table; a new one moves the rows behind it in its page, and each index of the table follows.
+    /// Room is made for all rows before the first is put; what is left of it stays as room for later
+    /// rows.
+    ///
+    /// # Errors
+    /// Where memory runs out. The live tables are as they were then.
+    pub fn put(&mut self, puts: Vec<Puts>) -> Result<(), Memory>
+        requires apart { AreOfDifferentTables puts.items }
+        requires own_keys { All (λ s. StandUnderOwnKeys s.table (entries_of s.table s.rows)
+            (all_puts puts.items)) self.old.tables }
+        requires database { IsDatabase (committed self.old (all_puts puts.items)) }
+        ensures ok { OnOk result (self.new ≡ committed self.old (all_puts puts.items)) }
+        ensures err { OnErr result (self.new ≡ self.old) }
+    {
+        make_room_for(&mut self.heaps, &puts)?;
+        put_all(&mut self.heaps, puts);
         Ok(())
     }
 }

@@ -2,6 +2,7 @@
 pub mod Ahead
 pub mod Anchoring
 pub mod Completing
+pub mod Gathered
 pub mod Moves
 pub mod Moving
 pub mod Needing

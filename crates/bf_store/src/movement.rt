@@ -1,13 +1,12 @@
 //! Granules move: the rows that come from them are put into the live tables.
 
-ghost use Rattle.std.specs.Prelude.{◌≡◌, ◌<◌, ◌^◌, [], fold, map, length, IfOk, OnErr, OnOk, Some};
+ghost use Rattle.std.specs.Prelude.{◌≡◌, ◌<◌, ◌^◌, ◌++◌, ◌∷◌, [], List, flat_map, length, IfOk, OnErr, OnOk, Some};
 ghost use Rattle.bf_base.specs.Tables.{cell, key_of};
 ghost use Rattle.bf_sql.specs.migrations.Granules.{part_of};
-ghost use Rattle.bf_txn.specs.Writes.{with_write};
 ghost use Rattle.bf_image.specs.Migrations.{IsLawfulMigration, old_of, target_at, value_indexes};
 ghost use Rattle.bf_store.specs.Anchors.{next_from};
 ghost use Rattle.bf_store.specs.Marks.{AreFresh, left_of, marked, unmarked};
-ghost use Rattle.bf_store.specs.Puts.{MayMove, put_of, puts_of, with_rows_in};
+ghost use Rattle.bf_store.specs.Puts.{ArePuts, MayMove, Put, with_rows_in};
 ghost use Rattle.bf_store.specs.Calls.{IsMoveOf};
 ghost use Rattle.bf_store.specs.States.{AreGranules, IsLazy};
 ghost use Rattle.bf_store.specs.Stores.{IsCounted, IsStore, last_seen, lazy_seen, seen};
@@ -18,8 +17,7 @@ use crate::moved::{Moved, receipts};
 use crate::under_way::UnderWay;
 use bf_base::{Granule, Key, Memory, Row, Table, Value};
 use bf_image::{Migration, ValueIndexes, rows_of};
-use bf_live::LiveTables;
-use bf_txn::Workspace;
+use bf_live::{LiveTables, Puts};
 use std::alloc::Global;
 
 /// The value of a column of a row.
@@ -44,65 +42,80 @@ fn key_under(alloc: Global, table: &Table, row: &Row) -> Result<Key, Memory>
     Ok(Key::of(values))
 }
 
-/// Puts a row of a target under its key.
+/// No rows for each target.
+fn no_puts(alloc: Global, migration: &Migration) -> Result<Vec<Puts>, Memory>
+    requires { IsLawfulMigration migration.now }
+    ensures { IfOk result (λ puts. ArePuts migration.now [] puts.items) }
+{
+    let tables = migration.plan.tables.as_slice();
+    let mut puts = Vec::with_capacity(alloc, tables.len())?;
+    for table in tables {
+        puts.push(Puts::new(alloc, table.name.copy(alloc)?))?;
+    }
+    Ok(puts)
+}
+
+/// Puts a row of a target under its key behind others.
 fn put_row(
     alloc: Global,
     migration: &Migration,
     target: u8,
     row: Row,
-    writes: &mut Workspace,
+    puts: &mut Vec<Puts>,
 ) -> Result<(), Memory>
     requires { IsLawfulMigration migration.now }
-    ensures { OnOk result (0 < length (target_at migration.now target).arms
-        → writes.new ≡ with_write writes.old
-        (put_of (old_of migration.now) (target_at migration.now target, row))) }
+    ensures { (so_far : List Put) → ArePuts migration.now so_far puts.old.items → OnOk result
+        (0 < length (target_at migration.now target).arms → ArePuts migration.now
+        (so_far ++ (target_at migration.now target, row) ∷ []) puts.new.items) }
 {
     let Some(table) = migration.plan.tables.as_slice().get(target as usize) else {
         return Ok(());
     };
-    let name = table.name.copy(alloc)?;
     let key = key_under(alloc, table, &row)?;
-    writes.write(name, key, Some(row))
+    match puts.get_mut(target as usize) {
+        Some(own) => own.push(key, row),
+        None => Ok(()),
+    }
 }
 
-/// Puts the rows that come from a granule under their keys.
+/// Puts the rows that come from a granule under their keys behind others.
 fn put_part(
     alloc: Global,
     migration: &Migration,
     indexes: &ValueIndexes,
     granule: &Granule,
-    writes: &mut Workspace,
+    puts: &mut Vec<Puts>,
 ) -> Result<(), Memory>
     requires lawful { IsLawfulMigration migration.now }
     requires indexed { indexes.now ≡ value_indexes migration.now }
-    ensures { OnOk result (writes.new ≡ fold with_write writes.old
-        (map (put_of (old_of migration.now))
-        (part_of (old_of migration.now) migration.now.plan.migrate granule.now))) }
+    ensures { (so_far : List Put) → ArePuts migration.now so_far puts.old.items → OnOk result
+        (ArePuts migration.now (so_far
+        ++ part_of (old_of migration.now) migration.now.plan.migrate granule.now) puts.new.items) }
 {
     let part = rows_of(alloc, migration, indexes, granule)?;
     for (target, row) in part {
-        put_row(alloc, migration, target, row, writes)?;
+        put_row(alloc, migration, target, row, puts)?;
     }
     Ok(())
 }
 
-/// The writes that put the rows that come from some granules into the tables of their targets.
+/// The rows that come from some granules, each under its key, table by table.
 fn puts(
     alloc: Global,
     migration: &Migration,
     indexes: &ValueIndexes,
     granules: &[Granule],
-) -> Result<Workspace, Memory>
+) -> Result<Vec<Puts>, Memory>
     requires lawful { IsLawfulMigration migration.now }
     requires indexed { indexes.now ≡ value_indexes migration.now }
-    ensures { IfOk result (λ writes. writes ≡ fold with_write []
-        (puts_of (old_of migration.now) migration.now.plan.migrate granules.now)) }
+    ensures { IfOk result (λ puts. ArePuts migration.now (flat_map
+        (part_of (old_of migration.now) migration.now.plan.migrate) granules.now) puts.items) }
 {
-    let mut writes = Workspace::new(alloc);
+    let mut puts = no_puts(alloc, migration)?;
     for granule in granules {
-        put_part(alloc, migration, indexes, granule, &mut writes)?;
+        put_part(alloc, migration, indexes, granule, &mut puts)?;
     }
-    Ok(writes)
+    Ok(puts)
 }
 
 /// The first anchor from one on whose granule has not moved.
@@ -205,8 +218,8 @@ pub(crate) fn move_granules(
 }
 
 /// Moves granules of a migration, which differ and have not moved, by one record: their rows are
-/// put into the live tables. It costs what the granules have, and a look-up for each row and each
-/// granule.
+/// gathered table by table, and put into the live tables with one reserve for each. It costs what the
+/// granules have, and a look-up for each row and each granule.
 ///
 /// # Errors
 /// Where memory runs out, or 2 ^ 32 granules have moved. All is as it was then.
@@ -232,9 +245,9 @@ pub(crate) fn move_in(
     ensures live_stays { OnErr result (live.new ≡ live.old) }
     ensures last_stays { OnErr result (last.new ≡ last.old) }
 {
-    let mut writes = puts(alloc, migration, indexes, fresh)?;
+    let puts = puts(alloc, migration, indexes, fresh)?;
     let next = note(alloc, migration, &mut last.done, last.next, fresh, number)?;
-    if let Err(memory) = live.commit(&mut writes) {
+    if let Err(memory) = live.put(puts) {
         last.done.unmark(fresh);
         return Err(memory);
     }

@@ -1,7 +1,7 @@
--- The rows that come from granules are put into the live tables by one commit.
-use Rattle.std.proofs.Common.{◌≡◌, ℕ, Bool, true, false, not, cond, List, [], ◌∷◌, ◌++◌, map, filter, flat_map, fold, Some, option_map, refl, sym, ap, ap₂, ◌∙◌}
+-- The rows that come from granules are put into the live tables.
+use Rattle.std.proofs.Common.{◌≡◌, ℕ, Bool, true, false, not, cond, List, [], ◌∷◌, ◌++◌, map, filter, flat_map, fold, Some, option_map, refl, sym, ap, ap₂, subst, ◌∙◌}
 use Rattle.std.specs.List.{All, AllByRecursion, list_all}
-use Rattle.std.proofs.lemmas.Bool.{and_from, and_parts}
+use Rattle.std.proofs.lemmas.Bool.{and_from, and_parts, false≢true}
 use Rattle.std.proofs.lemmas.List.{map-append}
 use Rattle.std.proofs.lemmas.List.Elements.{filter-append}
 use Rattle.bf_base.specs.declared.granule.Granule.{Granule}
@@ -17,29 +17,30 @@ use Rattle.bf_base.proofs.Parts.{map_each}
 use Rattle.bf_heap.specs.Heaps.{Entry, key_of_entry}
 use Rattle.bf_tree.specs.declared.migration.Target.{Target}
 use Rattle.bf_txn.specs.declared.write.Write.{Write}
-use Rattle.bf_txn.specs.Writes.{with_write}
+use Rattle.bf_txn.specs.Writes.{writes_to}
 use Rattle.bf_sql.specs.Database.{Database, IsDatabase, Stored, is_admitted, is_keyed, is_within}
 use Rattle.bf_sql.specs.migrations.Granules.{granules_of, part_in, part_of, same_granule}
 use Rattle.bf_sql.specs.migrations.Lazy.{Migration, is_done, is_on_time, pending, rows_from, with_rows_of}
 use Rattle.bf_sql.specs.migrations.Targets.{target_table}
 use Rattle.bf_query.specs.Meanings.{entries_of}
-use Rattle.bf_query.specs.Merged.{HasOwnKey, WritesOwnKey, rows_under}
+use Rattle.bf_query.specs.Merged.{HasOwnKey, WritesOwnKey, applied, rows_under}
 use Rattle.bf_query.proofs.OwnKeys.{by_recursion, each}
 use Rattle.bf_query.proofs.RowsAsEntries.{rows_are}
 use Rattle.bf_image.specs.Sources.{table_under}
 use Rattle.bf_image.proofs.items.Names.{name-equal}
-use Rattle.bf_live.specs.Live.{committed, written_to}
+use Rattle.bf_live.specs.Live.{NamedRows, committed, written_to}
+use Rattle.bf_live.specs.Puts.{all_puts}
 use Rattle.bf_live.proofs.statements.Named.{IsThere, all_there}
 use Rattle.bf_live.proofs.statements.Seeing.{Stands, begun}
 use Rattle.bf_store.specs.Marks.{AreFresh, granules_in}
-use Rattle.bf_store.specs.Puts.{MayMove, puts_of, with_rows_in}
+use Rattle.bf_store.specs.Puts.{MayMove, put_of, with_rows_in}
 use Rattle.bf_store.specs.States.{IsUnderWay}
 use Rattle.bf_store.proofs.Granules.{granule_cmp_total}
 use Rattle.bf_store.proofs.coming.Found.{are_admitted, at_table, each_at_table}
 use Rattle.bf_store.proofs.moving.Moves.{moves_by}
 use Rattle.bf_store.proofs.moving.Moving.{has_if_passes}
 use Rattle.bf_store.proofs.moving.Ordered.{ties}
-use Rattle.bf_store.proofs.moving.Putting.{IsFitting, all_put}
+use Rattle.bf_store.proofs.moving.Putting.{IsFitting, all_put, same_itself}
 use Rattle.bf_store.proofs.moving.Targets.{parts_of_each}
 use Rattle.bf_store.proofs.seeing.Placing.{keys_are}
 
@@ -82,7 +83,7 @@ module _ (live : Database) (last : Migration) (is : IsDatabase live) (way : IsUn
   ps = flat_map (part_of last.old last.migrate) gs
 
   abbrev writes : List Write
-  writes = fold with_write [] (puts_of last.old last.migrate gs)
+  writes = map (put_of last.old) ps
 
   abbrev IsMade : Target → Type 0
   IsMade t = table_under live t.name ≡ Some (target_table last.old t)
@@ -150,7 +151,7 @@ module _ (live : Database) (last : Migration) (is : IsDatabase live) (way : IsUn
     pub put_here : IsPut s
     put_here =
         let new = ap₂ (λ (rows more : List (List Value)). are_apart same_key (map key (rows ++ more))) base mine ∙ apart in
-        let put = all_put s.table key_within entries entries_by_key heap last.old ps [] refl tt fits new in
+        let put = all_put s.table key_within entries entries_by_key heap last.old ps [] tt fits new in
         let rows : (written_to writes s).rows ≡ (with_rows_of last gs s).rows = put.rows ∙ ap₂ (with_placed key_cmp key) base mine in
         record {
           written = λ i. record { table = s.table; rows = rows i };
@@ -165,19 +166,44 @@ module _ (live : Database) (last : Migration) (is : IsDatabase live) (way : IsUn
       let a = and_parts _ _ admitted in
       (put_here s there.0 k.0 a.0, each_put ss there.1 k.1 a.1)
 
-  module _ (after : IsDatabase (with_rows_in live last gs)) where
+  -- the writes to a table are under its own keys where those to its name are
+  own_among : (s : Stored) (ws : List Write) → AllByRecursion (WritesOwnKey s.table) ws → AllByRecursion (WritesOwnKey s.table) (writes_to s.table.name ws)
+  own_among s [] all = tt
+  own_among s (w ∷ ws) all = elim (same_name w.table s.table.name) as (λ b. AllByRecursion (WritesOwnKey s.table) (cond b (w ∷ writes_to s.table.name ws) (writes_to s.table.name ws))) [
+    | true ↦ (all.0, own_among s ws all.1)
+    | false ↦ own_among s ws all.1
+  ]
+
+  own_of_all : (s : Stored) (ws : List Write) → AllByRecursion (WritesOwnKey s.table) (writes_to s.table.name ws) → AllByRecursion (WritesOwnKey s.table) ws
+  own_of_all s [] here = tt
+  own_of_all s (w ∷ ws) here = elim (same_name w.table s.table.name) as (λ b. same_name w.table s.table.name ≡ b → AllByRecursion (WritesOwnKey s.table) (cond b (w ∷ writes_to s.table.name ws) (writes_to s.table.name ws)) → AllByRecursion (WritesOwnKey s.table) (w ∷ ws)) [
+    | true ↦ λ e here. (here.0, own_of_all s ws here.1)
+    | false ↦ λ e here. ((λ row same some. absurd (false≢true (sym e ∙ ap (λ name. same_name name s.table.name) same ∙ same_itself s.table.name))), own_of_all s ws here)
+  ] refl here
+
+  module _ (after : IsDatabase (with_rows_in live last gs)) (together : List NamedRows) (own_of : (name : List ℕ) → writes_to name (all_puts together) ≡ writes_to name writes) where
     all_tables : AllByRecursion IsPut live.tables
     all_tables = each_put live.tables (all_there live is) after.rows_by_key after.rows_admitted
 
-    -- COMMIT: the rows are in the live tables
-    pub committed_puts : committed live writes ≡ with_rows_in live last gs
+    written_alike : (s : Stored) → written_to (all_puts together) s ≡ written_to writes s
+    written_alike s = ap (λ ws. record s { rows = map (λ (e : Entry). e.1) (fold applied (entries_of s.table s.rows) ws) }) (own_of s.table.name)
+
+    -- the rows are in the live tables
+    pub committed_puts : committed live (all_puts together) ≡ with_rows_in live last gs
     committed_puts =
-        let tables = map_each IsPut (written_to writes) (with_rows_of last gs) (λ s put. put.written) live.tables all_tables in
+        let tables = map_each IsPut (written_to (all_puts together)) (with_rows_of last gs) (λ s put. written_alike s ∙ put.written) live.tables all_tables in
         λ i. record { number = live.number; tables = tables i; indexes = live.indexes }
 
-    stand_all : (ss : List Stored) → AllByRecursion IsPut ss → AllByRecursion (Stands writes) ss
-    stand_all [] put = tt
-    stand_all (s ∷ ss) put = (put.0.stands, stand_all ss put.1)
+    stands_together : (s : Stored) → Stands writes s → Stands (all_puts together) s
+    stands_together s stands = record {
+      heap = stands.heap;
+      workspace = each (WritesOwnKey s.table) (all_puts together) (own_of_all s (all_puts together)
+          (subst (AllByRecursion (WritesOwnKey s.table)) (sym (own_of s.table.name)) (own_among s writes (by_recursion (WritesOwnKey s.table) writes stands.workspace))));
+    }
 
-    pub stand_puts : All (Stands writes) live.tables
-    stand_puts = each (Stands writes) live.tables (stand_all live.tables all_tables)
+    stand_all : (ss : List Stored) → AllByRecursion IsPut ss → AllByRecursion (Stands (all_puts together)) ss
+    stand_all [] put = tt
+    stand_all (s ∷ ss) put = (stands_together s put.0.stands, stand_all ss put.1)
+
+    pub stand_puts : All (Stands (all_puts together)) live.tables
+    stand_puts = each (Stands (all_puts together)) live.tables (stand_all live.tables all_tables)

@@ -6,7 +6,7 @@ use Rattle.bf_live.proofs.Heaps.{apart_nowhere, is_same, room_found, room_left, 
 use Rattle.bf_live.proofs.commit.apply_in.Goals as goal
 
 pub change_all-requires : goal.change_all-requires
-change_all-requires c = room_found c.args.table.now c.args.writes c.args.heaps.now.entries c.in-Some.heap.now c.requires (sym c.in-Some.ensures.value)
+change_all-requires c = room_found c.args.table.now (key_puts c.args.writes) c.args.heaps.now.entries c.in-Some.heap.now c.requires (sym c.in-Some.ensures.value)
 
 pub returns-in-Some-clause-rows : goal.returns-in-Some-clause-rows
 returns-in-Some-clause-rows c =

@@ -3,7 +3,8 @@ use Rattle.std.specs.Map.Iter.{deref_pair}
 use Rattle.std.proofs.lemmas.List.{map-append}
 use Rattle.bf_txn.specs.declared.write.Write.{Write}
 use Rattle.bf_txn.specs.Writes.{AreTables, KeyWrite, OfTable, all_writes, writes_in}
-use Rattle.bf_live.specs.Commits.{HaveRoomSoFar}
+use Rattle.std.specs.List.{All}
+use Rattle.bf_live.specs.Commits.{HasRoomIn, HaveRoomSoFar}
 use Rattle.bf_live.proofs.Written.{next_left, one_more, own_puts, room_step}
 use Rattle.bf_live.proofs.commit.make_room.Goals as goal
 
@@ -25,5 +26,5 @@ loop-table-preserved c =
       left = ap all_writes still ∙ inv.left;
       tables = subst AreTables (sym still) inv.tables;
       rows = c.make_room_in.ensures.rows ∙ inv.rows;
-      room = subst (λ (first : List Write). HaveRoomSoFar first all now) (sym next) (room_step (all_writes so_far) all n ws c.loop-table.heaps.entries now own inv.room c.make_room_in.ensures.kept c.in_ok-make_room_in.ensures.room);
+      room = subst (λ (first : List Write). HaveRoomSoFar first all now) (sym next) (room_step (all_writes so_far) all n ws c.loop-table.heaps.entries now own inv.room c.make_room_in.ensures.kept (subst (λ (count : ℕ). All (HasRoomIn n count) now) c.count_puts.ensures c.in_ok-make_room_in.ensures.room));
     }

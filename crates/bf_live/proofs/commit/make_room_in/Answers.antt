@@ -1,7 +1,7 @@
 use Rattle.std.proofs.Common.{◌≡◌, ◌≤◌, List, refl, subst, sym, ap, ◌∙◌, arith, rules}
 use Rattle.std.specs.List.{All}
 use Rattle.std.proofs.lemmas.Result.{on_ok_weaker}
-use Rattle.bf_live.specs.Commits.{HasRoomIn, KeepRoom, key_puts}
+use Rattle.bf_live.specs.Commits.{HasRoomIn, KeepRoom}
 use Rattle.bf_live.specs.Live.{NamedHeap, rows_in}
 use Rattle.bf_live.proofs.Heaps.{apart_nowhere, room_apart, room_left, room_made, room_same, rows_changed, unchanged}
 use Rattle.bf_live.proofs.commit.make_room_in.Goals as goal
@@ -38,12 +38,12 @@ pub returns-in-Some-clause-room : goal.returns-in-Some-clause-room
 returns-in-Some-clause-room c =
     let n = c.args.table.now in
     let heaps = c.args.heaps.now.entries in
-    let counted : c.in-Ok.count ≡ c.count_puts.result = search rules in
+    let counted : c.in-Ok.more ≡ c.args.count = search rules in
     on_ok_weaker c.reserve.result
     (λ room.
-    let enough : key_puts c.args.writes.now ≤ c.reserve.new.self.spare = omega (arith, room, counted, c.count_puts.ensures) in
-    subst (λ (heaps : List NamedHeap). All (HasRoomIn n c.args.writes.now) heaps) (sym (c.get_mut.follows.holds c.reserve.new.self).0)
-    (room_made n c.in-Some.heap.now c.reserve.new.self c.args.writes.now enough heaps c.get_mut.ensures.ordered))
+    let enough : c.args.count ≤ c.reserve.new.self.spare = omega (arith, room, counted) in
+    subst (λ (heaps : List NamedHeap). All (HasRoomIn n c.args.count) heaps) (sym (c.get_mut.follows.holds c.reserve.new.self).0)
+    (room_made n c.in-Some.heap.now c.reserve.new.self c.args.count enough heaps c.get_mut.ensures.ordered))
     c.reserve.ensures.room
 
 -- it is not
@@ -53,4 +53,4 @@ returns-clause-kept c = subst (λ m. KeepRoom c.args.heaps.now.entries m.entries
 pub returns-clause-room : goal.returns-clause-room
 returns-clause-room c =
     let n = c.args.table.now in
-    subst (λ m. All (HasRoomIn n c.args.writes.now) m.entries) (sym c.get_mut.follows.holds-at-none) (room_apart n c.args.writes.now c.args.heaps.now.entries (apart_nowhere n c.args.heaps.now.entries (sym c.in_default.ensures.value)))
+    subst (λ m. All (HasRoomIn n c.args.count) m.entries) (sym c.get_mut.follows.holds-at-none) (room_apart n c.args.count c.args.heaps.now.entries (apart_nowhere n c.args.heaps.now.entries (sym c.in_default.ensures.value)))

@@ -1,41 +1,50 @@
-use Rattle.std.proofs.Common.{◌≡◌, true, fold, List, [], sym, ap, subst, ◌∙◌}
-use Rattle.std.specs.List.{All}
+use Rattle.std.proofs.Common.{◌≡◌, true, flat_map, List, sym, ap, subst, ◌∙◌}
 use Rattle.bf_base.specs.declared.granule.Granule.{Granule}
-use Rattle.bf_txn.specs.declared.write.Write.{Write}
-use Rattle.bf_txn.specs.Writes.{with_write}
 use Rattle.bf_sql.specs.Database.{IsDatabase}
+use Rattle.bf_sql.specs.migrations.Granules.{part_of}
 use Rattle.bf_sql.specs.migrations.Lazy.{is_done}
 use Rattle.bf_image.specs.Migrations.{old_of}
 use Rattle.bf_image.specs.declared.migration.Migration.{Migration as Kept}
-use Rattle.bf_live.specs.Live.{committed}
-use Rattle.bf_live.proofs.statements.Seeing.{Stands}
+use Rattle.bf_live.specs.Live.{NamedRows}
 use Rattle.bf_store.specs.Anchors.{next_from}
-use Rattle.bf_store.specs.Puts.{puts_of, with_rows_in}
+use Rattle.bf_store.specs.Puts.{ArePuts, with_rows_in}
 use Rattle.bf_store.specs.Stores.{last_seen, migration_of}
 use Rattle.bf_store.proofs.Marking.{still_marked}
 use Rattle.bf_store.proofs.moving.Anchoring.{goes_on}
+use Rattle.bf_store.proofs.moving.Gathered.{different_tables}
 use Rattle.bf_store.proofs.moving.Put.{committed_puts, moved_database, stand_puts}
 use Rattle.bf_store.proofs.movement.move_in.Goals as goal
 
-pub commit-requires-clause-own_keys : goal.commit-requires-clause-own_keys
-commit-requires-clause-own_keys c =
-    let live = c.args.live.now in
-    let last = last_seen c.args.last.now in
-    let gs = c.args.fresh.now in
-    let r = c.requires in
-    let after : IsDatabase (with_rows_in live last gs) = moved_database live last gs r.lazy_state.live r.lazy_state.last r.lazy_state.valid r.fresh in
-    let writes : fold with_write [] (puts_of last.old last.migrate gs) ≡ c.in_ok-writes.writes = sym (c.in_ok-writes.ensures ∙ ap (λ (m : Kept). fold with_write [] (puts_of (old_of m) m.plan.migrate gs)) (sym r.one)) in
-    subst (λ (ws : List Write). All (Stands ws) live.tables) writes (stand_puts live last r.lazy_state.live r.lazy_state.last gs after)
+-- the rows of granules are put together for the migration's own targets
+together : (m n : Kept) (gs : List Granule) (puts : List NamedRows) → m ≡ n → ArePuts n (flat_map (part_of (old_of n) n.plan.migrate) gs) puts → ArePuts m (flat_map (part_of (old_of m) m.plan.migrate) gs) puts
+together m n gs puts one are = subst (λ (m : Kept). ArePuts m (flat_map (part_of (old_of m) m.plan.migrate) gs) puts) (sym one) are
 
-pub commit-requires-clause-database : goal.commit-requires-clause-database
-commit-requires-clause-database c =
+pub put-requires-clause-apart : goal.put-requires-clause-apart
+put-requires-clause-apart c =
+    let m = c.args.migration.now in
+    different_tables m c.requires.lawful (flat_map (part_of (old_of m) m.plan.migrate) c.args.fresh.now) c.in_ok-puts.puts.items c.in_ok-puts.ensures
+
+pub put-requires-clause-own_keys : goal.put-requires-clause-own_keys
+put-requires-clause-own_keys c =
     let live = c.args.live.now in
     let last = last_seen c.args.last.now in
     let gs = c.args.fresh.now in
     let r = c.requires in
+    let puts = c.in_ok-puts.puts.items in
     let after : IsDatabase (with_rows_in live last gs) = moved_database live last gs r.lazy_state.live r.lazy_state.last r.lazy_state.valid r.fresh in
-    let writes : c.in_ok-writes.writes ≡ fold with_write [] (puts_of last.old last.migrate gs) = c.in_ok-writes.ensures ∙ ap (λ (m : Kept). fold with_write [] (puts_of (old_of m) m.plan.migrate gs)) (sym r.one) in
-    subst IsDatabase (sym (ap (committed live) writes ∙ committed_puts live last r.lazy_state.live r.lazy_state.last gs after)) after
+    let are = together c.args.last.now.pass.value c.args.migration.now gs puts r.one c.in_ok-puts.ensures in
+    stand_puts live last r.lazy_state.live r.lazy_state.last gs after puts are.own
+
+pub put-requires-clause-database : goal.put-requires-clause-database
+put-requires-clause-database c =
+    let live = c.args.live.now in
+    let last = last_seen c.args.last.now in
+    let gs = c.args.fresh.now in
+    let r = c.requires in
+    let puts = c.in_ok-puts.puts.items in
+    let after : IsDatabase (with_rows_in live last gs) = moved_database live last gs r.lazy_state.live r.lazy_state.last r.lazy_state.valid r.fresh in
+    let are = together c.args.last.now.pass.value c.args.migration.now gs puts r.one c.in_ok-puts.ensures in
+    subst IsDatabase (sym (committed_puts live last r.lazy_state.live r.lazy_state.last gs after puts are.own)) after
 
 pub returns-clause-live : goal.returns-clause-live
 returns-clause-live c =
@@ -43,9 +52,10 @@ returns-clause-live c =
     let last = last_seen c.args.last.now in
     let gs = c.args.fresh.now in
     let r = c.requires in
+    let puts = c.in_ok-puts.puts.items in
     let after : IsDatabase (with_rows_in live last gs) = moved_database live last gs r.lazy_state.live r.lazy_state.last r.lazy_state.valid r.fresh in
-    let writes : c.in_ok-writes.writes ≡ fold with_write [] (puts_of last.old last.migrate gs) = c.in_ok-writes.ensures ∙ ap (λ (m : Kept). fold with_write [] (puts_of (old_of m) m.plan.migrate gs)) (sym r.one) in
-    c.in_default.ensures.ok ∙ ap (committed live) writes ∙ committed_puts live last r.lazy_state.live r.lazy_state.last gs after
+    let are = together c.args.last.now.pass.value c.args.migration.now gs puts r.one c.in_ok-puts.ensures in
+    c.in_default.ensures.ok ∙ committed_puts live last r.lazy_state.live r.lazy_state.last gs after puts are.own
 
 pub returns-clause-counted : goal.returns-clause-counted
 returns-clause-counted c =

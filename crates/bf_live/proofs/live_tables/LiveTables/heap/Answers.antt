@@ -1,5 +1,5 @@
-use Rattle.std.proofs.Common.{◌≡◌, Bor, List, Option, Some, option_map, ap, sym, ◌∙◌}
-use Rattle.bf_heap.specs.Heaps.{Entry, Rows}
+use Rattle.std.proofs.Common.{Bor, Some, option_map, ap, sym, ◌∙◌}
+use Rattle.bf_heap.specs.Heaps.{Rows}
 use Rattle.bf_live.proofs.Held.{heap_held}
 use Rattle.bf_live.proofs.live_tables.LiveTables.heap.Goals as goal
 
