@@ -14,7 +14,7 @@ ghost use Rattle.bf_store.specs.Stores.{IsOf, migration_of};
 ghost use Rattle.bf_transpose.specs.Covers.{IsCoverOf};
 ghost use Rattle.bf_machine.specs.interleaving.Calls.{CanCommit, CanExec, CanRefuse, HasReplied, HasSessionEnded, IsPlace, IsPresent, StandsAs};
 ghost use Rattle.bf_machine.specs.interleaving.Events.{Begins, Moves, Reaches};
-ghost use Rattle.bf_machine.specs.interleaving.Journals.{AreSaid, IsOneRecord, IsRefusedIfEnded, Keeps, most_moved};
+ghost use Rattle.bf_machine.specs.interleaving.Journals.{AreSaid, IsOneRecord, Keeps, KeepsOrIsRefused, most_moved};
 ghost use Rattle.bf_machine.specs.interleaving.Kept.{IsKept};
 ghost use Rattle.bf_machine.specs.interleaving.Machines.{Machine as Seen, Open, open_at, these};
 ghost use Rattle.bf_machine.specs.interleaving.Serving.{CanGo, CannotGo, Driven, HasLocked, HasMovedFirst, HasMovedNeed, HasMovedSome, HasReply, IsAlone, IsBoundNext, IsCommit, IsEndIfAnswered, IsFollowed, IsInSequence, IsPreparedNext, IsToLock, IsTurn, IsTurnOf, IsYoungest, LeavesStore, MovesAll, Serves, Turned, can_go, deaths_at, unanswered};
@@ -193,9 +193,7 @@ fn move_record<N: Opened, J: Journal>(
     requires granules { IsOneRecord (Some (migration_of pass.now.value [])) granules.now }
     ensures moves { OnOk result (Moves machine.old granules.now machine.new) }
     ensures err { OnErr result (machine.new ≡ machine.old) }
-    ensures keeps { Keeps J.Answers N.opening machine.old journal.old machine.new
-        journal.new }
-    ensures refused { IsRefusedIfEnded J.Answers J.ends N.opening machine.old journal.old
+    ensures keeps { KeepsOrIsRefused J.Answers J.ends N.opening machine.old journal.old
         machine.new journal.new result }
 {
     match machine.moved(registry, journal, pass, indexes, granules) {
@@ -228,9 +226,7 @@ fn move_records<N: Opened, J: Journal>(
     requires in_order { IsTrue (rises granule_cmp granules.now) }
     ensures moves { OnOk result (MovesAll machine.old granules.now machine.new) }
     ensures err { OnErr result (HasMovedFirst machine.old granules.now machine.new) }
-    ensures keeps { Keeps J.Answers N.opening machine.old journal.old machine.new
-        journal.new }
-    ensures refused { IsRefusedIfEnded J.Answers J.ends N.opening machine.old journal.old
+    ensures keeps { KeepsOrIsRefused J.Answers J.ends N.opening machine.old journal.old
         machine.new journal.new result }
 {
     let mut left = granules;
@@ -263,9 +259,7 @@ fn move_need<N: Opened, J: Journal>(
     requires in_order { IsTrue (rises granule_cmp granules.now) }
     ensures moves { OnOk result (MovesAll machine.old granules.now machine.new) }
     ensures err { OnErr result (HasMovedFirst machine.old granules.now machine.new) }
-    ensures keeps { Keeps J.Answers N.opening machine.old journal.old machine.new
-        journal.new }
-    ensures refused { IsRefusedIfEnded J.Answers J.ends N.opening machine.old journal.old
+    ensures keeps { KeepsOrIsRefused J.Answers J.ends N.opening machine.old journal.old
         machine.new journal.new result }
 {
     let Some(pass) = machine.migration() else {
@@ -334,9 +328,7 @@ fn reply_to<N: Opened, J: Journal>(
     ensures replied { OnOk result ((now : Seen) × HasMovedNeed machine.old bound.now now
         × HasReplied now session bound.now machine.new) }
     ensures err { OnErr result (HasMovedSome machine.old bound.now machine.new) }
-    ensures keeps { Keeps J.Answers N.opening machine.old journal.old machine.new
-        journal.new }
-    ensures refused { IsRefusedIfEnded J.Answers J.ends N.opening machine.old journal.old
+    ensures keeps { KeepsOrIsRefused J.Answers J.ends N.opening machine.old journal.old
         machine.new journal.new result }
 {
     let pass = machine.migration();
@@ -650,8 +642,8 @@ fn end_sessions<N: Opened, J: Journal, R: Wait>(
 /// group, is passed over. Then all that is left is driven, the youngest open group first, and where
 /// none is open the first session that can go on. What a statement needs of the last migration
 /// moves in its turn, and nothing else of it, by records of at most 64 granules of one unit. The
-/// journal keeps each change of the store before it is made; where it does not keep one, the group
-/// that was to make it ends by the journal's cause.
+/// journal keeps each change of the store before it is made; where it refuses one by a cause, the group
+/// that was to make it or needs it ends by that cause.
 ///
 /// Linear in the turns, each of which looks at each session of the script, 64 at most in one that
 /// is read, and costs what its statement's cover, moves and reply do. The old rows of a migration

@@ -1,6 +1,6 @@
 //! What is pending, put into the store.
 
-ghost use Rattle.std.specs.Prelude.{◌≡◌, Err, OnErr, OnOk, true};
+ghost use Rattle.std.specs.Prelude.{◌≡◌, ◌≢◌, Err, OnErr, OnOk, true};
 ghost use Rattle.bf_tree.specs.declared.reply.Cause.{Cause};
 ghost use Rattle.bf_tree.specs.declared.plan.Plan.{Plan};
 ghost use Rattle.bf_sql.specs.migrations.Lazy.{view_of};
@@ -101,8 +101,9 @@ pub(crate) fn settle<J: Journal, R: Wait>(
         → store.new.migration ≡ store.old.migration }
     ensures err { OnErr result (store.new ≡ store.old) }
     ensures kept { OnErr result (pending_seen pending.new ≡ pending_seen pending.old) }
-    ensures beside { IsBeside J.Answers (IsPutInto store.old.lazy (pending_seen pending.old))
-        store.old.lazy store.new.lazy journal.old journal.new }
+    ensures beside { ((cause : Cause) → result ≢ Err (Ended cause))
+        → IsBeside J.Answers (IsPutInto store.old.lazy (pending_seen pending.old)) store.old.lazy
+        store.new.lazy journal.old journal.new }
     ensures ended { IsOfLogIfEnded J.ends result }
     ensures refused { (cause : Cause) → result ≡ Err (Ended cause)
         → IsRefused J.Answers (IsPutInto store.old.lazy (pending_seen pending.old)) store.old.lazy

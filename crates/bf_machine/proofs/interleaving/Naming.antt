@@ -1,5 +1,5 @@
 -- The groups that a log ends are named by the events: the same events come where a log may end these alone.
-use Rattle.std.proofs.Common.{◌≡◌, ℕ, Bool, List, [], ◌++◌, refl, sym, ap, subst, ◌∙◌, arith, inl, inr}
+use Rattle.std.proofs.Common.{◌≡◌, ℕ, Bool, [], refl, sym, ap, subst, ◌∙◌, arith, inl, inr}
 use Rattle.std.specs.Prelude.{Contains, Result}
 use Rattle.std.proofs.lemmas.List.Elements.{Contains-append_left, Contains-append_right, Contains-push}
 use Rattle.bf_locks.specs.declared.answer.LockAnswer.{LockAnswer}
@@ -13,7 +13,7 @@ use Rattle.bf_store.specs.Stores.{Store}
 use Rattle.bf_machine.specs.declared.journal.KeepError.{KeepError}
 use Rattle.bf_machine.specs.interleaving.Events.{Event, Reaches, aborts, asked, asks, at_once, begins, commits_now, ends_by_log, executes, finishes, moves, one_more, refuses}
 use Rattle.bf_machine.specs.interleaving.Journals.{Keeps, ended_by, ended_in, nothing_yet, one_beside}
-use Rattle.bf_machine.specs.interleaving.Kept.{IsKept, IsOpening, IsWithinLimits, fresh, fresh_with}
+use Rattle.bf_machine.specs.interleaving.Kept.{IsKept, IsOpening, fresh, fresh_with}
 use Rattle.bf_machine.specs.interleaving.Machines.{EndedGroup, IsAmong, Machine, MayEnd, Open, these}
 use Rattle.bf_machine.proofs.interleaving.New.{new_is_kept}
 use Rattle.bf_machine.proofs.interleaving.Reaching.{reached_keeps_all}

@@ -1,11 +1,12 @@
--- The store beside the journal: a change that is kept and made, one that is kept and given up, and one that is not kept.
-use Rattle.std.proofs.Common.{◌≡◌, Bool, true, false, List, [], ◌∷◌, Result, Ok, Err, refl, subst, inl, inr, sym}
+-- The store beside the journal: a change that is kept and made, one that is kept and given up, and one for which there is no memory.
+use Rattle.std.proofs.Common.{◌≡◌, Bool, true, false, List, [], Result, Ok, Err, refl, subst, inl, inr, sym}
 use Rattle.std.proofs.lemmas.Bool.{cases_Bool}
 use Rattle.bf_base.specs.declared.granule.Granule.{Granule}
 use Rattle.bf_sql.specs.migrations.Lazy.{LazyState}
 use Rattle.bf_store.specs.States.{to_move, with_moved}
 use Rattle.bf_store.proofs.Recorded.{after_untold}
 use Rattle.bf_machine.specs.declared.journal.KeepError.{KeepError}
+use Rattle.bf_machine.specs.declared.journal.KeepError.TheVariants.{Memory}
 use Rattle.bf_machine.specs.interleaving.Events.{put_into}
 use Rattle.bf_machine.specs.interleaving.Groups.{Flip, NewIndex, NewTable, Nothing, Pending, Rows}
 use Rattle.bf_machine.specs.interleaving.Journals.{IsBeside, leaves_something}
@@ -25,8 +26,8 @@ module _ {J : Type 0} (Answers : LazyState → LazyState → J → J → Result 
   pub made_beside : (change : LazyState) → next ≡ change → Answers lazy change j k (Ok tt) → IsBeside Answers Change lazy next j k
   made_beside change is kept = inr (inl (subst (λ (next : LazyState). Answers lazy next j k (Ok tt)) (sym is) kept))
 
-  pub unkept_beside : (change : LazyState) → Change change → (why : KeepError) → next ≡ lazy → Answers lazy change j k (Err why) → IsBeside Answers Change lazy next j k
-  unkept_beside change is why same unkept = inr (inr (same, (change, is, (why, unkept))))
+  pub unkept_beside : (change : LazyState) → Change change → next ≡ lazy → Answers lazy change j k (Err Memory) → IsBeside Answers Change lazy next j k
+  unkept_beside change is same unkept = inr (inr (same, (change, is, unkept)))
 
   -- of other changes
   pub beside_weaker : (Other : LazyState → Type 0) → ((change : LazyState) → Change change → Other change) → IsBeside Answers Change lazy next j k → IsBeside Answers Other lazy next j k

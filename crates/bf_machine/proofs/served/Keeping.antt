@@ -1,5 +1,5 @@
 -- Events beside a journal, one after the other.
-use Rattle.std.proofs.Common.{◌≡◌, ℕ, refl, sym, ap, subst, ◌∙◌, inl, inr}
+use Rattle.std.proofs.Common.{◌≡◌, ◌⊎◌, ℕ, [], refl, sym, ap, subst, ◌∙◌, inl, inr}
 use Rattle.std.specs.Prelude.{Bool, Result, Ok, Err}
 use Rattle.bf_locks.specs.declared.answer.LockAnswer.{LockAnswer}
 use Rattle.bf_locks.specs.declared.answer.LockAnswer.TheVariants.{Die, Granted, Wait}
@@ -12,7 +12,7 @@ use Rattle.bf_tree.specs.declared.reply.Cause.{Cause}
 use Rattle.bf_machine.specs.declared.journal.KeepError.{KeepError}
 use Rattle.bf_machine.specs.declared.journal.KeepError.TheVariants.{Ended, Memory}
 use Rattle.bf_machine.specs.interleaving.Events.{Asks, Begins, EndsByLog, Event, Reaches, aborts, asked, asks, at_once, begins, commits_now, ends_by_log, executes, finishes, moves, one_more, refuses}
-use Rattle.bf_machine.specs.interleaving.Journals.{IsBeside, IsChangeFor, IsChangeOf, IsEventBeside, IsRefused, IsRefusedIfEnded, Keeps, nothing_yet, one_beside}
+use Rattle.bf_machine.specs.interleaving.Journals.{IsBeside, IsChangeFor, IsChangeOf, IsEventBeside, IsRefused, Keeps, KeepsOrIsRefused, ended_by, nothing_yet, one_beside}
 use Rattle.bf_machine.specs.interleaving.Calls.{HasReplied}
 use Rattle.bf_machine.specs.interleaving.Machines.{Machine, Open}
 use Rattle.bf_machine.specs.interleaving.Serving.{LeavesStore}
@@ -27,41 +27,47 @@ module _ {J : Type 0} (Answers : LazyState → LazyState → J → J → Result 
   pub keeps_not : (m next : Machine) (j k : J) → next ≡ m → k ≡ j → Keeps Answers start m j next k
   keeps_not m next j k same unmoved = subst (λ (n : Machine). Keeps Answers start m j n k) (sym same) (subst (Keeps Answers start m j m) (sym unmoved) nothing_yet)
 
-  -- where the machine stays, whatever the journal has answered
+  -- where the machine stays, and the journal does or had no memory
   pub keeps_still : (m : Machine) (j : J) (now : Machine) (k : J) (next : Machine) (l : J) → Keeps Answers start m j now k → next ≡ now → IsBeside Answers (IsChangeOf now) now.lazy next.lazy k l → Keeps Answers start m j next l
   keeps_still m j now k next l before same beside = one_beside before (finishes 0 same) beside
 
-  -- an event with its journal
-  pub event_beside : {now next : Machine} (event : Event start now next) (k l : J) → IsEventBeside Answers event k l → IsBeside Answers (IsChangeOf now) now.lazy next.lazy k l
-  event_beside (ends_by_log s by) k l refused = inr (inr (ap (λ (n : Machine). n.lazy) by.goes, (refused.0, (s, refused.1), (Ended by.cause, refused.2))))
-  event_beside (begins s by) k l beside = beside
-  event_beside (asks s name mode answer by) k l beside = beside
-  event_beside (executes s by) k l beside = beside
-  event_beside (refuses s by) k l beside = beside
-  event_beside (commits_now s by) k l beside = beside
-  event_beside (aborts s by) k l beside = beside
-  event_beside (moves granules by) k l beside = beside
-  event_beside (finishes s same) k l beside = beside
+  -- an event with its journal: the store changes beside it, and no group ends by a cause; or one does, for which a change was refused
+  pub event_beside : {now next : Machine} (event : Event start now next) (k l : J) → IsEventBeside Answers event k l
+      → ((ended_by event ≡ []) × IsBeside Answers (IsChangeOf now) now.lazy next.lazy k l)
+      ⊎ ((s : ℕ) × (by : EndsByLog now s next) × (event ≡ ends_by_log s by) × IsRefused Answers (IsChangeFor now s) now.lazy k l by.cause)
+  event_beside (ends_by_log s by) k l refused = inr (s, by, refl, refused)
+  event_beside (begins s by) k l beside = inl (refl, beside)
+  event_beside (asks s name mode answer by) k l beside = inl (refl, beside)
+  event_beside (executes s by) k l beside = inl (refl, beside)
+  event_beside (refuses s by) k l beside = inl (refl, beside)
+  event_beside (commits_now s by) k l beside = inl (refl, beside)
+  event_beside (aborts s by) k l beside = inl (refl, beside)
+  event_beside (moves granules by) k l beside = inl (refl, beside)
+  event_beside (finishes s same) k l beside = inl (refl, beside)
 
   -- a group ends by the cause for which the journal does not keep a change
   pub keeps_end : (m : Machine) (j : J) (now : Machine) (k l : J) (s : ℕ) (next : Machine) (cause : Cause) → Keeps Answers start m j now k → (by : EndsByLog now s next) → by.cause ≡ cause → IsRefused Answers (IsChangeFor now s) now.lazy k l cause
       → Keeps Answers start m j next l
   keeps_end m j now k l s next cause before by is refused = one_beside before (ends_by_log s by) (subst (IsRefused Answers (IsChangeFor now s) now.lazy k l) (sym is) refused)
 
-  -- a cause that is told behind events, told behind those before them
-  pub refused_behind : (ends : Bool) (m : Machine) (j : J) (now : Machine) (k : J) (next : Machine) (l : J) (r : Result (Unit {0}) KeepError) → Keeps Answers start m j now k
-      → IsRefusedIfEnded Answers ends start now k next l r → IsRefusedIfEnded Answers ends start m j next l r
-  refused_behind ends m j now k next l (Ok done) before told = tt
-  refused_behind ends m j now k next l (Err (Ended cause)) before told =
-      let last = told.2 in
-      (told.0, told.1, (last.0, keeps_both m j now k next last.0 before last.1, last.2))
-  refused_behind ends m j now k next l (Err Memory) before told = tt
+  -- a call behind other events
+  pub keeps_behind : (ends : Bool) (m : Machine) (j : J) (now : Machine) (k : J) (next : Machine) (l : J) (r : Result (Unit {0}) KeepError) → Keeps Answers start m j now k
+      → KeepsOrIsRefused Answers ends start now k next l r → KeepsOrIsRefused Answers ends start m j next l r
+  keeps_behind ends m j now k next l (Ok done) before own = keeps_both m j now k next l before own
+  keeps_behind ends m j now k next l (Err (Ended cause)) before refused =
+      let last = refused.2 in
+      (refused.0, refused.1, (last.0, keeps_both m j now k next last.0 before last.1, last.2))
+  keeps_behind ends m j now k next l (Err Memory) before own = keeps_both m j now k next l before own
+
+  -- a call that has no memory
+  pub keeps_without_memory : (ends : Bool) (m : Machine) (j : J) (next : Machine) (l : J) (r : Result (Unit {0}) KeepError) → r ≡ Err Memory → Keeps Answers start m j next l → KeepsOrIsRefused Answers ends start m j next l r
+  keeps_without_memory ends m j next l r is own = subst (KeepsOrIsRefused Answers ends start m j next l) (sym is) own
 
   -- events of which no journal is asked
   none_asked : (Change : LazyState → Type 0) (lazy next : LazyState) (u v : Unit {0}) (k : J) → IsBeside {J = Unit {0}} (λ lazy then before after answer. ⊥) Change lazy next u v → IsBeside Answers Change lazy next k k
   none_asked Change lazy next u v k (inl same) = inl (same.0, refl)
   none_asked Change lazy next u v k (inr (inl answered)) = absurd answered
-  none_asked Change lazy next u v k (inr (inr failed)) = absurd failed.1.2.1
+  none_asked Change lazy next u v k (inr (inr failed)) = absurd failed.1.2
 
   not_asked : {now next : Machine} (event : Event start now next) (u v : Unit {0}) → IsEventBeside {J = Unit {0}} (λ lazy then before after answer. ⊥) event u v → (k : J) → IsEventBeside Answers event k k
   not_asked (ends_by_log s by) u v refused k = absurd refused.2
@@ -85,6 +91,14 @@ module _ {J : Type 0} (Answers : LazyState → LazyState → J → J → Result 
   pub keeps_reach : (m : Machine) (j : J) (next : Machine) (l : J) → Keeps Answers start m j next l → Reaches start m next
   keeps_reach m j _ _ nothing_yet = at_once
   keeps_reach m j _ _ (one_beside {now = now} {next = next} {k = k} {l = l} before event beside) = one_more (keeps_reach m j now k before) event
+
+  -- also where the call is refused
+  pub reach_still : (ends : Bool) (m : Machine) (j : J) (next : Machine) (l : J) (r : Result (Unit {0}) KeepError) → KeepsOrIsRefused Answers ends start m j next l r → Reaches start m next
+  reach_still ends m j next l (Ok done) own = keeps_reach m j next l own
+  reach_still ends m j next l (Err (Ended cause)) refused =
+      let last = refused.2 in
+      keeps_reach m j next last.0 last.1
+  reach_still ends m j next l (Err Memory) own = keeps_reach m j next l own
 
 module _ (start : Database) where
   pub leaves_not : (m next : Machine) → next ≡ m → LeavesStore start m next

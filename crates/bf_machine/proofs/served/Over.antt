@@ -1,15 +1,15 @@
 -- Sessions that have ended, of which no group died, ran over the opening database.
-use Rattle.std.proofs.Common.{◌≡◌, ℕ, ◌+◌, ◌<◌, Bool, List, [], ◌∷◌, ◌++◌, length, map, zip, Option, None, refl, sym, ap, ap₂, subst, ◌∙◌, arith, inl, inr, length-append}
-use Rattle.std.specs.Prelude.{Contains, Result}
+use Rattle.std.proofs.Common.{◌≡◌, ℕ, Bool, List, [], ◌∷◌, ◌++◌, length, Option, refl, sym, ap, subst, ◌∙◌, arith, inl, inr, length-append}
+use Rattle.std.specs.Prelude.{Result}
 use Rattle.std.specs.Option.{option_map_or}
-use Rattle.std.specs.List.{AllByRecursion, slice_index_or}
+use Rattle.std.specs.List.{AllByRecursion}
 use Rattle.bf_tree.specs.Answered.{IsAllAnswered}
 use Rattle.bf_tree.specs.declared.reply.Cause.{Cause}
 use Rattle.bf_tree.specs.declared.reply.Cause.TheVariants.{Died, DiskFault, Halted, LogFull, TooLarge}
 use Rattle.bf_tree.specs.declared.reply.Reply.{Reply}
 use Rattle.bf_tree.specs.declared.script.Script.{Script}
 use Rattle.bf_sql.specs.Database.{Database}
-use Rattle.bf_sql.specs.History.{IsApart, IsLegalHistory, replayed}
+use Rattle.bf_sql.specs.History.{IsApart, IsLegalHistory}
 use Rattle.bf_sql.specs.migrations.Lazy.{LazyState, sweep_of}
 use Rattle.bf_store.specs.Stores.{Store}
 use Rattle.bf_machine.specs.InOrder.{none_open}

@@ -75,18 +75,19 @@ ended_by (ends_by_log s by) = record { session = s; group = by.o.group; cause = 
 ended_by other = []
 
 module _ {J : Type 0} (Answers : LazyState → LazyState → J → J → Result (Unit {0}) KeepError → Type 0) where
-  -- BESIDE: the store changes where the journal has kept that change; else both stay, or the journal has not kept one of these changes
+  -- BESIDE: the store changes where the journal has kept that change; else both stay, or there was no memory to keep one of these changes
   abbrev pub IsBeside : (LazyState → Type 0) → LazyState → LazyState → J → J → Type 0
   IsBeside Change lazy next j k =
       ((next ≡ lazy) × (k ≡ j))
       ⊎ Answers lazy next j k (Ok tt)
-      ⊎ ((next ≡ lazy) × ((other : LazyState) × Change other × ((why : KeepError) × Answers lazy other j k (Err why))))
+      ⊎ ((next ≡ lazy) × ((other : LazyState) × Change other × Answers lazy other j k (Err Memory)))
 
   -- REFUSED: the journal has not kept one of these changes, for this cause
   abbrev pub IsRefused : (LazyState → Type 0) → LazyState → J → J → Cause → Type 0
   IsRefused Change lazy j k cause = (other : LazyState) × Change other × Answers lazy other j k (Err (Ended cause))
 
-  -- an event beside the journal: a group ends by the cause for which the journal does not keep a change for it
+  -- an event beside the journal: a group ends by the cause for which the journal does not keep a change for it, and with no other event
+  -- is a change refused by a cause
   abbrev pub IsEventBeside : {start : Database} {m next : Machine} → Event start m next → J → J → Type 0
   IsEventBeside {m = m} (ends_by_log s by) j k = IsRefused (IsChangeFor m s) m.lazy j k by.cause
   IsEventBeside {m = m} {next = next} other j k = IsBeside (IsChangeOf m) m.lazy next.lazy j k
@@ -101,9 +102,9 @@ module _ {J : Type 0} (Answers : LazyState → LazyState → J → J → Result 
   ended_in nothing_yet = []
   ended_in (one_beside before event beside) = ended_in before ++ ended_by event
 
-  -- NOT MOVED: a call that tells a cause, of a log that may end groups, has come to a move that the journal has not kept for it
-  abbrev pub IsRefusedIfEnded : Bool → Database → Machine → J → Machine → J → Result (Unit {0}) KeepError → Type 0
-  IsRefusedIfEnded ends start m j next l (Ok done) = ⊤
-  IsRefusedIfEnded ends start m j next l (Err (Ended cause)) =
+  -- KEEPS, OR IS REFUSED: the events are beside the journal; a call that tells a cause, of a log that may end groups, has come behind
+  -- them to a move that the journal has not kept for it
+  abbrev pub KeepsOrIsRefused : Bool → Database → Machine → J → Machine → J → Result (Unit {0}) KeepError → Type 0
+  KeepsOrIsRefused ends start m j next l (Err (Ended cause)) =
       (ends ≡ true) × IsTrue (is_of_log cause) × ((k : J) × Keeps start m j next k × IsRefused (IsMoveIn next.lazy) next.lazy k l cause)
-  IsRefusedIfEnded ends start m j next l (Err Memory) = ⊤
+  KeepsOrIsRefused ends start m j next l other = Keeps start m j next l

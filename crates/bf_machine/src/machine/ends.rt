@@ -1,6 +1,6 @@
 //! Ends of groups.
 
-ghost use Rattle.std.specs.Prelude.{◌≡◌, ◌+◌, ◌<◌, ◌++◌, ◌∷◌, [], IfOk, None, OnErr, if◌then◌else◌, length, nat_lt, true, vec_capacity};
+ghost use Rattle.std.specs.Prelude.{◌≡◌, ◌≢◌, ◌+◌, ◌<◌, ◌++◌, ◌∷◌, [], IfOk, None, OnErr, if◌then◌else◌, length, nat_lt, true, vec_capacity};
 ghost use Rattle.bf_machine.specs.declared.stand.Ending.TheVariants.{Ended};
 ghost use Rattle.bf_tree.specs.declared.reply.Cause.{Cause};
 ghost use Rattle.bf_machine.specs.interleaving.Calls.{CanAbort, CanCommit, CanFail, IsEnding, IsPlace};
@@ -43,8 +43,9 @@ impl<N: Opened> Machine<N> {
         requires can { CanCommit self.old session }
         ensures ending { IfOk result (λ ending. IsEnding self.old session self.new ending) }
         ensures err { OnErr result (self.new ≡ self.old) }
-        ensures beside { IsBeside J.Answers (IsChangeFor self.old session) self.old.lazy
-            self.new.lazy journal.old journal.new }
+        ensures beside { ((cause : Cause) → result ≢ Ok (Ended cause))
+            → IsBeside J.Answers (IsChangeFor self.old session) self.old.lazy self.new.lazy
+            journal.old journal.new }
         ensures refused { (cause : Cause) → result ≡ Ok (Ended cause)
             → IsRefused J.Answers (IsChangeFor self.old session) self.old.lazy journal.old
             journal.new cause }

@@ -9,7 +9,7 @@ ghost use Rattle.bf_store.specs.Calls.{IsMoveOf, IsSweepOf};
 ghost use Rattle.bf_store.specs.States.{granules_done_if_any, to_move, with_moved};
 ghost use Rattle.bf_store.specs.Stores.{IsByPass, IsOf, migration_of};
 ghost use Rattle.bf_tree.specs.declared.reply.Cause.{Cause};
-ghost use Rattle.bf_machine.specs.declared.stand.MoveError.TheVariants.{Ended, Old};
+ghost use Rattle.bf_machine.specs.declared.stand.MoveError.TheVariants.{Ended, Memory as NoMemory, Old};
 ghost use Rattle.bf_machine.specs.interleaving.Calls.{slot_of};
 ghost use Rattle.bf_machine.specs.interleaving.Events.{Moves};
 ghost use Rattle.bf_machine.specs.interleaving.Journals.{IsBeside, IsMoveIn, IsOneRecord, IsRefused};
@@ -83,7 +83,8 @@ impl<N: Opened> Machine<N> {
         ensures present { slot_of self.old.pass ≡ Some migration.now.index
             → (n : ℕ) → result ≢ Err (Old n) }
         ensures err { OnErr result (self.new ≡ self.old) }
-        ensures beside { IsBeside J.Answers (IsMoveIn self.old.lazy) self.old.lazy self.new.lazy
+        ensures beside { ((cause : Cause) → result ≢ Err (Ended cause))
+            → IsBeside J.Answers (IsMoveIn self.old.lazy) self.old.lazy self.new.lazy
             journal.old journal.new }
         ensures ended { (cause : Cause) → result ≡ Err (Ended cause)
             → (J.ends ≡ true) × (is_of_log cause ≡ true)
@@ -124,9 +125,9 @@ fn keep_left<J: Journal>(
         (with_moved store.now.lazy granules.now) journal.old journal.new (Ok tt) }
     ensures nothing { result ≡ Ok false → (to_move store.now.lazy.last granules.now ≡ [])
         × (journal.new ≡ journal.old) }
-    ensures err { OnErr result
-        (IsBeside J.Answers (IsMoveIn store.now.lazy) store.now.lazy store.now.lazy journal.old
-        journal.new) }
+    ensures memory { result ≡ Err NoMemory
+        → IsBeside J.Answers (IsMoveIn store.now.lazy) store.now.lazy store.now.lazy journal.old
+        journal.new }
     ensures present { (n : ℕ) → result ≢ Err (Old n) }
     ensures ended { (cause : Cause) → result ≡ Err (Ended cause)
         → (J.ends ≡ true) × (is_of_log cause ≡ true)

@@ -9,10 +9,10 @@ use Rattle.bf_base.specs.Lists.{rises}
 use Rattle.bf_sql.specs.migrations.Lazy.{Migration}
 use Rattle.bf_store.specs.States.{AreGranules, granule_cmp}
 use Rattle.bf_store.specs.Stores.{migration_of}
-use Rattle.bf_machine.specs.interleaving.Journals.{IsRefusedIfEnded, nothing_yet}
+use Rattle.bf_machine.specs.interleaving.Journals.{KeepsOrIsRefused, nothing_yet}
 use Rattle.bf_machine.specs.interleaving.Machines.{Machine}
 use Rattle.bf_machine.specs.interleaving.Serving.{MovesAll, no_move, one_record}
-use Rattle.bf_machine.proofs.served.Keeping.{keeps_both, refused_behind}
+use Rattle.bf_machine.proofs.served.Keeping.{keeps_behind, keeps_both}
 use Rattle.bf_machine.proofs.served.Records.{first_there, left_none, left_some, one_record_of}
 use Rattle.bf_machine.proofs.serving.move_records.Goals as goal
 
@@ -73,20 +73,15 @@ returns-in_err-move_record-clause-err g c =
 
 pub returns-in_err-move_record-clause-keeps : goal.returns-in_err-move_record-clause-keeps
 returns-in_err-move_record-clause-keeps g c =
-    keeps_both g.J.Journal.Answers g.N.Opened.opening c.args.machine.now c.args.journal.now c.loop-left.machine c.loop-left.journal c.move_record.new.machine c.move_record.new.journal
-    c.loop-left.invariant.keeps c.in_err-move_record.ensures.keeps
+    let error = c.in_err-move_record.field-0.0 in
+    let same : c.from_residual.result ≡ Err error = same_error c.from_residual.result error c.from_residual.ensures.0 c.from_residual.ensures.1 in
+    let Answers = g.J.Journal.Answers in
+    subst (KeepsOrIsRefused Answers g.J.Journal.ends g.N.Opened.opening c.args.machine.now c.args.journal.now c.move_record.new.machine c.move_record.new.journal) (sym same)
+    (keeps_behind Answers g.N.Opened.opening g.J.Journal.ends c.args.machine.now c.args.journal.now c.loop-left.machine c.loop-left.journal c.move_record.new.machine c.move_record.new.journal (Err error)
+    c.loop-left.invariant.keeps c.in_err-move_record.ensures.keeps)
 
 pub returns-clause-moves : goal.returns-clause-moves
 returns-clause-moves g c =
     let moved = c.loop-left.invariant.moved in
     let none : c.args.granules.now ≡ moved.0 = moved.1 ∙ (ap (λ (gs : List Granule). moved.0 ++ gs) (left_none c.loop-left.left.now (sym c.is_empty.ensures ∙ c.loop-left-test.false)) ∙ append-nil moved.0) in
     subst (λ (gs : List Granule). MovesAll c.args.machine.now gs c.loop-left.machine) (sym none) moved.2
-
-pub returns-in_err-move_record-clause-refused : goal.returns-in_err-move_record-clause-refused
-returns-in_err-move_record-clause-refused g c =
-    let error = c.in_err-move_record.field-0.0 in
-    let same : c.from_residual.result ≡ Err error = same_error c.from_residual.result error c.from_residual.ensures.0 c.from_residual.ensures.1 in
-    let Answers = g.J.Journal.Answers in
-    subst (IsRefusedIfEnded Answers g.J.Journal.ends g.N.Opened.opening c.args.machine.now c.args.journal.now c.move_record.new.machine c.move_record.new.journal) (sym same)
-    (refused_behind Answers g.N.Opened.opening g.J.Journal.ends c.args.machine.now c.args.journal.now c.loop-left.machine c.loop-left.journal c.move_record.new.machine c.move_record.new.journal (Err error)
-    c.loop-left.invariant.keeps c.in_err-move_record.ensures.refused)

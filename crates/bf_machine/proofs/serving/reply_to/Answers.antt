@@ -3,6 +3,8 @@ use Rattle.std.proofs.Common.{◌≡◌, List, [], Option, refl, sym, ap, subst,
 use Rattle.std.specs.Prelude.{IsTrue, Result, Ok, Err, OnErr}
 use Rattle.std.specs.Global.{Vec}
 use Rattle.std.specs.Option.{option_map}
+use Rattle.std.specs.Result.{IsErr, IsErrAnd}
+use Rattle.std.proofs.lemmas.Bool.{false≢true}
 use Rattle.boxcar.specs.Table.{Where}
 use Rattle.bf_base.specs.declared.granule.Granule.{Granule}
 use Rattle.bf_base.specs.declared.memory.Memory.{Memory}
@@ -11,13 +13,14 @@ use Rattle.bf_image.specs.declared.migration.Migration.{Migration as Kept}
 use Rattle.bf_store.specs.States.{AreGranulesIfAny, granule_cmp}
 use Rattle.bf_store.specs.Stores.{IsOf}
 use Rattle.bf_transpose.specs.Covers.{IsCoverOf}
+use Rattle.bf_machine.specs.declared.journal.KeepError.TheVariants.{Memory as NoMemory}
 use Rattle.bf_machine.specs.declared.stand.Step.{Step}
 use Rattle.bf_machine.specs.declared.stand.Step.TheVariants.{Need, Replied}
 use Rattle.bf_machine.specs.interleaving.Calls.{IsStep}
-use Rattle.bf_machine.specs.interleaving.Journals.{Keeps, nothing_yet}
+use Rattle.bf_machine.specs.interleaving.Journals.{Keeps, KeepsOrIsRefused, nothing_yet}
 use Rattle.bf_machine.specs.interleaving.Machines.{Machine}
 use Rattle.bf_machine.specs.interleaving.Serving.{HasMovedFirst, HasMovedSome, MovesAll, left_of_need, no_move}
-use Rattle.bf_machine.proofs.served.Keeping.{keeps_not, keeps_reply}
+use Rattle.bf_machine.proofs.served.Keeping.{keeps_not, keeps_reply, keeps_without_memory}
 use Rattle.bf_machine.proofs.served.Needs.{all_is_some, can_then, has_moved, has_moved_some, is_present, lent, lent_then, may_move, need_told, none_is_some, none_then, not_stale, nothing_to_move, place_then, present_then}
 use Rattle.bf_machine.proofs.served.Records.{left_rises}
 use Rattle.bf_machine.proofs.serving.reply_to.Goals as goal
@@ -25,6 +28,11 @@ use Rattle.bf_machine.proofs.serving.reply_to.Goals as goal
 on_err : {P : Type 0} {A E : Type 0} (r : Result A E) → P → OnErr r P
 on_err (Ok x) so = tt
 on_err (Err error) so = so
+
+-- a `?` hands on the error that it finds
+same_error : {A E : Type 0} (r : Result A E) (e : E) → IsErr r → IsErrAnd r (λ (x : E). x ≡ e) → r ≡ Err e
+same_error (Ok a) e none same = absurd (false≢true none)
+same_error (Err x) e none same = ap Err same
 
 not_replied : (r : Result Step Memory) (granules : Vec Granule) → r ≡ Ok (Need granules) → r ≡ Ok Replied → ⊥
 not_replied r granules is e = let clash : ◌≡◌ {A = Result Step Memory} (Ok (Need granules)) (Ok Replied) = sym is ∙ e in cc
@@ -159,7 +167,11 @@ returns-in_err-move_need-in-Need-clause-keeps g c =
     let m : Machine = c.args.machine.now in
     let same : c.exec.new.self ≡ m = c.exec.ensures.same (not_replied c.exec.result c.in-Need.granules (c.in_ok-exec.was ∙ ap Ok c.in-Need.is)) in
     let journal = c.args.journal.now in
-    subst (λ (k : Machine). Keeps g.J.Journal.Answers g.N.Opened.opening k journal c.move_need.new.machine c.move_need.new.journal) same c.in_err-move_need-in-Need.ensures.keeps
+    let error = c.in_err-move_need-in-Need.field-0.0 in
+    let result = c.from_residual-in_err-move_need-in-Need.result in
+    let told : result ≡ Err error = same_error result error c.from_residual-in_err-move_need-in-Need.ensures.0 c.from_residual-in_err-move_need-in-Need.ensures.1 in
+    subst (KeepsOrIsRefused g.J.Journal.Answers g.J.Journal.ends g.N.Opened.opening m journal c.move_need.new.machine c.move_need.new.journal) (sym told)
+    (subst (λ (k : Machine). KeepsOrIsRefused g.J.Journal.Answers g.J.Journal.ends g.N.Opened.opening k journal c.move_need.new.machine c.move_need.new.journal (Err error)) same c.in_err-move_need-in-Need.ensures.keeps)
 
 pub returns-in_err-reply_behind_moves-in-Need-clause-err : goal.returns-in_err-reply_behind_moves-in-Need-clause-err
 returns-in_err-reply_behind_moves-in-Need-clause-err g c =
@@ -182,7 +194,10 @@ returns-in_err-reply_behind_moves-in-Need-clause-keeps g c =
     let same : c.exec.new.self ≡ m = c.exec.ensures.same (not_replied c.exec.result c.in-Need.granules (c.in_ok-exec.was ∙ ap Ok c.in-Need.is)) in
     let journal = c.args.journal.now in
     let moved = subst (λ (k : Machine). Keeps g.J.Journal.Answers g.N.Opened.opening k journal c.move_need.new.machine c.move_need.new.journal) same c.in_ok-move_need-in-Need.ensures.keeps in
-    subst (λ (k : Machine). Keeps g.J.Journal.Answers g.N.Opened.opening m journal k c.move_need.new.journal) (sym c.in_err-reply_behind_moves-in-Need.ensures.err) moved
+    let result = c.from_residual-in_err-reply_behind_moves-in-Need.result in
+    keeps_without_memory g.J.Journal.Answers g.N.Opened.opening g.J.Journal.ends m journal c.reply_behind_moves.new.machine c.move_need.new.journal result
+    (same_error result NoMemory c.from_residual-in_err-reply_behind_moves-in-Need.ensures.0 c.from_residual-in_err-reply_behind_moves-in-Need.ensures.1)
+    (subst (λ (k : Machine). Keeps g.J.Journal.Answers g.N.Opened.opening m journal k c.move_need.new.journal) (sym c.in_err-reply_behind_moves-in-Need.ensures.err) moved)
 
 pub returns-in-Need-clause-keeps : goal.returns-in-Need-clause-keeps
 returns-in-Need-clause-keeps g c =
@@ -215,7 +230,9 @@ pub returns-in_err-cover-clause-err : goal.returns-in_err-cover-clause-err
 returns-in_err-cover-clause-err g c = on_err c.from_residual.result (none_is_some c.args.machine.now c.args.bound.now)
 
 pub returns-in_err-cover-clause-keeps : goal.returns-in_err-cover-clause-keeps
-returns-in_err-cover-clause-keeps g c = nothing_yet
+returns-in_err-cover-clause-keeps g c =
+    keeps_without_memory g.J.Journal.Answers g.N.Opened.opening g.J.Journal.ends c.args.machine.now c.args.journal.now c.args.machine.now c.args.journal.now c.from_residual.result
+    (same_error c.from_residual.result NoMemory c.from_residual.ensures.0 c.from_residual.ensures.1) nothing_yet
 
 pub returns-in_err-exec-clause-err : goal.returns-in_err-exec-clause-err
 returns-in_err-exec-clause-err g c =
@@ -223,4 +240,7 @@ returns-in_err-exec-clause-err g c =
 
 pub returns-in_err-exec-clause-keeps : goal.returns-in_err-exec-clause-keeps
 returns-in_err-exec-clause-keeps g c =
-    keeps_not g.J.Journal.Answers g.N.Opened.opening c.args.machine.now c.exec.new.self c.args.journal.now c.args.journal.now (c.in_err-exec.ensures.same (λ e. cc)) refl
+    let result = c.from_residual-in_err-exec.result in
+    keeps_without_memory g.J.Journal.Answers g.N.Opened.opening g.J.Journal.ends c.args.machine.now c.args.journal.now c.exec.new.self c.args.journal.now result
+    (same_error result NoMemory c.from_residual-in_err-exec.ensures.0 c.from_residual-in_err-exec.ensures.1)
+    (keeps_not g.J.Journal.Answers g.N.Opened.opening c.args.machine.now c.exec.new.self c.args.journal.now c.args.journal.now (c.in_err-exec.ensures.same (λ e. cc)) refl)

@@ -8,14 +8,14 @@ use Rattle.bf_machine.specs.declared.journal.KeepError.{KeepError}
 use Rattle.bf_machine.specs.declared.stand.Turn.{Turn}
 use Rattle.bf_machine.specs.interleaving.Calls.{IsPlace}
 use Rattle.bf_machine.specs.interleaving.Events.{at_once, ends_by_log, one_more}
-use Rattle.bf_machine.specs.interleaving.Journals.{IsRefusedIfEnded, nothing_yet}
+use Rattle.bf_machine.specs.interleaving.Journals.{KeepsOrIsRefused, nothing_yet}
 use Rattle.bf_machine.specs.interleaving.Machines.{Machine}
 use Rattle.bf_machine.specs.interleaving.Serving.{HasLocked}
 use Rattle.bf_machine.proofs.interleaving.Reaching.{reached_keeps_all}
 use Rattle.bf_machine.proofs.served.Binding.{has_keys}
 use Rattle.bf_machine.proofs.served.Ending.{reached_script}
 use Rattle.bf_machine.proofs.served.Goes.{reaches_both}
-use Rattle.bf_machine.proofs.served.Keeping.{keeps_both, keeps_end, keeps_leaves, keeps_reach}
+use Rattle.bf_machine.proofs.served.Keeping.{keeps_both, keeps_end, keeps_leaves, reach_still}
 use Rattle.bf_machine.proofs.served.Needs.{reply_reached}
 use Rattle.bf_machine.proofs.served.Replying.{can_fail, can_reply, fails, has_stepped, is_present, turn_to}
 use Rattle.bf_machine.proofs.serving.serve_in_group.Goals as goal
@@ -66,7 +66,7 @@ fail-requires-clause-place g c =
     let m : Machine = c.args.machine.now in
     let now : Machine = c.lock_all.new.machine in
     let then : Machine = c.reply_to.new.machine in
-    let reached = reaches_both g.N.Opened.opening m now then c.in_ok-turn.ensures.reaches (keeps_reach g.J.Journal.Answers g.N.Opened.opening now c.args.journal.now then c.reply_to.new.journal c.reply_to.ensures.keeps) in
+    let reached = reaches_both g.N.Opened.opening m now then c.in_ok-turn.ensures.reaches (reach_still g.J.Journal.Answers g.N.Opened.opening g.J.Journal.ends now c.args.journal.now then c.reply_to.new.journal c.reply_to.result c.reply_to.ensures.keeps) in
     subst (λ (script : Script). IsPlace script c.args.session) (sym (reached_script g.N.Opened.opening m then reached)) c.requires.place
 
 pub end_if_answered-requires-clause-place : goal.end_if_answered-requires-clause-place
@@ -74,7 +74,7 @@ end_if_answered-requires-clause-place g c =
     let m : Machine = c.args.machine.now in
     let now : Machine = c.lock_all.new.machine in
     let then : Machine = c.reply_to.new.machine in
-    let reached = reaches_both g.N.Opened.opening m now then c.in_ok-turn.ensures.reaches (keeps_reach g.J.Journal.Answers g.N.Opened.opening now c.args.journal.now then c.reply_to.new.journal c.reply_to.ensures.keeps) in
+    let reached = reaches_both g.N.Opened.opening m now then c.in_ok-turn.ensures.reaches (reach_still g.J.Journal.Answers g.N.Opened.opening g.J.Journal.ends now c.args.journal.now then c.reply_to.new.journal c.reply_to.result c.reply_to.ensures.keeps) in
     subst (λ (script : Script). IsPlace script c.args.session) (sym (reached_script g.N.Opened.opening m then reached)) c.requires.place
 
 -- behind a need that was not kept
@@ -93,8 +93,8 @@ returns-in-Err-Ended-clause-keeps g c =
     let now : Machine = c.lock_all.new.machine in
     let then : Machine = c.reply_to.new.machine in
     let refused =
-    subst (λ (error : KeepError). IsRefusedIfEnded g.J.Journal.Answers g.J.Journal.ends g.N.Opened.opening now c.args.journal.now then c.reply_to.new.journal (Err error)) c.in-Err-Ended.field-0-is
-    c.in-Err-Ended.ensures.refused in
+    subst (λ (error : KeepError). KeepsOrIsRefused g.J.Journal.Answers g.J.Journal.ends g.N.Opened.opening now c.args.journal.now then c.reply_to.new.journal (Err error)) c.in-Err-Ended.field-0-is
+    c.in-Err-Ended.ensures.keeps in
     let last = refused.2 in
     keeps_end g.J.Journal.Answers g.N.Opened.opening m c.args.journal.now then last.0 c.reply_to.new.journal c.args.session c.fail.new.self c.in-Err-Ended.cause
     (keeps_both g.J.Journal.Answers g.N.Opened.opening m c.args.journal.now now c.args.journal.now then last.0
@@ -104,7 +104,7 @@ returns-in-Err-Ended-clause-keeps g c =
 pub returns-in-Err-Ended-clause-reaches : goal.returns-in-Err-Ended-clause-reaches
 returns-in-Err-Ended-clause-reaches g c =
     one_more (reaches_both g.N.Opened.opening c.args.machine.now c.lock_all.new.machine c.reply_to.new.machine c.in_ok-turn.ensures.reaches
-    (keeps_reach g.J.Journal.Answers g.N.Opened.opening c.lock_all.new.machine c.args.journal.now c.reply_to.new.machine c.reply_to.new.journal c.reply_to.ensures.keeps))
+    (reach_still g.J.Journal.Answers g.N.Opened.opening g.J.Journal.ends c.lock_all.new.machine c.args.journal.now c.reply_to.new.machine c.reply_to.new.journal c.reply_to.result c.reply_to.ensures.keeps))
     (ends_by_log c.args.session c.fail.ensures.0)
 
 pub returns-in-Err-Ended-clause-turn : goal.returns-in-Err-Ended-clause-turn
@@ -119,14 +119,18 @@ returns-in-Err-Ended-clause-turn g c =
 pub returns-clause-reaches : goal.returns-clause-reaches
 returns-clause-reaches g c =
     reaches_both g.N.Opened.opening c.args.machine.now c.lock_all.new.machine c.reply_to.new.machine c.in_ok-turn.ensures.reaches
-    (keeps_reach g.J.Journal.Answers g.N.Opened.opening c.lock_all.new.machine c.args.journal.now c.reply_to.new.machine c.reply_to.new.journal c.reply_to.ensures.keeps)
+    (reach_still g.J.Journal.Answers g.N.Opened.opening g.J.Journal.ends c.lock_all.new.machine c.args.journal.now c.reply_to.new.machine c.reply_to.new.journal c.reply_to.result c.reply_to.ensures.keeps)
 
 pub returns-clause-keeps : goal.returns-clause-keeps
 returns-clause-keeps g c =
     let m : Machine = c.args.machine.now in
     let now : Machine = c.lock_all.new.machine in
-    keeps_both g.J.Journal.Answers g.N.Opened.opening m c.args.journal.now now c.args.journal.now c.reply_to.new.machine c.reply_to.new.journal
-    (keeps_leaves g.J.Journal.Answers g.N.Opened.opening m now c.args.journal.now c.in_ok-turn.ensures.leaves) c.reply_to.ensures.keeps
+    let then : Machine = c.reply_to.new.machine in
+    let replied =
+    subst (λ (error : KeepError). KeepsOrIsRefused g.J.Journal.Answers g.J.Journal.ends g.N.Opened.opening now c.args.journal.now then c.reply_to.new.journal (Err error)) c.in-Err-Memory.field-0-is
+    c.in-Err-Memory.ensures.keeps in
+    keeps_both g.J.Journal.Answers g.N.Opened.opening m c.args.journal.now now c.args.journal.now then c.reply_to.new.journal
+    (keeps_leaves g.J.Journal.Answers g.N.Opened.opening m now c.args.journal.now c.in_ok-turn.ensures.leaves) replied
 
 -- behind the reply
 pub end_if_answered-requires-clause-kept : goal.end_if_answered-requires-clause-kept
@@ -164,7 +168,7 @@ returns-in-Ok-clause-keeps g c =
     let now : Machine = c.lock_all.new.machine in
     keeps_both g.J.Journal.Answers g.N.Opened.opening m c.args.journal.now c.reply_to.new.machine c.reply_to.new.journal c.end_if_answered.new.machine c.end_if_answered.new.journal
     (keeps_both g.J.Journal.Answers g.N.Opened.opening m c.args.journal.now now c.args.journal.now c.reply_to.new.machine c.reply_to.new.journal
-    (keeps_leaves g.J.Journal.Answers g.N.Opened.opening m now c.args.journal.now c.in_ok-turn.ensures.leaves) c.reply_to.ensures.keeps)
+    (keeps_leaves g.J.Journal.Answers g.N.Opened.opening m now c.args.journal.now c.in_ok-turn.ensures.leaves) c.in-Ok.ensures.keeps)
     c.end_if_answered.ensures.keeps
 
 pub returns-in-Ok-clause-turn : goal.returns-in-Ok-clause-turn

@@ -1,5 +1,5 @@
 -- What the group was to leave is in the store, what is left of it has its reply, and its entry comes last.
-use Rattle.std.proofs.Common.{◌≡◌, ℕ, ◌+◌, ◌-◌, ◌≤◌, Err, List, length, Some, sym, ap, subst, ◌∙◌, arith}
+use Rattle.std.proofs.Common.{◌≡◌, ◌≢◌, ℕ, ◌+◌, ◌-◌, ◌≤◌, Err, List, Result, length, Some, refl, sym, ap, subst, ◌∙◌, arith}
 use Rattle.std.specs.Prelude.{slice_set}
 use Rattle.std.proofs.lemmas.List.{length-map, length-set}
 use Rattle.bf_tree.specs.declared.script.Session.{Session}
@@ -7,7 +7,7 @@ use Rattle.bf_sql.specs.migrations.Lazy.{LazyState}
 use Rattle.bf_image.specs.Registries.{Registry}
 use Rattle.bf_tree.specs.declared.reply.Cause.{Cause}
 use Rattle.bf_machine.specs.declared.journal.KeepError.{KeepError}
-use Rattle.bf_machine.specs.declared.journal.KeepError.TheVariants.{Ended}
+use Rattle.bf_machine.specs.declared.journal.KeepError.TheVariants.{Ended, Memory as NoMemory}
 use Rattle.bf_store.specs.Stores.{IsOf, Store}
 use Rattle.bf_machine.specs.declared.so_far.SessionSoFar.{SessionSoFar}
 use Rattle.bf_machine.specs.interleaving.Calls.{CanCommit, CanFail, IsPlace}
@@ -20,6 +20,12 @@ use Rattle.bf_machine.proofs.keeping.Committing.{can_settle, change_for, commit_
 use Rattle.bf_machine.proofs.keeping.Beside.{beside_weaker}
 use Rattle.bf_machine.proofs.keeping.LeastLeft.{goes_on_at, least_behind, open_goes_on}
 use Rattle.bf_machine.proofs.machine.Machine.commit.Goals as goal
+
+-- want of memory is no cause
+no_cause : (error : KeepError) → error ≡ NoMemory → (cause : Cause) → ◌≢◌ {A = Result (Unit {0}) KeepError} (Err error) (Err (Ended cause))
+no_cause error is cause same =
+    let clash : ◌≡◌ {A = Result (Unit {0}) KeepError} (Err NoMemory) (Err (Ended cause)) = ap (λ (why : KeepError). Err why) (sym is) ∙ same in
+    cc
 
 pub settle-requires-clause-one : goal.settle-requires-clause-one
 settle-requires-clause-one g c = subst (λ (registry : Registry). IsOf registry c.self.inside.store.migration) (sym c.requires.registry) c.self.invariant.0.one
@@ -198,28 +204,10 @@ returns-in-Ended-clause-ending g c =
     subst (λ (m : Machine). (by : EndsByLog m s c.fail.new.self) × (by.cause ≡ c.in-Ended.cause)) back c.fail.ensures
 
 pub returns-in-Ended-clause-beside : goal.returns-in-Ended-clause-beside
-returns-in-Ended-clause-beside g c =
-    let i = c.self.inside in
-    let s = c.args.session in
-    let x : SessionSoFar = c.index_mut-so_far.result.now in
-    let place : IsPlace i.script s = subst (λ (m : Machine). IsPlace m.script s) (sym c.self.view_is) c.requires.place in
-    let high : s ≤ length i.sessions.items = omega (arith, place.1, c.self.invariant.0.kept.shaped.opens, length-map i.sessions.items open_seen) in
-    let m : Machine = seen g.N.Opened.logged i.script i.retries i.store i.locks i.began.items i.sessions.items i.history.items in
-    let can : CanCommit m s = subst (λ (m : Machine). CanCommit m s) (sym c.self.view_is) c.requires.can in
-    let own : (next : LazyState) → IsPutInto i.store.lazy (pending_seen c.in-Some.group.pending) next → IsChangeFor m s next =
-    change_for g.N.Opened.logged i.script i.retries i.store i.locks i.began.items i.sessions.items i.history i.commits i.transcripts c.self.invariant.0
-    s place.0 high x (sym c.index_mut-so_far.ensures.value) c.in-Some.group (sym c.take.ensures.value ∙ c.in-Some.is) can in
-    let Answers = g.J.Journal.Answers in
-    let j = c.args.journal.now in
-    let k = c.settle.new.journal in
-    let store = c.settle.new.store in
-    let stays : c.fail.new.self.lazy ≡ store.lazy = ap (λ (m : Machine). m.lazy) c.fail.ensures.0.goes in
-    subst (λ (next : LazyState). IsBeside Answers (IsChangeFor c.args.self.now s) c.args.self.now.lazy next j k) (sym stays)
-    (subst (λ (m : Machine). IsBeside Answers (IsChangeFor m s) m.lazy store.lazy j k) c.self.view_is
-    (beside_weaker Answers (IsPutInto i.store.lazy (pending_seen c.in-Some.group.pending)) i.store.lazy store.lazy j k (IsChangeFor m s) own c.in-Err.ensures.beside))
+returns-in-Ended-clause-beside g c = λ never. absurd (never c.in-Ended.cause refl)
 
 pub returns-in-Memory-clause-beside : goal.returns-in-Memory-clause-beside
-returns-in-Memory-clause-beside g c =
+returns-in-Memory-clause-beside g c = λ _.
     let i = c.self.inside in
     let s = c.args.session in
     let x : SessionSoFar = c.index_mut-so_far.result.now in
@@ -234,7 +222,7 @@ returns-in-Memory-clause-beside g c =
     let j = c.args.journal.now in
     let k = c.settle.new.journal in
     subst (λ (m : Machine). IsBeside Answers (IsChangeFor m s) m.lazy c.settle.new.store.lazy j k) c.self.view_is
-    (beside_weaker Answers (IsPutInto i.store.lazy (pending_seen c.in-Some.group.pending)) i.store.lazy c.settle.new.store.lazy j k (IsChangeFor m s) own c.in-Err.ensures.beside)
+    (beside_weaker Answers (IsPutInto i.store.lazy (pending_seen c.in-Some.group.pending)) i.store.lazy c.settle.new.store.lazy j k (IsChangeFor m s) own (c.in-Err.ensures.beside (no_cause c.in-Err.error c.in-Memory.is)))
 
 pub returns-in-Ended-clause-refused : goal.returns-in-Ended-clause-refused
 returns-in-Ended-clause-refused g c = λ cause is.
@@ -256,7 +244,7 @@ returns-in-Ended-clause-refused g c = λ cause is.
     subst (λ (m : Machine). IsRefused Answers (IsChangeFor m s) m.lazy j k cause) c.self.view_is (refused.0, own refused.0 refused.1, refused.2)
 
 pub returns-clause-beside : goal.returns-clause-beside
-returns-clause-beside g c =
+returns-clause-beside g c = λ _.
     let i = c.self.inside in
     let s = c.args.session in
     let x : SessionSoFar = c.index_mut-so_far.result.now in
@@ -271,4 +259,4 @@ returns-clause-beside g c =
     let j = c.args.journal.now in
     let k = c.settle.new.journal in
     subst (λ (m : Machine). IsBeside Answers (IsChangeFor m s) m.lazy c.settle.new.store.lazy j k) c.self.view_is
-    (beside_weaker Answers (IsPutInto i.store.lazy (pending_seen c.in-Some.group.pending)) i.store.lazy c.settle.new.store.lazy j k (IsChangeFor m s) own c.in_default-settle.ensures.beside)
+    (beside_weaker Answers (IsPutInto i.store.lazy (pending_seen c.in-Some.group.pending)) i.store.lazy c.settle.new.store.lazy j k (IsChangeFor m s) own (c.in_default-settle.ensures.beside (λ cause same. cc)))

@@ -1,5 +1,5 @@
 -- The granules are of the last migration where the pass is its, and the store alone changes.
-use Rattle.std.proofs.Common.{◌≡◌, ℕ, Bool, true, false, Bor, Err, Ok, Result, Option, Some, None, refl, sym, ap, subst, ◌∙◌, option_map}
+use Rattle.std.proofs.Common.{◌≡◌, ◌≢◌, ℕ, Bool, true, false, Bor, Err, Ok, Result, Option, Some, None, refl, sym, ap, subst, ◌∙◌, option_map}
 use Rattle.std.specs.Option.{option_copied, option_map_or}
 use Rattle.std.specs.Result.{IsErr, IsErrAnd}
 use Rattle.std.proofs.lemmas.Bool.{false≢true}
@@ -10,9 +10,9 @@ use Rattle.bf_image.specs.declared.migration.Migration.{Migration as Kept}
 use Rattle.bf_store.specs.Calls.{IsMoveOf}
 use Rattle.bf_store.specs.States.{AreGranulesIfAny, with_moved}
 use Rattle.bf_store.specs.Stores.{IsOf, Store}
-use Rattle.bf_machine.specs.declared.journal.KeepError.TheVariants.{Memory}
+use Rattle.bf_tree.specs.declared.reply.Cause.{Cause}
 use Rattle.bf_machine.specs.declared.stand.MoveError.{MoveError}
-use Rattle.bf_machine.specs.declared.stand.MoveError.TheVariants.{Ended, Old}
+use Rattle.bf_machine.specs.declared.stand.MoveError.TheVariants.{Ended, Memory, Old}
 use Rattle.bf_machine.specs.interleaving.Calls.{slot_of}
 use Rattle.bf_machine.specs.interleaving.Events.{Moves}
 use Rattle.bf_machine.specs.interleaving.Journals.{IsBeside, IsMoveIn, IsRefused}
@@ -46,6 +46,12 @@ error_of : {A E : Type 0} (r : Result A E) (d e : E) → r ≡ Err d → r ≡ E
 error_of {A = A} {E = E} r d e one other =
     let both : ◌≡◌ {A = Result A E} (Err d) (Err e) = sym one ∙ other in
     cc
+
+-- an error that tells no cause and no number
+is_memory : (error : MoveError) → ((cause : Cause) → error ≢ Ended cause) → ((n : ℕ) → error ≢ Old n) → error ≡ Memory
+is_memory (Ended cause) ended old = absurd (ended cause refl)
+is_memory (Old n) ended old = absurd (old n refl)
+is_memory Memory ended old = refl
 
 pub move_granules-requires-clause-one : goal.move_granules-requires-clause-one
 move_granules-requires-clause-one g c = subst (λ (registry : Registry). IsOf registry c.self.inside.store.migration) (sym c.requires.registry) c.self.invariant.0.one
@@ -150,8 +156,17 @@ returns-in_err-kept-clause-ended g c = λ cause is.
     subst (λ (m : Machine). (g.J.Journal.ends ≡ true) × (is_of_log cause ≡ true) × IsRefused g.J.Journal.Answers (IsMoveIn m.lazy) m.lazy c.args.journal.now c.keep_left.new.journal cause) c.self.view_is
     (c.in_err-kept.ensures.ended cause ends)
 
+pub returns-in_err-kept-clause-beside : goal.returns-in_err-kept-clause-beside
+returns-in_err-kept-clause-beside g c = λ never.
+    let error = c.in_err-kept.field-0.0 in
+    let same : c.from_residual.result ≡ Err error = same_error c.from_residual.result error c.from_residual.ensures.0 c.from_residual.ensures.1 in
+    let none : error ≡ Memory =
+    is_memory error (λ cause is. never cause (same ∙ ap (λ (e : MoveError). Err e) is)) (λ n is. c.in_err-kept.ensures.present n (ap (λ (e : MoveError). Err e) is)) in
+    subst (λ (m : Machine). IsBeside g.J.Journal.Answers (IsMoveIn m.lazy) m.lazy m.lazy c.args.journal.now c.keep_left.new.journal) c.self.view_is
+    (c.in_err-kept.ensures.memory (ap (λ (e : MoveError). Err e) none))
+
 pub returns-in-Ok-clause-beside : goal.returns-in-Ok-clause-beside
-returns-in-Ok-clause-beside g c =
+returns-in-Ok-clause-beside g c = λ _.
     let lazy = c.self.inside.store.lazy in
     let next = c.move_granules.new.self.lazy in
     let kept = c.in_ok-kept.kept in
@@ -162,7 +177,7 @@ returns-in-Ok-clause-beside g c =
     next c.in-Ok.ensures.ok.state (λ none. ap (λ (store : Store). store.lazy) (c.in-Ok.ensures.nothing none)))
 
 pub returns-clause-beside : goal.returns-clause-beside
-returns-clause-beside g c =
+returns-clause-beside g c = λ _.
     let i = c.self.inside in
     let lazy = i.store.lazy in
     let value = c.args.migration.now.value in
@@ -178,7 +193,7 @@ returns-clause-beside g c =
       | then-kept w ↦
           let kept = c.in_ok-kept.ensures.kept (ap (λ (b : Bool). Ok b) w.if-kept.true) in
           subst (IsBeside Answers (IsMoveIn lazy) lazy next j) (sym w.journal-is)
-          (unkept_beside Answers (IsMoveIn lazy) lazy next j w.give_up.new.self (with_moved lazy c.args.granules.now) (c.args.granules.now, are, refl) Memory stays
+          (unkept_beside Answers (IsMoveIn lazy) lazy next j w.give_up.new.self (with_moved lazy c.args.granules.now) (c.args.granules.now, are, refl) stays
           (w.give_up.ensures lazy (with_moved lazy c.args.granules.now) j kept))
       | else-kept w ↦
           let none = c.in_ok-kept.ensures.nothing (ap (λ (b : Bool). Ok b) w.if-kept.false) in

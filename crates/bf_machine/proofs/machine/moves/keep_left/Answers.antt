@@ -42,21 +42,6 @@ unkept lazy granules left one is some =
     let left_one = left_is_one_record lazy.last granules one (subst (λ (gs : List Granule). 1 ≤ length gs) is some) in
     (left, subst (AreGranulesIfAny lazy.last) (sym is) left_one.of_it, refl)
 
-pub returns-in-Err-Ended-clause-err : goal.returns-in-Err-Ended-clause-err
-returns-in-Err-Ended-clause-err g c =
-    let lazy = c.args.store.now.lazy in
-    let left = c.in-Ok.left in
-    let is : c.as_slice.result.now ≡ to_move lazy.last c.args.granules.now = c.as_slice.ensures.value ∙ c.in-Ok.ensures in
-    let some : 1 ≤ length left.items = some_there left.items left.len (sym c.is_empty.ensures ∙ c.if-is_empty.false) (omega (arith, left.ok.0)) in
-    inr (inr (
-      refl,
-      (
-        with_moved lazy c.as_slice.result.now,
-        unkept lazy c.args.granules.now c.as_slice.result.now c.requires is (subst (λ (gs : List Granule). 1 ≤ length gs) (sym c.as_slice.ensures.value) some),
-        (c.in-Err-Ended.field-0, c.in-Err-Ended.ensures.answers),
-      ),
-    ))
-
 pub returns-in-Err-Ended-clause-ended : goal.returns-in-Err-Ended-clause-ended
 returns-in-Err-Ended-clause-ended g c = λ cause same.
     let lazy = c.args.store.now.lazy in
@@ -76,17 +61,19 @@ returns-in-Err-Ended-clause-ended g c = λ cause same.
       ),
     )
 
-pub returns-clause-err : goal.returns-clause-err
-returns-clause-err g c =
+pub returns-clause-memory : goal.returns-clause-memory
+returns-clause-memory g c = λ _.
     let lazy = c.args.store.now.lazy in
     let left = c.in-Ok.left in
     let is : c.as_slice.result.now ≡ to_move lazy.last c.args.granules.now = c.as_slice.ensures.value ∙ c.in-Ok.ensures in
     let some : 1 ≤ length left.items = some_there left.items left.len (sym c.is_empty.ensures ∙ c.if-is_empty.false) (omega (arith, left.ok.0)) in
+    let answers =
+    subst (λ (why : KeepError). g.J.Journal.Answers lazy (with_moved lazy c.as_slice.result.now) c.args.journal.now c.keep_moves.new.self (Err why)) c.in-Err-Memory.field-0-is c.in-Err-Memory.ensures.answers in
     inr (inr (
       refl,
       (
         with_moved lazy c.as_slice.result.now,
         unkept lazy c.args.granules.now c.as_slice.result.now c.requires is (subst (λ (gs : List Granule). 1 ≤ length gs) (sym c.as_slice.ensures.value) some),
-        (c.in-Err-Memory.field-0, c.in-Err-Memory.ensures.answers),
+        answers,
       ),
     ))
