@@ -1,7 +1,7 @@
 -- What a commit tells is legal, and makes what the commit makes.
 use Rattle.std.proofs.Common.{◌≡◌, ℕ, true, ◌||◌, List, [], ◌∷◌, map, Option, Some, None, option_map, unwrap_or, is_some, get_or, refl, sym, ap, ap₂, ◌∙◌, arith}
 use Rattle.std.specs.Prelude.{nat_le, length}
-use Rattle.std.specs.List.{All, AllByRecursion, list_all}
+use Rattle.std.specs.List.{AllByRecursion, list_all}
 use Rattle.std.proofs.lemmas.Bool.{and_from, and_parts, false≢true}
 use Rattle.std.proofs.lemmas.Bool.Decides.{nat_tests}
 use Rattle.std.proofs.lemmas.Cmp.{tied_itself}
@@ -18,7 +18,7 @@ use Rattle.bf_heap.specs.Heaps.{Entry, key_of_entry, row_under}
 use Rattle.bf_record.specs.declared.change.Change.TheVariants.{Commit}
 use Rattle.bf_record.specs.declared.writes.TableWrite.{TableWrite}
 use Rattle.bf_txn.specs.declared.write.Write.{Write}
-use Rattle.bf_txn.specs.Writes.{table_key_cmp, table_key_of, written_at}
+use Rattle.bf_txn.specs.Writes.{table_key_of, written_at}
 use Rattle.bf_txn.proofs.Tables.{table_key_cmp_total}
 use Rattle.bf_sql.specs.Database.{Stored, is_admitted, no_table, stored_at, table_at}
 use Rattle.bf_sql.specs.migrations.Lazy.{LazyState}

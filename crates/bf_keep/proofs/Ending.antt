@@ -4,11 +4,12 @@ use Rattle.std.specs.List.{AllByRecursion}
 use Rattle.std.proofs.lemmas.Bool.{cases_Bool}
 use Rattle.std.proofs.lemmas.List.Elements.{filter-append}
 use Rattle.bf_disk.specs.declared.disk.Disk.{Ghosts}
-use Rattle.bf_log.specs.Append.{disk_of, end_of, halted_of, standing_of}
+use Rattle.bf_log.specs.Append.{disk_of, halted_of, standing_of}
 use Rattle.bf_log.specs.declared.log.Log.{Log}
-use Rattle.bf_log.specs.declared.log.Standing.TheVariants.{Ready}
+use Rattle.bf_log.specs.declared.log.Standing.{Standing}
+use Rattle.bf_log.specs.declared.log.Standing.TheVariants.{Ready, Halted as Stopped, Spent}
 use Rattle.bf_machine.specs.declared.journal.KeepError.{KeepError}
-use Rattle.bf_machine.specs.declared.journal.KeepError.TheVariants.{Ended}
+use Rattle.bf_machine.specs.declared.journal.KeepError.TheVariants.{Ended, Memory}
 use Rattle.bf_machine.specs.interleaving.Events.{Event, aborts, asks, begins, commits_now, ends_by_log, executes, finishes, moves, refuses}
 use Rattle.bf_machine.specs.interleaving.Journals.{IsBeside, IsChangeOf, IsEventBeside, Keeps, ended_by, ended_in, nothing_yet, one_beside}
 use Rattle.bf_machine.specs.interleaving.Machines.{EndedGroup, Machine}
@@ -16,13 +17,13 @@ use Rattle.bf_sql.specs.Database.{Database}
 use Rattle.bf_sql.specs.migrations.Lazy.{LazyState}
 use Rattle.bf_tree.specs.declared.reply.Cause.{Cause}
 use Rattle.bf_tree.specs.declared.reply.Cause.TheVariants.{Died, DiskFault, Halted, LogFull, TooLarge}
-use Rattle.bf_keep.specs.Answers.{AreTold, GoesOn, HasAnswered, Tells, TellsNow, tells_fault}
+use Rattle.bf_keep.specs.Answers.{CausesMatchLog, GoesOn, HasAnswered, Tells, TellsNow, is_disk_fault, is_ready}
 
 -- a group that is told of a fault
 abbrev faulted : EndedGroup → Bool
-faulted group = tells_fault group.cause
+faulted group = is_disk_fault group.cause
 
-fault_is : (cause : Cause) → tells_fault cause ≡ true → cause ≡ DiskFault
+fault_is : (cause : Cause) → is_disk_fault cause ≡ true → cause ≡ DiskFault
 fault_is (Died h) is = absurd cc
 fault_is DiskFault is = refl
 fault_is (Halted faults) is = absurd cc
@@ -33,11 +34,23 @@ filter_more : (groups : List EndedGroup) (group : EndedGroup) → filter faulted
 filter_more groups group = filter-append faulted groups (group ∷ [])
 
 module _ {D : Type 0} {g : Ghosts D} where
+  -- a log that is halted takes no records
+  at_rest : (log : Log D g) (faults : ℕ) → halted_of log ≡ Some faults → is_ready (standing_of log) ≡ false
+  at_rest log faults some = on log.standing refl
+    where
+      on : (s : Standing) → log.standing ≡ s → is_ready s ≡ false
+      on Ready at =
+          let none : halted_of log ≡ None = rw at refl in
+          let clash : None ≡ Some faults = sym none ∙ some in
+          absurd cc
+      on (Stopped n) at = refl
+      on Spent at = refl
+
   -- what a log can tell it can tell from then on
   tells_still : (old new : Log D g) (answer : Result (Unit {0}) KeepError) → GoesOn old new answer → (cause : Cause) → Tells old cause → Tells new cause
   tells_still old new answer goes (Died h) tells = absurd tells
-  tells_still old new answer goes DiskFault tells = subst (λ (log : Log D g). Tells log DiskFault) (sym (goes.stays tells.0 tells.1)) tells
-  tells_still old new answer goes (Halted faults) tells = subst (λ (log : Log D g). Tells log (Halted faults)) (sym (goes.stays faults tells)) tells
+  tells_still old new answer goes DiskFault tells = subst (λ (log : Log D g). Tells log DiskFault) (sym (goes.stays (at_rest old tells.0 tells.1))) tells
+  tells_still old new answer goes (Halted faults) tells = subst (λ (log : Log D g). Tells log (Halted faults)) (sym (goes.stays (at_rest old faults tells))) tells
   tells_still old new answer goes (LogFull end need) tells = (omega (arith, tells.0, goes.rises), tells.1, tells.2)
   tells_still old new answer goes (TooLarge size) tells = tells
 
@@ -49,7 +62,7 @@ module _ {D : Type 0} {g : Ghosts D} where
   tells_later old new (TooLarge size) tells = tells
 
   -- a log that has not halted has told of no fault
-  no_fault : (log : Log D g) → halted_of log ≡ None → (cause : Cause) → Tells log cause → tells_fault cause ≡ false
+  no_fault : (log : Log D g) → halted_of log ≡ None → (cause : Cause) → Tells log cause → is_disk_fault cause ≡ false
   no_fault log none (Died h) tells = absurd tells
   no_fault log none DiskFault tells =
       let clash : None ≡ Some tells.0 = sym none ∙ tells.1 in
@@ -84,10 +97,10 @@ module _ {D : Type 0} {g : Ghosts D} where
       on : (before : Option ℕ) → halted_of old ≡ before → g.fault_count (disk_of new) ≡ faults
       on None none = goes.counted faults none some
       on (Some n) halted =
-          let same : new ≡ old = goes.stays n halted in
+          let same : new ≡ old = goes.stays (at_rest old n halted) in
           subst (λ (log : Log D g). g.fault_count (disk_of log) ≡ faults) (sym same) (was faults (subst (λ (log : Log D g). halted_of log ≡ Some faults) same some))
 
-  still_told : (old new : Log D g) (groups : List EndedGroup) → Steps old new → AreTold old groups → AreTold new groups
+  still_told : (old new : Log D g) (groups : List EndedGroup) → Steps old new → CausesMatchLog old groups → CausesMatchLog new groups
   still_told old new groups steps told = record {
     each = each_still old new steps groups told.each;
     one_fault = told.one_fault;
@@ -100,11 +113,11 @@ module _ {D : Type 0} {g : Ghosts D} where
   each_more log (first ∷ groups) group each last = (each.0, each_more log groups group each.1 last)
 
   -- one group more
-  one_more_told : (old new : Log D g) (groups : List EndedGroup) (group : EndedGroup) (answer : Result (Unit {0}) KeepError) → GoesOn old new answer → TellsNow old new group.cause → AreTold old groups
-      → AreTold new (groups ++ group ∷ [])
+  one_more_told : (old new : Log D g) (groups : List EndedGroup) (group : EndedGroup) (answer : Result (Unit {0}) KeepError) → GoesOn old new answer → TellsNow old new group.cause → CausesMatchLog old groups
+      → CausesMatchLog new (groups ++ group ∷ [])
   one_more_told old new groups group answer goes now told = record {
     each = each_more new groups group (each_still old new (inr (answer, goes)) groups told.each) (tells_later old new group.cause now);
-    one_fault = elim (cases_Bool (tells_fault group.cause)) as (λ _. length (filter faulted (groups ++ group ∷ [])) ≤ 1) [
+    one_fault = elim (cases_Bool (is_disk_fault group.cause)) as (λ _. length (filter faulted (groups ++ group ∷ [])) ≤ 1) [
       | inl fault ↦
           let is : group.cause ≡ DiskFault = fault_is group.cause fault in
           let first : halted_of old ≡ None = (subst (TellsNow old new) is now).0 in
@@ -129,14 +142,14 @@ module _ {D : Type 0} {g : Ghosts D} where
     steps_beside : (Change : LazyState → Type 0) (lazy next : LazyState) (j k : J) → IsBeside Answers Change lazy next j k → Steps (log_of j) (log_of k)
     steps_beside Change lazy next j k (inl same) = inl (ap log_of same.1)
     steps_beside Change lazy next j k (inr (inl kept)) = inr (Ok tt, kept.1)
-    steps_beside Change lazy next j k (inr (inr not)) = inr (Err not.1.2.0, not.1.2.1.1)
+    steps_beside Change lazy next j k (inr (inr not)) = inr (Err Memory, not.1.2.1)
 
-    none_more : (now next : Machine) (j k : J) → IsBeside Answers (IsChangeOf now) now.lazy next.lazy j k → (groups : List EndedGroup) → AreTold (log_of j) groups → AreTold (log_of k) (groups ++ [])
+    none_more : (now next : Machine) (j k : J) → IsBeside Answers (IsChangeOf now) now.lazy next.lazy j k → (groups : List EndedGroup) → CausesMatchLog (log_of j) groups → CausesMatchLog (log_of k) (groups ++ [])
     none_more now next j k beside groups told =
-        subst (AreTold (log_of k)) (sym (append-nil groups)) (still_told (log_of j) (log_of k) groups (steps_beside (IsChangeOf now) now.lazy next.lazy j k beside) told)
+        subst (CausesMatchLog (log_of k)) (sym (append-nil groups)) (still_told (log_of j) (log_of k) groups (steps_beside (IsChangeOf now) now.lazy next.lazy j k beside) told)
 
-    event_told : {start : Database} {now next : Machine} (event : Event start now next) (j k : J) → IsEventBeside Answers event j k → (groups : List EndedGroup) → AreTold (log_of j) groups
-        → AreTold (log_of k) (groups ++ ended_by event)
+    event_told : {start : Database} {now next : Machine} (event : Event start now next) (j k : J) → IsEventBeside Answers event j k → (groups : List EndedGroup) → CausesMatchLog (log_of j) groups
+        → CausesMatchLog (log_of k) (groups ++ ended_by event)
     event_told (ends_by_log s by) j k refused groups told = one_more_told (log_of j) (log_of k) groups (record { session = s; group = by.o.group; cause = by.cause }) (Err (Ended by.cause)) refused.2.1 refused.2.1.stands told
     event_told {now = now} {next = next} (begins s by) j k beside groups told = none_more now next j k beside groups told
     event_told {now = now} {next = next} (asks s name mode answer by) j k beside groups told = none_more now next j k beside groups told
@@ -147,7 +160,7 @@ module _ {D : Type 0} {g : Ghosts D} where
     event_told {now = now} {next = next} (moves granules by) j k beside groups told = none_more now next j k beside groups told
     event_told {now = now} {next = next} (finishes s same) j k beside groups told = none_more now next j k beside groups told
 
-    pub events_told : (start : Database) (m : Machine) (j : J) (next : Machine) (k : J) (keeps : Keeps Answers start m j next k) → standing_of (log_of j) ≡ Ready → AreTold (log_of k) (ended_in Answers keeps)
+    pub events_told : (start : Database) (m : Machine) (j : J) (next : Machine) (k : J) (keeps : Keeps Answers start m j next k) → standing_of (log_of j) ≡ Ready → CausesMatchLog (log_of k) (ended_in Answers keeps)
     events_told start m j _ _ nothing_yet ready = record {
       each = tt;
       one_fault = omega arith;

@@ -5,6 +5,7 @@ pub mod Ending
 pub mod Moved
 pub mod Naming
 pub mod Recorded
+pub mod Replied
 pub mod Sizing
 pub mod Stating
 pub mod Telling

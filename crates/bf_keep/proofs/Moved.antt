@@ -1,19 +1,18 @@
 -- What is told of a move is legal, and makes what the move makes.
-use Rattle.std.proofs.Common.{◌≡◌, ℕ, ◌≤◌, Bool, true, not, ◌==◌, cond, List, [], ◌∷◌, map, filter, Option, Some, None, refl, sym, ap, ap₂, subst, ◌∙◌, inl, inr, arith}
+use Rattle.std.proofs.Common.{◌≡◌, ℕ, ◌≤◌, Bool, true, not, ◌==◌, List, [], ◌∷◌, filter, Option, Some, None, refl, sym, ap, ap₂, subst, ◌∙◌, inl, inr, arith}
 use Rattle.std.specs.Prelude.{nat_le, length, find}
 use Rattle.std.specs.List.{AllByRecursion, list_all}
 use Rattle.std.proofs.lemmas.Bool.{and_from, and_parts, cases_Bool}
 use Rattle.std.proofs.lemmas.Bool.Decides.{nat_tests}
 use Rattle.std.proofs.lemmas.List.{length-map}
 use Rattle.bf_base.specs.declared.granule.Granule.{Granule}
-use Rattle.bf_base.specs.declared.granule.Place.{Place}
 use Rattle.bf_base.specs.Lists.{has}
 use Rattle.bf_record.specs.declared.change.Change.TheVariants.{Move}
 use Rattle.bf_sql.specs.migrations.Granules.{granule, granules_of, same_granule}
-use Rattle.bf_sql.specs.migrations.Lazy.{LazyState, Migration, anchored, is_done, migrations_so_far, not_done, sweep_by, sweep_of}
-use Rattle.bf_store.specs.States.{AreGranulesIfAny, to_move, with_moved}
+use Rattle.bf_sql.specs.migrations.Lazy.{LazyState, Migration, anchored, is_done, migrations_so_far, sweep_by, sweep_of}
+use Rattle.bf_store.specs.States.{to_move, with_moved}
 use Rattle.bf_store.proofs.moving.Moving.{has_if_passes}
-use Rattle.bf_recover.specs.Moves.{granules_at, is_legal_move, is_to_move, is_told_of}
+use Rattle.bf_recover.specs.Moves.{granules_at, is_legal_move, is_to_move}
 use Rattle.bf_machine.specs.interleaving.Journals.{IsOneRecord}
 use Rattle.bf_keep.specs.Records.{IsRecordOf, number_in, places_of}
 

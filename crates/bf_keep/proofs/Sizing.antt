@@ -1,7 +1,5 @@
 -- A group that is told to be too large has a record so large.
-use Rattle.std.proofs.Common.{◌≡◌, ◌⊎◌, ℕ, ◌+◌, List, [], ◌∷◌, ◌++◌, Some, Result, Err, inl, inr, refl, sym, ap, subst, ◌∙◌, append_assoc, append-nil}
-use Rattle.std.specs.List.{AllByRecursion}
-use Rattle.std.proofs.lemmas.Option.{same_Some}
+use Rattle.std.proofs.Common.{◌≡◌, ℕ, List, [], ◌∷◌, ◌++◌, Some, Result, Err, inl, inr, refl, sym, ap, subst, ◌∙◌, append_assoc, append-nil}
 use Rattle.bf_disk.specs.declared.disk.Disk.{Ghosts}
 use Rattle.bf_log.specs.declared.log.Log.{Log}
 use Rattle.bf_machine.specs.declared.journal.KeepError.{KeepError}
@@ -13,15 +11,14 @@ use Rattle.bf_machine.specs.interleaving.Kept.{IsKept}
 use Rattle.bf_machine.specs.interleaving.Machines.{EndedGroup, Machine, Open, open_at}
 use Rattle.bf_machine.proofs.interleaving.Reaching.{reached_keeps_all}
 use Rattle.bf_sql.specs.Database.{Database}
-use Rattle.bf_sql.specs.History.{replayed}
-use Rattle.bf_sql.specs.migrations.Lazy.{LazyState, view_of}
+use Rattle.bf_sql.specs.migrations.Lazy.{LazyState}
 use Rattle.bf_tree.specs.declared.history.Entry.{Entry}
 use Rattle.bf_tree.specs.declared.reply.Cause.{Cause}
 use Rattle.bf_tree.specs.declared.reply.Cause.TheVariants.{Died, DiskFault, Halted, LogFull, TooLarge}
 use Rattle.bf_tree.specs.declared.script.Script.{Script}
-use Rattle.bf_keep.specs.Answers.{AreSizesOf, HasAnswered, HasRecordOf, IsSizeOf, IsSizeTold, IsTooLarge, MakesOf}
+use Rattle.bf_keep.specs.Answers.{AreSizesOf, HasAnswered, HasRecordOf, IsSizeOf, IsSizeTold, IsTooLarge}
 use Rattle.bf_keep.proofs.crashing.Growing.{Grows, grows_by}
-use Rattle.bf_keep.proofs.crashing.Makes.{group_is_one, move_unseen}
+use Rattle.bf_keep.proofs.crashing.Makes.{makes_of}
 
 -- what holds behind a history holds when it grows
 too_large_later : (start : Database) (script : Script) (history more : List Entry) (group : EndedGroup) (size : ℕ) → IsTooLarge start script history group size → IsTooLarge start script (history ++ more) group size
@@ -58,16 +55,6 @@ one_more : (start : Database) (script : Script) (history : List Entry) (groups :
     → AreSizesOf start script history (groups ++ group ∷ [])
 one_more start script history [] group all last = (last, tt)
 one_more start script history (first ∷ groups) group all last = (all.0, one_more start script history groups group all.1 last)
-
--- what the change of a group makes
-makes_of : (start : Database) (m : Machine) → IsKept start m → (s : ℕ) (o : Open) → open_at m s ≡ Some o → (cause : Cause) (other : LazyState) → IsChangeFor m s other
-    → MakesOf m.script (record { session = s; group = o.group; cause = cause }) (view_of m.lazy) (view_of other)
-makes_of start m kept s o is cause other (inl own) =
-    let can = own.0 in
-    let same : can.o ≡ o = same_Some can.o o (sym can.is ∙ is) in
-    subst (λ (p : Open). MakesOf m.script (record { session = s; group = p.group; cause = cause }) (view_of m.lazy) (view_of other)) same
-    (inr (commits_behind 0 m.history + 1, group_is_one start m kept s can other own.1))
-makes_of start m kept s o is cause other (inr (granules, are, goes)) = inl (ap view_of goes ∙ move_unseen start m kept granules are)
 
 module _ {D : Type 0} {g : Ghosts D} {J : Type 0} (log_of : J → Log D g) (start : Database) where
   abbrev Answers : LazyState → LazyState → J → J → Result (Unit {0}) KeepError → Type 0

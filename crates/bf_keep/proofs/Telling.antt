@@ -1,5 +1,5 @@
 -- What a log tells by its answers.
-use Rattle.std.proofs.Common.{◌≡◌, ℕ, ◌+◌, ◌<◌, ◌≤◌, true, List, length, None, Some, Result, Ok, Err, refl, sym, ap, subst, ◌∙◌, inl, inr, arith}
+use Rattle.std.proofs.Common.{◌≡◌, ℕ, ◌+◌, ◌<◌, ◌≤◌, true, false, List, length, None, Some, Result, Ok, Err, refl, sym, ap, subst, ◌∙◌, inl, inr, arith}
 use Rattle.std.specs.Prelude.{IfNone, IfSome, nat_lt}
 use Rattle.std.proofs.lemmas.Bool.{cases_Bool}
 use Rattle.std.proofs.lemmas.Bool.Decides.{nat_tests}
@@ -7,7 +7,7 @@ use Rattle.std.proofs.lemmas.Option.{same_Some}
 use Rattle.bf_disk.specs.declared.disk.Disk.{Ghosts}
 use Rattle.bf_journal.specs.Leaving.{Fails, Stores}
 use Rattle.bf_journal.specs.States.{StandsOn}
-use Rattle.bf_log.specs.Append.{Outcome, Stops, disk_of, end_of, halted_of, refusal}
+use Rattle.bf_log.specs.Append.{Outcome, Stops, disk_of, end_of, halted_of, refusal, standing_of}
 use Rattle.bf_log.specs.Format.{frame}
 use Rattle.bf_log.specs.declared.error.AppendError.{AppendError}
 use Rattle.bf_log.specs.declared.error.AppendError.TheVariants as appends
@@ -16,21 +16,29 @@ use Rattle.bf_log.specs.declared.log.Standing.{Standing}
 use Rattle.bf_log.specs.declared.log.Standing.TheVariants.{Ready, Halted as Stopped, Spent}
 use Rattle.bf_machine.specs.declared.journal.KeepError.{KeepError}
 use Rattle.bf_machine.specs.declared.journal.KeepError.TheVariants as keeps
-use Rattle.bf_machine.specs.interleaving.Journals.{IsOfLogIfEnded}
+use Rattle.bf_machine.specs.interleaving.Journals.{IsMoveIn, IsOfLogIfEnded}
 use Rattle.bf_recover.specs.Legal.{first_state}
 use Rattle.bf_recover.specs.Steps.{StepsTo}
 use Rattle.bf_sql.specs.migrations.Lazy.{LazyState}
 use Rattle.bf_tree.specs.declared.reply.Cause.{Cause}
 use Rattle.bf_tree.specs.declared.reply.Cause.TheVariants.{Died, DiskFault, Halted, LogFull, TooLarge}
-use Rattle.bf_keep.specs.Answers.{GoesOn, IsFaultCause, IsKept, IsSizeTold, IsToldAs, StandsBehind, Tells, TellsNow, largest_log, largest_record, told_as}
+use Rattle.bf_keep.specs.Answers.{GoesOn, IsAnsweredAs, IsFaultCause, IsSizeTold, IsToldAs, StandsBehind, Tells, TellsNow, is_ready, largest_log, largest_record, told_as}
 
 -- an error as a group is told of it
-pub is_told_as : (error : AppendError) → IsToldAs (Err error) (Err (told_as error))
-is_told_as appends.Memory = refl
-is_told_as appends.DiskFault = (DiskFault, tt, refl)
-is_told_as (appends.Halted faults) = refl
-is_told_as (appends.TooLarge size) = refl
-is_told_as (appends.LogFull end need) = refl
+pub is_told_as : (lazy next : LazyState) (error : AppendError) → IsToldAs lazy next (Err error) (Err (told_as error))
+is_told_as lazy next appends.Memory = refl
+is_told_as lazy next appends.DiskFault = inl refl
+is_told_as lazy next (appends.Halted faults) = refl
+is_told_as lazy next (appends.TooLarge size) = refl
+is_told_as lazy next (appends.LogFull end need) = refl
+
+-- and a fault as it is told at a move
+pub fault_told_as : (lazy next : LazyState) (cause : Cause) → IsFaultCause cause → IsMoveIn lazy next → IsToldAs lazy next (Err appends.DiskFault) (Err (keeps.Ended cause))
+fault_told_as lazy next (Died older) fault move = absurd fault
+fault_told_as lazy next DiskFault fault move = inl refl
+fault_told_as lazy next (Halted faults) fault move = inr (move, (faults, refl))
+fault_told_as lazy next (LogFull end need) fault move = absurd fault
+fault_told_as lazy next (TooLarge size) fault move = absurd fault
 
 -- a journal's answer for an append that told the number of its record
 abbrev pub answer_by : Result ℕ AppendError → Result (Unit {0}) KeepError
@@ -81,13 +89,13 @@ module _ {D : Type 0} {g : Ghosts D} where
     stays_rises = subst (λ (log : Log D g). end_of old ≤ end_of log) (sym same) (omega arith)
 
     pub goes_at_rest : (answer : Result (Unit {0}) KeepError) → StandsBehind old new answer → GoesOn old new answer
-    goes_at_rest answer stands = record { stays = λ faults halted. same; counted = stays_counted; rises = stays_rises; stands = stands }
+    goes_at_rest answer stands = record { stays = λ rest. same; counted = stays_counted; rises = stays_rises; stands = stands }
 
   -- A LOG THAT TOOK RECORDS, where the append was not refused
   module _ (old new : Log D g) (ready : old.standing ≡ Ready) where
-    never_halted : (faults : ℕ) → halted_of old ≡ Some faults → new ≡ old
-    never_halted faults some =
-        let clash : None ≡ Some faults = sym (not_halted old ready) ∙ some in
+    never_at_rest : is_ready (standing_of old) ≡ false → new ≡ old
+    never_at_rest rest =
+        let clash : true ≡ false = sym (ap is_ready ready) ∙ rest in
         absurd cc
 
     takes_records : (becomes : Standing) → new.standing ≡ becomes → ((faults : ℕ) → becomes ≡ Stopped faults → ⊥) → (faults : ℕ) → halted_of old ≡ None → halted_of new ≡ Some faults
@@ -104,21 +112,21 @@ module _ {D : Type 0} {g : Ghosts D} where
 
     goes_by_outcome : (size : ℕ) (r : Result ℕ AppendError) → Outcome size old new r → GoesOn old new (answer_by r)
     goes_by_outcome size (Ok number) came = record {
-      stays = never_halted;
+      stays = never_at_rest;
       counted = takes_records Ready came.ready not_stopped;
       rises = omega (arith, came.end);
       stands = came.ready;
     }
     goes_by_outcome size (Err appends.DiskFault) came =
         let halted : halted_of new ≡ Some (g.fault_count new.disk) = rw came.standing refl in record {
-          stays = never_halted;
+          stays = never_at_rest;
           counted = λ faults none some. same_Some (g.fault_count new.disk) faults (sym halted ∙ some);
           rises = omega (arith, came.end);
           stands = (not_halted old ready, (g.fault_count new.disk, halted));
         }
     goes_by_outcome size (Err appends.Memory) came = elim came as (λ _. GoesOn old new (Err keeps.Memory)) [
-      | inl same ↦ goes_at_rest old new same (Err keeps.Memory) tt
-      | inr stops ↦ record { stays = never_halted; counted = takes_records Spent stops.standing not_stopped_spent; rises = omega (arith, stops.end); stands = tt }
+      | inl same ↦ goes_at_rest old new same (Err keeps.Memory) (inl same)
+      | inr stops ↦ record { stays = never_at_rest; counted = takes_records Spent stops.standing not_stopped_spent; rises = omega (arith, stops.end); stands = inr stops.standing }
     ]
     goes_by_outcome size (Err (appends.Halted faults)) came = absurd came
     goes_by_outcome size (Err (appends.TooLarge n)) came = absurd came
@@ -136,7 +144,7 @@ module _ {D : Type 0} {g : Ghosts D} where
     refused_so e refused stands = subst (λ (r : Result ℕ AppendError). GoesOn old new (answer_by r)) (sym refused.0) (goes_at_rest old new refused.1 (Err (told_as e)) stands)
 
     goes_at : (s : Standing) → old.standing ≡ s → Refuses s → Comes s → GoesOn old new (answer_by r)
-    goes_at Spent at refused came = refused_so appends.Memory refused tt
+    goes_at Spent at refused came = refused_so appends.Memory refused (inl refused.1)
     goes_at (Stopped faults) at refused came =
         let here : halted_of old ≡ Some faults = rw at refl in
         refused_so (appends.Halted faults) refused (subst (λ (log : Log D g). halted_of log ≡ Some faults) (sym refused.1) here)
@@ -215,30 +223,31 @@ module _ {D : Type 0} {g : Ghosts D} where
   -- a log that is given up behind a record that it took
   pub goes_given_up : (older old new : Log D g) → GoesOn older old (Ok tt) → Stops Spent old new → GoesOn older new (Err keeps.Memory)
   goes_given_up older old new goes stops = record {
-    stays = λ faults halted.
-        let same : halted_of old ≡ Some faults = subst (λ (log : Log D g). halted_of log ≡ Some faults) (sym (goes.stays faults halted)) halted in
-        let clash : None ≡ Some faults = sym (not_halted old goes.stands) ∙ same in
+    stays = λ rest.
+        let same : is_ready (standing_of old) ≡ is_ready (standing_of older) = ap (λ (log : Log D g). is_ready (standing_of log)) (goes.stays rest) in
+        let clash : true ≡ false = sym (ap is_ready goes.stands) ∙ same ∙ rest in
         absurd cc;
     counted = λ faults none some.
         let spent : halted_of new ≡ None = rw stops.standing refl in
         let clash : None ≡ Some faults = sym spent ∙ some in
         absurd cc;
     rises = omega (arith, goes.rises, stops.end);
-    stands = tt;
+    stands = inr stops.standing;
   }
 
   -- a record that was kept and is given up
-  pub given_up : (lazy next : LazyState) (older old new : Log D g) → IsKept lazy next older old (Ok tt)
+  pub given_up : (lazy next : LazyState) (older old new : Log D g) → IsAnsweredAs lazy next older old (Ok tt)
       → (Stores first_state StepsTo lazy next older old → Fails first_state StepsTo lazy next older new)
       → (Stores first_state StepsTo lazy next older old → StandsOn first_state StepsTo lazy new)
-      → IsKept lazy next older new (Err keeps.Memory)
+      → IsAnsweredAs lazy next older new (Err keeps.Memory)
   given_up lazy next older old new (Ok done, appended, told) fails stands = (
     Err appends.Memory,
     λ on. let was = appended on in (inr (fails was.0), stands was.0),
     refl,
   )
   given_up lazy next older old new (Err appends.Memory, appended, told) fails stands = absurd cc
-  given_up lazy next older old new (Err appends.DiskFault, appended, told) fails stands = absurd (let is = told.2 in cc)
+  given_up lazy next older old new (Err appends.DiskFault, appended, inl told) fails stands = absurd cc
+  given_up lazy next older old new (Err appends.DiskFault, appended, inr told) fails stands = absurd (let is = told.1.1 in cc)
   given_up lazy next older old new (Err (appends.Halted faults), appended, told) fails stands = absurd cc
   given_up lazy next older old new (Err (appends.TooLarge size), appended, told) fails stands = absurd cc
   given_up lazy next older old new (Err (appends.LogFull end need), appended, told) fails stands = absurd cc

@@ -1,5 +1,5 @@
 -- WHAT A JOURNAL THAT IS A LOG ANSWERS, and what a crash leaves of it then.
-use Rattle.std.specs.Prelude.{◌≡◌, Bool, true, false, ℕ, ◌+◌, ◌<◌, ◌≤◌, ◌^◌, ◌⊎◌, List, ◌++◌, filter, length, None, Some, Result, Ok, Err}
+use Rattle.std.specs.Prelude.{◌≡◌, Bool, true, false, ℕ, ◌+◌, ◌<◌, ◌≤◌, ◌^◌, ◌⊎◌, Contains, List, ◌++◌, filter, length, None, Some, Result, Ok, Err}
 use Rattle.std.specs.List.{AllByRecursion}
 use Rattle.bf_disk.specs.declared.disk.Disk.{Ghosts}
 use Rattle.bf_journal.specs.Answered.{IsAnsweredBy}
@@ -9,20 +9,23 @@ use Rattle.bf_log.specs.declared.error.AppendError.{AppendError}
 use Rattle.bf_log.specs.declared.error.AppendError.TheVariants as appends
 use Rattle.bf_log.specs.declared.log.Log.{Log}
 use Rattle.bf_log.specs.declared.log.Standing.{Standing}
-use Rattle.bf_log.specs.declared.log.Standing.TheVariants.{Ready}
+use Rattle.bf_log.specs.declared.log.Standing.TheVariants.{Ready, Spent}
 use Rattle.bf_machine.specs.declared.journal.KeepError.{KeepError}
 use Rattle.bf_machine.specs.declared.journal.KeepError.TheVariants as keeps
+use Rattle.bf_machine.specs.interleaving.Journals.{IsMoveIn}
 use Rattle.bf_machine.specs.interleaving.Machines.{EndedGroup}
 use Rattle.bf_recover.specs.Legal.{first_state}
 use Rattle.bf_recover.specs.Steps.{StepsTo, entry_of, run_entry}
 use Rattle.bf_sql.specs.Database.{Database}
-use Rattle.bf_sql.specs.History.{replayed}
+use Rattle.bf_sql.specs.Groups.{groups_in}
+use Rattle.bf_sql.specs.History.{IsEndedBy, replayed}
 use Rattle.bf_sql.specs.migrations.Lazy.{LazyState, view_of}
 use Rattle.bf_tree.specs.declared.history.Entry.{Entry}
 use Rattle.bf_tree.specs.declared.history.Outcome.TheVariants.{Committed}
 use Rattle.bf_tree.specs.declared.script.Script.{Script}
 use Rattle.bf_tree.specs.declared.reply.Cause.{Cause}
 use Rattle.bf_tree.specs.declared.reply.Cause.TheVariants.{Died, DiskFault, Halted, LogFull, TooLarge}
+use Rattle.bf_tree.specs.declared.reply.Reply.{Reply}
 
 -- the most bytes of a record, and those that a log comes to take
 abbrev pub largest_record : ℕ
@@ -35,6 +38,11 @@ largest_log = 2 ^ 36
 abbrev pub is_ready : Standing → Bool
 is_ready Ready = true
 is_ready other = false
+
+-- one that was given up
+abbrev pub is_spent : Standing → Bool
+is_spent Spent = true
+is_spent other = false
 
 -- a record that makes the one lazy state of the other has so many bytes
 abbrev pub HasRecordOf : LazyState → LazyState → ℕ → Type 0
@@ -51,14 +59,16 @@ IsFaultCause DiskFault = Unit {0}
 IsFaultCause (Halted faults) = Unit {0}
 IsFaultCause other = ⊥
 
--- how a journal answers for an append: a group is told of each error but want of memory as its cause
-abbrev pub IsToldAs : Result (Unit {0}) AppendError → Result (Unit {0}) KeepError → Type 0
-IsToldAs (Ok done) answer = answer ≡ Ok tt
-IsToldAs (Err appends.Memory) answer = answer ≡ Err keeps.Memory
-IsToldAs (Err appends.DiskFault) answer = (cause : Cause) × IsFaultCause cause × (answer ≡ Err (keeps.Ended cause))
-IsToldAs (Err (appends.Halted faults)) answer = answer ≡ Err (keeps.Ended (Halted faults))
-IsToldAs (Err (appends.TooLarge size)) answer = answer ≡ Err (keeps.Ended (TooLarge size))
-IsToldAs (Err (appends.LogFull end need)) answer = answer ≡ Err (keeps.Ended (LogFull end need))
+-- how a journal answers for the append of a change: a group is told of each error but want of memory as its cause; where the device
+-- failed at a move, perhaps that the log has halted
+abbrev pub IsToldAs : LazyState → LazyState → Result (Unit {0}) AppendError → Result (Unit {0}) KeepError → Type 0
+IsToldAs lazy next (Ok done) answer = answer ≡ Ok tt
+IsToldAs lazy next (Err appends.Memory) answer = answer ≡ Err keeps.Memory
+IsToldAs lazy next (Err appends.DiskFault) answer =
+    (answer ≡ Err (keeps.Ended DiskFault)) ⊎ (IsMoveIn lazy next × ((faults : ℕ) × (answer ≡ Err (keeps.Ended (Halted faults)))))
+IsToldAs lazy next (Err (appends.Halted faults)) answer = answer ≡ Err (keeps.Ended (Halted faults))
+IsToldAs lazy next (Err (appends.TooLarge size)) answer = answer ≡ Err (keeps.Ended (TooLarge size))
+IsToldAs lazy next (Err (appends.LogFull end need)) answer = answer ≡ Err (keeps.Ended (LogFull end need))
 
 -- what a group is told of an error of an append
 abbrev pub told_as : AppendError → KeepError
@@ -85,8 +95,8 @@ module _ {D : Type 0} {g : Ghosts D} where
   IsAppended lazy next old new r = StandsOn first_state StepsTo lazy old → IsAnsweredBy first_state StepsTo lazy next old new (numbered r)
 
   -- and the answer of the journal is that of the append
-  abbrev pub IsKept : LazyState → LazyState → Log D g → Log D g → Result (Unit {0}) KeepError → Type 0
-  IsKept lazy next old new answer = (r : Result (Unit {0}) AppendError) × IsAppended lazy next old new r × IsToldAs r answer
+  abbrev pub IsAnsweredAs : LazyState → LazyState → Log D g → Log D g → Result (Unit {0}) KeepError → Type 0
+  IsAnsweredAs lazy next old new answer = (r : Result (Unit {0}) AppendError) × IsAppended lazy next old new r × IsToldAs lazy next r answer
 
   -- TELLS: which causes a log can have told by now
   abbrev pub Tells : Log D g → Cause → Type 0
@@ -101,43 +111,56 @@ module _ {D : Type 0} {g : Ghosts D} where
   TellsNow old new DiskFault = (halted_of old ≡ None) × Tells new DiskFault
   TellsNow old new other = Tells new other
 
-  -- how a log stands behind an answer
+  -- how a log stands behind an answer: where memory ran out it is as it was, or given up
   abbrev pub StandsBehind : Log D g → Log D g → Result (Unit {0}) KeepError → Type 0
   StandsBehind old new (Ok done) = standing_of new ≡ Ready
   StandsBehind old new (Err (keeps.Ended cause)) = TellsNow old new cause
-  StandsBehind old new (Err keeps.Memory) = Unit {0}
+  StandsBehind old new (Err keeps.Memory) = (new ≡ old) ⊎ (standing_of new ≡ Spent)
 
-  -- GOES ON: a log that is halted stays as it is; one that halts keeps the count of its device's faults; its end does not fall back
+  -- GOES ON: a log that takes no more records stays as it is; one that halts keeps the count of its device's faults; its end does not
+  -- fall back
   pub record GoesOn (old new : Log D g) (answer : Result (Unit {0}) KeepError) : Type 0 where
-    pub stays : (faults : ℕ) → halted_of old ≡ Some faults → new ≡ old
+    pub stays : is_ready (standing_of old) ≡ false → new ≡ old
     pub counted : (faults : ℕ) → halted_of old ≡ None → halted_of new ≡ Some faults → g.fault_count (disk_of new) ≡ faults
     pub rises : end_of old ≤ end_of new
     pub stands : StandsBehind old new answer
 
   -- ANSWERS: the answer of the journal is that of an append, the log goes on so, and a size that is told is that of the change's record
   abbrev pub HasAnswered : LazyState → LazyState → Log D g → Log D g → Result (Unit {0}) KeepError → Type 0
-  HasAnswered lazy next old new answer = IsKept lazy next old new answer × GoesOn old new answer × IsSizeTold lazy next answer
+  HasAnswered lazy next old new answer = IsAnsweredAs lazy next old new answer × GoesOn old new answer × IsSizeTold lazy next answer
 
--- a group that is told of a fault of the device
-abbrev pub tells_fault : Cause → Bool
-tells_fault DiskFault = true
-tells_fault other = false
+-- the cause that tells that the device failed
+abbrev pub is_disk_fault : Cause → Bool
+is_disk_fault DiskFault = true
+is_disk_fault other = false
 
 module _ {D : Type 0} {g : Ghosts D} where
-  -- TOLD: each group that the log has ended is told what the log can tell, one at most that the device failed; and where it has
+  -- CAUSES: each group that the log has ended is told what the log can tell, one at most that the device failed; and where it has
   -- halted the log has kept the count of the device's faults
-  pub record AreTold (log : Log D g) (groups : List EndedGroup) : Type 0 where
+  pub record CausesMatchLog (log : Log D g) (groups : List EndedGroup) : Type 0 where
     pub each : AllByRecursion (λ group. Tells log group.cause) groups
-    pub one_fault : length (filter (λ group. tells_fault group.cause) groups) ≤ 1
+    pub one_fault : length (filter (λ group. is_disk_fault group.cause) groups) ≤ 1
     pub counted : (faults : ℕ) → halted_of log ≡ Some faults → g.fault_count (disk_of log) ≡ faults
 
--- TOO LARGE: a group is told the bytes of a record of its own, in a state that is seen as the database behind a prefix of the history: of what
--- it makes of that, or of a move, which is not seen
-abbrev pub MakesOf : Script → EndedGroup → Database → Database → Type 0
-MakesOf script group now then =
-    (then ≡ now)
-    ⊎ ((n : ℕ) × (then ≡ run_entry now (entry_of script (record { session = group.session; first = group.group.0; last = group.group.1; outcome = Committed n }))))
+-- and each is one of the script, whose cause is the reply to each of its statements
+abbrev pub AreToldTheirCauses : Script → List (List Reply) → List EndedGroup → Type 0
+AreToldTheirCauses script transcripts groups =
+    AllByRecursion (λ group. Contains (groups_in script group.session) group.group × IsEndedBy script transcripts group.session group.group group.cause) groups
 
+-- the entry of a group that a log has ended, had it committed with this number
+abbrev pub if_committed : EndedGroup → ℕ → Entry
+if_committed group n = record { session = group.session; first = group.group.0; last = group.group.1; outcome = Committed n }
+
+-- what such a group makes of a database
+abbrev pub GroupMakes : Script → EndedGroup → Database → Database → Type 0
+GroupMakes script group now then = (n : ℕ) × (then ≡ run_entry now (entry_of script (if_committed group n)))
+
+-- or a move, which is not seen
+abbrev pub MakesOf : Script → EndedGroup → Database → Database → Type 0
+MakesOf script group now then = (then ≡ now) ⊎ GroupMakes script group now then
+
+-- TOO LARGE: a group is told the bytes of a record of its own, in a state that is seen as the database behind a prefix of the history: of what
+-- it makes of that, or of a move
 pub record IsTooLarge (start : Database) (script : Script) (history : List Entry) (group : EndedGroup) (size : ℕ) : Type 0 where
   pub prefix : List Entry
   pub later : List Entry

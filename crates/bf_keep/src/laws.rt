@@ -1,50 +1,53 @@
 //! Laws of crashes of a machine beside its log, as contracts of functions that do nothing.
 
-ghost use Rattle.std.specs.Prelude.{◌≡◌, ℕ, ◌≤◌, Option, Some};
-ghost use Rattle.bf_journal.specs.States.{MayLeave, StandsOn, moment_of};
+ghost use Rattle.std.specs.Prelude.{◌≡◌, ◌++◌, [], List};
+ghost use Rattle.bf_journal.specs.States.{StandsOn};
 ghost use Rattle.bf_log.specs.declared.log.Log.{Log as LogOf};
 ghost use Rattle.bf_machine.specs.interleaving.Kept.{IsKept};
-ghost use Rattle.bf_machine.specs.interleaving.Machines.{Machine};
+ghost use Rattle.bf_machine.specs.interleaving.Machines.{EndedGroup, Machine, transcripts_of};
 ghost use Rattle.bf_recover.specs.Legal.{first_state};
 ghost use Rattle.bf_recover.specs.Steps.{StepsTo};
 ghost use Rattle.bf_sql.specs.Database.{Database};
 ghost use Rattle.bf_sql.specs.migrations.Lazy.{LazyState};
 ghost use Rattle.bf_log.specs.Append.{standing_of};
 ghost use Rattle.bf_log.specs.declared.log.Standing.TheVariants.{Ready};
-ghost use Rattle.bf_keep.specs.Answers.{AreSizesOf, AreTold};
-ghost use Rattle.bf_keep.specs.Crashing.{KeepsOnLog, Recovers, ended_on_log};
+ghost use Rattle.bf_keep.specs.Answers.{AreSizesOf, AreToldTheirCauses, CausesMatchLog};
+ghost use Rattle.bf_keep.specs.Crashing.{IsAloneSince, KeepsOnLog, Recovers, ended_on_log};
 ghost use Rattle.bf_keep.specs.declared.log_journal.LogJournal.{LogJournal as JournalOf};
 
 use bf_disk::Disk;
 use std::marker::PhantomData;
 
-/// Every crash of a machine beside its log leaves the database after a prefix of its history. Where the
-/// state of the store stands on the log, and a crash at any moment since some one leaves that state alone, this
-/// holds at the begin, and it holds behind each event, whatever the log has answered: an image that a crash now
-/// may leave reopens to the database, and one that a crash since then might have left to the database after a
-/// prefix of the history; or either to what the one change that failed would have made.
+/// Every crash of a machine beside its log leaves the database after a prefix of its history. Where the state of the
+/// store stands on the log, this holds at the begin, since each moment since when a crash has left that state alone; and
+/// it holds behind each event, whatever the log has answered: an image that a crash now may leave reopens to the
+/// database, and one that a crash since then might have left to the database after a prefix of the history; or either to
+/// what the one change that failed would have made, which is that of a group that was told so, of a move, or of a log
+/// that was given up.
 pub fn every_crash_leaves_a_prefix<D: Disk>(_of: PhantomData<D>)
-    ensures begins { (start : Database) (m : Machine) (log : LogOf D D.Disk) (since : ℕ)
-        → IsKept start m → StandsOn first_state StepsTo m.lazy log → since ≤ moment_of log
-        → ((left : Option LazyState) → MayLeave first_state StepsTo log since left
-        → left ≡ Some m.lazy)
-        → Recovers start since m log }
-    ensures goes_on { (start : Database) (m next : Machine) (j k : JournalOf D D.Disk) (since : ℕ)
-        → IsKept start m → Recovers start since m j.log → KeepsOnLog start m j next k
-        → Recovers start since next k.log }
-    ensures whole { (start : Database) (m next : Machine) (j k : JournalOf D D.Disk) (since : ℕ)
-        → IsKept start m → StandsOn first_state StepsTo m.lazy j.log → since ≤ moment_of j.log
-        → ((left : Option LazyState) → MayLeave first_state StepsTo j.log since left
-        → left ≡ Some m.lazy)
-        → KeepsOnLog start m j next k → Recovers start since next k.log }
+    ensures begins { (start : Database) (m : Machine) (log : LogOf D D.Disk)
+        → IsKept start m → StandsOn first_state StepsTo m.lazy log
+        → Recovers start (IsAloneSince m.lazy log) [] m log }
+    ensures goes_on { (start : Database) (m next : Machine) (j k : JournalOf D D.Disk)
+        (lazy : LazyState) (opened : LogOf D D.Disk) (ended : List EndedGroup)
+        (keeps : KeepsOnLog start m j next k) → IsKept start m
+        → Recovers start (IsAloneSince lazy opened) ended m j.log
+        → Recovers start (IsAloneSince lazy opened) (ended ++ ended_on_log keeps) next k.log }
+    ensures whole { (start : Database) (m next : Machine) (j k : JournalOf D D.Disk)
+        (keeps : KeepsOnLog start m j next k) → IsKept start m
+        → StandsOn first_state StepsTo m.lazy j.log
+        → Recovers start (IsAloneSince m.lazy j.log) (ended_on_log keeps) next k.log }
 {}
 
 /// Whatever the events beside a log that takes records: each group that it has ended is told what the log can tell, with
-/// its numbers, and one at most that the device failed.
+/// its numbers, and one at most that the device failed. Whatever the log, the transcripts tell each its cause.
 pub fn what_ends_groups_is_told<D: Disk>(_of: PhantomData<D>)
-    ensures { (start : Database) (m next : Machine) (j k : JournalOf D D.Disk)
+    ensures causes { (start : Database) (m next : Machine) (j k : JournalOf D D.Disk)
         (keeps : KeepsOnLog start m j next k) → standing_of j.log ≡ Ready
-        → AreTold k.log (ended_on_log keeps) }
+        → CausesMatchLog k.log (ended_on_log keeps) }
+    ensures replies { (start : Database) (m next : Machine) (j k : JournalOf D D.Disk)
+        (keeps : KeepsOnLog start m j next k) → IsKept start m
+        → AreToldTheirCauses next.script (transcripts_of next) (ended_on_log keeps) }
 {}
 
 /// And where such a group is told that its record is too large, it has one of that size, behind some prefix of the history.

@@ -5,7 +5,7 @@ ghost use Rattle.bf_tree.specs.declared.reply.Cause.TheVariants.{DiskFault};
 ghost use Rattle.bf_log.specs.Append.{disk_of, standing_of};
 ghost use Rattle.bf_sql.specs.migrations.Lazy.{LazyState};
 ghost use Rattle.bf_recover.specs.Steps.{StepsTo};
-ghost use Rattle.bf_keep.specs.Answers.{GoesOn, IsAppended, IsFaultCause, IsSizeTold, Tells, answer_as, is_ready, told_as};
+ghost use Rattle.bf_keep.specs.Answers.{GoesOn, IsAppended, IsFaultCause, IsSizeTold, Tells, answer_as, is_ready, is_spent, told_as};
 ghost use Rattle.bf_keep.specs.Records.{IsRecordOf};
 
 use crate::changes::{change_of, move_of};
@@ -76,6 +76,16 @@ impl<D: Disk> LogJournal<D> {
         !matches!(
             self.log.refusal(0, LARGEST, LIMIT),
             Some(AppendError::Memory | AppendError::Halted(_))
+        )
+    }
+
+    /// Whether it was given up, or memory ran out in a call of its device: it answers `Memory` from then on.
+    pub fn is_given_up(&self) -> bool
+        ensures { result ≡ is_spent (standing_of self.now.log) }
+    {
+        matches!(
+            self.log.refusal(0, LARGEST, LIMIT),
+            Some(AppendError::Memory)
         )
     }
 

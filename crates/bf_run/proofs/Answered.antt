@@ -13,9 +13,8 @@ use Rattle.bf_run.specs.declared.status.Status.{Status}
 use Rattle.bf_run.specs.declared.status.Status.TheVariants.{Done, Usage, Script as ScriptError, ReadFault, WriteFault, DiskFault, NotALog, NotEmpty, Memory}
 use Rattle.bf_run.specs.Creating.{Shelving}
 use Rattle.bf_parse.specs.Scripts.{IsScriptText}
-use Rattle.bf_sql.specs.Database.{Database}
 use Rattle.bf_tree.specs.declared.script.Script.{Script}
-use Rattle.bf_run.specs.Outcome.{Ground, HoldsAsked, Stream, IsCalm, IsUnread, IsUntouched, ComesOfFile, ComesOfInput, ComesOfLog, ComesOfRun, IsAnswer, IsTextOf, fault_text}
+use Rattle.bf_run.specs.Outcome.{RunClaim, HoldsAsked, Stream, IsCalm, IsUnread, IsUntouched, ComesOfFile, ComesOfInput, ComesOfLog, ComesOfRun, IsAnswer, IsTextOf, fault_text}
 use Rattle.bf_run.specs.Top.{HasRead, IsInputAnswer, IsNoScript, IsScriptOf, IsTextOfRun}
 use Rattle.bf_run.specs.Untold.{ReadsLog}
 use Rattle.bf_run.specs.Words.{Asked, creating, running, trying}
@@ -82,7 +81,7 @@ module _ (input : Stream) (read : List ℕ) (calm : IsCalm input) (told : IfTold
 
 -- where there is no script the status and its text answer any call that asked for one
 module _ (input : Stream) (bytes : List ℕ) where
-  pub no_script : (asks : Option Asked) (Holds : Ground) (Before : Type 0) (status : Status) (text : List ℕ) → IsNoScript input bytes status text
+  pub no_script : (asks : Option Asked) (Holds : RunClaim) (Before : Type 0) (status : Status) (text : List ℕ) → IsNoScript input bytes status text
       → ComesOfInput input bytes status × IsTextOf asks Holds Before bytes status text
   no_script asks Holds Before (ScriptError fault) text is = is
   no_script asks Holds Before ReadFault text is = is

@@ -1,5 +1,5 @@
 -- What a crash leaves of a machine beside its log, said of its script and its history alone.
-use Rattle.std.proofs.Common.{◌≡◌, ◌⊎◌, ℕ, ◌≤◌, true, List, [], ◌∷◌, ◌++◌, map, Option, None, Some, inl, inr, refl, sym, ap, ap₂, subst, ◌∙◌}
+use Rattle.std.proofs.Common.{◌≡◌, ◌⊎◌, ℕ, true, false, List, [], ◌∷◌, ◌++◌, map, Option, Some, inl, inr, refl, sym, ap, ap₂, subst, ◌∙◌}
 use Rattle.std.proofs.lemmas.List.{map-append}
 use Rattle.std.proofs.lemmas.Option.{same_Some}
 use Rattle.bf_disk.specs.declared.disk.Disk.{Ghosts}
@@ -7,13 +7,14 @@ use Rattle.bf_journal.specs.Crashes.{IsAfterPrefix, ReopensWith, replayed as run
 use Rattle.bf_journal.specs.Reopening.{ReopensTo}
 use Rattle.bf_journal.proofs.Readings.{after_change}
 use Rattle.bf_journal.proofs.Runs.{replayed_more}
-use Rattle.bf_journal.specs.States.{IsReady, MayLeave, StandsOn, moment_of}
+use Rattle.bf_journal.specs.States.{IsReady, MayLeave, StandsOn}
+use Rattle.bf_log.specs.Append.{standing_of}
 use Rattle.bf_log.specs.Format.{IsLog}
 use Rattle.bf_log.specs.declared.log.Log.{Log}
 use Rattle.bf_log.specs.declared.log.Standing.{Standing}
 use Rattle.bf_log.specs.declared.log.Standing.TheVariants.{Ready, Halted, Spent}
 use Rattle.bf_machine.specs.interleaving.Kept.{IsKept}
-use Rattle.bf_machine.specs.interleaving.Machines.{Machine}
+use Rattle.bf_machine.specs.interleaving.Machines.{EndedGroup, Machine}
 use Rattle.bf_recover.specs.Legal.{first_state}
 use Rattle.bf_recover.specs.Steps.{StepsTo, entry_of, run_entry}
 use Rattle.bf_recover.proofs.Replaying.{runs_entries}
@@ -21,11 +22,10 @@ use Rattle.bf_sql.specs.Database.{Database}
 use Rattle.bf_sql.specs.History.{replayed}
 use Rattle.bf_sql.specs.migrations.Lazy.{LazyState, view_of}
 use Rattle.bf_tree.specs.declared.history.Entry.{Entry}
-use Rattle.bf_tree.specs.declared.script.Script.{Script}
-use Rattle.bf_keep.specs.Answers.{is_ready}
-use Rattle.bf_keep.specs.Crashing.{KeepsOnLog, Recovers}
+use Rattle.bf_keep.specs.Answers.{if_committed, is_ready, is_spent}
+use Rattle.bf_keep.specs.Crashing.{IsAloneSince, KeepsOnLog, Recovers, ended_on_log}
 use Rattle.bf_keep.specs.declared.log_journal.LogJournal.{LogJournal}
-use Rattle.bf_run.specs.Keeping.{GivesOrMore, IsBehind, IsBehindOneMore, IsBehindPrefix, IsFailed, IsGivenBy, KeepsOn, Leaves, OpensAs}
+use Rattle.bf_run.specs.Keeping.{GivesOrMore, IsBehind, IsBehindOneMore, IsBehindPrefix, IsBehindTold, IsFailed, IsGivenBy, KeepsOn, Leaves, OpensAs}
 use Rattle.bf_run.specs.declared.status.Status.TheVariants.{Done, DiskFault, Memory}
 use Rattle.bf_run.proofs.Running.{if_told}
 
@@ -45,7 +45,8 @@ reopens_weaker : (P Q : Database → Type 0) (failed : Option Database) (left : 
 reopens_weaker P Q failed left so (state, is, inl holds) = (state, is, inl (so (view_of state) holds))
 reopens_weaker P Q failed left so (state, is, inr fails) = (state, is, inr fails)
 
-module _ {D : Type 0} {g : Ghosts D} (start : Database) (m : Machine) (log : Log D g) (since : ℕ) (recovers : Recovers start since m log) where
+module _ {D : Type 0} {g : Ghosts D} (start : Database) (m : Machine) (log : Log D g) (kept : IsKept start m) (ended : List EndedGroup) (IsSince : ℕ → Type 0)
+    (recovers : Recovers start IsSince ended m log) where
   runs : (history : List Entry) → (replayed m.script start history).1 ≡ run_in_turn run_entry start (map (entry_of m.script) history)
   runs history = runs_entries 0 m.script start history
 
@@ -54,25 +55,37 @@ module _ {D : Type 0} {g : Ghosts D} (start : Database) (m : Machine) (log : Log
       let parts = prefix_of_map (entry_of m.script) m.history after.prefix after.behind after.split in
       (parts.0, parts.1, parts.2, after.is ∙ ap (run_in_turn run_entry start) (sym parts.3) ∙ sym (runs parts.0))
 
-  behind_all : (db : Database) → db ≡ view_of m.lazy → IsBehind m.script start m.history db
-  behind_all db is = is ∙ (recovers.images.view_is ∙ sym (runs m.history))
+  seen_as : view_of m.lazy ≡ (replayed m.script start m.history).1
+  seen_as = kept.store_valid.seen_as.view ∙ kept.history_legal.replay
 
-  -- what failed would have made is behind it too, or behind one group more
-  pub failed_so : IsFailed m.script start m.history recovers.failed
-  failed_so db is = elim (recovers.failed_is db is) as (λ _. IsBehind m.script start m.history db ⊎ IsBehindOneMore m.script start m.history db) [
+  behind_all : (db : Database) → db ≡ view_of m.lazy → IsBehind m.script start m.history db
+  behind_all db is = is ∙ seen_as
+
+  -- what an entry would have made is behind that entry too
+  behind_more : (entry : Entry) (db : Database) → db ≡ run_entry (view_of m.lazy) (entry_of m.script entry) → IsBehind m.script start (m.history ++ entry ∷ []) db
+  behind_more entry db is =
+      is
+      ∙ ap (λ (view : Database). run_entry view (entry_of m.script entry)) (seen_as ∙ runs m.history)
+      ∙ sym (replayed_more run_entry (map (entry_of m.script) m.history) (entry_of m.script entry) start)
+      ∙ ap (run_in_turn run_entry start) (sym (map-append (entry_of m.script) m.history (entry ∷ [])))
+      ∙ sym (runs (m.history ++ entry ∷ []))
+
+  -- WHAT FAILED would have made what is behind the history, or behind one group more
+  failed_at_memory : IsFailed m.script start Memory m.history [] recovers.failed
+  failed_at_memory db is = elim (recovers.failed_is db is) as (λ _. IsBehind m.script start m.history db ⊎ IsBehindOneMore m.script start m.history db) [
     | inl same ↦ inl (behind_all db same)
-    | inr one ↦
-        let entry : Entry = one.0 in
-        let now : view_of m.lazy ≡ run_in_turn run_entry start (map (entry_of m.script) m.history) = recovers.images.view_is in
-        let more : (replayed m.script start (m.history ++ entry ∷ [])).1 ≡ run_entry (view_of m.lazy) (entry_of m.script entry) =
-        runs (m.history ++ entry ∷ [])
-        ∙ ap (run_in_turn run_entry start) (map-append (entry_of m.script) m.history (entry ∷ []))
-        ∙ replayed_more run_entry (map (entry_of m.script) m.history) (entry_of m.script entry) start
-        ∙ ap (λ (view : Database). run_entry view (entry_of m.script entry)) (sym now) in
-        inr (entry, one.1, one.2 ∙ sym more)
+    | inr (inl told) ↦ inr (if_committed told.0 told.4.0, told.2, behind_more (if_committed told.0 told.4.0) db told.4.1)
+    | inr (inr spent) ↦ inr (spent.1.0, spent.1.1, behind_more spent.1.0 db spent.1.2)
   ]
 
-  module _ (file : List ℕ) (told : g.seen log.disk ≡ Some file) where
+  failed_at_fault : (standing_of log ≡ Spent → ⊥) → IsFailed m.script start DiskFault m.history ended recovers.failed
+  failed_at_fault taken db is = elim (recovers.failed_is db is) as (λ _. IsBehind m.script start m.history db ⊎ IsBehindTold m.script start m.history ended db) [
+    | inl same ↦ inl (behind_all db same)
+    | inr (inl told) ↦ inr (told.0, told.1, told.3, (told.4.0, behind_more (if_committed told.0 told.4.0) db told.4.1))
+    | inr (inr spent) ↦ absurd (taken spent.0)
+  ]
+
+  module _ (since : ℕ) (is_since : IsSince since) (file : List ℕ) (told : g.seen log.disk ≡ Some file) where
     may_be_left : (t : ℕ) (image : List ℕ) (left : Option LazyState) → g.left_since log.disk t image → ReopensTo first_state StepsTo image left
         → MayLeave first_state StepsTo log t left
     may_be_left t image left may opens = ((file, told), (image, may, opens))
@@ -80,34 +93,30 @@ module _ {D : Type 0} {g : Ghosts D} (start : Database) (m : Machine) (log : Log
     leaves_now : (image : List ℕ) → g.left_since log.disk (g.moment log.disk) image → OpensAs (IsBehind m.script start m.history) recovers.failed image
     leaves_now image may left opens =
         reopens_weaker (λ db. db ≡ view_of m.lazy) (IsBehind m.script start m.history) recovers.failed left behind_all
-        (recovers.images.now left (may_be_left (g.moment log.disk) image left may opens))
+        ((recovers.images since is_since).now left (may_be_left (g.moment log.disk) image left may opens))
 
     leaves_ever : (image : List ℕ) → g.left_since log.disk since image → OpensAs (IsBehindPrefix m.script start m.history) recovers.failed image
     leaves_ever image may left opens =
         reopens_weaker (IsAfterPrefix run_entry start (map (entry_of m.script) m.history)) (IsBehindPrefix m.script start m.history) recovers.failed left behind_prefix
-        (recovers.images.ever left (may_be_left since image left may opens))
+        ((recovers.images since is_since).ever left (may_be_left since image left may opens))
 
-    pub leaves : Leaves g.moment g.left_since log.disk since m.script start m.history recovers.failed
+    leaves : Leaves g.moment g.left_since log.disk since m.script start m.history recovers.failed
     leaves = record { now = leaves_now; ever = leaves_ever }
 
 -- a run whose machine recovers, since each moment since when a crash has left alone the state that it begins with
-module _ {D : Type 0} {g : Ghosts D} (opening : Database) (lazy : LazyState) (now : Machine) (log last : Log D g)
-    (recovers : (since : ℕ) → since ≤ moment_of log → ((left : Option LazyState) → MayLeave first_state StepsTo log since left → left ≡ Some lazy) → Recovers opening since now last) where
-  pub keeps_at_fault : KeepsOn lazy log last.disk DiskFault now.script opening now.history
-  keeps_at_fault since by alone file told =
-      let r = recovers since by alone in
-      (r.failed, failed_so opening now last since r, leaves opening now last since r file told)
+module _ {D : Type 0} {g : Ghosts D} (opening : Database) (lazy : LazyState) (now : Machine) (log last : Log D g) (kept : IsKept opening now) (ended : List EndedGroup)
+    (recovers : Recovers opening (IsAloneSince lazy log) ended now last) where
+  images_so : (since : ℕ) → IsAloneSince lazy log since → (file : List ℕ) → g.seen last.disk ≡ Some file → Leaves g.moment g.left_since last.disk since now.script opening now.history recovers.failed
+  images_so since alone file told = leaves opening now last kept ended (IsAloneSince lazy log) recovers since alone file told
 
-  pub keeps_at_memory : KeepsOn lazy log last.disk Memory now.script opening now.history
-  keeps_at_memory since by alone file told =
-      let r = recovers since by alone in
-      (r.failed, failed_so opening now last since r, leaves opening now last since r file told)
+  pub keeps_at_fault : (standing_of last ≡ Spent → ⊥) → KeepsOn lazy log last.disk DiskFault now.script opening now.history ended
+  keeps_at_fault taken = (recovers.failed, failed_at_fault opening now last kept ended (IsAloneSince lazy log) recovers taken, images_so)
 
-  pub keeps_at_done : IsReady last → KeepsOn lazy log last.disk Done now.script opening now.history
-  keeps_at_done ready since by alone file told =
-      let r = recovers since by alone in
-      subst (λ (failed : Option Database). Leaves g.moment g.left_since last.disk since now.script opening now.history failed)
-      (r.images.none_failed ready) (leaves opening now last since r file told)
+  pub keeps_at_memory : KeepsOn lazy log last.disk Memory now.script opening now.history []
+  keeps_at_memory = (recovers.failed, failed_at_memory opening now last kept ended (IsAloneSince lazy log) recovers, images_so)
+
+  pub keeps_at_done : IsReady last → KeepsOn lazy log last.disk Done now.script opening now.history ended
+  keeps_at_done ready = (recovers.failed, recovers.none_failed ready, images_so)
 
 -- the records of the log give the state that stands on it, or where it has stopped perhaps one that the failed record makes
 module _ {D : Type 0} {g : Ghosts D} (lazy : LazyState) (log : Log D g) (on : StandsOn first_state StepsTo lazy log) where
@@ -130,16 +139,22 @@ module _ {D : Type 0} {g : Ghosts D} (lazy : LazyState) (log : Log D g) (on : St
 
 -- a machine whose events stand beside its log recovers
 pub recovered : {D : Type 0} {g : Ghosts D} (opening : Database) (lazy : LazyState) (m now : Machine) (j k : LogJournal D g) → m.lazy ≡ lazy
-    → IsKept opening m → StandsOn first_state StepsTo lazy j.log → KeepsOnLog opening m j now k
-    → ((start : Database) (m next : Machine) (j k : LogJournal D g) (since : ℕ) → IsKept start m → StandsOn first_state StepsTo m.lazy j.log → since ≤ moment_of j.log
-    → ((left : Option LazyState) → MayLeave first_state StepsTo j.log since left → left ≡ Some m.lazy) → KeepsOnLog start m j next k → Recovers start since next k.log)
-    → (since : ℕ) → since ≤ moment_of j.log → ((left : Option LazyState) → MayLeave first_state StepsTo j.log since left → left ≡ Some lazy) → Recovers opening since now k.log
-recovered opening lazy m now j k same kept stands keeps law since by alone =
-    law opening m now j k since kept (subst (λ (state : LazyState). StandsOn first_state StepsTo state j.log) (sym same) stands) by
-    (λ left may. alone left may ∙ ap Some (sym same)) keeps
+    → IsKept opening m → StandsOn first_state StepsTo lazy j.log → (keeps : KeepsOnLog opening m j now k)
+    → ((start : Database) (m next : Machine) (j k : LogJournal D g) (keeps : KeepsOnLog start m j next k) → IsKept start m → StandsOn first_state StepsTo m.lazy j.log
+    → Recovers start (IsAloneSince m.lazy j.log) (ended_on_log keeps) next k.log)
+    → Recovers opening (IsAloneSince lazy j.log) (ended_on_log keeps) now k.log
+recovered opening lazy m now j k same kept stands keeps law =
+    subst (λ (state : LazyState). Recovers opening (IsAloneSince state j.log) (ended_on_log keeps) now k.log) same
+    (law opening m now j k keeps kept (subst (λ (state : LazyState). StandsOn first_state StepsTo state j.log) (sym same) stands))
 
 -- a log that says so takes records
 pub ready_if : (s : Standing) → true ≡ is_ready s → s ≡ Ready
 ready_if Ready says = refl
 ready_if (Halted faults) says = absurd cc
 ready_if Spent says = absurd cc
+
+-- and one that was not given up does not stand so
+pub not_spent_if : (s : Standing) → false ≡ is_spent s → s ≡ Spent → ⊥
+not_spent_if Ready says is = cc
+not_spent_if (Halted faults) says is = cc
+not_spent_if Spent says is = cc

@@ -19,8 +19,8 @@ use Rattle.bf_run.specs.declared.status.Status.{Status}
 use Rattle.bf_run.specs.declared.status.Status.TheVariants.{Done, Usage, Script as ScriptError, ReadFault, WriteFault, DiskFault, NotALog, NotEmpty, Memory}
 use Rattle.bf_run.specs.Causes.{AreCaused, AreCausedIn, CausesEnds}
 use Rattle.bf_run.specs.Creating.{CountsNone, CountsOne, Shelving, WhereHeld}
-use Rattle.bf_run.specs.Keeping.{GivesSweep, IsGivenBy, IsGivenHeld, IsKept, IsKeptFile, KeepsLog}
-use Rattle.bf_run.specs.Outcome.{ComesOfLog, Ground, HoldsAsked, IsRunTold}
+use Rattle.bf_run.specs.Keeping.{GivesSweep, IsGivenBy, IsGivenHeld, KeepsFile, KeepsHeld, KeepsLog}
+use Rattle.bf_run.specs.Outcome.{ComesOfLog, RunClaim, HoldsAsked, IsRunTold}
 use Rattle.bf_run.specs.Running.{IsLogOf, IsRefusedLog, KeepsOthers, Opens, OpensTo}
 use Rattle.bf_run.specs.Top.{HoldsOver, IsOpenErrorTold, IsOpened, IsRunOverDisk, IsServed, IsTextOfRun}
 use Rattle.bf_run.specs.Untold.{IsLogBrokenOff, IsReadAtMost, IsReadLog, IsUntold, LeavesUntold, ReadsLog}
@@ -57,7 +57,7 @@ if_told (Some file) P each = each file refl
 -- one disk
 module _ {V : Type 0} (seen : V → Option (List ℕ)) (may_leave : V → List ℕ → Type 0) (moment : V → ℕ) (left_since : V → ℕ → List ℕ → Type 0) (fault_count : V → ℕ)
     (script : Script) (disk now : V) where
-  pub served : (Served : Ground) (before after : ℕ) (status : Status) (text : List ℕ) → IsServed Served script before after status text
+  pub served : (Served : RunClaim) (before after : ℕ) (status : Status) (text : List ℕ) → IsServed Served script before after status text
       → before ≡ fault_count disk → after ≡ fault_count now
       → ((status : Status) (start : Database) (history : List Entry) (ended : List EndedGroup) (last : LazyState) → Served status script start history ended last
       → HoldsOver seen may_leave moment left_since fault_count disk now status script start history ended last)
@@ -73,6 +73,7 @@ module _ {V : Type 0} (seen : V → Option (List ℕ)) (may_leave : V → List �
         ended = run.ended;
         sweep = run.sweep;
         is_run = run.is_run;
+        told = run.told;
         holds = so status run.start run.history run.ended run.is_run.last run.holds;
         report_written = run.report_written;
       }
@@ -118,14 +119,14 @@ module _ {V : Type 0} (shelf : Shelving V) (path : List ℕ) (mid : Option (ByPa
       kept (Some old) None new away back = absurd away
       kept (Some old) (Some mid) None away back = absurd back
 
-  keeps_log : (status : Status) (script : Script) (start : Database) (history : List Entry)
-      → IfTold (shelf.seen now) (λ file. IsKept shelf.seen shelf.may_leave shelf.moment shelf.left_since disk now status script start history)
-      → KeepsLog shelf path status script start history
-  keeps_log status script start history kept = where_held shelf.seen shelf.may_leave path disk now (IsKeptFile shelf status script start history)
+  keeps_log : (status : Status) (script : Script) (start : Database) (history : List Entry) (ended : List EndedGroup)
+      → IfTold (shelf.seen now) (λ file. KeepsFile shelf.seen shelf.may_leave shelf.moment shelf.left_since disk now status script start history ended)
+      → KeepsLog shelf path status script start history ended
+  keeps_log status script start history ended kept = where_held shelf.seen shelf.may_leave path disk now (KeepsHeld shelf status script start history ended)
       shelf.held mid shelf.held_after given away back (λ was held. (disk, now, held, refl, kept))
 
   -- the groups that the log has ended
-  caused : (status : Status) (script : Script) (start : Database) (history : List Entry) (ended : List EndedGroup) → AreCaused start script history (shelf.seen now) status ended → CausesEnds shelf path status script start history ended
+  caused : (status : Status) (script : Script) (start : Database) (history : List Entry) (ended : List EndedGroup) → AreCaused start script history (shelf.seen now) (shelf.disk_faults now) status ended → CausesEnds shelf path status script start history ended
   caused status script start history ended are = where_held shelf.seen shelf.may_leave path disk now (λ old new. AreCausedIn shelf status script start history ended new)
       shelf.held mid shelf.held_after given away back (λ was held. (now, refl, are))
 
@@ -151,9 +152,9 @@ module _ {V : Type 0} (shelf : Shelving V) (path : List ℕ) (mid : Option (ByPa
   opens start told = where_held shelf.seen shelf.may_leave path disk now (λ old new. IsLogOf shelf start old)
       shelf.held mid shelf.held_after given away back (λ was held. (disk, held, told))
 
-  module _ (script : Script) (fault_count : V → ℕ) (none : fault_count now ≤ fault_count disk → CountsNone shelf) (one : Rose (fault_count disk) (fault_count now) → CountsOne shelf) where
+  module _ (script : Script) (none : shelf.disk_faults now ≤ shelf.disk_faults disk → CountsNone shelf) (one : Rose (shelf.disk_faults disk) (shelf.disk_faults now) → CountsOne shelf) where
     over : (status : Status) (text : List ℕ)
-        → IsRunTold (HoldsOver shelf.seen shelf.may_leave shelf.moment shelf.left_since fault_count disk now status script) script text
+        → IsRunTold (HoldsOver shelf.seen shelf.may_leave shelf.moment shelf.left_since shelf.disk_faults disk now status script) script text
         → IsRunTold (HoldsAsked (Some (running path)) shelf status script) script text
     over status text told = record {
       start = told.start;
@@ -162,16 +163,17 @@ module _ {V : Type 0} (shelf : Shelving V) (path : List ℕ) (mid : Option (ByPa
       ended = told.ended;
       sweep = told.sweep;
       is_run = told.is_run;
+      told = told.told;
       holds = (
         opens told.start told.holds.0,
-        keeps_log status script told.start told.history told.holds.1,
+        keeps_log status script told.start told.history told.ended told.holds.1,
         caused status script told.start told.history told.ended told.holds.2,
         gives status told.is_run.last told.holds.3,
       );
       report_written = told.report_written;
     }
 
-    pub comes : (status : Status) (text : List ℕ) → IsRunOverDisk shelf.seen shelf.may_leave shelf.moment shelf.left_since fault_count script disk now status text
+    pub comes : (status : Status) (text : List ℕ) → IsRunOverDisk shelf.seen shelf.may_leave shelf.moment shelf.left_since shelf.disk_faults script disk now status text
         → ComesOfLog path shelf status × IsTextOfRun (HoldsAsked (Some (running path)) shelf) (ReadsLog shelf path) script status text
     comes Done text is = ((none is.1, (is.0.start, opens is.0.start is.0.holds.0)), over Done text is.0)
     comes DiskFault text (inl fault, rose) = (one rose, inl (fault.0, reads fault.1))

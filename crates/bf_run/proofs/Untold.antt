@@ -1,11 +1,10 @@
 -- A run over a log that ended for want of memory.
-use Rattle.std.proofs.Common.{◌≡◌, ℕ, ◌≤◌, List, Option, Some, Result, inr, refl, ap, subst, ◌∙◌}
+use Rattle.std.proofs.Common.{◌≡◌, List, [], inr, refl, subst, ◌∙◌}
 use Rattle.bf_disk.specs.declared.disk.Disk.{Ghosts}
-use Rattle.bf_journal.specs.States.{MayLeave, StandsOn, moment_of}
+use Rattle.bf_journal.specs.States.{StandsOn}
 use Rattle.bf_keep.specs.Answers.{HasAnswered}
-use Rattle.bf_keep.specs.Crashing.{KeepsOnLog, Recovers}
+use Rattle.bf_keep.specs.Crashing.{IsAloneSince, KeepsOnLog, Recovers, ended_on_log}
 use Rattle.bf_keep.specs.declared.log_journal.LogJournal.{LogJournal}
-use Rattle.bf_machine.specs.declared.journal.KeepError.{KeepError}
 use Rattle.bf_machine.specs.interleaving.Events.{Reaches}
 use Rattle.bf_machine.specs.interleaving.Kept.{IsKept}
 use Rattle.bf_machine.specs.InOrder.{none_open}
@@ -45,8 +44,8 @@ run_with_last opening script now ended own kept ran = record {
 
 pub broken_off : {D : Type 0} {g : Ghosts D} (opening : Database) (lazy : LazyState) (script : Script) (m now : Machine) (j k : LogJournal D g) → m.script ≡ script → m.lazy ≡ lazy
     → IsKept opening m → StandsOn first_state StepsTo lazy j.log → KeepsOnLog opening m j now k
-    → ((start : Database) (m next : Machine) (j k : LogJournal D g) (since : ℕ) → IsKept start m → StandsOn first_state StepsTo m.lazy j.log → since ≤ moment_of j.log
-    → ((left : Option LazyState) → MayLeave first_state StepsTo j.log since left → left ≡ Some m.lazy) → KeepsOnLog start m j next k → Recovers start since next k.log)
+    → ((start : Database) (m next : Machine) (j k : LogJournal D g) (keeps : KeepsOnLog start m j next k) → IsKept start m → StandsOn first_state StepsTo m.lazy j.log
+    → Recovers start (IsAloneSince m.lazy j.log) (ended_on_log keeps) next k.log)
     → IsBrokenOffOn opening lazy j.log k.log.disk script
 broken_off {D = D} {g = g} opening lazy script m now j k of_script same kept stands keeps law =
     let reach : Reaches opening m now = keeps_reach (λ lazy next (old : LogJournal D g) new answer. HasAnswered lazy next old.log new.log answer) opening m j now k keeps in
@@ -57,5 +56,5 @@ broken_off {D = D} {g = g} opening lazy script m now j k of_script same kept sta
     inr (
       now.history,
       subst (λ (s : Script). AreGroupsInOrder s now.history) own (legal.whole_groups, legal.in_order),
-      subst (λ (s : Script). KeepsOn lazy j.log k.log.disk Memory s opening now.history) own (keeps_at_memory opening lazy now j.log k.log recovers),
+      subst (λ (s : Script). KeepsOn lazy j.log k.log.disk Memory s opening now.history []) own (keeps_at_memory opening lazy now j.log k.log kept_now (ended_on_log keeps) recovers),
     )

@@ -2,7 +2,7 @@
 use Rattle.std.specs.Prelude.{◌≡◌, ℕ, ◌+◌, ◌<◌, ◌≤◌, Bool, true, false, List, Option, Some, filter, length, ⊤}
 use Rattle.std.specs.List.{AllByRecursion}
 use Rattle.bf_io.specs.Whole.{IfTold}
-use Rattle.bf_keep.specs.Answers.{AreSizesOf, largest_log, largest_record, tells_fault}
+use Rattle.bf_keep.specs.Answers.{AreSizesOf, is_disk_fault, largest_log, largest_record}
 use Rattle.bf_machine.specs.interleaving.Machines.{EndedGroup}
 use Rattle.bf_sql.specs.Database.{Database}
 use Rattle.bf_tree.specs.declared.history.Entry.{Entry}
@@ -13,8 +13,8 @@ use Rattle.bf_run.specs.Creating.{Shelving, WhereHeld}
 use Rattle.bf_run.specs.declared.status.Status.{Status}
 use Rattle.bf_run.specs.declared.status.Status.TheVariants.{Done}
 
--- what a group can be told by a log with this file, which has kept this count of faults where it has halted: that end of the file's log
--- from which on a record would need more than a log comes to take, or more bytes than the largest record has
+-- what a group can be told by a log with this file, whose disk has counted so many faults: that count, where the log has halted; that end of
+-- the file's log from which on a record would need more than a log comes to take; or more bytes than the largest record has
 abbrev pub IsCause : Option (List ℕ) → ℕ → Cause → Type 0
 IsCause file faults (Died older) = ⊥
 IsCause file faults DiskFault = ⊤
@@ -29,19 +29,18 @@ is_of_fault DiskFault = true
 is_of_fault (Halted n) = true
 is_of_fault other = false
 
--- CAUSED: each group that the log has ended is told such a cause, one at most that the device failed, and each that the log has
--- halted the same count; at Done none is told either. A size that is told is that of a record of the group's
-pub record AreCaused (start : Database) (script : Script) (history : List Entry) (file : Option (List ℕ)) (status : Status) (ended : List EndedGroup) : Type 0 where
-  pub faults : ℕ
+-- CAUSED: each group that the log has ended is told such a cause, and one at most that the device failed; at Done none is told of a
+-- fault. A size that is told is that of a record of the group's
+pub record AreCaused (start : Database) (script : Script) (history : List Entry) (file : Option (List ℕ)) (faults : ℕ) (status : Status) (ended : List EndedGroup) : Type 0 where
   pub each : AllByRecursion (λ group. IsCause file faults group.cause) ended
-  pub one_fault : length (filter (λ group. tells_fault group.cause) ended) ≤ 1
+  pub one_fault : length (filter (λ group. is_disk_fault group.cause) ended) ≤ 1
   pub calm : status ≡ Done → AllByRecursion (λ group. is_of_fault group.cause ≡ false) ended
   pub sized : AreSizesOf start script history ended
 
 module _ {V : Type 0} (shelf : Shelving V) where
   -- of the file that is held behind the run
   abbrev pub AreCausedIn : Status → Script → Database → List Entry → List EndedGroup → Option V → Type 0
-  AreCausedIn status script start history ended held = (disk : V) × (held ≡ Some disk) × AreCaused start script history (shelf.seen disk) status ended
+  AreCausedIn status script start history ended held = (disk : V) × (held ≡ Some disk) × AreCaused start script history (shelf.seen disk) (shelf.disk_faults disk) status ended
 
   -- under a path
   abbrev pub CausesEnds : List ℕ → Status → Script → Database → List Entry → List EndedGroup → Type 0

@@ -6,13 +6,14 @@ use Rattle.bf_disk.specs.Images.{Only, OnlyRead}
 use Rattle.bf_disk.specs.Shelves.{ByPath}
 use Rattle.bf_log.specs.Format.{empty_log}
 
--- SHELF: what its disks tell of themselves; and what it holds under each path, where it tells it, and its count of
--- faults, each before and after a call
+-- SHELF: what its disks tell of themselves, and their counts of faults; and what it holds under each path, where it
+-- tells it, and its own count of faults, each before and after a call
 pub record Shelving (V : Type 0) : Type 1 where
   pub seen : V → Option (List ℕ)
   pub may_leave : V → List ℕ → Type 0
   pub moment : V → ℕ
   pub left_since : V → ℕ → List ℕ → Type 0
+  pub disk_faults : V → ℕ
   pub held : Option (ByPath V)
   pub held_after : Option (ByPath V)
   pub faults : ℕ
@@ -20,12 +21,13 @@ pub record Shelving (V : Type 0) : Type 1 where
 
 -- a shelf before and after a call, by what it and its disks tell
 abbrev pub shelf_of : {S V : Type 0} (seen : V → Option (List ℕ)) (may_leave : V → List ℕ → Type 0) (moment : V → ℕ)
-    (left_since : V → ℕ → List ℕ → Type 0) (held : S → Option (ByPath V)) (fault_count : S → ℕ) (old new : S) → Shelving V
-shelf_of seen may_leave moment left_since held fault_count old new = record {
+    (left_since : V → ℕ → List ℕ → Type 0) (disk_faults : V → ℕ) (held : S → Option (ByPath V)) (fault_count : S → ℕ) (old new : S) → Shelving V
+shelf_of seen may_leave moment left_since disk_faults held fault_count old new = record {
   seen = seen;
   may_leave = may_leave;
   moment = moment;
   left_since = left_since;
+  disk_faults = disk_faults;
   held = held old;
   held_after = held new;
   faults = fault_count old;

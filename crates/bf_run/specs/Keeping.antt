@@ -1,13 +1,15 @@
 -- WHAT A CRASH LEAVES of the log that a script was run over.
-use Rattle.std.specs.Prelude.{◌≡◌, ◌⊎◌, ℕ, ◌≤◌, List, [], ◌∷◌, ◌++◌, Contains, Option, None, Some}
+use Rattle.std.specs.Prelude.{◌≡◌, ◌⊎◌, ℕ, List, [], ◌∷◌, ◌++◌, Contains, Option, None, Some}
 use Rattle.bf_disk.specs.declared.disk.Disk.{Ghosts}
-use Rattle.bf_disk.specs.Images.{Only}
+use Rattle.bf_disk.specs.Images.{Only, OnlyRead}
 use Rattle.bf_disk.specs.Shelves.{IsHeldOrEmpty}
 use Rattle.bf_io.specs.Whole.{IfTold}
 use Rattle.bf_journal.specs.Crashes.{ReopensWith}
 use Rattle.bf_journal.specs.Reopening.{ReopensTo}
-use Rattle.bf_journal.specs.States.{MayLeave, moment_of}
+use Rattle.bf_keep.specs.Answers.{if_committed}
+use Rattle.bf_keep.specs.Crashing.{IsAloneSince}
 use Rattle.bf_log.specs.declared.log.Log.{Log}
+use Rattle.bf_machine.specs.interleaving.Machines.{EndedGroup}
 use Rattle.bf_recover.specs.Legal.{first_state}
 use Rattle.bf_recover.specs.Steps.{StepsTo}
 use Rattle.bf_sql.specs.Database.{Database}
@@ -15,9 +17,10 @@ use Rattle.bf_sql.specs.Groups.{groups_in}
 use Rattle.bf_sql.specs.History.{replayed}
 use Rattle.bf_sql.specs.migrations.Lazy.{LazyState, view_of}
 use Rattle.bf_tree.specs.declared.history.Entry.{Entry}
+use Rattle.bf_tree.specs.declared.reply.Cause.TheVariants as causes
 use Rattle.bf_tree.specs.declared.script.Script.{Script}
 use Rattle.bf_run.specs.declared.status.Status.{Status}
-use Rattle.bf_run.specs.declared.status.Status.TheVariants.{Done}
+use Rattle.bf_run.specs.declared.status.Status.TheVariants.{Done, DiskFault}
 use Rattle.bf_run.specs.Creating.{Shelving, WhereHeld}
 
 module _ (script : Script) (start : Database) where
@@ -33,9 +36,17 @@ module _ (script : Script) (start : Database) where
   IsBehindOneMore history db =
       (entry : Entry) × Contains (groups_in script entry.session) (entry.first, entry.last) × IsBehind (history ++ entry ∷ []) db
 
-  -- FAILED: what the one change that failed would have made is behind the history, or behind it and one group more
-  abbrev pub IsFailed : List Entry → Option Database → Type 0
-  IsFailed history failed = (db : Database) → failed ≡ Some db → IsBehind history db ⊎ IsBehindOneMore history db
+  -- or that one which was told that the device failed, of the groups that the log has ended
+  abbrev pub IsBehindTold : List Entry → List EndedGroup → Database → Type 0
+  IsBehindTold history ended db =
+      (group : EndedGroup) × Contains ended group × (group.cause ≡ causes.DiskFault) × ((n : ℕ) × IsBehind (history ++ if_committed group n ∷ []) db)
+
+  -- FAILED: at Done no change has failed; else what the one that failed would have made is behind the history, or behind it and one group more,
+  -- which at DiskFault is the one that was told so
+  abbrev pub IsFailed : Status → List Entry → List EndedGroup → Option Database → Type 0
+  IsFailed Done history ended failed = failed ≡ None
+  IsFailed DiskFault history ended failed = (db : Database) → failed ≡ Some db → IsBehind history db ⊎ IsBehindTold history ended db
+  IsFailed other history ended failed = (db : Database) → failed ≡ Some db → IsBehind history db ⊎ IsBehindOneMore history db
 
 -- an image that reopens does so to such a database, or to the one that the one failed change would have made
 abbrev pub OpensAs : (Database → Type 0) → Option Database → List ℕ → Type 0
@@ -60,30 +71,28 @@ module _ {V : Type 0} (moment : V → ℕ) (left_since : V → ℕ → List ℕ 
     pub now : (image : List ℕ) → left_since disk (moment disk) image → OpensAs (IsBehind script start history) failed image
     pub ever : (image : List ℕ) → left_since disk since image → OpensAs (IsBehindPrefix script start history) failed image
 
-  -- at Done no change has failed
-  abbrev pub LeavesAt : Status → V → ℕ → Script → Database → List Entry → Type 0
-  LeavesAt Done disk since script start history = Leaves disk since script start history None
-  LeavesAt other disk since script start history = (failed : Option Database) × IsFailed script start history failed × Leaves disk since script start history failed
-
 module _ {V : Type 0} (seen : V → Option (List ℕ)) (may_leave : V → List ℕ → Type 0) (moment : V → ℕ) (left_since : V → ℕ → List ℕ → Type 0) where
-  -- KEPT: this holds since the log was opened; and since the start of the call, where nothing was pending on the file then
-  pub record IsKept (old new : V) (status : Status) (script : Script) (start : Database) (history : List Entry) : Type 0 where
-    pub opened : ℕ
-    pub later : moment old ≤ opened
-    pub since_opening : LeavesAt moment left_since status new opened script start history
-    pub since_start : (file : List ℕ) → seen old ≡ Some file → Only file (may_leave old) → LeavesAt moment left_since status new (moment old) script start history
+  -- KEEPS: one change at most has failed, and beside what that would have made a crash leaves a prefix of the history since the log was opened,
+  -- which has read the file at most; and since the start of the call, where nothing was pending on the file then
+  pub record KeepsFile (old new : V) (status : Status) (script : Script) (start : Database) (history : List Entry) (ended : List EndedGroup) : Type 0 where
+    pub opened : V
+    pub read : OnlyRead seen may_leave moment left_since old opened
+    pub failed : Option Database
+    pub failed_is : IsFailed script start status history ended failed
+    pub since_opening : Leaves moment left_since new (moment opened) script start history failed
+    pub since_start : (file : List ℕ) → seen old ≡ Some file → Only file (may_leave old) → Leaves moment left_since new (moment old) script start history failed
 
 module _ {V : Type 0} (shelf : Shelving V) where
   -- of a file that was held, or of a new one, and of the one that is held behind it, where this one tells its bytes
-  abbrev pub IsKeptFile : Status → Script → Database → List Entry → Option V → Option V → Type 0
-  IsKeptFile status script start history held held_after =
+  abbrev pub KeepsHeld : Status → Script → Database → List Entry → List EndedGroup → Option V → Option V → Type 0
+  KeepsHeld status script start history ended held held_after =
       (old new : V) × IsHeldOrEmpty shelf.seen shelf.may_leave held old × (held_after ≡ Some new)
-      × IfTold (shelf.seen new) (λ file. IsKept shelf.seen shelf.may_leave shelf.moment shelf.left_since old new status script start history)
+      × IfTold (shelf.seen new) (λ file. KeepsFile shelf.seen shelf.may_leave shelf.moment shelf.left_since old new status script start history ended)
 
   -- of the file under a path
-  abbrev pub KeepsLog : List ℕ → Status → Script → Database → List Entry → Type 0
-  KeepsLog path status script start history =
-      WhereHeld (λ old new. IsKeptFile status script start history (old path) (new path)) shelf.held shelf.held_after
+  abbrev pub KeepsLog : List ℕ → Status → Script → Database → List Entry → List EndedGroup → Type 0
+  KeepsLog path status script start history ended =
+      WhereHeld (λ old new. KeepsHeld status script start history ended (old path) (new path)) shelf.held shelf.held_after
 
   -- the state whose sweep is told is what that log gives
   abbrev pub IsGivenHeld : Status → LazyState → Option V → Type 0
@@ -95,7 +104,7 @@ module _ {V : Type 0} (shelf : Shelving V) where
 module _ {D : Type 0} {g : Ghosts D} where
   -- of a log that a run goes on with, and of its disk at the end, since each moment since when a crash has left alone the state that
   -- the run begins with
-  abbrev pub KeepsOn : LazyState → Log D g → D → Status → Script → Database → List Entry → Type 0
-  KeepsOn lazy log disk status script start history =
-      (since : ℕ) → since ≤ moment_of log → ((left : Option LazyState) → MayLeave first_state StepsTo log since left → left ≡ Some lazy)
-      → (file : List ℕ) → g.seen disk ≡ Some file → LeavesAt g.moment g.left_since status disk since script start history
+  abbrev pub KeepsOn : LazyState → Log D g → D → Status → Script → Database → List Entry → List EndedGroup → Type 0
+  KeepsOn lazy log disk status script start history ended =
+      (failed : Option Database) × IsFailed script start status history ended failed
+      × ((since : ℕ) → IsAloneSince lazy log since → (file : List ℕ) → g.seen disk ≡ Some file → Leaves g.moment g.left_since disk since script start history failed)

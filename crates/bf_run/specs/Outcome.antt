@@ -13,6 +13,7 @@ use Rattle.bf_tree.specs.declared.history.Entry.{Entry}
 use Rattle.bf_tree.specs.declared.history.Sweep.{Sweep}
 use Rattle.bf_text.specs.Replies.{newline, numbered}
 use Rattle.bf_text.specs.Report.{report_text}
+use Rattle.bf_keep.specs.Answers.{AreToldTheirCauses}
 use Rattle.bf_run.specs.declared.status.Status.{Status}
 use Rattle.bf_run.specs.declared.status.Status.TheVariants.{Done, Usage, Script as ScriptError, ReadFault, WriteFault, DiskFault, NotALog, NotEmpty, Memory}
 use Rattle.bf_run.specs.Causes.{CausesEnds}
@@ -53,12 +54,13 @@ pub record IsReport (bytes text : List ℕ) : Type 0 where
   pub is_run : IsRunInOrder script transcripts history sweep
   pub report_written : text ≡ report_text transcripts history None sweep
 
--- GROUND: what holds of a run over a log, for its status: of its script, of the database that it begins with, of its history, of
+-- CLAIM: what holds of a run over a log, for its status: of its script, of the database that it begins with, of its history, of
 -- the groups that the log has ended, and of the state whose sweep is told
-abbrev pub Ground : Type 1
-Ground = Status → Script → Database → List Entry → List EndedGroup → LazyState → Type 0
+abbrev pub RunClaim : Type 1
+RunClaim = Status → Script → Database → List Entry → List EndedGroup → LazyState → Type 0
 
--- the text is the report of a run of a script, of whose begin, history, ended groups and last state this holds
+-- the text is the report of a run of a script, of whose begin, history, ended groups and last state this holds; and each of these groups
+-- is one of the script that the report tells its cause
 pub record IsRunTold (Holds : Database → List Entry → List EndedGroup → LazyState → Type 0) (script : Script) (text : List ℕ) : Type 0 where
   pub start : Database
   pub transcripts : List (List Reply)
@@ -66,6 +68,7 @@ pub record IsRunTold (Holds : Database → List Entry → List EndedGroup → La
   pub ended : List EndedGroup
   pub sweep : Sweep
   pub is_run : IsRunOver start script ended transcripts history sweep
+  pub told : AreToldTheirCauses script transcripts ended
   pub holds : Holds start history ended is_run.last
   pub report_written : text ≡ report_text transcripts history None sweep
 
@@ -159,19 +162,19 @@ abbrev pub fault_of_disk : List ℕ
 fault_of_disk = codes "disk fault" ++ newline
 
 -- the text of Done, for what was asked, what holds of a run over a log, and the bytes of the source
-abbrev pub IsDoneText : Option Asked → Ground → List ℕ → List ℕ → Type 0
+abbrev pub IsDoneText : Option Asked → RunClaim → List ℕ → List ℕ → Type 0
 IsDoneText None Holds bytes text = ⊥
 IsDoneText (Some trying) Holds bytes text = IsReport bytes text
 IsDoneText (Some (creating path)) Holds bytes text = text ≡ codes "created" ++ newline
 IsDoneText (Some (running path)) Holds bytes text = IsRunReport (Holds Done) bytes text
 
 -- the text of DiskFault: the report of a run in whose course the disk failed, or that it failed before, where this holds
-abbrev pub IsFaultText : Option Asked → Ground → Type 0 → List ℕ → List ℕ → Type 0
+abbrev pub IsFaultText : Option Asked → RunClaim → Type 0 → List ℕ → List ℕ → Type 0
 IsFaultText (Some (running path)) Holds Before bytes text = ((text ≡ fault_of_disk) × Before) ⊎ IsRunReport (Holds DiskFault) bytes text
 IsFaultText other Holds Before bytes text = text ≡ fault_of_disk
 
 -- the text of a status that has one
-abbrev pub IsTextOf : Option Asked → Ground → Type 0 → List ℕ → Status → List ℕ → Type 0
+abbrev pub IsTextOf : Option Asked → RunClaim → Type 0 → List ℕ → Status → List ℕ → Type 0
 IsTextOf asks Holds Before bytes Usage text = text ≡ codes "usage error" ++ newline
 IsTextOf asks Holds Before bytes (ScriptError fault) text = text ≡ fault_text fault
 IsTextOf asks Holds Before bytes Done text = IsDoneText asks Holds bytes text
@@ -184,9 +187,9 @@ IsTextOf asks Holds Before bytes Memory text = ⊥
 
 -- a run over the log that is asked for begins with a database that this opens to, a crash leaves a prefix of what it commits, the
 -- log has ended groups by its causes alone, and the sweep is that of the state which its records give
-abbrev pub HoldsAsked : {V : Type 0} → Option Asked → Shelving V → Ground
+abbrev pub HoldsAsked : {V : Type 0} → Option Asked → Shelving V → RunClaim
 HoldsAsked (Some (running path)) shelf status script start history ended last =
-    Opens shelf path start × KeepsLog shelf path status script start history × CausesEnds shelf path status script start history ended × GivesSweep shelf path status last
+    Opens shelf path start × KeepsLog shelf path status script start history ended × CausesEnds shelf path status script start history ended × GivesSweep shelf path status last
 HoldsAsked other shelf status script start history ended last = ⊥
 
 -- and before one the log that is asked for was read at most

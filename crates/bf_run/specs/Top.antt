@@ -25,8 +25,8 @@ use Rattle.bf_text.specs.Report.{report_text}
 use Rattle.bf_run.specs.declared.status.Status.{Status}
 use Rattle.bf_run.specs.declared.status.Status.TheVariants.{Done, DiskFault, NotALog, ReadFault, Script as ScriptError}
 use Rattle.bf_run.specs.Causes.{AreCaused}
-use Rattle.bf_run.specs.Keeping.{IsGivenBy, IsKept, KeepsOn}
-use Rattle.bf_run.specs.Outcome.{Ground, Stream, ComesOfInput, IsRunTold, IsTextOf, fault_of_disk, fault_text, not_a_log_text}
+use Rattle.bf_run.specs.Keeping.{IsGivenBy, KeepsFile, KeepsOn}
+use Rattle.bf_run.specs.Outcome.{RunClaim, Stream, ComesOfInput, IsRunTold, IsTextOf, fault_of_disk, fault_text, not_a_log_text}
 use Rattle.bf_run.specs.Untold.{IsReadAtMost}
 use Rattle.bf_run.specs.Words.{trying}
 
@@ -59,22 +59,23 @@ pub record HasRead (input : Stream) (read : Result Script (Status × Vec ℕ)) :
   pub is_read : IsScriptRead input bytes read
 
 -- the text of a run over a log, of which this holds, or of none, before which that does, for its status
-abbrev pub IsTextOfRun : Ground → Type 0 → Script → Status → List ℕ → Type 0
+abbrev pub IsTextOfRun : RunClaim → Type 0 → Script → Status → List ℕ → Type 0
 IsTextOfRun Holds Before script Done text = IsRunTold (Holds Done script) script text
 IsTextOfRun Holds Before script DiskFault text = ((text ≡ fault_of_disk) × Before) ⊎ IsRunTold (Holds DiskFault script) script text
 IsTextOfRun Holds Before script (NotALog at) text = text ≡ not_a_log_text at
 IsTextOfRun Holds Before script other text = ⊥
 
 -- a script was served, of which this holds: its status, by a disk's count of faults before and after, and the report
-abbrev pub IsServed : Ground → Script → ℕ → ℕ → Status → List ℕ → Type 0
+abbrev pub IsServed : RunClaim → Script → ℕ → ℕ → Status → List ℕ → Type 0
 IsServed Holds script before after Done text = IsRunTold (Holds Done script) script text × (after ≤ before)
 IsServed Holds script before after DiskFault text = IsRunTold (Holds DiskFault script) script text × (before < after)
 IsServed Holds script before after other text = ⊥
 
 -- over a database, that is what is seen of the state which a log keeps
-abbrev pub ServedOn : {D : Type 0} {g : Ghosts D} → Database → LazyState → Log D g → D → Ground
+abbrev pub ServedOn : {D : Type 0} {g : Ghosts D} → Database → LazyState → Log D g → D → RunClaim
 ServedOn {g = g} opening lazy log disk status script start history ended last =
-    (start ≡ opening) × KeepsOn lazy log disk status script start history × AreCaused start script history (g.seen disk) status ended
+    (start ≡ opening) × KeepsOn lazy log disk status script start history ended
+    × AreCaused start script history (g.seen disk) (g.fault_count disk) status ended
     × IsGivenBy g.seen g.may_leave status disk last
 
 -- what is told of a log that could not be read
@@ -90,10 +91,10 @@ module _ {V : Type 0} (seen : V → Option (List ℕ)) (may_leave : V → List �
 
   -- a run begins with what its file opens to, a crash leaves a prefix of what it commits, groups end by causes of its log,
   -- and the sweep is that of the state which its records give
-  abbrev pub HoldsOver : V → V → Ground
+  abbrev pub HoldsOver : V → V → RunClaim
   HoldsOver old new status script start history ended last =
-      IsOpened old start × IfTold (seen new) (λ file. IsKept seen may_leave moment left_since old new status script start history)
-      × AreCaused start script history (seen new) status ended × IsGivenBy seen may_leave status new last
+      IsOpened old start × IfTold (seen new) (λ file. KeepsFile seen may_leave moment left_since old new status script start history ended)
+      × AreCaused start script history (seen new) (fault_count new) status ended × IsGivenBy seen may_leave status new last
 
   abbrev pub IsRunOverDisk : Script → V → V → Status → List ℕ → Type 0
   IsRunOverDisk script old new Done text = IsRunTold (HoldsOver old new Done script) script text × (fault_count new ≤ fault_count old)

@@ -1,5 +1,5 @@
 -- WHAT BECOMES of a log where no report tells of a run over it: it could not be opened, or memory ran out.
-use Rattle.std.specs.Prelude.{◌≡◌, ◌⊎◌, ℕ, List, Option, Some, Ok, IsTrue}
+use Rattle.std.specs.Prelude.{◌≡◌, ◌⊎◌, ℕ, List, [], Option, Some, Ok, IsTrue}
 use Rattle.std.specs.List.{list_all}
 use Rattle.bf_base.specs.Lists.{with_before}
 use Rattle.bf_disk.specs.Images.{OnlyRead}
@@ -15,7 +15,7 @@ use Rattle.bf_sql.specs.migrations.Lazy.{LazyState}
 use Rattle.bf_tree.specs.declared.history.Entry.{Entry}
 use Rattle.bf_tree.specs.declared.script.Script.{Script}
 use Rattle.bf_run.specs.Creating.{Shelving, IsReadAlone, WhereHeld}
-use Rattle.bf_run.specs.Keeping.{IsKept, KeepsOn}
+use Rattle.bf_run.specs.Keeping.{KeepsFile, KeepsOn}
 use Rattle.bf_run.specs.Running.{OpensTo}
 use Rattle.bf_run.specs.declared.status.Status.TheVariants.{Memory}
 
@@ -28,7 +28,7 @@ AreGroupsInOrder script history =
 -- a run over a log ended for want of memory: its log is as it was, or groups of the script have run, and a crash leaves a prefix of them
 abbrev pub IsBrokenOffOn : {D : Type 0} {g : Ghosts D} → Database → LazyState → Log D g → D → Script → Type 0
 IsBrokenOffOn opening lazy log disk script =
-    (disk ≡ disk_of log) ⊎ ((history : List Entry) × AreGroupsInOrder script history × KeepsOn lazy log disk Memory script opening history)
+    (disk ≡ disk_of log) ⊎ ((history : List Entry) × AreGroupsInOrder script history × KeepsOn lazy log disk Memory script opening history [])
 
 module _ {V : Type 0} (seen : V → Option (List ℕ)) (may_leave : V → List ℕ → Type 0) (moment : V → ℕ) (left_since : V → ℕ → List ℕ → Type 0) where
   -- a file is as it was, or was read
@@ -42,7 +42,7 @@ module _ {V : Type 0} (seen : V → Option (List ℕ)) (may_leave : V → List �
     pub opens : IfTold (seen old) (λ file. OpensTo file start)
     pub history : List Entry
     pub groups : AreGroupsInOrder script history
-    pub kept : IfTold (seen new) (λ file. IsKept seen may_leave moment left_since old new Memory script start history)
+    pub kept : IfTold (seen new) (λ file. KeepsFile seen may_leave moment left_since old new Memory script start history [])
 
   abbrev pub IsUntold : Script → V → V → Type 0
   IsUntold script old new = IsReadAtMost old new ⊎ IsBrokenOff script old new

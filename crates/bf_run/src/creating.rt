@@ -15,16 +15,16 @@ use std::alloc::Global;
 fn make_log<S: Shelf>(path: &str, shelf: &mut S) -> Result<(), CreateError>
     requires { (path : List ℕ) → S.taken shelf.old path ≡ None }
     ensures ok { OnOk result (Makes
-        (shelf_of S.Disk.seen S.Disk.may_leave S.Disk.moment S.Disk.left_since S.held S.fault_count
+        (shelf_of S.Disk.seen S.Disk.may_leave S.Disk.moment S.Disk.left_since S.Disk.fault_count S.held S.fault_count
         shelf.old shelf.new) path.now) }
     ensures not_empty { (n : ℕ) → result ≡ Err (CreateError.NotEmpty n) → Refuses
-        (shelf_of S.Disk.seen S.Disk.may_leave S.Disk.moment S.Disk.left_since S.held S.fault_count
+        (shelf_of S.Disk.seen S.Disk.may_leave S.Disk.moment S.Disk.left_since S.Disk.fault_count S.held S.fault_count
         shelf.old shelf.new) path.now n }
     ensures fault { result ≡ Err CreateError.DiskFault → CountsOne
-        (shelf_of S.Disk.seen S.Disk.may_leave S.Disk.moment S.Disk.left_since S.held S.fault_count
+        (shelf_of S.Disk.seen S.Disk.may_leave S.Disk.moment S.Disk.left_since S.Disk.fault_count S.held S.fault_count
         shelf.old shelf.new) }
     ensures spares { Spares
-        (shelf_of S.Disk.seen S.Disk.may_leave S.Disk.moment S.Disk.left_since S.held S.fault_count
+        (shelf_of S.Disk.seen S.Disk.may_leave S.Disk.moment S.Disk.left_since S.Disk.fault_count S.held S.fault_count
         shelf.old shelf.new) path.now }
     ensures none_taken { (path : List ℕ) → S.taken shelf.new path ≡ None }
 {
@@ -42,12 +42,12 @@ pub(crate) fn create<S: Shelf>(
 ) -> Result<(Status, Vec<u8>), Memory>
     requires { (path : List ℕ) → S.taken shelf.old path ≡ None }
     ensures causes { IfOk result (λ a. ComesOfFile path.now
-        (shelf_of S.Disk.seen S.Disk.may_leave S.Disk.moment S.Disk.left_since S.held S.fault_count
+        (shelf_of S.Disk.seen S.Disk.may_leave S.Disk.moment S.Disk.left_since S.Disk.fault_count S.held S.fault_count
         shelf.old shelf.new) a.0) }
     ensures text { IfOk result (λ a. (bytes : List ℕ) →
         IsTextOf (Some (creating path.now)) (λ status script start history ended last. ⊥) ⊤ bytes a.0 a.1.items) }
     ensures spares { Spares
-        (shelf_of S.Disk.seen S.Disk.may_leave S.Disk.moment S.Disk.left_since S.held S.fault_count
+        (shelf_of S.Disk.seen S.Disk.may_leave S.Disk.moment S.Disk.left_since S.Disk.fault_count S.held S.fault_count
         shelf.old shelf.new) path.now }
     ensures none_taken { (path : List ℕ) → S.taken shelf.new path ≡ None }
 {

@@ -1,7 +1,6 @@
 //! Running a script over the database that a log keeps.
 
 ghost use Rattle.std.specs.Prelude.{◌≡◌, ℕ, List, None, Some, IfOk, OnErr, true};
-ghost use Rattle.bf_journal.specs.Leaving.{LeavesAlone};
 ghost use Rattle.bf_journal.specs.States.{IsReady, StandsOn};
 ghost use Rattle.bf_keep.specs.Sayable.{IsSayableScript};
 ghost use Rattle.bf_log.specs.Append.{disk_of};
@@ -61,7 +60,6 @@ fn tell_run<N: Opened, D: Disk, R: Wait>(
     requires sayable { IsSayableScript script }
     requires stands { StandsOn first_state StepsTo store.lazy journal.old.log }
     requires ready { IsReady journal.old.log }
-    requires alone { LeavesAlone first_state StepsTo store.lazy journal.old.log }
     ensures served { IfOk result (λ a. IsServed
         (ServedOn N.opening store.lazy journal.old.log (disk_of journal.new.log)) script
         (D.fault_count (disk_of journal.old.log)) (D.fault_count (disk_of journal.new.log))
@@ -78,6 +76,9 @@ fn tell_run<N: Opened, D: Disk, R: Wait>(
     what_ends_groups_is_told(PhantomData::<D>);
     a_group_that_is_too_large_has_a_record_so_large(PhantomData::<D>);
     in_order(alloc, rt, registry, journal, &mut machine, &[])?;
+    if journal.is_given_up() {
+        return Err(Memory);
+    }
     // Its contract says that the script is the one that was given.
     let _ = machine.script();
     let sweep = machine.sweep();
@@ -112,7 +113,6 @@ fn serve_over<N: Opened, D: Disk, R: Wait>(
     requires sayable { IsSayableScript script }
     requires stands { StandsOn first_state StepsTo store.lazy log }
     requires ready { IsReady log }
-    requires alone { LeavesAlone first_state StepsTo store.lazy log }
     ensures served { IfOk result.1 (λ a. IsServed (ServedOn N.opening store.lazy log result.0) script
         (D.fault_count (disk_of log)) (D.fault_count result.0) a.0 a.1.items) }
     ensures broken_off { OnErr result.1
@@ -191,18 +191,18 @@ pub(crate) fn run<S: Shelf, R: Wait>(
     requires limits { IsWithinLimits script }
     requires sayable { IsSayableScript script }
     ensures causes { IfOk result (λ a. ComesOfLog path.now
-        (shelf_of S.Disk.seen S.Disk.may_leave S.Disk.moment S.Disk.left_since S.held S.fault_count
+        (shelf_of S.Disk.seen S.Disk.may_leave S.Disk.moment S.Disk.left_since S.Disk.fault_count S.held S.fault_count
         shelf.old shelf.new) a.0) }
     ensures text { IfOk result (λ a. IsTextOfRun (HoldsAsked (Some (running path.now))
-        (shelf_of S.Disk.seen S.Disk.may_leave S.Disk.moment S.Disk.left_since S.held S.fault_count
+        (shelf_of S.Disk.seen S.Disk.may_leave S.Disk.moment S.Disk.left_since S.Disk.fault_count S.held S.fault_count
         shelf.old shelf.new))
-        (ReadsLog (shelf_of S.Disk.seen S.Disk.may_leave S.Disk.moment S.Disk.left_since S.held
+        (ReadsLog (shelf_of S.Disk.seen S.Disk.may_leave S.Disk.moment S.Disk.left_since S.Disk.fault_count S.held
         S.fault_count shelf.old shelf.new) path.now) script a.0 a.1.items) }
     ensures untold { OnErr result (LeavesUntold
-        (shelf_of S.Disk.seen S.Disk.may_leave S.Disk.moment S.Disk.left_since S.held S.fault_count
+        (shelf_of S.Disk.seen S.Disk.may_leave S.Disk.moment S.Disk.left_since S.Disk.fault_count S.held S.fault_count
         shelf.old shelf.new) path.now script) }
     ensures others { KeepsOthers
-        (shelf_of S.Disk.seen S.Disk.may_leave S.Disk.moment S.Disk.left_since S.held S.fault_count
+        (shelf_of S.Disk.seen S.Disk.may_leave S.Disk.moment S.Disk.left_since S.Disk.fault_count S.held S.fault_count
         shelf.old shelf.new) path.now }
     ensures none_taken { (path : List ℕ) → S.taken shelf.new path ≡ None }
 {

@@ -22,12 +22,12 @@ pub fn a_text_has_one_reading()
 pub fn one_status_comes<S: Shelf>()
     ensures { (asks : Option Asked) (input : Stream) (bytes : List ℕ) (old new other_new : S) (one other : Status)
         → TellsFiles
-        (shelf_of S.Disk.seen S.Disk.may_leave S.Disk.moment S.Disk.left_since S.held S.fault_count old new)
+        (shelf_of S.Disk.seen S.Disk.may_leave S.Disk.moment S.Disk.left_since S.Disk.fault_count S.held S.fault_count old new)
         → IsDetermined one → IsDetermined other
         → Comes asks input bytes
-        (shelf_of S.Disk.seen S.Disk.may_leave S.Disk.moment S.Disk.left_since S.held S.fault_count old new) one
+        (shelf_of S.Disk.seen S.Disk.may_leave S.Disk.moment S.Disk.left_since S.Disk.fault_count S.held S.fault_count old new) one
         → Comes asks input bytes
-        (shelf_of S.Disk.seen S.Disk.may_leave S.Disk.moment S.Disk.left_since S.held S.fault_count old other_new)
+        (shelf_of S.Disk.seen S.Disk.may_leave S.Disk.moment S.Disk.left_since S.Disk.fault_count S.held S.fault_count old other_new)
         other
         → one ≡ other }
 {}

@@ -174,13 +174,13 @@ fn run_input<I: Source, S: Shelf, R: Wait>(
           faults = I.faults input.old;
           faults_after = I.faults input.new;
         })
-        (shelf_of S.Disk.seen S.Disk.may_leave S.Disk.moment S.Disk.left_since S.held S.fault_count
+        (shelf_of S.Disk.seen S.Disk.may_leave S.Disk.moment S.Disk.left_since S.Disk.fault_count S.held S.fault_count
         shelf.old shelf.new) a.0 a.1.items) }
     ensures out_of_memory { OnErr result (RunsOut (I.left input.old)
-        (shelf_of S.Disk.seen S.Disk.may_leave S.Disk.moment S.Disk.left_since S.held S.fault_count
+        (shelf_of S.Disk.seen S.Disk.may_leave S.Disk.moment S.Disk.left_since S.Disk.fault_count S.held S.fault_count
         shelf.old shelf.new) path.now) }
     ensures others { KeepsOthers
-        (shelf_of S.Disk.seen S.Disk.may_leave S.Disk.moment S.Disk.left_since S.held S.fault_count
+        (shelf_of S.Disk.seen S.Disk.may_leave S.Disk.moment S.Disk.left_since S.Disk.fault_count S.held S.fault_count
         shelf.old shelf.new) path.now }
     ensures none_taken { (path : List ℕ) → S.taken shelf.new path ≡ None }
 {
@@ -206,17 +206,17 @@ fn answer<I: Source, S: Shelf, R: Wait>(
           faults = I.faults input.old;
           faults_after = I.faults input.new;
         })
-        (shelf_of S.Disk.seen S.Disk.may_leave S.Disk.moment S.Disk.left_since S.held S.fault_count
+        (shelf_of S.Disk.seen S.Disk.may_leave S.Disk.moment S.Disk.left_since S.Disk.fault_count S.held S.fault_count
         shelf.old shelf.new) a.0 a.1.items) }
     ensures spares { IfCreating (asked (map (λ word. word.now) words.now)) (λ path. Spares
-        (shelf_of S.Disk.seen S.Disk.may_leave S.Disk.moment S.Disk.left_since S.held S.fault_count
+        (shelf_of S.Disk.seen S.Disk.may_leave S.Disk.moment S.Disk.left_since S.Disk.fault_count S.held S.fault_count
         shelf.old shelf.new) path) }
     ensures out_of_memory { OnErr result
         (IfRunning (asked (map (λ word. word.now) words.now)) (λ path. RunsOut (I.left input.old)
-        (shelf_of S.Disk.seen S.Disk.may_leave S.Disk.moment S.Disk.left_since S.held S.fault_count
+        (shelf_of S.Disk.seen S.Disk.may_leave S.Disk.moment S.Disk.left_since S.Disk.fault_count S.held S.fault_count
         shelf.old shelf.new) path)) }
     ensures others { IfRunning (asked (map (λ word. word.now) words.now)) (λ path. KeepsOthers
-        (shelf_of S.Disk.seen S.Disk.may_leave S.Disk.moment S.Disk.left_since S.held S.fault_count
+        (shelf_of S.Disk.seen S.Disk.may_leave S.Disk.moment S.Disk.left_since S.Disk.fault_count S.held S.fault_count
         shelf.old shelf.new) path) }
     ensures untouched { IfNoPath (asked (map (λ word. word.now) words.now))
         (shelf.new ≡ shelf.old) }
@@ -263,7 +263,7 @@ pub fn bullfrog<I: Source, O: Sink, S: Shelf, R: Wait>(
           faults = O.faults output.old;
           faults_after = O.faults output.new;
         })
-        (shelf_of S.Disk.seen S.Disk.may_leave S.Disk.moment S.Disk.left_since S.held S.fault_count
+        (shelf_of S.Disk.seen S.Disk.may_leave S.Disk.moment S.Disk.left_since S.Disk.fault_count S.held S.fault_count
         shelf.old shelf.new) result }
     ensures untouched { IfNoPath (asked (map (λ word. word.now) words.now))
         (shelf.new ≡ shelf.old) }

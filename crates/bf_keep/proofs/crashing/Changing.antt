@@ -1,19 +1,15 @@
--- What every crash leaves of a machine stays so behind a change of it, by what its log has answered.
-use Rattle.std.proofs.Common.{◌≡◌, inl, inr, ⊎_elim, ℕ, ◌≤◌, List, [], ◌∷◌, ◌++◌, Option, None, Some, Ok, Err, refl, sym, ◌∙◌, ap, subst}
+-- What every crash of a machine leaves stays so behind a change of it, by what has become of its log.
+use Rattle.std.proofs.Common.{◌≡◌, inl, inr, ℕ, ◌≤◌, List, [], ◌∷◌, ◌++◌, Option, None, Some, refl, sym, ◌∙◌, ap, subst}
 use Rattle.std.specs.Prelude.{◌⊎◌}
-use Rattle.std.proofs.lemmas.Option.{same_Some}
 use Rattle.bf_disk.specs.declared.disk.Disk.{Ghosts}
-use Rattle.bf_log.specs.declared.error.AppendError.{AppendError}
-use Rattle.bf_log.specs.declared.error.AppendError.TheVariants.{Halted, TooLarge, LogFull, DiskFault, Memory}
 use Rattle.bf_log.specs.declared.log.Log.{Log}
-use Rattle.bf_journal.specs.Answered.{IsAnsweredBy}
 use Rattle.bf_journal.specs.Crashes.{CrashImages, IsStep, Machine}
-use Rattle.bf_journal.specs.Leaving.{Fails, StoresNothing}
-use Rattle.bf_journal.specs.States.{MayLeave, StandsOn}
+use Rattle.bf_journal.specs.Leaving.{Fails, Stores, StoresNothing}
+use Rattle.bf_journal.specs.States.{IsReady, MayLeave}
 use Rattle.bf_journal.proofs.Runs.{run_keeps}
 
-module _ {L V E : Type 0} (first : L) (Steps : L → List ℕ → L → Type 0) (view : L → V) (run : V → E → V) (Next : V → V → Type 0) {D : Type 0} {g : Ghosts D} where
-  -- a machine with this state on this log, and such a history
+module _ {L V E : Type 0} (first : L) (Steps : L → List ℕ → L → Type 0) (view : L → V) (run : V → E → V) {D : Type 0} {g : Ghosts D} where
+  -- a machine with this state on this log, such a history, and what the failed change would have made
   abbrev pub on_log : V → ℕ → L → Log D g → List E → Option V → Machine L D g V E
   on_log opening since state log history failed = record {
     state = state;
@@ -24,109 +20,74 @@ module _ {L V E : Type 0} (first : L) (Steps : L → List ℕ → L → Type 0) 
     failed = failed;
   }
 
-  -- the state stands on the log, and every crash leaves what it may; one change may have failed, of what is seen now
-  abbrev pub Recovers : V → ℕ → L → Log D g → List E → Type 0
-  Recovers opening since state log history =
-      StandsOn first Steps state log × ((failed : Option V) × ((db : V) → failed ≡ Some db → Next (view state) db) × CrashImages first Steps view run (on_log opening since state log history failed))
+  abbrev pub Leaves : V → ℕ → L → Log D g → List E → Option V → Type 0
+  Leaves opening since state log history failed = CrashImages first Steps view run (on_log opening since state log history failed)
 
-  -- what has become of the state and of the log: nothing, or the change is stored, or some change was refused
-  abbrev pub IsChanged : L → L → Log D g → Log D g → Type 0
-  IsChanged state next log new =
-      ((next ≡ state) × (new ≡ log))
-      ⊎ IsAnsweredBy first Steps state next log new (Ok 0)
-      ⊎ ((next ≡ state) × ((other : L) × Next (view state) (view other) × ((error : AppendError) × IsAnsweredBy first Steps state other log new (Err error))))
+  -- what has become of a state, of its log and of what has failed: nothing; the change is stored; the state stays and nothing is stored; or it
+  -- stays and this change has failed
+  abbrev pub IsChanged : L → L → Log D g → Log D g → Option V → Option V → Type 0
+  IsChanged state next log new failed then =
+      ((next ≡ state) × (new ≡ log) × (then ≡ failed))
+      ⊎ (Stores first Steps state next log new × (then ≡ failed))
+      ⊎ ((next ≡ state) × StoresNothing first Steps log new × (then ≡ failed))
+      ⊎ ((next ≡ state) × ((other : L) × Fails first Steps state other log new × (then ≡ Some (view other))))
+
+  -- a log that takes records is one on which no change has failed
+  pub none_failed_then : (state next : L) (log new : Log D g) (failed then : Option V) → IsChanged state next log new failed then
+      → (IsReady log → failed ≡ None) → IsReady new → then ≡ None
+  none_failed_then state next log new failed then (inl same) none ready = same.2 ∙ none (subst (λ (l : Log D g). IsReady l) same.1 ready)
+  none_failed_then state next log new failed then (inr (inl stored)) none ready = stored.1 ∙ none stored.0.was_ready
+  none_failed_then state next log new failed then (inr (inr (inl nothing))) none ready = nothing.2 ∙ none (nothing.1.as_ready ready)
+  none_failed_then state next log new failed then (inr (inr (inr fails))) none ready = absurd (fails.1.1.stopped ready)
 
   module _ (earlier : (log : Log D g) (t u : ℕ) (left : Option L) → t ≤ u → MayLeave first Steps log u left → MayLeave first Steps log t left)
       (opening : V) (since : ℕ) where
-    abbrev Holds : L → Log D g → List E → Type 0
-    Holds state log history = Recovers opening since state log history
-
     steps : (old new : Machine L D g V E) → CrashImages first Steps view run old → IsStep first Steps view run old new → CrashImages first Steps view run new
     steps old new kept step = run_keeps first Steps view run earlier (new ∷ []) old kept (step, tt)
 
-    module _ (state : L) (log : Log D g) (history : List E) (was : Holds state log history) where
-      enters : (entry : E) → run (view state) entry ≡ view state → Holds state log (history ++ entry ∷ [])
-      enters entry seen =
-          let old = on_log opening since state log history was.1.0 in
-          let new = on_log opening since state log (history ++ entry ∷ []) was.1.0 in (
-            was.0,
-            (was.1.0, was.1.1, steps old new was.1.2 (inr (inr (inr (inl (record { entry = entry; seen = seen; rest = refl })))))),
-          )
+    -- an entry more that is not seen
+    enters : (state : L) (log : Log D g) (history : List E) (failed : Option V) (entry : E) → Leaves opening since state log history failed → run (view state) entry ≡ view state
+        → Leaves opening since state log (history ++ entry ∷ []) failed
+    enters state log history failed entry was seen =
+        steps (on_log opening since state log history failed) (on_log opening since state log (history ++ entry ∷ []) failed) was
+        (inr (inr (inr (inl (record { entry = entry; seen = seen; rest = refl })))))
 
-      commits : (next : L) (new : Log D g) (entry : E) → IsAnsweredBy first Steps state next log new (Ok 0) → view next ≡ run (view state) entry
-          → Holds next new (history ++ entry ∷ [])
-      commits next new entry answered seen =
-          let images =
-          steps (on_log opening since state log history was.1.0) (on_log opening since next new (history ++ entry ∷ []) was.1.0) was.1.2
-          (inl (record { entry = entry; stores = answered.0; seen = seen; rest = refl })) in (
-            answered.1,
-            (
-              was.1.0,
-              λ db is.
-                  let clash : None ≡ Some db = sym (images.none_failed answered.0.ready) ∙ is in
-                  absurd cc,
-              images,
-            ),
-          )
-
-      moves : (next : L) (new : Log D g) → IsAnsweredBy first Steps state next log new (Ok 0) → view next ≡ view state → Holds next new history
-      moves next new answered seen = (
-        answered.1,
-        (
-          was.1.0,
-          λ db is. subst (λ (v : V). Next v db) (sym seen) (was.1.1 db is),
-          steps (on_log opening since state log history was.1.0) (on_log opening since next new history was.1.0) was.1.2
-              (inr (inl (record { stores = answered.0; seen = seen; rest = refl }))),
-        ),
-      )
-
-      stores_nothing : (new : Log D g) → StoresNothing first Steps log new → StandsOn first Steps state new → Holds state new history
-      stores_nothing new nothing on = (
-        on,
-        (
-          was.1.0,
-          was.1.1,
-          steps (on_log opening since state log history was.1.0) (on_log opening since state new history was.1.0) was.1.2
-              (inr (inr (inl (record { stores = nothing; rest = refl })))),
-        ),
-      )
-
-      fails : (other : L) (new : Log D g) → Next (view state) (view other) → Fails first Steps state other log new → StandsOn first Steps state new → Holds state new history
-      fails other new one failing on = (
-        on,
-        (
-          Some (view other),
-          λ db is. subst (Next (view state)) (same_Some (view other) db is) one,
-          steps (on_log opening since state log history was.1.0) (on_log opening since state new history (Some (view other))) was.1.2
-              (inr (inr (inr (inr (record { next = other; fails = failing; rest = refl }))))),
-        ),
-      )
-
-      refuses : (other : L) (new : Log D g) → Next (view state) (view other) → (error : AppendError) → IsAnsweredBy first Steps state other log new (Err error) → Holds state new history
-      refuses other new one DiskFault answered = fails other new one answered.0 answered.1
-      refuses other new one Memory answered =
-          ⊎_elim (λ nothing. stores_nothing new nothing answered.1) (λ failing. fails other new one failing answered.1) answered.0
-      refuses other new one (Halted faults) answered = stores_nothing new answered.0 answered.1
-      refuses other new one (TooLarge size) answered = stores_nothing new answered.0 answered.1
-      refuses other new one (LogFull end need) answered = stores_nothing new answered.0 answered.1
-
+    module _ (state : L) (log : Log D g) (history : List E) (failed : Option V) (was : Leaves opening since state log history failed) where
       -- a change that is not seen
-      pub stays : (next : L) (new : Log D g) → view next ≡ view state → IsChanged state next log new → Holds next new history
-      stays next new seen (inl same) =
-          subst (λ (to : L). Holds to new history) (sym same.0) (subst (λ (to : Log D g). Holds state to history) (sym same.1) was)
-      stays next new seen (inr (inl answered)) = moves next new answered seen
-      stays next new seen (inr (inr refused)) =
-          subst (λ (to : L). Holds to new history) (sym refused.0) (refuses refused.1.0 new refused.1.1 refused.1.2.0 refused.1.2.1)
+      pub stays : (next : L) (new : Log D g) (then : Option V) → view next ≡ view state → IsChanged state next log new failed then
+          → Leaves opening since next new history then
+      stays next new then seen (inl same) =
+          subst (λ (to : L). Leaves opening since to new history then) (sym same.0)
+          (subst (λ (to : Log D g). Leaves opening since state to history then) (sym same.1)
+          (subst (λ (to : Option V). Leaves opening since state log history to) (sym same.2) was))
+      stays next new then seen (inr (inl stored)) =
+          subst (λ (to : Option V). Leaves opening since next new history to) (sym stored.1)
+          (steps (on_log opening since state log history failed) (on_log opening since next new history failed) was
+          (inr (inl (record { stores = stored.0; seen = seen; rest = refl }))))
+      stays next new then seen (inr (inr (inl nothing))) =
+          subst (λ (to : L). Leaves opening since to new history then) (sym nothing.0)
+          (subst (λ (to : Option V). Leaves opening since state new history to) (sym nothing.2)
+          (steps (on_log opening since state log history failed) (on_log opening since state new history failed) was
+          (inr (inr (inl (record { stores = nothing.1; rest = refl }))))))
+      stays next new then seen (inr (inr (inr fails))) =
+          let other = fails.1.0 in
+          subst (λ (to : L). Leaves opening since to new history then) (sym fails.0)
+          (subst (λ (to : Option V). Leaves opening since state new history to) (sym fails.1.2)
+          (steps (on_log opening since state log history failed) (on_log opening since state new history (Some (view other))) was
+          (inr (inr (inr (inr (record { next = other; fails = fails.1.1; rest = refl })))))))
 
-    -- a change with which the history grows
-    pub grows : (state next : L) (log new : Log D g) (history : List E) (entry : E) → Holds state log history
-        → view next ≡ run (view state) entry → IsChanged state next log new → Holds next new (history ++ entry ∷ [])
-    grows state next log new history entry was seen (inl same) =
-        let still : run (view state) entry ≡ view state = sym seen ∙ ap view same.0 in
-        subst (λ (to : L). Holds to new (history ++ entry ∷ [])) (sym same.0)
-        (subst (λ (to : Log D g). Holds state to (history ++ entry ∷ [])) (sym same.1) (enters state log history was entry still))
-    grows state next log new history entry was seen (inr (inl answered)) = commits state log history was next new entry answered seen
-    grows state next log new history entry was seen (inr (inr refused)) =
-        let still : run (view state) entry ≡ view state = sym seen ∙ ap view refused.0 in
-        subst (λ (to : L). Holds to new (history ++ entry ∷ [])) (sym refused.0)
-        (enters state new history (refuses state log history was refused.1.0 new refused.1.1 refused.1.2.0 refused.1.2.1) entry still)
+      -- one with which the history grows
+      rests : (next : L) (new : Log D g) (then : Option V) (entry : E) → view next ≡ run (view state) entry → IsChanged state next log new failed then → next ≡ state
+          → Leaves opening since next new (history ++ entry ∷ []) then
+      rests next new then entry seen changed same =
+          enters next new history then entry (stays next new then (ap view same) changed) (ap (λ (s : L). run (view s) entry) same ∙ sym seen)
+
+      pub grows : (next : L) (new : Log D g) (then : Option V) (entry : E) → view next ≡ run (view state) entry → IsChanged state next log new failed then
+          → Leaves opening since next new (history ++ entry ∷ []) then
+      grows next new then entry seen (inl same) = rests next new then entry seen (inl same) same.0
+      grows next new then entry seen (inr (inl stored)) =
+          subst (λ (to : Option V). Leaves opening since next new (history ++ entry ∷ []) to) (sym stored.1)
+          (steps (on_log opening since state log history failed) (on_log opening since next new (history ++ entry ∷ []) failed) was
+          (inl (record { entry = entry; stores = stored.0; seen = seen; rest = refl })))
+      grows next new then entry seen (inr (inr (inl nothing))) = rests next new then entry seen (inr (inr (inl nothing))) nothing.0
+      grows next new then entry seen (inr (inr (inr fails))) = rests next new then entry seen (inr (inr (inr fails))) fails.0

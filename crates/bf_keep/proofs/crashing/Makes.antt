@@ -1,42 +1,31 @@
 -- What a change of a machine makes of the database.
-use Rattle.std.proofs.Common.{◌≡◌, inl, inr, ℕ, ◌+◌, ◌≤◌, List, [], ◌∷◌, ◌++◌, map, Option, None, Some, Result, Ok, Err, refl, sym, ◌∙◌, ap, subst}
+use Rattle.std.proofs.Common.{◌≡◌, ◌⊎◌, inl, inr, ℕ, ◌+◌, List, [], ◌∷◌, ◌++◌, map, Some, refl, sym, ◌∙◌, ap, subst}
 use Rattle.std.proofs.lemmas.List.{map-append}
-use Rattle.bf_disk.specs.declared.disk.Disk.{Ghosts}
-use Rattle.bf_journal.specs.Answered.{IsAnsweredBy}
-use Rattle.bf_journal.specs.Crashes.{replayed}
-use Rattle.bf_journal.specs.States.{MayLeave, StandsOn, moment_of}
-use Rattle.bf_journal.proofs.Runs.{replayed_more, whole}
-use Rattle.bf_log.specs.declared.error.AppendError.{AppendError}
-use Rattle.bf_log.specs.declared.error.AppendError.TheVariants as appends
-use Rattle.bf_log.specs.declared.log.Log.{Log}
-use Rattle.bf_machine.specs.declared.journal.KeepError.{KeepError}
+use Rattle.std.proofs.lemmas.Option.{same_Some}
 use Rattle.bf_base.specs.declared.granule.Granule.{Granule}
+use Rattle.bf_journal.specs.Crashes.{replayed}
+use Rattle.bf_journal.proofs.Runs.{replayed_more}
 use Rattle.bf_machine.specs.interleaving.Events.{IsToCommit, at_once, commits_behind, moves, one_more}
 use Rattle.bf_machine.specs.interleaving.Events as events
-use Rattle.bf_machine.specs.interleaving.Journals.{IsBeside, IsChangeOf, IsPutInto, Keeps, nothing_yet, one_beside}
+use Rattle.bf_machine.specs.interleaving.Journals.{IsChangeFor, IsChangeOf, IsMoveIn, IsPutInto}
 use Rattle.bf_machine.specs.interleaving.Kept.{IsKept}
-use Rattle.bf_machine.specs.interleaving.Machines.{Machine}
+use Rattle.bf_machine.specs.interleaving.Machines.{Machine, Open, open_at}
 use Rattle.bf_machine.proofs.interleaving.Ends.{would_make}
 use Rattle.bf_machine.proofs.interleaving.Reaching.{reached_keeps_all}
 use Rattle.bf_machine.proofs.interleaving.Texts.{are_texts}
-use Rattle.bf_machine.proofs.served.Keeping.{event_beside}
-use Rattle.bf_recover.specs.Legal.{first_state}
-use Rattle.bf_recover.specs.Steps.{StepsTo, entry_of, run_entry}
+use Rattle.bf_recover.specs.Steps.{entry_of, run_entry}
 use Rattle.bf_recover.proofs.Replaying.{runs_entries}
 use Rattle.bf_sql.specs.Database.{Database}
 use Rattle.bf_sql.specs.History as history
 use Rattle.bf_sql.specs.migrations.Lazy.{LazyState, view_of}
-use Rattle.bf_tree.specs.declared.history.Entry.{Entry}
 use Rattle.bf_store.specs.States.{AreGranulesIfAny, with_moved}
+use Rattle.bf_tree.specs.declared.history.Entry.{Entry}
 use Rattle.bf_tree.specs.declared.history.Outcome.{Outcome}
 use Rattle.bf_tree.specs.declared.history.Outcome.TheVariants.{Committed}
-use Rattle.bf_tree.specs.declared.script.Script.{Script}
+use Rattle.bf_tree.specs.declared.reply.Cause.{Cause}
 use Rattle.bf_tree.specs.declared.statement.Statement.{Statement}
-use Rattle.bf_keep.specs.Answers.{HasAnswered, IsKept as HasKept}
-use Rattle.bf_keep.specs.Crashing.{IsOneChange, IsOneGroup, Recovers}
-use Rattle.bf_keep.proofs.crashing.Changing.{IsChanged, grows, stays}
-use Rattle.bf_keep.proofs.crashing.Changing as changing
-use Rattle.bf_keep.proofs.crashing.Growing.{Grows, grows_by}
+use Rattle.bf_keep.specs.Answers.{MakesOf}
+use Rattle.bf_keep.specs.Crashing.{IsOneGroup}
 
 -- the entries of the history of a machine, each with the statements of its group
 abbrev pub entries : Machine → List (List Statement × Outcome)
@@ -71,3 +60,22 @@ move_unseen start m kept granules are =
     let next : Machine = record m { lazy = with_moved m.lazy granules } in
     let kept_next : IsKept start next = reached_keeps_all start m next kept (one_more at_once (moves granules (record { granules_of_it = are; goes = refl }))) in
     kept_next.store_valid.seen_as.view ∙ sym kept.store_valid.seen_as.view
+
+pub move_makes_nothing : (start : Database) (m : Machine) → IsKept start m → (other : LazyState) → IsMoveIn m.lazy other → view_of other ≡ view_of m.lazy
+move_makes_nothing start m kept other move = ap view_of move.2 ∙ move_unseen start m kept move.0 move.1
+
+-- a change makes what one group makes, or nothing
+pub one_makes : (start : Database) (m : Machine) → IsKept start m → (other : LazyState) → IsChangeOf m other → (view_of other ≡ view_of m.lazy) ⊎ IsOneGroup m.script (view_of m.lazy) (view_of other)
+one_makes start m kept other (s, inl own) =
+    inr (own_entry m s own.0, (kept.open_groups_replay.each s own.0.o own.0.is).whole, group_is_one start m kept s own.0 other own.1)
+one_makes start m kept other (s, inr move) = inl (move_makes_nothing start m kept other move)
+
+-- and for an open group what that makes, or nothing
+pub makes_of : (start : Database) (m : Machine) → IsKept start m → (s : ℕ) (o : Open) → open_at m s ≡ Some o → (cause : Cause) (other : LazyState) → IsChangeFor m s other
+    → MakesOf m.script (record { session = s; group = o.group; cause = cause }) (view_of m.lazy) (view_of other)
+makes_of start m kept s o is cause other (inl own) =
+    let can = own.0 in
+    let same : can.o ≡ o = same_Some can.o o (sym can.is ∙ is) in
+    subst (λ (p : Open). MakesOf m.script (record { session = s; group = p.group; cause = cause }) (view_of m.lazy) (view_of other)) same
+    (inr (commits_behind 0 m.history + 1, group_is_one start m kept s can other own.1))
+makes_of start m kept s o is cause other (inr move) = inl (move_makes_nothing start m kept other move)

@@ -1,5 +1,11 @@
+use Rattle.bf_keep.specs.Answers.{HasAnswered}
+use Rattle.bf_keep.specs.declared.log_journal.LogJournal.{LogJournal}
 use Rattle.bf_keep.proofs.Ending.{events_told}
+use Rattle.bf_keep.proofs.Replied.{told_their_causes}
 use Rattle.bf_keep.proofs.laws.what_ends_groups_is_told.Goals as goal
 
-pub returns : goal.returns
-returns g c = λ start m next j k keeps ready. events_told (λ j. j.log) start m j next k keeps ready
+pub returns-clause-causes : goal.returns-clause-causes
+returns-clause-causes g c = λ start m next j k keeps ready. events_told (λ j. j.log) start m j next k keeps ready
+
+pub returns-clause-replies : goal.returns-clause-replies
+returns-clause-replies g c = λ start m next j k keeps kept. told_their_causes (λ lazy next (old : LogJournal g.row.D.Denot g.D.Disk) new answer. HasAnswered lazy next old.log new.log answer) start m j next k kept keeps

@@ -1,4 +1,4 @@
-use Rattle.std.proofs.Common.{◌≡◌, ℕ, List, Some, inl, inr, refl, sym, subst, arith}
+use Rattle.std.proofs.Common.{List, inl, inr, refl, sym, subst, arith}
 use Rattle.std.specs.Prelude.{Result, Ok, Err, OnErr}
 use Rattle.bf_disk.specs.Images.{OnlyRead}
 use Rattle.std.proofs.lemmas.Result.{IfOk-weaker}
@@ -7,7 +7,6 @@ use Rattle.bf_sql.specs.migrations.Lazy.{LazyState, view_of}
 use Rattle.bf_tree.specs.declared.history.Entry.{Entry}
 use Rattle.bf_machine.specs.interleaving.Machines.{EndedGroup}
 use Rattle.bf_run.specs.declared.status.Status.{Status}
-use Rattle.bf_run.specs.Keeping.{IsKept}
 use Rattle.bf_run.specs.Top.{HoldsOver, IsOpened, ServedOn}
 use Rattle.bf_run.specs.Untold.{IsUntold}
 use Rattle.bf_run.proofs.Running.{if_told, not_opened, opened_to, served}
@@ -35,10 +34,12 @@ returns-in-Ok-clause-told g c =
           (opened_to Disk.seen Disk.may_leave Disk.moment Disk.left_since Disk.fault_count c.args.script disk now lazy opened.gives),
       if_told (Disk.seen now) _
           (λ file told. record {
-            opened = Disk.moment c.in-Ok.log.disk;
-            later = opened.later;
-            since_opening = is.1 (Disk.moment c.in-Ok.log.disk) (omega arith) opened.alone file told;
-            since_start = λ before seen only. is.1 (Disk.moment disk) opened.later (opened.since_start before seen only) file told;
+            opened = c.in-Ok.log.disk;
+            read = c.in-Ok.ensures.disk;
+            failed = is.1.0;
+            failed_is = is.1.1;
+            since_opening = is.1.2 (Disk.moment c.in-Ok.log.disk) (omega arith, opened.alone) file told;
+            since_start = λ before seen only. is.1.2 (Disk.moment disk) (opened.later, opened.since_start before seen only) file told;
           }),
       is.2,
       is.3,
@@ -77,10 +78,12 @@ returns-in-Ok-clause-untold g c =
         groups = run.1;
         kept = if_told (Disk.seen now) _
             (λ file told. record {
-              opened = Disk.moment c.in-Ok.log.disk;
-              later = opened.later;
-              since_opening = run.2 (Disk.moment c.in-Ok.log.disk) (omega arith) opened.alone file told;
-              since_start = λ before seen only. run.2 (Disk.moment disk) opened.later (opened.since_start before seen only) file told;
+              opened = c.in-Ok.log.disk;
+              read = c.in-Ok.ensures.disk;
+              failed = run.2.0;
+              failed_is = run.2.1;
+              since_opening = run.2.2 (Disk.moment c.in-Ok.log.disk) (omega arith, opened.alone) file told;
+              since_start = λ before seen only. run.2.2 (Disk.moment disk) (opened.later, opened.since_start before seen only) file told;
             });
       })
     ])
@@ -88,6 +91,3 @@ returns-in-Ok-clause-untold g c =
 
 pub returns-in-Err-clause-untold : goal.returns-in-Err-clause-untold
 returns-in-Err-clause-untold g c = on_err c.tell_open_error.result (inl (inr c.in-Err.ensures.disk))
-
-pub serve_over-requires-clause-alone : goal.serve_over-requires-clause-alone
-serve_over-requires-clause-alone g c = c.in-Ok.ensures.reopened.alone

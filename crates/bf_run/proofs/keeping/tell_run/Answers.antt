@@ -5,15 +5,12 @@ use Rattle.std.proofs.lemmas.Bool.Decides.{nat_tests}
 use Rattle.bf_tree.specs.declared.script.Script.{Script}
 use Rattle.bf_sql.specs.migrations.Lazy.{sweep_of}
 use Rattle.bf_text.specs.Report.{report_text}
-use Rattle.bf_keep.specs.Answers.{AreSizesOf, HasAnswered}
+use Rattle.bf_keep.specs.Answers.{AreSizesOf, AreToldTheirCauses, HasAnswered}
 use Rattle.bf_keep.specs.Crashing.{KeepsOnLog, ended_on_log}
 use Rattle.bf_keep.specs.Sayable.{IsSayableScript}
 use Rattle.bf_keep.specs.declared.log_journal.LogJournal.{LogJournal}
 use Rattle.bf_machine.specs.RunOver.{IsRunOver}
 use Rattle.bf_machine.specs.interleaving.Kept.{IsKept, fresh}
-use Rattle.bf_journal.specs.States.{StandsOn, moment_of}
-use Rattle.bf_recover.specs.Legal.{first_state}
-use Rattle.bf_recover.specs.Steps.{StepsTo}
 use Rattle.bf_machine.specs.interleaving.Machines.{Machine, transcripts_of}
 use Rattle.bf_run.specs.Causes.{AreCaused}
 use Rattle.bf_run.specs.Keeping.{IsGivenBy, KeepsOn}
@@ -21,7 +18,7 @@ use Rattle.bf_run.specs.Outcome.{IsRunTold}
 use Rattle.bf_run.specs.Top.{ServedOn}
 use Rattle.bf_run.specs.declared.status.Status.TheVariants.{Done, DiskFault}
 use Rattle.bf_run.proofs.Caused.{caused}
-use Rattle.bf_run.proofs.Kept.{given_at_done, given_at_fault, keeps_at_done, keeps_at_fault, ready_if, recovered}
+use Rattle.bf_run.proofs.Kept.{given_at_done, given_at_fault, keeps_at_done, keeps_at_fault, not_spent_if, ready_if, recovered}
 use Rattle.bf_run.proofs.Served.{ran_over}
 use Rattle.bf_run.proofs.Untold.{broken_off, kept_behind, run_with_last}
 use Rattle.bf_run.proofs.keeping.tell_run.Goals as goal
@@ -47,20 +44,23 @@ returns-then-faults-clause-served g c =
     let ended = ended_on_log keeps_all in
     let ran = ran_over (λ lazy next (old : LogJournal g.row.D.Denot g.D.Disk) new answer. HasAnswered lazy next old.log new.log answer) g.N.Opened.logged opening c.args.store script 15 m now c.args.journal.now c.in_order.new.journal keeps_all
     c.sessions_that_have_ended_ran_over.ensures new c.session_count.ensures.kept c.in_ok-in_order.ensures.answered (c.in_ok-in_order.ensures.no_death refl) in
-    let told_causes = c.what_ends_groups_is_told.ensures opening m now c.args.journal.now c.in_order.new.journal keeps_all c.requires.ready in
+    let told_causes = c.what_ends_groups_is_told.ensures.causes opening m now c.args.journal.now c.in_order.new.journal keeps_all c.requires.ready in
     let own : now.script ≡ script = sym c.script.ensures.script ∙ c.script.ensures.opened ∙ sym c.requires.script in
+    let replied : AreToldTheirCauses script (transcripts_of now) ended =
+    subst (λ (k : Script). AreToldTheirCauses k (transcripts_of now) ended) own
+    (c.what_ends_groups_is_told.ensures.replies opening m now c.args.journal.now c.in_order.new.journal keeps_all c.session_count.ensures.kept) in
     let same : m.lazy ≡ lazy = ap (λ (k : Machine). k.lazy) new in
     let recovers = recovered {g = g.D.Disk} opening lazy m now c.args.journal.now c.in_order.new.journal same c.session_count.ensures.kept c.requires.stands keeps_all
     c.every_crash_leaves_a_prefix.ensures.whole in
-    let keeps = subst (λ (k : Script). KeepsOn lazy log last.disk DiskFault k opening now.history) own (keeps_at_fault opening lazy now log last recovers) in
+    let kept_now : IsKept opening now = kept_behind {g = g.D.Disk} opening m now c.args.journal.now c.in_order.new.journal c.session_count.ensures.kept keeps_all in
+    let taken = not_spent_if last.standing (sym c.if-is_given_up.false ∙ c.is_given_up.ensures) in
+    let keeps = subst (λ (k : Script). KeepsOn lazy log last.disk DiskFault k opening now.history ended) own (keeps_at_fault opening lazy now log last kept_now ended recovers taken) in
     let sizes : AreSizesOf opening script now.history ended =
     subst (λ (k : Script). AreSizesOf opening k now.history ended) own (c.a_group_that_is_too_large_has_a_record_so_large.ensures opening m now c.args.journal.now c.in_order.new.journal keeps_all c.session_count.ensures.kept) in
-    let causes : AreCaused opening script now.history (g.D.Disk.seen last.disk) DiskFault ended = caused {g = g.D.Disk} last opening script now.history ended told_causes sizes DiskFault (λ is. absurd cc) in
-    let kept_now : IsKept opening now = kept_behind {g = g.D.Disk} opening m now c.args.journal.now c.in_order.new.journal c.session_count.ensures.kept keeps_all in
-    let stands : StandsOn first_state StepsTo now.lazy last = (recovers (moment_of log) (omega arith) c.requires.alone).stands in
+    let causes : AreCaused opening script now.history (g.D.Disk.seen last.disk) (g.D.Disk.fault_count last.disk) DiskFault ended = caused {g = g.D.Disk} last opening script now.history ended told_causes sizes DiskFault (λ is. absurd cc) in
     let over : IsRunOver opening script ended (transcripts_of now) now.history (sweep_of now.lazy.last) =
     run_with_last opening script now ended own kept_now ran in
-    let given : IsGivenBy g.D.Disk.seen g.D.Disk.may_leave DiskFault last.disk now.lazy = given_at_fault {g = g.D.Disk} now.lazy last stands in
+    let given : IsGivenBy g.D.Disk.seen g.D.Disk.may_leave DiskFault last.disk now.lazy = given_at_fault {g = g.D.Disk} now.lazy last recovers.stands in
     let parts = c.into_parts-parts.ensures in
     let swept = c.sweep-sweep.ensures in
     let told : IsRunTold (ServedOn opening lazy log last.disk DiskFault script) script c.in_ok-text.text.items = record {
@@ -70,6 +70,7 @@ returns-then-faults-clause-served g c =
       ended = ended;
       sweep = sweep_of now.lazy.last;
       is_run = over;
+      told = replied;
       holds = (refl, keeps, causes, given);
       report_written = c.in_ok-text.ensures ∙ (λ i. report_text (parts.transcripts i) (parts.history i) None (swept i));
     } in
@@ -89,20 +90,23 @@ returns-then-is_ready-clause-served g c =
     let ended = ended_on_log keeps_all in
     let ran = ran_over (λ lazy next (old : LogJournal g.row.D.Denot g.D.Disk) new answer. HasAnswered lazy next old.log new.log answer) g.N.Opened.logged opening c.args.store script 15 m now c.args.journal.now c.in_order.new.journal keeps_all
     c.sessions_that_have_ended_ran_over.ensures new c.session_count.ensures.kept c.in_ok-in_order.ensures.answered (c.in_ok-in_order.ensures.no_death refl) in
-    let told_causes = c.what_ends_groups_is_told.ensures opening m now c.args.journal.now c.in_order.new.journal keeps_all c.requires.ready in
+    let told_causes = c.what_ends_groups_is_told.ensures.causes opening m now c.args.journal.now c.in_order.new.journal keeps_all c.requires.ready in
     let own : now.script ≡ script = sym c.script.ensures.script ∙ c.script.ensures.opened ∙ sym c.requires.script in
+    let replied : AreToldTheirCauses script (transcripts_of now) ended =
+    subst (λ (k : Script). AreToldTheirCauses k (transcripts_of now) ended) own
+    (c.what_ends_groups_is_told.ensures.replies opening m now c.args.journal.now c.in_order.new.journal keeps_all c.session_count.ensures.kept) in
     let same : m.lazy ≡ lazy = ap (λ (k : Machine). k.lazy) new in
     let recovers = recovered {g = g.D.Disk} opening lazy m now c.args.journal.now c.in_order.new.journal same c.session_count.ensures.kept c.requires.stands keeps_all
     c.every_crash_leaves_a_prefix.ensures.whole in
-    let keeps = subst (λ (k : Script). KeepsOn lazy log last.disk Done k opening now.history) own (keeps_at_done opening lazy now log last recovers (ready_if last.standing (sym c.if-is_ready.true ∙ c.is_ready.ensures))) in
+    let kept_now : IsKept opening now = kept_behind {g = g.D.Disk} opening m now c.args.journal.now c.in_order.new.journal c.session_count.ensures.kept keeps_all in
+    let ready = ready_if last.standing (sym c.if-is_ready.true ∙ c.is_ready.ensures) in
+    let keeps = subst (λ (k : Script). KeepsOn lazy log last.disk Done k opening now.history ended) own (keeps_at_done opening lazy now log last kept_now ended recovers ready) in
     let sizes : AreSizesOf opening script now.history ended =
     subst (λ (k : Script). AreSizesOf opening k now.history ended) own (c.a_group_that_is_too_large_has_a_record_so_large.ensures opening m now c.args.journal.now c.in_order.new.journal keeps_all c.session_count.ensures.kept) in
-    let causes : AreCaused opening script now.history (g.D.Disk.seen last.disk) Done ended = caused {g = g.D.Disk} last opening script now.history ended told_causes sizes Done (λ _. ready_if last.standing (sym c.if-is_ready.true ∙ c.is_ready.ensures)) in
-    let kept_now : IsKept opening now = kept_behind {g = g.D.Disk} opening m now c.args.journal.now c.in_order.new.journal c.session_count.ensures.kept keeps_all in
-    let stands : StandsOn first_state StepsTo now.lazy last = (recovers (moment_of log) (omega arith) c.requires.alone).stands in
+    let causes : AreCaused opening script now.history (g.D.Disk.seen last.disk) (g.D.Disk.fault_count last.disk) Done ended = caused {g = g.D.Disk} last opening script now.history ended told_causes sizes Done (λ _. ready) in
     let over : IsRunOver opening script ended (transcripts_of now) now.history (sweep_of now.lazy.last) =
     run_with_last opening script now ended own kept_now ran in
-    let given : IsGivenBy g.D.Disk.seen g.D.Disk.may_leave Done last.disk now.lazy = given_at_done {g = g.D.Disk} now.lazy last stands (ready_if last.standing (sym c.if-is_ready.true ∙ c.is_ready.ensures)) in
+    let given : IsGivenBy g.D.Disk.seen g.D.Disk.may_leave Done last.disk now.lazy = given_at_done {g = g.D.Disk} now.lazy last recovers.stands ready in
     let parts = c.into_parts-parts.ensures in
     let swept = c.sweep-sweep.ensures in
     let told : IsRunTold (ServedOn opening lazy log last.disk Done script) script c.in_ok-text.text.items = record {
@@ -112,6 +116,7 @@ returns-then-is_ready-clause-served g c =
       ended = ended;
       sweep = sweep_of now.lazy.last;
       is_run = over;
+      told = replied;
       holds = (refl, keeps, causes, given);
       report_written = c.in_ok-text.ensures ∙ (λ i. report_text (parts.transcripts i) (parts.history i) None (swept i));
     } in
@@ -135,6 +140,14 @@ returns-in_err-text-clause-broken_off g c =
 
 pub returns-else-is_ready-clause-broken_off : goal.returns-else-is_ready-clause-broken_off
 returns-else-is_ready-clause-broken_off g c =
+    let script : Script = c.args.script in
+    let m : Machine = c.in_ok-machine.machine in
+    let new : m ≡ fresh g.N.Opened.logged c.args.store script 15 = c.in_ok-machine.ensures in
+    broken_off {g = g.D.Disk} g.N.Opened.opening c.args.store.lazy script m c.in_order.new.machine c.args.journal.now c.in_order.new.journal
+    (ap (λ (k : Machine). k.script) new) (ap (λ (k : Machine). k.lazy) new) c.session_count.ensures.kept c.requires.stands c.in_order.ensures.keeps c.every_crash_leaves_a_prefix.ensures.whole
+
+pub returns-then-is_given_up-clause-broken_off : goal.returns-then-is_given_up-clause-broken_off
+returns-then-is_given_up-clause-broken_off g c =
     let script : Script = c.args.script in
     let m : Machine = c.in_ok-machine.machine in
     let new : m ≡ fresh g.N.Opened.logged c.args.store script 15 = c.in_ok-machine.ensures in

@@ -15,7 +15,7 @@ returns-in-Err-clause-answers g c = (
   (
     Err c.in-Err.error,
     c.in-Err.ensures.appended _ _ c.change_of.ensures,
-    subst (λ (why : KeepError). IsToldAs (Err c.in-Err.error) (Err why)) (sym c.keep_error.ensures) (is_told_as c.in-Err.error),
+    subst (λ (why : KeepError). IsToldAs c.args.store.now.lazy (put_into c.args.store.now.lazy (pending_seen c.args.pending.now)) (Err c.in-Err.error) (Err why)) (sym c.keep_error.ensures) (is_told_as _ _ c.in-Err.error),
   ),
   subst (λ (why : KeepError). GoesOn {g = g.D.Disk} c.args.self.now.log c.append.new.self.log (Err why)) (sym c.keep_error.ensures) c.in-Err.ensures.goes_on,
   subst (λ (why : KeepError). IsSizeTold c.args.store.now.lazy (put_into c.args.store.now.lazy (pending_seen c.args.pending.now)) (Err why)) (sym c.keep_error.ensures) (c.in-Err.ensures.sized c.args.store.now.lazy (put_into c.args.store.now.lazy (pending_seen c.args.pending.now)) c.change_of.ensures),
