@@ -25,6 +25,8 @@ from pathlib import Path
 PROGRAM = Path(__file__).resolve().parent.parent / "crates/bullfrog/out/bullfrog"
 ROUNDS = 5
 ROWS = [1_000, 10_000, 100_000, 1_000_000]
+# A script has 16 MiB at most, so this many rows have shorter values, and more of them a group and a joined row.
+MANY = 1_000_000
 A_STATEMENT = 1_000
 
 
@@ -49,7 +51,8 @@ class Split:
 
     def fill(self, size):
         rng = random.Random(size)
-        return inserts("customer", [f"({key},'n{key}',{rng.randrange(9999)})" for key in rng.sample(range(size), size)])
+        name, most = ("n", 9) if size == MANY else ("n{}", 9999)
+        return inserts("customer", [f"({key},'{name.format(key)}',{rng.randrange(most)})" for key in rng.sample(range(size), size)])
 
     def first(self, size, at):
         return f"SELECT * FROM public WHERE id = {size // 2 + at};"
@@ -70,10 +73,11 @@ class Totals:
 
     def fill(self, size):
         rng = random.Random(size)
-        return inserts("line", [f"({key},{key % (size // 4)},{rng.randrange(99)})" for key in rng.sample(range(size), size)])
+        orders, most = (size // 20, 9) if size == MANY else (size // 4, 99)
+        return inserts("line", [f"({key},{key % orders},{rng.randrange(most)})" for key in rng.sample(range(size), size)])
 
     def first(self, size, at):
-        return f"SELECT * FROM total WHERE ord = {size // 8 + at};"
+        return f"SELECT * FROM total WHERE ord = {size // 40 + at};"
 
 
 class Joined:
@@ -95,9 +99,9 @@ class Joined:
 
     def fill(self, size):
         rng = random.Random(size)
-        stock = size // 10
+        stock, most = (size // 1000, 9) if size == MANY else (size // 10, 99)
         return inserts("stock", [f"({key},'n{key}')" for key in range(stock)]) + inserts(
-            "line", [f"({key},{rng.randrange(stock)},{rng.randrange(99)})" for key in rng.sample(range(size), size)]
+            "line", [f"({key},{rng.randrange(stock)},{rng.randrange(most)})" for key in rng.sample(range(size), size)]
         )
 
     def first(self, size, at):
