@@ -14,16 +14,16 @@ everything is timed, the least processor time of some rounds, and `all` is its r
 `--quick` the two smallest sizes are tried.
 """
 
-import os
 import random
 import re
+import resource
 import subprocess
 import sys
 import tempfile
 from pathlib import Path
 
 PROGRAM = Path(__file__).resolve().parent.parent / "crates/bullfrog/out/bullfrog"
-ROUNDS = 5
+ROUNDS = 15
 ROWS = [1_000, 10_000, 100_000, 1_000_000]
 # A script has 16 MiB at most, so this many rows have shorter values, and more of them a group and a joined row.
 MANY = 1_000_000
@@ -165,10 +165,10 @@ def rows_of(output, is_ours):
 
 def run(words, script):
     """What it printed, and the processor time that it took."""
-    before = os.times()
+    before = resource.getrusage(resource.RUSAGE_CHILDREN)
     ran = subprocess.run(words, input=script, capture_output=True, check=True)
-    after = os.times()
-    return ran.stdout, after.children_user + after.children_system - before.children_user - before.children_system
+    after = resource.getrusage(resource.RUSAGE_CHILDREN)
+    return ran.stdout, after.ru_utime + after.ru_stime - before.ru_utime - before.ru_stime
 
 
 def instructions(words, script, folder):
@@ -186,8 +186,12 @@ def measure(kind, size, programs, folder):
     count = lambda at, name: instructions(programs[at], both[name][at], folder)
     fill, first, further = (count(0, name) for name in ("fill", "first", "further"))
     eager = count(1, "first") - count(1, "fill")
-    time = lambda at, name: min(run(programs[at], both[name][at])[1] for _ in range(ROUNDS))
-    moved = [time(at, "all") - time(at, "fill") for at in (0, 1)]
+    # Each round runs all four, so that what else the machine does falls on all of them.
+    least = {(at, name): float("inf") for at in (0, 1) for name in ("fill", "all")}
+    for _ in range(ROUNDS):
+        for at, name in least:
+            least[at, name] = min(least[at, name], run(programs[at], both[name][at])[1])
+    moved = [least[at, "all"] - least[at, "fill"] for at in (0, 1)]
     print(
         f"{kind.name:28}{size:>10,}{first - fill:>14,}{further - first:>12,}{eager / max(first - fill, 1):>10,.0f}"
         f"{moved[0]:>10.3f}{moved[1]:>10.3f}{moved[0] / max(moved[1], 0.001):>8.2f}",
