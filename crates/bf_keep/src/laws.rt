@@ -1,6 +1,7 @@
 //! Laws of crashes of a machine beside its log, as contracts of functions that do nothing.
 
 ghost use Rattle.std.specs.Prelude.{◌≡◌, ◌++◌, [], List};
+ghost use Rattle.bf_journal.specs.Leaving.{LeavesAlone};
 ghost use Rattle.bf_journal.specs.States.{StandsOn};
 ghost use Rattle.bf_log.specs.declared.log.Log.{Log as LogOf};
 ghost use Rattle.bf_machine.specs.interleaving.Kept.{IsKept};
@@ -8,35 +9,34 @@ ghost use Rattle.bf_machine.specs.interleaving.Machines.{EndedGroup, Machine, tr
 ghost use Rattle.bf_recover.specs.Legal.{first_state};
 ghost use Rattle.bf_recover.specs.Steps.{StepsTo};
 ghost use Rattle.bf_sql.specs.Database.{Database};
-ghost use Rattle.bf_sql.specs.migrations.Lazy.{LazyState};
 ghost use Rattle.bf_log.specs.Append.{standing_of};
 ghost use Rattle.bf_log.specs.declared.log.Standing.TheVariants.{Ready};
 ghost use Rattle.bf_keep.specs.Answers.{AreSizesOf, AreToldTheirCauses, CausesMatchLog};
-ghost use Rattle.bf_keep.specs.Crashing.{IsAloneSince, KeepsOnLog, Recovers, ended_on_log};
+ghost use Rattle.bf_keep.specs.Crashing.{KeepsOnLog, Recovers, ended_on_log};
 ghost use Rattle.bf_keep.specs.declared.log_journal.LogJournal.{LogJournal as JournalOf};
 
 use bf_disk::Disk;
 use std::marker::PhantomData;
 
 /// Every crash of a machine beside its log leaves the database after a prefix of its history. Where the state of the
-/// store stands on the log, this holds at the begin, since each moment since when a crash has left that state alone; and
-/// it holds behind each event, whatever the log has answered: an image that a crash now may leave reopens to the
-/// database, and one that a crash since then might have left to the database after a prefix of the history; or either to
-/// what the one change that failed would have made, which is that of a group that was told so, of a move, or of a log
-/// that was given up.
+/// store stands on the log, and a crash leaves it alone, this holds at the begin; and it holds behind each event,
+/// whatever the log has answered: an image that a crash now may leave reopens to the database, and one that a crash
+/// since the begin might have left to the database after a prefix of the history; or either to what the one change that
+/// failed would have made, which is that of a group that was told so, of a move, or of a log that was given up. One that
+/// a crash since an earlier moment might have left is such a one too, or reopens to what one could that might have been
+/// left since then at the begin.
 pub fn every_crash_leaves_a_prefix<D: Disk>(_of: PhantomData<D>)
     ensures begins { (start : Database) (m : Machine) (log : LogOf D D.Disk)
         → IsKept start m → StandsOn first_state StepsTo m.lazy log
-        → Recovers start (IsAloneSince m.lazy log) [] m log }
+        → LeavesAlone first_state StepsTo m.lazy log → Recovers log start [] m log }
     ensures goes_on { (start : Database) (m next : Machine) (j k : JournalOf D D.Disk)
-        (lazy : LazyState) (opened : LogOf D D.Disk) (ended : List EndedGroup)
-        (keeps : KeepsOnLog start m j next k) → IsKept start m
-        → Recovers start (IsAloneSince lazy opened) ended m j.log
-        → Recovers start (IsAloneSince lazy opened) (ended ++ ended_on_log keeps) next k.log }
+        (opened : LogOf D D.Disk) (ended : List EndedGroup) (keeps : KeepsOnLog start m j next k)
+        → IsKept start m → Recovers opened start ended m j.log
+        → Recovers opened start (ended ++ ended_on_log keeps) next k.log }
     ensures whole { (start : Database) (m next : Machine) (j k : JournalOf D D.Disk)
         (keeps : KeepsOnLog start m j next k) → IsKept start m
-        → StandsOn first_state StepsTo m.lazy j.log
-        → Recovers start (IsAloneSince m.lazy j.log) (ended_on_log keeps) next k.log }
+        → StandsOn first_state StepsTo m.lazy j.log → LeavesAlone first_state StepsTo m.lazy j.log
+        → Recovers j.log start (ended_on_log keeps) next k.log }
 {}
 
 /// Whatever the events beside a log that takes records: each group that it has ended is told what the log can tell, with

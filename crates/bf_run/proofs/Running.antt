@@ -17,7 +17,7 @@ use Rattle.bf_tree.specs.declared.script.Script.{Script}
 use Rattle.bf_machine.specs.interleaving.Machines.{EndedGroup}
 use Rattle.bf_run.specs.declared.status.Status.{Status}
 use Rattle.bf_run.specs.declared.status.Status.TheVariants.{Done, Usage, Script as ScriptError, ReadFault, WriteFault, DiskFault, NotALog, NotEmpty, Memory}
-use Rattle.bf_run.specs.Causes.{AreCaused, AreCausedIn, CausesEnds}
+use Rattle.bf_run.specs.Causes.{AreCaused, AreOfHeld, CausesEnds}
 use Rattle.bf_run.specs.Creating.{CountsNone, CountsOne, Shelving, WhereHeld}
 use Rattle.bf_run.specs.Keeping.{GivesSweep, IsGivenBy, IsGivenHeld, KeepsFile, KeepsHeld, KeepsLog}
 use Rattle.bf_run.specs.Outcome.{ComesOfLog, RunClaim, HoldsAsked, IsRunTold}
@@ -120,15 +120,20 @@ module _ {V : Type 0} (shelf : Shelving V) (path : List ℕ) (mid : Option (ByPa
       kept (Some old) (Some mid) None away back = absurd back
 
   keeps_log : (status : Status) (script : Script) (start : Database) (history : List Entry) (ended : List EndedGroup)
-      → IfTold (shelf.seen now) (λ file. KeepsFile shelf.seen shelf.may_leave shelf.moment shelf.left_since disk now status script start history ended)
+      → IfTold (shelf.seen now) (λ file. KeepsFile shelf.may_leave shelf.moment shelf.left_since disk now status script start history ended)
       → KeepsLog shelf path status script start history ended
   keeps_log status script start history ended kept = where_held shelf.seen shelf.may_leave path disk now (KeepsHeld shelf status script start history ended)
       shelf.held mid shelf.held_after given away back (λ was held. (disk, now, held, refl, kept))
 
   -- the groups that the log has ended
   caused : (status : Status) (script : Script) (start : Database) (history : List Entry) (ended : List EndedGroup) → AreCaused start script history (shelf.seen now) (shelf.disk_faults now) status ended → CausesEnds shelf path status script start history ended
-  caused status script start history ended are = where_held shelf.seen shelf.may_leave path disk now (λ old new. AreCausedIn shelf status script start history ended new)
-      shelf.held mid shelf.held_after given away back (λ was held. (now, refl, are))
+  caused status script start history ended are = (
+    shelf.seen now,
+    shelf.disk_faults now,
+    are,
+    where_held shelf.seen shelf.may_leave path disk now (λ old new. AreOfHeld shelf (shelf.seen now) (shelf.disk_faults now) new)
+        shelf.held mid shelf.held_after given away back (λ was held. (now, refl, refl, refl)),
+  )
 
   -- the state whose sweep is told
   gives : (status : Status) (last : LazyState) → IsGivenBy shelf.seen shelf.may_leave status now last → GivesSweep shelf path status last

@@ -1,9 +1,10 @@
 -- A run over a log that ended for want of memory.
 use Rattle.std.proofs.Common.{◌≡◌, List, [], inr, refl, subst, ◌∙◌}
 use Rattle.bf_disk.specs.declared.disk.Disk.{Ghosts}
+use Rattle.bf_journal.specs.Leaving.{LeavesAlone}
 use Rattle.bf_journal.specs.States.{StandsOn}
 use Rattle.bf_keep.specs.Answers.{HasAnswered}
-use Rattle.bf_keep.specs.Crashing.{IsAloneSince, KeepsOnLog, Recovers, ended_on_log}
+use Rattle.bf_keep.specs.Crashing.{AreGroupsInOrder, KeepsOnLog, Recovers, ended_on_log}
 use Rattle.bf_keep.specs.declared.log_journal.LogJournal.{LogJournal}
 use Rattle.bf_machine.specs.interleaving.Events.{Reaches}
 use Rattle.bf_machine.specs.interleaving.Kept.{IsKept}
@@ -21,7 +22,7 @@ use Rattle.bf_sql.specs.migrations.Lazy.{LazyState, sweep_of, view_of}
 use Rattle.bf_tree.specs.Answered.{IsAllAnswered}
 use Rattle.bf_tree.specs.declared.script.Script.{Script}
 use Rattle.bf_run.specs.Keeping.{KeepsOn}
-use Rattle.bf_run.specs.Untold.{AreGroupsInOrder, IsBrokenOffOn}
+use Rattle.bf_run.specs.Untold.{IsBrokenOffOn}
 use Rattle.bf_run.specs.declared.status.Status.TheVariants.{Memory}
 use Rattle.bf_run.proofs.Kept.{keeps_at_memory, recovered}
 
@@ -43,18 +44,18 @@ run_with_last opening script now ended own kept ran = record {
 }
 
 pub broken_off : {D : Type 0} {g : Ghosts D} (opening : Database) (lazy : LazyState) (script : Script) (m now : Machine) (j k : LogJournal D g) → m.script ≡ script → m.lazy ≡ lazy
-    → IsKept opening m → StandsOn first_state StepsTo lazy j.log → KeepsOnLog opening m j now k
+    → IsKept opening m → StandsOn first_state StepsTo lazy j.log → LeavesAlone first_state StepsTo lazy j.log → KeepsOnLog opening m j now k
     → ((start : Database) (m next : Machine) (j k : LogJournal D g) (keeps : KeepsOnLog start m j next k) → IsKept start m → StandsOn first_state StepsTo m.lazy j.log
-    → Recovers start (IsAloneSince m.lazy j.log) (ended_on_log keeps) next k.log)
-    → IsBrokenOffOn opening lazy j.log k.log.disk script
-broken_off {D = D} {g = g} opening lazy script m now j k of_script same kept stands keeps law =
+    → LeavesAlone first_state StepsTo m.lazy j.log → Recovers j.log start (ended_on_log keeps) next k.log)
+    → IsBrokenOffOn opening j.log k.log.disk script
+broken_off {D = D} {g = g} opening lazy script m now j k of_script same kept stands alone keeps law =
     let reach : Reaches opening m now = keeps_reach (λ lazy next (old : LogJournal D g) new answer. HasAnswered lazy next old.log new.log answer) opening m j now k keeps in
     let kept_now : IsKept opening now = reached_keeps_all opening m now kept reach in
     let own : now.script ≡ script = reached_script opening m now reach ∙ of_script in
     let legal = kept_now.history_legal.legal in
-    let recovers = recovered opening lazy m now j k same kept stands keeps law in
+    let recovers = recovered opening lazy m now j k same kept stands alone keeps law in
     inr (
       now.history,
       subst (λ (s : Script). AreGroupsInOrder s now.history) own (legal.whole_groups, legal.in_order),
-      subst (λ (s : Script). KeepsOn lazy j.log k.log.disk Memory s opening now.history []) own (keeps_at_memory opening lazy now j.log k.log kept_now (ended_on_log keeps) recovers),
+      subst (λ (s : Script). KeepsOn j.log k.log.disk Memory s opening now.history []) own (keeps_at_memory opening now j.log k.log kept_now (ended_on_log keeps) recovers),
     )

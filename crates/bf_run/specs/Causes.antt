@@ -13,8 +13,8 @@ use Rattle.bf_run.specs.Creating.{Shelving, WhereHeld}
 use Rattle.bf_run.specs.declared.status.Status.{Status}
 use Rattle.bf_run.specs.declared.status.Status.TheVariants.{Done}
 
--- what a group can be told by a log with this file, whose disk has counted so many faults: that count, where the log has halted; that end of
--- the file's log from which on a record would need more than a log comes to take; or more bytes than the largest record has
+-- what a group can be told by a log with this file, whose disk has counted so many faults: that count, where the log has halted; an end that
+-- is less than the file's length, with a need that go past what a log comes to take; or more bytes than the largest record has
 abbrev pub IsCause : Option (List ℕ) → ℕ → Cause → Type 0
 IsCause file faults (Died older) = ⊥
 IsCause file faults DiskFault = ⊤
@@ -38,10 +38,12 @@ pub record AreCaused (start : Database) (script : Script) (history : List Entry)
   pub sized : AreSizesOf start script history ended
 
 module _ {V : Type 0} (shelf : Shelving V) where
-  -- of the file that is held behind the run
-  abbrev pub AreCausedIn : Status → Script → Database → List Entry → List EndedGroup → Option V → Type 0
-  AreCausedIn status script start history ended held = (disk : V) × (held ≡ Some disk) × AreCaused start script history (shelf.seen disk) (shelf.disk_faults disk) status ended
+  -- the file and the count are those of the disk that is held
+  abbrev pub AreOfHeld : Option (List ℕ) → ℕ → Option V → Type 0
+  AreOfHeld file faults held = (disk : V) × (held ≡ Some disk) × (file ≡ shelf.seen disk) × (faults ≡ shelf.disk_faults disk)
 
-  -- under a path
+  -- for some file and some count, which are those of the disk that is held under a path behind the run, where the shelf tells what it holds
   abbrev pub CausesEnds : List ℕ → Status → Script → Database → List Entry → List EndedGroup → Type 0
-  CausesEnds path status script start history ended = WhereHeld (λ old new. AreCausedIn status script start history ended (new path)) shelf.held shelf.held_after
+  CausesEnds path status script start history ended =
+      (file : Option (List ℕ)) × (faults : ℕ) × AreCaused start script history file faults status ended
+      × WhereHeld (λ old new. AreOfHeld file faults (new path)) shelf.held shelf.held_after

@@ -12,7 +12,6 @@ use Rattle.bf_recover.specs.Steps.{StepsTo}
 use Rattle.bf_run.specs.Running.{OpensTo}
 use Rattle.bf_lex.specs.declared.fault.ScriptFault.{ScriptFault}
 use Rattle.bf_sql.specs.Database.{Database}
-use Rattle.bf_sql.specs.migrations.Lazy.{LazyState}
 use Rattle.bf_text.specs.Replies.{newline}
 use Rattle.bf_tree.specs.declared.script.Script.{Script}
 use Rattle.bf_io.specs.Causes.{Rose}
@@ -71,10 +70,10 @@ IsServed Holds script before after Done text = IsRunTold (Holds Done script) scr
 IsServed Holds script before after DiskFault text = IsRunTold (Holds DiskFault script) script text × (before < after)
 IsServed Holds script before after other text = ⊥
 
--- over a database, that is what is seen of the state which a log keeps
-abbrev pub ServedOn : {D : Type 0} {g : Ghosts D} → Database → LazyState → Log D g → D → RunClaim
-ServedOn {g = g} opening lazy log disk status script start history ended last =
-    (start ≡ opening) × KeepsOn lazy log disk status script start history ended
+-- over the database that is seen of the state which a log keeps
+abbrev pub ServedOn : {D : Type 0} {g : Ghosts D} → Database → Log D g → D → RunClaim
+ServedOn {g = g} opening log disk status script start history ended last =
+    (start ≡ opening) × KeepsOn log disk status script start history ended
     × AreCaused start script history (g.seen disk) (g.fault_count disk) status ended
     × IsGivenBy g.seen g.may_leave status disk last
 
@@ -93,7 +92,7 @@ module _ {V : Type 0} (seen : V → Option (List ℕ)) (may_leave : V → List �
   -- and the sweep is that of the state which its records give
   abbrev pub HoldsOver : V → V → RunClaim
   HoldsOver old new status script start history ended last =
-      IsOpened old start × IfTold (seen new) (λ file. KeepsFile seen may_leave moment left_since old new status script start history ended)
+      IsOpened old start × IfTold (seen new) (λ file. KeepsFile may_leave moment left_since old new status script start history ended)
       × AreCaused start script history (seen new) (fault_count new) status ended × IsGivenBy seen may_leave status new last
 
   abbrev pub IsRunOverDisk : Script → V → V → Status → List ℕ → Type 0

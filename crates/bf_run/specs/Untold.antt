@@ -1,17 +1,14 @@
 -- WHAT BECOMES of a log where no report tells of a run over it: it could not be opened, or memory ran out.
-use Rattle.std.specs.Prelude.{◌≡◌, ◌⊎◌, ℕ, List, [], Option, Some, Ok, IsTrue}
-use Rattle.std.specs.List.{list_all}
-use Rattle.bf_base.specs.Lists.{with_before}
+use Rattle.std.specs.Prelude.{◌≡◌, ◌⊎◌, ℕ, List, [], Option, Some, Ok}
 use Rattle.bf_disk.specs.Images.{OnlyRead}
 use Rattle.bf_disk.specs.Shelves.{IsHeldOrEmpty}
 use Rattle.bf_disk.specs.declared.disk.Disk.{Ghosts}
 use Rattle.bf_io.specs.Whole.{IfTold}
+use Rattle.bf_keep.specs.Crashing.{AreGroupsInOrder}
 use Rattle.bf_log.specs.Append.{disk_of}
 use Rattle.bf_log.specs.declared.log.Log.{Log}
 use Rattle.bf_parse.specs.Scripts.{IsScriptText}
 use Rattle.bf_sql.specs.Database.{Database}
-use Rattle.bf_sql.specs.History.{is_whole_group, may_precede}
-use Rattle.bf_sql.specs.migrations.Lazy.{LazyState}
 use Rattle.bf_tree.specs.declared.history.Entry.{Entry}
 use Rattle.bf_tree.specs.declared.script.Script.{Script}
 use Rattle.bf_run.specs.Creating.{Shelving, IsReadAlone, WhereHeld}
@@ -19,16 +16,10 @@ use Rattle.bf_run.specs.Keeping.{KeepsFile, KeepsOn}
 use Rattle.bf_run.specs.Running.{OpensTo}
 use Rattle.bf_run.specs.declared.status.Status.TheVariants.{Memory}
 
--- entries are of whole groups of a script, in an order that it allows
-abbrev pub AreGroupsInOrder : Script → List Entry → Type 0
-AreGroupsInOrder script history =
-    IsTrue (list_all (is_whole_group script) history)
-    × IsTrue (list_all (λ p. list_all (λ d. may_precede script d p.1) p.0) (with_before history))
-
 -- a run over a log ended for want of memory: its log is as it was, or groups of the script have run, and a crash leaves a prefix of them
-abbrev pub IsBrokenOffOn : {D : Type 0} {g : Ghosts D} → Database → LazyState → Log D g → D → Script → Type 0
-IsBrokenOffOn opening lazy log disk script =
-    (disk ≡ disk_of log) ⊎ ((history : List Entry) × AreGroupsInOrder script history × KeepsOn lazy log disk Memory script opening history [])
+abbrev pub IsBrokenOffOn : {D : Type 0} {g : Ghosts D} → Database → Log D g → D → Script → Type 0
+IsBrokenOffOn opening log disk script =
+    (disk ≡ disk_of log) ⊎ ((history : List Entry) × AreGroupsInOrder script history × KeepsOn log disk Memory script opening history [])
 
 module _ {V : Type 0} (seen : V → Option (List ℕ)) (may_leave : V → List ℕ → Type 0) (moment : V → ℕ) (left_since : V → ℕ → List ℕ → Type 0) where
   -- a file is as it was, or was read
@@ -42,7 +33,7 @@ module _ {V : Type 0} (seen : V → Option (List ℕ)) (may_leave : V → List �
     pub opens : IfTold (seen old) (λ file. OpensTo file start)
     pub history : List Entry
     pub groups : AreGroupsInOrder script history
-    pub kept : IfTold (seen new) (λ file. KeepsFile seen may_leave moment left_since old new Memory script start history [])
+    pub kept : IfTold (seen new) (λ file. KeepsFile may_leave moment left_since old new Memory script start history [])
 
   abbrev pub IsUntold : Script → V → V → Type 0
   IsUntold script old new = IsReadAtMost old new ⊎ IsBrokenOff script old new

@@ -1,6 +1,7 @@
 //! Running a script over the database that a log keeps.
 
 ghost use Rattle.std.specs.Prelude.{◌≡◌, ℕ, List, None, Some, IfOk, OnErr, true};
+ghost use Rattle.bf_journal.specs.Leaving.{LeavesAlone};
 ghost use Rattle.bf_journal.specs.States.{IsReady, StandsOn};
 ghost use Rattle.bf_keep.specs.Sayable.{IsSayableScript};
 ghost use Rattle.bf_log.specs.Append.{disk_of};
@@ -60,12 +61,13 @@ fn tell_run<N: Opened, D: Disk, R: Wait>(
     requires sayable { IsSayableScript script }
     requires stands { StandsOn first_state StepsTo store.lazy journal.old.log }
     requires ready { IsReady journal.old.log }
+    requires alone { LeavesAlone first_state StepsTo store.lazy journal.old.log }
     ensures served { IfOk result (λ a. IsServed
-        (ServedOn N.opening store.lazy journal.old.log (disk_of journal.new.log)) script
+        (ServedOn N.opening journal.old.log (disk_of journal.new.log)) script
         (D.fault_count (disk_of journal.old.log)) (D.fault_count (disk_of journal.new.log))
         a.0 a.1.items) }
     ensures broken_off { OnErr result
-        (IsBrokenOffOn N.opening store.lazy journal.old.log (disk_of journal.new.log) script) }
+        (IsBrokenOffOn N.opening journal.old.log (disk_of journal.new.log) script) }
 {
     let faults = journal.faults();
     let mut machine: Machine<N> = Machine::new(alloc, store, script, RETRIES)?;
@@ -113,10 +115,11 @@ fn serve_over<N: Opened, D: Disk, R: Wait>(
     requires sayable { IsSayableScript script }
     requires stands { StandsOn first_state StepsTo store.lazy log }
     requires ready { IsReady log }
-    ensures served { IfOk result.1 (λ a. IsServed (ServedOn N.opening store.lazy log result.0) script
+    requires alone { LeavesAlone first_state StepsTo store.lazy log }
+    ensures served { IfOk result.1 (λ a. IsServed (ServedOn N.opening log result.0) script
         (D.fault_count (disk_of log)) (D.fault_count result.0) a.0 a.1.items) }
     ensures broken_off { OnErr result.1
-        (IsBrokenOffOn N.opening store.lazy log result.0 script) }
+        (IsBrokenOffOn N.opening log result.0 script) }
 {
     let mut journal = LogJournal::of(alloc, log);
     let told = tell_run::<N, D, R>(alloc, rt, registry, store, &mut journal, script);

@@ -1,15 +1,21 @@
 //! Laws of the definitions. Each is the contract of a function that does nothing.
 
 ghost use Rattle.std.specs.Prelude.{◌≡◌, ℕ, List, Option, Result};
+ghost use Rattle.bf_disk.specs.Images.{Only};
 ghost use Rattle.bf_lex.specs.declared.fault.ScriptFault.{ScriptFault};
 ghost use Rattle.bf_parse.specs.Scripts.{IsScriptText};
+ghost use Rattle.bf_machine.specs.interleaving.Machines.{EndedGroup};
+ghost use Rattle.bf_sql.specs.Database.{Database};
+ghost use Rattle.bf_tree.specs.declared.history.Entry.{Entry};
 ghost use Rattle.bf_tree.specs.declared.script.Script.{Script};
 ghost use Rattle.bf_run.specs.declared.status.Status.{Status};
 ghost use Rattle.bf_run.specs.Creating.{TellsFiles, shelf_of};
+ghost use Rattle.bf_run.specs.Keeping.{IsBehindPrefix, KeepsFile, OpensAs};
 ghost use Rattle.bf_run.specs.Outcome.{Comes, IsDetermined, Stream};
+ghost use Rattle.bf_run.specs.Running.{OpensTo};
 ghost use Rattle.bf_run.specs.Words.{Asked};
 
-use bf_disk::Shelf;
+use bf_disk::{Disk, Shelf};
 
 /// A text is one script or has one first fault, and no two answers.
 pub fn a_text_has_one_reading()
@@ -30,4 +36,16 @@ pub fn one_status_comes<S: Shelf>()
         (shelf_of S.Disk.seen S.Disk.may_leave S.Disk.moment S.Disk.left_since S.Disk.fault_count S.held S.fault_count old other_new)
         other
         → one ≡ other }
+{}
+
+/// Where nothing was pending on a file at the start, so that a crash could leave it alone as it opened, every image that
+/// a crash since then might have left opens to the database behind a prefix of the history, or to what the change that
+/// failed would have made.
+pub fn where_nothing_was_pending_a_prefix_is_left<D: Disk>()
+    ensures { (old new : D) (status : Status) (script : Script) (start : Database) (history : List Entry)
+        (ended : List EndedGroup)
+        (kept : KeepsFile D.may_leave D.moment D.left_since old new status script start history ended)
+        (file image : List ℕ) → Only file (D.may_leave old) → OpensTo file start
+        → D.left_since new (D.moment old) image
+        → OpensAs (IsBehindPrefix script start history) kept.failed image }
 {}

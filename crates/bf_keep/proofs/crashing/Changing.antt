@@ -1,12 +1,18 @@
 -- What every crash of a machine leaves stays so behind a change of it, by what has become of its log.
-use Rattle.std.proofs.Common.{◌≡◌, inl, inr, ℕ, ◌≤◌, List, [], ◌∷◌, ◌++◌, Option, None, Some, refl, sym, ◌∙◌, ap, subst}
+use Rattle.std.proofs.Common.{◌≡◌, inl, inr, ⊎_elim, ℕ, ◌≤◌, List, [], ◌∷◌, ◌++◌, Option, None, Some, refl, sym, ◌∙◌, ap, subst}
 use Rattle.std.specs.Prelude.{◌⊎◌}
 use Rattle.bf_disk.specs.declared.disk.Disk.{Ghosts}
 use Rattle.bf_log.specs.declared.log.Log.{Log}
-use Rattle.bf_journal.specs.Crashes.{CrashImages, IsStep, Machine}
+use Rattle.bf_journal.specs.Crashes.{CrashImages, IsAfterPrefix, IsStep, Machine, ReopensWith}
 use Rattle.bf_journal.specs.Leaving.{Fails, Stores, StoresNothing}
-use Rattle.bf_journal.specs.States.{IsReady, MayLeave}
+use Rattle.bf_journal.specs.States.{IsReady, MayLeave, moment_of}
 use Rattle.bf_journal.proofs.Runs.{run_keeps}
+
+-- what reopens so does so for what is weaker, and where what had failed still has
+weaker : {L V : Type 0} (view : L → V) (failed then : Option V) (P Q : V → Type 0) (left : Option L) → ((db : V) → P db → Q db) → ((db : V) → failed ≡ Some db → then ≡ Some db)
+    → ReopensWith view failed P left → ReopensWith view then Q left
+weaker view failed then P Q left so still (state, is, inl holds) = (state, is, inl (so (view state) holds))
+weaker view failed then P Q left so still (state, is, inr fails) = (state, is, inr (still (view state) fails))
 
 module _ {L V E : Type 0} (first : L) (Steps : L → List ℕ → L → Type 0) (view : L → V) (run : V → E → V) {D : Type 0} {g : Ghosts D} where
   -- a machine with this state on this log, such a history, and what the failed change would have made
@@ -39,6 +45,24 @@ module _ {L V E : Type 0} (first : L) (Steps : L → List ℕ → L → Type 0) 
   none_failed_then state next log new failed then (inr (inl stored)) none ready = stored.1 ∙ none stored.0.was_ready
   none_failed_then state next log new failed then (inr (inr (inl nothing))) none ready = nothing.2 ∙ none (nothing.1.as_ready ready)
   none_failed_then state next log new failed then (inr (inr (inr fails))) none ready = absurd (fails.1.1.stopped ready)
+
+  -- what may be left of the new log could be left of the old one, or was left by the change
+  no_other : (state next : L) (log new : Log D g) (failed then : Option V) → IsChanged state next log new failed then
+      → (t : ℕ) (left : Option L) → MayLeave first Steps new t left → MayLeave first Steps log t left ⊎ MayLeave first Steps new (moment_of log) left
+  no_other state next log new failed then (inl same) t left leaves = inl (subst (λ (l : Log D g). MayLeave first Steps l t left) same.1 leaves)
+  no_other state next log new failed then (inr (inl stored)) t left leaves = stored.0.no_other.nothing_else t left leaves
+  no_other state next log new failed then (inr (inr (inl nothing))) t left leaves = nothing.1.no_other.nothing_else t left leaves
+  no_other state next log new failed then (inr (inr (inr fails))) t left leaves = fails.1.1.no_other.nothing_else t left leaves
+
+  -- what had failed still has
+  still_failed : (state next : L) (log new : Log D g) (failed then : Option V) → IsChanged state next log new failed then
+      → (IsReady log → failed ≡ None) → (db : V) → failed ≡ Some db → then ≡ Some db
+  still_failed state next log new failed then (inl same) none db is = same.2 ∙ is
+  still_failed state next log new failed then (inr (inl stored)) none db is = stored.1 ∙ is
+  still_failed state next log new failed then (inr (inr (inl nothing))) none db is = nothing.2 ∙ is
+  still_failed state next log new failed then (inr (inr (inr fails))) none db is =
+      let clash : None ≡ Some db = sym (none fails.1.1.was_ready) ∙ is in
+      absurd cc
 
   module _ (earlier : (log : Log D g) (t u : ℕ) (left : Option L) → t ≤ u → MayLeave first Steps log u left → MayLeave first Steps log t left)
       (opening : V) (since : ℕ) where
@@ -91,3 +115,19 @@ module _ {L V E : Type 0} (first : L) (Steps : L → List ℕ → L → Type 0) 
           (inl (record { entry = entry; stores = stored.0; seen = seen; rest = refl })))
       grows next new then entry seen (inr (inr (inl nothing))) = rests next new then entry seen (inr (inr (inl nothing))) nothing.0
       grows next new then entry seen (inr (inr (inr fails))) = rests next new then entry seen (inr (inr (inr fails))) fails.0
+
+      -- what may be left since a moment before the log was opened
+      abbrev pub Before : Log D g → List E → Option V → Log D g → Type 0
+      Before opened history failed log =
+          (t : ℕ) → t ≤ since → (left : Option L) → MayLeave first Steps log t left
+          → MayLeave first Steps opened t left ⊎ ReopensWith view failed (IsAfterPrefix run opening history) left
+
+      pub goes_before : (opened : Log D g) (next : L) (new : Log D g) (then : Option V) (later : List E) → IsChanged state next log new failed then
+          → ((db : V) → IsAfterPrefix run opening history db → IsAfterPrefix run opening later db) → Leaves opening since next new later then
+          → Before opened history failed log → Before opened later then new
+      goes_before opened next new then later changed so now before t le left leaves = ⊎_elim
+          (λ here. ⊎_elim (λ is. inl is)
+          (λ reopens. inr (weaker view failed then (IsAfterPrefix run opening history) (IsAfterPrefix run opening later) left so (still_failed state next log new failed then changed was.none_failed) reopens))
+          (before t le left here))
+          (λ behind. inr (now.ever left (earlier new since (moment_of log) left was.passed behind)))
+          (no_other state next log new failed then changed t left leaves)

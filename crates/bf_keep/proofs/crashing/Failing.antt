@@ -21,13 +21,14 @@ use Rattle.bf_recover.specs.Legal.{first_state}
 use Rattle.bf_recover.specs.Steps.{StepsTo, run_entry}
 use Rattle.bf_sql.specs.Database.{Database}
 use Rattle.bf_sql.specs.migrations.Lazy.{LazyState, view_of}
+use Rattle.bf_tree.specs.declared.history.Entry.{Entry}
 use Rattle.bf_tree.specs.declared.reply.Cause.{Cause}
 use Rattle.bf_tree.specs.declared.reply.Cause.TheVariants.{DiskFault}
 use Rattle.bf_tree.specs.declared.script.Script.{Script}
 use Rattle.bf_keep.specs.Answers.{GoesOn, HasAnswered, IsAnsweredAs, is_ready}
-use Rattle.bf_keep.specs.Crashing.{IsOfFailed}
+use Rattle.bf_keep.specs.Crashing.{IsWhatHasFailed}
 use Rattle.bf_keep.proofs.crashing.Changing.{IsChanged}
-use Rattle.bf_keep.proofs.crashing.Makes.{makes_of, move_makes_nothing, one_makes}
+use Rattle.bf_keep.proofs.crashing.Makes.{makes_behind, move_makes_nothing, one_makes}
 
 module _ {D : Type 0} {g : Ghosts D} where
   -- BY AN ANSWER of the journal for a change
@@ -81,14 +82,14 @@ module _ {D : Type 0} {g : Ghosts D} where
   ]
 
   -- WHAT HAS FAILED BEHIND AN EVENT, with the groups that have ended so far and those that it ends
-  pub record Turned (script : Script) (ended : List EndedGroup) (lazy next : LazyState) (log new : Log D g) (failed : Option Database) : Type 0 where
+  pub record Turned (start : Database) (script : Script) (history : List Entry) (ended : List EndedGroup) (lazy next : LazyState) (log new : Log D g) (failed : Option Database) : Type 0 where
     pub then : Option Database
     pub changed : IsChanged first_state StepsTo view_of run_entry lazy next log new failed then
     pub stands : StandsOn first_state StepsTo next new
-    pub then_is : (db : Database) → then ≡ Some db → IsOfFailed new script ended (view_of next) db
+    pub then_is : (db : Database) → then ≡ Some db → IsWhatHasFailed new start script history ended (view_of next) db
 
-  module _ (script : Script) (ended more : List EndedGroup) (lazy : LazyState) (log : Log D g) (on : StandsOn first_state StepsTo lazy log) (failed : Option Database)
-      (none : IsReady log → failed ≡ None) (failed_is : (db : Database) → failed ≡ Some db → IsOfFailed log script ended (view_of lazy) db) where
+  module _ (start : Database) (script : Script) (history : List Entry) (ended more : List EndedGroup) (lazy : LazyState) (log : Log D g) (on : StandsOn first_state StepsTo lazy log) (failed : Option Database)
+      (none : IsReady log → failed ≡ None) (failed_is : (db : Database) → failed ≡ Some db → IsWhatHasFailed log start script history ended (view_of lazy) db) where
     -- a log on which a change has failed takes no more
     at_rest : (db : Database) → failed ≡ Some db → is_ready (standing_of log) ≡ false
     at_rest db is = by (standing_of log) refl
@@ -100,20 +101,20 @@ module _ {D : Type 0} {g : Ghosts D} where
         by (Stopped faults) at = refl
         by Spent at = refl
 
-    with_more : (now db : Database) → IsOfFailed log script ended now db → IsOfFailed log script (ended ++ more) now db
+    with_more : (now db : Database) → IsWhatHasFailed log start script history ended now db → IsWhatHasFailed log start script history (ended ++ more) now db
     with_more now db (inl same) = inl same
-    with_more now db (inr (inl told)) = inr (inl (told.0, Contains-append_left ended more told.0 told.1, told.2, told.3, told.4))
+    with_more now db (inr (inl told)) = inr (inl (told.0, Contains-append_left ended more told.0 told.1, told.2, told.3))
     with_more now db (inr (inr spent)) = inr (inr spent)
 
     -- what has failed stays where the store does, and the log stays that takes no more
     still_is : (next : LazyState) (new : Log D g) → next ≡ lazy → (is_ready (standing_of log) ≡ false → new ≡ log) → (db : Database) → failed ≡ Some db
-        → IsOfFailed new script (ended ++ more) (view_of next) db
+        → IsWhatHasFailed new start script history (ended ++ more) (view_of next) db
     still_is next new same stays db is =
-        subst (λ (to : LazyState). IsOfFailed new script (ended ++ more) (view_of to) db) (sym same)
-        (subst (λ (to : Log D g). IsOfFailed to script (ended ++ more) (view_of lazy) db) (sym (stays (at_rest db is)))
+        subst (λ (to : LazyState). IsWhatHasFailed new start script history (ended ++ more) (view_of to) db) (sym same)
+        (subst (λ (to : Log D g). IsWhatHasFailed to start script history (ended ++ more) (view_of lazy) db) (sym (stays (at_rest db is)))
         (with_more (view_of lazy) db (failed_is db is)))
 
-    rests : (next : LazyState) (new : Log D g) → next ≡ lazy → new ≡ log → Turned script (ended ++ more) lazy next log new failed
+    rests : (next : LazyState) (new : Log D g) → next ≡ lazy → new ≡ log → Turned start script history (ended ++ more) lazy next log new failed
     rests next new same stays = record {
       then = failed;
       changed = inl (same, stays, refl);
@@ -121,7 +122,7 @@ module _ {D : Type 0} {g : Ghosts D} where
       then_is = still_is next new same (λ rest. stays);
     }
 
-    keeps_it : (next : LazyState) (new : Log D g) → HasAnswered lazy next log new (Ok tt) → Turned script (ended ++ more) lazy next log new failed
+    keeps_it : (next : LazyState) (new : Log D g) → HasAnswered lazy next log new (Ok tt) → Turned start script history (ended ++ more) lazy next log new failed
     keeps_it next new answered =
         let is = stored lazy next log new on answered.0 in
         record {
@@ -134,7 +135,7 @@ module _ {D : Type 0} {g : Ghosts D} where
         }
 
     stores_nothing : (next : LazyState) (new : Log D g) (answer : Result (Unit {0}) KeepError) → next ≡ lazy → GoesOn log new answer → StoresNothing first_state StepsTo log new
-        → StandsOn first_state StepsTo lazy new → Turned script (ended ++ more) lazy next log new failed
+        → StandsOn first_state StepsTo lazy new → Turned start script history (ended ++ more) lazy next log new failed
     stores_nothing next new answer same goes nothing stands = record {
       then = failed;
       changed = inr (inr (inl (same, nothing, refl)));
@@ -143,36 +144,36 @@ module _ {D : Type 0} {g : Ghosts D} where
     }
 
     fails : (next other : LazyState) (new : Log D g) → next ≡ lazy → Fails first_state StepsTo lazy other log new → StandsOn first_state StepsTo lazy new
-        → IsOfFailed new script (ended ++ more) (view_of lazy) (view_of other) → Turned script (ended ++ more) lazy next log new failed
+        → IsWhatHasFailed new start script history (ended ++ more) (view_of lazy) (view_of other) → Turned start script history (ended ++ more) lazy next log new failed
     fails next other new same failing stands is = record {
       then = Some (view_of other);
       changed = inr (inr (inr (same, (other, failing, refl))));
       stands = subst (λ (to : LazyState). StandsOn first_state StepsTo to new) (sym same) stands;
       then_is = λ db some.
-          subst (λ (to : LazyState). IsOfFailed new script (ended ++ more) (view_of to) db) (sym same)
-          (subst (λ (to : Database). IsOfFailed new script (ended ++ more) (view_of lazy) to) (same_Some (view_of other) db some) is);
+          subst (λ (to : LazyState). IsWhatHasFailed new start script history (ended ++ more) (view_of to) db) (sym same)
+          (subst (λ (to : Database). IsWhatHasFailed new start script history (ended ++ more) (view_of lazy) to) (same_Some (view_of other) db some) is);
     }
 
   module _ {J : Type 0} (log_of : J → Log D g) (start : Database) (m : Machine) (kept : IsKept start m) (ended : List EndedGroup) (old : J) (on : StandsOn first_state StepsTo m.lazy (log_of old))
-      (failed : Option Database) (none : IsReady (log_of old) → failed ≡ None) (failed_is : (db : Database) → failed ≡ Some db → IsOfFailed (log_of old) m.script ended (view_of m.lazy) db) where
+      (failed : Option Database) (none : IsReady (log_of old) → failed ≡ None) (failed_is : (db : Database) → failed ≡ Some db → IsWhatHasFailed (log_of old) start m.script m.history ended (view_of m.lazy) db) where
     abbrev Answers : LazyState → LazyState → J → J → Result (Unit {0}) KeepError → Type 0
     Answers lazy next old new answer = HasAnswered lazy next (log_of old) (log_of new) answer
 
     abbrev Turns : List EndedGroup → LazyState → Log D g → Type 0
-    Turns ended next new = Turned m.script ended m.lazy next (log_of old) new failed
+    Turns ended next new = Turned start m.script m.history ended m.lazy next (log_of old) new failed
 
     -- with no group that ends
     by_change : (next : LazyState) (new : J) → IsBeside Answers (IsChangeOf m) m.lazy next old new → Turns (ended ++ []) next (log_of new)
-    by_change next new (inl same) = rests m.script ended [] m.lazy (log_of old) on failed none failed_is next (log_of new) same.0 (ap log_of same.1)
-    by_change next new (inr (inl answered)) = keeps_it m.script ended [] m.lazy (log_of old) on failed none failed_is next (log_of new) answered
+    by_change next new (inl same) = rests start m.script m.history ended [] m.lazy (log_of old) on failed none failed_is next (log_of new) same.0 (ap log_of same.1)
+    by_change next new (inr (inl answered)) = keeps_it start m.script m.history ended [] m.lazy (log_of old) on failed none failed_is next (log_of new) answered
     by_change next new (inr (inr (same, (other, change, answered)))) =
         let left = unkept m.lazy other (log_of old) (log_of new) on answered.0 in
         elim left.0 as (λ _. Turns (ended ++ []) next (log_of new)) [
-          | inl nothing ↦ stores_nothing m.script ended [] m.lazy (log_of old) on failed none failed_is next (log_of new) (Err keeps.Memory) same answered.1 nothing left.1
+          | inl nothing ↦ stores_nothing start m.script m.history ended [] m.lazy (log_of old) on failed none failed_is next (log_of new) (Err keeps.Memory) same answered.1 nothing left.1
           | inr failing ↦
               let spent = spent_by m.lazy other (log_of old) (log_of new) failing answered.1 in
-              fails m.script ended [] m.lazy (log_of old) on failed none failed_is next other (log_of new) same failing left.1
-              (elim (one_makes start m kept other change) as (λ _. IsOfFailed (log_of new) m.script (ended ++ []) (view_of m.lazy) (view_of other)) [
+              fails start m.script m.history ended [] m.lazy (log_of old) on failed none failed_is next other (log_of new) same failing left.1
+              (elim (one_makes start m kept other change) as (λ _. IsWhatHasFailed (log_of new) start m.script m.history (ended ++ []) (view_of m.lazy) (view_of other)) [
                 | inl unseen ↦ inl unseen
                 | inr one ↦ inr (inr (spent, one))
               ])
@@ -183,12 +184,12 @@ module _ {D : Type 0} {g : Ghosts D} where
     group_of s next by = record { session = s; group = by.o.group; cause = by.cause }
 
     told_of : (s : ℕ) (next : Machine) (by : EndsByLog m s next) (new : Log D g) (other : LazyState) → IsChangeFor m s other → (by.cause ≡ DiskFault) ⊎ IsMoveIn m.lazy other
-        → IsOfFailed new m.script (ended ++ group_of s next by ∷ []) (view_of m.lazy) (view_of other)
+        → IsWhatHasFailed new start m.script m.history (ended ++ group_of s next by ∷ []) (view_of m.lazy) (view_of other)
     told_of s next by new other change (inr move) = inl (move_makes_nothing start m kept other move)
     told_of s next by new other change (inl fault) =
-        elim (makes_of start m kept s by.o by.is by.cause other change) as (λ _. IsOfFailed new m.script (ended ++ group_of s next by ∷ []) (view_of m.lazy) (view_of other)) [
+        elim (makes_behind start m kept s by.o by.is by.cause other change) as (λ _. IsWhatHasFailed new start m.script m.history (ended ++ group_of s next by ∷ []) (view_of m.lazy) (view_of other)) [
           | inl unseen ↦ inl unseen
-          | inr makes ↦ inr (inl (group_of s next by, Contains-push ended (group_of s next by), (kept.open_groups_replay.each s by.o by.is).whole, fault, makes))
+          | inr makes ↦ inr (inl (group_of s next by, Contains-push ended (group_of s next by), fault, makes))
         ]
 
     by_end : (s : ℕ) (next : Machine) (by : EndsByLog m s next) (new : J) → IsRefused Answers (IsChangeFor m s) m.lazy old new by.cause
@@ -197,8 +198,8 @@ module _ {D : Type 0} {g : Ghosts D} where
         let left = refused m.lazy other (log_of old) (log_of new) on by.cause answered.0 in
         let same : next.lazy ≡ m.lazy = ap (λ (n : Machine). n.lazy) by.goes in
         elim left.0 as (λ _. Turns (ended ++ group_of s next by ∷ []) next.lazy (log_of new)) [
-          | inl nothing ↦ stores_nothing m.script ended (group_of s next by ∷ []) m.lazy (log_of old) on failed none failed_is next.lazy (log_of new) (Err (keeps.Ended by.cause)) same answered.1 nothing left.1
-          | inr failing ↦ fails m.script ended (group_of s next by ∷ []) m.lazy (log_of old) on failed none failed_is next.lazy other (log_of new) same failing.0 left.1
+          | inl nothing ↦ stores_nothing start m.script m.history ended (group_of s next by ∷ []) m.lazy (log_of old) on failed none failed_is next.lazy (log_of new) (Err (keeps.Ended by.cause)) same answered.1 nothing left.1
+          | inr failing ↦ fails start m.script m.history ended (group_of s next by ∷ []) m.lazy (log_of old) on failed none failed_is next.lazy other (log_of new) same failing.0 left.1
               (told_of s next by (log_of new) other change failing.1)
         ]
 

@@ -1,21 +1,26 @@
 -- What a change of a machine makes of the database.
-use Rattle.std.proofs.Common.{◌≡◌, ◌⊎◌, inl, inr, ℕ, ◌+◌, List, [], ◌∷◌, ◌++◌, map, Some, refl, sym, ◌∙◌, ap, subst}
+use Rattle.std.proofs.Common.{◌≡◌, ◌⊎◌, inl, inr, ℕ, ◌+◌, Bool, false, List, [], ◌∷◌, ◌++◌, append-nil, length, map, Some, refl, sym, ◌∙◌, ap, subst}
 use Rattle.std.proofs.lemmas.List.{map-append}
 use Rattle.std.proofs.lemmas.Option.{same_Some}
 use Rattle.bf_base.specs.declared.granule.Granule.{Granule}
 use Rattle.bf_journal.specs.Crashes.{replayed}
 use Rattle.bf_journal.proofs.Runs.{replayed_more}
-use Rattle.bf_machine.specs.interleaving.Events.{IsToCommit, at_once, commits_behind, moves, one_more}
+use Rattle.bf_machine.specs.interleaving.Events.{IsToCommit, at_once, commits_behind, moves, one_more, rest_of, text_of}
 use Rattle.bf_machine.specs.interleaving.Events as events
 use Rattle.bf_machine.specs.interleaving.Journals.{IsChangeFor, IsChangeOf, IsMoveIn, IsPutInto}
 use Rattle.bf_machine.specs.interleaving.Kept.{IsKept}
-use Rattle.bf_machine.specs.interleaving.Machines.{Machine, Open, open_at}
+use Rattle.bf_machine.specs.interleaving.Groups.{left_by}
+use Rattle.bf_machine.specs.interleaving.Machines.{Machine, Open, answered_in, open_at}
 use Rattle.bf_machine.proofs.interleaving.Ends.{would_make}
+use Rattle.bf_machine.proofs.interleaving.Entries.{length-run_group}
+use Rattle.bf_machine.proofs.interleaving.Legal.{end_keeps_legal}
 use Rattle.bf_machine.proofs.interleaving.Reaching.{reached_keeps_all}
+use Rattle.bf_machine.proofs.interleaving.Running.{run_is_database, text_means}
 use Rattle.bf_machine.proofs.interleaving.Texts.{are_texts}
 use Rattle.bf_recover.specs.Steps.{entry_of, run_entry}
 use Rattle.bf_recover.proofs.Replaying.{runs_entries}
 use Rattle.bf_sql.specs.Database.{Database}
+use Rattle.bf_sql.specs.Groups.{outcome_by}
 use Rattle.bf_sql.specs.History as history
 use Rattle.bf_sql.specs.migrations.Lazy.{LazyState, view_of}
 use Rattle.bf_store.specs.States.{AreGranulesIfAny, with_moved}
@@ -23,9 +28,12 @@ use Rattle.bf_tree.specs.declared.history.Entry.{Entry}
 use Rattle.bf_tree.specs.declared.history.Outcome.{Outcome}
 use Rattle.bf_tree.specs.declared.history.Outcome.TheVariants.{Committed}
 use Rattle.bf_tree.specs.declared.reply.Cause.{Cause}
+use Rattle.bf_tree.specs.declared.reply.Reply.{Reply}
+use Rattle.bf_tree.specs.declared.reply.Reply.TheVariants as reply
 use Rattle.bf_tree.specs.declared.statement.Statement.{Statement}
-use Rattle.bf_keep.specs.Answers.{MakesOf}
-use Rattle.bf_keep.specs.Crashing.{IsOneGroup}
+use Rattle.bf_tree.specs.declared.statement.Statement.TheVariants.{Commit}
+use Rattle.bf_keep.specs.Answers.{MakesOf, if_committed}
+use Rattle.bf_keep.specs.Crashing.{AreGroupsInOrder, EntryMakes, IsOneGroup}
 
 -- the entries of the history of a machine, each with the statements of its group
 abbrev pub entries : Machine → List (List Statement × Outcome)
@@ -54,6 +62,34 @@ group_is_one start m kept s can other is =
     ∙ ap (λ (db : Database). run_entry db (entry_of m.script entry)) (sym (seen start m kept)) in
     ap view_of is ∙ made ∙ whole
 
+-- and may follow those of the history
+group_in_order : (start : Database) (m : Machine) → IsKept start m → (s : ℕ) (can : IsToCommit m s) → AreGroupsInOrder m.script (m.history ++ own_entry m s can ∷ [])
+group_in_order start m kept s can =
+    let o = can.o in
+    let count = commits_behind 0 m.history + 1 in
+    let texts = are_texts m.script in
+    let own = kept.open_groups_replay.each s o can.is in
+    let answers = o.replies ++ map (λ _. reply.Committed count) (rest_of m s o) in
+    let ran = text_means m.locks o.start m.db count o.pending o.replies (text_of m s o) (texts.shape s o.group own.whole) own.within own.run Commit (reply.Committed count) refl (λ view. refl) can.left in
+    let sizes : length answers ≡ length (text_of m s o) = sym (ap (λ (ran : List Reply × Database). length ran.0) ran) ∙ length-run_group count false m.db (text_of m s o) in
+    let is_next = run_is_database m.locks o.start m.db (answered_in m.script s o) o.pending kept.history_legal.database own.run in
+    let legal = end_keeps_legal start m kept texts s o can.is (Committed count) answers (left_by m.db o.pending) is_next can.current
+    (sym (ap (λ (b : Bool). (outcome_by b count).0) can.commits_so)) ran sizes in
+    (legal.legal.whole_groups, legal.legal.in_order)
+
+group_makes : (start : Database) (m : Machine) → IsKept start m → (s : ℕ) (can : IsToCommit m s) (other : LazyState) → IsPutInto m.lazy can.o.pending other
+    → EntryMakes start m.script m.history (own_entry m s can) (view_of m.lazy) (view_of other)
+group_makes start m kept s can other is = (
+  record {
+    prefix = m.history;
+    later = [];
+    of_history = append-nil m.history;
+    unchanged = kept.store_valid.seen_as.view ∙ kept.history_legal.replay;
+    in_order = group_in_order start m kept s can;
+  },
+  group_is_one start m kept s can other is,
+)
+
 -- and what a move makes of it is not seen
 pub move_unseen : (start : Database) (m : Machine) → IsKept start m → (granules : List Granule) → AreGranulesIfAny m.lazy.last granules → view_of (with_moved m.lazy granules) ≡ view_of m.lazy
 move_unseen start m kept granules are =
@@ -65,9 +101,9 @@ pub move_makes_nothing : (start : Database) (m : Machine) → IsKept start m →
 move_makes_nothing start m kept other move = ap view_of move.2 ∙ move_unseen start m kept move.0 move.1
 
 -- a change makes what one group makes, or nothing
-pub one_makes : (start : Database) (m : Machine) → IsKept start m → (other : LazyState) → IsChangeOf m other → (view_of other ≡ view_of m.lazy) ⊎ IsOneGroup m.script (view_of m.lazy) (view_of other)
+pub one_makes : (start : Database) (m : Machine) → IsKept start m → (other : LazyState) → IsChangeOf m other → (view_of other ≡ view_of m.lazy) ⊎ IsOneGroup start m.script m.history (view_of m.lazy) (view_of other)
 one_makes start m kept other (s, inl own) =
-    inr (own_entry m s own.0, (kept.open_groups_replay.each s own.0.o own.0.is).whole, group_is_one start m kept s own.0 other own.1)
+    inr (own_entry m s own.0, group_makes start m kept s own.0 other own.1)
 one_makes start m kept other (s, inr move) = inl (move_makes_nothing start m kept other move)
 
 -- and for an open group what that makes, or nothing
@@ -79,3 +115,17 @@ makes_of start m kept s o is cause other (inl own) =
     subst (λ (p : Open). MakesOf m.script (record { session = s; group = p.group; cause = cause }) (view_of m.lazy) (view_of other)) same
     (inr (commits_behind 0 m.history + 1, group_is_one start m kept s can other own.1))
 makes_of start m kept s o is cause other (inr move) = inl (move_makes_nothing start m kept other move)
+
+-- with its place behind the history
+pub makes_behind : (start : Database) (m : Machine) → IsKept start m → (s : ℕ) (o : Open) → open_at m s ≡ Some o → (cause : Cause) (other : LazyState) → IsChangeFor m s other
+    → (view_of other ≡ view_of m.lazy)
+    ⊎ ((n : ℕ) × EntryMakes start m.script m.history (if_committed (record { session = s; group = o.group; cause = cause }) n) (view_of m.lazy) (view_of other))
+makes_behind start m kept s o is cause other (inl own) =
+    let can = own.0 in
+    let same : can.o ≡ o = same_Some can.o o (sym can.is ∙ is) in
+    inr (
+      commits_behind 0 m.history + 1,
+      subst (λ (p : Open). EntryMakes start m.script m.history (if_committed (record { session = s; group = p.group; cause = cause }) (commits_behind 0 m.history + 1)) (view_of m.lazy) (view_of other)) same
+          (group_makes start m kept s can other own.1),
+    )
+makes_behind start m kept s o is cause other (inr move) = inl (move_makes_nothing start m kept other move)

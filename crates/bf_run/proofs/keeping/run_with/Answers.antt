@@ -1,14 +1,19 @@
-use Rattle.std.proofs.Common.{List, inl, inr, refl, sym, subst, arith}
+use Rattle.std.proofs.Common.{List, Option, inl, inr, refl, sym, subst}
 use Rattle.std.specs.Prelude.{Result, Ok, Err, OnErr}
 use Rattle.bf_disk.specs.Images.{OnlyRead}
 use Rattle.std.proofs.lemmas.Result.{IfOk-weaker}
+use Rattle.bf_journal.specs.States.{MayLeave}
+use Rattle.bf_recover.specs.Legal.{first_state}
+use Rattle.bf_recover.specs.Steps.{StepsTo}
 use Rattle.bf_sql.specs.Database.{Database}
 use Rattle.bf_sql.specs.migrations.Lazy.{LazyState, view_of}
 use Rattle.bf_tree.specs.declared.history.Entry.{Entry}
 use Rattle.bf_machine.specs.interleaving.Machines.{EndedGroup}
 use Rattle.bf_run.specs.declared.status.Status.{Status}
+use Rattle.bf_run.specs.Keeping.{CouldBeLeft}
 use Rattle.bf_run.specs.Top.{HoldsOver, IsOpened, ServedOn}
 use Rattle.bf_run.specs.Untold.{IsUntold}
+use Rattle.bf_run.proofs.Kept.{from_start}
 use Rattle.bf_run.proofs.Running.{if_told, not_opened, opened_to, served}
 use Rattle.bf_run.proofs.keeping.run_with.Goals as goal
 
@@ -28,24 +33,23 @@ returns-in-Ok-clause-told g c =
     let now = c.serve_over.result.0 in
     let lazy = c.in-Ok.store.lazy in
     let opened = c.in-Ok.ensures.reopened in
-    let holds : (status : Status) (start : Database) (history : List Entry) (ended : List EndedGroup) (last : LazyState) → ServedOn (view_of lazy) lazy c.in-Ok.log now status c.args.script start history ended last
+    let could : (left : Option LazyState) → MayLeave first_state StepsTo c.in-Ok.log (Disk.moment disk) left → CouldBeLeft (Disk.may_leave disk) left =
+    λ left may. (may.1.0, c.in-Ok.ensures.disk.images.each may.1.0 may.1.1, may.1.2) in
+    let holds : (status : Status) (start : Database) (history : List Entry) (ended : List EndedGroup) (last : LazyState) → ServedOn (view_of lazy) c.in-Ok.log now status c.args.script start history ended last
     → HoldsOver Disk.seen Disk.may_leave Disk.moment Disk.left_since Disk.fault_count disk now status c.args.script start history ended last = λ status start history ended last is. (
       subst (IsOpened Disk.seen Disk.may_leave Disk.moment Disk.left_since Disk.fault_count disk) (sym is.0)
           (opened_to Disk.seen Disk.may_leave Disk.moment Disk.left_since Disk.fault_count c.args.script disk now lazy opened.gives),
       if_told (Disk.seen now) _
           (λ file told. record {
-            opened = c.in-Ok.log.disk;
-            read = c.in-Ok.ensures.disk;
             failed = is.1.0;
             failed_is = is.1.1;
-            since_opening = is.1.2 (Disk.moment c.in-Ok.log.disk) (omega arith, opened.alone) file told;
-            since_start = λ before seen only. is.1.2 (Disk.moment disk) (opened.later, opened.since_start before seen only) file told;
+            leaves = from_start Disk.moment Disk.left_since _ _ now (Disk.moment disk) c.args.script start history is.1.0 could (is.1.2 (Disk.moment disk) opened.later file told);
           }),
       is.2,
       is.3,
     ) in
     IfOk-weaker c.serve_over.result.1 _ _
-    (λ a is. served Disk.seen Disk.may_leave Disk.moment Disk.left_since Disk.fault_count c.args.script disk now (ServedOn {g = Disk} (view_of lazy) lazy c.in-Ok.log now) _ _ a.0 a.1.items is c.in-Ok.ensures.faults refl holds)
+    (λ a is. served Disk.seen Disk.may_leave Disk.moment Disk.left_since Disk.fault_count c.args.script disk now (ServedOn {g = Disk} (view_of lazy) c.in-Ok.log now) _ _ a.0 a.1.items is c.in-Ok.ensures.faults refl holds)
     c.serve_over.ensures.served
 
 pub returns-in-Err-clause-told : goal.returns-in-Err-clause-told
@@ -57,6 +61,9 @@ returns-in-Err-clause-told g c =
 pub serve_over-requires-clause-stands : goal.serve_over-requires-clause-stands
 serve_over-requires-clause-stands g c = c.in-Ok.ensures.reopened.stands
 
+pub serve_over-requires-clause-alone : goal.serve_over-requires-clause-alone
+serve_over-requires-clause-alone g c = c.in-Ok.ensures.reopened.alone
+
 pub serve_over-requires-clause-ready : goal.serve_over-requires-clause-ready
 serve_over-requires-clause-ready g c = c.in-Ok.ensures.reopened.ready
 
@@ -67,6 +74,8 @@ returns-in-Ok-clause-untold g c =
     let now = c.serve_over.result.0 in
     let lazy = c.in-Ok.store.lazy in
     let opened = c.in-Ok.ensures.reopened in
+    let could : (left : Option LazyState) → MayLeave first_state StepsTo c.in-Ok.log (Disk.moment disk) left → CouldBeLeft (Disk.may_leave disk) left =
+    λ left may. (may.1.0, c.in-Ok.ensures.disk.images.each may.1.0 may.1.1, may.1.2) in
     let Goal = IsUntold Disk.seen Disk.may_leave Disk.moment Disk.left_since c.args.script disk now in
     on_err_weaker c.serve_over.result.1
     (λ off. elim off as (λ _. Goal) [
@@ -78,12 +87,9 @@ returns-in-Ok-clause-untold g c =
         groups = run.1;
         kept = if_told (Disk.seen now) _
             (λ file told. record {
-              opened = c.in-Ok.log.disk;
-              read = c.in-Ok.ensures.disk;
               failed = run.2.0;
               failed_is = run.2.1;
-              since_opening = run.2.2 (Disk.moment c.in-Ok.log.disk) (omega arith, opened.alone) file told;
-              since_start = λ before seen only. run.2.2 (Disk.moment disk) (opened.later, opened.since_start before seen only) file told;
+              leaves = from_start Disk.moment Disk.left_since _ _ now (Disk.moment disk) c.args.script (view_of lazy) run.0 run.2.0 could (run.2.2 (Disk.moment disk) opened.later file told);
             });
       })
     ])

@@ -1,8 +1,11 @@
 -- The disk that is given back is that of the log behind the run.
 use Rattle.std.proofs.Common.{sym, subst}
 use Rattle.std.specs.Prelude.{Result, Ok, Err, OnErr}
+use Rattle.bf_journal.specs.Leaving.{LeavesAlone}
 use Rattle.bf_log.specs.Append.{disk_of}
 use Rattle.bf_log.specs.declared.log.Log.{Log}
+use Rattle.bf_recover.specs.Legal.{first_state}
+use Rattle.bf_recover.specs.Steps.{StepsTo}
 use Rattle.bf_run.specs.Untold.{IsBrokenOffOn}
 use Rattle.bf_run.proofs.keeping.serve_over.Goals as goal
 
@@ -14,6 +17,11 @@ pub returns-clause-broken_off : goal.returns-clause-broken_off
 returns-clause-broken_off g c =
     let last = c.tell_run-told.new.journal.log in
     on_err_weaker c.tell_run-told.result
-    (λ off. subst (λ (disk : g.row.D.Denot). IsBrokenOffOn {g = g.D.Disk} g.N.Opened.opening c.args.store.lazy c.args.log disk c.args.script) (sym c.into_disk.ensures)
-    (subst (λ (log : Log g.row.D.Denot g.D.Disk). IsBrokenOffOn {g = g.D.Disk} g.N.Opened.opening c.args.store.lazy log (disk_of last) c.args.script) c.of-journal.ensures off))
+    (λ off. subst (λ (disk : g.row.D.Denot). IsBrokenOffOn {g = g.D.Disk} g.N.Opened.opening c.args.log disk c.args.script) (sym c.into_disk.ensures)
+    (subst (λ (log : Log g.row.D.Denot g.D.Disk). IsBrokenOffOn {g = g.D.Disk} g.N.Opened.opening log (disk_of last) c.args.script) c.of-journal.ensures off))
     c.tell_run-told.ensures.broken_off
+
+-- the journal begins with the log that was given
+pub tell_run-told-requires-clause-alone : goal.tell_run-told-requires-clause-alone
+tell_run-told-requires-clause-alone g c =
+    subst (λ (log : Log g.row.D.Denot g.D.Disk). LeavesAlone first_state StepsTo c.args.store.lazy log) (sym c.of-journal.ensures) c.requires.alone

@@ -50,11 +50,11 @@ returns-then-faults-clause-served g c =
     subst (λ (k : Script). AreToldTheirCauses k (transcripts_of now) ended) own
     (c.what_ends_groups_is_told.ensures.replies opening m now c.args.journal.now c.in_order.new.journal keeps_all c.session_count.ensures.kept) in
     let same : m.lazy ≡ lazy = ap (λ (k : Machine). k.lazy) new in
-    let recovers = recovered {g = g.D.Disk} opening lazy m now c.args.journal.now c.in_order.new.journal same c.session_count.ensures.kept c.requires.stands keeps_all
+    let recovers = recovered {g = g.D.Disk} opening lazy m now c.args.journal.now c.in_order.new.journal same c.session_count.ensures.kept c.requires.stands c.requires.alone keeps_all
     c.every_crash_leaves_a_prefix.ensures.whole in
     let kept_now : IsKept opening now = kept_behind {g = g.D.Disk} opening m now c.args.journal.now c.in_order.new.journal c.session_count.ensures.kept keeps_all in
     let taken = not_spent_if last.standing (sym c.if-is_given_up.false ∙ c.is_given_up.ensures) in
-    let keeps = subst (λ (k : Script). KeepsOn lazy log last.disk DiskFault k opening now.history ended) own (keeps_at_fault opening lazy now log last kept_now ended recovers taken) in
+    let keeps = subst (λ (k : Script). KeepsOn log last.disk DiskFault k opening now.history ended) own (keeps_at_fault opening now log last kept_now ended recovers taken) in
     let sizes : AreSizesOf opening script now.history ended =
     subst (λ (k : Script). AreSizesOf opening k now.history ended) own (c.a_group_that_is_too_large_has_a_record_so_large.ensures opening m now c.args.journal.now c.in_order.new.journal keeps_all c.session_count.ensures.kept) in
     let causes : AreCaused opening script now.history (g.D.Disk.seen last.disk) (g.D.Disk.fault_count last.disk) DiskFault ended = caused {g = g.D.Disk} last opening script now.history ended told_causes sizes DiskFault (λ is. absurd cc) in
@@ -63,7 +63,7 @@ returns-then-faults-clause-served g c =
     let given : IsGivenBy g.D.Disk.seen g.D.Disk.may_leave DiskFault last.disk now.lazy = given_at_fault {g = g.D.Disk} now.lazy last recovers.stands in
     let parts = c.into_parts-parts.ensures in
     let swept = c.sweep-sweep.ensures in
-    let told : IsRunTold (ServedOn opening lazy log last.disk DiskFault script) script c.in_ok-text.text.items = record {
+    let told : IsRunTold (ServedOn opening log last.disk DiskFault script) script c.in_ok-text.text.items = record {
       start = opening;
       transcripts = transcripts_of now;
       history = now.history;
@@ -96,11 +96,11 @@ returns-then-is_ready-clause-served g c =
     subst (λ (k : Script). AreToldTheirCauses k (transcripts_of now) ended) own
     (c.what_ends_groups_is_told.ensures.replies opening m now c.args.journal.now c.in_order.new.journal keeps_all c.session_count.ensures.kept) in
     let same : m.lazy ≡ lazy = ap (λ (k : Machine). k.lazy) new in
-    let recovers = recovered {g = g.D.Disk} opening lazy m now c.args.journal.now c.in_order.new.journal same c.session_count.ensures.kept c.requires.stands keeps_all
+    let recovers = recovered {g = g.D.Disk} opening lazy m now c.args.journal.now c.in_order.new.journal same c.session_count.ensures.kept c.requires.stands c.requires.alone keeps_all
     c.every_crash_leaves_a_prefix.ensures.whole in
     let kept_now : IsKept opening now = kept_behind {g = g.D.Disk} opening m now c.args.journal.now c.in_order.new.journal c.session_count.ensures.kept keeps_all in
     let ready = ready_if last.standing (sym c.if-is_ready.true ∙ c.is_ready.ensures) in
-    let keeps = subst (λ (k : Script). KeepsOn lazy log last.disk Done k opening now.history ended) own (keeps_at_done opening lazy now log last kept_now ended recovers ready) in
+    let keeps = subst (λ (k : Script). KeepsOn log last.disk Done k opening now.history ended) own (keeps_at_done opening now log last kept_now ended recovers ready) in
     let sizes : AreSizesOf opening script now.history ended =
     subst (λ (k : Script). AreSizesOf opening k now.history ended) own (c.a_group_that_is_too_large_has_a_record_so_large.ensures opening m now c.args.journal.now c.in_order.new.journal keeps_all c.session_count.ensures.kept) in
     let causes : AreCaused opening script now.history (g.D.Disk.seen last.disk) (g.D.Disk.fault_count last.disk) Done ended = caused {g = g.D.Disk} last opening script now.history ended told_causes sizes Done (λ _. ready) in
@@ -109,7 +109,7 @@ returns-then-is_ready-clause-served g c =
     let given : IsGivenBy g.D.Disk.seen g.D.Disk.may_leave Done last.disk now.lazy = given_at_done {g = g.D.Disk} now.lazy last recovers.stands ready in
     let parts = c.into_parts-parts.ensures in
     let swept = c.sweep-sweep.ensures in
-    let told : IsRunTold (ServedOn opening lazy log last.disk Done script) script c.in_ok-text.text.items = record {
+    let told : IsRunTold (ServedOn opening log last.disk Done script) script c.in_ok-text.text.items = record {
       start = opening;
       transcripts = transcripts_of now;
       history = now.history;
@@ -128,7 +128,7 @@ returns-in_err-in_order-clause-broken_off g c =
     let m : Machine = c.in_ok-machine.machine in
     let new : m ≡ fresh g.N.Opened.logged c.args.store script 15 = c.in_ok-machine.ensures in
     on_err c.from_residual-in_err-in_order.result (broken_off {g = g.D.Disk} g.N.Opened.opening c.args.store.lazy script m c.in_order.new.machine c.args.journal.now c.in_order.new.journal
-    (ap (λ (k : Machine). k.script) new) (ap (λ (k : Machine). k.lazy) new) c.session_count.ensures.kept c.requires.stands c.in_order.ensures.keeps c.every_crash_leaves_a_prefix.ensures.whole)
+    (ap (λ (k : Machine). k.script) new) (ap (λ (k : Machine). k.lazy) new) c.session_count.ensures.kept c.requires.stands c.requires.alone c.in_order.ensures.keeps c.every_crash_leaves_a_prefix.ensures.whole)
 
 pub returns-in_err-text-clause-broken_off : goal.returns-in_err-text-clause-broken_off
 returns-in_err-text-clause-broken_off g c =
@@ -136,7 +136,7 @@ returns-in_err-text-clause-broken_off g c =
     let m : Machine = c.in_ok-machine.machine in
     let new : m ≡ fresh g.N.Opened.logged c.args.store script 15 = c.in_ok-machine.ensures in
     on_err c.from_residual-in_err-text.result (broken_off {g = g.D.Disk} g.N.Opened.opening c.args.store.lazy script m c.in_order.new.machine c.args.journal.now c.in_order.new.journal
-    (ap (λ (k : Machine). k.script) new) (ap (λ (k : Machine). k.lazy) new) c.session_count.ensures.kept c.requires.stands c.in_order.ensures.keeps c.every_crash_leaves_a_prefix.ensures.whole)
+    (ap (λ (k : Machine). k.script) new) (ap (λ (k : Machine). k.lazy) new) c.session_count.ensures.kept c.requires.stands c.requires.alone c.in_order.ensures.keeps c.every_crash_leaves_a_prefix.ensures.whole)
 
 pub returns-else-is_ready-clause-broken_off : goal.returns-else-is_ready-clause-broken_off
 returns-else-is_ready-clause-broken_off g c =
@@ -144,7 +144,7 @@ returns-else-is_ready-clause-broken_off g c =
     let m : Machine = c.in_ok-machine.machine in
     let new : m ≡ fresh g.N.Opened.logged c.args.store script 15 = c.in_ok-machine.ensures in
     broken_off {g = g.D.Disk} g.N.Opened.opening c.args.store.lazy script m c.in_order.new.machine c.args.journal.now c.in_order.new.journal
-    (ap (λ (k : Machine). k.script) new) (ap (λ (k : Machine). k.lazy) new) c.session_count.ensures.kept c.requires.stands c.in_order.ensures.keeps c.every_crash_leaves_a_prefix.ensures.whole
+    (ap (λ (k : Machine). k.script) new) (ap (λ (k : Machine). k.lazy) new) c.session_count.ensures.kept c.requires.stands c.requires.alone c.in_order.ensures.keeps c.every_crash_leaves_a_prefix.ensures.whole
 
 pub returns-then-is_given_up-clause-broken_off : goal.returns-then-is_given_up-clause-broken_off
 returns-then-is_given_up-clause-broken_off g c =
@@ -152,4 +152,4 @@ returns-then-is_given_up-clause-broken_off g c =
     let m : Machine = c.in_ok-machine.machine in
     let new : m ≡ fresh g.N.Opened.logged c.args.store script 15 = c.in_ok-machine.ensures in
     broken_off {g = g.D.Disk} g.N.Opened.opening c.args.store.lazy script m c.in_order.new.machine c.args.journal.now c.in_order.new.journal
-    (ap (λ (k : Machine). k.script) new) (ap (λ (k : Machine). k.lazy) new) c.session_count.ensures.kept c.requires.stands c.in_order.ensures.keeps c.every_crash_leaves_a_prefix.ensures.whole
+    (ap (λ (k : Machine). k.script) new) (ap (λ (k : Machine). k.lazy) new) c.session_count.ensures.kept c.requires.stands c.requires.alone c.in_order.ensures.keeps c.every_crash_leaves_a_prefix.ensures.whole
