@@ -1,5 +1,5 @@
 -- TRANSPOSED: what a condition on a new table says of the rows of an old one from which its rows come.
-use Rattle.std.specs.Prelude.{◌≡◌, ℕ, ◌-◌, ◌&&◌, ◌==◌, if◌then◌else◌, List, [], ◌∷◌, filter, length, nat_le, nat_lt, Option, Some, None, IsTrue, slice_get}
+use Rattle.std.specs.Prelude.{◌≡◌, ℕ, ◌-◌, Bool, true, false, ◌&&◌, ◌==◌, if◌then◌else◌, List, [], ◌∷◌, filter, length, nat_le, nat_lt, Option, Some, None, IsTrue, slice_get}
 use Rattle.std.specs.Option.{option_and_then}
 use Rattle.bf_base.specs.declared.granule.Place.TheVariants.{Row}
 use Rattle.bf_base.specs.declared.value.Value.{Value}
@@ -22,6 +22,8 @@ use Rattle.bf_image.specs.BoundArms.{arm_at}
 use Rattle.bf_image.specs.declared.migration.Frozen.{Frozen}
 use Rattle.bf_image.specs.declared.migration.Migration.{Migration}
 use Rattle.bf_transpose.specs.Scans.{IsDriverOf, gives}
+use Rattle.bf_transpose.specs.declared.scan.Behind.{Behind}
+use Rattle.bf_transpose.specs.declared.scan.Search.{Search}
 use Rattle.bf_transpose.specs.declared.transposed.Copies.{Copies}
 
 -- the place that an item copies, where it is a column, with or without AS
@@ -50,6 +52,12 @@ transposed copied (compared Equal (column at) (literal v)) = fixing (copied at) 
 transposed copied (compared Equal (literal v) (column at)) = fixing (copied at) v
 transposed copied c = always
 
+-- whether each conjunct is the one that is true of each row
+abbrev pub is_always : Cond ℕ → Bool
+is_always always = true
+is_always (both c d) = is_always c && is_always d
+is_always c = false
+
 -- the place in an arm's rows at which the columns of its driver begin, by how many columns FROM has: those of JOIN stand behind them. An
 -- arm by pairs or groups has no driver, and its place is not read
 abbrev pub begins_at : ArmKind → ℕ → ℕ
@@ -72,3 +80,7 @@ pub record AreCopies (m : Migration) (target : ℕ) (unit : Planned) (frozen : F
 pub record IsTransposed (m : Migration) (target : ℕ) (wanted : Cond ℕ) (unit : ℕ) (frozen : Frozen) (part : Cond ℕ) : Type 0 where
   pub driver : IsDriverOf m unit frozen
   pub held : (at : ℕ) (entry : Entry) → slice_get frozen.rows at ≡ Some entry → IsTrue (gives m target wanted (granule unit (Row at))) → IsTrue (holds_on (cell entry.1) part)
+
+-- BEHIND: a unit's driver with such a condition, for what a search wants
+abbrev pub IsBehind : Search → ℕ → Behind → Type 0
+IsBehind search unit behind = IsTransposed search.migration.now search.target search.cond.now unit behind.driver.now behind.cond

@@ -1,7 +1,7 @@
 //! Scans of a migration's granules: all of them, and those that give a row which a condition may
 //! pick.
 
-ghost use Rattle.std.specs.Prelude.{◌≡◌, ◌==◌, ◌∷◌, [], ◌++◌, ◌<◌, ◌≤◌, ℕ, false, IfOk, IfSome, OnOk, Some, filter, length, map};
+ghost use Rattle.std.specs.Prelude.{◌≡◌, ◌==◌, ◌∷◌, [], ◌++◌, ◌<◌, ◌≤◌, ℕ, false, IfOk, IfSome, IsTrue, OnOk, Some, filter, length, map};
 ghost use Rattle.std.specs.List.{list_any};
 ghost use Rattle.bf_base.specs.declared.granule.Place.TheVariants.{Row as At};
 ghost use Rattle.bf_tree.specs.Trees.{always};
@@ -12,12 +12,13 @@ ghost use Rattle.bf_image.specs.ByValues.{value_of};
 ghost use Rattle.bf_image.specs.Migrations.{IsLawfulMigration, anchors_in, old_of, target_at, value_indexes};
 ghost use Rattle.bf_transpose.specs.InOrder.{values_in};
 ghost use Rattle.bf_transpose.specs.Scans.{IsSearch, gives, granules_at, granules_in, has_arm, is_sought, row_granules, value_granules, values_indexed};
-ghost use Rattle.bf_transpose.specs.Transposed.{IsTransposed};
+ghost use Rattle.bf_transpose.specs.Transposed.{IsBehind};
 
 use crate::bounds::{positions_of, range_behind, rows_before, rows_to_end};
 use crate::condition::{total_places, without_totals};
 use crate::drivers::{copies_of, driver_of};
 use crate::merge::Merge;
+use crate::transposed::is_always;
 use bf_base::{Granule, Memory, Place, Row, Table};
 use bf_heap::KeyRange;
 use bf_image::value_indexes::UnitIndex;
@@ -162,6 +163,13 @@ struct Search<'a> {
     range: &'a KeyRange,
 }
 
+/// The driver of a unit, and what each of its rows satisfies from which a row that is sought comes.
+#[derive(Drop)]
+struct Behind<'a> {
+    driver: &'a Frozen,
+    cond: Cond,
+}
+
 impl<'a> Search<'a> {
     /// Whether a row, with the number of its target, is sought.
     fn accepts(&self, alloc: Global, of: u8, row: &Row) -> Result<bool, Memory>
@@ -249,12 +257,12 @@ impl<'a> Search<'a> {
         }
     }
 
-    /// What each row of a unit's driver satisfies from which a row that is sought comes, with the
-    /// driver; none where the unit goes by values, and where the target has no arm in it or several.
-    fn transposed(&self, alloc: Global, unit: u8) -> Result<Option<(&'a Frozen, Cond)>, Memory>
+    /// The driver of a unit, with what each of its rows satisfies from which a row that is sought comes;
+    /// none where the unit goes by values, where the target has no arm in it or several, and where
+    /// that would be true of each row.
+    fn behind(&self, alloc: Global, unit: u8) -> Result<Option<Behind<'a>>, Memory>
         requires { IsSearch self.now }
-        ensures { IfOk result (λ found. IfSome found (λ both. IsTransposed self.now.migration.now
-            self.now.target self.now.cond.now unit both.0.now both.1)) }
+        ensures { IfOk result (λ found. IfSome found (IsBehind self.now unit)) }
     {
         let Some(driver) = driver_of(self.migration, unit) else {
             return Ok(None);
@@ -265,29 +273,35 @@ impl<'a> Search<'a> {
         let Some(copies) = copies_of(self.migration, planned, driver, self.target) else {
             return Ok(None);
         };
-        let part = copies.transposed(alloc, self.cond)?;
-        Ok(Some((driver, part)))
+        let cond = copies.transposed(alloc, self.cond)?;
+        if is_always(&cond) {
+            return Ok(None);
+        }
+        Ok(Some(Behind { driver, cond }))
     }
 
     /// The positions of the rows of a unit's driver that an index finds, among which are all from which
     /// a row that is sought comes; none where no index of it serves better than its key.
-    fn positions_by_index(&self, alloc: Global, unit: u8) -> Result<Option<Vec<u32>>, Memory>
-        requires { IsSearch self.now }
+    fn positions_by_index(
+        &self,
+        alloc: Global,
+        unit: u8,
+        behind: &Behind,
+    ) -> Result<Option<Vec<u32>>, Memory>
+        requires search { IsSearch self.now }
+        requires behind { IsBehind self.now unit behind.now }
         ensures { IfOk result (λ found. IfSome found (λ positions.
             filter (gives self.now.migration.now self.now.target self.now.cond.now)
             (granules_at unit positions.items)
             ≡ filter (gives self.now.migration.now self.now.target self.now.cond.now)
             (row_granules unit (anchors_in self.now.migration.now unit)))) }
     {
-        let Some((driver, part)) = self.transposed(alloc, unit)? else {
+        let rows = &behind.driver.rows;
+        let Some(index) = index_for(rows.indexes(), &behind.driver.table, &behind.cond) else {
             return Ok(None);
         };
-        let indexes = driver.rows.indexes();
-        let Some(index) = index_for(indexes, &driver.table, &part) else {
-            return Ok(None);
-        };
-        let keys = keys_by_index(alloc, index, &part)?;
-        let heap = driver.rows.heap();
+        let keys = keys_by_index(alloc, index, &behind.cond)?;
+        let heap = rows.heap();
         // By its contract the heap is in the order of its keys.
         let _ = heap.len();
         let positions = positions_of(alloc, heap, &keys)?;
@@ -322,29 +336,77 @@ impl<'a> Search<'a> {
             (gives self.now.migration.now self.now.target self.now.cond.now)
             (row_granules unit (anchors_in self.now.migration.now unit))) }
     {
-        match self.positions_by_index(alloc, unit)? {
+        let Some(behind) = self.behind(alloc, unit)? else {
+            return self.add_in_range(alloc, unit, None, granules);
+        };
+        match self.positions_by_index(alloc, unit, &behind)? {
             Some(positions) => self.add_at(alloc, unit, &positions, granules),
-            None => self.add_in_range(alloc, unit, granules),
+            None => self.add_in_range(alloc, unit, Some(&behind), granules),
         }
     }
 
+    /// Whether a row that is sought may come of the row of a unit's driver at a position. It makes none:
+    /// it only tests what stands there.
+    fn may_give(
+        &self,
+        alloc: Global,
+        unit: u8,
+        behind: &Behind,
+        position: u32,
+    ) -> Result<bool, Memory>
+        requires { IsBehind self.now unit behind.now }
+        ensures { IfOk result (λ may. IsTrue (gives self.now.migration.now self.now.target
+            self.now.cond.now (granule unit (At position))) → IsTrue may) }
+    {
+        match behind.driver.rows.heap().at(position) {
+            Some((_, row)) => holds(alloc, &behind.cond, row),
+            None => Ok(true),
+        }
+    }
+
+    /// Adds the granule of a unit at a position if it gives a row that is sought. Its rows are made only
+    /// where the driver's row there satisfies what is known of it.
+    fn add_row(
+        &self,
+        alloc: Global,
+        unit: u8,
+        behind: Option<&Behind>,
+        position: u32,
+        granules: &mut Vec<Granule>,
+    ) -> Result<(), Memory>
+        requires search { IsSearch self.now }
+        requires behind { IfSome behind (λ behind. IsBehind self.now unit behind.now) }
+        ensures { OnOk result (granules.new.items ≡ granules.old.items ++ filter
+            (gives self.now.migration.now self.now.target self.now.cond.now)
+            (granule unit (At position) ∷ [])) }
+    {
+        if let Some(behind) = behind {
+            if !self.may_give(alloc, unit, behind, position)? {
+                return Ok(());
+            }
+        }
+        let place = Place::Row(position);
+        self.add(alloc, Granule { unit, place }, granules)
+    }
+
     /// Adds those granules of a unit that goes by rows. Only rows whose keys are in the range are
-    /// tried.
+    /// tried, and of these only such as satisfy what is known of the driver's rows, if anything is.
     fn add_in_range(
         &self,
         alloc: Global,
         unit: u8,
+        behind: Option<&Behind>,
         granules: &mut Vec<Granule>,
     ) -> Result<(), Memory>
-        requires { IsSearch self.now }
+        requires search { IsSearch self.now }
+        requires behind { IfSome behind (λ behind. IsBehind self.now unit behind.now) }
         ensures { OnOk result (granules.new.items ≡ granules.old.items ++ filter
             (gives self.now.migration.now self.now.target self.now.cond.now)
             (row_granules unit (anchors_in self.now.migration.now unit))) }
     {
         let (first, end) = self.bounds(unit);
         for position in first..end {
-            let place = Place::Row(position);
-            self.add(alloc, Granule { unit, place }, granules)?;
+            self.add_row(alloc, unit, behind, position, granules)?;
         }
         Ok(())
     }
@@ -417,11 +479,13 @@ impl<'a> Search<'a> {
 /// condition, as far as that is known without its totals. It computes the parts of the granules of
 /// units that have an arm of the target, or only finds out whether they have a row of it where the
 /// condition is true of each row. Of a unit that goes by rows those are only the ones whose rows
-/// have keys in the range that the condition leaves, which are found by about log n compares. Where an
-/// index of the old table serves what the condition says of the columns that are copied from it, and
-/// has more columns than this fixes of the front of its key, they are only the rows that it finds, each
-/// by about log n compares of pairs and of keys. A target with several arms in a unit keeps to the range
-/// there. A unit that goes by values is gone through.
+/// have keys in the range that the condition leaves, which are found by about log n compares, and where
+/// the condition fixes columns that are copied from the old table, only the ones whose rows have these
+/// values: a row that has others costs its look-up and the compares. Where an index of the old table
+/// serves what the condition says of those columns, and has more columns than this fixes of the front
+/// of its key, they are only the rows that it finds, each by about log n compares of pairs and of keys.
+/// A target with several arms in a unit keeps to the range there. A unit that goes by values is gone
+/// through.
 ///
 /// # Errors
 /// Where memory runs out.

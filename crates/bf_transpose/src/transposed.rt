@@ -3,7 +3,7 @@
 ghost use Rattle.std.specs.Prelude.{◌≡◌, IfOk};
 ghost use Rattle.bf_tree.specs.Trees.{compared};
 ghost use Rattle.bf_tree.specs.declared.compare.Compare.TheVariants.{Equal};
-ghost use Rattle.bf_transpose.specs.Transposed.{column_copied, fixing, place_copied, transposed};
+ghost use Rattle.bf_transpose.specs.Transposed.{column_copied, fixing, is_always, place_copied, transposed};
 
 use bf_base::{Memory, Value};
 use bf_tree::{Compare, Cond, Expr, Node, PlacedItem, Test};
@@ -90,5 +90,16 @@ impl<'a> Copies<'a> {
             Test::Compare(Compare::Equal, left, right) => self.equality(alloc, left, right),
             _ => Ok(Cond::of(Test::Always)),
         }
+    }
+}
+
+/// Whether a condition has no conjunct but such as are true of each row. Takes no memory.
+pub(crate) fn is_always(cond: &Cond) -> bool
+    ensures { result ≡ is_always cond.now }
+{
+    match cond.node() {
+        Test::Always => true,
+        Test::And(left, right) => is_always(left) && is_always(right),
+        _ => false,
     }
 }

@@ -29,7 +29,7 @@ loop-position-preserved c =
     let next : List Granule = filter test (granule unit (Row n) ∷ []) in
     record {
       within = omega (arith, c.loop-position-test.true, c.bounds-first.ensures.end);
-      found = c.in_ok-add.ensures
+      found = c.in_ok-add_row.ensures
           ∙ (ap (λ (gs : List Granule). gs ++ next) c.loop-position.invariant.found
           ∙ (append_assoc before (filter test (row_granules unit n)) next ∙ ap (λ (gs : List Granule). before ++ gs) (sym (row_tested unit test n))));
     }

@@ -4,7 +4,7 @@ use Rattle.std.proofs.lemmas.Option.{slice_get_read}
 use Rattle.bf_base.specs.Tables.{cell}
 use Rattle.bf_tree.specs.Evaluation.{holds_on}
 use Rattle.bf_transpose.proofs.Coming.{came}
-use Rattle.bf_transpose.proofs.scan.Search.transposed.Goals as goal
+use Rattle.bf_transpose.proofs.scan.Search.behind.Goals as goal
 
 pub returns : goal.returns
 returns c =
@@ -16,6 +16,6 @@ returns c =
     record {
       driver = c.in-Some.ensures;
       held = λ at entry there given.
-          (λ i. holds_on (cell entry.1) (c.in_ok-part.ensures i))
+          (λ i. holds_on (cell entry.1) (c.in_ok-cond.ensures i))
           ∙ came m c.requires.lawful s.cond.now s.target c.requires.there unit planned here c.in-Some.driver.now c.in-Some.ensures c.in-Some-copies_of.copies c.in-Some-copies_of.ensures at entry there given;
     }
