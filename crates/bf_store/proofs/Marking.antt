@@ -9,7 +9,7 @@ use Rattle.std.specs.Map.{keys_of, lookup, remove_entry}
 use Rattle.std.specs.Ordering.{match_ordering}
 use Rattle.std.proofs.lemmas.Bool.{and_parts, and_from, or_parts, or_from, or_right, cases_Bool, not_from_false, not-true}
 use Rattle.std.proofs.lemmas.Cmp.{tied_itself}
-use Rattle.std.proofs.lemmas.List.Elements.{filter_agree}
+use Rattle.std.proofs.lemmas.List.Elements.{filter_agree, filter_more}
 use Rattle.std.proofs.lemmas.List.Folds.{list_any-append}
 use Rattle.std.proofs.lemmas.Grind.{fold-append}
 use Rattle.std.proofs.lemmas.List.{append-nil, map-append, take_more}
@@ -22,7 +22,7 @@ use Rattle.bf_sql.specs.migrations.Granules.{same_granule}
 use Rattle.bf_sql.specs.migrations.Lazy.{DoneGranule, done_by}
 use Rattle.bf_txn.proofs.KeyWrites.{rises_from_sorted}
 use Rattle.bf_store.specs.ByUnit.{Numbered, marks_of}
-use Rattle.bf_store.specs.Marks.{AreFresh, granules_in, marked, number_in, numbered_of, unmarked, with_mark}
+use Rattle.bf_store.specs.Marks.{AreFresh, granules_in, left_of, marked, number_in, numbered_of, unmarked, with_mark}
 use Rattle.bf_store.specs.States.{granule_cmp}
 use Rattle.bf_store.proofs.Granules.{granule_cmp_total, granule_ties}
 
@@ -218,3 +218,19 @@ numbered_more done gs i g in_range is =
     behind : (hs : List Granule) → filter_map found (hs ++ g ∷ []) ≡ filter_map found hs ++ option_to_list (found g)
     behind [] = alone (found g)
     behind (h ∷ hs) = ap (cons_option (found h)) (behind hs) ∙ further (found h) (filter_map found hs) (option_to_list (found g))
+
+-- those that have not moved, with one more granule
+pub left_more : (done : List DoneGranule) (gs : List Granule) (i : ℕ) (g : Granule) → i < length gs → g ≡ get_or gs i g
+    → (moved : Bool) → is_some (number_in done g) ≡ moved → left_of done (take (i + 1) gs) ≡ left_of done (take i gs) ++ cond moved [] (g ∷ [])
+left_more done gs i g in_range is moved known =
+    filter_more waits gs i g in_range
+    ∙ ap (λ (h : Granule). left_of done (take i gs) ++ cond (waits h) (h ∷ []) []) (sym is)
+    ∙ ap (λ (b : Bool). left_of done (take i gs) ++ cond (not b) (g ∷ []) []) (sym (is_some-number_in done g) ∙ known)
+    ∙ turned moved
+  where
+    waits : Granule → Bool
+    waits h = not (has same_granule (granules_in done) h)
+
+    turned : (b : Bool) → left_of done (take i gs) ++ cond (not b) (g ∷ []) [] ≡ left_of done (take i gs) ++ cond b [] (g ∷ [])
+    turned true = refl
+    turned false = refl

@@ -21,6 +21,15 @@ pub struct Done {
     count: usize,
 }
 
+/// Some granules, parted by whether they have moved.
+#[derive(Drop)]
+pub struct Parted {
+    /// Those that have moved, each with the number of its record.
+    pub moved: Vec<(Granule, u64)>,
+    /// Those that have not.
+    pub left: Vec<Granule>,
+}
+
 impl Model for Done {
     ghost use Rattle.std.specs.Prelude.{List};
     ghost use Rattle.bf_sql.specs.migrations.Lazy.{DoneGranule};
@@ -86,25 +95,25 @@ impl Done {
         Ok(left)
     }
 
-    /// Those of some granules that have moved, each with the number of its record. For each it
-    /// costs what `number` does, and a copy.
+    /// Some granules, parted by whether they have moved. For each it costs what `number` does, and a
+    /// copy.
     ///
     /// # Errors
     /// Where memory runs out.
-    pub fn numbered(
-        &self,
-        alloc: Global,
-        granules: &[Granule],
-    ) -> Result<Vec<(Granule, u64)>, Memory>
-        ensures { IfOk result (λ found. found.items ≡ numbered_of self.now granules.now) }
+    pub fn parted(&self, alloc: Global, granules: &[Granule]) -> Result<Parted, Memory>
+        ensures moved { IfOk result (λ parted. parted.moved.items ≡ numbered_of self.now granules.now) }
+        ensures left { IfOk result (λ parted. parted.left.items ≡ left_of self.now granules.now) }
     {
-        let mut found = Vec::new(alloc);
+        let mut moved = Vec::new(alloc);
+        let mut left = Vec::new(alloc);
         for granule in granules {
-            if let Some(number) = self.number(granule) {
-                found.push((granule.copy(alloc)?, number))?;
+            let same = granule.copy(alloc)?;
+            match self.number(granule) {
+                Some(number) => moved.push((same, number))?,
+                None => left.push(same)?,
             }
         }
-        Ok(found)
+        Ok(Parted { moved, left })
     }
 
     /// Notes that one record has moved a granule, which had not moved.

@@ -204,8 +204,9 @@ pub(crate) fn move_granules(
 {
     // Its contract says that the marks are in order.
     let _ = last.done.len();
-    let already = last.done.numbered(alloc, granules)?;
-    let left = last.done.left(alloc, granules)?;
+    let parted = last.done.parted(alloc, granules)?;
+    let already = parted.moved;
+    let left = parted.left;
     if left.is_empty() {
         let fresh = Vec::new(alloc);
         return Ok(Moved { fresh, already });

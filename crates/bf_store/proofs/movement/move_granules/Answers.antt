@@ -29,19 +29,19 @@ returns-then-is_empty-clause-ok c =
     let u = c.args.last.now in
     let records = c.args.records.now in
     let gs = c.args.granules.now in
-    let empty : length c.in_ok-left.left.items ≡ 0 = no_length c.in_ok-left.left (sym c.is_empty.ensures ∙ c.if-is_empty.true) in
-    let none : left_of u.done gs ≡ [] = sym c.in_ok-left.ensures ∙ nothing_if c.in_ok-left.left.items empty in
+    let empty : length c.in_ok-parted.parted.left.items ≡ 0 = no_length c.in_ok-parted.parted.left (sym c.is_empty.ensures ∙ c.if-is_empty.true) in
+    let none : left_of u.done gs ≡ [] = sym c.in_ok-parted.ensures.left ∙ nothing_if c.in_ok-parted.parted.left.items empty in
     record {
       state = sym (unmoved_state live (last_seen u) records gs c.len.ensures.ordered none);
       fresh = c.new-fresh.ensures.items ∙ ap (map (receipt_of (lazy_seen live (Some u) records))) (sym none);
-      already = c.in_ok-already.ensures;
+      already = c.in_ok-parted.ensures.moved;
     }
 
 pub move_in-requires-clause-fresh : goal.move_in-requires-clause-fresh
 move_in-requires-clause-fresh c =
     let last = last_seen c.args.last.now in
     let gs = c.args.granules.now in
-    subst (MayMove last) (sym (c.deref-2.ensures.value ∙ c.in_ok-left.ensures)) (may_move c.args.live.now last c.requires.store.lazy_state.last gs c.requires.granules)
+    subst (MayMove last) (sym (c.deref-2.ensures.value ∙ c.in_ok-parted.ensures.left)) (may_move c.args.live.now last c.requires.store.lazy_state.last gs c.requires.granules)
 
 pub returns-in_err-move_in-clause-store : goal.returns-in_err-move_in-clause-store
 returns-in_err-move_in-clause-store c =
@@ -54,9 +54,9 @@ returns-clause-store c =
     let u = c.args.last.now in
     let v = c.move_in.new.last in
     let moving = c.deref-2.result.now in
-    let fresh : moving ≡ left_of u.done c.args.granules.now = c.deref-2.ensures.value ∙ c.in_ok-left.ensures in
+    let fresh : moving ≡ left_of u.done c.args.granules.now = c.deref-2.ensures.value ∙ c.in_ok-parted.ensures.left in
     let n : c.in_ok-number.number ≡ c.args.records.now + 1 = one_more c.checked_add.result c.in_ok-number.number c.args.records.now c.checked_add.ensures c.in_ok-number.ensures.ok_part in
-    let some : 0 < length moving = some_length c.in_ok-left.left moving (sym c.is_empty.ensures ∙ c.if-is_empty.false) c.deref-2.ensures.value in
+    let some : 0 < length moving = some_length c.in_ok-parted.parted.left moving (sym c.is_empty.ensures ∙ c.if-is_empty.false) c.deref-2.ensures.value in
     store_then c.args.live.now c.move_in.new.live u v c.args.records.now c.in_ok-number.number c.args.granules.now moving fresh some n c.in_ok-move_in.ensures.live c.in_ok-move_in.ensures.pass c.in_ok-move_in.ensures.done
     c.requires.store c.requires.granules c.in_ok-move_in.ensures.counted
 
@@ -66,6 +66,6 @@ returns-in_err-move_in-clause-nothing c = λ none i. seen (c.in_err-move_in.ensu
 pub returns-clause-nothing : goal.returns-clause-nothing
 returns-clause-nothing c = λ none.
     let moving = c.deref-2.result.now in
-    let fresh : moving ≡ left_of c.args.last.now.done c.args.granules.now = c.deref-2.ensures.value ∙ c.in_ok-left.ensures in
-    let some : 0 < length moving = some_length c.in_ok-left.left moving (sym c.is_empty.ensures ∙ c.if-is_empty.false) c.deref-2.ensures.value in
+    let fresh : moving ≡ left_of c.args.last.now.done c.args.granules.now = c.deref-2.ensures.value ∙ c.in_ok-parted.ensures.left in
+    let some : 0 < length moving = some_length c.in_ok-parted.parted.left moving (sym c.is_empty.ensures ∙ c.if-is_empty.false) c.deref-2.ensures.value in
     absurd (omega (arith, some, ap (λ (gs : List Granule). length gs) (fresh ∙ none)))
