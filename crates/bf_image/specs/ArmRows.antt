@@ -1,5 +1,5 @@
 -- What an arm asks of the rows that it makes rows of.
-use Rattle.std.specs.Prelude.{◌≡◌, ℕ, Bool, true, ◌&&◌, List, [], ◌∷◌, map, filter, flat_map, None, if◌then◌else◌}
+use Rattle.std.specs.Prelude.{◌≡◌, ℕ, Bool, true, false, ◌&&◌, List, [], ◌∷◌, map, filter, flat_map, None, if◌then◌else◌}
 use Rattle.std.specs.List.{list_all, AllByRecursion}
 use Rattle.bf_base.specs.declared.value.Value.{Value}
 use Rattle.bf_base.specs.Tables.{cell, cells}
@@ -64,3 +64,8 @@ rows_of_match arm on pair = if is_match arm on pair then made_of arm (pair ∷ [
 
 abbrev pub CanMatch : PlacedArm → List (ℕ × ℕ) → List Value → Type 0
 CanMatch arm on pair = is_match arm on pair ≡ true → IsUnobjected arm (pair ∷ [])
+
+abbrev pub is_column : PlacedItem → Bool
+is_column (placed.Column place) = true
+is_column (placed.Value e) = false
+is_column (placed.Total total) = false

@@ -1,43 +1,25 @@
 //! Rows that an arm makes of rows of its tables.
 
-ghost use Rattle.std.specs.Prelude.{◌≡◌, ◌++◌, [], ◌∷◌, IfOk, OnOk, Some, None, filter, map, flat_map};
+ghost use Rattle.std.specs.Prelude.{◌≡◌, ◌++◌, [], ◌∷◌, IfOk, OnOk, Some, None, filter, map, flat_map, true};
 ghost use Rattle.std.specs.List.{list_all, All};
 ghost use Rattle.bf_base.specs.declared.value.Value.{Value as Cell};
 ghost use Rattle.bf_base.specs.Tables.{cell};
 ghost use Rattle.bf_tree.specs.Evaluation.{holds_on, sure_value};
+ghost use Rattle.bf_tree.specs.Trees.{always};
 ghost use Rattle.bf_tree.specs.declared.items.Items.TheVariants.{Aggregates};
 ghost use Rattle.bf_sql.specs.RowObjections.{answer_objections};
 ghost use Rattle.bf_sql.specs.Totals.{total_of};
 ghost use Rattle.bf_sql.specs.migrations.Images.{value_or_nought};
-ghost use Rattle.bf_sql.specs.migrations.Placed.{is_equal_at, placed_over, placed_rows};
-ghost use Rattle.bf_image.specs.ArmRows.{AreOfOne, CanMake, CanMakeOf, CanMatch, IsUnobjected, item_objections, made_of, rows_made_of, rows_of_match, those_if_any};
+ghost use Rattle.bf_sql.specs.migrations.Placed.{placed_over, placed_rows};
+ghost use Rattle.bf_image.specs.ArmRows.{AreOfOne, CanMake, CanMakeOf, CanMatch, IsUnobjected, is_column, item_objections, made_of, rows_made_of, rows_of_match, those_if_any};
 
+use crate::beside::{is_matched_beside, side_by_side, value_beside};
 use bf_base::{Memory, Row, Value};
 use bf_query::running::totals;
 use bf_tree::{
-    Aggregate, ArmKind, Cell, Expr, Fail, PlacedArm, PlacedItem, StatementError, holds, value,
+    Aggregate, ArmKind, Cell, Expr, Fail, PlacedArm, PlacedItem, StatementError, Test, holds, value,
 };
 use std::alloc::Global;
-
-/// Puts copies of the values of a row behind others.
-fn add_values(alloc: Global, values: &mut Vec<Value>, row: &Row) -> Result<(), Memory>
-    ensures { OnOk result (values.new.items ≡ values.old.items ++ row.now) }
-{
-    for value in row.as_slice() {
-        values.push(value.copy(alloc)?)?;
-    }
-    Ok(())
-}
-
-/// A row with the values of another behind its own.
-pub(crate) fn side_by_side(alloc: Global, left: &Row, right: &Row) -> Result<Row, Memory>
-    ensures { IfOk result (λ row. row ≡ left.now ++ right.now) }
-{
-    let mut values = Vec::with_capacity(alloc, left.as_slice().len() + right.as_slice().len())?;
-    add_values(alloc, &mut values, left)?;
-    add_values(alloc, &mut values, right)?;
-    Ok(Row::of(values))
-}
 
 /// The value of an expression on a row, and 0 where it has none.
 fn sure_value(alloc: Global, expr: &Expr, row: &Row) -> Result<Value, Memory>
@@ -109,24 +91,6 @@ fn made_row(alloc: Global, arm: &PlacedArm, rows: &[&Row]) -> Result<Row, Memory
     Ok(Row::of(values))
 }
 
-/// Whether a row has equal values at two places. A place past its end counts as 0.
-fn is_equal_at(row: &Row, pair: (u8, u8)) -> bool
-    ensures { result ≡ is_equal_at row.now pair }
-{
-    let nought = Value::Int(0);
-    let values = row.as_slice();
-    let left = values.get(pair.0 as usize).unwrap_or(&nought);
-    let right = values.get(pair.1 as usize).unwrap_or(&nought);
-    *left == *right
-}
-
-/// Whether a row has equal values at the places of each pair.
-fn is_matched(row: &Row, on: &[(u8, u8)]) -> bool
-    ensures { result ≡ list_all (is_equal_at row.now) on.now }
-{
-    on.iter().all(|pair| is_equal_at(row, *pair))
-}
-
 /// The rows that satisfy an arm's condition.
 fn satisfying<'a>(alloc: Global, arm: &PlacedArm, rows: &[&'a Row]) -> Result<Vec<&'a Row>, Memory>
     ensures { IfOk result (λ found. map (λ row. row.now) found.items
@@ -185,20 +149,84 @@ fn rows_alone(alloc: Global, arm: &PlacedArm, from: &[&Row]) -> Result<Vec<Row>,
     }
 }
 
-/// Adds the row of a pair of rows side by side, if they match.
+/// Whether an arm copies columns, and nothing else, of all rows that match its ON.
+fn copies_columns(arm: &PlacedArm) -> bool
+    ensures all { result ≡ true → arm.now.cond ≡ always }
+    ensures columns { result ≡ true → list_all is_column arm.now.items ≡ true }
+{
+    match arm.cond.node() {
+        Test::Always => are_columns(arm.items.as_slice()),
+        _ => false,
+    }
+}
+
+/// Whether an item is a column.
+fn is_column(item: &PlacedItem) -> bool
+    ensures { result ≡ is_column item.now }
+{
+    matches!(item, PlacedItem::Column(_))
+}
+
+/// Whether items are columns.
+fn are_columns(items: &[PlacedItem]) -> bool
+    ensures { result ≡ list_all is_column items.now }
+{
+    items.iter().all(|item| is_column(item))
+}
+
+/// The value of an item that is a column, in two rows side by side.
+fn column_beside(alloc: Global, item: &PlacedItem, left: &Row, right: &Row) -> Result<Value, Memory>
+    requires { is_column item.now ≡ true }
+    ensures { IfOk result (λ found. found ≡ placed_over ((left.now ++ right.now) ∷ []) item.now) }
+{
+    match item {
+        PlacedItem::Column(place) => {
+            let nought = Value::Int(0);
+            value_beside(left, right, *place, &nought).copy(alloc)
+        }
+        PlacedItem::Value(_) | PlacedItem::Total(_) => unreachable!(),
+    }
+}
+
+/// The row that an arm whose items are columns makes of two rows side by side.
+fn columns_beside(alloc: Global, arm: &PlacedArm, left: &Row, right: &Row) -> Result<Row, Memory>
+    requires { list_all is_column arm.now.items ≡ true }
+    ensures { IfOk result (λ row. row ≡ made_of arm.now ((left.now ++ right.now) ∷ [])) }
+{
+    let items = arm.items.as_slice();
+    let mut values = Vec::with_capacity(alloc, items.len())?;
+    for item in items {
+        values.push(column_beside(alloc, item, left, right)?)?;
+    }
+    Ok(Row::of(values))
+}
+
+/// Adds the row of two rows side by side, if they match. They are put side by side only where they
+/// match ON, and the arm does more than copy columns.
 fn add_match(
     alloc: Global,
     arm: &PlacedArm,
     on: &[(u8, u8)],
-    pair: &Row,
+    left: &Row,
+    right: &Row,
     made: &mut Vec<Row>,
 ) -> Result<(), Memory>
-    requires { CanMatch arm.now on.now pair.now }
-    ensures { OnOk result (made.new.items ≡ made.old.items ++ rows_of_match arm.now on.now pair.now) }
+    requires { CanMatch arm.now on.now (left.now ++ right.now) }
+    ensures { OnOk result (made.new.items ≡ made.old.items
+        ++ rows_of_match arm.now on.now (left.now ++ right.now)) }
 {
-    if is_matched(pair, on) && holds(alloc, &arm.cond, pair)? {
-        made.push(made_row(alloc, arm, &[pair])?)?;
+    if !is_matched_beside(left, right, on) {
+        return Ok(());
     }
+    if copies_columns(arm) {
+        made.push(columns_beside(alloc, arm, left, right)?)?;
+        return Ok(());
+    }
+    let pair = side_by_side(alloc, left, right)?;
+    if !holds(alloc, &arm.cond, &pair)? {
+        return Ok(());
+    }
+    made.push(made_row(alloc, arm, &[&pair])?)?;
     Ok(())
 }
 
@@ -216,8 +244,7 @@ fn add_matches(
         ++ flat_map (λ right. rows_of_match arm.now on.now (left.now ++ right.now)) join.now) }
 {
     for right in join {
-        let pair = side_by_side(alloc, left, right)?;
-        add_match(alloc, arm, on, &pair, made)?;
+        add_match(alloc, arm, on, left, right, made)?;
     }
     Ok(())
 }

@@ -5,7 +5,7 @@ use Rattle.std.proofs.lemmas.Bool.{and_parts, and_from, or_left, false≢true}
 use Rattle.std.proofs.lemmas.List.{flat_map_more, map_more, take_more}
 use Rattle.std.proofs.lemmas.List.Concat.{flat_map-append}
 use Rattle.std.proofs.lemmas.List.Elements.{All-from_recursion}
-use Rattle.std.proofs.lemmas.List.Folds.{flat_map-map}
+use Rattle.std.proofs.lemmas.List.Folds.{flat_map-map, list_all_at}
 use Rattle.bf_base.specs.declared.value.Value.{Value}
 use Rattle.bf_base.specs.Distinct.{distinct}
 use Rattle.bf_base.specs.Lists.{has, same_key}
@@ -45,6 +45,13 @@ module _ {X : Type 0} (xs : List X) (i : ℕ) (x : X) (less : i < length xs) (is
   -- nothing comes of the whole, so nothing comes of an item
   pub none_at : {Y : Type 0} (f : X → List Y) → flat_map f xs ≡ [] → f x ≡ []
   none_at f none = one_of (λ x. f x ≡ []) (none_of f xs none)
+
+  pub passes : (test : X → Bool) → list_all test xs ≡ true → test x ≡ true
+  passes test all = of (test x) refl
+    where
+      of : (b : Bool) → test x ≡ b → test x ≡ true
+      of true e = e
+      of false e = absurd (false≢true (sym (list_all_at test xs i x less (ap test (sym is) ∙ e)) ∙ all))
 
 -- rows are a group where there is one
 module _ {R : Type 0} (now : R → List Value) where

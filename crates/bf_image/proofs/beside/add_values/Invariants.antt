@@ -1,5 +1,5 @@
 use Rattle.std.proofs.Common.{◌≡◌, ◌++◌, take}
-use Rattle.bf_image.proofs.arm_rows.add_values.Given as goal
+use Rattle.bf_image.proofs.beside.add_values.Given as goal
 
 -- the values so far stand behind the others
 abbrev pub invariant-loop-value : goal.invariant-loop-value
