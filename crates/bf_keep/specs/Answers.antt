@@ -5,6 +5,7 @@ use Rattle.bf_disk.specs.declared.disk.Disk.{Ghosts}
 use Rattle.bf_journal.specs.Answered.{IsAnsweredBy}
 use Rattle.bf_journal.specs.States.{StandsOn}
 use Rattle.bf_log.specs.Append.{disk_of, end_of, halted_of, standing_of}
+use Rattle.bf_log.specs.Format.{frame}
 use Rattle.bf_log.specs.declared.error.AppendError.{AppendError}
 use Rattle.bf_log.specs.declared.error.AppendError.TheVariants as appends
 use Rattle.bf_log.specs.declared.log.Log.{Log}
@@ -48,9 +49,10 @@ is_spent other = false
 abbrev pub HasRecordOf : LazyState → LazyState → ℕ → Type 0
 HasRecordOf lazy next size = (payload : List ℕ) × StepsTo lazy payload next × (size ≡ length payload)
 
--- and so has the one that is told to be too large
+-- and so has the one that is told to be too large, or with its frame to need more than the log comes to take
 abbrev pub IsSizeTold : LazyState → LazyState → Result (Unit {0}) KeepError → Type 0
 IsSizeTold lazy next (Err (keeps.Ended (TooLarge size))) = HasRecordOf lazy next size
+IsSizeTold lazy next (Err (keeps.Ended (LogFull end need))) = (size : ℕ) × HasRecordOf lazy next size × (need ≡ size + frame)
 IsSizeTold lazy next other = Unit {0}
 
 -- the cause of a fault of the device
@@ -159,20 +161,22 @@ GroupMakes script group now then = (n : ℕ) × (then ≡ run_entry now (entry_o
 abbrev pub MakesOf : Script → EndedGroup → Database → Database → Type 0
 MakesOf script group now then = (then ≡ now) ⊎ GroupMakes script group now then
 
--- TOO LARGE: a group is told the bytes of a record of its own, in a state that is seen as the database behind a prefix of the history: of what
--- it makes of that, or of a move
-pub record IsTooLarge (start : Database) (script : Script) (history : List Entry) (group : EndedGroup) (size : ℕ) : Type 0 where
+-- RECORD BEHIND a prefix of the history: a change that makes this of the database there has a record of so many bytes, in a state that is seen as
+-- that database
+pub record HasRecordBehind (start : Database) (script : Script) (history : List Entry) (Makes : Database → Database → Type 0) (size : ℕ) : Type 0 where
   pub prefix : List Entry
   pub later : List Entry
   pub of_history : prefix ++ later ≡ history
   pub lazy : LazyState
   pub next : LazyState
   pub seen : view_of lazy ≡ (replayed script start prefix).1
-  pub makes : MakesOf script group (view_of lazy) (view_of next)
+  pub makes : Makes (view_of lazy) (view_of next)
   pub has_record : HasRecordOf lazy next size
 
+-- A group is told to be too large by the size of a record of what it makes; and that the log is full by the need of such a record, or of a move
 abbrev pub IsSizeOf : Database → Script → List Entry → EndedGroup → Cause → Type 0
-IsSizeOf start script history group (TooLarge size) = IsTooLarge start script history group size
+IsSizeOf start script history group (TooLarge size) = HasRecordBehind start script history (GroupMakes script group) size
+IsSizeOf start script history group (LogFull end need) = (size : ℕ) × HasRecordBehind start script history (MakesOf script group) size × (need ≡ size + frame)
 IsSizeOf start script history group other = Unit {0}
 
 abbrev pub AreSizesOf : Database → Script → List Entry → List EndedGroup → Type 0

@@ -8,7 +8,7 @@ ghost use Rattle.bf_machine.specs.declared.journal.KeepError.{KeepError as Why};
 ghost use Rattle.bf_machine.specs.declared.journal.KeepError.TheVariants.{Memory as NoMemory};
 ghost use Rattle.bf_machine.specs.interleaving.Answering.{CanSettle};
 ghost use Rattle.bf_machine.specs.interleaving.Events.{put_into};
-ghost use Rattle.bf_machine.specs.interleaving.Journals.{IsOfLogIfEnded, IsOneRecord, IsStated, leaves_something};
+ghost use Rattle.bf_machine.specs.interleaving.Journals.{IsOfLogIfEnded, IsOfMoveIfEnded, IsOneRecord, IsStated, leaves_something};
 ghost use Rattle.bf_machine.specs.interleaving.Seen.{pending_seen};
 
 use crate::so_far::Pending;
@@ -59,13 +59,15 @@ pub trait Journal {
     /// Keeps a move of granules of the last migration, none of which has moved, before it is made.
     ///
     /// # Errors
-    /// The cause by which the group ends that needs them, and where memory runs out.
+    /// The cause by which the group ends that needs them, which is never that a record is too large; and
+    /// where memory runs out.
     fn keep_moves(&mut self, store: &Store, granules: &[Granule]) -> Result<(), KeepError>
         requires record { IsOneRecord store.now.lazy.last granules.now }
         requires left { to_move store.now.lazy.last granules.now ≡ granules.now }
         ensures answers { Answers store.now.lazy (with_moved store.now.lazy granules.now) self.old
             self.new result }
-        ensures ended { IsOfLogIfEnded ends result };
+        ensures ended { IsOfLogIfEnded ends result }
+        ensures fits { IsOfMoveIfEnded result };
 
     /// Tells it that the change that it kept last is not made, for want of memory. It takes no memory.
     fn give_up(&mut self)

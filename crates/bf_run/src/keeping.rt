@@ -23,7 +23,7 @@ use bf_disk::{Disk, DiskError, Shelf};
 use bf_image::Registry;
 use bf_keep::LogJournal;
 use bf_keep::laws::{
-    a_group_that_is_too_large_has_a_record_so_large, every_crash_leaves_a_prefix,
+    a_size_that_is_told_is_that_of_a_record, every_crash_leaves_a_prefix,
     what_ends_groups_is_told,
 };
 use bf_log::{Log, OpenError};
@@ -76,7 +76,7 @@ fn tell_run<N: Opened, D: Disk, R: Wait>(
     sessions_that_have_ended_ran_over(PhantomData::<LogJournal<D>>);
     every_crash_leaves_a_prefix(PhantomData::<D>);
     what_ends_groups_is_told(PhantomData::<D>);
-    a_group_that_is_too_large_has_a_record_so_large(PhantomData::<D>);
+    a_size_that_is_told_is_that_of_a_record(PhantomData::<D>);
     in_order(alloc, rt, registry, journal, &mut machine, &[])?;
     if journal.is_given_up() {
         return Err(Memory);

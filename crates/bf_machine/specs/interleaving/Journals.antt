@@ -8,6 +8,7 @@ use Rattle.bf_sql.specs.migrations.Lazy.{LazyState, Migration}
 use Rattle.bf_store.specs.Calls.{tells}
 use Rattle.bf_store.specs.States.{AreGranulesIfAny, place_cmp, with_moved}
 use Rattle.bf_tree.specs.declared.reply.Cause.{Cause}
+use Rattle.bf_tree.specs.declared.reply.Cause.TheVariants.{TooLarge}
 use Rattle.bf_tree.specs.declared.script.Script.{Script}
 use Rattle.bf_tree.specs.declared.script.Session.{Session}
 use Rattle.bf_tree.specs.declared.statement.Statement.{Statement}
@@ -61,13 +62,35 @@ IsPutInto lazy pending next = next ≡ put_into lazy pending
 abbrev pub IsMoveIn : LazyState → LazyState → Type 0
 IsMoveIn lazy next = (granules : List Granule) × AreGranulesIfAny lazy.last granules × (next ≡ with_moved lazy granules)
 
--- for the open group of session s, which is to commit or needs the move
+-- what the open group of session s is to leave, which is to commit
+abbrev pub IsLeftFor : Machine → ℕ → LazyState → Type 0
+IsLeftFor m s next = (can : IsToCommit m s) × IsPutInto m.lazy can.o.pending next
+
+-- or a move, whoever needs it
 abbrev pub IsChangeFor : Machine → ℕ → LazyState → Type 0
-IsChangeFor m s next = ((can : IsToCommit m s) × IsPutInto m.lazy can.o.pending next) ⊎ IsMoveIn m.lazy next
+IsChangeFor m s next = IsLeftFor m s next ⊎ IsMoveIn m.lazy next
 
 -- for that of some session
 abbrev pub IsChangeOf : Machine → LazyState → Type 0
 IsChangeOf m next = (s : ℕ) × IsChangeFor m s next
+
+-- a cause for which a move may not be kept: that a record is too large is told of what a group makes alone
+abbrev pub is_of_move : Cause → Bool
+is_of_move (TooLarge size) = false
+is_of_move other = true
+
+abbrev pub IsOfMoveIfEnded : Result (Unit {0}) KeepError → Type 0
+IsOfMoveIfEnded (Ok done) = ⊤
+IsOfMoveIfEnded (Err (Ended cause)) = IsTrue (is_of_move cause)
+IsOfMoveIfEnded (Err Memory) = ⊤
+
+-- UNKEPT: a move that may not be kept for this cause
+abbrev pub IsUnkeptMove : LazyState → Cause → LazyState → Type 0
+IsUnkeptMove lazy cause next = IsTrue (is_of_move cause) × IsMoveIn lazy next
+
+-- or what the open group of session s is to leave
+abbrev pub IsUnkeptFor : Machine → ℕ → Cause → LazyState → Type 0
+IsUnkeptFor m s cause next = IsLeftFor m s next ⊎ IsUnkeptMove m.lazy cause next
 
 -- the group that an event ends by a cause of a log, if it does
 abbrev pub ended_by : {start : Database} {m next : Machine} → Event start m next → List EndedGroup
@@ -89,7 +112,7 @@ module _ {J : Type 0} (Answers : LazyState → LazyState → J → J → Result 
   -- an event beside the journal: a group ends by the cause for which the journal does not keep a change for it, and with no other event
   -- is a change refused by a cause
   abbrev pub IsEventBeside : {start : Database} {m next : Machine} → Event start m next → J → J → Type 0
-  IsEventBeside {m = m} (ends_by_log s by) j k = IsRefused (IsChangeFor m s) m.lazy j k by.cause
+  IsEventBeside {m = m} (ends_by_log s by) j k = IsRefused (IsUnkeptFor m s by.cause) m.lazy j k by.cause
   IsEventBeside {m = m} {next = next} other j k = IsBeside (IsChangeOf m) m.lazy next.lazy j k
 
   -- KEEPS: events one after the other, each beside the journal
@@ -106,5 +129,5 @@ module _ {J : Type 0} (Answers : LazyState → LazyState → J → J → Result 
   -- them to a move that the journal has not kept for it
   abbrev pub KeepsOrIsRefused : Bool → Database → Machine → J → Machine → J → Result (Unit {0}) KeepError → Type 0
   KeepsOrIsRefused ends start m j next l (Err (Ended cause)) =
-      (ends ≡ true) × IsTrue (is_of_log cause) × ((k : J) × Keeps start m j next k × IsRefused (IsMoveIn next.lazy) next.lazy k l cause)
+      (ends ≡ true) × IsTrue (is_of_log cause) × ((k : J) × Keeps start m j next k × IsRefused (IsUnkeptMove next.lazy cause) next.lazy k l cause)
   KeepsOrIsRefused ends start m j next l other = Keeps start m j next l

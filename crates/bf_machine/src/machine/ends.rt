@@ -5,7 +5,7 @@ ghost use Rattle.bf_machine.specs.declared.stand.Ending.TheVariants.{Ended};
 ghost use Rattle.bf_tree.specs.declared.reply.Cause.{Cause};
 ghost use Rattle.bf_machine.specs.interleaving.Calls.{CanAbort, CanCommit, CanFail, IsEnding, IsPlace};
 ghost use Rattle.bf_machine.specs.interleaving.Events.{Aborts, EndsByLog};
-ghost use Rattle.bf_machine.specs.interleaving.Journals.{AreSaid, IsBeside, IsChangeFor, IsRefused};
+ghost use Rattle.bf_machine.specs.interleaving.Journals.{AreSaid, IsBeside, IsLeftFor, IsRefused};
 ghost use Rattle.bf_machine.specs.interleaving.Kept.{is_of_log};
 
 use crate::journal::{Journal, KeepError};
@@ -44,10 +44,10 @@ impl<N: Opened> Machine<N> {
         ensures ending { IfOk result (λ ending. IsEnding self.old session self.new ending) }
         ensures err { OnErr result (self.new ≡ self.old) }
         ensures beside { ((cause : Cause) → result ≢ Ok (Ended cause))
-            → IsBeside J.Answers (IsChangeFor self.old session) self.old.lazy self.new.lazy
+            → IsBeside J.Answers (IsLeftFor self.old session) self.old.lazy self.new.lazy
             journal.old journal.new }
         ensures refused { (cause : Cause) → result ≡ Ok (Ended cause)
-            → IsRefused J.Answers (IsChangeFor self.old session) self.old.lazy journal.old
+            → IsRefused J.Answers (IsLeftFor self.old session) self.old.lazy journal.old
             journal.new cause }
     {
         let place = session as usize - 1;

@@ -12,7 +12,7 @@ ghost use Rattle.bf_tree.specs.declared.reply.Cause.{Cause};
 ghost use Rattle.bf_machine.specs.declared.stand.MoveError.TheVariants.{Ended, Memory as NoMemory, Old};
 ghost use Rattle.bf_machine.specs.interleaving.Calls.{slot_of};
 ghost use Rattle.bf_machine.specs.interleaving.Events.{Moves};
-ghost use Rattle.bf_machine.specs.interleaving.Journals.{IsBeside, IsMoveIn, IsOneRecord, IsRefused};
+ghost use Rattle.bf_machine.specs.interleaving.Journals.{IsBeside, IsMoveIn, IsOneRecord, IsRefused, IsUnkeptMove};
 ghost use Rattle.bf_machine.specs.interleaving.Kept.{is_of_log};
 
 use crate::journal::{Journal, KeepError};
@@ -60,7 +60,7 @@ impl<N: Opened> Machine<N> {
     ///
     /// # Errors
     /// `Old` exactly where the migration is not the last one; `Ended` where the journal does not keep the
-    /// move, with the cause that it tells; and where memory runs out, or 2 ^ 32 granules or 2 ^ 64 changes
+    /// move, with the cause that it tells, which is never its size; and where memory runs out, or 2 ^ 32 granules or 2 ^ 64 changes
     /// were made. The machine is as it was then.
     pub fn moved<J: Journal>(
         &mut self,
@@ -88,8 +88,8 @@ impl<N: Opened> Machine<N> {
             journal.old journal.new }
         ensures ended { (cause : Cause) → result ≡ Err (Ended cause)
             → (J.ends ≡ true) × (is_of_log cause ≡ true)
-            × IsRefused J.Answers (IsMoveIn self.old.lazy) self.old.lazy journal.old journal.new
-            cause }
+            × IsRefused J.Answers (IsUnkeptMove self.old.lazy cause) self.old.lazy journal.old
+            journal.new cause }
     {
         let last = self.store.migration();
         let last = last.as_ref();
@@ -131,8 +131,8 @@ fn keep_left<J: Journal>(
     ensures present { (n : ℕ) → result ≢ Err (Old n) }
     ensures ended { (cause : Cause) → result ≡ Err (Ended cause)
         → (J.ends ≡ true) × (is_of_log cause ≡ true)
-        × IsRefused J.Answers (IsMoveIn store.now.lazy) store.now.lazy journal.old journal.new
-        cause }
+        × IsRefused J.Answers (IsUnkeptMove store.now.lazy cause) store.now.lazy journal.old
+        journal.new cause }
 {
     let Ok(left) = store.need(alloc, granules) else {
         return Err(MoveError::Memory);

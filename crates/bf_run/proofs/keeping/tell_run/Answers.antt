@@ -56,7 +56,7 @@ returns-then-faults-clause-served g c =
     let taken = not_spent_if last.standing (sym c.if-is_given_up.false ∙ c.is_given_up.ensures) in
     let keeps = subst (λ (k : Script). KeepsOn log last.disk DiskFault k opening now.history ended) own (keeps_at_fault opening now log last kept_now ended recovers taken) in
     let sizes : AreSizesOf opening script now.history ended =
-    subst (λ (k : Script). AreSizesOf opening k now.history ended) own (c.a_group_that_is_too_large_has_a_record_so_large.ensures opening m now c.args.journal.now c.in_order.new.journal keeps_all c.session_count.ensures.kept) in
+    subst (λ (k : Script). AreSizesOf opening k now.history ended) own (c.a_size_that_is_told_is_that_of_a_record.ensures opening m now c.args.journal.now c.in_order.new.journal keeps_all c.session_count.ensures.kept) in
     let causes : AreCaused opening script now.history (g.D.Disk.seen last.disk) (g.D.Disk.fault_count last.disk) DiskFault ended = caused {g = g.D.Disk} last opening script now.history ended told_causes sizes DiskFault (λ is. absurd cc) in
     let over : IsRunOver opening script ended (transcripts_of now) now.history (sweep_of now.lazy.last) =
     run_with_last opening script now ended own kept_now ran in
@@ -102,7 +102,7 @@ returns-then-is_ready-clause-served g c =
     let ready = ready_if last.standing (sym c.if-is_ready.true ∙ c.is_ready.ensures) in
     let keeps = subst (λ (k : Script). KeepsOn log last.disk Done k opening now.history ended) own (keeps_at_done opening now log last kept_now ended recovers ready) in
     let sizes : AreSizesOf opening script now.history ended =
-    subst (λ (k : Script). AreSizesOf opening k now.history ended) own (c.a_group_that_is_too_large_has_a_record_so_large.ensures opening m now c.args.journal.now c.in_order.new.journal keeps_all c.session_count.ensures.kept) in
+    subst (λ (k : Script). AreSizesOf opening k now.history ended) own (c.a_size_that_is_told_is_that_of_a_record.ensures opening m now c.args.journal.now c.in_order.new.journal keeps_all c.session_count.ensures.kept) in
     let causes : AreCaused opening script now.history (g.D.Disk.seen last.disk) (g.D.Disk.fault_count last.disk) Done ended = caused {g = g.D.Disk} last opening script now.history ended told_causes sizes Done (λ _. ready) in
     let over : IsRunOver opening script ended (transcripts_of now) now.history (sweep_of now.lazy.last) =
     run_with_last opening script now ended own kept_now ran in
