@@ -136,26 +136,23 @@ module _ (m : Migration) (lawful : IsLawfulMigration m) (target : ℕ) (there : 
   among : Contains q.targets t
   among = (target, there, get_or_default q.targets target t _ there)
 
+  -- OWNED: a place of a unit that owns a key is found by it
+  pub owned_place : (unit : ℕ) (form : UnitForm) (place : Place) (key : List Value) → unit_at m unit ≡ Some form → has same_place (places_in old form) place ≡ true → owns old q t key (granule unit place) ≡ true
+      → has same_place (places_by old t key form) place ≡ true
+  owned_place unit form place key at among_places own =
+      let here : has same_granule (granules_of old q) (granule unit place) ≡ true = at_unit (places_in old) (units_of old q) 0 unit unit form place at (omega arith) ∙ among_places in
+      let found : find (owns old q t key) (candidates old q t key) ≡ Some (granule unit place) =
+      sym (looked_up old q lawful.lawful t among key) ∙ found_alone (owns old q t key) (granule unit place) own (granules_of old q) (one_owner old q lawful.lawful t among key) here in
+      sym (at_unit (places_by old t key) (units_of old q) 0 unit unit form place at (omega arith))
+      ∙ found_has (owns old q t key) (candidates old q t key) (granule unit place) found
+
   -- DRIVEN: a position of a driver that owns a key behind the tag is that of the row with the key
   pub driven_position : (unit at : ℕ) (driver : List ℕ) (key : List Value) → unit_at m unit ≡ Some (rows_unit driver) → at < length (table_rows old driver) → owns old q t key (granule unit (Row at)) ≡ true
       → position (has_the_key old driver (behind_tag t key)) (table_rows old driver) ≡ Some at
   driven_position unit at driver key form within own = of (position (has_the_key old driver (behind_tag t key)) (table_rows old driver)) refl
     where
-      g : Granule
-      g = granule unit (Row at)
-
-      here : has same_granule (granules_of old q) (granule unit (Row at)) ≡ true
-      here =
-          at_unit (places_in old) (units_of old q) 0 unit unit (rows_unit driver) (Row at) form (omega arith)
-          ∙ in_range 0 (length (table_rows old driver)) at (omega arith) (omega (arith, within))
-
-      found : find (owns old q t key) (candidates old q t key) ≡ Some (granule unit (Row at))
-      found = sym (looked_up old q lawful.lawful t among key) ∙ found_alone (owns old q t key) (granule unit (Row at)) own (granules_of old q) (one_owner old q lawful.lawful t among key) here
-
       placed : has same_place (places_by old t key (rows_unit driver)) (Row at) ≡ true
-      placed =
-          sym (at_unit (places_by old t key) (units_of old q) 0 unit unit (rows_unit driver) (Row at) form (omega arith))
-          ∙ found_has (owns old q t key) (candidates old q t key) (granule unit (Row at)) found
+      placed = owned_place unit (rows_unit driver) (Row at) key form (in_range 0 (length (table_rows old driver)) at (omega arith) (omega (arith, within))) own
 
       of : (o : Option ℕ) → position (has_the_key old driver (behind_tag t key)) (table_rows old driver) ≡ o → position (has_the_key old driver (behind_tag t key)) (table_rows old driver) ≡ Some at
       of None e = absurd (false≢true (sym (ap (λ o. has same_place (option_to_list (option_map Row o)) (Row at)) e) ∙ placed))

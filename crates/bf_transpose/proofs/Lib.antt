@@ -7,6 +7,7 @@ pub mod Finding
 pub mod Fixed
 mod Given
 pub mod Granules
+mod Grouped
 pub mod Inserted
 pub mod Keyed
 mod Listed

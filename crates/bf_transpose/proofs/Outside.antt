@@ -34,7 +34,7 @@ use Rattle.bf_transpose.proofs.Driving.{driven_position, some_has}
 use Rattle.bf_transpose.proofs.Rising.{equal, itself}
 
 -- the key that is left behind the tag
-key_behind : (b : Bool) (table : Table) (row : List Value) → key_of (with_key_behind b table) row ≡ (if b then drop 1 (key_of table row) else key_of table row)
+pub key_behind : (b : Bool) (table : Table) (row : List Value) → key_of (with_key_behind b table) row ≡ (if b then drop 1 (key_of table row) else key_of table row)
 key_behind true table row = sym (drop-map (cell row) 1 table.key)
 key_behind false table row = refl
 

@@ -2,12 +2,11 @@
 use Rattle.std.specs.Prelude.{Bool, false, List, drop, Option, option_map, unwrap_or, if◌then◌else◌}
 use Rattle.bf_base.specs.declared.table.Table.{Table}
 use Rattle.bf_base.specs.declared.value.Value.{Value}
-use Rattle.bf_heap.specs.Heaps.{Entry}
 
 -- a table with the rest of its key alone, where its first column is a tag
 abbrev pub with_key_behind : Bool → Table → Table
 with_key_behind is_tagged table = record { name = table.name; columns = table.columns; key = if is_tagged then drop 1 table.key else table.key }
 
--- whether there is an entry whose key passes a test
-abbrev pub passes_at : (List Value → Bool) → Option Entry → Bool
+-- whether there is an entry whose key passes a test: a row under its key, or a value with what stands under it
+abbrev pub passes_at : {X : Type 0} → (List Value → Bool) → Option (List Value × X) → Bool
 passes_at test entry = unwrap_or (option_map (λ e. test e.0) entry) false

@@ -1,6 +1,7 @@
 -- SCANS: the granules of a migration unit by unit, and those that give a row which satisfies a condition.
 use Rattle.std.specs.Prelude.{◌≡◌, ℕ, ◌<◌, Bool, false, ◌&&◌, ◌==◌, List, [], ◌++◌, length, map, nat_lt, Option, Some, None, slice_get, option_map, unwrap_or}
 use Rattle.std.specs.List.{list_any, range_with_len}
+use Rattle.std.specs.Option.{option_and_then}
 use Rattle.bf_base.specs.declared.granule.Granule.{Granule}
 use Rattle.bf_base.specs.declared.granule.Place.TheVariants.{Group, Row}
 use Rattle.bf_base.specs.declared.value.Value.{Value}
@@ -55,6 +56,10 @@ module _ (m : Migration) where
     -- whether a granule gives such a row
     abbrev pub gives : Cond ℕ → Granule → Bool
     gives cond g = list_any (λ row. holds_on (cell row) cond) (part_in (old_of m) m.plan.migrate (target_at m target).name g)
+
+-- the index of a unit that goes by values
+abbrev pub IsIndexOf : Migration → ℕ → UnitIndex → Type 0
+IsIndexOf m unit index = Some index ≡ option_and_then (λ index. index) (slice_get (value_indexes m) unit)
 
 -- the old table whose rows a unit goes by
 pub record IsDriverOf (m : Migration) (unit : ℕ) (frozen : Frozen) : Type 0 where

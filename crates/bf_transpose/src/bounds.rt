@@ -1,14 +1,17 @@
-//! Where in a table the rows stand whose keys are in a range, or are listed.
+//! Where in a table the rows stand whose keys are in a range, or are listed, and which values are in a
+//! range.
 
 ghost use Rattle.std.specs.Prelude.{◌≡◌, ◌≤◌, IfOk, IsTrue, drop, length, slice_get, take};
 ghost use Rattle.std.specs.List.{list_all};
 ghost use Rattle.bf_heap.specs.KeyRanges.{is_before, is_behind};
 ghost use Rattle.bf_query.specs.Ranges.{key_range_of};
+ghost use Rattle.bf_image.specs.ByValues.{value_of};
 ghost use Rattle.bf_transpose.specs.KeysBehind.{passes_at, with_key_behind};
 ghost use Rattle.bf_transpose.specs.Positions.{positions_under};
 
 use bf_base::{Key, Memory, Sequence, Table};
 use bf_heap::{FrozenHeap, KeyRange};
+use bf_image::ByValue;
 use bf_query::range::key_range;
 use bf_tree::Cond;
 use std::alloc::Global;
@@ -100,6 +103,64 @@ pub(crate) fn rows_to_end(heap: &FrozenHeap, range: &KeyRange) -> u32
     while low < high {
         let middle = low + (high - low) / 2;
         if is_behind_at(heap, range, middle) {
+            high = middle;
+        } else {
+            low = middle + 1;
+        }
+    }
+    high
+}
+
+/// Whether the value at a place is before a range; not where there is none.
+fn is_value_before(values: &ByValue, range: &KeyRange, place: usize) -> bool
+    ensures { result ≡ passes_at (is_before range.now.low) (slice_get values.now place) }
+{
+    match values.at(place) {
+        Some((value, _)) => range.is_before(value),
+        None => false,
+    }
+}
+
+/// Whether the value at a place is behind a range; not where there is none.
+fn is_value_behind(values: &ByValue, range: &KeyRange, place: usize) -> bool
+    ensures { result ≡ passes_at (is_behind range.now.high) (slice_get values.now place) }
+{
+    match values.at(place) {
+        Some((value, _)) => range.is_behind(value),
+        None => false,
+    }
+}
+
+/// How many values are before a range. It compares about log n values, and takes no memory.
+pub(crate) fn values_before(values: &ByValue, range: &KeyRange) -> usize
+    ensures bound { result ≤ length values.now }
+    ensures before { IsTrue (list_all (λ entry. is_before range.now.low (value_of entry))
+        (take result values.now)) }
+{
+    let mut low = 0;
+    let mut high = values.len();
+    while low < high {
+        let middle = low + (high - low) / 2;
+        if is_value_before(values, range, middle) {
+            low = middle + 1;
+        } else {
+            high = middle;
+        }
+    }
+    low
+}
+
+/// How many values are before a range or in it. It compares about log n values, and takes no memory.
+pub(crate) fn values_to_end(values: &ByValue, range: &KeyRange) -> usize
+    ensures bound { result ≤ length values.now }
+    ensures behind { IsTrue (list_all (λ entry. is_behind range.now.high (value_of entry))
+        (drop result values.now)) }
+{
+    let mut low = 0;
+    let mut high = values.len();
+    while low < high {
+        let middle = low + (high - low) / 2;
+        if is_value_behind(values, range, middle) {
             high = middle;
         } else {
             low = middle + 1;

@@ -1,20 +1,23 @@
 //! Scans of a migration's granules: all of them, and those that give a row which a condition may
 //! pick.
 
-ghost use Rattle.std.specs.Prelude.{◌≡◌, ◌==◌, ◌∷◌, [], ◌++◌, ◌<◌, ◌≤◌, ℕ, false, IfOk, IfSome, IsTrue, OnOk, Some, filter, length, map};
+ghost use Rattle.std.specs.Prelude.{◌≡◌, ◌==◌, ◌∷◌, [], ◌++◌, ◌<◌, ◌≤◌, ℕ, false, IfOk, IfSome, IsTrue, None, OnOk, Some, filter, length, map, slice_get};
 ghost use Rattle.std.specs.List.{list_any};
-ghost use Rattle.bf_base.specs.declared.granule.Place.TheVariants.{Row as At};
+ghost use Rattle.std.specs.Option.{option_to_list};
+ghost use Rattle.bf_base.specs.declared.granule.Place.TheVariants.{Group, Row as At};
 ghost use Rattle.bf_tree.specs.Trees.{always};
 ghost use Rattle.bf_sql.specs.migrations.Targets.{target_table};
 ghost use Rattle.bf_sql.specs.migrations.Granules.{granule, granules_of};
 ghost use Rattle.bf_sql.specs.migrations.Need.{giving, may_satisfy};
-ghost use Rattle.bf_image.specs.ByValues.{value_of};
+ghost use Rattle.bf_image.specs.ByValues.{Valued, value_of};
 ghost use Rattle.bf_image.specs.Migrations.{IsLawfulMigration, anchors_in, old_of, target_at, value_indexes};
 ghost use Rattle.bf_transpose.specs.InOrder.{values_in};
-ghost use Rattle.bf_transpose.specs.Scans.{IsSearch, gives, granules_at, granules_in, has_arm, is_sought, row_granules, value_granules, values_indexed};
+ghost use Rattle.bf_transpose.specs.Scans.{IsIndexOf, IsSearch, gives, granules_at, granules_in, has_arm, is_sought, row_granules, value_granules, values_indexed};
 ghost use Rattle.bf_transpose.specs.Transposed.{IsBehind};
 
-use crate::bounds::{positions_of, range_behind, rows_before, rows_to_end};
+use crate::bounds::{
+    positions_of, range_behind, rows_before, rows_to_end, values_before, values_to_end,
+};
 use crate::condition::{total_places, without_totals};
 use crate::drivers::{copies_of, driver_of};
 use crate::merge::Merge;
@@ -411,6 +414,30 @@ impl<'a> Search<'a> {
         Ok(())
     }
 
+    /// Adds the granule of a unit at a place among the values of an index if it gives a row that is
+    /// sought; none where there is no such place.
+    fn add_value(
+        &self,
+        alloc: Global,
+        unit: u8,
+        values: &ByValue,
+        at: usize,
+        granules: &mut Vec<Granule>,
+    ) -> Result<(), Memory>
+        requires { IsSearch self.now }
+        ensures { OnOk result (granules.new.items ≡ granules.old.items ++ filter
+            (gives self.now.migration.now self.now.target self.now.cond.now)
+            (value_granules unit (map value_of (option_to_list (slice_get values.now at))))) }
+    {
+        match values.at(at) {
+            Some((value, _)) => {
+                let place = Place::Group(value.copy(alloc)?);
+                self.add(alloc, Granule { unit, place }, granules)
+            }
+            None => Ok(()),
+        }
+    }
+
     /// Adds those granules of a unit that stand at the values of an index.
     fn add_values(
         &self,
@@ -425,12 +452,74 @@ impl<'a> Search<'a> {
             (value_granules unit (map value_of values.now))) }
     {
         for at in 0..values.len() {
-            if let Some((value, _)) = values.at(at) {
-                let place = Place::Group(value.copy(alloc)?);
-                self.add(alloc, Granule { unit, place }, granules)?;
-            }
+            self.add_value(alloc, unit, values, at, granules)?;
         }
         Ok(())
+    }
+
+    /// The places among the values of a unit of groups, from the first number to before the second,
+    /// outside which they give no row that is sought: a group's row has its value for its key.
+    fn bounds_of_groups(&self, unit: u8, index: &UnitIndex) -> (usize, usize)
+        requires search { IsSearch self.now }
+        requires of_unit { IsIndexOf self.now.migration.now unit index.now }
+        requires alone { index.now.join ≡ None }
+        ensures first { result.0 ≤ length index.now.from }
+        ensures end { result.1 ≤ length index.now.from }
+        ensures before { (at : ℕ) → (entry : Valued) → slice_get index.now.from at ≡ Some entry
+            → at < result.0 → gives self.now.migration.now self.now.target self.now.cond.now
+            (granule unit (Group (value_of entry))) ≡ false }
+        ensures behind { (at : ℕ) → (entry : Valued) → slice_get index.now.from at ≡ Some entry
+            → result.1 ≤ at → gives self.now.migration.now self.now.target self.now.cond.now
+            (granule unit (Group (value_of entry))) ≡ false }
+    {
+        let values = &index.from;
+        (
+            values_before(values, self.range),
+            values_to_end(values, self.range),
+        )
+    }
+
+    /// Adds those granules of a unit of groups. Only groups whose values are in the range are tried.
+    fn add_groups(
+        &self,
+        alloc: Global,
+        unit: u8,
+        index: &UnitIndex,
+        granules: &mut Vec<Granule>,
+    ) -> Result<(), Memory>
+        requires search { IsSearch self.now }
+        requires of_unit { IsIndexOf self.now.migration.now unit index.now }
+        requires alone { index.now.join ≡ None }
+        ensures { OnOk result (granules.new.items ≡ granules.old.items ++ filter
+            (gives self.now.migration.now self.now.target self.now.cond.now)
+            (value_granules unit (map value_of index.now.from))) }
+    {
+        let (first, end) = self.bounds_of_groups(unit, index);
+        for at in first..end {
+            self.add_value(alloc, unit, &index.from, at, granules)?;
+        }
+        Ok(())
+    }
+
+    /// Adds those granules of a unit that goes by values. A join's value without a row of FROM gives
+    /// no row.
+    fn add_indexed(
+        &self,
+        alloc: Global,
+        unit: u8,
+        index: &UnitIndex,
+        granules: &mut Vec<Granule>,
+    ) -> Result<(), Memory>
+        requires search { IsSearch self.now }
+        requires of_unit { IsIndexOf self.now.migration.now unit index.now }
+        ensures { OnOk result (granules.new.items ≡ granules.old.items ++ filter
+            (gives self.now.migration.now self.now.target self.now.cond.now)
+            (granules_in self.now.migration.now unit)) }
+    {
+        match &index.join {
+            Some(_) => self.add_values(alloc, unit, &index.from, granules),
+            None => self.add_groups(alloc, unit, index, granules),
+        }
     }
 
     /// Whether a unit has an arm of the target. Takes no memory.
@@ -443,7 +532,7 @@ impl<'a> Search<'a> {
         }
     }
 
-    /// Adds those granules of a unit. A join's value without a row of FROM gives no row.
+    /// Adds those granules of a unit.
     fn add_unit(&self, alloc: Global, unit: u8, granules: &mut Vec<Granule>) -> Result<(), Memory>
         requires { IsSearch self.now }
         ensures { OnOk result (granules.new.items ≡ granules.old.items ++ filter
@@ -454,7 +543,7 @@ impl<'a> Search<'a> {
             return Ok(());
         }
         match self.indexes.unit(unit) {
-            Some(index) => self.add_values(alloc, unit, &index.from, granules),
+            Some(index) => self.add_indexed(alloc, unit, index, granules),
             None => self.add_rows(alloc, unit, granules),
         }
     }
@@ -484,8 +573,9 @@ impl<'a> Search<'a> {
 /// values: a row that has others costs its look-up and the compares. Where an index of the old table
 /// serves what the condition says of those columns, and has more columns than this fixes of the front
 /// of its key, they are only the rows that it finds, each by about log n compares of pairs and of keys.
-/// A target with several arms in a unit keeps to the range there. A unit that goes by values is gone
-/// through.
+/// A target with several arms in a unit keeps to the range there. Of a unit of groups those are only
+/// the values in the range, which are found by about log n compares; the values of a unit of joins are
+/// gone through.
 ///
 /// # Errors
 /// Where memory runs out.

@@ -51,11 +51,26 @@ const OF_GROUPS: [Case; 7] = [
     ("SELECT * FROM ord", "nothing"),
 ];
 
+/// A group has its value for its key, so a range of the key leaves some of the groups.
+const OF_RANGES: [Case; 7] = [
+    ("SELECT * FROM tot WHERE cust > 7 AND cust < 9", "0:(8)"),
+    (
+        "DELETE FROM tot WHERE cust BETWEEN 8 AND 20 AND cnt = 99",
+        "0:(8) 0:(9)",
+    ),
+    ("UPDATE tot SET cnt = 0 WHERE 8 >= cust", "0:(7) 0:(8)"),
+    ("SELECT COUNT(*) FROM tot WHERE cust <= 7", "0:(7)"),
+    ("SELECT * FROM tot WHERE cust < 7", ""),
+    ("SELECT * FROM tot WHERE cust > 9", ""),
+    ("SELECT * FROM tot WHERE cust > 8 AND cust < 8", ""),
+];
+
 #[test]
 fn groups_move_by_what_is_not_of_totals(rt: HostRuntime) -> Result<(), Fail> {
     let alloc = rt.alloc();
     expect_covers(&rt, alloc, TOTALS, &OF_TOTALS)?;
-    expect_covers(&rt, alloc, TOTALS, &OF_GROUPS)
+    expect_covers(&rt, alloc, TOTALS, &OF_GROUPS)?;
+    expect_covers(&rt, alloc, TOTALS, &OF_RANGES)
 }
 
 const FILTERED: Setting = (
@@ -66,11 +81,14 @@ GROUP BY s, x)",
 );
 
 /// The rows of the group of 'p' and 6 are all left out by WHERE.
-const OF_FILTERED: [Case; 6] = [
+const OF_FILTERED: [Case; 9] = [
     ("SELECT * FROM g", "0:('p', 5) 0:('q', 5) 0:('q', 6)"),
     ("SELECT * FROM g WHERE s = 'p'", "0:('p', 5)"),
     ("SELECT * FROM g WHERE s = 'p' AND x = 6", ""),
     ("SELECT * FROM g WHERE x = 6 AND n = 0", "0:('q', 6)"),
+    ("SELECT * FROM g WHERE s = 'q' AND x < 6", "0:('q', 5)"),
+    ("SELECT * FROM g WHERE s = 'p' AND x > 5", ""),
+    ("SELECT * FROM g WHERE s > 'p'", "0:('q', 5) 0:('q', 6)"),
     (
         "INSERT INTO g VALUES ('p', 6, 1), ('q', 6, 1)",
         "0:('q', 6)",

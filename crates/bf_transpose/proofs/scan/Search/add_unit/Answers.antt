@@ -1,5 +1,5 @@
--- A unit without an arm of the target gives nothing, and any other is gone through.
-use Rattle.std.proofs.Common.{◌≡◌, false, List, ◌++◌, None, Option, Some, filter, slice_get, sym, ap, ◌∙◌}
+-- A unit without an arm of the target gives nothing.
+use Rattle.std.proofs.Common.{◌≡◌, false, List, ◌++◌, None, Option, filter, slice_get, sym, ap, ◌∙◌}
 use Rattle.std.specs.Option.{option_and_then}
 use Rattle.std.proofs.lemmas.List.{append-nil}
 use Rattle.std.proofs.lemmas.Result.{on_ok_weaker}
@@ -7,7 +7,7 @@ use Rattle.bf_base.specs.declared.granule.Granule.{Granule}
 use Rattle.bf_image.specs.Migrations.{value_indexes}
 use Rattle.bf_image.specs.declared.value_indexes.UnitIndex.{UnitIndex}
 use Rattle.bf_transpose.specs.Scans.{gives, has_arm}
-use Rattle.bf_transpose.proofs.Sought.{found_at_values, none_in_unit}
+use Rattle.bf_transpose.proofs.Sought.{none_in_unit}
 use Rattle.bf_transpose.proofs.Units.{rows_of_unit}
 use Rattle.bf_transpose.proofs.scan.Search.add_unit.Goals as goal
 
@@ -19,16 +19,9 @@ returns-then-not-has_arm c =
     let none : has_arm m s.target c.args.unit ≡ false = sym c.has_arm.ensures ∙ c.if-not-has_arm.true in
     sym (append-nil before) ∙ ap (λ (gs : List Granule). before ++ gs) (none_in_unit m c.requires.lawful s.target c.requires.there s.cond.now c.args.unit none)
 
-pub returns-in-Some : goal.returns-in-Some
-returns-in-Some c =
-    let s = c.args.self.now in
-    let m = s.migration.now in
-    let before = c.args.granules.now.items in
-    let some : Some c.in-Some.index.now ≡ option_and_then (λ (i : Option UnitIndex). i) (slice_get (value_indexes m) c.args.unit) =
-    c.in-Some.ensures ∙ ap (λ (is : List (Option UnitIndex)). option_and_then (λ (i : Option UnitIndex). i) (slice_get is c.args.unit)) c.requires.indexed in
-    on_ok_weaker c.add_values.result
-    (λ added. added ∙ ap (λ (gs : List Granule). before ++ gs) (found_at_values m c.requires.lawful s.target c.requires.there s.cond.now c.args.unit c.in-Some.index.now some))
-    c.add_values.ensures
+pub add_indexed-requires-clause-of_unit : goal.add_indexed-requires-clause-of_unit
+add_indexed-requires-clause-of_unit c =
+    c.in-Some.ensures ∙ ap (λ (is : List (Option UnitIndex)). option_and_then (λ (i : Option UnitIndex). i) (slice_get is c.args.unit)) c.requires.indexed
 
 pub returns-in-None : goal.returns-in-None
 returns-in-None c =

@@ -1,13 +1,9 @@
-use Rattle.std.proofs.Common.{Bool, List, [], ◌∷◌, ◌++◌, filter, map, take, sym, ap, ap₂, ◌∙◌, append_assoc}
-use Rattle.std.specs.Global.{Vec}
+use Rattle.std.proofs.Common.{Bool, List, ◌++◌, filter, map, take, slice_get, sym, ap, ◌∙◌, append_assoc}
+use Rattle.std.specs.Option.{option_to_list}
 use Rattle.bf_base.specs.declared.granule.Granule.{Granule}
-use Rattle.bf_base.specs.declared.granule.Place.TheVariants.{Group}
-use Rattle.bf_base.specs.declared.value.Value.{Value}
-use Rattle.bf_sql.specs.migrations.Granules.{granule}
-use Rattle.bf_image.specs.ByValues.{Valued, value_of}
+use Rattle.bf_image.specs.ByValues.{value_of}
 use Rattle.bf_transpose.specs.Scans.{gives, value_granules}
-use Rattle.bf_transpose.proofs.Steps.{take_none, value_tested}
-use Rattle.bf_transpose.proofs.scan.Search.add_values.Goals.{in-Some+in_ok-copy+in_ok-add, in_default}
+use Rattle.bf_transpose.proofs.Steps.{value_tested}
 use Rattle.bf_transpose.proofs.scan.Search.add_values.Goals as goal
 
 pub loop-at-preserved : goal.loop-at-preserved
@@ -19,14 +15,7 @@ loop-at-preserved c =
     let values = c.args.values.now in
     let before = c.args.granules.now.items in
     let so_far = filter test (value_granules unit (map value_of (take n values))) in
-    elim c.match-at.branch [
-      | in-Some+in_ok-copy+in_ok-add w ↦
-          let entry : Valued = (w.in-Some.value.now, w.in-Some.field-0-1.now) in
-          ap (λ (gs : Vec Granule). gs.items) w.granules-is
-          ∙ (w.in_ok-add.ensures
-          ∙ (ap₂ (λ (gs : List Granule) (value : List Value). gs ++ filter test (granule unit (Group value) ∷ [])) c.loop-at.invariant w.in_ok-copy.ensures
-          ∙ (append_assoc before so_far (filter test (granule unit (Group entry.0) ∷ [])) ∙ ap (λ (gs : List Granule). before ++ gs) (sym (value_tested unit test values n entry w.in-Some.ensures)))))
-      | in_default w ↦
-          ap (λ (gs : Vec Granule). gs.items) w.granules-is
-          ∙ (c.loop-at.invariant ∙ ap (λ (vs : List Valued). before ++ filter test (value_granules unit (map value_of vs))) (sym (take_none values n w.in_default.ensures)))
-    ]
+    let next : List Granule = filter test (value_granules unit (map value_of (option_to_list (slice_get values n)))) in
+    c.in_ok-add_value.ensures
+    ∙ (ap (λ (gs : List Granule). gs ++ next) c.loop-at.invariant
+    ∙ (append_assoc before so_far next ∙ ap (λ (gs : List Granule). before ++ gs) (sym (value_tested unit test values n))))
