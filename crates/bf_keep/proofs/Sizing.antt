@@ -1,28 +1,29 @@
--- A group that is told to be too large has a record so large.
-use Rattle.std.proofs.Common.{◌≡◌, ℕ, List, [], ◌∷◌, ◌++◌, Some, Result, Err, inl, inr, refl, sym, ap, subst, ◌∙◌, append_assoc, append-nil}
+-- A group that is told a size or a need has a record of that size or need.
+use Rattle.std.proofs.Common.{◌≡◌, ℕ, true, false, List, [], ◌∷◌, ◌++◌, Some, Result, Err, inl, inr, sym, ap, subst, ◌∙◌, append_assoc, append-nil}
 use Rattle.bf_disk.specs.declared.disk.Disk.{Ghosts}
 use Rattle.bf_log.specs.declared.log.Log.{Log}
 use Rattle.bf_machine.specs.declared.journal.KeepError.{KeepError}
 use Rattle.bf_machine.specs.declared.journal.KeepError.TheVariants.{Ended}
 use Rattle.bf_machine.specs.interleaving.Events.{Event, aborts, asks, at_once, begins, commits_behind, commits_now, ends_by_log, executes, finishes, moves, refuses}
 use Rattle.bf_machine.specs.interleaving.Events as events
-use Rattle.bf_machine.specs.interleaving.Journals.{IsChangeFor, IsEventBeside, Keeps, ended_by, ended_in, nothing_yet, one_beside}
+use Rattle.bf_machine.specs.interleaving.Journals.{IsEventBeside, IsUnkeptFor, Keeps, ended_by, ended_in, nothing_yet, one_beside}
 use Rattle.bf_machine.specs.interleaving.Kept.{IsKept}
 use Rattle.bf_machine.specs.interleaving.Machines.{EndedGroup, Machine, Open, open_at}
 use Rattle.bf_machine.proofs.interleaving.Reaching.{reached_keeps_all}
 use Rattle.bf_sql.specs.Database.{Database}
-use Rattle.bf_sql.specs.migrations.Lazy.{LazyState}
+use Rattle.bf_sql.specs.migrations.Lazy.{LazyState, view_of}
 use Rattle.bf_tree.specs.declared.history.Entry.{Entry}
 use Rattle.bf_tree.specs.declared.reply.Cause.{Cause}
 use Rattle.bf_tree.specs.declared.reply.Cause.TheVariants.{Died, DiskFault, Halted, LogFull, TooLarge}
 use Rattle.bf_tree.specs.declared.script.Script.{Script}
-use Rattle.bf_keep.specs.Answers.{AreSizesOf, HasAnswered, HasRecordOf, IsSizeOf, IsSizeTold, IsTooLarge}
+use Rattle.bf_keep.specs.Answers.{AreSizesOf, GroupMakes, HasAnswered, HasRecordBehind, HasRecordOf, IsSizeOf, IsSizeTold, MakesOf}
 use Rattle.bf_keep.proofs.crashing.Growing.{Grows, grows_by}
-use Rattle.bf_keep.proofs.crashing.Makes.{makes_of}
+use Rattle.bf_keep.proofs.crashing.Makes.{group_makes_of, makes_of}
 
 -- what holds behind a history holds when it grows
-too_large_later : (start : Database) (script : Script) (history more : List Entry) (group : EndedGroup) (size : ℕ) → IsTooLarge start script history group size → IsTooLarge start script (history ++ more) group size
-too_large_later start script history more group size is = record {
+record_later : (start : Database) (script : Script) (history more : List Entry) (Makes : Database → Database → Type 0) (size : ℕ) → HasRecordBehind start script history Makes size
+    → HasRecordBehind start script (history ++ more) Makes size
+record_later start script history more Makes size is = record {
   prefix = is.prefix;
   later = is.later ++ more;
   of_history = sym (append_assoc is.prefix is.later more) ∙ ap (λ (es : List Entry). es ++ more) is.of_history;
@@ -37,8 +38,8 @@ size_later : (start : Database) (script : Script) (history more : List Entry) (g
 size_later start script history more group (Died h) is = tt
 size_later start script history more group DiskFault is = tt
 size_later start script history more group (Halted faults) is = tt
-size_later start script history more group (LogFull end need) is = tt
-size_later start script history more group (TooLarge size) is = too_large_later start script history more group size is
+size_later start script history more group (LogFull end need) is = (is.0, record_later start script history more (MakesOf script group) is.0 is.1, is.2)
+size_later start script history more group (TooLarge size) is = record_later start script history more (GroupMakes script group) size is
 
 sizes_later : (start : Database) (script : Script) (history more : List Entry) (groups : List EndedGroup) → AreSizesOf start script history groups → AreSizesOf start script (history ++ more) groups
 sizes_later start script history more [] all = tt
@@ -60,35 +61,42 @@ module _ {D : Type 0} {g : Ghosts D} {J : Type 0} (log_of : J → Log D g) (star
   abbrev Answers : LazyState → LazyState → J → J → Result (Unit {0}) KeepError → Type 0
   Answers lazy next old new answer = HasAnswered lazy next (log_of old) (log_of new) answer
 
-  size_now : (m : Machine) → IsKept start m → (s : ℕ) (o : Open) → open_at m s ≡ Some o → (cause other_cause : Cause) (other : LazyState) → IsChangeFor m s other
-      → ((size : ℕ) → cause ≡ TooLarge size → HasRecordOf m.lazy other size) → IsSizeOf start m.script m.history (record { session = s; group = o.group; cause = other_cause }) cause
-  size_now m kept s o is (Died h) c other change sized = tt
-  size_now m kept s o is DiskFault c other change sized = tt
-  size_now m kept s o is (Halted faults) c other change sized = tt
-  size_now m kept s o is (LogFull end need) c other change sized = tt
-  size_now m kept s o is (TooLarge size) c other change sized = record {
+  record_now : (m : Machine) → IsKept start m → (Makes : Database → Database → Type 0) (other : LazyState) (size : ℕ) → Makes (view_of m.lazy) (view_of other) → HasRecordOf m.lazy other size
+      → HasRecordBehind start m.script m.history Makes size
+  record_now m kept Makes other size makes has = record {
     prefix = m.history;
     later = [];
     of_history = append-nil m.history;
     lazy = m.lazy;
     next = other;
     seen = kept.store_valid.seen_as.view ∙ kept.history_legal.replay;
-    makes = makes_of start m kept s o is c other change;
-    has_record = sized size refl;
+    makes = makes;
+    has_record = has;
   }
+
+  -- a move is not told to be too large
+  size_now : (m : Machine) → IsKept start m → (s : ℕ) (o : Open) → open_at m s ≡ Some o → (cause : Cause) (other : LazyState) → IsUnkeptFor m s cause other → IsSizeTold m.lazy other (Err (Ended cause))
+      → IsSizeOf start m.script m.history (record { session = s; group = o.group; cause = cause }) cause
+  size_now m kept s o is (Died h) other unkept told = tt
+  size_now m kept s o is DiskFault other unkept told = tt
+  size_now m kept s o is (Halted faults) other unkept told = tt
+  size_now m kept s o is (LogFull end need) other unkept told =
+      let group : EndedGroup = record { session = s; group = o.group; cause = LogFull end need } in
+      (told.0, record_now m kept (MakesOf m.script group) other told.0 (makes_of start m kept s o is (LogFull end need) other unkept) told.1, told.2)
+  size_now m kept s o is (TooLarge size) other (inl own) told =
+      let group : EndedGroup = record { session = s; group = o.group; cause = TooLarge size } in
+      record_now m kept (GroupMakes m.script group) other size (group_makes_of start m kept s o is (TooLarge size) other own) told
+  size_now m kept s o is (TooLarge size) other (inr (of_move, move)) told = absurd (let clash : false ≡ true = of_move in cc)
 
   none_more : (now next : Machine) (groups : List EndedGroup) → Grows now next → AreSizesOf start now.script now.history groups → AreSizesOf start next.script next.history (groups ++ [])
   none_more now next groups grows all = subst (AreSizesOf start next.script next.history) (sym (append-nil groups)) (sizes_then start now next groups grows all)
-
-  size_of : (lazy other : LazyState) (cause : Cause) (size : ℕ) → cause ≡ TooLarge size → IsSizeTold lazy other (Err (Ended cause)) → HasRecordOf lazy other size
-  size_of lazy other cause size is told = subst (λ (c : Cause). IsSizeTold lazy other (Err (Ended c))) is told
 
   event_sized : (now next : Machine) (event : Event start now next) (j k : J) → IsKept start now → IsEventBeside Answers event j k → (groups : List EndedGroup) → AreSizesOf start now.script now.history groups
       → AreSizesOf start next.script next.history (groups ++ ended_by event)
   event_sized now next (ends_by_log s by) j k kept refused groups all =
       sizes_then start now next (groups ++ record { session = s; group = by.o.group; cause = by.cause } ∷ []) (grows_by now next start (ends_by_log s by))
       (one_more start now.script now.history groups (record { session = s; group = by.o.group; cause = by.cause }) all
-      (size_now now kept s by.o by.is by.cause by.cause refused.0 refused.1 (λ size is. size_of now.lazy refused.0 by.cause size is refused.2.2)))
+      (size_now now kept s by.o by.is by.cause refused.0 refused.1 refused.2.2))
   event_sized now next (begins s by) j k kept beside groups all = none_more now next groups (grows_by now next start (begins s by)) all
   event_sized now next (asks s name mode answer by) j k kept beside groups all = none_more now next groups (grows_by now next start (asks s name mode answer by)) all
   event_sized now next (executes s by) j k kept beside groups all = none_more now next groups (grows_by now next start (executes s by)) all

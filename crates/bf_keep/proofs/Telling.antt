@@ -16,7 +16,7 @@ use Rattle.bf_log.specs.declared.log.Standing.{Standing}
 use Rattle.bf_log.specs.declared.log.Standing.TheVariants.{Ready, Halted as Stopped, Spent}
 use Rattle.bf_machine.specs.declared.journal.KeepError.{KeepError}
 use Rattle.bf_machine.specs.declared.journal.KeepError.TheVariants as keeps
-use Rattle.bf_machine.specs.interleaving.Journals.{IsMoveIn, IsOfLogIfEnded}
+use Rattle.bf_machine.specs.interleaving.Journals.{IsMoveIn, IsOfLogIfEnded, IsOfMoveIfEnded}
 use Rattle.bf_recover.specs.Legal.{first_state}
 use Rattle.bf_recover.specs.Steps.{StepsTo}
 use Rattle.bf_sql.specs.migrations.Lazy.{LazyState}
@@ -66,12 +66,33 @@ fault_is_of_log (Halted faults) fault = (refl, refl)
 fault_is_of_log (LogFull end need) fault = absurd fault
 fault_is_of_log (TooLarge size) fault = absurd fault
 
-size_in : (lazy next : LazyState) (payload : List ℕ) → StepsTo lazy payload next → (error : AppendError) → ((n : ℕ) → error ≡ appends.TooLarge n → n ≡ length payload) → IsSizeTold lazy next (Err (told_as error))
-size_in lazy next payload steps appends.Memory so = tt
-size_in lazy next payload steps appends.DiskFault so = tt
-size_in lazy next payload steps (appends.Halted faults) so = tt
-size_in lazy next payload steps (appends.TooLarge n) so = (payload, steps, so n refl)
-size_in lazy next payload steps (appends.LogFull end need) so = tt
+-- and no fault tells that a record is too large
+pub fault_is_of_move : (cause : Cause) → IsFaultCause cause → IsOfMoveIfEnded (Err (keeps.Ended cause))
+fault_is_of_move (Died older) fault = absurd fault
+fault_is_of_move DiskFault fault = refl
+fault_is_of_move (Halted faults) fault = refl
+fault_is_of_move (LogFull end need) fault = absurd fault
+fault_is_of_move (TooLarge size) fault = absurd fault
+
+-- TELLS THE SIZE of what was to be appended: that it is too large, which it is; or with its frame the need
+abbrev TellsSize : ℕ → AppendError → Type 0
+TellsSize size (appends.TooLarge n) = (n ≡ size) × (largest_record < size)
+TellsSize size (appends.LogFull end need) = need ≡ size + frame
+TellsSize size other = Unit {0}
+
+size_in : (lazy next : LazyState) (payload : List ℕ) → StepsTo lazy payload next → (error : AppendError) → TellsSize (length payload) error → IsSizeTold lazy next (Err (told_as error))
+size_in lazy next payload steps appends.Memory tells = tt
+size_in lazy next payload steps appends.DiskFault tells = tt
+size_in lazy next payload steps (appends.Halted faults) tells = tt
+size_in lazy next payload steps (appends.TooLarge n) tells = (payload, steps, tells.0)
+size_in lazy next payload steps (appends.LogFull end need) tells = (length payload, (payload, steps, refl), tells)
+
+fits_in : (size : ℕ) → size ≤ largest_record → (error : AppendError) → TellsSize size error → IsOfMoveIfEnded (Err (told_as error))
+fits_in size fits appends.Memory tells = tt
+fits_in size fits appends.DiskFault tells = refl
+fits_in size fits (appends.Halted faults) tells = refl
+fits_in size fits (appends.TooLarge n) tells = absurd (omega (arith, fits, tells.1))
+fits_in size fits (appends.LogFull end need) tells = refl
 
 module _ {D : Type 0} {g : Ghosts D} where
   -- a log that takes records is not halted
@@ -167,41 +188,45 @@ module _ {D : Type 0} {g : Ghosts D} where
     pub goes_on_by : Refuses old.standing → Comes old.standing → GoesOn old new (answer_by r)
     goes_on_by refused came = goes_at old.standing refl refused came
 
-  -- a record that is too large is told to be as large as it is
-  module _ (old new : Log D g) (size : ℕ) (r : Result ℕ AppendError) where
-    not_other : (e : AppendError) (n : ℕ) → r ≡ Err e → (e ≡ appends.TooLarge n → ⊥) → r ≡ Err (appends.TooLarge n) → ⊥
-    not_other e n is other same = other (same_error is same)
-      where
-        same_error : r ≡ Err e → r ≡ Err (appends.TooLarge n) → e ≡ appends.TooLarge n
-        same_error one two =
-            let both : ◌≡◌ {A = Result ℕ AppendError} (Err e) (Err (appends.TooLarge n)) = sym one ∙ two in
-            cc
+  tells_by_outcome : (old new : Log D g) (size : ℕ) (error : AppendError) → Outcome size old new (Err error) → TellsSize size error
+  tells_by_outcome old new size appends.Memory came = tt
+  tells_by_outcome old new size appends.DiskFault came = tt
+  tells_by_outcome old new size (appends.Halted faults) came = absurd came
+  tells_by_outcome old new size (appends.TooLarge n) came = absurd came
+  tells_by_outcome old new size (appends.LogFull end need) came = absurd came
 
-    not_of_outcome : (n : ℕ) → Outcome size old new r → r ≡ Err (appends.TooLarge n) → ⊥
-    not_of_outcome n came same = absurd (subst (Outcome size old new) same came)
+  -- a size that is told is that of the record
+  module _ (old new : Log D g) (size : ℕ) (error : AppendError) where
+    tells_as : (e : AppendError) → ◌≡◌ {A = Result ℕ AppendError} (Err error) (Err e) → TellsSize size e → TellsSize size error
+    tells_as e same tells =
+        let is : e ≡ error = cc in
+        subst (TellsSize size) is tells
 
-    size_at : (s : Standing) → old.standing ≡ s → Refuses old new size r s → Comes old new size r s → (n : ℕ) → r ≡ Err (appends.TooLarge n) → n ≡ size
-    size_at Spent at refused came n same = absurd (not_other appends.Memory n refused.0 (λ clash. cc) same)
-    size_at (Stopped faults) at refused came n same = absurd (not_other (appends.Halted faults) n refused.0 (λ clash. cc) same)
-    size_at Ready at refused came n same = elim (cases_Bool (nat_lt largest_record size)) as (λ _. n ≡ size) [
+    tells_at : (s : Standing) → Refuses old new size (Err error) s → Comes old new size (Err error) s → TellsSize size error
+    tells_at Spent refused came = tells_as appends.Memory refused.0 tt
+    tells_at (Stopped faults) refused came = tells_as (appends.Halted faults) refused.0 tt
+    tells_at Ready refused came = elim (cases_Bool (nat_lt largest_record size)) as (λ _. TellsSize size error) [
       | inl over ↦
-          let got : (r ≡ Err (appends.TooLarge size)) × (new ≡ old) = rw over at refused in
-          let both : ◌≡◌ {A = Result ℕ AppendError} (Err (appends.TooLarge n)) (Err (appends.TooLarge size)) = sym same ∙ got.0 in
-          cc
-      | inr fits ↦ elim (cases_Bool (nat_lt largest_log (end_of old + 1 + (size + frame)))) as (λ _. n ≡ size) [
+          let got : ◌≡◌ {A = Result ℕ AppendError} (Err error) (Err (appends.TooLarge size)) × (new ≡ old) = rw over at refused in
+          tells_as (appends.TooLarge size) got.0 (refl, grind (arith, nat_tests, over))
+      | inr fits ↦ elim (cases_Bool (nat_lt largest_log (end_of old + 1 + (size + frame)))) as (λ _. TellsSize size error) [
         | inl full ↦
-            let got : (r ≡ Err (appends.LogFull (end_of old) (size + frame))) × (new ≡ old) = rw (fits, full) at refused in
-            absurd (not_other (appends.LogFull (end_of old) (size + frame)) n got.0 (λ clash. cc) same)
+            let got : ◌≡◌ {A = Result ℕ AppendError} (Err error) (Err (appends.LogFull (end_of old) (size + frame))) × (new ≡ old) = rw (fits, full) at refused in
+            tells_as (appends.LogFull (end_of old) (size + frame)) got.0 refl
         | inr room ↦
-            let got : Outcome size old new r = rw (fits, room) at came in
-            absurd (not_of_outcome n got same)
+            let got : Outcome size old new (Err error) = rw (fits, room) at came in
+            tells_by_outcome old new size error got
       ]
     ]
 
   pub size_told : (old new : Log D g) (lazy next : LazyState) (payload : List ℕ) → StepsTo lazy payload next → (error : AppendError) → Refuses old new (length payload) (Err error) old.standing
       → Comes old new (length payload) (Err error) old.standing → IsSizeTold lazy next (Err (told_as error))
-  size_told old new lazy next payload steps error refused came =
-      size_in lazy next payload steps error (λ n is. size_at old new (length payload) (Err error) old.standing refl refused came n (ap (λ (e : AppendError). Err e) is))
+  size_told old new lazy next payload steps error refused came = size_in lazy next payload steps error (tells_at old new (length payload) error old.standing refused came)
+
+  -- and none is told of one that fits
+  pub fits_told : (old new : Log D g) (size : ℕ) → size ≤ largest_record → (error : AppendError) → Refuses old new size (Err error) old.standing → Comes old new size (Err error) old.standing
+      → IsOfMoveIfEnded (Err (told_as error))
+  fits_told old new size fits error refused came = fits_in size fits error (tells_at old new size error old.standing refused came)
 
   -- a fault at a move is told by its cause
   fault_now : (old new : Log D g) (cause : Cause) → IsFaultCause cause → halted_of old ≡ None → Tells new cause → TellsNow old new cause

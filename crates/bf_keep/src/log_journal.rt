@@ -1,11 +1,12 @@
 //! The journal that is a log.
 
-ghost use Rattle.std.specs.Prelude.{◌≡◌, Err, IfOk};
+ghost use Rattle.std.specs.Prelude.{◌≡◌, ◌≤◌, Err, IfOk, length};
 ghost use Rattle.bf_tree.specs.declared.reply.Cause.TheVariants.{DiskFault};
 ghost use Rattle.bf_log.specs.Append.{disk_of, standing_of};
+ghost use Rattle.bf_machine.specs.interleaving.Journals.{IsOfMoveIfEnded};
 ghost use Rattle.bf_sql.specs.migrations.Lazy.{LazyState};
 ghost use Rattle.bf_recover.specs.Steps.{StepsTo};
-ghost use Rattle.bf_keep.specs.Answers.{GoesOn, IsAppended, IsFaultCause, IsSizeTold, Tells, answer_as, is_ready, is_spent, told_as};
+ghost use Rattle.bf_keep.specs.Answers.{GoesOn, IsAppended, IsFaultCause, IsSizeTold, Tells, answer_as, is_ready, is_spent, largest_record, told_as};
 ghost use Rattle.bf_keep.specs.Records.{IsRecordOf};
 
 use crate::changes::{change_of, move_of};
@@ -40,11 +41,28 @@ pub struct LogJournal<D: Disk> {
 /// # Errors
 /// Where memory runs out, or ran out before.
 fn payload_of(alloc: Global, change: Result<Change, Memory>) -> Result<Vec<u8>, Memory>
-    ensures { IfOk result (λ payload. (lazy next : LazyState)
-        → IfOk change (λ told. IsRecordOf lazy told next) → StepsTo lazy payload.items next) }
+    ensures { (lazy next : LazyState) → IfOk change (λ told. IsRecordOf lazy told next)
+        → IfOk result (λ payload. StepsTo lazy payload.items next) }
 {
     let change = change?;
     encode(alloc, &change)
+}
+
+/// The bytes of a move, if it could be made: no more than a record may have. No script within its limits needs a move
+/// of more.
+///
+/// # Errors
+/// Where memory runs out, or ran out before, or the bytes are more than `LARGEST`.
+fn move_payload_of(alloc: Global, change: Result<Change, Memory>) -> Result<Vec<u8>, Memory>
+    ensures steps { (lazy next : LazyState) → IfOk change (λ told. IsRecordOf lazy told next)
+        → IfOk result (λ payload. StepsTo lazy payload.items next) }
+    ensures fits { IfOk result (λ payload. length payload.items ≤ largest_record) }
+{
+    let payload = payload_of(alloc, change)?;
+    if payload.len() > LARGEST as usize {
+        return Err(Memory);
+    }
+    Ok(payload)
 }
 
 impl<D: Disk> LogJournal<D> {
@@ -100,18 +118,22 @@ impl<D: Disk> LogJournal<D> {
         }
     }
 
-    /// Appends the record of a change, if it could be made.
+    /// Appends a record, if it could be made.
     ///
     /// # Errors
     /// Those of [`append_change`], and `Memory` where there was none for the record.
-    fn append(&mut self, change: Result<Change, Memory>) -> Result<(), AppendError>
-        ensures appended { (lazy next : LazyState) → IfOk change (λ told. IsRecordOf lazy told next)
+    fn append(&mut self, payload: Result<Vec<u8>, Memory>) -> Result<(), AppendError>
+        ensures appended { (lazy next : LazyState)
+            → IfOk payload (λ bytes. StepsTo lazy bytes.items next)
             → IsAppended lazy next self.old.log self.new.log result }
         ensures goes_on { GoesOn self.old.log self.new.log (answer_as result) }
-        ensures sized { (lazy next : LazyState) → IfOk change (λ told. IsRecordOf lazy told next)
+        ensures sized { (lazy next : LazyState)
+            → IfOk payload (λ bytes. StepsTo lazy bytes.items next)
             → IsSizeTold lazy next (answer_as result) }
+        ensures fits { IfOk payload (λ bytes. length bytes.items ≤ largest_record)
+            → IsOfMoveIfEnded (answer_as result) }
     {
-        let Ok(payload) = payload_of(self.alloc, change) else {
+        let Ok(payload) = payload else {
             return Err(AppendError::Memory);
         };
         let appended = append_change(
@@ -153,15 +175,21 @@ impl<D: Disk> Journal for LogJournal<D> {
     ghost Says = { IsSayable };
 
     fn keep_group(&mut self, store: &Store, pending: &Pending) -> Result<(), KeepError> {
-        match self.append(change_of(self.alloc, store, pending)) {
+        let payload = payload_of(self.alloc, change_of(self.alloc, store, pending));
+        match self.append(payload) {
             Ok(()) => Ok(()),
             Err(error) => Err(keep_error(error)),
         }
     }
 
     /// A device that fails at a move has halted the log, and no group is told that it failed at its commit.
+    ///
+    /// # Errors
+    /// As the trait says. A move of more bytes than a record may have, which no script within its limits needs, is
+    /// answered as want of memory, before the log is touched.
     fn keep_moves(&mut self, store: &Store, granules: &[Granule]) -> Result<(), KeepError> {
-        match self.append(move_of(self.alloc, store, granules)) {
+        let payload = move_payload_of(self.alloc, move_of(self.alloc, store, granules));
+        match self.append(payload) {
             Ok(()) => Ok(()),
             Err(AppendError::DiskFault) => Err(KeepError::Ended(self.fault_cause())),
             Err(error) => Err(keep_error(error)),

@@ -23,8 +23,7 @@ use bf_disk::{Disk, DiskError, Shelf};
 use bf_image::Registry;
 use bf_keep::LogJournal;
 use bf_keep::laws::{
-    a_size_that_is_told_is_that_of_a_record, every_crash_leaves_a_prefix,
-    what_ends_groups_is_told,
+    a_size_that_is_told_is_that_of_a_record, every_crash_leaves_a_prefix, what_ends_groups_is_told,
 };
 use bf_log::{Log, OpenError};
 use bf_machine::interleaving_laws::sessions_that_have_ended_ran_over;

@@ -13,7 +13,7 @@ use Rattle.bf_log.specs.declared.log.Standing.TheVariants.{Ready, Halted as Stop
 use Rattle.bf_machine.specs.declared.journal.KeepError.{KeepError}
 use Rattle.bf_machine.specs.declared.journal.KeepError.TheVariants as keeps
 use Rattle.bf_machine.specs.interleaving.Events.{EndsByLog, Event}
-use Rattle.bf_machine.specs.interleaving.Journals.{IsBeside, IsChangeFor, IsChangeOf, IsEventBeside, IsMoveIn, IsRefused, ended_by}
+use Rattle.bf_machine.specs.interleaving.Journals.{IsBeside, IsChangeOf, IsEventBeside, IsMoveIn, IsRefused, IsUnkeptFor, ended_by}
 use Rattle.bf_machine.specs.interleaving.Kept.{IsKept}
 use Rattle.bf_machine.specs.interleaving.Machines.{EndedGroup, Machine}
 use Rattle.bf_machine.proofs.served.Keeping.{event_beside}
@@ -183,7 +183,7 @@ module _ {D : Type 0} {g : Ghosts D} where
     abbrev group_of : (s : ℕ) (next : Machine) → EndsByLog m s next → EndedGroup
     group_of s next by = record { session = s; group = by.o.group; cause = by.cause }
 
-    told_of : (s : ℕ) (next : Machine) (by : EndsByLog m s next) (new : Log D g) (other : LazyState) → IsChangeFor m s other → (by.cause ≡ DiskFault) ⊎ IsMoveIn m.lazy other
+    told_of : (s : ℕ) (next : Machine) (by : EndsByLog m s next) (new : Log D g) (other : LazyState) → IsUnkeptFor m s by.cause other → (by.cause ≡ DiskFault) ⊎ IsMoveIn m.lazy other
         → IsWhatHasFailed new start m.script m.history (ended ++ group_of s next by ∷ []) (view_of m.lazy) (view_of other)
     told_of s next by new other change (inr move) = inl (move_makes_nothing start m kept other move)
     told_of s next by new other change (inl fault) =
@@ -192,7 +192,7 @@ module _ {D : Type 0} {g : Ghosts D} where
           | inr makes ↦ inr (inl (group_of s next by, Contains-push ended (group_of s next by), fault, makes))
         ]
 
-    by_end : (s : ℕ) (next : Machine) (by : EndsByLog m s next) (new : J) → IsRefused Answers (IsChangeFor m s) m.lazy old new by.cause
+    by_end : (s : ℕ) (next : Machine) (by : EndsByLog m s next) (new : J) → IsRefused Answers (IsUnkeptFor m s by.cause) m.lazy old new by.cause
         → Turns (ended ++ group_of s next by ∷ []) next.lazy (log_of new)
     by_end s next by new (other, change, answered) =
         let left = refused m.lazy other (log_of old) (log_of new) on by.cause answered.0 in

@@ -7,7 +7,7 @@ use Rattle.bf_journal.specs.Crashes.{replayed}
 use Rattle.bf_journal.proofs.Runs.{replayed_more}
 use Rattle.bf_machine.specs.interleaving.Events.{IsToCommit, at_once, commits_behind, moves, one_more, rest_of, text_of}
 use Rattle.bf_machine.specs.interleaving.Events as events
-use Rattle.bf_machine.specs.interleaving.Journals.{IsChangeFor, IsChangeOf, IsMoveIn, IsPutInto}
+use Rattle.bf_machine.specs.interleaving.Journals.{IsChangeOf, IsLeftFor, IsMoveIn, IsPutInto, IsUnkeptFor}
 use Rattle.bf_machine.specs.interleaving.Kept.{IsKept}
 use Rattle.bf_machine.specs.interleaving.Groups.{left_by}
 use Rattle.bf_machine.specs.interleaving.Machines.{Machine, Open, answered_in, open_at}
@@ -32,7 +32,7 @@ use Rattle.bf_tree.specs.declared.reply.Reply.{Reply}
 use Rattle.bf_tree.specs.declared.reply.Reply.TheVariants as reply
 use Rattle.bf_tree.specs.declared.statement.Statement.{Statement}
 use Rattle.bf_tree.specs.declared.statement.Statement.TheVariants.{Commit}
-use Rattle.bf_keep.specs.Answers.{MakesOf, if_committed}
+use Rattle.bf_keep.specs.Answers.{GroupMakes, MakesOf, if_committed}
 use Rattle.bf_keep.specs.Crashing.{AreGroupsInOrder, EntryMakes, IsOneGroup}
 
 -- the entries of the history of a machine, each with the statements of its group
@@ -106,18 +106,23 @@ one_makes start m kept other (s, inl own) =
     inr (own_entry m s own.0, group_makes start m kept s own.0 other own.1)
 one_makes start m kept other (s, inr move) = inl (move_makes_nothing start m kept other move)
 
--- and for an open group what that makes, or nothing
-pub makes_of : (start : Database) (m : Machine) → IsKept start m → (s : ℕ) (o : Open) → open_at m s ≡ Some o → (cause : Cause) (other : LazyState) → IsChangeFor m s other
-    → MakesOf m.script (record { session = s; group = o.group; cause = cause }) (view_of m.lazy) (view_of other)
-makes_of start m kept s o is cause other (inl own) =
+-- what the open group of a session is to leave is what that group makes
+pub group_makes_of : (start : Database) (m : Machine) → IsKept start m → (s : ℕ) (o : Open) → open_at m s ≡ Some o → (cause : Cause) (other : LazyState) → IsLeftFor m s other
+    → GroupMakes m.script (record { session = s; group = o.group; cause = cause }) (view_of m.lazy) (view_of other)
+group_makes_of start m kept s o is cause other own =
     let can = own.0 in
     let same : can.o ≡ o = same_Some can.o o (sym can.is ∙ is) in
-    subst (λ (p : Open). MakesOf m.script (record { session = s; group = p.group; cause = cause }) (view_of m.lazy) (view_of other)) same
-    (inr (commits_behind 0 m.history + 1, group_is_one start m kept s can other own.1))
-makes_of start m kept s o is cause other (inr move) = inl (move_makes_nothing start m kept other move)
+    subst (λ (p : Open). GroupMakes m.script (record { session = s; group = p.group; cause = cause }) (view_of m.lazy) (view_of other)) same
+    (commits_behind 0 m.history + 1, group_is_one start m kept s can other own.1)
+
+-- and what is not kept for it makes that, or nothing
+pub makes_of : (start : Database) (m : Machine) → IsKept start m → (s : ℕ) (o : Open) → open_at m s ≡ Some o → (cause : Cause) (other : LazyState) → IsUnkeptFor m s cause other
+    → MakesOf m.script (record { session = s; group = o.group; cause = cause }) (view_of m.lazy) (view_of other)
+makes_of start m kept s o is cause other (inl own) = inr (group_makes_of start m kept s o is cause other own)
+makes_of start m kept s o is cause other (inr (of_move, move)) = inl (move_makes_nothing start m kept other move)
 
 -- with its place behind the history
-pub makes_behind : (start : Database) (m : Machine) → IsKept start m → (s : ℕ) (o : Open) → open_at m s ≡ Some o → (cause : Cause) (other : LazyState) → IsChangeFor m s other
+pub makes_behind : (start : Database) (m : Machine) → IsKept start m → (s : ℕ) (o : Open) → open_at m s ≡ Some o → (cause : Cause) (other : LazyState) → IsUnkeptFor m s cause other
     → (view_of other ≡ view_of m.lazy)
     ⊎ ((n : ℕ) × EntryMakes start m.script m.history (if_committed (record { session = s; group = o.group; cause = cause }) n) (view_of m.lazy) (view_of other))
 makes_behind start m kept s o is cause other (inl own) =
@@ -128,4 +133,4 @@ makes_behind start m kept s o is cause other (inl own) =
       subst (λ (p : Open). EntryMakes start m.script m.history (if_committed (record { session = s; group = p.group; cause = cause }) (commits_behind 0 m.history + 1)) (view_of m.lazy) (view_of other)) same
           (group_makes start m kept s can other own.1),
     )
-makes_behind start m kept s o is cause other (inr move) = inl (move_makes_nothing start m kept other move)
+makes_behind start m kept s o is cause other (inr (of_move, move)) = inl (move_makes_nothing start m kept other move)
