@@ -1,6 +1,7 @@
 pub mod ByUnit
 pub mod Calls
 pub mod Granules
+pub mod Groups
 pub mod Kept
 pub mod Marking
 pub mod Recorded

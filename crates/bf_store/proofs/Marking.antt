@@ -10,13 +10,13 @@ use Rattle.std.specs.Ordering.{match_ordering}
 use Rattle.std.proofs.lemmas.Bool.{and_parts, and_from, or_parts, or_from, or_right, cases_Bool, not_from_false, not-true}
 use Rattle.std.proofs.lemmas.Cmp.{tied_itself}
 use Rattle.std.proofs.lemmas.List.Elements.{filter_agree, filter_more}
-use Rattle.std.proofs.lemmas.List.Folds.{list_any-append}
+use Rattle.std.proofs.lemmas.List.Folds.{list_all-append, list_all-map, list_any-append}
 use Rattle.std.proofs.lemmas.Grind.{fold-append}
 use Rattle.std.proofs.lemmas.List.{append-nil, map-append, take_more}
 use Rattle.bf_base.specs.declared.granule.Granule.{Granule}
 use Rattle.bf_base.specs.Lists.{has, placed, with_placed, in_order, rises}
 use Rattle.bf_base.proofs.Apart.{are_apart, apart_left, filter-with_placed, in_order-rises}
-use Rattle.bf_base.proofs.Order.{list_any-map, equal_from_test, less_from_test, symmetric, turned_less, rises_tail, rises_skip, rises_alike, list_any-with_placed}
+use Rattle.bf_base.proofs.Order.{list_any-map, equal_from_test, less_from_test, symmetric, turned_less, rises_tail, rises_skip, rises_alike, list_all-with_placed, list_any-with_placed}
 use Rattle.bf_base.proofs.Parts.{filter_all, filter-filter}
 use Rattle.bf_sql.specs.migrations.Granules.{same_granule}
 use Rattle.bf_sql.specs.migrations.Lazy.{DoneGranule, done_by}
@@ -105,6 +105,14 @@ has_marked done gs g n =
     ∙ list_any-append test done (map (done_by n) gs)
     ∙ ap₂ (λ b c. b || c) (sym (has_seen done g)) (list_any-map test (done_by n) gs)
     ∙ sym (list_any-append (same_granule g) (granules_in done) gs)
+
+-- what is true of each granule is true of those that are marked
+pub each_marked : (test : Granule → Bool) (done : List DoneGranule) (gs : List Granule) (n : ℕ) → list_all test (granules_in done) ≡ true → list_all test gs ≡ true → list_all test (granules_in (marked done gs n)) ≡ true
+each_marked test done gs n before new =
+    list_all-map test granule_of (marked done gs n)
+    ∙ list_all-with_placed granule_cmp_total granule_of (λ d. test d.granule) [] (done ++ map (done_by n) gs)
+    ∙ list_all-append (λ (d : DoneGranule). test d.granule) done (map (done_by n) gs)
+    ∙ and_from _ _ (sym (list_all-map test granule_of done) ∙ before) (list_all-map (λ (d : DoneGranule). test d.granule) (done_by n) gs ∙ new)
 
 same_back : (g h : Granule) → same_granule g h ≡ same_granule h g
 same_back g h = granule_ties g h ∙ symmetric granule_cmp_total g h ∙ sym (granule_ties h g)

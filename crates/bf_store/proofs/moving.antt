@@ -8,6 +8,7 @@ pub mod Moving
 pub mod Needing
 pub mod Opened
 pub mod Ordered
+pub mod Passing
 pub mod Put
 pub mod Putting
 pub mod Stored

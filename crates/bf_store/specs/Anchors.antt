@@ -1,12 +1,14 @@
 -- The anchors of a migration from a place on, and the first of them whose granule has not moved.
-use Rattle.std.specs.Prelude.{ℕ, ◌==◌, Bool, not, if◌then◌else◌, List, [], ◌∷◌, ◌++◌, map, flat_map, drop, find, Option, Some, None, option_map, unwrap_or}
-use Rattle.std.specs.List.{enumerate_from}
+use Rattle.std.specs.Prelude.{ℕ, ◌==◌, Bool, false, not, ◌&&◌, if◌then◌else◌, List, [], ◌∷◌, ◌++◌, map, flat_map, length, drop, find, Option, Some, None, is_none, option_map, unwrap_or, IsTrue}
+use Rattle.std.specs.List.{enumerate_from, list_all}
 use Rattle.bf_base.specs.declared.granule.Granule.{Granule}
+use Rattle.bf_base.specs.Lists.{has}
 use Rattle.bf_sql.specs.Database.{Database}
-use Rattle.bf_sql.specs.migrations.Granules.{UnitForm, anchors_of, granule}
+use Rattle.bf_sql.specs.migrations.Granules.{UnitForm, anchors_of, granule, granules_of, same_granule}
 use Rattle.bf_sql.specs.migrations.Lazy.{DoneGranule, Migration, is_done}
 use Rattle.bf_image.specs.Migrations.{old_of, unit_at, units_in}
 use Rattle.bf_image.specs.declared.migration.Migration.{Migration as Kept}
+use Rattle.bf_image.specs.declared.value_indexes.UnitIndex.{UnitIndex}
 use Rattle.bf_store.specs.Stores.{migration_of}
 use Rattle.bf_store.specs.declared.anchor.Anchor.{Anchor}
 
@@ -38,3 +40,12 @@ anchor_of a = record { unit = (a.0).unit; position = a.1 }
 abbrev pub next_from : Kept → List DoneGranule → Option Anchor → Option Anchor
 next_from m done None = None
 next_from m done (Some from) = option_map anchor_of (find (is_open (migration_of m done)) (anchors_ahead m from.unit from.position))
+
+-- OF: granules of a migration
+abbrev pub AreOf : Kept → List Granule → Type 0
+AreOf m granules = IsTrue (list_all (has same_granule (granules_of (old_of m) m.plan.migrate)) granules)
+
+-- whether a unit goes by the values of one table, and as many values as are told are all that there are
+abbrev pub has_all_groups : Option UnitIndex → ℕ → Bool
+has_all_groups None moved = false
+has_all_groups (Some index) moved = is_none index.join && moved == length index.from

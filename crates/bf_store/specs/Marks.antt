@@ -1,6 +1,8 @@
 -- MARKS: the granules that have moved, each with the number of its record, in the order of unit and place.
-use Rattle.std.specs.Prelude.{ℕ, not, List, ◌++◌, map, filter, filter_map, find, Option, option_map, IsTrue}
+use Rattle.std.specs.Prelude.{ℕ, Bool, true, false, not, ◌&&◌, ◌==◌, List, ◌++◌, map, filter, filter_map, find, Option, option_map, IsTrue}
 use Rattle.bf_base.specs.declared.granule.Granule.{Granule}
+use Rattle.bf_base.specs.declared.granule.Place.{Place}
+use Rattle.bf_base.specs.declared.granule.Place.TheVariants.{Row, Group}
 use Rattle.bf_base.specs.Lists.{has, in_order, placed, rises}
 use Rattle.bf_base.proofs.Apart.{are_apart}
 use Rattle.bf_sql.specs.migrations.Granules.{same_granule}
@@ -9,6 +11,14 @@ use Rattle.bf_store.specs.States.{granule_cmp}
 
 abbrev pub granules_in : List DoneGranule → List Granule
 granules_in done = map (λ d. d.granule) done
+
+-- whether a granule stands for a value of a unit
+abbrev pub is_group : Place → Bool
+is_group (Row position) = false
+is_group (Group value) = true
+
+abbrev pub is_group_of : ℕ → Granule → Bool
+is_group_of unit g = g.unit == unit && is_group g.place
 
 -- the number of the record that moved a granule, if it has moved
 abbrev pub number_in : List DoneGranule → Granule → Option ℕ

@@ -4,7 +4,7 @@ ghost use Rattle.std.specs.Prelude.{◌≡◌, [], IfOk, OnErr, OnOk, false, fil
 ghost use Rattle.bf_base.specs.Lists.{has};
 ghost use Rattle.bf_sql.specs.migrations.Granules.{same_granule};
 ghost use Rattle.bf_sql.specs.migrations.Lazy.{done_by};
-ghost use Rattle.bf_store.specs.Marks.{AreFresh, AreInOrder, granules_in, left_of, marked, number_in, numbered_of, unmarked, with_mark};
+ghost use Rattle.bf_store.specs.Marks.{AreFresh, AreInOrder, granules_in, is_group_of, left_of, marked, number_in, numbered_of, unmarked, with_mark};
 
 use crate::unit_marks::{UnitMarks, make_unit};
 use bf_base::{Granule, Memory};
@@ -77,6 +77,17 @@ impl Done {
         ensures ordered { AreInOrder self.now }
     {
         self.count
+    }
+
+    /// How many values of a unit have moved. Takes no memory, and constant time.
+    pub fn groups(&self, unit: u8) -> usize
+        ensures groups { result ≡ length (filter (is_group_of unit) (granules_in self.now)) }
+        ensures ordered { AreInOrder self.now }
+    {
+        match self.units.get(unit as usize) {
+            Some(marks) => marks.groups(),
+            None => 0,
+        }
     }
 
     /// Those of some granules that have not moved. For each it costs what `number` does, and a copy.

@@ -4,8 +4,8 @@ ghost use Rattle.std.specs.Prelude.{◌≡◌, ◌<◌, ◌^◌, ◌++◌, ◌�
 ghost use Rattle.bf_base.specs.Tables.{cell, key_of};
 ghost use Rattle.bf_sql.specs.migrations.Granules.{part_of};
 ghost use Rattle.bf_image.specs.Migrations.{IsLawfulMigration, old_of, target_at, value_indexes};
-ghost use Rattle.bf_store.specs.Anchors.{next_from};
-ghost use Rattle.bf_store.specs.Marks.{AreFresh, left_of, marked, unmarked};
+ghost use Rattle.bf_store.specs.Anchors.{AreOf, next_from};
+ghost use Rattle.bf_store.specs.Marks.{AreFresh, granules_in, left_of, marked, unmarked};
 ghost use Rattle.bf_store.specs.Puts.{ArePuts, MayMove, Put, with_rows_in};
 ghost use Rattle.bf_store.specs.Calls.{IsMoveOf};
 ghost use Rattle.bf_store.specs.States.{AreGranules, IsLazy};
@@ -118,17 +118,20 @@ fn puts(
     Ok(puts)
 }
 
-/// The first anchor from one on whose granule has not moved.
+/// The first anchor from one on whose granule has not moved. It costs what `next_anchor` does.
 ///
 /// # Errors
 /// Where memory runs out, or 2 ^ 32 granules have moved.
 fn next_if_few(
     alloc: Global,
     migration: &Migration,
+    indexes: &ValueIndexes,
     done: &Done,
     from: Option<Anchor>,
 ) -> Result<Option<Anchor>, Memory>
-    requires { IsLawfulMigration migration.now }
+    requires lawful { IsLawfulMigration migration.now }
+    requires indexed { indexes.now ≡ value_indexes migration.now }
+    requires done { AreOf migration.now (granules_in done.now) }
     ensures few { OnOk result (length done.now < 2 ^ 32) }
     ensures next { IfOk result (λ next. next ≡ next_from migration.now done.now from) }
 {
@@ -136,7 +139,7 @@ fn next_if_few(
         return Err(Memory);
     }
     match from {
-        Some(from) => next_anchor(alloc, migration, done, from),
+        Some(from) => next_anchor(alloc, migration, indexes, done, from),
         None => Ok(None),
     }
 }
@@ -148,12 +151,16 @@ fn next_if_few(
 fn note(
     alloc: Global,
     migration: &Migration,
+    indexes: &ValueIndexes,
     done: &mut Done,
     from: Option<Anchor>,
     fresh: &[Granule],
     number: u64,
 ) -> Result<Option<Anchor>, Memory>
     requires lawful { IsLawfulMigration migration.now }
+    requires indexed { indexes.now ≡ value_indexes migration.now }
+    requires done { AreOf migration.now (granules_in done.old) }
+    requires granules { AreOf migration.now fresh.now }
     requires fresh { AreFresh done.old fresh.now }
     ensures done { OnOk result (done.new ≡ marked done.old fresh.now number) }
     ensures back { OnOk result (unmarked done.new fresh.now ≡ done.old) }
@@ -162,7 +169,7 @@ fn note(
     ensures err { OnErr result (done.new ≡ done.old) }
 {
     done.mark(alloc, fresh, number)?;
-    match next_if_few(alloc, migration, done, from) {
+    match next_if_few(alloc, migration, indexes, done, from) {
         Ok(next) => Ok(next),
         Err(memory) => {
             done.unmark(fresh);
@@ -247,7 +254,15 @@ pub(crate) fn move_in(
     ensures last_stays { OnErr result (last.new ≡ last.old) }
 {
     let puts = puts(alloc, migration, indexes, fresh)?;
-    let next = note(alloc, migration, &mut last.done, last.next, fresh, number)?;
+    let next = note(
+        alloc,
+        migration,
+        indexes,
+        &mut last.done,
+        last.next,
+        fresh,
+        number,
+    )?;
     if let Err(memory) = live.put(puts) {
         last.done.unmark(fresh);
         return Err(memory);

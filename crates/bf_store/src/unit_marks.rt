@@ -1,9 +1,10 @@
 //! The granules of one unit that have moved.
 
-ghost use Rattle.std.specs.Prelude.{◌≡◌, ◌<◌, ◌≤◌, ◌++◌, [], OnErr, OnOk, ℕ, is_some, length};
+ghost use Rattle.std.specs.Prelude.{◌≡◌, ◌<◌, ◌≤◌, ◌++◌, [], OnErr, OnOk, ℕ, filter, is_some, length};
 ghost use Rattle.std.specs.BTreeMap.{insert_entry, is_at};
 ghost use Rattle.std.specs.Map.{keys_of, lookup, remove_entry};
 ghost use Rattle.bf_store.specs.ByUnit.{at_place, from_unit, of_unit};
+ghost use Rattle.bf_store.specs.Marks.{is_group_of};
 ghost use Rattle.bf_store.specs.States.{granule_cmp};
 
 use crate::row_numbers::RowNumbers;
@@ -73,6 +74,14 @@ impl UnitMarks {
             Place::Row(position) => self.rows.take(*position),
             Place::Group(value) => self.values.remove(value).is_some(),
         }
+    }
+
+    /// How many values have moved. Takes no memory, and constant time.
+    pub fn groups(&self) -> usize
+        ensures { (unit : ℕ)
+            → result ≡ length (filter (is_group_of unit) (keys_of (of_unit unit self.now))) }
+    {
+        self.values.len()
     }
 
     /// Adds the granules that have moved to others, in the order of their places.

@@ -113,7 +113,7 @@ rows_apart : (a n : ℕ) → are_apart same_place (map Row (range_with_len a n))
 rows_apart a zero = refl
 rows_apart a (suc n) = and_from _ _ (not_from_false _ (above a (a + 1) n (omega arith))) (rows_apart (a + 1) n)
 
-has_group : (ks : List (List Value)) (k : List Value) → has same_place (map Group ks) (Group k) ≡ has same_key ks k
+pub has_group : (ks : List (List Value)) (k : List Value) → has same_place (map Group ks) (Group k) ≡ has same_key ks k
 has_group [] k = refl
 has_group (l ∷ ks) k = ap (λ b. same_key k l || b) (has_group ks k)
 
@@ -145,7 +145,7 @@ places_apart : (old : Database) (u : UnitForm) → are_apart same_place (places_
 places_apart old (rows_unit driver) = rows_apart 0 (length (table_rows old driver))
 places_apart old (values_unit target arm) = groups_apart (in_order key_cmp (λ v. v) (distinct same_key (anchor_values old arm (arm_kind old arm)))) (in_order_apart (distinct same_key (anchor_values old arm (arm_kind old arm))) (fold_apart [] (anchor_values old arm (arm_kind old arm)) refl))
 
-in_unit : (n : ℕ) (ps : List Place) (p : Place) → has same_granule (map (granule n) ps) (granule n p) ≡ has same_place ps p
+pub in_unit : (n : ℕ) (ps : List Place) (p : Place) → has same_granule (map (granule n) ps) (granule n p) ≡ has same_place ps p
 in_unit n [] p = refl
 in_unit n (q ∷ ps) p = ap₂ (λ b c. (b && same_place p q) || c) (eq-eqb n n refl) (in_unit n ps p)
 
@@ -153,7 +153,7 @@ block_apart : (n : ℕ) (ps : List Place) → are_apart same_place ps ≡ true �
 block_apart n [] apart = refl
 block_apart n (p ∷ ps) apart = and_from _ _ (ap not (in_unit n ps p) ∙ (and_parts _ _ apart).0) (block_apart n ps (and_parts _ _ apart).1)
 
-not_in_unit : (a b : ℕ) (ps : List Place) (p : Place) → (a == b) ≡ false → has same_granule (map (granule b) ps) (granule a p) ≡ false
+pub not_in_unit : (a b : ℕ) (ps : List Place) (p : Place) → (a == b) ≡ false → has same_granule (map (granule b) ps) (granule a p) ≡ false
 not_in_unit a b [] p other = refl
 not_in_unit a b (q ∷ ps) p other = or_from _ _ (and_left (a == b) (same_place p q) other) (not_in_unit a b ps p other)
 

@@ -1,8 +1,8 @@
 -- A sweep is complete exactly where each granule has moved once, and as many have moved then as there are.
-use Rattle.std.proofs.Common.{◌≡◌, Bool, true, false, not, List, [], ◌∷◌, filter, length, Some, ◌==◌, refl, sym, ap, ◌∙◌, inl, inr, arith}
+use Rattle.std.proofs.Common.{◌≡◌, ◌≤◌, Bool, true, false, not, List, [], ◌∷◌, filter, length, Some, ◌==◌, refl, sym, ap, ◌∙◌, inl, inr, arith}
 use Rattle.std.specs.Cmp.{IsEquivalence}
 use Rattle.std.specs.List.{list_all, count_by, AllByRecursion, IsDistinct}
-use Rattle.std.proofs.lemmas.Bool.{and_parts, and_from, or_parts, not-true, cases_Bool, eqb-true, eq-eqb, false≢true}
+use Rattle.std.proofs.lemmas.Bool.{and_parts, and_from, or_parts, not-true, not_from_false, cases_Bool, eqb-true, eq-eqb, false≢true}
 use Rattle.std.proofs.lemmas.List.{length-map}
 use Rattle.std.proofs.lemmas.List.Sums.{length-filter}
 use Rattle.std.proofs.lemmas.Map.Made.{length-le_from_is_member}
@@ -56,13 +56,23 @@ all_if_none_left test (g ∷ gs) none = elim (cases_Bool (test g)) [
 ]
 
 -- what is one of some granules is one of all in which each of them is
-has_if_within : (gs hs : List Granule) (g : Granule) → list_all (has same_granule hs) gs ≡ true → has same_granule gs g ≡ true → has same_granule hs g ≡ true
+pub has_if_within : (gs hs : List Granule) (g : Granule) → list_all (has same_granule hs) gs ≡ true → has same_granule gs g ≡ true → has same_granule hs g ≡ true
 has_if_within [] hs g within there = absurd (false≢true there)
 has_if_within (h ∷ gs) hs g within there = elim (cases_Bool (same_granule g h)) [
   | inl is ↦ ap (has same_granule hs) (same_granule-equal g h is) ∙ (and_parts _ _ within).0
   | inr other ↦
       let there' : has same_granule gs g ≡ true = rw other at there in
       has_if_within gs hs g (and_parts _ _ within).1 there'
+]
+
+-- where as many granules that differ are each one of others, these are all there
+pub all_there : (gs hs : List Granule) → are_apart same_granule gs ≡ true → list_all (has same_granule hs) gs ≡ true → length hs ≤ length gs → (g : Granule) → has same_granule hs g ≡ true → has same_granule gs g ≡ true
+all_there gs hs apart within enough g there = elim (cases_Bool (has same_granule gs g)) [
+  | inl is ↦ is
+  | inr absent ↦
+      let differ = distinct_if_apart (g ∷ gs) (and_from _ _ (not_from_false _ absent) apart) in
+      let more = length-le_from_is_member same_granule_equiv (g ∷ gs) hs differ (λ h is. has_if_within (g ∷ gs) hs h (and_from _ _ there within) is) in
+      absurd (omega (arith, more, enough))
 ]
 
 all_where : (test other : Granule → Bool) → ((g : Granule) → test g ≡ true → other g ≡ true) → (gs : List Granule) → list_all test gs ≡ true → list_all other gs ≡ true

@@ -6,7 +6,8 @@ use Rattle.bf_sql.specs.migrations.Lazy.{is_done}
 use Rattle.bf_image.specs.Migrations.{old_of}
 use Rattle.bf_image.specs.declared.migration.Migration.{Migration as Kept}
 use Rattle.bf_live.specs.Live.{NamedRows}
-use Rattle.bf_store.specs.Anchors.{next_from}
+use Rattle.bf_store.specs.Anchors.{AreOf, next_from}
+use Rattle.bf_store.specs.Marks.{granules_in}
 use Rattle.bf_store.specs.Puts.{ArePuts, with_rows_in}
 use Rattle.bf_store.specs.Stores.{last_seen, migration_of}
 use Rattle.bf_store.proofs.Marking.{still_marked}
@@ -18,6 +19,13 @@ use Rattle.bf_store.proofs.movement.move_in.Goals as goal
 -- the rows of granules are put together for the migration's own targets
 together : (m n : Kept) (gs : List Granule) (puts : List NamedRows) → m ≡ n → ArePuts n (flat_map (part_of (old_of n) n.plan.migrate) gs) puts → ArePuts m (flat_map (part_of (old_of m) m.plan.migrate) gs) puts
 together m n gs puts one are = subst (λ (m : Kept). ArePuts m (flat_map (part_of (old_of m) m.plan.migrate) gs) puts) (sym one) are
+
+-- granules of a migration are those of one that is the same
+pub note-requires-clause-done : goal.note-requires-clause-done
+note-requires-clause-done c = subst (λ (m : Kept). AreOf m (granules_in c.args.last.now.done)) c.requires.one c.requires.lazy_state.last.granules
+
+pub note-requires-clause-granules : goal.note-requires-clause-granules
+note-requires-clause-granules c = subst (λ (m : Kept). AreOf m c.args.fresh.now) c.requires.one c.requires.fresh.each
 
 pub put-requires-clause-apart : goal.put-requires-clause-apart
 put-requires-clause-apart c =
