@@ -1,5 +1,5 @@
 -- The commit of a session's open group: what it is to leave can be settled, and the machine behind it keeps what it kept.
-use Rattle.std.proofs.Common.{inl, ◌≡◌, ◌⊎◌, ℕ, ◌+◌, ◌-◌, ◌≤◌, Bool, true, cond, ltb, List, [], ◌∷◌, ◌++◌, length, map, Option, Some, None, refl, sym, ap, ap₂, subst, ◌∙◌, arith, vec_capacity}
+use Rattle.std.proofs.Common.{◌≡◌, ◌⊎◌, ℕ, ◌+◌, ◌-◌, ◌≤◌, Bool, true, cond, ltb, List, [], ◌∷◌, ◌++◌, length, map, Option, Some, None, refl, sym, ap, ap₂, subst, ◌∙◌, arith, vec_capacity}
 use Rattle.std.specs.Prelude.{slice_index_or, slice_set}
 use Rattle.std.specs.Global.{Vec}
 use Rattle.std.proofs.lemmas.List.{set-get_or}
@@ -28,7 +28,7 @@ use Rattle.bf_machine.specs.declared.so_far.SessionSoFar.{SessionSoFar}
 use Rattle.bf_machine.specs.interleaving.Answering.{CanSettle}
 use Rattle.bf_machine.specs.interleaving.Events.{Commits, IsToCommit, commits_behind, committed, entry_of, put_into, rest_of, text_of}
 use Rattle.bf_machine.specs.interleaving.Groups.{Flip, left_by}
-use Rattle.bf_machine.specs.interleaving.Journals.{AreSaid, IsChangeFor, IsPutInto, IsStated}
+use Rattle.bf_machine.specs.interleaving.Journals.{AreSaid, IsLeftFor, IsPutInto, IsStated}
 use Rattle.bf_machine.specs.interleaving.Kept.{IsKept, IsOpenGroup, StoreValid}
 use Rattle.bf_machine.specs.interleaving.Machines.{Machine, Open, answered_in, open_at}
 use Rattle.bf_machine.specs.interleaving.Seen.{IsSound, group_seen, pending_seen, seen}
@@ -131,8 +131,8 @@ module _ {opening : Database} {registry : Registry} {given : Script} (logged : B
     same_group = same_Some by.o o (sym by.is ∙ here)
 
     -- and what the code has it leave is what it is to leave
-    pub change_for : (next : LazyState) → IsPutInto store.lazy (pending_seen g.pending) next → IsChangeFor m s next
-    change_for next is = inl (by, is ∙ ap (λ (p : Open). put_into store.lazy p.pending) (sym same_group))
+    pub left_for : (next : LazyState) → IsPutInto store.lazy (pending_seen g.pending) next → IsLeftFor m s next
+    left_for next is = (by, is ∙ ap (λ (p : Open). put_into store.lazy p.pending) (sym same_group))
 
     left_to_commit : (rest_of m s o ≡ []) ⊎ (rest_of m s o ≡ Commit ∷ [])
     left_to_commit = subst (λ (p : Open). (rest_of m s p ≡ []) ⊎ (rest_of m s p ≡ Commit ∷ [])) same_group by.left

@@ -12,7 +12,7 @@ use Rattle.bf_tree.specs.declared.reply.Cause.{Cause}
 use Rattle.bf_machine.specs.declared.journal.KeepError.{KeepError}
 use Rattle.bf_machine.specs.declared.journal.KeepError.TheVariants.{Ended, Memory}
 use Rattle.bf_machine.specs.interleaving.Events.{Asks, Begins, EndsByLog, Event, Reaches, aborts, asked, asks, at_once, begins, commits_now, ends_by_log, executes, finishes, moves, one_more, refuses}
-use Rattle.bf_machine.specs.interleaving.Journals.{IsBeside, IsChangeFor, IsChangeOf, IsEventBeside, IsRefused, Keeps, KeepsOrIsRefused, ended_by, nothing_yet, one_beside}
+use Rattle.bf_machine.specs.interleaving.Journals.{IsBeside, IsChangeOf, IsEventBeside, IsRefused, IsUnkeptFor, Keeps, KeepsOrIsRefused, ended_by, nothing_yet, one_beside}
 use Rattle.bf_machine.specs.interleaving.Calls.{HasReplied}
 use Rattle.bf_machine.specs.interleaving.Machines.{Machine, Open}
 use Rattle.bf_machine.specs.interleaving.Serving.{LeavesStore}
@@ -34,7 +34,7 @@ module _ {J : Type 0} (Answers : LazyState → LazyState → J → J → Result 
   -- an event with its journal: the store changes beside it, and no group ends by a cause; or one does, for which a change was refused
   pub event_beside : {now next : Machine} (event : Event start now next) (k l : J) → IsEventBeside Answers event k l
       → ((ended_by event ≡ []) × IsBeside Answers (IsChangeOf now) now.lazy next.lazy k l)
-      ⊎ ((s : ℕ) × (by : EndsByLog now s next) × (event ≡ ends_by_log s by) × IsRefused Answers (IsChangeFor now s) now.lazy k l by.cause)
+      ⊎ ((s : ℕ) × (by : EndsByLog now s next) × (event ≡ ends_by_log s by) × IsRefused Answers (IsUnkeptFor now s by.cause) now.lazy k l by.cause)
   event_beside (ends_by_log s by) k l refused = inr (s, by, refl, refused)
   event_beside (begins s by) k l beside = inl (refl, beside)
   event_beside (asks s name mode answer by) k l beside = inl (refl, beside)
@@ -46,9 +46,9 @@ module _ {J : Type 0} (Answers : LazyState → LazyState → J → J → Result 
   event_beside (finishes s same) k l beside = inl (refl, beside)
 
   -- a group ends by the cause for which the journal does not keep a change
-  pub keeps_end : (m : Machine) (j : J) (now : Machine) (k l : J) (s : ℕ) (next : Machine) (cause : Cause) → Keeps Answers start m j now k → (by : EndsByLog now s next) → by.cause ≡ cause → IsRefused Answers (IsChangeFor now s) now.lazy k l cause
+  pub keeps_end : (m : Machine) (j : J) (now : Machine) (k l : J) (s : ℕ) (next : Machine) (cause : Cause) → Keeps Answers start m j now k → (by : EndsByLog now s next) → by.cause ≡ cause → IsRefused Answers (IsUnkeptFor now s cause) now.lazy k l cause
       → Keeps Answers start m j next l
-  keeps_end m j now k l s next cause before by is refused = one_beside before (ends_by_log s by) (subst (IsRefused Answers (IsChangeFor now s) now.lazy k l) (sym is) refused)
+  keeps_end m j now k l s next cause before by is refused = one_beside before (ends_by_log s by) (subst (λ (d : Cause). IsRefused Answers (IsUnkeptFor now s d) now.lazy k l d) (sym is) refused)
 
   -- a call behind other events
   pub keeps_behind : (ends : Bool) (m : Machine) (j : J) (now : Machine) (k : J) (next : Machine) (l : J) (r : Result (Unit {0}) KeepError) → Keeps Answers start m j now k

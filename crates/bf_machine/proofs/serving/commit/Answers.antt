@@ -1,5 +1,5 @@
 -- The group has its entry, or ends by the cause that the journal told.
-use Rattle.std.proofs.Common.{◌≡◌, ◌≢◌, ℕ, sym, ap, subst, ◌∙◌}
+use Rattle.std.proofs.Common.{◌≡◌, ◌≢◌, ℕ, sym, ap, subst, ◌∙◌, inl}
 use Rattle.std.specs.Prelude.{Result, Ok}
 use Rattle.bf_base.specs.declared.memory.Memory.{Memory}
 use Rattle.bf_sql.specs.migrations.Lazy.{LazyState}
@@ -9,15 +9,15 @@ use Rattle.bf_machine.specs.declared.stand.Ending.{Ending}
 use Rattle.bf_machine.specs.declared.stand.Ending.TheVariants.{Committed, Ended}
 use Rattle.bf_machine.specs.interleaving.Calls.{IsEnding}
 use Rattle.bf_machine.specs.interleaving.Events.{commits_now}
-use Rattle.bf_machine.specs.interleaving.Journals.{IsBeside, IsChangeFor, IsChangeOf, nothing_yet, one_beside}
+use Rattle.bf_machine.specs.interleaving.Journals.{IsBeside, IsChangeOf, IsLeftFor, nothing_yet, one_beside}
 use Rattle.bf_machine.specs.interleaving.Machines.{Machine}
 use Rattle.bf_machine.proofs.keeping.Beside.{beside_weaker}
 use Rattle.bf_machine.proofs.served.Keeping.{keeps_end, keeps_still}
 use Rattle.bf_machine.proofs.serving.commit.Goals as goal
 
-of_session : {J : Type 0} (Answers : LazyState → LazyState → J → J → Result (Unit {0}) KeepError → Type 0) (j k : J) (s : ℕ) (m next : Machine) → IsBeside Answers (IsChangeFor m s) m.lazy next.lazy j k
+of_session : {J : Type 0} (Answers : LazyState → LazyState → J → J → Result (Unit {0}) KeepError → Type 0) (j k : J) (s : ℕ) (m next : Machine) → IsBeside Answers (IsLeftFor m s) m.lazy next.lazy j k
     → IsBeside Answers (IsChangeOf m) m.lazy next.lazy j k
-of_session Answers j k s m next beside = beside_weaker Answers (IsChangeFor m s) m.lazy next.lazy j k (IsChangeOf m) (λ change is. (s, is)) beside
+of_session Answers j k s m next beside = beside_weaker Answers (IsLeftFor m s) m.lazy next.lazy j k (IsChangeOf m) (λ change is. (s, inl is)) beside
 
 no_cause : (ending : Ending) (n : ℕ) → ending ≡ Committed n → (cause : Cause) → ◌≢◌ {A = Result Ending Memory} (Ok ending) (Ok (Ended cause))
 no_cause ending n is cause same =
@@ -47,5 +47,6 @@ returns-in-Ended-clause-keeps g c =
     let m : Machine = c.args.machine.now in
     let next : Machine = c.commit.new.self in
     let by = subst (λ (e : Ending). IsEnding m c.args.session next e) c.in-Ended.is c.in_ok-commit.ensures.ending in
+    let refused = c.commit.ensures.refused c.in-Ended.cause (c.in_ok-commit.was ∙ ap Ok c.in-Ended.is) in
     keeps_end g.J.Journal.Answers g.N.Opened.opening m c.args.journal.now m c.args.journal.now c.commit.new.journal c.args.session next c.in-Ended.cause
-    nothing_yet by.0 by.1 (c.commit.ensures.refused c.in-Ended.cause (c.in_ok-commit.was ∙ ap Ok c.in-Ended.is))
+    nothing_yet by.0 by.1 (refused.0, inl refused.1, refused.2)

@@ -8,7 +8,7 @@ use Rattle.bf_machine.specs.declared.stand.MoveError.{MoveError}
 use Rattle.bf_machine.specs.declared.stand.MoveError.TheVariants.{Ended, Memory as NoMemory, Old}
 use Rattle.bf_machine.specs.interleaving.Calls.{slot_of}
 use Rattle.bf_machine.specs.interleaving.Events.{moves}
-use Rattle.bf_machine.specs.interleaving.Journals.{IsBeside, IsChangeOf, IsMoveIn, IsRefused, KeepsOrIsRefused, nothing_yet, one_beside}
+use Rattle.bf_machine.specs.interleaving.Journals.{IsBeside, IsChangeOf, IsMoveIn, IsRefused, IsUnkeptMove, KeepsOrIsRefused, nothing_yet, one_beside}
 use Rattle.bf_machine.specs.interleaving.Machines.{Machine}
 use Rattle.bf_machine.proofs.keeping.Beside.{beside_weaker}
 use Rattle.bf_machine.proofs.served.Keeping.{keeps_not, keeps_still}
@@ -50,7 +50,7 @@ returns-clause-keeps g c =
             (
               j,
               keeps_not Answers start m next j j stays refl,
-              subst (λ (n : Machine). IsRefused Answers (IsMoveIn n.lazy) n.lazy j k cause) (sym stays) ended.2,
+              subst (λ (n : Machine). IsRefused Answers (IsUnkeptMove n.lazy cause) n.lazy j k cause) (sym stays) ended.2,
             ),
           )
       | in-Err-Memory w ↦

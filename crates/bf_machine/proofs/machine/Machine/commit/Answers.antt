@@ -12,11 +12,11 @@ use Rattle.bf_store.specs.Stores.{IsOf, Store}
 use Rattle.bf_machine.specs.declared.so_far.SessionSoFar.{SessionSoFar}
 use Rattle.bf_machine.specs.interleaving.Calls.{CanCommit, CanFail, IsPlace}
 use Rattle.bf_machine.specs.interleaving.Events.{Commits, EndsByLog, commits_behind}
-use Rattle.bf_machine.specs.interleaving.Journals.{AreSaid, IsBeside, IsChangeFor, IsPutInto, IsRefused}
+use Rattle.bf_machine.specs.interleaving.Journals.{AreSaid, IsBeside, IsLeftFor, IsPutInto, IsRefused}
 use Rattle.bf_machine.specs.interleaving.Machines.{Machine}
 use Rattle.bf_machine.specs.interleaving.Seen.{IsLeastLeft, IsSound, open_seen, pending_seen, seen}
 use Rattle.bf_machine.proofs.keeping.Ending.{room_for_reply}
-use Rattle.bf_machine.proofs.keeping.Committing.{can_settle, change_for, commit_seen, commit_sound, is_stated, number_fits, sessions_stay}
+use Rattle.bf_machine.proofs.keeping.Committing.{can_settle, commit_seen, commit_sound, is_stated, left_for, number_fits, sessions_stay}
 use Rattle.bf_machine.proofs.keeping.Beside.{beside_weaker}
 use Rattle.bf_machine.proofs.keeping.LeastLeft.{goes_on_at, least_behind, open_goes_on}
 use Rattle.bf_machine.proofs.machine.Machine.commit.Goals as goal
@@ -215,14 +215,14 @@ returns-in-Memory-clause-beside g c = λ _.
     let high : s ≤ length i.sessions.items = omega (arith, place.1, c.self.invariant.0.kept.shaped.opens, length-map i.sessions.items open_seen) in
     let m : Machine = seen g.N.Opened.logged i.script i.retries i.store i.locks i.began.items i.sessions.items i.history.items in
     let can : CanCommit m s = subst (λ (m : Machine). CanCommit m s) (sym c.self.view_is) c.requires.can in
-    let own : (next : LazyState) → IsPutInto i.store.lazy (pending_seen c.in-Some.group.pending) next → IsChangeFor m s next =
-    change_for g.N.Opened.logged i.script i.retries i.store i.locks i.began.items i.sessions.items i.history i.commits i.transcripts c.self.invariant.0
+    let own : (next : LazyState) → IsPutInto i.store.lazy (pending_seen c.in-Some.group.pending) next → IsLeftFor m s next =
+    left_for g.N.Opened.logged i.script i.retries i.store i.locks i.began.items i.sessions.items i.history i.commits i.transcripts c.self.invariant.0
     s place.0 high x (sym c.index_mut-so_far.ensures.value) c.in-Some.group (sym c.take.ensures.value ∙ c.in-Some.is) can in
     let Answers = g.J.Journal.Answers in
     let j = c.args.journal.now in
     let k = c.settle.new.journal in
-    subst (λ (m : Machine). IsBeside Answers (IsChangeFor m s) m.lazy c.settle.new.store.lazy j k) c.self.view_is
-    (beside_weaker Answers (IsPutInto i.store.lazy (pending_seen c.in-Some.group.pending)) i.store.lazy c.settle.new.store.lazy j k (IsChangeFor m s) own (c.in-Err.ensures.beside (no_cause c.in-Err.error c.in-Memory.is)))
+    subst (λ (m : Machine). IsBeside Answers (IsLeftFor m s) m.lazy c.settle.new.store.lazy j k) c.self.view_is
+    (beside_weaker Answers (IsPutInto i.store.lazy (pending_seen c.in-Some.group.pending)) i.store.lazy c.settle.new.store.lazy j k (IsLeftFor m s) own (c.in-Err.ensures.beside (no_cause c.in-Err.error c.in-Memory.is)))
 
 pub returns-in-Ended-clause-refused : goal.returns-in-Ended-clause-refused
 returns-in-Ended-clause-refused g c = λ cause is.
@@ -233,15 +233,15 @@ returns-in-Ended-clause-refused g c = λ cause is.
     let high : s ≤ length i.sessions.items = omega (arith, place.1, c.self.invariant.0.kept.shaped.opens, length-map i.sessions.items open_seen) in
     let m : Machine = seen g.N.Opened.logged i.script i.retries i.store i.locks i.began.items i.sessions.items i.history.items in
     let can : CanCommit m s = subst (λ (m : Machine). CanCommit m s) (sym c.self.view_is) c.requires.can in
-    let own : (next : LazyState) → IsPutInto i.store.lazy (pending_seen c.in-Some.group.pending) next → IsChangeFor m s next =
-    change_for g.N.Opened.logged i.script i.retries i.store i.locks i.began.items i.sessions.items i.history i.commits i.transcripts c.self.invariant.0
+    let own : (next : LazyState) → IsPutInto i.store.lazy (pending_seen c.in-Some.group.pending) next → IsLeftFor m s next =
+    left_for g.N.Opened.logged i.script i.retries i.store i.locks i.began.items i.sessions.items i.history i.commits i.transcripts c.self.invariant.0
     s place.0 high x (sym c.index_mut-so_far.ensures.value) c.in-Some.group (sym c.take.ensures.value ∙ c.in-Some.is) can in
     let Answers = g.J.Journal.Answers in
     let j = c.args.journal.now in
     let k = c.settle.new.journal in
     let same : c.in-Ended.cause ≡ cause = cc in
     let refused = c.in-Err.ensures.refused cause (ap (λ (why : KeepError). Err why) (c.in-Ended.is ∙ ap (λ (d : Cause). Ended d) same)) in
-    subst (λ (m : Machine). IsRefused Answers (IsChangeFor m s) m.lazy j k cause) c.self.view_is (refused.0, own refused.0 refused.1, refused.2)
+    subst (λ (m : Machine). IsRefused Answers (IsLeftFor m s) m.lazy j k cause) c.self.view_is (refused.0, own refused.0 refused.1, refused.2)
 
 pub returns-clause-beside : goal.returns-clause-beside
 returns-clause-beside g c = λ _.
@@ -252,11 +252,11 @@ returns-clause-beside g c = λ _.
     let high : s ≤ length i.sessions.items = omega (arith, place.1, c.self.invariant.0.kept.shaped.opens, length-map i.sessions.items open_seen) in
     let m : Machine = seen g.N.Opened.logged i.script i.retries i.store i.locks i.began.items i.sessions.items i.history.items in
     let can : CanCommit m s = subst (λ (m : Machine). CanCommit m s) (sym c.self.view_is) c.requires.can in
-    let own : (next : LazyState) → IsPutInto i.store.lazy (pending_seen c.in-Some.group.pending) next → IsChangeFor m s next =
-    change_for g.N.Opened.logged i.script i.retries i.store i.locks i.began.items i.sessions.items i.history i.commits i.transcripts c.self.invariant.0
+    let own : (next : LazyState) → IsPutInto i.store.lazy (pending_seen c.in-Some.group.pending) next → IsLeftFor m s next =
+    left_for g.N.Opened.logged i.script i.retries i.store i.locks i.began.items i.sessions.items i.history i.commits i.transcripts c.self.invariant.0
     s place.0 high x (sym c.index_mut-so_far.ensures.value) c.in-Some.group (sym c.take.ensures.value ∙ c.in-Some.is) can in
     let Answers = g.J.Journal.Answers in
     let j = c.args.journal.now in
     let k = c.settle.new.journal in
-    subst (λ (m : Machine). IsBeside Answers (IsChangeFor m s) m.lazy c.settle.new.store.lazy j k) c.self.view_is
-    (beside_weaker Answers (IsPutInto i.store.lazy (pending_seen c.in-Some.group.pending)) i.store.lazy c.settle.new.store.lazy j k (IsChangeFor m s) own (c.in_default-settle.ensures.beside (λ cause same. cc)))
+    subst (λ (m : Machine). IsBeside Answers (IsLeftFor m s) m.lazy c.settle.new.store.lazy j k) c.self.view_is
+    (beside_weaker Answers (IsPutInto i.store.lazy (pending_seen c.in-Some.group.pending)) i.store.lazy c.settle.new.store.lazy j k (IsLeftFor m s) own (c.in_default-settle.ensures.beside (λ cause same. cc)))

@@ -15,7 +15,7 @@ use Rattle.bf_machine.specs.declared.stand.MoveError.{MoveError}
 use Rattle.bf_machine.specs.declared.stand.MoveError.TheVariants.{Ended, Memory, Old}
 use Rattle.bf_machine.specs.interleaving.Calls.{slot_of}
 use Rattle.bf_machine.specs.interleaving.Events.{Moves}
-use Rattle.bf_machine.specs.interleaving.Journals.{IsBeside, IsMoveIn, IsRefused}
+use Rattle.bf_machine.specs.interleaving.Journals.{IsBeside, IsMoveIn, IsRefused, IsUnkeptMove}
 use Rattle.bf_machine.specs.interleaving.Kept.{is_of_log}
 use Rattle.bf_machine.specs.interleaving.Machines.{Machine}
 use Rattle.bf_machine.specs.interleaving.Seen.{IsSound, seen}
@@ -153,7 +153,7 @@ returns-in_err-kept-clause-ended g c = λ cause is.
     let error = c.in_err-kept.field-0.0 in
     let same : c.from_residual.result ≡ Err error = same_error c.from_residual.result error c.from_residual.ensures.0 c.from_residual.ensures.1 in
     let ends : ◌≡◌ {A = Result Bool MoveError} (Err error) (Err (Ended cause)) = ap (λ (e : MoveError). Err e) (error_of c.from_residual.result error (Ended cause) same is) in
-    subst (λ (m : Machine). (g.J.Journal.ends ≡ true) × (is_of_log cause ≡ true) × IsRefused g.J.Journal.Answers (IsMoveIn m.lazy) m.lazy c.args.journal.now c.keep_left.new.journal cause) c.self.view_is
+    subst (λ (m : Machine). (g.J.Journal.ends ≡ true) × (is_of_log cause ≡ true) × IsRefused g.J.Journal.Answers (IsUnkeptMove m.lazy cause) m.lazy c.args.journal.now c.keep_left.new.journal cause) c.self.view_is
     (c.in_err-kept.ensures.ended cause ends)
 
 pub returns-in_err-kept-clause-beside : goal.returns-in_err-kept-clause-beside

@@ -7,7 +7,7 @@ use Rattle.bf_store.specs.States.{AreGranulesIfAny, to_move, with_moved}
 use Rattle.bf_tree.specs.declared.reply.Cause.{Cause}
 use Rattle.bf_machine.specs.declared.journal.KeepError.{KeepError}
 use Rattle.bf_machine.specs.declared.journal.KeepError.TheVariants.{Ended}
-use Rattle.bf_machine.specs.interleaving.Journals.{IsMoveIn, IsOfLogIfEnded, IsOneRecord}
+use Rattle.bf_machine.specs.interleaving.Journals.{IsMoveIn, IsOfLogIfEnded, IsOfMoveIfEnded, IsOneRecord}
 use Rattle.bf_machine.proofs.keeping.Records.{left_is_one_record, left_moves_all, left_twice}
 use Rattle.bf_machine.proofs.machine.moves.keep_left.Goals as goal
 
@@ -51,12 +51,13 @@ returns-in-Err-Ended-clause-ended g c = λ cause same.
     let one : c.in-Err-Ended.cause ≡ cause = cc in
     let told : c.in-Err-Ended.field-0 ≡ Ended cause = c.in-Err-Ended.field-0-is ∙ ap (λ (d : Cause). Ended d) one in
     let ended = subst (λ (why : KeepError). IsOfLogIfEnded g.J.Journal.ends (Err why)) told c.in-Err-Ended.ensures.ended in
+    let fits = subst (λ (why : KeepError). IsOfMoveIfEnded (Err why)) told c.in-Err-Ended.ensures.fits in
     let answers = subst (λ (why : KeepError). g.J.Journal.Answers lazy (with_moved lazy c.as_slice.result.now) c.args.journal.now c.keep_moves.new.self (Err why)) told c.in-Err-Ended.ensures.answers in (
       ended.0,
       ended.1,
       (
         with_moved lazy c.as_slice.result.now,
-        unkept lazy c.args.granules.now c.as_slice.result.now c.requires is (subst (λ (gs : List Granule). 1 ≤ length gs) (sym c.as_slice.ensures.value) some),
+        (fits, unkept lazy c.args.granules.now c.as_slice.result.now c.requires is (subst (λ (gs : List Granule). 1 ≤ length gs) (sym c.as_slice.ensures.value) some)),
         answers,
       ),
     )
