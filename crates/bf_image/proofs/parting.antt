@@ -1,4 +1,5 @@
 -- The rows that a granule has: the one row that a driver's row meets, the arms of a unit one by one, and the rows with a value.
+pub mod Behind
 pub mod Blocks
 pub mod DriverRows
 pub mod MetRows

@@ -1,5 +1,5 @@
 -- A migration under way: its plan, and the old tables as they were at its flip.
-use Rattle.std.specs.Prelude.{◌≡◌, ℕ, List, [], map, find, length, Option, Some, None, option_map, unwrap_or, slice_get, slice_index_or, IsTrue}
+use Rattle.std.specs.Prelude.{◌≡◌, ℕ, List, [], ◌++◌, map, find, length, Option, Some, None, option_map, unwrap_or, slice_get, slice_index_or, IsTrue}
 use Rattle.std.specs.List.{AllByRecursion}
 use Rattle.std.specs.Option.{option_and_then}
 use Rattle.bf_base.specs.declared.value.Value.{Value}
@@ -82,6 +82,16 @@ value_indexes m = map (unit_index (old_of m)) (units_in m)
 -- the rows of a granule, with the targets that their numbers name
 abbrev pub ArePart : Migration → Granule → List (ℕ × List Value) → Type 0
 ArePart m g rows = map (λ p. (target_at m p.0, p.1)) rows ≡ part_of (old_of m) m.plan.migrate g
+
+-- BEHIND: some rows stay, and behind them stand rows of targets, by the numbers of these
+pub record AreBehind (m : Migration) (added : List (Target × List Value)) (before after : List (ℕ × List Value)) : Type 0 where
+  pub rows : List (ℕ × List Value)
+  pub behind : after ≡ before ++ rows
+  pub targets : map (λ p. (target_at m p.0, p.1)) rows ≡ added
+
+-- behind some rows stand those of a granule
+abbrev pub IsPartBehind : Migration → Granule → List (ℕ × List Value) → List (ℕ × List Value) → Type 0
+IsPartBehind m g before after = AreBehind m (part_of (old_of m) m.plan.migrate g) before after
 
 -- the granule from which the row of a new table with a key comes
 abbrev pub owner_in : Migration → List ℕ → List Value → Option Granule

@@ -1,7 +1,8 @@
 //! Rows that an arm makes of rows of its tables.
 
-ghost use Rattle.std.specs.Prelude.{◌≡◌, ◌++◌, [], ◌∷◌, IfOk, OnOk, Some, None, filter, map, flat_map, true};
+ghost use Rattle.std.specs.Prelude.{◌≡◌, ◌++◌, [], ◌∷◌, IfOk, IsTrue, OnOk, Some, None, filter, map, flat_map, true};
 ghost use Rattle.std.specs.List.{list_all, All};
+ghost use Rattle.std.specs.Option.{option_copied, option_map, option_to_list};
 ghost use Rattle.bf_base.specs.declared.value.Value.{Value as Cell};
 ghost use Rattle.bf_base.specs.Tables.{cell};
 ghost use Rattle.bf_tree.specs.Evaluation.{holds_on, sure_value};
@@ -10,6 +11,7 @@ ghost use Rattle.bf_tree.specs.declared.items.Items.TheVariants.{Aggregates};
 ghost use Rattle.bf_sql.specs.RowObjections.{answer_objections};
 ghost use Rattle.bf_sql.specs.Totals.{total_of};
 ghost use Rattle.bf_sql.specs.migrations.Images.{value_or_nought};
+ghost use Rattle.bf_sql.specs.migrations.MigrationObjections.{is_by_row};
 ghost use Rattle.bf_sql.specs.migrations.Placed.{placed_over, placed_rows};
 ghost use Rattle.bf_image.specs.ArmRows.{AreOfOne, CanMake, CanMakeOf, CanMatch, IsUnobjected, is_column, item_objections, made_of, rows_made_of, rows_of_match, those_if_any};
 
@@ -201,8 +203,33 @@ fn columns_beside(alloc: Global, arm: &PlacedArm, left: &Row, right: &Row) -> Re
     Ok(Row::of(values))
 }
 
-/// Adds the row of two rows side by side, if they match. They are put side by side only where they
-/// match ON, and the arm does more than copy columns.
+/// The row of two rows side by side, if they match. They are put side by side only where they match
+/// ON, and the arm does more than copy columns.
+fn row_of_match(
+    alloc: Global,
+    arm: &PlacedArm,
+    on: &[(u8, u8)],
+    left: &Row,
+    right: &Row,
+) -> Result<Option<Row>, Memory>
+    requires { CanMatch arm.now on.now (left.now ++ right.now) }
+    ensures { IfOk result (λ made. option_to_list made
+        ≡ rows_of_match arm.now on.now (left.now ++ right.now)) }
+{
+    if !is_matched_beside(left, right, on) {
+        return Ok(None);
+    }
+    if copies_columns(arm) {
+        return Ok(Some(columns_beside(alloc, arm, left, right)?));
+    }
+    let pair = side_by_side(alloc, left, right)?;
+    if !holds(alloc, &arm.cond, &pair)? {
+        return Ok(None);
+    }
+    Ok(Some(made_row(alloc, arm, &[&pair])?))
+}
+
+/// Adds the row of two rows side by side, if they match.
 fn add_match(
     alloc: Global,
     arm: &PlacedArm,
@@ -215,18 +242,10 @@ fn add_match(
     ensures { OnOk result (made.new.items ≡ made.old.items
         ++ rows_of_match arm.now on.now (left.now ++ right.now)) }
 {
-    if !is_matched_beside(left, right, on) {
+    let Some(row) = row_of_match(alloc, arm, on, left, right)? else {
         return Ok(());
-    }
-    if copies_columns(arm) {
-        made.push(columns_beside(alloc, arm, left, right)?)?;
-        return Ok(());
-    }
-    let pair = side_by_side(alloc, left, right)?;
-    if !holds(alloc, &arm.cond, &pair)? {
-        return Ok(());
-    }
-    made.push(made_row(alloc, arm, &[&pair])?)?;
+    };
+    made.push(row)?;
     Ok(())
 }
 
@@ -286,5 +305,42 @@ pub(crate) fn rows_made(
     match &arm.on {
         None => rows_alone(alloc, arm, from),
         Some(on) => rows_of_pairs(alloc, arm, on.as_slice(), from, join),
+    }
+}
+
+/// The row that an arm without JOIN, which goes by rows, makes of one row, if it satisfies its
+/// condition.
+fn row_alone(alloc: Global, arm: &PlacedArm, from: &Row) -> Result<Option<Row>, Memory>
+    requires by_row { IsTrue (is_by_row arm.now.kind) }
+    requires can { CanMakeOf arm.now (from.now ∷ []) }
+    ensures { IfOk result (λ made. option_to_list made ≡ rows_made_of arm.now (from.now ∷ [])) }
+{
+    if !holds(alloc, &arm.cond, from)? {
+        return Ok(None);
+    }
+    Ok(Some(made_row(alloc, arm, &[from])?))
+}
+
+/// The row that an arm, which goes by rows, makes of a row of FROM and one of JOIN: of the former
+/// alone where it has no JOIN, and none where it has one and there is no row of it. No list of rows
+/// is made.
+pub(crate) fn row_made(
+    alloc: Global,
+    arm: &PlacedArm,
+    from: &Row,
+    join: Option<&Row>,
+) -> Result<Option<Row>, Memory>
+    requires by_row { IsTrue (is_by_row arm.now.kind) }
+    requires can { CanMake arm.now (from.now ∷ [])
+        (option_to_list (option_map (λ row. row.now) join)) }
+    ensures { IfOk result (λ made. option_to_list made
+        ≡ placed_rows arm.now (from.now ∷ []) (option_to_list (option_copied join.entry))) }
+{
+    let Some(on) = &arm.on else {
+        return row_alone(alloc, arm, from);
+    };
+    match join {
+        Some(join) => row_of_match(alloc, arm, on.as_slice(), from, join),
+        None => Ok(None),
     }
 }

@@ -20,7 +20,7 @@ ghost use Rattle.bf_image.specs.Migrations.{IsLawfulMigration, old_of};
 ghost use Rattle.bf_image.specs.declared.migration.Migration.{Migration};
 
 use crate::arm_gives::makes_any;
-use crate::arm_rows::rows_made;
+use crate::arm_rows::row_made;
 use crate::arms::FrozenArm;
 use bf_base::{Key, Memory, Row, Value};
 use bf_tree::ArmKind;
@@ -126,25 +126,28 @@ impl<'a> FrozenArm<'a> {
         Ok(self.from.rows.get(&key))
     }
 
-    /// The arm's rows of one row of its driver, and of the one row of the other table that it can meet.
-    pub(crate) fn rows_of_driver(&self, alloc: Global, row: &Row) -> Result<Vec<Row>, Memory>
+    /// The arm's row of one row of its driver, and of the one row of the other table that it can meet, if
+    /// it makes one. It compares about log n keys.
+    pub(crate) fn row_of_driver(&self, alloc: Global, row: &Row) -> Result<Option<Row>, Memory>
         requires by_row { IsTrue (is_by_row self.now.placed.now.kind) }
         requires plain { (from join : List (List Cell)) → CanMake self.now.placed.now from join }
         ensures from { IfOk result (λ made. (m : Migration) (target : ℕ) (arm : Arm)
             → IsLawfulMigration m → IsFrozenArm m target arm self.now
-            → arm_kind (old_of m) arm ≡ ByFrom → made.items
+            → arm_kind (old_of m) arm ≡ ByFrom → option_to_list made
             ≡ arm_rows (old_of m) arm (row.now ∷ []) (join_rows_met (old_of m) arm row.now)) }
         ensures join { IfOk result (λ made. (m : Migration) (target : ℕ) (arm : Arm)
             → IsLawfulMigration m → IsFrozenArm m target arm self.now
-            → arm_kind (old_of m) arm ≡ ByJoin → made.items
+            → arm_kind (old_of m) arm ≡ ByJoin → option_to_list made
             ≡ arm_rows (old_of m) arm (from_rows_met (old_of m) arm row.now) (row.now ∷ [])) }
     {
-        if self.placed.kind == ArmKind::ByJoin {
-            let met = self.from_row_met(alloc, row)?;
-            return rows_made(alloc, self.placed, met.as_slice(), &[row]);
+        if self.placed.kind != ArmKind::ByJoin {
+            let met = self.join_row_met(alloc, row)?;
+            return row_made(alloc, self.placed, row, met);
         }
-        let met = self.join_row_met(alloc, row)?;
-        rows_made(alloc, self.placed, &[row], met.as_slice())
+        match self.from_row_met(alloc, row)? {
+            Some(met) => row_made(alloc, self.placed, met, Some(row)),
+            None => Ok(None),
+        }
     }
 
     /// Whether the arm makes a row of one row of its driver, and of the one row of the other table that it

@@ -1,6 +1,6 @@
 //! Granules move: the rows that come from them are put into the live tables.
 
-ghost use Rattle.std.specs.Prelude.{◌≡◌, ◌<◌, ◌^◌, ◌++◌, ◌∷◌, [], List, flat_map, length, IfOk, OnErr, OnOk, Some};
+ghost use Rattle.std.specs.Prelude.{◌≡◌, ◌<◌, ◌^◌, ◌++◌, ◌∷◌, [], List, flat_map, length, map, IfOk, OnErr, OnOk, Some};
 ghost use Rattle.bf_base.specs.Tables.{cell, key_of};
 ghost use Rattle.bf_sql.specs.migrations.Granules.{part_of};
 ghost use Rattle.bf_image.specs.Migrations.{IsLawfulMigration, old_of, target_at, value_indexes};
@@ -16,7 +16,7 @@ use crate::done::Done;
 use crate::moved::{Moved, receipts};
 use crate::under_way::UnderWay;
 use bf_base::{Granule, Key, Memory, Row, Table, Value};
-use bf_image::{Migration, ValueIndexes, rows_of};
+use bf_image::{Migration, ValueIndexes, add_rows_of};
 use bf_live::{LiveTables, Puts};
 use std::alloc::Global;
 
@@ -78,25 +78,23 @@ fn put_row(
     }
 }
 
-/// Puts the rows that come from a granule under their keys behind others.
-fn put_part(
+/// The rows that come from some granules, in one list, each with the number of its target.
+fn rows_of_all(
     alloc: Global,
     migration: &Migration,
     indexes: &ValueIndexes,
-    granule: &Granule,
-    puts: &mut Vec<Puts>,
-) -> Result<(), Memory>
+    granules: &[Granule],
+) -> Result<Vec<(u8, Row)>, Memory>
     requires lawful { IsLawfulMigration migration.now }
     requires indexed { indexes.now ≡ value_indexes migration.now }
-    ensures { (so_far : List Put) → ArePuts migration.now so_far puts.old.items → OnOk result
-        (ArePuts migration.now (so_far
-        ++ part_of (old_of migration.now) migration.now.plan.migrate granule.now) puts.new.items) }
+    ensures { IfOk result (λ rows. map (λ p. (target_at migration.now p.0, p.1)) rows.items
+        ≡ flat_map (part_of (old_of migration.now) migration.now.plan.migrate) granules.now) }
 {
-    let part = rows_of(alloc, migration, indexes, granule)?;
-    for (target, row) in part {
-        put_row(alloc, migration, target, row, puts)?;
+    let mut rows = Vec::new(alloc);
+    for granule in granules {
+        add_rows_of(alloc, migration, indexes, granule, &mut rows)?;
     }
-    Ok(())
+    Ok(rows)
 }
 
 /// The rows that come from some granules, each under its key, table by table.
@@ -111,9 +109,10 @@ fn puts(
     ensures { IfOk result (λ puts. ArePuts migration.now (flat_map
         (part_of (old_of migration.now) migration.now.plan.migrate) granules.now) puts.items) }
 {
+    let rows = rows_of_all(alloc, migration, indexes, granules)?;
     let mut puts = no_puts(alloc, migration)?;
-    for granule in granules {
-        put_part(alloc, migration, indexes, granule, &mut puts)?;
+    for (target, row) in rows {
+        put_row(alloc, migration, target, row, &mut puts)?;
     }
     Ok(puts)
 }
@@ -226,8 +225,8 @@ pub(crate) fn move_granules(
 }
 
 /// Moves granules of a migration, which differ and have not moved, by one record: their rows are
-/// gathered table by table, and put into the live tables with one reserve for each. It costs what the
-/// granules have, and a look-up for each row and each granule.
+/// gathered in one list, sorted table by table, and put into the live tables with one reserve for each.
+/// It costs what the granules have, and a look-up for each row and each granule.
 ///
 /// # Errors
 /// Where memory runs out, or 2 ^ 32 granules have moved. All is as it was then.

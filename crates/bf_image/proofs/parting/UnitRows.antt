@@ -1,7 +1,6 @@
 -- The rows of a unit by rows, arm by arm.
-use Rattle.std.proofs.Common.{◌≡◌, ℕ, zero, suc, ◌+◌, ◌<◌, List, [], ◌∷◌, ◌++◌, map, length, get_or, take, Some, None, IsTrue, sym, ap, ap₂, ◌∙◌, subst, arith}
+use Rattle.std.proofs.Common.{◌≡◌, ℕ, zero, suc, ◌+◌, ◌<◌, List, [], ◌∷◌, ◌++◌, map, length, get_or, take, Some, None, IsTrue, sym, ap, ◌∙◌, subst, arith}
 use Rattle.std.specs.List.{AllByRecursion, flat_map}
-use Rattle.std.proofs.lemmas.List.{map-append}
 use Rattle.std.proofs.lemmas.Simd.{map-map}
 use Rattle.bf_base.specs.declared.value.Value.{Value}
 use Rattle.bf_tree.specs.declared.migration.Target.{Target}
@@ -12,10 +11,11 @@ use Rattle.bf_sql.specs.migrations.Plans.{rows_unit_of}
 use Rattle.bf_sql.specs.migrations.Targets.{arm_kind}
 use Rattle.bf_image.specs.ArmRows.{CanMake}
 use Rattle.bf_image.specs.BoundArms.{IsFound, IsFrozenArm, arm_at}
-use Rattle.bf_image.specs.Migrations.{IsLawfulMigration, old_of, target_at}
+use Rattle.bf_image.specs.Migrations.{AreBehind, IsLawfulMigration, old_of, target_at}
 use Rattle.bf_image.specs.PlannedUnits.{arm_named}
 use Rattle.bf_image.specs.declared.arms.FrozenArm.{FrozenArm}
 use Rattle.bf_image.specs.declared.migration.Migration.{Migration}
+use Rattle.bf_image.proofs.parting.Behind.{behind_more}
 use Rattle.bf_image.proofs.parting.Blocks.{one_more_block}
 use Rattle.bf_image.proofs.parting.DriverRows.{IsDriven, all_driven, by_row, makes_any}
 use Rattle.bf_image.proofs.planning.Driven.{rows_by_numbers}
@@ -59,10 +59,9 @@ module _ (m : Migration) (driver : List ℕ) (arms : List (ℕ × ℕ)) (planned
     abbrev by_arm : ℕ × ℕ → List (Target × List Value)
     by_arm = rows_by_numbers (old_of m) m.plan.migrate driver at
 
-    pub more_rows : (before all : List (ℕ × List Value)) (made : List (List Value)) → all ≡ before ++ map (λ row. (pair.0, row)) made
+    pub more_rows : (first before all : List (ℕ × List Value)) (made : List (List Value)) → all ≡ before ++ map (λ row. (pair.0, row)) made
         → made ≡ rows_driven (old_of m) (arm_named m.plan.migrate pair) (arm_kind (old_of m) (arm_named m.plan.migrate pair)) driver at
-        → map named before ≡ flat_map by_arm (take i arms) → map named all ≡ flat_map by_arm (take (i + 1) arms)
-    more_rows before all made joined is so_far =
-        ap (map named) joined ∙ map-append named before (map (λ row. (pair.0, row)) made)
-        ∙ ap₂ (λ xs ys. xs ++ ys) so_far (map-map named (λ row. (pair.0, row)) made ∙ ap (map (λ row. (target_at m pair.0, row))) is)
-        ∙ sym (one_more_block by_arm arms i (0, 0) within)
+        → AreBehind m (flat_map by_arm (take i arms)) first before → AreBehind m (flat_map by_arm (take (i + 1) arms)) first all
+    more_rows first before all made joined is so_far =
+        subst (λ (rows : List (Target × List Value)). AreBehind m rows first all) (sym (one_more_block by_arm arms i (0, 0) within))
+        (behind_more m (map (λ row. (pair.0, row)) made) so_far joined (map-map named (λ row. (pair.0, row)) made ∙ ap (map (λ row. (target_at m pair.0, row))) is))

@@ -1,5 +1,5 @@
 -- The part of a value, by the arm of its unit.
-use Rattle.std.proofs.Common.{◌≡◌, ℕ, List, [], ◌++◌, map, Option, Some, None, refl, sym, ap, ap₂, ◌∙◌, subst}
+use Rattle.std.proofs.Common.{◌≡◌, ℕ, List, ◌++◌, map, Option, Some, None, refl, sym, ap, ap₂, ◌∙◌, subst}
 use Rattle.std.specs.Prelude.{option_map, slice_get}
 use Rattle.std.specs.Option.{option_and_then}
 use Rattle.std.proofs.lemmas.Option.{slice_get-map}
@@ -14,7 +14,7 @@ use Rattle.bf_sql.specs.migrations.Placed.{placed_arm, placed_rows}
 use Rattle.bf_sql.specs.migrations.Targets.{arm_kind}
 use Rattle.bf_image.specs.ArmRows.{AreOfOne, CanMake}
 use Rattle.bf_image.specs.BoundArms.{IsFrozenArm, IsOfUnit}
-use Rattle.bf_image.specs.Migrations.{IsLawfulMigration, old_of, target_at, unit_at, unit_index, units_in, value_indexes}
+use Rattle.bf_image.specs.Migrations.{AreBehind, IsLawfulMigration, old_of, target_at, unit_at, unit_index, units_in, value_indexes}
 use Rattle.bf_image.specs.declared.arms.FrozenArm.{FrozenArm}
 use Rattle.bf_image.specs.declared.migration.Migration.{Migration}
 use Rattle.bf_image.proofs.parting.MetRows.{rows_of_bound}
@@ -64,11 +64,14 @@ module _ (m : Migration) (number : ℕ) where
     named p = (target_at m p.0, p.1)
 
     -- what the arm makes of them is the part of the value
-    pub part_made : (before rows : List (ℕ × List Value)) (made : List (List Value)) → join ≡ join_with old is.arm value → made ≡ placed_rows bound.placed.now from join → before ≡ []
-        → rows ≡ before ++ map (λ row. (bound.target, row)) made → map named rows ≡ part m number (Group value)
-    part_made before rows made join_is made_is none rows_is =
-        ap (map named) (rows_is ∙ ap (λ xs. xs ++ map (λ row. (bound.target, row)) made) none)
-        ∙ map-map named (λ row. (bound.target, row)) made
-        ∙ ap₂ (λ t rs. map (λ row. (t, row)) rs) is.named
-        (made_is ∙ ap₂ (placed_rows bound.placed.now) from_is join_is ∙ rows_of_bound m bound.target is.arm bound is.frozen (from_with old is.arm (arm_kind old is.arm) value) (join_with old is.arm value))
-        ∙ sym (part_is m number (Group value) (Some (values_unit is.target is.arm)) is.at)
+    pub part_made : (before rows : List (ℕ × List Value)) (made : List (List Value)) → join ≡ join_with old is.arm value → made ≡ placed_rows bound.placed.now from join
+        → rows ≡ before ++ map (λ row. (bound.target, row)) made → AreBehind m (part m number (Group value)) before rows
+    part_made before rows made join_is made_is rows_is = record {
+      rows = map (λ row. (bound.target, row)) made;
+      behind = rows_is;
+      targets =
+          map-map named (λ row. (bound.target, row)) made
+          ∙ ap₂ (λ t rs. map (λ row. (t, row)) rs) is.named
+          (made_is ∙ ap₂ (placed_rows bound.placed.now) from_is join_is ∙ rows_of_bound m bound.target is.arm bound is.frozen (from_with old is.arm (arm_kind old is.arm) value) (join_with old is.arm value))
+          ∙ sym (part_is m number (Group value) (Some (values_unit is.target is.arm)) is.at);
+    }

@@ -1,9 +1,12 @@
-use Rattle.std.proofs.Common.{flat_map, take}
-use Rattle.bf_sql.specs.migrations.Granules.{part_of}
-use Rattle.bf_image.specs.Migrations.{old_of}
+use Rattle.std.proofs.Common.{◌≡◌, ◌++◌, map}
+use Rattle.std.specs.Vec.Iter.{into_iter_items}
+use Rattle.bf_image.specs.Migrations.{target_at}
 use Rattle.bf_store.specs.Puts.{ArePuts}
 use Rattle.bf_store.proofs.movement.puts.Given as goal
 
--- the rows of the granules so far are put
-abbrev pub invariant-loop-granule : goal.invariant-loop-granule
-invariant-loop-granule l = ArePuts l.migration (flat_map (part_of (old_of l.migration) l.migration.plan.migrate) (take l.granule-index l.granules)) l.puts.items
+-- the rows so far are put
+abbrev pub invariant-loop-target : goal.invariant-loop-target
+invariant-loop-target l = record {
+  left : l.yielded ++ into_iter_items l.target-iterator ≡ into_iter_items l.initial.target-iterator;
+  put : ArePuts l.migration (map (λ p. (target_at l.migration p.0, p.1)) l.yielded) l.puts.items;
+}

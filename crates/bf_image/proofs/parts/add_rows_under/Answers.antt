@@ -7,7 +7,7 @@ use Rattle.bf_sql.specs.migrations.Targets.{arm_kind}
 use Rattle.bf_image.specs.Migrations.{old_of, unit_index}
 use Rattle.bf_image.specs.declared.value_indexes.UnitIndex.{UnitIndex}
 use Rattle.bf_image.proofs.parting.ValueParts.{valued, index_at, one_of_bound, bound_can_make, part_made}
-use Rattle.bf_image.proofs.parts.rows_under.Goals as goal
+use Rattle.bf_image.proofs.parts.add_rows_under.Goals as goal
 
 pub rows_made-requires-clause-one : goal.rows_made-requires-clause-one
 rows_made-requires-clause-one c =
@@ -45,6 +45,6 @@ returns c =
     let join = map (λ row. row.now) c.deref-2.result.now in
     let from_is : from ≡ from_with (old_of m) is.arm (arm_kind (old_of m) is.arm) c.args.value.now = ap (map (λ row. row.now)) c.deref.ensures.value ∙ c.in_ok-from.ensures m bound.target is.arm is.target is.frozen indexed in
     let join_is : join ≡ join_with (old_of m) is.arm c.args.value.now = ap (map (λ row. row.now)) c.deref-2.ensures.value ∙ c.in_ok-join.ensures m bound.target is.arm is.target is.frozen indexed in
-    IfOk-weaker c.with_rows.result _ _
-    (λ rows rows_is. part_made m number c.requires.lawful bound is c.args.value.now from join from_is c.new-2.result.items rows.items c.in_ok-made.made.items join_is c.in_ok-made.ensures c.new-2.ensures.items rows_is)
-    c.with_rows.ensures
+    IfOk-weaker c.add_rows.result _ _
+    (λ done rows_is. part_made m number c.requires.lawful bound is c.args.value.now from join from_is c.args.rows.now.items c.add_rows.new.rows.items c.in_ok-made.made.items join_is c.in_ok-made.ensures rows_is)
+    c.add_rows.ensures

@@ -1,0 +1,8 @@
+use Rattle.std.proofs.Common.{◌≡◌, flat_map, map, take}
+use Rattle.bf_sql.specs.migrations.Granules.{part_of}
+use Rattle.bf_image.specs.Migrations.{old_of, target_at}
+use Rattle.bf_store.proofs.movement.rows_of_all.Given as goal
+
+-- the rows of the granules so far
+abbrev pub invariant-loop-granule : goal.invariant-loop-granule
+invariant-loop-granule l = map (λ p. (target_at l.migration p.0, p.1)) l.rows.items ≡ flat_map (part_of (old_of l.migration) l.migration.plan.migrate) (take l.granule-index l.granules)
