@@ -34,6 +34,7 @@ use Rattle.bf_sql.specs.migrations.Images.{arm_rows, rows_of_join}
 use Rattle.bf_sql.specs.migrations.Placed.{placed_arm, placed_groups, placed_matches, placed_over, placed_pair}
 use Rattle.bf_sql.specs.migrations.Plans.{rows_unit_of}
 use Rattle.bf_sql.specs.migrations.Targets.{arm_kind, arm_scope, first_arm, names_of_join, width}
+use Rattle.bf_image.specs.BoundArms.{arm_at}
 use Rattle.bf_image.specs.Migrations.{IsLawfulMigration, old_of, source_of, target_at}
 use Rattle.bf_image.specs.PlannedUnits.{arm_named, form_by, target_named, unit_form}
 use Rattle.bf_image.specs.declared.migration.Frozen.{Frozen}
@@ -78,7 +79,7 @@ module _ {X : Type 0} where
   first_left (y ∷ ys) zero x is = let same : y ≡ x = cc in ap (λ z. z ∷ []) same
   first_left (y ∷ ys) (suc at) x is = first_left ys at x is
 
-  alone_at : (xs : List X) (at : ℕ) (x : X) → slice_get xs at ≡ Some x → slice_range xs at (at + 1) ≡ x ∷ []
+  pub alone_at : (xs : List X) (at : ℕ) (x : X) → slice_get xs at ≡ Some x → slice_range xs at (at + 1) ≡ x ∷ []
   alone_at xs at x is = one_row xs at ∙ first_left xs at x is
 
   all_at : (test : X → Bool) (xs : List X) (at : ℕ) (x : X) → list_all test xs ≡ true → slice_get xs at ≡ Some x → test x ≡ true
@@ -246,31 +247,34 @@ module _ (m : Migration) (lawful : IsLawfulMigration m) (wanted : Cond ℕ) wher
       by_rows Groups is form = absurd cc
       by_rows Joins is form = absurd cc
 
-      kind_is : (planned.kind ≡ Rows) × (planned.driver ≡ driven.driver)
+      pub kind_is : (planned.kind ≡ Rows) × (planned.driver ≡ driven.driver)
       kind_is = by_rows planned.kind refl form_is
 
       found : source_of m planned.driver ≡ Some frozen
       found = ap (source_of m) kind_is.1 ∙ driven.found
 
-      module _ (copies : Copies) (are : AreCopies m target planned frozen copies) (at : ℕ) where
-        arm_is : arm_named q (target, are.number) ≡ are.arm
-        arm_is = of (slice_get q.targets target) refl are.at
+      -- where the target has one arm in the unit
+      module _ (number : ℕ) (only : filter (λ (pair : ℕ × ℕ). eqb pair.0 target) planned.arms ≡ (target, number) ∷ []) (arm : Arm) (there : arm_at m target number ≡ Some arm) (at : ℕ) where
+        pub arm_is : arm_named q (target, number) ≡ arm
+        arm_is = of (slice_get q.targets target) refl there
           where
-            of : (o : Option Target) → slice_get q.targets target ≡ o → option_and_then (λ (s : Target). slice_get s.arms are.number) o ≡ Some are.arm → arm_named q (target, are.number) ≡ are.arm
+            of : (o : Option Target) → slice_get q.targets target ≡ o → option_and_then (λ (s : Target). slice_get s.arms number) o ≡ Some arm → arm_named q (target, number) ≡ arm
             of None is there = absurd cc
             of (Some s) is there =
-                ap (λ (s : Target). slice_index_or s.arms are.number (first_arm [])) (get_or_from_slice_get q.targets target s _ is) ∙ get_or_from_slice_get s.arms are.number are.arm _ there
+                ap (λ (s : Target). slice_index_or s.arms number (first_arm [])) (get_or_from_slice_get q.targets target s _ is) ∙ get_or_from_slice_get s.arms number arm _ there
 
-        -- the rows of a granule that the target has are those of its one arm
-        rows_alone : map row_of (filter is_named (part m unit (Row at))) ≡ rows_driven old are.arm (arm_kind old are.arm) planned.driver at
+        pub only_planned : filter (λ (pair : ℕ × ℕ). eqb pair.0 target) (rows_unit_of old q planned.driver).arms ≡ (target, number) ∷ []
+        only_planned = ap (λ (u : Planned). filter (λ (pair : ℕ × ℕ). eqb pair.0 target) u.arms) (sym (planned_as m lawful unit planned here Rows kind_is.0)) ∙ only
+
+        -- the rows of a granule that the target has are those of that arm
+        pub rows_alone : map row_of (filter is_named (part m unit (Row at))) ≡ rows_driven old arm (arm_kind old arm) planned.driver at
         rows_alone =
-            let as_planned = planned_as m lawful unit planned here Rows kind_is.0 in
-            let only = ap (λ (u : Planned). filter (λ (pair : ℕ × ℕ). eqb pair.0 target) u.arms) (sym as_planned) ∙ are.only in
             ap (λ ps. map row_of (filter is_named ps)) (part_by_rows m lawful unit at planned here kind_is.0 ∙ part_by_numbers old q planned.driver at)
             ∙ (named_rows planned.driver at (rows_unit_of old q planned.driver).arms (driven_named old q planned.driver)
-            ∙ (ap (flat_map (rows_by planned.driver at)) only
-            ∙ (append-nil (rows_by planned.driver at (target, are.number)) ∙ ap (λ (arm : Arm). rows_driven old arm (arm_kind old arm) planned.driver at) arm_is)))
+            ∙ (ap (flat_map (rows_by planned.driver at)) only_planned
+            ∙ (append-nil (rows_by planned.driver at (target, number)) ∙ ap (λ (arm : Arm). rows_driven old arm (arm_kind old arm) planned.driver at) arm_is)))
 
+      module _ (copies : Copies) (are : AreCopies m target planned frozen copies) (at : ℕ) where
         -- CAME: and so a row from which one comes that is sought satisfies the transposed condition
         pub came : (entry : Entry) → slice_get frozen.rows at ≡ Some entry → gives m target wanted (granule unit (Row at)) ≡ true
             → holds_on (cell entry.1) (transposed (column_copied copies.items.now copies.first copies.count) wanted) ≡ true
@@ -278,5 +282,6 @@ module _ (m : Migration) (lawful : IsLawfulMigration m) (wanted : Cond ℕ) wher
             let row_there : slice_get (table_rows old planned.driver) at ≡ Some entry.1 =
             ap (λ rows. slice_get rows at) (rows_are m planned.driver frozen found) ∙ (slice_get-map (λ (e : Entry). e.1) frozen.rows at ∙ ap (option_map (λ (e : Entry). e.1)) there) in
             let counted = are.count ∙ ap (λ (t : Table). length t.columns) (sym (table_is m planned.driver frozen found)) in
+            let alone = rows_alone are.number are.only are.arm are.at at in
             (λ i. holds_on (cell entry.1) (transposed (column_copied (are.items i) (are.first i) (counted i)) wanted))
-            ∙ driven_held are.arm planned.driver at entry.1 row_there (arm_kind old are.arm) refl (ap (list_any passes) (sym rows_alone) ∙ given)
+            ∙ driven_held are.arm planned.driver at entry.1 row_there (arm_kind old are.arm) refl (ap (list_any passes) (sym alone) ∙ given)

@@ -3,6 +3,7 @@ mod Bounded
 mod Chosen
 mod Coming
 mod Driving
+mod Each
 pub mod Finding
 pub mod Fixed
 mod Given

@@ -52,11 +52,14 @@ module _ (m : Migration) (lawful : IsLawfulMigration m) (target : ℕ) (there : 
   rows_counted = ap length (rows_are m driven.driver frozen driven.found) ∙ length-map frozen.rows (λ (e : Entry). e.1)
 
   -- a unit has as many anchors as its driver has rows
-  pub anchors_counted : anchors_in m unit ≡ length frozen.rows
-  anchors_counted =
+  pub anchors_of_rows : anchors_in m unit ≡ length (table_rows old driven.driver)
+  anchors_of_rows =
       let count = length (table_rows old driven.driver) in
       ap (λ (o : Option UnitForm). unwrap_or (option_map (λ u. length (anchors_of old u)) o) 0) driven.form
-      ∙ (length-map (range_with_len 0 count) Row ∙ (length-range_with_len 0 count ∙ rows_counted))
+      ∙ (length-map (range_with_len 0 count) Row ∙ length-range_with_len 0 count)
+
+  pub anchors_counted : anchors_in m unit ≡ length frozen.rows
+  anchors_counted = anchors_of_rows ∙ rows_counted
 
   -- the key of a row that gives what is sought is in the range
   within_range : (at : ℕ) (e : Entry) → at < length frozen.rows → slice_get frozen.rows at ≡ Some e → gives m target wanted (granule unit (Row at)) ≡ true → is_within (range_of m target wanted) e.0 ≡ true

@@ -1,4 +1,5 @@
 pub mod Covers
+pub mod Each
 pub mod InOrder
 pub mod KeysBehind
 pub mod Merging

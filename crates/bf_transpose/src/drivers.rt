@@ -1,15 +1,16 @@
 //! The old table whose rows a unit goes by, and what these must satisfy for a row of a target to come
 //! of them.
 
-ghost use Rattle.std.specs.Prelude.{◌≡◌, ◌==◌, ◌∷◌, [], IfSome, filter};
+ghost use Rattle.std.specs.Prelude.{◌≡◌, ◌==◌, ◌∷◌, [], IfSome, IsTrue, filter};
 ghost use Rattle.std.specs.Option.{option_map};
 ghost use Rattle.bf_sql.specs.migrations.Placed.{placed_arm};
 ghost use Rattle.bf_image.specs.BoundArms.{arm_at};
 ghost use Rattle.bf_image.specs.Migrations.{IsLawfulMigration, old_of};
+ghost use Rattle.bf_transpose.specs.Each.{MakesEach, makes_each};
 ghost use Rattle.bf_transpose.specs.Scans.{IsDriverOf};
 ghost use Rattle.bf_transpose.specs.Transposed.{AreCopies, begins_at};
 
-use crate::transposed::Copies;
+use crate::transposed::{Copies, is_always};
 use bf_image::{Frozen, Migration};
 use bf_tree::{Arm, ArmKind, PlacedArm, Unit, UnitKind};
 
@@ -89,4 +90,30 @@ pub(crate) fn copies_of<'a>(
         first: begins_at(arm.kind, from.table.columns.len()),
         count: driver.table.columns.len(),
     })
+}
+
+/// Whether an arm makes a row of each row of FROM: it goes by these, joins nothing, and has no condition
+/// but such as are true of each row.
+fn makes_each(arm: &PlacedArm) -> bool
+    ensures { result ≡ makes_each arm.now }
+{
+    match arm.kind {
+        ArmKind::ByFrom => arm.on.is_none() && is_always(&arm.cond),
+        ArmKind::ByJoin | ArmKind::ByPair | ArmKind::ByGroup => false,
+    }
+}
+
+/// Whether the one arm of a target in a unit makes a row of each row of FROM; false where the unit has
+/// several arms of the target, or none. Takes no memory.
+pub(crate) fn only_makes_each(migration: &Migration, unit: &Unit, target: u8) -> bool
+    requires lawful { IsLawfulMigration migration.now }
+    ensures { IsTrue result → MakesEach migration.now target unit.now }
+{
+    let Some(number) = only_arm(unit, target) else {
+        return false;
+    };
+    match arms_at(migration, target, number) {
+        Some((_, arm)) => makes_each(arm),
+        None => false,
+    }
 }

@@ -19,7 +19,7 @@ use crate::bounds::{
     positions_of, range_behind, rows_before, rows_to_end, values_before, values_to_end,
 };
 use crate::condition::{total_places, without_totals};
-use crate::drivers::{copies_of, driver_of};
+use crate::drivers::{copies_of, driver_of, only_makes_each};
 use crate::merge::Merge;
 use crate::transposed::is_always;
 use bf_base::{Granule, Memory, Place, Row, Table};
@@ -331,14 +331,38 @@ impl<'a> Search<'a> {
         Ok(())
     }
 
-    /// Adds those granules of a unit that goes by rows. Only the rows that an index finds are tried, or
-    /// else those whose keys are in the range.
+    /// Whether each row that a unit goes by surely gives a row that is sought: each row of the target is,
+    /// and its one arm in the unit makes one of each row of FROM. It compares about log n names, and
+    /// takes no memory.
+    fn gives_each(&self, unit: u8) -> bool
+        requires { IsSearch self.now }
+        ensures { IsTrue result → (at : ℕ) → at < anchors_in self.now.migration.now unit
+            → IsTrue (gives self.now.migration.now self.now.target self.now.cond.now
+            (granule unit (At at))) }
+    {
+        if !is_always(self.cond) {
+            return false;
+        }
+        let Some(_) = driver_of(self.migration, unit) else {
+            return false;
+        };
+        match self.migration.plan.units.as_slice().get(unit as usize) {
+            Some(planned) => only_makes_each(self.migration, planned, self.target),
+            None => false,
+        }
+    }
+
+    /// Adds those granules of a unit that goes by rows. None is tried where each gives a row that is
+    /// sought; else only the rows that an index finds are, or those whose keys are in the range.
     fn add_rows(&self, alloc: Global, unit: u8, granules: &mut Vec<Granule>) -> Result<(), Memory>
         requires { IsSearch self.now }
         ensures { OnOk result (granules.new.items ≡ granules.old.items ++ filter
             (gives self.now.migration.now self.now.target self.now.cond.now)
             (row_granules unit (anchors_in self.now.migration.now unit))) }
     {
+        if self.gives_each(unit) {
+            return add_rows(unit, positions(self.migration, unit), granules);
+        }
         let Some(behind) = self.behind(alloc, unit)? else {
             return self.add_in_range(alloc, unit, None, granules);
         };
@@ -567,15 +591,16 @@ impl<'a> Search<'a> {
 /// The granules, in the order of unit and place, that give a row of a target which satisfies a
 /// condition, as far as that is known without its totals. It computes the parts of the granules of
 /// units that have an arm of the target, or only finds out whether they have a row of it where the
-/// condition is true of each row. Of a unit that goes by rows those are only the ones whose rows
-/// have keys in the range that the condition leaves, which are found by about log n compares, and where
-/// the condition fixes columns that are copied from the old table, only the ones whose rows have these
-/// values: a row that has others costs its look-up and the compares. Where an index of the old table
-/// serves what the condition says of those columns, and has more columns than this fixes of the front
-/// of its key, they are only the rows that it finds, each by about log n compares of pairs and of keys.
-/// A target with several arms in a unit keeps to the range there. Of a unit of groups those are only
-/// the values in the range, which are found by about log n compares; the values of a unit of joins are
-/// gone through.
+/// condition is true of each row, and not even that where the one arm of the target in a unit makes a
+/// row of each row of FROM: it has no JOIN, and no condition. Of a unit that goes by rows those are
+/// only the ones whose rows have keys in the range that the condition leaves, which are found by about
+/// log n compares, and where the condition fixes columns that are copied from the old table, only the
+/// ones whose rows have these values: a row that has others costs its look-up and the compares. Where
+/// an index of the old table serves what the condition says of those columns, and has more columns
+/// than this fixes of the front of its key, they are only the rows that it finds, each by about log n
+/// compares of pairs and of keys. A target with several arms in a unit keeps to the range there. Of a
+/// unit of groups those are only the values in the range, which are found by about log n compares; the
+/// values of a unit of joins are gone through.
 ///
 /// # Errors
 /// Where memory runs out.
