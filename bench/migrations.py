@@ -1,7 +1,7 @@
 #!/usr/bin/env python3
 """Tells what a migration costs: until the first reply on its new table, and until all its rows have moved.
 
-usage: bench/migrations.py [--quick] [PROGRAM]
+usage: bench/migrations.py [--quick] [--moving] [PROGRAM]
 
 PROGRAM is the built program, by default the one that `rt run` leaves. Each line fills tables, migrates them, and asks for one
 row of a new table; for all rows it asks for a total over the new tables, which moves each. `sqlite3 :memory:` computes the
@@ -9,9 +9,14 @@ same new tables whole, and asks the same.
 
 A first reply takes less than the noise of a clock, so it is counted in instructions (`valgrind --tool=callgrind`): of the
 script with the migration and the reply, less those of the script that only fills. `further` is what one more reply on
-another row costs, and `sooner` how many times as many instructions sqlite3 takes to its first reply. What moves
-everything is timed, the least processor time of some rounds, and `all` is its ratio to sqlite3's, for migration and reply. With
-`--quick` the two smallest sizes are tried.
+another row costs, and `sooner` how many times as many instructions sqlite3 takes to its first reply.
+
+What moves everything is counted so too, and timed: scripts fill several such tables and then migrate one after the other, since
+what one takes is a difference that the noise of the filling would hide. The time is the least processor time of some rounds in which
+the programs take turns, of a script that fills and migrates, less that of one that only fills. The tables are filled in the order of their keys, and
+in random order: then rows stand apart in our memory, and each is waited for. `ratio` is that to sqlite3's, for migration and reply.
+
+With `--quick` the two smallest sizes are tried for the first replies, with `--moving` nothing of them.
 """
 
 import random
@@ -23,7 +28,10 @@ import tempfile
 from pathlib import Path
 
 PROGRAM = Path(__file__).resolve().parent.parent / "crates/bullfrog/out/bullfrog"
-ROUNDS = 15
+ROUNDS = 7
+# So many rows are moved, of so many tables one after the other.
+MOVED = 100_000
+TABLES = 4
 ROWS = [1_000, 10_000, 100_000, 1_000_000]
 # A script has 16 MiB at most, so this many rows have shorter values, and more of them a group and a joined row.
 MANY = 1_000_000
@@ -38,46 +46,46 @@ class Split:
     """A customer table into a public and a private one: a row of one table."""
 
     name = "split in two"
-    tables = ["customer (id INT, name VARCHAR(9), pin INT, PRIMARY KEY (id))"]
-    migrate = "MIGRATE (CREATE TABLE public AS SELECT id, name FROM customer; CREATE TABLE private AS SELECT id, pin FROM customer);"
+    tables = ["customer@ (id INT, name VARCHAR(9), pin INT, PRIMARY KEY (id))"]
+    migrate = "MIGRATE (CREATE TABLE public@ AS SELECT id, name FROM customer@; CREATE TABLE private@ AS SELECT id, pin FROM customer@);"
     eager = [
-        "CREATE TABLE public (id INT, name, PRIMARY KEY (id)) WITHOUT ROWID;",
-        "INSERT INTO public SELECT id, name FROM customer;",
-        "CREATE TABLE private (id INT, pin INT, PRIMARY KEY (id)) WITHOUT ROWID;",
-        "INSERT INTO private SELECT id, pin FROM customer;",
-        "DROP TABLE customer;",
+        "CREATE TABLE public@ (id INT, name, PRIMARY KEY (id)) WITHOUT ROWID;",
+        "INSERT INTO public@ SELECT id, name FROM customer@;",
+        "CREATE TABLE private@ (id INT, pin INT, PRIMARY KEY (id)) WITHOUT ROWID;",
+        "INSERT INTO private@ SELECT id, pin FROM customer@;",
+        "DROP TABLE customer@;",
     ]
-    all = ["SELECT COUNT(*), MAX(name) FROM public;", "SELECT COUNT(*), SUM(pin) FROM private;"]
+    all = ["SELECT COUNT(*), MAX(name) FROM public@;", "SELECT COUNT(*), SUM(pin) FROM private@;"]
 
-    def fill(self, size):
+    def fill(self, size, keys):
         rng = random.Random(size)
         name, most = ("n", 9) if size == MANY else ("n{}", 9999)
-        return inserts("customer", [f"({key},'{name.format(key)}',{rng.randrange(most)})" for key in rng.sample(range(size), size)])
+        return inserts("customer@", [f"({key},'{name.format(key)}',{rng.randrange(most)})" for key in keys(rng, size)])
 
     def first(self, size, at):
-        return f"SELECT * FROM public WHERE id = {size // 2 + at};"
+        return f"SELECT * FROM public@ WHERE id = {size // 2 + at};"
 
 
 class Totals:
     """Order lines summed up by order: a group of four rows."""
 
     name = "totals of four rows"
-    tables = ["line (id INT, ord INT, qty INT CHECK (qty BETWEEN 0 AND 99), PRIMARY KEY (id))"]
-    migrate = "MIGRATE (CREATE TABLE total AS SELECT ord, COUNT(*) AS parts, SUM(qty) AS qty FROM line GROUP BY ord);"
+    tables = ["line@ (id INT, ord INT, qty INT CHECK (qty BETWEEN 0 AND 99), PRIMARY KEY (id))"]
+    migrate = "MIGRATE (CREATE TABLE total@ AS SELECT ord, COUNT(*) AS parts, SUM(qty) AS qty FROM line@ GROUP BY ord);"
     eager = [
-        "CREATE TABLE total (ord INT, parts INT, qty INT, PRIMARY KEY (ord)) WITHOUT ROWID;",
-        "INSERT INTO total SELECT ord, COUNT(*), SUM(qty) FROM line GROUP BY ord;",
-        "DROP TABLE line;",
+        "CREATE TABLE total@ (ord INT, parts INT, qty INT, PRIMARY KEY (ord)) WITHOUT ROWID;",
+        "INSERT INTO total@ SELECT ord, COUNT(*), SUM(qty) FROM line@ GROUP BY ord;",
+        "DROP TABLE line@;",
     ]
-    all = ["SELECT COUNT(*), SUM(qty) FROM total;"]
+    all = ["SELECT COUNT(*), SUM(qty) FROM total@;"]
 
-    def fill(self, size):
+    def fill(self, size, keys):
         rng = random.Random(size)
         orders, most = (size // 20, 9) if size == MANY else (size // 4, 99)
-        return inserts("line", [f"({key},{key % orders},{rng.randrange(most)})" for key in rng.sample(range(size), size)])
+        return inserts("line@", [f"({key},{key % orders},{rng.randrange(most)})" for key in keys(rng, size)])
 
     def first(self, size, at):
-        return f"SELECT * FROM total WHERE ord = {size // 40 + at};"
+        return f"SELECT * FROM total@ WHERE ord = {size // 40 + at};"
 
 
 class Joined:
@@ -85,75 +93,81 @@ class Joined:
 
     name = "joined with another table"
     tables = [
-        "line (id INT, item INT, qty INT, PRIMARY KEY (id))",
-        "stock (item INT, name VARCHAR(9), PRIMARY KEY (item))",
+        "line@ (id INT, item INT, qty INT, PRIMARY KEY (id))",
+        "stock@ (item INT, name VARCHAR(9), PRIMARY KEY (item))",
     ]
-    migrate = "MIGRATE (CREATE TABLE bought AS SELECT id, stock.name, qty FROM line JOIN stock ON line.item = stock.item);"
+    migrate = "MIGRATE (CREATE TABLE bought@ AS SELECT id, stock@.name, qty FROM line@ JOIN stock@ ON line@.item = stock@.item);"
     eager = [
-        "CREATE TABLE bought (id INT, name, qty INT, PRIMARY KEY (id)) WITHOUT ROWID;",
-        "INSERT INTO bought SELECT id, stock.name, qty FROM line JOIN stock ON line.item = stock.item;",
-        "DROP TABLE line;",
-        "DROP TABLE stock;",
+        "CREATE TABLE bought@ (id INT, name, qty INT, PRIMARY KEY (id)) WITHOUT ROWID;",
+        "INSERT INTO bought@ SELECT id, stock@.name, qty FROM line@ JOIN stock@ ON line@.item = stock@.item;",
+        "DROP TABLE line@;",
+        "DROP TABLE stock@;",
     ]
-    all = ["SELECT COUNT(*), SUM(qty) FROM bought;"]
+    all = ["SELECT COUNT(*), SUM(qty) FROM bought@;"]
 
-    def fill(self, size):
+    def fill(self, size, keys):
         rng = random.Random(size)
         stock, most = (size // 1000, 9) if size == MANY else (size // 10, 99)
-        return inserts("stock", [f"({key},'n{key}')" for key in range(stock)]) + inserts(
-            "line", [f"({key},{rng.randrange(stock)},{rng.randrange(most)})" for key in rng.sample(range(size), size)]
+        return inserts("stock@", [f"({key},'n{key}')" for key in range(stock)]) + inserts(
+            "line@", [f"({key},{rng.randrange(stock)},{rng.randrange(most)})" for key in keys(rng, size)]
         )
 
     def first(self, size, at):
-        return f"SELECT * FROM bought WHERE id = {size // 2 + at};"
+        return f"SELECT * FROM bought@ WHERE id = {size // 2 + at};"
 
 
 class Pairs:
     """Bidders with offers of one lot: four rows with four, all of which move as one."""
 
     name = "four rows with four"
-    tables = ["bid (bidder INT, lot INT, PRIMARY KEY (bidder))", "offer (seller INT, lot INT, PRIMARY KEY (seller))"]
-    migrate = "MIGRATE (CREATE TABLE met AS SELECT bidder, seller, bid.lot FROM bid JOIN offer ON bid.lot = offer.lot);"
+    tables = ["bid@ (bidder INT, lot INT, PRIMARY KEY (bidder))", "offer@ (seller INT, lot INT, PRIMARY KEY (seller))"]
+    migrate = "MIGRATE (CREATE TABLE met@ AS SELECT bidder, seller, bid@.lot FROM bid@ JOIN offer@ ON bid@.lot = offer@.lot);"
     eager = [
-        "CREATE INDEX offer_lot ON offer (lot);",
-        "CREATE TABLE met (bidder INT, seller INT, lot INT, PRIMARY KEY (bidder, seller)) WITHOUT ROWID;",
-        "INSERT INTO met SELECT bidder, seller, bid.lot FROM bid JOIN offer ON bid.lot = offer.lot;",
-        "DROP TABLE bid;",
-        "DROP TABLE offer;",
+        "CREATE INDEX offer_lot@ ON offer@ (lot);",
+        "CREATE TABLE met@ (bidder INT, seller INT, lot INT, PRIMARY KEY (bidder, seller)) WITHOUT ROWID;",
+        "INSERT INTO met@ SELECT bidder, seller, bid@.lot FROM bid@ JOIN offer@ ON bid@.lot = offer@.lot;",
+        "DROP TABLE bid@;",
+        "DROP TABLE offer@;",
     ]
-    all = ["SELECT COUNT(*), SUM(lot) FROM met;"]
+    all = ["SELECT COUNT(*), SUM(lot) FROM met@;"]
 
-    def fill(self, size):
+    def fill(self, size, keys):
         rng = random.Random(size)
         lots = size // 8
         return [
             line
-            for table in ("bid", "offer")
-            for line in inserts(table, [f"({key},{key % lots})" for key in rng.sample(range(size // 2), size // 2)])
+            for table in ("bid@", "offer@")
+            for line in inserts(table, [f"({key},{key % lots})" for key in keys(rng, size // 2)])
         ]
 
     def first(self, size, at):
-        return f"SELECT * FROM met WHERE bidder = {size // 16 + at} AND seller = {size // 16 + at + size // 8};"
+        return f"SELECT * FROM met@ WHERE bidder = {size // 16 + at} AND seller = {size // 16 + at + size // 8};"
 
 
 KINDS = [Split(), Totals(), Joined(), Pairs()]
 
 
-def scripts(kind, size):
-    """What both programs run, by what is measured: filling alone, one and two replies, and all rows."""
-    filled = kind.fill(size)
-    first, second = kind.first(size, 0), kind.first(size, 1)
-    ours = [f"CREATE TABLE {table};" for table in kind.tables] + filled
-    theirs = [f"CREATE TABLE {table} WITHOUT ROWID;" for table in kind.tables] + filled
-    told = {"fill": [], "first": [first], "further": [first, second], "all": kind.all}
-    both = {}
-    for name, asked in told.items():
-        moved = name != "fill"
-        both[name] = (
-            "\n".join(["PHASE; SESSION;", *ours, *([kind.migrate] if moved else []), *asked]).encode(),
-            "\n".join(["BEGIN;", *theirs, *(kind.eager if moved else []), *asked, "COMMIT;"]).encode(),
-        )
-    return both
+def at_random(rng, size):
+    return rng.sample(range(size), size)
+
+
+def in_order(rng, size):
+    return range(size)
+
+
+def numbered(lines, tables):
+    """The lines for each of so many tables, one table after the other. A `@` in them is the table's number."""
+    return [line.replace("@", str(number)) for number in range(tables) for line in lines]
+
+
+def both_of(kind, filled, asked, tables):
+    """What both programs run. Where nothing is asked the tables are filled alone, and else migrated before it."""
+    ours = numbered([f"CREATE TABLE {table};" for table in kind.tables] + filled, tables)
+    theirs = numbered([f"CREATE TABLE {table} WITHOUT ROWID;" for table in kind.tables] + filled, tables)
+    if asked:
+        ours += numbered([kind.migrate, *asked], tables)
+        theirs += numbered(kind.eager + asked, tables)
+    return "\n".join(["PHASE; SESSION;", *ours]).encode(), "\n".join(["BEGIN;", *theirs, "COMMIT;"]).encode()
 
 
 def rows_of(output, is_ours):
@@ -177,40 +191,60 @@ def instructions(words, script, folder):
     return int(re.search(rb"Collected : (\d+)", ran.stderr).group(1))
 
 
-def measure(kind, size, programs, folder):
-    both = scripts(kind, size)
-    for name, pair in both.items():
-        told = [rows_of(run(words, script)[0], at == 0) for at, (words, script) in enumerate(zip(programs, pair))]
-        if told[0] != told[1] or (name == "first" and len(told[0]) != 1):
-            sys.exit(f"{kind.name} of {size} rows: {name} differs")
-    count = lambda at, name: instructions(programs[at], both[name][at], folder)
-    fill, first, further = (count(0, name) for name in ("fill", "first", "further"))
-    eager = count(1, "first") - count(1, "fill")
-    # Each round runs all four, so that what else the machine does falls on all of them.
-    least = {(at, name): float("inf") for at in (0, 1) for name in ("fill", "all")}
+def compare(what, both, programs):
+    """Stops where the programs tell different rows."""
+    told = [rows_of(run(words, script)[0], at == 0) for at, (words, script) in enumerate(zip(programs, both))]
+    if told[0] != told[1]:
+        sys.exit(f"{what} differs")
+
+
+def measure_first(kind, size, programs, folder):
+    filled = kind.fill(size, at_random)
+    replies = [kind.first(size, at) for at in (0, 1)]
+    fill, first, further = (both_of(kind, filled, replies[:count], 1) for count in range(3))
+    compare(f"{kind.name} of {size} rows", further, programs)
+    count = lambda at, both: instructions(programs[at], both[at], folder)
+    ours = [count(0, both) for both in (fill, first, further)]
+    eager = count(1, first) - count(1, fill)
+    print(
+        f"{kind.name:28}{size:>10,}{ours[1] - ours[0]:>14,}{ours[2] - ours[1]:>12,}{eager / max(ours[1] - ours[0], 1):>10,.0f}",
+        flush=True,
+    )
+
+
+def measure_moving(kind, keys, programs, folder):
+    few = [both_of(kind, kind.fill(MOVED // 10, keys), asked, 1) for asked in ([], kind.all)]
+    counts = [instructions(words, few[1][at], folder) - instructions(words, few[0][at], folder) for at, words in enumerate(programs)]
+    many = [both_of(kind, kind.fill(MOVED, keys), asked, TABLES) for asked in ([], kind.all)]
+    compare(f"{kind.name} of {MOVED} rows", many[1], programs)
+    least = {(at, name): float("inf") for at in (0, 1) for name in (0, 1)}
     for _ in range(ROUNDS):
         for at, name in least:
-            least[at, name] = min(least[at, name], run(programs[at], both[name][at])[1])
-    moved = [least[at, "all"] - least[at, "fill"] for at in (0, 1)]
+            least[at, name] = min(least[at, name], run(programs[at], many[name][at])[1])
+    times = [(least[at, 1] - least[at, 0]) / TABLES for at in (0, 1)]
     print(
-        f"{kind.name:28}{size:>10,}{first - fill:>14,}{further - first:>12,}{eager / max(first - fill, 1):>10,.0f}"
-        f"{moved[0]:>10.3f}{moved[1]:>10.3f}{moved[0] / max(moved[1], 0.001):>8.2f}",
+        f"{kind.name:28}{keys.__name__:>10}{counts[0]:>14,}{counts[1]:>14,}{counts[0] / counts[1]:>8.2f}"
+        f"{times[0]:>10.3f}{times[1]:>10.3f}{times[0] / times[1]:>8.2f}",
         flush=True,
     )
 
 
 def main():
-    words = [word for word in sys.argv[1:] if word != "--quick"]
-    sizes = ROWS if len(words) == len(sys.argv[1:]) else ROWS[:2]
+    words = [word for word in sys.argv[1:] if not word.startswith("--")]
+    sizes = [] if "--moving" in sys.argv else ROWS[:2] if "--quick" in sys.argv else ROWS
     program = Path(words[0] if words else PROGRAM).resolve()
     if not program.is_file():
         sys.exit(f"{program.name} is not built: run `rt run` in crates/bullfrog first")
     programs = [[str(program), "try"], ["sqlite3", ":memory:"]]
-    print(f"{'migration':28}{'rows':>10}{'first reply':>14}{'further':>12}{'sooner':>10}{'all, s':>10}{'sqlite3':>10}{'all':>8}")
     with tempfile.TemporaryDirectory() as folder:
+        print(f"{'first reply':28}{'rows':>10}{'instructions':>14}{'further':>12}{'sooner':>10}")
         for kind in KINDS:
             for size in sizes:
-                measure(kind, size, programs, folder)
+                measure_first(kind, size, programs, folder)
+        print(f"{'moving all':28}{'filled':>10}{'at 10,000':>14}{'sqlite3':>14}{'ratio':>8}{'s':>10}{'sqlite3':>10}{'ratio':>8}")
+        for keys in (in_order, at_random):
+            for kind in KINDS:
+                measure_moving(kind, keys, programs, folder)
 
 
 if __name__ == "__main__":
