@@ -1,6 +1,6 @@
 -- An arm with places for names makes the same rows.
 use Rattle.std.proofs.Common.{◌≡◌, Bool, cond, List, [], ◌∷◌, ◌++◌, map, filter, flat_map, Option, Some, None, refl, sym, ap, ap₂, ◌∙◌}
-use Rattle.std.specs.Prelude.{pos, option_map, unwrap_or}
+use Rattle.std.specs.Prelude.{pos, option_map}
 use Rattle.std.specs.List.{list_all, reduce}
 use Rattle.std.specs.Result.{result_unwrap_or}
 use Rattle.std.proofs.lemmas.List.Folds.{list_all-map}

@@ -1,4 +1,4 @@
-use Rattle.std.proofs.Common.{◌≡◌, [], map, subst, sym, ap, ◌∙◌}
+use Rattle.std.proofs.Common.{[], map, subst, sym, ap, ◌∙◌}
 use Rattle.std.proofs.lemmas.List.{take_all}
 use Rattle.bf_store.specs.Puts.{ArePuts}
 use Rattle.bf_store.proofs.moving.Gathered.{alone, none_put}
