@@ -15,12 +15,15 @@ use Rattle.bf_machine.specs.declared.journal.KeepError.{KeepError}
 use Rattle.bf_machine.specs.declared.journal.KeepError.TheVariants as keeps
 use Rattle.bf_machine.specs.interleaving.Journals.{IsMoveIn}
 use Rattle.bf_machine.specs.interleaving.Machines.{EndedGroup}
+use Rattle.bf_record.specs.declared.change.Change.{Change}
+use Rattle.bf_record.specs.declared.change.Change.TheVariants.{Move}
 use Rattle.bf_recover.specs.Legal.{first_state}
 use Rattle.bf_recover.specs.Steps.{StepsTo, entry_of, run_entry}
 use Rattle.bf_sql.specs.Database.{Database}
 use Rattle.bf_sql.specs.Groups.{groups_in}
 use Rattle.bf_sql.specs.History.{IsEndedBy, replayed}
 use Rattle.bf_sql.specs.migrations.Lazy.{LazyState, view_of}
+use Rattle.bf_store.specs.States.{IsSeenAs}
 use Rattle.bf_tree.specs.declared.history.Entry.{Entry}
 use Rattle.bf_tree.specs.declared.history.Outcome.TheVariants.{Committed}
 use Rattle.bf_tree.specs.declared.script.Script.{Script}
@@ -49,9 +52,19 @@ is_spent other = false
 abbrev pub HasRecordOf : LazyState → LazyState → ℕ → Type 0
 HasRecordOf lazy next size = (payload : List ℕ) × StepsTo lazy payload next × (size ≡ length payload)
 
--- and so has the one that is told to be too large, or with its frame to need more than the log comes to take
+-- a change that a group makes: all but a move
+abbrev pub is_of_group : Change → Bool
+is_of_group (Move migration unit places) = false
+is_of_group other = true
+
+-- and a record of such a change does
+abbrev pub HasOwnRecordOf : LazyState → LazyState → ℕ → Type 0
+HasOwnRecordOf lazy next size = (payload : List ℕ) × (steps : StepsTo lazy payload next) × (is_of_group steps.change ≡ true) × (size ≡ length payload)
+
+-- that has the size of the one that is told to be too large, which is no move's; and with its frame the need that is told where the log comes to
+-- take no more
 abbrev pub IsSizeTold : LazyState → LazyState → Result (Unit {0}) KeepError → Type 0
-IsSizeTold lazy next (Err (keeps.Ended (TooLarge size))) = HasRecordOf lazy next size
+IsSizeTold lazy next (Err (keeps.Ended (TooLarge size))) = HasOwnRecordOf lazy next size
 IsSizeTold lazy next (Err (keeps.Ended (LogFull end need))) = (size : ℕ) × HasRecordOf lazy next size × (need ≡ size + frame)
 IsSizeTold lazy next other = Unit {0}
 
@@ -127,7 +140,7 @@ module _ {D : Type 0} {g : Ghosts D} where
     pub rises : end_of old ≤ end_of new
     pub stands : StandsBehind old new answer
 
-  -- ANSWERS: the answer of the journal is that of an append, the log goes on so, and a size that is told is that of the change's record
+  -- ANSWERS: the answer of the journal is that of an append, the log goes on so, and a size or a need that is told is that of a record of the change
   abbrev pub HasAnswered : LazyState → LazyState → Log D g → Log D g → Result (Unit {0}) KeepError → Type 0
   HasAnswered lazy next old new answer = IsAnsweredAs lazy next old new answer × GoesOn old new answer × IsSizeTold lazy next answer
 
@@ -161,22 +174,24 @@ GroupMakes script group now then = (n : ℕ) × (then ≡ run_entry now (entry_o
 abbrev pub MakesOf : Script → EndedGroup → Database → Database → Type 0
 MakesOf script group now then = (then ≡ now) ⊎ GroupMakes script group now then
 
--- RECORD BEHIND a prefix of the history: a change that makes this of the database there has a record of so many bytes, in a state that is seen as
--- that database
-pub record HasRecordBehind (start : Database) (script : Script) (history : List Entry) (Makes : Database → Database → Type 0) (size : ℕ) : Type 0 where
+-- BEHIND a prefix of the history: in a valid state that is seen as the database there, some change makes what a group, or a move, makes of that
+-- database, and has a record of this kind
+pub record IsBehind (start : Database) (script : Script) (history : List Entry) (Makes : Database → Database → Type 0) (HasRecord : LazyState → LazyState → Type 0) : Type 0 where
   pub prefix : List Entry
   pub later : List Entry
   pub of_history : prefix ++ later ≡ history
   pub lazy : LazyState
   pub next : LazyState
-  pub seen : view_of lazy ≡ (replayed script start prefix).1
+  pub seen_as : IsSeenAs (replayed script start prefix).1 lazy
   pub makes : Makes (view_of lazy) (view_of next)
-  pub has_record : HasRecordOf lazy next size
+  pub has_record : HasRecord lazy next
 
--- A group is told to be too large by the size of a record of what it makes; and that the log is full by the need of such a record, or of a move
+-- A group is told to be too large by the size of a record that makes what it makes, and is no move; and that the log is full by the need of such a
+-- record, or of a move
 abbrev pub IsSizeOf : Database → Script → List Entry → EndedGroup → Cause → Type 0
-IsSizeOf start script history group (TooLarge size) = HasRecordBehind start script history (GroupMakes script group) size
-IsSizeOf start script history group (LogFull end need) = (size : ℕ) × HasRecordBehind start script history (MakesOf script group) size × (need ≡ size + frame)
+IsSizeOf start script history group (TooLarge size) = IsBehind start script history (GroupMakes script group) (λ lazy next. HasOwnRecordOf lazy next size)
+IsSizeOf start script history group (LogFull end need) =
+    (size : ℕ) × (need ≡ size + frame) × IsBehind start script history (MakesOf script group) (λ lazy next. HasRecordOf lazy next size)
 IsSizeOf start script history group other = Unit {0}
 
 abbrev pub AreSizesOf : Database → Script → List Entry → List EndedGroup → Type 0

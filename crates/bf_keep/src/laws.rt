@@ -50,8 +50,9 @@ pub fn what_ends_groups_is_told<D: Disk>(_of: PhantomData<D>)
         → AreToldTheirCauses next.script (transcripts_of next) (ended_on_log keeps) }
 {}
 
-/// And where such a group is told the size of a record or the need of one, it has one of that size or need, behind some
-/// prefix of the history: what is too large is its own, what a log has no room for perhaps a move.
+/// And where such a group is told the size of a record or the need of one, a record has it that makes of the database behind
+/// some prefix of the history what the group makes of it: one of no move where it is too large, and where the log is full
+/// perhaps one of a move.
 pub fn a_size_that_is_told_is_that_of_a_record<D: Disk>(_of: PhantomData<D>)
     ensures { (start : Database) (m next : Machine) (j k : JournalOf D D.Disk)
         (keeps : KeepsOnLog start m j next k) → IsKept start m
