@@ -1,9 +1,11 @@
 -- The record of what an open group is to leave.
-use Rattle.std.proofs.Common.{◌≡◌, true, List, Result, Ok, Err, sym, ap, subst, ◌∙◌}
-use Rattle.std.specs.Prelude.{IfOk}
+use Rattle.std.proofs.Common.{◌≡◌, ℕ, true, List, Result, Ok, Err, sym, ap, subst, ◌∙◌}
+use Rattle.std.specs.Prelude.{IfOk, OnOk}
 use Rattle.std.proofs.lemmas.Bool.{false≢true}
 use Rattle.bf_base.specs.declared.memory.Memory.{Memory}
 use Rattle.bf_base.specs.declared.table.Table.{Table}
+use Rattle.bf_record.specs.Changes.{HasRecord, record_bytes}
+use Rattle.bf_record.specs.Shallow.{AreShallow}
 use Rattle.bf_record.specs.declared.change.Change.{Change}
 use Rattle.bf_record.specs.declared.change.Change.TheVariants.{Commit, Flip, Schema}
 use Rattle.bf_record.specs.declared.schema.SchemaChange.TheVariants as schema
@@ -19,10 +21,17 @@ use Rattle.bf_machine.specs.interleaving.Answering.{CanSettle}
 use Rattle.bf_machine.specs.interleaving.Events.{put_into}
 use Rattle.bf_machine.specs.interleaving.Journals.{IsStated, leaves_something}
 use Rattle.bf_machine.specs.interleaving.Seen.{pending_seen}
+use Rattle.bf_keep.specs.Answers.{StepsByGroup, is_of_group}
 use Rattle.bf_keep.specs.Records.{IsRecordOf, writes_told}
 use Rattle.bf_keep.specs.Sayable.{IsSayable}
 use Rattle.bf_keep.proofs.Committed.{commit_recorded}
 use Rattle.bf_keep.proofs.Stating.{flip_recorded, index_recorded, table_recorded}
+
+-- the bytes of a change of a group make what it makes, by it
+pub spelled_by_group : {V : Type 0} {E : Type 0} (items : V → List ℕ) (lazy next : LazyState) (change : Change) → IsRecordOf lazy change next → is_of_group change ≡ true
+    → (r : Result V E) → IfOk r (λ bytes. items bytes ≡ record_bytes change) → OnOk r (AreShallow change → HasRecord change) → IfOk r (λ bytes. StepsByGroup lazy (items bytes) next)
+spelled_by_group items lazy next change told own (Ok bytes) spelled has = (record { change = change; has_record = has told.shallow; spelled = spelled; legal = told.legal; made = told.made }, own)
+spelled_by_group items lazy next change told own (Err error) spelled has = tt
 
 module _ (lazy : LazyState) (is : IsLazy lazy) where
   -- a change is told by a record of what is pending, which the store can take over, and which is something

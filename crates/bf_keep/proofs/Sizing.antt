@@ -16,20 +16,20 @@ use Rattle.bf_tree.specs.declared.history.Entry.{Entry}
 use Rattle.bf_tree.specs.declared.reply.Cause.{Cause}
 use Rattle.bf_tree.specs.declared.reply.Cause.TheVariants.{Died, DiskFault, Halted, LogFull, TooLarge}
 use Rattle.bf_tree.specs.declared.script.Script.{Script}
-use Rattle.bf_keep.specs.Answers.{AreSizesOf, GroupMakes, HasAnswered, HasRecordBehind, HasRecordOf, IsSizeOf, IsSizeTold, MakesOf}
+use Rattle.bf_keep.specs.Answers.{AreSizesOf, GroupMakes, HasAnswered, HasOwnRecordOf, HasRecordOf, IsBehind, IsSizeOf, IsSizeTold, MakesOf}
 use Rattle.bf_keep.proofs.crashing.Growing.{Grows, grows_by}
 use Rattle.bf_keep.proofs.crashing.Makes.{group_makes_of, makes_of}
 
 -- what holds behind a history holds when it grows
-record_later : (start : Database) (script : Script) (history more : List Entry) (Makes : Database → Database → Type 0) (size : ℕ) → HasRecordBehind start script history Makes size
-    → HasRecordBehind start script (history ++ more) Makes size
-record_later start script history more Makes size is = record {
+behind_later : (start : Database) (script : Script) (history more : List Entry) (Makes : Database → Database → Type 0) (HasRecord : LazyState → LazyState → Type 0)
+    → IsBehind start script history Makes HasRecord → IsBehind start script (history ++ more) Makes HasRecord
+behind_later start script history more Makes HasRecord is = record {
   prefix = is.prefix;
   later = is.later ++ more;
   of_history = sym (append_assoc is.prefix is.later more) ∙ ap (λ (es : List Entry). es ++ more) is.of_history;
   lazy = is.lazy;
   next = is.next;
-  seen = is.seen;
+  seen_as = is.seen_as;
   makes = is.makes;
   has_record = is.has_record;
 }
@@ -38,8 +38,8 @@ size_later : (start : Database) (script : Script) (history more : List Entry) (g
 size_later start script history more group (Died h) is = tt
 size_later start script history more group DiskFault is = tt
 size_later start script history more group (Halted faults) is = tt
-size_later start script history more group (LogFull end need) is = (is.0, record_later start script history more (MakesOf script group) is.0 is.1, is.2)
-size_later start script history more group (TooLarge size) is = record_later start script history more (GroupMakes script group) size is
+size_later start script history more group (LogFull end need) is = (is.0, is.1, behind_later start script history more (MakesOf script group) (λ lazy next. HasRecordOf lazy next is.0) is.2)
+size_later start script history more group (TooLarge size) is = behind_later start script history more (GroupMakes script group) (λ lazy next. HasOwnRecordOf lazy next size) is
 
 sizes_later : (start : Database) (script : Script) (history more : List Entry) (groups : List EndedGroup) → AreSizesOf start script history groups → AreSizesOf start script (history ++ more) groups
 sizes_later start script history more [] all = tt
@@ -61,15 +61,15 @@ module _ {D : Type 0} {g : Ghosts D} {J : Type 0} (log_of : J → Log D g) (star
   abbrev Answers : LazyState → LazyState → J → J → Result (Unit {0}) KeepError → Type 0
   Answers lazy next old new answer = HasAnswered lazy next (log_of old) (log_of new) answer
 
-  record_now : (m : Machine) → IsKept start m → (Makes : Database → Database → Type 0) (other : LazyState) (size : ℕ) → Makes (view_of m.lazy) (view_of other) → HasRecordOf m.lazy other size
-      → HasRecordBehind start m.script m.history Makes size
-  record_now m kept Makes other size makes has = record {
+  behind_now : (m : Machine) → IsKept start m → (Makes : Database → Database → Type 0) (HasRecord : LazyState → LazyState → Type 0) (other : LazyState) → Makes (view_of m.lazy) (view_of other) → HasRecord m.lazy other
+      → IsBehind start m.script m.history Makes HasRecord
+  behind_now m kept Makes HasRecord other makes has = record {
     prefix = m.history;
     later = [];
     of_history = append-nil m.history;
     lazy = m.lazy;
     next = other;
-    seen = kept.store_valid.seen_as.view ∙ kept.history_legal.replay;
+    seen_as = record { lazy_state = kept.store_valid.seen_as.lazy_state; view = kept.store_valid.seen_as.view ∙ kept.history_legal.replay };
     makes = makes;
     has_record = has;
   }
@@ -82,10 +82,10 @@ module _ {D : Type 0} {g : Ghosts D} {J : Type 0} (log_of : J → Log D g) (star
   size_now m kept s o is (Halted faults) other unkept told = tt
   size_now m kept s o is (LogFull end need) other unkept told =
       let group : EndedGroup = record { session = s; group = o.group; cause = LogFull end need } in
-      (told.0, record_now m kept (MakesOf m.script group) other told.0 (makes_of start m kept s o is (LogFull end need) other unkept) told.1, told.2)
+      (told.0, told.2, behind_now m kept (MakesOf m.script group) (λ lazy next. HasRecordOf lazy next told.0) other (makes_of start m kept s o is (LogFull end need) other unkept) told.1)
   size_now m kept s o is (TooLarge size) other (inl own) told =
       let group : EndedGroup = record { session = s; group = o.group; cause = TooLarge size } in
-      record_now m kept (GroupMakes m.script group) other size (group_makes_of start m kept s o is (TooLarge size) other own) told
+      behind_now m kept (GroupMakes m.script group) (λ lazy next. HasOwnRecordOf lazy next size) other (group_makes_of start m kept s o is (TooLarge size) other own) told
   size_now m kept s o is (TooLarge size) other (inr (of_move, move)) told = absurd (let clash : false ≡ true = of_move in cc)
 
   none_more : (now next : Machine) (groups : List EndedGroup) → Grows now next → AreSizesOf start now.script now.history groups → AreSizesOf start next.script next.history (groups ++ [])

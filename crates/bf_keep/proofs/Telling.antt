@@ -22,7 +22,7 @@ use Rattle.bf_recover.specs.Steps.{StepsTo}
 use Rattle.bf_sql.specs.migrations.Lazy.{LazyState}
 use Rattle.bf_tree.specs.declared.reply.Cause.{Cause}
 use Rattle.bf_tree.specs.declared.reply.Cause.TheVariants.{Died, DiskFault, Halted, LogFull, TooLarge}
-use Rattle.bf_keep.specs.Answers.{GoesOn, IsAnsweredAs, IsFaultCause, IsSizeTold, IsToldAs, StandsBehind, Tells, TellsNow, is_ready, largest_log, largest_record, told_as}
+use Rattle.bf_keep.specs.Answers.{GoesOn, IsAnsweredAs, IsFaultCause, IsSizeTold, IsToldAs, StandsBehind, StepsByGroup, Tells, TellsNow, is_ready, largest_log, largest_record, told_as}
 
 -- an error as a group is told of it
 pub is_told_as : (lazy next : LazyState) (error : AppendError) → IsToldAs lazy next (Err error) (Err (told_as error))
@@ -80,12 +80,21 @@ TellsSize size (appends.TooLarge n) = (n ≡ size) × (largest_record < size)
 TellsSize size (appends.LogFull end need) = need ≡ size + frame
 TellsSize size other = Unit {0}
 
-size_in : (lazy next : LazyState) (payload : List ℕ) → StepsTo lazy payload next → (error : AppendError) → TellsSize (length payload) error → IsSizeTold lazy next (Err (told_as error))
-size_in lazy next payload steps appends.Memory tells = tt
-size_in lazy next payload steps appends.DiskFault tells = tt
-size_in lazy next payload steps (appends.Halted faults) tells = tt
-size_in lazy next payload steps (appends.TooLarge n) tells = (payload, steps, tells.0)
-size_in lazy next payload steps (appends.LogFull end need) tells = (length payload, (payload, steps, refl), tells)
+size_in : (lazy next : LazyState) (payload : List ℕ) → StepsByGroup lazy payload next → (error : AppendError) → TellsSize (length payload) error → IsSizeTold lazy next (Err (told_as error))
+size_in lazy next payload own appends.Memory tells = tt
+size_in lazy next payload own appends.DiskFault tells = tt
+size_in lazy next payload own (appends.Halted faults) tells = tt
+size_in lazy next payload own (appends.TooLarge n) tells = (payload, own.0, own.1, tells.0)
+size_in lazy next payload own (appends.LogFull end need) tells = (length payload, (payload, own.0, refl), tells)
+
+-- and of what fits the need alone is told
+size_within : (lazy next : LazyState) (payload : List ℕ) → StepsTo lazy payload next → length payload ≤ largest_record → (error : AppendError) → TellsSize (length payload) error
+    → IsSizeTold lazy next (Err (told_as error))
+size_within lazy next payload steps fits appends.Memory tells = tt
+size_within lazy next payload steps fits appends.DiskFault tells = tt
+size_within lazy next payload steps fits (appends.Halted faults) tells = tt
+size_within lazy next payload steps fits (appends.TooLarge n) tells = absurd (omega (arith, fits, tells.1))
+size_within lazy next payload steps fits (appends.LogFull end need) tells = (length payload, (payload, steps, refl), tells)
 
 fits_in : (size : ℕ) → size ≤ largest_record → (error : AppendError) → TellsSize size error → IsOfMoveIfEnded (Err (told_as error))
 fits_in size fits appends.Memory tells = tt
@@ -219,9 +228,14 @@ module _ {D : Type 0} {g : Ghosts D} where
       ]
     ]
 
-  pub size_told : (old new : Log D g) (lazy next : LazyState) (payload : List ℕ) → StepsTo lazy payload next → (error : AppendError) → Refuses old new (length payload) (Err error) old.standing
+  pub size_told : (old new : Log D g) (lazy next : LazyState) (payload : List ℕ) → StepsByGroup lazy payload next → (error : AppendError) → Refuses old new (length payload) (Err error) old.standing
       → Comes old new (length payload) (Err error) old.standing → IsSizeTold lazy next (Err (told_as error))
-  size_told old new lazy next payload steps error refused came = size_in lazy next payload steps error (tells_at old new (length payload) error old.standing refused came)
+  size_told old new lazy next payload own error refused came = size_in lazy next payload own error (tells_at old new (length payload) error old.standing refused came)
+
+  pub size_told_within : (old new : Log D g) (lazy next : LazyState) (payload : List ℕ) → StepsTo lazy payload next → length payload ≤ largest_record → (error : AppendError)
+      → Refuses old new (length payload) (Err error) old.standing → Comes old new (length payload) (Err error) old.standing → IsSizeTold lazy next (Err (told_as error))
+  size_told_within old new lazy next payload steps fits error refused came =
+      size_within lazy next payload steps fits error (tells_at old new (length payload) error old.standing refused came)
 
   -- and none is told of one that fits
   pub fits_told : (old new : Log D g) (size : ℕ) → size ≤ largest_record → (error : AppendError) → Refuses old new size (Err error) old.standing → Comes old new size (Err error) old.standing

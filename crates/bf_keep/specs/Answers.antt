@@ -57,6 +57,10 @@ abbrev pub is_of_group : Change → Bool
 is_of_group (Move migration unit places) = false
 is_of_group other = true
 
+-- a payload makes one lazy state of the other by such a change
+abbrev pub StepsByGroup : LazyState → List ℕ → LazyState → Type 0
+StepsByGroup lazy payload next = (steps : StepsTo lazy payload next) × (is_of_group steps.change ≡ true)
+
 -- and a record of such a change does
 abbrev pub HasOwnRecordOf : LazyState → LazyState → ℕ → Type 0
 HasOwnRecordOf lazy next size = (payload : List ℕ) × (steps : StepsTo lazy payload next) × (is_of_group steps.change ≡ true) × (size ≡ length payload)

@@ -10,6 +10,7 @@ ghost use Rattle.bf_machine.specs.interleaving.Answering.{CanSettle};
 ghost use Rattle.bf_machine.specs.interleaving.Events.{put_into};
 ghost use Rattle.bf_machine.specs.interleaving.Journals.{IsOneRecord, IsStated, leaves_something};
 ghost use Rattle.bf_machine.specs.interleaving.Seen.{pending_seen};
+ghost use Rattle.bf_keep.specs.Answers.{is_of_group};
 ghost use Rattle.bf_keep.specs.Records.{IsRecordOf, number_in, places_of, row_told, told_in, writes_told};
 ghost use Rattle.bf_keep.specs.Sayable.{IsSayable};
 
@@ -94,8 +95,9 @@ pub(crate) fn change_of(alloc: Global, store: &Store, pending: &Pending) -> Resu
     requires can { CanSettle store.now.lazy (pending_seen pending.now) }
     requires leaves { leaves_something store.now.lazy (pending_seen pending.now) ≡ true }
     requires stated { IsStated IsSayable (view_of store.now.lazy) (pending_seen pending.now) }
-    ensures { IfOk result (λ change. IsRecordOf store.now.lazy change
+    ensures recorded { IfOk result (λ change. IsRecordOf store.now.lazy change
         (put_into store.now.lazy (pending_seen pending.now))) }
+    ensures own { IfOk result (λ change. is_of_group change ≡ true) }
 {
     // Its contract says that the state is lazy.
     let live = store.live();

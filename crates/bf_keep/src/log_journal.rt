@@ -1,12 +1,12 @@
 //! The journal that is a log.
 
-ghost use Rattle.std.specs.Prelude.{◌≡◌, ◌≤◌, Err, IfOk, length};
+ghost use Rattle.std.specs.Prelude.{◌≡◌, ◌≤◌, true, Err, IfOk, length};
 ghost use Rattle.bf_tree.specs.declared.reply.Cause.TheVariants.{DiskFault};
 ghost use Rattle.bf_log.specs.Append.{disk_of, standing_of};
 ghost use Rattle.bf_machine.specs.interleaving.Journals.{IsOfMoveIfEnded};
 ghost use Rattle.bf_sql.specs.migrations.Lazy.{LazyState};
 ghost use Rattle.bf_recover.specs.Steps.{StepsTo};
-ghost use Rattle.bf_keep.specs.Answers.{GoesOn, IsAppended, IsFaultCause, IsSizeTold, Tells, answer_as, is_ready, is_spent, largest_record, told_as};
+ghost use Rattle.bf_keep.specs.Answers.{GoesOn, IsAppended, IsFaultCause, IsSizeTold, StepsByGroup, Tells, answer_as, is_of_group, is_ready, is_spent, largest_record, told_as};
 ghost use Rattle.bf_keep.specs.Records.{IsRecordOf};
 
 use crate::changes::{change_of, move_of};
@@ -41,8 +41,11 @@ pub struct LogJournal<D: Disk> {
 /// # Errors
 /// Where memory runs out, or ran out before.
 fn payload_of(alloc: Global, change: Result<Change, Memory>) -> Result<Vec<u8>, Memory>
-    ensures { (lazy next : LazyState) → IfOk change (λ told. IsRecordOf lazy told next)
+    ensures steps { (lazy next : LazyState) → IfOk change (λ told. IsRecordOf lazy told next)
         → IfOk result (λ payload. StepsTo lazy payload.items next) }
+    ensures own { (lazy next : LazyState) → IfOk change (λ told. IsRecordOf lazy told next)
+        → IfOk change (λ told. is_of_group told ≡ true)
+        → IfOk result (λ payload. StepsByGroup lazy payload.items next) }
 {
     let change = change?;
     encode(alloc, &change)
@@ -128,7 +131,11 @@ impl<D: Disk> LogJournal<D> {
             → IsAppended lazy next self.old.log self.new.log result }
         ensures goes_on { GoesOn self.old.log self.new.log (answer_as result) }
         ensures sized { (lazy next : LazyState)
+            → IfOk payload (λ bytes. StepsByGroup lazy bytes.items next)
+            → IsSizeTold lazy next (answer_as result) }
+        ensures sized_within { (lazy next : LazyState)
             → IfOk payload (λ bytes. StepsTo lazy bytes.items next)
+            → IfOk payload (λ bytes. length bytes.items ≤ largest_record)
             → IsSizeTold lazy next (answer_as result) }
         ensures fits { IfOk payload (λ bytes. length bytes.items ≤ largest_record)
             → IsOfMoveIfEnded (answer_as result) }

@@ -30,7 +30,7 @@ is_of_fault (Halted n) = true
 is_of_fault other = false
 
 -- CAUSED: each group that the log has ended is told such a cause, and one at most that the device failed; at Done none is told of a
--- fault. A size that is told is that of a record of the group's, and a need that of such a record, or of a move's
+-- fault. A size or a need that is told is that of a record that makes what the group makes, or for a need a move
 pub record AreCaused (start : Database) (script : Script) (history : List Entry) (file : Option (List ℕ)) (faults : ℕ) (status : Status) (ended : List EndedGroup) : Type 0 where
   pub each : AllByRecursion (λ group. IsCause file faults group.cause) ended
   pub one_fault : length (filter (λ group. is_disk_fault group.cause) ended) ≤ 1

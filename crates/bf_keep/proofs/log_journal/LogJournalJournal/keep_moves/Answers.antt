@@ -40,7 +40,7 @@ returns-in-Err g c = record {
       subst (λ (why : KeepError). IsToldAs c.args.store.now.lazy (with_moved c.args.store.now.lazy c.args.granules.now) (Err c.in-Err.error) (Err why)) (sym c.keep_error.ensures) (is_told_as _ _ c.in-Err.error),
     ),
     subst (λ (why : KeepError). GoesOn {g = g.D.Disk} c.args.self.now.log c.append.new.self.log (Err why)) (sym c.keep_error.ensures) c.in-Err.ensures.goes_on,
-    subst (λ (why : KeepError). IsSizeTold c.args.store.now.lazy (with_moved c.args.store.now.lazy c.args.granules.now) (Err why)) (sym c.keep_error.ensures) (c.in-Err.ensures.sized c.args.store.now.lazy (with_moved c.args.store.now.lazy c.args.granules.now) (c.move_payload_of-payload.ensures.steps c.args.store.now.lazy (with_moved c.args.store.now.lazy c.args.granules.now) c.move_of.ensures)),
+    subst (λ (why : KeepError). IsSizeTold c.args.store.now.lazy (with_moved c.args.store.now.lazy c.args.granules.now) (Err why)) (sym c.keep_error.ensures) (c.in-Err.ensures.sized_within c.args.store.now.lazy (with_moved c.args.store.now.lazy c.args.granules.now) (c.move_payload_of-payload.ensures.steps c.args.store.now.lazy (with_moved c.args.store.now.lazy c.args.granules.now) c.move_of.ensures) c.move_payload_of-payload.ensures.fits),
   );
   ended = subst (λ (why : KeepError). IsOfLogIfEnded _ (Err why)) (sym c.keep_error.ensures) (is_of_log_as c.in-Err.error);
   fits = subst (λ (why : KeepError). IsOfMoveIfEnded (Err why)) (sym c.keep_error.ensures) (c.in-Err.ensures.fits c.move_payload_of-payload.ensures.fits);
