@@ -151,7 +151,8 @@ fn rows_alone(alloc: Global, arm: &PlacedArm, from: &[&Row]) -> Result<Vec<Row>,
     }
 }
 
-/// Whether an arm copies columns, and nothing else, of all rows that match its ON.
+/// Whether an arm copies columns under their own names, and nothing else, of all rows that match its
+/// ON.
 fn copies_columns(arm: &PlacedArm) -> bool
     ensures all { result ≡ true → arm.now.cond ≡ always }
     ensures columns { result ≡ true → list_all is_column arm.now.items ≡ true }
@@ -204,7 +205,7 @@ fn columns_beside(alloc: Global, arm: &PlacedArm, left: &Row, right: &Row) -> Re
 }
 
 /// The row of two rows side by side, if they match. They are put side by side only where they match
-/// ON, and the arm does more than copy columns.
+/// ON, and the arm does more than copy columns under their own names.
 fn row_of_match(
     alloc: Global,
     arm: &PlacedArm,

@@ -178,8 +178,7 @@ fn note(
 }
 
 /// Moves those of some granules of a migration, which differ, that have not moved, as one change,
-/// and tells what it has come to. It costs what the granules have, and a look-up for each row and
-/// each granule.
+/// and tells what it has come to. It costs what [`move_in`] does.
 ///
 /// # Errors
 /// Where memory runs out, or 2 ^ 32 granules have moved or 2 ^ 64 changes were made. All is as it
@@ -226,7 +225,8 @@ pub(crate) fn move_granules(
 
 /// Moves granules of a migration, which differ and have not moved, by one record: their rows are
 /// gathered in one list, sorted table by table, and put into the live tables with one reserve for each.
-/// It costs what the granules have, and a look-up for each row and each granule.
+/// It costs what the granules have, and a look-up for each row and each granule; and it looks at each
+/// anchor from the next one on up to the first whose granule has not moved.
 ///
 /// # Errors
 /// Where memory runs out, or 2 ^ 32 granules have moved. All is as it was then.

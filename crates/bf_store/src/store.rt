@@ -241,7 +241,9 @@ impl Store {
 
     /// Moves granules of the last migration, which differ, as one change: the rows that come from
     /// those that have not moved are put into the live tables. Where all of them have moved, nothing
-    /// changes. It costs what the granules have, and a look-up for each row and each granule.
+    /// changes. It costs what the granules have, and a look-up for each row and each granule; and it
+    /// looks at each anchor from the next one on up to the first whose granule has not moved, so over a
+    /// migration at each about once.
     ///
     /// # Errors
     /// Where memory runs out, or 2 ^ 32 granules or 2 ^ 64 changes were made. The store is as it

@@ -67,7 +67,7 @@ pub record IsDriverOf (m : Migration) (unit : ℕ) (frozen : Frozen) : Type 0 wh
   pub form : unit_at m unit ≡ Some (rows_unit driver)
   pub found : source_of m driver ≡ Some frozen
 
--- the keys, of rows of a unit's driver from which rows of a target come, that a condition on the target leaves
+-- the keys, of rows of a unit's driver from which rows of a target come, or of a target that goes by groups, that a condition on it leaves
 abbrev pub range_of : Migration → ℕ → Cond ℕ → KeyRange
 range_of m target cond =
     let t = target_at m target in

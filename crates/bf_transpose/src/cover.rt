@@ -143,7 +143,8 @@ fn needed(
 /// The cover of a bound statement. A MIGRATE takes time and memory linear in the old rows, an
 /// INSERT a look-up of an owner for each tuple, and a statement whose condition fixes the key of its
 /// table one; any other on a table that the migration makes looks at each granule that can have a
-/// row of it, as far as its key, or an index of the old table from which it comes, tells.
+/// row of it, as far as its key, an index of the old table from which it comes, or the values of the
+/// old row tell; where each surely has one it looks at none.
 ///
 /// # Errors
 /// Where memory runs out.

@@ -162,7 +162,7 @@ struct Search<'a> {
     indexes: &'a ValueIndexes,
     target: u8,
     cond: &'a Cond,
-    // The keys of a driver's rows from which such rows can come.
+    // The keys of a driver's rows, or the values of groups, from which such rows can come.
     range: &'a KeyRange,
 }
 
@@ -590,9 +590,9 @@ impl<'a> Search<'a> {
 
 /// The granules, in the order of unit and place, that give a row of a target which satisfies a
 /// condition, as far as that is known without its totals. It computes the parts of the granules of
-/// units that have an arm of the target, or only finds out whether they have a row of it where the
-/// condition is true of each row, and not even that where the one arm of the target in a unit makes a
-/// row of each row of FROM: it has no JOIN, and no condition. Of a unit that goes by rows those are
+/// units that have an arm of the target, or only finds out whether they have a row of it where there
+/// is no condition, and not even that where the one arm of the target in a unit makes a row of each
+/// row of FROM: it has no JOIN, and no condition. Of a unit that goes by rows those are
 /// only the ones whose rows have keys in the range that the condition leaves, which are found by about
 /// log n compares, and where the condition fixes columns that are copied from the old table, only the
 /// ones whose rows have these values: a row that has others costs its look-up and the compares. Where

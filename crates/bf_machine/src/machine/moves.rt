@@ -60,8 +60,8 @@ impl<N: Opened> Machine<N> {
     ///
     /// # Errors
     /// `Old` exactly where the migration is not the last one; `Ended` where the journal does not keep the
-    /// move, with the cause that it tells, which is never its size; and where memory runs out, or 2 ^ 32
-    /// granules or 2 ^ 64 changes were made. The machine is as it was then.
+    /// move, with the cause that it tells, which is never that its record is too large; and where memory
+    /// runs out, or 2 ^ 32 granules or 2 ^ 64 changes were made. The machine is as it was then.
     pub fn moved<J: Journal>(
         &mut self,
         registry: &Registry,
