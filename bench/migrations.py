@@ -11,10 +11,11 @@ A first reply takes less than the noise of a clock, so it is counted in instruct
 script with the migration and the reply, less those of the script that only fills. `further` is what one more reply on
 another row costs, and `sooner` how many times as many instructions sqlite3 takes to its first reply.
 
-What moves everything is counted so too, and timed: scripts fill several such tables and then migrate one after the other, since
-what one takes is a difference that the noise of the filling would hide. The time is the least processor time of some rounds in which
-the programs take turns, of a script that fills and migrates, less that of one that only fills. The tables are filled in the order of their keys, and
-in random order: then rows stand apart in our memory, and each is waited for. `ratio` is that to sqlite3's, for migration and reply.
+What moves everything is counted so too, of a table of 10,000 rows. It is timed of 100,000 rows, by scripts that fill four such tables and
+then migrate one after the other, since what one takes is a difference that the noise of the filling would hide: the least processor
+time of some rounds in which the programs take turns, less that of scripts that only fill, by table. The tables are filled in the order
+of their keys, and in random order: then rows stand apart in our memory, and each is waited for. `ratio` is that to sqlite3's, for
+migration and reply.
 
 With `--quick` the two smallest sizes are tried for the first replies, with `--moving` nothing of them.
 """
@@ -191,10 +192,10 @@ def instructions(words, script, folder):
     return int(re.search(rb"Collected : (\d+)", ran.stderr).group(1))
 
 
-def compare(what, both, programs):
-    """Stops where the programs tell different rows."""
+def compare(what, both, programs, count):
+    """Stops where the programs tell different rows, or not so many."""
     told = [rows_of(run(words, script)[0], at == 0) for at, (words, script) in enumerate(zip(programs, both))]
-    if told[0] != told[1]:
+    if told[0] != told[1] or len(told[0]) != count:
         sys.exit(f"{what} differs")
 
 
@@ -202,7 +203,7 @@ def measure_first(kind, size, programs, folder):
     filled = kind.fill(size, at_random)
     replies = [kind.first(size, at) for at in (0, 1)]
     fill, first, further = (both_of(kind, filled, replies[:count], 1) for count in range(3))
-    compare(f"{kind.name} of {size} rows", further, programs)
+    compare(f"{kind.name} of {size} rows", further, programs, 2)
     count = lambda at, both: instructions(programs[at], both[at], folder)
     ours = [count(0, both) for both in (fill, first, further)]
     eager = count(1, first) - count(1, fill)
@@ -214,9 +215,10 @@ def measure_first(kind, size, programs, folder):
 
 def measure_moving(kind, keys, programs, folder):
     few = [both_of(kind, kind.fill(MOVED // 10, keys), asked, 1) for asked in ([], kind.all)]
+    compare(f"{kind.name} of {MOVED // 10} rows", few[1], programs, len(kind.all))
     counts = [instructions(words, few[1][at], folder) - instructions(words, few[0][at], folder) for at, words in enumerate(programs)]
     many = [both_of(kind, kind.fill(MOVED, keys), asked, TABLES) for asked in ([], kind.all)]
-    compare(f"{kind.name} of {MOVED} rows", many[1], programs)
+    compare(f"{kind.name} of {MOVED} rows", many[1], programs, len(kind.all) * TABLES)
     least = {(at, name): float("inf") for at in (0, 1) for name in (0, 1)}
     for _ in range(ROUNDS):
         for at, name in least:
