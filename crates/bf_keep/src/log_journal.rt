@@ -124,7 +124,7 @@ impl<D: Disk> LogJournal<D> {
     /// Appends a record, if it could be made.
     ///
     /// # Errors
-    /// Those of [`append_change`], and `Memory` where there was none for the record.
+    /// Those of [`append_change`], and `Memory` where the record could not be made.
     fn append(&mut self, payload: Result<Vec<u8>, Memory>) -> Result<(), AppendError>
         ensures appended { (lazy next : LazyState)
             → IfOk payload (λ bytes. StepsTo lazy bytes.items next)
