@@ -4,7 +4,7 @@ use Rattle.bf_disk.specs.declared.disk.Disk.{Ghosts}
 use Rattle.bf_log.specs.declared.log.Log.{Log}
 use Rattle.bf_machine.specs.declared.journal.KeepError.{KeepError}
 use Rattle.bf_machine.specs.declared.journal.KeepError.TheVariants.{Ended}
-use Rattle.bf_machine.specs.interleaving.Events.{Event, aborts, asks, at_once, begins, commits_behind, commits_now, ends_by_log, executes, finishes, moves, refuses}
+use Rattle.bf_machine.specs.interleaving.Events.{Event, aborts, asks, at_once, begins, commits_now, ends_by_log, executes, finishes, moves, refuses}
 use Rattle.bf_machine.specs.interleaving.Events as events
 use Rattle.bf_machine.specs.interleaving.Journals.{IsEventBeside, IsUnkeptFor, Keeps, ended_by, ended_in, nothing_yet, one_beside}
 use Rattle.bf_machine.specs.interleaving.Kept.{IsKept}
