@@ -55,6 +55,8 @@ pub enum Seen {
     Committed(u64),
     /// The journal did not keep what it was to leave.
     Ended(Cause),
+    /// Nothing moves: the last migration is another one, with this number.
+    Old(u32),
 }
 
 /// What the reading calls tell of a session.
@@ -144,8 +146,8 @@ fn ask_for<N: Opened>(
     Ok(Seen::Granted)
 }
 
-/// Asks for the locks of the next statement of a session's open group.
-fn ask_in_group<N: Opened>(
+/// Asks for the locks of a session's next statement, as it is bound in the present catalog.
+fn ask_prepared<N: Opened>(
     alloc: Global,
     machine: &mut Machine<N>,
     session: u32,
@@ -153,44 +155,20 @@ fn ask_in_group<N: Opened>(
 ) -> Result<Seen, Memory>
     requires place { IsPlace machine.old.script session }
     requires kept { IsKept N.opening machine.old }
-    requires next { (o : Open) × IsBoundNext machine.old session o bound.now }
+    requires next { ((o : Open) × IsBoundNext machine.old session o bound.now)
+        ⊎ CanRefuse machine.old session }
     requires well_bound { IsWellBound bound.now.action }
-    ensures { IsBehind N.opening machine.old machine.new }
-{
-    let locks = footprint(alloc, bound)?;
-    ask_for(machine, session, locks.as_slice())
-}
-
-/// Asks for the locks of the statement at which a session stands, where a group of it is open.
-fn ask_at<N: Opened>(
-    alloc: Global,
-    machine: &mut Machine<N>,
-    session: u32,
-    place: u32,
-) -> Result<Seen, Memory>
-    requires place { IsPlace machine.old.script session }
-    requires kept { IsKept N.opening machine.old }
-    requires stands { StandsAs machine.old session (Statement place) }
     ensures { IsBehind N.opening machine.old machine.new }
 {
     if machine.start(session).is_none() {
         return Ok(Seen::Idle);
     }
-    let bound = prepare_next(alloc, machine, session, place)?;
-    ask_in_group(alloc, machine, session, &bound)
-}
-
-fn ask<N: Opened>(alloc: Global, machine: &mut Machine<N>, session: u32) -> Result<Seen, Memory>
-    ensures { IsBehind N.opening machine.old machine.new }
-{
-    let Some(Stand::Statement(place)) = stand_of(machine, session) else {
-        return Ok(Seen::Idle);
-    };
-    ask_at(alloc, machine, session, place)
+    let locks = footprint(alloc, bound)?;
+    ask_for(machine, session, locks.as_slice())
 }
 
 /// What is seen of a statement's step.
-fn seen_of(step: Step) -> Seen {
+pub fn seen_of(step: Step) -> Seen {
     match step {
         Step::Replied => Seen::Done,
         Step::Need(granules) => Seen::Needs(granules.len()),
@@ -300,13 +278,37 @@ fn exec_prepared<N: Opened>(
     exec_bound(alloc, registry, machine, session, bound)
 }
 
-/// Replies to the statement at which a session stands.
-fn exec_at<N: Opened>(
+/// Asks for the locks of a session's next statement, as it is bound in the present catalog, or replies to it.
+fn use_prepared<N: Opened>(
+    alloc: Global,
+    registry: &Registry,
+    machine: &mut Machine<N>,
+    session: u32,
+    bound: &Bound,
+    asks: bool,
+) -> Result<Seen, Memory>
+    requires registry { registry.now ≡ N.registry }
+    requires place { IsPlace machine.old.script session }
+    requires kept { IsKept N.opening machine.old }
+    requires next { ((o : Open) × IsBoundNext machine.old session o bound.now)
+        ⊎ CanRefuse machine.old session }
+    requires well_bound { IsWellBound bound.now.action }
+    ensures { IsBehind N.opening machine.old machine.new }
+{
+    if asks {
+        return ask_prepared(alloc, machine, session, bound);
+    }
+    exec_prepared(alloc, registry, machine, session, bound)
+}
+
+/// The same of the statement at which a session stands.
+fn use_at<N: Opened>(
     alloc: Global,
     registry: &Registry,
     machine: &mut Machine<N>,
     session: u32,
     place: u32,
+    asks: bool,
 ) -> Result<Seen, Memory>
     requires registry { registry.now ≡ N.registry }
     requires place { IsPlace machine.old.script session }
@@ -315,14 +317,15 @@ fn exec_at<N: Opened>(
     ensures { IsBehind N.opening machine.old machine.new }
 {
     let bound = prepare_next(alloc, machine, session, place)?;
-    exec_prepared(alloc, registry, machine, session, &bound)
+    use_prepared(alloc, registry, machine, session, &bound, asks)
 }
 
-fn exec<N: Opened>(
+fn ask_or_exec<N: Opened>(
     alloc: Global,
     registry: &Registry,
     machine: &mut Machine<N>,
     session: u32,
+    asks: bool,
 ) -> Result<Seen, Memory>
     requires registry { registry.now ≡ N.registry }
     ensures { IsBehind N.opening machine.old machine.new }
@@ -330,7 +333,7 @@ fn exec<N: Opened>(
     let Some(Stand::Statement(place)) = stand_of(machine, session) else {
         return Ok(Seen::Idle);
     };
-    exec_at(alloc, registry, machine, session, place)
+    use_at(alloc, registry, machine, session, place, asks)
 }
 
 fn commit<N: Opened, R: Wait>(
@@ -402,8 +405,8 @@ pub fn make<N: Opened, R: Wait>(
 {
     match act {
         Act::Begin(session) => begin(machine, session),
-        Act::Ask(session) => ask(alloc, machine, session),
-        Act::Exec(session) => exec(alloc, registry, machine, session),
+        Act::Ask(session) => ask_or_exec(alloc, registry, machine, session, true),
+        Act::Exec(session) => ask_or_exec(alloc, registry, machine, session, false),
         Act::Commit(session) => commit(rt, registry, journal, machine, session),
         Act::Abort(session) => Ok(abort(machine, session)),
         Act::Fail(session) => Ok(fail(machine, session)),

@@ -1,6 +1,7 @@
 //! The calls of a machine, one by one.
 
 use crate::acts::{Act, Look, Seen};
+use crate::nexts::Use;
 use crate::sights::{Locked, Sight, Told};
 use crate::worked::{Call, Deed, End, Order, expect};
 use bf_locks::Mode;
@@ -375,7 +376,7 @@ const SCHEMA_CHANGE: Order = Order {
     stages: &[
         (Deed::Calls(&FIRST_TABLE), &[Sight::Catalog(1)]),
         (
-            Deed::StaleBound(2, &SECOND_TABLE, 2),
+            Deed::Next(2, Use::Behind(&SECOND_TABLE), Seen::Stale(2)),
             &[
                 Sight::Covers(2, Locked::Catalog, Mode::S, true),
                 Sight::Covers(2, Locked::Table, Mode::S, true),

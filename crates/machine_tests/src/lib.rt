@@ -14,6 +14,8 @@ mod moves;
 #[cfg(test)]
 mod moving;
 #[cfg(test)]
+mod nexts;
+#[cfg(test)]
 mod orders;
 #[cfg(test)]
 mod plays;

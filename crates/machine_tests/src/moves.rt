@@ -3,6 +3,7 @@
 
 use crate::acts::{Act, Seen};
 use crate::moving::Moving;
+use crate::nexts::Use;
 use crate::sights::{Sight, Told};
 use crate::worked::{Call, Deed, End, Order, expect};
 use bf_machine::Stand;
@@ -64,43 +65,55 @@ const EACH_ONCE: Order = Order {
         ),
         (Deed::Made(&[Act::Begin(2), Act::Begin(3)]), &[]),
         (
-            Deed::Moves(Moving {
-                session: 2,
-                migration: 1,
-                number: 4,
-                fresh: &[1],
-                already: &[],
-            }),
+            Deed::Next(
+                2,
+                Use::Moves(Moving {
+                    migration: 1,
+                    number: 4,
+                    fresh: &[1],
+                    already: &[],
+                }),
+                Seen::Done,
+            ),
             &[Sight::Running(1, 1, 0)],
         ),
         (
-            Deed::Moves(Moving {
-                session: 2,
-                migration: 1,
-                number: 4,
-                fresh: &[],
-                already: &[(1, 4)],
-            }),
+            Deed::Next(
+                2,
+                Use::Moves(Moving {
+                    migration: 1,
+                    number: 4,
+                    fresh: &[],
+                    already: &[(1, 4)],
+                }),
+                Seen::Done,
+            ),
             &[Sight::Running(1, 1, 0), Sight::Moved(&[1])],
         ),
         (
-            Deed::Moves(Moving {
-                session: 3,
-                migration: 1,
-                number: 5,
-                fresh: &[0, 2],
-                already: &[(1, 4)],
-            }),
+            Deed::Next(
+                3,
+                Use::Moves(Moving {
+                    migration: 1,
+                    number: 5,
+                    fresh: &[0, 2],
+                    already: &[(1, 4)],
+                }),
+                Seen::Done,
+            ),
             &[Sight::Sweep(COMPLETE)],
         ),
         (
-            Deed::Moves(Moving {
-                session: 3,
-                migration: 1,
-                number: 5,
-                fresh: &[],
-                already: &[(0, 5), (1, 4), (2, 5)],
-            }),
+            Deed::Next(
+                3,
+                Use::Moves(Moving {
+                    migration: 1,
+                    number: 5,
+                    fresh: &[],
+                    already: &[(0, 5), (1, 4), (2, 5)],
+                }),
+                Seen::Done,
+            ),
             &[Sight::Sweep(COMPLETE), Sight::Moved(&[0, 1, 2])],
         ),
     ],
@@ -145,13 +158,16 @@ const NEEDED: Order = Order {
             &[Sight::Running(1, 0, 0), Sight::Reply(2, 1, Told::Nothing)],
         ),
         (
-            Deed::Moves(Moving {
-                session: 2,
-                migration: 1,
-                number: 4,
-                fresh: &[1],
-                already: &[],
-            }),
+            Deed::Next(
+                2,
+                Use::Moves(Moving {
+                    migration: 1,
+                    number: 4,
+                    fresh: &[1],
+                    already: &[],
+                }),
+                Seen::Done,
+            ),
             &[],
         ),
         (
@@ -200,17 +216,20 @@ const BOUND_BEFORE: Order = Order {
         (Deed::Calls(&FIRST_MIGRATION), &[]),
         (Deed::Calls(&TO_MIGRATE), &[]),
         (
-            Deed::Moves(Moving {
-                session: 4,
-                migration: 1,
-                number: 4,
-                fresh: &[0, 1, 2],
-                already: &[],
-            }),
+            Deed::Next(
+                4,
+                Use::Moves(Moving {
+                    migration: 1,
+                    number: 4,
+                    fresh: &[0, 1, 2],
+                    already: &[],
+                }),
+                Seen::Done,
+            ),
             &[],
         ),
         (
-            Deed::StaleBound(2, &FLIP, 3),
+            Deed::Next(2, Use::Behind(&FLIP), Seen::Stale(3)),
             &[
                 Sight::Catalog(3),
                 Sight::Running(2, 0, 0),
@@ -219,13 +238,16 @@ const BOUND_BEFORE: Order = Order {
         ),
         (Deed::Calls(&READ), &[]),
         (
-            Deed::Moves(Moving {
-                session: 2,
-                migration: 2,
-                number: 6,
-                fresh: &[1],
-                already: &[],
-            }),
+            Deed::Next(
+                2,
+                Use::Moves(Moving {
+                    migration: 2,
+                    number: 6,
+                    fresh: &[1],
+                    already: &[],
+                }),
+                Seen::Done,
+            ),
             &[],
         ),
         (
@@ -253,17 +275,20 @@ const COVERED_BEFORE: Order = Order {
         (Deed::Calls(&FIRST_MIGRATION), &[]),
         (Deed::Calls(&TO_MIGRATE), &[]),
         (
-            Deed::Moves(Moving {
-                session: 4,
-                migration: 1,
-                number: 4,
-                fresh: &[0, 1, 2],
-                already: &[],
-            }),
+            Deed::Next(
+                4,
+                Use::Moves(Moving {
+                    migration: 1,
+                    number: 4,
+                    fresh: &[0, 1, 2],
+                    already: &[],
+                }),
+                Seen::Done,
+            ),
             &[],
         ),
         (
-            Deed::StaleCover(2, &FLIP, 3),
+            Deed::NextBehind(&FLIP, 2, Seen::Stale(3)),
             &[
                 Sight::Catalog(3),
                 Sight::Running(2, 0, 0),
@@ -272,13 +297,16 @@ const COVERED_BEFORE: Order = Order {
         ),
         (Deed::Calls(&READ), &[]),
         (
-            Deed::Moves(Moving {
-                session: 2,
-                migration: 2,
-                number: 6,
-                fresh: &[1],
-                already: &[],
-            }),
+            Deed::Next(
+                2,
+                Use::Moves(Moving {
+                    migration: 2,
+                    number: 6,
+                    fresh: &[1],
+                    already: &[],
+                }),
+                Seen::Done,
+            ),
             &[],
         ),
         (
@@ -314,7 +342,7 @@ const COVERED_BEFORE_THE_FIRST: Order = Order {
     stages: &[
         (Deed::Calls(&TABLE), &[]),
         (
-            Deed::StaleCover(2, &MIGRATE_AND_ASK, 2),
+            Deed::NextBehind(&MIGRATE_AND_ASK, 2, Seen::Stale(2)),
             &[Sight::Reply(2, 1, Told::Nothing), Sight::Running(1, 0, 0)],
         ),
     ],
@@ -335,17 +363,20 @@ const TOO_LATE: Order = Order {
         (Deed::Calls(&FIRST_MIGRATION), &[]),
         (Deed::Calls(&TO_MIGRATE), &[]),
         (
-            Deed::Moves(Moving {
-                session: 4,
-                migration: 1,
-                number: 4,
-                fresh: &[0, 1, 2],
-                already: &[],
-            }),
+            Deed::Next(
+                4,
+                Use::Moves(Moving {
+                    migration: 1,
+                    number: 4,
+                    fresh: &[0, 1, 2],
+                    already: &[],
+                }),
+                Seen::Done,
+            ),
             &[],
         ),
         (
-            Deed::MovesNoMore(2, &FLIP, 2),
+            Deed::Next(2, Use::MovesTwice(&FLIP), Seen::Old(2)),
             &[
                 Sight::Moved(&[]),
                 Sight::Catalog(3),
@@ -355,13 +386,16 @@ const TOO_LATE: Order = Order {
         ),
         (Deed::Calls(&READ), &[]),
         (
-            Deed::Moves(Moving {
-                session: 2,
-                migration: 2,
-                number: 6,
-                fresh: &[1],
-                already: &[],
-            }),
+            Deed::Next(
+                2,
+                Use::Moves(Moving {
+                    migration: 2,
+                    number: 6,
+                    fresh: &[1],
+                    already: &[],
+                }),
+                Seen::Done,
+            ),
             &[],
         ),
         (
@@ -422,35 +456,44 @@ const MOVED_FOR_A_BLOCK: Order = Order {
         (Deed::Calls(&FIRST_MIGRATION), &[]),
         (Deed::Calls(&BLOCK_AND_MIGRATE), &[]),
         (
-            Deed::Moves(Moving {
-                session: 2,
-                migration: 1,
-                number: 4,
-                fresh: &[1],
-                already: &[],
-            }),
+            Deed::Next(
+                2,
+                Use::Moves(Moving {
+                    migration: 1,
+                    number: 4,
+                    fresh: &[1],
+                    already: &[],
+                }),
+                Seen::Done,
+            ),
             &[],
         ),
         (Deed::Calls(&ROLLED_BACK), &[Sight::Moved(&[1])]),
         (
-            Deed::Moves(Moving {
-                session: 3,
-                migration: 1,
-                number: 5,
-                fresh: &[0, 2],
-                already: &[(1, 4)],
-            }),
+            Deed::Next(
+                3,
+                Use::Moves(Moving {
+                    migration: 1,
+                    number: 5,
+                    fresh: &[0, 2],
+                    already: &[(1, 4)],
+                }),
+                Seen::Done,
+            ),
             &[],
         ),
         (Deed::Calls(&MIGRATED), &[]),
         (
-            Deed::Moves(Moving {
-                session: 4,
-                migration: 2,
-                number: 7,
-                fresh: &[1],
-                already: &[],
-            }),
+            Deed::Next(
+                4,
+                Use::Moves(Moving {
+                    migration: 2,
+                    number: 7,
+                    fresh: &[1],
+                    already: &[],
+                }),
+                Seen::Done,
+            ),
             &[],
         ),
         (

@@ -4,16 +4,13 @@ ghost use Rattle.std.specs.Prelude.{◌≡◌, ◌==◌, ◌≤◌, length, true
 ghost use Rattle.std.specs.List.{list_all};
 ghost use Rattle.boxcar.specs.Table.{Shows};
 ghost use Rattle.bf_query.specs.Actions.{IsWellBound};
-ghost use Rattle.bf_machine.specs.declared.stand.Stand.TheVariants.{Statement};
-ghost use Rattle.bf_machine.specs.interleaving.Calls.{IsPlace, StandsAs};
 ghost use Rattle.bf_machine.specs.interleaving.Journals.{most_moved};
-ghost use Rattle.bf_machine.specs.interleaving.Kept.{IsKept};
 
-use crate::acts::{Act, make_all, stand_of};
+use crate::acts::{Act, Seen, make_all};
 use crate::refusing::Refusing;
 use bf_base::{Granule, Place};
 use bf_image::{MigrationPass, Registry, ValueIndexes};
-use bf_machine::{Machine, MoveError, Opened, Stand, prepare_next};
+use bf_machine::{Machine, MoveError, Opened};
 use bf_store::Moved;
 use bf_transpose::cover_of;
 use bf_tree::Bound;
@@ -21,12 +18,11 @@ use std::alloc::Global;
 use std::sync::Wait;
 use std::test::Fail;
 
-/// What the statement at which a session stands needs: the rows that move now, by the record of a number, and
+/// What a statement needs: the rows that move now, by the record of a number, and
 /// those that moved before, each by the record of its own. Rows are named by their positions in the first unit
 /// of a migration.
 #[derive(Clone, Copy)]
 pub struct Moving {
-    pub session: u32,
     pub migration: u32,
     pub number: u64,
     pub fresh: &'static [u32],
@@ -80,28 +76,6 @@ fn move_need<N: Opened>(
     Ok(machine.moved(registry, journal, pass, &indexes, granules))
 }
 
-/// Moves what the statement at which a session stands needs, also what has moved before. `None` where it
-/// stands at none, or there was no migration, or nothing is moved.
-fn move_cover<N: Opened>(
-    alloc: Global,
-    registry: &Registry,
-    journal: &mut Refusing,
-    machine: &mut Machine<N>,
-    session: u32,
-) -> Result<Option<Moved>, Fail>
-    requires registry { registry.now ≡ N.registry }
-    requires logged { true ≡ N.logged }
-{
-    let Some(Stand::Statement(place)) = stand_of(machine, session) else {
-        return Ok(None);
-    };
-    let bound = prepare_next(alloc, machine, session, place)?;
-    let Some(pass) = machine.migration() else {
-        return Ok(None);
-    };
-    Ok(move_need(alloc, registry, journal, machine, &pass, &bound)?.ok())
-}
-
 /// Whether rows are told as moved now, and others as moved before.
 fn tells(moved: &Moved, moving: &Moving) -> bool {
     for (receipt, position) in moved.fresh.as_slice().iter().zip(moving.fresh.iter()) {
@@ -120,19 +94,25 @@ fn tells(moved: &Moved, moving: &Moving) -> bool {
     moved.fresh.len() == moving.fresh.len() && moved.already.len() == moving.already.len()
 }
 
-/// Whether what a session needs is moved now, but for what moved before.
+/// Moves what a bound statement needs of the migration of a pass, and tells whether it is this.
 pub fn does_move<N: Opened>(
     alloc: Global,
     registry: &Registry,
     journal: &mut Refusing,
     machine: &mut Machine<N>,
+    pass: &MigrationPass,
+    bound: &Bound,
     moving: &Moving,
-) -> Result<bool, Fail>
+) -> Result<Seen, Fail>
     requires registry { registry.now ≡ N.registry }
     requires logged { true ≡ N.logged }
+    requires pass { Shows N.registry.migrations pass.now }
+    requires well_bound { IsWellBound bound.now.action }
 {
-    let moved = move_cover(alloc, registry, journal, machine, moving.session)?;
-    Ok(moved.is_some_and(|moved| tells(&moved, moving)))
+    match move_need(alloc, registry, journal, machine, pass, bound)? {
+        Ok(moved) if tells(&moved, moving) => Ok(Seen::Done),
+        _ => Ok(Seen::Idle),
+    }
 }
 
 /// Whether these rows and no others have moved.
@@ -150,9 +130,8 @@ pub fn have_moved<N: Opened>(
     Ok(done.len() == positions.len())
 }
 
-/// Moves what a bound statement needs of the migration of a pass, then makes calls, and tells whether none moves
-/// of that migration then, behind which there is another one by its number.
-fn moves_before_alone<N: Opened, R: Wait>(
+/// Moves what a bound statement needs of the migration of a pass, then makes calls, and moves it again.
+pub fn move_twice<N: Opened, R: Wait>(
     rt: &R,
     alloc: Global,
     registry: &Registry,
@@ -161,67 +140,19 @@ fn moves_before_alone<N: Opened, R: Wait>(
     pass: &MigrationPass,
     bound: &Bound,
     calls: &[Act],
-    migration: u32,
-) -> Result<bool, Fail>
+) -> Result<Seen, Fail>
     requires registry { registry.now ≡ N.registry }
     requires logged { true ≡ N.logged }
     requires pass { Shows N.registry.migrations pass.now }
     requires well_bound { IsWellBound bound.now.action }
 {
-    let before = move_need(alloc, registry, journal, machine, pass, bound)?;
+    if move_need(alloc, registry, journal, machine, pass, bound)?.is_err() {
+        return Ok(Seen::Idle);
+    }
     make_all(rt, alloc, registry, journal, machine, calls)?;
-    let behind = move_need(alloc, registry, journal, machine, pass, bound)?;
-    Ok(before.is_ok() && matches!(behind, Err(MoveError::Old(last)) if last == migration))
-}
-
-/// The same of a session's next statement, as it is bound now.
-fn moves_bound_before_alone<N: Opened, R: Wait>(
-    rt: &R,
-    alloc: Global,
-    registry: &Registry,
-    journal: &mut Refusing,
-    machine: &mut Machine<N>,
-    session: u32,
-    place: u32,
-    pass: &MigrationPass,
-    calls: &[Act],
-    migration: u32,
-) -> Result<bool, Fail>
-    requires registry { registry.now ≡ N.registry }
-    requires logged { true ≡ N.logged }
-    requires place { IsPlace machine.old.script session }
-    requires kept { IsKept N.opening machine.old }
-    requires stands { StandsAs machine.old session (Statement place) }
-    requires pass { Shows N.registry.migrations pass.now }
-{
-    let bound = prepare_next(alloc, machine, session, place)?;
-    moves_before_alone(
-        rt, alloc, registry, journal, machine, pass, &bound, calls, migration,
-    )
-}
-
-/// Moves what the statement at which a session stands needs, then lets another migration come in front of it by
-/// calls, and tells whether none moves of the older one then.
-pub fn moves_no_more<N: Opened, R: Wait>(
-    rt: &R,
-    alloc: Global,
-    registry: &Registry,
-    journal: &mut Refusing,
-    machine: &mut Machine<N>,
-    session: u32,
-    calls: &[Act],
-    migration: u32,
-) -> Result<bool, Fail>
-    requires registry { registry.now ≡ N.registry }
-    requires logged { true ≡ N.logged }
-{
-    let Some(Stand::Statement(place)) = stand_of(machine, session) else {
-        return Ok(false);
-    };
-    let Some(pass) = machine.migration() else {
-        return Ok(false);
-    };
-    moves_bound_before_alone(
-        rt, alloc, registry, journal, machine, session, place, &pass, calls, migration,
-    )
+    match move_need(alloc, registry, journal, machine, pass, bound)? {
+        Ok(_) => Ok(Seen::Done),
+        Err(MoveError::Old(last)) => Ok(Seen::Old(last)),
+        Err(_) => Ok(Seen::Idle),
+    }
 }

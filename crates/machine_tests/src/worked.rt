@@ -6,14 +6,13 @@ ghost use Rattle.bf_sql.specs.Database.{empty_database};
 ghost use Rattle.bf_machine.specs.interleaving.Kept.{IsWithinLimits};
 
 use crate::acts::{Act, Seen, look_at, make, make_all, session_of};
-use crate::moving::{Moving, does_move, moves_no_more};
+use crate::nexts::{Use, use_next};
 use crate::refusing::Refusing;
 use crate::runs::{new_machine, report_told, serve};
 use crate::scripts::script_of;
 use crate::sights::{Sight, are_seen};
-use crate::stale::{exec_as_before, exec_with_old_cover};
 use bf_image::Registry;
-use bf_machine::{Machine, Opened, Stand, Step};
+use bf_machine::{Machine, Opened, Stand};
 use bf_tree::Script;
 use std::alloc::Global;
 use std::marker::Brand;
@@ -30,17 +29,11 @@ pub enum Deed {
     Calls(&'static [Call]),
     /// Calls, whatever comes of each.
     Made(&'static [Act]),
-    /// A session's next statement is bound, calls are made, and it is replied to as it was bound, with the cover
-    /// that it had. It is to be bound again, in the catalog of this number.
-    StaleBound(u32, &'static [Act], u64),
-    /// Calls are made, and a session's next statement is replied to as it is bound then, with its cover of the
-    /// migration from before. It is to be bound again, in the catalog of this number.
-    StaleCover(u32, &'static [Act], u64),
-    /// What a session's next statement needs is moved.
-    Moves(Moving),
-    /// What a session's next statement needs is moved, then calls are made, and it does not move behind them: the
-    /// last migration has this number.
-    MovesNoMore(u32, &'static [Act], u32),
+    /// A session's next statement is used, and what comes of that.
+    Next(u32, Use, Seen),
+    /// A session's next statement is replied to behind calls, with its cover of the migration from before them, and
+    /// what comes of that.
+    NextBehind(&'static [Act], u32, Seen),
 }
 
 /// What is done, and what is seen behind it.
@@ -93,10 +86,6 @@ fn are_made<N: Opened, R: Wait>(
     Ok(true)
 }
 
-fn is_stale(step: Option<Step>, catalog: u64) -> bool {
-    matches!(step, Some(Step::Stale(number)) if number == catalog)
-}
-
 /// Whether what is done goes as it is told.
 fn is_done<N: Opened, R: Wait>(
     rt: &R,
@@ -115,18 +104,13 @@ fn is_done<N: Opened, R: Wait>(
             make_all(rt, alloc, registry, journal, machine, calls)?;
             Ok(true)
         }
-        Deed::StaleBound(session, calls, catalog) => {
-            let step = exec_as_before(rt, alloc, registry, journal, machine, session, calls)?;
-            Ok(is_stale(step, catalog))
+        Deed::Next(session, how, seen) => {
+            Ok(use_next(rt, alloc, registry, journal, machine, &[], session, how)? == seen)
         }
-        Deed::StaleCover(session, calls, catalog) => {
-            let step = exec_with_old_cover(rt, alloc, registry, journal, machine, session, calls)?;
-            Ok(is_stale(step, catalog))
+        Deed::NextBehind(calls, session, seen) => {
+            let how = Use::Behind(&[]);
+            Ok(use_next(rt, alloc, registry, journal, machine, calls, session, how)? == seen)
         }
-        Deed::Moves(moving) => does_move(alloc, registry, journal, machine, &moving),
-        Deed::MovesNoMore(session, calls, migration) => moves_no_more(
-            rt, alloc, registry, journal, machine, session, calls, migration,
-        ),
     }
 }
 
