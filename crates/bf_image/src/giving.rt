@@ -1,125 +1,22 @@
 //! Whether a granule gives a row of a new table, without making it.
 
-ghost use Rattle.std.specs.Prelude.{◌≡◌, ◌<◌, [], ◌∷◌, ℕ, IfOk, Some, flat_map, length, map, option_map, slice_get, unwrap_or};
+ghost use Rattle.std.specs.Prelude.{◌≡◌, ◌<◌, [], ◌∷◌, ℕ, IfOk, IsSome, flat_map, length, map, option_map, slice_get, unwrap_or};
 ghost use Rattle.std.specs.Option.{option_to_list};
 ghost use Rattle.bf_base.specs.declared.granule.Place.TheVariants.{Group, Row as At};
-ghost use Rattle.bf_tree.specs.declared.migration.Arm.{Arm};
-ghost use Rattle.bf_tree.specs.declared.plan.ArmKind.TheVariants.{ByFrom, ByJoin};
-ghost use Rattle.bf_sql.specs.Database.{table_rows};
-ghost use Rattle.bf_sql.specs.migrations.Granules.{granule, part_at, rows_unit};
-ghost use Rattle.bf_sql.specs.migrations.Images.{arm_rows};
-ghost use Rattle.bf_sql.specs.migrations.Plans.{rows_unit_of};
-ghost use Rattle.bf_sql.specs.migrations.Targets.{arm_kind};
-ghost use Rattle.bf_image.specs.BoundArms.{arm_at, entries_of};
+ghost use Rattle.bf_sql.specs.migrations.Granules.{granule};
+ghost use Rattle.bf_image.specs.BoundArms.{entries_of};
 ghost use Rattle.bf_image.specs.ByValues.{positions_under};
-ghost use Rattle.bf_image.specs.Giving.{gives_row, has_any, has_row_of, makes_any};
-ghost use Rattle.bf_image.specs.Lookup.{from_rows_met, join_rows_met};
-ghost use Rattle.bf_image.specs.Migrations.{IsLawfulMigration, old_of, value_indexes};
+ghost use Rattle.bf_image.specs.FrozenUnits.{IsFrozenUnit, IsRowAt};
+ghost use Rattle.bf_image.specs.Giving.{gives_row, makes_any};
 
 use crate::arm_gives::makes_any;
 use crate::arms::FrozenArm;
-use crate::migration::{Frozen, Migration};
-use crate::value_indexes::{UnitIndex, ValueIndexes};
-use bf_base::{Granule, Key, Memory, Place, Row};
-use bf_tree::{PlacedArm, Unit, UnitKind};
+use crate::frozen_unit::FrozenUnit;
+use crate::migration::Frozen;
+use crate::value_indexes::UnitIndex;
+use bf_base::{Key, Memory, Place, Row};
+use bf_tree::PlacedArm;
 use std::alloc::Global;
-
-/// Whether an arm, if there is one of the numbers, makes a row of a row of its driver.
-fn arm_gives(
-    alloc: Global,
-    migration: &Migration,
-    target: u8,
-    number: u32,
-    row: &Row,
-) -> Result<bool, Memory>
-    requires lawful { IsLawfulMigration migration.now }
-    ensures from { IfOk result (λ gives. (arm : Arm)
-        → arm_at migration.now target number ≡ Some arm
-        → arm_kind (old_of migration.now) arm ≡ ByFrom → gives ≡ has_any (arm_rows
-        (old_of migration.now) arm (row.now ∷ []) (join_rows_met (old_of migration.now) arm row.now))) }
-    ensures join { IfOk result (λ gives. (arm : Arm)
-        → arm_at migration.now target number ≡ Some arm
-        → arm_kind (old_of migration.now) arm ≡ ByJoin → gives ≡ has_any (arm_rows
-        (old_of migration.now) arm (from_rows_met (old_of migration.now) arm row.now) (row.now ∷ []))) }
-{
-    match migration.arm(target, number) {
-        Some(arm) => arm.gives_of_driver(alloc, row),
-        None => Ok(false),
-    }
-}
-
-/// Whether the arms of a unit make a row of a target of a row of the unit's driver.
-fn gives_of_row(
-    alloc: Global,
-    migration: &Migration,
-    unit: &Unit,
-    row: &Row,
-    target: u8,
-) -> Result<bool, Memory>
-    requires lawful { IsLawfulMigration migration.now }
-    requires planned { unit.now
-        ≡ rows_unit_of (old_of migration.now) migration.now.plan.migrate unit.now.driver }
-    requires there { target < length migration.now.plan.migrate.targets }
-    ensures { IfOk result (λ gives. (at : ℕ)
-        → slice_get (table_rows (old_of migration.now) unit.now.driver) at ≡ Some row.now
-        → gives ≡ has_row_of migration.now target (part_at (old_of migration.now)
-        migration.now.plan.migrate (rows_unit unit.now.driver) (At at))) }
-{
-    for (of, number) in unit.arms.as_slice() {
-        if *of == target && arm_gives(alloc, migration, *of, *number, row)? {
-            return Ok(true);
-        }
-    }
-    Ok(false)
-}
-
-/// Whether the arms of a unit make a row of a target of the row at a position of the unit's driver:
-/// they do not where there is none.
-fn gives_of_position(
-    alloc: Global,
-    migration: &Migration,
-    unit: &Unit,
-    position: u32,
-    target: u8,
-) -> Result<bool, Memory>
-    requires lawful { IsLawfulMigration migration.now }
-    requires planned { unit.now
-        ≡ rows_unit_of (old_of migration.now) migration.now.plan.migrate unit.now.driver }
-    requires there { target < length migration.now.plan.migrate.targets }
-    ensures { IfOk result (λ gives. gives ≡ has_row_of migration.now target
-        (part_at (old_of migration.now) migration.now.plan.migrate (rows_unit unit.now.driver)
-        (At position))) }
-{
-    let Some(driver) = migration.source(&unit.driver) else {
-        return Ok(false);
-    };
-    match driver.rows.at(position) {
-        Some((_, row)) => gives_of_row(alloc, migration, unit, row, target),
-        None => Ok(false),
-    }
-}
-
-/// Whether a unit gives a row of a target at a position of the table whose rows it goes by.
-fn gives_at(
-    alloc: Global,
-    migration: &Migration,
-    number: u8,
-    position: u32,
-    target: u8,
-) -> Result<bool, Memory>
-    requires lawful { IsLawfulMigration migration.now }
-    requires there { target < length migration.now.plan.migrate.targets }
-    ensures { IfOk result (λ gives.
-        gives ≡ gives_row migration.now target (granule number (At position))) }
-{
-    let Some(unit) = migration.plan.units.as_slice().get(number as usize) else {
-        return Ok(false);
-    };
-    match unit.kind {
-        UnitKind::Rows => gives_of_position(alloc, migration, unit, position, target),
-        UnitKind::Groups | UnitKind::Joins => Ok(false),
-    }
-}
 
 /// Whether an arm makes a row of a row of FROM and the row of JOIN at a position, if there is one.
 fn makes_any_at(
@@ -194,59 +91,77 @@ fn joined_positions<'a>(index: &'a UnitIndex, value: &Key) -> &'a [u32]
     }
 }
 
-/// Whether a unit that goes by values gives a row of a target under a value.
-fn gives_under(
-    alloc: Global,
-    migration: &Migration,
-    indexes: &ValueIndexes,
-    number: u8,
-    value: &Key,
-    target: u8,
-) -> Result<bool, Memory>
-    requires lawful { IsLawfulMigration migration.now }
-    requires indexed { indexes.now ≡ value_indexes migration.now }
-    requires there { target < length migration.now.plan.migrate.targets }
-    ensures { IfOk result (λ gives.
-        gives ≡ gives_row migration.now target (granule number (Group value.now))) }
-{
-    let Some(arm) = migration.arm_by_values(number) else {
-        return Ok(false);
-    };
-    if arm.target != target {
-        return Ok(false);
+impl FrozenUnit<'_> {
+    /// Whether the arms of a unit that goes by rows make a row of a target of a row of its driver.
+    fn gives_of_row(&self, alloc: Global, row: &Row, target: u8) -> Result<bool, Memory>
+        requires unit { IsFrozenUnit self.now }
+        requires by_rows { IsSome self.now.driver }
+        requires there { target < length self.now.migration.now.plan.migrate.targets }
+        ensures { IfOk result (λ gives. (at : ℕ) → IsRowAt self.now at row.now → gives
+            ≡ gives_row self.now.migration.now target (granule self.now.number (At at))) }
+    {
+        for arm in &self.arms {
+            if arm.target == target && arm.gives_of_driver(alloc, row)? {
+                return Ok(true);
+            }
+        }
+        Ok(false)
     }
-    let Some(index) = indexes.unit(number) else {
-        return Ok(false);
-    };
-    let from = index.from.positions(value);
-    let join = joined_positions(index, value);
-    makes_any_among(alloc, &arm, from, join)
-}
 
-/// Whether a granule gives a row of a target, by the target's number: false of a granule that is not the
-/// migration's. It makes no row and stops at the first that would be made: of a unit that goes by rows
-/// it costs what finding the driver's row and the row that it meets costs, about log n compares of keys
-/// for each arm of the target; of one that goes by values about log n compares of values, and a test of
-/// each pair of the granule's rows up to the first that the arm takes.
-///
-/// # Errors
-/// Where memory runs out.
-pub fn gives_row(
-    alloc: Global,
-    migration: &Migration,
-    indexes: &ValueIndexes,
-    granule: &Granule,
-    target: u8,
-) -> Result<bool, Memory>
-    requires lawful { IsLawfulMigration migration.now }
-    requires indexed { indexes.now ≡ value_indexes migration.now }
-    requires there { target < length migration.now.plan.migrate.targets }
-    ensures { IfOk result (λ gives. gives ≡ gives_row migration.now target granule.now) }
-{
-    match &granule.place {
-        Place::Row(position) => gives_at(alloc, migration, granule.unit, *position, target),
-        Place::Group(value) => {
-            gives_under(alloc, migration, indexes, granule.unit, value, target)
+    /// Whether a unit gives a row of a target at a position of the table whose rows it goes by.
+    fn gives_at(&self, alloc: Global, position: u32, target: u8) -> Result<bool, Memory>
+        requires unit { IsFrozenUnit self.now }
+        requires there { target < length self.now.migration.now.plan.migrate.targets }
+        ensures { IfOk result (λ gives. gives
+            ≡ gives_row self.now.migration.now target (granule self.now.number (At position))) }
+    {
+        let Some(driver) = self.driver else {
+            return Ok(false);
+        };
+        match driver.rows.at(position) {
+            Some((_, row)) => self.gives_of_row(alloc, row, target),
+            None => Ok(false),
+        }
+    }
+
+    /// Whether a unit that goes by values gives a row of a target under a value.
+    fn gives_under(&self, alloc: Global, value: &Key, target: u8) -> Result<bool, Memory>
+        requires unit { IsFrozenUnit self.now }
+        requires there { target < length self.now.migration.now.plan.migrate.targets }
+        ensures { IfOk result (λ gives. gives
+            ≡ gives_row self.now.migration.now target (granule self.now.number (Group value.now))) }
+    {
+        let Some(arm) = &self.valued else {
+            return Ok(false);
+        };
+        if arm.target != target {
+            return Ok(false);
+        }
+        let Some(index) = self.index else {
+            return Ok(false);
+        };
+        let from = index.from.positions(value);
+        let join = joined_positions(index, value);
+        makes_any_among(alloc, arm, from, join)
+    }
+
+    /// Whether the unit's granule at a place gives a row of a target, by the target's number: false where
+    /// the unit has no such granule. It makes no row and stops at the first that would be made: of a unit
+    /// that goes by rows it costs what finding the driver's row and the row that it meets costs, about log n
+    /// compares of keys for each arm of the target; of one that goes by values about log n compares of
+    /// values, and a test of each pair of the granule's rows up to the first that the arm takes.
+    ///
+    /// # Errors
+    /// Where memory runs out.
+    pub fn gives_row(&self, alloc: Global, place: &Place, target: u8) -> Result<bool, Memory>
+        requires unit { IsFrozenUnit self.now }
+        requires there { target < length self.now.migration.now.plan.migrate.targets }
+        ensures { IfOk result (λ gives. gives
+            ≡ gives_row self.now.migration.now target (granule self.now.number place.now)) }
+    {
+        match place {
+            Place::Row(position) => self.gives_at(alloc, *position, target),
+            Place::Group(value) => self.gives_under(alloc, value, target),
         }
     }
 }

@@ -84,7 +84,7 @@ size_in : (lazy next : LazyState) (payload : List ℕ) → StepsByGroup lazy pay
 size_in lazy next payload own appends.Memory tells = tt
 size_in lazy next payload own appends.DiskFault tells = tt
 size_in lazy next payload own (appends.Halted faults) tells = tt
-size_in lazy next payload own (appends.TooLarge n) tells = (payload, own.0, own.1, tells.0)
+size_in lazy next payload own (appends.TooLarge n) tells = (payload, own, tells.0)
 size_in lazy next payload own (appends.LogFull end need) tells = (length payload, (payload, own.0, refl), tells)
 
 -- and of what fits the need alone is told

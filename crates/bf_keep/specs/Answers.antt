@@ -61,9 +61,9 @@ is_of_group other = true
 abbrev pub StepsByGroup : LazyState → List ℕ → LazyState → Type 0
 StepsByGroup lazy payload next = (steps : StepsTo lazy payload next) × (is_of_group steps.change ≡ true)
 
--- and a record of such a change does
+-- and a record of such a change does, which has so many bytes
 abbrev pub HasOwnRecordOf : LazyState → LazyState → ℕ → Type 0
-HasOwnRecordOf lazy next size = (payload : List ℕ) × (steps : StepsTo lazy payload next) × (is_of_group steps.change ≡ true) × (size ≡ length payload)
+HasOwnRecordOf lazy next size = (payload : List ℕ) × StepsByGroup lazy payload next × (size ≡ length payload)
 
 -- that has the size of the one that is told to be too large, which is no move's; and with its frame the need that is told where the log comes to
 -- take no more

@@ -10,7 +10,7 @@ use Rattle.bf_tree.specs.declared.statement.ColumnRule.{ColumnRule}
 use Rattle.bf_tree.specs.declared.statement.Statement.{Statement}
 use Rattle.bf_tree.specs.declared.statement.Statement.TheVariants.{Migrate}
 use Rattle.bf_phrase.specs.Words as word
-use Rattle.bf_phrase.specs.Words.{Word, words_of}
+use Rattle.bf_phrase.specs.Words.{Word}
 use Rattle.bf_phrase.specs.Steps.{Step, Say, Limit, Migration, Session as SessionMark}
 use Rattle.bf_phrase.specs.Phrases.{NameRule}
 use Rattle.bf_phrase.specs.Columns.{ColumnRuleRule}

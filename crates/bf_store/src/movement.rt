@@ -1,8 +1,9 @@
 //! Granules move: the rows that come from them are put into the live tables.
 
-ghost use Rattle.std.specs.Prelude.{◌≡◌, ◌<◌, ◌^◌, ◌++◌, ◌∷◌, [], List, flat_map, length, map, IfOk, OnErr, OnOk, Some};
+ghost use Rattle.std.specs.Prelude.{◌≡◌, ◌<◌, ◌^◌, ◌++◌, ◌∷◌, [], List, flat_map, length, map, IfOk, IfSome, OnErr, OnOk, Some};
 ghost use Rattle.bf_base.specs.Tables.{cell, key_of};
 ghost use Rattle.bf_sql.specs.migrations.Granules.{part_of};
+ghost use Rattle.bf_image.specs.FrozenUnits.{IsUnitIn};
 ghost use Rattle.bf_image.specs.Migrations.{IsLawfulMigration, old_of, target_at, value_indexes};
 ghost use Rattle.bf_store.specs.Anchors.{AreOf, next_from};
 ghost use Rattle.bf_store.specs.Marks.{AreFresh, granules_in, left_of, marked, unmarked};
@@ -16,7 +17,7 @@ use crate::done::Done;
 use crate::moved::{Moved, receipts};
 use crate::under_way::UnderWay;
 use bf_base::{Granule, Key, Memory, Row, Table, Value};
-use bf_image::{Migration, ValueIndexes, add_rows_of};
+use bf_image::{FrozenUnit, Migration, ValueIndexes};
 use bf_live::{LiveTables, Puts};
 use std::alloc::Global;
 
@@ -78,7 +79,28 @@ fn put_row(
     }
 }
 
-/// The rows that come from some granules, in one list, each with the number of its target.
+/// The unit of a number: the last one that was looked up, if it has that.
+fn unit_of<'a>(
+    alloc: Global,
+    migration: &'a Migration,
+    indexes: &'a ValueIndexes,
+    last: Option<FrozenUnit<'a>>,
+    number: u8,
+) -> Result<FrozenUnit<'a>, Memory>
+    requires lawful { IsLawfulMigration migration.now }
+    requires indexed { indexes.now ≡ value_indexes migration.now }
+    requires last { IfSome last (IsUnitIn migration.now) }
+    ensures unit { IfOk result (IsUnitIn migration.now) }
+    ensures number { IfOk result (λ unit. unit.number ≡ number) }
+{
+    match last {
+        Some(unit) if unit.number == number => Ok(unit),
+        _ => FrozenUnit::of(alloc, migration, indexes, number),
+    }
+}
+
+/// The rows that come from some granules, in one list, each with the number of its target. The tables of
+/// a unit are looked up once for granules of it that stand together.
 fn rows_of_all(
     alloc: Global,
     migration: &Migration,
@@ -91,8 +113,11 @@ fn rows_of_all(
         ≡ flat_map (part_of (old_of migration.now) migration.now.plan.migrate) granules.now) }
 {
     let mut rows = Vec::new(alloc);
+    let mut last = None;
     for granule in granules {
-        add_rows_of(alloc, migration, indexes, granule, &mut rows)?;
+        let unit = unit_of(alloc, migration, indexes, last, granule.unit)?;
+        unit.add_rows_of(alloc, &granule.place, &mut rows)?;
+        last = Some(unit);
     }
     Ok(rows)
 }

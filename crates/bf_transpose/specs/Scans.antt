@@ -13,7 +13,9 @@ use Rattle.bf_sql.specs.migrations.Granules.{granule, part_in, places_in, rows_u
 use Rattle.bf_sql.specs.migrations.Targets.{target_table}
 use Rattle.bf_query.specs.Ranges.{key_range_of}
 use Rattle.bf_image.specs.ByValues.{Valued, value_of}
+use Rattle.bf_image.specs.FrozenUnits.{IsUnitIn}
 use Rattle.bf_image.specs.Migrations.{IsLawfulMigration, old_of, source_of, target_at, unit_at, value_indexes}
+use Rattle.bf_image.specs.declared.frozen_unit.FrozenUnit.{FrozenUnit}
 use Rattle.bf_image.specs.declared.migration.Frozen.{Frozen}
 use Rattle.bf_image.specs.declared.migration.Migration.{Migration}
 use Rattle.bf_image.specs.declared.value_indexes.UnitIndex.{UnitIndex}
@@ -57,6 +59,15 @@ module _ (m : Migration) where
     abbrev pub gives : Cond ℕ → Granule → Bool
     gives cond g = list_any (λ row. holds_on (cell row) cond) (part_in (old_of m) m.plan.migrate (target_at m target).name g)
 
+-- the unit of a number is there with its old tables, or has no arm of a target
+abbrev pub IsUnitFor : Migration → ℕ → ℕ → Option FrozenUnit → Type 0
+IsUnitFor m target number (Some unit) = IsUnitIn m unit × (unit.number ≡ number)
+IsUnitFor m target number None = has_arm m target number ≡ false
+
+-- of some units, each at its number
+abbrev pub AreUnitsFor : Migration → ℕ → List (Option FrozenUnit) → Type 0
+AreUnitsFor m target units = (number : ℕ) → IsUnitFor m target number (option_and_then (λ unit. unit) (slice_get units number))
+
 -- the index of a unit that goes by values
 abbrev pub IsIndexOf : Migration → ℕ → UnitIndex → Type 0
 IsIndexOf m unit index = Some index ≡ option_and_then (λ index. index) (slice_get (value_indexes m) unit)
@@ -73,9 +84,11 @@ range_of m target cond =
     let t = target_at m target in
     key_range_of (with_key_behind (nat_lt 1 (length t.arms)) (target_table (old_of m) t)) cond
 
--- a search of a lawful migration, with its indexes, for rows of a target that it has, with the keys that its condition leaves
+-- a search of a lawful migration, with its indexes, for rows of a target that it has, with the keys that its condition leaves and the units of the
+-- target
 pub record IsSearch (search : Search) : Type 0 where
   pub lawful : IsLawfulMigration search.migration.now
   pub indexed : search.indexes.now ≡ value_indexes search.migration.now
   pub there : search.target < length search.migration.now.plan.migrate.targets
   pub range : search.range.now ≡ range_of search.migration.now search.target search.cond.now
+  pub units : AreUnitsFor search.migration.now search.target search.units.items

@@ -1,7 +1,7 @@
 //! Scans of a migration's granules: all of them, and those that give a row which a condition may
 //! pick.
 
-ghost use Rattle.std.specs.Prelude.{◌≡◌, ◌==◌, ◌∷◌, [], ◌++◌, ◌<◌, ◌≤◌, ℕ, false, IfOk, IfSome, IsTrue, None, OnOk, Some, filter, length, map, slice_get};
+ghost use Rattle.std.specs.Prelude.{◌≡◌, ◌==◌, ◌∷◌, [], ◌++◌, ◌<◌, ◌≤◌, ℕ, false, IfOk, IfSome, IsTrue, None, OnOk, Some, filter, length, map, option_map, slice_get};
 ghost use Rattle.std.specs.List.{list_any};
 ghost use Rattle.std.specs.Option.{option_to_list};
 ghost use Rattle.bf_base.specs.declared.granule.Place.TheVariants.{Group, Row as At};
@@ -10,9 +10,10 @@ ghost use Rattle.bf_sql.specs.migrations.Targets.{target_table};
 ghost use Rattle.bf_sql.specs.migrations.Granules.{granule, granules_of};
 ghost use Rattle.bf_sql.specs.migrations.Need.{giving, may_satisfy};
 ghost use Rattle.bf_image.specs.ByValues.{Valued, value_of};
+ghost use Rattle.bf_image.specs.FrozenUnits.{IsUnitIn};
 ghost use Rattle.bf_image.specs.Migrations.{IsLawfulMigration, anchors_in, old_of, target_at, value_indexes};
 ghost use Rattle.bf_transpose.specs.InOrder.{values_in};
-ghost use Rattle.bf_transpose.specs.Scans.{IsIndexOf, IsSearch, gives, granules_at, granules_in, has_arm, is_sought, row_granules, value_granules, values_indexed};
+ghost use Rattle.bf_transpose.specs.Scans.{AreUnitsFor, IsIndexOf, IsSearch, IsUnitFor, gives, granules_at, granules_in, has_arm, is_sought, row_granules, value_granules, values_indexed};
 ghost use Rattle.bf_transpose.specs.Transposed.{IsBehind};
 
 use crate::bounds::{
@@ -25,7 +26,7 @@ use crate::transposed::is_always;
 use bf_base::{Granule, Memory, Place, Row, Table};
 use bf_heap::KeyRange;
 use bf_image::value_indexes::UnitIndex;
-use bf_image::{ByValue, Frozen, Migration, ValueIndexes, gives_row, positions, rows_of};
+use bf_image::{ByValue, Frozen, FrozenUnit, Migration, ValueIndexes, positions};
 use bf_query::by_index::{index_for, keys_by_index};
 use bf_tree::{Cond, Test, Unit, holds};
 use std::alloc::Global;
@@ -146,6 +147,46 @@ fn is_of(unit: &Unit, target: u8) -> bool
     unit.arms.as_slice().iter().any(|(of, _)| *of == target)
 }
 
+/// A unit with its old tables, if it has an arm of a target.
+fn unit_for<'a>(
+    alloc: Global,
+    migration: &'a Migration,
+    indexes: &'a ValueIndexes,
+    target: u8,
+    number: u8,
+    planned: &Unit,
+) -> Result<Option<FrozenUnit<'a>>, Memory>
+    requires lawful { IsLawfulMigration migration.now }
+    requires indexed { indexes.now ≡ value_indexes migration.now }
+    requires planned { slice_get migration.now.plan.units number ≡ Some planned.now }
+    ensures { IfOk result (λ unit. IsUnitFor migration.now target number unit) }
+{
+    if !is_of(planned, target) {
+        return Ok(None);
+    }
+    Ok(Some(FrozenUnit::of(alloc, migration, indexes, number)?))
+}
+
+/// The units of a migration that have an arm of a target, with their old tables, each at its number. It
+/// compares about log n names for each table of their arms.
+fn units_for<'a>(
+    alloc: Global,
+    migration: &'a Migration,
+    indexes: &'a ValueIndexes,
+    target: u8,
+) -> Result<Vec<Option<FrozenUnit<'a>>>, Memory>
+    requires lawful { IsLawfulMigration migration.now }
+    requires indexed { indexes.now ≡ value_indexes migration.now }
+    ensures { IfOk result (λ units. AreUnitsFor migration.now target units.items) }
+{
+    let planned = migration.plan.units.as_slice();
+    let mut units = Vec::with_capacity(alloc, planned.len())?;
+    for (number, unit) in planned.iter().enumerate() {
+        units.push(unit_for(alloc, migration, indexes, target, number as u8, unit)?)?;
+    }
+    Ok(units)
+}
+
 /// The table that a target becomes.
 fn table_made(migration: &Migration, target: u8) -> &Table
     requires lawful { IsLawfulMigration migration.now }
@@ -164,6 +205,8 @@ struct Search<'a> {
     cond: &'a Cond,
     // The keys of a driver's rows, or the values of groups, from which such rows can come.
     range: &'a KeyRange,
+    // The units that have an arm of the target, with their old tables, each at its number.
+    units: Vec<Option<FrozenUnit<'a>>>,
 }
 
 /// The driver of a unit, and what each of its rows satisfies from which a row that is sought comes.
@@ -200,13 +243,23 @@ impl<'a> Search<'a> {
         Ok(false)
     }
 
-    /// Whether a granule gives a row of the target. It makes none.
-    fn gives_any(&self, alloc: Global, granule: &Granule) -> Result<bool, Memory>
+    /// The unit of a number with its old tables; none where it has no arm of the target. Takes no memory.
+    fn unit(&self, number: u8) -> Option<&FrozenUnit<'a>>
         requires { IsSearch self.now }
-        ensures { IfOk result (λ any.
-            any ≡ gives self.now.migration.now self.now.target always granule.now) }
+        ensures { IsUnitFor self.now.migration.now self.now.target number
+            (option_map (λ unit. unit.now) result) }
     {
-        gives_row(alloc, self.migration, self.indexes, granule, self.target)
+        self.units.get(number as usize)?.as_ref()
+    }
+
+    /// Whether a unit's granule gives a row of the target. It makes none.
+    fn gives_any(&self, alloc: Global, unit: &FrozenUnit<'_>, place: &Place) -> Result<bool, Memory>
+        requires search { IsSearch self.now }
+        requires unit { IsUnitIn self.now.migration.now unit.now }
+        ensures { IfOk result (λ any. any ≡ gives self.now.migration.now self.now.target always
+            (granule unit.now.number place.now)) }
+    {
+        unit.gives_row(alloc, place, self.target)
     }
 
     /// Whether a granule gives a row that is sought.
@@ -215,10 +268,13 @@ impl<'a> Search<'a> {
         ensures { IfOk result (λ found. found
             ≡ gives self.now.migration.now self.now.target self.now.cond.now granule.now) }
     {
+        let Some(unit) = self.unit(granule.unit) else {
+            return Ok(false);
+        };
         if let Test::Always = self.cond.node() {
-            return self.gives_any(alloc, granule);
+            return self.gives_any(alloc, unit, &granule.place);
         }
-        let rows = rows_of(alloc, self.migration, self.indexes, granule)?;
+        let rows = unit.rows_of(alloc, &granule.place)?;
         self.is_among(alloc, &rows)
     }
 
@@ -629,6 +685,7 @@ pub(crate) fn giving(
         target,
         cond: &cond,
         range: &range,
+        units: units_for(alloc, migration, indexes, target)?,
     };
     search.granules(alloc)
 }
