@@ -32,7 +32,7 @@ abbrev pub IsDriven : Migration → ℕ → Option Frozen → List FrozenArm →
 IsDriven m number (Some driver) arms = GoesByRows m number driver arms
 IsDriven m number None arms = (at : ℕ) → part_of (old_of m) m.plan.migrate (granule number (Row at)) ≡ []
 
--- THE UNIT of its number, in a lawful migration: by the rows of a table, or by values and their index
+-- THE UNIT of its number, in a lawful migration: by the rows of a table, by values with their index, or without either, where no position has rows
 pub record IsFrozenUnit (unit : FrozenUnit) : Type 0 where
   pub lawful : IsLawfulMigration unit.migration.now
   pub driven : IsDriven unit.migration.now unit.number (option_map (λ driver. driver.now) unit.driver) unit.arms.items
@@ -43,7 +43,7 @@ pub record IsFrozenUnit (unit : FrozenUnit) : Type 0 where
 abbrev pub IsRowAt : FrozenUnit → ℕ → List Value → Type 0
 IsRowAt unit at row = option_and_then (λ driver. option_map (λ entry. entry.1) (slice_get driver.now.rows at)) unit.driver ≡ Some row
 
--- one of a migration
+-- such a unit, of this migration
 pub record IsUnitIn (m : Migration) (found : FrozenUnit) : Type 0 where
   pub of : found.migration.now ≡ m
   pub whole : IsFrozenUnit found

@@ -16,15 +16,17 @@ use std::alloc::Global;
 /// granules.
 #[derive(Drop)]
 pub struct FrozenUnit<'a> {
+    /// The migration that it is of, of which contracts speak.
     pub migration: &'a Migration,
+    /// Its number among the units of the plan.
     pub number: u8,
-    // The table whose rows it goes by; none of a unit that goes by values.
+    // The table whose rows it goes by; none where it goes by values.
     pub(crate) driver: Option<&'a Frozen>,
-    // The arms of a unit that goes by rows, in their order.
+    // Its arms in their order where it goes by rows; else none.
     pub(crate) arms: Vec<FrozenArm<'a>>,
-    // The arm of a unit that goes by values.
+    // Its arm where it goes by values; else none.
     pub(crate) valued: Option<FrozenArm<'a>>,
-    // The old rows by these values.
+    // The rows of that arm's tables by their values; else none.
     pub(crate) index: Option<&'a UnitIndex>,
 }
 
@@ -50,7 +52,7 @@ fn arms_of<'a>(
 }
 
 /// The table whose rows a unit goes by, and its arms; none of each where it goes by values, and where
-/// there is no unit of the number.
+/// there is no unit of the number. It compares about log n names for each table.
 fn driven<'a>(
     alloc: Global,
     migration: &'a Migration,
@@ -74,7 +76,7 @@ fn driven<'a>(
 
 impl<'a> FrozenUnit<'a> {
     /// The unit of a number; one that gives no rows where there is none. It compares about log n names
-    /// for each table of its arms.
+    /// for its driver and for each table of its arms, and makes a list of these arms.
     ///
     /// # Errors
     /// Where memory runs out.

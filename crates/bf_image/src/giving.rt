@@ -92,7 +92,7 @@ fn joined_positions<'a>(index: &'a UnitIndex, value: &Key) -> &'a [u32]
 }
 
 impl FrozenUnit<'_> {
-    /// Whether the arms of a unit that goes by rows make a row of a target of a row of its driver.
+    /// Whether the arms of the unit, which goes by rows, make a row of a target of a row of its driver.
     fn gives_of_row(&self, alloc: Global, row: &Row, target: u8) -> Result<bool, Memory>
         requires unit { IsFrozenUnit self.now }
         requires by_rows { IsSome self.now.driver }
@@ -108,7 +108,7 @@ impl FrozenUnit<'_> {
         Ok(false)
     }
 
-    /// Whether a unit gives a row of a target at a position of the table whose rows it goes by.
+    /// Whether the unit gives a row of a target at a position of the table whose rows it goes by.
     fn gives_at(&self, alloc: Global, position: u32, target: u8) -> Result<bool, Memory>
         requires unit { IsFrozenUnit self.now }
         requires there { target < length self.now.migration.now.plan.migrate.targets }
@@ -124,7 +124,7 @@ impl FrozenUnit<'_> {
         }
     }
 
-    /// Whether a unit that goes by values gives a row of a target under a value.
+    /// Whether the unit gives a row of a target under a value: not where it does not go by values.
     fn gives_under(&self, alloc: Global, value: &Key, target: u8) -> Result<bool, Memory>
         requires unit { IsFrozenUnit self.now }
         requires there { target < length self.now.migration.now.plan.migrate.targets }

@@ -96,7 +96,7 @@ fn join_under<'a>(
 }
 
 impl FrozenUnit<'_> {
-    /// Adds what the arms of a unit that goes by rows make of the row at a position of its driver.
+    /// Adds what the arms of the unit, which goes by rows, make of a row of its driver.
     fn add_rows_of_row(
         &self,
         alloc: Global,
@@ -115,7 +115,7 @@ impl FrozenUnit<'_> {
         Ok(())
     }
 
-    /// Adds what a unit has at a position of the table whose rows it goes by: nothing where there is no
+    /// Adds what the unit has at a position of the table whose rows it goes by: nothing where there is no
     /// such row.
     fn add_rows_at(
         &self,
@@ -136,7 +136,7 @@ impl FrozenUnit<'_> {
         }
     }
 
-    /// Adds what a unit that goes by values has under a value.
+    /// Adds what the unit has under a value: nothing where it does not go by values.
     fn add_rows_under(
         &self,
         alloc: Global,
@@ -159,7 +159,7 @@ impl FrozenUnit<'_> {
         add_rows(rows, arm.target, made)
     }
 
-    /// Adds the rows of the new tables that come from the unit's granule at a place behind others, each
+    /// Adds behind others the rows of the new tables that come from the unit's granule at a place, each
     /// with the number of its target: none where the unit has no such granule. It costs what the granule
     /// has, and about log n compares of keys for each old row of it. Of a granule that goes by a row no
     /// list of its own is made.
@@ -199,7 +199,7 @@ impl FrozenUnit<'_> {
 }
 
 /// The rows of the new tables that come from a granule, each with the number of its target: none of a
-/// granule that is not the migration's. It costs what `FrozenUnit::of` and its `rows_of` do.
+/// granule that is not the migration's. It costs what `FrozenUnit::of` and `FrozenUnit::rows_of` do.
 ///
 /// # Errors
 /// Where memory runs out.

@@ -61,7 +61,7 @@ is_of_group other = true
 abbrev pub StepsByGroup : LazyState → List ℕ → LazyState → Type 0
 StepsByGroup lazy payload next = (steps : StepsTo lazy payload next) × (is_of_group steps.change ≡ true)
 
--- and a record of such a change does, which has so many bytes
+-- a record of so many bytes makes the one lazy state of the other by such a change
 abbrev pub HasOwnRecordOf : LazyState → LazyState → ℕ → Type 0
 HasOwnRecordOf lazy next size = (payload : List ℕ) × StepsByGroup lazy payload next × (size ≡ length payload)
 

@@ -79,7 +79,8 @@ fn put_row(
     }
 }
 
-/// The unit of a number: the last one that was looked up, if it has that.
+/// The unit of a number: the last one, if it has that number, and else looked up, which costs what
+/// [`FrozenUnit::of`] does.
 fn unit_of<'a>(
     alloc: Global,
     migration: &'a Migration,

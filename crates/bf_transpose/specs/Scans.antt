@@ -64,7 +64,7 @@ abbrev pub IsUnitFor : Migration → ℕ → ℕ → Option FrozenUnit → Type 
 IsUnitFor m target number (Some unit) = IsUnitIn m unit × (unit.number ≡ number)
 IsUnitFor m target number None = has_arm m target number ≡ false
 
--- of some units, each at its number
+-- at each number of a list the unit stands so
 abbrev pub AreUnitsFor : Migration → ℕ → List (Option FrozenUnit) → Type 0
 AreUnitsFor m target units = (number : ℕ) → IsUnitFor m target number (option_and_then (λ unit. unit) (slice_get units number))
 

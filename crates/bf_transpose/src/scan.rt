@@ -167,8 +167,8 @@ fn unit_for<'a>(
     Ok(Some(FrozenUnit::of(alloc, migration, indexes, number)?))
 }
 
-/// The units of a migration that have an arm of a target, with their old tables, each at its number. It
-/// compares about log n names for each table of their arms.
+/// The units of a migration that have an arm of a target, with their old tables, each at its number, and
+/// `None` for the others. It compares about log n names for each table of their arms.
 fn units_for<'a>(
     alloc: Global,
     migration: &'a Migration,
@@ -646,7 +646,7 @@ impl<'a> Search<'a> {
 
 /// The granules, in the order of unit and place, that give a row of a target which satisfies a
 /// condition, as far as that is known without its totals. It computes the parts of the granules of
-/// units that have an arm of the target, or only finds out whether they have a row of it where there
+/// units that have an arm of the target, whose old tables it looks up by name once, or only finds out whether they have a row of it where there
 /// is no condition, and not even that where the one arm of the target in a unit makes a row of each
 /// row of FROM: it has no JOIN, and no condition. Of a unit that goes by rows those are
 /// only the ones whose rows have keys in the range that the condition leaves, which are found by about
