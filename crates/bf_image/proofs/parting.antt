@@ -2,10 +2,12 @@
 pub mod Behind
 pub mod Blocks
 pub mod DriverRows
+pub mod FoundArms
 pub mod MetRows
 pub mod OldTables
 pub mod Partners
 pub mod UnitParts
 pub mod UnitRows
+pub mod UnitTables
 pub mod ValueParts
 pub mod ValueRows
