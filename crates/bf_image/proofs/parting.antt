@@ -3,6 +3,7 @@ pub mod Behind
 pub mod Blocks
 pub mod DriverRows
 pub mod FoundArms
+pub mod FrozenValues
 pub mod MetRows
 pub mod OldTables
 pub mod Partners
