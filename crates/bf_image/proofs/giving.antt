@@ -1,3 +1,5 @@
 -- Whether a granule gives a row of a target.
 pub mod DriverRows
+pub mod FoundArms
+pub mod FrozenRows
 pub mod ValueRows

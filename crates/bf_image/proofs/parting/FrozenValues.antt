@@ -1,5 +1,5 @@
 -- A frozen unit that goes by values: its arm and its index.
-use Rattle.std.proofs.Common.{◌≡◌, ℕ, Bor, Option, Some, None, sym, ap, ◌∙◌, subst}
+use Rattle.std.proofs.Common.{◌≡◌, Bor, Option, Some, None, sym, ap, ◌∙◌, subst}
 use Rattle.std.specs.Prelude.{option_map}
 use Rattle.bf_sql.specs.migrations.Granules.{values_unit}
 use Rattle.bf_image.specs.BoundArms.{IsOfUnit}

@@ -15,7 +15,8 @@ rows_made-requires-clause-one c =
     let is = its_arm unit c.requires bound c.in-Some.is in
     let indexed = its_index unit c.requires bound c.in-Some.is c.in-Some-index.index c.in-Some-index.is in
     let from = map (λ row. row.now) c.deref.result.now in
-    let from_is : from ≡ from_with (old_of m) is.arm (arm_kind (old_of m) is.arm) c.args.value.now = ap (map (λ row. row.now)) c.deref.ensures.value ∙ c.in_ok-from.ensures m bound.target is.arm is.target is.frozen indexed in
+    let from_is : from ≡ from_with (old_of m) is.arm (arm_kind (old_of m) is.arm) c.args.value.now =
+    ap (map (λ row. row.now)) c.deref.ensures.value ∙ c.in_ok-from.ensures m bound.target is.arm is.target is.frozen indexed in
     one_of_bound m unit.number c.requires.lawful bound is c.args.value.now from [] from_is
 
 pub rows_made-requires-clause-can : goal.rows_made-requires-clause-can
@@ -26,7 +27,8 @@ rows_made-requires-clause-can c =
     let is = its_arm unit c.requires bound c.in-Some.is in
     let indexed = its_index unit c.requires bound c.in-Some.is c.in-Some-index.index c.in-Some-index.is in
     let from = map (λ row. row.now) c.deref.result.now in
-    let from_is : from ≡ from_with (old_of m) is.arm (arm_kind (old_of m) is.arm) c.args.value.now = ap (map (λ row. row.now)) c.deref.ensures.value ∙ c.in_ok-from.ensures m bound.target is.arm is.target is.frozen indexed in
+    let from_is : from ≡ from_with (old_of m) is.arm (arm_kind (old_of m) is.arm) c.args.value.now =
+    ap (map (λ row. row.now)) c.deref.ensures.value ∙ c.in_ok-from.ensures m bound.target is.arm is.target is.frozen indexed in
     bound_can_make m unit.number c.requires.lawful bound is c.args.value.now from (map (λ row. row.now) c.deref-2.result.now) from_is
 
 pub returns : goal.returns
@@ -38,8 +40,12 @@ returns c =
     let indexed = its_index unit c.requires bound c.in-Some.is c.in-Some-index.index c.in-Some-index.is in
     let from = map (λ row. row.now) c.deref.result.now in
     let join = map (λ row. row.now) c.deref-2.result.now in
-    let from_is : from ≡ from_with (old_of m) is.arm (arm_kind (old_of m) is.arm) c.args.value.now = ap (map (λ row. row.now)) c.deref.ensures.value ∙ c.in_ok-from.ensures m bound.target is.arm is.target is.frozen indexed in
-    let join_is : join ≡ join_with (old_of m) is.arm c.args.value.now = ap (map (λ row. row.now)) c.deref-2.ensures.value ∙ c.in_ok-join.ensures m bound.target is.arm is.target is.frozen indexed in
+    let from_is : from ≡ from_with (old_of m) is.arm (arm_kind (old_of m) is.arm) c.args.value.now =
+    ap (map (λ row. row.now)) c.deref.ensures.value ∙ c.in_ok-from.ensures m bound.target is.arm is.target is.frozen indexed in
+    let join_is : join ≡ join_with (old_of m) is.arm c.args.value.now =
+    ap (map (λ row. row.now)) c.deref-2.ensures.value ∙ c.in_ok-join.ensures m bound.target is.arm is.target is.frozen indexed in
     IfOk-weaker c.add_rows.result _ _
-    (λ done rows_is. part_made m unit.number c.requires.lawful bound is c.args.value.now from join from_is c.args.rows.now.items c.add_rows.new.rows.items c.in_ok-made.made.items join_is c.in_ok-made.ensures rows_is)
+    (λ done rows_is.
+    part_made m unit.number c.requires.lawful bound is c.args.value.now from join from_is c.args.rows.now.items
+    c.add_rows.new.rows.items c.in_ok-made.made.items join_is c.in_ok-made.ensures rows_is)
     c.add_rows.ensures

@@ -1,4 +1,4 @@
-use Rattle.std.proofs.Common.{◌≡◌, map, sym, ap, ap₂, ◌∙◌}
+use Rattle.std.proofs.Common.{map, sym, ap, ap₂, ◌∙◌}
 use Rattle.std.specs.Prelude.{option_map}
 use Rattle.std.proofs.lemmas.Result.{IfOk-weaker}
 use Rattle.bf_heap.specs.Heaps.{Entry}
@@ -13,7 +13,9 @@ use Rattle.bf_image.proofs.frozen_unit.FrozenUnit.gives_under.Goals as goal
 pub returns-then-arm-target : goal.returns-then-arm-target
 returns-then-arm-target c =
     let unit = c.args.self.now in
-    sym (gives_of_other unit.migration.now c.requires.unit.lawful unit.number c.in-Some.arm (its_arm unit c.requires.unit c.in-Some.arm c.in-Some.is) c.args.target c.requires.there c.args.value.now c.if-arm-target.true)
+    let bound = c.in-Some.arm in
+    let is = its_arm unit c.requires.unit bound c.in-Some.is in
+    sym (gives_of_other unit.migration.now c.requires.unit.lawful unit.number bound is c.args.target c.requires.there c.args.value.now c.if-arm-target.true)
 
 -- a unit by values has an index
 pub returns-in_default-index : goal.returns-in_default-index
@@ -32,6 +34,7 @@ returns c =
     (λ gives made.
     made ∙ ap₂ (makes_any bound.placed.now)
     (ap (rows_at (map (λ (e : Entry). e.1) bound.from.now.rows)) c.positions-from.ensures ∙ from_rows_with m bound.target is.arm bound is.frozen is.target index indexed value)
-    (ap (rows_at (map (λ (e : Entry). e.1) (entries_of (option_map (λ j. j.now) bound.join)))) c.joined_positions-join.ensures ∙ joined_rows_with m bound.target is.arm bound is.frozen is.target index indexed value)
+    (ap (rows_at (map (λ (e : Entry). e.1) (entries_of (option_map (λ j. j.now) bound.join)))) c.joined_positions-join.ensures
+    ∙ joined_rows_with m bound.target is.arm bound is.frozen is.target index indexed value)
     ∙ sym (gives_of_own m c.requires.unit.lawful unit.number bound is c.args.target c.requires.there value c.if-arm-target.false))
     c.makes_any_among.ensures
