@@ -81,9 +81,9 @@ module _ (unit : FrozenUnit) (whole : IsFrozenUnit unit) (has : HasDriver unit) 
       -- and one of the target what it makes of the driver's row
       module _ (any : Bool)
           (from : (m : Migration) (target : ℕ) (arm : Arm) → IsLawfulMigration m → IsFrozenArm m target arm bound → arm_kind (old_of m) arm ≡ ByFrom
-              → any ≡ has_any (arm_rows (old_of m) arm (row ∷ []) (join_rows_met (old_of m) arm row)))
+          → any ≡ has_any (arm_rows (old_of m) arm (row ∷ []) (join_rows_met (old_of m) arm row)))
           (join : (m : Migration) (target : ℕ) (arm : Arm) → IsLawfulMigration m → IsFrozenArm m target arm bound → arm_kind (old_of m) arm ≡ ByJoin
-              → any ≡ has_any (arm_rows (old_of m) arm (from_rows_met (old_of m) arm row) (row ∷ []))) where
+          → any ≡ has_any (arm_rows (old_of m) arm (from_rows_met (old_of m) arm row) (row ∷ []))) where
         bound_as : (arm : Arm) → arm_at m here.0 here.1 ≡ Some arm → IsFrozenArm m here.0 arm bound
         bound_as arm at_arm = subst (λ o. IsFound m here.0 o (Some bound)) at_arm found
 
