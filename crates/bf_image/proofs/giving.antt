@@ -1,5 +1,4 @@
 -- Whether a granule gives a row of a target.
 pub mod DriverRows
-pub mod FoundArms
 pub mod FrozenRows
 pub mod ValueRows

@@ -44,8 +44,9 @@ fn arms_of<'a>(
 {
     let mut arms = Vec::with_capacity(alloc, unit.arms.len())?;
     for (target, number) in unit.arms.as_slice() {
-        if let Some(arm) = migration.arm(*target, *number) {
-            arms.push(arm)?;
+        match migration.arm(*target, *number) {
+            Some(arm) => arms.push(arm)?,
+            None => unreachable!(),
         }
     }
     Ok(arms)

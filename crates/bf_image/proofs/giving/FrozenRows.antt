@@ -20,7 +20,8 @@ use Rattle.bf_image.specs.declared.arms.FrozenArm.{FrozenArm}
 use Rattle.bf_image.specs.declared.frozen_unit.FrozenUnit.{FrozenUnit}
 use Rattle.bf_image.specs.declared.migration.Migration.{Migration}
 use Rattle.bf_image.proofs.giving.DriverRows.{gives_by, gives_here, none_here, none_of_other, none_given}
-use Rattle.bf_image.proofs.giving.FoundArms.{HasDriver, arms_planned, as_many, found_at}
+use Rattle.bf_image.proofs.parting.FoundArms.{as_many, found_at}
+use Rattle.bf_image.proofs.parting.UnitTables.{HasDriver, arms_planned}
 use Rattle.bf_image.proofs.parting.DriverRows.{part_past}
 use Rattle.bf_image.proofs.parting.OldTables.{row_at_found}
 use Rattle.bf_image.proofs.parting.UnitParts.{part, part_by_rows}

@@ -1,5 +1,5 @@
 use Rattle.std.proofs.Common.{arith}
-use Rattle.bf_image.proofs.giving.FoundArms.{has_driver, row_of_unit}
+use Rattle.bf_image.proofs.parting.UnitTables.{has_driver, row_of_unit}
 use Rattle.bf_image.proofs.giving.FrozenRows.{none_at_all, none_made, none_of_others, unit_gives}
 use Rattle.bf_image.proofs.frozen_unit.FrozenUnit.gives_of_row.Goals as goal
 use Rattle.bf_image.proofs.frozen_unit.FrozenUnit.gives_of_row.Goals.{else-arm-target-via-then-arm-target+in_ok-gives_of_driver+else-branch, else-arm-target-via-else-arm-target}

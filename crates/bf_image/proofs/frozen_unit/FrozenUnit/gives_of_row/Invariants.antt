@@ -4,7 +4,7 @@ use Rattle.std.specs.List.{list_any}
 use Rattle.bf_sql.specs.Database.{table_rows}
 use Rattle.bf_image.specs.Migrations.{old_of}
 use Rattle.bf_image.proofs.giving.DriverRows.{gives_by}
-use Rattle.bf_image.proofs.giving.FoundArms.{HasDriver}
+use Rattle.bf_image.proofs.parting.UnitTables.{HasDriver}
 use Rattle.bf_image.proofs.frozen_unit.FrozenUnit.gives_of_row.Given as goal
 
 -- no arm so far makes such a row
