@@ -12,6 +12,7 @@ mod Grouped
 pub mod Inserted
 pub mod Keyed
 mod Listed
+mod Looked
 mod Merging
 pub mod Named
 pub mod Numbered

@@ -148,12 +148,16 @@ module _ (m : Migration) (lawful : IsLawfulMigration m) (target : ℕ) (there : 
     none_here None is none place = ap (list_any is_named) (part_planned m unit place lawful None is)
     none_here (Some planned) is none place = none_of_unit planned is none planned.kind refl place
 
-    -- a unit that has no arm of the target has no granule that gives such a row
+    -- a unit that has no arm of the target gives no such row at any place
+    pub none_at_place : has_arm m target unit ≡ false → (place : Place) → gives m target wanted (granule unit place) ≡ false
+    none_at_place none place = none_gives (granule unit place) (none_here (slice_get m.plan.units unit) refl none place)
+
+    -- so it has no granule that gives one
     none_without_arm : has_arm m target unit ≡ false → (places : List Place) → filter (gives m target wanted) (map (granule unit) places) ≡ []
     none_without_arm none [] = refl
     none_without_arm none (place ∷ places) =
         ap (λ b. cond b (granule unit place ∷ filter (gives m target wanted) (map (granule unit) places)) (filter (gives m target wanted) (map (granule unit) places)))
-        (none_gives (granule unit place) (none_here (slice_get m.plan.units unit) refl none place))
+        (none_at_place none place)
         ∙ none_without_arm none places
 
     pub none_in_unit : has_arm m target unit ≡ false → [] ≡ filter (gives m target wanted) (granules_in m unit)

@@ -660,10 +660,10 @@ impl<'a> Search<'a> {
 ///
 /// # Errors
 /// Where memory runs out.
-pub(crate) fn giving(
+pub(crate) fn giving<'a>(
     alloc: Global,
-    migration: &Migration,
-    indexes: &ValueIndexes,
+    migration: &'a Migration,
+    indexes: &'a ValueIndexes,
     target: u8,
     cond: &Cond,
 ) -> Result<Vec<Granule>, Memory>
@@ -679,13 +679,14 @@ pub(crate) fn giving(
     let cond = without_totals(alloc, cond, &totals)?;
     let made = table_made(migration, target);
     let range = range_behind(alloc, made, written.arms.len() > 1, &cond)?;
+    let units = units_for(alloc, migration, indexes, target)?;
     let search = Search {
         migration,
         indexes,
         target,
         cond: &cond,
         range: &range,
-        units: units_for(alloc, migration, indexes, target)?,
+        units,
     };
     search.granules(alloc)
 }
