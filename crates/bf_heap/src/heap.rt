@@ -21,9 +21,10 @@ use std::marker::Model;
 /// below 2 ^ 32. Contracts see the rows in the order of their keys, and the room.
 ///
 /// The rows stand in pages of 1 to 64, in the order of the keys. A look-up compares about log n
-/// keys; a put or a removal near the last one, as where keys rise, at most eleven. A put of a new key moves at most 64 rows, and where its page is full and so is split, the
-/// places of the pages behind; a removal does so where a page loses its last row. `reserve` makes
-/// the pages of later rows, and a page that has lost its last row is kept for them.
+/// keys; a put or a removal near the last one, as where keys rise, at most eleven. A put of a new
+/// key moves at most 64 rows, and where its page is full and so is split, the places of the pages
+/// behind; a removal does so where a page loses its last row. `reserve` makes the pages of later
+/// rows, and a page that has lost its last row is kept for them.
 #[derive(Drop)]
 pub struct Heap {
     alloc: Global,

@@ -125,9 +125,10 @@ pub fn a_statement_asks_for_what_it_is_prepared_to()
         → prepared_of db in_block s ≡ Some bound → footprint_in db in_block s ≡ footprint_of bound }
 {}
 
-/// Sessions in sequence run in order. Nothing has happened in a new machine, and where its store has no migration yet and no
-/// log ends groups it is in sequence; and once each session of one that is in sequence has ended, its transcripts and history are those of a
-/// run in the order of the text, where its store has moved what the statements of the history needed, and no more.
+/// Sessions in sequence run in order. Nothing has happened in a new machine, and where its store
+/// has no migration yet and no log ends groups it is in sequence; and once each session of one that
+/// is in sequence has ended, its transcripts and history are those of a run in the order of the
+/// text, where its store has moved what the statements of the history needed, and no more.
 pub fn sessions_in_sequence_run_in_order()
     ensures new { (start : Database) (store : Store) (script : Script) (retries : ℕ)
         → IsTrue (phases_rise_from 0 script.sessions) → store.lazy.last ≡ None

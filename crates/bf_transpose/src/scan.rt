@@ -646,17 +646,18 @@ impl<'a> Search<'a> {
 
 /// The granules, in the order of unit and place, that give a row of a target which satisfies a
 /// condition, as far as that is known without its totals. It computes the parts of the granules of
-/// units that have an arm of the target, whose old tables it looks up by name once, or only finds out whether they have a row of it where there
-/// is no condition, and not even that where the one arm of the target in a unit makes a row of each
-/// row of FROM: it has no JOIN, and no condition. Of a unit that goes by rows those are
-/// only the ones whose rows have keys in the range that the condition leaves, which are found by about
-/// log n compares, and where the condition fixes columns that are copied from the old table, only the
-/// ones whose rows have these values: a row that has others costs its look-up and the compares. Where
-/// an index of the old table serves what the condition says of those columns, and has more columns
-/// than this fixes of the front of its key, they are only the rows that it finds, each by about log n
-/// compares of pairs and of keys. A target with several arms in a unit keeps to the range there. Of a
-/// unit of groups those are only the values in the range, which are found by about log n compares; the
-/// values of a unit of joins are gone through.
+/// units that have an arm of the target, whose old tables it looks up by name once. Where there is
+/// no condition it only finds out whether they have a row of the target, and not even that where the
+/// one arm of the target in a unit makes a row of each row of FROM: it has no JOIN, and no
+/// condition. Of a unit that goes by rows those are only the ones whose rows have keys in the range
+/// that the condition leaves, which are found by about log n compares, and where the condition
+/// fixes columns that are copied from the old table, only the ones whose rows have these values: a
+/// row that has others costs its look-up and the compares. Where an index of the old table serves
+/// what the condition says of those columns, and has more columns than this fixes of the front of
+/// its key, they are only the rows that it finds, each by about log n compares of pairs and of
+/// keys. A target with several arms in a unit keeps to the range there. Of a unit of groups those
+/// are only the values in the range, which are found by about log n compares; the values of a unit
+/// of joins are gone through.
 ///
 /// # Errors
 /// Where memory runs out.
