@@ -52,7 +52,9 @@ impl Model for Eager {
 /// # Errors
 /// Where 2 ^ 64 groups would have committed.
 fn commits_behind(commits: u64, committed: bool) -> Result<u64, Memory>
-    ensures { IfOk result (λ n. n ≡ commits_with commits (outcome_of committed)) }
+    ensures ok { IfOk result (λ n. n ≡ commits_with commits (outcome_of committed)) }
+    ensures err { OnErr result
+        (commits_with commits (outcome_of committed) ≡ 18446744073709551616) }
 {
     if committed {
         commits.checked_add(1).ok_or(Memory)

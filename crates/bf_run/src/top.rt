@@ -78,8 +78,7 @@ fn serve<N: Opened, R: Wait>(
     let sweep = machine.sweep();
     let parts = machine.into_parts();
     let text = report(alloc, &parts.transcripts, &parts.history, None, &sweep);
-    // The program ends behind its report, and its memory goes with it: to free the tables row by row and
-    // the script word by word would take a fifth of a run.
+    // The program ends behind its report, and its memory goes with it.
     forget(parts);
     text
 }

@@ -250,7 +250,7 @@ pub(crate) fn move_granules(
 }
 
 /// Moves granules of a migration, which differ and have not moved, by one record: their rows are
-/// gathered in one list, sorted table by table, and put into the live tables with one reserve for each.
+/// gathered in one list, parted table by table, and put into the live tables with one reserve for each.
 /// It costs what the granules have, and a look-up for each row and each granule; and it looks at each
 /// anchor from the next one on up to the first whose granule has not moved.
 ///

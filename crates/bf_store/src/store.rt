@@ -180,7 +180,9 @@ impl Store {
         Ok(records)
     }
 
-    /// Adds an index rule. It compares about log n names. No index is built.
+    /// Adds an index rule, and builds its index over the rows that the table has. It compares about
+    /// log n names, and takes time n log n in those rows; each row that moves into the table later is
+    /// added then.
     ///
     /// # Errors
     /// Where memory runs out, or 2 ^ 64 changes were made. The store is as it was then.
@@ -230,7 +232,9 @@ impl Store {
     /// # Errors
     /// Where 2 ^ 32 migrations were made.
     fn next_migration(&self) -> Result<u32, Memory>
-        ensures { IfOk result (λ number. number ≡ migrations_so_far self.now.lazy.last + 1) }
+        ensures ok { IfOk result (λ number.
+            number ≡ migrations_so_far self.now.lazy.last + 1) }
+        ensures err { OnErr result (4294967296 ≡ migrations_so_far self.now.lazy.last + 1) }
     {
         let so_far = match &self.last {
             Some(last) => last.number,
