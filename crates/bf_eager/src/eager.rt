@@ -2,7 +2,7 @@
 
 ghost use Rattle.std.specs.List.{AllByRecursion, list_all};
 ghost use Rattle.std.specs.Option.{option_map};
-ghost use Rattle.std.specs.Prelude.{◌≡◌, [], ◌∷◌, IfOk, IsTrue, OnErr, false, length, true};
+ghost use Rattle.std.specs.Prelude.{◌≡◌, ◌≤◌, [], ◌∷◌, IfOk, IsTrue, OnErr, false, length, true};
 ghost use Rattle.bf_tree.specs.Limits.{HasNarrowTables, IsNarrowIfMigrate, IsNarrowMigrate, is_narrow_statement};
 ghost use Rattle.bf_sql.specs.Bound.{catalog_of, changes_schema};
 ghost use Rattle.bf_sql.specs.Database.{IsDatabase, empty_database, stored_at};
@@ -54,7 +54,7 @@ impl Model for Eager {
 fn commits_behind(commits: u64, committed: bool) -> Result<u64, Memory>
     ensures ok { IfOk result (λ n. n ≡ commits_with commits (outcome_of committed)) }
     ensures err { OnErr result
-        (commits_with commits (outcome_of committed) ≡ 18446744073709551616) }
+        (18446744073709551616 ≤ commits_with commits (outcome_of committed)) }
 {
     if committed {
         commits.checked_add(1).ok_or(Memory)

@@ -1,6 +1,6 @@
 //! The lazy store.
 
-ghost use Rattle.std.specs.Prelude.{◌≡◌, ◌+◌, ◌∷◌, [], IfOk, None, OnErr, OnOk, map};
+ghost use Rattle.std.specs.Prelude.{◌≡◌, ◌+◌, ◌≤◌, ◌∷◌, [], IfOk, None, OnErr, OnOk, map};
 ghost use Rattle.std.specs.Option.{option_map};
 ghost use Rattle.bf_tree.specs.Limits.{HasNarrowTables, IsNarrowMigrate, is_narrow};
 ghost use Rattle.std.specs.Prelude.{IsTrue};
@@ -234,7 +234,7 @@ impl Store {
     fn next_migration(&self) -> Result<u32, Memory>
         ensures ok { IfOk result (λ number.
             number ≡ migrations_so_far self.now.lazy.last + 1) }
-        ensures err { OnErr result (4294967296 ≡ migrations_so_far self.now.lazy.last + 1) }
+        ensures err { OnErr result (4294967296 ≤ migrations_so_far self.now.lazy.last + 1) }
     {
         let so_far = match &self.last {
             Some(last) => last.number,
