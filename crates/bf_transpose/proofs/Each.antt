@@ -40,7 +40,7 @@ use Rattle.bf_transpose.proofs.Outside.{anchors_of_rows}
 use Rattle.bf_transpose.proofs.Steps.{row_more, row_tested}
 
 -- a condition whose conjuncts are true of each row is
-always_holds : (read : ℕ → Value) (c : Cond ℕ) → is_always c ≡ true → holds_on read c ≡ true
+pub always_holds : (read : ℕ → Value) (c : Cond ℕ) → is_always c ≡ true → holds_on read c ≡ true
 always_holds read always is = refl
 always_holds read (both c d) is = let parts = and_parts (is_always c) (is_always d) is in and_from _ _ (always_holds read c parts.0) (always_holds read d parts.1)
 always_holds read c is = absurd cc

@@ -28,7 +28,7 @@ use bf_heap::KeyRange;
 use bf_image::value_indexes::UnitIndex;
 use bf_image::{ByValue, Frozen, FrozenUnit, Migration, ValueIndexes, positions};
 use bf_query::by_index::{index_for, keys_by_index};
-use bf_tree::{Cond, Test, Unit, holds};
+use bf_tree::{Cond, Unit, holds};
 use std::alloc::Global;
 
 /// Adds the granules of a unit at the first positions, as many as are told.
@@ -271,7 +271,7 @@ impl<'a> Search<'a> {
         let Some(unit) = self.unit(granule.unit) else {
             return Ok(false);
         };
-        if let Test::Always = self.cond.node() {
+        if is_always(self.cond) {
             return self.gives_any(alloc, unit, &granule.place);
         }
         let rows = unit.rows_of(alloc, &granule.place)?;
