@@ -46,7 +46,7 @@ always_holds read (both c d) is = let parts = and_parts (is_always c) (is_always
 always_holds read c is = absurd cc
 
 -- what passes a test is of those that do
-each_passes : {X : Type 0} (P : X → Type 0) (test : X → Bool) (xs : List X) → AllByRecursion P xs → AllByRecursion (λ x. P x × (test x ≡ true)) (filter test xs)
+pub each_passes : {X : Type 0} (P : X → Type 0) (test : X → Bool) (xs : List X) → AllByRecursion P xs → AllByRecursion (λ x. P x × (test x ≡ true)) (filter test xs)
 each_passes P test [] all = tt
 each_passes P test (x ∷ xs) all = of (test x) refl (each_passes P test xs all.1)
   where
