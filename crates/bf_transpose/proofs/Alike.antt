@@ -1,16 +1,18 @@
 -- A condition that holds of the same rows picks the same granules.
-use Rattle.std.proofs.Common.{◌≡◌, ℕ, Bool, ◌||◌, cond, List, [], ◌∷◌, filter, refl, ap₂}
+use Rattle.std.proofs.Common.{◌≡◌, ℕ, Bool, true, ◌||◌, cond, List, [], ◌∷◌, filter, refl, sym, ap₂}
 use Rattle.std.specs.List.{list_any}
 use Rattle.bf_base.specs.declared.granule.Granule.{Granule}
 use Rattle.bf_base.specs.declared.value.Value.{Value}
 use Rattle.bf_base.specs.Tables.{cell}
 use Rattle.bf_tree.specs.Evaluation.{holds_on}
-use Rattle.bf_tree.specs.Trees.{Cond}
+use Rattle.bf_tree.specs.Trees.{Cond, always}
 use Rattle.bf_sql.specs.migrations.Granules.{granules_of, part_in}
 use Rattle.bf_sql.specs.migrations.Need.{may_satisfy}
 use Rattle.bf_image.specs.Migrations.{old_of, target_at}
 use Rattle.bf_image.specs.declared.migration.Migration.{Migration}
 use Rattle.bf_transpose.specs.Scans.{gives}
+use Rattle.bf_transpose.specs.Transposed.{is_always}
+use Rattle.bf_transpose.proofs.Each.{always_holds}
 
 any_alike : {X : Type 0} (p q : X → Bool) → ((x : X) → p x ≡ q x) → (xs : List X) → list_any p xs ≡ list_any q xs
 any_alike p q same [] = refl
@@ -28,3 +30,8 @@ given_alike m target part whole same =
     filter_alike (gives m target part) test
     (λ g. any_alike (λ row. holds_on (cell row) part) (may_satisfy whole (target_at m target)) same (part_in (old_of m) m.plan.migrate (target_at m target).name g))
     (granules_of (old_of m) m.plan.migrate)
+
+-- one that is true of each row picks any
+pub given_any : (m : Migration) (target : ℕ) (wanted : Cond ℕ) → is_always wanted ≡ true → (g : Granule) → gives m target always g ≡ gives m target wanted g
+given_any m target wanted is g =
+    any_alike (λ row. holds_on (cell row) always) (λ row. holds_on (cell row) wanted) (λ row. sym (always_holds (cell row) wanted is)) (part_in (old_of m) m.plan.migrate (target_at m target).name g)

@@ -40,13 +40,13 @@ use Rattle.bf_transpose.proofs.Outside.{anchors_of_rows}
 use Rattle.bf_transpose.proofs.Steps.{row_more, row_tested}
 
 -- a condition whose conjuncts are true of each row is
-always_holds : (read : ℕ → Value) (c : Cond ℕ) → is_always c ≡ true → holds_on read c ≡ true
+pub always_holds : (read : ℕ → Value) (c : Cond ℕ) → is_always c ≡ true → holds_on read c ≡ true
 always_holds read always is = refl
 always_holds read (both c d) is = let parts = and_parts (is_always c) (is_always d) is in and_from _ _ (always_holds read c parts.0) (always_holds read d parts.1)
 always_holds read c is = absurd cc
 
 -- what passes a test is of those that do
-each_passes : {X : Type 0} (P : X → Type 0) (test : X → Bool) (xs : List X) → AllByRecursion P xs → AllByRecursion (λ x. P x × (test x ≡ true)) (filter test xs)
+pub each_passes : {X : Type 0} (P : X → Type 0) (test : X → Bool) (xs : List X) → AllByRecursion P xs → AllByRecursion (λ x. P x × (test x ≡ true)) (filter test xs)
 each_passes P test [] all = tt
 each_passes P test (x ∷ xs) all = of (test x) refl (each_passes P test xs all.1)
   where

@@ -1,4 +1,4 @@
--- Groups whose values are outside the range give nothing: a group's row has its value for its key.
+-- The value of a group that gives what is sought is in the range: a group's row has its value for its key.
 use Rattle.std.proofs.Common.{◌≡◌, ℕ, zero, suc, ◌<◌, ◌≤◌, Bool, true, false, not, ◌&&◌, ◌||◌, List, [], ◌∷◌, drop, length, map, Option, Some, None, is_some, slice_get, take, if◌then◌else◌, refl, sym, ap, subst, ◌∙◌, inl, inr, arith}
 use Rattle.std.specs.Prelude.{nat_lt}
 use Rattle.std.specs.List.{Contains, list_all}
@@ -132,8 +132,8 @@ module _ (m : Migration) (lawful : IsLawfulMigration m) (target : ℕ) (there : 
       let contained : Contains q.targets t = (target, there, get_or_default q.targets target t _ there) in
       arm_alone old t.arms here.arm (and_parts _ _ (key_there old t (target_unobjected old q lawful.lawful t contained))).1 within among.by_values
 
-  -- the value of a group that gives what is sought is in the range
-  value_within : (at : ℕ) (entry : Valued) → slice_get index.from at ≡ Some entry → gives m target wanted (granule unit (Group (value_of entry))) ≡ true → is_within (range_of m target wanted) (value_of entry) ≡ true
+  -- so the value of a group that gives what is sought is in the range
+  pub value_within : (at : ℕ) (entry : Valued) → slice_get index.from at ≡ Some entry → gives m target wanted (granule unit (Group (value_of entry))) ≡ true → is_within (range_of m target wanted) (value_of entry) ≡ true
   value_within at entry is given =
       let v = value_of entry in
       let table = target_table old t in
@@ -144,28 +144,3 @@ module _ (m : Migration) (lawful : IsLawfulMigration m) (target : ℕ) (there : 
       key_behind is_tagged table row
       ∙ (ap (λ (b : Bool). if b then drop 1 (key_of table row) else key_of table row) (untagged found.0) ∙ sym found.1) in
       ap (is_within (range_of m target wanted)) (sym key_is) ∙ key_within (with_key_behind is_tagged table) wanted row holds
-
-  value_fails : (at : ℕ) (entry : Valued) → slice_get index.from at ≡ Some entry → is_within (range_of m target wanted) (value_of entry) ≡ false → gives m target wanted (granule unit (Group (value_of entry))) ≡ false
-  value_fails at entry is outside = elim (cases_Bool (gives m target wanted (granule unit (Group (value_of entry))))) [
-    | inl given ↦ absurd (false≢true (sym outside ∙ value_within at entry is given))
-    | inr none ↦ none
-  ]
-
-  -- so the groups before it and behind it give nothing
-  pub no_group_before : (n : ℕ) → list_all (λ entry. is_before (range_of m target wanted).low (value_of entry)) (take n index.from) ≡ true → (at : ℕ) (entry : Valued) → slice_get index.from at ≡ Some entry → at < n
-      → gives m target wanted (granule unit (Group (value_of entry))) ≡ false
-  no_group_before n before at entry is less =
-      let range = range_of m target wanted in
-      let passed = passed_below (is_before range.low) index.from n at entry before (omega (arith, less)) is in
-      value_fails at entry is (ap (λ b. not b && not (is_behind range.high (value_of entry))) passed)
-
-  pub no_group_behind : (n : ℕ) → list_all (λ entry. is_behind (range_of m target wanted).high (value_of entry)) (drop n index.from) ≡ true → (at : ℕ) (entry : Valued) → slice_get index.from at ≡ Some entry → n ≤ at
-      → gives m target wanted (granule unit (Group (value_of entry))) ≡ false
-  no_group_behind n behind at entry is above =
-      let range = range_of m target wanted in
-      let passed = passed_above (is_behind range.high) index.from n at entry behind above is in
-      value_fails at entry is (ap (λ b. not (is_before range.low (value_of entry)) && not b) passed ∙ and_false (not (is_before range.low (value_of entry))))
-    where
-      and_false : (b : Bool) → (b && false) ≡ false
-      and_false true = refl
-      and_false false = refl

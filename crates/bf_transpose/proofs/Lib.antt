@@ -1,11 +1,13 @@
 mod Alike
 mod Bounded
+mod Carried
 mod Chosen
 mod Coming
 mod Driving
 mod Each
 pub mod Finding
 pub mod Fixed
+mod Fronts
 mod Given
 pub mod Granules
 mod Grouped
@@ -18,6 +20,7 @@ pub mod Named
 pub mod Numbered
 mod Outside
 pub mod Owners
+mod Ranged
 mod Rising
 mod Sought
 mod Steps

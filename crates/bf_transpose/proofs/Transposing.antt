@@ -33,10 +33,15 @@ module _ (new old : List Value) (copied : ℕ → Option ℕ) (same : (at place 
   transposed_held c holds = refl
 
 -- what an item gives that copies a place
-item_copies : (rows : List (List Value)) (item : PlacedItem) (place : ℕ) → place_copied item ≡ Some place → placed_over rows item ≡ cell (first_row rows) place
+pub item_copies : (rows : List (List Value)) (item : PlacedItem) (place : ℕ) → place_copied item ≡ Some place → placed_over rows item ≡ cell (first_row rows) place
 item_copies rows (placed.Column at) place is = let same : at ≡ place = cc in ap (cell (first_row rows)) same
 item_copies rows (placed.Value (column at)) place is = let same : at ≡ place = cc in ap (cell (first_row rows)) same
 item_copies rows item place is = absurd cc
+
+-- the cell of a row that an arm makes
+pub made_cell : (items : List PlacedItem) (rows : List (List Value)) (at : ℕ) (item : PlacedItem) → slice_get items at ≡ Some item → cell (map (placed_over rows) items) at ≡ placed_over rows item
+made_cell items rows at item there =
+    get_or_from_slice_get (map (placed_over rows) items) at (placed_over rows item) (Int (pos 0)) (slice_get-map (placed_over rows) items at ∙ ap (option_map (placed_over rows)) there)
 
 module _ (items : List PlacedItem) (first count : ℕ) where
   -- the place of an arm's rows that the new table's column at a place copies, and the column of the old table that stands there
@@ -72,11 +77,6 @@ module _ (items : List PlacedItem) (first count : ℕ) where
       of None there is = absurd cc
       of (Some item) there is = of_place item (place_copied item) there refl is
 
-  -- the cell of a row that an arm makes
-  made_cell : (rows : List (List Value)) (at : ℕ) (item : PlacedItem) → slice_get items at ≡ Some item → cell (map (placed_over rows) items) at ≡ placed_over rows item
-  made_cell rows at item there =
-      get_or_from_slice_get (map (placed_over rows) items) at (placed_over rows item) (Int (pos 0)) (slice_get-map (placed_over rows) items at ∙ ap (option_map (placed_over rows)) there)
-
   -- MADE: where the first row that an arm makes a row of has an old one's cells at the old table's columns, the old row satisfies the
   -- transposed condition
   pub made_held : (rows : List (List Value)) (old : List Value) (wanted : Cond ℕ)
@@ -86,7 +86,7 @@ module _ (items : List PlacedItem) (first count : ℕ) where
       transposed_held (map (placed_over rows) items) old (column_copied items first count)
       (λ at old_place is.
       let by = copied_by at old_place is in
-      made_cell rows at by.item by.there ∙ item_copies rows by.item by.place by.copies ∙ stands by.place by.behind by.within ∙ ap (cell old) (sym by.old_is))
+      made_cell items rows at by.item by.there ∙ item_copies rows by.item by.place by.copies ∙ stands by.place by.behind by.within ∙ ap (cell old) (sym by.old_is))
       wanted holds
 
 -- an old row that stands in front, or behind one of so many cells

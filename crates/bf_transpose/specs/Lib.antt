@@ -1,6 +1,7 @@
 pub mod Covers
 pub mod Each
 pub mod InOrder
+pub mod Joined
 pub mod KeysBehind
 pub mod Merging
 pub mod Positions

@@ -1,11 +1,12 @@
 -- SCANS: the granules of a migration unit by unit, and those that give a row which satisfies a condition.
-use Rattle.std.specs.Prelude.{◌≡◌, ℕ, ◌<◌, Bool, false, ◌&&◌, ◌==◌, List, [], ◌++◌, length, map, nat_lt, Option, Some, None, slice_get, option_map, unwrap_or}
+use Rattle.std.specs.Prelude.{◌≡◌, ℕ, ◌<◌, Bool, false, ◌&&◌, ◌==◌, List, [], ◌++◌, length, map, nat_lt, Option, Some, None, slice_get, option_map, unwrap_or, IsTrue}
 use Rattle.std.specs.List.{list_any, range_with_len}
 use Rattle.std.specs.Option.{option_and_then}
 use Rattle.bf_base.specs.declared.granule.Granule.{Granule}
 use Rattle.bf_base.specs.declared.granule.Place.TheVariants.{Group, Row}
 use Rattle.bf_base.specs.declared.value.Value.{Value}
 use Rattle.bf_base.specs.Tables.{cell}
+use Rattle.bf_heap.specs.KeyRanges.{is_within}
 use Rattle.bf_heap.specs.declared.key_range.KeyRange.{KeyRange}
 use Rattle.bf_tree.specs.Evaluation.{holds_on}
 use Rattle.bf_tree.specs.Trees.{Cond}
@@ -92,3 +93,9 @@ pub record IsSearch (search : Search) : Type 0 where
   pub there : search.target < length search.migration.now.plan.migrate.targets
   pub range : search.range.now ≡ range_of search.migration.now search.target search.cond.now
   pub units : AreUnitsFor search.migration.now search.target search.units.items
+
+-- WITHIN: each of some values by which a unit goes that gives a row which is sought is in a range
+abbrev pub AreWithin : Search → ℕ → List Valued → KeyRange → Type 0
+AreWithin search unit values range =
+    (at : ℕ) (entry : Valued) → slice_get values at ≡ Some entry
+    → IsTrue (gives search.migration.now search.target search.cond.now (granule unit (Group (value_of entry)))) → IsTrue (is_within range (value_of entry))

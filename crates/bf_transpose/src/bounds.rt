@@ -6,7 +6,7 @@ ghost use Rattle.std.specs.List.{list_all};
 ghost use Rattle.bf_heap.specs.KeyRanges.{is_before, is_behind};
 ghost use Rattle.bf_query.specs.Ranges.{key_range_of};
 ghost use Rattle.bf_image.specs.ByValues.{value_of};
-ghost use Rattle.bf_transpose.specs.KeysBehind.{passes_at, with_key_behind};
+ghost use Rattle.bf_transpose.specs.KeysBehind.{passes_at, with_key, with_key_behind};
 ghost use Rattle.bf_transpose.specs.Positions.{positions_under};
 
 use bf_base::{Key, Memory, Sequence, Table};
@@ -31,6 +31,17 @@ fn places_behind(alloc: Global, table: &Table, is_tagged: bool) -> Result<Sequen
     Ok(Sequence::of(behind))
 }
 
+/// A table as if its key stood at some places.
+fn with_key(alloc: Global, table: &Table, key: Sequence<u8>) -> Result<Table, Memory>
+    ensures { IfOk result (λ seen. seen ≡ with_key key table.now) }
+{
+    Ok(Table {
+        name: table.name.copy(alloc)?,
+        columns: table.columns.copy(alloc)?,
+        key,
+    })
+}
+
 /// The range of the keys of a driver's rows that a condition leaves, where they are the keys of a
 /// new table behind the tag of several arms.
 ///
@@ -45,12 +56,26 @@ pub(crate) fn range_behind(
     ensures { IfOk result (λ range.
         range ≡ key_range_of (with_key_behind is_tagged table.now) cond.now) }
 {
-    let behind = Table {
-        name: table.name.copy(alloc)?,
-        columns: table.columns.copy(alloc)?,
-        key: places_behind(alloc, table, is_tagged)?,
-    };
+    let places = places_behind(alloc, table, is_tagged)?;
+    let behind = with_key(alloc, table, places)?;
     key_range(alloc, &behind, cond)
+}
+
+/// The range of the values at some columns of a table that a condition on it leaves.
+///
+/// # Errors
+/// Where memory runs out.
+pub(crate) fn range_at(
+    alloc: Global,
+    table: &Table,
+    columns: Vec<u8>,
+    cond: &Cond,
+) -> Result<KeyRange, Memory>
+    ensures { IfOk result (λ range.
+        range ≡ key_range_of (with_key columns.items table.now) cond.now) }
+{
+    let seen = with_key(alloc, table, Sequence::of(columns))?;
+    key_range(alloc, &seen, cond)
 }
 
 /// Whether the key at a position is before a range; not where there is none.

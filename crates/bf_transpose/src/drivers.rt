@@ -47,7 +47,7 @@ fn only_arm(unit: &Unit, target: u8) -> Option<u32>
 
 /// An arm as it is written, and with places for names, by the number of its target and its own: `None`
 /// exactly where there is none. Takes no memory.
-fn arms_at(migration: &Migration, target: u8, number: u32) -> Option<(&Arm, &PlacedArm)>
+pub(crate) fn arms_at(migration: &Migration, target: u8, number: u32) -> Option<(&Arm, &PlacedArm)>
     requires lawful { IsLawfulMigration migration.now }
     ensures written { option_map (λ both. both.0.now) result
         ≡ arm_at migration.now target number }

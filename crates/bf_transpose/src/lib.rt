@@ -5,6 +5,7 @@ mod bounds;
 mod condition;
 pub mod cover;
 mod drivers;
+mod joined;
 mod merge;
 mod owning;
 mod scan;

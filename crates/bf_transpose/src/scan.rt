@@ -1,7 +1,7 @@
 //! Scans of a migration's granules: all of them, and those that give a row which a condition may
 //! pick.
 
-ghost use Rattle.std.specs.Prelude.{◌≡◌, ◌==◌, ◌∷◌, [], ◌++◌, ◌<◌, ◌≤◌, ℕ, false, IfOk, IfSome, IsTrue, None, OnOk, Some, filter, length, map, option_map, slice_get};
+ghost use Rattle.std.specs.Prelude.{◌≡◌, ◌==◌, ◌∷◌, [], ◌++◌, ◌<◌, ◌≤◌, ℕ, List, false, IfOk, IfSome, IsTrue, None, OnOk, Some, filter, length, map, option_map, slice_get};
 ghost use Rattle.std.specs.List.{list_any};
 ghost use Rattle.std.specs.Option.{option_to_list};
 ghost use Rattle.bf_base.specs.declared.granule.Place.TheVariants.{Group, Row as At};
@@ -13,14 +13,15 @@ ghost use Rattle.bf_image.specs.ByValues.{Valued, value_of};
 ghost use Rattle.bf_image.specs.FrozenUnits.{IsUnitIn};
 ghost use Rattle.bf_image.specs.Migrations.{IsLawfulMigration, anchors_in, old_of, target_at, value_indexes};
 ghost use Rattle.bf_transpose.specs.InOrder.{values_in};
-ghost use Rattle.bf_transpose.specs.Scans.{AreUnitsFor, IsIndexOf, IsSearch, IsUnitFor, gives, granules_at, granules_in, has_arm, is_sought, row_granules, value_granules, values_indexed};
+ghost use Rattle.bf_transpose.specs.Scans.{AreUnitsFor, AreWithin, IsIndexOf, IsSearch, IsUnitFor, gives, granules_at, granules_in, has_arm, is_sought, row_granules, value_granules, values_indexed};
 ghost use Rattle.bf_transpose.specs.Transposed.{IsBehind};
 
 use crate::bounds::{
-    positions_of, range_behind, rows_before, rows_to_end, values_before, values_to_end,
+    positions_of, range_at, range_behind, rows_before, rows_to_end, values_before, values_to_end,
 };
 use crate::condition::{total_places, without_totals};
 use crate::drivers::{copies_of, driver_of, only_makes_each};
+use crate::joined::columns_of_joins;
 use crate::merge::Merge;
 use crate::transposed::is_always;
 use bf_base::{Granule, Memory, Place, Row, Table};
@@ -28,7 +29,7 @@ use bf_heap::KeyRange;
 use bf_image::value_indexes::UnitIndex;
 use bf_image::{ByValue, Frozen, FrozenUnit, Migration, ValueIndexes, positions};
 use bf_query::by_index::{index_for, keys_by_index};
-use bf_tree::{Cond, Test, Unit, holds};
+use bf_tree::{Cond, Unit, holds};
 use std::alloc::Global;
 
 /// Adds the granules of a unit at the first positions, as many as are told.
@@ -271,7 +272,7 @@ impl<'a> Search<'a> {
         let Some(unit) = self.unit(granule.unit) else {
             return Ok(false);
         };
-        if let Test::Always = self.cond.node() {
+        if is_always(self.cond) {
             return self.gives_any(alloc, unit, &granule.place);
         }
         let rows = unit.rows_of(alloc, &granule.place)?;
@@ -518,71 +519,45 @@ impl<'a> Search<'a> {
         }
     }
 
-    /// Adds those granules of a unit that stand at the values of an index.
+    /// Adds those granules of a unit that stand at the values of an index. Only values in a range are
+    /// tried, in which all are that give a row which is sought.
     fn add_values(
         &self,
         alloc: Global,
         unit: u8,
         values: &ByValue,
+        range: &KeyRange,
         granules: &mut Vec<Granule>,
     ) -> Result<(), Memory>
-        requires { IsSearch self.now }
+        requires search { IsSearch self.now }
+        requires within { AreWithin self.now unit values.now range.now }
         ensures { OnOk result (granules.new.items ≡ granules.old.items ++ filter
             (gives self.now.migration.now self.now.target self.now.cond.now)
             (value_granules unit (map value_of values.now))) }
     {
-        for at in 0..values.len() {
+        let first = values_before(values, range);
+        let end = values_to_end(values, range);
+        for at in first..end {
             self.add_value(alloc, unit, values, at, granules)?;
         }
         Ok(())
     }
 
-    /// The places among the values of a unit of groups, from the first number to before the second,
-    /// outside which they give no row that is sought: a group's row has its value for its key.
-    fn bounds_of_groups(&self, unit: u8, index: &UnitIndex) -> (usize, usize)
-        requires search { IsSearch self.now }
-        requires of_unit { IsIndexOf self.now.migration.now unit index.now }
-        requires alone { index.now.join ≡ None }
-        ensures first { result.0 ≤ length index.now.from }
-        ensures end { result.1 ≤ length index.now.from }
-        ensures before { (at : ℕ) → (entry : Valued) → slice_get index.now.from at ≡ Some entry
-            → at < result.0 → gives self.now.migration.now self.now.target self.now.cond.now
-            (granule unit (Group (value_of entry))) ≡ false }
-        ensures behind { (at : ℕ) → (entry : Valued) → slice_get index.now.from at ≡ Some entry
-            → result.1 ≤ at → gives self.now.migration.now self.now.target self.now.cond.now
-            (granule unit (Group (value_of entry))) ≡ false }
+    /// The range of the values of a unit of joins from which a row that is sought can come, by what the
+    /// condition says of the columns that copy those of ON.
+    fn range_of_joins(&self, alloc: Global, unit: u8) -> Result<KeyRange, Memory>
+        requires { IsSearch self.now }
+        ensures { IfOk result (λ range. (values : List Valued)
+            → AreWithin self.now unit values range) }
     {
-        let values = &index.from;
-        (
-            values_before(values, self.range),
-            values_to_end(values, self.range),
-        )
+        let columns = columns_of_joins(alloc, self.migration, unit)?;
+        let table = table_made(self.migration, self.target);
+        range_at(alloc, table, columns, self.cond)
     }
 
-    /// Adds those granules of a unit of groups. Only groups whose values are in the range are tried.
-    fn add_groups(
-        &self,
-        alloc: Global,
-        unit: u8,
-        index: &UnitIndex,
-        granules: &mut Vec<Granule>,
-    ) -> Result<(), Memory>
-        requires search { IsSearch self.now }
-        requires of_unit { IsIndexOf self.now.migration.now unit index.now }
-        requires alone { index.now.join ≡ None }
-        ensures { OnOk result (granules.new.items ≡ granules.old.items ++ filter
-            (gives self.now.migration.now self.now.target self.now.cond.now)
-            (value_granules unit (map value_of index.now.from))) }
-    {
-        let (first, end) = self.bounds_of_groups(unit, index);
-        for at in first..end {
-            self.add_value(alloc, unit, &index.from, at, granules)?;
-        }
-        Ok(())
-    }
-
-    /// Adds those granules of a unit that goes by values. A join's value without a row of FROM gives
-    /// no row.
+    /// Adds those granules of a unit that goes by values: of groups those whose values are in the range,
+    /// since a group's row has its value for its key. A join's value without a row of FROM gives no
+    /// row.
     fn add_indexed(
         &self,
         alloc: Global,
@@ -597,8 +572,11 @@ impl<'a> Search<'a> {
             (granules_in self.now.migration.now unit)) }
     {
         match &index.join {
-            Some(_) => self.add_values(alloc, unit, &index.from, granules),
-            None => self.add_groups(alloc, unit, index, granules),
+            Some(_) => {
+                let range = self.range_of_joins(alloc, unit)?;
+                self.add_values(alloc, unit, &index.from, &range, granules)
+            }
+            None => self.add_values(alloc, unit, &index.from, self.range, granules),
         }
     }
 
@@ -647,17 +625,19 @@ impl<'a> Search<'a> {
 /// The granules, in the order of unit and place, that give a row of a target which satisfies a
 /// condition, as far as that is known without its totals. It computes the parts of the granules of
 /// units that have an arm of the target, whose old tables it looks up by name once. Where there is
-/// no condition it only finds out whether they have a row of the target, and not even that where the
-/// one arm of the target in a unit makes a row of each row of FROM: it has no JOIN, and no
-/// condition. Of a unit that goes by rows those are only the ones whose rows have keys in the range
-/// that the condition leaves, which are found by about log n compares, and where the condition
-/// fixes columns that are copied from the old table, only the ones whose rows have these values: a
-/// row that has others costs its look-up and the compares. Where an index of the old table serves
-/// what the condition says of those columns, and has more columns than this fixes of the front of
-/// its key, they are only the rows that it finds, each by about log n compares of pairs and of
+/// no condition, or one on totals alone, it only finds out whether they have a row of the target, and
+/// not even that where the one arm of the target in a unit makes a row of each row of FROM: it has no
+/// JOIN, and no condition. Of a unit that goes by rows those are only the ones whose rows have keys in
+/// the range that the condition leaves, which are found by about log n compares, and where the
+/// condition fixes columns that are copied from the old table, only the ones whose rows have these
+/// values: a row that has others costs its look-up and the compares. Where an index of the old table
+/// serves what the condition says of those columns, and has more columns than this fixes of the front
+/// of its key, they are only the rows that it finds, each by about log n compares of pairs and of
 /// keys. A target with several arms in a unit keeps to the range there. Of a unit of groups those
-/// are only the values in the range, which are found by about log n compares; the values of a unit
-/// of joins are gone through.
+/// are only the values in the range. Of a unit of joins they are only the values in the range that
+/// the condition leaves to the columns which copy those of ON, in the order of ON, up to the first
+/// equality that no column copies: all values where the condition says nothing of the first. Either
+/// are found by about log n compares.
 ///
 /// # Errors
 /// Where memory runs out.

@@ -19,7 +19,7 @@ pub(crate) struct Copies<'a> {
 }
 
 /// The place that an item copies, where it is a column, with or without AS.
-fn place_copied(item: &PlacedItem) -> Option<u8>
+pub(crate) fn place_copied(item: &PlacedItem) -> Option<u8>
     ensures { result ≡ place_copied item.now }
 {
     match item {

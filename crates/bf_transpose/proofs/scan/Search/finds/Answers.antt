@@ -1,10 +1,13 @@
-use Rattle.std.proofs.Common.{ℕ, sym, ap, subst, ◌∙◌}
+use Rattle.std.proofs.Common.{◌≡◌, ℕ, true, sym, ap, subst, ◌∙◌}
 use Rattle.std.specs.List.{list_any}
 use Rattle.std.proofs.lemmas.Result.{IfOk-weaker}
+use Rattle.bf_tree.specs.Trees.{always}
 use Rattle.bf_sql.specs.migrations.Granules.{granule}
 use Rattle.bf_image.specs.Migrations.{ArePart}
 use Rattle.bf_image.specs.declared.migration.Migration.{Migration}
-use Rattle.bf_transpose.specs.Scans.{is_sought}
+use Rattle.bf_transpose.specs.Scans.{gives, is_sought}
+use Rattle.bf_transpose.specs.Transposed.{is_always}
+use Rattle.bf_transpose.proofs.Alike.{given_any}
 use Rattle.bf_transpose.proofs.Sought.{gives_by_number, none_at_place}
 use Rattle.bf_transpose.proofs.scan.Search.finds.Goals as goal
 
@@ -13,6 +16,16 @@ returns-in_default c =
     let s = c.args.self.now in
     let here = c.args.granule.now in
     sym (none_at_place s.migration.now c.requires.lawful s.target c.requires.there s.cond.now here.unit c.in_default.ensures here.place)
+
+pub returns-then-is_always : goal.returns-then-is_always
+returns-then-is_always c =
+    let s = c.args.self.now in
+    let m = s.migration.now in
+    let here = c.args.granule.now in
+    let is_true : is_always s.cond.now ≡ true = sym c.is_always.ensures ∙ c.if-is_always.true in
+    IfOk-weaker c.gives_any.result _ _
+    (λ any is. is ∙ (ap (λ (number : ℕ). gives m s.target always (granule number here.place)) c.in-Some.ensures.1 ∙ given_any m s.target s.cond.now is_true here))
+    c.gives_any.ensures
 
 pub returns : goal.returns
 returns c =
