@@ -32,5 +32,5 @@ returns-clause-ok c =
     let writes = c.replies_on_rows.new.writes in
     let is : run_group n false (committed ran.database []) ss ≡ (c.in_ok-replies.replies.items, committed ran.database writes) =
     ap (λ (ws : List Write). run_group n false (committed ran.database ws) ss) (sym c.new-writes.ensures) ∙ c.in_ok-replies.ensures.ran in
-    ran_as ran c.args.committed n writes ss c.in_ok-replies.replies.items c.settle.new.live c.in_ok-commits.ensures is c.in_ok-settle.ensures.ok
+    ran_as ran c.args.committed n writes ss c.in_ok-replies.replies.items c.settle.new.live c.in_ok-commits.ensures.ok is c.in_ok-settle.ensures.ok
     ∙ ap (λ (r : Ran). ran_entry r c.args.committed ss) c.self.view_is
