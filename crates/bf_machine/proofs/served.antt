@@ -24,6 +24,7 @@ pub mod Records
 pub mod Keeping
 pub mod Failing
 pub mod EndsIf
+pub mod Enough
 pub mod Behind
 pub mod Nexts
 pub mod Following

@@ -6,8 +6,9 @@ ghost use Rattle.boxcar.specs.Table.{Shows};
 ghost use Rattle.bf_image.specs.Migrations.{value_indexes};
 ghost use Rattle.bf_query.specs.Actions.{IsWellBound};
 ghost use Rattle.bf_store.specs.Stores.{IsOf};
-ghost use Rattle.bf_transpose.specs.Covers.{IsCoverOf};
+ghost use Rattle.bf_machine.specs.interleaving.Calls.{IsEnough};
 
+use crate::machine::Machine;
 use crate::opened::Opened;
 use bf_base::Memory;
 use bf_image::{MigrationPass, Registry, ValueIndexes};
@@ -94,8 +95,8 @@ fn are_kept<N: Opened>(
     }
 }
 
-/// Makes the look-ups of a migration, unless they are kept. It costs what [`ValueIndexes::of`] does
-/// then, and else takes no memory.
+/// Makes the look-ups of a migration, unless they are kept. Those of another migration are dropped
+/// before. It costs what [`ValueIndexes::of`] does then, and else takes no memory.
 ///
 /// # Errors
 /// Where memory runs out.
@@ -111,13 +112,16 @@ pub fn look_up<N: Opened>(
         (option_map (λ found. found.value) lookups.new ≡ Some pass.now.value) }
 {
     if !are_kept(registry, lookups, pass) {
+        *lookups = None;
         *lookups = Some(Lookups::of(alloc, registry, pass)?);
     }
     Ok(())
 }
 
-/// The cover of a bound statement, and the look-ups of the migration are kept where it can need any
-/// of it. It costs what [`cover_of`] does, and what [`look_up`] does where it can.
+/// What is enough of a bound statement's cover for [`Machine::exec`], by the migration of a pass: its
+/// cover, and the look-ups of the migration are kept where it can need any of it. Nothing is looked for
+/// where it can need none of it, or where nothing of the machine's last migration is left to move. It
+/// costs what [`cover_of`] does, and what [`look_up`] does, where anything is looked for.
 ///
 /// # Errors
 /// Where memory runs out.
@@ -125,20 +129,21 @@ pub fn cover_with<N: Opened>(
     alloc: Global,
     registry: &Registry,
     lookups: &mut Option<Lookups<N>>,
+    machine: &Machine<N>,
     migration: Option<&MigrationPass>,
     bound: &Bound,
 ) -> Result<Cover, Memory>
     requires registry { registry.now ≡ N.registry }
     requires pass { IsOf N.registry (option_map (λ pass. pass.now) migration) }
     requires bound { IsWellBound bound.now.action }
-    ensures { IfOk result
-        (IsCoverOf (option_map (λ pass. pass.now.value) migration.entry) bound.now) }
+    ensures { IfOk result (IsEnough machine.now
+        (option_map (λ pass. pass.now.value) migration.entry) bound.now) }
 {
     let Some(pass) = migration else {
         return cover_of(alloc, bound, None);
     };
     let last = registry.migration(pass);
-    if !can_need(bound, last) {
+    if machine.is_complete() || !can_need(bound, last) {
         return Ok(Cover {
             catalog: bound.catalog,
             migration: last.number,

@@ -11,8 +11,7 @@ ghost use Rattle.bf_image.specs.Migrations.{value_indexes};
 ghost use Rattle.bf_query.specs.Actions.{IsWellBound};
 ghost use Rattle.bf_store.specs.States.{AreGranules, AreGranulesIfAny, granule_cmp, to_move};
 ghost use Rattle.bf_store.specs.Stores.{IsOf, migration_of};
-ghost use Rattle.bf_transpose.specs.Covers.{IsCoverOf};
-ghost use Rattle.bf_machine.specs.interleaving.Calls.{CanCommit, CanExec, CanRefuse, HasReplied, HasSessionEnded, IsPlace, IsPresent, StandsAs};
+ghost use Rattle.bf_machine.specs.interleaving.Calls.{CanCommit, CanExec, CanRefuse, HasReplied, HasSessionEnded, IsEnough, IsPlace, IsPresent, StandsAs};
 ghost use Rattle.bf_machine.specs.interleaving.Events.{Begins, Moves, Reaches};
 ghost use Rattle.bf_machine.specs.interleaving.Journals.{AreSaid, IsOneRecord, Keeps, KeepsOrIsRefused, most_moved};
 ghost use Rattle.bf_machine.specs.interleaving.Kept.{IsKept};
@@ -289,7 +288,7 @@ fn reply_behind_moves<N: Opened>(
     requires place { IsPlace machine.old.script session }
     requires can { CanExec machine.old session N.opening bound.now }
     requires pass { IsOf N.registry (option_map (λ pass. pass.now) migration) }
-    requires cover { IsCoverOf (option_map (λ pass. pass.now.value) migration)
+    requires cover { IsEnough machine.old (option_map (λ pass. pass.now.value) migration)
         bound.now cover.now }
     requires present { IsPresent machine.old (option_map (λ pass. pass.now) migration) bound.now }
     requires moved { to_move machine.old.lazy.last cover.now.granules.items ≡ [] }
@@ -333,7 +332,7 @@ fn reply_to<N: Opened, J: Journal>(
 {
     let pass = machine.migration();
     let migration = pass.as_ref();
-    let cover = cover_with(alloc, registry, lookups, migration, bound)?;
+    let cover = cover_with(alloc, registry, lookups, machine, migration, bound)?;
     match machine.exec(registry, session, migration, bound, &cover)? {
         Step::Replied => Ok(()),
         Step::Need(granules) => {
@@ -417,7 +416,7 @@ fn refuse<N: Opened>(
 {
     let pass = machine.migration();
     let migration = pass.as_ref();
-    let cover = cover_with(alloc, registry, lookups, migration, bound)?;
+    let cover = cover_with(alloc, registry, lookups, machine, migration, bound)?;
     reply_behind_moves(registry, machine, session, migration, bound, &cover)
 }
 

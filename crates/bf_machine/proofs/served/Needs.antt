@@ -29,11 +29,12 @@ use Rattle.bf_transpose.specs.Covers.{IsCoverOf, can_need, needed_in}
 use Rattle.bf_transpose.specs.declared.cover.Cover.{Cover}
 use Rattle.bf_machine.specs.declared.stand.Step.{Step}
 use Rattle.bf_machine.specs.declared.stand.Step.TheVariants.{Need, Replied, Stale}
-use Rattle.bf_machine.specs.interleaving.Calls.{CanExec, HasReplied, IsPlace, IsPresent, IsStep, slot_of}
+use Rattle.bf_machine.specs.interleaving.Calls.{CanExec, HasReplied, IsEnough, IsPlace, IsPresent, IsStep, slot_of}
 use Rattle.bf_machine.specs.interleaving.Events.{Event, Moves, Reaches, at_once, executes, moves, one_more, refuses}
 use Rattle.bf_machine.specs.interleaving.Kept.{IsKept}
 use Rattle.bf_machine.specs.interleaving.Machines.{Machine}
 use Rattle.bf_machine.specs.interleaving.Serving.{HasMovedFirst, HasMovedNeed, HasMovedSome, MovesAll, left_of_need, no_move, one_record}
+use Rattle.bf_machine.proofs.served.Enough.{cover_is_need, enough_is_enough, nothing_left}
 use Rattle.bf_machine.proofs.served.Moved.{HaveMovedBesides, both_besides, need_besides, none_besides, none_to_move, one_besides}
 
 module _ (lazy : LazyState) (act : Action) where
@@ -49,13 +50,6 @@ module _ (lazy : LazyState) (act : Action) where
             each = all_kept (has same_granule (granules_of last.old last.migrate)) (λ g. not (is_done last g)) need are.each;
             apart = apart-filter same_granule (λ g. not (is_done last g)) need are.apart;
           }
-
--- the need, by the pass of the last migration
-pub need_by_pass : (last : Option Migration) (pass : Option (Where Kept)) (act : Action) → IsByPass last pass → need_of last act ≡ needed_in (option_map (λ p. p.value) pass) act
-need_by_pass None None act is = refl
-need_by_pass (Some last) (Some pass) act is = ap (λ (l : Migration). needed_for l.old l.migrate act) is
-need_by_pass None (Some pass) act is = absurd is
-need_by_pass (Some last) None act is = absurd is
 
 pub granules_by_pass : (last : Option Migration) (pass : Where Kept) (gs : List Granule) → IsByPass last (Some pass) → AreGranulesIfAny last gs → AreGranules (migration_of pass.value []) gs
 granules_by_pass None pass gs is are = absurd is
@@ -165,10 +159,6 @@ pub lent_then : {P Q : Type 0} (f : P → Q) (r : Option (Bor P)) → option_map
 lent_then f None = refl
 lent_then f (Some p) = refl
 
--- a cover is the need, by the pass of the last migration
-pub cover_is_need : (m : Machine) → IsByPass m.lazy.last m.pass → (bound : Bound) (cover : Cover) → IsCoverOf (option_map (λ (p : Where Kept). p.value) m.pass) bound cover → cover.granules.items ≡ need_of m.lazy.last bound.action
-cover_is_need m by bound cover is = is.granules ∙ sym (need_by_pass m.lazy.last m.pass bound.action by)
-
 -- an action that can need nothing needs nothing
 on_no_target : (old : Database) (m : Migrate) (table : Table) (test : Target → List Value → Bool) → is_some (target_of old m table) ≡ false → giving old m (target_of old m table) test ≡ []
 on_no_target old m table test none = by (target_of old m table) none
@@ -187,29 +177,32 @@ needs_none m other none = refl
 
 -- A NEED, of a statement that is prepared in the present catalog, by the pass of the last migration
 module _ {start : Database} (m : Machine) (kept : IsKept start m) (bound : Bound) (cover : Cover) (pass : Option (Where Kept)) (own : pass ≡ m.pass)
-    (is : IsCoverOf (option_map (λ (p : Where Kept). p.value) pass) bound cover) (number : bound.catalog ≡ m.db.number) where
+    (is : IsEnough m (option_map (λ (p : Where Kept). p.value) pass) bound cover) (number : bound.catalog ≡ m.db.number) where
   pub is_present : IsPresent m pass bound
   is_present = record { catalog = number; migration = ap slot_of own }
 
-  need : cover.granules.items ≡ need_of m.lazy.last bound.action
-  need = cover_is_need m kept.store_valid.by_pass bound cover (subst (λ (p : Option (Where Kept)). IsCoverOf (option_map (λ (p : Where Kept). p.value) p) bound cover) own is)
+  left : to_move m.lazy.last cover.granules.items ≡ left_of_need m bound
+  left =
+      enough_is_enough m.lazy m.pass kept.store_valid.by_pass (option_map (λ (p : Where Kept). p.value) pass) (ap (option_map (λ (p : Where Kept). p.value)) own) bound cover
+      kept.store_valid.seen_as.lazy_state.last is
 
   pub need_told : (granules : Vec Granule) → IsStep m pass bound cover.granules.items (Need granules) → granules.items ≡ to_move m.lazy.last (need_of m.lazy.last bound.action)
-  need_told granules step = (needs_left m pass bound cover.granules.items is_present granules step).0 ∙ ap (to_move m.lazy.last) need
+  need_told granules step = (needs_left m pass bound cover.granules.items is_present granules step).0 ∙ left
 
   -- where nothing is needed
   pub none_if_none : need_of m.lazy.last bound.action ≡ [] → to_move m.lazy.last cover.granules.items ≡ []
-  none_if_none none = ap (to_move m.lazy.last) (need ∙ none) ∙ empty m.lazy.last
-    where
-      empty : (last : Option Migration) → to_move last [] ≡ []
-      empty None = refl
-      empty (Some last) = refl
+  none_if_none none = left ∙ (ap (to_move m.lazy.last) none ∙ nothing_left m.lazy.last)
 
   -- where it has its reply at once
   pub nothing_to_move : IsStep m pass bound cover.granules.items Replied → left_of_need m bound ≡ []
-  nothing_to_move step =
-      ap (to_move m.lazy.last) (sym need)
-      ∙ elim step as (λ _. to_move m.lazy.last cover.granules.items ≡ []) [ inl here ↦ here.1 | inr gone ↦ absurd (gone.0 is_present) ]
+  nothing_to_move step = sym left ∙ elim step as (λ _. to_move m.lazy.last cover.granules.items ≡ []) [ inl here ↦ here.1 | inr gone ↦ absurd (gone.0 is_present) ]
+
+  -- where some is left, it is a cover
+  pub covers : (granules : Vec Granule) → IsStep m pass bound cover.granules.items (Need granules) → IsCoverOf (option_map (λ (p : Where Kept). p.value) pass) bound cover
+  covers granules step = elim is as (λ _. IsCoverOf (option_map (λ (p : Where Kept). p.value) pass) bound cover) [
+    | inl so ↦ so
+    | inr none ↦ absurd ((needs_left m pass bound cover.granules.items is_present granules step).1 (ap (to_move m.lazy.last) none.1 ∙ nothing_left m.lazy.last))
+  ]
 
   module _ (gs : List Granule) (same : gs ≡ to_move m.lazy.last (need_of m.lazy.last bound.action)) where
     pub may_move : AreGranulesIfAny m.lazy.last gs
@@ -235,7 +228,13 @@ module _ {start : Database} (m : Machine) (kept : IsKept start m) (bound : Bound
           let needed = need_of m.lazy.last bound.action in
           let all : HaveMovedBesides m.lazy.last needed come.0.last =
           need_besides m.lazy.last come.0.last needed (subst (λ (gs : List Granule). HaveMovedBesides m.lazy.last gs come.0.last) same come.2) in
-          ap₂ (λ (l : LazyState) (ns : List Granule). to_move l.last ns) stored need ∙ none_to_move m.lazy.last come.0.last needed all
+          ap (λ (l : LazyState). to_move l.last cover.granules.items) stored
+          ∙ elim is as (λ _. to_move come.0.last cover.granules.items ≡ []) [
+            | inl so ↦
+                ap (to_move come.0.last) (cover_is_need m.lazy m.pass kept.store_valid.by_pass (option_map (λ (p : Where Kept). p.value) pass) (ap (option_map (λ (p : Where Kept). p.value)) own) bound cover so)
+                ∙ none_to_move m.lazy.last come.0.last needed all
+            | inr none ↦ ap (to_move come.0.last) none.1 ∙ nothing_left come.0.last
+          ]
 
       pub place_then : (s : ℕ) → IsPlace m.script s → IsPlace now.script s
       place_then s place = subst (λ (k : Machine). IsPlace k.script s) (sym come.1) place

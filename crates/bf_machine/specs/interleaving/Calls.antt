@@ -10,7 +10,9 @@ use Rattle.bf_base.specs.declared.granule.Granule.{Granule}
 use Rattle.boxcar.specs.Table.{Where}
 use Rattle.bf_image.specs.declared.migration.Migration.{Migration}
 use Rattle.bf_sql.specs.migrations.Plans.{prepared_of}
-use Rattle.bf_store.specs.States.{to_move}
+use Rattle.bf_store.specs.States.{IsComplete, to_move}
+use Rattle.bf_transpose.specs.Covers.{IsCoverOf}
+use Rattle.bf_transpose.specs.declared.cover.Cover.{Cover}
 use Rattle.bf_sql.specs.Database.{Database}
 use Rattle.bf_sql.specs.Footprints.{footprint_of}
 use Rattle.bf_sql.specs.Groups.{ends_block, groups_in, session_at}
@@ -37,6 +39,10 @@ slot_of pass = option_map (λ (p : Where Migration). p.index) pass
 pub record IsPresent (m : Machine) (pass : Option (Where Migration)) (bound : Bound) : Type 0 where
   pub catalog : bound.catalog ≡ m.db.number
   pub migration : slot_of pass ≡ slot_of m.pass
+
+-- ENOUGH: a cover of a bound statement by the migration of its pass; or where nothing of the last migration is left to move, no granule
+abbrev pub IsEnough : Machine → Option Migration → Bound → Cover → Type 0
+IsEnough m migration bound cover = IsCoverOf migration bound cover ⊎ (IsSomeAnd m.lazy.last IsComplete × (cover.granules.items ≡ []))
 
 -- EXEC: how it goes, by whether that is so, and by what is left to move of the cover
 abbrev pub step_of : Machine → List Granule → Step → Type 0

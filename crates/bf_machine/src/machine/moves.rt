@@ -1,12 +1,12 @@
 //! The migration under way, and granules of it that move.
 
-ghost use Rattle.std.specs.Prelude.{◌≡◌, ◌≢◌, ℕ, [], Err, IfOk, Ok, OnErr, OnOk, Some, false, true};
+ghost use Rattle.std.specs.Prelude.{◌≡◌, ◌≢◌, ◌↔◌, ℕ, [], Err, IfOk, IsSomeAnd, IsTrue, Ok, OnErr, OnOk, Some, false, true};
 ghost use Rattle.std.specs.Option.{option_map, option_map_or};
 ghost use Rattle.boxcar.specs.Table.{Shows};
 ghost use Rattle.bf_sql.specs.migrations.Lazy.{migrations_so_far};
 ghost use Rattle.bf_image.specs.Migrations.{value_indexes};
 ghost use Rattle.bf_store.specs.Calls.{IsMoveOf, IsSweepOf};
-ghost use Rattle.bf_store.specs.States.{granules_done_if_any, to_move, with_moved};
+ghost use Rattle.bf_store.specs.States.{IsComplete, granules_done_if_any, to_move, with_moved};
 ghost use Rattle.bf_store.specs.Stores.{IsByPass, IsOf, migration_of};
 ghost use Rattle.bf_tree.specs.declared.reply.Cause.{Cause};
 ghost use Rattle.bf_machine.specs.declared.stand.MoveError.TheVariants.{Ended, Memory as NoMemory, Old};
@@ -41,6 +41,13 @@ impl<N: Opened> Machine<N> {
         ensures { IsSweepOf self.now.lazy result }
     {
         self.store.sweep()
+    }
+
+    /// Whether there was a migration, and nothing of the last one is left to move. Takes no memory.
+    pub fn is_complete(&self) -> bool
+        ensures { IsTrue result ↔ IsSomeAnd self.now.lazy.last IsComplete }
+    {
+        matches!(self.store.sweep(), Sweep::Complete { .. })
     }
 
     /// The granules of the last migration that have moved, in the order of unit and place.

@@ -9,12 +9,11 @@ ghost use Rattle.bf_sql.specs.migrations.Lazy.{view_of};
 ghost use Rattle.bf_sql.specs.migrations.Need.{needed_for};
 ghost use Rattle.bf_store.specs.States.{HaveMoved, to_move};
 ghost use Rattle.bf_store.specs.Stores.{IsOf};
-ghost use Rattle.bf_transpose.specs.Covers.{IsCoverOf};
 ghost use Rattle.bf_machine.specs.declared.so_far.OpenGroup.{OpenGroup as Group};
 ghost use Rattle.bf_machine.specs.declared.so_far.Pending.{Pending as Change};
 ghost use Rattle.bf_machine.specs.declared.stand.Step.TheVariants.{Replied};
 ghost use Rattle.bf_machine.specs.interleaving.Answering.{CanAnswer, IsAnswer};
-ghost use Rattle.bf_machine.specs.interleaving.Calls.{CanExec, HasReplied, IsPlace, IsPresent, IsStep, slot_of};
+ghost use Rattle.bf_machine.specs.interleaving.Calls.{CanExec, HasReplied, IsEnough, IsPlace, IsPresent, IsStep, slot_of};
 ghost use Rattle.bf_machine.specs.interleaving.Seen.{pending_seen};
 
 use crate::answer::answer;
@@ -50,7 +49,7 @@ impl<N: Opened> Machine<N> {
         requires place { IsPlace self.old.script session }
         requires can { CanExec self.old session N.opening bound.now }
         requires pass { IsOf N.registry (option_map (λ pass. pass.now) migration) }
-        requires cover { IsCoverOf (option_map (λ pass. pass.now.value) migration)
+        requires cover { IsEnough self.old (option_map (λ pass. pass.now.value) migration)
             bound.now cover.now }
         ensures step { IfOk result (IsStep self.old (option_map (λ pass. pass.now) migration.entry)
             bound.now cover.now.granules.items) }
@@ -105,7 +104,7 @@ impl<N: Opened> Machine<N> {
     ) -> Result<Option<Step>, Memory>
         requires registry { registry.now ≡ N.registry }
         requires pass { IsOf N.registry (option_map (λ pass. pass.now) migration) }
-        requires cover { IsCoverOf (option_map (λ pass. pass.now.value) migration)
+        requires cover { IsEnough self.now (option_map (λ pass. pass.now.value) migration)
             bound.now cover.now }
         ensures some { IfOk result (λ needed. IfSome needed (λ step. (step ≢ Replied)
             × IsStep self.now (option_map (λ pass. pass.now) migration.entry) bound.now

@@ -4,7 +4,7 @@ use Rattle.std.specs.Option.{option_map}
 use Rattle.boxcar.specs.Table.{Where}
 use Rattle.bf_image.specs.declared.migration.Migration.{Migration as Kept}
 use Rattle.bf_store.specs.Stores.{IsOf}
-use Rattle.bf_transpose.specs.Covers.{IsCoverOf}
+use Rattle.bf_machine.specs.interleaving.Calls.{IsEnough}
 use Rattle.bf_machine.specs.interleaving.Machines.{Machine}
 use Rattle.bf_machine.proofs.served.Needs.{is_present, lent, lent_then, none_if_none}
 use Rattle.bf_machine.proofs.served.Replying.{needs_nothing}
@@ -24,7 +24,7 @@ reply_behind_moves-requires-clause-present g c =
     let cover = c.in_ok-cover.cover in
     let pass = option_map (λ p. p.now) c.as_ref-migration.result in
     let own : pass ≡ m.pass = lent c.as_ref-migration.result ∙ (c.as_ref-migration.ensures.value ∙ c.migration-pass.ensures.pass) in
-    let is : IsCoverOf (option_map (λ (p : Where Kept). p.value) pass) bound cover = subst (λ (o : Option Kept). IsCoverOf o bound cover) (lent_then (λ (p : Where Kept). p.value) c.as_ref-migration.result) c.in_ok-cover.ensures in
+    let is : IsEnough m (option_map (λ (p : Where Kept). p.value) pass) bound cover = subst (λ (o : Option Kept). IsEnough m o bound cover) (lent_then (λ (p : Where Kept). p.value) c.as_ref-migration.result) c.in_ok-cover.ensures in
     is_present m c.requires.kept bound cover pass own is c.requires.present
 
 pub reply_behind_moves-requires-clause-moved : goal.reply_behind_moves-requires-clause-moved
@@ -35,6 +35,6 @@ reply_behind_moves-requires-clause-moved g c =
     let cover = c.in_ok-cover.cover in
     let pass = option_map (λ p. p.now) c.as_ref-migration.result in
     let own : pass ≡ m.pass = lent c.as_ref-migration.result ∙ (c.as_ref-migration.ensures.value ∙ c.migration-pass.ensures.pass) in
-    let is : IsCoverOf (option_map (λ (p : Where Kept). p.value) pass) bound cover = subst (λ (o : Option Kept). IsCoverOf o bound cover) (lent_then (λ (p : Where Kept). p.value) c.as_ref-migration.result) c.in_ok-cover.ensures in
+    let is : IsEnough m (option_map (λ (p : Where Kept). p.value) pass) bound cover = subst (λ (o : Option Kept). IsEnough m o bound cover) (lent_then (λ (p : Where Kept). p.value) c.as_ref-migration.result) c.in_ok-cover.ensures in
     let can = c.requires.can in
     none_if_none m c.requires.kept bound cover pass own is c.requires.present (needs_nothing m s c.requires.kept can.1.closed bound c.requires.prepared can.0 can.1 m.lazy.last)

@@ -1,5 +1,5 @@
 -- What is needed has moved, and then the statement has its reply.
-use Rattle.std.proofs.Common.{◌≡◌, List, [], Option, refl, sym, ap, subst, ◌∙◌}
+use Rattle.std.proofs.Common.{◌≡◌, List, [], Option, refl, sym, ap, subst, ◌∙◌, inl}
 use Rattle.std.specs.Prelude.{IsTrue, Result, Ok, Err, OnErr}
 use Rattle.std.specs.Global.{Vec}
 use Rattle.std.specs.Option.{option_map}
@@ -16,12 +16,12 @@ use Rattle.bf_transpose.specs.Covers.{IsCoverOf}
 use Rattle.bf_machine.specs.declared.journal.KeepError.TheVariants.{Memory as NoMemory}
 use Rattle.bf_machine.specs.declared.stand.Step.{Step}
 use Rattle.bf_machine.specs.declared.stand.Step.TheVariants.{Need, Replied}
-use Rattle.bf_machine.specs.interleaving.Calls.{IsStep}
+use Rattle.bf_machine.specs.interleaving.Calls.{IsEnough, IsStep}
 use Rattle.bf_machine.specs.interleaving.Journals.{Keeps, KeepsOrIsRefused, nothing_yet}
 use Rattle.bf_machine.specs.interleaving.Machines.{Machine}
 use Rattle.bf_machine.specs.interleaving.Serving.{HasMovedFirst, HasMovedSome, MovesAll, left_of_need, no_move}
 use Rattle.bf_machine.proofs.served.Keeping.{keeps_not, keeps_reply, keeps_without_memory}
-use Rattle.bf_machine.proofs.served.Needs.{all_is_some, can_then, has_moved, has_moved_some, is_present, lent, lent_then, may_move, need_told, none_is_some, none_then, not_stale, nothing_to_move, place_then, present_then}
+use Rattle.bf_machine.proofs.served.Needs.{all_is_some, can_then, covers, has_moved, has_moved_some, is_present, lent, lent_then, may_move, need_told, none_is_some, none_then, not_stale, nothing_to_move, place_then, present_then}
 use Rattle.bf_machine.proofs.served.Records.{left_rises}
 use Rattle.bf_machine.proofs.serving.reply_to.Goals as goal
 
@@ -48,7 +48,7 @@ move_need-requires-clause-granules g c =
     let cover = c.in_ok-cover.cover in
     let pass = option_map (λ p. p.now) c.as_ref-migration.result in
     let own : pass ≡ m.pass = lent c.as_ref-migration.result ∙ (c.as_ref-migration.ensures.value ∙ c.migration-pass.ensures.pass) in
-    let is : IsCoverOf (option_map (λ (p : Where Kept). p.value) pass) bound cover = subst (λ (o : Option Kept). IsCoverOf o bound cover) (lent_then (λ (p : Where Kept). p.value) c.as_ref-migration.result) c.in_ok-cover.ensures in
+    let is : IsEnough m (option_map (λ (p : Where Kept). p.value) pass) bound cover = subst (λ (o : Option Kept). IsEnough m o bound cover) (lent_then (λ (p : Where Kept). p.value) c.as_ref-migration.result) c.in_ok-cover.ensures in
     let same : c.exec.new.self ≡ m = c.exec.ensures.same (not_replied c.exec.result c.in-Need.granules (c.in_ok-exec.was ∙ ap Ok c.in-Need.is)) in
     let step : IsStep m pass bound cover.granules.items (Need c.in-Need.granules) = subst (λ (step : Step). IsStep m pass bound cover.granules.items step) c.in-Need.is c.in_ok-exec.ensures.step in
     let told = c.as_slice.ensures.value ∙ need_told m c.requires.kept bound cover pass own is c.requires.present c.in-Need.granules step in
@@ -61,7 +61,7 @@ move_need-requires-clause-in_order g c =
     let cover = c.in_ok-cover.cover in
     let pass = option_map (λ p. p.now) c.as_ref-migration.result in
     let own : pass ≡ m.pass = lent c.as_ref-migration.result ∙ (c.as_ref-migration.ensures.value ∙ c.migration-pass.ensures.pass) in
-    let is : IsCoverOf (option_map (λ (p : Where Kept). p.value) pass) bound cover = subst (λ (o : Option Kept). IsCoverOf o bound cover) (lent_then (λ (p : Where Kept). p.value) c.as_ref-migration.result) c.in_ok-cover.ensures in
+    let is : IsEnough m (option_map (λ (p : Where Kept). p.value) pass) bound cover = subst (λ (o : Option Kept). IsEnough m o bound cover) (lent_then (λ (p : Where Kept). p.value) c.as_ref-migration.result) c.in_ok-cover.ensures in
     let same : c.exec.new.self ≡ m = c.exec.ensures.same (not_replied c.exec.result c.in-Need.granules (c.in_ok-exec.was ∙ ap Ok c.in-Need.is)) in
     let step : IsStep m pass bound cover.granules.items (Need c.in-Need.granules) = subst (λ (step : Step). IsStep m pass bound cover.granules.items step) c.in-Need.is c.in_ok-exec.ensures.step in
     let told = c.as_slice.ensures.value ∙ need_told m c.requires.kept bound cover pass own is c.requires.present c.in-Need.granules step in
@@ -74,7 +74,7 @@ reply_behind_moves-requires-clause-place g c =
     let cover = c.in_ok-cover.cover in
     let pass = option_map (λ p. p.now) c.as_ref-migration.result in
     let own : pass ≡ m.pass = lent c.as_ref-migration.result ∙ (c.as_ref-migration.ensures.value ∙ c.migration-pass.ensures.pass) in
-    let is : IsCoverOf (option_map (λ (p : Where Kept). p.value) pass) bound cover = subst (λ (o : Option Kept). IsCoverOf o bound cover) (lent_then (λ (p : Where Kept). p.value) c.as_ref-migration.result) c.in_ok-cover.ensures in
+    let is : IsEnough m (option_map (λ (p : Where Kept). p.value) pass) bound cover = subst (λ (o : Option Kept). IsEnough m o bound cover) (lent_then (λ (p : Where Kept). p.value) c.as_ref-migration.result) c.in_ok-cover.ensures in
     let same : c.exec.new.self ≡ m = c.exec.ensures.same (not_replied c.exec.result c.in-Need.granules (c.in_ok-exec.was ∙ ap Ok c.in-Need.is)) in
     let step : IsStep m pass bound cover.granules.items (Need c.in-Need.granules) = subst (λ (step : Step). IsStep m pass bound cover.granules.items step) c.in-Need.is c.in_ok-exec.ensures.step in
     let told = c.as_slice.ensures.value ∙ need_told m c.requires.kept bound cover pass own is c.requires.present c.in-Need.granules step in
@@ -88,7 +88,7 @@ reply_behind_moves-requires-clause-can g c =
     let cover = c.in_ok-cover.cover in
     let pass = option_map (λ p. p.now) c.as_ref-migration.result in
     let own : pass ≡ m.pass = lent c.as_ref-migration.result ∙ (c.as_ref-migration.ensures.value ∙ c.migration-pass.ensures.pass) in
-    let is : IsCoverOf (option_map (λ (p : Where Kept). p.value) pass) bound cover = subst (λ (o : Option Kept). IsCoverOf o bound cover) (lent_then (λ (p : Where Kept). p.value) c.as_ref-migration.result) c.in_ok-cover.ensures in
+    let is : IsEnough m (option_map (λ (p : Where Kept). p.value) pass) bound cover = subst (λ (o : Option Kept). IsEnough m o bound cover) (lent_then (λ (p : Where Kept). p.value) c.as_ref-migration.result) c.in_ok-cover.ensures in
     let same : c.exec.new.self ≡ m = c.exec.ensures.same (not_replied c.exec.result c.in-Need.granules (c.in_ok-exec.was ∙ ap Ok c.in-Need.is)) in
     let step : IsStep m pass bound cover.granules.items (Need c.in-Need.granules) = subst (λ (step : Step). IsStep m pass bound cover.granules.items step) c.in-Need.is c.in_ok-exec.ensures.step in
     let told = c.as_slice.ensures.value ∙ need_told m c.requires.kept bound cover pass own is c.requires.present c.in-Need.granules step in
@@ -102,7 +102,7 @@ reply_behind_moves-requires-clause-present g c =
     let cover = c.in_ok-cover.cover in
     let pass = option_map (λ p. p.now) c.as_ref-migration.result in
     let own : pass ≡ m.pass = lent c.as_ref-migration.result ∙ (c.as_ref-migration.ensures.value ∙ c.migration-pass.ensures.pass) in
-    let is : IsCoverOf (option_map (λ (p : Where Kept). p.value) pass) bound cover = subst (λ (o : Option Kept). IsCoverOf o bound cover) (lent_then (λ (p : Where Kept). p.value) c.as_ref-migration.result) c.in_ok-cover.ensures in
+    let is : IsEnough m (option_map (λ (p : Where Kept). p.value) pass) bound cover = subst (λ (o : Option Kept). IsEnough m o bound cover) (lent_then (λ (p : Where Kept). p.value) c.as_ref-migration.result) c.in_ok-cover.ensures in
     let same : c.exec.new.self ≡ m = c.exec.ensures.same (not_replied c.exec.result c.in-Need.granules (c.in_ok-exec.was ∙ ap Ok c.in-Need.is)) in
     let step : IsStep m pass bound cover.granules.items (Need c.in-Need.granules) = subst (λ (step : Step). IsStep m pass bound cover.granules.items step) c.in-Need.is c.in_ok-exec.ensures.step in
     let told = c.as_slice.ensures.value ∙ need_told m c.requires.kept bound cover pass own is c.requires.present c.in-Need.granules step in
@@ -116,12 +116,23 @@ reply_behind_moves-requires-clause-moved g c =
     let cover = c.in_ok-cover.cover in
     let pass = option_map (λ p. p.now) c.as_ref-migration.result in
     let own : pass ≡ m.pass = lent c.as_ref-migration.result ∙ (c.as_ref-migration.ensures.value ∙ c.migration-pass.ensures.pass) in
-    let is : IsCoverOf (option_map (λ (p : Where Kept). p.value) pass) bound cover = subst (λ (o : Option Kept). IsCoverOf o bound cover) (lent_then (λ (p : Where Kept). p.value) c.as_ref-migration.result) c.in_ok-cover.ensures in
+    let is : IsEnough m (option_map (λ (p : Where Kept). p.value) pass) bound cover = subst (λ (o : Option Kept). IsEnough m o bound cover) (lent_then (λ (p : Where Kept). p.value) c.as_ref-migration.result) c.in_ok-cover.ensures in
     let same : c.exec.new.self ≡ m = c.exec.ensures.same (not_replied c.exec.result c.in-Need.granules (c.in_ok-exec.was ∙ ap Ok c.in-Need.is)) in
     let step : IsStep m pass bound cover.granules.items (Need c.in-Need.granules) = subst (λ (step : Step). IsStep m pass bound cover.granules.items step) c.in-Need.is c.in_ok-exec.ensures.step in
     let told = c.as_slice.ensures.value ∙ need_told m c.requires.kept bound cover pass own is c.requires.present c.in-Need.granules step in
     let by : MovesAll m c.as_slice.result.now c.move_need.new.machine = subst (λ (k : Machine). MovesAll k c.as_slice.result.now c.move_need.new.machine) same c.in_ok-move_need-in-Need.ensures.moves in
     none_then m c.requires.kept bound cover pass own is c.requires.present c.as_slice.result.now told c.move_need.new.machine by
+
+pub reply_behind_moves-requires-clause-cover : goal.reply_behind_moves-requires-clause-cover
+reply_behind_moves-requires-clause-cover g c =
+    let m : Machine = c.args.machine.now in
+    let bound = c.args.bound.now in
+    let cover = c.in_ok-cover.cover in
+    let pass = option_map (λ p. p.now) c.as_ref-migration.result in
+    let own : pass ≡ m.pass = lent c.as_ref-migration.result ∙ (c.as_ref-migration.ensures.value ∙ c.migration-pass.ensures.pass) in
+    let is : IsEnough m (option_map (λ (p : Where Kept). p.value) pass) bound cover = subst (λ (o : Option Kept). IsEnough m o bound cover) (lent_then (λ (p : Where Kept). p.value) c.as_ref-migration.result) c.in_ok-cover.ensures in
+    let step : IsStep m pass bound cover.granules.items (Need c.in-Need.granules) = subst (λ (step : Step). IsStep m pass bound cover.granules.items step) c.in-Need.is c.in_ok-exec.ensures.step in
+    inl (subst (λ (o : Option Kept). IsCoverOf o bound cover) (sym (lent_then (λ (p : Where Kept). p.value) c.as_ref-migration.result)) (covers m c.requires.kept bound cover pass own is c.requires.present c.in-Need.granules step))
 
 pub unreachable-requires : goal.unreachable-requires
 unreachable-requires g c =
@@ -130,7 +141,7 @@ unreachable-requires g c =
     let cover = c.in_ok-cover.cover in
     let pass = option_map (λ p. p.now) c.as_ref-migration.result in
     let own : pass ≡ m.pass = lent c.as_ref-migration.result ∙ (c.as_ref-migration.ensures.value ∙ c.migration-pass.ensures.pass) in
-    let is : IsCoverOf (option_map (λ (p : Where Kept). p.value) pass) bound cover = subst (λ (o : Option Kept). IsCoverOf o bound cover) (lent_then (λ (p : Where Kept). p.value) c.as_ref-migration.result) c.in_ok-cover.ensures in
+    let is : IsEnough m (option_map (λ (p : Where Kept). p.value) pass) bound cover = subst (λ (o : Option Kept). IsEnough m o bound cover) (lent_then (λ (p : Where Kept). p.value) c.as_ref-migration.result) c.in_ok-cover.ensures in
     not_stale m pass bound cover.granules.items (is_present m c.requires.kept bound cover pass own is c.requires.present) c.in-Stale.field-0
     (subst (λ (step : Step). IsStep m pass bound cover.granules.items step) c.in-Stale.is c.in_ok-exec.ensures.step)
 
@@ -141,7 +152,7 @@ returns-in-Need-clause-replied g c =
     let cover = c.in_ok-cover.cover in
     let pass = option_map (λ p. p.now) c.as_ref-migration.result in
     let own : pass ≡ m.pass = lent c.as_ref-migration.result ∙ (c.as_ref-migration.ensures.value ∙ c.migration-pass.ensures.pass) in
-    let is : IsCoverOf (option_map (λ (p : Where Kept). p.value) pass) bound cover = subst (λ (o : Option Kept). IsCoverOf o bound cover) (lent_then (λ (p : Where Kept). p.value) c.as_ref-migration.result) c.in_ok-cover.ensures in
+    let is : IsEnough m (option_map (λ (p : Where Kept). p.value) pass) bound cover = subst (λ (o : Option Kept). IsEnough m o bound cover) (lent_then (λ (p : Where Kept). p.value) c.as_ref-migration.result) c.in_ok-cover.ensures in
     let same : c.exec.new.self ≡ m = c.exec.ensures.same (not_replied c.exec.result c.in-Need.granules (c.in_ok-exec.was ∙ ap Ok c.in-Need.is)) in
     let step : IsStep m pass bound cover.granules.items (Need c.in-Need.granules) = subst (λ (step : Step). IsStep m pass bound cover.granules.items step) c.in-Need.is c.in_ok-exec.ensures.step in
     let told = c.as_slice.ensures.value ∙ need_told m c.requires.kept bound cover pass own is c.requires.present c.in-Need.granules step in
@@ -155,7 +166,7 @@ returns-in_err-move_need-in-Need-clause-err g c =
     let cover = c.in_ok-cover.cover in
     let pass = option_map (λ p. p.now) c.as_ref-migration.result in
     let own : pass ≡ m.pass = lent c.as_ref-migration.result ∙ (c.as_ref-migration.ensures.value ∙ c.migration-pass.ensures.pass) in
-    let is : IsCoverOf (option_map (λ (p : Where Kept). p.value) pass) bound cover = subst (λ (o : Option Kept). IsCoverOf o bound cover) (lent_then (λ (p : Where Kept). p.value) c.as_ref-migration.result) c.in_ok-cover.ensures in
+    let is : IsEnough m (option_map (λ (p : Where Kept). p.value) pass) bound cover = subst (λ (o : Option Kept). IsEnough m o bound cover) (lent_then (λ (p : Where Kept). p.value) c.as_ref-migration.result) c.in_ok-cover.ensures in
     let same : c.exec.new.self ≡ m = c.exec.ensures.same (not_replied c.exec.result c.in-Need.granules (c.in_ok-exec.was ∙ ap Ok c.in-Need.is)) in
     let step : IsStep m pass bound cover.granules.items (Need c.in-Need.granules) = subst (λ (step : Step). IsStep m pass bound cover.granules.items step) c.in-Need.is c.in_ok-exec.ensures.step in
     let told = c.as_slice.ensures.value ∙ need_told m c.requires.kept bound cover pass own is c.requires.present c.in-Need.granules step in
@@ -180,7 +191,7 @@ returns-in_err-reply_behind_moves-in-Need-clause-err g c =
     let cover = c.in_ok-cover.cover in
     let pass = option_map (λ p. p.now) c.as_ref-migration.result in
     let own : pass ≡ m.pass = lent c.as_ref-migration.result ∙ (c.as_ref-migration.ensures.value ∙ c.migration-pass.ensures.pass) in
-    let is : IsCoverOf (option_map (λ (p : Where Kept). p.value) pass) bound cover = subst (λ (o : Option Kept). IsCoverOf o bound cover) (lent_then (λ (p : Where Kept). p.value) c.as_ref-migration.result) c.in_ok-cover.ensures in
+    let is : IsEnough m (option_map (λ (p : Where Kept). p.value) pass) bound cover = subst (λ (o : Option Kept). IsEnough m o bound cover) (lent_then (λ (p : Where Kept). p.value) c.as_ref-migration.result) c.in_ok-cover.ensures in
     let same : c.exec.new.self ≡ m = c.exec.ensures.same (not_replied c.exec.result c.in-Need.granules (c.in_ok-exec.was ∙ ap Ok c.in-Need.is)) in
     let step : IsStep m pass bound cover.granules.items (Need c.in-Need.granules) = subst (λ (step : Step). IsStep m pass bound cover.granules.items step) c.in-Need.is c.in_ok-exec.ensures.step in
     let told = c.as_slice.ensures.value ∙ need_told m c.requires.kept bound cover pass own is c.requires.present c.in-Need.granules step in
@@ -215,7 +226,7 @@ returns-in-Replied-clause-replied g c =
     let cover = c.in_ok-cover.cover in
     let pass = option_map (λ p. p.now) c.as_ref-migration.result in
     let own : pass ≡ m.pass = lent c.as_ref-migration.result ∙ (c.as_ref-migration.ensures.value ∙ c.migration-pass.ensures.pass) in
-    let is : IsCoverOf (option_map (λ (p : Where Kept). p.value) pass) bound cover = subst (λ (o : Option Kept). IsCoverOf o bound cover) (lent_then (λ (p : Where Kept). p.value) c.as_ref-migration.result) c.in_ok-cover.ensures in
+    let is : IsEnough m (option_map (λ (p : Where Kept). p.value) pass) bound cover = subst (λ (o : Option Kept). IsEnough m o bound cover) (lent_then (λ (p : Where Kept). p.value) c.as_ref-migration.result) c.in_ok-cover.ensures in
     let step : IsStep m pass bound cover.granules.items Replied = subst (λ (step : Step). IsStep m pass bound cover.granules.items step) c.in-Replied.is c.in_ok-exec.ensures.step in
     let none : left_of_need m bound ≡ [] = nothing_to_move m c.requires.kept bound cover pass own is c.requires.present step in
     (m, subst (λ (gs : List Granule). MovesAll m gs m) (sym none) no_move, c.exec.ensures.replied (c.in_ok-exec.was ∙ ap Ok c.in-Replied.is))
