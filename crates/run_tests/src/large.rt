@@ -1,6 +1,7 @@
-//! Migrations of more rows than a page of a table has.
+//! A migration of as many rows as one may have.
 
-use crate::call::reports_alone;
+use crate::call::writes;
+use bf_run::Status;
 use std::alloc::{AllocError, Global};
 use std::test::Fail;
 
@@ -14,30 +15,25 @@ fn tuples(alloc: Global, first: u32, last: u32, beside: u32) -> Result<String, A
     Ok(text)
 }
 
-#[test]
-fn moves_rows_of_several_pages(rt: HostRuntime) -> Result<(), Fail> {
-    let alloc = rt.alloc();
-    let sevens = tuples(alloc, 1, 50, 7)?;
-    let eights = tuples(alloc, 51, 130, 8)?;
-    let start = [
-        "PHASE; SESSION; CREATE TABLE t (id INT, n INT, PRIMARY KEY (id)); INSERT INTO t VALUES ",
-        sevens.as_str(),
-        ", ",
-        eights.as_str(),
-        "; MIGRATE (CREATE TABLE u AS SELECT id, n FROM t); SELECT COUNT(*), SUM(id) FROM u WHERE n = 8;",
-        "MIGRATE (CREATE TABLE v AS SELECT id, n FROM u); SELECT COUNT(*), MIN(id), MAX(id) FROM v WHERE n = 7;",
-    ];
-    let made = "1.1 created\n1.2 inserted 130\n1.3 migrated 1\n1.4 rows 1\n1.4 | 80, 7240\n";
-    let again = "1.5 migrated 1\n1.6 rows 1\n1.6 | 50, 1, 50\n";
-    let told = "1 moved 80 next unit 0 position 0";
-    assert!(rt; reports_alone(&rt, alloc, &start[..5], &[made], 4, told)?);
-    let told = "2 moved 50 next unit 0 position 50";
-    assert!(rt; reports_alone(&rt, alloc, &start, &[made, again], 6, told)?);
-    Ok(())
-}
-
 /// The most rows that a table may have of which a MIGRATE makes others.
 const MOST_ROWS: u32 = 1 << 20;
+
+/// With one row more a MIGRATE is refused, and without it is not.
+const REPORT: &[u8] = b"1.1 created
+1.2 inserted 1048577
+1.3 E17 too many rows t 1048577
+1.4 deleted 1
+1.5 migrated 1
+1.6 rows 1
+1.6 | 3, 7
+entry 1 session 1 from 1 to 1 committed 1
+entry 2 session 1 from 2 to 2 committed 2
+entry 3 session 1 from 3 to 3 committed 3
+entry 4 session 1 from 4 to 4 committed 4
+entry 5 session 1 from 5 to 5 committed 5
+entry 6 session 1 from 6 to 6 committed 6
+end commits 6 migration 1 moved 1 next unit 0 position 0
+";
 
 #[test]
 fn a_migrate_reads_so_many_rows_and_no_more(rt: HostRuntime) -> Result<(), Fail> {
@@ -49,9 +45,6 @@ fn a_migrate_reads_so_many_rows_and_no_more(rt: HostRuntime) -> Result<(), Fail>
         "; MIGRATE (CREATE TABLE u AS SELECT id, n FROM t); DELETE FROM t WHERE id = 0;",
         "MIGRATE (CREATE TABLE u AS SELECT id, n FROM t); SELECT * FROM u WHERE id = 3;",
     ];
-    let made = "1.1 created\n1.2 inserted 1048577\n1.3 E17 too many rows t 1048577\n";
-    let again = "1.4 deleted 1\n1.5 migrated 1\n1.6 rows 1\n1.6 | 3, 7\n";
-    let told = "1 moved 1 next unit 0 position 0";
-    assert!(rt; reports_alone(&rt, alloc, &script, &[made, again], 6, told)?);
+    assert!(rt; writes(&rt, alloc, &["try"], &script, Status::Done, REPORT)?);
     Ok(())
 }
