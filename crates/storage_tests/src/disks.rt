@@ -64,25 +64,34 @@ fn reads_what_was_written(rt: HostRuntime) -> Result<(), Fail> {
     Ok(())
 }
 
+// A disk in memory of two bytes.
+fn in_memory(alloc: Global) -> Result<MemoryDisk, DiskError> {
+    let mut memory = MemoryDisk::new(alloc);
+    memory.write_at(0, b"pq")?;
+    Ok(memory)
+}
+
 #[test]
 fn reads_what_was_written_to_memory(rt: HostRuntime) -> Result<(), Fail> {
-    let mut memory = MemoryDisk::new(rt.alloc());
-    memory.write_at(0, b"pq")?;
+    let mut memory = in_memory(rt.alloc())?;
     assert_eq!(rt; synced_len(&mut memory)?, 2);
     assert_eq!(rt; memory.bytes(), b"pq".as_slice());
     Ok(())
 }
 
+// What a crash puts in the place of pending bytes, and the bytes that it leaves.
+const TORN: [(&[u8], &[u8]); 5] = [
+    (b"", b"abcd\0\0\0"),
+    (b"\0", b"abcd\0\0\0"),
+    (b"\xa5", b"abcd\xa5\xa5\xa5"),
+    (b"12", b"abcd121"),
+    (b"1234", b"abcd123"),
+];
+
 #[test]
 fn tears_what_is_pending(rt: HostRuntime) -> Result<(), Fail> {
     let disk = half_written(rt.alloc())?;
-    for (torn, image) in [
-        (b"".as_slice(), b"abcd\0\0\0".as_slice()),
-        (b"\0".as_slice(), b"abcd\0\0\0".as_slice()),
-        (b"\xa5".as_slice(), b"abcd\xa5\xa5\xa5".as_slice()),
-        (b"12".as_slice(), b"abcd121".as_slice()),
-        (b"1234".as_slice(), b"abcd123".as_slice()),
-    ] {
+    for (torn, image) in TORN {
         assert!(rt; leaves(rt.alloc(), &disk, torn, image)?, "torn {torn:?}");
     }
     assert!(rt; leaves_before(rt.alloc(), &disk, 1, b"abcdef")?);

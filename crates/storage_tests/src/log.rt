@@ -1,5 +1,9 @@
 //! The log: its bytes, its limits, hostile files, and a fault or a crash at each call.
 
+ghost use Rattle.std.specs.Prelude.{◌≡◌, ◌≤◌, IsTrue};
+ghost use Rattle.bf_log.specs.Format.{longest_payload};
+ghost use Rattle.bf_log.specs.Opening.{progress_of};
+
 mod crashes;
 mod faults;
 mod format;
@@ -11,7 +15,9 @@ mod records;
 use crate::fixtures::tape;
 use bf_base::Memory;
 use bf_disk::{Disk, TapeDisk};
-use bf_log::{AppendError, CreateError, Log, Next, OpenError, Opening, create_log, open_log};
+use bf_log::{
+    AppendError, CreateError, Log, Next, OpenError, Opening, Progress, create_log, open_log,
+};
 use std::alloc::Global;
 use std::process::Abort;
 use std::test::Fail;
@@ -19,21 +25,61 @@ use std::test::Fail;
 // What a crash may put in the place of pending bytes.
 const TORN: [&[u8]; 4] = [b"", b"\0", b"\xa5", b"\xa5\x01\0\x5a"];
 
+// The calls of a log by what they answer alone: no test needs more of what they promise.
+
+fn make<D: Disk>(disk: &mut D) -> Result<(), CreateError> {
+    create_log(disk)
+}
+
+fn open<D: Disk>(alloc: Global, disk: D) -> Result<Opening<D>, (D, OpenError)> {
+    open_log(alloc, disk)
+}
+
+fn next<D: Disk>(alloc: Global, opening: &mut Opening<D>) -> Result<Next, OpenError> {
+    opening.next_payload(alloc)
+}
+
+fn append<D: Disk>(
+    log: &mut Log<D>,
+    payload: &[u8],
+    largest: u32,
+    limit: u64,
+) -> Result<u64, AppendError>
+    requires { largest ≤ longest_payload }
+{
+    log.append(payload, largest, limit)
+}
+
+// Whether a read finds the end.
+fn is_at_end<R: Abort, D: Disk>(rt: &R, alloc: Global, opening: &mut Opening<D>) -> bool
+    ensures { IsTrue result → progress_of opening.new ≡ Progress.Ended }
+{
+    match opening.next_payload(alloc) {
+        Ok(Next::End) => true,
+        Ok(Next::Payload(_, _)) => false,
+        Err(e) => panic!(rt; "{e}"),
+    }
+}
+
 // A log at its end.
 fn opened<R: Abort, D: Disk + Drop>(rt: &R, alloc: Global, disk: D) -> Log<D> {
-    let mut opening = match open_log(alloc, disk) {
+    let mut opening = match open(alloc, disk) {
         Ok(opening) => opening,
         Err((_, e)) => panic!(rt; "{e}"),
     };
     for _ in 0..2000 {
-        if let Next::End = opening
-            .next_payload(alloc)
-            .expect(rt, "a payload or the end")
-        {
+        if is_at_end(rt, alloc, &mut opening) {
             return opening.into_log();
         }
     }
     panic!(rt; "more than 2000 payloads")
+}
+
+// Appends a payload, and a bar behind it.
+fn push(payloads: &mut Vec<u8>, payload: &[u8]) -> Result<(), Memory> {
+    payloads.extend_from_slice(payload)?;
+    payloads.push(b'|')?;
+    Ok(())
 }
 
 // What is read from there on: each payload with a bar behind it, and the error that ended it.
@@ -44,11 +90,8 @@ fn read_on<R: Abort, D: Disk>(
 ) -> Result<(Vec<u8>, Option<OpenError>), Memory> {
     let mut payloads = Vec::new(alloc);
     for _ in 0..100 {
-        match opening.next_payload(alloc) {
-            Ok(Next::Payload(_, payload)) => {
-                payloads.extend_from_slice(payload.as_slice())?;
-                payloads.push(b'|')?;
-            }
+        match next(alloc, opening) {
+            Ok(Next::Payload(_, payload)) => push(&mut payloads, payload.as_slice())?,
             Ok(Next::End) => return Ok((payloads, None)),
             Err(e) => return Ok((payloads, Some(e))),
         }
@@ -62,7 +105,7 @@ fn read_all<R: Abort, D: Disk + Drop>(
     alloc: Global,
     disk: D,
 ) -> Result<(Vec<u8>, Option<OpenError>), Memory> {
-    match open_log(alloc, disk) {
+    match open(alloc, disk) {
         Ok(opening) => {
             let mut opening = opening;
             read_on(rt, alloc, &mut opening)

@@ -1,11 +1,11 @@
 ghost use Rattle.std.specs.Prelude.{◌≡◌, ◌<◌, ◌≤◌, []};
+ghost use Rattle.bf_bits.specs.Seats.{Holds};
 
 use bf_base::Memory;
 use bf_bits::{BitAnswer, BitSeat, Bits, Look};
 use std::alloc::Global;
-use std::process::Abort;
 use std::test::*;
-use std::thread::join;
+use std::thread::{Threads, join};
 
 // Claims a granule, and finishes it where the claim is granted.
 fn finish_one(bits: &Bits, seat: &mut BitSeat, at: u32) -> u32
@@ -46,24 +46,42 @@ fn told(answer: BitAnswer) -> &'static str {
     }
 }
 
-// Looks at the granule before one, which is done, and at the one behind it, which is free.
-fn looks_around(rt: &impl Abort, bits: &Bits, seat: &mut BitSeat, at: u32)
+// What a look at a granule finds.
+fn look(bits: &Bits, seat: &mut BitSeat, at: u32) -> Look
     requires at { at < bits.now.granules }
     requires own { seat.old.table ≡ bits.now.table }
     ensures own { seat.new.table ≡ seat.old.table }
     ensures held { seat.new.view.held ≡ seat.old.view.held }
 {
-    if 0 < at {
-        assert_eq!(rt; bits.look(seat, at - 1), Look::Done);
-    }
-    let granules = bits.granules();
-    if at + 1 < granules {
-        assert_eq!(rt; bits.look(seat, at + 1), Look::Free);
-    }
+    bits.look(seat, at)
 }
 
-// Claims a free granule, and gives it back.
-fn claim_and_give_back(rt: &impl Abort, bits: &Bits, seat: &mut BitSeat, at: u32)
+// Whether the granule before one is done, and the one behind it is free.
+fn stands_between(bits: &Bits, seat: &mut BitSeat, at: u32) -> bool
+    requires at { at < bits.now.granules }
+    requires own { seat.old.table ≡ bits.now.table }
+    ensures own { seat.new.table ≡ seat.old.table }
+    ensures held { seat.new.view.held ≡ seat.old.view.held }
+{
+    let before = at == 0 || look(bits, seat, at - 1) == Look::Done;
+    let granules = bits.granules();
+    before && (granules <= at + 1 || look(bits, seat, at + 1) == Look::Free)
+}
+
+// Whether a granule that a seat holds is found held, and a claim of it answered busy.
+fn stays_held(bits: &Bits, seat: &mut BitSeat, at: u32) -> bool
+    requires at { at < bits.now.granules }
+    requires own { seat.old.table ≡ bits.now.table }
+    requires held { Holds seat.old at }
+    ensures own { seat.new.table ≡ seat.old.table }
+    ensures held { seat.new.view.held ≡ seat.old.view.held }
+{
+    let answer = bits.claim(seat, at);
+    told(answer) == "busy" && look(bits, seat, at) == Look::Held
+}
+
+// Claims a granule, and gives it back: whether the claim was granted, and the granule was held.
+fn claims_and_gives_back(bits: &Bits, seat: &mut BitSeat, at: u32) -> bool
     requires at { at < bits.now.granules }
     requires own { seat.old.table ≡ bits.now.table }
     ensures own { seat.new.table ≡ seat.old.table }
@@ -71,34 +89,45 @@ fn claim_and_give_back(rt: &impl Abort, bits: &Bits, seat: &mut BitSeat, at: u32
 {
     match bits.claim(seat, at) {
         BitAnswer::Claimed(claim) => {
-            assert_eq!(rt; bits.look(seat, at), Look::Held);
-            assert_eq!(rt; told(bits.claim(seat, at)), "busy");
+            let held = stays_held(bits, seat, at);
             bits.give_back(seat, claim);
+            held
         }
-        BitAnswer::Busy | BitAnswer::Done => panic!(rt; "{at} was free"),
+        BitAnswer::Busy | BitAnswer::Done => false,
     }
 }
 
-// Takes a free granule through all of its states.
-fn goes_through_its_states(rt: &impl Abort, bits: &Bits, seat: &mut BitSeat, at: u32)
+// Whether a free granule is claimed and given back, and is free again.
+fn comes_back(bits: &Bits, seat: &mut BitSeat, at: u32) -> bool
     requires at { at < bits.now.granules }
     requires own { seat.old.table ≡ bits.now.table }
     ensures own { seat.new.table ≡ seat.old.table }
 {
-    assert_eq!(rt; bits.look(seat, at), Look::Free);
-    claim_and_give_back(rt, bits, seat, at);
-    assert_eq!(rt; bits.look(seat, at), Look::Free);
-    looks_around(rt, bits, seat, at);
-    assert_eq!(rt; finish_one(bits, seat, at), 1);
-    assert_eq!(rt; bits.look(seat, at), Look::Done);
-    looks_around(rt, bits, seat, at);
+    look(bits, seat, at) == Look::Free
+        && claims_and_gives_back(bits, seat, at)
+        && look(bits, seat, at) == Look::Free
+        && stands_between(bits, seat, at)
 }
 
+// Whether a free granule is claimed and finished, and is done.
+fn is_finished(bits: &Bits, seat: &mut BitSeat, at: u32) -> bool
+    requires at { at < bits.now.granules }
+    requires own { seat.old.table ≡ bits.now.table }
+    ensures own { seat.new.table ≡ seat.old.table }
+{
+    finish_one(bits, seat, at) == 1
+        && look(bits, seat, at) == Look::Done
+        && stands_between(bits, seat, at)
+}
+
+// Each granule is taken through all of its states, while those before it are done and those behind
+// it are free.
 #[test]
 fn each_position_of_three_words_is_its_own(rt: HostRuntime) -> Result<(), Fail> {
     let (bits, mut seat) = Bits::of_done(rt.alloc(), 96, &[])?;
     for at in 0..96 {
-        goes_through_its_states(&rt, &bits, &mut seat, at);
+        assert!(rt; comes_back(&bits, &mut seat, at), "granule {at}");
+        assert!(rt; is_finished(&bits, &mut seat, at), "granule {at}");
     }
     Ok(())
 }
@@ -114,15 +143,35 @@ fn closed(alloc: Global, bits: Bits, seat: BitSeat) -> Result<Vec<u32>, Memory>
     }
 }
 
+// What looks at granules at and beside the ends of two words find.
+fn looks_at_ends(bits: &Bits, seat: &mut BitSeat) -> [Look; 6]
+    requires granules { 63 < bits.now.granules }
+    requires own { seat.old.table ≡ bits.now.table }
+    ensures own { seat.new.table ≡ seat.old.table }
+    ensures held { seat.new.view.held ≡ seat.old.view.held }
+{
+    [
+        look(bits, seat, 0),
+        look(bits, seat, 1),
+        look(bits, seat, 31),
+        look(bits, seat, 32),
+        look(bits, seat, 62),
+        look(bits, seat, 63),
+    ]
+}
+
 #[test]
 fn a_done_list_stands_at_both_ends(rt: HostRuntime) -> Result<(), Fail> {
     let (bits, mut seat) = Bits::of_done(rt.alloc(), 64, &[0, 63])?;
-    assert_eq!(rt; bits.look(&mut seat, 0), Look::Done);
-    assert_eq!(rt; bits.look(&mut seat, 1), Look::Free);
-    assert_eq!(rt; bits.look(&mut seat, 31), Look::Free);
-    assert_eq!(rt; bits.look(&mut seat, 32), Look::Free);
-    assert_eq!(rt; bits.look(&mut seat, 62), Look::Free);
-    assert_eq!(rt; bits.look(&mut seat, 63), Look::Done);
+    let ends = [
+        Look::Done,
+        Look::Free,
+        Look::Free,
+        Look::Free,
+        Look::Free,
+        Look::Done,
+    ];
+    assert_eq!(rt; looks_at_ends(&bits, &mut seat), ends);
     let done = closed(rt.alloc(), bits, seat)?;
     assert_eq!(rt; done.as_slice(), [0, 63].as_slice());
     Ok(())
@@ -138,42 +187,75 @@ fn a_tracker_may_have_no_granule(rt: HostRuntime) -> Result<(), Fail> {
 }
 
 // Two seats finish one granule each; one is joined into the first, and the other is let go.
+fn finish_apart(bits: &Bits, seat: &mut BitSeat)
+    requires granules { 39 < bits.now.granules }
+    requires own { seat.old.table ≡ bits.now.table }
+    requires none_held { seat.old.view.held ≡ [] }
+    ensures own { seat.new.table ≡ seat.old.table }
+    ensures none_held { seat.new.view.held ≡ [] }
+{
+    let mut joined = bits.split(seat);
+    let mut dropped = bits.split(&mut joined);
+    finish_one(bits, &mut joined, 33);
+    finish_one(bits, &mut dropped, 39);
+    bits.join_back(seat, joined);
+}
+
 #[test]
 fn what_any_seat_finished_is_done_at_the_close(rt: HostRuntime) -> Result<(), Fail> {
     let (bits, mut seat) = Bits::of_done(rt.alloc(), 40, &[7])?;
-    let mut joined = bits.split(&mut seat);
-    let mut dropped = bits.split(&mut joined);
-    finish_one(&bits, &mut joined, 33);
-    finish_one(&bits, &mut dropped, 39);
-    bits.join_back(&mut seat, joined);
-    drop(dropped);
+    finish_apart(&bits, &mut seat);
     let done = closed(rt.alloc(), bits, seat)?;
     assert_eq!(rt; done.as_slice(), [7, 33, 39].as_slice());
     Ok(())
+}
+
+// What a claim of a granule is answered. The claim is let go, and the granule stays held.
+fn claimed(bits: &Bits, seat: &mut BitSeat, at: u32) -> &'static str
+    requires at { at < bits.now.granules }
+    requires own { seat.old.table ≡ bits.now.table }
+    ensures own { seat.new.table ≡ seat.old.table }
+{
+    told(bits.claim(seat, at))
 }
 
 #[test]
 fn another_seat_is_answered_busy(rt: HostRuntime) -> Result<(), Fail> {
     let (bits, mut seat) = Bits::of_done(rt.alloc(), 40, &[])?;
     let mut other = bits.split(&mut seat);
-    assert_eq!(rt; told(bits.claim(&mut seat, 33)), "claimed");
-    assert_eq!(rt; told(bits.claim(&mut other, 33)), "busy");
-    assert_eq!(rt; bits.look(&mut other, 33), Look::Held);
+    assert_eq!(rt; claimed(&bits, &mut seat, 33), "claimed");
+    assert_eq!(rt; claimed(&bits, &mut other, 33), "busy");
+    assert_eq!(rt; look(&bits, &mut other, 33), Look::Held);
     Ok(())
+}
+
+// Two threads finish what granules they can. Answers the seat of both, and how many those were.
+fn work_by_two(rt: &(impl Threads + Sync), bits: &Bits, mut seat: BitSeat) -> (BitSeat, u64)
+    requires own { seat.table ≡ bits.now.table }
+    requires none_held { seat.view.held ≡ [] }
+    ensures own { result.0.table ≡ bits.now.table }
+    ensures none_held { result.0.view.held ≡ [] }
+{
+    let other = bits.split(&mut seat);
+    let (one, two) = join(rt, move || work(bits, seat), move || work(bits, other));
+    let (mut seat, mine) = one;
+    let (other, theirs) = two;
+    bits.join_back(&mut seat, other);
+    (seat, mine as u64 + theirs as u64)
+}
+
+// Whether these are the numbers from 0 up to an end.
+fn are_all(done: &[u32], end: u32) -> bool {
+    done.iter().copied().eq(0..end)
 }
 
 // Whatever the schedule, each granule is finished by one of the two threads, and by one alone.
 #[test]
 fn two_threads_finish_each_granule_once(rt: HostRuntime) -> Result<(), Fail> {
-    let (bits, mut seat) = Bits::of_done(rt.alloc(), 5000, &[])?;
-    let other = bits.split(&mut seat);
-    let shared = &bits;
-    let (one, two) = join(&rt, move || work(shared, seat), move || work(shared, other));
-    let (mut seat, mine) = one;
-    let (other, theirs) = two;
-    assert_eq!(rt; mine as u64 + theirs as u64, 5000);
-    bits.join_back(&mut seat, other);
+    let (bits, seat) = Bits::of_done(rt.alloc(), 5000, &[])?;
+    let (seat, finished) = work_by_two(&rt, &bits, seat);
+    assert_eq!(rt; finished, 5000);
     let done = closed(rt.alloc(), bits, seat)?;
-    assert!(rt; done.iter().copied().eq(0..5000));
+    assert!(rt; are_all(done.as_slice(), 5000));
     Ok(())
 }

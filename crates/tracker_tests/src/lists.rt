@@ -1,5 +1,4 @@
-ghost use Rattle.std.specs.Prelude.{◌≡◌, ◌<◌, [], ◌∷◌, pos, length, IfOk, IfSome};
-ghost use Rattle.bf_drive.specs.Lists.{Lacks, granules_in, most_granules};
+ghost use Rattle.std.specs.Prelude.{◌≡◌, [], ◌∷◌, pos, length, IfOk, IfSome};
 
 use crate::fixtures::claimed;
 use bf_base::{Granule, Memory, Place, Value};
@@ -47,52 +46,83 @@ fn push_row(wip: &mut Wip, claim: BitClaim)
 
 // A row's granule, by the claim that a stripe granted for its key.
 fn push_number(wip: &mut Wip, claim: HashClaim, number: u32)
-    requires few { length wip.old < most_granules }
-    requires different { Lacks (granules_in wip.old)
-        (record { unit = 0; place = Place.Row number }) }
+    requires empty { wip.old ≡ [] }
     requires key { claim.key ≡ Value.Int (pos number) ∷ [] }
+    ensures { length wip.new ≡ 1 }
 {
     wip.push(row(number), Claim::Group(claim));
 }
 
-// Whether what was taken off last is a row's claim of this position.
-fn is_row(popped: &Option<(Granule, Claim)>, at: u32) -> bool {
-    match popped {
-        Some((granule, Claim::Row(claim))) => *granule == row(at) && claim.at() == at,
+fn is_row(entry: &(Granule, Claim), at: u32) -> bool {
+    match entry {
+        (granule, Claim::Row(claim)) => *granule == row(at) && claim.at() == at,
         _ => false,
     }
 }
 
+// Whether a list of one entry gives a row's claim of this position, and is empty then.
+fn gives_row(mut wip: Wip, at: u32) -> bool
+    requires { length wip ≡ 1 }
+{
+    let last = wip.pop();
+    let rest = wip.pop();
+    wip.end();
+    match last {
+        Some(entry) => is_row(&entry, at) && rest.is_none(),
+        None => false,
+    }
+}
+
+// Whether a list of one entry gives a claim of a key, and is empty then.
+fn gives_group(mut wip: Wip) -> bool
+    requires { length wip ≡ 1 }
+{
+    let last = wip.pop();
+    let rest = wip.pop();
+    wip.end();
+    matches!(last, Some((_, Claim::Group(_)))) && rest.is_none()
+}
+
+// Whether the granule at an index is the row of this position.
+fn stands(wip: &Wip, index: u32, at: u32) -> bool {
+    wip.at(index) == Some(&row(at))
+}
+
+// Whether a list has no granule.
+fn is_empty(wip: &Wip) -> bool {
+    wip.len() == 0 && wip.at(0).is_none()
+}
+
+// Whether a list has the row of this position alone.
+fn has_one(wip: &Wip, at: u32) -> bool {
+    wip.len() == 1 && stands(wip, 0, at) && wip.at(1).is_none()
+}
+
 #[test]
 fn a_claim_comes_off_with_its_granule(rt: HostRuntime) -> Result<(), Fail> {
-    let alloc = rt.alloc();
-    let claim = claimed_row(alloc, 33)?.ok_or("granted")?;
-    let mut wip = Wip::new(alloc);
-    assert_eq!(rt; wip.len(), 0);
-    assert!(rt; wip.at(0).is_none());
+    let claim = claimed_row(rt.alloc(), 33)?.ok_or("granted")?;
+    let mut wip = Wip::new(rt.alloc());
+    assert!(rt; is_empty(&wip));
     push_row(&mut wip, claim);
-    assert_eq!(rt; wip.len(), 1);
-    assert!(rt; wip.at(0) == Some(&row(33)));
-    assert!(rt; wip.at(1).is_none());
-    assert!(rt; is_row(&wip.pop(), 33));
-    assert!(rt; wip.pop().is_none());
-    wip.end();
+    assert!(rt; has_one(&wip, 33));
+    assert!(rt; gives_row(wip, 33));
     Ok(())
 }
 
 // A stripe names a row by the one number of its position.
 #[test]
 fn a_row_may_be_claimed_by_its_number(rt: HostRuntime) -> Result<(), Fail> {
-    let alloc = rt.alloc();
-    let claim = claimed_number(alloc, 12)?.ok_or("granted")?;
-    let mut wip = Wip::new(alloc);
+    let claim = claimed_number(rt.alloc(), 12)?.ok_or("granted")?;
+    let mut wip = Wip::new(rt.alloc());
     push_number(&mut wip, claim, 12);
-    assert!(rt; wip.at(0) == Some(&row(12)));
-    let popped = wip.pop();
-    assert!(rt; matches!(&popped, Some((_, Claim::Group(_)))));
-    assert!(rt; wip.pop().is_none());
-    wip.end();
+    assert!(rt; has_one(&wip, 12));
+    assert!(rt; gives_group(wip));
     Ok(())
+}
+
+// Whether the granule at an index is the row of this position.
+fn skips(skip: &Skip, index: u32, at: u32) -> bool {
+    skip.at(index) == Some(&row(at))
 }
 
 #[test]
@@ -101,8 +131,8 @@ fn what_is_skipped_stands_in_order(rt: HostRuntime) -> Result<(), Fail> {
     skip.push(row(5));
     skip.push(row(3));
     assert_eq!(rt; skip.len(), 2);
-    assert!(rt; skip.at(0) == Some(&row(5)));
-    assert!(rt; skip.at(1) == Some(&row(3)));
+    assert!(rt; skips(&skip, 0, 5));
+    assert!(rt; skips(&skip, 1, 3));
     assert!(rt; skip.at(2).is_none());
     Ok(())
 }

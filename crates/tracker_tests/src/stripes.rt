@@ -14,6 +14,34 @@ fn told(alloc: Global, stripe: &mut Stripe, number: i64) -> Result<(&'static str
     }
 }
 
+// The ticket under which a stripe found a key held.
+fn held_under(state: HashState) -> Option<u64> {
+    match state {
+        HashState::Held(ticket) => Some(ticket),
+        HashState::Free | HashState::Done => None,
+    }
+}
+
+// Claims a key and gives it back, and answers the ticket under which it was held.
+fn given_back(alloc: Global, stripe: &mut Stripe, number: i64) -> Result<Option<u64>, Memory> {
+    match claimed(alloc, stripe, number)? {
+        Some(claim) => Ok(held_under(stripe.give_back(claim))),
+        None => Ok(None),
+    }
+}
+
+// Claims a key and finishes it, and answers the ticket under which it was held.
+fn finished(alloc: Global, stripe: &mut Stripe, number: i64) -> Result<Option<u64>, Memory> {
+    match claimed(alloc, stripe, number)? {
+        Some(claim) => Ok(held_under(stripe.finish(claim))),
+        None => Ok(None),
+    }
+}
+
+fn none_done(alloc: Global) -> Result<Stripe, Memory> {
+    Stripe::of_done(alloc, &[])
+}
+
 fn one_done(alloc: Global, number: i64) -> Result<Stripe, Memory> {
     let mut keys = Vec::new(alloc);
     keys.push(key(alloc, number)?)?;
@@ -22,47 +50,61 @@ fn one_done(alloc: Global, number: i64) -> Result<Stripe, Memory> {
 
 #[test]
 fn states_are_answered(rt: HostRuntime) -> Result<(), Fail> {
-    let alloc = rt.alloc();
-    let mut stripe = one_done(alloc, -3)?;
-    assert_eq!(rt; told(alloc, &mut stripe, -3)?, ("done", 0));
-    assert_eq!(rt; told(alloc, &mut stripe, 7)?, ("claimed", 1));
-    assert_eq!(rt; told(alloc, &mut stripe, 7)?, ("busy", 1));
+    let mut stripe = one_done(rt.alloc(), -3)?;
+    for (number, answer) in [(-3, ("done", 0)), (7, ("claimed", 1)), (7, ("busy", 1))] {
+        assert_eq!(rt; told(rt.alloc(), &mut stripe, number)?, answer);
+    }
     Ok(())
 }
 
 #[test]
 fn a_ticket_is_used_again_after_a_give_back(rt: HostRuntime) -> Result<(), Fail> {
-    let alloc = rt.alloc();
-    let mut stripe = Stripe::of_done(alloc, &[])?;
-    assert_eq!(rt; told(alloc, &mut stripe, 10)?, ("claimed", 1));
-    let claim = claimed(alloc, &mut stripe, 20)?.ok_or("granted")?;
-    assert_eq!(rt; stripe.give_back(claim), HashState::Held(2));
-    assert_eq!(rt; told(alloc, &mut stripe, 30)?, ("claimed", 2));
-    assert_eq!(rt; told(alloc, &mut stripe, 20)?, ("claimed", 3));
+    let mut stripe = none_done(rt.alloc())?;
+    assert_eq!(rt; told(rt.alloc(), &mut stripe, 10)?, ("claimed", 1));
+    assert_eq!(rt; given_back(rt.alloc(), &mut stripe, 20)?, Some(2));
+    for (number, ticket) in [(30, 2), (20, 3)] {
+        assert_eq!(rt; told(rt.alloc(), &mut stripe, number)?, ("claimed", ticket));
+    }
     Ok(())
 }
 
 #[test]
 fn a_ticket_is_used_again_after_a_finish(rt: HostRuntime) -> Result<(), Fail> {
-    let alloc = rt.alloc();
-    let mut stripe = Stripe::of_done(alloc, &[])?;
-    let claim = claimed(alloc, &mut stripe, 10)?.ok_or("granted")?;
-    assert_eq!(rt; stripe.finish(claim), HashState::Held(1));
-    assert_eq!(rt; told(alloc, &mut stripe, 10)?, ("done", 0));
-    assert_eq!(rt; told(alloc, &mut stripe, 20)?, ("claimed", 1));
+    let mut stripe = none_done(rt.alloc())?;
+    assert_eq!(rt; finished(rt.alloc(), &mut stripe, 10)?, Some(1));
+    for (number, answer) in [(10, ("done", 0)), (20, ("claimed", 1))] {
+        assert_eq!(rt; told(rt.alloc(), &mut stripe, number)?, answer);
+    }
     Ok(())
+}
+
+// A stripe in which one key is held.
+fn one_held(alloc: Global, number: i64) -> Result<Stripe, Fail> {
+    let mut stripe = none_done(alloc)?;
+    match told(alloc, &mut stripe, number)? {
+        ("claimed", 1) => Ok(stripe),
+        _ => Err("granted")?,
+    }
+}
+
+// Finishes a key by the second claim of another stripe, and answers the ticket under which it was held.
+fn finished_by_another(
+    alloc: Global,
+    stripe: &mut Stripe,
+    number: i64,
+) -> Result<Option<u64>, Fail> {
+    let mut other = one_held(alloc, 1)?;
+    match claimed(alloc, &mut other, number)? {
+        Some(claim) => Ok(held_under(stripe.finish(claim))),
+        None => Ok(None),
+    }
 }
 
 // A claim of another stripe has another ticket for the key: it finds the state, and changes nothing.
 #[test]
 fn another_ticket_changes_nothing(rt: HostRuntime) -> Result<(), Fail> {
-    let alloc = rt.alloc();
-    let mut other = Stripe::of_done(alloc, &[])?;
-    let mut stripe = Stripe::of_done(alloc, &[])?;
-    assert_eq!(rt; told(alloc, &mut other, 1)?, ("claimed", 1));
-    assert_eq!(rt; told(alloc, &mut stripe, 2)?, ("claimed", 1));
-    let claim = claimed(alloc, &mut other, 2)?.ok_or("granted")?;
-    assert_eq!(rt; stripe.finish(claim), HashState::Held(1));
-    assert_eq!(rt; told(alloc, &mut stripe, 2)?, ("busy", 1));
+    let mut stripe = one_held(rt.alloc(), 2)?;
+    assert_eq!(rt; finished_by_another(rt.alloc(), &mut stripe, 2)?, Some(1));
+    assert_eq!(rt; told(rt.alloc(), &mut stripe, 2)?, ("busy", 1));
     Ok(())
 }

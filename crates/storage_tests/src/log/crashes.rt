@@ -2,7 +2,7 @@ use super::*;
 
 fn created(alloc: Global) -> Result<TapeDisk, Fail> {
     let mut disk = tape(alloc, b"", &[])?;
-    create_log(&mut disk)?;
+    make(&mut disk)?;
     Ok(disk)
 }
 
@@ -10,7 +10,10 @@ fn created(alloc: Global) -> Result<TapeDisk, Fail> {
 // each append.
 fn two_records(rt: &impl Abort, alloc: Global) -> Result<TapeDisk, Fail> {
     let mut log = opened(rt, alloc, created(alloc)?);
-    let answers = (log.append(b"AB", 2, 99), log.append(b"C", 2, 99));
+    let answers = (
+        append(&mut log, b"AB", 2, 99),
+        append(&mut log, b"C", 2, 99),
+    );
     assert_eq!(rt; (answers, log.disk().calls()), ((Ok(1), Ok(2)), 15));
     Ok(log.into_disk())
 }
@@ -108,7 +111,7 @@ fn goes_on(
     wanted: &[u8],
 ) -> Result<(Result<u64, AppendError>, bool), Memory> {
     let mut log = opened(rt, alloc, left);
-    let answer = log.append(b"E", 2, 99);
+    let answer = append(&mut log, b"E", 2, 99);
     Ok((answer, reads(rt, alloc, log.into_disk(), wanted, None)?))
 }
 

@@ -6,9 +6,9 @@ fn created_twice(
     call: u64,
 ) -> Result<(Result<(), CreateError>, u64, u64, Result<(), CreateError>), Memory> {
     let mut disk = tape(alloc, b"", &[call])?;
-    let first = create_log(&mut disk);
+    let first = make(&mut disk);
     let (calls, faults) = (disk.calls(), disk.faults());
-    Ok((first, calls, faults, create_log(&mut disk)))
+    Ok((first, calls, faults, make(&mut disk)))
 }
 
 #[test]
@@ -24,7 +24,7 @@ fn creation_tells_a_fault(rt: HostRuntime) -> Result<(), Fail> {
 // A disk to which the magic was written, and whose sync failed.
 fn unsynced(alloc: Global) -> Result<TapeDisk, Fail> {
     let mut disk = tape(alloc, b"", &[3])?;
-    match create_log(&mut disk) {
+    match make(&mut disk) {
         Err(CreateError::DiskFault) => Ok(disk),
         _ => Err("no fault")?,
     }
@@ -50,7 +50,7 @@ fn what_was_opened_stays(rt: HostRuntime) -> Result<(), Fail> {
 
 // Whether an opening fails at a call, and gives a disk back from which the log is read.
 fn gives_back(rt: &impl Abort, alloc: Global, call: u64) -> Result<bool, Memory> {
-    match open_log(alloc, tape(alloc, b"BFROGLG1\xa5\x02\0\0\0AB\0", &[call])?) {
+    match open(alloc, tape(alloc, b"BFROGLG1\xa5\x02\0\0\0AB\0", &[call])?) {
         Ok(_) => Ok(false),
         Err((disk, error)) => {
             let stopped = error == OpenError::DiskFault && disk.calls() == call;
@@ -76,7 +76,7 @@ fn reads_again(
     after: &[u8],
 ) -> Result<bool, Fail> {
     let disk = tape(alloc, b"BFROGLG1\xa5\x02\0\0\0AB\xa5\x01\0\0\0C\0", &[call])?;
-    let mut opening = open_log(alloc, disk)?;
+    let mut opening = open(alloc, disk)?;
     let first = reads_on(rt, alloc, &mut opening, before, Some(OpenError::DiskFault))?;
     Ok(reads_on(rt, alloc, &mut opening, after, None)? && first)
 }
@@ -103,7 +103,7 @@ fn a_payload_is_read_again_after_a_fault(rt: HostRuntime) -> Result<(), Fail> {
 fn append_two<D: Disk>(log: &mut Log<D>) -> (u64, Option<AppendError>) {
     let mut acknowledged = 0;
     for payload in [b"AB".as_slice(), b"C".as_slice()] {
-        match log.append(payload, 2, 99) {
+        match append(log, payload, 2, 99) {
             Ok(number) => acknowledged = number,
             Err(e) => return (acknowledged, Some(e)),
         }
@@ -114,7 +114,7 @@ fn append_two<D: Disk>(log: &mut Log<D>) -> (u64, Option<AppendError>) {
 // A log of a file of which a call fails.
 fn failing(rt: &impl Abort, alloc: Global, call: u64) -> Result<Log<TapeDisk>, Fail> {
     let mut disk = tape(alloc, b"", &[call])?;
-    create_log(&mut disk)?;
+    make(&mut disk)?;
     Ok(opened(rt, alloc, disk))
 }
 
@@ -122,7 +122,7 @@ fn failing(rt: &impl Abort, alloc: Global, call: u64) -> Result<Log<TapeDisk>, F
 fn is_halted(log: &mut Log<TapeDisk>, calls: u64) -> bool {
     let told = log.halted();
     let halted = Err(AppendError::Halted(1));
-    let answers = (log.append(b"D", 2, 99), log.append(b"too large", 2, 0));
+    let answers = (append(log, b"D", 2, 99), append(log, b"too large", 2, 0));
     told == Some(1) && answers == (halted, halted) && log.disk().calls() == calls
 }
 
@@ -167,9 +167,9 @@ fn a_fault_halts_the_log(rt: HostRuntime) -> Result<(), Fail> {
 // Whether the first append of a log halts it, and it then tells of two faults.
 fn tells_all(log: &mut Log<TapeDisk>) -> bool {
     let before = log.halted();
-    let first = log.append(b"AB", 2, 99);
+    let first = append(log, b"AB", 2, 99);
     let then = log.halted();
-    let second = log.append(b"C", 2, 99);
+    let second = append(log, b"C", 2, 99);
     (before, then) == (None, Some(2))
         && (first, second) == (Err(AppendError::DiskFault), Err(AppendError::Halted(2)))
 }
@@ -177,7 +177,7 @@ fn tells_all(log: &mut Log<TapeDisk>) -> bool {
 // A disk with one fault in a first creation of a log, and one in the last sync of an append.
 fn made_again(alloc: Global) -> Result<TapeDisk, Fail> {
     let mut disk = tape(alloc, b"", &[2, 13])?;
-    match (create_log(&mut disk), create_log(&mut disk)) {
+    match (make(&mut disk), make(&mut disk)) {
         (Err(CreateError::DiskFault), Ok(())) => Ok(disk),
         _ => Err("another answer of the creations")?,
     }

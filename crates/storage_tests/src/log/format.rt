@@ -8,7 +8,7 @@ fn created(
     calls: u64,
 ) -> Result<(Result<(), CreateError>, bool), Memory> {
     let mut disk = tape(alloc, before, &[])?;
-    let answer = create_log(&mut disk);
+    let answer = make(&mut disk);
     Ok((answer, disk.bytes() == after && disk.calls() == calls))
 }
 
@@ -38,7 +38,7 @@ fn appended(
     payload: &[u8],
 ) -> Result<(Result<u64, AppendError>, TapeDisk), Memory> {
     let mut log = opened_bytes(rt, alloc, before)?;
-    let answer = log.append(payload, 1 << 30, 1 << 36);
+    let answer = append(&mut log, payload, 1 << 30, 1 << 36);
     Ok((answer, log.into_disk()))
 }
 

@@ -96,7 +96,7 @@ fn ends_again(
     end: Option<OpenError>,
     calls: u64,
 ) -> Result<bool, Fail> {
-    let mut opening = open_log(alloc, tape(alloc, bytes, &[])?)?;
+    let mut opening = open(alloc, tape(alloc, bytes, &[])?)?;
     let first = end_of(rt, alloc, &mut opening)?;
     let second = reads_on(rt, alloc, &mut opening, b"", end)?;
     let third = reads_on(rt, alloc, &mut opening, b"", end)?;

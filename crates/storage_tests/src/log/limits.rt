@@ -8,7 +8,7 @@ fn answers(
     limit: u64,
 ) -> (Option<AppendError>, Result<u64, AppendError>) {
     let refusal = log.refusal(payload.len() as u64, u32::from(largest), limit);
-    (refusal, log.append(payload, u32::from(largest), limit))
+    (refusal, append(log, payload, u32::from(largest), limit))
 }
 
 const LIMITS: [(&[u8], u8, u64, Result<u64, AppendError>); 11] = [

@@ -71,7 +71,7 @@ fn small_disk(alloc: Global, room: u64) -> SmallDisk {
 fn no_log_is_made_without_room(rt: HostRuntime) {
     for (room, answer) in [(8, Err(CreateError::Memory)), (9, Ok(()))] {
         let mut disk = small_disk(rt.alloc(), room);
-        assert_eq!(rt; create_log(&mut disk), answer, "room {room}");
+        assert_eq!(rt; make(&mut disk), answer, "room {room}");
     }
 }
 
@@ -79,7 +79,7 @@ fn no_log_is_made_without_room(rt: HostRuntime) {
 #[test]
 fn a_log_without_room_is_spent(rt: HostRuntime) -> Result<(), Fail> {
     let mut disk = small_disk(rt.alloc(), 16);
-    create_log(&mut disk)?;
+    make(&mut disk)?;
     let mut log = opened(&rt, rt.alloc(), disk);
     for (payload, limit) in [
         (b"abc".as_slice(), 99),
@@ -87,11 +87,11 @@ fn a_log_without_room_is_spent(rt: HostRuntime) -> Result<(), Fail> {
         (b"ab".as_slice(), 0),
         (b"too large".as_slice(), 99),
     ] {
-        let answer = log.append(payload, 3, limit);
+        let answer = append(&mut log, payload, 3, limit);
         assert_eq!(rt; answer, Err(AppendError::Memory), "{payload:?}");
         assert_eq!(rt; log.halted(), None);
     }
     let mut log = opened(&rt, rt.alloc(), log.into_disk());
-    assert_eq!(rt; log.append(b"ab", 3, 99), Ok(1));
+    assert_eq!(rt; append(&mut log, b"ab", 3, 99), Ok(1));
     Ok(())
 }

@@ -6,7 +6,7 @@ fn records_on(rt: &impl Abort, alloc: Global, records: u32, size: usize) -> Resu
     let mut log = opened_bytes(rt, alloc, b"BFROGLG1\0")?;
     let payload = vec![in alloc; b'x'; size]?;
     for _ in 0..records {
-        log.append(&payload, 1 << 30, 1 << 36)?;
+        append(&mut log, &payload, 1 << 30, 1 << 36)?;
     }
     Ok(log.into_disk())
 }
@@ -30,10 +30,10 @@ fn opening_reads_each_byte_once(rt: HostRuntime) -> Result<(), Fail> {
 // A log of the numbers from 1 on.
 fn numbered(rt: &impl Abort, alloc: Global, count: u32) -> Result<Log<MemoryDisk>, Fail> {
     let mut disk = MemoryDisk::new(alloc);
-    create_log(&mut disk)?;
+    make(&mut disk)?;
     let mut log = opened(rt, alloc, disk);
     for number in 1..=count {
-        let answer = log.append(&number.to_le_bytes(), 4, 1 << 36);
+        let answer = append(&mut log, &number.to_le_bytes(), 4, 1 << 36);
         assert_eq!(rt; answer, Ok(number as u64));
     }
     Ok(log)
@@ -45,7 +45,7 @@ fn next_gate(
     opening: &mut Opening<MemoryDisk>,
     number: u32,
 ) -> Result<Option<u64>, OpenError> {
-    Ok(match opening.next_payload(alloc)? {
+    Ok(match next(alloc, opening)? {
         Next::Payload(gate, payload) if payload.as_slice() == number.to_le_bytes().as_slice() => {
             Some(gate)
         }
@@ -57,11 +57,11 @@ fn next_gate(
 #[test]
 fn many_records_come_back_in_order(rt: HostRuntime) -> Result<(), Fail> {
     let log = numbered(&rt, rt.alloc(), 1000)?;
-    let mut opening = open_log(rt.alloc(), log.into_disk())?;
+    let mut opening = open(rt.alloc(), log.into_disk())?;
     for number in 1..=1000u32 {
         let gate = next_gate(rt.alloc(), &mut opening, number)?;
         assert_eq!(rt; gate, Some(9 * number as u64 - 1), "record {number}");
     }
-    assert!(rt; matches!(opening.next_payload(rt.alloc())?, Next::End));
+    assert!(rt; matches!(next(rt.alloc(), &mut opening)?, Next::End));
     Ok(())
 }
