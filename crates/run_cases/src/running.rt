@@ -29,10 +29,24 @@ fn kept(rt: &impl Wait, alloc: Global, script: &str) -> Result<(Status, MemorySi
     let mut shelf = MemoryShelf::new(alloc);
     let mut nothing = CalmSource::new(Vec::new(alloc));
     let mut created = MemorySink::new(alloc, LONGEST_REPORT, Vec::new(alloc))?;
-    bullfrog(rt, alloc, &["create", LOG], &mut nothing, &mut created, &mut shelf);
+    bullfrog(
+        rt,
+        alloc,
+        &["create", LOG],
+        &mut nothing,
+        &mut created,
+        &mut shelf,
+    );
     let mut input = CalmSource::new(script.as_bytes().to_vec(alloc)?);
     let mut output = MemorySink::new(alloc, LONGEST_REPORT, Vec::new(alloc))?;
-    let status = bullfrog(rt, alloc, &["run", LOG], &mut input, &mut output, &mut shelf);
+    let status = bullfrog(
+        rt,
+        alloc,
+        &["run", LOG],
+        &mut input,
+        &mut output,
+        &mut shelf,
+    );
     Ok((status, output))
 }
 
