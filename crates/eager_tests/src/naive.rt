@@ -14,7 +14,7 @@ pub struct Old<'a> {
 }
 
 /// What a new table is made of; what WHERE compares is below a limit.
-#[derive(Clone, Copy, Debug, PartialEq, Eq)]
+#[derive(Clone, Copy)]
 pub enum Kind {
     /// Rows of `a`, by x.
     Split,

@@ -13,7 +13,6 @@ use bf_image::{
 use bf_parse::script;
 use bf_tree::{Catalog, Migrate, Statement};
 use std::alloc::Global;
-use std::process::Abort;
 use std::sync::Wait;
 use std::test::Fail;
 
@@ -99,16 +98,44 @@ fn added_catalog(rt: &impl Wait, registry: &Registry, catalog: Catalog) -> Resul
     }
 }
 
+/// The number of the catalog that a pass reads.
+fn number(registry: &Registry, pass: &CatalogPass) -> u64
+    requires { Shows registry.now.catalogs pass.now }
+{
+    registry.catalog(pass).number()
+}
+
+/// What the passes of the empty catalog and of one of number 7 read otherwise than they should.
+fn wrong_of_catalogs(
+    registry: &Registry,
+    empty: &CatalogPass,
+    other: &CatalogPass,
+) -> Option<&'static str>
+    requires empty { Shows registry.now.catalogs empty.now }
+    requires other { Shows registry.now.catalogs other.now }
+{
+    let copy = other.copy();
+    if number(registry, empty) != 0 || number(registry, other) != 7 {
+        return Some("the number of a catalog");
+    }
+    if number(registry, &copy) != 7 || !registry.same_catalog(other, &copy) {
+        return Some("the catalog of a copy");
+    }
+    if registry.same_catalog(other, empty) {
+        return Some("two catalogs are one");
+    }
+    None
+}
+
+fn wrong_of_added_catalog(rt: &impl Wait, alloc: Global) -> Result<Option<&'static str>, Fail> {
+    let (registry, empty) = Registry::new(alloc, rt)?;
+    let other = added_catalog(rt, &registry, Catalog::new(alloc).with_number(7))?;
+    Ok(wrong_of_catalogs(&registry, &empty, &other))
+}
+
 #[test]
 fn a_pass_reads_the_catalog_that_was_added(rt: HostRuntime) -> Result<(), Fail> {
-    let alloc = rt.alloc();
-    let (registry, empty) = Registry::new(alloc, &rt)?;
-    let other = added_catalog(&rt, &registry, Catalog::new(alloc).with_number(7))?;
-    assert_eq!(&rt; registry.catalog(&empty).number(), 0);
-    assert_eq!(&rt; registry.catalog(&other).number(), 7);
-    assert_eq!(&rt; registry.catalog(&other.copy()).number(), 7);
-    assert!(&rt; registry.same_catalog(&other, &other.copy()));
-    assert!(&rt; !registry.same_catalog(&other, &empty));
+    assert_eq!(&rt; wrong_of_added_catalog(&rt, rt.alloc())?, None);
     Ok(())
 }
 
@@ -145,64 +172,129 @@ fn key(alloc: Global, id: i64) -> Result<Key, Fail> {
     Ok(Key::of(values))
 }
 
-/// The owner in a migration of the row of a table with a key.
-fn owner_of(
+/// The position of a granule, if there is one: each is to be a row of the first unit.
+fn position(granule: Option<Granule>) -> Result<Option<u32>, Fail> {
+    match granule {
+        None => Ok(None),
+        Some(
+            Granule {
+                unit: 0,
+                place: Place::Row(position),
+            },
+        ) => Ok(Some(position)),
+        Some(_) => Err("no row of the first unit".into()),
+    }
+}
+
+/// The position of the owner in a migration of the row of a table with a key.
+fn owner_with(
     alloc: Global,
     migration: &Migration,
-    table: &str,
-    id: i64,
-) -> Result<Option<Granule>, Fail>
+    table: &Name,
+    key: &Key,
+) -> Result<Option<u32>, Fail>
+    requires { IsLawfulMigration migration.now }
+{
+    let indexes = ValueIndexes::of(alloc, migration)?;
+    position(owner(alloc, migration, &indexes, table, key)?)
+}
+
+/// The same of the row of a table with an id.
+fn owner_of(alloc: Global, migration: &Migration, table: &str, id: i64) -> Result<Option<u32>, Fail>
     requires { IsLawfulMigration migration.now }
 {
     let name = Name::of(alloc, table.as_bytes())?;
     let key = key(alloc, id)?;
-    let indexes = ValueIndexes::of(alloc, migration)?;
-    Ok(owner(alloc, migration, &indexes, &name, &key)?)
+    owner_with(alloc, migration, &name, &key)
 }
 
-fn row(position: u32) -> Option<Granule> {
-    Some(Granule {
-        unit: 0,
-        place: Place::Row(position),
-    })
+/// Whether a migration has two rows of a table, and none of another.
+fn has_rows_of(alloc: Global, migration: &Migration, table: &str, other: &str) -> Result<bool, Fail>
+    requires { IsLawfulMigration migration.now }
+{
+    let owners = [
+        owner_of(alloc, migration, table, 1)?,
+        owner_of(alloc, migration, table, 2)?,
+        owner_of(alloc, migration, table, 3)?,
+        owner_of(alloc, migration, other, 2)?,
+    ];
+    Ok(owners == [Some(0), Some(1), None, None])
 }
 
-/// The migration that a pass reads has two rows of a table, and none of another.
-fn assert_reads(
+/// The position of an anchor of the first unit of a migration.
+fn position_at(alloc: Global, migration: &Migration, anchor: u32) -> Result<Option<u32>, Fail>
+    requires { IsLawfulMigration migration.now }
+{
+    position(granule_of(alloc, migration, 0, anchor)?)
+}
+
+/// Whether a migration of two rows has an anchor at each, and none behind them.
+fn is_anchored(alloc: Global, migration: &Migration) -> Result<bool, Fail>
+    requires { IsLawfulMigration migration.now }
+{
+    if positions(migration, 0) != 2 {
+        return Ok(false);
+    }
+    let at = [
+        position_at(alloc, migration, 1)?,
+        position_at(alloc, migration, 2)?,
+    ];
+    Ok(at == [Some(1), None])
+}
+
+/// Whether the migration that a pass reads has two rows of a table with an anchor at each, and none of another table.
+fn reads(
     alloc: Global,
-    rt: &impl Abort,
-    migration: &Migration,
+    registry: &Registry,
+    pass: &MigrationPass,
     table: &str,
     other: &str,
-) -> Result<(), Fail>
-    requires { IsLawfulMigration migration.now }
+) -> Result<bool, Fail>
+    requires { Shows registry.now.migrations pass.now }
 {
-    assert_eq!(rt; owner_of(alloc, migration, table, 1)?, row(0));
-    assert_eq!(rt; owner_of(alloc, migration, table, 2)?, row(1));
-    assert_eq!(rt; owner_of(alloc, migration, table, 3)?, None);
-    assert_eq!(rt; owner_of(alloc, migration, other, 2)?, None);
-    Ok(())
+    let migration = registry.migration(pass);
+    Ok(has_rows_of(alloc, migration, table, other)? && is_anchored(alloc, migration)?)
 }
 
-/// A migration of two rows has an anchor at each, and none behind them.
-fn assert_anchored(alloc: Global, rt: &impl Abort, migration: &Migration) -> Result<(), Fail>
-    requires { IsLawfulMigration migration.now }
+/// Whether a pass is of one migration with its copy, and of another than a second pass.
+fn is_apart(registry: &Registry, first: &MigrationPass, second: &MigrationPass) -> bool
+    requires first { Shows registry.now.migrations first.now }
+    requires second { Shows registry.now.migrations second.now }
 {
-    assert_eq!(rt; positions(migration, 0), 2);
-    assert_eq!(rt; granule_of(alloc, migration, 0, 1)?, row(1));
-    assert_eq!(rt; granule_of(alloc, migration, 0, 2)?, None);
-    Ok(())
+    registry.same_migration(first, &first.copy()) && !registry.same_migration(first, second)
+}
+
+/// What the passes of two migrations of a registry read otherwise than they should.
+fn wrong_of_migrations(
+    alloc: Global,
+    registry: &Registry,
+    first: &MigrationPass,
+    second: &MigrationPass,
+) -> Result<Option<&'static str>, Fail>
+    requires first { Shows registry.now.migrations first.now }
+    requires second { Shows registry.now.migrations second.now }
+{
+    if !is_apart(registry, first, second) {
+        return Ok(Some("which passes are of one migration"));
+    }
+    if !reads(alloc, registry, first, "t", "u")? {
+        return Ok(Some("the rows of t"));
+    }
+    if !reads(alloc, registry, second, "u", "t")? {
+        return Ok(Some("the rows of u"));
+    }
+    Ok(None)
+}
+
+fn wrong_of_added_migrations(rt: &impl Wait, alloc: Global) -> Result<Option<&'static str>, Fail> {
+    let (registry, _) = Registry::new(alloc, rt)?;
+    let first = pass(alloc, rt, &registry, "t")?;
+    let second = pass(alloc, rt, &registry, "u")?;
+    wrong_of_migrations(alloc, &registry, &first, &second)
 }
 
 #[test]
 fn a_pass_reads_the_migration_that_was_added(rt: HostRuntime) -> Result<(), Fail> {
-    let alloc = rt.alloc();
-    let (registry, _) = Registry::new(alloc, &rt)?;
-    let first = pass(alloc, &rt, &registry, "t")?;
-    let second = pass(alloc, &rt, &registry, "u")?;
-    assert!(&rt; registry.same_migration(&first, &first.copy()));
-    assert!(&rt; !registry.same_migration(&first, &second));
-    assert_reads(alloc, &rt, registry.migration(&first), "t", "u")?;
-    assert_reads(alloc, &rt, registry.migration(&second), "u", "t")?;
-    assert_anchored(alloc, &rt, registry.migration(&first))
+    assert_eq!(&rt; wrong_of_added_migrations(&rt, rt.alloc())?, None);
+    Ok(())
 }
