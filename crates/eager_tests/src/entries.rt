@@ -8,27 +8,36 @@ use bf_tree::{History, Reply, Statement, Sweep, Transcripts};
 use std::alloc::Global;
 use std::test::Fail;
 
-/// The replies to an entry of one statement, behind others.
-fn with_entry(
+/// Runs a statement as an entry of its own.
+pub fn run_alone(
     alloc: Global,
     eager: &mut Eager,
     statement: &Statement,
-    mut replies: Vec<Reply>,
 ) -> Result<Vec<Reply>, Fail> {
     if !is_alone(statement) {
         return Err("no group of its own".into());
     }
     let entry = [statement.copy(alloc)?];
-    let mut more = eager.run_entry(&entry, true)?;
+    Ok(eager.run_entry(&entry, true)?)
+}
+
+/// Runs a statement as an entry of its own, and adds the replies to it.
+fn put_replies(
+    alloc: Global,
+    eager: &mut Eager,
+    statement: &Statement,
+    replies: &mut Vec<Reply>,
+) -> Result<(), Fail> {
+    let mut more = run_alone(alloc, eager, statement)?;
     replies.append(&mut more)?;
-    Ok(replies)
+    Ok(())
 }
 
 fn replies_of(alloc: Global, statements: &[Statement]) -> Result<Vec<Reply>, Fail> {
     let mut eager = Eager::new(alloc);
     let mut replies = Vec::new(alloc);
     for statement in statements {
-        replies = with_entry(alloc, &mut eager, statement, replies)?;
+        put_replies(alloc, &mut eager, statement, &mut replies)?;
     }
     Ok(replies)
 }
@@ -76,39 +85,39 @@ fn first_other(alloc: Global, cases: &[Case]) -> Result<Option<Case>, Fail> {
     Ok(None)
 }
 
-const TOTALS: Case = (
-    "CREATE TABLE ord (id INT, cust INT, amt INT CHECK (amt BETWEEN 0 AND 1000), PRIMARY KEY (id)); \
+/// Totals with a condition of theirs, an item that may fail, and rows behind tags.
+const WORKED_OUT: [Case; 3] = [
+    (
+        "CREATE TABLE ord (id INT, cust INT, amt INT CHECK (amt BETWEEN 0 AND 1000), PRIMARY KEY (id)); \
 INSERT INTO ord VALUES (1, 7, 10), (2, 7, 30), (3, 8, 5), (4, 9, 50); \
 MIGRATE (CREATE TABLE tot AS SELECT cust, COUNT(*) AS cnt, SUM(amt) AS total FROM ord GROUP BY cust); \
 SELECT * FROM tot WHERE total > 30 AND cust < 9;",
-    "1.1 created\n1.2 inserted 4\n1.3 migrated 1\n1.4 rows 1\n1.4 | 7, 2, 40\n\
+        "1.1 created\n1.2 inserted 4\n1.3 migrated 1\n1.4 rows 1\n1.4 | 7, 2, 40\n\
 end commits 0 migration none\n",
-);
-
-const MAY_FAIL: Case = (
-    "CREATE TABLE p (id INT, x INT, PRIMARY KEY (id)); \
+    ),
+    (
+        "CREATE TABLE p (id INT, x INT, PRIMARY KEY (id)); \
 CREATE TABLE q (id INT, x INT CHECK (x BETWEEN 0 AND 9), PRIMARY KEY (id)); \
 MIGRATE (CREATE TABLE p2 AS SELECT id, x + 1 AS y FROM p); \
 MIGRATE (CREATE TABLE q2 AS SELECT id, x + 1 AS y FROM q); \
 INSERT INTO p VALUES (1, 9223372036854775807); UPDATE p SET x = x + 1; SELECT * FROM p;",
-    "1.1 created\n1.2 created\n1.3 E14 may fail p2 item 2\n1.4 migrated 1\n1.5 inserted 1\n\
+        "1.1 created\n1.2 created\n1.3 E14 may fail p2 item 2\n1.4 migrated 1\n1.5 inserted 1\n\
 1.6 E5 out of range\n1.7 rows 1\n1.7 | 1, 9223372036854775807\nend commits 0 migration none\n",
-);
-
-const TAGGED: Case = (
-    "CREATE TABLE c (id INT, h INT, w INT, PRIMARY KEY (id)); INSERT INTO c VALUES (1, 20, 30); \
+    ),
+    (
+        "CREATE TABLE c (id INT, h INT, w INT, PRIMARY KEY (id)); INSERT INTO c VALUES (1, 20, 30); \
 MIGRATE (CREATE TABLE ph AS SELECT 1 AS tag, id, h AS num FROM c \
 UNION ALL SELECT 1 AS tag, id, w AS num FROM c); \
 MIGRATE (CREATE TABLE ph AS SELECT 1 AS tag, id, h AS num FROM c \
 UNION ALL SELECT 2 AS tag, id, w AS num FROM c); SELECT * FROM ph;",
-    "1.1 created\n1.2 inserted 1\n1.3 E15 key not inherited ph\n1.4 migrated 1\n1.5 rows 2\n\
+        "1.1 created\n1.2 inserted 1\n1.3 E15 key not inherited ph\n1.4 migrated 1\n1.5 rows 2\n\
 1.5 | 1, 1, 20\n1.5 | 2, 1, 30\nend commits 0 migration none\n",
-);
+    ),
+];
 
 #[test]
 fn migrations_reply_as_they_were_worked_out(rt: HostRuntime) -> Result<(), Fail> {
-    let alloc = rt.alloc();
-    assert_eq!(rt; first_other(alloc, &[TOTALS, MAY_FAIL, TAGGED])?, None);
+    assert_eq!(rt; first_other(rt.alloc(), &WORKED_OUT)?, None);
     Ok(())
 }
 

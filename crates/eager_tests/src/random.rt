@@ -48,23 +48,27 @@ fn put_numbers(out: &mut Vec<u8>, numbers: &[u64]) -> Result<(), Fail> {
     Ok(())
 }
 
-/// Adds the INSERT of rows, if there are any.
-fn put_insert(out: &mut Vec<u8>, table: &str, rows: &[Numbers]) -> Result<(), Fail> {
-    let mut before = " VALUES (";
-    for (place, row) in rows.iter().enumerate() {
-        if place == 0 {
-            put(out, "INSERT INTO ")?;
-            put(out, table)?;
-        }
+/// Adds tuples of rows.
+fn put_tuples(out: &mut Vec<u8>, rows: &[Numbers]) -> Result<(), Fail> {
+    let mut before = "(";
+    for row in rows {
         put(out, before)?;
         put_numbers(out, row)?;
-        put(out, ")")?;
-        before = ", (";
+        before = "), (";
     }
-    if !rows.is_empty() {
-        put(out, "; ")?;
+    put(out, ")")
+}
+
+/// Adds the INSERT of rows, if there are any.
+fn put_insert(out: &mut Vec<u8>, table: &str, rows: &[Numbers]) -> Result<(), Fail> {
+    if rows.is_empty() {
+        return Ok(());
     }
-    Ok(())
+    put(out, "INSERT INTO ")?;
+    put(out, table)?;
+    put(out, " VALUES ")?;
+    put_tuples(out, rows)?;
+    put(out, "; ")
 }
 
 /// The text of a query up to the limit of its WHERE, and behind it.

@@ -4,9 +4,9 @@ ghost use Rattle.std.specs.Prelude.{IfOk};
 ghost use Rattle.boxcar.specs.Table.{Shows};
 ghost use Rattle.bf_image.specs.Migrations.{IsLawfulMigration};
 
-use crate::entries::put;
+use crate::entries::{put, run_alone};
 use bf_base::{Granule, Key, Name, Place, Value};
-use bf_eager::{Eager, is_alone, is_narrow};
+use bf_eager::{Eager, is_narrow};
 use bf_image::{
     CatalogPass, Migration, MigrationPass, Registry, ValueIndexes, granule_of, owner, positions,
 };
@@ -26,15 +26,6 @@ fn begun_on(eager: &Eager, migrate: &Migrate) -> Result<Migration, Fail>
         Ok(migration) => Ok(migration),
         Err(_) => Err("refused".into()),
     }
-}
-
-fn run_alone(alloc: Global, eager: &mut Eager, statement: &Statement) -> Result<(), Fail> {
-    if !is_alone(statement) {
-        return Err("no group of its own".into());
-    }
-    let entry = [statement.copy(alloc)?];
-    eager.run_entry(&entry, true)?;
-    Ok(())
 }
 
 /// The database behind statements, each an entry of its own.
@@ -57,17 +48,15 @@ fn begun_by(alloc: Global, statements: &[Statement]) -> Result<Migration, Fail>
     begun_on(&eager, migrate)
 }
 
-/// A script that moves two rows into a table of a name.
-fn text(alloc: Global, name: &str) -> Result<Vec<u8>, Fail> {
-    let mut text = Vec::new(alloc);
-    put(
-        &mut text,
-        "PHASE; SESSION; CREATE TABLE a (id INT, x INT, PRIMARY KEY (id)); \
-INSERT INTO a VALUES (1, 5), (2, 6); MIGRATE (CREATE TABLE ",
-    )?;
-    put(&mut text, name)?;
-    put(&mut text, " AS SELECT x, id FROM a);")?;
-    Ok(text)
+/// What stands before the name of the new table, in a script that moves two rows into it.
+const BEFORE_NAME: &str = "PHASE; SESSION; CREATE TABLE a (id INT, x INT, PRIMARY KEY (id)); \
+INSERT INTO a VALUES (1, 5), (2, 6); MIGRATE (CREATE TABLE ";
+
+/// Adds a script that moves two rows into a table of a name.
+fn put_script(out: &mut Vec<u8>, name: &str) -> Result<(), Fail> {
+    put(out, BEFORE_NAME)?;
+    put(out, name)?;
+    put(out, " AS SELECT x, id FROM a);")
 }
 
 /// The migration of the session of a script.
@@ -85,7 +74,8 @@ fn begun_in(alloc: Global, text: &[u8]) -> Result<Migration, Fail>
 fn begun(alloc: Global, name: &str) -> Result<Migration, Fail>
     ensures { IfOk result (λ migration. IsLawfulMigration migration) }
 {
-    let text = text(alloc, name)?;
+    let mut text = Vec::new(alloc);
+    put_script(&mut text, name)?;
     begun_in(alloc, text.as_slice())
 }
 
