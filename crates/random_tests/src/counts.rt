@@ -22,12 +22,16 @@ pub struct Counts {
 }
 
 fn zeros(alloc: Global, count: usize) -> Result<Vec<u64>, Memory> {
-    Ok(vec![in alloc; 0; count]?)
+    let mut zeros = Vec::new(alloc);
+    for _ in 0..count {
+        zeros.push(0)?;
+    }
+    Ok(zeros)
 }
 
 /// What a line of a report says behind its first word, where there is more.
 fn behind_place(line: &[u8]) -> Option<&[u8]> {
-    let place = line.iter().take_while(|byte| **byte != b' ').count();
+    let place = line.iter().position(|byte| *byte == b' ')?;
     line.get(place.saturating_add(1)..)
 }
 
@@ -129,23 +133,31 @@ impl Counts {
 
     /// How a reply begins that is rarer than it should be.
     pub fn first_rare_reply(&self) -> Option<&'static str> {
-        let mut counted = REPLIES.iter().zip(self.replies.as_slice());
-        let ((start, _), _) = counted.find(|((_, least), count)| *count < least)?;
-        Some(start)
+        for ((start, least), count) in REPLIES.iter().zip(self.replies.as_slice()) {
+            if count < least {
+                return Some(start);
+            }
+        }
+        None
     }
 
     /// A case that is rarer than it should be.
     pub fn first_rare_case(&self) -> Option<Case> {
-        let mut counted = CASES.iter().zip(self.cases.as_slice());
-        let ((case, _), _) = counted.find(|((_, least), count)| *count < least)?;
-        Some(*case)
+        for ((case, least), count) in CASES.iter().zip(self.cases.as_slice()) {
+            if count < least {
+                return Some(*case);
+            }
+        }
+        None
     }
 
     /// The form of a change that is never taken, where it is not to be refused.
     pub fn first_untaken(&self) -> Option<&'static str> {
-        let mut counted = CHANGES.iter().zip(self.changes.as_slice());
-        let (change, _) = counted.find(|(change, count)| change.kind != Kind::Refused
-            && **count == 0)?;
-        Some(change.form)
+        for (change, count) in CHANGES.iter().zip(self.changes.as_slice()) {
+            if change.kind != Kind::Refused && *count == 0 {
+                return Some(change.form);
+            }
+        }
+        None
     }
 }

@@ -52,10 +52,8 @@ impl Pen {
         form: &'static [u8],
         left: &mut Vec<&'static [u8]>,
     ) -> Result<(), Memory> {
-        let length = form
-            .iter()
-            .take_while(|byte| !byte.is_ascii_uppercase())
-            .count();
+        let letter = form.iter().position(|byte| byte.is_ascii_uppercase());
+        let length = letter.unwrap_or(form.len());
         let (front, behind) = form.split_at(length.min(form.len()));
         self.text.extend_from_slice(front)?;
         if let [letter, behind @ ..] = behind {

@@ -125,16 +125,16 @@ impl Replay {
             sessions: Sequence::of(sessions),
         })
     }
+}
 
-    /// How far the last migration has come, where it has come to its end and no row was there to move.
-    fn sweep(&self) -> Sweep {
-        match self.migrations {
-            0 => Sweep::Never,
-            migration => Sweep::Complete {
-                migration,
-                moved: 0,
-            },
-        }
+/// How far the last of some migrations has come, where it has come to its end and no row was there to move.
+fn sweep(migrations: u32) -> Sweep {
+    match migrations {
+        0 => Sweep::Never,
+        migration => Sweep::Complete {
+            migration,
+            moved: 0,
+        },
     }
 }
 
@@ -149,19 +149,29 @@ fn front(mut report: Vec<u8>) -> Vec<u8> {
     report
 }
 
+/// The report on replies and entries, up to its last words.
+fn reported(
+    alloc: Global,
+    transcripts: &Transcripts,
+    entries: Vec<Entry>,
+    migrations: u32,
+) -> Result<Vec<u8>, Fail> {
+    let history = History {
+        entries: Sequence::of(entries),
+    };
+    let report = report(alloc, transcripts, &history, None, &sweep(migrations))?;
+    Ok(front(report))
+}
+
 /// What the one-thread database tells of a script, which makes each new table whole at its MIGRATE.
 pub fn tell(alloc: Global, text: &[u8]) -> Result<Told, Fail> {
     let mut replay = Replay::new(alloc);
     let transcripts = replay.run(&script(alloc, text)?)?;
-    let sweep = replay.sweep();
     let migrations = replay.migrations;
-    let history = History {
-        entries: Sequence::of(replay.entries),
-    };
-    let report = report(alloc, &transcripts, &history, None, &sweep)?;
+    let report = reported(alloc, &transcripts, replay.entries, migrations)?;
     Ok(Told {
         transcripts,
-        report: front(report),
+        report,
         migrations,
     })
 }

@@ -256,8 +256,10 @@ pub static NEVER: Table = Table {
 
 /// What is said of the table of a name.
 pub fn described(named: Named) -> &'static Table {
-    TABLES
-        .iter()
-        .find(|table| table.named == named)
-        .unwrap_or(&NEVER)
+    for table in &TABLES {
+        if table.named == named {
+            return table;
+        }
+    }
+    &NEVER
 }
