@@ -39,21 +39,30 @@ fn fallen(alloc: Global) -> Result<Catalog, Fail> {
     Ok(catalog)
 }
 
-#[test]
-fn tables_made_in_falling_order_stand_in_rising_order(rt: HostRuntime) -> Result<(), Fail> {
-    let alloc = rt.alloc();
-    let catalog = fallen(alloc)?;
-    assert_eq!(rt; catalog.number(), u64::from(TABLES));
+/// The number of the first table that does not stand at its place in the order.
+fn first_misplaced(catalog: &Catalog) -> Option<u16> {
     let mut number = 0;
     for table in catalog.tables() {
-        assert!(rt; number < TABLES);
-        assert_eq!(rt; table.name.as_bytes(), spelt(number).as_slice());
+        if number >= TABLES || table.name.as_bytes() != spelt(number).as_slice() {
+            return Some(number);
+        }
         number += 1;
     }
-    assert_eq!(rt; number, TABLES);
-    let seventh = Name::of(alloc, spelt(7).as_slice())?;
-    assert!(rt; catalog.table(&seventh).is_some());
-    let absent = Name::of(alloc, spelt(TABLES).as_slice())?;
-    assert!(rt; catalog.table(&absent).is_none());
+    if number == TABLES { None } else { Some(number) }
+}
+
+/// Whether there is a table of a number.
+fn is_there(alloc: Global, catalog: &Catalog, number: u16) -> Result<bool, Fail> {
+    let name = Name::of(alloc, spelt(number).as_slice())?;
+    Ok(catalog.table(&name).is_some())
+}
+
+#[test]
+fn tables_made_in_falling_order_stand_in_rising_order(rt: HostRuntime) -> Result<(), Fail> {
+    let catalog = fallen(rt.alloc())?;
+    assert_eq!(rt; catalog.number(), u64::from(TABLES));
+    assert_eq!(rt; first_misplaced(&catalog), None);
+    assert!(rt; is_there(rt.alloc(), &catalog, 7)?);
+    assert!(rt; !is_there(rt.alloc(), &catalog, TABLES)?);
     Ok(())
 }

@@ -1,5 +1,7 @@
 //! What an INSERT of two tuples locks, the greater key first.
 
+ghost use Rattle.std.specs.Prelude.{◌≡◌, [], ◌∷◌, IfOk};
+
 use crate::fixtures::column;
 use bf_base::{Admit, Key, Name, Row, Sequence, Table, Value};
 use bf_locks::{LockName, Mode};
@@ -26,14 +28,19 @@ fn wanted(alloc: Global) -> Result<Vec<(LockName, Mode)>, Fail> {
     Ok(locks)
 }
 
-#[test]
-fn locks_keys_in_their_order(rt: HostRuntime) -> Result<(), Fail> {
-    let alloc = rt.alloc();
-    let table = Table {
-        name: name(alloc)?,
-        columns: Sequence::of(vec![in alloc; column(alloc, b"id", Admit::Int)?]?),
-        key: Sequence::of(vec![in alloc; 0]?),
-    };
+/// `t (id INT, PRIMARY KEY (id))`.
+fn table(alloc: Global) -> Result<Table, Fail>
+    ensures { IfOk result (λ table. table.key ≡ 0 ∷ []) }
+{
+    let name = name(alloc)?;
+    let columns = Sequence::of(vec![in alloc; column(alloc, b"id", Admit::Int)?]?);
+    let key = Sequence::of(vec![in alloc; 0]?);
+    Ok(Table { name, columns, key })
+}
+
+/// What an INSERT of a later row and of an earlier one locks.
+fn locks(alloc: Global) -> Result<Vec<(LockName, Mode)>, Fail> {
+    let table = table(alloc)?;
     let later = Row::of(vec![in alloc; Value::Int(2)]?);
     let earlier = Row::of(vec![in alloc; Value::Int(1)]?);
     let bound = Bound {
@@ -44,7 +51,13 @@ fn locks_keys_in_their_order(rt: HostRuntime) -> Result<(), Fail> {
             rows: Sequence::of(vec![in alloc; later, earlier]?),
         },
     };
-    let locks = footprint(alloc, &bound)?;
-    assert_eq!(rt; locks.as_slice(), wanted(alloc)?.as_slice());
+    Ok(footprint(alloc, &bound)?)
+}
+
+#[test]
+fn locks_keys_in_their_order(rt: HostRuntime) -> Result<(), Fail> {
+    let locks = locks(rt.alloc())?;
+    let wanted = wanted(rt.alloc())?;
+    assert_eq!(rt; locks.as_slice(), wanted.as_slice());
     Ok(())
 }

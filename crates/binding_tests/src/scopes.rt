@@ -11,27 +11,63 @@ use std::alloc::Global;
 use std::test::Fail;
 
 /// What a test sees of a look-up: the place, or the kind of the refusal.
-#[derive(Clone, Copy, Debug, PartialEq)]
-enum Found {
-    At(u8),
-    NoTable,
-    NoColumn,
-    NameTwice,
-    Other,
-}
+type Found = Result<u8, &'static str>;
 
-/// A table of two columns.
-fn table(alloc: Global, letters: &[u8], one: Column, other: Column) -> Result<Table, Fail>
-    ensures { IfOk result (λ table. length table.columns ≡ 2) }
+/// Two columns, each of a name and what it admits.
+fn two_columns(
+    alloc: Global,
+    one: (&[u8], Admit),
+    other: (&[u8], Admit),
+) -> Result<Vec<Column>, Fail>
+    ensures { IfOk result (λ columns. length columns.items ≡ 2) }
 {
     let mut columns = Vec::new(alloc);
-    columns.push(one)?;
-    columns.push(other)?;
+    columns.push(column(alloc, one.0, one.1)?)?;
+    columns.push(column(alloc, other.0, other.1)?)?;
+    Ok(columns)
+}
+
+/// A table without a key.
+fn table(alloc: Global, letters: &[u8], columns: Vec<Column>) -> Result<Table, Fail>
+    ensures { IfOk result (λ table. table.columns ≡ columns.items) }
+{
     Ok(Table {
         name: name(alloc, letters)?,
         columns: Sequence::of(columns),
         key: Sequence::of(Vec::new(alloc)),
     })
+}
+
+/// `t (a INT, n INT)`.
+fn from(alloc: Global) -> Result<Table, Fail>
+    ensures { IfOk result (λ table. length table.columns ≡ 2) }
+{
+    let columns = two_columns(alloc, (b"a", Admit::Int), (b"n", Admit::Int))?;
+    table(alloc, b"t", columns)
+}
+
+/// `v (n INT, s VARCHAR(3))`.
+fn join(alloc: Global) -> Result<Table, Fail>
+    ensures { IfOk result (λ table. length table.columns ≡ 2) }
+{
+    let columns = two_columns(alloc, (b"n", Admit::Int), (b"s", Admit::Varchar(3)))?;
+    table(alloc, b"v", columns)
+}
+
+fn refusal_seen(refusal: &Refusal) -> &'static str {
+    match refusal {
+        Refusal::NoTable(_) => "no table",
+        Refusal::NoColumn(_) => "no column",
+        Refusal::NameTwice(_) => "name twice",
+        _ => "other",
+    }
+}
+
+fn error_seen(error: &StatementError) -> &'static str {
+    match error {
+        StatementError::Refused(refusal) => refusal_seen(refusal),
+        StatementError::Memory => "memory",
+    }
 }
 
 /// Where a ref is found.
@@ -43,45 +79,42 @@ fn looked_up(
 ) -> Result<Found, Fail> {
     let reference = reference(alloc, qualifier, column)?;
     match bf_bind::column(alloc, scope, &reference) {
-        Ok(found) => Ok(Found::At(found.place)),
-        Err(StatementError::Refused(Refusal::NoTable(_))) => Ok(Found::NoTable),
-        Err(StatementError::Refused(Refusal::NoColumn(_))) => Ok(Found::NoColumn),
-        Err(StatementError::Refused(Refusal::NameTwice(_))) => Ok(Found::NameTwice),
-        Err(_) => Ok(Found::Other),
+        Ok(found) => Ok(Ok(found.place)),
+        Err(error) => Ok(Err(error_seen(&error))),
     }
 }
 
-/// Refs of `t (a INT, n INT)` joined with `v (n INT, s VARCHAR(3))`.
-const REFS: [((Option<&str>, &str), Found); 9] = [
-    ((None, "a"), Found::At(0)),
-    ((Some("t"), "n"), Found::At(1)),
-    ((Some("v"), "n"), Found::At(2)),
-    ((None, "s"), Found::At(3)),
-    ((None, "n"), Found::NameTwice),
-    ((None, "x"), Found::NoColumn),
-    ((Some("t"), "s"), Found::NoColumn),
-    ((Some("v"), "a"), Found::NoColumn),
-    ((Some("w"), "a"), Found::NoTable),
+/// A ref's qualifier and column, and where it is to be found.
+type Case = (Option<&'static str>, &'static str, Found);
+
+/// Refs of `t` joined with `v`.
+const REFS: [Case; 9] = [
+    (None, "a", Ok(0)),
+    (Some("t"), "n", Ok(1)),
+    (Some("v"), "n", Ok(2)),
+    (None, "s", Ok(3)),
+    (None, "n", Err("name twice")),
+    (None, "x", Err("no column")),
+    (Some("t"), "s", Err("no column")),
+    (Some("v"), "a", Err("no column")),
+    (Some("w"), "a", Err("no table")),
 ];
+
+/// The place of the first ref that is found elsewhere.
+fn first_other(alloc: Global, scope: &Scope) -> Result<Option<usize>, Fail> {
+    for (place, (qualifier, column, want)) in REFS.iter().enumerate() {
+        if looked_up(alloc, scope, *qualifier, column)? != *want {
+            return Ok(Some(place));
+        }
+    }
+    Ok(None)
+}
 
 #[test]
 fn refs_are_looked_up_in_both_tables(rt: HostRuntime) -> Result<(), Fail> {
-    let alloc = rt.alloc();
-    let from = table(
-        alloc,
-        b"t",
-        column(alloc, b"a", Admit::Int)?,
-        column(alloc, b"n", Admit::Int)?,
-    )?;
-    let join = table(
-        alloc,
-        b"v",
-        column(alloc, b"n", Admit::Int)?,
-        column(alloc, b"s", Admit::Varchar(3))?,
-    )?;
-    let scope = Scope::joined(&from, &join);
-    for ((qualifier, column), want) in &REFS {
-        assert_eq!(rt; looked_up(alloc, &scope, *qualifier, column)?, *want);
-    }
+    let from = from(rt.alloc())?;
+    let join = join(rt.alloc())?;
+    let other = first_other(rt.alloc(), &Scope::joined(&from, &join))?;
+    assert_eq!(rt; other, None);
     Ok(())
 }
