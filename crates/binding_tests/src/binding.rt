@@ -15,6 +15,7 @@ use bf_base::{Admit, Column, Key, Sequence, Table, Value};
 use bf_bind::bind;
 use bf_tree::{Action, Catalog, Expr, IndexRule, Migrate, Refusal, Statement};
 use std::alloc::Global;
+use std::process::Abort;
 use std::test::Fail;
 
 /// What a test sees of an action: names by their first letters, columns by the first place, rows
@@ -198,7 +199,17 @@ fn first_other(
     Ok(None)
 }
 
-/// In a block.
+/// Fails where a statement is bound to another action than its own.
+fn expect_bound(
+    rt: &impl Abort,
+    alloc: Global,
+    in_block: bool,
+    cases: &[(Line, Told)],
+) -> Result<(), Fail> {
+    assert_eq!(rt; first_other(alloc, in_block, cases)?, None);
+    Ok(())
+}
+
 const INSIDE: [(Line, Told); 6] = [
     (Begin, Told::InTransaction),
     (Commit, Told::Commits),
@@ -214,12 +225,21 @@ const INSIDE: [(Line, Told); 6] = [
     ),
 ];
 
-/// Outside a block.
+#[test]
+fn a_block_has_no_block_and_no_schema_change(rt: HostRuntime) -> Result<(), Fail> {
+    expect_bound(&rt, rt.alloc(), true, &INSIDE)
+}
+
 const BLOCKS: [(Line, Told); 3] = [
     (Begin, Told::Begins),
     (Commit, Told::NoTransaction),
     (Rollback, Told::NoTransaction),
 ];
+
+#[test]
+fn outside_a_block_one_can_only_begin(rt: HostRuntime) -> Result<(), Fail> {
+    expect_bound(&rt, rt.alloc(), false, &BLOCKS)
+}
 
 const TABLES: [(Line, Told); 8] = [
     (
@@ -266,6 +286,11 @@ const TABLES: [(Line, Told); 8] = [
     ),
 ];
 
+#[test]
+fn a_table_is_made(rt: HostRuntime) -> Result<(), Fail> {
+    expect_bound(&rt, rt.alloc(), false, &TABLES)
+}
+
 const INDEXES: [(Line, Told); 5] = [
     (Index("i", "w", &["x"]), Told::NoTable(b'w')),
     (Index("i", "t", &["x", "a"]), Told::NoColumn(b'x')),
@@ -273,6 +298,11 @@ const INDEXES: [(Line, Told); 5] = [
     (Index("i", "v", &["a"]), Told::IndexExists(b'i')),
     (Index("j", "t", &["s", "a"]), Told::Indexed(1)),
 ];
+
+#[test]
+fn an_index_is_made(rt: HostRuntime) -> Result<(), Fail> {
+    expect_bound(&rt, rt.alloc(), false, &INDEXES)
+}
 
 const ROWS: [(Line, Told); 5] = [
     (Insert("w", &[&[]]), Told::NoTable(b'w')),
@@ -294,6 +324,11 @@ const ROWS: [(Line, Told); 5] = [
         Told::Inserts(1),
     ),
 ];
+
+#[test]
+fn rows_come(rt: HostRuntime) -> Result<(), Fail> {
+    expect_bound(&rt, rt.alloc(), false, &ROWS)
+}
 
 const SELECTS: [(Line, Told); 12] = [
     (
@@ -354,8 +389,7 @@ const SELECTS: [(Line, Told); 12] = [
             (Named("s"), &[]),
             Where::Equals(
                 (Named("n"), Number(4)),
-                (Number(5), Of("t", "a")),
-                (Named("a"), Number(6)),
+                &[(Number(5), Of("t", "a")), (Named("a"), Number(6))],
             ),
         ),
         Told::Selects(Some(5)),
@@ -369,6 +403,11 @@ const SELECTS: [(Line, Told); 12] = [
         Told::Selects(None),
     ),
 ];
+
+#[test]
+fn rows_are_asked_for(rt: HostRuntime) -> Result<(), Fail> {
+    expect_bound(&rt, rt.alloc(), false, &SELECTS)
+}
 
 const CHANGES: [(Line, Told); 10] = [
     (
@@ -432,25 +471,9 @@ const CHANGES: [(Line, Told); 10] = [
     ),
 ];
 
-/// The cases outside a block.
-const OUTSIDE: [(&str, &[(Line, Told)]); 6] = [
-    ("a block begins or ends", &BLOCKS),
-    ("a table is made", &TABLES),
-    ("an index is made", &INDEXES),
-    ("rows come", &ROWS),
-    ("rows are asked for", &SELECTS),
-    ("rows change or go", &CHANGES),
-];
-
 #[test]
-fn the_first_fault_is_told(rt: HostRuntime) -> Result<(), Fail> {
-    for (what, cases) in &OUTSIDE {
-        let other = first_other(rt.alloc(), false, cases)?;
-        assert_eq!(rt; other, None, "where {what}");
-    }
-    let other = first_other(rt.alloc(), true, &INSIDE)?;
-    assert_eq!(rt; other, None, "in a block");
-    Ok(())
+fn rows_change_or_go(rt: HostRuntime) -> Result<(), Fail> {
+    expect_bound(&rt, rt.alloc(), false, &CHANGES)
 }
 
 /// Whether the binder tells of a MIGRATE in a block that it must be alone, the number of the

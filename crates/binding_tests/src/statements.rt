@@ -37,8 +37,8 @@ pub type Pair = (Part, Part);
 pub enum Where {
     All,
     Equal(Part, Part),
-    /// Three equalities that AND joins from the left.
-    Equals(Pair, Pair, Pair),
+    /// An equality, and those that AND joins to it from the left.
+    Equals(Pair, &'static [Pair]),
     Between(Part, Part, i64),
 }
 
@@ -101,11 +101,16 @@ fn operand(alloc: Global, part: Part) -> Result<Operand, Fail> {
     }
 }
 
-fn expression(alloc: Global, part: Part) -> Result<RawExpr, Fail> {
-    match operand(alloc, part)? {
-        Operand::Value(value) => Ok(RawExpr::of(RawNode::Value(value))),
-        Operand::Column(column) => Ok(RawExpr::of(RawNode::Column(column))),
+fn node(operand: Operand) -> RawNode {
+    match operand {
+        Operand::Value(value) => RawNode::Value(value),
+        Operand::Column(column) => RawNode::Column(column),
     }
+}
+
+fn expression(alloc: Global, part: Part) -> Result<RawExpr, Fail> {
+    let operand = operand(alloc, part)?;
+    Ok(RawExpr::of(node(operand)))
 }
 
 fn summed(alloc: Global, (first, others): Sum) -> Result<RawExpr, Fail> {
@@ -123,27 +128,13 @@ fn equal(alloc: Global, (left, right): Pair) -> Result<RawCond, Fail> {
     Ok(RawCond::of(RawTest::Compare(Compare::Equal, left, right)))
 }
 
-fn both(alloc: Global, left: RawCond, right: RawCond) -> Result<RawCond, Fail> {
-    let left = Box::new(alloc, left)?;
-    let right = Box::new(alloc, right)?;
-    Ok(RawCond::of(RawTest::And(left, right)))
-}
-
-fn two_equal(alloc: Global, first: Pair, second: Pair) -> Result<RawCond, Fail> {
-    let left = equal(alloc, first)?;
-    let right = equal(alloc, second)?;
-    both(alloc, left, right)
-}
-
-fn three_equal(
-    alloc: Global,
-    first: Pair,
-    second: Pair,
-    third: Pair,
-) -> Result<Option<RawCond>, Fail> {
-    let left = two_equal(alloc, first, second)?;
-    let right = equal(alloc, third)?;
-    Ok(Some(both(alloc, left, right)?))
+fn all_equal(alloc: Global, first: Pair, others: &[Pair]) -> Result<RawCond, Fail> {
+    let mut all = equal(alloc, first)?;
+    for pair in others {
+        let one = equal(alloc, *pair)?;
+        all = RawCond::of(RawTest::And(Box::new(alloc, all)?, Box::new(alloc, one)?));
+    }
+    Ok(all)
 }
 
 fn within(alloc: Global, middle: Part, low: Part, high: i64) -> Result<Option<RawCond>, Fail> {
@@ -157,20 +148,25 @@ fn condition(alloc: Global, which: Where) -> Result<Option<RawCond>, Fail> {
     match which {
         Where::All => Ok(None),
         Where::Equal(left, right) => Ok(Some(equal(alloc, (left, right))?)),
-        Where::Equals(first, second, third) => three_equal(alloc, first, second, third),
+        Where::Equals(first, others) => Ok(Some(all_equal(alloc, first, others)?)),
         Where::Between(middle, low, high) => within(alloc, middle, low, high),
+    }
+}
+
+fn column_form(alloc: Global, form: Form) -> Result<ColumnForm, Fail> {
+    match form {
+        Form::Int => Ok(ColumnForm::Int),
+        Form::Check(checked, low, high) => {
+            let name = name(alloc, checked.as_bytes())?;
+            Ok(ColumnForm::Checked(name, low, high))
+        }
+        Form::Varchar(most) => Ok(ColumnForm::Varchar(most)),
     }
 }
 
 fn rule(alloc: Global, (letters, form): Rule) -> Result<ColumnRule, Fail> {
     let name = name(alloc, letters.as_bytes())?;
-    let form = match form {
-        Form::Int => ColumnForm::Int,
-        Form::Check(checked, low, high) => {
-            ColumnForm::Checked(self::name(alloc, checked.as_bytes())?, low, high)
-        }
-        Form::Varchar(most) => ColumnForm::Varchar(most),
-    };
+    let form = column_form(alloc, form)?;
     Ok(ColumnRule { name, form })
 }
 
@@ -202,11 +198,16 @@ fn tuples(alloc: Global, all: &[&[Part]]) -> Result<Sequence<Row>, Fail> {
     Ok(Sequence::of(tuples))
 }
 
+fn set(alloc: Global, column: &str, value: Sum) -> Result<(Name, RawExpr), Fail> {
+    let column = name(alloc, column.as_bytes())?;
+    let value = summed(alloc, value)?;
+    Ok((column, value))
+}
+
 fn sets(alloc: Global, all: &[(&str, Sum)]) -> Result<Sequence<(Name, RawExpr)>, Fail> {
     let mut sets = Vec::new(alloc);
     for (column, value) in all {
-        let column = name(alloc, column.as_bytes())?;
-        sets.push((column, summed(alloc, *value)?))?;
+        sets.push(set(alloc, column, *value)?)?;
     }
     Ok(Sequence::of(sets))
 }
