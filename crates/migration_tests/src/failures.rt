@@ -137,15 +137,20 @@ fn long_text(alloc: Global, more: &str) -> Result<String, Fail> {
     joined(alloc, &["'", letters.as_str(), "' || ", more])
 }
 
+/// What is told of the longest literal, joined with another.
+fn long_told(alloc: Global, more: &str) -> Result<String, Fail> {
+    let item = long_text(alloc, more)?;
+    item_told(alloc, TEXTS, BY_ROWS, item.as_str())
+}
+
+/// What the longest literal is joined with.
+const LONGEST: [Case; 2] = [("''", "VARCHAR(255)"), ("'a'", FAILS)];
+
 #[test]
 fn a_literal_may_be_the_longest_text(rt: HostRuntime) -> Result<(), Fail> {
-    let alloc = rt.alloc();
-    let kept = long_text(alloc, "''")?;
-    let told = item_told(alloc, TEXTS, BY_ROWS, kept.as_str())?;
-    assert_eq!(rt; told.as_str(), "VARCHAR(255)");
-    let lengthened = long_text(alloc, "'a'")?;
-    let told = item_told(alloc, TEXTS, BY_ROWS, lengthened.as_str())?;
-    assert_eq!(rt; told.as_str(), FAILS);
+    for (more, want) in &LONGEST {
+        assert_eq!(rt; long_told(rt.alloc(), more)?.as_str(), *want);
+    }
     Ok(())
 }
 

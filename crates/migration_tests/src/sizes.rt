@@ -1,8 +1,9 @@
 //! MIGRATEs as wide and as long as they may be.
 
-use crate::asked::{Planned, planned};
+use crate::asked::planned;
 use crate::told::{Case, TABLES, expect_told, put};
 use bf_text::put_number;
+use bf_tree::Plan;
 use std::alloc::Global;
 use std::test::Fail;
 
@@ -45,34 +46,57 @@ fn eight_targets_have_one_source(rt: HostRuntime) -> Result<(), Fail> {
     expect_told(&rt, rt.alloc(), TABLES, &EIGHT)
 }
 
-/// A plan for a target of 301 arms, whose tags are 0 to 299, and that of the last arm.
-fn many_arms(alloc: Global, last: u64) -> Result<Planned, Fail> {
+/// Adds the arm of a tag.
+fn put_arm(text: &mut Vec<u8>, tag: u64) -> Result<(), Fail> {
+    put(text, "SELECT ")?;
+    put_number(text, tag)?;
+    put(text, " AS tag, id FROM t")
+}
+
+/// A target of 301 arms, whose tags are 0 to 299, and that of the last arm.
+fn many_arms(alloc: Global, last: u64) -> Result<String, Fail> {
     let mut text = Vec::new(alloc);
     put(&mut text, "CREATE TABLE v AS ")?;
     for tag in 0..300u64 {
-        put(&mut text, "SELECT ")?;
-        put_number(&mut text, tag)?;
-        put(&mut text, " AS tag, id FROM t UNION ALL ")?;
+        put_arm(&mut text, tag)?;
+        put(&mut text, " UNION ALL ")?;
     }
-    put(&mut text, "SELECT ")?;
-    put_number(&mut text, last)?;
-    put(&mut text, " AS tag, id FROM t")?;
-    planned(alloc, TABLES, String::from_utf8(text)?.as_str())
+    put_arm(&mut text, last)?;
+    Ok(String::from_utf8(text)?)
+}
+
+/// How many arms there are, where they are those of the first target in their order.
+fn count_in_order(arms: &[(u8, u32)]) -> Result<u32, &'static str> {
+    let mut number = 0u32;
+    for arm in arms {
+        if *arm != (0, number) {
+            return Err("out of order");
+        }
+        number = number.wrapping_add(1);
+    }
+    Ok(number)
+}
+
+/// How many arms the one unit of a plan has.
+fn arm_count(plan: &Plan) -> Result<u32, &'static str> {
+    match plan.units.as_slice() {
+        [unit] => count_in_order(unit.arms.as_slice()),
+        _ => Err("not one unit"),
+    }
+}
+
+/// How many of many arms are planned.
+fn arms_planned(alloc: Global, last: u64) -> Result<Result<u32, &'static str>, Fail> {
+    let text = many_arms(alloc, last)?;
+    match planned(alloc, TABLES, text.as_str())? {
+        Ok(plan) => Ok(arm_count(&plan)),
+        Err(_) => Ok(Err("is refused")),
+    }
 }
 
 #[test]
 fn a_target_has_many_arms(rt: HostRuntime) -> Result<(), Fail> {
-    let alloc = rt.alloc();
-    let plan = many_arms(alloc, 300)?.map_err(|_| "is refused")?;
-    let [unit] = plan.units.as_slice() else {
-        return Err("not one unit".into());
-    };
-    let mut number = 0u32;
-    for arm in unit.arms.as_slice() {
-        assert_eq!(rt; *arm, (0, number));
-        number = number.wrapping_add(1);
-    }
-    assert_eq!(rt; number, 301);
-    assert!(rt; many_arms(alloc, 7)?.is_err());
+    assert_eq!(rt; arms_planned(rt.alloc(), 300)?, Ok(301));
+    assert_eq!(rt; arms_planned(rt.alloc(), 7)?, Err("is refused"));
     Ok(())
 }
