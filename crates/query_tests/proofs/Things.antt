@@ -9,7 +9,8 @@ use Rattle.bf_base.specs.Tables.{IsKeyWithin, key_of}
 use Rattle.bf_base.specs.Values.{key_cmp}
 use Rattle.bf_tree.specs.Trees.{Expr, Cond}
 use Rattle.bf_heap.specs.Heaps.{Entry, key_of_entry, with_row}
-use Rattle.bf_sql.specs.Conditions.{fixed_key}
+use Rattle.bf_tree.specs.Fixed.{column_fixed}
+use Rattle.bf_sql.specs.Conditions.{all_there, fixed_key}
 use Rattle.bf_tree.specs.declared.bound.Action.{Action}
 use Rattle.bf_tree.specs.declared.bound.Action.TheVariants as action
 use Rattle.bf_txn.specs.declared.write.Write.{Write}
@@ -38,6 +39,10 @@ stands_after act table entries old new is bound leaves stand after =
       | [] ↦ rw is (own_kept act table entries old is bound leaves stand)
       | ◌∷◌ r rs ↦ stand
     ])
+
+-- the values that a condition fixes the two columns of a key to
+pub fixes : (table : Table) (cond : Cond ℕ) (number letters : Option Value) → table.key ≡ 1 ∷ 0 ∷ [] → number ≡ column_fixed 1 cond → letters ≡ column_fixed 0 cond → all_there (number ∷ letters ∷ []) ≡ fixed_key table cond
+fixes table cond number letters key one other = rw (key, one, other) refl
 
 -- sets of the third column alone set no column of a key of the first two
 leaves : (table : Table) (sets : List (ℕ × Expr ℕ)) → table.key ≡ 1 ∷ 0 ∷ [] → map (λ set. set.0) sets ≡ 2 ∷ [] → list_all (λ set. not (has nat_eq table.key set.0)) sets ≡ true

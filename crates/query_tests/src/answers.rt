@@ -5,11 +5,10 @@ use bf_base::{Row, Sequence, Text, Value};
 use bf_query::answer::answer;
 use bf_tree::{Aggregate, Cell, Expr, Items, Node, Refusal, Reply};
 use std::alloc::Global;
-use std::process::Abort;
 use std::test::Fail;
 
 /// A value as a test writes it.
-#[derive(Clone, Copy, Debug)]
+#[derive(Clone, Copy)]
 enum Given {
     Number(i64),
     Letters(&'static str),
@@ -20,9 +19,9 @@ enum Given {
 use Given::{Letters, Long, Number};
 
 /// A reply as a test writes it: rows of cells, where `None` is NULL, or a refusal.
-#[derive(Clone, Copy, Debug)]
-enum Told<'a> {
-    Cells(&'a [&'a [Option<Given>]]),
+#[derive(Clone, Copy)]
+enum Told {
+    Cells(&'static [&'static [Option<Given>]]),
     OutOfRange,
     TooLong,
 }
@@ -59,7 +58,7 @@ fn cells(alloc: Global, given: &[Option<Given>]) -> Result<Sequence<Cell>, Fail>
     Ok(Sequence::of(cells))
 }
 
-fn reply(alloc: Global, told: Told<'_>) -> Result<Reply, Fail> {
+fn reply(alloc: Global, told: Told) -> Result<Reply, Fail> {
     let rows = match told {
         Cells(rows) => rows,
         OutOfRange => return Ok(Reply::Refused(Refusal::OutOfRange)),
@@ -72,28 +71,39 @@ fn reply(alloc: Global, told: Told<'_>) -> Result<Reply, Fail> {
     Ok(Reply::Rows(Sequence::of(given)))
 }
 
-fn answered(alloc: Global, items: &Items, rows: &[&[Given]]) -> Result<Reply, Fail> {
-    let mut kept = Vec::new(alloc);
-    for values in rows {
-        kept.push(row(alloc, values)?)?;
+fn rows(alloc: Global, given: &[&[Given]]) -> Result<Vec<Row>, Fail> {
+    let mut rows = Vec::new(alloc);
+    for values in given {
+        rows.push(row(alloc, values)?)?;
     }
+    Ok(rows)
+}
+
+fn answered(alloc: Global, items: &Items, rows: &[Row]) -> Result<Reply, Fail> {
     let mut selected = Vec::new(alloc);
-    for row in &kept {
+    for row in rows {
         selected.push(row)?;
     }
     Ok(answer(alloc, items, &selected)?)
 }
 
-fn expect(
-    rt: &impl Abort,
-    alloc: Global,
-    items: &Items,
-    rows: &[&[Given]],
-    told: Told<'_>,
-) -> Result<(), Fail> {
-    let expected = reply(alloc, told)?;
-    assert_eq!(rt; answered(alloc, items, rows)?, expected, "of {rows:?}");
-    Ok(())
+/// Rows, and the reply to what is asked of them.
+type Case = (&'static [&'static [Given]], Told);
+
+fn is_told(alloc: Global, items: &Items, given: &[&[Given]], told: Told) -> Result<bool, Fail> {
+    let rows = rows(alloc, given)?;
+    let found = answered(alloc, items, &rows)?;
+    Ok(found == reply(alloc, told)?)
+}
+
+/// The place of the first case that has another reply than its own.
+fn first_wrong(alloc: Global, items: &Items, cases: &[Case]) -> Result<Option<usize>, Fail> {
+    for (place, (rows, told)) in cases.iter().enumerate() {
+        if !is_told(alloc, items, rows, *told)? {
+            return Ok(Some(place));
+        }
+    }
+    Ok(None)
 }
 
 fn column(place: u8) -> Expr {
@@ -102,115 +112,165 @@ fn column(place: u8) -> Expr {
 
 /// The first column and one more.
 fn successor(alloc: Global) -> Result<Expr, Fail> {
-    let one = Expr::of(Node::Value(Value::Int(1)));
-    Ok(Expr::of(Node::Add(Box::new(alloc, column(0))?, Box::new(alloc, one)?)))
+    let first = Box::new(alloc, column(0))?;
+    let one = Box::new(alloc, Expr::of(Node::Value(Value::Int(1))))?;
+    Ok(Expr::of(Node::Add(first, one)))
 }
 
 /// The texts of the last two of three columns, joined.
 fn joined(alloc: Global) -> Result<Expr, Fail> {
-    Ok(Expr::of(Node::Concat(Box::new(alloc, column(1))?, Box::new(alloc, column(2))?)))
+    let second = Box::new(alloc, column(1))?;
+    let third = Box::new(alloc, column(2))?;
+    Ok(Expr::of(Node::Concat(second, third)))
 }
 
+/// How many rows there are, and three totals of them.
 fn totals_of(alloc: Global, sum: Expr, least: Expr, greatest: Expr) -> Result<Items, Fail> {
-    let mut totals = Vec::new(alloc);
-    totals.push(Aggregate::Count)?;
-    totals.push(Aggregate::Sum(sum))?;
-    totals.push(Aggregate::Min(least))?;
-    totals.push(Aggregate::Max(greatest))?;
+    let (sum, least) = (Aggregate::Sum(sum), Aggregate::Min(least));
+    let totals = vec![in alloc; Aggregate::Count, sum, least, Aggregate::Max(greatest)]?;
     Ok(Items::Aggregates(Sequence::of(totals)))
 }
 
-#[test]
-fn sums_are_judged_by_their_totals(rt: HostRuntime) -> Result<(), Fail> {
-    let alloc = rt.alloc();
-    let mut totals = Vec::new(alloc);
-    totals.push(Aggregate::Sum(column(0)))?;
-    let items = Items::Aggregates(Sequence::of(totals));
-    let most: &[Given] = &[Number(i64::MAX)];
-    let least: &[Given] = &[Number(i64::MIN)];
-    let one: &[Given] = &[Number(1)];
-    let minus_one: &[Given] = &[Number(-1)];
-    let highest = Cells(&[&[Some(Number(i64::MAX))]]);
-    let lowest = Cells(&[&[Some(Number(i64::MIN))]]);
-    expect(&rt, alloc, &items, &[most, one, minus_one], highest)?;
-    expect(&rt, alloc, &items, &[most, one], OutOfRange)?;
-    expect(&rt, alloc, &items, &[least, minus_one, one], lowest)?;
-    expect(&rt, alloc, &items, &[least, minus_one], OutOfRange)
+/// Totals of the first column and of the second.
+fn totals(alloc: Global) -> Result<Items, Fail> {
+    totals_of(alloc, column(0), column(1), column(1))
 }
 
+fn sum(alloc: Global) -> Result<Items, Fail> {
+    let totals = vec![in alloc; Aggregate::Sum(column(0))]?;
+    Ok(Items::Aggregates(Sequence::of(totals)))
+}
+
+fn expr(alloc: Global, expr: Expr) -> Result<Items, Fail> {
+    Ok(Items::Exprs(Sequence::of(vec![in alloc; expr]?)))
+}
+
+fn exprs(alloc: Global, first: Expr, second: Expr) -> Result<Items, Fail> {
+    Ok(Items::Exprs(Sequence::of(vec![in alloc; first, second]?)))
+}
+
+const MOST: &[Given] = &[Number(i64::MAX)];
+
+const LEAST: &[Given] = &[Number(i64::MIN)];
+
+const ONE: &[Given] = &[Number(1)];
+
+const MINUS_ONE: &[Given] = &[Number(-1)];
+
+/// Sums that go over a limit on their way, and ones that end there.
+const SUMS: [Case; 4] = [
+    (&[MOST, ONE, MINUS_ONE], Cells(&[&[Some(Number(i64::MAX))]])),
+    (&[MOST, ONE], OutOfRange),
+    (
+        &[LEAST, MINUS_ONE, ONE],
+        Cells(&[&[Some(Number(i64::MIN))]]),
+    ),
+    (&[LEAST, MINUS_ONE], OutOfRange),
+];
+
 #[test]
-fn prefixes_are_less(rt: HostRuntime) -> Result<(), Fail> {
-    let alloc = rt.alloc();
-    let items = totals_of(alloc, column(0), column(1), column(1))?;
-    let rows: &[&[Given]] = &[
+fn sums_are_judged_by_their_totals(rt: HostRuntime) -> Result<(), Fail> {
+    let items = sum(rt.alloc())?;
+    assert_eq!(rt; first_wrong(rt.alloc(), &items, &SUMS)?, None);
+    Ok(())
+}
+
+/// Texts that begin with one another.
+const PREFIXES: Case = (
+    &[
         &[Number(5), Letters("ab")],
         &[Number(-7), Letters("a")],
         &[Number(4), Letters("abc")],
-    ];
-    let found: &[Option<Given>] = &[
+    ],
+    Cells(&[&[
         Some(Number(3)),
         Some(Number(2)),
         Some(Letters("a")),
         Some(Letters("abc")),
-    ];
-    expect(&rt, alloc, &items, rows, Cells(&[found]))
+    ]]),
+);
+
+#[test]
+fn prefixes_are_less(rt: HostRuntime) -> Result<(), Fail> {
+    let items = totals(rt.alloc())?;
+    assert_eq!(rt; first_wrong(rt.alloc(), &items, &[PREFIXES])?, None);
+    Ok(())
 }
 
-const TOTALS_OF_NO_ROWS: &[Option<Given>] = &[Some(Number(0)), None, None, None];
+const NO_ROWS: Case = (&[], Cells(&[&[Some(Number(0)), None, None, None]]));
 
 #[test]
 fn totals_of_no_rows(rt: HostRuntime) -> Result<(), Fail> {
-    let alloc = rt.alloc();
-    let items = totals_of(alloc, column(0), column(1), column(1))?;
-    expect(&rt, alloc, &items, &[], Cells(&[TOTALS_OF_NO_ROWS]))
+    let items = totals(rt.alloc())?;
+    assert_eq!(rt; first_wrong(rt.alloc(), &items, &[NO_ROWS])?, None);
+    Ok(())
 }
+
+const FITS: &[Given] = &[Number(0), Long(200), Long(55)];
+
+const DOES_NOT_FIT: &[Given] = &[Number(0), Long(200), Long(56)];
+
+/// A text of the most bytes, and one of a byte more.
+const JOINED: [Case; 2] = [
+    (&[FITS], Cells(&[&[Some(Long(255))]])),
+    (&[FITS, DOES_NOT_FIT], TooLong),
+];
 
 #[test]
 fn texts_join_up_to_255_bytes(rt: HostRuntime) -> Result<(), Fail> {
-    let alloc = rt.alloc();
-    let mut exprs = Vec::new(alloc);
-    exprs.push(joined(alloc)?)?;
-    let items = Items::Exprs(Sequence::of(exprs));
-    let fits: &[Given] = &[Number(0), Long(200), Long(55)];
-    let too_long: &[Given] = &[Number(0), Long(200), Long(56)];
-    expect(&rt, alloc, &items, &[fits], Cells(&[&[Some(Long(255))]]))?;
-    expect(&rt, alloc, &items, &[fits, too_long], TooLong)
+    let items = expr(rt.alloc(), joined(rt.alloc())?)?;
+    assert_eq!(rt; first_wrong(rt.alloc(), &items, &JOINED)?, None);
+    Ok(())
 }
 
-const LATER_FAILURE_FIRST_ROW: &[Given] = &[Number(0), Long(200), Long(200)];
+/// The second item of the two fails on this row, as it is too long.
+const SECOND_FAILS: &[Given] = &[Number(0), Long(200), Long(200)];
 
-const FIRST_ITEM_FAILS: &[Given] = &[Number(i64::MAX), Letters(""), Letters("")];
+/// The first item fails on this row, as it is out of range.
+const FIRST_FAILS: &[Given] = &[Number(i64::MAX), Letters(""), Letters("")];
+
+/// The first row that fails tells the refusal, whichever item it is.
+const ROWS_FIRST: [Case; 2] = [
+    (&[SECOND_FAILS, FIRST_FAILS], TooLong),
+    (&[FIRST_FAILS, SECOND_FAILS], OutOfRange),
+];
 
 #[test]
 fn rows_come_before_items(rt: HostRuntime) -> Result<(), Fail> {
-    let alloc = rt.alloc();
-    let mut exprs = Vec::new(alloc);
-    exprs.push(successor(alloc)?)?;
-    exprs.push(joined(alloc)?)?;
-    let items = Items::Exprs(Sequence::of(exprs));
-    let rows = [LATER_FAILURE_FIRST_ROW, FIRST_ITEM_FAILS];
-    expect(&rt, alloc, &items, &rows, TooLong)?;
-    let turned = [FIRST_ITEM_FAILS, LATER_FAILURE_FIRST_ROW];
-    expect(&rt, alloc, &items, &turned, OutOfRange)
+    let first = successor(rt.alloc())?;
+    let items = exprs(rt.alloc(), first, joined(rt.alloc())?)?;
+    assert_eq!(rt; first_wrong(rt.alloc(), &items, &ROWS_FIRST)?, None);
+    Ok(())
 }
+
+/// Its successor is in range, and twice that is not.
+const ALMOST_MOST: &[Given] = &[Number(i64::MAX - 1), Letters(""), Letters("")];
+
+/// The arguments of each row are refused before a sum is, which is out of range at the end alone.
+const ARGUMENTS_FIRST: [Case; 3] = [
+    (&[SECOND_FAILS, FIRST_FAILS], TooLong),
+    (&[ALMOST_MOST, ALMOST_MOST, SECOND_FAILS], TooLong),
+    (&[ALMOST_MOST, ALMOST_MOST], OutOfRange),
+];
 
 #[test]
 fn arguments_come_before_sums(rt: HostRuntime) -> Result<(), Fail> {
-    let alloc = rt.alloc();
-    let items = totals_of(alloc, successor(alloc)?, joined(alloc)?, column(1))?;
-    let rows = [LATER_FAILURE_FIRST_ROW, FIRST_ITEM_FAILS];
-    expect(&rt, alloc, &items, &rows, TooLong)?;
-    let most: &[Given] = &[Number(i64::MAX - 1), Letters(""), Letters("")];
-    let out_of_range = [most, most, LATER_FAILURE_FIRST_ROW];
-    expect(&rt, alloc, &items, &out_of_range, TooLong)?;
-    expect(&rt, alloc, &items, &[most, most], OutOfRange)
+    let sum = successor(rt.alloc())?;
+    let items = totals_of(rt.alloc(), sum, joined(rt.alloc())?, column(1))?;
+    assert_eq!(rt; first_wrong(rt.alloc(), &items, &ARGUMENTS_FIRST)?, None);
+    Ok(())
 }
+
+const IN_ORDER: Case = (
+    &[&[Number(2), Letters("b")], &[Number(1), Letters("")]],
+    Cells(&[
+        &[Some(Number(2)), Some(Letters("b"))],
+        &[Some(Number(1)), Some(Letters(""))],
+    ]),
+);
 
 #[test]
 fn all_columns_in_their_order(rt: HostRuntime) -> Result<(), Fail> {
-    let alloc = rt.alloc();
-    let rows: &[&[Given]] = &[&[Number(2), Letters("b")], &[Number(1), Letters("")]];
-    let first: &[Option<Given>] = &[Some(Number(2)), Some(Letters("b"))];
-    let second: &[Option<Given>] = &[Some(Number(1)), Some(Letters(""))];
-    expect(&rt, alloc, &Items::All, rows, Cells(&[first, second]))
+    assert_eq!(rt; first_wrong(rt.alloc(), &Items::All, &[IN_ORDER])?, None);
+    Ok(())
 }

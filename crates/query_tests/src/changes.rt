@@ -1,12 +1,8 @@
 //! Changes of a table whose key is its second column and then its first. What a test asserts comes
 //! from a helper as plain data.
 
-ghost use Rattle.std.specs.Prelude.{◌≡◌, [], ◌∷◌, IfOk, None, OnOk, map};
-ghost use Rattle.bf_base.specs.declared.table.Table.{Table};
-ghost use Rattle.bf_base.specs.declared.value.Value.TheVariants as values;
-ghost use Rattle.bf_tree.specs.declared.compare.Compare.TheVariants as compare;
-ghost use Rattle.bf_tree.specs.Trees as trees;
-ghost use Rattle.bf_sql.specs.Conditions.{fixed_key};
+ghost use Rattle.std.specs.Prelude.{◌≡◌, [], ◌∷◌, IfOk, OnOk, map, option_copied};
+ghost use Rattle.bf_sql.specs.Conditions.{all_there, fixed_key};
 ghost use Rattle.bf_query.specs.Merged.{StandUnderOwnKeys};
 ghost use Rattle.query_tests.specs.Ready.{IsReadyOn};
 
@@ -15,13 +11,13 @@ use bf_base::{Key, Row, Sequence, Table, Value};
 use bf_index::IndexedHeap;
 use bf_query::changes;
 use bf_query::merge::selected_rows;
-use bf_tree::{Action, Bound, Compare, Cond, Expr, Node, Refusal, Reply, Test};
+use bf_tree::{Action, Bound, Compare, Cond, Expr, Node, Refusal, Reply, Test, column_fixed};
 use bf_txn::Workspace;
 use std::alloc::Global;
 use std::test::Fail;
 
 /// What a test sees of a reply.
-#[derive(Clone, Copy, Debug, PartialEq)]
+#[derive(Clone, Copy, PartialEq)]
 enum Told {
     Inserted(u32),
     Updated(u32),
@@ -35,7 +31,7 @@ enum Told {
 }
 
 /// Which rows a statement of a test is on.
-#[derive(Clone, Copy, Debug)]
+#[derive(Clone, Copy)]
 enum Where {
     All,
     /// By the second column.
@@ -57,92 +53,117 @@ enum Where {
     Above(i64, &'static str),
 }
 
-fn is_at(place: u8, value: Value) -> Cond
-    ensures { result ≡ trees.compared compare.Equal (trees.column place) (trees.literal value) }
-{
-    let column = Expr::of(Node::Column(place));
-    let literal = Expr::of(Node::Value(value));
-    Cond::of(Test::Compare(Compare::Equal, column, literal))
-}
-
-fn column(place: u8) -> Expr
-    ensures { result ≡ trees.column place }
-{
+fn column(place: u8) -> Expr {
     Expr::of(Node::Column(place))
 }
 
-fn literal(number: i64) -> Expr
-    ensures { result ≡ trees.literal (values.Int number) }
-{
-    Expr::of(Node::Value(Value::Int(number)))
+fn literal(value: Value) -> Expr {
+    Expr::of(Node::Value(value))
 }
 
-fn compared(op: Compare, number: i64) -> Cond
-    ensures { result ≡ trees.compared op (trees.column 1) (trees.literal (values.Int number)) }
-{
-    Cond::of(Test::Compare(op, column(1), literal(number)))
+fn compared(place: u8, op: Compare, value: Value) -> Cond {
+    Cond::of(Test::Compare(op, column(place), literal(value)))
 }
 
-fn both(alloc: Global, left: Cond, right: Cond) -> Result<Cond, Fail>
-    ensures { IfOk result (λ cond. cond ≡ trees.both left right) }
-{
+/// The second column, the first of the key, compared with a number.
+fn number_is(op: Compare, number: i64) -> Cond {
+    compared(1, op, Value::Int(number))
+}
+
+fn letters_are(alloc: Global, op: Compare, letters: &str) -> Result<Cond, Fail> {
+    Ok(compared(0, op, text(alloc, letters)?))
+}
+
+fn turned(number: i64, op: Compare) -> Cond {
+    Cond::of(Test::Compare(op, literal(Value::Int(number)), column(1)))
+}
+
+fn between(low: i64, high: i64) -> Cond {
+    let (low, high) = (literal(Value::Int(low)), literal(Value::Int(high)));
+    Cond::of(Test::Between(column(1), low, high))
+}
+
+fn both(alloc: Global, left: Cond, right: Cond) -> Result<Cond, Fail> {
     let left = Box::new(alloc, left)?;
     let right = Box::new(alloc, right)?;
     Ok(Cond::of(Test::And(left, right)))
 }
 
-/// Three bounds of the number, none of which fixes it.
-fn thrice(alloc: Global, low: i64, other: i64, high: i64) -> Result<Cond, Fail>
-    ensures { IfOk result (λ cond. (table : Table) → table.key ≡ 1 ∷ 0 ∷ []
-        → fixed_key table cond ≡ None) }
-{
-    let low = compared(Compare::Greater, low);
-    let other = compared(Compare::Greater, other);
-    let lows = both(alloc, low, other)?;
-    both(alloc, lows, compared(Compare::LessEqual, high))
+fn thrice(alloc: Global, low: i64, other: i64, high: i64) -> Result<Cond, Fail> {
+    let low = number_is(Compare::Greater, low);
+    let lows = both(alloc, low, number_is(Compare::Greater, other))?;
+    both(alloc, lows, number_is(Compare::LessEqual, high))
+}
+
+/// Letters, and a number.
+fn key_is(alloc: Global, letters: &str, number: i64) -> Result<Cond, Fail> {
+    let letters = letters_are(alloc, Compare::Equal, letters)?;
+    both(alloc, letters, number_is(Compare::Equal, number))
 }
 
 /// A number, and letters above others.
-fn lettered(alloc: Global, number: i64, letters: &str) -> Result<Cond, Fail>
-    ensures { IfOk result (λ cond. (table : Table) → table.key ≡ 1 ∷ 0 ∷ []
-        → fixed_key table cond ≡ None) }
-{
-    let letters = Expr::of(Node::Value(text(alloc, letters)?));
-    let letters = Cond::of(Test::Compare(Compare::Greater, column(0), letters));
-    both(alloc, is_at(1, Value::Int(number)), letters)
+fn above(alloc: Global, number: i64, letters: &str) -> Result<Cond, Fail> {
+    let letters = letters_are(alloc, Compare::Greater, letters)?;
+    both(alloc, number_is(Compare::Equal, number), letters)
 }
 
-/// A condition, and the key that it fixes.
-fn bound(alloc: Global, which: Where) -> Result<(Cond, Option<Key>), Fail>
-    ensures { IfOk result (λ bound. (table : Table) → table.key ≡ 1 ∷ 0 ∷ []
-        → bound.1 ≡ fixed_key table bound.0) }
-{
+fn condition(alloc: Global, which: Where) -> Result<Cond, Fail> {
     match which {
-        Where::All => Ok((Cond::of(Test::Always), None)),
-        Where::Number(number) => Ok((is_at(1, Value::Int(number)), None)),
-        Where::Letters(letters) => Ok((is_at(0, text(alloc, letters)?), None)),
-        Where::Small(number) => Ok((is_at(2, Value::Int(number)), None)),
-        Where::Both(letters, number) => {
-            let letters = text(alloc, letters)?;
-            let mut key = Vec::new(alloc);
-            key.push(Value::Int(number))?;
-            key.push(letters.copy(alloc)?)?;
-            let letters = Box::new(alloc, is_at(0, letters))?;
-            let number = Box::new(alloc, is_at(1, Value::Int(number)))?;
-            let cond = Cond::of(Test::And(letters, number));
-            Ok((cond, Some(Key::of(key))))
-        }
-        Where::Compared(op, number) => Ok((compared(op, number), None)),
-        Where::Turned(number, op) => {
-            let cond = Cond::of(Test::Compare(op, literal(number), column(1)));
-            Ok((cond, None))
-        }
-        Where::Between(low, high) => {
-            let cond = Cond::of(Test::Between(column(1), literal(low), literal(high)));
-            Ok((cond, None))
-        }
-        Where::Thrice(low, other, high) => Ok((thrice(alloc, low, other, high)?, None)),
-        Where::Above(number, letters) => Ok((lettered(alloc, number, letters)?, None)),
+        Where::All => Ok(Cond::of(Test::Always)),
+        Where::Number(number) => Ok(number_is(Compare::Equal, number)),
+        Where::Letters(letters) => letters_are(alloc, Compare::Equal, letters),
+        Where::Small(number) => Ok(compared(2, Compare::Equal, Value::Int(number))),
+        Where::Both(letters, number) => key_is(alloc, letters, number),
+        Where::Compared(op, number) => Ok(number_is(op, number)),
+        Where::Turned(number, op) => Ok(turned(number, op)),
+        Where::Between(low, high) => Ok(between(low, high)),
+        Where::Thrice(low, other, high) => thrice(alloc, low, other, high),
+        Where::Above(number, letters) => above(alloc, number, letters),
+    }
+}
+
+/// The key of a number and letters, where both are there.
+fn key_with(
+    alloc: Global,
+    number: Option<&Value>,
+    letters: Option<&Value>,
+) -> Result<Option<Key>, Fail>
+    ensures { IfOk result (λ key. key
+        ≡ all_there (option_copied number.entry ∷ option_copied letters.entry ∷ [])) }
+{
+    let Some(number) = number else {
+        return Ok(None);
+    };
+    let Some(letters) = letters else {
+        return Ok(None);
+    };
+    let number = number.copy(alloc)?;
+    let values = vec![in alloc; number, letters.copy(alloc)?]?;
+    Ok(Some(Key::of(values)))
+}
+
+/// The key that a condition fixes.
+fn key_fixed(alloc: Global, table: &Table, cond: &Cond) -> Result<Option<Key>, Fail>
+    requires { table.now.key ≡ 1 ∷ 0 ∷ [] }
+    ensures { IfOk result (λ key. key ≡ fixed_key table.now cond.now) }
+{
+    key_with(alloc, column_fixed(cond, 1), column_fixed(cond, 0))
+}
+
+fn key_seen(key: &Key) -> Told {
+    match key.as_slice() {
+        [Value::Int(number), _] => Told::Duplicate(*number),
+        _ => Told::Other,
+    }
+}
+
+fn refusal_seen(refusal: &Refusal) -> Told {
+    match refusal {
+        Refusal::TypeMismatch => Told::TypeMismatch,
+        Refusal::OutOfRange => Told::OutOfRange,
+        Refusal::TooLong => Told::TooLong,
+        Refusal::DuplicateKey(key) => key_seen(key),
+        _ => Told::Other,
     }
 }
 
@@ -151,13 +172,7 @@ fn reply_seen(reply: &Reply) -> Told {
         Reply::Inserted(count) => Told::Inserted(*count),
         Reply::Updated(count) => Told::Updated(*count),
         Reply::Deleted(count) => Told::Deleted(*count),
-        Reply::Refused(Refusal::TypeMismatch) => Told::TypeMismatch,
-        Reply::Refused(Refusal::OutOfRange) => Told::OutOfRange,
-        Reply::Refused(Refusal::TooLong) => Told::TooLong,
-        Reply::Refused(Refusal::DuplicateKey(key)) => match key.as_slice() {
-            [Value::Int(number), _] => Told::Duplicate(*number),
-            _ => Told::Other,
-        },
+        Reply::Refused(refusal) => refusal_seen(refusal),
         _ => Told::Other,
     }
 }
@@ -165,7 +180,7 @@ fn reply_seen(reply: &Reply) -> Told {
 /// A statement, and the reply that it has.
 type Step = (Statement, Told);
 
-#[derive(Clone, Copy, Debug)]
+#[derive(Clone, Copy)]
 enum Statement {
     Insert(&'static [Line]),
     Add(i64, Where),
@@ -189,7 +204,8 @@ fn addition(alloc: Global, table: &Table, number: i64, which: Where) -> Result<A
     ensures { IfOk result (IsReadyOn table.now) }
 {
     let sets = sets_of(alloc, number)?;
-    let (cond, fixed) = bound(alloc, which)?;
+    let cond = condition(alloc, which)?;
+    let fixed = key_fixed(alloc, table, &cond)?;
     let table = table.copy(alloc)?;
     Ok(Action::Update {
         table,
@@ -202,18 +218,18 @@ fn addition(alloc: Global, table: &Table, number: i64, which: Where) -> Result<A
 fn sets_of(alloc: Global, number: i64) -> Result<Sequence<(u8, Expr)>, Fail>
     ensures { IfOk result (λ sets. map (λ set. set.0) sets ≡ 2 ∷ []) }
 {
-    let small = Box::new(alloc, Expr::of(Node::Column(2)))?;
-    let number = Box::new(alloc, Expr::of(Node::Value(Value::Int(number))))?;
-    let mut sets = Vec::new(alloc);
-    sets.push((2, Expr::of(Node::Add(small, number))))?;
-    Ok(Sequence::of(sets))
+    let small = Box::new(alloc, column(2))?;
+    let number = Box::new(alloc, literal(Value::Int(number)))?;
+    let sum = Expr::of(Node::Add(small, number));
+    Ok(Sequence::of(vec![in alloc; (2, sum)]?))
 }
 
 fn deletion(alloc: Global, table: &Table, which: Where) -> Result<Action, Fail>
     requires { table.now.key ≡ 1 ∷ 0 ∷ [] }
     ensures { IfOk result (IsReadyOn table.now) }
 {
-    let (cond, fixed) = bound(alloc, which)?;
+    let cond = condition(alloc, which)?;
+    let fixed = key_fixed(alloc, table, &cond)?;
     let table = table.copy(alloc)?;
     Ok(Action::Delete { table, cond, fixed })
 }
@@ -276,7 +292,8 @@ fn are_selected(
     requires key { table.now.key ≡ 1 ∷ 0 ∷ [] }
     requires keys { StandUnderOwnKeys table.now heap.now.entries workspace.now }
 {
-    let (cond, fixed) = bound(alloc, which)?;
+    let cond = condition(alloc, which)?;
+    let fixed = key_fixed(alloc, table, &cond)?;
     let (rows, indexes) = (heap.heap(), heap.indexes());
     let found = selected_rows(alloc, rows, indexes, workspace, table, &cond, &fixed)?;
     are_lines(alloc, found.as_slice(), lines)
@@ -332,9 +349,27 @@ fn indexed(
     Ok(heap)
 }
 
-/// Runs statements on the rows of a heap with indexes, and answers the place of the first that has
-/// another reply than its own, and whether the rows that satisfy a condition then are these.
-fn outcome_by(
+/// Runs statements on rows, and answers the place of the first that has another reply than its own,
+/// and whether the rows that satisfy a condition then are these.
+fn outcome_on(
+    alloc: Global,
+    table: &Table,
+    heap: &IndexedHeap,
+    steps: &[Step],
+    which: Where,
+    left: &[Line],
+) -> Result<(Option<usize>, bool), Fail>
+    requires key { table.now.key ≡ 1 ∷ 0 ∷ [] }
+    requires keys { StandUnderOwnKeys table.now heap.now.entries [] }
+{
+    let mut workspace = Workspace::new(alloc);
+    let other = run_all(alloc, table, heap, &mut workspace, steps)?;
+    let selected = are_selected(alloc, table, heap, &workspace, which, left)?;
+    Ok((other, selected))
+}
+
+/// The same on the rows of a heap with the indexes of the columns at these places.
+fn outcome(
     alloc: Global,
     lines: &[Line],
     indexes: &[&[u8]],
@@ -344,28 +379,36 @@ fn outcome_by(
 ) -> Result<(Option<usize>, bool), Fail> {
     let table = table(alloc)?;
     let heap = indexed(alloc, &table, lines, indexes)?;
-    let mut workspace = Workspace::new(alloc);
-    let other = run_all(alloc, &table, &heap, &mut workspace, steps)?;
-    let selected = are_selected(alloc, &table, &heap, &workspace, which, left)?;
-    Ok((other, selected))
+    outcome_on(alloc, &table, &heap, steps, which, left)
 }
 
-/// The same on a heap without indexes.
-fn outcome(
+/// What is tested; statements with their replies; and the rows that satisfy a condition then.
+type Case = (&'static str, &'static [Step], Where, &'static [Line]);
+
+/// What the first case tests that fails, and the place of the statement that has another reply than
+/// its own; it has no place where the rows are others.
+type Wrong = (&'static str, Option<usize>);
+
+fn first_wrong(
     alloc: Global,
     lines: &[Line],
-    steps: &[Step],
-    which: Where,
-    left: &[Line],
-) -> Result<(Option<usize>, bool), Fail> {
-    outcome_by(alloc, lines, &[], steps, which, left)
+    indexes: &[&[u8]],
+    cases: &[Case],
+) -> Result<Option<Wrong>, Fail> {
+    for (what, steps, which, left) in cases {
+        let (other, selected) = outcome(alloc, lines, indexes, steps, *which, left)?;
+        if other.is_some() || !selected {
+            return Ok(Some((*what, other)));
+        }
+    }
+    Ok(None)
 }
 
 /// In key order: by number, then by letters, a text before the longer ones that it begins.
 const LINES: [Line; 4] = [("b", -1, 1), ("", 1, 2), ("a", 1, 9), ("ab", 1, 3)];
 
-/// Statements on these rows, with their replies; and the rows that satisfy a condition then.
-const CASES: [(&str, &[Step], Where, &[Line]); 7] = [
+/// Statements on these rows.
+const CASES: [Case; 7] = [
     (
         "an UPDATE fails on its third row",
         &[(Add(2, Where::All), Told::OutOfRange)],
@@ -440,10 +483,7 @@ const CASES: [(&str, &[Step], Where, &[Line]); 7] = [
 
 #[test]
 fn statements_change_rows(rt: HostRuntime) -> Result<(), Fail> {
-    for (what, steps, which, left) in &CASES {
-        let outcome = outcome(rt.alloc(), &LINES, steps, *which, left)?;
-        assert_eq!(rt; outcome, (None, true), "where {what}");
-    }
+    assert_eq!(rt; first_wrong(rt.alloc(), &LINES, &[], &CASES)?, None);
     Ok(())
 }
 
@@ -507,18 +547,26 @@ const SELECTED: [(Where, &[Line]); 20] = [
     (Where::Above(4, "b"), &[]),
 ];
 
+/// The place of the first condition that other rows satisfy.
+fn first_unlike(alloc: Global, cases: &[(Where, &[Line])]) -> Result<Option<usize>, Fail> {
+    for (place, (which, left)) in cases.iter().enumerate() {
+        let (_, selected) = outcome(alloc, &RANGED, &[], &[], *which, left)?;
+        if !selected {
+            return Ok(Some(place));
+        }
+    }
+    Ok(None)
+}
+
 #[test]
 fn ranges_select_rows(rt: HostRuntime) -> Result<(), Fail> {
-    for (which, left) in &SELECTED {
-        let outcome = outcome(rt.alloc(), &RANGED, &[], *which, left)?;
-        assert_eq!(rt; outcome, (None, true), "where {which:?}");
-    }
+    assert_eq!(rt; first_unlike(rt.alloc(), &SELECTED)?, None);
     Ok(())
 }
 
 /// Statements on those rows in turn, of which the later ones see what the earlier ones wrote inside
 /// their ranges and outside.
-const CHANGED: [(&str, &[Step], Where, &[Line]); 5] = [
+const CHANGED: [Case; 5] = [
     (
         "own writes are inside a range and outside",
         &[
@@ -594,10 +642,7 @@ const CHANGED: [(&str, &[Step], Where, &[Line]); 5] = [
 
 #[test]
 fn ranges_change_rows(rt: HostRuntime) -> Result<(), Fail> {
-    for (what, steps, which, left) in &CHANGED {
-        let outcome = outcome(rt.alloc(), &RANGED, steps, *which, left)?;
-        assert_eq!(rt; outcome, (None, true), "where {what}");
-    }
+    assert_eq!(rt; first_wrong(rt.alloc(), &RANGED, &[], &CHANGED)?, None);
     Ok(())
 }
 
@@ -606,7 +651,7 @@ const INDEXES: [&[u8]; 3] = [&[0], &[2], &[0, 2]];
 
 /// Statements on those rows by columns that do not begin the key, with own writes of rows that have
 /// the value, get it, lose it and are removed.
-const LOOKED_UP: [(&str, &[Step], Where, &[Line]); 3] = [
+const LOOKED_UP: [Case; 3] = [
     (
         "no row is written",
         &[(Add(2, Where::Small(9)), Told::OutOfRange)],
@@ -640,11 +685,10 @@ const LOOKED_UP: [(&str, &[Step], Where, &[Line]); 3] = [
 
 #[test]
 fn indexes_leave_the_replies(rt: HostRuntime) -> Result<(), Fail> {
-    for (what, steps, which, left) in &LOOKED_UP {
-        let scanned = outcome(rt.alloc(), &RANGED, steps, *which, left)?;
-        assert_eq!(rt; scanned, (None, true), "without indexes, where {what}");
-        let found = outcome_by(rt.alloc(), &RANGED, &INDEXES, steps, *which, left)?;
-        assert_eq!(rt; found, (None, true), "with indexes, where {what}");
-    }
+    assert_eq!(rt; first_wrong(rt.alloc(), &RANGED, &[], &LOOKED_UP)?, None);
+    assert_eq!(rt;
+        first_wrong(rt.alloc(), &RANGED, &INDEXES, &LOOKED_UP)?,
+        None
+    );
     Ok(())
 }

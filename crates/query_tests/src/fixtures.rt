@@ -26,19 +26,20 @@ pub fn column(alloc: Global, name: &[u8], admits: Admit) -> Result<Column, Fail>
     Ok(Column { name, admits })
 }
 
+fn columns(alloc: Global) -> Result<Sequence<Column>, Fail> {
+    let letters = column(alloc, b"letters", Admit::Varchar(3))?;
+    let number = column(alloc, b"number", Admit::Int)?;
+    let small = column(alloc, b"small", Admit::Checked(0, 10))?;
+    Ok(Sequence::of(vec![in alloc; letters, number, small]?))
+}
+
 pub fn table(alloc: Global) -> Result<Table, Fail>
     ensures { IfOk result (λ table. table.key ≡ 1 ∷ 0 ∷ []) }
 {
-    let mut columns = Vec::new(alloc);
-    columns.push(column(alloc, b"letters", Admit::Varchar(3))?)?;
-    columns.push(column(alloc, b"number", Admit::Int)?)?;
-    columns.push(column(alloc, b"small", Admit::Checked(0, 10))?)?;
-    let mut key = Vec::new(alloc);
-    key.push(1)?;
-    key.push(0)?;
+    let key = vec![in alloc; 1, 0]?;
     Ok(Table {
         name: Name::of(alloc, b"things")?,
-        columns: Sequence::of(columns),
+        columns: columns(alloc)?,
         key: Sequence::of(key),
     })
 }
@@ -47,10 +48,8 @@ pub fn row(alloc: Global, line: Line) -> Result<Row, Fail>
     ensures { IfOk result (λ row. length row ≡ 3) }
 {
     let (letters, number, small) = line;
-    let mut values = Vec::new(alloc);
-    values.push(text(alloc, letters)?)?;
-    values.push(Value::Int(number))?;
-    values.push(Value::Int(small))?;
+    let letters = text(alloc, letters)?;
+    let values = vec![in alloc; letters, Value::Int(number), Value::Int(small)]?;
     Ok(Row::of(values))
 }
 

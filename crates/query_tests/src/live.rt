@@ -1,16 +1,17 @@
 //! Two live tables, each of a number under a number, that were created out of name order.
 
-ghost use Rattle.std.specs.Prelude.{◌≡◌, [], ◌∷◌, IfOk, OnOk, None, Some};
-ghost use Rattle.std.specs.Option.{option_map};
+ghost use Rattle.std.specs.Prelude.{◌≡◌, [], ◌∷◌, IfOk, OnOk};
 ghost use Rattle.bf_base.specs.Names.{folded};
 ghost use Rattle.bf_base.specs.declared.value.Value.TheVariants as cells;
 ghost use Rattle.bf_txn.specs.Writes.{with_write};
+ghost use Rattle.bf_live.specs.Live.{committed};
 ghost use Rattle.query_tests.specs.TwoTables.{first_written, indexed, numbers, put, removal, rule, second_written};
 
 use crate::fixtures::column;
 use bf_base::{Admit, Key, Name, Row, Sequence, Table, Value};
+use bf_heap::Heap;
 use bf_live::LiveTables;
-use bf_tree::IndexRule;
+use bf_tree::{Catalog, IndexRule};
 use bf_txn::Workspace;
 use std::alloc::Global;
 use std::test::Fail;
@@ -18,11 +19,9 @@ use std::test::Fail;
 fn table(alloc: Global, name: &[u8]) -> Result<Table, Fail>
     ensures { IfOk result (λ table. table ≡ numbers (folded name.now)) }
 {
-    let mut columns = Vec::new(alloc);
-    columns.push(column(alloc, b"k", Admit::Int)?)?;
-    columns.push(column(alloc, b"v", Admit::Int)?)?;
-    let mut key = Vec::new(alloc);
-    key.push(0)?;
+    let number = column(alloc, b"k", Admit::Int)?;
+    let columns = vec![in alloc; number, column(alloc, b"v", Admit::Int)?]?;
+    let key = vec![in alloc; 0]?;
     Ok(Table {
         name: Name::of(alloc, name)?,
         columns: Sequence::of(columns),
@@ -33,8 +32,7 @@ fn table(alloc: Global, name: &[u8]) -> Result<Table, Fail>
 fn index(alloc: Global) -> Result<IndexRule, Fail>
     ensures { IfOk result (λ index. index ≡ rule) }
 {
-    let mut columns = Vec::new(alloc);
-    columns.push(1)?;
+    let columns = vec![in alloc; 1]?;
     Ok(IndexRule {
         name: Name::of(alloc, b"i")?,
         table: Name::of(alloc, b"b")?,
@@ -45,9 +43,13 @@ fn index(alloc: Global) -> Result<IndexRule, Fail>
 fn key(alloc: Global, number: i64) -> Result<Key, Fail>
     ensures { IfOk result (λ key. key ≡ cells.Int number ∷ []) }
 {
-    let mut values = Vec::new(alloc);
-    values.push(Value::Int(number))?;
-    Ok(Key::of(values))
+    Ok(Key::of(vec![in alloc; Value::Int(number)]?))
+}
+
+fn row(alloc: Global, number: i64, value: i64) -> Result<Row, Fail>
+    ensures { IfOk result (λ row. row ≡ cells.Int number ∷ cells.Int value ∷ []) }
+{
+    Ok(Row::of(vec![in alloc; Value::Int(number), Value::Int(value)]?))
 }
 
 fn write_row(
@@ -60,11 +62,10 @@ fn write_row(
     ensures { OnOk result (writes.new
         ≡ with_write writes.old (put (folded table.now) number value)) }
 {
-    let mut values = Vec::new(alloc);
-    values.push(Value::Int(number))?;
-    values.push(Value::Int(value))?;
+    let row = row(alloc, number, value)?;
+    let key = key(alloc, number)?;
     let table = Name::of(alloc, table)?;
-    writes.write(table, key(alloc, number)?, Some(Row::of(values)))?;
+    writes.write(table, key, Some(row))?;
     Ok(())
 }
 
@@ -111,62 +112,103 @@ fn second_writes(alloc: Global) -> Result<Workspace, Fail>
     Ok(writes)
 }
 
-/// The rows of a table, in key order.
-fn rows(alloc: Global, live: &LiveTables, table: &[u8]) -> Result<Vec<(i64, i64)>, Fail> {
-    let name = Name::of(alloc, table)?;
-    let heap = live.heap(&name).ok_or("no such table")?;
-    let mut rows = Vec::new(alloc);
-    for position in 0..heap.len() {
-        let (_, row) = heap.at(position).ok_or("no row")?;
-        match row.as_slice() {
-            [Value::Int(number), Value::Int(value)] => rows.push((*number, *value))?,
-            _ => return Err("another row".into()),
+/// The two tables after the first writes.
+fn first_commit(alloc: Global) -> Result<LiveTables, Fail>
+    ensures { IfOk result (λ live. live ≡ committed indexed first_written) }
+{
+    let mut live = two_tables(alloc)?;
+    let mut writes = first_writes(alloc)?;
+    live.commit(&mut writes)?;
+    Ok(live)
+}
+
+/// Commits the second writes after the first ones.
+fn second_commit(alloc: Global, live: &mut LiveTables) -> Result<(), Fail>
+    requires { live.old ≡ committed indexed first_written }
+{
+    let mut writes = second_writes(alloc)?;
+    live.commit(&mut writes)?;
+    Ok(())
+}
+
+fn is_row(row: &Row, number: i64, value: i64) -> bool {
+    match row.as_slice() {
+        [Value::Int(found), Value::Int(other)] => *found == number && *other == value,
+        _ => false,
+    }
+}
+
+fn are_rows(heap: &Heap, rows: &[(i64, i64)]) -> bool {
+    for (position, (number, value)) in (0..heap.len()).zip(rows) {
+        let Some((_, row)) = heap.at(position) else {
+            return false;
+        };
+        if !is_row(row, *number, *value) {
+            return false;
         }
     }
-    Ok(rows)
+    heap.len() as usize == rows.len()
+}
+
+/// Whether a table is there.
+fn stands(alloc: Global, live: &LiveTables, table: &[u8]) -> Result<bool, Fail> {
+    Ok(live.heap(&Name::of(alloc, table)?).is_some())
+}
+
+/// Whether a table is there and has these rows, in key order.
+fn has_rows(
+    alloc: Global,
+    live: &LiveTables,
+    table: &[u8],
+    rows: &[(i64, i64)],
+) -> Result<bool, Fail> {
+    let name = Name::of(alloc, table)?;
+    match live.heap(&name) {
+        Some(heap) => Ok(are_rows(heap, rows)),
+        None => Ok(false),
+    }
+}
+
+/// Whether the tables of a catalog have these names, in this order.
+fn are_named(catalog: &Catalog, names: &[&[u8]]) -> bool {
+    let mut tables = catalog.tables();
+    for name in names {
+        match tables.next() {
+            Some(table) if table.name.as_bytes() == *name => {}
+            _ => return false,
+        }
+    }
+    tables.next().is_none()
+}
+
+/// The number of the catalog, and how many indexes it has.
+fn counts(live: &LiveTables) -> (u64, usize) {
+    let catalog = live.catalog();
+    (catalog.number(), catalog.indexes().len())
+}
+
+fn has_tables(live: &LiveTables, names: &[&[u8]]) -> bool {
+    are_named(live.catalog(), names)
 }
 
 #[test]
 fn keeps_tables_in_name_order(rt: HostRuntime) -> Result<(), Fail> {
-    let alloc = rt.alloc();
-    let live = two_tables(alloc)?;
-    let catalog = live.catalog();
-    assert_eq!(rt; catalog.number(), 3);
-    let mut tables = catalog.tables();
-    assert_eq!(rt;
-        tables.next().ok_or("no table")?.name.as_bytes(),
-        b"a".as_slice()
-    );
-    assert_eq!(rt;
-        tables.next().ok_or("one table")?.name.as_bytes(),
-        b"b".as_slice()
-    );
-    assert!(rt; tables.next().is_none());
-    assert_eq!(rt; catalog.indexes().len(), 1);
-    assert!(rt; live.heap(&Name::of(alloc, b"c")?).is_none());
-    assert!(rt; rows(alloc, &live, b"a")?.is_empty());
+    let live = two_tables(rt.alloc())?;
+    assert_eq!(rt; counts(&live), (3, 1));
+    assert!(rt; has_tables(&live, &[b"a", b"b"]));
+    assert!(rt; !stands(rt.alloc(), &live, b"c")?);
+    assert!(rt; has_rows(rt.alloc(), &live, b"a", &[])?);
     Ok(())
 }
 
 #[test]
 fn commits_to_both_tables(rt: HostRuntime) -> Result<(), Fail> {
-    let alloc = rt.alloc();
-    let mut live = two_tables(alloc)?;
-    live.commit(&mut first_writes(alloc)?)?;
-    assert_eq!(rt;
-        rows(alloc, &live, b"a")?.as_slice(),
-        [(1, 10), (3, 30)].as_slice()
-    );
-    assert_eq!(rt; rows(alloc, &live, b"b")?.as_slice(), [(2, 20)].as_slice());
-    live.commit(&mut second_writes(alloc)?)?;
-    assert_eq!(rt;
-        rows(alloc, &live, b"a")?.as_slice(),
-        [(2, 22), (3, 30)].as_slice()
-    );
-    assert_eq!(rt;
-        rows(alloc, &live, b"b")?.as_slice(),
-        [(-1, 5), (2, 21)].as_slice()
-    );
-    assert!(rt; live.heap(&Name::of(alloc, b"c")?).is_none());
+    let mut live = first_commit(rt.alloc())?;
+    assert!(rt; has_rows(rt.alloc(), &live, b"a", &[(1, 10), (3, 30)])?);
+    assert!(rt; has_rows(rt.alloc(), &live, b"b", &[(2, 20)])?);
+    second_commit(rt.alloc(), &mut live)?;
+    assert!(rt; has_rows(rt.alloc(), &live, b"a", &[(2, 22), (3, 30)])?);
+    assert!(rt; has_rows(rt.alloc(), &live, b"b", &[(-1, 5), (2, 21)])?);
+    assert!(rt; !stands(rt.alloc(), &live, b"c")?);
     Ok(())
 }
