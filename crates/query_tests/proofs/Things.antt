@@ -14,7 +14,7 @@ use Rattle.bf_sql.specs.Conditions.{all_there, fixed_key}
 use Rattle.bf_tree.specs.declared.bound.Action.{Action}
 use Rattle.bf_tree.specs.declared.bound.Action.TheVariants as action
 use Rattle.bf_txn.specs.declared.write.Write.{Write}
-use Rattle.bf_query.specs.Actions.{IsWellBound, action_table, rows_for, objections_on, writes_of, written}
+use Rattle.bf_query.specs.Actions.{HaveOwnKeys, IsWellBound, action_table, rows_for, objections_on, writes_of, written}
 use Rattle.bf_query.specs.Changes.{LeavesKeys}
 use Rattle.query_tests.specs.Ready.{IsReadyOn}
 use Rattle.bf_query.specs.Merged.{HasOwnKey, StandUnderOwnKeys}
@@ -30,6 +30,10 @@ stands_with table entries key row stand is in_key = record {
   heap = each _ _ (with_one_more key_cmp key_of_entry (λ e. HasOwnKey table e.0 e.1) entries (key, row) (by_recursion _ entries stand.heap) (in_key, sym is));
   workspace = λ k d below. absurd (omega arith);
 }
+
+-- rows under their own keys are what an action on their table asks for
+pub have_own_keys : (act : Action) (table : Table) (entries : List Entry) (writes : List Write) → action_table act ≡ Some table → StandUnderOwnKeys table entries writes → HaveOwnKeys entries writes act
+have_own_keys act table entries writes is stand = rw is stand
 
 -- after a change rows stand under their own keys
 pub stands_after : (act : Action) (table : Table) (entries : List Entry) (old new : List Write) → action_table act ≡ Some table → IsWellBound act → LeavesKeys act → StandUnderOwnKeys table entries old
@@ -55,3 +59,7 @@ leaves table (set ∷ next ∷ sets) key third = absurd cc
 pub update_is_ready : (table named : Table) (sets : List (ℕ × Expr ℕ)) (cond : Cond ℕ) (fixed : Option (List Value)) → table.key ≡ 1 ∷ 0 ∷ [] → named ≡ table → map (λ set. set.0) sets ≡ 2 ∷ [] → fixed ≡ fixed_key table cond → IsReadyOn table (action.Update named sets cond fixed)
 update_is_ready table named sets cond fixed key same third fixes =
     subst (λ name. IsReadyOn table (action.Update name sets cond fixed)) (sym same) (record { change = tt; of_table = refl; bound = fixes; leaves = leaves table sets key third })
+
+pub delete_is_ready : (table named : Table) (cond : Cond ℕ) (fixed : Option (List Value)) → named ≡ table → fixed ≡ fixed_key table cond → IsReadyOn table (action.Delete named cond fixed)
+delete_is_ready table named cond fixed same fixes =
+    subst (λ name. IsReadyOn table (action.Delete name cond fixed)) (sym same) (record { change = tt; of_table = refl; bound = fixes; leaves = tt })

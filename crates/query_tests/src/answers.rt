@@ -28,15 +28,17 @@ enum Told {
 
 use Told::{Cells, OutOfRange, TooLong};
 
+fn long(alloc: Global, count: usize) -> Result<Value, Fail> {
+    let bytes = vec![in alloc; b'x'; count]?;
+    Ok(Value::Text(Text::of(alloc, bytes.as_slice())?))
+}
+
 fn value(alloc: Global, given: Given) -> Result<Value, Fail> {
-    Ok(match given {
-        Number(number) => Value::Int(number),
-        Letters(letters) => text(alloc, letters)?,
-        Long(count) => {
-            let bytes = vec![in alloc; b'x'; count]?;
-            Value::Text(Text::of(alloc, bytes.as_slice())?)
-        }
-    })
+    match given {
+        Number(number) => Ok(Value::Int(number)),
+        Letters(letters) => text(alloc, letters),
+        Long(count) => long(alloc, count),
+    }
 }
 
 fn row(alloc: Global, values: &[Given]) -> Result<Row, Fail> {

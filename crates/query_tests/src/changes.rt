@@ -203,7 +203,7 @@ fn addition(alloc: Global, table: &Table, number: i64, which: Where) -> Result<A
     requires { table.now.key ≡ 1 ∷ 0 ∷ [] }
     ensures { IfOk result (IsReadyOn table.now) }
 {
-    let sets = sets_of(alloc, number)?;
+    let sets = setting(alloc, increased(alloc, number)?)?;
     let cond = condition(alloc, which)?;
     let fixed = key_fixed(alloc, table, &cond)?;
     let table = table.copy(alloc)?;
@@ -215,13 +215,18 @@ fn addition(alloc: Global, table: &Table, number: i64, which: Where) -> Result<A
     })
 }
 
-fn sets_of(alloc: Global, number: i64) -> Result<Sequence<(u8, Expr)>, Fail>
-    ensures { IfOk result (λ sets. map (λ set. set.0) sets ≡ 2 ∷ []) }
-{
+/// The small number and another one.
+fn increased(alloc: Global, number: i64) -> Result<Expr, Fail> {
     let small = Box::new(alloc, column(2))?;
     let number = Box::new(alloc, literal(Value::Int(number)))?;
-    let sum = Expr::of(Node::Add(small, number));
-    Ok(Sequence::of(vec![in alloc; (2, sum)]?))
+    Ok(Expr::of(Node::Add(small, number)))
+}
+
+/// Sets the small number alone.
+fn setting(alloc: Global, small: Expr) -> Result<Sequence<(u8, Expr)>, Fail>
+    ensures { IfOk result (λ sets. map (λ set. set.0) sets ≡ 2 ∷ []) }
+{
+    Ok(Sequence::of(vec![in alloc; (2, small)]?))
 }
 
 fn deletion(alloc: Global, table: &Table, which: Where) -> Result<Action, Fail>
@@ -280,7 +285,23 @@ fn run_statement(
     run(alloc, table, heap, workspace, &bound)
 }
 
-/// Whether these are the rows that satisfy a condition, in key order.
+/// The rows that satisfy a condition, in key order.
+fn selected<'a>(
+    alloc: Global,
+    table: &Table,
+    heap: &'a IndexedHeap,
+    workspace: &'a Workspace,
+    cond: &Cond,
+    fixed: &Option<Key>,
+) -> Result<Vec<&'a Row>, Fail>
+    requires fixed { fixed.now ≡ fixed_key table.now cond.now }
+    requires keys { StandUnderOwnKeys table.now heap.now.entries workspace.now }
+{
+    let (rows, indexes) = (heap.heap(), heap.indexes());
+    Ok(selected_rows(alloc, rows, indexes, workspace, table, cond, fixed)?)
+}
+
+/// Whether these are the rows that satisfy a condition.
 fn are_selected(
     alloc: Global,
     table: &Table,
@@ -294,8 +315,7 @@ fn are_selected(
 {
     let cond = condition(alloc, which)?;
     let fixed = key_fixed(alloc, table, &cond)?;
-    let (rows, indexes) = (heap.heap(), heap.indexes());
-    let found = selected_rows(alloc, rows, indexes, workspace, table, &cond, &fixed)?;
+    let found = selected(alloc, table, heap, workspace, &cond, &fixed)?;
     are_lines(alloc, found.as_slice(), lines)
 }
 
