@@ -63,3 +63,19 @@ pub fn number_of(row: Option<&Row>) -> Option<i64> {
 pub fn number_of_key(key: &Key) -> Option<i64> {
     only_number(key.as_slice())
 }
+
+/// The number of such a row, under whatever key.
+pub fn number_in(entry: Option<(&Key, &Row)>) -> Option<i64> {
+    match entry {
+        Some((_, row)) => number(row),
+        None => None,
+    }
+}
+
+/// The number of such a row that stands under the same number.
+pub fn own_number(entry: Option<(&Key, &Row)>) -> Option<i64> {
+    match entry {
+        Some((key, row)) if number_of_key(key) == number(row) => number(row),
+        _ => None,
+    }
+}

@@ -1,7 +1,7 @@
 //! Frozen heaps of several pages, by position and by key.
 
-use crate::fixtures::{number, number_key, number_of, number_of_key};
-use crate::pages::{Order, even, filled, number_under};
+use crate::fixtures::{number_key, number_of, own_number};
+use crate::pages::{ORDERS, Order, even, filled, number_under};
 use bf_heap::{FrozenHeap, Heap};
 use std::alloc::Global;
 use std::test::Fail;
@@ -16,23 +16,30 @@ fn frozen(alloc: Global, heap: Heap) -> Result<FrozenHeap, Fail> {
 
 /// The number at a position, if its key is the same.
 fn number_at(heap: &FrozenHeap, position: u32) -> Option<i64> {
-    match heap.at(position) {
-        Some((key, row)) if number_of_key(key) == number(row) => number(row),
-        _ => None,
-    }
+    own_number(heap.at(position))
 }
 
-/// Whether a number stands at a position, and is found there by its key, and the odd one behind it
-/// is not.
+/// Whether a number is found at a position by its key.
+fn finds(alloc: Global, heap: &FrozenHeap, wanted: i64, position: u32) -> Result<bool, Fail> {
+    let key = number_key(alloc, wanted)?;
+    Ok(heap.position(&key) == Some(position) && number_of(heap.get(&key)) == Some(wanted))
+}
+
+/// Whether a number is not found by its key.
+fn lacks(alloc: Global, heap: &FrozenHeap, number: i64) -> Result<bool, Fail> {
+    let key = number_key(alloc, number)?;
+    Ok(heap.position(&key).is_none() && heap.get(&key).is_none())
+}
+
+/// Whether an even number stands at its position, and is found there, and the odd one behind it is
+/// not.
 fn stands(alloc: Global, heap: &FrozenHeap, position: u32) -> Result<bool, Fail> {
     let wanted = even(position);
-    let key = number_key(alloc, wanted)?;
-    let odd = number_key(alloc, wanted.wrapping_add(1))?;
-    let there = number_at(heap, position) == Some(wanted)
-        && heap.position(&key) == Some(position)
-        && number_of(heap.get(&key)) == Some(wanted);
-    let other = heap.position(&odd).is_some() || heap.get(&odd).is_some();
-    Ok(there && !other)
+    Ok(
+        number_at(heap, position) == Some(wanted)
+            && finds(alloc, heap, wanted, position)?
+            && lacks(alloc, heap, wanted.wrapping_add(1))?,
+    )
 }
 
 /// The first position of so many that does not have its even number.
@@ -45,20 +52,25 @@ fn first_wrong(alloc: Global, heap: &FrozenHeap, rows: u32) -> Result<Option<u32
     Ok(None)
 }
 
+/// Whether there are so many rows, and none behind them.
+fn ends(heap: &FrozenHeap, rows: u32) -> bool {
+    heap.len() == rows
+        && heap.is_empty() == (rows == 0)
+        && heap.at(rows).is_none()
+        && heap.at(u32::MAX).is_none()
+}
+
+/// Numbers of rows.
+const SIZES: [u32; 5] = [0, 1, 64, 65, 200];
+
 #[test]
 fn finds_rows_by_position_and_key(rt: HostRuntime) -> Result<(), Fail> {
-    for rows in [0, 1, 64, 65, 200] {
-        for order in [Order::Rising, Order::Falling, Order::Mixed] {
-            let heap = frozen(rt.alloc(), filled(rt.alloc(), order, rows)?)?;
-            assert_eq!(rt; (heap.len(), heap.is_empty()), (rows, rows == 0));
-            assert_eq!(rt;
-                first_wrong(rt.alloc(), &heap, rows)?,
-                None,
-                "{rows} rows, {order:?}"
-            );
-            assert!(rt; heap.at(rows).is_none() && heap.at(u32::MAX).is_none());
-            let before = number_key(rt.alloc(), -1)?;
-            assert!(rt; heap.position(&before).is_none() && heap.get(&before).is_none());
+    for rows in &SIZES {
+        for order in &ORDERS {
+            let heap = frozen(rt.alloc(), filled(rt.alloc(), *order, *rows)?)?;
+            let wrong = first_wrong(rt.alloc(), &heap, *rows)?;
+            assert_eq!(rt; wrong, None, "{rows} rows, {order:?}");
+            assert!(rt; ends(&heap, *rows) && lacks(rt.alloc(), &heap, -1)?);
         }
     }
     Ok(())

@@ -2,7 +2,7 @@
 //! of texts and numbers.
 
 use crate::fixtures::Cell::{self, Letters, Number};
-use crate::fixtures::{key, number, number_of, row};
+use crate::fixtures::{key, number, number_in, number_of, row};
 use bf_base::{Key, Row};
 use bf_heap::Heap;
 use std::alloc::Global;
@@ -35,18 +35,10 @@ pub fn number_at(heap: &Heap, position: u32, key: &Key) -> Option<i64> {
     }
 }
 
-/// The number of the row at a position.
-fn number_in(heap: &Heap, position: u32) -> Option<i64> {
-    match heap.at(position) {
-        Some((_, row)) => number(row),
-        None => None,
-    }
-}
-
 /// Whether these are the numbers of all rows, in the order of the keys.
 pub fn has_numbers(heap: &Heap, wanted: &[i64]) -> bool {
     for position in 0..heap.len() {
-        let found = number_in(heap, position);
+        let found = number_in(heap.at(position));
         if found.is_none() || found != wanted.get(position as usize).copied() {
             return false;
         }
@@ -149,7 +141,8 @@ fn stands(alloc: Global, heap: &Heap, place: u32) -> Result<bool, Fail> {
     Ok(find_row(heap, &key) == wanted && number_at(heap, place, &key) == wanted)
 }
 
-fn lacks(alloc: Global, heap: &Heap, cells: &[Cell]) -> Result<bool, Fail> {
+/// Whether no row is under a key.
+pub fn lacks(alloc: Global, heap: &Heap, cells: &[Cell]) -> Result<bool, Fail> {
     Ok(find_row(heap, &key(alloc, cells)?).is_none())
 }
 
@@ -166,7 +159,7 @@ fn puts_in_key_order(rt: HostRuntime) -> Result<(), Fail> {
 #[test]
 fn finds_no_other_keys(rt: HostRuntime) -> Result<(), Fail> {
     let heap = risen(rt.alloc())?;
-    for cells in ABSENT {
+    for cells in &ABSENT {
         assert!(rt; lacks(rt.alloc(), &heap, cells)?, "{cells:?}");
     }
     Ok(())

@@ -4,6 +4,7 @@ ghost use Rattle.std.specs.Prelude.{◌≤◌};
 
 use crate::fixtures::Cell::{self, Letters, Number};
 use crate::fixtures::{key, number_key, number_of_key, row};
+use crate::pages::even;
 use bf_base::{Key, Row, Value};
 use bf_heap::Heap;
 use bf_index::{Index, IndexedHeap};
@@ -16,15 +17,37 @@ fn add_pair(index: &mut Index, value: Key, key: Key) -> Result<bool, Fail> {
     Ok(index.add(value, key))
 }
 
+/// Whether keys are these numbers.
+fn are_numbers(keys: &[Key], wanted: &[i64]) -> bool {
+    for (found, number) in keys.iter().zip(wanted) {
+        if number_of_key(found) != Some(*number) {
+            return false;
+        }
+    }
+    keys.len() == wanted.len()
+}
+
 /// Whether a value has these numbers as its keys.
 fn has_keys(alloc: Global, index: &Index, value: &Key, wanted: &[i64]) -> Result<bool, Fail> {
     let keys = index.find(alloc, value)?;
-    for (found, number) in keys.iter().zip(wanted) {
-        if number_of_key(found) != Some(*number) {
-            return Ok(false);
-        }
-    }
-    Ok(keys.len() == wanted.len())
+    Ok(are_numbers(&keys, wanted))
+}
+
+/// The pair of a value and a key.
+fn pair(alloc: Global, value: i64, key: i64) -> Result<(Key, Key), Fail> {
+    Ok((number_key(alloc, value)?, number_key(alloc, key)?))
+}
+
+/// Adds the pair of two numbers.
+fn add(alloc: Global, index: &mut Index, value: i64, key: i64) -> Result<bool, Fail> {
+    let (value, key) = pair(alloc, value, key)?;
+    add_pair(index, value, key)
+}
+
+/// Takes the pair of two numbers.
+fn take(alloc: Global, index: &mut Index, value: i64, key: i64) -> Result<bool, Fail> {
+    let (value, key) = pair(alloc, value, key)?;
+    Ok(index.take(&value, &key))
 }
 
 /// What is done to an index, and what it answers. Values and keys are numbers.
@@ -42,14 +65,8 @@ use Step::{Add, Find, Take};
 
 fn answers(alloc: Global, index: &mut Index, step: Step) -> Result<bool, Fail> {
     match step {
-        Add(value, key, new) => {
-            let told = add_pair(index, number_key(alloc, value)?, number_key(alloc, key)?)?;
-            Ok(told == new)
-        }
-        Take(value, key, there) => {
-            let told = index.take(&number_key(alloc, value)?, &number_key(alloc, key)?);
-            Ok(told == there)
-        }
+        Add(value, key, new) => Ok(add(alloc, index, value, key)? == new),
+        Take(value, key, there) => Ok(take(alloc, index, value, key)? == there),
         Find(value, keys) => has_keys(alloc, index, &number_key(alloc, value)?, keys),
     }
 }
@@ -87,8 +104,41 @@ fn finds_the_keys_of_a_value(rt: HostRuntime) -> Result<(), Fail> {
     Ok(())
 }
 
-/// Values that a front or the columns of one make, in another order.
-const OTHERS: [&[Cell]; 3] = [&[Letters("a")], &[Number(5), Letters("a")], &[]];
+/// A row, and its value by the third and the first column.
+const ROW: [Cell; 3] = [Number(5), Number(1), Letters("a")];
+
+const VALUE: [Cell; 2] = [Letters("a"), Number(5)];
+
+/// The keys of this value, and of those that a front or the columns of it make, in another order.
+const OF_COLUMNS: [(&[Cell], &[i64]); 4] = [
+    (&VALUE, &[1]),
+    (&[Letters("a")], &[]),
+    (&[Number(5), Letters("a")], &[]),
+    (&[], &[]),
+];
+
+/// The value of a row.
+fn value_of(alloc: Global, index: &Index, row: &[Cell]) -> Result<Key, Fail> {
+    let row = Row::of(key(alloc, row)?.into_vec());
+    Ok(index.value_of(alloc, &row)?)
+}
+
+/// Whether a row has a value.
+fn has_value(alloc: Global, index: &Index, row: &[Cell], wanted: &[Cell]) -> Result<bool, Fail> {
+    let value = value_of(alloc, index, row)?;
+    Ok(value.is_same(&key(alloc, wanted)?))
+}
+
+/// Adds the pair of the value of a row and a key.
+fn add_row(alloc: Global, index: &mut Index, row: &[Cell], key: i64) -> Result<bool, Fail> {
+    let value = value_of(alloc, index, row)?;
+    add_pair(index, value, number_key(alloc, key)?)
+}
+
+/// Whether a value has these numbers as its keys.
+fn finds(alloc: Global, index: &Index, value: &[Cell], wanted: &[i64]) -> Result<bool, Fail> {
+    has_keys(alloc, index, &key(alloc, value)?, wanted)
+}
 
 /// A value of two columns, in index order, which is compared as a whole: no front of it has its keys.
 #[test]
@@ -96,23 +146,10 @@ fn keeps_values_of_two_columns(rt: HostRuntime) -> Result<(), Fail> {
     let alloc = rt.alloc();
     let mut index = Index::new(alloc, vec![in alloc; 2, 0]?);
     assert_eq!(rt; index.columns(), [2, 0].as_slice());
-    let cells = key(alloc, &[Number(5), Number(1), Letters("a")])?;
-    let value = index.value_of(alloc, &Row::of(cells.into_vec()))?;
-    assert!(rt; value.is_same(&key(alloc, &[Letters("a"), Number(5)])?));
-    assert!(rt; add_pair(&mut index, value, number_key(alloc, 1)?)?);
-    assert!(rt;
-        has_keys(
-            alloc,
-            &index,
-            &key(alloc, &[Letters("a"), Number(5)])?,
-            &[1]
-        )?
-    );
-    for cells in OTHERS {
-        assert!(rt;
-            has_keys(alloc, &index, &key(alloc, cells)?, &[])?,
-            "{cells:?}"
-        );
+    assert!(rt; has_value(alloc, &index, &ROW, &VALUE)?);
+    assert!(rt; add_row(alloc, &mut index, &ROW, 1)?);
+    for (value, keys) in &OF_COLUMNS {
+        assert!(rt; finds(alloc, &index, value, keys)?, "{value:?}");
     }
     Ok(())
 }
@@ -128,60 +165,85 @@ fn fill(alloc: Global, index: &mut Index, count: u32) -> Result<(), Fail>
     Ok(())
 }
 
-/// How many keys a value has, if they are so far apart, from the first on.
-fn count_apart(
-    alloc: Global,
-    index: &Index,
-    value: i64,
-    first: i64,
-    apart: i64,
-) -> Result<Option<usize>, Fail> {
-    let keys = index.find(alloc, &number_key(alloc, value)?)?;
+/// An index of so many keys, for which room was made at once.
+fn filled(alloc: Global, count: u32) -> Result<Index, Fail> {
+    let mut index = Index::new(alloc, vec![in alloc; 0]?);
+    index.reserve(count)?;
+    fill(alloc, &mut index, count)?;
+    Ok(index)
+}
+
+/// A value, its first key, how far its keys are apart, and how many they are.
+type Spread = (i64, i64, i64, usize);
+
+/// The 601 keys from 400 to 1000 stand in several pages, 200 or 201 of them under each value.
+const ALL: [Spread; 3] = [(0, 402, 3, 200), (1, 400, 3, 201), (2, 401, 3, 200)];
+
+/// Those of them that are odd, and a value that has none.
+const ODD: [Spread; 4] = [
+    (0, 405, 6, 100),
+    (1, 403, 6, 100),
+    (2, 401, 6, 100),
+    (3, 0, 1, 0),
+];
+
+/// Whether keys are so far apart, from the first on.
+fn are_apart(keys: &[Key], first: i64, apart: i64) -> bool {
     let mut next = first;
-    for found in &keys {
+    for found in keys {
         if number_of_key(found) != Some(next) {
-            return Ok(None);
+            return false;
         }
         next = next.wrapping_add(apart);
     }
-    Ok(Some(keys.len()))
+    true
 }
 
-/// The 601 keys from 400 to 1000 stand in several pages, 200 or 201 of them under each value.
+/// Whether the keys of a value are so spread.
+fn is_spread(alloc: Global, index: &Index, spread: &Spread) -> Result<bool, Fail> {
+    let (value, first, apart, count) = *spread;
+    let keys = index.find(alloc, &number_key(alloc, value)?)?;
+    Ok(keys.len() == count && are_apart(&keys, first, apart))
+}
+
+/// The place of the first value whose keys are spread otherwise.
+fn first_wrong(alloc: Global, index: &Index, spreads: &[Spread]) -> Result<Option<usize>, Fail> {
+    for (place, spread) in spreads.iter().enumerate() {
+        if !is_spread(alloc, index, spread)? {
+            return Ok(Some(place));
+        }
+    }
+    Ok(None)
+}
+
+/// Takes so many even keys from 400 on, and answers the first that is not there.
+fn take_even(alloc: Global, index: &mut Index, count: u32) -> Result<Option<i64>, Fail> {
+    for place in 0..count {
+        let at = 400_i64.wrapping_add(even(place));
+        if !take(alloc, index, at % 3, at)? {
+            return Ok(Some(at));
+        }
+    }
+    Ok(None)
+}
+
 #[test]
 fn finds_keys_in_many_pages(rt: HostRuntime) -> Result<(), Fail> {
-    let alloc = rt.alloc();
-    let mut index = Index::new(alloc, vec![in alloc; 0]?);
-    index.reserve(601)?;
-    fill(alloc, &mut index, 601)?;
+    let mut index = filled(rt.alloc(), 601)?;
     assert_eq!(rt; index.len(), 601);
-    assert_eq!(rt; count_apart(alloc, &index, 0, 402, 3)?, Some(200));
-    assert_eq!(rt; count_apart(alloc, &index, 1, 400, 3)?, Some(201));
-    assert_eq!(rt; count_apart(alloc, &index, 2, 401, 3)?, Some(200));
-    for even in 0..301_u32 {
-        let at = 400_i64.wrapping_add(2 * even as i64);
-        assert!(rt;
-            index.take(&number_key(alloc, at % 3)?, &number_key(alloc, at)?),
-            "key {at}"
-        );
-    }
+    assert_eq!(rt; first_wrong(rt.alloc(), &index, &ALL)?, None);
+    assert_eq!(rt; take_even(rt.alloc(), &mut index, 301)?, None);
     assert_eq!(rt; index.len(), 300);
-    assert_eq!(rt; count_apart(alloc, &index, 0, 405, 6)?, Some(100));
-    assert_eq!(rt; count_apart(alloc, &index, 1, 403, 6)?, Some(100));
-    assert_eq!(rt; count_apart(alloc, &index, 2, 401, 6)?, Some(100));
-    assert_eq!(rt; count_apart(alloc, &index, 3, 0, 1)?, Some(0));
+    assert_eq!(rt; first_wrong(rt.alloc(), &index, &ODD)?, None);
     Ok(())
 }
 
 #[test]
 fn reserves_up_to_the_limit(rt: HostRuntime) -> Result<(), Fail> {
-    let alloc = rt.alloc();
-    let mut index = Index::new(alloc, vec![in alloc; 0]?);
-    index.reserve(3)?;
-    fill(alloc, &mut index, 3)?;
+    let mut index = filled(rt.alloc(), 3)?;
     assert!(rt; index.reserve(u32::MAX).is_err());
     assert_eq!(rt; index.len(), 3);
-    assert!(rt; has_keys(alloc, &index, &number_key(alloc, 2)?, &[998])?);
+    assert!(rt; finds(rt.alloc(), &index, &[Number(2)], &[998])?);
     Ok(())
 }
 
@@ -203,10 +265,15 @@ enum Change {
 
 use Change::{AddIndex, Have, Put, PutShort, Remove};
 
-fn put(alloc: Global, heap: &mut IndexedHeap, number: i64, row: Row) -> Result<(), Fail> {
+/// Puts a row, for which room is made where there is none.
+fn put_row(heap: &mut IndexedHeap, key: Key, row: Row) -> Result<(), Fail> {
     heap.reserve(1)?;
-    heap.put(number_key(alloc, number)?, row);
+    heap.put(key, row);
     Ok(())
+}
+
+fn put(alloc: Global, heap: &mut IndexedHeap, number: i64, row: Row) -> Result<(), Fail> {
+    put_row(heap, number_key(alloc, number)?, row)
 }
 
 /// Whether there are so many indexes, each of which finds these keys of a value.

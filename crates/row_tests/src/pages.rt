@@ -1,9 +1,9 @@
 //! Heaps of several pages: a page has 64 rows at most, and is split into two of 32 before it gets
 //! one more.
 
-use crate::fixtures::Cell::{Letters, Number};
-use crate::fixtures::{key, number, number_key, number_of_key, row};
-use crate::heaps::{find_row, number_at, put_row, take_row};
+use crate::fixtures::Cell::{self, Letters, Number};
+use crate::fixtures::{key, number_key, own_number, row};
+use crate::heaps::{find_row, lacks, number_at, put_row, take_row};
 use bf_base::Key;
 use bf_heap::{Cursor, Heap};
 use std::alloc::Global;
@@ -32,15 +32,23 @@ pub enum Order {
     Mixed,
 }
 
+/// Each order.
+pub const ORDERS: [Order; 3] = [Order::Rising, Order::Falling, Order::Mixed];
+
 impl Order {
     /// The place in the order of keys of the row that is put after `before` others.
     pub fn place(self, before: u32, rows: u32) -> u32 {
         match self {
             Order::Rising => before,
             Order::Falling => rows.saturating_sub(before).saturating_sub(1),
-            Order::Mixed => before.wrapping_mul(7).checked_rem(rows).unwrap_or(0),
+            Order::Mixed => round(before.wrapping_mul(7), rows),
         }
     }
+}
+
+/// The place that is `on` places behind the first of `rows`, round again behind the last.
+fn round(on: u32, rows: u32) -> u32 {
+    if rows == 0 { 0 } else { on % rows }
 }
 
 /// The number that is the key and the row at a place: an even one, so that odd ones fall between.
@@ -69,13 +77,11 @@ pub enum Step {
     Shift(Order, u32),
     /// Has so many rows, each the same number as its key, in rising order.
     Rise(u32),
-    /// Has so many even numbers from 0 on in turn.
-    Turn(u32),
     /// Has so many rows in so many pages.
     Size(u32, u32),
 }
 
-use Step::{Empty, Fill, Find, FindAll, Put, Rise, Shift, Size, Take, TakeAll, Turn};
+use Step::{Empty, Fill, Find, FindAll, Put, Rise, Shift, Size, Take, TakeAll};
 
 fn put(alloc: Global, heap: &mut Heap, at: i64, new: i64) -> Result<Option<i64>, Fail> {
     put_row(heap, number_key(alloc, at)?, row(alloc, new)?)
@@ -154,17 +160,14 @@ fn has_size(heap: &Heap, rows: u32, pages: u32) -> bool {
 }
 
 /// The number at a position, if its key is the same.
-fn own_number(heap: &Heap, position: u32) -> Option<i64> {
-    match heap.at(position) {
-        Some((at, row)) if number_of_key(at) == number(row) => number(row),
-        _ => None,
-    }
+fn own_number_at(heap: &Heap, position: u32) -> Option<i64> {
+    own_number(heap.at(position))
 }
 
 fn rises(heap: &Heap, rows: u32) -> bool {
     let mut last = None;
     for position in 0..rows {
-        let found = own_number(heap, position);
+        let found = own_number_at(heap, position);
         if found <= last {
             return false;
         }
@@ -175,10 +178,7 @@ fn rises(heap: &Heap, rows: u32) -> bool {
 
 /// The number under a cursor, if its key is the same.
 pub fn number_under(cursor: &Cursor<'_>) -> Option<i64> {
-    match cursor.get() {
-        Some((at, row)) if number_of_key(at) == number(row) => number(row),
-        _ => None,
-    }
+    own_number(cursor.get())
 }
 
 /// Whether a cursor is behind the last row, and stays there.
@@ -212,7 +212,6 @@ fn answers(alloc: Global, heap: &mut Heap, step: Step) -> Result<bool, Fail> {
         Empty(order, rows) => empty(alloc, heap, order, rows),
         Shift(order, rows) => shift_all(alloc, heap, order, rows),
         Rise(rows) => Ok(rises(heap, rows)),
-        Turn(rows) => Ok(turns(heap, rows)),
         Size(rows, pages) => Ok(has_size(heap, rows, pages)),
     }
 }
@@ -238,45 +237,64 @@ pub fn filled(alloc: Global, order: Order, rows: u32) -> Result<Heap, Fail> {
     }
 }
 
+/// The first wrong step where so many rows are put in an order, which take so many pages.
+fn wrong_sized(alloc: Global, order: Order, rows: u32, pages: u32) -> Result<Option<usize>, Fail> {
+    let steps = [
+        Fill(order, rows),
+        Size(rows, pages),
+        Rise(rows),
+        FindAll(0, rows),
+    ];
+    first_wrong(alloc, &steps)
+}
+
 #[test]
 fn splits_pages_at_both_ends(rt: HostRuntime) -> Result<(), Fail> {
-    for (rows, pages) in SIZES {
-        for order in [Order::Rising, Order::Falling] {
-            let steps = [
-                Fill(order, rows),
-                Size(rows, pages),
-                Rise(rows),
-                FindAll(0, rows),
-            ];
-            let wrong = first_wrong(rt.alloc(), &steps)?;
-            assert_eq!(rt; wrong, None, "{rows} rows, {order:?}");
-        }
+    for (rows, pages) in &SIZES {
+        let rising = wrong_sized(rt.alloc(), Order::Rising, *rows, *pages)?;
+        assert_eq!(rt; rising, None, "{rows} rows");
+        let falling = wrong_sized(rt.alloc(), Order::Falling, *rows, *pages)?;
+        assert_eq!(rt; falling, None, "{rows} rows");
     }
     Ok(())
 }
 
+/// The first wrong step where so many rows are put in mixed order.
+fn wrong_mixed(alloc: Global, rows: u32) -> Result<Option<usize>, Fail> {
+    let steps = [
+        Fill(Order::Mixed, rows),
+        Rise(rows),
+        FindAll(0, rows),
+        Find(-1, None),
+    ];
+    first_wrong(alloc, &steps)
+}
+
 #[test]
 fn splits_pages_anywhere(rt: HostRuntime) -> Result<(), Fail> {
-    for (rows, _) in SIZES {
-        let steps = [
-            Fill(Order::Mixed, rows),
-            Rise(rows),
-            FindAll(0, rows),
-            Find(-1, None),
-        ];
-        assert_eq!(rt; first_wrong(rt.alloc(), &steps)?, None, "{rows} rows");
+    for (rows, _) in &SIZES {
+        assert_eq!(rt; wrong_mixed(rt.alloc(), *rows)?, None, "{rows} rows");
     }
     Ok(())
 }
 
 /// No page, a page of one row, a full page, and two and more pages of 32 and 33 rows, or as mixed
 /// puts leave them.
+const TURNS: [u32; 5] = [0, 1, 64, 65, 129];
+
+/// Whether a heap of so many rows, put in an order, has them in turn.
+fn fills_in_turn(alloc: Global, order: Order, rows: u32) -> Result<bool, Fail> {
+    Ok(turns(&filled(alloc, order, rows)?, rows))
+}
+
 #[test]
 fn goes_on_from_page_to_page(rt: HostRuntime) -> Result<(), Fail> {
-    for rows in [0, 1, 64, 65, 129] {
-        for order in [Order::Rising, Order::Falling, Order::Mixed] {
-            let wrong = first_wrong(rt.alloc(), &[Fill(order, rows), Turn(rows)])?;
-            assert_eq!(rt; wrong, None, "{rows} rows, {order:?}");
+    for rows in &TURNS {
+        for order in &ORDERS {
+            assert!(rt;
+                fills_in_turn(rt.alloc(), *order, *rows)?,
+                "{rows} rows, {order:?}"
+            );
         }
     }
     Ok(())
@@ -284,17 +302,24 @@ fn goes_on_from_page_to_page(rt: HostRuntime) -> Result<(), Fail> {
 
 /// A full page of the even numbers from 0 to 126 splits between 62 and 64. One more goes to the
 /// front, inside the lower half, to its end, inside the upper half and to its end.
+const SPLITTING: [i64; 5] = [-1, 31, 63, 65, 127];
+
+/// The first wrong step where a full page is split for a number.
+fn wrong_split(alloc: Global, odd: i64) -> Result<Option<usize>, Fail> {
+    let steps = [
+        Fill(Order::Rising, 64),
+        Put(odd, odd, None),
+        Size(65, 2),
+        Rise(65),
+        Find(odd, Some(odd)),
+    ];
+    first_wrong(alloc, &steps)
+}
+
 #[test]
 fn puts_on_either_side_of_a_split(rt: HostRuntime) -> Result<(), Fail> {
-    for odd in [-1, 31, 63, 65, 127] {
-        let steps = [
-            Fill(Order::Rising, 64),
-            Put(odd, odd, None),
-            Size(65, 2),
-            Rise(65),
-            Find(odd, Some(odd)),
-        ];
-        assert_eq!(rt; first_wrong(rt.alloc(), &steps)?, None, "with {odd}");
+    for odd in &SPLITTING {
+        assert_eq!(rt; wrong_split(rt.alloc(), *odd)?, None, "with {odd}");
     }
     Ok(())
 }
@@ -370,10 +395,22 @@ fn gives_emptied_pages_up(rt: HostRuntime) -> Result<(), Fail> {
 /// Texts in rising order.
 const WORDS: [&str; 5] = ["", "A", "a", "ab", "b"];
 
-/// The key at a place of 130: a word, and a number from -13 to 12.
+/// The word at a place of 130, 26 of which have the same one.
+fn word_cell(place: u32) -> Result<Cell, Fail> {
+    match WORDS.get(place as usize / 26) {
+        Some(word) => Ok(Letters(*word)),
+        None => Err("no word")?,
+    }
+}
+
+/// The number at a place: from -13 to 12 for each word.
+fn number_cell(place: u32) -> Cell {
+    Number((place % 26) as i64 - 13)
+}
+
+/// The key at a place of 130.
 fn word_key(alloc: Global, place: u32) -> Result<Key, Fail> {
-    let word = *WORDS.get(place as usize / 26).ok_or("no word")?;
-    key(alloc, &[Letters(word), Number((place % 26) as i64 - 13)])
+    key(alloc, &[word_cell(place)?, number_cell(place)])
 }
 
 /// A heap of these keys, each with its place, put seven places on each time.
@@ -407,19 +444,28 @@ fn orders_pages_of_texts_and_numbers(rt: HostRuntime) -> Result<(), Fail> {
     Ok(())
 }
 
+/// Whether a word with a number is not there to be taken out.
+fn has_none_of(alloc: Global, heap: &mut Heap, word: Cell, number: i64) -> Result<bool, Fail> {
+    Ok(take_row(heap, &key(alloc, &[word, Number(number)])?).is_none())
+}
+
 /// Whether neither a word alone is there, nor the word with a number on either side of the others.
-fn lacks(alloc: Global, heap: &mut Heap, word: &'static str) -> Result<bool, Fail> {
-    let alone = find_row(heap, &key(alloc, &[Letters(word)])?);
-    let before = take_row(heap, &key(alloc, &[Letters(word), Number(-14)])?);
-    let behind = take_row(heap, &key(alloc, &[Letters(word), Number(13)])?);
-    Ok((alone, before, behind) == (None, None, None))
+fn lacks_word(alloc: Global, heap: &mut Heap, word: Cell) -> Result<bool, Fail> {
+    Ok(
+        lacks(alloc, heap, &[word])?
+            && has_none_of(alloc, heap, word, -14)?
+            && has_none_of(alloc, heap, word, 13)?,
+    )
 }
 
 #[test]
 fn finds_no_other_texts(rt: HostRuntime) -> Result<(), Fail> {
     let mut heap = words(rt.alloc())?;
-    for word in WORDS {
-        assert!(rt; lacks(rt.alloc(), &mut heap, word)?, "{word:?}");
+    for word in &WORDS {
+        assert!(rt;
+            lacks_word(rt.alloc(), &mut heap, Letters(*word))?,
+            "{word:?}"
+        );
     }
     assert_eq!(rt; heap.len(), 130);
     Ok(())
@@ -436,11 +482,11 @@ fn put_thousand(alloc: Global, heap: &mut Heap) -> Result<Option<i64>, Fail> {
     Ok(None)
 }
 
-/// The first position below a thousand that does not have its own number.
-fn wrong_of_thousand(heap: &Heap) -> Option<u32> {
-    for n in 0..1000_u32 {
-        if own_number(heap, n) != Some(n as i64) {
-            return Some(n);
+/// The first position of so many that does not have its own number.
+fn first_other(heap: &Heap, rows: u32) -> Option<u32> {
+    for position in 0..rows {
+        if own_number_at(heap, position) != Some(position as i64) {
+            return Some(position);
         }
     }
     None
@@ -465,7 +511,7 @@ fn take_thousand(alloc: Global, heap: &mut Heap) -> Result<Option<i64>, Fail> {
 fn splits_and_empties_pages(rt: HostRuntime) -> Result<(), Fail> {
     let mut heap = filled(rt.alloc(), Order::Rising, 0)?;
     assert_eq!(rt; put_thousand(rt.alloc(), &mut heap)?, None);
-    assert_eq!(rt; wrong_of_thousand(&heap), None);
+    assert_eq!(rt; first_other(&heap, 1000), None);
     assert!(rt; heap.pages() >= 16 && heap.pages() <= 31);
     assert_eq!(rt; take_thousand(rt.alloc(), &mut heap)?, None);
     assert_eq!(rt; (heap.len(), heap.pages()), (0, 0));

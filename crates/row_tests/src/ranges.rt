@@ -1,9 +1,9 @@
 //! Ranges of the keys of a heap, and puts and removals that go through keys in some order.
 
 use crate::fixtures::Cell::{self, Letters, Number};
-use crate::fixtures::{key, number, number_key};
+use crate::fixtures::{key, number_in, number_key};
 use crate::pages::Step::{Empty, Fill, Put, Rise, Shift};
-use crate::pages::{Order, even, filled, first_wrong, number_under, words};
+use crate::pages::{ORDERS, Order, even, filled, first_wrong, number_under, words};
 use bf_base::Key;
 use bf_heap::{Cursor, Heap, KeyRange};
 use std::alloc::Global;
@@ -48,16 +48,21 @@ impl End {
     }
 }
 
+/// Whether a number is under a cursor, which then goes on.
+fn comes_next(cursor: &mut Cursor<'_>, wanted: i64) -> bool {
+    let comes = number_under(cursor) == Some(wanted);
+    cursor.advance();
+    comes
+}
+
 /// Whether the rows of a range are the even numbers between two ends.
 fn has_between(heap: &Heap, range: &KeyRange, low: End, high: End) -> bool {
     let mut cursor = heap.range(range);
     for place in 0..heap.len() {
         let wanted = even(place);
-        if low.lets_from(wanted) && high.lets_to(wanted) {
-            if number_under(&cursor) != Some(wanted) {
-                return false;
-            }
-            cursor.advance();
+        let between = low.lets_from(wanted) && high.lets_to(wanted);
+        if between && !comes_next(&mut cursor, wanted) {
+            return false;
         }
     }
     cursor.get().is_none()
@@ -106,26 +111,38 @@ const ENDS: [End; 27] = [
 
 /// The first high end to which a heap gives other rows from a low one on.
 fn wrong_from(alloc: Global, heap: &Heap, low: End) -> Result<Option<End>, Fail> {
-    for high in ENDS {
-        if !gives(alloc, heap, low, high)? {
-            return Ok(Some(high));
+    for high in &ENDS {
+        if !gives(alloc, heap, low, *high)? {
+            return Ok(Some(*high));
         }
     }
     Ok(None)
 }
 
+/// Numbers of rows.
+const SIZES: [u32; 6] = [0, 1, 32, 33, 64, 65];
+
 /// Each low end with each high one: empty ranges, of one row, of all rows, and with the low end beyond
 /// the high one.
 #[test]
 fn gives_the_rows_between_two_ends(rt: HostRuntime) -> Result<(), Fail> {
-    for rows in [0, 1, 32, 33, 64, 65] {
-        let heap = filled(rt.alloc(), Order::Rising, rows)?;
-        for low in ENDS {
-            let wrong = wrong_from(rt.alloc(), &heap, low)?;
+    for rows in &SIZES {
+        let heap = filled(rt.alloc(), Order::Rising, *rows)?;
+        for low in &ENDS {
+            let wrong = wrong_from(rt.alloc(), &heap, *low)?;
             assert!(rt; wrong.is_none(), "{rows} rows, {low:?} to {wrong:?}");
         }
     }
     Ok(())
+}
+
+/// Whether a heap of even numbers gives those between two, and those on the other side of each.
+fn gives_around(alloc: Global, heap: &Heap, low: i64, high: i64) -> Result<bool, Fail> {
+    Ok(
+        gives(alloc, heap, With(low), Without(high))?
+            && gives(alloc, heap, Without(high), Open)?
+            && gives(alloc, heap, Open, With(low))?,
+    )
 }
 
 /// Of 129 rows in mixed order: the ends are in pages of any size, and several are whole.
@@ -135,23 +152,17 @@ fn gives_whole_pages_between_two_others(rt: HostRuntime) -> Result<(), Fail> {
     for place in 0..129 {
         let low = even(place);
         let high = even(129_u32.saturating_sub(place));
-        for (from, to) in [
-            (With(low), Without(high)),
-            (Without(high), Open),
-            (Open, With(low)),
-        ] {
-            assert!(rt; gives(rt.alloc(), &heap, from, to)?, "{from:?} to {to:?}");
-        }
+        assert!(rt;
+            gives_around(rt.alloc(), &heap, low, high)?,
+            "{low} to {high}"
+        );
     }
     Ok(())
 }
 
 /// The number under a cursor in a heap of words.
 fn place_under(cursor: &Cursor<'_>) -> Option<i64> {
-    match cursor.get() {
-        Some((_, row)) => number(row),
-        None => None,
-    }
+    number_in(cursor.get())
 }
 
 /// Whether the rows of a range in a heap of words have the numbers from one up to another.
@@ -238,35 +249,53 @@ fn leaves_the_words_at_excluded_ends_out(rt: HostRuntime) -> Result<(), Fail> {
     Ok(())
 }
 
-const ORDERS: [Order; 3] = [Order::Rising, Order::Falling, Order::Mixed];
+/// Whether so many rows are put in an order and removed in another, and one more is put then.
+fn comes_and_goes(alloc: Global, puts: Order, removals: Order, rows: u32) -> Result<bool, Fail> {
+    let steps = [
+        Fill(puts, rows),
+        Empty(removals, rows),
+        Put(5, 5, None),
+        Rise(1),
+    ];
+    Ok(first_wrong(alloc, &steps)?.is_none())
+}
+
+/// The first wrong order of removals for so many rows that are put in an order.
+fn wrong_removals(alloc: Global, puts: Order, rows: u32) -> Result<Option<Order>, Fail> {
+    for removals in &ORDERS {
+        if !comes_and_goes(alloc, puts, *removals, rows)? {
+            return Ok(Some(*removals));
+        }
+    }
+    Ok(None)
+}
+
+/// Numbers of rows that are put and removed.
+const IN_TURN: [u32; 4] = [1, 64, 65, 129];
 
 /// A search that begins at the page of the last put or removal finds the right page in any order of
 /// keys, also where that page is gone.
 #[test]
 fn goes_through_keys_in_each_order(rt: HostRuntime) -> Result<(), Fail> {
-    for rows in [1, 64, 65, 129] {
-        for puts in ORDERS {
-            for removals in ORDERS {
-                let steps = [
-                    Fill(puts, rows),
-                    Empty(removals, rows),
-                    Put(5, 5, None),
-                    Rise(1),
-                ];
-                let wrong = first_wrong(rt.alloc(), &steps)?;
-                assert_eq!(rt; wrong, None, "{rows} rows, {puts:?}, {removals:?}");
-            }
+    for rows in &IN_TURN {
+        for puts in &ORDERS {
+            let wrong = wrong_removals(rt.alloc(), *puts, *rows)?;
+            assert!(rt; wrong.is_none(), "{rows} rows, {puts:?}, {wrong:?}");
         }
     }
     Ok(())
 }
 
-/// Each even number is replaced, and each odd one put behind it, then each even one taken out.
+/// The first wrong step where each even number is replaced, and each odd one put behind it, then each
+/// even one taken out.
+fn wrong_shift(alloc: Global, order: Order) -> Result<Option<usize>, Fail> {
+    first_wrong(alloc, &[Fill(order, 129), Shift(order, 129), Rise(129)])
+}
+
 #[test]
 fn replaces_puts_and_removes_in_turn(rt: HostRuntime) -> Result<(), Fail> {
-    for order in ORDERS {
-        let steps = [Fill(order, 129), Shift(order, 129), Rise(129)];
-        assert_eq!(rt; first_wrong(rt.alloc(), &steps)?, None, "{order:?}");
+    for order in &ORDERS {
+        assert_eq!(rt; wrong_shift(rt.alloc(), *order)?, None, "{order:?}");
     }
     Ok(())
 }
