@@ -20,17 +20,31 @@ fn name(alloc: Global, letters: &str) -> Result<Name, NameError> {
     Name::of(alloc, letters.as_bytes())
 }
 
-// Whether bytes are a record that is written as these bytes again, and no front of them is one.
+fn decodes(alloc: Global, bytes: &[u8]) -> Result<bool, Memory> {
+    Ok(decode(alloc, bytes)?.is_some())
+}
+
+// Whether a change is written as these bytes.
+fn encodes(alloc: Global, change: &Change, bytes: &[u8]) -> Result<bool, Memory> {
+    Ok(encode(alloc, change)?.as_slice() == bytes)
+}
+
+// Whether bytes are a record that is written as these bytes again.
+fn is_again(alloc: Global, bytes: &[u8]) -> Result<bool, Memory> {
+    match decode(alloc, bytes)? {
+        Some(change) => encodes(alloc, &change, bytes),
+        None => Ok(false),
+    }
+}
+
+// Whether bytes are such a record, and no front of them is one.
 fn is_record(alloc: Global, bytes: &[u8]) -> Result<bool, Memory> {
     for len in 0..bytes.len() {
-        if decode(alloc, &bytes[..len])?.is_some() {
+        if decodes(alloc, &bytes[..len])? {
             return Ok(false);
         }
     }
-    match decode(alloc, bytes)? {
-        Some(change) => Ok(encode(alloc, &change)?.as_slice() == bytes),
-        None => Ok(false),
-    }
+    is_again(alloc, bytes)
 }
 
 // A record of a migration to the table t by one arm that has one item.
@@ -51,100 +65,122 @@ fn deep(alloc: Global, nodes: usize) -> Result<Vec<u8>, Memory> {
     flip(alloc, &item, FROM_T)
 }
 
+fn column_of_id(alloc: Global) -> Result<Column, Fail> {
+    Ok(Column {
+        name: name(alloc, "id")?,
+        admits: Admit::Int,
+    })
+}
+
+fn creation(alloc: Global) -> Result<Change, Fail> {
+    let table = Table {
+        name: name(alloc, "t")?,
+        columns: Sequence::of(vec![in alloc; column_of_id(alloc)?]?),
+        key: Sequence::of(vec![in alloc; 0u8]?),
+    };
+    Ok(Change::Schema(SchemaChange::Table(table)))
+}
+
 #[test]
 fn writes_a_table(rt: HostRuntime) -> Result<(), Fail> {
-    let id = Column {
-        name: name(rt.alloc(), "id")?,
-        admits: Admit::Int,
-    };
-    let table = Table {
-        name: name(rt.alloc(), "t")?,
-        columns: Sequence::of(vec![in rt.alloc(); id]?),
-        key: Sequence::of(vec![in rt.alloc(); 0u8]?),
-    };
-    let bytes = encode(rt.alloc(), &Change::Schema(SchemaChange::Table(table)))?;
-    assert_eq!(rt; bytes.as_slice(), CREATE);
+    assert!(rt; encodes(rt.alloc(), &creation(rt.alloc())?, CREATE)?);
     Ok(())
+}
+
+fn put_of_three(alloc: Global) -> Result<TableWrite, Fail> {
+    Ok(TableWrite {
+        table: name(alloc, "t")?,
+        change: RowChange::Put(Row::of(vec![in alloc; Value::Int(3)]?)),
+    })
+}
+
+fn insertion(alloc: Global) -> Result<Change, Fail> {
+    let writes = vec![in alloc; put_of_three(alloc)?]?;
+    Ok(Change::Commit(Sequence::of(writes)))
 }
 
 #[test]
 fn writes_a_row(rt: HostRuntime) -> Result<(), Fail> {
-    let write = TableWrite {
-        table: name(rt.alloc(), "t")?,
-        change: RowChange::Put(Row::of(vec![in rt.alloc(); Value::Int(3)]?)),
-    };
-    let writes = Sequence::of(vec![in rt.alloc(); write]?);
-    let bytes = encode(rt.alloc(), &Change::Commit(writes))?;
-    assert_eq!(rt; bytes.as_slice(), INSERT);
+    assert!(rt; encodes(rt.alloc(), &insertion(rt.alloc())?, INSERT)?);
     Ok(())
 }
 
+const RECORDS: [&[u8]; 6] = [
+    CREATE,
+    INSERT,
+    // A removed key, and an index on two columns.
+    b"\x01\x01\0\0\0\x01t\0\x01\0\0\0\x02\x01a",
+    b"\x02\x02\x01i\x01t\x02\0\0\0\0\x01",
+    // Both other kinds of column.
+    b"\x02\x01\x01t\x02\0\0\0\x01a\x02\0\0\0\0\0\0\0\0\x09\0\0\0\0\0\0\0\x01b\x03\xff\0\0\0\0",
+    // Places of both kinds.
+    b"\x04\x07\0\0\0\x01\x02\0\0\0\x01\x05\0\0\0\x02\x01\0\0\0\x02\x01a",
+];
+
 #[test]
 fn reads_what_is_written(rt: HostRuntime) -> Result<(), Fail> {
-    for bytes in [
-        CREATE,
-        INSERT,
-        // A removed key, and an index on two columns.
-        b"\x01\x01\0\0\0\x01t\0\x01\0\0\0\x02\x01a".as_slice(),
-        b"\x02\x02\x01i\x01t\x02\0\0\0\0\x01".as_slice(),
-        // Both other kinds of column.
-        b"\x02\x01\x01t\x02\0\0\0\x01a\x02\0\0\0\0\0\0\0\0\x09\0\0\0\0\0\0\0\x01b\x03\xff\0\0\0\0".as_slice(),
-        // Places of both kinds.
-        b"\x04\x07\0\0\0\x01\x02\0\0\0\x01\x05\0\0\0\x02\x01\0\0\0\x02\x01a".as_slice(),
-    ] {
+    for bytes in &RECORDS {
         assert!(rt; is_record(rt.alloc(), bytes)?, "{bytes:?}");
     }
     Ok(())
 }
 
+// -(a.b) + 3 - c * 'x' || c, each operator once.
+const EXPR: &[u8] =
+    b"\x02\x07\x05\x04\x03\x02\x01\x01a\x01b\x01\x01\x03\0\0\0\0\0\0\0\x06\x02\0\x01c\x01\x02\x01x\x02\0\x01c\x01n";
+
+// JOIN u ON a = b; each comparison, BETWEEN, NOT, AND and OR; GROUP BY a.
+const JOIN_U: &[u8] = b"\x01t\x01\x01u\x01\0\0\0\0\x01a\x01\x01u\x01b\
+    \x01\x05\x04\x03\x01\x01\x02\0\x01a\x02\0\x01b\x01\x02\x02\0\x01a\x02\0\x01b\
+    \x04\x04\x01\x03\x02\0\x01a\x02\0\x01b\x01\x04\x02\0\x01a\x02\0\x01b\
+    \x04\x01\x05\x02\0\x01a\x02\0\x01b\
+    \x05\x01\x06\x02\0\x01a\x01\x02\0\x02\x02\0\x01a\x02\0\x01b\x01\x02\x01x\
+    \x01\0\0\0\0\x01a";
+
+// Items of every other kind.
+const ITEMS: [&[u8]; 5] = [
+    b"\x01\0\x01a",
+    b"\x03\x01\x01n",
+    b"\x03\x02\x02\0\x01a\x01n",
+    b"\x03\x03\x02\0\x01a\x01n",
+    b"\x03\x04\x02\0\x01a\x01n",
+];
+
+fn is_flip(alloc: Global, item: &[u8], behind: &[u8]) -> Result<bool, Memory> {
+    is_record(alloc, &flip(alloc, item, behind)?)
+}
+
 #[test]
 fn reads_each_kind_of_node(rt: HostRuntime) -> Result<(), Fail> {
-    // -(a.b) + 3 - c * 'x' || c, each operator once.
-    let expr =
-        b"\x02\x07\x05\x04\x03\x02\x01\x01a\x01b\x01\x01\x03\0\0\0\0\0\0\0\x06\x02\0\x01c\x01\x02\x01x\x02\0\x01c\x01n";
-    // JOIN u ON a = b; each comparison, BETWEEN, NOT, AND and OR; GROUP BY a.
-    let behind = b"\x01t\x01\x01u\x01\0\0\0\0\x01a\x01\x01u\x01b\
-        \x01\x05\x04\x03\x01\x01\x02\0\x01a\x02\0\x01b\x01\x02\x02\0\x01a\x02\0\x01b\
-        \x04\x04\x01\x03\x02\0\x01a\x02\0\x01b\x01\x04\x02\0\x01a\x02\0\x01b\
-        \x04\x01\x05\x02\0\x01a\x02\0\x01b\
-        \x05\x01\x06\x02\0\x01a\x01\x02\0\x02\x02\0\x01a\x02\0\x01b\x01\x02\x01x\
-        \x01\0\0\0\0\x01a";
-    assert!(rt; is_record(rt.alloc(), &flip(rt.alloc(), expr, behind)?)?);
-    for item in [
-        b"\x01\0\x01a".as_slice(),
-        b"\x03\x01\x01n".as_slice(),
-        b"\x03\x02\x02\0\x01a\x01n".as_slice(),
-        b"\x03\x03\x02\0\x01a\x01n".as_slice(),
-        b"\x03\x04\x02\0\x01a\x01n".as_slice(),
-    ] {
-        assert!(rt;
-            is_record(rt.alloc(), &flip(rt.alloc(), item, FROM_T)?)?,
-            "{item:?}"
-        );
+    assert!(rt; is_flip(rt.alloc(), EXPR, JOIN_U)?);
+    for item in &ITEMS {
+        assert!(rt; is_flip(rt.alloc(), item, FROM_T)?, "{item:?}");
     }
     Ok(())
 }
 
 #[test]
 fn reads_no_deep_expression(rt: HostRuntime) -> Result<(), Fail> {
-    assert!(rt; decode(rt.alloc(), &deep(rt.alloc(), 256)?)?.is_some());
-    assert!(rt; decode(rt.alloc(), &deep(rt.alloc(), 257)?)?.is_none());
+    assert!(rt; decodes(rt.alloc(), &deep(rt.alloc(), 256)?)?);
+    assert!(rt; !decodes(rt.alloc(), &deep(rt.alloc(), 257)?)?);
     Ok(())
 }
 
+const NO_RECORDS: [&[u8]; 7] = [
+    b"",
+    b"\0",
+    b"\x05",
+    // A byte behind a record, and lists that tell of more than there is.
+    b"\x01\0\0\0\0\0",
+    b"\x01\xff\xff\xff\xff",
+    b"\x02\x01\x01t\xff\xff\xff\xff",
+    b"\x02\x01\x01T\0\0\0\0\0\0\0\0",
+];
+
 #[test]
 fn reads_no_other_bytes(rt: HostRuntime) -> Result<(), Fail> {
-    for bytes in [
-        b"".as_slice(),
-        b"\0".as_slice(),
-        b"\x05".as_slice(),
-        // A byte behind a record, and lists that tell of more than there is.
-        b"\x01\0\0\0\0\0".as_slice(),
-        b"\x01\xff\xff\xff\xff".as_slice(),
-        b"\x02\x01\x01t\xff\xff\xff\xff".as_slice(),
-        b"\x02\x01\x01T\0\0\0\0\0\0\0\0".as_slice(),
-    ] {
-        assert!(rt; decode(rt.alloc(), bytes)?.is_none(), "{bytes:?}");
+    for bytes in &NO_RECORDS {
+        assert!(rt; !decodes(rt.alloc(), bytes)?, "{bytes:?}");
     }
     a_record_has_one_spelling();
     Ok(())
