@@ -17,14 +17,23 @@ fn add_pair(index: &mut Index, value: Key, key: Key) -> Result<bool, Fail> {
     Ok(index.add(value, key))
 }
 
+/// Whether a key is the number that is wanted, if one is.
+fn is_number(key: &Key, wanted: Option<&i64>) -> bool {
+    match wanted {
+        Some(number) => number_of_key(key) == Some(*number),
+        None => false,
+    }
+}
+
 /// Whether keys are these numbers.
 fn are_numbers(keys: &[Key], wanted: &[i64]) -> bool {
-    for (found, number) in keys.iter().zip(wanted) {
-        if number_of_key(found) != Some(*number) {
+    let mut wanted = wanted.iter();
+    for found in keys {
+        if !is_number(found, wanted.next()) {
             return false;
         }
     }
-    keys.len() == wanted.len()
+    wanted.next().is_none()
 }
 
 /// Whether a value has these numbers as its keys.
@@ -44,10 +53,15 @@ fn add(alloc: Global, index: &mut Index, value: i64, key: i64) -> Result<bool, F
     add_pair(index, value, key)
 }
 
+/// Takes a pair.
+fn take_pair(index: &mut Index, value: &Key, key: &Key) -> bool {
+    index.take(value, key)
+}
+
 /// Takes the pair of two numbers.
 fn take(alloc: Global, index: &mut Index, value: i64, key: i64) -> Result<bool, Fail> {
     let (value, key) = pair(alloc, value, key)?;
-    Ok(index.take(&value, &key))
+    Ok(take_pair(index, &value, &key))
 }
 
 /// What is done to an index, and what it answers. Values and keys are numbers.
@@ -199,11 +213,16 @@ fn are_apart(keys: &[Key], first: i64, apart: i64) -> bool {
     true
 }
 
+/// Whether keys are so spread.
+fn are_spread(keys: &[Key], spread: &Spread) -> bool {
+    let (_, first, apart, count) = *spread;
+    keys.len() == count && are_apart(keys, first, apart)
+}
+
 /// Whether the keys of a value are so spread.
 fn is_spread(alloc: Global, index: &Index, spread: &Spread) -> Result<bool, Fail> {
-    let (value, first, apart, count) = *spread;
-    let keys = index.find(alloc, &number_key(alloc, value)?)?;
-    Ok(keys.len() == count && are_apart(&keys, first, apart))
+    let keys = index.find(alloc, &number_key(alloc, spread.0)?)?;
+    Ok(are_spread(&keys, spread))
 }
 
 /// The place of the first value whose keys are spread otherwise.
