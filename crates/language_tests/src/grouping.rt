@@ -1,6 +1,8 @@
 //! How operators group: the trees of expressions and conditions, written with a pair of parentheses around each operator
 //! and what it takes.
 
+ghost use Rattle.bf_phrase.specs.Cursors.{IsPlace};
+
 use bf_base::{Name, Value};
 use bf_lex::tokens;
 use bf_phrase::Cursor;
@@ -83,66 +85,123 @@ fn sign_of(compare: Compare) -> &'static str {
     }
 }
 
-fn write_condition(told: &mut String, cond: &RawCond) -> Result<(), Fail> {
+fn write_comparison(
+    told: &mut String,
+    compare: Compare,
+    left: &Operand,
+    right: &Operand,
+) -> Result<(), Fail> {
     told.push('(')?;
-    match cond.node() {
-        RawTest::Compare(compare, left, right) => {
-            write_operand(told, left)?;
-            told.push_str(sign_of(*compare))?;
-            write_operand(told, right)?;
-        }
-        RawTest::Between(operand, low, high) => {
-            write_operand(told, operand)?;
-            told.push_str(" BETWEEN ")?;
-            write_operand(told, low)?;
-            told.push_str(" AND ")?;
-            write_operand(told, high)?;
-        }
-        RawTest::Not(inner) => {
-            told.push_str("NOT ")?;
-            write_condition(told, inner)?;
-        }
-        RawTest::And(left, right) => {
-            write_condition(told, left)?;
-            told.push_str(" AND ")?;
-            write_condition(told, right)?;
-        }
-        RawTest::Or(left, right) => {
-            write_condition(told, left)?;
-            told.push_str(" OR ")?;
-            write_condition(told, right)?;
-        }
-    }
+    write_operand(told, left)?;
+    told.push_str(sign_of(compare))?;
+    write_operand(told, right)?;
     told.push(')')?;
     Ok(())
 }
 
-fn expression_tree(rt: &impl Abort, alloc: Global, text: &str) -> Result<String, Fail> {
-    assert!(rt; text.len() < 1000);
-    let text = text.as_bytes();
-    let tokens = tokens(alloc, text)?;
-    let (expr, _, _) = sum(alloc, Cursor::new(text, &tokens), 0)?;
-    let mut told = String::new(alloc);
-    write_expression(&mut told, &expr)?;
-    Ok(told)
+fn write_range(
+    told: &mut String,
+    operand: &Operand,
+    low: &Operand,
+    high: &Operand,
+) -> Result<(), Fail> {
+    told.push('(')?;
+    write_operand(told, operand)?;
+    told.push_str(" BETWEEN ")?;
+    write_operand(told, low)?;
+    told.push_str(" AND ")?;
+    write_operand(told, high)?;
+    told.push(')')?;
+    Ok(())
 }
 
-fn condition_tree(rt: &impl Abort, alloc: Global, text: &str) -> Result<String, Fail> {
+fn write_condition(told: &mut String, cond: &RawCond) -> Result<(), Fail> {
+    let (left, word, right) = match cond.node() {
+        RawTest::Compare(compare, left, right) => {
+            return write_comparison(told, *compare, left, right);
+        }
+        RawTest::Between(operand, low, high) => return write_range(told, operand, low, high),
+        RawTest::Not(inner) => {
+            told.push_str("(NOT ")?;
+            write_condition(told, inner)?;
+            told.push(')')?;
+            return Ok(());
+        }
+        RawTest::And(left, right) => (left, " AND ", right),
+        RawTest::Or(left, right) => (left, " OR ", right),
+    };
+    told.push('(')?;
+    write_condition(told, left)?;
+    told.push_str(word)?;
+    write_condition(told, right)?;
+    told.push(')')?;
+    Ok(())
+}
+
+/// Writes the expression at a place.
+fn write_sum(alloc: Global, told: &mut String, cursor: Cursor<'_>) -> Result<(), Fail>
+    requires { IsPlace cursor }
+{
+    let (expr, _, _) = sum(alloc, cursor, 0)?;
+    write_expression(told, &expr)
+}
+
+/// Writes the condition at a place.
+fn write_disjunction(alloc: Global, told: &mut String, cursor: Cursor<'_>) -> Result<(), Fail>
+    requires { IsPlace cursor }
+{
+    let (cond, _, _) = condition(alloc, cursor, 0)?;
+    write_condition(told, &cond)
+}
+
+fn write_expression_of(
+    rt: &impl Abort,
+    alloc: Global,
+    told: &mut String,
+    text: &str,
+) -> Result<(), Fail> {
     assert!(rt; text.len() < 1000);
     let text = text.as_bytes();
     let tokens = tokens(alloc, text)?;
-    let (cond, _, _) = condition(alloc, Cursor::new(text, &tokens), 0)?;
-    let mut told = String::new(alloc);
-    write_condition(&mut told, &cond)?;
-    Ok(told)
+    write_sum(alloc, told, Cursor::new(text, &tokens))
+}
+
+fn write_condition_of(
+    rt: &impl Abort,
+    alloc: Global,
+    told: &mut String,
+    text: &str,
+) -> Result<(), Fail> {
+    assert!(rt; text.len() < 1000);
+    let text = text.as_bytes();
+    let tokens = tokens(alloc, text)?;
+    write_disjunction(alloc, told, Cursor::new(text, &tokens))
 }
 
 fn expression_groups(rt: &impl Abort, alloc: Global, text: &str, want: &str) -> Result<bool, Fail> {
-    Ok(expression_tree(rt, alloc, text)?.as_str() == want)
+    let mut told = String::new(alloc);
+    write_expression_of(rt, alloc, &mut told, text)?;
+    Ok(told.as_str() == want)
 }
 
 fn condition_groups(rt: &impl Abort, alloc: Global, text: &str, want: &str) -> Result<bool, Fail> {
-    Ok(condition_tree(rt, alloc, text)?.as_str() == want)
+    let mut told = String::new(alloc);
+    write_condition_of(rt, alloc, &mut told, text)?;
+    Ok(told.as_str() == want)
+}
+
+fn expressions_group(rt: &impl Abort, alloc: Global, cases: &[(&str, &str)]) -> Result<(), Fail> {
+    for (text, want) in cases {
+        assert!(rt; expression_groups(rt, alloc, text, want)?, "of {text}");
+    }
+    Ok(())
+}
+
+fn conditions_group(rt: &impl Abort, alloc: Global, cases: &[(&str, &str)]) -> Result<(), Fail> {
+    for (text, want) in cases {
+        assert!(rt; condition_groups(rt, alloc, text, want)?, "of {text}");
+    }
+    Ok(())
 }
 
 /// Expressions, and how they group.
@@ -167,13 +226,7 @@ const EXPRESSIONS: [(&str, &str); 16] = [
 
 #[test]
 fn expressions_group_to_the_left_and_products_first(rt: HostRuntime) -> Result<(), Fail> {
-    for (text, want) in &EXPRESSIONS {
-        assert!(rt;
-            expression_groups(&rt, rt.alloc(), text, want)?,
-            "of {text}"
-        );
-    }
-    Ok(())
+    expressions_group(&rt, rt.alloc(), &EXPRESSIONS)
 }
 
 /// Conditions, and how they group.
@@ -220,8 +273,5 @@ const CONDITIONS: [(&str, &str); 14] = [
 
 #[test]
 fn conditions_group_not_before_and_before_or(rt: HostRuntime) -> Result<(), Fail> {
-    for (text, want) in &CONDITIONS {
-        assert!(rt; condition_groups(&rt, rt.alloc(), text, want)?, "of {text}");
-    }
-    Ok(())
+    conditions_group(&rt, rt.alloc(), &CONDITIONS)
 }

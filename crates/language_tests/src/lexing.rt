@@ -1,6 +1,10 @@
 //! Tokens of texts.
 
-use bf_lex::{Keyword, ScriptError, Sign, content, tokens};
+ghost use Rattle.std.specs.Prelude.{◌≡◌, ℕ, List};
+ghost use Rattle.bf_base.specs.Texts.{IsText};
+ghost use Rattle.bf_lex.specs.Lexemes.{quoted};
+
+use bf_lex::{Keyword, ScriptError, ScriptFault, Sign, Token, content, tokens};
 use std::alloc::Global;
 use std::process::Abort;
 use std::test::Fail;
@@ -9,27 +13,38 @@ const LONGEST_NAME: &[u8] = b"abcdefghijklmnopqrstuvwxyz_0123456789_ABCDEFGHIJKL
 
 const TOO_LONG_NAME: &[u8] = b"abcdefghijklmnopqrstuvwxyz_0123456789_ABCDEFGHIJKLMNOPQRSTUVWXYZ";
 
-// The tokens of a text, or its first fault, as text.
-fn told(rt: &impl Abort, alloc: Global, text: &[u8]) -> Result<String, Fail> {
+fn write_token(told: &mut String, token: &Token) -> Result<(), Fail> {
+    Ok(write!(told, "{:?}@{}-{} ", token.kind, token.at, token.end)?)
+}
+
+fn write_tokens(told: &mut String, tokens: &[Token]) -> Result<(), Fail> {
+    for token in tokens {
+        write_token(told, token)?;
+    }
+    Ok(())
+}
+
+fn write_fault(told: &mut String, fault: ScriptFault) -> Result<(), Fail> {
+    Ok(write!(told, "{:?} at {}", fault.kind, fault.at)?)
+}
+
+// Writes the tokens of a text, or its first fault.
+fn tell(rt: &impl Abort, alloc: Global, told: &mut String, text: &[u8]) -> Result<(), Fail> {
     assert!(rt; text.len() < 1000);
-    let mut told = String::new(alloc);
     match tokens(alloc, text) {
-        Ok(tokens) => {
-            for token in &tokens {
-                write!(told, "{:?}@{}-{} ", token.kind, token.at, token.end)?;
-            }
-        }
-        Err(ScriptError::Fault(fault)) => write!(told, "{:?} at {}", fault.kind, fault.at)?,
+        Ok(tokens) => write_tokens(told, tokens.as_slice()),
+        Err(ScriptError::Fault(fault)) => write_fault(told, fault),
         Err(memory) => Err(memory)?,
     }
-    Ok(told)
 }
 
 // A text, and its tokens or its first fault.
 type Told = (&'static [u8], &'static str);
 
 fn is_told(rt: &impl Abort, alloc: Global, text: &[u8], want: &str) -> Result<bool, Fail> {
-    Ok(told(rt, alloc, text)?.as_str().trim_end() == want)
+    let mut told = String::new(alloc);
+    tell(rt, alloc, &mut told, text)?;
+    Ok(told.as_str().trim_end() == want)
 }
 
 fn tells(rt: &impl Abort, alloc: Global, cases: &[Told]) -> Result<(), Fail> {
@@ -56,20 +71,47 @@ fn words_are_keywords_in_any_case_or_names(rt: HostRuntime) -> Result<(), Fail> 
     tells(&rt, rt.alloc(), &WORDS)
 }
 
+fn is_keyword(number: u8) -> bool {
+    match Keyword::of_number(number) {
+        Some(keyword) => keyword.number() == number,
+        None => false,
+    }
+}
+
+fn is_word_of(word: &str, number: u8) -> bool {
+    match Keyword::of_word(word.as_bytes()) {
+        Some(keyword) => keyword.number() == number,
+        None => false,
+    }
+}
+
+/// Whether the word of a number is that of its keyword.
+fn has_word(number: u8) -> bool {
+    match Keyword::cases().by_number(number) {
+        Some(word) => is_word_of(word, number),
+        None => false,
+    }
+}
+
+fn is_no_keyword(word: &str) -> bool {
+    Keyword::of_word(word.as_bytes()).is_none()
+}
+
+fn are_no_keywords(rt: &impl Abort, words: &[&str]) {
+    for word in words {
+        assert!(rt; is_no_keyword(word), "of {word}");
+    }
+}
+
+const NO_KEYWORDS: [&str; 7] = ["", "al", "alll", "inte", "a\u{cc}l", "wherea", "zone"];
+
 #[test]
-fn keywords_have_numbers_and_words(rt: HostRuntime) -> Result<(), Fail> {
-    let cases = Keyword::cases();
+fn keywords_have_numbers_and_words(rt: HostRuntime) {
     for number in 0..39 {
-        let keyword = Keyword::of_number(number).ok_or("no keyword")?;
-        let word = cases.by_number(number).ok_or("no word")?;
-        assert_eq!(rt; keyword.number(), number);
-        assert_eq!(rt; Keyword::of_word(word.as_bytes()), Some(keyword));
+        assert!(rt; is_keyword(number) && has_word(number), "of {number}");
     }
-    assert_eq!(rt; Keyword::of_number(39), None);
-    for word in ["", "al", "alll", "inte", "a\u{cc}l", "wherea", "zone"] {
-        assert_eq!(rt; Keyword::of_word(word.as_bytes()), None, "of {word}");
-    }
-    Ok(())
+    assert!(rt; Keyword::of_number(39).is_none());
+    are_no_keywords(&rt, &NO_KEYWORDS);
 }
 
 const NUMBERS: [Told; 7] = [
@@ -128,7 +170,18 @@ fn is_told_long(
     is_told(rt, alloc, &long_text(alloc, byte, count)?, want)
 }
 
-const LONG: [(&[u8], usize, &str); 5] = [
+// A byte of a quoted text, how many times it stands there, and the text's token or fault.
+type Long = (&'static [u8], usize, &'static str);
+
+fn tells_long(rt: &impl Abort, alloc: Global, cases: &[Long]) -> Result<(), Fail> {
+    for (byte, count, want) in cases {
+        let is_told = is_told_long(rt, alloc, byte, *count, want)?;
+        assert!(rt; is_told, "of {count} times {byte:?}");
+    }
+    Ok(())
+}
+
+const LONG: [Long; 5] = [
     (b"x", 255, "Text@0-257"),
     (b"''", 255, "Text@0-512"),
     (b"x", 256, "TextTooLong at 0"),
@@ -138,11 +191,7 @@ const LONG: [(&[u8], usize, &str); 5] = [
 
 #[test]
 fn texts_have_at_most_255_bytes(rt: HostRuntime) -> Result<(), Fail> {
-    for (byte, count, want) in &LONG {
-        let is_told = is_told_long(&rt, rt.alloc(), byte, *count, want)?;
-        assert!(rt; is_told, "of {count} times {byte:?}");
-    }
-    Ok(())
+    tells_long(&rt, rt.alloc(), &LONG)
 }
 
 const SIGNS: [Told; 18] = [
@@ -171,17 +220,52 @@ fn signs_are_as_long_as_possible(rt: HostRuntime) -> Result<(), Fail> {
     tells(&rt, rt.alloc(), &SIGNS)
 }
 
-#[test]
-fn signs_have_numbers_and_words(rt: HostRuntime) -> Result<(), Fail> {
-    let words = "( ) , ; . * + - = <> < <= > >= ||";
-    let cases = Sign::cases();
-    for (number, word) in (0..15).zip(words.split(' ')) {
-        let sign = Sign::of_number(number).ok_or("no sign")?;
-        assert_eq!(rt; sign.number(), number);
-        assert_eq!(rt; cases.by_number(number), Some(word));
+fn is_sign(number: u8) -> bool {
+    match Sign::of_number(number) {
+        Some(sign) => sign.number() == number,
+        None => false,
     }
-    assert_eq!(rt; Sign::of_number(15), None);
-    Ok(())
+}
+
+fn has_sign_word(number: u8, want: &str) -> bool {
+    match Sign::cases().by_number(number) {
+        Some(word) => word == want,
+        None => false,
+    }
+}
+
+fn are_signs(rt: &impl Abort, cases: &[(u8, &str)]) {
+    for (number, word) in cases {
+        assert!(rt;
+            is_sign(*number) && has_sign_word(*number, word),
+            "of {word}"
+        );
+    }
+}
+
+/// The numbers of the signs, and their words.
+const SIGN_WORDS: [(u8, &str); 15] = [
+    (0, "("),
+    (1, ")"),
+    (2, ","),
+    (3, ";"),
+    (4, "."),
+    (5, "*"),
+    (6, "+"),
+    (7, "-"),
+    (8, "="),
+    (9, "<>"),
+    (10, "<"),
+    (11, "<="),
+    (12, ">"),
+    (13, ">="),
+    (14, "||"),
+];
+
+#[test]
+fn signs_have_numbers_and_words(rt: HostRuntime) {
+    are_signs(&rt, &SIGN_WORDS);
+    assert!(rt; Sign::of_number(15).is_none());
 }
 
 const GAPS: [Told; 13] = [
@@ -205,15 +289,19 @@ fn blanks_and_comments_stand_between_tokens(rt: HostRuntime) -> Result<(), Fail>
     tells(&rt, rt.alloc(), &GAPS)
 }
 
+/// Whether a quoted text has this content.
+fn holds(alloc: Global, bytes: &[u8], want: &[u8]) -> Result<bool, Fail>
+    requires { (inner : List ℕ) × IsText inner × (bytes.now ≡ quoted inner) }
+{
+    Ok(content(alloc, bytes)?.as_bytes() == want)
+}
+
 #[test]
 fn contents_have_their_quotes_once(rt: HostRuntime) -> Result<(), Fail> {
     let alloc = rt.alloc();
-    assert_eq!(rt; content(alloc, b"''")?.as_bytes(), b"".as_slice());
-    assert_eq!(rt; content(alloc, b"'a b'")?.as_bytes(), b"a b".as_slice());
-    assert_eq!(rt; content(alloc, b"''''")?.as_bytes(), b"'".as_slice());
-    assert_eq!(rt;
-        content(alloc, b"'it''s'''")?.as_bytes(),
-        b"it's'".as_slice()
-    );
+    assert!(rt; holds(alloc, b"''", b"")?);
+    assert!(rt; holds(alloc, b"'a b'", b"a b")?);
+    assert!(rt; holds(alloc, b"''''", b"'")?);
+    assert!(rt; holds(alloc, b"'it''s'''", b"it's'")?);
     Ok(())
 }

@@ -1,5 +1,7 @@
 //! Literals, expressions and conditions: how much of a text they are, and where they stop.
 
+ghost use Rattle.bf_phrase.specs.Cursors.{IsPlace};
+
 use bf_base::Value;
 use bf_lex::{ScriptKind, tokens};
 use bf_phrase::condition::condition;
@@ -10,64 +12,75 @@ use std::alloc::Global;
 use std::process::Abort;
 use std::test::Fail;
 
-// The literal at the front of a text, and how many tokens are left behind it.
-fn literal_of(
-    rt: &impl Abort,
-    alloc: Global,
-    text: &[u8],
-) -> Result<Result<(Value, usize), ReadStop>, Fail> {
-    assert!(rt; text.len() < 10_000);
-    let tokens = tokens(alloc, text)?;
-    match literal(alloc, Cursor::new(text, &tokens)) {
-        Ok((value, rest)) => Ok(Ok((value, rest.tokens.len()))),
-        Err(stop) => Ok(Err(stop)),
-    }
+// How many words are counted in what stands at the front of a text, and how many tokens are left
+// behind it, or where it stops.
+type Read = Result<(usize, usize), ReadStop>;
+
+fn condition_at(alloc: Global, cursor: Cursor<'_>) -> Read
+    requires { IsPlace cursor }
+{
+    let (_, count, rest) = condition(alloc, cursor, 0)?;
+    Ok((count, rest.tokens.len()))
 }
 
-// How many words are counted in the condition at the front of a text, and how many tokens are left
-// behind it.
-fn condition_of(
-    rt: &impl Abort,
-    alloc: Global,
-    text: &[u8],
-) -> Result<Result<(usize, usize), ReadStop>, Fail> {
+fn is_condition(rt: &impl Abort, alloc: Global, text: &[u8], want: Read) -> Result<bool, Fail> {
     assert!(rt; text.len() < 10_000);
     let tokens = tokens(alloc, text)?;
-    match condition(alloc, Cursor::new(text, &tokens), 0) {
-        Ok((_, count, rest)) => Ok(Ok((count, rest.tokens.len()))),
-        Err(stop) => Ok(Err(stop)),
-    }
+    Ok(condition_at(alloc, Cursor::new(text, &tokens)) == want)
 }
 
-// The same of the expression at the front of a text.
-fn expression_of(
-    rt: &impl Abort,
-    alloc: Global,
-    text: &[u8],
-) -> Result<Result<(usize, usize), ReadStop>, Fail> {
+fn expression_at(alloc: Global, cursor: Cursor<'_>) -> Read
+    requires { IsPlace cursor }
+{
+    let (_, count, rest) = sum(alloc, cursor, 0)?;
+    Ok((count, rest.tokens.len()))
+}
+
+fn is_expression(rt: &impl Abort, alloc: Global, text: &[u8], want: Read) -> Result<bool, Fail> {
     assert!(rt; text.len() < 10_000);
     let tokens = tokens(alloc, text)?;
-    match sum(alloc, Cursor::new(text, &tokens), 0) {
-        Ok((_, count, rest)) => Ok(Ok((count, rest.tokens.len()))),
-        Err(stop) => Ok(Err(stop)),
-    }
+    Ok(expression_at(alloc, Cursor::new(text, &tokens)) == want)
 }
 
-// A text, how many words are counted in what stands at its front, and how many tokens are left.
-type Case = (&'static [u8], Result<(usize, usize), ReadStop>);
+// A text, and what stands at its front.
+type Case = (&'static [u8], Read);
 
 fn conditions_are(rt: &impl Abort, alloc: Global, cases: &[Case]) -> Result<(), Fail> {
     for (text, want) in cases {
-        assert_eq!(rt; condition_of(rt, alloc, text)?, *want, "of {text:?}");
+        assert!(rt; is_condition(rt, alloc, text, *want)?, "of {text:?}");
     }
     Ok(())
 }
 
 fn expressions_are(rt: &impl Abort, alloc: Global, cases: &[Case]) -> Result<(), Fail> {
     for (text, want) in cases {
-        assert_eq!(rt; expression_of(rt, alloc, text)?, *want, "of {text:?}");
+        assert!(rt; is_expression(rt, alloc, text, *want)?, "of {text:?}");
     }
     Ok(())
+}
+
+// The number that a value is, where no tokens are left behind it.
+fn whole(value: &Value, left: usize) -> Option<i64> {
+    match value {
+        Value::Int(number) if left == 0 => Some(*number),
+        _ => None,
+    }
+}
+
+// The number that is all the rest of a text, or none where that is another literal.
+fn literal_at(alloc: Global, cursor: Cursor<'_>) -> Result<Option<i64>, ReadStop>
+    requires { IsPlace cursor }
+{
+    let (value, rest) = literal(alloc, cursor)?;
+    Ok(whole(&value, rest.tokens.len()))
+}
+
+fn is_number(found: Result<Option<i64>, ReadStop>, want: Result<i64, ReadStop>) -> bool {
+    match found {
+        Ok(Some(number)) => want == Ok(number),
+        Ok(None) => false,
+        Err(stop) => want == Err(stop),
+    }
 }
 
 fn is_literal(
@@ -76,11 +89,9 @@ fn is_literal(
     text: &[u8],
     want: Result<i64, ReadStop>,
 ) -> Result<bool, Fail> {
-    Ok(match literal_of(rt, alloc, text)? {
-        Ok((Value::Int(number), left)) => left == 0 && want == Ok(number),
-        Ok(_) => false,
-        Err(stop) => want == Err(stop),
-    })
+    assert!(rt; text.len() < 10_000);
+    let tokens = tokens(alloc, text)?;
+    Ok(is_number(literal_at(alloc, Cursor::new(text, &tokens)), want))
 }
 
 // A text many times, then one, then another as many times.
@@ -167,19 +178,16 @@ fn conditions_stop_where_they_can_not_go_on(rt: HostRuntime) -> Result<(), Fail>
     conditions_are(&rt, rt.alloc(), &NO_CONDITIONS)
 }
 
-fn nots(
-    rt: &impl Abort,
-    alloc: Global,
-    times: usize,
-) -> Result<Result<(usize, usize), ReadStop>, Fail> {
-    condition_of(rt, alloc, &around(alloc, times, b"NOT ", b"a = 1", b"")?)
+fn are_nots(rt: &impl Abort, alloc: Global, times: usize, want: Read) -> Result<bool, Fail> {
+    let text = around(alloc, times, b"NOT ", b"a = 1", b"")?;
+    is_condition(rt, alloc, &text, want)
 }
 
 #[test]
 fn conditions_have_at_most_256_counted_words(rt: HostRuntime) -> Result<(), Fail> {
     let too_deep = Err(ReadStop::Limit(ScriptKind::TooDeep, 2));
-    assert_eq!(rt; nots(&rt, rt.alloc(), 255)?, Ok((256, 0)));
-    assert_eq!(rt; nots(&rt, rt.alloc(), 256)?, too_deep);
+    assert!(rt; are_nots(&rt, rt.alloc(), 255, Ok((256, 0)))?);
+    assert!(rt; are_nots(&rt, rt.alloc(), 256, too_deep)?);
     Ok(())
 }
 
@@ -199,18 +207,15 @@ fn expressions_count_operators_and_parentheses(rt: HostRuntime) -> Result<(), Fa
     expressions_are(&rt, rt.alloc(), &EXPRESSIONS)
 }
 
-fn parentheses(
-    rt: &impl Abort,
-    alloc: Global,
-    times: usize,
-) -> Result<Result<(usize, usize), ReadStop>, Fail> {
-    expression_of(rt, alloc, &around(alloc, times, b"(", b"1", b")")?)
+fn are_parentheses(rt: &impl Abort, alloc: Global, times: usize, want: Read) -> Result<bool, Fail> {
+    let text = around(alloc, times, b"(", b"1", b")")?;
+    is_expression(rt, alloc, &text, want)
 }
 
 #[test]
 fn expressions_have_at_most_256_counted_words(rt: HostRuntime) -> Result<(), Fail> {
     let too_deep = Err(ReadStop::Limit(ScriptKind::TooDeep, 259));
-    assert_eq!(rt; parentheses(&rt, rt.alloc(), 256)?, Ok((256, 0)));
-    assert_eq!(rt; parentheses(&rt, rt.alloc(), 257)?, too_deep);
+    assert!(rt; are_parentheses(&rt, rt.alloc(), 256, Ok((256, 0)))?);
+    assert!(rt; are_parentheses(&rt, rt.alloc(), 257, too_deep)?);
     Ok(())
 }
