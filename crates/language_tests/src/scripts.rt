@@ -2,19 +2,32 @@
 
 use bf_lex::{ScriptError, ScriptKind};
 use bf_parse::script;
-use bf_tree::{Session, Statement};
+use bf_tree::{Script, Session, Statement};
 use std::alloc::{AllocError, Global};
+use std::process::Abort;
 use std::test::Fail;
 
-/// The first fault of a text, and its place.
-fn fault_of(alloc: Global, text: &str) -> Option<(ScriptKind, u32)> {
+/// The first fault of a text, and its place, where it is no script.
+type First = Option<(ScriptKind, u32)>;
+
+fn fault_of(alloc: Global, text: &str) -> First {
     match script(alloc, text.as_bytes()) {
         Err(ScriptError::Fault(fault)) => Some((fault.kind, fault.at)),
         _ => None,
     }
 }
 
-const TEXTS: [(&str, Option<(ScriptKind, u32)>); 27] = [
+fn has_fault(alloc: Global, text: &str, want: First) -> bool {
+    fault_of(alloc, text) == want
+}
+
+fn all_have_faults(rt: &impl Abort, alloc: Global, cases: &[(&str, First)]) {
+    for (text, fault) in cases {
+        assert!(rt; has_fault(alloc, text, *fault), "of {text}");
+    }
+}
+
+const TEXTS: [(&str, First); 27] = [
     (
         "PHASE; SESSION; SELECT * FROM",
         Some((ScriptKind::Syntax, 29)),
@@ -108,11 +121,8 @@ const TEXTS: [(&str, Option<(ScriptKind, u32)>); 27] = [
 ];
 
 #[test]
-fn texts_are_scripts_or_have_a_first_fault(rt: HostRuntime) -> Result<(), Fail> {
-    for (text, fault) in &TEXTS {
-        assert_eq!(rt; fault_of(rt.alloc(), text), *fault, "of {text}");
-    }
-    Ok(())
+fn texts_are_scripts_or_have_a_first_fault(rt: HostRuntime) {
+    all_have_faults(&rt, rt.alloc(), &TEXTS);
 }
 
 const SIXTEEN_SESSIONS: &str =
@@ -121,7 +131,9 @@ const SIXTEEN_SESSIONS: &str =
 const BLANKS: &str = "                                                                ";
 
 /// A front, a part so many times, a back, and the first fault of the three together.
-const REPEATED: [(&str, &str, u32, &str, Option<(ScriptKind, u32)>); 11] = [
+type Repeated = (&'static str, &'static str, u32, &'static str, First);
+
+const REPEATED: [Repeated; 11] = [
     ("phase;", "session;", 16, "", None),
     (
         "phase;",
@@ -204,24 +216,27 @@ fn repeated(
     Ok(text)
 }
 
-fn fault_of_repeated(
-    alloc: Global,
-    front: &str,
-    part: &str,
-    count: u32,
-    back: &str,
-) -> Result<Option<(ScriptKind, u32)>, AllocError> {
+fn repeated_has_fault(alloc: Global, case: &Repeated) -> Result<bool, AllocError> {
+    let (front, part, count, back, fault) = *case;
     let text = repeated(alloc, front, part, count, back)?;
-    Ok(fault_of(alloc, text.as_str()))
+    Ok(has_fault(alloc, text.as_str(), fault))
+}
+
+fn all_repeated_have_faults(
+    rt: &impl Abort,
+    alloc: Global,
+    cases: &[Repeated],
+) -> Result<(), Fail> {
+    for case in cases {
+        let (front, _, count, _, _) = case;
+        assert!(rt; repeated_has_fault(alloc, case)?, "of {count} in {front}");
+    }
+    Ok(())
 }
 
 #[test]
 fn limits_have_two_ends(rt: HostRuntime) -> Result<(), Fail> {
-    for (front, part, count, back, fault) in &REPEATED {
-        let found = fault_of_repeated(rt.alloc(), front, part, *count, back)?;
-        assert_eq!(rt; found, *fault, "of {count} in {front}");
-    }
-    Ok(())
+    all_repeated_have_faults(&rt, rt.alloc(), &REPEATED)
 }
 
 /// Whether there are two sessions, the first in the second phase and of two statements, of which the
@@ -236,11 +251,18 @@ fn has_two_sessions(sessions: &[Session]) -> bool {
     }
 }
 
+fn has_two_phases(script: &Script) -> bool {
+    script.phases == 2 && has_two_sessions(script.sessions.as_slice())
+}
+
+fn is_counted(alloc: Global, text: &str) -> Result<bool, Fail> {
+    let script = script(alloc, text.as_bytes())?;
+    Ok(has_two_phases(&script))
+}
+
 #[test]
 fn sessions_and_phases_are_counted(rt: HostRuntime) -> Result<(), Fail> {
     let text = "phase; phase; session; begin; commit; session;";
-    let script = script(rt.alloc(), text.as_bytes())?;
-    assert_eq!(rt; script.phases, 2);
-    assert!(rt; has_two_sessions(script.sessions.as_slice()));
+    assert!(rt; is_counted(rt.alloc(), text)?);
     Ok(())
 }
