@@ -2,16 +2,12 @@
 
 use crate::fixtures::Cell::{Letters, Number};
 use crate::fixtures::{Cell as Written, name, text, values};
-use bf_base::{Key, Memory, Name, Sequence, Value};
+use bf_base::{Key, Name, Sequence, Value};
 use bf_text::{put_number, put_refusal, put_values, report};
 use bf_tree::{Cause, Cell, Entry, History, Outcome, Refusal, Reply, Sweep, Transcripts};
 use std::alloc::Global;
+use std::process::Abort;
 use std::test::Fail;
-
-fn session(alloc: Global, replies: Vec<Reply>) -> Result<Transcripts, Memory> {
-    let sessions = Sequence::of(vec![in alloc; Sequence::of(replies)]?);
-    Ok(Transcripts { sessions })
-}
 
 fn entry(session: u32, first: u32, last: u32, outcome: Outcome) -> Entry {
     Entry {
@@ -68,85 +64,115 @@ fn prints_values(rt: HostRuntime) -> Result<(), Fail> {
     Ok(())
 }
 
-const REFUSALS: [&str; 19] = [
-    "E1 no table t1",
-    "E2 no column c_2",
-    "E3 type mismatch",
-    "E4 duplicate key (3, 'Bob')",
-    "E5 out of range",
-    "E6 too long",
-    "E7 table exists t",
-    "E8 wrong count",
-    "E9 key column id",
-    "E10 no transaction",
-    "E11 in transaction",
-    "E12 must be alone",
-    "E13 name twice n",
-    "E14 may fail pub item 2",
-    "E15 key not inherited ph",
-    "E16 source unknown w",
-    "E17 too many rows big 1048577",
-    "E18 unit limit 5",
-    "E19 index exists by_name",
-];
-
-fn duplicate(alloc: Global) -> Result<Key, Fail> {
-    Ok(Key::of(values(alloc, &[Number(3), Letters("Bob")])?))
+/// The refusals that tell a name and no more but numbers, by their own.
+fn naming(number: u8, name: Name) -> Refusal {
+    match number {
+        1 => Refusal::NoTable(name),
+        2 => Refusal::NoColumn(name),
+        7 => Refusal::TableExists(name),
+        9 => Refusal::KeyColumn(name),
+        13 => Refusal::NameTwice(name),
+        14 => Refusal::MayFail(name, 2),
+        15 => Refusal::KeyNotInherited(name),
+        16 => Refusal::SourceUnknown(name),
+        17 => Refusal::TooManyRows(name, 1_048_577),
+        _ => Refusal::IndexExists(name),
+    }
 }
 
-fn refusal(alloc: Global, number: usize) -> Result<Refusal, Fail> {
-    Ok(match number {
-        1 => Refusal::NoTable(name(alloc, "t1")?),
-        2 => Refusal::NoColumn(name(alloc, "c_2")?),
+/// The refusals that tell neither a name nor a key.
+fn bare(number: u8) -> Refusal {
+    match number {
         3 => Refusal::TypeMismatch,
-        4 => Refusal::DuplicateKey(duplicate(alloc)?),
         5 => Refusal::OutOfRange,
         6 => Refusal::TooLong,
-        7 => Refusal::TableExists(name(alloc, "t")?),
         8 => Refusal::WrongCount,
-        9 => Refusal::KeyColumn(name(alloc, "id")?),
         10 => Refusal::NoTransaction,
         11 => Refusal::InTransaction,
         12 => Refusal::MustBeAlone,
-        13 => Refusal::NameTwice(name(alloc, "n")?),
-        14 => Refusal::MayFail(name(alloc, "pub")?, 2),
-        15 => Refusal::KeyNotInherited(name(alloc, "ph")?),
-        16 => Refusal::SourceUnknown(name(alloc, "w")?),
-        17 => Refusal::TooManyRows(name(alloc, "big")?, 1_048_577),
-        18 => Refusal::UnitLimit(5),
-        _ => Refusal::IndexExists(name(alloc, "by_name")?),
-    })
+        _ => Refusal::UnitLimit(5),
+    }
 }
 
-fn prints_refusal(alloc: Global, number: usize, want: &str) -> Result<bool, Fail> {
-    let refusal = refusal(alloc, number)?;
+fn duplicate(alloc: Global) -> Result<Refusal, Fail> {
+    let key = Key::of(values(alloc, &[Number(3), Letters("Bob")])?);
+    Ok(Refusal::DuplicateKey(key))
+}
+
+fn prints_refusal(alloc: Global, refusal: &Refusal, want: &str) -> Result<bool, Fail> {
     let mut out = Vec::new(alloc);
-    put_refusal(&mut out, &refusal)?;
+    put_refusal(&mut out, refusal)?;
     Ok(out.as_slice() == want.as_bytes())
 }
 
-#[test]
-fn prints_each_refusal(rt: HostRuntime) -> Result<(), Fail> {
-    for (index, want) in REFUSALS.iter().enumerate() {
-        assert!(rt; prints_refusal(rt.alloc(), index + 1, want)?, "{want}");
+fn prints_naming(alloc: Global, number: u8, bytes: &str, want: &str) -> Result<bool, Fail> {
+    prints_refusal(alloc, &naming(number, name(alloc, bytes)?), want)
+}
+
+fn all_naming(rt: &impl Abort, alloc: Global, cases: &[(u8, &str, &str)]) -> Result<(), Fail> {
+    for (number, bytes, want) in cases {
+        assert!(rt; prints_naming(alloc, *number, bytes, want)?, "{want}");
     }
     Ok(())
 }
 
-fn numbers(alloc: Global) -> Result<Sequence<Cell>, Fail> {
-    let cells = vec![in alloc; Cell::Value(Value::Int(-7)), Cell::Null]?;
-    Ok(Sequence::of(cells))
+fn all_bare(rt: &impl Abort, alloc: Global, cases: &[(u8, &str)]) -> Result<(), Fail> {
+    for (number, want) in cases {
+        assert!(rt; prints_refusal(alloc, &bare(*number), want)?, "{want}");
+    }
+    Ok(())
 }
 
-fn texts(alloc: Global) -> Result<Sequence<Cell>, Fail> {
-    let text = text(alloc, "O'Neil")?;
-    Ok(Sequence::of(vec![in alloc; Cell::Value(text), Cell::Null]?))
+fn prints_duplicate(alloc: Global, want: &str) -> Result<bool, Fail> {
+    prints_refusal(alloc, &duplicate(alloc)?, want)
+}
+
+/// Numbers of refusals, the names that they tell, and their texts.
+const NAMING: [(u8, &str, &str); 10] = [
+    (1, "t1", "E1 no table t1"),
+    (2, "c_2", "E2 no column c_2"),
+    (7, "t", "E7 table exists t"),
+    (9, "id", "E9 key column id"),
+    (13, "n", "E13 name twice n"),
+    (14, "pub", "E14 may fail pub item 2"),
+    (15, "ph", "E15 key not inherited ph"),
+    (16, "w", "E16 source unknown w"),
+    (17, "big", "E17 too many rows big 1048577"),
+    (19, "by_name", "E19 index exists by_name"),
+];
+
+/// Numbers of refusals without a name, and their texts.
+const BARE: [(u8, &str); 8] = [
+    (3, "E3 type mismatch"),
+    (5, "E5 out of range"),
+    (6, "E6 too long"),
+    (8, "E8 wrong count"),
+    (10, "E10 no transaction"),
+    (11, "E11 in transaction"),
+    (12, "E12 must be alone"),
+    (18, "E18 unit limit 5"),
+];
+
+#[test]
+fn prints_each_refusal(rt: HostRuntime) -> Result<(), Fail> {
+    all_naming(&rt, rt.alloc(), &NAMING)?;
+    all_bare(&rt, rt.alloc(), &BARE)?;
+    assert!(rt; prints_duplicate(rt.alloc(), "E4 duplicate key (3, 'Bob')")?);
+    Ok(())
+}
+
+/// A row of a value and a null.
+fn with_null(alloc: Global, value: Value) -> Result<Sequence<Cell>, Fail> {
+    let mut cells = Vec::new(alloc);
+    cells.push(Cell::Value(value))?;
+    cells.push(Cell::Null)?;
+    Ok(Sequence::of(cells))
 }
 
 fn rows(alloc: Global) -> Result<Reply, Fail> {
     let mut rows = Vec::new(alloc);
-    rows.push(numbers(alloc)?)?;
-    rows.push(texts(alloc)?)?;
+    rows.push(with_null(alloc, Value::Int(-7))?)?;
+    rows.push(with_null(alloc, text(alloc, "O'Neil")?)?)?;
     Ok(Reply::Rows(Sequence::of(rows)))
 }
 
@@ -172,13 +198,27 @@ fn reply(alloc: Global, number: u32) -> Result<Reply, Fail> {
     })
 }
 
-fn replies(alloc: Global) -> Result<Vec<Reply>, Fail> {
+/// The replies to the statements of these numbers.
+fn replies(alloc: Global, numbers: &[u32]) -> Result<Sequence<Reply>, Fail> {
     let mut replies = Vec::new(alloc);
-    for number in 1..=16 {
-        replies.push(reply(alloc, number)?)?;
+    for number in numbers {
+        replies.push(reply(alloc, *number)?)?;
     }
-    Ok(replies)
+    Ok(Sequence::of(replies))
 }
+
+/// Sessions, each of which got the replies to the statements of these numbers.
+fn transcripts(alloc: Global, numbers: &[&[u32]]) -> Result<Transcripts, Fail> {
+    let mut sessions = Vec::new(alloc);
+    for numbers in numbers {
+        sessions.push(replies(alloc, numbers)?)?;
+    }
+    let sessions = Sequence::of(sessions);
+    Ok(Transcripts { sessions })
+}
+
+/// One session, which got each reply.
+const EACH: [&[u32]; 1] = [&[1, 2, 3, 4, 5, 6, 7, 8, 9, 10, 11, 12, 13, 14, 15, 16]];
 
 const REPLIES: &str = "1.1 created\n\
     1.2 inserted 4294967295\n\
@@ -213,24 +253,26 @@ fn reports(
     Ok(bytes.as_slice() == want.as_bytes())
 }
 
+fn reports_replies(alloc: Global) -> Result<bool, Fail> {
+    let session = transcripts(alloc, &EACH)?;
+    reports(
+        alloc,
+        &session,
+        &no_history(alloc),
+        None,
+        &Sweep::Never,
+        REPLIES,
+    )
+}
+
 #[test]
 fn prints_each_reply(rt: HostRuntime) -> Result<(), Fail> {
-    let session = session(rt.alloc(), replies(rt.alloc())?)?;
-    let history = no_history(rt.alloc());
-    let reports = reports(rt.alloc(), &session, &history, None, &Sweep::Never, REPLIES)?;
-    assert!(rt; reports);
+    assert!(rt; reports_replies(rt.alloc())?);
     Ok(())
 }
 
-/// Three sessions: of two replies, of none, and of one.
-fn three_sessions(alloc: Global) -> Result<Transcripts, Fail> {
-    let mut sessions = Vec::new(alloc);
-    sessions.push(Sequence::of(vec![in alloc; Reply::Begun, Reply::RolledBack]?))?;
-    sessions.push(Sequence::of(Vec::new(alloc)))?;
-    sessions.push(Sequence::of(vec![in alloc; Reply::Created]?))?;
-    let sessions = Sequence::of(sessions);
-    Ok(Transcripts { sessions })
-}
+/// Three sessions: one began and rolled back, one got no reply, and one created a table.
+const THREE: [&[u32]; 3] = [&[8, 10], &[], &[1]];
 
 /// Transactions of the first and the third.
 fn three_entries(alloc: Global) -> Result<History, Fail> {
@@ -250,21 +292,20 @@ const SESSIONS: &str = "1.1 begun\n\
     entry 3 session 3 from 2 to 4 committed 2\n\
     end commits 2 migration none\n";
 
+fn reports_sessions(alloc: Global) -> Result<bool, Fail> {
+    let sessions = transcripts(alloc, &THREE)?;
+    let history = three_entries(alloc)?;
+    reports(alloc, &sessions, &history, None, &Sweep::Never, SESSIONS)
+}
+
 #[test]
 fn prints_sessions_and_their_transactions(rt: HostRuntime) -> Result<(), Fail> {
-    let sessions = three_sessions(rt.alloc())?;
-    let history = three_entries(rt.alloc())?;
-    let reports = reports(
-        rt.alloc(),
-        &sessions,
-        &history,
-        None,
-        &Sweep::Never,
-        SESSIONS,
-    )?;
-    assert!(rt; reports);
+    assert!(rt; reports_sessions(rt.alloc())?);
     Ok(())
 }
+
+/// One session, which got no reply.
+const NO_REPLIES: [&[u32]; 1] = [&[]];
 
 /// Whether nothing but these is reported of a session with no replies.
 fn reports_only(
@@ -273,7 +314,7 @@ fn reports_only(
     sweep: &Sweep,
     want: &str,
 ) -> Result<bool, Fail> {
-    let session = session(alloc, Vec::new(alloc))?;
+    let session = transcripts(alloc, &NO_REPLIES)?;
     reports(alloc, &session, &no_history(alloc), audit, sweep, want)
 }
 
@@ -290,15 +331,23 @@ const AUDIT: &str = "audit table cust rows 0\n\
     audit table pub rows 1048576\n\
     end commits 0 migration none\n";
 
+fn reports_audit(alloc: Global) -> Result<bool, Fail> {
+    let tables = audited(alloc)?;
+    reports_only(alloc, Some(tables.as_slice()), &Sweep::Never, AUDIT)
+}
+
 #[test]
 fn prints_an_audit(rt: HostRuntime) -> Result<(), Fail> {
-    let tables = audited(rt.alloc())?;
-    let found = [
-        reports_only(rt.alloc(), None, &Sweep::Never, NOTHING)?,
-        reports_only(rt.alloc(), Some(&[]), &Sweep::Never, NOTHING)?,
-        reports_only(rt.alloc(), Some(tables.as_slice()), &Sweep::Never, AUDIT)?,
-    ];
-    assert_eq!(rt; found, [true, true, true]);
+    assert!(rt; reports_only(rt.alloc(), None, &Sweep::Never, NOTHING)?);
+    assert!(rt; reports_only(rt.alloc(), Some(&[]), &Sweep::Never, NOTHING)?);
+    assert!(rt; reports_audit(rt.alloc())?);
+    Ok(())
+}
+
+fn all_are_reported(rt: &impl Abort, alloc: Global, cases: &[(Sweep, &str)]) -> Result<(), Fail> {
+    for (sweep, want) in cases {
+        assert!(rt; reports_only(alloc, None, sweep, want)?, "{want}");
+    }
     Ok(())
 }
 
@@ -324,8 +373,5 @@ const SWEEPS: [(Sweep, &str); 3] = [
 
 #[test]
 fn prints_how_far_a_migration_has_come(rt: HostRuntime) -> Result<(), Fail> {
-    for (sweep, want) in SWEEPS.iter() {
-        assert!(rt; reports_only(rt.alloc(), None, sweep, want)?, "{want}");
-    }
-    Ok(())
+    all_are_reported(&rt, rt.alloc(), &SWEEPS)
 }

@@ -9,6 +9,7 @@ use bf_tree::{
     Test, holds, value,
 };
 use std::alloc::{AllocError, Global};
+use std::process::Abort;
 use std::test::Fail;
 
 #[derive(Clone, Copy, Debug)]
@@ -22,17 +23,19 @@ enum Operator {
 use Operator::{Joined, Minus, Plus, Times};
 
 /// What a test sees of a value, or why there is none.
-#[derive(Clone, Copy, Debug, PartialEq)]
+#[derive(Clone, Copy)]
 enum Found {
     Whole(i64),
     /// How many bytes a text has, and with how many `a`s it begins.
     Bytes(usize, usize),
-    OutOfRange,
-    TooLong,
-    Memory,
+    Fails(Failure),
 }
 
-use Found::{Bytes, OutOfRange, TooLong, Whole};
+use Found::{Bytes, Fails, Whole};
+
+const OUT_OF_RANGE: Found = Fails(Failure::OutOfRange);
+
+const TOO_LONG: Found = Fails(Failure::TooLong);
 
 fn literal(alloc: Global, cell: Cell) -> Result<Expr, Fail> {
     Ok(Expr::of(Node::Value(cell_value(alloc, cell)?)))
@@ -68,85 +71,114 @@ fn binary(alloc: Global, operator: Operator, a: Expr, b: Expr) -> Result<Expr, A
     }))
 }
 
-fn seen(value: Value) -> Found {
-    match value {
-        Value::Int(number) => Whole(number),
-        Value::Text(text) => {
-            let bytes = text.as_bytes();
-            let first = bytes.iter().take_while(|byte| **byte == b'a').count();
-            Bytes(bytes.len(), first)
-        }
+/// Whether there are so many bytes, of which so many at the front are `a`s.
+fn are_counted(bytes: &[u8], count: usize, first: usize) -> bool {
+    bytes.len() == count && bytes.iter().take_while(|byte| **byte == b'a').count() == first
+}
+
+fn is_seen(value: &Value, want: Found) -> bool {
+    match (value, want) {
+        (Value::Int(number), Whole(want)) => *number == want,
+        (Value::Text(text), Bytes(count, first)) => are_counted(text.as_bytes(), count, first),
+        _ => false,
     }
 }
 
-fn evaluated(alloc: Global, expr: Expr, cells: &[Cell]) -> Result<Found, Fail> {
+fn is_failure(failure: Failure, want: Found) -> bool {
+    match want {
+        Fails(want) => failure == want,
+        _ => false,
+    }
+}
+
+/// Whether an expression gives this on a row of cells.
+fn gives(alloc: Global, expr: Expr, cells: &[Cell], want: Found) -> Result<bool, Fail> {
     let row = row(alloc, cells)?;
     Ok(match value(alloc, &expr, &row) {
-        Ok(value) => seen(value),
-        Err(Failure::OutOfRange) => OutOfRange,
-        Err(Failure::TooLong) => TooLong,
-        Err(Failure::Memory) => Found::Memory,
+        Ok(value) => is_seen(&value, want),
+        Err(failure) => is_failure(failure, want),
     })
 }
 
-fn of_numbers(alloc: Global, operator: Operator, a: i64, b: i64) -> Result<Found, Fail> {
-    evaluated(alloc, binary(alloc, operator, number(a), number(b))?, &[])
+fn numbers_give(
+    alloc: Global,
+    operator: Operator,
+    a: i64,
+    b: i64,
+    want: Found,
+) -> Result<bool, Fail> {
+    let expr = binary(alloc, operator, number(a), number(b))?;
+    gives(alloc, expr, &[], want)
 }
 
 const TWO_TO_31: i64 = 0x8000_0000;
 
 const TWO_TO_32: i64 = 0x1_0000_0000;
 
-#[test]
-fn numbers_keep_to_64_bits(rt: HostRuntime) -> Result<(), Fail> {
-    let cases = [
-        (Plus, i64::MAX, 0, Whole(i64::MAX)),
-        (Plus, i64::MAX, 1, OutOfRange),
-        (Plus, i64::MAX, i64::MIN, Whole(-1)),
-        (Plus, i64::MIN, -1, OutOfRange),
-        (Plus, i64::MIN, i64::MIN, OutOfRange),
-        (Minus, i64::MIN, 0, Whole(i64::MIN)),
-        (Minus, i64::MIN, 1, OutOfRange),
-        (Minus, i64::MAX, -1, OutOfRange),
-        (Minus, -1, i64::MIN, Whole(i64::MAX)),
-        (Minus, 0, i64::MIN, OutOfRange),
-        (Times, i64::MIN, 1, Whole(i64::MIN)),
-        (Times, i64::MIN, -1, OutOfRange),
-        (Times, i64::MAX, -1, Whole(-9_223_372_036_854_775_807)),
-        (Times, i64::MAX, i64::MAX, OutOfRange),
-        (Times, i64::MIN, i64::MIN, OutOfRange),
-        (Times, TWO_TO_32, TWO_TO_31, OutOfRange),
-        (Times, TWO_TO_32, -TWO_TO_31, Whole(i64::MIN)),
-        (
-            Times,
-            TWO_TO_32,
-            TWO_TO_31 - 1,
-            Whole(9_223_372_032_559_808_512),
-        ),
-    ];
+/// An operator, two numbers, and what it gives of them.
+type OfNumbers = (Operator, i64, i64, Found);
+
+fn all_numbers_give(rt: &impl Abort, alloc: Global, cases: &[OfNumbers]) -> Result<(), Fail> {
     for (operator, a, b, want) in cases {
-        let found = of_numbers(rt.alloc(), operator, a, b)?;
-        assert_eq!(rt; found, want, "of {operator:?} at {a} and {b}");
+        let is_given = numbers_give(alloc, *operator, *a, *b, *want)?;
+        assert!(rt; is_given, "of {operator:?} at {a} and {b}");
     }
     Ok(())
 }
 
-fn negation_of(alloc: Global, a: i64) -> Result<Found, Fail> {
-    evaluated(alloc, negative(alloc, number(a))?, &[])
+const OF_NUMBERS: [OfNumbers; 18] = [
+    (Plus, i64::MAX, 0, Whole(i64::MAX)),
+    (Plus, i64::MAX, 1, OUT_OF_RANGE),
+    (Plus, i64::MAX, i64::MIN, Whole(-1)),
+    (Plus, i64::MIN, -1, OUT_OF_RANGE),
+    (Plus, i64::MIN, i64::MIN, OUT_OF_RANGE),
+    (Minus, i64::MIN, 0, Whole(i64::MIN)),
+    (Minus, i64::MIN, 1, OUT_OF_RANGE),
+    (Minus, i64::MAX, -1, OUT_OF_RANGE),
+    (Minus, -1, i64::MIN, Whole(i64::MAX)),
+    (Minus, 0, i64::MIN, OUT_OF_RANGE),
+    (Times, i64::MIN, 1, Whole(i64::MIN)),
+    (Times, i64::MIN, -1, OUT_OF_RANGE),
+    (Times, i64::MAX, -1, Whole(-9_223_372_036_854_775_807)),
+    (Times, i64::MAX, i64::MAX, OUT_OF_RANGE),
+    (Times, i64::MIN, i64::MIN, OUT_OF_RANGE),
+    (Times, TWO_TO_32, TWO_TO_31, OUT_OF_RANGE),
+    (Times, TWO_TO_32, -TWO_TO_31, Whole(i64::MIN)),
+    (
+        Times,
+        TWO_TO_32,
+        TWO_TO_31 - 1,
+        Whole(9_223_372_032_559_808_512),
+    ),
+];
+
+#[test]
+fn numbers_keep_to_64_bits(rt: HostRuntime) -> Result<(), Fail> {
+    all_numbers_give(&rt, rt.alloc(), &OF_NUMBERS)
 }
+
+fn negation_gives(alloc: Global, a: i64, want: Found) -> Result<bool, Fail> {
+    gives(alloc, negative(alloc, number(a))?, &[], want)
+}
+
+fn all_negations_give(rt: &impl Abort, alloc: Global, cases: &[(i64, Found)]) -> Result<(), Fail> {
+    for (number, want) in cases {
+        assert!(rt; negation_gives(alloc, *number, *want)?, "of -({number})");
+    }
+    Ok(())
+}
+
+/// Numbers, and what their negatives are.
+const NEGATIONS: [(i64, Found); 4] = [
+    (i64::MIN, OUT_OF_RANGE),
+    (-9_223_372_036_854_775_807, Whole(i64::MAX)),
+    (i64::MAX, Whole(-9_223_372_036_854_775_807)),
+    (0, Whole(0)),
+];
 
 #[test]
 fn the_least_number_has_no_negative(rt: HostRuntime) -> Result<(), Fail> {
-    let cases = [
-        (i64::MIN, OutOfRange),
-        (-9_223_372_036_854_775_807, Whole(i64::MAX)),
-        (i64::MAX, Whole(-9_223_372_036_854_775_807)),
-        (0, Whole(0)),
-    ];
-    for (number, want) in cases {
-        assert_eq!(rt; negation_of(rt.alloc(), number)?, want, "of -({number})");
-    }
-    Ok(())
+    all_negations_give(&rt, rt.alloc(), &NEGATIONS)
 }
 
 /// So many `a`s and so many `b`s, joined.
@@ -156,85 +188,121 @@ fn joined(alloc: Global, left: usize, right: usize) -> Result<Expr, Fail> {
     Ok(binary(alloc, Joined, left, right)?)
 }
 
-fn of_letters(alloc: Global, left: usize, right: usize) -> Result<Found, Fail> {
-    evaluated(alloc, joined(alloc, left, right)?, &[])
+fn letters_give(alloc: Global, left: usize, right: usize, want: Found) -> Result<bool, Fail> {
+    gives(alloc, joined(alloc, left, right)?, &[], want)
 }
 
-#[test]
-fn joins_texts_up_to_255_bytes(rt: HostRuntime) -> Result<(), Fail> {
-    let cases = [
-        (0, 0, Bytes(0, 0)),
-        (128, 127, Bytes(255, 128)),
-        (255, 0, Bytes(255, 255)),
-        (0, 255, Bytes(255, 0)),
-        (128, 128, TooLong),
-        (255, 1, TooLong),
-        (1, 255, TooLong),
-        (255, 255, TooLong),
-    ];
+/// How many letters are joined to how many, and what that gives.
+type OfLetters = (usize, usize, Found);
+
+fn all_letters_give(rt: &impl Abort, alloc: Global, cases: &[OfLetters]) -> Result<(), Fail> {
     for (left, right, want) in cases {
-        let found = of_letters(rt.alloc(), left, right)?;
-        assert_eq!(rt; found, want, "of {left} and {right}");
+        let is_given = letters_give(alloc, *left, *right, *want)?;
+        assert!(rt; is_given, "of {left} and {right}");
     }
     Ok(())
 }
 
-/// What an operator gives where the one part is out of range and the other is too long.
-fn of_failures(alloc: Global, operator: Operator, range_first: bool) -> Result<Found, Fail> {
-    let out_of_range = negative(alloc, number(i64::MIN))?;
-    let too_long = joined(alloc, 128, 128)?;
-    let expr = if range_first {
-        binary(alloc, operator, out_of_range, too_long)?
-    } else {
-        binary(alloc, operator, too_long, out_of_range)?
-    };
-    evaluated(alloc, expr, &[])
+const OF_LETTERS: [OfLetters; 8] = [
+    (0, 0, Bytes(0, 0)),
+    (128, 127, Bytes(255, 128)),
+    (255, 0, Bytes(255, 255)),
+    (0, 255, Bytes(255, 0)),
+    (128, 128, TOO_LONG),
+    (255, 1, TOO_LONG),
+    (1, 255, TOO_LONG),
+    (255, 255, TOO_LONG),
+];
+
+#[test]
+fn joins_texts_up_to_255_bytes(rt: HostRuntime) -> Result<(), Fail> {
+    all_letters_give(&rt, rt.alloc(), &OF_LETTERS)
+}
+
+fn out_of_range(alloc: Global) -> Result<Expr, AllocError> {
+    negative(alloc, number(i64::MIN))
+}
+
+fn too_long(alloc: Global) -> Result<Expr, Fail> {
+    joined(alloc, 128, 128)
+}
+
+/// Whether an operator is out of range where its left part is so and its right one is too long.
+fn range_comes_first(alloc: Global, operator: Operator) -> Result<bool, Fail> {
+    let left = out_of_range(alloc)?;
+    let expr = binary(alloc, operator, left, too_long(alloc)?)?;
+    gives(alloc, expr, &[], OUT_OF_RANGE)
+}
+
+/// Whether an operator is too long where its left part is so and its right one is out of range.
+fn length_comes_first(alloc: Global, operator: Operator) -> Result<bool, Fail> {
+    let left = too_long(alloc)?;
+    let expr = binary(alloc, operator, left, out_of_range(alloc)?)?;
+    gives(alloc, expr, &[], TOO_LONG)
+}
+
+fn left_comes_first(rt: &impl Abort, alloc: Global, operators: &[Operator]) -> Result<(), Fail> {
+    for operator in operators {
+        assert!(rt; range_comes_first(alloc, *operator)?, "of {operator:?}");
+        assert!(rt; length_comes_first(alloc, *operator)?, "of {operator:?}");
+    }
+    Ok(())
 }
 
 #[test]
 fn the_left_failure_comes_first(rt: HostRuntime) -> Result<(), Fail> {
-    for operator in [Plus, Minus, Times, Joined] {
-        assert_eq!(rt;
-            of_failures(rt.alloc(), operator, true)?,
-            OutOfRange,
-            "of {operator:?}"
-        );
-        assert_eq!(rt;
-            of_failures(rt.alloc(), operator, false)?,
-            TooLong,
-            "of {operator:?}"
-        );
-    }
-    Ok(())
+    left_comes_first(&rt, rt.alloc(), &[Plus, Minus, Times, Joined])
 }
 
 const CELLS: [Cell; 2] = [Number(7), Letters("aab")];
 
-fn of_columns(alloc: Global, operator: Operator, a: u8, b: u8) -> Result<Found, Fail> {
-    evaluated(
-        alloc,
-        binary(alloc, operator, column(a), column(b))?,
-        CELLS.as_slice(),
-    )
+fn column_gives(alloc: Global, place: u8, want: Found) -> Result<bool, Fail> {
+    gives(alloc, column(place), &CELLS, want)
 }
+
+fn all_columns_are(rt: &impl Abort, alloc: Global, cases: &[(u8, Found)]) -> Result<(), Fail> {
+    for (place, want) in cases {
+        assert!(rt; column_gives(alloc, *place, *want)?, "at {place}");
+    }
+    Ok(())
+}
+
+/// Places, and what stands there.
+const COLUMNS: [(u8, Found); 3] = [(0, Whole(7)), (1, Bytes(3, 2)), (2, Whole(0))];
+
+fn columns_give(
+    alloc: Global,
+    operator: Operator,
+    a: u8,
+    b: u8,
+    want: Found,
+) -> Result<bool, Fail> {
+    let expr = binary(alloc, operator, column(a), column(b))?;
+    gives(alloc, expr, &CELLS, want)
+}
+
+/// An operator, two places, and what it gives of what stands there.
+type OfColumns = (Operator, u8, u8, Found);
+
+fn all_columns_give(rt: &impl Abort, alloc: Global, cases: &[OfColumns]) -> Result<(), Fail> {
+    for (operator, a, b, want) in cases {
+        let is_given = columns_give(alloc, *operator, *a, *b, *want)?;
+        assert!(rt; is_given, "of {operator:?} at {a} and {b}");
+    }
+    Ok(())
+}
+
+const OF_COLUMNS: [OfColumns; 4] = [
+    (Minus, 2, 0, Whole(-7)),
+    (Plus, 1, 0, Whole(7)),
+    (Joined, 0, 1, Bytes(3, 2)),
+    (Joined, 1, 1, Bytes(6, 2)),
+];
 
 #[test]
 fn reads_columns(rt: HostRuntime) -> Result<(), Fail> {
-    let alloc = rt.alloc();
-    for (place, want) in [(0, Whole(7)), (1, Bytes(3, 2)), (2, Whole(0))] {
-        let found = evaluated(alloc, column(place), CELLS.as_slice())?;
-        assert_eq!(rt; found, want, "at {place}");
-    }
-    for (operator, a, b, want) in [
-        (Minus, 2, 0, Whole(-7)),
-        (Plus, 1, 0, Whole(7)),
-        (Joined, 0, 1, Bytes(3, 2)),
-        (Joined, 1, 1, Bytes(6, 2)),
-    ] {
-        let found = of_columns(alloc, operator, a, b)?;
-        assert_eq!(rt; found, want, "of {operator:?} at {a} and {b}");
-    }
-    Ok(())
+    all_columns_are(&rt, rt.alloc(), &COLUMNS)?;
+    all_columns_give(&rt, rt.alloc(), &OF_COLUMNS)
 }
 
 fn truth(alloc: Global, cond: Cond, cells: &[Cell]) -> Result<bool, Fail> {
@@ -265,29 +333,37 @@ const EQUAL: [bool; 6] = [true, false, false, true, false, true];
 
 const GREATER: [bool; 6] = [false, true, false, false, true, true];
 
-#[test]
-fn compares_numbers_and_texts(rt: HostRuntime) -> Result<(), Fail> {
-    let cases = [
-        (Number(-1), Number(0), LESS),
-        (Number(i64::MIN), Number(i64::MAX), LESS),
-        (Number(9), Number(10), LESS),
-        (Number(7), Number(7), EQUAL),
-        (Number(0), Number(-1), GREATER),
-        (Letters(""), Letters("a"), LESS),
-        (Letters("ab"), Letters("abc"), LESS),
-        (Letters("abc"), Letters("b"), LESS),
-        (Letters("abc"), Letters("abc"), EQUAL),
-        (Letters("abc"), Letters("ab"), GREATER),
-        (Letters("b"), Letters("B"), GREATER),
-    ];
+fn compares(alloc: Global, a: Cell, b: Cell, want: &[bool; 6]) -> Result<bool, Fail> {
+    Ok(compared_by_each(alloc, a, b)? == *want)
+}
+
+/// Two cells, and how the first compares to the second.
+type Compared = (Cell, Cell, [bool; 6]);
+
+fn all_compare(rt: &impl Abort, alloc: Global, cases: &[Compared]) -> Result<(), Fail> {
     for (a, b, want) in cases {
-        assert_eq!(rt;
-            compared_by_each(rt.alloc(), a, b)?,
-            want,
-            "of {a:?} and {b:?}"
-        );
+        assert!(rt; compares(alloc, *a, *b, want)?, "of {a:?} and {b:?}");
     }
     Ok(())
+}
+
+const COMPARED: [Compared; 11] = [
+    (Number(-1), Number(0), LESS),
+    (Number(i64::MIN), Number(i64::MAX), LESS),
+    (Number(9), Number(10), LESS),
+    (Number(7), Number(7), EQUAL),
+    (Number(0), Number(-1), GREATER),
+    (Letters(""), Letters("a"), LESS),
+    (Letters("ab"), Letters("abc"), LESS),
+    (Letters("abc"), Letters("b"), LESS),
+    (Letters("abc"), Letters("abc"), EQUAL),
+    (Letters("abc"), Letters("ab"), GREATER),
+    (Letters("b"), Letters("B"), GREATER),
+];
+
+#[test]
+fn compares_numbers_and_texts(rt: HostRuntime) -> Result<(), Fail> {
+    all_compare(&rt, rt.alloc(), &COMPARED)
 }
 
 /// Whether a literal equals an expression.
@@ -322,27 +398,35 @@ fn is_between(alloc: Global, cell: Cell, low: Cell, high: Cell) -> Result<bool, 
     )
 }
 
-#[test]
-fn between_has_both_its_ends(rt: HostRuntime) -> Result<(), Fail> {
-    let cases = [
-        (Number(4), Number(5), Number(9), false),
-        (Number(5), Number(5), Number(9), true),
-        (Number(9), Number(5), Number(9), true),
-        (Number(10), Number(5), Number(9), false),
-        (Number(5), Number(5), Number(5), true),
-        (Number(5), Number(9), Number(5), false),
-        (Number(7), Number(9), Number(5), false),
-        (Number(9), Number(9), Number(5), false),
-        (Letters("ab"), Letters("ab"), Letters("b"), true),
-        (Letters("a"), Letters("ab"), Letters("b"), false),
-        (Letters("b"), Letters("ab"), Letters("b"), true),
-        (Letters("ba"), Letters("ab"), Letters("b"), false),
-    ];
+/// A cell, two ends, and whether it is between them.
+type Between = (Cell, Cell, Cell, bool);
+
+fn all_between(rt: &impl Abort, alloc: Global, cases: &[Between]) -> Result<(), Fail> {
     for (cell, low, high, want) in cases {
-        let found = is_between(rt.alloc(), cell, low, high)?;
-        assert_eq!(rt; found, want, "of {cell:?} in {low:?} to {high:?}");
+        let found = is_between(alloc, *cell, *low, *high)?;
+        assert!(rt; found == *want, "of {cell:?} in {low:?} to {high:?}");
     }
     Ok(())
+}
+
+const BETWEEN: [Between; 12] = [
+    (Number(4), Number(5), Number(9), false),
+    (Number(5), Number(5), Number(9), true),
+    (Number(9), Number(5), Number(9), true),
+    (Number(10), Number(5), Number(9), false),
+    (Number(5), Number(5), Number(5), true),
+    (Number(5), Number(9), Number(5), false),
+    (Number(7), Number(9), Number(5), false),
+    (Number(9), Number(9), Number(5), false),
+    (Letters("ab"), Letters("ab"), Letters("b"), true),
+    (Letters("a"), Letters("ab"), Letters("b"), false),
+    (Letters("b"), Letters("ab"), Letters("b"), true),
+    (Letters("ba"), Letters("ab"), Letters("b"), false),
+];
+
+#[test]
+fn between_has_both_its_ends(rt: HostRuntime) -> Result<(), Fail> {
+    all_between(&rt, rt.alloc(), &BETWEEN)
 }
 
 fn negated(alloc: Global, cond: Cond) -> Result<Cond, AllocError> {
@@ -384,25 +468,28 @@ fn does_not_hold(alloc: Global, a: bool) -> Result<bool, Fail> {
     truth(alloc, negated(alloc, constant(alloc, a)?)?, &[])
 }
 
-/// Whether both of two truths hold, whether one does, and whether the first does not.
-fn joined_truths(alloc: Global, a: bool, b: bool) -> Result<(bool, bool, bool), Fail> {
-    let both = both_hold(alloc, a, b)?;
-    let either = one_holds(alloc, a, b)?;
-    Ok((both, either, does_not_hold(alloc, a)?))
+/// Two truths, whether both hold, whether one does, and whether the first does not.
+type Truths = (bool, bool, bool, bool, bool);
+
+fn all_join(rt: &impl Abort, alloc: Global, cases: &[Truths]) -> Result<(), Fail> {
+    for (a, b, both, one, not) in cases {
+        assert!(rt; both_hold(alloc, *a, *b)? == *both, "{a} and {b}");
+        assert!(rt; one_holds(alloc, *a, *b)? == *one, "{a} or {b}");
+        assert!(rt; does_not_hold(alloc, *a)? == *not, "not {a}");
+    }
+    Ok(())
 }
+
+const TRUTHS: [Truths; 4] = [
+    (false, false, false, false, true),
+    (false, true, false, true, true),
+    (true, false, false, true, false),
+    (true, true, true, true, false),
+];
 
 #[test]
 fn joins_truths(rt: HostRuntime) -> Result<(), Fail> {
-    let cases = [
-        (false, false, (false, false, true)),
-        (false, true, (false, true, true)),
-        (true, false, (false, true, false)),
-        (true, true, (true, true, false)),
-    ];
-    for (a, b, want) in cases {
-        assert_eq!(rt; joined_truths(rt.alloc(), a, b)?, want, "of {a} and {b}");
-    }
-    Ok(())
+    all_join(&rt, rt.alloc(), &TRUTHS)
 }
 
 /// Whether two expressions have the same nodes.
@@ -436,16 +523,20 @@ fn each_node(alloc: Global) -> Result<Expr, Fail> {
     Ok(binary(alloc, Minus, binary(alloc, Times, sum, joined)?, number(9))?)
 }
 
-/// Whether the copy of an expression is the same, and whether it is another.
-fn is_copied(alloc: Global, expr: &Expr, other: &Expr) -> Result<(bool, bool), Fail> {
+/// Whether the copy of an expression is the same, and no other.
+fn is_copied(alloc: Global, expr: &Expr, other: &Expr) -> Result<bool, Fail> {
     let copy = expr.copy(alloc)?;
-    Ok((same(&copy, expr), same(&copy, other)))
+    Ok(same(&copy, expr) && !same(&copy, other))
+}
+
+fn is_each_copied(alloc: Global) -> Result<bool, Fail> {
+    let expr = each_node(alloc)?;
+    is_copied(alloc, &expr, &number(9))
 }
 
 #[test]
 fn copies_expressions(rt: HostRuntime) -> Result<(), Fail> {
-    let expr = each_node(rt.alloc())?;
-    assert_eq!(rt; is_copied(rt.alloc(), &expr, &number(9))?, (true, false));
+    assert!(rt; is_each_copied(rt.alloc())?);
     Ok(())
 }
 
@@ -462,10 +553,13 @@ fn of_copy(alloc: Global, number: i64) -> Result<bool, Fail> {
     truth(alloc, copy, &[Number(number)])
 }
 
+/// What stands in the column, and whether the condition holds.
+const OF_COPIES: [(i64, bool); 3] = [(2, false), (3, true), (10, true)];
+
 #[test]
 fn copies_conditions(rt: HostRuntime) -> Result<(), Fail> {
-    for (number, want) in [(2, false), (3, true), (10, true)] {
-        assert_eq!(rt; of_copy(rt.alloc(), number)?, want, "at {number}");
+    for (number, want) in &OF_COPIES {
+        assert!(rt; of_copy(rt.alloc(), *number)? == *want, "at {number}");
     }
     Ok(())
 }
@@ -489,14 +583,14 @@ fn negative_reference(alloc: Global) -> Result<RawExpr, Fail> {
     Ok(RawExpr::of(RawNode::Neg(Box::new(alloc, column)?)))
 }
 
-fn is_raw_copied(alloc: Global, expr: &RawExpr) -> Result<bool, Fail> {
-    Ok(same_raw(&expr.copy(alloc)?, expr))
+fn is_raw_copied(alloc: Global) -> Result<bool, Fail> {
+    let expr = negative_reference(alloc)?;
+    Ok(same_raw(&expr.copy(alloc)?, &expr))
 }
 
 #[test]
 fn copies_raw_expressions(rt: HostRuntime) -> Result<(), Fail> {
-    let expr = negative_reference(rt.alloc())?;
-    assert!(rt; is_raw_copied(rt.alloc(), &expr)?);
+    assert!(rt; is_raw_copied(rt.alloc())?);
     Ok(())
 }
 
@@ -519,10 +613,13 @@ fn is_less_copied(alloc: Global, left: &Operand, right: &Operand) -> Result<bool
     Ok(is_less(&cond.copy(alloc)?, left, right))
 }
 
+fn is_raw_less_copied(alloc: Global) -> Result<bool, Fail> {
+    let left = Operand::Column(reference(alloc)?);
+    is_less_copied(alloc, &left, &Operand::Value(Value::Int(7)))
+}
+
 #[test]
 fn copies_raw_conditions(rt: HostRuntime) -> Result<(), Fail> {
-    let left = Operand::Column(reference(rt.alloc())?);
-    let right = Operand::Value(Value::Int(7));
-    assert!(rt; is_less_copied(rt.alloc(), &left, &right)?);
+    assert!(rt; is_raw_less_copied(rt.alloc())?);
     Ok(())
 }

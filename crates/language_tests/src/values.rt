@@ -6,10 +6,11 @@ ghost use Rattle.std.specs.List.{list_all};
 use crate::fixtures::Cell::{self, Letters, Number};
 use crate::fixtures::{name, row, value, values};
 use bf_base::{
-    Admit, Column, Fit, Granule, Key, Kind, Place, Row, Sequence, Table, admits, key_of,
+    Admit, Column, Fit, Granule, Key, Kind, Place, Row, Sequence, Table, Value, admits, key_of,
 };
 use std::alloc::Global;
 use std::cmp::Ordering;
+use std::process::Abort;
 use std::test::Fail;
 
 fn column(alloc: Global, column: &str, admits: Admit) -> Result<Column, Fail> {
@@ -38,11 +39,17 @@ const RISING: [&[Cell]; 17] = [
     &[Letters("b"), Number(0)],
 ];
 
-/// The order of two keys, and whether they are equal and the first is less.
-fn key_order(alloc: Global, left: &[Cell], right: &[Cell]) -> Result<(Ordering, bool, bool), Fail> {
+/// Whether two keys have an order, are equal where it says so, and the first is less where it does.
+fn agree(key: &Key, other: &Key, order: Ordering) -> bool {
+    key.cmp(other) == order
+        && (key == other) == (order == Ordering::Equal)
+        && (key < other) == (order == Ordering::Less)
+}
+
+fn have_order(alloc: Global, left: &[Cell], right: &[Cell], order: Ordering) -> Result<bool, Fail> {
     let key = Key::of(values(alloc, left)?);
     let other = Key::of(values(alloc, right)?);
-    Ok((key.cmp(&other), key == other, key < other))
+    Ok(agree(&key, &other, order))
 }
 
 fn row_order(alloc: Global, left: &[Cell], right: &[Cell]) -> Result<Ordering, Fail> {
@@ -50,21 +57,29 @@ fn row_order(alloc: Global, left: &[Cell], right: &[Cell]) -> Result<Ordering, F
     Ok(left.cmp(&row(alloc, right)?))
 }
 
-#[test]
-fn orders_keys_and_rows(rt: HostRuntime) -> Result<(), Fail> {
-    let alloc = rt.alloc();
-    for (i, left) in RISING.iter().enumerate() {
-        for (j, right) in RISING.iter().enumerate() {
-            let keys = key_order(alloc, left, right)?;
-            let rows = row_order(alloc, left, right)?;
-            assert_eq!(rt;
-                (keys, rows),
-                ((i.cmp(&j), i == j, i < j), i.cmp(&j)),
-                "of {left:?} and {right:?}"
-            );
+/// Whether the keys and the rows of cells have the order of their places.
+fn have_orders(
+    alloc: Global,
+    left: (usize, &[Cell]),
+    right: (usize, &[Cell]),
+) -> Result<bool, Fail> {
+    let order = left.0.cmp(&right.0);
+    Ok(have_order(alloc, left.1, right.1, order)? && row_order(alloc, left.1, right.1)? == order)
+}
+
+fn all_have_orders(rt: &impl Abort, alloc: Global, rising: &[&[Cell]]) -> Result<(), Fail> {
+    for (i, left) in rising.iter().enumerate() {
+        for (j, right) in rising.iter().enumerate() {
+            let have_orders = have_orders(alloc, (i, *left), (j, *right))?;
+            assert!(rt; have_orders, "of {left:?} and {right:?}");
         }
     }
     Ok(())
+}
+
+#[test]
+fn orders_keys_and_rows(rt: HostRuntime) -> Result<(), Fail> {
+    all_have_orders(&rt, rt.alloc(), &RISING)
 }
 
 /// A unit, a row, and the cells of a group, if it is one.
@@ -96,29 +111,38 @@ fn granule_order(alloc: Global, left: &Written, right: &Written) -> Result<Order
     Ok(left.cmp(&granule(alloc, right)?))
 }
 
+/// Whether two granules have the order of their places.
+fn have_granule_order(
+    alloc: Global,
+    left: (usize, &Written),
+    right: (usize, &Written),
+) -> Result<bool, Fail> {
+    Ok(granule_order(alloc, left.1, right.1)? == left.0.cmp(&right.0))
+}
+
 fn is_copied(alloc: Global, written: &Written) -> Result<bool, Fail> {
     let granule = granule(alloc, written)?;
     Ok(granule.copy(alloc)? == granule)
 }
 
-#[test]
-fn orders_granules_by_unit_then_place(rt: HostRuntime) -> Result<(), Fail> {
-    let alloc = rt.alloc();
-    for (i, left) in RISING_GRANULES.iter().enumerate() {
+fn are_granules(rt: &impl Abort, alloc: Global, rising: &[Written]) -> Result<(), Fail> {
+    for (i, left) in rising.iter().enumerate() {
         assert!(rt; is_copied(alloc, left)?, "of {left:?}");
-        for (j, right) in RISING_GRANULES.iter().enumerate() {
-            let order = granule_order(alloc, left, right)?;
-            assert_eq!(rt; order, i.cmp(&j), "of {left:?} and {right:?}");
+        for (j, right) in rising.iter().enumerate() {
+            let has_order = have_granule_order(alloc, (i, left), (j, right))?;
+            assert!(rt; has_order, "of {left:?} and {right:?}");
         }
     }
     Ok(())
 }
 
-/// How a value fits a column that admits these, and of which kind it is.
-fn fit_of(alloc: Global, admit: Admit, cell: Cell) -> Result<(Fit, Kind), Fail> {
-    let column = column(alloc, "amount", admit)?;
-    let value = value(alloc, cell)?;
-    Ok((admits(&column, &value), value.kind()))
+#[test]
+fn orders_granules_by_unit_then_place(rt: HostRuntime) -> Result<(), Fail> {
+    are_granules(&rt, rt.alloc(), &RISING_GRANULES)
+}
+
+fn has_kind(value: &Value, kind: Kind) -> bool {
+    value.kind() == kind
 }
 
 fn kind_of(cell: Cell) -> Kind {
@@ -128,6 +152,22 @@ fn kind_of(cell: Cell) -> Kind {
     }
 }
 
+/// Whether a value has its kind, and fits a column that admits these as it should.
+fn fits(alloc: Global, admit: Admit, cell: Cell, fit: Fit) -> Result<bool, Fail> {
+    let column = column(alloc, "amount", admit)?;
+    let value = value(alloc, cell)?;
+    Ok(has_kind(&value, kind_of(cell)) && admits(&column, &value) == fit)
+}
+
+fn all_fit(rt: &impl Abort, alloc: Global, cases: &[(Admit, Cell, Fit)]) -> Result<(), Fail> {
+    for (admit, cell, fit) in cases {
+        let fits = fits(alloc, *admit, *cell, *fit)?;
+        assert!(rt; fits, "of {cell:?} at {admit:?}");
+    }
+    Ok(())
+}
+
+/// What a column admits, a cell, and how that fits.
 const FITS: [(Admit, Cell, Fit); 13] = [
     (Admit::Int, Number(i64::MIN), Fit::Fits),
     (Admit::Int, Number(i64::MAX), Fit::Fits),
@@ -146,11 +186,7 @@ const FITS: [(Admit, Cell, Fit); 13] = [
 
 #[test]
 fn admits_to_the_ends(rt: HostRuntime) -> Result<(), Fail> {
-    for (admit, cell, fit) in FITS {
-        let found = fit_of(rt.alloc(), admit, cell)?;
-        assert_eq!(rt; found, (fit, kind_of(cell)), "of {cell:?} at {admit:?}");
-    }
-    Ok(())
+    all_fit(&rt, rt.alloc(), &FITS)
 }
 
 const COLUMNS: [(&str, Admit); 3] = [
@@ -196,12 +232,15 @@ fn has_key_of(alloc: Global, table: &Table, row: &Row, want: &[Cell]) -> Result<
     Ok(key == Key::of(values(alloc, want)?))
 }
 
-#[test]
-fn reads_keys_in_key_order(rt: HostRuntime) -> Result<(), Fail> {
-    let alloc = rt.alloc();
+fn reads_key(alloc: Global) -> Result<bool, Fail> {
     let table = orders(alloc)?;
     let row = row(alloc, &[Number(5), Letters("north"), Number(77)])?;
-    assert!(rt; has_key_of(alloc, &table, &row, &[Number(77), Letters("north")])?);
+    has_key_of(alloc, &table, &row, &[Number(77), Letters("north")])
+}
+
+#[test]
+fn reads_keys_in_key_order(rt: HostRuntime) -> Result<(), Fail> {
+    assert!(rt; reads_key(rt.alloc())?);
     Ok(())
 }
 
