@@ -1,11 +1,14 @@
-//! Running the script of a case, over an empty database and over an empty log.
+//! Running a script over an empty database and over an empty log.
 
-use crate::cases::Case;
+ghost use Rattle.std.specs.Prelude.{◌≡◌, ℕ, List, None};
+ghost use Rattle.bf_disk.specs.MemoryShelves.{taken_at};
+
 use anyhow::bail;
 use bf_base::Memory;
 use bf_disk::MemoryShelf;
 use bf_io::{CalmSource, MemorySink};
 use bf_run::{Status, bullfrog};
+use case_files::Teller;
 use std::alloc::Global;
 use std::sync::Wait;
 
@@ -15,54 +18,57 @@ const LOG: &str = "log";
 /// How many bytes a report may have.
 const LONGEST_REPORT: usize = 1 << 16;
 
-/// What is printed of a script over an empty database.
-fn tried(rt: &impl Wait, alloc: Global, script: &str) -> Result<(Status, MemorySink), Memory> {
+/// Adds what a call prints, and behind that the number of its status where it does not end well.
+fn call(
+    rt: &impl Wait,
+    alloc: Global,
+    words: &[&str],
+    script: &str,
+    shelf: &mut MemoryShelf,
+    told: &mut String,
+) -> anyhow::Result<()>
+    requires { (path : List ℕ) → taken_at shelf.old path ≡ None }
+    ensures { (path : List ℕ) → taken_at shelf.new path ≡ None }
+{
     let mut input = CalmSource::new(script.as_bytes().to_vec(alloc)?);
     let mut output = MemorySink::new(alloc, LONGEST_REPORT, Vec::new(alloc))?;
-    let mut shelf = MemoryShelf::new(alloc);
-    let status = bullfrog(rt, alloc, &["try"], &mut input, &mut output, &mut shelf);
-    Ok((status, output))
-}
-
-/// What is printed of a script over an empty log.
-fn kept(rt: &impl Wait, alloc: Global, script: &str) -> Result<(Status, MemorySink), Memory> {
-    let mut shelf = MemoryShelf::new(alloc);
-    let mut nothing = CalmSource::new(Vec::new(alloc));
-    let mut created = MemorySink::new(alloc, LONGEST_REPORT, Vec::new(alloc))?;
-    bullfrog(
-        rt,
-        alloc,
-        &["create", LOG],
-        &mut nothing,
-        &mut created,
-        &mut shelf,
-    );
-    let mut input = CalmSource::new(script.as_bytes().to_vec(alloc)?);
-    let mut output = MemorySink::new(alloc, LONGEST_REPORT, Vec::new(alloc))?;
-    let status = bullfrog(
-        rt,
-        alloc,
-        &["run", LOG],
-        &mut input,
-        &mut output,
-        &mut shelf,
-    );
-    Ok((status, output))
-}
-
-/// Fails where a report is not that of a case.
-fn compare(alloc: Global, case: &Case, status: Status, output: &MemorySink) -> anyhow::Result<()> {
+    let status = bullfrog(rt, alloc, words, &mut input, &mut output, shelf);
     let printed = String::from_utf8_lossy(alloc, output.bytes())?;
-    if status == Status::Done && printed.as_str().strip_suffix("\n") == Some(case.report) {
-        return Ok(());
+    told.push_str(printed.as_str())?;
+    if status != Status::Done {
+        writeln!(told, "status {}", status.number())?;
     }
-    bail!("{}\n{}", case.title, printed);
+    Ok(())
 }
 
-/// Fails where the script of a case prints another report.
-pub fn is_right(rt: &impl Wait, alloc: Global, case: &Case) -> anyhow::Result<()> {
-    let (status, output) = tried(rt, alloc, case.script)?;
-    compare(alloc, case, status, &output)?;
-    let (status, output) = kept(rt, alloc, case.script)?;
-    compare(alloc, case, status, &output)
+/// Adds what is told of a script over an empty log that is made first.
+fn call_over_log(
+    rt: &impl Wait,
+    alloc: Global,
+    script: &str,
+    told: &mut String,
+) -> anyhow::Result<()> {
+    let mut shelf = MemoryShelf::new(alloc);
+    let mut made = String::new(alloc);
+    call(rt, alloc, &["create", LOG], "", &mut shelf, &mut made)?;
+    call(rt, alloc, &["run", LOG], script, &mut shelf, told)
+}
+
+/// Tells what is printed of a script. Fails where over an empty log something else is printed.
+#[derive(Clone, Copy)]
+pub struct Run<'a, R: Wait> {
+    pub rt: &'a R,
+}
+
+impl<R: Wait> Teller for Run<'_, R> {
+    fn tell(&self, alloc: Global, text: &str, told: &mut String) -> anyhow::Result<()> {
+        let mut shelf = MemoryShelf::new(alloc);
+        call(self.rt, alloc, &["try"], text, &mut shelf, told)?;
+        let mut kept = String::new(alloc);
+        call_over_log(self.rt, alloc, text, &mut kept)?;
+        if kept != *told {
+            bail!("over a log:\n{kept}");
+        }
+        Ok(())
+    }
 }

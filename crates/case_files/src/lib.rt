@@ -1,0 +1,67 @@
+//! Files of cases, for programs that compare what is told of texts.
+//!
+//! A file has one case behind the other. A case is a line with `=== ` and its title, a text, a line `---`, and what is
+//! to be told of the text. Neither the line break in front of `---` nor the last one is part of them.
+#![tactic(auto)]
+
+use anyhow::{Context, bail};
+use std::alloc::Global;
+
+/// Tells what is to be compared.
+pub trait Teller {
+    /// Adds what is told of the text of a case.
+    fn tell(&self, alloc: Global, text: &str, told: &mut String) -> anyhow::Result<()>;
+}
+
+/// A text, and what is to be told of it.
+#[derive(Clone, Copy)]
+struct Case<'a> {
+    title: &'a str,
+    text: &'a str,
+    /// Without the last line's end.
+    told: &'a str,
+}
+
+impl<'a> Case<'a> {
+    /// The case of a part of a file, whose `=== ` need not stand in front. `None` where it has no line `---`.
+    fn of(part: &'a str) -> Option<Case<'a>> {
+        let part = part.strip_prefix("=== ").unwrap_or(part);
+        let part = part.strip_suffix("\n").unwrap_or(part);
+        let (title, rest) = part.split_once("\n")?;
+        let (text, told) = apart(rest)?;
+        Some(Case { title, text, told })
+    }
+}
+
+/// What stands in front of a line `---`, and what behind it.
+fn apart(rest: &str) -> Option<(&str, &str)> {
+    if let Some(told) = rest.strip_prefix("---\n") {
+        return Some(("", told));
+    }
+    if let Some(parts) = rest.split_once("\n---\n") {
+        return Some(parts);
+    }
+    Some((rest.strip_suffix("\n---")?, ""))
+}
+
+/// Fails where something else is told of a case, with its title and that.
+fn compare<T: Teller>(teller: &T, alloc: Global, case: &Case) -> anyhow::Result<()> {
+    let mut told = String::new(alloc);
+    teller.tell(alloc, case.text, &mut told)?;
+    if told.as_str().strip_suffix("\n").unwrap_or(told.as_str()) == case.told {
+        return Ok(());
+    }
+    bail!("{}\n{}", case.title, told);
+}
+
+/// How many cases a file has, where of each is told what is to be told. Fails at the first other one, with its title
+/// and what is told.
+pub fn compare_all<T: Teller>(teller: &T, alloc: Global, file: &str) -> anyhow::Result<usize> {
+    let mut count = 0usize;
+    for part in file.split("\n=== ") {
+        let case = Case::of(part).context("a case without a line ---")?;
+        compare(teller, alloc, &case)?;
+        count = count.saturating_add(1);
+    }
+    Ok(count)
+}
