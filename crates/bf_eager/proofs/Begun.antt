@@ -16,7 +16,7 @@ use Rattle.bf_image.proofs.keeping.Frozen.{objections_alike, same_as_catalog}
 use Rattle.bf_image.specs.Migrations.{IsLawfulMigration}
 use Rattle.bf_image.specs.declared.migration.Migration.{Migration}
 use Rattle.bf_eager.specs.Beginnings.{IsMigrationOf, first_against}
-use Rattle.bf_eager.specs.Flips.{first_oversize}
+use Rattle.bf_sql.specs.RowObjections.{first_oversize}
 use Rattle.bf_eager.specs.Freezing.{AreFrozen}
 use Rattle.bf_eager.specs.Groups.{IsPlanned}
 use Rattle.bf_eager.proofs.Lawful.{old_sources, plan_sources}

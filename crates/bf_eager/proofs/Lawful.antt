@@ -21,7 +21,7 @@ use Rattle.bf_image.proofs.keeping.Frozen.{frozen_lawful, frozen_same, objection
 use Rattle.bf_query.specs.Meanings.{entries_of}
 use Rattle.bf_query.proofs.OwnKeys.{filtered}
 use Rattle.bf_query.proofs.Stopping.{none_first}
-use Rattle.bf_eager.specs.Flips.{first_oversize}
+use Rattle.bf_sql.specs.RowObjections.{first_oversize}
 use Rattle.bf_eager.specs.Freezing.{AreFrozen, tables_among}
 use Rattle.bf_eager.specs.Groups.{IsPlanned}
 use Rattle.bf_image.specs.Migrations.{HasOwnKeys, IsLawfulMigration, old_of, stored_of}

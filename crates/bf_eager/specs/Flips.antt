@@ -1,23 +1,16 @@
 -- What a MIGRATE makes of the old tables, on the way to the flip.
-use Rattle.std.specs.Prelude.{◌≡◌, ℕ, List, [], ◌∷◌, flat_map, map, Option, IsTrue}
+use Rattle.std.specs.Prelude.{◌≡◌, List, [], ◌∷◌, map, IsTrue}
 use Rattle.std.specs.Global.{Vec}
 use Rattle.std.specs.List.{AllByRecursion}
 use Rattle.bf_base.specs.declared.table.Table.{Table}
 use Rattle.bf_base.specs.declared.value.Value.{Value}
 use Rattle.bf_base.specs.Tables.{IsKeyWithin}
-use Rattle.bf_tree.specs.Settling.{first_of}
 use Rattle.bf_tree.specs.declared.migration.Target.{Target}
-use Rattle.bf_tree.specs.declared.reply.Refusal.{Refusal}
 use Rattle.bf_live.specs.Live.{TableRows}
 use Rattle.bf_sql.specs.Database.{Database, stored_in_order}
-use Rattle.bf_sql.specs.RowObjections.{size_objections}
 use Rattle.bf_sql.specs.migrations.Images.{image_of}
 use Rattle.bf_sql.specs.migrations.Targets.{target_table}
 use Rattle.bf_eager.specs.Starting.{entries_in_order, have_different_keys}
-
--- the first old table with too many rows
-abbrev pub first_oversize : Database → List (List ℕ) → Option Refusal
-first_oversize db sources = first_of (flat_map (size_objections db) sources)
 
 -- a table, and rows that its heap is to have
 abbrev pub Made : Type 0

@@ -6,50 +6,24 @@ ghost use Rattle.bf_tree.specs.Limits.{HasNarrowTables};
 ghost use Rattle.bf_tree.specs.declared.statement.Statement.TheVariants as statement;
 ghost use Rattle.bf_live.specs.Live.{held_in};
 ghost use Rattle.bf_sql.specs.Bound.{catalog_of};
-ghost use Rattle.bf_sql.specs.Database.{IsDatabase, table_rows};
+ghost use Rattle.bf_sql.specs.Database.{IsDatabase};
 ghost use Rattle.bf_sql.specs.Meaning.{executed};
+ghost use Rattle.bf_sql.specs.RowObjections.{first_oversize};
 ghost use Rattle.bf_image.specs.Migrations.{IsLawfulMigration};
 ghost use Rattle.bf_eager.specs.Beginnings.{IsBegun};
-ghost use Rattle.bf_eager.specs.Flips.{CanStand, first_oversize, heaped};
+ghost use Rattle.bf_eager.specs.Flips.{CanStand, heaped};
 ghost use Rattle.bf_eager.specs.Freezing.{AreFrozen};
 ghost use Rattle.bf_eager.specs.Groups.{IsPlanned};
 
 use crate::filling::heap_of;
 use crate::freezing::frozen_sources;
 use crate::gathering::tables_made;
-use bf_base::{Memory, Name, Row, Sequence, Table};
+use bf_base::{Memory, Row, Sequence, Table};
 use bf_heap::Heap;
 use bf_image::Migration;
 use bf_live::LiveTables;
 use bf_tree::{Plan, Refusal, Reply};
 use std::alloc::Global;
-
-/// The most rows of a table that a MIGRATE reads.
-const MOST_ROWS: u32 = 1 << 20;
-
-/// The number of rows of the table of a name, and 0 where there is none.
-fn count_rows(live: &LiveTables, name: &Name) -> u32
-    ensures { result ≡ length (table_rows live.now name.now) }
-{
-    match live.heap(name) {
-        Some(heap) => heap.len(),
-        None => 0,
-    }
-}
-
-/// The refusal of the first old table with too many rows, if there is one. It compares about log n
-/// names for each old table.
-fn oversize(alloc: Global, live: &LiveTables, sources: &[Name]) -> Result<Option<Refusal>, Memory>
-    ensures { IfOk result (λ refusal. refusal ≡ first_oversize live.now sources.now) }
-{
-    for name in sources {
-        let count = count_rows(live, name);
-        if count > MOST_ROWS {
-            return Ok(Some(Refusal::TooManyRows(name.copy(alloc)?, count)));
-        }
-    }
-    Ok(None)
-}
 
 /// Tables with heaps of their rows.
 fn heaps_of(alloc: Global, made: Vec<(Table, Vec<Row>)>) -> Result<Vec<(Table, Heap)>, Memory>
@@ -97,7 +71,7 @@ pub(crate) fn begun(
     requires tables { HasNarrowTables (catalog_of live.now) }
     ensures { IfOk result (λ begun. IsBegun live.now plan.migrate begun) }
 {
-    match oversize(alloc, live, plan.sources.as_slice())? {
+    match live.oversize(alloc, plan.sources.as_slice())? {
         Some(refusal) => Ok(Err(refusal)),
         None => Ok(Ok(migration_of(alloc, live, plan)?)),
     }
@@ -117,7 +91,7 @@ pub(crate) fn migrate(alloc: Global, live: &mut LiveTables, plan: Plan) -> Resul
     ensures tables { OnOk result (HasNarrowTables (catalog_of live.new)) }
     ensures err { OnErr result (live.new ≡ live.old) }
 {
-    if let Some(refusal) = oversize(alloc, live, plan.sources.as_slice())? {
+    if let Some(refusal) = live.oversize(alloc, plan.sources.as_slice())? {
         return Ok(Reply::Refused(refusal));
     }
     let count = plan.migrate.targets.len() as u8;

@@ -1,33 +1,12 @@
 //! The limits of the language, where a statement did not come out of a script that was read within them.
 
 ghost use Rattle.std.specs.List.{list_all};
-ghost use Rattle.std.specs.Prelude.{◌≡◌, ◌≤◌, ◌↔◌, [], ◌∷◌, flat_map, length, true, IsTrue};
-ghost use Rattle.bf_base.specs.Limits.{longest_script};
+ghost use Rattle.std.specs.Prelude.{◌≡◌, ◌↔◌, [], ◌∷◌, true, IsTrue};
 ghost use Rattle.bf_tree.specs.Limits.{IsNarrowMigrate, has_small_arms};
 ghost use Rattle.bf_eager.specs.Eager.{IsWholeGroup};
 
-use bf_base::LONGEST_SCRIPT;
-use bf_tree::{Migrate, Statement, Target};
-
-/// The most columns of a table, and the most items of an arm.
-const MOST_COLUMNS: usize = 16;
-
-/// The most targets of a MIGRATE.
-const MOST_TARGETS: usize = 8;
-
-/// Whether there are at most as many arms as a script has bytes.
-fn have_few_arms(targets: &[Target]) -> bool
-    ensures { IsTrue result ↔ (length (flat_map (λ t. t.arms) targets.now) ≤ longest_script) }
-{
-    let mut room = LONGEST_SCRIPT as usize;
-    for target in targets {
-        let Some(left) = room.checked_sub(target.arms.len()) else {
-            return false;
-        };
-        room = left;
-    }
-    true
-}
+use bf_base::MOST_COLUMNS;
+use bf_tree::{MOST_TARGETS, Migrate, Statement, Target, have_few_arms};
 
 fn has_small_arms(target: &Target) -> bool
     ensures { result ≡ has_small_arms target.now }

@@ -3,7 +3,6 @@
 ghost use Rattle.std.specs.Prelude.{◌≡◌, ◌<◌, ◌≤◌, IsTrue, MatchOption, length, false};
 ghost use Rattle.std.specs.List.{prefix_len};
 ghost use Rattle.bf_base.specs.Names.{is_digit};
-ghost use Rattle.bf_base.specs.Texts.{is_text_byte, first_bad_of};
 ghost use Rattle.bf_lex.specs.Bytes.{is_letter, is_word_byte, is_quote, begins};
 ghost use Rattle.bf_lex.specs.Reading.{begins_gap, IsRead, IsClosed, IsOpen, long_sign, number_within, short_sign, sign_front};
 
@@ -11,7 +10,7 @@ use crate::fault::ScriptKind;
 use crate::keyword::Keyword;
 use crate::sign::Sign;
 use crate::token::TokenKind;
-use bf_base::{LONGEST_NAME, LONGEST_TEXT};
+use bf_base::{LONGEST_NAME, LONGEST_TEXT, first_bad};
 
 const LARGEST_NUMBER: u64 = 1 << 63;
 
@@ -33,12 +32,6 @@ fn is_word_byte(byte: u8) -> bool
     is_letter(byte) || is_digit(byte) || byte == b'_'
 }
 
-fn is_printable(byte: u8) -> bool
-    ensures { result ≡ is_text_byte byte }
-{
-    (0x20..=0x7e).contains(&byte)
-}
-
 fn word_bytes(text: &[u8]) -> usize
     ensures value { result ≡ prefix_len is_word_byte text.now }
     ensures inside { result ≤ length text.now }
@@ -51,12 +44,6 @@ fn digit_bytes(text: &[u8]) -> usize
     ensures inside { result ≤ length text.now }
 {
     text.iter().take_while(|byte| is_digit(**byte)).count()
-}
-
-fn first_bad(bytes: &[u8]) -> Option<usize>
-    ensures { result ≡ first_bad_of bytes.now }
-{
-    bytes.iter().position(|byte| !is_printable(*byte))
 }
 
 /// The token at the front of a text, and how many bytes it has.

@@ -9,6 +9,7 @@ pub mod laws;
 pub mod live_tables;
 pub mod on_table;
 pub mod puts;
+mod sizes;
 
 pub use live_tables::{Exchange, LiveTables};
 pub use on_table::run_on_table;

@@ -10,35 +10,15 @@ ghost use Rattle.bf_sql.specs.RowObjections.{row_objections};
 ghost use Rattle.bf_sql.specs.migrations.Lazy.{view_of};
 ghost use Rattle.bf_sql.specs.migrations.MigrationObjections.{sources_of};
 ghost use Rattle.bf_machine.specs.interleaving.Groups.{flip_unless};
-ghost use Rattle.bf_machine.specs.interleaving.Answering.{CanAnswer, IsAnswer, first_oversize};
+ghost use Rattle.bf_machine.specs.interleaving.Answering.{CanAnswer, IsAnswer};
 ghost use Rattle.bf_machine.specs.interleaving.Seen.{pending_seen};
 
 use crate::so_far::Pending;
-use bf_base::{Memory, Name};
+use bf_base::Memory;
 use bf_live::{LiveTables, run_on_table};
 use bf_store::Store;
 use bf_tree::{Action, Bound, Plan, Refusal, Reply};
 use std::alloc::Global;
-
-/// The most rows of a table that a MIGRATE reads.
-const MOST_ROWS: u32 = 1 << 20;
-
-/// The refusal of the first old table with too many rows, if there is one. It compares about log n
-/// names for each old table.
-fn oversize(alloc: Global, live: &LiveTables, sources: &[Name]) -> Result<Option<Refusal>, Memory>
-    ensures { IfOk result (λ refusal. refusal ≡ first_oversize live.now sources.now) }
-{
-    for name in sources {
-        let count = match live.heap(name) {
-            Some(heap) => heap.len(),
-            None => 0,
-        };
-        if count > MOST_ROWS {
-            return Ok(Some(Refusal::TooManyRows(name.copy(alloc)?, count)));
-        }
-    }
-    Ok(None)
-}
 
 /// Replies to a MIGRATE that the catalog allows, by its plan, on tables into which all rows have moved.
 /// It is refused where an old table has too many rows, and else a flip is pending.
@@ -60,7 +40,7 @@ fn answer_migrate(
         (row_objections live.now (statement.Migrate plan.now.migrate)) plan.now) }
     ensures err { OnErr result (pending_seen pending.new ≡ pending_seen pending.old) }
 {
-    if let Some(refusal) = oversize(alloc, live, plan.sources.as_slice())? {
+    if let Some(refusal) = live.oversize(alloc, plan.sources.as_slice())? {
         *pending = Pending::Nothing;
         return Ok(Reply::Refused(refusal));
     }

@@ -9,11 +9,11 @@ ghost use Rattle.bf_base.specs.declared.granule.Granule.{Granule as Moving};
 ghost use Rattle.bf_base.specs.Lists.{rises};
 ghost use Rattle.bf_image.specs.Migrations.{value_indexes};
 ghost use Rattle.bf_query.specs.Actions.{IsWellBound};
-ghost use Rattle.bf_store.specs.States.{AreGranules, AreGranulesIfAny, granule_cmp, to_move};
+ghost use Rattle.bf_store.specs.States.{AreGranules, AreGranulesIfAny, granule_cmp, most_moved, to_move};
 ghost use Rattle.bf_store.specs.Stores.{IsOf, migration_of};
 ghost use Rattle.bf_machine.specs.interleaving.Calls.{CanCommit, CanExec, CanRefuse, HasReplied, HasSessionEnded, IsEnough, IsPlace, IsPresent, StandsAs};
 ghost use Rattle.bf_machine.specs.interleaving.Events.{Begins, Moves, Reaches};
-ghost use Rattle.bf_machine.specs.interleaving.Journals.{AreSaid, IsOneRecord, Keeps, KeepsOrIsRefused, most_moved};
+ghost use Rattle.bf_machine.specs.interleaving.Journals.{AreSaid, IsOneRecord, Keeps, KeepsOrIsRefused};
 ghost use Rattle.bf_machine.specs.interleaving.Kept.{IsKept};
 ghost use Rattle.bf_machine.specs.interleaving.Machines.{Machine as Seen, Open, open_at, these};
 ghost use Rattle.bf_machine.specs.interleaving.Serving.{CanGo, CannotGo, Driven, HasLocked, HasMovedFirst, HasMovedNeed, HasMovedSome, HasReply, IsAlone, IsBoundNext, IsCommit, IsEndIfAnswered, IsFollowed, IsInSequence, IsPreparedNext, IsToLock, IsTurn, IsTurnOf, IsYoungest, LeavesStore, MovesAll, Serves, Turned, can_go, deaths_at, unanswered};
@@ -29,13 +29,11 @@ use bf_image::{MigrationPass, Registry, ValueIndexes};
 use bf_locks::{LockAnswer, LockName, Mode};
 use bf_plan::prepare;
 use bf_sql::footprint;
+use bf_store::MOST_MOVED;
 use bf_transpose::Cover;
 use bf_tree::Bound;
 use std::alloc::Global;
 use std::sync::Wait;
-
-/// The most granules of one record.
-const MOST_MOVED: usize = 64;
 
 /// Asks for locks, one after the other, until one is not granted.
 fn lock_all<N: Opened>(

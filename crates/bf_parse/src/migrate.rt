@@ -14,11 +14,8 @@ use crate::arm::arms;
 use bf_base::Sequence;
 use bf_lex::{Keyword, ScriptKind, Sign};
 use bf_phrase::{Cursor, ReadStop};
-use bf_tree::{Migrate, Target};
+use bf_tree::{MOST_TARGETS, Migrate, Target};
 use std::alloc::Global;
-
-/// The most targets of a MIGRATE.
-const MOST_TARGETS: usize = 8;
 
 /// The target at a place, and the place behind it.
 fn target<'a>(alloc: Global, cursor: Cursor<'a>) -> Result<(Target, Cursor<'a>), ReadStop>

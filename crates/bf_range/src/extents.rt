@@ -14,7 +14,7 @@ pub enum Extent {
 }
 
 /// The most rows of a source, over which a total may go.
-pub(crate) const MOST_ROWS: i64 = 1 << 20;
+pub(crate) const MOST_ROWS: i64 = bf_base::MOST_ROWS as i64;
 
 /// The numbers between two ends, or `None` where an end is no INT.
 fn between(low: i128, high: i128) -> Option<Extent>

@@ -6,11 +6,7 @@ use Rattle.bf_base.specs.declared.granule.Place.{Place}
 use Rattle.bf_base.specs.Lists.{has, rises}
 use Rattle.bf_sql.specs.migrations.Granules.{granule, same_granule}
 use Rattle.bf_sql.specs.migrations.Lazy.{Migration, pending}
-use Rattle.bf_store.specs.States.{place_cmp}
-
--- the most places of one record
-abbrev pub most_moved : ℕ
-most_moved = 64
+use Rattle.bf_store.specs.States.{most_moved, place_cmp}
 
 -- a granule of the migration that has not moved
 abbrev pub is_to_move : Migration → Granule → Bool

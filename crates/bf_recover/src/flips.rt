@@ -1,6 +1,6 @@
 //! Records of migrations that begin.
 
-ghost use Rattle.std.specs.Prelude.{◌≡◌, ◌≤◌, IfOk, IsTrue, Ok, OnErr, false, flat_map, length, true};
+ghost use Rattle.std.specs.Prelude.{◌≡◌, ◌<◌, ◌≤◌, IfErr, IfOk, IsTrue, Ok, OnErr, false, flat_map, length, true};
 ghost use Rattle.bf_base.specs.Limits.{longest_script};
 ghost use Rattle.bf_sql.specs.Bound.{catalog_of};
 ghost use Rattle.bf_sql.specs.RowObjections.{size_objections};
@@ -13,17 +13,14 @@ ghost use Rattle.bf_recover.specs.Schemas.{is_empty};
 ghost use Rattle.bf_recover.specs.Spoken.{is_spoken_migrate};
 
 use crate::spoken::is_spoken_migrate;
-use bf_base::{LONGEST_SCRIPT, Memory, Name};
+use bf_base::{MOST_ROWS, Memory, Name};
 use bf_image::Registry;
 use bf_live::LiveTables;
 use bf_plan::plan;
 use bf_store::Store;
-use bf_tree::{Migrate, Plan, Sweep, Target};
+use bf_tree::{Migrate, Plan, Sweep, Target, have_few_arms};
 use std::alloc::Global;
 use std::sync::Wait;
-
-/// The most rows of a table that a MIGRATE reads.
-const MOST_ROWS: u32 = 1 << 20;
 
 fn says_complete(sweep: &Sweep) -> bool
     ensures { result ≡ says_complete sweep.now }
@@ -46,13 +43,14 @@ fn is_complete(store: &Store) -> bool
 /// # Errors
 /// Where there are more, which a plan has no memory for.
 fn expect_few_arms(targets: &[Target]) -> Result<(), Memory>
-    ensures { IfOk result (λ _. length (flat_map (λ t. t.arms) targets.now) ≤ longest_script) }
+    ensures ok { IfOk result (λ _. length (flat_map (λ t. t.arms) targets.now) ≤ longest_script) }
+    ensures err { IfErr result (λ _. longest_script < length (flat_map (λ t. t.arms) targets.now)) }
 {
-    let mut left = LONGEST_SCRIPT as usize;
-    for target in targets {
-        left = left.checked_sub(target.arms.len()).ok_or(Memory)?;
+    if have_few_arms(targets) {
+        Ok(())
+    } else {
+        Err(Memory)
     }
-    Ok(())
 }
 
 /// Whether each table of some names has no more rows than a MIGRATE reads. It compares about log n
@@ -61,11 +59,7 @@ fn are_small(live: &LiveTables, names: &[Name]) -> bool
     ensures { result ≡ is_empty (flat_map (size_objections live.now) names.now) }
 {
     for name in names {
-        let count = match live.heap(name) {
-            Some(heap) => heap.len(),
-            None => 0,
-        };
-        if count > MOST_ROWS {
+        if live.row_count(name) > MOST_ROWS {
             return false;
         }
     }

@@ -10,11 +10,8 @@ use crate::lookups::look_up;
 use crate::places::{has_places, rise};
 use bf_base::{Granule, Memory, Place, Sequence};
 use bf_image::{Registry, ValueIndexes};
-use bf_store::Store;
+use bf_store::{MOST_MOVED, Store};
 use std::alloc::Global;
-
-/// The most places that a record moves.
-const MOST_MOVED: usize = 64;
 
 /// Whether a record tells a migration by its number, and places of it as a record may.
 fn is_told_of(last: u32, number: u32, places: &[Place]) -> bool

@@ -8,18 +8,12 @@ ghost use Rattle.bf_sql.specs.Database.{is_within};
 ghost use Rattle.bf_tree.specs.Views.{operand_tree};
 ghost use Rattle.bf_recover.specs.Spoken.{compares_plain_refs, has_plain_refs, is_list, is_plain, is_plain_if_any, is_plain_ref, is_spoken_arm, is_spoken_index, is_spoken_item, is_spoken_join, is_spoken_migrate, is_spoken_table, is_spoken_target, is_spoken_where, totals_plain_refs};
 
-use bf_base::{Column, Name, Table};
+use bf_base::{Column, MOST_COLUMNS, Name, Table};
 use bf_lex::Keyword;
 use bf_tree::{
-    Arm, IndexRule, Item, Join, Migrate, Operand, RawAggregate, RawCond, RawExpr, RawNode, RawTest,
-    Ref, Target,
+    Arm, IndexRule, Item, Join, MOST_TARGETS, Migrate, Operand, RawAggregate, RawCond, RawExpr,
+    RawNode, RawTest, Ref, Target,
 };
-
-/// The most parts of a list.
-const MOST_PARTS: usize = 16;
-
-/// The most targets of a MIGRATE.
-const MOST_TARGETS: usize = 8;
 
 /// Whether a name is no keyword.
 fn is_plain(name: &Name) -> bool
@@ -32,7 +26,7 @@ fn is_plain(name: &Name) -> bool
 fn is_list<T>(parts: &[T]) -> bool
     ensures { result ≡ is_list parts.now }
 {
-    1 <= parts.len() && parts.len() <= MOST_PARTS
+    1 <= parts.len() && parts.len() <= MOST_COLUMNS
 }
 
 /// Whether places are those of a table's columns.
@@ -195,7 +189,7 @@ fn is_spoken_group(group: &[Ref]) -> bool
     ensures { result
         ≡ (nat_le (length group.now) most_columns && list_all is_plain_ref group.now) }
 {
-    group.len() <= MOST_PARTS && are_plain_refs(group)
+    group.len() <= MOST_COLUMNS && are_plain_refs(group)
 }
 
 fn is_spoken_arm(arm: &Arm) -> bool

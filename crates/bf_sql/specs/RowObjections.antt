@@ -1,5 +1,5 @@
 -- What the rows have against a statement to which the catalog has no objection, in order. The first objection is told.
-use Rattle.std.specs.Prelude.{ℕ, not, List, [], ◌∷◌, ◌++◌, map, flat_map, length, zip, nat_lt, Result, Ok, Err}
+use Rattle.std.specs.Prelude.{ℕ, not, List, [], ◌∷◌, ◌++◌, map, flat_map, length, zip, nat_lt, Option, Result, Ok, Err}
 use Rattle.bf_base.specs.declared.value.Value.{Value}
 use Rattle.bf_base.specs.declared.table.Admit.{Admit}
 use Rattle.bf_base.specs.declared.table.Fit.{Fit}
@@ -12,6 +12,7 @@ use Rattle.bf_tree.specs.declared.evaluation.Fail.{Fail}
 use Rattle.bf_tree.specs.declared.evaluation.Fail.TheVariants as fail
 use Rattle.bf_tree.specs.Trees.{Expr}
 use Rattle.bf_tree.specs.Evaluation.{value_of, sure_value}
+use Rattle.bf_tree.specs.Settling.{first_of}
 use Rattle.bf_tree.specs.declared.items.Aggregate.{Aggregate}
 use Rattle.bf_tree.specs.declared.items.Aggregate.TheVariants.{Count, Sum, Min, Max}
 use Rattle.bf_tree.specs.declared.items.Items.{Items}
@@ -83,6 +84,10 @@ module _ {R : Type 0} (read : List Value → R → Value) where
 
 abbrev pub size_objections : Database → List ℕ → List Refusal
 size_objections db name = when (nat_lt most_rows (length (table_rows db name))) (TooManyRows name (length (table_rows db name)))
+
+-- the refusal of the first of some old tables that has too many rows
+abbrev pub first_oversize : Database → List (List ℕ) → Option Refusal
+first_oversize db sources = first_of (flat_map (size_objections db) sources)
 
 abbrev pub row_objections : Database → Statement → List Refusal
 row_objections db (Insert table tuples) = insert_objections (table_at db table) (table_rows db table) tuples

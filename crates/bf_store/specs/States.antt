@@ -1,5 +1,5 @@
 -- What is true of a lazy state, and of the writes of a transaction that is open over it.
-use Rattle.std.specs.Prelude.{◌≡◌, ◌==◌, Bool, true, not, List, [], map, Option, Some, None, IsTrue}
+use Rattle.std.specs.Prelude.{◌≡◌, ◌==◌, ℕ, Bool, true, not, List, [], map, Option, Some, None, IsTrue}
 use Rattle.std.specs.List.{list_all, count_by, AllByRecursion}
 use Rattle.std.specs.Option.{option_map}
 use Rattle.std.specs.Ordering.{nat_cmp, on, then_cmp}
@@ -33,6 +33,10 @@ place_cmp (Row m) (Row n) = nat_cmp m n
 place_cmp (Row m) (Group w) = Less
 place_cmp (Group v) (Row n) = Greater
 place_cmp (Group v) (Group w) = key_cmp v w
+
+-- the most places of one record of moves
+abbrev pub most_moved : ℕ
+most_moved = 64
 
 abbrev pub granule_cmp : Granule → Granule → Ordering
 granule_cmp = then_cmp (on (λ g. g.unit) nat_cmp) (on (λ g. g.place) place_cmp)

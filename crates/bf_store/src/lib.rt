@@ -14,5 +14,5 @@ mod told;
 mod under_way;
 mod unit_marks;
 
-pub use moved::{Moved, Receipt};
+pub use moved::{MOST_MOVED, Moved, Receipt};
 pub use store::Store;

@@ -5,6 +5,9 @@ ghost use Rattle.std.specs.Prelude.{◌≡◌, IfOk, map};
 use bf_base::{Granule, Memory};
 use std::alloc::Global;
 
+/// The most places of one record of moves.
+pub const MOST_MOVED: usize = 64;
+
 /// A granule that has moved now, of which migration, and the number of the record that moved it.
 #[derive(Drop)]
 pub struct Receipt {

@@ -20,11 +20,11 @@ use Rattle.bf_sql.specs.Database.{Database}
 use Rattle.bf_sql.specs.migrations.Granules.{granules_of, same_granule}
 use Rattle.bf_sql.specs.migrations.Lazy.{Migration}
 use Rattle.bf_sql.specs.migrations.Need.{giving, has_key_of, may_satisfy, needed_for, target_of}
-use Rattle.bf_store.specs.States.{AreGranules, granule_cmp, need_of, place_cmp, to_move}
+use Rattle.bf_store.specs.States.{AreGranules, granule_cmp, most_moved, need_of, place_cmp, to_move}
 use Rattle.bf_store.proofs.Granules.{granule_cmp_total}
 use Rattle.bf_transpose.proofs.Granules.{granules_rise}
 use Rattle.bf_transpose.proofs.Inserted.{ascends}
-use Rattle.bf_machine.specs.interleaving.Journals.{IsOneRecord, most_moved}
+use Rattle.bf_machine.specs.interleaving.Journals.{IsOneRecord}
 
 -- the granules of a migration come in that order
 alike : (u v : ℕ) (p q : Place) → granule_order.cmp (record { unit = u; place = p }) (record { unit = v; place = q }) ≡ granule_cmp (record { unit = u; place = p }) (record { unit = v; place = q })

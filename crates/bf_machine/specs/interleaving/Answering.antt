@@ -1,15 +1,12 @@
 -- A statement of an open group, and the end of the group, on the tables of a lazy store.
-use Rattle.std.specs.Prelude.{◌≡◌, ℕ, Bool, false, List, [], flat_map, Option, Some}
+use Rattle.std.specs.Prelude.{◌≡◌, Bool, false, List, [], Some}
 use Rattle.bf_tree.specs.declared.bound.Bound.{Bound}
-use Rattle.bf_tree.specs.declared.reply.Refusal.{Refusal}
 use Rattle.bf_tree.specs.declared.reply.Reply.{Reply}
 use Rattle.bf_tree.specs.declared.statement.Statement.{Statement}
-use Rattle.bf_tree.specs.Settling.{first_of}
 use Rattle.bf_tree.specs.Limits.{HasNarrowTables, IsNarrowIfMigrate}
 use Rattle.bf_sql.specs.Bound.{catalog_of}
 use Rattle.bf_sql.specs.Database.{Database, IsDatabase}
 use Rattle.bf_sql.specs.Groups.{ends_block}
-use Rattle.bf_sql.specs.RowObjections.{size_objections}
 use Rattle.bf_sql.specs.migrations.Lazy.{LazyState, view_of}
 use Rattle.bf_sql.specs.migrations.Need.{needed_for}
 use Rattle.bf_sql.specs.migrations.Plans.{prepared_of}
@@ -17,10 +14,6 @@ use Rattle.bf_store.specs.States.{HaveMoved, IsLazy, IsOpenLazily}
 use Rattle.bf_txn.specs.declared.write.Write.{Write}
 use Rattle.bf_machine.specs.interleaving.Kept.{CanBePutInto}
 use Rattle.bf_machine.specs.interleaving.Groups.{Pending, Rows, left_by, pending_behind, reply_on}
-
--- the first old table with too many rows
-abbrev pub first_oversize : Database → List (List ℕ) → Option Refusal
-first_oversize db sources = first_of (flat_map (size_objections db) sources)
 
 -- a statement that ends no group is bound in the catalog; outside a block nothing is written before it
 pub record IsNext (db : Database) (writes : List Write) (bound : Bound) (in_block : Bool) (s : Statement) : Type 0 where

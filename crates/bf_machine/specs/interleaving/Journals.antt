@@ -6,7 +6,7 @@ use Rattle.bf_base.specs.Lists.{rises}
 use Rattle.bf_sql.specs.Database.{Database}
 use Rattle.bf_sql.specs.migrations.Lazy.{LazyState, Migration}
 use Rattle.bf_store.specs.Calls.{tells}
-use Rattle.bf_store.specs.States.{AreGranulesIfAny, place_cmp, with_moved}
+use Rattle.bf_store.specs.States.{AreGranulesIfAny, most_moved, place_cmp, with_moved}
 use Rattle.bf_tree.specs.declared.reply.Cause.{Cause}
 use Rattle.bf_tree.specs.declared.reply.Cause.TheVariants.{TooLarge}
 use Rattle.bf_tree.specs.declared.script.Script.{Script}
@@ -24,10 +24,6 @@ abbrev pub leaves_something : LazyState → Pending → Bool
 leaves_something lazy (Rows writes) = tells lazy writes
 leaves_something lazy Nothing = false
 leaves_something lazy other = true
-
--- the most granules of one record
-abbrev pub most_moved : ℕ
-most_moved = 64
 
 -- ONE RECORD: granules of the last migration that one record may move, 1 to 64 of one unit in the order of place
 pub record IsOneRecord (last : Option Migration) (granules : List Granule) : Type 0 where

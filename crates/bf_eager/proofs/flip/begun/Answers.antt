@@ -1,6 +1,6 @@
 -- A plan that the catalog allows is begun where no old table is too large.
 use Rattle.std.proofs.Common.{sym, ap, ◌∙◌}
-use Rattle.bf_eager.specs.Flips.{first_oversize}
+use Rattle.bf_sql.specs.RowObjections.{first_oversize}
 use Rattle.bf_eager.proofs.Begun.{is_begun}
 use Rattle.bf_eager.proofs.flip.begun.Goals as goal
 

@@ -11,7 +11,8 @@ use Rattle.bf_image.proofs.admitting.Flip.{flip_keeps}
 use Rattle.bf_image.specs.Migrations.{old_of}
 use Rattle.bf_image.specs.declared.migration.Migration.{Migration}
 use Rattle.bf_live.specs.Live.{IsUnderOwnKeys, TableRows, exchanged, held_in, stored}
-use Rattle.bf_eager.specs.Flips.{Made, AreMade, first_oversize, heaped}
+use Rattle.bf_eager.specs.Flips.{Made, AreMade, heaped}
+use Rattle.bf_sql.specs.RowObjections.{first_oversize}
 use Rattle.bf_eager.specs.Freezing.{AreFrozen}
 use Rattle.bf_eager.specs.Groups.{IsPlanned}
 use Rattle.bf_eager.proofs.Exchanging.{can_stand, exchange_flips, flip_means, flip_narrow, heaped_own}

@@ -3,7 +3,7 @@ use Rattle.std.proofs.Common.{◌≡◌, ◌≤◌, Some, take}
 use Rattle.std.specs.Prelude.{slice_get}
 use Rattle.std.specs.List.{AllByRecursion}
 use Rattle.bf_base.specs.declared.granule.Granule.{Granule}
-use Rattle.bf_machine.specs.interleaving.Journals.{most_moved}
+use Rattle.bf_store.specs.States.{most_moved}
 use Rattle.bf_machine.proofs.serving.record_len.Given as goal
 
 abbrev pub invariant-loop-count : goal.invariant-loop-count

@@ -15,7 +15,7 @@ pub plan-requires-clause-limits : goal.plan-requires-clause-limits
 plan-requires-clause-limits c =
     let m = c.args.migrate.now in
     let arms : length (flat_map (λ (t : Target). t.arms) m.targets) ≤ longest_script =
-    subst (λ (ts : List Target). length (flat_map (λ (t : Target). t.arms) ts) ≤ longest_script) c.as_slice.ensures c.in_ok-expect_few_arms.ensures in
+    subst (λ (ts : List Target). length (flat_map (λ (t : Target). t.arms) ts) ≤ longest_script) c.as_slice.ensures c.in_ok-expect_few_arms.ensures.ok in
     spoken_is_narrow m c.requires.spoken arms
 
 pub returns-then-are_small : goal.returns-then-are_small
@@ -24,7 +24,7 @@ returns-then-are_small c =
     let m = c.args.migrate.now in
     let plan = c.in-Ok.plan in
     let arms : length (flat_map (λ (t : Target). t.arms) m.targets) ≤ longest_script =
-    subst (λ (ts : List Target). length (flat_map (λ (t : Target). t.arms) ts) ≤ longest_script) c.as_slice.ensures c.in_ok-expect_few_arms.ensures in
+    subst (λ (ts : List Target). length (flat_map (λ (t : Target). t.arms) ts) ≤ longest_script) c.as_slice.ensures c.in_ok-expect_few_arms.ensures.ok in
     allowed live m plan (by_catalog live m c.catalog.result.now (Ok plan) c.catalog.ensures.catalog (sym c.in-Ok.is ∙ c.in_ok-planned.ensures)) (spoken_is_narrow m c.requires.spoken arms)
     (ap (λ ns. is_empty (flat_map (size_objections live) ns)) (sym c.as_slice-in-Ok.ensures) ∙ sym c.are_small.ensures ∙ c.if-are_small.true)
 

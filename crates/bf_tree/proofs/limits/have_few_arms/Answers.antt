@@ -2,7 +2,7 @@
 use Rattle.std.proofs.Common.{◌≡◌, length, get_or, ap, arith}
 use Rattle.std.proofs.lemmas.List.Folds.{length-flat_map-take}
 use Rattle.bf_tree.specs.declared.migration.Target.{Target}
-use Rattle.bf_eager.proofs.limits.have_few_arms.Goals as goal
+use Rattle.bf_tree.proofs.limits.have_few_arms.Goals as goal
 
 pub returns-in_default : goal.returns-in_default
 returns-in_default c =

@@ -1,7 +1,0 @@
-use Rattle.std.proofs.Common.{◌≡◌, drop}
-use Rattle.bf_eager.specs.Flips.{first_oversize}
-use Rattle.bf_eager.proofs.flip.oversize.Given as goal
-
--- the names so far have no objection
-abbrev pub invariant-loop-name : goal.invariant-loop-name
-invariant-loop-name l = first_oversize l.live l.sources ≡ first_oversize l.live (drop l.name-index l.sources)

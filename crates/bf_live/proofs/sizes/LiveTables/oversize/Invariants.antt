@@ -1,0 +1,7 @@
+use Rattle.std.proofs.Common.{◌≡◌, drop}
+use Rattle.bf_sql.specs.RowObjections.{first_oversize}
+use Rattle.bf_live.proofs.sizes.LiveTables.oversize.Given as goal
+
+-- the names so far have no objection
+abbrev pub invariant-loop-name : goal.invariant-loop-name
+invariant-loop-name l = first_oversize l.self l.sources ≡ first_oversize l.self (drop l.name-index l.sources)
