@@ -8,7 +8,7 @@ ghost use Rattle.bf_live.specs.Live.{held_in};
 ghost use Rattle.bf_sql.specs.Bound.{catalog_of};
 ghost use Rattle.bf_sql.specs.Database.{IsDatabase, table_rows};
 ghost use Rattle.bf_sql.specs.Meaning.{executed};
-ghost use Rattle.bf_image.specs.Migrations.{IsLawfulMigration};
+ghost use Rattle.bf_migration.specs.Migrations.{IsLawfulMigration};
 ghost use Rattle.bf_eager.specs.Beginnings.{IsBegun};
 ghost use Rattle.bf_eager.specs.Flips.{CanStand, first_oversize, heaped};
 ghost use Rattle.bf_eager.specs.Freezing.{AreFrozen};
@@ -19,8 +19,8 @@ use crate::freezing::frozen_sources;
 use crate::gathering::tables_made;
 use bf_base::{Memory, Name, Row, Sequence, Table};
 use bf_heap::Heap;
-use bf_image::Migration;
 use bf_live::LiveTables;
+use bf_migration::Migration;
 use bf_tree::{Plan, Refusal, Reply};
 use std::alloc::Global;
 
