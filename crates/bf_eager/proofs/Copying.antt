@@ -16,9 +16,9 @@ use Rattle.bf_query.proofs.Binding.{as_stored, key_within, rows_admitted, rows_k
 use Rattle.bf_query.proofs.RowsAsEntries.{rows_are}
 use Rattle.bf_live.proofs.statements.Named.{IsThere, all_there, rows_there}
 use Rattle.bf_eager.specs.Freezing.{AreFrozen, CanFreeze}
-use Rattle.bf_image.specs.Migrations.{stored_of}
+use Rattle.bf_migration.specs.Migrations.{stored_of}
 use Rattle.bf_eager.specs.Starting.{entries_in_order, have_different_keys}
-use Rattle.bf_image.specs.declared.migration.Frozen.{Frozen}
+use Rattle.bf_migration.specs.declared.migration.Frozen.{Frozen}
 use Rattle.bf_eager.proofs.Placing.{all_within, different-apart, in_midst}
 
 abbrev pub rows_of : List Entry → List (List Value)

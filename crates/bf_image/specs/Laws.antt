@@ -1,5 +1,5 @@
--- What the laws speak of: lawful migrations, the rows of parts, the granules that have a key, and those that a sweep meets.
-use Rattle.std.specs.Prelude.{◌≡◌, Bool, List, [], map, flat_map}
+-- What the laws speak of: the rows of parts, the granules that have a key, and those that a sweep meets.
+use Rattle.std.specs.Prelude.{Bool, List, map, flat_map}
 use Rattle.std.specs.List.{list_any, enumerate_from}
 use Rattle.bf_base.specs.declared.value.Value.{Value}
 use Rattle.bf_base.specs.declared.granule.Granule.{Granule}
@@ -8,18 +8,9 @@ use Rattle.bf_base.specs.Tables.{key_of}
 use Rattle.bf_tree.specs.declared.migration.Target.{Target}
 use Rattle.bf_tree.specs.declared.migration.Migrate.{Migrate}
 use Rattle.bf_tree.specs.declared.statement.Statement.TheVariants as statement
-use Rattle.bf_sql.specs.Database.{Database, IsDatabase}
-use Rattle.bf_sql.specs.RowObjections.{row_objections}
-use Rattle.bf_sql.specs.migrations.MigrationObjections.{migrate_objections}
+use Rattle.bf_sql.specs.Database.{Database}
 use Rattle.bf_sql.specs.migrations.Targets.{target_table}
 use Rattle.bf_sql.specs.migrations.Granules.{units_of, anchors_of, granule, granules_of, part_in}
-
--- LAWFUL: neither the catalog nor the number of its sources' rows has anything against the migration, and its old tables are a
--- database's
-pub record IsLawful (old : Database) (m : Migrate) : Type 0 where
-  pub database : IsDatabase old
-  pub unobjected : migrate_objections old m ≡ []
-  pub few : row_objections old (statement.Migrate m) ≡ []
 
 -- the rows of all parts of a target, granule by granule
 abbrev pub rows_of_parts : Database → Migrate → Target → List (List Value)

@@ -16,7 +16,7 @@ ghost use Rattle.bf_sql.specs.migrations.Placed.{placed_over, placed_rows};
 ghost use Rattle.bf_image.specs.ArmRows.{AreOfOne, CanMake, CanMakeOf, CanMatch, IsUnobjected, is_column, item_objections, made_of, rows_made_of, rows_of_match, those_if_any};
 
 use crate::beside::{is_matched_beside, side_by_side, value_beside};
-use bf_base::{Memory, Row, Value};
+use bf_base::{Key, Memory, Row, Value};
 use bf_query::running::totals;
 use bf_tree::{
     Aggregate, ArmKind, Cell, Expr, Fail, PlacedArm, PlacedItem, StatementError, Test, holds, value,
@@ -42,6 +42,17 @@ pub(crate) fn column_value(alloc: Global, row: &Row, place: u8) -> Result<Value,
         Some(value) => value.copy(alloc),
         None => Ok(Value::Int(0)),
     }
+}
+
+/// The values of a row at some places.
+pub(crate) fn values_at(alloc: Global, row: &Row, places: &[u8]) -> Result<Key, Memory>
+    ensures { IfOk result (λ values. values ≡ cells places.now row.now) }
+{
+    let mut values = Vec::with_capacity(alloc, places.len())?;
+    for place in places {
+        values.push(column_value(alloc, row, *place)?)?;
+    }
+    Ok(Key::of(values))
 }
 
 /// A total of rows that has no objection to them.

@@ -4,17 +4,16 @@ ghost use Rattle.std.specs.Prelude.{◌≡◌, ◌<◌, [], ◌∷◌, ℕ, IfOk
 ghost use Rattle.std.specs.Option.{option_to_list};
 ghost use Rattle.bf_base.specs.declared.granule.Place.TheVariants.{Group, Row as At};
 ghost use Rattle.bf_sql.specs.migrations.Granules.{granule};
-ghost use Rattle.bf_image.specs.BoundArms.{entries_of};
-ghost use Rattle.bf_image.specs.ByValues.{positions_under};
+ghost use Rattle.bf_migration.specs.BoundArms.{entries_of};
+ghost use Rattle.bf_migration.specs.ByValues.{positions_under};
 ghost use Rattle.bf_image.specs.FrozenUnits.{IsFrozenUnit, IsRowAt};
 ghost use Rattle.bf_image.specs.Giving.{gives_row, makes_any};
 
 use crate::arm_gives::makes_any;
-use crate::arms::FrozenArm;
 use crate::frozen_unit::FrozenUnit;
-use crate::migration::Frozen;
-use crate::value_indexes::UnitIndex;
+use crate::meeting::gives_of_driver;
 use bf_base::{Key, Memory, Place, Row};
+use bf_migration::{Frozen, FrozenArm, UnitIndex};
 use bf_tree::PlacedArm;
 use std::alloc::Global;
 
@@ -101,7 +100,7 @@ impl FrozenUnit<'_> {
             ≡ gives_row self.now.migration.now target (granule self.now.number (At at))) }
     {
         for arm in &self.arms {
-            if arm.target == target && arm.gives_of_driver(alloc, row)? {
+            if arm.target == target && gives_of_driver(alloc, arm, row)? {
                 return Ok(true);
             }
         }

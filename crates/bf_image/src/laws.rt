@@ -22,12 +22,13 @@ ghost use Rattle.bf_sql.specs.migrations.Granules.{UnitForm, anchors_of, granule
 ghost use Rattle.bf_sql.specs.migrations.Images.{arm_rows, image_of, flipped, replaced};
 ghost use Rattle.bf_sql.specs.migrations.MigrationObjections.{migrate_objections, target_objections};
 ghost use Rattle.bf_sql.specs.migrations.Targets.{arm_kind, arm_sources, target_table};
-ghost use Rattle.bf_image.specs.ByValues.{by_value, positions_of, positions_under, value_of};
-ghost use Rattle.bf_image.specs.Laws.{IsLawful, rows_of_parts, owns, swept};
+ghost use Rattle.bf_migration.specs.ByValues.{by_value, positions_of, positions_under, value_of};
+ghost use Rattle.bf_image.specs.Laws.{rows_of_parts, owns, swept};
+ghost use Rattle.bf_migration.specs.Lawful.{IsLawful};
 ghost use Rattle.bf_image.specs.Lookup.{anchor_count, anchor_place, candidates, places_by, rows_met};
 ghost use Rattle.bf_sql.specs.migrations.Placed.{placed_arm, placed_rows};
 ghost use Rattle.bf_sql.specs.migrations.Plans.{plan_made, plan_of, planned_units, prepared_of};
-ghost use Rattle.bf_image.specs.PlannedUnits.{unit_form};
+ghost use Rattle.bf_migration.specs.PlannedUnits.{unit_form};
 ghost use Rattle.bf_image.specs.Sources.{frozen_of, HaveSameSources, HaveSameTables, tables_made};
 
 /// The parts of a target, granule by granule, have the rows of its image of the whole old tables,

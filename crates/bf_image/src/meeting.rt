@@ -13,16 +13,16 @@ ghost use Rattle.bf_sql.specs.migrations.MigrationObjections.{is_by_row};
 ghost use Rattle.bf_sql.specs.migrations.Placed.{placed_pair};
 ghost use Rattle.bf_sql.specs.migrations.Targets.{arm_kind};
 ghost use Rattle.bf_image.specs.ArmRows.{CanMake};
-ghost use Rattle.bf_image.specs.BoundArms.{IsFrozenArm};
+ghost use Rattle.bf_migration.specs.BoundArms.{IsFrozenArm};
 ghost use Rattle.bf_image.specs.Giving.{has_any};
 ghost use Rattle.bf_image.specs.Lookup.{partner, join_rows_met, from_rows_met};
-ghost use Rattle.bf_image.specs.Migrations.{IsLawfulMigration, old_of};
-ghost use Rattle.bf_image.specs.declared.migration.Migration.{Migration};
+ghost use Rattle.bf_migration.specs.Migrations.{IsLawfulMigration, old_of};
+ghost use Rattle.bf_migration.specs.declared.migration.Migration.{Migration};
 
 use crate::arm_gives::makes_any;
 use crate::arm_rows::row_made;
-use crate::arms::FrozenArm;
 use bf_base::{Key, Memory, Row, Value};
+use bf_migration::FrozenArm;
 use bf_tree::ArmKind;
 use std::alloc::Global;
 
@@ -83,92 +83,106 @@ fn key_met(
     Ok(Key::of(values))
 }
 
-impl<'a> FrozenArm<'a> {
-    /// The row of JOIN that a row of FROM can meet, where ON has JOIN's whole key, and `None` where there
-    /// is no JOIN. It compares about log n keys.
-    fn join_row_met(&self, alloc: Global, row: &Row) -> Result<Option<&'a Row>, Memory>
-        ensures { IfOk result (λ met. (m : Migration) (target : ℕ) (arm : Arm) → IsLawfulMigration m
-            → IsFrozenArm m target arm self.now
-            → option_to_list (option_map (λ row. row.now) met) ≡ join_rows_met (old_of m) arm row.now) }
-    {
-        let (Some(on), Some(join)) = (&self.placed.on, self.join) else {
-            return Ok(None);
-        };
-        let ahead = Ahead {
-            driver: 0,
-            other: self.from.table.columns.as_slice().len(),
-        };
-        let key = key_met(alloc, on.as_slice(), join.table.key.as_slice(), ahead, row)?;
-        Ok(join.rows.get(&key))
-    }
+/// The row of JOIN that a row of FROM can meet, where ON has JOIN's whole key, and `None` where there
+/// is no JOIN. It compares about log n keys.
+fn join_row_met<'a>(
+    alloc: Global,
+    bound: &FrozenArm<'a>,
+    row: &Row,
+) -> Result<Option<&'a Row>, Memory>
+    ensures { IfOk result (λ met. (m : Migration) (target : ℕ) (arm : Arm) → IsLawfulMigration m
+        → IsFrozenArm m target arm bound.now
+        → option_to_list (option_map (λ row. row.now) met) ≡ join_rows_met (old_of m) arm row.now) }
+{
+    let (Some(on), Some(join)) = (&bound.placed.on, bound.join) else {
+        return Ok(None);
+    };
+    let ahead = Ahead {
+        driver: 0,
+        other: bound.from.table.columns.as_slice().len(),
+    };
+    let key = key_met(alloc, on.as_slice(), join.table.key.as_slice(), ahead, row)?;
+    Ok(join.rows.get(&key))
+}
 
-    /// The row of FROM that a row of JOIN can meet, where ON has FROM's whole key. It compares about
-    /// log n keys.
-    fn from_row_met(&self, alloc: Global, row: &Row) -> Result<Option<&'a Row>, Memory>
-        ensures { IfOk result (λ met. (m : Migration) (target : ℕ) (arm : Arm) → IsLawfulMigration m
-            → IsFrozenArm m target arm self.now → arm_kind (old_of m) arm ≡ ByJoin
-            → option_to_list (option_map (λ row. row.now) met) ≡ from_rows_met (old_of m) arm row.now) }
-    {
-        let Some(on) = &self.placed.on else {
-            return Ok(None);
-        };
-        let ahead = Ahead {
-            driver: self.from.table.columns.as_slice().len(),
-            other: 0,
-        };
-        let key = key_met(
-            alloc,
-            on.as_slice(),
-            self.from.table.key.as_slice(),
-            ahead,
-            row,
-        )?;
-        Ok(self.from.rows.get(&key))
-    }
+/// The row of FROM that a row of JOIN can meet, where ON has FROM's whole key. It compares about
+/// log n keys.
+fn from_row_met<'a>(
+    alloc: Global,
+    bound: &FrozenArm<'a>,
+    row: &Row,
+) -> Result<Option<&'a Row>, Memory>
+    ensures { IfOk result (λ met. (m : Migration) (target : ℕ) (arm : Arm) → IsLawfulMigration m
+        → IsFrozenArm m target arm bound.now → arm_kind (old_of m) arm ≡ ByJoin
+        → option_to_list (option_map (λ row. row.now) met) ≡ from_rows_met (old_of m) arm row.now) }
+{
+    let Some(on) = &bound.placed.on else {
+        return Ok(None);
+    };
+    let ahead = Ahead {
+        driver: bound.from.table.columns.as_slice().len(),
+        other: 0,
+    };
+    let key = key_met(
+        alloc,
+        on.as_slice(),
+        bound.from.table.key.as_slice(),
+        ahead,
+        row,
+    )?;
+    Ok(bound.from.rows.get(&key))
+}
 
-    /// The arm's row of one row of its driver, and of the one row of the other table that it can meet, if
-    /// it makes one. It compares about log n keys.
-    pub(crate) fn row_of_driver(&self, alloc: Global, row: &Row) -> Result<Option<Row>, Memory>
-        requires by_row { IsTrue (is_by_row self.now.placed.now.kind) }
-        requires plain { (from join : List (List Cell)) → CanMake self.now.placed.now from join }
-        ensures from { IfOk result (λ made. (m : Migration) (target : ℕ) (arm : Arm)
-            → IsLawfulMigration m → IsFrozenArm m target arm self.now
-            → arm_kind (old_of m) arm ≡ ByFrom → option_to_list made
-            ≡ arm_rows (old_of m) arm (row.now ∷ []) (join_rows_met (old_of m) arm row.now)) }
-        ensures join { IfOk result (λ made. (m : Migration) (target : ℕ) (arm : Arm)
-            → IsLawfulMigration m → IsFrozenArm m target arm self.now
-            → arm_kind (old_of m) arm ≡ ByJoin → option_to_list made
-            ≡ arm_rows (old_of m) arm (from_rows_met (old_of m) arm row.now) (row.now ∷ [])) }
-    {
-        if self.placed.kind != ArmKind::ByJoin {
-            let met = self.join_row_met(alloc, row)?;
-            return row_made(alloc, self.placed, row, met);
-        }
-        match self.from_row_met(alloc, row)? {
-            Some(met) => row_made(alloc, self.placed, met, Some(row)),
-            None => Ok(None),
-        }
+/// The arm's row of one row of its driver, and of the one row of the other table that it can meet, if
+/// it makes one. It compares about log n keys.
+pub(crate) fn row_of_driver(
+    alloc: Global,
+    bound: &FrozenArm<'_>,
+    row: &Row,
+) -> Result<Option<Row>, Memory>
+    requires by_row { IsTrue (is_by_row bound.now.placed.now.kind) }
+    requires plain { (from join : List (List Cell)) → CanMake bound.now.placed.now from join }
+    ensures from { IfOk result (λ made. (m : Migration) (target : ℕ) (arm : Arm)
+        → IsLawfulMigration m → IsFrozenArm m target arm bound.now
+        → arm_kind (old_of m) arm ≡ ByFrom → option_to_list made
+        ≡ arm_rows (old_of m) arm (row.now ∷ []) (join_rows_met (old_of m) arm row.now)) }
+    ensures join { IfOk result (λ made. (m : Migration) (target : ℕ) (arm : Arm)
+        → IsLawfulMigration m → IsFrozenArm m target arm bound.now
+        → arm_kind (old_of m) arm ≡ ByJoin → option_to_list made
+        ≡ arm_rows (old_of m) arm (from_rows_met (old_of m) arm row.now) (row.now ∷ [])) }
+{
+    if bound.placed.kind != ArmKind::ByJoin {
+        let met = join_row_met(alloc, bound, row)?;
+        return row_made(alloc, bound.placed, row, met);
     }
+    match from_row_met(alloc, bound, row)? {
+        Some(met) => row_made(alloc, bound.placed, met, Some(row)),
+        None => Ok(None),
+    }
+}
 
-    /// Whether the arm makes a row of one row of its driver, and of the one row of the other table that it
-    /// can meet.
-    pub(crate) fn gives_of_driver(&self, alloc: Global, row: &Row) -> Result<bool, Memory>
-        ensures from { IfOk result (λ gives. (m : Migration) (target : ℕ) (arm : Arm)
-            → IsLawfulMigration m → IsFrozenArm m target arm self.now
-            → arm_kind (old_of m) arm ≡ ByFrom → gives ≡ has_any
-            (arm_rows (old_of m) arm (row.now ∷ []) (join_rows_met (old_of m) arm row.now))) }
-        ensures join { IfOk result (λ gives. (m : Migration) (target : ℕ) (arm : Arm)
-            → IsLawfulMigration m → IsFrozenArm m target arm self.now
-            → arm_kind (old_of m) arm ≡ ByJoin → gives ≡ has_any
-            (arm_rows (old_of m) arm (from_rows_met (old_of m) arm row.now) (row.now ∷ []))) }
-    {
-        if self.placed.kind != ArmKind::ByJoin {
-            let met = self.join_row_met(alloc, row)?;
-            return makes_any(alloc, self.placed, row, met);
-        }
-        match self.from_row_met(alloc, row)? {
-            Some(met) => makes_any(alloc, self.placed, met, Some(row)),
-            None => Ok(false),
-        }
+/// Whether the arm makes a row of one row of its driver, and of the one row of the other table that it
+/// can meet.
+pub(crate) fn gives_of_driver(
+    alloc: Global,
+    bound: &FrozenArm<'_>,
+    row: &Row,
+) -> Result<bool, Memory>
+    ensures from { IfOk result (λ gives. (m : Migration) (target : ℕ) (arm : Arm)
+        → IsLawfulMigration m → IsFrozenArm m target arm bound.now
+        → arm_kind (old_of m) arm ≡ ByFrom → gives ≡ has_any
+        (arm_rows (old_of m) arm (row.now ∷ []) (join_rows_met (old_of m) arm row.now))) }
+    ensures join { IfOk result (λ gives. (m : Migration) (target : ℕ) (arm : Arm)
+        → IsLawfulMigration m → IsFrozenArm m target arm bound.now
+        → arm_kind (old_of m) arm ≡ ByJoin → gives ≡ has_any
+        (arm_rows (old_of m) arm (from_rows_met (old_of m) arm row.now) (row.now ∷ []))) }
+{
+    if bound.placed.kind != ArmKind::ByJoin {
+        let met = join_row_met(alloc, bound, row)?;
+        return makes_any(alloc, bound.placed, row, met);
+    }
+    match from_row_met(alloc, bound, row)? {
+        Some(met) => makes_any(alloc, bound.placed, met, Some(row)),
+        None => Ok(false),
     }
 }

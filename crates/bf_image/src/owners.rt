@@ -9,18 +9,17 @@ ghost use Rattle.bf_tree.specs.Limits.{is_narrow};
 ghost use Rattle.bf_tree.specs.declared.migration.Arm.{Arm};
 ghost use Rattle.bf_sql.specs.migrations.Granules.{granule, owner_of, rows_unit};
 ghost use Rattle.bf_sql.specs.migrations.Targets.{arm_kind, target_table};
-ghost use Rattle.bf_image.specs.BoundArms.{IsFrozenArm};
+ghost use Rattle.bf_migration.specs.BoundArms.{IsFrozenArm};
 ghost use Rattle.bf_image.specs.Laws.{owns};
 ghost use Rattle.bf_image.specs.Lookup.{behind_tag, places_by, values_by};
-ghost use Rattle.bf_image.specs.Migrations.{IsLawfulMigration, old_of, owner_in, target_at, value_indexes};
+ghost use Rattle.bf_migration.specs.Migrations.{IsLawfulMigration, old_of, owner_in, target_at, value_indexes};
 ghost use Rattle.bf_image.specs.Owners.{candidates_at, is_row_with};
-ghost use Rattle.bf_image.specs.declared.migration.Migration.{Migration as Seen};
+ghost use Rattle.bf_migration.specs.declared.migration.Migration.{Migration as Seen};
 
-use crate::arms::{FrozenArm, values_at};
-use crate::migration::Migration;
+use crate::arm_rows::values_at;
 use crate::parts::rows_of;
-use crate::value_indexes::ValueIndexes;
 use bf_base::{Granule, Key, Memory, Name, Place, Row, Table, Value};
+use bf_migration::{FrozenArm, Migration, ValueIndexes};
 use bf_tree::{ArmKind, Target};
 use std::alloc::Global;
 

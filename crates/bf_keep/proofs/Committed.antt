@@ -26,8 +26,8 @@ use Rattle.bf_query.specs.Meanings.{entries_of}
 use Rattle.bf_query.specs.Merged.{WritesOwnKey, entries_under}
 use Rattle.bf_query.proofs.Keyed.{row_under-entries_under}
 use Rattle.bf_query.proofs.OwnKeys.{by_recursion}
-use Rattle.bf_image.proofs.items.Lists.{all_found}
-use Rattle.bf_image.proofs.items.Names.{name-equal}
+use Rattle.bf_migration.proofs.items.Lists.{all_found}
+use Rattle.bf_migration.proofs.items.Names.{name-equal}
 use Rattle.bf_live.specs.Live.{written_to}
 use Rattle.bf_live.proofs.statements.Named.{IsThere}
 use Rattle.bf_live.proofs.statements.Seeing.{Stands}

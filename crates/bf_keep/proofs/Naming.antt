@@ -17,7 +17,7 @@ use Rattle.bf_tree.specs.declared.statement.ColumnRule.{ColumnRule}
 use Rattle.bf_sql.specs.Meaning.{admit_of, keyless_table, named_places}
 use Rattle.bf_sql.specs.Objections.{column_names, form_objections, names_objections, rule_names, rules_objections}
 use Rattle.bf_sql.specs.Scopes.{is_qualified_by, place_of, scope_of, twice_objections, unqualified}
-use Rattle.bf_image.proofs.items.Names.{name-equal}
+use Rattle.bf_migration.proofs.items.Names.{name-equal}
 use Rattle.bf_query.proofs.Effects.{not_when, nothing_before}
 use Rattle.bf_recover.specs.Spoken.{form_of, names_at, rule_of}
 

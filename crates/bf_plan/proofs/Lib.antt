@@ -1,12 +1,8 @@
-pub mod BoundArms
 pub mod BoundTargets
 pub mod Columns
-pub mod Items
-pub mod Joins
 pub mod Named
 pub mod NumberedArms
 pub mod Planned
 pub mod Prepared
 pub mod Seen
-pub mod Tables
 pub mod Walked

@@ -1,5 +1,3 @@
-pub mod Arms
-pub mod Items
 pub mod Limits
 pub mod Names
 pub mod Prepared

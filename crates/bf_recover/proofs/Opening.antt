@@ -28,8 +28,8 @@ use Rattle.bf_query.proofs.Keyed.{is_map-fold}
 use Rattle.bf_query.proofs.Merging.{rows_of}
 use Rattle.bf_query.proofs.OwnKeys.{OwnKeys, each, fold_keeps, own_keys, weakened}
 use Rattle.bf_query.proofs.RowsAsEntries.{hold_rows}
-use Rattle.bf_image.proofs.items.Lists.{all_so}
-use Rattle.bf_image.proofs.items.Names.{name-equal}
+use Rattle.bf_migration.proofs.items.Lists.{all_so}
+use Rattle.bf_migration.proofs.items.Names.{name-equal}
 use Rattle.bf_live.specs.Live.{committed, written_to}
 use Rattle.bf_live.proofs.statements.Named.{IsThere, all_there, rows_there}
 use Rattle.bf_live.proofs.statements.Seeing.{Stands}

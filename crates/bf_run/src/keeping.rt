@@ -20,7 +20,6 @@ ghost use Rattle.bf_run.specs.Words.{running};
 use crate::status::{Status, disk_fault, not_a_log_line};
 use bf_base::Memory;
 use bf_disk::{Disk, DiskError, Shelf};
-use bf_image::Registry;
 use bf_keep::LogJournal;
 use bf_keep::laws::{
     a_size_that_is_told_is_that_of_a_record, every_crash_leaves_a_prefix, what_ends_groups_is_told,
@@ -28,6 +27,7 @@ use bf_keep::laws::{
 use bf_log::{Log, OpenError};
 use bf_machine::interleaving_laws::sessions_that_have_ended_ran_over;
 use bf_machine::{Machine, Opened, in_order};
+use bf_migration::Registry;
 use bf_recover::reopen;
 use bf_store::Store;
 use bf_text::report;

@@ -33,7 +33,7 @@ ghost use Rattle.bf_sql.specs.migrations.Need.{needed_by, needed_for};
 ghost use Rattle.bf_sql.specs.migrations.Plans.{prepared_of};
 ghost use Rattle.bf_query.specs.Actions.{action_table};
 ghost use Rattle.bf_query.specs.Meanings.{IsBoundAs};
-ghost use Rattle.bf_image.specs.Laws.{IsLawful};
+ghost use Rattle.bf_migration.specs.Lawful.{IsLawful};
 ghost use Rattle.bf_live.specs.Live.{committed};
 ghost use Rattle.bf_live.specs.Open.{IsOpen, IsStep};
 ghost use Rattle.bf_store.specs.declared.moved.Moved.{Moved};

@@ -2,8 +2,8 @@
 
 use bf_base::{Memory, Name, NameError};
 use bf_disk::TapeDisk;
-use bf_image::Registry;
 use bf_log::OpenError;
+use bf_migration::Registry;
 use bf_recover::reopen;
 use bf_store::Store;
 use bf_tree::Sweep;

@@ -31,7 +31,7 @@ use Rattle.bf_range.specs.Within.{is_within, is_held}
 use Rattle.bf_range.proofs.Order.{tests}
 use Rattle.bf_range.proofs.Within.{fits_where, value_given}
 use Rattle.bf_range.proofs.Totals.{sure_within, total_unobjected}
-use Rattle.bf_image.proofs.items.Lists.{none_right, none_when}
+use Rattle.bf_migration.proofs.items.Lists.{none_right, none_when}
 
 abbrev pub fits : Admit → Value → Bool
 fits a v = is_fit (fit_of a v)

@@ -41,11 +41,11 @@ use Rattle.bf_range.proofs.Rows.{row_held}
 use Rattle.bf_range.proofs.Totals.{total_unobjected}
 use Rattle.bf_query.proofs.Renaming.{answer_objections-over}
 use Rattle.bf_image.specs.ArmRows.{AreOfOne, CanMake, IsUnobjected, item_objections}
-use Rattle.bf_image.specs.Laws.{IsLawful}
-use Rattle.bf_image.proofs.items.Lists.{none_left, none_right, none_when, none_of_each, all_both, all_found, all_kept, all_of_contained}
+use Rattle.bf_migration.specs.Lawful.{IsLawful}
+use Rattle.bf_migration.proofs.items.Lists.{none_left, none_right, none_when, none_of_each, all_both, all_found, all_kept, all_of_contained}
 use Rattle.bf_image.proofs.admitting.Few.{is_few, goes_over_few, few_sources}
-use Rattle.bf_image.proofs.making.Arms.{key-equal}
-use Rattle.bf_image.proofs.making.Unobjected.{key_there}
+use Rattle.bf_migration.proofs.making.Arms.{key-equal}
+use Rattle.bf_migration.proofs.making.Unobjected.{key_there}
 use Rattle.bf_image.proofs.finding.Owned.{target_unobjected}
 
 each_so : {X : Type 0} (P : X → Type 0) → ((x : X) → P x) → (xs : List X) → AllByRecursion P xs

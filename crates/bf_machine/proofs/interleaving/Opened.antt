@@ -22,7 +22,7 @@ use Rattle.bf_query.specs.Merged.{HasOwnKey, applied, entries_under}
 use Rattle.bf_query.proofs.Keyed.{by_key, is_map-fold, row_under-applied}
 use Rattle.bf_query.proofs.Merging.{RisesFrom, write_keys}
 use Rattle.bf_query.proofs.OwnKeys.{OwnKeys, by_recursion, each, fold_keeps, own_keys}
-use Rattle.bf_image.proofs.items.Lists.{all_so}
+use Rattle.bf_migration.proofs.items.Lists.{all_so}
 use Rattle.bf_live.specs.Live.{committed, written_to}
 use Rattle.bf_live.specs.Open.{IsOpen}
 use Rattle.bf_live.proofs.statements.Seeing.{Stands}

@@ -27,7 +27,7 @@ use Rattle.bf_query.specs.Merged.{HasOwnKey, WritesOwnKey, applied, rows_under}
 use Rattle.bf_query.proofs.OwnKeys.{by_recursion, each}
 use Rattle.bf_query.proofs.RowsAsEntries.{rows_are}
 use Rattle.bf_image.specs.Sources.{table_under}
-use Rattle.bf_image.proofs.items.Names.{name-equal}
+use Rattle.bf_migration.proofs.items.Names.{name-equal}
 use Rattle.bf_live.specs.Live.{NamedRows, committed, written_to}
 use Rattle.bf_live.specs.Puts.{all_puts}
 use Rattle.bf_live.proofs.statements.Named.{IsThere, all_there}

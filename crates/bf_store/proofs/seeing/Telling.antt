@@ -26,7 +26,7 @@ use Rattle.bf_query.specs.Merged.{WritesOwnKey, applied, changed_by}
 use Rattle.bf_query.proofs.Keyed.{by_key, row_under-applied}
 use Rattle.bf_query.proofs.Merging.{RisesFrom, rows_of, write_keys}
 use Rattle.bf_query.proofs.OwnKeys.{by_recursion, each, filtered}
-use Rattle.bf_image.proofs.items.Names.{name-equal}
+use Rattle.bf_migration.proofs.items.Names.{name-equal}
 use Rattle.bf_live.specs.Live.{committed, written_to}
 use Rattle.bf_live.proofs.statements.Named.{IsThere, all_there}
 use Rattle.bf_live.proofs.statements.Seeing.{Stands, nothing_written}

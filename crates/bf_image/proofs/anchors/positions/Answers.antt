@@ -2,7 +2,7 @@ use Rattle.std.proofs.Common.{◌≡◌, ◌≤◌, ◌∙◌, List, Some, lengt
 use Rattle.std.specs.Prelude.{slice_get}
 use Rattle.std.proofs.lemmas.Option.{slice_get_read}
 use Rattle.bf_tree.specs.declared.plan.Unit.{Unit as Planned}
-use Rattle.bf_image.proofs.planning.Swept.{anchors_by_rows, anchors_by_values, anchors_past, has_few_rows}
+use Rattle.bf_image.proofs.cutting.Swept.{anchors_by_rows, anchors_by_values, anchors_past, has_few_rows}
 use Rattle.bf_image.proofs.anchors.positions.Goals as goal
 
 pub value_count-requires : goal.value_count-requires

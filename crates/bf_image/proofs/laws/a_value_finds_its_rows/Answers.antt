@@ -1,4 +1,4 @@
-use Rattle.bf_image.proofs.Indexed.{values_are, under_is, rows_are}
+use Rattle.bf_migration.proofs.Indexed.{values_are, under_is, rows_are}
 use Rattle.bf_image.proofs.laws.a_value_finds_its_rows.Goals as goal
 
 pub returns-clause-values : goal.returns-clause-values

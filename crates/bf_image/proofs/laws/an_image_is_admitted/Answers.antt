@@ -1,5 +1,5 @@
 use Rattle.std.specs.List.{list_all}
-use Rattle.bf_image.proofs.items.Lists.{all_of_contained}
+use Rattle.bf_migration.proofs.items.Lists.{all_of_contained}
 use Rattle.bf_image.proofs.finding.Owned.{target_unobjected}
 use Rattle.bf_image.proofs.admitting.Admitted.{image_admitted}
 use Rattle.bf_image.proofs.admitting.Few.{goes_over_few, few_sources}

@@ -1,0 +1,5 @@
+pub mod BoundArms
+pub mod Items
+pub mod Joins
+pub mod Tables
+pub mod Walked
