@@ -191,9 +191,12 @@ sign_deep {n = n} {ws = ws} {a = a} {behind = behind} op k e high h =
     left_here (other_not_here (between_begun n a) (sign_not_between ws (words behind) op h.it))
     (subst (λ (z : ℕ). Fits is_point (Marked (Node (n + 1)) (Compared n a)) ws (Over TooDeep z)) e (record { it = mark_over is_point (Node (n + 1)) (Compared n a) (Say (Sign (compare_sign op)) ∷ []) (Sign (compare_sign op)) ws (words behind) TooDeep (deep n high) h.it refl (c.it.0, c.it.1, (op, c.it.0, refl, c.it.2)) }))
 
+pub compared_go : {n : ℕ} {ws rest : List Word} {a : tree.Expr Ref} {r : Reading CountedCond} (op : Compare) → n < 256 → ws ≡ Sign (compare_sign op) ∷ rest → Fits is_point (Then OperandRule (λ b. Return (tree.compared op a b, n + 1))) rest r → Fits is_point (Tested n a) ws r
+compared_go {n = n} {ws = ws} {rest = rest} {a = a} {r = r} op low e f =
+    left_here (other_not_here (between_begun n a) (sign_not_between ws rest op e)) (marked_go (shallow n low) (compared_by op n a ws rest r e f))
+
 pub sign_go : {n : ℕ} {ws : List Word} {a : tree.Expr Ref} {behind : Cursor} {r : Reading CountedCond} (op : Compare) → n < 256 → IsComparison ws (Some (op, behind)) → Fits is_point (Then OperandRule (λ b. Return (tree.compared op a b, n + 1))) (words behind) r → Fits is_point (Tested n a) ws r
-sign_go {n = n} {ws = ws} {a = a} {behind = behind} {r = r} op low h f =
-    left_here (other_not_here (between_begun n a) (sign_not_between ws (words behind) op h.it)) (marked_go (shallow n low) (compared_by op n a ws (words behind) r h.it f))
+sign_go op low h f = compared_go op low h.it f
 
 pub sign_stop : {n : ℕ} {ws : List Word} {a : tree.Expr Ref} {behind : Cursor} (op : Compare) (e : ReadStop) → n < 256 → IsComparison ws (Some (op, behind)) → Fits is_point OperandRule (words behind) (stopped e) → Fits is_point (Tested n a) ws (stopped e)
 sign_stop op e low h f = sign_go op low h (then_stop e (return_passed (λ t p. p)) (λ b. return_can) f)

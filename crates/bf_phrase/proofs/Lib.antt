@@ -8,6 +8,7 @@ pub mod Connections
 pub mod Contents
 pub mod Factors
 pub mod Fitting
+pub mod Groupings
 pub mod Items
 pub mod Lexed
 pub mod Listings

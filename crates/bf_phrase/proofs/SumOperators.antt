@@ -25,7 +25,7 @@ use Rattle.bf_phrase.specs.Cursors.{IsPlace, words}
 use Rattle.bf_phrase.specs.Tokens.{IsSpelling, AreTokensAs}
 use Rattle.bf_phrase.specs.First.{begins}
 use Rattle.bf_phrase.specs.Follow.{follow_product, follow_sum, is_sum_operator}
-use Rattle.bf_phrase.specs.Sums.{IsNextOperator}
+use Rattle.bf_phrase.specs.Sums.{IsNextOperator, word_before}
 use Rattle.bf_phrase.specs.Expressions.{Counted, NumberRule, narrow, widest, number, text, Product, product, no_factor, Products, no_product, other_product, sum_of, sum_word, is_number, begins_with_number}
 use Rattle.bf_phrase.specs.declared.sum_operator.SumOperator.TheVariants as operator
 use Rattle.bf_phrase.proofs.Fitting.{fits_by, fits_return, ends_not}
@@ -140,11 +140,15 @@ number_first content (t ∷ ts) h e =
     let k = kind_number t.kind (slice_range content t.at t.end) flag h.0.spelled e in
     (k.0, words_of content ts, ap (λ (w : Word). w ∷ words_of content ts) k.1, k.2)
 
-numbered_behind : (flag : Bool) (a : Counted) (behind : Cursor) (r : Reading Counted) → IsPlace behind → begins_with_number (words behind) ≡ flag → Fits follow_sum (Behind operator.Difference a) (words behind) r → Fits follow_sum (Numbered flag (Behind operator.Difference a)) (words behind) r
-numbered_behind false a behind r place e f = let k = behind_text operator.Difference a in record { it = unnumbered follow_sum (Behind operator.Difference a) (behind_headed operator.Difference a) (k.0, k.1, (k.2, refl)) (words behind) r e f.it }
-numbered_behind true a behind r place e f =
-    let k = number_first behind.text.now behind.tokens.now place.it e in
-    record { it = numbered follow_sum (Behind operator.Difference a) (λ w. true) (behind_begun operator.Difference a) k.0 (behind_number operator.Difference a k.0 k.3) (words behind) k.1 r k.2 f.it }
+-- a number that stands first is an INT behind a minus alone
+abbrev pub NumberFits : List Word → Type 0
+NumberFits ws = begins_with_number ws ≡ true → (v : ℕ) × (rest : List Word) × (ws ≡ word.Number v ∷ rest) × (v ≤ 2 ^ 63)
+
+numbered_behind : (flag : Bool) (a : Counted) (ws : List Word) (r : Reading Counted) → NumberFits ws → begins_with_number ws ≡ flag → Fits follow_sum (Behind operator.Difference a) ws r → Fits follow_sum (Numbered flag (Behind operator.Difference a)) ws r
+numbered_behind false a ws r low e f = let k = behind_text operator.Difference a in record { it = unnumbered follow_sum (Behind operator.Difference a) (behind_headed operator.Difference a) (k.0, k.1, (k.2, refl)) ws r e f.it }
+numbered_behind true a ws r low e f =
+    let k = low e in
+    record { it = numbered follow_sum (Behind operator.Difference a) (λ w. true) (behind_begun operator.Difference a) k.0 (behind_number operator.Difference a k.0 k.3) ws k.1 r k.2 f.it }
 
 numbered_can : (flag : Bool) (a : Counted) → Can (Numbered flag (Behind operator.Difference a))
 numbered_can false a = let k = behind_text operator.Difference a in record { it = (k.0, k.1, (k.2, refl)) }
@@ -152,14 +156,17 @@ numbered_can true a = let k = behind_number operator.Difference a 0 (omega arith
 
 -- ---- a loop's step
 
+pub operator_word : {a : Counted} {ws rest : List Word} {r : Reading Counted} (by : SumOperator) → a.1 < 256 → NumberFits rest → ws ≡ word_before by rest ∷ rest → Fits follow_sum (Behind by a) rest r → Fits follow_sum (Products a) ws r
+operator_word {a = a} {ws = ws} {rest = rest} {r = r} operator.Plus low int e f =
+    record { it = fits_by follow_sum (Added (Sign sign.Plus) operator.Plus a) (Products a) ws r (node_go low (record { it = e }) f).it (added_to (Sign sign.Plus) operator.Plus a (λ z. refl)) (plus_from a ws rest e) }
+operator_word {a = a} {ws = ws} {rest = rest} {r = r} operator.Concatenation low int e f =
+    record { it = fits_by follow_sum (Added (Sign sign.Bars) operator.Concatenation a) (Products a) ws r (node_go low (record { it = e }) f).it (added_to (Sign sign.Bars) operator.Concatenation a (λ z. refl)) (bars_from a ws rest e) }
+operator_word {a = a} {ws = ws} {rest = rest} {r = r} operator.Difference low int e f =
+    let flag = begins_with_number rest in
+    record { it = fits_by follow_sum (Subtracted flag a) (Products a) ws r (node_go low (record { it = e }) (numbered_behind flag a rest r int refl f)).it (minus_to flag a) (minus_from flag a ws rest e) }
+
 pub operator_go : {a : Counted} {ws : List Word} {behind : Cursor} {r : Reading Counted} (by : SumOperator) → a.1 < 256 → IsPlace behind → IsNextOperator ws (Some (by, behind)) → Fits follow_sum (Behind by a) (words behind) r → Fits follow_sum (Products a) ws r
-operator_go {a = a} {ws = ws} {behind = behind} {r = r} operator.Plus low place h f =
-    record { it = fits_by follow_sum (Added (Sign sign.Plus) operator.Plus a) (Products a) ws r (node_go low (record { it = h.it }) f).it (added_to (Sign sign.Plus) operator.Plus a (λ z. refl)) (plus_from a ws (words behind) h.it) }
-operator_go {a = a} {ws = ws} {behind = behind} {r = r} operator.Concatenation low place h f =
-    record { it = fits_by follow_sum (Added (Sign sign.Bars) operator.Concatenation a) (Products a) ws r (node_go low (record { it = h.it }) f).it (added_to (Sign sign.Bars) operator.Concatenation a (λ z. refl)) (bars_from a ws (words behind) h.it) }
-operator_go {a = a} {ws = ws} {behind = behind} {r = r} operator.Difference low place h f =
-    let flag = begins_with_number (words behind) in
-    record { it = fits_by follow_sum (Subtracted flag a) (Products a) ws r (node_go low (record { it = h.it }) (numbered_behind flag a behind r place refl f)).it (minus_to flag a) (minus_from flag a ws (words behind) h.it) }
+operator_go {behind = behind} by low place h f = operator_word by low (number_first behind.text.now behind.tokens.now place.it) h.it f
 
 pub operator_deep : {a : Counted} {ws : List Word} {behind : Cursor} (k : ℕ) (by : SumOperator) → length ws ≡ k → 256 ≤ a.1 → IsNextOperator ws (Some (by, behind)) → Fits follow_sum (Products a) ws (Over TooDeep k)
 operator_deep {a = a} {ws = ws} {behind = behind} k operator.Plus e high h =

@@ -5,6 +5,7 @@ pub mod Cursors
 pub mod Expressions
 pub mod First
 pub mod Follow
+pub mod GroupingExamples
 pub mod Items
 pub mod Limits
 pub mod Outcome

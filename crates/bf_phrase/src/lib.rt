@@ -8,6 +8,7 @@ mod comparison;
 pub mod condition;
 pub mod cursor;
 pub mod error;
+pub mod examples;
 pub mod expression;
 mod first;
 mod item;
