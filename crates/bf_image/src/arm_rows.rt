@@ -4,7 +4,7 @@ ghost use Rattle.std.specs.Prelude.{◌≡◌, ◌++◌, [], ◌∷◌, IfOk, Is
 ghost use Rattle.std.specs.List.{list_all, All};
 ghost use Rattle.std.specs.Option.{option_copied, option_map, option_to_list};
 ghost use Rattle.bf_base.specs.declared.value.Value.{Value as Cell};
-ghost use Rattle.bf_base.specs.Tables.{cell};
+ghost use Rattle.bf_base.specs.Tables.{cell, cells};
 ghost use Rattle.bf_tree.specs.Evaluation.{holds_on, sure_value};
 ghost use Rattle.bf_tree.specs.Trees.{always};
 ghost use Rattle.bf_tree.specs.declared.items.Items.TheVariants.{Aggregates};
