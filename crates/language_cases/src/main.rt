@@ -1,0 +1,32 @@
+//! Tells of the texts of cases what the language's layer makes of them, and how many cases each file has.
+//!
+//! The name of a file says what is told of its texts: of each line, or of all lines together. In lines that are read
+//! as bytes `\x` and two digits stand for a byte. The first case of which something else is told is told with that,
+//! and ends the program with status 1.
+#![tactic(auto)]
+
+mod bytes;
+mod orders;
+mod phrases;
+mod reports;
+mod scripts;
+mod subjects;
+mod tables;
+mod trees;
+mod values;
+mod words;
+mod writing;
+
+use case_files::compare_all;
+use std::{env, fs};
+use subjects::Subject;
+
+fn main(rt: HostRuntime) -> anyhow::Result<()> {
+    for name in env::args(&rt)?.skip(1) {
+        let file = fs::read_to_string(&rt, name.as_str())?;
+        let subject = Subject::of_file(name.as_str());
+        let cases = compare_all(&subject, rt.alloc(), file.as_str())?;
+        println!(&rt; "{name}: {cases} cases")?;
+    }
+    Ok(())
+}
