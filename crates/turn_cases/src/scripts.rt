@@ -6,13 +6,11 @@ ghost use Rattle.bf_tree.specs.Limits.{IsNarrowIfMigrate, is_narrow_statement};
 ghost use Rattle.bf_machine.specs.interleaving.Kept.{IsWithinLimits};
 
 use anyhow::bail;
+use bf_base::MOST_COLUMNS;
 use bf_eager::is_narrow;
 use bf_parse::script;
 use bf_tree::{Script, Session, Statement};
 use std::alloc::Global;
-
-/// The most columns of a table.
-const MOST_COLUMNS: usize = 16;
 
 /// Whether a statement is of a size that a script can have.
 fn is_small(statement: &Statement) -> bool
