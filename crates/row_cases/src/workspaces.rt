@@ -95,7 +95,8 @@ impl Writes {
             let (key, row) = pair(alloc, word)?;
             writes.write(key, row)?;
         }
-        tell_size(writes.len(), told)?;
+        let keys = if writes.is_empty() { 0 } else { writes.len() };
+        tell_size(keys, told)?;
         self.workspace.write_all(&self.table, writes)?;
         Ok(())
     }
