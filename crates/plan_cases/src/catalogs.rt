@@ -3,10 +3,10 @@
 ghost use Rattle.std.specs.Prelude.{◌≡◌, IfOk};
 ghost use Rattle.bf_base.specs.Names.{folded};
 
+use anyhow::bail;
 use bf_base::{Name, Sequence, Table};
 use bf_tree::Catalog;
 use std::alloc::Global;
-use std::test::Fail;
 
 const TABLES: u16 = 4000;
 
@@ -17,7 +17,7 @@ fn spelt(number: u16) -> [u8; 5] {
 }
 
 /// A table without columns.
-fn table(alloc: Global, letters: &[u8]) -> Result<Table, Fail>
+fn table(alloc: Global, letters: &[u8]) -> anyhow::Result<Table>
     ensures { IfOk result (λ table. table.name ≡ folded letters.now) }
 {
     Ok(Table {
@@ -27,12 +27,12 @@ fn table(alloc: Global, letters: &[u8]) -> Result<Table, Fail>
     })
 }
 
-fn fallen(alloc: Global) -> Result<Catalog, Fail> {
+fn fallen(alloc: Global) -> anyhow::Result<Catalog> {
     let mut catalog = Catalog::new(alloc);
     for number in (0..TABLES).rev() {
         let table = table(alloc, spelt(number).as_slice())?;
         if catalog.table(&table.name).is_some() {
-            return Err("a name comes twice".into());
+            bail!("a name comes twice");
         }
         catalog.add_table(table)?;
     }
@@ -52,17 +52,22 @@ fn first_misplaced(catalog: &Catalog) -> Option<u16> {
 }
 
 /// Whether there is a table of a number.
-fn is_there(alloc: Global, catalog: &Catalog, number: u16) -> Result<bool, Fail> {
+fn is_there(alloc: Global, catalog: &Catalog, number: u16) -> anyhow::Result<bool> {
     let name = Name::of(alloc, spelt(number).as_slice())?;
     Ok(catalog.table(&name).is_some())
 }
 
-#[test]
-fn tables_made_in_falling_order_stand_in_rising_order(rt: HostRuntime) -> Result<(), Fail> {
-    let catalog = fallen(rt.alloc())?;
-    assert_eq!(rt; catalog.number(), u64::from(TABLES));
-    assert_eq!(rt; first_misplaced(&catalog), None);
-    assert!(rt; is_there(rt.alloc(), &catalog, 7)?);
-    assert!(rt; !is_there(rt.alloc(), &catalog, TABLES)?);
+/// Tells of tables that are made in falling order how many changes they are, which is the first that does not stand in
+/// rising order, and whether one of them and the one behind the last are there.
+pub fn tell_catalog(alloc: Global, told: &mut String) -> anyhow::Result<()> {
+    let catalog = fallen(alloc)?;
+    let changes = catalog.number();
+    let misplaced = first_misplaced(&catalog);
+    let one = is_there(alloc, &catalog, 7)?;
+    let behind = is_there(alloc, &catalog, TABLES)?;
+    write!(
+        told,
+        "catalog of {changes} changes: misplaced {misplaced:?}, 7 there {one}, 4000 there {behind}"
+    )?;
     Ok(())
 }
