@@ -17,6 +17,7 @@ mod values;
 mod words;
 mod writing;
 
+use anyhow::Context;
 use case_files::compare_all;
 use std::{env, fs};
 use subjects::Subject;
@@ -24,7 +25,7 @@ use subjects::Subject;
 fn main(rt: HostRuntime) -> anyhow::Result<()> {
     for name in env::args(&rt)?.skip(1) {
         let file = fs::read_to_string(&rt, name.as_str())?;
-        let subject = Subject::of_file(name.as_str());
+        let subject = Subject::of_file(name.as_str()).context("no such subject")?;
         let cases = compare_all(&subject, rt.alloc(), file.as_str())?;
         println!(&rt; "{name}: {cases} cases")?;
     }

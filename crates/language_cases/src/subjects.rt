@@ -9,69 +9,111 @@ use crate::tables::{tell_fit, tell_key};
 use crate::trees::tell_tree;
 use crate::words::{tell_keyword, tell_name, tell_sign, tell_text};
 use crate::writing::{tell_numbers, tell_refusal, tell_values};
-use anyhow::bail;
 use case_files::Teller;
 use std::alloc::Global;
 
-/// What the cases of a file are about, by the file's name.
+/// What the cases of a file are about.
 #[derive(Clone, Copy)]
-pub struct Subject<'a> {
-    name: &'a str,
+pub enum Subject {
+    Blanks,
+    Columns,
+    Conditions,
+    Expressions,
+    Granules,
+    Keys,
+    Keywords,
+    Literals,
+    Names,
+    Numbers,
+    Orders,
+    Refusals,
+    Reports,
+    Scripts,
+    Signs,
+    Texts,
+    Tokens,
+    Trees,
+    Values,
 }
 
-impl<'a> Subject<'a> {
+/// The names of files, and their subjects.
+static SUBJECTS: [(&str, Subject); 19] = [
+    ("blanks.cases", Subject::Blanks),
+    ("columns.cases", Subject::Columns),
+    ("conditions.cases", Subject::Conditions),
+    ("expressions.cases", Subject::Expressions),
+    ("granules.cases", Subject::Granules),
+    ("keys.cases", Subject::Keys),
+    ("keywords.cases", Subject::Keywords),
+    ("literals.cases", Subject::Literals),
+    ("names.cases", Subject::Names),
+    ("numbers.cases", Subject::Numbers),
+    ("orders.cases", Subject::Orders),
+    ("refusals.cases", Subject::Refusals),
+    ("reports.cases", Subject::Reports),
+    ("scripts.cases", Subject::Scripts),
+    ("signs.cases", Subject::Signs),
+    ("texts.cases", Subject::Texts),
+    ("tokens.cases", Subject::Tokens),
+    ("trees.cases", Subject::Trees),
+    ("values.cases", Subject::Values),
+];
+
+impl Subject {
     /// The subject of a file, which may stand behind its folder.
-    pub fn of_file(file: &'a str) -> Subject<'a> {
+    pub fn of_file(file: &str) -> Option<Subject> {
         let (_, name) = file.rsplit_once("/").unwrap_or(("", file));
-        Subject { name }
-    }
-
-    /// Adds what is told of a line that is read as bytes.
-    fn tell_bytes_of(&self, alloc: Global, line: &str, told: &mut String) -> anyhow::Result<()> {
-        let bytes = bytes_of(alloc, line)?;
-        let bytes = bytes.as_slice();
-        match self.name {
-            "tokens.cases" => tell_tokens(alloc, bytes, told),
-            "names.cases" => tell_name(alloc, bytes, told),
-            "texts.cases" => tell_text(alloc, bytes, told),
-            "literals.cases" => tell_literal(alloc, bytes, told),
-            "expressions.cases" => tell_expression(alloc, bytes, told),
-            "conditions.cases" => tell_condition(alloc, bytes, told),
-            "scripts.cases" => tell_script(alloc, bytes, told),
-            name => bail!("nothing is told of {name}"),
+        for (found, subject) in SUBJECTS.iter() {
+            if *found == name {
+                return Some(*subject);
+            }
         }
+        None
     }
 
-    /// Adds what is told of a line.
-    fn tell_line(&self, alloc: Global, line: &str, told: &mut String) -> anyhow::Result<()> {
-        match self.name {
-            "blanks.cases" => tell_blanks(alloc, line, told),
-            "keywords.cases" => tell_keyword(line, told),
-            "signs.cases" => tell_sign(line, told),
-            "trees.cases" => tell_tree(alloc, line, told),
-            "columns.cases" => tell_fit(alloc, line, told),
-            "keys.cases" => tell_key(alloc, line, told),
-            "numbers.cases" => tell_numbers(alloc, line, told),
-            "values.cases" => tell_values(alloc, line, told),
-            "refusals.cases" => tell_refusal(alloc, line, told),
-            "reports.cases" => tell_report(alloc, line, told),
-            _ => self.tell_bytes_of(alloc, line, told),
+    /// Whether something is told of each line of a text, and not of all its lines together.
+    fn has_lines(self) -> bool {
+        !matches!(self, Subject::Granules | Subject::Orders)
+    }
+
+    /// Adds what is told of a line, or of a text where nothing is told of its lines.
+    fn tell_part(self, alloc: Global, part: &str, told: &mut String) -> anyhow::Result<()> {
+        let bytes = bytes_of(alloc, part)?;
+        let bytes = bytes.as_slice();
+        match self {
+            Subject::Blanks => tell_blanks(alloc, part, told),
+            Subject::Columns => tell_fit(alloc, part, told),
+            Subject::Conditions => tell_condition(alloc, bytes, told),
+            Subject::Expressions => tell_expression(alloc, bytes, told),
+            Subject::Granules => tell_granules(alloc, part, told),
+            Subject::Keys => tell_key(alloc, part, told),
+            Subject::Keywords => tell_keyword(part, told),
+            Subject::Literals => tell_literal(alloc, bytes, told),
+            Subject::Names => tell_name(alloc, bytes, told),
+            Subject::Numbers => tell_numbers(alloc, part, told),
+            Subject::Orders => tell_keys(alloc, part, told),
+            Subject::Refusals => tell_refusal(alloc, part, told),
+            Subject::Reports => tell_report(alloc, part, told),
+            Subject::Scripts => tell_script(alloc, bytes, told),
+            Subject::Signs => tell_sign(part, told),
+            Subject::Texts => tell_text(alloc, bytes, told),
+            Subject::Tokens => tell_tokens(alloc, bytes, told),
+            Subject::Trees => tell_tree(alloc, part, told),
+            Subject::Values => tell_values(alloc, part, told),
         }
     }
 }
 
-impl Teller for Subject<'_> {
+impl Teller for Subject {
     fn tell(&self, alloc: Global, text: &str, told: &mut String) -> anyhow::Result<()> {
-        match self.name {
-            "orders.cases" => return tell_keys(alloc, text, told),
-            "granules.cases" => return tell_granules(alloc, text, told),
-            _ => {}
+        if !self.has_lines() {
+            return self.tell_part(alloc, text, told);
         }
         for (place, line) in text.split("\n").enumerate() {
             if place > 0 {
                 told.push('\n')?;
             }
-            self.tell_line(alloc, line, told)?;
+            self.tell_part(alloc, line, told)?;
         }
         Ok(())
     }
