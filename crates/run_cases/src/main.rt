@@ -2,10 +2,16 @@
 //!
 //! A case is a script and the report that `bullfrog try` prints of it, with the number of the status behind it where
 //! that is not 0. Each script is run over an empty database and again over an empty log, which is to print the same.
-//! The first case that prints another report is told with that report, and ends the program with status 1.
+//! A text that begins with `$ ` is no script: it has steps, each behind such a mark, and what they tell. The first case
+//! that tells something else is told with that, and ends the program with status 1.
 #![tactic(auto)]
 
+mod bytes;
+mod desk;
+mod narrow;
 mod running;
+mod scripts;
+mod steps;
 
 use case_files::compare_all;
 use running::Run;

@@ -1,0 +1,136 @@
+//! The steps of a case that is no script.
+//!
+//! | step | does | tells |
+//! |---|---|---|
+//! | `call WORDS` | calls the program with these words, of which `''` is the empty one, and the script of the lines below | what is printed, and the status |
+//! | `set BYTES` | puts a file with these bytes under `log` | |
+//! | `fail DEVICE N` | lets the N-th call of a device fail, which is `read` or `write` of the calls to come, or `disk` of the file to be set | |
+//! | `show PATH` | | the bytes of a file |
+//! | `count` | | how many calls of the log's disk there were, and how many faults |
+//! | `crash TORN` | | the bytes that a crash leaves of the log, where those that are pending are these in turn |
+//! | `stops TORN` | runs the script of the lines below over the log that is left where its disk's calls from the first on were never made, from the second on, and so forth | what is printed, where it is not what was printed before, and the number of the call |
+
+use crate::bytes::{read_bytes, tell_bytes};
+use crate::desk::Desk;
+use crate::scripts::read_script;
+use anyhow::bail;
+use std::alloc::{AllocError, Global};
+use std::sync::Wait;
+
+/// Adds what steps tell, which follow one another behind marks.
+pub fn take_steps(
+    rt: &impl Wait,
+    alloc: Global,
+    steps: &str,
+    told: &mut String,
+) -> anyhow::Result<()> {
+    let mut desk = Desk::new(alloc);
+    for step in steps.split("\n$ ") {
+        take_step(rt, alloc, step, &mut desk, told)?;
+    }
+    Ok(())
+}
+
+/// Adds what a step tells: a line, and the lines of its script.
+fn take_step(
+    rt: &impl Wait,
+    alloc: Global,
+    step: &str,
+    desk: &mut Desk,
+    told: &mut String,
+) -> anyhow::Result<()> {
+    let Some((line, lines)) = step.split_once("\n") else {
+        return take(rt, alloc, step, "", desk, told);
+    };
+    let mut script = String::new(alloc);
+    read_script(lines, &mut script)?;
+    take(rt, alloc, line, script.as_str(), desk, told)
+}
+
+/// Adds what a line tells with a script behind it.
+fn take(
+    rt: &impl Wait,
+    alloc: Global,
+    line: &str,
+    script: &str,
+    desk: &mut Desk,
+    told: &mut String,
+) -> anyhow::Result<()> {
+    let (verb, rest) = line.split_once(" ").unwrap_or((line, ""));
+    match verb {
+        "call" => desk.call(rt, alloc, &words_of(alloc, line)?, script, told),
+        "fail" => fail(rest, desk),
+        "show" => desk.show(word_of(rest), told),
+        "count" => desk.count(told),
+        _ => {
+            let mut bytes = Vec::new(alloc);
+            read_bytes(rest, &mut bytes)?;
+            take_with(rt, alloc, verb, &bytes, script, desk, told)
+        }
+    }
+}
+
+/// The words behind the first one of a line.
+fn words_of(alloc: Global, line: &str) -> Result<Vec<&str>, AllocError> {
+    let mut words = Vec::new(alloc);
+    for word in line.split(" ").skip(1) {
+        words.push(word_of(word))?;
+    }
+    Ok(words)
+}
+
+/// A word that is written, of which `''` is the empty one.
+fn word_of(written: &str) -> &str {
+    if written == "''" { "" } else { written }
+}
+
+/// Lets a call of a device fail.
+fn fail(which: &str, desk: &mut Desk) -> anyhow::Result<()> {
+    match which.split_once(" ") {
+        Some(("read", number)) => desk.failing.read = Some(number.parse()?),
+        Some(("write", number)) => desk.failing.write = Some(number.parse()?),
+        Some(("disk", number)) => desk.failing.disk = Some(number.parse()?),
+        _ => bail!("no device: {which}"),
+    }
+    Ok(())
+}
+
+/// Adds what a step with bytes tells.
+fn take_with(
+    rt: &impl Wait,
+    alloc: Global,
+    verb: &str,
+    bytes: &[u8],
+    script: &str,
+    desk: &mut Desk,
+    told: &mut String,
+) -> anyhow::Result<()> {
+    match verb {
+        "set" => desk.set(alloc, bytes),
+        "crash" => tell_bytes(desk.log()?.crash(alloc, bytes)?.bytes(), told),
+        "stops" => stop_at_each(rt, alloc, bytes, script, desk, told),
+        _ => bail!("no step: {verb}"),
+    }
+}
+
+/// Adds what is printed of a script over what each stop leaves of the log, with the number of the first call that is
+/// not made, where it is not what was printed before.
+fn stop_at_each(
+    rt: &impl Wait,
+    alloc: Global,
+    torn: &[u8],
+    script: &str,
+    desk: &Desk,
+    told: &mut String,
+) -> anyhow::Result<()> {
+    let mut last = String::new(alloc);
+    for call in 1..=desk.log()?.calls().saturating_add(1) {
+        let mut printed = String::new(alloc);
+        desk.stop(rt, alloc, call, torn, script, &mut printed)?;
+        if printed != last {
+            write!(told, "call {call}\n{printed}")?;
+            last = printed;
+        }
+    }
+    Ok(())
+}
