@@ -4,8 +4,8 @@ use anyhow::Context;
 use std::alloc::AllocError;
 
 /// Adds the script that lines write, each with a line feed. A line `& N` stands for the character with this number and
-/// no line feed, and a line `% FIRST LAST TEXT` for as many lines as there are numbers from FIRST to LAST, each the text
-/// with the number in the place of its `#`.
+/// no line feed, and a line `% FIRST LAST TEXT` for as many lines as there are numbers from FIRST to LAST, each the
+/// text with the number in the place of its `#`.
 pub fn read_script(lines: &str, script: &mut String) -> anyhow::Result<()> {
     for line in lines.split("\n") {
         if let Some(number) = line.strip_prefix("& ") {

@@ -1,14 +1,16 @@
 //! The steps of a case that is no script.
 //!
-//! | step | does | tells |
-//! |---|---|---|
-//! | `call WORDS` | calls the program with these words, of which `''` is the empty one, and the script of the lines below | what is printed, and the status |
-//! | `set BYTES` | puts a file with these bytes under `log` | |
-//! | `fail DEVICE N` | lets the N-th call of a device fail, which is `read` or `write` of the calls to come, or `disk` of the file to be set | |
-//! | `show PATH` | | the bytes of a file |
-//! | `count` | | how many calls of the log's disk there were, and how many faults |
-//! | `crash TORN` | | the bytes that a crash leaves of the log, where those that are pending are these in turn |
-//! | `stops TORN` | runs the script of the lines below over the log that is left where its disk's calls from the first on were never made, from the second on, and so forth | what is printed, where it is not what was printed before, and the number of the call |
+//! - `call WORDS` calls the program with these words, of which `''` is the empty one, and with the script of the lines
+//!   below. It tells what is printed, and the status.
+//! - `set BYTES` puts a file with these bytes under `log`.
+//! - `fail DEVICE N` lets the N-th call of a device fail: `read` or `write` of the calls to come, or `disk` of the file
+//!   to be set.
+//! - `show PATH` tells the bytes of a file.
+//! - `count` tells how many calls of the log's disk there were, and how many faults.
+//! - `crash TORN` tells the bytes that a crash leaves of the log, where those that are pending are these in turn.
+//! - `stops TORN` runs the script of the lines below over the log that is left where the calls of its disk from the
+//!   first on were never made, from the second on, and so forth. It tells what is printed where it is not what was
+//!   printed before, behind the number of the call.
 
 use crate::bytes::{read_bytes, tell_bytes};
 use crate::desk::Desk;
