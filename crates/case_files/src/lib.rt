@@ -6,6 +6,9 @@
 
 use anyhow::{Context, bail};
 use std::alloc::Global;
+use std::fs;
+use std::io::{Eprint, Print};
+use std::rt::Files;
 
 /// Tells what is to be compared.
 pub trait Teller {
@@ -44,24 +47,37 @@ fn apart(rest: &str) -> Option<(&str, &str)> {
     Some((rest.strip_suffix("\n---")?, ""))
 }
 
-/// Fails where something else is told of a case, with its title and that.
-fn compare<T: Teller>(teller: &T, alloc: Global, case: &Case) -> anyhow::Result<()> {
+/// What is told of a case, where that is something else than is to be told.
+fn told_otherwise<T: Teller>(
+    teller: &T,
+    alloc: Global,
+    case: &Case,
+) -> anyhow::Result<Option<String>> {
     let mut told = String::new(alloc);
     teller.tell(alloc, case.text, &mut told)?;
     if told.as_str().strip_suffix("\n").unwrap_or(told.as_str()) == case.told {
-        return Ok(());
+        return Ok(None);
     }
-    bail!("{}\n{}", case.title, told);
+    Ok(Some(told))
 }
 
-/// How many cases a file has, where of each is told what is to be told. Fails at the first other one, with its title
-/// and what is told.
-pub fn compare_all<T: Teller>(teller: &T, alloc: Global, file: &str) -> anyhow::Result<usize> {
+/// Compares what is told of the cases of a file with what is to be told of them, and prints how many there are.
+/// Fails at the first of which something else is told; its title and that are printed to standard error.
+pub fn compare_file<R: Files + Print + Eprint + AllocGlobal, T: Teller>(
+    rt: &R,
+    name: &str,
+    teller: &T,
+) -> anyhow::Result<()> {
+    let file = fs::read_to_string(rt, name)?;
     let mut count = 0usize;
-    for part in file.split("\n=== ") {
+    for part in file.as_str().split("\n=== ") {
         let case = Case::of(part).context("a case without a line ---")?;
-        compare(teller, alloc, &case)?;
+        if let Some(told) = told_otherwise(teller, rt.alloc(), &case)? {
+            eprintln!(rt; "{}\n{told}", case.title)?;
+            bail!("{name}: something else is told");
+        }
         count = count.saturating_add(1);
     }
-    Ok(count)
+    println!(rt; "{name}: {count} cases")?;
+    Ok(())
 }

@@ -18,16 +18,14 @@ mod words;
 mod writing;
 
 use anyhow::Context;
-use case_files::compare_all;
-use std::{env, fs};
+use case_files::compare_file;
+use std::env;
 use subjects::Subject;
 
 fn main(rt: HostRuntime) -> anyhow::Result<()> {
     for name in env::args(&rt)?.skip(1) {
-        let file = fs::read_to_string(&rt, name.as_str())?;
         let subject = Subject::of_file(name.as_str()).context("no such subject")?;
-        let cases = compare_all(&subject, rt.alloc(), file.as_str())?;
-        println!(&rt; "{name}: {cases} cases")?;
+        compare_file(&rt, name.as_str(), &subject)?;
     }
     Ok(())
 }

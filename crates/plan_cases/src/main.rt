@@ -11,16 +11,14 @@ mod plans;
 mod ready;
 mod told;
 
-use case_files::compare_all;
+use case_files::compare_file;
 use catalogs::tell_catalog;
 use ready::Ready;
-use std::{env, fs};
+use std::env;
 
 fn main(rt: HostRuntime) -> anyhow::Result<()> {
     for name in env::args(&rt)?.skip(1) {
-        let file = fs::read_to_string(&rt, name.as_str())?;
-        let cases = compare_all(&Ready, rt.alloc(), file.as_str())?;
-        println!(&rt; "{name}: {cases} cases")?;
+        compare_file(&rt, name.as_str(), &Ready)?;
     }
     let mut told = String::new(rt.alloc());
     tell_catalog(rt.alloc(), &mut told)?;

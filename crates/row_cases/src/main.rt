@@ -23,9 +23,9 @@ mod indexes;
 mod workspaces;
 
 use anyhow::{Context, bail};
-use case_files::{Teller, compare_all};
+use case_files::{Teller, compare_file};
 use std::alloc::Global;
-use std::{env, fs};
+use std::env;
 
 /// Tells what the calls of a case answer.
 #[derive(Clone, Copy)]
@@ -46,9 +46,7 @@ impl Teller for RowCalls {
 
 fn main(rt: HostRuntime) -> anyhow::Result<()> {
     for name in env::args(&rt)?.skip(1) {
-        let file = fs::read_to_string(&rt, name.as_str())?;
-        let cases = compare_all(&RowCalls, rt.alloc(), file.as_str())?;
-        println!(&rt; "{name}: {cases} cases")?;
+        compare_file(&rt, name.as_str(), &RowCalls)?;
     }
     Ok(())
 }

@@ -13,16 +13,14 @@ mod running;
 mod scripts;
 mod steps;
 
-use case_files::compare_all;
+use case_files::compare_file;
 use running::Run;
-use std::{env, fs};
+use std::env;
 
 fn main(rt: HostRuntime) -> anyhow::Result<()> {
     let run = Run { rt: &rt };
     for name in env::args(&rt)?.skip(1) {
-        let file = fs::read_to_string(&rt, name.as_str())?;
-        let cases = compare_all(&run, rt.alloc(), file.as_str())?;
-        println!(&rt; "{name}: {cases} cases")?;
+        compare_file(&rt, name.as_str(), &run)?;
     }
     Ok(())
 }

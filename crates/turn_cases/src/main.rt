@@ -13,16 +13,14 @@ mod scripts;
 mod settings;
 mod turns;
 
-use case_files::compare_all;
-use std::{env, fs};
+use case_files::compare_file;
+use std::env;
 use turns::Turns;
 
 fn main(rt: HostRuntime) -> anyhow::Result<()> {
     let turns = Turns { rt: &rt };
     for name in env::args(&rt)?.skip(1) {
-        let file = fs::read_to_string(&rt, name.as_str())?;
-        let cases = compare_all(&turns, rt.alloc(), file.as_str())?;
-        println!(&rt; "{name}: {cases} cases")?;
+        compare_file(&rt, name.as_str(), &turns)?;
     }
     Ok(())
 }
