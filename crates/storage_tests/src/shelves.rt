@@ -3,18 +3,22 @@
 ghost use Rattle.std.specs.Prelude.{◌≡◌, ℕ, None, List, IfOk};
 ghost use Rattle.bf_disk.specs.MemoryShelves.{taken_at};
 
-use crate::fixtures::tape;
 use bf_base::Memory;
 use bf_disk::{Disk, DiskError, MemoryShelf, Shelf, TapeDisk};
 use std::alloc::Global;
 use std::test::Fail;
+
+// An empty file.
+fn empty_tape(alloc: Global) -> TapeDisk {
+    TapeDisk::new(alloc, Vec::new(alloc), Vec::new(alloc), None)
+}
 
 // A shelf with an empty disk under `a`, and one under `b` of which each call fails.
 fn two_paths(alloc: Global) -> Result<MemoryShelf, Memory>
     ensures { IfOk result (λ shelf. (path : List ℕ) → taken_at shelf path ≡ None) }
 {
     let mut shelf = MemoryShelf::new(alloc);
-    match shelf.set("a", tape(alloc, b"", &[])?) {
+    match shelf.set("a", empty_tape(alloc)) {
         Ok(()) => {}
         Err((_, e)) => return Err(e),
     }

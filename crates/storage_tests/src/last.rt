@@ -1,7 +1,7 @@
 //! The smallest state, and who reads records into it.
 
 ghost use Rattle.std.specs.Prelude.{◌≡◌};
-ghost use Rattle.journal_tests.specs.Lasts.{LastSteps, first_last, last_once};
+ghost use Rattle.storage_tests.specs.Lasts.{LastSteps, first_last, last_once};
 
 use bf_base::Memory;
 use bf_journal::{Reader, State};

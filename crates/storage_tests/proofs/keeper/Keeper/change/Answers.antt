@@ -1,6 +1,6 @@
 use Rattle.std.proofs.Common.{inr, refl}
 use Rattle.std.proofs.Math.Logic.{∥∥₁_map}
-use Rattle.journal_tests.proofs.keeper.Keeper.change.Goals as goal
+use Rattle.storage_tests.proofs.keeper.Keeper.change.Goals as goal
 
 pub invariant_of-self : goal.invariant_of-self
 invariant_of-self g c = record {

@@ -3,8 +3,8 @@
 ghost use Rattle.std.specs.Prelude.{◌<◌, ◌≤◌, length};
 ghost use Rattle.bf_journal.specs.States.{StandsOn};
 ghost use Rattle.bf_log.specs.Format.{longest_payload};
-ghost use Rattle.journal_tests.specs.declared.last.Last.{Last as LastOf};
-ghost use Rattle.journal_tests.specs.Lasts.{LastSteps, first_last};
+ghost use Rattle.storage_tests.specs.declared.last.Last.{Last as LastOf};
+ghost use Rattle.storage_tests.specs.Lasts.{LastSteps, first_last};
 
 use crate::last::{Last, LastReader};
 use bf_disk::Disk;

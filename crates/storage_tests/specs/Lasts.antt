@@ -1,7 +1,7 @@
 -- The smallest state: how many bytes the last record has.
 use Rattle.std.specs.Prelude.{◌≡◌, ℕ, ◌<◌, List, length}
 use Rattle.std.proofs.Common.{sym, ◌∙◌, ap}
-use Rattle.journal_tests.specs.declared.last.Last.{Last}
+use Rattle.storage_tests.specs.declared.last.Last.{Last}
 
 abbrev pub first_last : Last
 first_last = record { len = 0 }
