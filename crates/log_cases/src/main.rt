@@ -12,15 +12,13 @@ mod logs;
 mod state;
 mod words;
 
-use case_files::compare_all;
+use case_files::compare_file;
 use lines::Lines;
-use std::{env, fs};
+use std::env;
 
 fn main(rt: HostRuntime) -> anyhow::Result<()> {
     for name in env::args(&rt)?.skip(1) {
-        let file = fs::read_to_string(&rt, name.as_str())?;
-        let cases = compare_all(&Lines, rt.alloc(), file.as_str())?;
-        println!(&rt; "{name}: {cases} cases")?;
+        compare_file(&rt, name.as_str(), &Lines)?;
     }
     Ok(())
 }

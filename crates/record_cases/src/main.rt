@@ -13,17 +13,15 @@ mod writing;
 
 use bf_record::a_record_has_one_spelling;
 use bf_wire::spellings_are_apart;
-use case_files::compare_all;
+use case_files::compare_file;
 use spelling::Spelling;
-use std::{env, fs};
+use std::env;
 
 fn main(rt: HostRuntime) -> anyhow::Result<()> {
     spellings_are_apart();
     a_record_has_one_spelling();
     for name in env::args(&rt)?.skip(1) {
-        let file = fs::read_to_string(&rt, name.as_str())?;
-        let cases = compare_all(&Spelling, rt.alloc(), file.as_str())?;
-        println!(&rt; "{name}: {cases} cases")?;
+        compare_file(&rt, name.as_str(), &Spelling)?;
     }
     Ok(())
 }
