@@ -4,80 +4,8 @@
 //! to be told of the text. Neither the line break in front of `---` nor the last one is part of them.
 #![tactic(auto)]
 
-use anyhow::{Context, bail};
-use std::alloc::Global;
-use std::fs;
-use std::io::{Eprint, Print};
-use std::rt::Files;
+mod cases;
+mod words;
 
-/// Tells what is to be compared.
-pub trait Teller {
-    /// Adds what is told of the text of a case.
-    fn tell(&self, alloc: Global, text: &str, told: &mut String) -> anyhow::Result<()>;
-}
-
-/// A text, and what is to be told of it.
-#[derive(Clone, Copy)]
-struct Case<'a> {
-    title: &'a str,
-    text: &'a str,
-    /// Without the last line's end.
-    told: &'a str,
-}
-
-impl<'a> Case<'a> {
-    /// The case of a part of a file, whose `=== ` need not stand in front. `None` where it has no line `---`.
-    fn of(part: &'a str) -> Option<Case<'a>> {
-        let part = part.strip_prefix("=== ").unwrap_or(part);
-        let part = part.strip_suffix("\n").unwrap_or(part);
-        let (title, rest) = part.split_once("\n")?;
-        let (text, told) = apart(rest)?;
-        Some(Case { title, text, told })
-    }
-}
-
-/// What stands in front of a line `---`, and what behind it.
-fn apart(rest: &str) -> Option<(&str, &str)> {
-    if let Some(told) = rest.strip_prefix("---\n") {
-        return Some(("", told));
-    }
-    if let Some(parts) = rest.split_once("\n---\n") {
-        return Some(parts);
-    }
-    Some((rest.strip_suffix("\n---")?, ""))
-}
-
-/// What is told of a case, where that is something else than is to be told.
-fn told_otherwise<T: Teller>(
-    teller: &T,
-    alloc: Global,
-    case: &Case,
-) -> anyhow::Result<Option<String>> {
-    let mut told = String::new(alloc);
-    teller.tell(alloc, case.text, &mut told)?;
-    if told.as_str().strip_suffix("\n").unwrap_or(told.as_str()) == case.told {
-        return Ok(None);
-    }
-    Ok(Some(told))
-}
-
-/// Compares what is told of the cases of a file with what is to be told of them, and prints how many there are.
-/// Fails at the first of which something else is told; its title and that are printed to standard error.
-pub fn compare_file<R: Files + Print + Eprint + AllocGlobal, T: Teller>(
-    rt: &R,
-    name: &str,
-    teller: &T,
-) -> anyhow::Result<()> {
-    let file = fs::read_to_string(rt, name)?;
-    let mut count = 0usize;
-    for part in file.as_str().split("\n=== ") {
-        let case = Case::of(part).context("a case without a line ---")?;
-        if let Some(told) = told_otherwise(teller, rt.alloc(), &case)? {
-            eprintln!(rt; "{}\n{told}", case.title)?;
-            bail!("{name}: something else is told");
-        }
-        count = count.saturating_add(1);
-    }
-    println!(rt; "{name}: {count} cases")?;
-    Ok(())
-}
+pub use cases::{Teller, compare_file, compare_files};
+pub use words::{bytes_of, first_word, tell_bytes};

@@ -1,6 +1,7 @@
 //! Reports of replies, transactions, tables and migrations that a name stands for.
 
 use crate::bytes::tell_bytes;
+use anyhow::bail;
 use bf_base::{Name, Sequence, Text, Value};
 use bf_text::report;
 use bf_tree::{Cause, Cell, Entry, History, Outcome, Refusal, Reply, Sweep, Transcripts};
@@ -33,7 +34,8 @@ fn reply(alloc: Global, number: u32) -> anyhow::Result<Reply> {
         13 => Reply::Ended(Cause::DiskFault),
         14 => Reply::Ended(Cause::Halted(2)),
         15 => Reply::Ended(Cause::LogFull(1024, 37)),
-        _ => Reply::Ended(Cause::TooLarge(70_000)),
+        16 => Reply::Ended(Cause::TooLarge(70_000)),
+        _ => bail!("no reply {number}"),
     })
 }
 

@@ -2,9 +2,11 @@
 
 use crate::bytes::tell_bytes;
 use crate::values::put_values_of;
+use anyhow::bail;
 use bf_base::{Key, Name};
 use bf_text::{put_number, put_refusal, put_values};
 use bf_tree::Refusal;
+use case_files::first_word;
 use std::alloc::Global;
 
 /// Adds a line's numbers as they are written behind what was there.
@@ -26,8 +28,8 @@ pub fn tell_values(alloc: Global, line: &str, told: &mut String) -> anyhow::Resu
 }
 
 /// The refusal of a number that tells a name.
-fn refusal_of_name(name: Name, number: u32) -> Refusal {
-    match number {
+fn refusal_of_name(name: Name, number: u32) -> anyhow::Result<Refusal> {
+    Ok(match number {
         1 => Refusal::NoTable(name),
         2 => Refusal::NoColumn(name),
         7 => Refusal::TableExists(name),
@@ -37,13 +39,14 @@ fn refusal_of_name(name: Name, number: u32) -> Refusal {
         15 => Refusal::KeyNotInherited(name),
         16 => Refusal::SourceUnknown(name),
         17 => Refusal::TooManyRows(name, 1_048_577),
-        _ => Refusal::IndexExists(name),
-    }
+        19 => Refusal::IndexExists(name),
+        _ => bail!("no refusal {number} of a name"),
+    })
 }
 
 /// The refusal of a number that tells no name, but may tell a key.
-fn refusal_of_key(key: Key, number: u32) -> Refusal {
-    match number {
+fn refusal_of_key(key: Key, number: u32) -> anyhow::Result<Refusal> {
+    Ok(match number {
         3 => Refusal::TypeMismatch,
         4 => Refusal::DuplicateKey(key),
         5 => Refusal::OutOfRange,
@@ -52,20 +55,21 @@ fn refusal_of_key(key: Key, number: u32) -> Refusal {
         10 => Refusal::NoTransaction,
         11 => Refusal::InTransaction,
         12 => Refusal::MustBeAlone,
-        _ => Refusal::UnitLimit(5),
-    }
+        18 => Refusal::UnitLimit(5),
+        _ => bail!("no refusal {number}"),
+    })
 }
 
 /// Adds the text of a refusal by a line's number, with the name or the key that stand behind it.
 pub fn tell_refusal(alloc: Global, line: &str, told: &mut String) -> anyhow::Result<()> {
-    let (number, rest) = line.split_once(" ").unwrap_or((line, ""));
+    let (number, rest) = first_word(line);
     let number = number.parse::<u32>()?;
     let refusal = if let Ok(name) = Name::of(alloc, rest.as_bytes()) {
-        refusal_of_name(name, number)
+        refusal_of_name(name, number)?
     } else {
         let mut values = Vec::new(alloc);
         put_values_of(alloc, rest, &mut values)?;
-        refusal_of_key(Key::of(values), number)
+        refusal_of_key(Key::of(values), number)?
     };
     let mut out = Vec::new(alloc);
     put_refusal(&mut out, &refusal)?;

@@ -1,10 +1,9 @@
 //! Calls of a disk.
 
-use crate::digits::{bytes_of, tell_bytes};
 use crate::logs::tell_log;
-use crate::words::cut;
 use anyhow::bail;
 use bf_disk::{Disk, DiskError, TapeDisk};
+use case_files::{bytes_of, first_word, tell_bytes};
 use std::alloc::Global;
 
 /// The numbers of the calls that fail, with commas between them.
@@ -19,7 +18,7 @@ fn failing_calls(alloc: Global, numbers: &str) -> anyhow::Result<Vec<u64>> {
 /// A file of bytes. In front of them stands which calls fail: `-` for none, numbers, or `>` and a number behind which all
 /// do.
 pub fn file_of(alloc: Global, words: &str) -> anyhow::Result<TapeDisk> {
-    let (fails, words) = cut(words);
+    let (fails, words) = first_word(words);
     let bytes = bytes_of(alloc, words)?;
     if fails == "-" {
         return Ok(TapeDisk::new(alloc, bytes, Vec::new(alloc), None));
@@ -42,7 +41,7 @@ fn write_at(
     disk: &mut TapeDisk,
     words: &str,
 ) -> anyhow::Result<Result<(), DiskError>> {
-    let (at, words) = cut(words);
+    let (at, words) = first_word(words);
     let at: u64 = at.parse()?;
     let bytes = bytes_of(alloc, words)?;
     if at > disk.bytes().len() as u64 {
@@ -89,8 +88,12 @@ pub fn tell_call(
 
 /// What a crash before a call leaves, with these bytes in the place of pending ones.
 pub fn crashed_at(alloc: Global, disk: &TapeDisk, words: &str) -> anyhow::Result<TapeDisk> {
-    let (call, words) = cut(words);
-    let call: u64 = call.parse()?;
+    let (call, words) = first_word(words);
+    let call = if call == "end" {
+        u64::MAX
+    } else {
+        call.parse()?
+    };
     let torn = bytes_of(alloc, words)?;
     Ok(disk.crash_at(alloc, call, torn.as_slice())?)
 }

@@ -3,11 +3,10 @@
 use crate::disks::{crashed, crashed_at, file_of, tell_disk};
 use crate::logs::{create, log_of, open, read};
 use crate::state::State;
-use crate::words::cut;
 use crate::{disks, logs};
 use anyhow::Context;
 use bf_disk::TapeDisk;
-use case_files::Teller;
+use case_files::{Teller, first_word};
 use std::alloc::Global;
 
 /// Makes a call of a file, and adds its answer.
@@ -55,7 +54,7 @@ fn other_file(alloc: Global, state: &State, verb: &str, words: &str) -> anyhow::
 
 /// Does what a line says, and adds its first word and the answer. The state behind it.
 fn step(alloc: Global, state: State, line: &str, told: &mut String) -> anyhow::Result<State> {
-    let (verb, words) = cut(line);
+    let (verb, words) = first_word(line);
     told.push_str(verb)?;
     match verb {
         "file" => Ok(State::File(file_of(alloc, words)?)),

@@ -1,11 +1,10 @@
 //! Calls of a log.
 
-use crate::digits::{bytes_of, tell_bytes};
 use crate::state::State;
-use crate::words::cut;
 use anyhow::bail;
 use bf_disk::TapeDisk;
 use bf_log::{AppendError, Log, Next, Opening, create_log, open_log};
+use case_files::{bytes_of, first_word, tell_bytes};
 use std::alloc::Global;
 
 /// The most payloads that a case reads.
@@ -106,7 +105,7 @@ fn tell_error(error: Option<AppendError>, told: &mut String) -> anyhow::Result<(
 
 /// The largest payload and the limit of an append.
 fn bounds_of(words: &str) -> anyhow::Result<(u32, u64)> {
-    let (largest, limit) = cut(words);
+    let (largest, limit) = first_word(words);
     Ok((largest.parse()?, limit.parse()?))
 }
 

@@ -9,6 +9,7 @@ ghost use Rattle.bf_tree.specs.Limits.{HasNarrowTables, IsNarrowIfMigrate, decla
 use crate::locks::put_locks;
 use crate::told::put_bound;
 use anyhow::bail;
+use bf_base::MOST_COLUMNS;
 use bf_bind::bind;
 use bf_eager::{Eager, is_alone, is_narrow};
 use bf_parse::script;
@@ -18,9 +19,6 @@ use bf_tree::{Action, Catalog, Reply, Session, Statement};
 use case_files::Teller;
 use std::alloc::Global;
 use std::slice;
-
-/// The most columns of a table.
-const MOST_COLUMNS: usize = 16;
 
 /// Creates a table or an index.
 fn create(database: &mut Eager, statement: &Statement) -> anyhow::Result<()> {

@@ -6,22 +6,17 @@
 //! them begins with what can be read. The first case of which something else is told ends the program with status 1.
 #![tactic(auto)]
 
-mod digits;
 mod reading;
 mod spelling;
 mod writing;
 
 use bf_record::a_record_has_one_spelling;
 use bf_wire::spellings_are_apart;
-use case_files::compare_file;
+use case_files::compare_files;
 use spelling::Spelling;
-use std::env;
 
 fn main(rt: HostRuntime) -> anyhow::Result<()> {
     spellings_are_apart();
     a_record_has_one_spelling();
-    for name in env::args(&rt)?.skip(1) {
-        compare_file(&rt, name.as_str(), &Spelling)?;
-    }
-    Ok(())
+    compare_files(&rt, &Spelling)
 }

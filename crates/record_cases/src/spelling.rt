@@ -1,9 +1,8 @@
 //! What is told of the lines of a case.
 
-use crate::digits::{bytes_of, tell_bytes};
 use crate::reading::{again, has_front};
 use crate::writing::put;
-use case_files::Teller;
+use case_files::{Teller, bytes_of, first_word, tell_bytes};
 use std::alloc::Global;
 
 /// Adds what is told of bytes that are read.
@@ -25,7 +24,7 @@ fn tell_line(
     written: &mut Vec<u8>,
     told: &mut String,
 ) -> anyhow::Result<()> {
-    let (word, rest) = line.split_once(" ").unwrap_or((line, ""));
+    let (word, rest) = first_word(line);
     if word == "write" {
         put(alloc, rest, written)?;
         told.push_str("wrote")?;

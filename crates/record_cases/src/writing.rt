@@ -1,10 +1,10 @@
 //! Writing fields and records.
 
-use crate::digits::bytes_of;
 use anyhow::{Context, bail};
 use bf_base::{Admit, Column, Key, Memory, Name, Row, Sequence, Table, Text, TextError, Value};
 use bf_record::{Change, RowChange, SchemaChange, TableWrite, encode};
 use bf_wire::{put_i64, put_key, put_name, put_row, put_u8, put_u32, put_value, put_whole};
+use case_files::{bytes_of, first_word};
 use std::alloc::Global;
 
 /// The INT of a number, and else the text of a word.
@@ -63,7 +63,7 @@ fn put_record(alloc: Global, change: &Change, out: &mut Vec<u8>) -> Result<(), M
 
 /// Writes what a kind and words tell behind what stands in `out`.
 pub fn put(alloc: Global, line: &str, out: &mut Vec<u8>) -> anyhow::Result<()> {
-    let (kind, words) = line.split_once(" ").unwrap_or((line, ""));
+    let (kind, words) = first_word(line);
     match kind {
         "bytes" => out.extend_from_slice(bytes_of(alloc, words)?.as_slice())?,
         "u8" => put_u8(out, words.parse()?)?,

@@ -5,17 +5,12 @@
 //! ends the program with status 1.
 #![tactic(auto)]
 
-mod digits;
 mod reopening;
 
-use case_files::compare_file;
+use case_files::compare_files;
 use reopening::Reopening;
-use std::env;
 
 fn main(rt: HostRuntime) -> anyhow::Result<()> {
     let reopening = Reopening { rt: &rt };
-    for name in env::args(&rt)?.skip(1) {
-        compare_file(&rt, name.as_str(), &reopening)?;
-    }
-    Ok(())
+    compare_files(&rt, &reopening)
 }

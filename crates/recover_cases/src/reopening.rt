@@ -1,13 +1,12 @@
 //! Logs that are read back as stores.
 
-use crate::digits::bytes_of;
 use bf_base::{Name, NameError};
 use bf_disk::TapeDisk;
 use bf_migration::Registry;
 use bf_recover::reopen;
 use bf_store::Store;
 use bf_tree::Sweep;
-use case_files::Teller;
+use case_files::{Teller, bytes_of};
 use std::alloc::Global;
 use std::sync::Wait;
 

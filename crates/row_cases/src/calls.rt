@@ -6,6 +6,7 @@ use crate::answers::{Answer, Tally, tell_number};
 use crate::cells::{key, row};
 use anyhow::Context;
 use bf_base::{Key, Row};
+use case_files::first_word;
 use std::alloc::Global;
 
 /// What a case makes calls of.
@@ -127,7 +128,7 @@ fn tell_line<S: Structure>(
     line: &str,
     told: &mut String,
 ) -> anyhow::Result<()> {
-    let (call, words) = line.split_once(" ").unwrap_or((line, ""));
+    let (call, words) = first_word(line);
     told.push_str(call)?;
     if call == "each" {
         tell_each(structure, alloc, words, told)?;

@@ -23,9 +23,8 @@ mod indexes;
 mod workspaces;
 
 use anyhow::{Context, bail};
-use case_files::{Teller, compare_file};
+use case_files::{Teller, compare_files, first_word};
 use std::alloc::Global;
-use std::env;
 
 /// Tells what the calls of a case answer.
 #[derive(Clone, Copy)]
@@ -34,7 +33,7 @@ struct RowCalls;
 impl Teller for RowCalls {
     fn tell(&self, alloc: Global, text: &str, told: &mut String) -> anyhow::Result<()> {
         let (structure, lines) = text.split_once("\n").context("a case without calls")?;
-        let (kind, columns) = structure.split_once(" ").unwrap_or((structure, ""));
+        let (kind, columns) = first_word(structure);
         match kind {
             "heap" => heaps::tell(alloc, lines, told),
             "index" => indexes::tell(alloc, columns, lines, told),
@@ -45,8 +44,5 @@ impl Teller for RowCalls {
 }
 
 fn main(rt: HostRuntime) -> anyhow::Result<()> {
-    for name in env::args(&rt)?.skip(1) {
-        compare_file(&rt, name.as_str(), &RowCalls)?;
-    }
-    Ok(())
+    compare_files(&rt, &RowCalls)
 }

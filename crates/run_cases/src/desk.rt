@@ -3,12 +3,12 @@
 ghost use Rattle.std.specs.Prelude.{◌≡◌, ℕ, List, None};
 ghost use Rattle.bf_disk.specs.MemoryShelves.{taken_at};
 
-use crate::bytes::tell_bytes;
 use crate::narrow::Narrow;
 use anyhow::{Context, bail};
 use bf_disk::{MemoryShelf, TapeDisk};
 use bf_io::{MemorySink, MemorySource};
 use bf_run::{Status, bullfrog};
+use case_files::tell_bytes;
 use std::alloc::{AllocError, Global};
 use std::sync::Wait;
 
@@ -27,6 +27,14 @@ pub struct Failing {
     pub write: Option<u64>,
     /// Of the disk of a file.
     pub disk: Option<u64>,
+}
+
+/// Adds a line that tells the bytes of a file.
+pub fn tell_file(disk: &TapeDisk, told: &mut String) -> anyhow::Result<()> {
+    told.push_str("bytes")?;
+    tell_bytes(disk.bytes(), told)?;
+    told.push_str("\n")?;
+    Ok(())
 }
 
 /// The files, and what fails.
@@ -95,7 +103,7 @@ impl Desk {
     /// Adds the bytes of a file.
     pub fn show(&self, path: &str, told: &mut String) -> anyhow::Result<()> {
         match self.shelf.disk(path) {
-            Some(disk) => tell_bytes(disk.bytes(), told),
+            Some(disk) => tell_file(disk, told),
             None => Ok(told.push_str("no file\n")?),
         }
     }

@@ -6,21 +6,16 @@
 //! that tells something else is told with that, and ends the program with status 1.
 #![tactic(auto)]
 
-mod bytes;
 mod desk;
 mod narrow;
 mod running;
 mod scripts;
 mod steps;
 
-use case_files::compare_file;
+use case_files::compare_files;
 use running::Run;
-use std::env;
 
 fn main(rt: HostRuntime) -> anyhow::Result<()> {
     let run = Run { rt: &rt };
-    for name in env::args(&rt)?.skip(1) {
-        compare_file(&rt, name.as_str(), &run)?;
-    }
-    Ok(())
+    compare_files(&rt, &run)
 }

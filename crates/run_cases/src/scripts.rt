@@ -1,6 +1,7 @@
 //! The script of a call, as the lines behind it write it.
 
 use anyhow::Context;
+use case_files::first_word;
 use std::alloc::AllocError;
 
 /// Adds the script that lines write, each with a line feed. A line `& N` stands for the character with this number and
@@ -22,7 +23,7 @@ pub fn read_script(lines: &str, script: &mut String) -> anyhow::Result<()> {
 /// Adds the lines for which a line stands that has two numbers and a text.
 fn repeat(rule: &str, script: &mut String) -> anyhow::Result<()> {
     let (first, rest) = rule.split_once(" ").context("a line % without numbers")?;
-    let (last, text) = rest.split_once(" ").unwrap_or((rest, ""));
+    let (last, text) = first_word(rest);
     for number in first.parse::<u32>()?..=last.parse::<u32>()? {
         add_line(number, text, script)?;
     }

@@ -7,15 +7,16 @@
 //!   to be set.
 //! - `show PATH` tells the bytes of a file.
 //! - `count` tells how many calls of the log's disk there were, and how many faults.
-//! - `crash TORN` tells the bytes that a crash leaves of the log, where those that are pending are these in turn.
+//! - `crash TORN` tells the bytes that a crash leaves of the log, where those that are pending are these in turn, from
+//!   the front again where there are more, and 0 where there are none.
 //! - `stops TORN` runs the script of the lines below over the log that is left where the calls of its disk from the
 //!   first on were never made, from the second on, and so forth. It tells what is printed where it is not what was
 //!   printed before, behind the number of the call.
 
-use crate::bytes::{read_bytes, tell_bytes};
-use crate::desk::Desk;
+use crate::desk::{Desk, tell_file};
 use crate::scripts::read_script;
 use anyhow::bail;
+use case_files::{bytes_of, first_word};
 use std::alloc::{AllocError, Global};
 use std::sync::Wait;
 
@@ -58,15 +59,14 @@ fn take(
     desk: &mut Desk,
     told: &mut String,
 ) -> anyhow::Result<()> {
-    let (verb, rest) = line.split_once(" ").unwrap_or((line, ""));
+    let (verb, rest) = first_word(line);
     match verb {
         "call" => desk.call(rt, alloc, &words_of(alloc, line)?, script, told),
         "fail" => fail(rest, desk),
         "show" => desk.show(word_of(rest), told),
         "count" => desk.count(told),
         _ => {
-            let mut bytes = Vec::new(alloc);
-            read_bytes(rest, &mut bytes)?;
+            let bytes = bytes_of(alloc, rest)?;
             take_with(rt, alloc, verb, &bytes, script, desk, told)
         }
     }
@@ -109,7 +109,7 @@ fn take_with(
 ) -> anyhow::Result<()> {
     match verb {
         "set" => desk.set(alloc, bytes),
-        "crash" => tell_bytes(desk.log()?.crash(alloc, bytes)?.bytes(), told),
+        "crash" => tell_file(&desk.log()?.crash(alloc, bytes)?, told),
         "stops" => stop_at_each(rt, alloc, bytes, script, desk, told),
         _ => bail!("no step: {verb}"),
     }

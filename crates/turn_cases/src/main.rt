@@ -13,14 +13,10 @@ mod scripts;
 mod settings;
 mod turns;
 
-use case_files::compare_file;
-use std::env;
+use case_files::compare_files;
 use turns::Turns;
 
 fn main(rt: HostRuntime) -> anyhow::Result<()> {
     let turns = Turns { rt: &rt };
-    for name in env::args(&rt)?.skip(1) {
-        compare_file(&rt, name.as_str(), &turns)?;
-    }
-    Ok(())
+    compare_files(&rt, &turns)
 }
