@@ -1,0 +1,4 @@
+pub mod Bindings
+pub mod Nexts
+pub mod Said
+pub mod Served
