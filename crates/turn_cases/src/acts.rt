@@ -1,10 +1,11 @@
 //! Single calls of a machine. Each is made only where its condition holds, which is looked at first.
 
 ghost use Rattle.std.specs.Prelude.{◌≡◌, true};
-ghost use Rattle.turn_cases.specs.Behind.{IsBehind, IsToAsk};
+ghost use Rattle.turn_cases.specs.Behind.{IsBehind, IsNext, IsToAsk};
 
-use crate::binding::{bind_next, exec_with, has_group, stand_of};
+use crate::binding::{Next, bind_next, exec_with, has_group, stand_of};
 use crate::refusing::Refusing;
+use crate::seen::Seen;
 use bf_base::Memory;
 use bf_image::Registry;
 use bf_locks::{LockAnswer, LockName, Mode};
@@ -33,25 +34,6 @@ pub enum Act {
 pub struct Call {
     pub act: Act,
     pub session: u32,
-}
-
-/// What came of a call.
-#[derive(Clone, Copy, Debug)]
-pub enum Seen {
-    /// Its condition does not hold.
-    Idle,
-    Done,
-    /// The catalog has this number now, and the statement was bound or its cover made before.
-    Stale(u64),
-    /// So many granules are to move first.
-    Needs(usize),
-    Granted,
-    /// The oldest for which it waits.
-    Waited(u64),
-    Died(u64),
-    Committed(u64),
-    /// The journal did not keep what it was to leave.
-    Ended(Cause),
 }
 
 fn begin<N: Opened>(machine: &mut Machine<N>, session: u32) -> Result<Seen, Memory>
@@ -87,17 +69,30 @@ fn ask_for<N: Opened>(
 }
 
 /// Asks for the locks of the statement at which a session stands, where a group of it is open.
-fn ask<N: Opened>(alloc: Global, machine: &mut Machine<N>, session: u32) -> Result<Seen, Memory>
+fn ask_next<N: Opened>(
+    alloc: Global,
+    machine: &mut Machine<N>,
+    session: u32,
+    next: &Next,
+) -> Result<Seen, Memory>
+    requires { IsNext N.opening machine.old session next.now.place next.now.in_block
+        next.now.bound }
     ensures { IsBehind N.opening machine.old machine.new }
 {
-    let Some(next) = bind_next(alloc, machine, session)? else {
-        return Ok(Seen::Idle);
-    };
     if !has_group(machine, session) {
         return Ok(Seen::Idle);
     }
     let locks = footprint(alloc, &next.bound)?;
     ask_for(machine, session, locks.as_slice())
+}
+
+fn ask<N: Opened>(alloc: Global, machine: &mut Machine<N>, session: u32) -> Result<Seen, Memory>
+    ensures { IsBehind N.opening machine.old machine.new }
+{
+    match bind_next(alloc, machine, session)? {
+        Some(next) => ask_next(alloc, machine, session, &next),
+        None => Ok(Seen::Idle),
+    }
 }
 
 /// Replies to the statement at which a session stands, as it is bound in the present catalog.

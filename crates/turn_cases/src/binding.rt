@@ -11,11 +11,11 @@ ghost use Rattle.bf_machine.specs.interleaving.Calls.{IsPlace};
 ghost use Rattle.bf_machine.specs.interleaving.Machines.{open_at};
 ghost use Rattle.turn_cases.specs.Behind.{AreHeld, CanReply, IsAt, IsBehind, IsNext};
 
-use crate::acts::Seen;
+use crate::seen::{Seen, seen_of};
 use bf_base::Memory;
 use bf_image::{MigrationPass, Registry, ValueIndexes};
 use bf_locks::{LockName, Mode};
-use bf_machine::{Machine, Opened, Stand, Step, prepare_next};
+use bf_machine::{Machine, Opened, Stand, prepare_next};
 use bf_sql::footprint;
 use bf_transpose::{Cover, cover_of};
 use bf_tree::Bound;
@@ -133,15 +133,6 @@ pub fn cover_by<N: Opened>(
     let migration = registry.migration(pass);
     let indexes = ValueIndexes::of(alloc, migration)?;
     cover_of(alloc, bound, Some((migration, &indexes)))
-}
-
-/// What is seen of a statement's step.
-fn seen_of(step: Step) -> Seen {
-    match step {
-        Step::Replied => Seen::Done,
-        Step::Need(granules) => Seen::Needs(granules.len()),
-        Step::Stale(number) => Seen::Stale(number),
-    }
 }
 
 /// Replies to a bound statement, where nothing of its cover is left to move.

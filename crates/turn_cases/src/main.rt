@@ -5,12 +5,19 @@
 //! and ends the program with status 1.
 #![tactic(auto)]
 
+mod acts;
+mod binding;
+mod calls;
 mod lines;
+mod moving;
 mod random;
 mod refusing;
 mod runs;
 mod scripts;
+mod seen;
 mod settings;
+mod sights;
+mod stale;
 mod turns;
 
 use case_files::compare_all;

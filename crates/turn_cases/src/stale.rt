@@ -6,12 +6,12 @@ ghost use Rattle.bf_store.specs.Stores.{IsOf};
 ghost use Rattle.bf_transpose.specs.Covers.{IsCoverOf};
 ghost use Rattle.turn_cases.specs.Behind.{IsAgain, IsNext, WasBound};
 
-use crate::acts::{Call, Seen, make_all};
+use crate::acts::{Call, make_all};
 use crate::binding::{
-    Act, Next, Seen, bind_next, cover_by, exec_with, has_group, holds_locks, make_all, reply,
-    stand_of,
+    Next, bind_next, cover_by, exec_with, has_group, holds_locks, reply, stand_of,
 };
 use crate::refusing::Refusing;
+use crate::seen::Seen;
 use bf_base::Memory;
 use bf_image::{MigrationPass, Registry};
 use bf_machine::{Machine, Opened, Stand};

@@ -1,33 +1,18 @@
 //! What is told of a case.
 
 use crate::random::count_right;
-use crate::runs::{Order, run};
+use crate::runs::{Order, call, put_report, run};
 use crate::settings::{put_numbers, setting};
-use bf_text::report;
 use case_files::Teller;
 use std::alloc::Global;
 use std::sync::Wait;
 
-/// Adds the report of a run in an order.
-fn put_report(
-    rt: &impl Wait,
-    alloc: Global,
-    script: &str,
-    order: Order,
-    told: &mut String,
-) -> anyhow::Result<()> {
-    let (transcripts, history, sweep) = run(rt, alloc, script, order)?;
-    let text = report(alloc, &transcripts, &history, None, &sweep)?;
-    told.push_str(String::from_utf8_lossy(alloc, text.as_slice())?.as_str())?;
-    Ok(())
-}
-
 /// Adds the report of a run whose text begins with how often its groups may begin again, the change that is refused,
-/// and the turns, as far as they are not none.
-fn tell_report(rt: &impl Wait, alloc: Global, text: &str, told: &mut String) -> anyhow::Result<()> {
+/// and the turns, as far as they are not none; or where lines of calls stand behind an empty one, what is told of them.
+fn tell_run(rt: &impl Wait, alloc: Global, text: &str, told: &mut String) -> anyhow::Result<()> {
     let (retries, behind) = setting(text, "retries ", "0");
     let (refused, behind) = setting(behind, "refused ", "0");
-    let (turns, script) = setting(behind, "turns ", "");
+    let (turns, behind) = setting(behind, "turns ", "");
     let mut numbers = Vec::new(alloc);
     put_numbers(turns, &mut numbers)?;
     let order = Order {
@@ -35,7 +20,10 @@ fn tell_report(rt: &impl Wait, alloc: Global, text: &str, told: &mut String) -> 
         refused: refused.parse::<u64>()?,
         turns: numbers.as_slice(),
     };
-    put_report(rt, alloc, script, order, told)
+    match behind.split_once("\n\n") {
+        Some((script, lines)) => call(rt, alloc, script, order, lines, told),
+        None => put_report(alloc, &run(rt, alloc, behind, order)?, told),
+    }
 }
 
 /// Adds how many random orders were served of a script, whose text begins with a seed.
@@ -69,7 +57,7 @@ impl<R: Wait> Teller for Turns<'_, R> {
     fn tell(&self, alloc: Global, text: &str, told: &mut String) -> anyhow::Result<()> {
         let (orders, behind) = setting(text, "orders ", "");
         if orders.is_empty() {
-            return tell_report(self.rt, alloc, text, told);
+            return tell_run(self.rt, alloc, text, told);
         }
         tell_random(self.rt, alloc, orders, behind, told)
     }
