@@ -108,7 +108,7 @@ module _ (start : Database) (m : Machine) (s : ℕ) where
   module _ (locks : List Lock) (to : IsToAsk start m s locks) where
     pub ask_begins : HasLocked m s [] m
     unfolding IsToAsk
-    ask_begins = (to.2, to.3.is, m.locks, refl, λ k d within. absurd (omega (arith, within)))
+    ask_begins = (to.2.0, to.2.1.is, m.locks, refl, λ k d within. absurd (omega (arith, within)))
 
     module _ (held : List Lock) (now : Machine) (locked : HasLocked m s held now) where
       pub ask_place : IsPlace now.script s
@@ -117,20 +117,20 @@ module _ (start : Database) (m : Machine) (s : ℕ) where
 
       pub ask_one : (lock : Lock) → Contains locks lock → CanAsk now s start lock.0 lock.1
       unfolding IsToAsk
-      ask_one lock among = subst (λ (k : Machine). CanAsk k s start lock.0 lock.1) (sym locked.3) (can_ask m to.0 s to.2 locks to.3 locked.2 lock.0 lock.1 among)
+      ask_one lock among = subst (λ (k : Machine). CanAsk k s start lock.0 lock.1) (sym locked.3) (can_ask m to.0 s to.2.0 locks to.2.1 locked.2 lock.0 lock.1 among)
 
       pub more_asked : (lock : Lock) (next : Machine) → Asks now s start lock.0 lock.1 Granted next → HasLocked m s (held ++ lock ∷ []) next
       unfolding IsToAsk
-      more_asked lock next by = one_locked m to.0 s to.2 locks to.3 held lock.0 lock.1 now next locked by
+      more_asked lock next by = one_locked m to.0 s to.2.0 locks to.2.1 held lock.0 lock.1 now next locked by
 
   module _ (n : ℕ) (in_block : Bool) (bound : Bound) where
     pub is_next : IsAt start m s (AtStatement n) → in_block ≡ is_in_block m s → ((o : Open) × IsBoundNext m s o bound) ⊎ CanRefuse m s → IsWellBound bound.action → IsNext start m s n in_block bound
     unfolding IsNext
     is_next at same next well = (at, same, next, well)
 
-    pub next_place : IsNext start m s n in_block bound → IsPlace m.script s
+    pub place_of_next : IsNext start m s n in_block bound → IsPlace m.script s
     unfolding IsNext
-    next_place next = at_place (AtStatement n) next.0
+    place_of_next next = at_place (AtStatement n) next.0
 
     pub next_well : IsNext start m s n in_block bound → IsWellBound bound.action
     unfolding IsNext
@@ -148,7 +148,7 @@ module _ (start : Database) (m : Machine) (s : ℕ) where
     unfolding IsNext IsAt IsToAsk
     to_ask some locks same next =
         let its = own some next in
-        (next.0.0, next.0.1, its.0, subst (λ (ls : List Lock). IsToLock m s its.0 ls) (sym same) its.1.to_lock)
+        (next.0.0, next.0.1, (its.0, subst (λ (ls : List Lock). IsToLock m s its.0 ls) (sym same) its.1.to_lock))
 
     -- in none it is refused
     pub may_refuse : is_some (open_at m s) ≡ false → IsNext start m s n in_block bound → CanReply start m s bound

@@ -3,7 +3,7 @@
 ghost use Rattle.std.specs.Prelude.{◌≡◌, true};
 ghost use Rattle.turn_cases.specs.Behind.{IsBehind, IsNext, IsToAsk};
 
-use crate::binding::{Next, bind_next, exec_with, has_group, stand_of};
+use crate::binding::{Next, bind_at, exec_with, has_group, stand_of};
 use crate::refusing::Refusing;
 use crate::seen::Seen;
 use bf_base::Memory;
@@ -89,10 +89,11 @@ fn ask_next<N: Opened>(
 fn ask<N: Opened>(alloc: Global, machine: &mut Machine<N>, session: u32) -> Result<Seen, Memory>
     ensures { IsBehind N.opening machine.old machine.new }
 {
-    match bind_next(alloc, machine, session)? {
-        Some(next) => ask_next(alloc, machine, session, &next),
-        None => Ok(Seen::Idle),
-    }
+    let Some(Stand::Statement(place)) = stand_of(machine, session) else {
+        return Ok(Seen::Idle);
+    };
+    let next = bind_at(alloc, machine, session, place)?;
+    ask_next(alloc, machine, session, &next)
 }
 
 /// Replies to the statement at which a session stands, as it is bound in the present catalog.

@@ -52,7 +52,7 @@ pub fn has_group<N: Opened>(machine: &Machine<N>, session: u32) -> bool
 }
 
 /// The statement at which a session stands, as it is bound in the present catalog.
-fn bind_at<N: Opened>(
+pub fn bind_at<N: Opened>(
     alloc: Global,
     machine: &Machine<N>,
     session: u32,
@@ -69,21 +69,6 @@ fn bind_at<N: Opened>(
         in_block,
         bound,
     })
-}
-
-/// A session's next statement, as it is bound in the present catalog, and `None` where it stands at none.
-pub fn bind_next<N: Opened>(
-    alloc: Global,
-    machine: &Machine<N>,
-    session: u32,
-) -> Result<Option<Next>, Memory>
-    ensures { IfOk result (λ found. IfSome found (λ next.
-        IsNext N.opening machine.now session next.place next.in_block next.bound)) }
-{
-    let Some(Stand::Statement(place)) = stand_of(machine, session) else {
-        return Ok(None);
-    };
-    Ok(Some(bind_at(alloc, machine, session, place)?))
 }
 
 /// Whether a session's open group holds locks.
@@ -196,8 +181,27 @@ fn exec_next<N: Opened>(
     reply(registry, machine, session, pass, &next.bound, &cover)
 }
 
-/// Replies to a session's next statement, as it is bound in the present catalog, where that can have its reply,
-/// with its cover of the migration of a pass, or of none.
+/// Replies to the statement at which a session stands, as it is bound in the present catalog, where that can have its
+/// reply, with its cover of the migration of a pass, or of none.
+fn exec_at<N: Opened>(
+    alloc: Global,
+    registry: &Registry,
+    machine: &mut Machine<N>,
+    session: u32,
+    place: u32,
+    pass: Option<&MigrationPass>,
+) -> Result<Seen, Memory>
+    requires registry { registry.now ≡ N.registry }
+    requires pass { IsOf N.registry (option_map (λ pass. pass.now) pass) }
+    requires at { IsAt N.opening machine.old session (Statement place) }
+    ensures { IsBehind N.opening machine.old machine.new }
+{
+    let next = bind_at(alloc, machine, session, place)?;
+    exec_next(alloc, registry, machine, session, pass, &next)
+}
+
+/// Replies to a session's next statement, where that can have its reply, with its cover of the migration of a pass,
+/// or of none.
 pub fn exec_with<N: Opened>(
     alloc: Global,
     registry: &Registry,
@@ -209,8 +213,8 @@ pub fn exec_with<N: Opened>(
     requires pass { IsOf N.registry (option_map (λ pass. pass.now) pass) }
     ensures { IsBehind N.opening machine.old machine.new }
 {
-    match bind_next(alloc, machine, session)? {
-        Some(next) => exec_next(alloc, registry, machine, session, pass, &next),
-        None => Ok(Seen::Idle),
-    }
+    let Some(Stand::Statement(place)) = stand_of(machine, session) else {
+        return Ok(Seen::Idle);
+    };
+    exec_at(alloc, registry, machine, session, place, pass)
 }

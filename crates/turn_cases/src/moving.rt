@@ -7,12 +7,12 @@ ghost use Rattle.bf_query.specs.Actions.{IsWellBound};
 ghost use Rattle.bf_machine.specs.interleaving.Journals.{most_moved};
 
 use crate::acts::{Call, make_all};
-use crate::binding::bind_next;
+use crate::binding::{bind_at, stand_of};
 use crate::refusing::Refusing;
 use anyhow::bail;
 use bf_base::Granule;
 use bf_image::{MigrationPass, Registry, ValueIndexes};
-use bf_machine::{Machine, MoveError, Opened};
+use bf_machine::{Machine, MoveError, Opened, Stand};
 use bf_store::Moved;
 use bf_transpose::cover_of;
 use bf_tree::Bound;
@@ -115,12 +115,13 @@ pub fn tell_moves<N: Opened, R: Wait>(
     requires registry { registry.now ≡ N.registry }
     requires logged { true ≡ N.logged }
 {
-    let Some(next) = bind_next(alloc, machine, session)? else {
+    let Some(Stand::Statement(place)) = stand_of(machine, session) else {
         bail!("no statement");
     };
     let Some(pass) = machine.migration() else {
         bail!("no migration");
     };
+    let next = bind_at(alloc, machine, session, place)?;
     let bound = &next.bound;
     let moved = move_beside(rt, alloc, registry, journal, machine, &pass, bound, calls)?;
     put_moved(&moved, told)

@@ -7,9 +7,7 @@ ghost use Rattle.bf_transpose.specs.Covers.{IsCoverOf};
 ghost use Rattle.turn_cases.specs.Behind.{IsAgain, IsNext, WasBound};
 
 use crate::acts::{Call, make_all};
-use crate::binding::{
-    Next, bind_next, cover_by, exec_with, has_group, holds_locks, reply, stand_of,
-};
+use crate::binding::{Next, bind_at, cover_by, exec_with, has_group, holds_locks, reply, stand_of};
 use crate::refusing::Refusing;
 use crate::seen::Seen;
 use bf_base::Memory;
@@ -106,10 +104,11 @@ pub fn exec_as_before<N: Opened, R: Wait>(
     requires registry { registry.now ≡ N.registry }
     requires logged { true ≡ N.logged }
 {
-    match bind_next(alloc, machine, session)? {
-        Some(next) => exec_behind(rt, alloc, registry, journal, machine, session, &next, calls),
-        None => Ok(Seen::Idle),
-    }
+    let Some(Stand::Statement(place)) = stand_of(machine, session) else {
+        return Ok(Seen::Idle);
+    };
+    let next = bind_at(alloc, machine, session, place)?;
+    exec_behind(rt, alloc, registry, journal, machine, session, &next, calls)
 }
 
 /// Makes calls, then binds a session's next statement, and replies to it with the cover of the migration from

@@ -1,11 +1,11 @@
 -- In an open group the next statement is its own, and the locks are those of its footprint.
 use Rattle.std.proofs.Common.{sym, ◌∙◌}
-use Rattle.turn_cases.proofs.Nexts.{next_keys, next_place, to_ask}
+use Rattle.turn_cases.proofs.Nexts.{next_keys, place_of_next, to_ask}
 use Rattle.turn_cases.proofs.Served.{nothing_made}
 use Rattle.turn_cases.proofs.acts.ask_next.Goals as goal
 
 pub has_group-requires : goal.has_group-requires
-has_group-requires g c = next_place g.N.Opened.opening c.args.machine.now c.args.session c.args.next.now.place c.args.next.now.in_block c.args.next.now.bound c.requires
+has_group-requires g c = place_of_next g.N.Opened.opening c.args.machine.now c.args.session c.args.next.now.place c.args.next.now.in_block c.args.next.now.bound c.requires
 
 pub footprint-requires : goal.footprint-requires
 footprint-requires g c = next_keys g.N.Opened.opening c.args.machine.now c.args.session c.args.next.now.place c.args.next.now.in_block c.args.next.now.bound c.requires

@@ -3,8 +3,8 @@ use Rattle.bf_machine.specs.declared.stand.Stand.TheVariants.{Statement}
 use Rattle.turn_cases.proofs.Nexts.{at_kept, at_place, at_stands, is_next}
 use Rattle.turn_cases.proofs.binding.bind_at.Goals as goal
 
-pub is_in_block-requires : goal.is_in_block-requires
-is_in_block-requires g c = at_place g.N.Opened.opening c.args.machine.now c.args.session (Statement c.args.place) c.requires
+pub is_in_block-in_block-requires : goal.is_in_block-in_block-requires
+is_in_block-in_block-requires g c = at_place g.N.Opened.opening c.args.machine.now c.args.session (Statement c.args.place) c.requires
 
 pub prepare_next-requires-clause-place : goal.prepare_next-requires-clause-place
 prepare_next-requires-clause-place g c = at_place g.N.Opened.opening c.args.machine.now c.args.session (Statement c.args.place) c.requires

@@ -2,18 +2,18 @@
 use Rattle.std.proofs.Common.{sym, ◌∙◌}
 use Rattle.std.specs.Prelude.{Result, Ok, Err, IfOk, ◌≡◌, Bool, true}
 use Rattle.bf_base.specs.declared.memory.Memory.{Memory}
-use Rattle.turn_cases.proofs.Nexts.{may_refuse, may_reply, next_keys, next_place}
+use Rattle.turn_cases.proofs.Nexts.{may_refuse, may_reply, next_keys, place_of_next}
 use Rattle.turn_cases.proofs.binding.may_reply.Goals as goal
 
 in_ok : {P Q : Type 0} (r : Result Bool Memory) → (P → Q) → IfOk r (λ (yes : Bool). yes ≡ true → P) → IfOk r (λ (yes : Bool). yes ≡ true → Q)
-in_ok (Ok yes) weaker so = λ is. weaker (so is)
+in_ok (Ok held) weaker so = λ is. weaker (so is)
 in_ok (Err memory) weaker so = so
 
 pub has_group-requires : goal.has_group-requires
-has_group-requires g c = next_place g.N.Opened.opening c.args.machine.now c.args.session c.args.next.now.place c.args.next.now.in_block c.args.next.now.bound c.requires
+has_group-requires g c = place_of_next g.N.Opened.opening c.args.machine.now c.args.session c.args.next.now.place c.args.next.now.in_block c.args.next.now.bound c.requires
 
 pub holds_locks-requires-clause-place : goal.holds_locks-requires-clause-place
-holds_locks-requires-clause-place g c = next_place g.N.Opened.opening c.args.machine.now c.args.session c.args.next.now.place c.args.next.now.in_block c.args.next.now.bound c.requires
+holds_locks-requires-clause-place g c = place_of_next g.N.Opened.opening c.args.machine.now c.args.session c.args.next.now.place c.args.next.now.in_block c.args.next.now.bound c.requires
 
 pub holds_locks-requires-clause-keys : goal.holds_locks-requires-clause-keys
 holds_locks-requires-clause-keys g c = next_keys g.N.Opened.opening c.args.machine.now c.args.session c.args.next.now.place c.args.next.now.in_block c.args.next.now.bound c.requires

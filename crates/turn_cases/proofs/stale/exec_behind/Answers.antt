@@ -2,11 +2,11 @@
 use Rattle.std.proofs.Common.{sym, subst, ◌∙◌}
 use Rattle.bf_store.specs.Stores.{IsOf}
 use Rattle.bf_machine.proofs.served.Needs.{lent}
-use Rattle.turn_cases.proofs.Nexts.{next_place, next_well, still_bound, was_bound}
+use Rattle.turn_cases.proofs.Nexts.{place_of_next, next_well, still_bound, was_bound}
 use Rattle.turn_cases.proofs.stale.exec_behind.Goals as goal
 
 pub has_group-requires : goal.has_group-requires
-has_group-requires g c = next_place g.N.Opened.opening c.args.machine.now c.args.session c.args.next.now.place c.args.next.now.in_block c.args.next.now.bound c.requires.next
+has_group-requires g c = place_of_next g.N.Opened.opening c.args.machine.now c.args.session c.args.next.now.place c.args.next.now.in_block c.args.next.now.bound c.requires.next
 
 pub cover_by-requires-clause-registry : goal.cover_by-requires-clause-registry
 cover_by-requires-clause-registry g c = c.requires.registry
