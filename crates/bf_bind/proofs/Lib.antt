@@ -1,8 +1,10 @@
-pub mod Statements
+pub mod ArmSources
 pub mod Columns
 pub mod Creating
+pub mod Grouping
 pub mod Keys
 pub mod Lookups
+pub mod Scopes
+pub mod Statements
 pub mod Tuples
 pub mod Walks
-pub mod Scopes

@@ -1,5 +1,5 @@
 -- Walks over lists that stop at the first objection.
-use Rattle.std.proofs.Common.{◌≡◌, ℕ, ◌+◌, ◌<◌, List, ◌++◌, length, get_or, take, drop, Result, Err, ap, ◌∙◌}
+use Rattle.std.proofs.Common.{◌≡◌, ℕ, ◌+◌, ◌<◌, List, [], ◌++◌, length, get_or, take, drop, Result, Err, ap, ◌∙◌}
 use Rattle.std.specs.List.{flat_map}
 use Rattle.std.specs.Result.{IsErrAnd}
 use Rattle.std.proofs.lemmas.List.{drop_more, take_more}
@@ -25,6 +25,9 @@ module _ {X : Type 0} (f : List X × X → List Refusal) (xs : List X) where
     walk_stops result e meant whole same here =
         handed_on result e (f (take i xs, x)) all meant whole same here
         (λ r first. ap first_of (so_far ∙ left_more i x in_range is) ∙ first_ahead (f (take i xs, x)) (left_behind (i + 1)) r first)
+
+    pub walk_goes : f (take i xs, x) ≡ [] → all ≡ left_behind (i + 1)
+    walk_goes none = so_far ∙ left_more i x in_range is ∙ ap (λ (rs : List Refusal). rs ++ left_behind (i + 1)) none
 
 module _ {X : Type 0} (f : X → List Refusal) (xs : List X) where
   abbrev pub left_from : ℕ → List Refusal

@@ -1,3 +1,4 @@
 pub mod Actions
+pub mod ArmTables
 pub mod Parts
 pub mod Scopes

@@ -24,9 +24,9 @@ use Rattle.bf_tree.specs.Limits.{HasNarrowTables, is_narrow}
 use Rattle.bf_sql.specs.Bound.{catalog_of, table_without_rows, without_rows}
 use Rattle.bf_sql.specs.Database.{Database, IsDatabase, Stored, empty_database, is_admitted, is_keyed, is_on_table, is_within, stored_in_order}
 use Rattle.bf_sql.specs.Meaning.{next_number, with_index}
-use Rattle.bf_query.specs.Meanings.{entries_of}
-use Rattle.bf_query.proofs.OwnKeys.{each}
-use Rattle.bf_query.proofs.RowsAsEntries.{rows_are}
+use Rattle.bf_live.specs.Meanings.{entries_of}
+use Rattle.bf_live.proofs.querying.OwnKeys.{each}
+use Rattle.bf_live.proofs.querying.RowsAsEntries.{rows_are}
 use Rattle.bf_live.specs.Live.{IsUnderOwnKeys, TableRows, exchanged, stored}
 use Rattle.bf_live.proofs.keeps.Items.{list_all_if, list_any_alike}
 use Rattle.bf_eager.specs.Given.{given_under}

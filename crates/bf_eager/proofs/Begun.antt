@@ -13,8 +13,8 @@ use Rattle.bf_sql.specs.RowObjections.{size_objections}
 use Rattle.bf_sql.specs.migrations.MigrationObjections.{migrate_objections, sources_of}
 use Rattle.bf_sql.specs.migrations.Plans.{plan_made, plan_of, planned_unless}
 use Rattle.bf_image.proofs.keeping.Frozen.{objections_alike, same_as_catalog}
-use Rattle.bf_migration.specs.Migrations.{IsLawfulMigration}
-use Rattle.bf_migration.specs.declared.migration.Migration.{Migration}
+use Rattle.bf_image.specs.Migrations.{IsLawfulMigration}
+use Rattle.bf_image.specs.declared.migration.Migration.{Migration}
 use Rattle.bf_eager.specs.Beginnings.{IsMigrationOf, first_against}
 use Rattle.bf_sql.specs.RowObjections.{first_oversize}
 use Rattle.bf_eager.specs.Freezing.{AreFrozen}

@@ -11,14 +11,14 @@ use Rattle.bf_base.specs.Values.{key_cmp_total}
 use Rattle.bf_base.proofs.Apart.{apart_from_rises, in_order-rises}
 use Rattle.bf_heap.specs.Heaps.{Entry}
 use Rattle.bf_sql.specs.Database.{Database, IsDatabase, Stored, is_admitted, is_keyed, stored_at, table_rows}
-use Rattle.bf_query.specs.Meanings.{entries_of}
-use Rattle.bf_query.proofs.Binding.{as_stored, key_within, rows_admitted, rows_keyed}
-use Rattle.bf_query.proofs.RowsAsEntries.{rows_are}
+use Rattle.bf_live.specs.Meanings.{entries_of}
+use Rattle.bf_live.proofs.querying.Binding.{as_stored, key_within, rows_admitted, rows_keyed}
+use Rattle.bf_live.proofs.querying.RowsAsEntries.{rows_are}
 use Rattle.bf_live.proofs.statements.Named.{IsThere, all_there, rows_there}
 use Rattle.bf_eager.specs.Freezing.{AreFrozen, CanFreeze}
-use Rattle.bf_migration.specs.Migrations.{stored_of}
+use Rattle.bf_image.specs.Migrations.{stored_of}
 use Rattle.bf_eager.specs.Starting.{entries_in_order, have_different_keys}
-use Rattle.bf_migration.specs.declared.migration.Frozen.{Frozen}
+use Rattle.bf_image.specs.declared.migration.Frozen.{Frozen}
 use Rattle.bf_eager.proofs.Placing.{all_within, different-apart, in_midst}
 
 abbrev pub rows_of : List Entry → List (List Value)

@@ -26,14 +26,14 @@ use Rattle.bf_sql.specs.Meaning.{effect, executed, unless_refused}
 use Rattle.bf_sql.specs.migrations.Images.{flipped, image_of, replaced}
 use Rattle.bf_sql.specs.migrations.MigrationObjections.{sources_of}
 use Rattle.bf_sql.specs.migrations.Targets.{first_arm, target_table}
-use Rattle.bf_migration.specs.Lawful.{IsLawful}
+use Rattle.bf_image.specs.Lawful.{IsLawful}
 use Rattle.bf_image.specs.Sources.{HaveSameSources, tables_made}
-use Rattle.bf_migration.proofs.items.Lists.{all_append, all_kept, all_of_map, all_so, map_equal_where}
+use Rattle.bf_image.proofs.items.Lists.{all_append, all_kept, all_of_map, all_so, map_equal_where}
 use Rattle.bf_image.proofs.keeping.SameTables.{is_inside, target_table_same}
 use Rattle.bf_image.proofs.keeping.Sources.{arms_inside_sources, images_same, tables_same}
-use Rattle.bf_query.specs.Meanings.{entries_of}
-use Rattle.bf_query.proofs.OwnKeys.{each}
-use Rattle.bf_query.proofs.RowsAsEntries.{rows_are}
+use Rattle.bf_live.specs.Meanings.{entries_of}
+use Rattle.bf_live.proofs.querying.OwnKeys.{each}
+use Rattle.bf_live.proofs.querying.RowsAsEntries.{rows_are}
 use Rattle.bf_live.specs.Live.{IsUnderOwnKeys, TableRows, exchanged, stored}
 use Rattle.bf_eager.specs.Flips.{AreMade, CanStand, Made, heaped}
 

@@ -26,13 +26,13 @@ use Rattle.bf_sql.specs.migrations.Targets.{arm_kind, arm_scope}
 use Rattle.bf_tree.specs.Evaluation.{holds_on}
 use Rattle.bf_sql.specs.Conditions.{condition_of}
 use Rattle.bf_sql.specs.Scopes.{read_in}
-use Rattle.bf_migration.specs.ByValues.{Valued, by_value, positions_of}
-use Rattle.bf_migration.proofs.cutting.Parts.{all_numbered}
-use Rattle.bf_migration.proofs.items.Bags.{blocks_alike, blocks_equal, blocks_filtered, blocks_same_items}
-use Rattle.bf_migration.proofs.items.Values.{values_among, values_in_order-apart, values_in_order-has}
+use Rattle.bf_index.specs.ByValues.{Valued, by_value, positions_of}
+use Rattle.bf_image.proofs.cutting.Parts.{all_numbered}
+use Rattle.bf_index.proofs.Bags.{blocks_alike, blocks_equal, blocks_filtered, blocks_same_items}
+use Rattle.bf_index.proofs.Values.{values_among, values_in_order-apart, values_in_order-has}
 use Rattle.bf_eager.specs.Gathering.{gathered, gathered_at, places_of_values}
-use Rattle.bf_migration.specs.Migrations.{from_values, old_of, units_in}
-use Rattle.bf_migration.specs.declared.migration.Migration.{Migration}
+use Rattle.bf_image.specs.Migrations.{from_values, old_of, units_in}
+use Rattle.bf_image.specs.declared.migration.Migration.{Migration}
 
 abbrev values_in : List (List Value) → List (List Value)
 values_in vs = in_order key_cmp (λ v. v) (distinct same_key vs)

@@ -15,18 +15,18 @@ use Rattle.bf_sql.specs.Bound.{catalog_of, without_rows}
 use Rattle.bf_sql.specs.Database.{Database, IsDatabase, Stored, stored_at}
 use Rattle.bf_sql.specs.RowObjections.{size_objections}
 use Rattle.bf_sql.specs.migrations.MigrationObjections.{sources_of}
-use Rattle.bf_migration.specs.Lawful.{IsLawful}
+use Rattle.bf_image.specs.Lawful.{IsLawful}
 use Rattle.bf_image.specs.Sources.{HaveSameSources, frozen_of, table_under}
 use Rattle.bf_image.proofs.keeping.Frozen.{frozen_lawful, frozen_same, objections_alike, same_as_catalog}
-use Rattle.bf_query.specs.Meanings.{entries_of}
-use Rattle.bf_query.proofs.OwnKeys.{filtered}
-use Rattle.bf_query.proofs.Stopping.{none_first}
+use Rattle.bf_live.specs.Meanings.{entries_of}
+use Rattle.bf_live.proofs.querying.OwnKeys.{filtered}
+use Rattle.bf_tree.proofs.Stopping.{none_first}
 use Rattle.bf_sql.specs.RowObjections.{first_oversize}
 use Rattle.bf_eager.specs.Freezing.{AreFrozen, tables_among}
 use Rattle.bf_eager.specs.Groups.{IsPlanned}
-use Rattle.bf_migration.specs.Migrations.{HasOwnKeys, IsLawfulMigration, old_of, stored_of}
-use Rattle.bf_migration.specs.declared.migration.Frozen.{Frozen}
-use Rattle.bf_migration.specs.declared.migration.Migration.{Migration}
+use Rattle.bf_image.specs.Migrations.{HasOwnKeys, IsLawfulMigration, old_of, stored_of}
+use Rattle.bf_image.specs.declared.migration.Frozen.{Frozen}
+use Rattle.bf_image.specs.declared.migration.Migration.{Migration}
 use Rattle.bf_eager.proofs.Planning.{plan_same}
 
 -- its sources are those of the statement

@@ -22,18 +22,18 @@ use Rattle.bf_image.proofs.admitting.Admitted.{image_admitted}
 use Rattle.bf_image.proofs.admitting.Few.{few_sources, goes_over_few}
 use Rattle.bf_image.proofs.admitting.Flip.{key_within}
 use Rattle.bf_image.proofs.cutting.Made.{same_rows}
-use Rattle.bf_migration.proofs.cutting.Parts.{all_parts, whole}
-use Rattle.bf_migration.proofs.cutting.Targets.{named_blocks, new_names}
+use Rattle.bf_image.proofs.cutting.Parts.{all_parts, whole}
+use Rattle.bf_image.proofs.cutting.Targets.{named_blocks, new_names}
 use Rattle.bf_image.proofs.finding.Owned.{image_keys_apart, target_unobjected}
-use Rattle.bf_migration.proofs.items.Bags.{filter_same_items}
-use Rattle.bf_migration.proofs.items.Lists.{all_of_blocks, all_of_contained, all_of_map, all_so, filter_equal_where}
-use Rattle.bf_migration.proofs.items.Names.{name-itself, name-symmetric}
-use Rattle.bf_migration.proofs.making.Unobjected.{arms_fine, names_new}
+use Rattle.bf_index.proofs.Bags.{filter_same_items}
+use Rattle.bf_image.proofs.items.Lists.{all_of_blocks, all_of_contained, all_of_map, all_so, filter_equal_where}
+use Rattle.bf_image.proofs.items.Names.{name-itself, name-symmetric}
+use Rattle.bf_image.proofs.making.Unobjected.{arms_fine, names_new}
 use Rattle.bf_eager.specs.Flips.{AreMade, IsMade, Made}
 use Rattle.bf_eager.specs.Gathering.{Numbered, gathered, named}
-use Rattle.bf_migration.specs.Migrations.{IsLawfulMigration, old_of, target_at}
+use Rattle.bf_image.specs.Migrations.{IsLawfulMigration, old_of, target_at}
 use Rattle.bf_eager.specs.Sorting.{Sorted, rows_made}
-use Rattle.bf_migration.specs.declared.migration.Migration.{Migration}
+use Rattle.bf_image.specs.declared.migration.Migration.{Migration}
 use Rattle.bf_eager.proofs.Gathered.{gathered_alike}
 use Rattle.bf_eager.proofs.Numbering.{rows_numbered, sorted_from, within_if}
 use Rattle.bf_eager.proofs.Placing.{all_within, different-apart}

@@ -10,11 +10,11 @@ use Rattle.bf_base.specs.declared.granule.Place.TheVariants.{Group, Row}
 use Rattle.bf_sql.specs.Database.{table_rows}
 use Rattle.bf_sql.specs.migrations.Granules.{UnitForm, anchors_of, granule, part_of, rows_unit, values_unit}
 use Rattle.bf_sql.specs.migrations.Targets.{arm_kind}
-use Rattle.bf_migration.specs.ByValues.{Valued, by_value}
+use Rattle.bf_index.specs.ByValues.{Valued, by_value}
 use Rattle.bf_eager.specs.Gathering.{gathered_at, gathered_of, parts_at, places_of_rows, places_of_values}
-use Rattle.bf_migration.specs.Migrations.{anchors_in, from_values, old_of, unit_at, unit_index, units_in, value_indexes}
-use Rattle.bf_migration.specs.declared.migration.Migration.{Migration}
-use Rattle.bf_migration.specs.declared.value_indexes.UnitIndex.{UnitIndex}
+use Rattle.bf_image.specs.Migrations.{anchors_in, from_values, old_of, unit_at, unit_index, units_in, value_indexes}
+use Rattle.bf_image.specs.declared.migration.Migration.{Migration}
+use Rattle.bf_image.specs.declared.value_indexes.UnitIndex.{UnitIndex}
 
 -- one block more
 pub flat_more : {X Y : Type 0} (f : X → List Y) (xs : List X) (x : X) → flat_map f (xs ++ x ∷ []) ≡ flat_map f xs ++ f x

@@ -17,8 +17,8 @@ use Rattle.bf_base.proofs.Order.{has-with_placed}
 use Rattle.bf_base.specs.Values.{key_cmp_total}
 use Rattle.bf_heap.specs.Heaps.{Entry, Rows, has_row, spare_after, with_row}
 use Rattle.bf_sql.specs.Database.{is_admitted, is_within}
-use Rattle.bf_query.specs.Meanings.{entries_of}
-use Rattle.bf_query.proofs.Binding.{row_within}
+use Rattle.bf_live.specs.Meanings.{entries_of}
+use Rattle.bf_live.proofs.querying.Binding.{row_within}
 use Rattle.bf_eager.specs.Starting.{entries_in_order, have_different_keys}
 
 -- what holds of all holds of one in the midst

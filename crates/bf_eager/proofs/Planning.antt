@@ -14,7 +14,7 @@ use Rattle.bf_sql.specs.migrations.Placed.{placed_arm}
 use Rattle.bf_sql.specs.migrations.Plans.{kind_by_values, numbered_arms, plan_made, planned_units, rows_unit_of, values_unit_of}
 use Rattle.bf_sql.specs.migrations.Targets.{arm_kind, target_table}
 use Rattle.bf_image.specs.Sources.{table_under}
-use Rattle.bf_migration.proofs.items.Lists.{all_kept, all_of_blocks, all_of_map, all_so, all_with_numbers, filter_equal_where, map_equal_where}
+use Rattle.bf_image.proofs.items.Lists.{all_kept, all_of_blocks, all_of_map, all_so, all_with_numbers, filter_equal_where, map_equal_where}
 use Rattle.bf_image.proofs.keeping.SameTables.{drivers_same, is_inside, kinds, placed_same, target_table_same}
 use Rattle.bf_image.proofs.keeping.Sources.{arms_inside_sources}
 

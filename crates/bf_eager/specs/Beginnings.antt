@@ -7,9 +7,9 @@ use Rattle.bf_tree.specs.declared.statement.Statement.TheVariants as statement
 use Rattle.bf_sql.specs.Database.{Database}
 use Rattle.bf_sql.specs.RowObjections.{row_objections}
 use Rattle.bf_sql.specs.migrations.MigrationObjections.{migrate_objections}
-use Rattle.bf_migration.specs.Migrations.{IsLawfulMigration, old_of}
+use Rattle.bf_image.specs.Migrations.{IsLawfulMigration, old_of}
 use Rattle.bf_image.specs.Sources.{HaveSameSources}
-use Rattle.bf_migration.specs.declared.migration.Migration.{Migration}
+use Rattle.bf_image.specs.declared.migration.Migration.{Migration}
 
 -- the first that stands in the way of a MIGRATE: of the catalog, and then of the rows
 abbrev pub first_against : Database → Migrate → Option Refusal

@@ -4,10 +4,10 @@ use Rattle.std.specs.List.{list_all}
 use Rattle.bf_base.specs.declared.table.Table.{Table}
 use Rattle.bf_base.specs.Lists.{has, same_name}
 use Rattle.bf_heap.specs.Heaps.{Entry}
-use Rattle.bf_query.specs.Meanings.{entries_of}
+use Rattle.bf_live.specs.Meanings.{entries_of}
 use Rattle.bf_sql.specs.Database.{Database, Stored, is_admitted, is_keyed, is_within, without}
-use Rattle.bf_migration.specs.Migrations.{stored_of}
-use Rattle.bf_migration.specs.declared.migration.Frozen.{Frozen}
+use Rattle.bf_image.specs.Migrations.{stored_of}
+use Rattle.bf_image.specs.declared.migration.Frozen.{Frozen}
 
 -- the rows of a table of a database, each under its key
 pub record CanFreeze (table : Table) (entries : List Entry) : Type 0 where

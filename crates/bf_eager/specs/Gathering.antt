@@ -8,9 +8,9 @@ use Rattle.bf_tree.specs.declared.migration.Target.{Target}
 use Rattle.bf_sql.specs.Database.{Database, table_rows}
 use Rattle.bf_sql.specs.migrations.Granules.{UnitForm, granule, part_of, rows_unit, values_unit}
 use Rattle.bf_sql.specs.migrations.Targets.{arm_kind}
-use Rattle.bf_migration.specs.ByValues.{Valued, by_value}
-use Rattle.bf_migration.specs.Migrations.{from_values, old_of, target_at, units_in}
-use Rattle.bf_migration.specs.declared.migration.Migration.{Migration}
+use Rattle.bf_index.specs.ByValues.{Valued, by_value}
+use Rattle.bf_image.specs.Migrations.{from_values, old_of, target_at, units_in}
+use Rattle.bf_image.specs.declared.migration.Migration.{Migration}
 
 -- a row with the number of its target
 abbrev pub Numbered : Type 0

@@ -10,7 +10,7 @@ use Rattle.bf_base.specs.Values.{key_cmp}
 use Rattle.bf_heap.specs.Heaps.{Entry}
 use Rattle.bf_tree.specs.Catalogs.{Catalog}
 use Rattle.bf_tree.specs.Limits.{HasNarrowTables}
-use Rattle.bf_query.specs.Meanings.{entries_of}
+use Rattle.bf_live.specs.Meanings.{entries_of}
 use Rattle.bf_live.specs.Live.{TableRows}
 use Rattle.bf_sql.specs.Bound.{without_rows}
 use Rattle.bf_sql.specs.Database.{Database, IsDatabase, is_admitted, stored_in_order}

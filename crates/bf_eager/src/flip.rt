@@ -9,7 +9,7 @@ ghost use Rattle.bf_sql.specs.Bound.{catalog_of};
 ghost use Rattle.bf_sql.specs.Database.{IsDatabase};
 ghost use Rattle.bf_sql.specs.Meaning.{executed};
 ghost use Rattle.bf_sql.specs.RowObjections.{first_oversize};
-ghost use Rattle.bf_migration.specs.Migrations.{IsLawfulMigration};
+ghost use Rattle.bf_image.specs.Migrations.{IsLawfulMigration};
 ghost use Rattle.bf_eager.specs.Beginnings.{IsBegun};
 ghost use Rattle.bf_eager.specs.Flips.{CanStand, heaped};
 ghost use Rattle.bf_eager.specs.Freezing.{AreFrozen};
@@ -20,8 +20,8 @@ use crate::freezing::frozen_sources;
 use crate::gathering::tables_made;
 use bf_base::{Memory, Row, Sequence, Table};
 use bf_heap::Heap;
+use bf_image::Migration;
 use bf_live::LiveTables;
-use bf_migration::Migration;
 use bf_tree::{Plan, Refusal, Reply};
 use std::alloc::Global;
 

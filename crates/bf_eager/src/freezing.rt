@@ -7,9 +7,9 @@ ghost use Rattle.bf_eager.specs.Freezing.{AreFrozen, CanFreeze};
 use crate::filling::heap_of;
 use bf_base::{Memory, Name, Row, Table};
 use bf_heap::Heap;
+use bf_image::Frozen;
 use bf_index::{FrozenIndexedHeap, IndexedHeap};
 use bf_live::LiveTables;
-use bf_migration::Frozen;
 use std::alloc::Global;
 
 /// Copies of the rows of a heap, in the order of their keys.

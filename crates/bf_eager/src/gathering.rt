@@ -2,14 +2,14 @@
 
 ghost use Rattle.std.specs.Prelude.{◌≡◌, ◌++◌, IfOk, OnOk, map};
 ghost use Rattle.bf_sql.specs.migrations.Granules.{granule, part_of};
-ghost use Rattle.bf_migration.specs.Migrations.{IsLawfulMigration, anchors_in, old_of, value_indexes};
+ghost use Rattle.bf_image.specs.Migrations.{IsLawfulMigration, anchors_in, old_of, value_indexes};
 ghost use Rattle.bf_eager.specs.Flips.{AreMade};
 ghost use Rattle.bf_eager.specs.Gathering.{gathered, named, parts_at, places_of_rows, places_of_values};
 ghost use Rattle.bf_eager.specs.Sorting.{rows_made, table_alone, with_rows};
 
 use bf_base::{Granule, Memory, Place, Row, Table};
-use bf_image::{positions, rows_of};
-use bf_migration::{ByValue, Migration, ValueIndexes};
+use bf_image::{Migration, ValueIndexes, positions, rows_of};
+use bf_index::ByValue;
 use std::alloc::Global;
 
 /// Adds the rows of a granule, each with the number of its target.

@@ -12,8 +12,9 @@ ghost use Rattle.bf_live.specs.Live.{committed};
 ghost use Rattle.bf_live.specs.Open.{IsOpen};
 
 use bf_base::Memory;
-use bf_live::{LiveTables, run_on_table};
+use bf_live::LiveTables;
 use bf_plan::prepare;
+use bf_query::run_on_table;
 use bf_tree::{Action, Reply, Statement};
 use bf_txn::Workspace;
 use std::alloc::Global;

@@ -21,7 +21,7 @@ use Rattle.bf_sql.proofs.GroupedTotalsMoves as totals
 use Rattle.bf_sql.proofs.JoinedPairsMoves as pairs
 use Rattle.bf_sql.specs.migrations.Targets.{target_table}
 use Rattle.bf_image.specs.Laws.{rows_of_parts, swept}
-use Rattle.bf_migration.specs.Lawful.{IsLawful}
+use Rattle.bf_image.specs.Lawful.{IsLawful}
 use Rattle.bf_image.specs.Lookup.{candidates}
 use Rattle.bf_image.specs.Sources.{frozen_of}
 

@@ -11,7 +11,7 @@ use Rattle.bf_tree.specs.declared.plan.PlacedArm.{PlacedArm}
 use Rattle.bf_tree.specs.declared.plan.PlacedItem.{PlacedItem}
 use Rattle.bf_tree.specs.declared.plan.PlacedItem.TheVariants as placed
 use Rattle.bf_tree.specs.declared.reply.Refusal.{Refusal}
-use Rattle.bf_sql.specs.RowObjections.{answer_objections}
+use Rattle.bf_tree.specs.ValueObjections.{answer_objections}
 use Rattle.bf_sql.specs.migrations.Placed.{is_equal_at, placed_groups, placed_matches, placed_over}
 
 -- what stands in the way of a total over rows; a column and an expression count as 0 where they have no value

@@ -6,12 +6,12 @@ use Rattle.bf_base.specs.declared.value.Value.{Value}
 use Rattle.bf_sql.specs.migrations.Granules.{granule, part_of}
 use Rattle.bf_tree.specs.declared.plan.Unit.{Unit as Planned}
 use Rattle.bf_tree.specs.declared.plan.UnitKind.TheVariants.{Rows}
-use Rattle.bf_migration.specs.BoundArms.{IsFound, IsOfUnit, arm_at}
-use Rattle.bf_migration.specs.Migrations.{IsLawfulMigration, old_of, source_of, unit_at, value_indexes}
-use Rattle.bf_migration.specs.declared.arms.FrozenArm.{FrozenArm}
+use Rattle.bf_image.specs.BoundArms.{IsFound, IsOfUnit, arm_at}
+use Rattle.bf_image.specs.Migrations.{IsLawfulMigration, old_of, source_of, unit_at, value_indexes}
+use Rattle.bf_image.specs.declared.arms.FrozenArm.{FrozenArm}
 use Rattle.bf_image.specs.declared.frozen_unit.FrozenUnit.{FrozenUnit}
-use Rattle.bf_migration.specs.declared.migration.Frozen.{Frozen}
-use Rattle.bf_migration.specs.declared.migration.Migration.{Migration}
+use Rattle.bf_image.specs.declared.migration.Frozen.{Frozen}
+use Rattle.bf_image.specs.declared.migration.Migration.{Migration}
 
 -- arms are found at pairs of numbers, one for each
 abbrev pub AreFound : Migration → List (ℕ × ℕ) → List FrozenArm → Type 0

@@ -8,8 +8,8 @@ use Rattle.bf_tree.specs.declared.migration.Target.{Target}
 use Rattle.bf_tree.specs.declared.plan.PlacedArm.{PlacedArm}
 use Rattle.bf_sql.specs.migrations.Granules.{part_of}
 use Rattle.bf_sql.specs.migrations.Placed.{placed_rows}
-use Rattle.bf_migration.specs.Migrations.{old_of, target_at}
-use Rattle.bf_migration.specs.declared.migration.Migration.{Migration}
+use Rattle.bf_image.specs.Migrations.{old_of, target_at}
+use Rattle.bf_image.specs.declared.migration.Migration.{Migration}
 
 -- whether a list has an item
 abbrev pub has_any : {X : Type 0} → List X → Bool

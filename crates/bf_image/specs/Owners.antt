@@ -8,8 +8,8 @@ use Rattle.bf_base.specs.Tables.{key_of}
 use Rattle.bf_tree.specs.declared.migration.Target.{Target}
 use Rattle.bf_sql.specs.migrations.Granules.{granule}
 use Rattle.bf_image.specs.Lookup.{places_by}
-use Rattle.bf_migration.specs.Migrations.{old_of, unit_at}
-use Rattle.bf_migration.specs.declared.migration.Migration.{Migration}
+use Rattle.bf_image.specs.Migrations.{old_of, unit_at}
+use Rattle.bf_image.specs.declared.migration.Migration.{Migration}
 
 -- the candidate of a unit by its number, if it has one
 abbrev pub candidates_at : Migration → Target → List Value → ℕ → List Granule

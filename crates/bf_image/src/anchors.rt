@@ -5,13 +5,14 @@ ghost use Rattle.std.specs.Option.{option_map};
 ghost use Rattle.bf_sql.specs.Database.{table_rows};
 ghost use Rattle.bf_sql.specs.migrations.Granules.{granule};
 ghost use Rattle.bf_tree.specs.Limits.{is_narrow};
-ghost use Rattle.bf_migration.specs.BoundArms.{HasFewRows, arm_values};
-ghost use Rattle.bf_migration.specs.ByValues.{values_at as values_of};
-ghost use Rattle.bf_migration.specs.Migrations.{IsLawfulMigration, anchored_at, anchors_in, old_of};
+ghost use Rattle.bf_image.specs.BoundArms.{HasFewRows, arm_values};
+ghost use Rattle.bf_index.specs.ByValues.{values_at as values_of};
+ghost use Rattle.bf_image.specs.Migrations.{IsLawfulMigration, anchored_at, anchors_in, old_of};
 
 use crate::arm_rows::values_at;
+use crate::arms::FrozenArm;
+use crate::migration::{Frozen, Migration};
 use bf_base::{Granule, Key, Memory, Name, Place};
-use bf_migration::{Frozen, FrozenArm, Migration};
 use std::alloc::Global;
 
 /// How many rows an old table has: none where it is not there. It compares about log n names.

@@ -8,8 +8,8 @@ ghost use Rattle.bf_base.specs.Tables.{cell, cells};
 ghost use Rattle.bf_tree.specs.Evaluation.{holds_on, sure_value};
 ghost use Rattle.bf_tree.specs.Trees.{always};
 ghost use Rattle.bf_tree.specs.declared.items.Items.TheVariants.{Aggregates};
-ghost use Rattle.bf_sql.specs.RowObjections.{answer_objections};
-ghost use Rattle.bf_sql.specs.Totals.{total_of};
+ghost use Rattle.bf_tree.specs.ValueObjections.{answer_objections};
+ghost use Rattle.bf_tree.specs.Totals.{total_of};
 ghost use Rattle.bf_sql.specs.migrations.Images.{value_or_nought};
 ghost use Rattle.bf_sql.specs.migrations.MigrationObjections.{is_by_row};
 ghost use Rattle.bf_sql.specs.migrations.Placed.{placed_over, placed_rows};
@@ -17,7 +17,7 @@ ghost use Rattle.bf_image.specs.ArmRows.{AreOfOne, CanMake, CanMakeOf, CanMatch,
 
 use crate::beside::{is_matched_beside, side_by_side, value_beside};
 use bf_base::{Key, Memory, Row, Value};
-use bf_query::running::totals;
+use bf_totals::totals;
 use bf_tree::{
     Aggregate, ArmKind, Cell, Expr, Fail, PlacedArm, PlacedItem, StatementError, Test, holds, value,
 };
@@ -35,10 +35,10 @@ fn sure_value(alloc: Global, expr: &Expr, row: &Row) -> Result<Value, Memory>
 }
 
 /// The value of a column of a row.
-pub(crate) fn column_value(alloc: Global, row: &Row, place: u8) -> Result<Value, Memory>
+pub(crate) fn column_value(alloc: Global, row: &Row, place: usize) -> Result<Value, Memory>
     ensures { IfOk result (λ found. found ≡ cell row.now place) }
 {
-    match row.as_slice().get(place as usize) {
+    match row.as_slice().get(place) {
         Some(value) => value.copy(alloc),
         None => Ok(Value::Int(0)),
     }
@@ -50,7 +50,7 @@ pub(crate) fn values_at(alloc: Global, row: &Row, places: &[u8]) -> Result<Key, 
 {
     let mut values = Vec::with_capacity(alloc, places.len())?;
     for place in places {
-        values.push(column_value(alloc, row, *place)?)?;
+        values.push(column_value(alloc, row, usize::from(*place))?)?;
     }
     Ok(Key::of(values))
 }
@@ -80,7 +80,7 @@ fn item_value(alloc: Global, item: &PlacedItem, rows: &[&Row]) -> Result<Value, 
     match item {
         PlacedItem::Total(total) => total_value(alloc, total, rows),
         PlacedItem::Column(place) => match rows {
-            [row, ..] => column_value(alloc, row, *place),
+            [row, ..] => column_value(alloc, row, usize::from(*place)),
             [] => Ok(Value::Int(0)),
         },
         PlacedItem::Value(expr) => match rows {

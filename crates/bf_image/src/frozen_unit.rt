@@ -3,10 +3,12 @@
 ghost use Rattle.std.specs.Prelude.{◌≡◌, IfOk, option_map};
 ghost use Rattle.bf_sql.specs.migrations.Plans.{rows_unit_of};
 ghost use Rattle.bf_image.specs.FrozenUnits.{AreFound, IsDriven, IsFrozenUnit};
-ghost use Rattle.bf_migration.specs.Migrations.{IsLawfulMigration, old_of, value_indexes};
+ghost use Rattle.bf_image.specs.Migrations.{IsLawfulMigration, old_of, value_indexes};
 
+use crate::arms::FrozenArm;
+use crate::migration::{Frozen, Migration};
+use crate::value_indexes::{UnitIndex, ValueIndexes};
 use bf_base::Memory;
-use bf_migration::{Frozen, FrozenArm, Migration, UnitIndex, ValueIndexes};
 use bf_tree::{Unit, UnitKind};
 use std::alloc::Global;
 

@@ -4,16 +4,18 @@ ghost use Rattle.std.specs.Prelude.{◌≡◌, ◌<◌, [], ◌∷◌, ℕ, IfOk
 ghost use Rattle.std.specs.Option.{option_to_list};
 ghost use Rattle.bf_base.specs.declared.granule.Place.TheVariants.{Group, Row as At};
 ghost use Rattle.bf_sql.specs.migrations.Granules.{granule};
-ghost use Rattle.bf_migration.specs.BoundArms.{entries_of};
-ghost use Rattle.bf_migration.specs.ByValues.{positions_under};
+ghost use Rattle.bf_image.specs.BoundArms.{entries_of};
+ghost use Rattle.bf_index.specs.ByValues.{positions_under};
 ghost use Rattle.bf_image.specs.FrozenUnits.{IsFrozenUnit, IsRowAt};
 ghost use Rattle.bf_image.specs.Giving.{gives_row, makes_any};
 
 use crate::arm_gives::makes_any;
+use crate::arms::FrozenArm;
 use crate::frozen_unit::FrozenUnit;
 use crate::meeting::gives_of_driver;
+use crate::migration::Frozen;
+use crate::value_indexes::UnitIndex;
 use bf_base::{Key, Memory, Place, Row};
-use bf_migration::{Frozen, FrozenArm, UnitIndex};
 use bf_tree::PlacedArm;
 use std::alloc::Global;
 

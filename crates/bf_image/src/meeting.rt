@@ -13,16 +13,16 @@ ghost use Rattle.bf_sql.specs.migrations.MigrationObjections.{is_by_row};
 ghost use Rattle.bf_sql.specs.migrations.Placed.{placed_pair};
 ghost use Rattle.bf_sql.specs.migrations.Targets.{arm_kind};
 ghost use Rattle.bf_image.specs.ArmRows.{CanMake};
-ghost use Rattle.bf_migration.specs.BoundArms.{IsFrozenArm};
+ghost use Rattle.bf_image.specs.BoundArms.{IsFrozenArm};
 ghost use Rattle.bf_image.specs.Giving.{has_any};
 ghost use Rattle.bf_image.specs.Lookup.{partner, join_rows_met, from_rows_met};
-ghost use Rattle.bf_migration.specs.Migrations.{IsLawfulMigration, old_of};
-ghost use Rattle.bf_migration.specs.declared.migration.Migration.{Migration};
+ghost use Rattle.bf_image.specs.Migrations.{IsLawfulMigration, old_of};
+ghost use Rattle.bf_image.specs.declared.migration.Migration.{Migration};
 
 use crate::arm_gives::makes_any;
-use crate::arm_rows::row_made;
+use crate::arm_rows::{column_value, row_made};
+use crate::arms::FrozenArm;
 use bf_base::{Key, Memory, Row, Value};
-use bf_migration::FrozenArm;
 use bf_tree::ArmKind;
 use std::alloc::Global;
 
@@ -41,16 +41,6 @@ fn partner(on: &[(u8, u8)], place: usize) -> usize
         }
     }
     place
-}
-
-/// The value of a column of a row.
-fn value_at(alloc: Global, row: &Row, place: usize) -> Result<Value, Memory>
-    ensures { IfOk result (λ found. found ≡ cell row.now place) }
-{
-    match row.as_slice().get(place) {
-        Some(value) => value.copy(alloc),
-        None => Ok(Value::Int(0)),
-    }
 }
 
 /// Where the columns of one table stand, and those of the other, in a row of FROM with a row of JOIN
@@ -78,7 +68,7 @@ fn key_met(
     let mut values = Vec::with_capacity(alloc, key.len())?;
     for place in key {
         let met = partner(on, ahead.other + usize::from(*place));
-        values.push(value_at(alloc, row, met.saturating_sub(ahead.driver))?)?;
+        values.push(column_value(alloc, row, met.saturating_sub(ahead.driver))?)?;
     }
     Ok(Key::of(values))
 }

@@ -2,24 +2,26 @@
 
 ghost use Rattle.std.specs.List.{list_any};
 ghost use Rattle.std.specs.Option.{option_to_list};
-ghost use Rattle.std.specs.Prelude.{◌≡◌, ◌<◌, ℕ, IfOk, IsTrue, find, length, map, position, take};
+ghost use Rattle.std.specs.Prelude.{◌≡◌, ◌<◌, ℕ, IfOk, IsTrue, find, length, map, position};
 ghost use Rattle.bf_base.specs.Lists.{same_name};
 ghost use Rattle.bf_base.specs.declared.granule.Place.TheVariants.{Group};
 ghost use Rattle.bf_tree.specs.Limits.{is_narrow};
 ghost use Rattle.bf_tree.specs.declared.migration.Arm.{Arm};
 ghost use Rattle.bf_sql.specs.migrations.Granules.{granule, owner_of, rows_unit};
 ghost use Rattle.bf_sql.specs.migrations.Targets.{arm_kind, target_table};
-ghost use Rattle.bf_migration.specs.BoundArms.{IsFrozenArm};
+ghost use Rattle.bf_image.specs.BoundArms.{IsFrozenArm};
 ghost use Rattle.bf_image.specs.Laws.{owns};
 ghost use Rattle.bf_image.specs.Lookup.{behind_tag, places_by, values_by};
-ghost use Rattle.bf_migration.specs.Migrations.{IsLawfulMigration, old_of, owner_in, target_at, value_indexes};
+ghost use Rattle.bf_image.specs.Migrations.{IsLawfulMigration, old_of, owner_in, target_at, value_indexes};
 ghost use Rattle.bf_image.specs.Owners.{candidates_at, is_row_with};
-ghost use Rattle.bf_migration.specs.declared.migration.Migration.{Migration as Seen};
+ghost use Rattle.bf_image.specs.declared.migration.Migration.{Migration as Seen};
 
 use crate::arm_rows::values_at;
+use crate::arms::FrozenArm;
+use crate::migration::Migration;
 use crate::parts::rows_of;
+use crate::value_indexes::ValueIndexes;
 use bf_base::{Granule, Key, Memory, Name, Place, Row, Table, Value};
-use bf_migration::{FrozenArm, Migration, ValueIndexes};
 use bf_tree::{ArmKind, Target};
 use std::alloc::Global;
 
@@ -32,14 +34,6 @@ fn key_of_values(alloc: Global, values: &[Value]) -> Result<Key, Memory>
         copies.push(value.copy(alloc)?)?;
     }
     Ok(Key::of(copies))
-}
-
-/// The first values of a key, as many as are told or all.
-fn front_of(alloc: Global, key: &Key, count: usize) -> Result<Key, Memory>
-    ensures { IfOk result (λ front. front ≡ take count key.now) }
-{
-    let values = key.as_slice();
-    key_of_values(alloc, &values[..count.min(values.len())])
 }
 
 /// The key in the driver that a key of a target has: behind the tag, where the target has several
@@ -92,7 +86,9 @@ fn place_by_value(alloc: Global, arm: &FrozenArm<'_>, key: &Key) -> Result<Optio
         ArmKind::ByFrom | ArmKind::ByJoin => Ok(None),
         ArmKind::ByGroup => Ok(Some(Place::Group(key.copy(alloc)?))),
         ArmKind::ByPair => {
-            let front = front_of(alloc, key, arm.from.table.key.len())?;
+            let values = key.as_slice();
+            let width = arm.from.table.key.len().min(values.len());
+            let front = key_of_values(alloc, &values[..width])?;
             let Some(row) = arm.from.rows.get(&front) else {
                 return Ok(None);
             };

@@ -7,16 +7,18 @@ ghost use Rattle.bf_tree.specs.declared.migration.Arm.{Arm};
 ghost use Rattle.bf_tree.specs.declared.migration.Target.{Target};
 ghost use Rattle.bf_sql.specs.migrations.Granules.{from_with, granule, join_with, values_unit};
 ghost use Rattle.bf_sql.specs.migrations.Targets.{arm_kind};
-ghost use Rattle.bf_migration.specs.BoundArms.{IsFrozenArm};
+ghost use Rattle.bf_image.specs.BoundArms.{IsFrozenArm};
 ghost use Rattle.bf_image.specs.FrozenUnits.{IsFrozenUnit, IsRowAt};
-ghost use Rattle.bf_migration.specs.Migrations.{ArePart, IsLawfulMigration, IsPartBehind, old_of, unit_index, value_indexes};
-ghost use Rattle.bf_migration.specs.declared.migration.Migration.{Migration};
+ghost use Rattle.bf_image.specs.Migrations.{ArePart, IsLawfulMigration, IsPartBehind, old_of, unit_index, value_indexes};
+ghost use Rattle.bf_image.specs.declared.migration.Migration.{Migration};
 
 use crate::arm_rows::rows_made;
+use crate::arms::FrozenArm;
 use crate::frozen_unit::FrozenUnit;
 use crate::meeting::row_of_driver;
+use crate::migration::{Frozen, Migration};
+use crate::value_indexes::{UnitIndex, ValueIndexes};
 use bf_base::{Granule, Key, Memory, Place, Row};
-use bf_migration::{Frozen, FrozenArm, Migration, UnitIndex, ValueIndexes};
 use std::alloc::Global;
 
 /// Puts a row, if there is one, behind others with the number of its target.

@@ -1,10 +1,14 @@
+pub mod Bags
 pub mod Finds
 pub mod Firsts
 pub mod Following
+pub mod Indexed
 pub mod Kept
 pub mod Keys
 pub mod Members
 pub mod Orders
 pub mod Places
 pub mod Puts
+pub mod Rising
 pub mod Upkeep
+pub mod Values

@@ -1,3 +1,4 @@
+pub mod ByValues
 pub mod Edits
 pub mod Pages
 pub mod Pairs

@@ -6,15 +6,18 @@
 //! `take` may want none, so that an index follows rows that a heap puts and removes without any.
 //!
 //! An `IndexedHeap` is a heap whose indexes follow its rows. Its contracts see the heap alone, and that
-//! each index that it has is that of the rows.
+//! each index that it has is that of the rows. A `ByValue` is made once of a heap that is frozen, and has
+//! the positions of its rows by their values.
 #![tactic(auto)]
 
+pub mod by_value;
 pub mod frozen_indexed_heap;
 pub mod index;
 pub mod indexed_heap;
 pub mod laws;
 mod page;
 
+pub use by_value::ByValue;
 pub use frozen_indexed_heap::FrozenIndexedHeap;
 pub use index::Index;
 pub use indexed_heap::IndexedHeap;

@@ -13,7 +13,7 @@ use Rattle.bf_base.proofs.Apart.{apart_from_rises}
 use Rattle.bf_base.proofs.Names.{name_cmp_total}
 use Rattle.bf_base.proofs.Parts.{map_itself}
 use Rattle.bf_heap.specs.Heaps.{Entry}
-use Rattle.bf_query.specs.Meanings.{entries_of}
+use Rattle.bf_live.specs.Meanings.{entries_of}
 use Rattle.bf_tree.specs.Catalogs.{Catalog}
 use Rattle.bf_tree.specs.declared.catalog.IndexRule.{IndexRule}
 use Rattle.bf_sql.specs.Bound.{catalog_of}

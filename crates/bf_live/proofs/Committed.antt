@@ -6,9 +6,9 @@ use Rattle.std.specs.Map.{keys_of, values_of}
 use Rattle.std.proofs.lemmas.List.Elements.{All-cons}
 use Rattle.bf_base.specs.declared.table.Table.{Table}
 use Rattle.bf_heap.specs.Heaps.{Entry}
-use Rattle.bf_query.specs.Meanings.{entries_of}
-use Rattle.bf_query.specs.Merged.{HasOwnKey, StandUnderOwnKeys, entries_under}
-use Rattle.bf_query.proofs.OwnKeys.{own_keys}
+use Rattle.bf_live.specs.Meanings.{entries_of}
+use Rattle.bf_live.specs.Merged.{HasOwnKey, StandUnderOwnKeys, entries_under}
+use Rattle.bf_live.proofs.querying.OwnKeys.{own_keys}
 use Rattle.bf_tree.specs.Catalogs.{Catalog}
 use Rattle.bf_sql.specs.Database.{Database, IsDatabase, Stored}
 use Rattle.bf_txn.specs.declared.write.Write.{Write}

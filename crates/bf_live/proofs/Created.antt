@@ -21,7 +21,7 @@ use Rattle.bf_sql.specs.Database.{Database, IsDatabase, Stored, stored_at, store
 use Rattle.bf_sql.specs.Meaning.{next_number, with_index}
 use Rattle.bf_live.specs.Drafts.{drafted_at, name_of_rows}
 use Rattle.bf_live.specs.Live.{AreLiveTables, IsUnderOwnKeys, NamedHeap, NamedRows, TableRows, database_of, rows_in, stored}
-use Rattle.bf_query.specs.Meanings.{entries_of}
+use Rattle.bf_live.specs.Meanings.{entries_of}
 use Rattle.bf_live.proofs.Held.{held, name_of, rows_found, rows_held}
 use Rattle.bf_live.proofs.Paired.{all_placed, one_each_with, paired, paired_with, table_not_there}
 

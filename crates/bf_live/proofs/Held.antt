@@ -9,7 +9,7 @@ use Rattle.bf_base.specs.declared.table.Table.{Table}
 use Rattle.bf_base.specs.Lists.{name_cmp, same_name}
 use Rattle.bf_base.proofs.Names.{same_name-tie_back}
 use Rattle.bf_heap.specs.Heaps.{Rows}
-use Rattle.bf_query.specs.Meanings.{entries_of}
+use Rattle.bf_live.specs.Meanings.{entries_of}
 use Rattle.bf_tree.specs.Catalogs.{Catalog}
 use Rattle.bf_sql.specs.Database.{Database, Stored, stored_at}
 use Rattle.bf_sql.specs.Bound.{catalog_of}

@@ -11,4 +11,5 @@ mod Swapped
 mod Written
 pub mod keeps
 pub mod locking
+pub mod querying
 pub mod statements

@@ -11,7 +11,7 @@ use Rattle.bf_base.specs.Lists.{has, name_cmp, same_name}
 use Rattle.bf_base.proofs.Apart.{apart_from_rises, are_apart}
 use Rattle.bf_base.proofs.Names.{name_cmp_total, same_name-tie, same_name-tie_back}
 use Rattle.bf_heap.specs.Heaps.{Entry}
-use Rattle.bf_query.specs.Meanings.{entries_of}
+use Rattle.bf_live.specs.Meanings.{entries_of}
 use Rattle.bf_tree.specs.Catalogs.{Catalog}
 use Rattle.bf_sql.specs.Database.{Database, IsDatabase, Stored, stored_at, with_rows}
 use Rattle.bf_live.specs.Live.{AreLiveTables, IsUnderOwnKeys, NamedRows, database_of, stored, with_rows_under}

@@ -16,7 +16,7 @@ use Rattle.bf_base.specs.declared.value.Value.{Value}
 use Rattle.bf_base.proofs.Names.{name_cmp_total}
 use Rattle.bf_base.proofs.Order.{turned_less}
 use Rattle.bf_heap.specs.Heaps.{Entry}
-use Rattle.bf_query.specs.Merged.{applied, applied_to, entries_under}
+use Rattle.bf_live.specs.Merged.{applied, applied_to, entries_under}
 use Rattle.bf_txn.specs.declared.write.Write.{Write}
 use Rattle.bf_txn.specs.Writes.{AreTables, KeyWrite, OfTable, all_writes, key_write_of, key_writes_to, writes_at, writes_in, writes_to}
 use Rattle.bf_txn.proofs.Tables.{names_rise, written_to}

@@ -3,8 +3,7 @@ use Rattle.std.specs.Prelude.{◌≡◌, Some}
 use Rattle.bf_base.specs.declared.table.Table.{Table}
 use Rattle.bf_tree.specs.declared.bound.Action.{Action}
 use Rattle.bf_sql.specs.Database.{Database, IsDatabase, stored_at, table_rows}
-use Rattle.bf_query.specs.Actions.{IsWellBound, action_table}
-use Rattle.bf_query.specs.Changes.{LeavesKeys}
+use Rattle.bf_live.specs.Replies.{IsWellBound, action_table, LeavesKeys}
 
 -- a well bound action on a table of a database
 pub record IsOn (db : Database) (table : Table) (act : Action) : Type 0 where

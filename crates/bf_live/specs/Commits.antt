@@ -4,7 +4,7 @@ use Rattle.std.specs.List.{All, AllZip}
 use Rattle.std.specs.Map.{values_of}
 use Rattle.bf_base.specs.Lists.{same_name}
 use Rattle.bf_base.specs.declared.value.Value.{Value}
-use Rattle.bf_query.specs.Merged.{applied_to, entries_under}
+use Rattle.bf_live.specs.Merged.{applied_to, entries_under}
 use Rattle.bf_txn.specs.declared.write.Write.{Write}
 use Rattle.bf_txn.specs.Writes.{KeyWrite, writes_to}
 use Rattle.bf_live.specs.Live.{NamedHeap, NamedRows}

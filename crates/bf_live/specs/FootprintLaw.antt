@@ -11,7 +11,7 @@ use Rattle.bf_tree.specs.declared.statement.Statement.{Statement}
 use Rattle.bf_sql.specs.Bound.{bound_of, catalog_of}
 use Rattle.bf_sql.specs.Database.{Database, IsDatabase, table_rows}
 use Rattle.bf_sql.specs.Meaning.{executed}
-use Rattle.bf_query.specs.Actions.{objections_on, action_table, writes_of, written}
+use Rattle.bf_live.specs.Replies.{objections_on, action_table, writes_of, written}
 use Rattle.bf_txn.specs.declared.write.Write.{Write}
 use Rattle.bf_sql.specs.Footprints.{HasKeys, Lock, footprint_of}
 use Rattle.bf_sql.specs.Agreement.{AgreeOn}

@@ -5,6 +5,9 @@ pub mod Commits
 pub mod Drafts
 pub mod FootprintLaw
 pub mod Live
+pub mod Meanings
+pub mod Merged
 pub mod Open
 pub mod OpenGroups
 pub mod Puts
+pub mod Replies

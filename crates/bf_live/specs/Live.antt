@@ -5,8 +5,8 @@ use Rattle.std.specs.Map.{keys_of, values_of}
 use Rattle.bf_base.specs.declared.table.Table.{Table}
 use Rattle.bf_base.specs.Lists.{has, same_name}
 use Rattle.bf_heap.specs.Heaps.{Entry, Rows}
-use Rattle.bf_query.specs.Merged.{rows_under}
-use Rattle.bf_query.specs.Meanings.{entries_of}
+use Rattle.bf_live.specs.Merged.{rows_under}
+use Rattle.bf_live.specs.Meanings.{entries_of}
 use Rattle.bf_tree.specs.Catalogs.{Catalog}
 use Rattle.bf_sql.specs.Database.{Database, Stored, IsDatabase, with_tables, without}
 use Rattle.bf_txn.specs.declared.write.Write.{Write}

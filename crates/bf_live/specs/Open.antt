@@ -7,9 +7,9 @@ use Rattle.bf_tree.specs.declared.reply.Reply.{Reply}
 use Rattle.bf_sql.specs.Bound.{bound_of}
 use Rattle.bf_sql.specs.Database.{Database, IsDatabase}
 use Rattle.bf_sql.specs.Meaning.{executed}
-use Rattle.bf_query.specs.Actions.{action_table}
-use Rattle.bf_query.specs.Meanings.{entries_of, writes_after}
-use Rattle.bf_query.specs.Merged.{StandUnderOwnKeys}
+use Rattle.bf_live.specs.Replies.{action_table}
+use Rattle.bf_live.specs.Meanings.{entries_of, writes_after}
+use Rattle.bf_live.specs.Merged.{StandUnderOwnKeys}
 use Rattle.bf_live.specs.Live.{committed}
 use Rattle.bf_txn.specs.declared.write.Write.{Write}
 use Rattle.bf_txn.specs.Writes.{AreWrites}

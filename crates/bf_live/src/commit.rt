@@ -2,7 +2,7 @@
 
 ghost use Rattle.std.specs.Prelude.{◌≡◌, ◌≤◌, ◌+◌, OnOk, fold};
 ghost use Rattle.std.specs.List.{All};
-ghost use Rattle.bf_query.specs.Merged.{applied_to};
+ghost use Rattle.bf_live.specs.Merged.{applied_to};
 ghost use Rattle.bf_live.specs.Live.{rows_in};
 ghost use Rattle.bf_live.specs.Commits.{HasRoomIn, HaveRoomFor, KeepRoom, LeaveRoom, key_puts, put_by, taken_by, with_writes, with_writes_to};
 

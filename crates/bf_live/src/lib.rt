@@ -7,10 +7,8 @@ mod draft;
 pub mod footprint_laws;
 pub mod laws;
 pub mod live_tables;
-pub mod on_table;
 pub mod puts;
 mod sizes;
 
 pub use live_tables::{Exchange, LiveTables};
-pub use on_table::run_on_table;
 pub use puts::Puts;

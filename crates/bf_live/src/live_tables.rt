@@ -3,8 +3,8 @@
 ghost use Rattle.std.specs.Prelude.{◌≡◌, List, [], ◌∷◌, IfOk, OnErr, OnOk, map};
 ghost use Rattle.std.specs.List.{All};
 ghost use Rattle.std.specs.Option.{option_map};
-ghost use Rattle.bf_query.specs.Meanings.{entries_of};
-ghost use Rattle.bf_query.specs.Merged.{StandUnderOwnKeys};
+ghost use Rattle.bf_live.specs.Meanings.{entries_of};
+ghost use Rattle.bf_live.specs.Merged.{StandUnderOwnKeys};
 ghost use Rattle.bf_sql.specs.Database.{IsDatabase, Stored, empty_database, stored_at, stored_in_order, with_rows, with_tables};
 ghost use Rattle.bf_sql.specs.Meaning.{next_number, with_index};
 ghost use Rattle.bf_sql.specs.Bound.{catalog_of};

@@ -2,7 +2,7 @@
 
 ghost use Rattle.std.specs.Prelude.{◌≡◌, ◌≤◌, ◌+◌, ◌++◌, ◌∷◌, [], IfOk, OnErr, OnOk, fold, length};
 ghost use Rattle.std.specs.List.{All};
-ghost use Rattle.bf_query.specs.Merged.{applied_to};
+ghost use Rattle.bf_live.specs.Merged.{applied_to};
 ghost use Rattle.bf_live.specs.Live.{rows_in};
 ghost use Rattle.bf_live.specs.Commits.{HasRoomIn, HaveRoomFor, LeaveRoom, taken_by, with_writes, with_writes_to};
 ghost use Rattle.bf_live.specs.Puts.{AreOfDifferentTables, all_puts, put_writes};

@@ -15,7 +15,8 @@ ghost use Rattle.bf_machine.specs.interleaving.Seen.{pending_seen};
 
 use crate::so_far::Pending;
 use bf_base::Memory;
-use bf_live::{LiveTables, run_on_table};
+use bf_live::LiveTables;
+use bf_query::run_on_table;
 use bf_store::Store;
 use bf_tree::{Action, Bound, Plan, Refusal, Reply};
 use std::alloc::Global;

@@ -3,15 +3,15 @@
 ghost use Rattle.std.specs.Prelude.{◌≡◌, IfOk, IsTrue, OnOk, Some};
 ghost use Rattle.std.specs.Option.{option_map};
 ghost use Rattle.boxcar.specs.Table.{Shows};
-ghost use Rattle.bf_migration.specs.Migrations.{value_indexes};
-ghost use Rattle.bf_query.specs.Actions.{IsWellBound};
+ghost use Rattle.bf_image.specs.Migrations.{value_indexes};
+ghost use Rattle.bf_live.specs.Replies.{IsWellBound};
 ghost use Rattle.bf_store.specs.Stores.{IsOf};
 ghost use Rattle.bf_machine.specs.interleaving.Calls.{IsEnough};
 
 use crate::machine::Machine;
 use crate::opened::Opened;
 use bf_base::Memory;
-use bf_migration::{MigrationPass, Registry, ValueIndexes};
+use bf_image::{MigrationPass, Registry, ValueIndexes};
 use bf_transpose::{Cover, can_need, cover_of};
 use bf_tree::Bound;
 use std::alloc::Global;
@@ -29,9 +29,9 @@ pub struct Lookups<N: Opened> {
 impl<N: Opened> Model for Lookups<N> {
     ghost use Rattle.std.specs.Prelude.{◌≡◌};
     ghost use Rattle.boxcar.specs.Table.{Shows, Where, where_coded};
-    ghost use Rattle.bf_migration.specs.Migrations.{value_indexes};
-    ghost use Rattle.bf_migration.specs.contracts.migration.Migration as migrations;
-    ghost use Rattle.bf_migration.specs.declared.migration.Migration.{Migration as Seen};
+    ghost use Rattle.bf_image.specs.Migrations.{value_indexes};
+    ghost use Rattle.bf_image.specs.contracts.migration.Migration as migrations;
+    ghost use Rattle.bf_image.specs.declared.migration.Migration.{Migration as Seen};
 
     ghost Value = { Where Seen };
 

@@ -70,7 +70,7 @@ impl<N: Opened> Model for Machine<N> {
     ghost use Rattle.bf_tree.specs.contracts.plan.Plan as plans;
     ghost use Rattle.bf_locks.specs.contracts.table.LockTable as tables;
     ghost use Rattle.boxcar.specs.Table.{where_coded};
-    ghost use Rattle.bf_migration.specs.contracts.migration.Migration as migrations;
+    ghost use Rattle.bf_image.specs.contracts.migration.Migration as migrations;
 
     ghost Value = { Seen };
 

@@ -6,7 +6,7 @@ use std::marker::Brand;
 /// keeps it. It has no functions; contracts alone read it.
 pub trait Opened {
     ghost use Rattle.std.specs.Prelude.{Bool};
-    ghost use Rattle.bf_migration.specs.Registries.{Registry};
+    ghost use Rattle.bf_image.specs.Registries.{Registry};
     ghost use Rattle.bf_tree.specs.declared.script.Script.{Script};
     ghost use Rattle.bf_sql.specs.Database.{Database};
 

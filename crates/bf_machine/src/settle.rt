@@ -15,7 +15,7 @@ ghost use Rattle.bf_machine.specs.interleaving.Seen.{pending_seen};
 use crate::journal::{Journal, KeepError};
 use crate::so_far::Pending;
 use bf_base::Memory;
-use bf_migration::Registry;
+use bf_image::Registry;
 use bf_store::Store;
 use std::alloc::Global;
 use std::sync::Wait;

@@ -26,11 +26,11 @@ use Rattle.bf_sql.specs.Scopes.{Scope, twice_objections}
 use Rattle.bf_sql.specs.migrations.Extents.{may_fail}
 use Rattle.bf_sql.specs.migrations.MigrationObjections.{arm_objections, failing_objections, has_key, inherits_key, is_by_row, item_kinds, keeps_apart, kind_of_item, tag_of, target_objections}
 use Rattle.bf_sql.specs.migrations.Targets.{arm_key, arm_kind, arm_scope, column_admit, either_admit, extent_of_item, first_arm, item_admit, item_name, key_items, target_key, target_table}
-use Rattle.bf_arm.specs.Arms.{bound_arm, unit_kind_of}
-use Rattle.bf_arm.specs.Items.{bound_item}
+use Rattle.bf_plan.specs.Arms.{bound_arm, unit_kind_of}
+use Rattle.bf_plan.specs.Items.{bound_item}
 use Rattle.bf_plan.specs.Targets.{admits_at, failing_in, first_items, gives_key, is_miscounted, is_misfit, is_rows, is_tagged, keeps_apart_by, key_of_arms, name_objections, names_objections, objections_behind, table_of_arms, tagged_by}
-use Rattle.bf_arm.specs.declared.arm.BoundArm.{BoundArm}
-use Rattle.bf_arm.specs.declared.item.BoundItem.{BoundItem}
+use Rattle.bf_plan.specs.declared.arm.BoundArm.{BoundArm}
+use Rattle.bf_plan.specs.declared.item.BoundItem.{BoundItem}
 
 -- tests of what a map gives
 module _ {X Y : Type 0} (f : X → Y) where

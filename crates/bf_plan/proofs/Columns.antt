@@ -18,8 +18,8 @@ use Rattle.bf_tree.specs.declared.reply.Refusal.{Refusal}
 use Rattle.bf_tree.specs.declared.reply.Refusal.TheVariants as refusal
 use Rattle.bf_sql.specs.migrations.Targets.{either_admit, item_name}
 use Rattle.bf_plan.specs.Targets.{admits_at, columns_of, failing, first_key, has_one_key, with_admit, with_given}
-use Rattle.bf_arm.specs.declared.arm.BoundArm.{BoundArm}
-use Rattle.bf_arm.specs.declared.item.BoundItem.{BoundItem}
+use Rattle.bf_plan.specs.declared.arm.BoundArm.{BoundArm}
+use Rattle.bf_plan.specs.declared.item.BoundItem.{BoundItem}
 use Rattle.bf_plan.proofs.Walked.{flat_map_more, mapped_more}
 
 drop-none : {X : Type 0} (n : ℕ) → drop n (let none : List X = [] in none) ≡ []

@@ -1,5 +1,8 @@
+pub mod ArmParts
+pub mod BoundArms
 pub mod BoundTargets
 pub mod Columns
+pub mod Items
 pub mod Named
 pub mod NumberedArms
 pub mod Planned

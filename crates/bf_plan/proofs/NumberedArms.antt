@@ -18,11 +18,11 @@ use Rattle.bf_tree.specs.declared.plan.ArmKind.TheVariants.{ByFrom, ByJoin, ByPa
 use Rattle.bf_sql.specs.Database.{Database}
 use Rattle.bf_sql.specs.migrations.MigrationObjections.{driver_by, drivers_of, is_by_row}
 use Rattle.bf_sql.specs.migrations.Targets.{arm_kind, from_key, join_key, kind_by, on_places}
-use Rattle.bf_arm.specs.Arms.{bound_arm, driver_of, unit_kind_of}
+use Rattle.bf_plan.specs.Arms.{bound_arm, driver_of, unit_kind_of}
 use Rattle.bf_sql.specs.migrations.Plans.{kind_by_values, numbered_arms, planned_units, rows_unit_of, values_unit_of}
 use Rattle.bf_plan.specs.Targets.{is_rows}
 use Rattle.bf_plan.specs.Units.{arm_unit, arms_driven, driving, is_driven, joined_units, rows_unit, units_by_values, units_of_target}
-use Rattle.bf_arm.specs.declared.arm.BoundArm.{BoundArm}
+use Rattle.bf_plan.specs.declared.arm.BoundArm.{BoundArm}
 use Rattle.bf_tree.specs.declared.plan.Unit.{Unit}
 
 -- what is driven by which table, by the kind of an arm

@@ -14,7 +14,7 @@ use Rattle.bf_tree.specs.declared.reply.Refusal.TheVariants as refusal
 use Rattle.bf_tree.proofs.Settling.{first_ahead}
 use Rattle.bf_sql.specs.Database.{Database}
 use Rattle.bf_sql.specs.migrations.MigrationObjections.{drivers_of, migrate_objections, sources_of, taken_name_objections, target_objections}
-use Rattle.bf_arm.specs.Arms.{bound_arm}
+use Rattle.bf_plan.specs.Arms.{bound_arm}
 use Rattle.bf_sql.specs.migrations.Placed.{placed_arm}
 use Rattle.bf_sql.specs.migrations.Plans.{plan_made, plan_of, planned_units, planned_unless}
 use Rattle.bf_plan.specs.Targets.{bound_target}
@@ -22,7 +22,7 @@ use Rattle.bf_plan.specs.Units.{arm_units, bound_targets, driving, joined_units,
 use Rattle.bf_tree.specs.declared.plan.PlacedArm.{PlacedArm}
 use Rattle.bf_tree.specs.declared.plan.Plan.{Plan}
 use Rattle.bf_tree.specs.declared.plan.Unit.{Unit}
-use Rattle.bf_arm.specs.declared.arm.BoundArm.{BoundArm}
+use Rattle.bf_plan.specs.declared.arm.BoundArm.{BoundArm}
 use Rattle.bf_plan.specs.declared.planning.BoundTargets.{BoundTargets}
 use Rattle.bf_plan.specs.declared.target.BoundTarget.{BoundTarget}
 use Rattle.bf_plan.proofs.NumberedArms.{block_within, drivers-planned, drivers_few, units-planned}

@@ -1,3 +1,5 @@
+pub mod Arms
+pub mod Items
 pub mod Limits
 pub mod Names
 pub mod Prepared

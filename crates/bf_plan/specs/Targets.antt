@@ -16,9 +16,9 @@ use Rattle.bf_tree.specs.declared.reply.Refusal.{Refusal}
 use Rattle.bf_tree.specs.declared.reply.Refusal.TheVariants as refusal
 use Rattle.bf_sql.specs.Database.{Database}
 use Rattle.bf_sql.specs.migrations.Targets.{either_admit, first_arm, item_name, target_table}
-use Rattle.bf_arm.specs.Arms.{bound_arm}
-use Rattle.bf_arm.specs.declared.arm.BoundArm.{BoundArm}
-use Rattle.bf_arm.specs.declared.item.BoundItem.{BoundItem}
+use Rattle.bf_plan.specs.Arms.{bound_arm}
+use Rattle.bf_plan.specs.declared.arm.BoundArm.{BoundArm}
+use Rattle.bf_plan.specs.declared.item.BoundItem.{BoundItem}
 use Rattle.bf_tree.specs.declared.plan.UnitKind.{UnitKind}
 use Rattle.bf_tree.specs.declared.plan.UnitKind.TheVariants.{Rows, Groups, Joins}
 use Rattle.bf_plan.specs.declared.target.BoundTarget.{BoundTarget}

@@ -8,9 +8,9 @@ use Rattle.bf_tree.specs.declared.reply.Refusal.TheVariants as refusal
 use Rattle.bf_sql.specs.Database.{Database, stored_at}
 use Rattle.bf_sql.specs.migrations.Placed.{placed_arm}
 use Rattle.bf_sql.specs.migrations.Targets.{target_table}
-use Rattle.bf_arm.specs.Arms.{bound_arm}
+use Rattle.bf_plan.specs.Arms.{bound_arm}
 use Rattle.bf_plan.specs.Targets.{is_rows}
-use Rattle.bf_arm.specs.declared.arm.BoundArm.{BoundArm}
+use Rattle.bf_plan.specs.declared.arm.BoundArm.{BoundArm}
 use Rattle.bf_tree.specs.declared.plan.Unit.{Unit}
 use Rattle.bf_tree.specs.declared.plan.UnitKind.TheVariants as unit_kind
 use Rattle.bf_plan.specs.declared.planning.BoundTargets.{BoundTargets}

@@ -2,6 +2,9 @@
 //! objection of the catalog is told or the plan is made. Rows are not looked at.
 #![tactic(auto)]
 
+mod arm;
+mod inheriting;
+mod item;
 pub mod planning;
 pub mod preparing;
 mod target;

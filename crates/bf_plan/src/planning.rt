@@ -10,9 +10,9 @@ ghost use Rattle.bf_sql.specs.migrations.MigrationObjections.{migrate_objections
 ghost use Rattle.bf_sql.specs.migrations.Plans.{plan_made, plan_of};
 ghost use Rattle.bf_plan.specs.Units.{bound_targets};
 
+use crate::arm::BoundArm;
 use crate::target::bind_target;
 use crate::units::{arm_units, drivers, expect_all_free, expect_few, joined_units, sources};
-use bf_arm::BoundArm;
 use bf_base::{Memory, Sequence, Table};
 use bf_tree::{Catalog, Migrate, PlacedArm, Plan, Refusal, StatementError, Unit};
 use std::alloc::Global;

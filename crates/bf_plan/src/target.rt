@@ -15,7 +15,8 @@ ghost use Rattle.bf_sql.specs.migrations.MigrationObjections.{target_objections}
 ghost use Rattle.bf_sql.specs.migrations.Targets.{either_admit, first_arm, item_name};
 ghost use Rattle.bf_plan.specs.Targets.{admits_at, are_tagged_apart, bound_target, columns_of, failing, failing_in, first_items, first_key, gives_key, has_one_key, is_miscounted, is_misfit, is_named, is_tagged, key_of_arms, keeps_apart_by, name_objections, names_objections, objections_behind, table_of_arms, with_admit, with_given, key_before};
 
-use bf_arm::{BoundArm, BoundItem, bind_arms};
+use crate::arm::{BoundArm, bind_arms};
+use crate::item::BoundItem;
 use bf_base::{Admit, Column, Memory, Name, Sequence, Table};
 use bf_bind::is_same_kind;
 use bf_tree::{Catalog, Item, Refusal, StatementError, Target, UnitKind};

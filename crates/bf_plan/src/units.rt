@@ -11,7 +11,7 @@ ghost use Rattle.bf_sql.specs.migrations.MigrationObjections.{sources_of};
 ghost use Rattle.bf_sql.specs.migrations.Targets.{arm_sources};
 ghost use Rattle.bf_plan.specs.Units.{arm_unit, arm_units, arms_driven, driving, has_same_name, is_driven, is_taken_among, joined_units, rows_unit, taken_objections, units_by_values};
 
-use bf_arm::BoundArm;
+use crate::arm::BoundArm;
 use bf_base::{Memory, Name, Sequence};
 use bf_tree::{Arm, Catalog, Migrate, Refusal, StatementError, Target, Unit, UnitKind};
 use std::alloc::Global;

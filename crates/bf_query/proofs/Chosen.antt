@@ -9,9 +9,9 @@ use Rattle.bf_base.proofs.Apart.{rises-filter}
 use Rattle.bf_base.proofs.Order.{rises_alike, rises_tail, turned, turned_equal}
 use Rattle.bf_heap.specs.Heaps.{Entry, key_of_entry, with_row, without_row}
 use Rattle.bf_txn.specs.declared.write.Write.{Write}
-use Rattle.bf_query.specs.Merged.{changed_by, applied}
-use Rattle.bf_query.proofs.Keyed.{is_map-fold}
-use Rattle.bf_query.proofs.Merging.{nothing_below, rows_of}
+use Rattle.bf_live.specs.Merged.{changed_by, applied}
+use Rattle.bf_live.proofs.querying.Keyed.{is_map-fold}
+use Rattle.bf_live.proofs.querying.Merging.{nothing_below, rows_of}
 use Rattle.bf_query.proofs.Restricting.{put_first}
 
 module _ (test : List Value → Bool) where

@@ -1,11 +1,8 @@
 -- The rows that satisfy a condition are among those with the value that it fixes an index's columns to.
-use Rattle.std.proofs.Common.{◌≡◌, ℕ, pos, Bool, true, List, [], ◌∷◌, filter, fold, Some, None, is_some, unwrap_or, refl, sym, ap, ap₂, ◌∙◌, is_eq}
+use Rattle.std.proofs.Common.{◌≡◌, ℕ, Bool, true, List, [], ◌∷◌, filter, fold, sym, ap, ap₂, ◌∙◌, is_eq}
 use Rattle.std.specs.List.{AllByRecursion}
-use Rattle.std.proofs.lemmas.Bool.{and_parts}
 use Rattle.std.proofs.lemmas.Cmp.{tied_itself}
 use Rattle.bf_base.specs.declared.table.Table.{Table}
-use Rattle.bf_base.specs.declared.value.Value.{Value}
-use Rattle.bf_base.specs.declared.value.Value.TheVariants.{Int}
 use Rattle.bf_base.specs.Lists.{same_key}
 use Rattle.bf_base.specs.Maps.{is_map}
 use Rattle.bf_base.specs.Tables.{cell, cells}
@@ -13,41 +10,28 @@ use Rattle.bf_base.specs.Values.{key_cmp, key_cmp_total}
 use Rattle.bf_base.proofs.Apart.{rises-filter}
 use Rattle.bf_heap.specs.Heaps.{Entry, key_of_entry}
 use Rattle.bf_tree.specs.Evaluation.{holds_on}
-use Rattle.bf_tree.specs.Fixed.{column_fixed, conjuncts}
 use Rattle.bf_tree.specs.Trees.{Cond}
 use Rattle.bf_sql.specs.Queries.{selected}
 use Rattle.bf_txn.specs.declared.write.Write.{Write}
 use Rattle.bf_txn.specs.Writes.{KeyWrite, key_writes_to, writes_to}
-use Rattle.bf_query.specs.ByIndex.{all_fixed, entries_with, fixed_value}
-use Rattle.bf_query.specs.Merged.{applied, rows_ahead, rows_under, HasOwnKey, StandUnderOwnKeys}
+use Rattle.bf_access.specs.ByIndex.{all_fixed, entries_with, fixed_value}
+use Rattle.bf_live.specs.Merged.{applied, rows_ahead, rows_under, HasOwnKey, StandUnderOwnKeys}
 use Rattle.bf_query.proofs.Chosen.{chosen-filter, chosen_rows}
-use Rattle.bf_query.proofs.FixedKey.{conjuncts_hold, first_held}
-use Rattle.bf_query.proofs.Merging.{rows_of, without_name}
-use Rattle.bf_query.proofs.OwnKeys.{OwnKeys, by_recursion, each, filtered, weakened}
+use Rattle.bf_live.proofs.querying.Merging.{rows_of, without_name}
+use Rattle.bf_live.proofs.querying.OwnKeys.{OwnKeys, by_recursion, each, filtered, weakened}
 use Rattle.bf_query.proofs.RangeRows.{in_range, kept-named, range_selected}
 use Rattle.bf_query.proofs.Restricting.{kept, kept_writes}
-use Rattle.bf_query.proofs.Within.{key_within}
+use Rattle.bf_access.proofs.FixedValue.{value_held}
+use Rattle.bf_access.proofs.Within.{key_within}
 
 module _ (c : Cond ℕ) where
-  -- a row that satisfies a condition has the value that it fixes
-  pub value_held : (columns : List ℕ) (row : List Value) → all_fixed c columns ≡ true → holds_on (cell row) c ≡ true → cells columns row ≡ fixed_value c columns
-  value_held [] row fixed h = refl
-  value_held (place ∷ columns) row fixed h =
-      let parts = and_parts (is_some (column_fixed place c)) (all_fixed c columns) fixed in
-      let here : cell row place ≡ unwrap_or (column_fixed place c) (Int (pos 0)) =
-      elim (column_fixed place c) as (λ o. column_fixed place c ≡ o → is_some o ≡ true → cell row place ≡ unwrap_or o (Int (pos 0))) [
-        | None ↦ λ is some. absurd cc
-        | Some v ↦ λ is some. first_held row place (conjuncts c) v is (conjuncts_hold row c h)
-      ] refl parts.0 in
-      ap₂ (λ v vs. v ∷ vs) here (value_held columns row parts.1 h)
-
   module _ (columns : List ℕ) (fixed : all_fixed c columns ≡ true) where
     abbrev has_value : Entry → Bool
     has_value e = same_key (cells columns e.1) (fixed_value c columns)
 
     all_have : (entries : List Entry) → AllByRecursion (λ e. holds_on (cell e.1) c ≡ true → has_value e ≡ true) entries
     all_have [] = tt
-    all_have (e ∷ es) = ((λ h. ap (λ key. same_key key (fixed_value c columns)) (value_held columns e.1 fixed h) ∙ ap is_eq (tied_itself key_cmp_total (fixed_value c columns))), all_have es)
+    all_have (e ∷ es) = ((λ h. ap (λ key. same_key key (fixed_value c columns)) (value_held c columns e.1 fixed h) ∙ ap is_eq (tied_itself key_cmp_total (fixed_value c columns))), all_have es)
 
     pub with_in_order : (entries : List Entry) → is_map key_cmp key_of_entry entries ≡ true → is_map key_cmp key_of_entry (entries_with columns (fixed_value c columns) entries) ≡ true
     with_in_order entries in_order = rises-filter key_cmp_total key_of_entry has_value entries in_order

@@ -13,12 +13,12 @@ use Rattle.bf_tree.specs.Trees.{Cond}
 use Rattle.bf_sql.specs.Queries.{selected}
 use Rattle.bf_txn.specs.declared.write.Write.{Write}
 use Rattle.bf_txn.specs.Writes.{KeyWrite, key_write_of, key_writes_to, writes_to}
-use Rattle.bf_query.specs.Merged.{applied, entries_under, rows_ahead, rows_under, StandUnderOwnKeys}
-use Rattle.bf_query.specs.Ranges.{key_range_of}
-use Rattle.bf_query.proofs.Merging.{rows_of, without_name}
-use Rattle.bf_query.proofs.OwnKeys.{OwnKeys, own_keys}
+use Rattle.bf_live.specs.Merged.{applied, entries_under, rows_ahead, rows_under, StandUnderOwnKeys}
+use Rattle.bf_access.specs.Ranges.{key_range_of}
+use Rattle.bf_live.proofs.querying.Merging.{rows_of, without_name}
+use Rattle.bf_live.proofs.querying.OwnKeys.{OwnKeys, own_keys}
 use Rattle.bf_query.proofs.Restricting.{kept, kept_writes, kept-fold}
-use Rattle.bf_query.proofs.Within.{key_within}
+use Rattle.bf_access.proofs.Within.{key_within}
 
 module _ (table : Table) (c : Cond ℕ) where
   abbrev holds : List Value → Bool

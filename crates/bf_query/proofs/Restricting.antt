@@ -8,8 +8,8 @@ use Rattle.bf_base.proofs.Apart.{rises-filter}
 use Rattle.bf_base.proofs.Order.{rises_tail, rises_first, less_from_test, equal_from_test}
 use Rattle.bf_heap.specs.Heaps.{Entry, key_of_entry, with_row, without_row}
 use Rattle.bf_txn.specs.declared.write.Write.{Write}
-use Rattle.bf_query.specs.Merged.{changed_by, applied}
-use Rattle.bf_query.proofs.Keyed.{is_map-fold}
+use Rattle.bf_live.specs.Merged.{changed_by, applied}
+use Rattle.bf_live.proofs.querying.Keyed.{is_map-fold}
 
 -- a row that is put before all entries
 pub put_first : (x : Entry) (entries : List Entry) → is_map key_cmp key_of_entry (x ∷ entries) ≡ true → with_row entries x.0 x.1 ≡ x ∷ entries

@@ -1,9 +1,2 @@
-pub mod Actions
-pub mod ByIndex
 pub mod Changes
-pub mod Meanings
-pub mod Merged
-pub mod Ranges
 pub mod RowsAhead
-pub mod RunningTotals
-pub mod Sums

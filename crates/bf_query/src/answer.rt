@@ -4,15 +4,15 @@ ghost use Rattle.std.specs.Prelude.{◌≡◌, map, flat_map, IfOk};
 ghost use Rattle.bf_base.specs.Tables.{cell};
 ghost use Rattle.bf_tree.specs.Evaluation.{sure_value, value_of};
 ghost use Rattle.bf_sql.specs.Queries.{answer_of};
-ghost use Rattle.bf_sql.specs.RowObjections.{answer_objections, value_objections};
+ghost use Rattle.bf_tree.specs.ValueObjections.{answer_objections, value_objections};
 ghost use Rattle.bf_tree.specs.declared.items.Items.TheVariants.{All, Exprs};
 ghost use Rattle.bf_tree.specs.declared.reply.Cell.TheVariants as cells;
 ghost use Rattle.bf_tree.specs.declared.reply.Reply.TheVariants as reply;
-ghost use Rattle.bf_query.specs.Actions.{unless_refused};
+ghost use Rattle.bf_live.specs.Replies.{unless_refused};
 ghost use Rattle.bf_tree.specs.Settling.{Settles};
 
-use crate::running::{totals, value_or_refusal};
 use bf_base::{Memory, Row, Sequence};
+use bf_totals::{totals, value_or_refusal};
 use bf_tree::{Cell, Expr, Items, Reply, StatementError};
 use std::alloc::Global;
 

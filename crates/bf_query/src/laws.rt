@@ -19,11 +19,10 @@ ghost use Rattle.bf_tree.specs.declared.bound.Action.{Action};
 ghost use Rattle.bf_tree.specs.declared.bound.Action.TheVariants as action;
 ghost use Rattle.bf_txn.specs.declared.write.Write.{Write};
 ghost use Rattle.bf_txn.specs.Writes.{AreWrites, with_write};
-ghost use Rattle.bf_query.specs.Actions.{IsWellBound, objections_on, action_table, writes_of};
-ghost use Rattle.bf_query.specs.ByIndex.{all_fixed, entries_at, entries_with, fixed_value};
-ghost use Rattle.bf_query.specs.Changes.{LeavesKeys};
-ghost use Rattle.bf_query.specs.Merged.{StandUnderOwnKeys, applied, rows_under};
-ghost use Rattle.bf_query.specs.Ranges.{key_range_of};
+ghost use Rattle.bf_live.specs.Replies.{IsWellBound, objections_on, action_table, writes_of, LeavesKeys};
+ghost use Rattle.bf_access.specs.ByIndex.{all_fixed, entries_at, entries_with, fixed_value};
+ghost use Rattle.bf_live.specs.Merged.{StandUnderOwnKeys, applied, rows_under};
+ghost use Rattle.bf_access.specs.Ranges.{key_range_of};
 
 /// The writes of an INSERT that nothing stands in the way of place its tuples among the rows of
 /// the table, in key order.

@@ -9,9 +9,8 @@ ghost use Rattle.bf_tree.specs.declared.statement.Statement.{Statement};
 ghost use Rattle.bf_sql.specs.Database.{Database, IsDatabase, stored_at, table_rows, with_rows};
 ghost use Rattle.bf_sql.specs.Meaning.{executed};
 ghost use Rattle.bf_txn.specs.declared.write.Write.{Write};
-ghost use Rattle.bf_query.specs.Actions.{IsChange, IsSelect, IsWellBound, change_reply, select_reply, action_table};
-ghost use Rattle.bf_query.specs.Changes.{LeavesKeys};
-ghost use Rattle.bf_query.specs.Meanings.{HoldRowsOf, IsBoundAs, entries_of, rows_after, writes_after};
+ghost use Rattle.bf_live.specs.Replies.{IsChange, IsSelect, IsWellBound, change_reply, select_reply, action_table, LeavesKeys};
+ghost use Rattle.bf_live.specs.Meanings.{HoldRowsOf, IsBoundAs, entries_of, rows_after, writes_after};
 
 /// What a statement is bound to has a key that its condition fixes, tuples with values for the
 /// key, no set of a key column, and the table that the database has under its name.

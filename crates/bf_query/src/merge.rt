@@ -10,11 +10,10 @@ ghost use Rattle.bf_index.specs.Edits.{AreIndexesOf};
 ghost use Rattle.bf_sql.specs.Conditions.{fixed_key};
 ghost use Rattle.bf_sql.specs.Queries.{selected};
 ghost use Rattle.bf_query.specs.RowsAhead.{entries_ahead};
-ghost use Rattle.bf_query.specs.Merged.{AreByKey, StandUnderOwnKeys, entries_under, rows_ahead, rows_stepped, rows_under, steps_ahead};
+ghost use Rattle.bf_live.specs.Merged.{AreByKey, StandUnderOwnKeys, entries_under, rows_ahead, rows_stepped, rows_under, steps_ahead};
 
-use crate::by_index::{index_for, rows_by_index};
-use crate::range::key_range;
 use crate::rows_ahead::{Listed, RowsAhead};
+use bf_access::{index_for, key_range, rows_by_index};
 use bf_base::{Key, Memory, Name, Row, Table};
 use bf_heap::Heap;
 use bf_index::Index;

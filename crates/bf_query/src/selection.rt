@@ -2,7 +2,7 @@
 
 ghost use Rattle.std.specs.Prelude.{◌≡◌, Some, IfOk};
 ghost use Rattle.bf_index.specs.Edits.{AreIndexesOf};
-ghost use Rattle.bf_query.specs.Actions.{HaveOwnKeys, IsSelect, IsWellBound, rows_for, select_reply};
+ghost use Rattle.bf_live.specs.Replies.{HaveOwnKeys, IsSelect, IsWellBound, rows_for, select_reply};
 
 use crate::answer::answer;
 use crate::merge::selected_rows;

@@ -8,10 +8,10 @@ use Rattle.bf_tree.specs.declared.evaluation.Fail.{Fail}
 use Rattle.bf_tree.specs.Trees.{Expr}
 use Rattle.bf_tree.specs.Evaluation.{value_of}
 use Rattle.bf_sql.specs.migrations.Extents.{Extent, numbers, texts, beyond, extent_of, may_fail}
-use Rattle.bf_range.specs.Seen.{admitted_at, ends_of, most_bytes_of}
-use Rattle.bf_range.specs.Within.{IsRowOf, IsWithin}
-use Rattle.bf_range.proofs.Rows.{row_held}
-use Rattle.bf_range.proofs.Within.{value_within}
+use Rattle.bf_range.specs.Seen.{ends_of, most_bytes_of}
+use Rattle.bf_sql.specs.migrations.Within.{admitted_at, IsRowOf, IsWithin}
+use Rattle.bf_sql.proofs.extents.Rows.{row_held}
+use Rattle.bf_sql.proofs.extents.Within.{value_within}
 
 answered : (e : Extent) (r : Result Value Fail) → IsOkAnd r (IsWithin e) → IsOk r
 answered e (Ok v) h = refl

@@ -1,8 +1,7 @@
 -- What the analysis tells of an extent.
-use Rattle.std.specs.Prelude.{ℕ, ℤ, List, map, Option, Some, None, slice_index_or}
+use Rattle.std.specs.Prelude.{ℕ, ℤ, Option, Some, None}
 use Rattle.bf_base.specs.declared.table.Admit.{Admit}
 use Rattle.bf_base.specs.declared.table.Admit.TheVariants as admits
-use Rattle.bf_base.specs.declared.table.Column.{Column}
 use Rattle.bf_sql.specs.migrations.Extents.{Extent, numbers, texts, beyond}
 use Rattle.bf_range.specs.declared.extents.Extent as told
 use Rattle.bf_range.specs.declared.extents.Extent.TheVariants.{Numbers, Texts}
@@ -12,10 +11,6 @@ abbrev pub seen : Option told.Extent → Extent
 seen (Some (Numbers low high)) = numbers low high
 seen (Some (Texts most)) = texts most
 seen None = beyond
-
--- what the column at a place admits; a place without a column counts as INT, as its value in a row counts as 0
-abbrev pub admitted_at : List Column → ℕ → Admit
-admitted_at columns place = slice_index_or (map (λ c. c.admits) columns) place admits.Int
 
 -- the least and the greatest number of an extent of numbers
 abbrev pub ends_of : Extent → Option (ℤ × ℤ)

@@ -6,8 +6,8 @@ ghost use Rattle.bf_base.specs.Tables.{cell};
 ghost use Rattle.bf_tree.specs.Evaluation.{value_of};
 ghost use Rattle.bf_tree.specs.Trees.{literal};
 ghost use Rattle.bf_sql.specs.migrations.Extents.{extent_of, extent_of_admit, extent_of_total, may_fail, numbers, texts};
-ghost use Rattle.bf_range.specs.Seen.{admitted_at, ends_of, most_bytes_of, seen};
-ghost use Rattle.bf_range.specs.Within.{IsRowOf, IsWithin};
+ghost use Rattle.bf_range.specs.Seen.{ends_of, most_bytes_of, seen};
+ghost use Rattle.bf_sql.specs.migrations.Within.{admitted_at, IsRowOf, IsWithin};
 
 use crate::extents::{Extent, MOST_ROWS, concatenation, difference, negated, product, sum, summed};
 use bf_base::{Admit, Column, Value};

@@ -3,7 +3,6 @@
 
 pub mod analysis;
 pub mod extents;
-pub mod laws;
 
 pub use analysis::{cannot_fail, extent_of, extent_of_total, interval, longest};
 pub use extents::Extent;

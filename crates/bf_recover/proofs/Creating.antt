@@ -19,10 +19,10 @@ use Rattle.bf_sql.specs.Database.{Database, IsDatabase, Stored, is_within, no_ta
 use Rattle.bf_sql.specs.Meaning.{created_table, index_of, next_number, with_index}
 use Rattle.bf_sql.specs.Objections.{column_names, names_objections, new_index_objections, objections, rule_names, rules_objections, table_objections}
 use Rattle.bf_bind.proofs.Lookups.{stored-named}
-use Rattle.bf_migration.proofs.items.Names.{name-itself}
+use Rattle.bf_image.proofs.items.Names.{name-itself}
 use Rattle.bf_image.proofs.keeping.Frozen.{same_as_catalog}
-use Rattle.bf_query.proofs.Binding.{found}
-use Rattle.bf_query.proofs.Effects.{nothing_before, not_when}
+use Rattle.bf_live.proofs.querying.Binding.{found}
+use Rattle.bf_live.proofs.querying.Effects.{nothing_before, not_when}
 use Rattle.bf_live.proofs.keeps.Items.{any_found}
 use Rattle.bf_live.proofs.keeps.New.{keeps_new_index, keeps_new_table}
 use Rattle.bf_live.proofs.statements.Bare.{bare_is_database, same_objections}

@@ -25,10 +25,10 @@ use Rattle.bf_tree.specs.declared.migration.Target.{Target}
 use Rattle.bf_sql.specs.Database.{Database, Stored, no_table, stored_at, table_at, table_rows}
 use Rattle.bf_sql.specs.migrations.Granules.{owner_of, part_in}
 use Rattle.bf_sql.specs.migrations.Lazy.{LazyState, Migration, due, is_done, not_done, pending, pending_of, rows_from, seen, sweep_by, sweep_of, view_of}
-use Rattle.bf_query.specs.Meanings.{entries_of}
-use Rattle.bf_migration.specs.Migrations.{owner_in}
-use Rattle.bf_migration.specs.declared.migration.Migration.{Migration as Kept}
-use Rattle.bf_migration.proofs.items.Names.{name-equal}
+use Rattle.bf_live.specs.Meanings.{entries_of}
+use Rattle.bf_image.specs.Migrations.{owner_in}
+use Rattle.bf_image.specs.declared.migration.Migration.{Migration as Kept}
+use Rattle.bf_image.proofs.items.Names.{name-equal}
 use Rattle.bf_live.proofs.statements.Named.{IsThere}
 use Rattle.bf_store.specs.States.{IsLazy, IsUnderWay, IsUnderWayIfAny, is_free, settled_by, to_move}
 use Rattle.bf_store.specs.Stores.{IsByPass, migration_of}

@@ -22,15 +22,15 @@ use Rattle.bf_sql.specs.migrations.Granules.{UnitForm, rows_unit, values_unit, a
 use Rattle.bf_sql.specs.migrations.Images.{group_value, rows_of_join}
 use Rattle.bf_sql.specs.migrations.MigrationObjections.{is_by_row}
 use Rattle.bf_sql.specs.migrations.Targets.{arm_kind}
-use Rattle.bf_migration.specs.ByValues.{by_value}
-use Rattle.bf_migration.specs.Migrations.{IsLawfulMigration, anchors_in, from_values, old_of, unit_at, unit_index, units_in, value_indexes}
-use Rattle.bf_migration.specs.declared.migration.Migration.{Migration}
-use Rattle.bf_migration.specs.declared.value_indexes.UnitIndex.{UnitIndex}
-use Rattle.bf_migration.proofs.Indexed.{under_is}
+use Rattle.bf_index.specs.ByValues.{by_value}
+use Rattle.bf_image.specs.Migrations.{IsLawfulMigration, anchors_in, from_values, old_of, unit_at, unit_index, units_in, value_indexes}
+use Rattle.bf_image.specs.declared.migration.Migration.{Migration}
+use Rattle.bf_image.specs.declared.value_indexes.UnitIndex.{UnitIndex}
+use Rattle.bf_index.proofs.Indexed.{under_is}
 use Rattle.bf_image.proofs.cutting.Anchors.{count_is}
 use Rattle.bf_image.proofs.finding.Owned.{sweep_meets}
-use Rattle.bf_migration.proofs.planning.Units.{unit_among}
-use Rattle.bf_migration.proofs.planning.Within.{allowed, alone_by_group}
+use Rattle.bf_image.proofs.planning.Units.{unit_among}
+use Rattle.bf_image.proofs.planning.Within.{allowed, alone_by_group}
 use Rattle.bf_recover.specs.Places.{has_rows, has_value, is_row_below, is_value_of}
 
 or_false : (b : Bool) → (b || false) ≡ b

@@ -12,8 +12,8 @@ use Rattle.bf_base.specs.Lists.{has, rises}
 use Rattle.bf_base.proofs.Apart.{apart_from_rises, are_apart, list_any-filter}
 use Rattle.bf_sql.specs.migrations.Granules.{granule, granules_of, same_granule}
 use Rattle.bf_sql.specs.migrations.Lazy.{Migration, is_done, not_done}
-use Rattle.bf_migration.specs.Migrations.{old_of}
-use Rattle.bf_migration.specs.declared.migration.Migration.{Migration as Kept}
+use Rattle.bf_image.specs.Migrations.{old_of}
+use Rattle.bf_image.specs.declared.migration.Migration.{Migration as Kept}
 use Rattle.bf_store.specs.States.{AreGranulesIfAny, granule_cmp, place_cmp, to_move}
 use Rattle.bf_store.specs.Stores.{IsByPass}
 use Rattle.bf_store.proofs.Granules.{granule_cmp_total}

@@ -21,15 +21,15 @@ use Rattle.bf_sql.specs.Database.{Database, Stored, IsDatabase, is_admitted, is_
 use Rattle.bf_sql.specs.migrations.Lazy.{LazyState}
 use Rattle.bf_txn.specs.declared.write.Write.{Write}
 use Rattle.bf_txn.specs.Writes.{table_key_cmp, table_key_of, writes_to}
-use Rattle.bf_query.specs.Meanings.{HoldRowsOf, entries_of}
-use Rattle.bf_query.specs.Merged.{HasOwnKey, WritesOwnKey, entries_under}
-use Rattle.bf_query.proofs.Binding.{as_stored, row_within}
-use Rattle.bf_query.proofs.Keyed.{is_map-fold}
-use Rattle.bf_query.proofs.Merging.{rows_of}
-use Rattle.bf_query.proofs.OwnKeys.{OwnKeys, each, fold_keeps, own_keys, weakened}
-use Rattle.bf_query.proofs.RowsAsEntries.{hold_rows}
-use Rattle.bf_migration.proofs.items.Lists.{all_so}
-use Rattle.bf_migration.proofs.items.Names.{name-equal}
+use Rattle.bf_live.specs.Meanings.{HoldRowsOf, entries_of}
+use Rattle.bf_live.specs.Merged.{HasOwnKey, WritesOwnKey, entries_under}
+use Rattle.bf_live.proofs.querying.Binding.{as_stored, row_within}
+use Rattle.bf_live.proofs.querying.Keyed.{is_map-fold}
+use Rattle.bf_live.proofs.querying.Merging.{rows_of}
+use Rattle.bf_live.proofs.querying.OwnKeys.{OwnKeys, each, fold_keeps, own_keys, weakened}
+use Rattle.bf_live.proofs.querying.RowsAsEntries.{hold_rows}
+use Rattle.bf_image.proofs.items.Lists.{all_so}
+use Rattle.bf_image.proofs.items.Names.{name-equal}
 use Rattle.bf_live.specs.Live.{committed, written_to}
 use Rattle.bf_live.proofs.statements.Named.{IsThere, all_there, rows_there}
 use Rattle.bf_live.proofs.statements.Seeing.{Stands}

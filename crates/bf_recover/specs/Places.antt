@@ -4,8 +4,8 @@ use Rattle.std.specs.Option.{option_map_or}
 use Rattle.bf_base.specs.declared.granule.Place.{Place}
 use Rattle.bf_base.specs.declared.granule.Place.TheVariants.{Row, Group}
 use Rattle.bf_base.specs.declared.value.Value.{Value}
-use Rattle.bf_migration.specs.ByValues.{Valued, positions_under}
-use Rattle.bf_migration.specs.declared.value_indexes.UnitIndex.{UnitIndex}
+use Rattle.bf_index.specs.ByValues.{Valued, positions_under}
+use Rattle.bf_image.specs.declared.value_indexes.UnitIndex.{UnitIndex}
 
 -- some row stands under a value
 abbrev pub has_rows : List Value → List Valued → Bool

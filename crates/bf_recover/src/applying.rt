@@ -12,7 +12,7 @@ use crate::flips::flip;
 use crate::moves::move_places;
 use crate::schema::create;
 use bf_base::Memory;
-use bf_migration::{Registry, ValueIndexes};
+use bf_image::{Registry, ValueIndexes};
 use bf_record::Change;
 use bf_store::Store;
 use bf_tree::Migrate;

@@ -13,7 +13,7 @@ ghost use Rattle.bf_recover.specs.Lookups.{AreKept};
 use crate::free_keys::{is_free, is_kept_if_removed};
 use crate::keyed::keyed;
 use bf_base::{Memory, Sequence};
-use bf_migration::{Registry, ValueIndexes};
+use bf_image::{Registry, ValueIndexes};
 use bf_record::TableWrite;
 use bf_store::Store;
 use bf_txn::{Workspace, Write};

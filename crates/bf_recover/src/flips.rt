@@ -14,8 +14,8 @@ ghost use Rattle.bf_recover.specs.Spoken.{is_spoken_migrate};
 
 use crate::spoken::is_spoken_migrate;
 use bf_base::{MOST_ROWS, Memory, Name};
+use bf_image::Registry;
 use bf_live::LiveTables;
-use bf_migration::Registry;
 use bf_plan::plan;
 use bf_store::Store;
 use bf_tree::{Migrate, Plan, Sweep, Target, have_few_arms};

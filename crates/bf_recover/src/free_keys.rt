@@ -12,8 +12,7 @@ ghost use Rattle.bf_recover.specs.Lookups.{AreKept};
 
 use crate::lookups::look_up;
 use bf_base::{Key, Memory, Name};
-use bf_image::owner;
-use bf_migration::{Registry, ValueIndexes};
+use bf_image::{Registry, ValueIndexes, owner};
 use bf_store::Store;
 use bf_tree::Sweep;
 use bf_txn::Write;

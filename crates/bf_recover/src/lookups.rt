@@ -2,11 +2,11 @@
 
 ghost use Rattle.std.specs.Prelude.{◌≡◌, OnErr, OnOk, Some};
 ghost use Rattle.boxcar.specs.Table.{Shows};
-ghost use Rattle.bf_migration.specs.Migrations.{value_indexes};
+ghost use Rattle.bf_image.specs.Migrations.{value_indexes};
 ghost use Rattle.bf_recover.specs.Lookups.{AreKept};
 
 use bf_base::Memory;
-use bf_migration::{MigrationPass, Registry, ValueIndexes};
+use bf_image::{MigrationPass, Registry, ValueIndexes};
 use std::alloc::Global;
 
 /// Makes the old rows of a migration by their values, unless they have been made. It costs what

@@ -9,7 +9,7 @@ ghost use Rattle.bf_recover.specs.Moves.{granules_at, is_legal_move, is_told_of}
 use crate::lookups::look_up;
 use crate::places::{has_places, rise};
 use bf_base::{Granule, Memory, Place, Sequence};
-use bf_migration::{Registry, ValueIndexes};
+use bf_image::{Registry, ValueIndexes};
 use bf_store::{MOST_MOVED, Store};
 use std::alloc::Global;
 

@@ -5,13 +5,12 @@ ghost use Rattle.std.specs.List.{list_all};
 ghost use Rattle.std.specs.Ordering.{is_lt};
 ghost use Rattle.bf_base.specs.Lists.{has, rises};
 ghost use Rattle.bf_sql.specs.migrations.Granules.{granule, granules_of, same_granule};
-ghost use Rattle.bf_migration.specs.Migrations.{IsLawfulMigration, old_of, value_indexes};
+ghost use Rattle.bf_image.specs.Migrations.{IsLawfulMigration, old_of, value_indexes};
 ghost use Rattle.bf_store.specs.States.{place_cmp};
 ghost use Rattle.bf_recover.specs.Places.{has_value, is_row_below, is_value_of};
 
 use bf_base::{Key, Place};
-use bf_image::positions;
-use bf_migration::{Migration, UnitIndex, ValueIndexes};
+use bf_image::{Migration, UnitIndex, ValueIndexes, positions};
 
 /// Whether a row of a unit that goes by values has a value. It compares about log n values.
 fn has_value(index: &UnitIndex, value: &Key) -> bool

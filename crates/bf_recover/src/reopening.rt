@@ -13,10 +13,10 @@ ghost use Rattle.bf_recover.specs.Steps.{StepsTo};
 use crate::stepping::step;
 use bf_base::{Memory, Sequence};
 use bf_disk::Disk;
+use bf_image::{Registry, ValueIndexes};
 use bf_journal::{Reader, State};
 use bf_live::LiveTables;
 use bf_log::{Log, OpenError};
-use bf_migration::{Registry, ValueIndexes};
 use bf_store::Store;
 use bf_tree::{Outcome, Statement};
 use std::alloc::Global;
@@ -66,7 +66,7 @@ impl State for LazyTables {
 
 /// The registry that a reader has. It has no functions; contracts alone read it.
 trait Lent {
-    ghost use Rattle.bf_migration.specs.Registries.{Registry};
+    ghost use Rattle.bf_image.specs.Registries.{Registry};
 
     ghost registry: { Registry };
 }

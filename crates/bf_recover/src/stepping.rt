@@ -7,7 +7,7 @@ ghost use Rattle.bf_recover.specs.Steps.{IsNoStep, StepsTo};
 
 use crate::applying::apply;
 use bf_base::Memory;
-use bf_migration::{Registry, ValueIndexes};
+use bf_image::{Registry, ValueIndexes};
 use bf_record::decode;
 use bf_store::Store;
 use std::alloc::Global;

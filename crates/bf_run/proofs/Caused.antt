@@ -11,7 +11,7 @@ use Rattle.bf_tree.specs.declared.history.Entry.{Entry}
 use Rattle.bf_tree.specs.declared.script.Script.{Script}
 use Rattle.bf_tree.specs.declared.reply.Cause.{Cause}
 use Rattle.bf_tree.specs.declared.reply.Cause.TheVariants.{Died, DiskFault, Halted, LogFull, TooLarge}
-use Rattle.bf_keep.specs.Answers.{AreSizesOf, CausesMatchLog, Tells}
+use Rattle.bf_run.specs.Answers.{AreSizesOf, CausesMatchLog, Tells}
 use Rattle.bf_run.specs.Causes.{AreCaused, IsCause, is_of_fault}
 use Rattle.bf_run.specs.declared.status.Status.{Status}
 use Rattle.bf_run.specs.declared.status.Status.TheVariants.{Done}

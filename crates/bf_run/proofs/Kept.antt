@@ -26,9 +26,9 @@ use Rattle.bf_sql.specs.History.{replayed}
 use Rattle.bf_sql.specs.migrations.Lazy.{LazyState, view_of}
 use Rattle.bf_tree.specs.declared.history.Entry.{Entry}
 use Rattle.bf_tree.specs.declared.script.Script.{Script}
-use Rattle.bf_keep.specs.Answers.{if_committed, is_ready, is_spent}
-use Rattle.bf_keep.specs.Crashing.{Follows, KeepsOnLog, Recovers, ended_on_log}
-use Rattle.bf_keep.specs.declared.log_journal.LogJournal.{LogJournal}
+use Rattle.bf_run.specs.Answers.{if_committed, is_ready, is_spent}
+use Rattle.bf_run.specs.Crashing.{Follows, KeepsOnLog, Recovers, ended_on_log}
+use Rattle.bf_run.specs.declared.log_journal.LogJournal.{LogJournal}
 use Rattle.bf_run.specs.Keeping.{CouldBeLeft, GivesOrMore, IsBehind, IsBehindOneMore, IsBehindPrefix, IsBehindTold, IsWhatFailed, IsGivenBy, KeepsOn, Leaves, OpensAs}
 use Rattle.bf_run.specs.Running.{OpensTo}
 use Rattle.bf_run.specs.declared.status.Status.TheVariants.{Done, DiskFault, Memory}

@@ -16,7 +16,7 @@ use Rattle.bf_phrase.specs.Phrases.{NameRule}
 use Rattle.bf_phrase.specs.Columns.{ColumnRuleRule}
 use Rattle.bf_parse.specs.Statements.{TableRule, IndexRuleRule, InsertRule, SelectRule, UpdateRule, DeleteRule, OrdinaryRule}
 use Rattle.bf_parse.specs.Scripts.{Statements, no_statement, ordinary, migrate, Progress, with_session, with_phase, nothing_yet, Sessions, no_session, session, Phases, no_phase, phase, IsScriptText}
-use Rattle.bf_keep.specs.Sayable.{IsSayable, IsSayableScript}
+use Rattle.bf_run.specs.Sayable.{IsSayable, IsSayableScript}
 use Rattle.bf_recover.specs.Spoken.{is_plain}
 use Rattle.bf_run.proofs.Migrates.{all_one_more}
 use Rattle.bf_run.proofs.saying.Gives.{is_plain_word, AreGood, good_parts, good_behind, Gives, of_return, of_after, of_named, of_either, of_then, of_enclosed, of_listed, of_any, ◌and◌, all_pass, is_list_parts}

@@ -3,9 +3,9 @@ use Rattle.std.proofs.Common.{◌≡◌, List, [], inr, refl, subst, ◌∙◌}
 use Rattle.bf_disk.specs.declared.disk.Disk.{Ghosts}
 use Rattle.bf_journal.specs.Leaving.{LeavesAlone}
 use Rattle.bf_journal.specs.States.{StandsOn}
-use Rattle.bf_keep.specs.Answers.{HasAnswered}
-use Rattle.bf_keep.specs.Crashing.{AreGroupsInOrder, KeepsOnLog, Recovers, ended_on_log}
-use Rattle.bf_keep.specs.declared.log_journal.LogJournal.{LogJournal}
+use Rattle.bf_run.specs.Answers.{HasAnswered}
+use Rattle.bf_run.specs.Crashing.{AreGroupsInOrder, KeepsOnLog, Recovers, ended_on_log}
+use Rattle.bf_run.specs.declared.log_journal.LogJournal.{LogJournal}
 use Rattle.bf_machine.specs.interleaving.Events.{Reaches}
 use Rattle.bf_machine.specs.interleaving.Kept.{IsKept}
 use Rattle.bf_machine.specs.InOrder.{none_open}

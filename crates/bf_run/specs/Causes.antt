@@ -2,7 +2,7 @@
 use Rattle.std.specs.Prelude.{◌≡◌, ℕ, ◌+◌, ◌<◌, ◌≤◌, Bool, true, false, List, Option, Some, filter, length, ⊤}
 use Rattle.std.specs.List.{AllByRecursion}
 use Rattle.bf_io.specs.Whole.{IfTold}
-use Rattle.bf_keep.specs.Answers.{AreSizesOf, is_disk_fault, largest_log, largest_record}
+use Rattle.bf_run.specs.Answers.{AreSizesOf, is_disk_fault, largest_log, largest_record}
 use Rattle.bf_machine.specs.interleaving.Machines.{EndedGroup}
 use Rattle.bf_sql.specs.Database.{Database}
 use Rattle.bf_tree.specs.declared.history.Entry.{Entry}

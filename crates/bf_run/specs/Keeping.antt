@@ -6,8 +6,8 @@ use Rattle.bf_io.specs.Whole.{IfTold}
 use Rattle.bf_journal.specs.Crashes.{ReopensWith}
 use Rattle.bf_journal.specs.Reopening.{ReopensTo}
 use Rattle.bf_journal.specs.States.{MayLeave, moment_of}
-use Rattle.bf_keep.specs.Answers.{if_committed}
-use Rattle.bf_keep.specs.Crashing.{Follows}
+use Rattle.bf_run.specs.Answers.{if_committed}
+use Rattle.bf_run.specs.Crashing.{Follows}
 use Rattle.bf_log.specs.declared.log.Log.{Log}
 use Rattle.bf_machine.specs.interleaving.Machines.{EndedGroup}
 use Rattle.bf_recover.specs.Legal.{first_state}

@@ -1,8 +1,12 @@
+pub mod Answers
 pub mod Causes
+pub mod Crashing
 pub mod Creating
 pub mod Keeping
 pub mod Outcome
+pub mod Records
 pub mod Running
+pub mod Sayable
 pub mod Top
 pub mod Untold
 pub mod Words

@@ -13,7 +13,7 @@ use Rattle.bf_tree.specs.declared.history.Entry.{Entry}
 use Rattle.bf_tree.specs.declared.history.Sweep.{Sweep}
 use Rattle.bf_text.specs.Replies.{newline, numbered}
 use Rattle.bf_text.specs.Report.{report_text}
-use Rattle.bf_keep.specs.Answers.{AreToldTheirCauses}
+use Rattle.bf_run.specs.Answers.{AreToldTheirCauses}
 use Rattle.bf_run.specs.declared.status.Status.{Status}
 use Rattle.bf_run.specs.declared.status.Status.TheVariants.{Done, Usage, Script as ScriptError, ReadFault, WriteFault, DiskFault, NotALog, NotEmpty, Memory}
 use Rattle.bf_run.specs.Causes.{CausesEnds}

@@ -4,7 +4,7 @@ use Rattle.bf_disk.specs.Images.{OnlyRead}
 use Rattle.bf_disk.specs.Shelves.{IsHeldOrEmpty}
 use Rattle.bf_disk.specs.declared.disk.Disk.{Ghosts}
 use Rattle.bf_io.specs.Whole.{IfTold}
-use Rattle.bf_keep.specs.Crashing.{AreGroupsInOrder}
+use Rattle.bf_run.specs.Crashing.{AreGroupsInOrder}
 use Rattle.bf_log.specs.Append.{disk_of}
 use Rattle.bf_log.specs.declared.log.Log.{Log}
 use Rattle.bf_parse.specs.Scripts.{IsScriptText}

@@ -3,7 +3,7 @@
 ghost use Rattle.std.specs.Prelude.{◌≡◌, ℕ, List, None, Some, IfOk, OnErr, true};
 ghost use Rattle.bf_journal.specs.Leaving.{LeavesAlone};
 ghost use Rattle.bf_journal.specs.States.{IsReady, StandsOn};
-ghost use Rattle.bf_keep.specs.Sayable.{IsSayableScript};
+ghost use Rattle.bf_run.specs.Sayable.{IsSayableScript};
 ghost use Rattle.bf_log.specs.Append.{disk_of};
 ghost use Rattle.bf_machine.specs.interleaving.Kept.{IsWithinLimits};
 ghost use Rattle.bf_recover.specs.Legal.{first_state};
@@ -17,17 +17,17 @@ ghost use Rattle.bf_run.specs.Top.{IsOpenErrorTold, IsRunOverDisk, IsServed, IsT
 ghost use Rattle.bf_run.specs.Untold.{IsBrokenOffOn, IsUntold, LeavesUntold, ReadsLog};
 ghost use Rattle.bf_run.specs.Words.{running};
 
+use crate::journal_laws::{
+    a_size_that_is_told_is_that_of_a_record, every_crash_leaves_a_prefix, what_ends_groups_is_told,
+};
+use crate::log_journal::LogJournal;
 use crate::status::{Status, disk_fault, not_a_log_line};
 use bf_base::Memory;
 use bf_disk::{Disk, DiskError, Shelf};
-use bf_keep::LogJournal;
-use bf_keep::laws::{
-    a_size_that_is_told_is_that_of_a_record, every_crash_leaves_a_prefix, what_ends_groups_is_told,
-};
+use bf_image::Registry;
 use bf_log::{Log, OpenError};
 use bf_machine::interleaving_laws::sessions_that_have_ended_ran_over;
 use bf_machine::{Machine, Opened, in_order};
-use bf_migration::Registry;
 use bf_recover::reopen;
 use bf_store::Store;
 use bf_text::report;

@@ -1,13 +1,18 @@
-//! The top call: from the bytes of a script to the printed report of its run.
+//! The top call: from the bytes of a script to the printed report of its run. And the journal that is a log, by which
+//! a run keeps its database: each change of a store is a record of the log before it is made.
 #![tactic(auto)]
 
+mod changes;
 mod creating;
+pub mod journal_laws;
 mod keeping;
 pub mod laws;
+pub mod log_journal;
 pub mod status;
 pub mod top;
 pub mod words;
 
+pub use log_journal::LogJournal;
 pub use status::Status;
 pub use top::bullfrog;
 pub use words::{Words, WordsError, read_words};

@@ -1,6 +1,7 @@
 mod Binding
 mod Block
 mod FilteredGroups
+pub mod FixedKey
 mod GroupedTotals
 pub mod GroupedTotalsMoves
 mod Grouping
@@ -15,6 +16,7 @@ mod MayFail
 mod MayFailMoves
 mod OpenBlock
 mod Refusals
+pub mod Renaming
 mod SecondMigration
 mod SecondMigrationMoves
 pub mod Spelling
@@ -28,3 +30,4 @@ mod TwoDrivers
 mod TwoSessions
 mod TwoSets
 mod UnitLimit
+pub mod extents

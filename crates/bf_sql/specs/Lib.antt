@@ -11,5 +11,4 @@ pub mod Objections
 pub mod Queries
 pub mod RowObjections
 pub mod Scopes
-pub mod Totals
 pub mod migrations

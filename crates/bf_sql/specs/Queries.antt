@@ -7,7 +7,7 @@ use Rattle.bf_tree.specs.declared.items.Items.{Items}
 use Rattle.bf_tree.specs.declared.items.Items.TheVariants.{All, Exprs, Aggregates}
 use Rattle.bf_tree.specs.declared.reply.Cell.{Cell}
 use Rattle.bf_tree.specs.declared.reply.Cell.TheVariants as cells
-use Rattle.bf_sql.specs.Totals.{total_of}
+use Rattle.bf_tree.specs.Totals.{total_of}
 
 module _ {R : Type 0} (read : List Value → R → Value) where
   -- the rows that satisfy a condition

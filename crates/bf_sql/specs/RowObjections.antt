@@ -1,5 +1,5 @@
 -- What the rows have against a statement to which the catalog has no objection, in order. The first objection is told.
-use Rattle.std.specs.Prelude.{ℕ, not, List, [], ◌∷◌, ◌++◌, map, flat_map, length, zip, nat_lt, Option, Result, Ok, Err}
+use Rattle.std.specs.Prelude.{ℕ, List, [], ◌∷◌, ◌++◌, map, flat_map, length, zip, nat_lt, Option}
 use Rattle.bf_base.specs.declared.value.Value.{Value}
 use Rattle.bf_base.specs.declared.table.Admit.{Admit}
 use Rattle.bf_base.specs.declared.table.Fit.{Fit}
@@ -7,16 +7,10 @@ use Rattle.bf_base.specs.declared.table.Fit.TheVariants as fit
 use Rattle.bf_base.specs.declared.table.Table.{Table}
 use Rattle.bf_base.specs.Lists.{same_key, has, with_before, when}
 use Rattle.bf_base.specs.Tables.{fit_of, key_of}
-use Rattle.bf_base.specs.Limits.{is_int, most_rows}
-use Rattle.bf_tree.specs.declared.evaluation.Fail.{Fail}
-use Rattle.bf_tree.specs.declared.evaluation.Fail.TheVariants as fail
+use Rattle.bf_base.specs.Limits.{most_rows}
 use Rattle.bf_tree.specs.Trees.{Expr}
 use Rattle.bf_tree.specs.Evaluation.{value_of, sure_value}
 use Rattle.bf_tree.specs.Settling.{first_of}
-use Rattle.bf_tree.specs.declared.items.Aggregate.{Aggregate}
-use Rattle.bf_tree.specs.declared.items.Aggregate.TheVariants.{Count, Sum, Min, Max}
-use Rattle.bf_tree.specs.declared.items.Items.{Items}
-use Rattle.bf_tree.specs.declared.items.Items.TheVariants.{All, Exprs, Aggregates}
 use Rattle.bf_tree.specs.declared.statement.Statement.{Statement}
 use Rattle.bf_tree.specs.declared.statement.Statement.TheVariants.{Insert, Select, Update, Migrate}
 use Rattle.bf_tree.specs.declared.reply.Refusal.{Refusal}
@@ -24,16 +18,9 @@ use Rattle.bf_tree.specs.declared.reply.Refusal.TheVariants.{TypeMismatch, OutOf
 use Rattle.bf_sql.specs.Database.{Database, table_at, table_rows}
 use Rattle.bf_sql.specs.Conditions.{condition_of}
 use Rattle.bf_sql.specs.Scopes.{scope_of, read_in, admitted_by, unqualified}
-use Rattle.bf_sql.specs.Totals.{values_of, exact_sum}
+use Rattle.bf_tree.specs.ValueObjections.{value_objections, answer_objections}
 use Rattle.bf_sql.specs.Queries.{selected}
 use Rattle.bf_sql.specs.migrations.MigrationObjections.{sources_of}
-
--- an expression that has no value
-abbrev pub value_objections : Result Value Fail → List Refusal
-value_objections (Ok v) = []
-value_objections (Err fail.OutOfRange) = OutOfRange ∷ []
-value_objections (Err fail.TooLong) = TooLong ∷ []
-value_objections (Err fail.Memory) = []
 
 abbrev pub fit_objections : Fit → List Refusal
 fit_objections fit.Fits = []
@@ -58,26 +45,6 @@ abbrev pub insert_objections : Table → List (List Value) → List (List Value)
 insert_objections table rows tuples = flat_map (λ p. unfit_row_objections table p.1 ++ taken_key_objections table (rows ++ p.0) p.1) (with_before tuples)
 
 module _ {R : Type 0} (read : List Value → R → Value) where
-  -- a total's argument on one row
-  abbrev pub argument_objections : List Value → Aggregate (Expr R) → List Refusal
-  argument_objections row Count = []
-  argument_objections row (Sum e) = value_objections (value_of (read row) e)
-  argument_objections row (Min e) = value_objections (value_of (read row) e)
-  argument_objections row (Max e) = value_objections (value_of (read row) e)
-
-  -- a sum that no INT can be
-  abbrev pub sum_objections : List (List Value) → Aggregate (Expr R) → List Refusal
-  sum_objections rows Count = []
-  sum_objections rows (Sum e) = when (not (is_int (exact_sum (values_of read rows e)))) OutOfRange
-  sum_objections rows (Min e) = []
-  sum_objections rows (Max e) = []
-
-  -- SELECT: items from the left on each row, and sums after all rows
-  abbrev pub answer_objections : Items (Expr R) → List (List Value) → List Refusal
-  answer_objections All rows = []
-  answer_objections (Exprs exprs) rows = flat_map (λ row. flat_map (λ e. value_objections (value_of (read row) e)) exprs) rows
-  answer_objections (Aggregates totals) rows = flat_map (λ row. flat_map (argument_objections row) totals) rows ++ flat_map (sum_objections rows) totals
-
   -- UPDATE of a row: sets from the left, each its value and then whether its column admits it. `admit` tells of a set's column
   abbrev pub change_objections : {C : Type 0} → (C → Admit) → List (C × Expr R) → List Value → List Refusal
   change_objections admit sets row = flat_map (λ set. value_objections (value_of (read row) set.1) ++ unfit_objections (admit set.0) (sure_value (read row) set.1)) sets

@@ -8,3 +8,4 @@ pub mod Need
 pub mod Placed
 pub mod Plans
 pub mod Targets
+pub mod Within

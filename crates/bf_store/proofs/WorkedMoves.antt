@@ -24,7 +24,7 @@ use Rattle.bf_sql.specs.migrations.Need.{needed_by}
 use Rattle.bf_sql.proofs.GroupedTotalsMoves as totals
 use Rattle.bf_sql.proofs.Spelling.{one, number, given, arm, target, migration, at_rest}
 use Rattle.bf_sql.proofs.SplitTableMoves as split
-use Rattle.bf_migration.specs.Lawful.{IsLawful}
+use Rattle.bf_image.specs.Lawful.{IsLawful}
 use Rattle.bf_live.specs.Live.{committed}
 use Rattle.bf_store.specs.Calls.{after_commit, moved_by, told_of, with_commit}
 use Rattle.bf_store.specs.States.{IsSeenAs, need_of_all, under}

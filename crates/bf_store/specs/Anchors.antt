@@ -6,9 +6,9 @@ use Rattle.bf_base.specs.Lists.{has}
 use Rattle.bf_sql.specs.Database.{Database}
 use Rattle.bf_sql.specs.migrations.Granules.{UnitForm, anchors_of, granule, granules_of, same_granule}
 use Rattle.bf_sql.specs.migrations.Lazy.{DoneGranule, Migration, is_done}
-use Rattle.bf_migration.specs.Migrations.{old_of, unit_at, units_in}
-use Rattle.bf_migration.specs.declared.migration.Migration.{Migration as Kept}
-use Rattle.bf_migration.specs.declared.value_indexes.UnitIndex.{UnitIndex}
+use Rattle.bf_image.specs.Migrations.{old_of, unit_at, units_in}
+use Rattle.bf_image.specs.declared.migration.Migration.{Migration as Kept}
+use Rattle.bf_image.specs.declared.value_indexes.UnitIndex.{UnitIndex}
 use Rattle.bf_store.specs.Stores.{migration_of}
 use Rattle.bf_store.specs.declared.anchor.Anchor.{Anchor}
 

@@ -10,11 +10,11 @@ use Rattle.bf_tree.specs.declared.plan.Plan.{Plan}
 use Rattle.bf_sql.specs.Database.{Database, IsDatabase, Stored, stored_at, table_rows, with_rows, without}
 use Rattle.bf_sql.specs.migrations.Images.{replaced}
 use Rattle.bf_sql.specs.migrations.Targets.{target_table}
-use Rattle.bf_query.specs.Meanings.{entries_of}
-use Rattle.bf_migration.specs.Migrations.{old_of}
-use Rattle.bf_migration.specs.Registries.{Registry}
+use Rattle.bf_live.specs.Meanings.{entries_of}
+use Rattle.bf_image.specs.Migrations.{old_of}
+use Rattle.bf_image.specs.Registries.{Registry}
 use Rattle.bf_image.specs.Sources.{table_under}
-use Rattle.bf_migration.specs.declared.migration.Frozen.{Frozen}
+use Rattle.bf_image.specs.declared.migration.Frozen.{Frozen}
 use Rattle.bf_store.specs.States.{set_aside}
 use Rattle.bf_store.specs.Stores.{IsCounted}
 use Rattle.bf_store.specs.declared.under_way.UnderWay.{UnderWay}

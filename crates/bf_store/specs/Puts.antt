@@ -10,8 +10,8 @@ use Rattle.bf_txn.specs.declared.write.Write.{Write}
 use Rattle.bf_txn.specs.Writes.{writes_to}
 use Rattle.bf_live.specs.Live.{NamedRows}
 use Rattle.bf_live.specs.Puts.{all_puts}
-use Rattle.bf_migration.specs.Migrations.{old_of}
-use Rattle.bf_migration.specs.declared.migration.Migration.{Migration as Kept}
+use Rattle.bf_image.specs.Migrations.{old_of}
+use Rattle.bf_image.specs.declared.migration.Migration.{Migration as Kept}
 use Rattle.bf_sql.specs.Database.{Database}
 use Rattle.bf_base.specs.Lists.{has}
 use Rattle.bf_sql.specs.migrations.Granules.{granules_of, same_granule}

@@ -22,7 +22,7 @@ use Rattle.bf_sql.specs.migrations.Granules.{granules_of, same_granule}
 use Rattle.bf_sql.specs.migrations.Lazy.{Migration, LazyState, due, is_done, not_done, view_of, IsValid, begun, flipped_lazily, moved}
 use Rattle.bf_sql.specs.migrations.Need.{needed_for}
 use Rattle.bf_sql.specs.migrations.Targets.{target_table}
-use Rattle.bf_migration.specs.Lawful.{IsLawful}
+use Rattle.bf_image.specs.Lawful.{IsLawful}
 use Rattle.bf_image.specs.Sources.{frozen_of, table_under}
 use Rattle.bf_live.specs.Live.{committed}
 use Rattle.bf_live.specs.Open.{IsOpen}

@@ -6,10 +6,10 @@ use Rattle.bf_tree.specs.Limits.{HasNarrowTables}
 use Rattle.bf_sql.specs.Bound.{catalog_of}
 use Rattle.bf_sql.specs.Database.{Database}
 use Rattle.bf_sql.specs.migrations.Lazy.{DoneGranule, LazyState, Migration, anchored, is_done}
-use Rattle.bf_migration.specs.Migrations.{old_of, value_indexes}
-use Rattle.bf_migration.specs.Registries.{Registry}
-use Rattle.bf_migration.specs.declared.migration.Migration.{Migration as Kept}
-use Rattle.bf_migration.specs.declared.value_indexes.UnitIndex.{UnitIndex}
+use Rattle.bf_image.specs.Migrations.{old_of, value_indexes}
+use Rattle.bf_image.specs.Registries.{Registry}
+use Rattle.bf_image.specs.declared.migration.Migration.{Migration as Kept}
+use Rattle.bf_image.specs.declared.value_indexes.UnitIndex.{UnitIndex}
 use Rattle.bf_store.specs.States.{IsLazy}
 use Rattle.bf_store.specs.declared.anchor.Anchor.{Anchor}
 use Rattle.bf_store.specs.declared.under_way.UnderWay.{UnderWay}

@@ -2,15 +2,14 @@
 
 ghost use Rattle.std.specs.Prelude.{◌≡◌, IfOk, filter, find, length, slice_get};
 ghost use Rattle.std.specs.Option.{option_and_then, option_map};
-ghost use Rattle.bf_migration.specs.Migrations.{IsLawfulMigration, value_indexes};
+ghost use Rattle.bf_image.specs.Migrations.{IsLawfulMigration, value_indexes};
 ghost use Rattle.bf_store.specs.Anchors.{AreOf, anchor_of, anchors_ahead, anchors_left, has_all_groups, is_open};
 ghost use Rattle.bf_store.specs.Marks.{AreInOrder, granules_in, is_group_of};
 ghost use Rattle.bf_store.specs.Stores.{migration_of};
 
 use crate::done::Done;
 use bf_base::Memory;
-use bf_image::{granule_of, positions};
-use bf_migration::{Migration, ValueIndexes};
+use bf_image::{Migration, ValueIndexes, granule_of, positions};
 use std::alloc::Global;
 
 /// The place of an anchor: its unit, and its position there, both counted from 0.

@@ -4,7 +4,7 @@ ghost use Rattle.std.specs.Prelude.{◌≡◌, ◌<◌, ◌^◌, ◌++◌, ◌�
 ghost use Rattle.bf_base.specs.Tables.{cell, key_of};
 ghost use Rattle.bf_sql.specs.migrations.Granules.{part_of};
 ghost use Rattle.bf_image.specs.FrozenUnits.{IsUnitIn};
-ghost use Rattle.bf_migration.specs.Migrations.{IsLawfulMigration, old_of, target_at, value_indexes};
+ghost use Rattle.bf_image.specs.Migrations.{IsLawfulMigration, old_of, target_at, value_indexes};
 ghost use Rattle.bf_store.specs.Anchors.{AreOf, next_from};
 ghost use Rattle.bf_store.specs.Marks.{AreFresh, granules_in, left_of, marked, unmarked};
 ghost use Rattle.bf_store.specs.Puts.{ArePuts, MayMove, Put, with_rows_in};
@@ -17,9 +17,8 @@ use crate::done::Done;
 use crate::moved::{Moved, receipts};
 use crate::under_way::UnderWay;
 use bf_base::{Granule, Key, Memory, Row, Table, Value};
-use bf_image::FrozenUnit;
+use bf_image::{FrozenUnit, Migration, ValueIndexes};
 use bf_live::{LiveTables, Puts};
-use bf_migration::{Migration, ValueIndexes};
 use std::alloc::Global;
 
 /// The value of a column of a row.

@@ -19,8 +19,8 @@ use crate::movement::move_granules;
 use crate::told::tells_any;
 use crate::under_way::UnderWay;
 use bf_base::{Granule, Memory, Table};
+use bf_image::{MigrationPass, Registry, ValueIndexes};
 use bf_live::LiveTables;
-use bf_migration::{MigrationPass, Registry, ValueIndexes};
 use bf_tree::{IndexRule, Plan, Sweep};
 use bf_txn::Workspace;
 use std::alloc::Global;
@@ -43,7 +43,7 @@ impl Model for Store {
     ghost use Rattle.boxcar.specs.Table.{where_coded};
     ghost use Rattle.bf_tree.specs.contracts.raw.RawCond as conds;
     ghost use Rattle.bf_tree.specs.contracts.raw.RawExpr as exprs;
-    ghost use Rattle.bf_migration.specs.contracts.migration.Migration as migrations;
+    ghost use Rattle.bf_image.specs.contracts.migration.Migration as migrations;
     ghost use Rattle.bf_store.specs.Stores.{IsStore, Store as Seen, seen};
 
     ghost Value = { Seen };

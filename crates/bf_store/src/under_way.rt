@@ -6,7 +6,7 @@ ghost use Rattle.bf_store.specs.Stores.{IsCounted, last_seen};
 
 use crate::anchor::Anchor;
 use crate::done::Done;
-use bf_migration::MigrationPass;
+use bf_image::MigrationPass;
 use bf_tree::Sweep;
 
 /// The last migration: its number, what has moved of it, and the first anchor whose granule has

@@ -8,8 +8,8 @@ use Rattle.bf_tree.specs.Evaluation.{holds_on}
 use Rattle.bf_tree.specs.Trees.{Cond, always}
 use Rattle.bf_sql.specs.migrations.Granules.{granules_of, part_in}
 use Rattle.bf_sql.specs.migrations.Need.{may_satisfy}
-use Rattle.bf_migration.specs.Migrations.{old_of, target_at}
-use Rattle.bf_migration.specs.declared.migration.Migration.{Migration}
+use Rattle.bf_image.specs.Migrations.{old_of, target_at}
+use Rattle.bf_image.specs.declared.migration.Migration.{Migration}
 use Rattle.bf_transpose.specs.Scans.{gives}
 use Rattle.bf_transpose.specs.Transposed.{is_always}
 use Rattle.bf_transpose.proofs.Each.{always_holds}

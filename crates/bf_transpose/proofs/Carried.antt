@@ -34,18 +34,18 @@ use Rattle.bf_sql.specs.migrations.Images.{arm_rows, rows_of_join}
 use Rattle.bf_sql.specs.migrations.MigrationObjections.{is_by_group, is_by_row}
 use Rattle.bf_sql.specs.migrations.Placed.{placed_arm, placed_groups, placed_item, placed_matches, placed_over, placed_pair, placed_rows}
 use Rattle.bf_sql.specs.migrations.Targets.{arm_kind, arm_scope, equalities, width}
-use Rattle.bf_query.proofs.Within.{key_within}
-use Rattle.bf_query.specs.Ranges.{key_range_of}
-use Rattle.bf_migration.specs.Migrations.{IsLawfulMigration, old_of, target_at, unit_at}
-use Rattle.bf_migration.specs.declared.migration.Migration.{Migration}
+use Rattle.bf_access.proofs.Within.{key_within}
+use Rattle.bf_access.specs.Ranges.{key_range_of}
+use Rattle.bf_image.specs.Migrations.{IsLawfulMigration, old_of, target_at, unit_at}
+use Rattle.bf_image.specs.declared.migration.Migration.{Migration}
 use Rattle.bf_image.proofs.finding.Owned.{target_unobjected}
-use Rattle.bf_migration.proofs.items.Lists.{all_of_contained}
-use Rattle.bf_migration.proofs.making.Arms.{cell_left, cell_right, is_one_sided, places_on}
+use Rattle.bf_image.proofs.items.Lists.{all_of_contained}
+use Rattle.bf_image.proofs.making.Arms.{cell_left, cell_right, is_one_sided, places_on}
 use Rattle.bf_image.proofs.making.PlacedArms.{placed_alike}
-use Rattle.bf_migration.proofs.making.Unobjected.{alone_in_groups, arms_ok, as_wide, two_sided}
+use Rattle.bf_image.proofs.making.Unobjected.{alone_in_groups, arms_ok, as_wide, two_sided}
 use Rattle.bf_image.proofs.parting.UnitParts.{part, part_is}
-use Rattle.bf_migration.proofs.planning.Numbered.{each_kept, each_of_blocks, each_of_map, each_so}
-use Rattle.bf_migration.proofs.planning.Units.{IsUnitOf, unit_among}
+use Rattle.bf_image.proofs.planning.Numbered.{each_kept, each_of_blocks, each_of_map, each_so}
+use Rattle.bf_image.proofs.planning.Units.{IsUnitOf, unit_among}
 use Rattle.bf_transpose.specs.Joined.{AreCarried, IsArmByValues, columns_of_on, copies_either}
 use Rattle.bf_transpose.specs.KeysBehind.{with_key}
 use Rattle.bf_transpose.specs.Scans.{gives}

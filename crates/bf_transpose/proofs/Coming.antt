@@ -34,20 +34,20 @@ use Rattle.bf_sql.specs.migrations.Images.{arm_rows, rows_of_join}
 use Rattle.bf_sql.specs.migrations.Placed.{placed_arm, placed_groups, placed_matches, placed_over, placed_pair}
 use Rattle.bf_sql.specs.migrations.Plans.{rows_unit_of}
 use Rattle.bf_sql.specs.migrations.Targets.{arm_kind, arm_scope, first_arm, names_of_join, width}
-use Rattle.bf_migration.specs.BoundArms.{arm_at}
-use Rattle.bf_migration.specs.Migrations.{IsLawfulMigration, old_of, source_of, target_at}
-use Rattle.bf_migration.specs.PlannedUnits.{arm_named, form_by, target_named, unit_form}
-use Rattle.bf_migration.specs.declared.migration.Frozen.{Frozen}
-use Rattle.bf_migration.specs.declared.migration.Migration.{Migration}
+use Rattle.bf_image.specs.BoundArms.{arm_at}
+use Rattle.bf_image.specs.Migrations.{IsLawfulMigration, old_of, source_of, target_at}
+use Rattle.bf_image.specs.PlannedUnits.{arm_named, form_by, target_named, unit_form}
+use Rattle.bf_image.specs.declared.migration.Frozen.{Frozen}
+use Rattle.bf_image.specs.declared.migration.Migration.{Migration}
 use Rattle.bf_image.proofs.finding.Found.{alone_true, any_always, any_of_blocks}
 use Rattle.bf_image.proofs.finding.Looked.{one_row}
 use Rattle.bf_image.proofs.making.PlacedArms.{placed_alike}
-use Rattle.bf_migration.proofs.making.Unobjected.{as_wide, joins_by_join}
+use Rattle.bf_image.proofs.making.Unobjected.{as_wide, joins_by_join}
 use Rattle.bf_image.proofs.owning.Stored.{rows_are, table_is}
 use Rattle.bf_image.proofs.owning.Targets.{name_tells_number}
 use Rattle.bf_image.proofs.parting.UnitParts.{part, part_by_rows}
-use Rattle.bf_migration.proofs.planning.Driven.{IsNamed, driven_named, part_by_numbers, rows_by_numbers}
-use Rattle.bf_migration.proofs.planning.Units.{planned_as, unit_at_number}
+use Rattle.bf_image.proofs.planning.Driven.{IsNamed, driven_named, part_by_numbers, rows_by_numbers}
+use Rattle.bf_image.proofs.planning.Units.{planned_as, unit_at_number}
 use Rattle.bf_transpose.specs.Scans.{IsDriverOf, gives}
 use Rattle.bf_transpose.specs.Transposed.{AreCopies, begins_at, column_copied, transposed}
 use Rattle.bf_transpose.specs.declared.transposed.Copies.{Copies}

@@ -18,8 +18,8 @@ use Rattle.bf_sql.specs.Database.{Database, table_rows}
 use Rattle.bf_sql.specs.migrations.Granules.{UnitForm, granule, granules_of, places_in, rows_unit, same_granule, same_place, units_of}
 use Rattle.bf_image.specs.Laws.{owns}
 use Rattle.bf_image.specs.Lookup.{behind_tag, candidates, has_the_key, places_by}
-use Rattle.bf_migration.specs.Migrations.{IsLawfulMigration, old_of, target_at, unit_at}
-use Rattle.bf_migration.specs.declared.migration.Migration.{Migration}
+use Rattle.bf_image.specs.Migrations.{IsLawfulMigration, old_of, target_at, unit_at}
+use Rattle.bf_image.specs.declared.migration.Migration.{Migration}
 use Rattle.bf_image.proofs.finding.Found.{alone_true, same_granule-equal, same_granule-itself}
 use Rattle.bf_image.proofs.finding.Owned.{one_owner}
 use Rattle.bf_image.proofs.finding.Owner.{looked_up}

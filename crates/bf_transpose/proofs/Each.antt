@@ -24,14 +24,14 @@ use Rattle.bf_sql.specs.migrations.MigrationObjections.{driver_by}
 use Rattle.bf_sql.specs.migrations.Placed.{placed_arm, placed_groups, placed_matches, placed_over, placed_rows}
 use Rattle.bf_sql.specs.migrations.Plans.{numbered_arms, rows_unit_of}
 use Rattle.bf_sql.specs.migrations.Targets.{arm_kind}
-use Rattle.bf_migration.specs.Migrations.{IsLawfulMigration, anchors_in, old_of}
-use Rattle.bf_migration.specs.PlannedUnits.{arm_named}
-use Rattle.bf_migration.specs.declared.migration.Frozen.{Frozen}
-use Rattle.bf_migration.specs.declared.migration.Migration.{Migration}
+use Rattle.bf_image.specs.Migrations.{IsLawfulMigration, anchors_in, old_of}
+use Rattle.bf_image.specs.PlannedUnits.{arm_named}
+use Rattle.bf_image.specs.declared.migration.Frozen.{Frozen}
+use Rattle.bf_image.specs.declared.migration.Migration.{Migration}
 use Rattle.bf_image.proofs.finding.Found.{alone_true}
-use Rattle.bf_migration.proofs.items.Names.{name-symmetric}
+use Rattle.bf_image.proofs.items.Names.{name-symmetric}
 use Rattle.bf_image.proofs.making.PlacedArms.{placed_alike}
-use Rattle.bf_migration.proofs.planning.Numbered.{IsNumbered, all_numbered, each_kept, each_of_map, named_by_numbers}
+use Rattle.bf_image.proofs.planning.Numbered.{IsNumbered, all_numbered, each_kept, each_of_map, named_by_numbers}
 use Rattle.bf_transpose.specs.Each.{MakesEach, makes_each, makes_each_by}
 use Rattle.bf_transpose.specs.Scans.{IsDriverOf, gives, row_granules}
 use Rattle.bf_transpose.specs.Transposed.{is_always}

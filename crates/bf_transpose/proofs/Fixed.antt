@@ -15,7 +15,7 @@ use Rattle.bf_tree.specs.Fixed.{conjuncts, value_fixed}
 use Rattle.bf_tree.specs.Trees.{literal, column, Cond, compared}
 use Rattle.bf_sql.specs.Conditions.{all_there, fixed_key}
 use Rattle.bf_sql.specs.migrations.Need.{may_satisfy, mentions_total, total_places}
-use Rattle.bf_query.proofs.FixedKey.{first_held, same_place}
+use Rattle.bf_sql.proofs.FixedKey.{first_held, same_place}
 
 module _ (t : Target) (row : List Value) where
   abbrev is_unfilled : ℕ → Bool

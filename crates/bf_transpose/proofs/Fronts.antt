@@ -10,8 +10,8 @@ use Rattle.bf_heap.specs.declared.key_range.KeyRange.{KeyRange}
 use Rattle.bf_heap.specs.KeyRanges.{front_cmp, is_before, is_behind, is_within}
 use Rattle.bf_tree.specs.Fixed.{column_fixed}
 use Rattle.bf_tree.specs.Trees.{Cond}
-use Rattle.bf_query.specs.declared.range.Side.TheVariants.{Low, High}
-use Rattle.bf_query.specs.Ranges.{column_end, end_behind, range_behind}
+use Rattle.bf_access.specs.declared.range.Side.TheVariants.{Low, High}
+use Rattle.bf_access.specs.Ranges.{column_end, end_behind, range_behind}
 
 -- an end of at most so many values
 abbrev IsShort : ℕ → Bound (List Value) → Type 0

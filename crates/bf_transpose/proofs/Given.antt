@@ -8,8 +8,8 @@ use Rattle.bf_tree.specs.Trees.{always}
 use Rattle.bf_tree.specs.declared.migration.Target.{Target}
 use Rattle.bf_sql.specs.migrations.Granules.{part_of}
 use Rattle.bf_image.specs.Giving.{gives_row}
-use Rattle.bf_migration.specs.Migrations.{old_of, target_at}
-use Rattle.bf_migration.specs.declared.migration.Migration.{Migration}
+use Rattle.bf_image.specs.Migrations.{old_of, target_at}
+use Rattle.bf_image.specs.declared.migration.Migration.{Migration}
 use Rattle.bf_transpose.specs.Scans.{gives}
 
 any_left : {X Y : Type 0} (f : X → Y) (test : X → Bool) (xs : List X) → list_any test xs ≡ list_any (λ y. true) (map f (filter test xs))

@@ -19,8 +19,8 @@ use Rattle.bf_tree.specs.declared.migration.Migrate.{Migrate}
 use Rattle.bf_sql.specs.Database.{Database, table_rows}
 use Rattle.bf_sql.specs.migrations.Granules.{UnitForm, rows_unit, values_unit, anchor_values, granule, granules_of, places_in, units_of}
 use Rattle.bf_sql.specs.migrations.Targets.{arm_kind}
-use Rattle.bf_migration.proofs.items.Lists.{all_append}
-use Rattle.bf_migration.proofs.items.Values.{distinct-apart, in_order-apart, same-equal, same-itself}
+use Rattle.bf_image.proofs.items.Lists.{all_append}
+use Rattle.bf_index.proofs.Values.{distinct-apart, in_order-apart, same-equal, same-itself}
 use Rattle.bf_transpose.proofs.Inserted.{ascends}
 
 abbrev pub granule_cmp : Granule → Granule → Ordering

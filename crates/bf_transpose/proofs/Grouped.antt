@@ -23,18 +23,18 @@ use Rattle.bf_sql.specs.Database.{Database, table_rows}
 use Rattle.bf_sql.specs.migrations.Granules.{anchor_values, granule, part_in, places_in, right_value, same_place, values_unit}
 use Rattle.bf_sql.specs.migrations.MigrationObjections.{is_by_row, keeps_apart, tag_of}
 use Rattle.bf_sql.specs.migrations.Targets.{arm_kind, target_table}
-use Rattle.bf_query.proofs.Within.{key_within}
-use Rattle.bf_migration.specs.ByValues.{Valued, by_value, value_of}
+use Rattle.bf_access.proofs.Within.{key_within}
+use Rattle.bf_index.specs.ByValues.{Valued, by_value, value_of}
 use Rattle.bf_image.specs.Lookup.{places_by, values_by}
-use Rattle.bf_migration.specs.Migrations.{IsLawfulMigration, old_of, target_at}
-use Rattle.bf_migration.specs.declared.migration.Migration.{Migration}
-use Rattle.bf_migration.specs.declared.value_indexes.UnitIndex.{UnitIndex}
+use Rattle.bf_image.specs.Migrations.{IsLawfulMigration, old_of, target_at}
+use Rattle.bf_image.specs.declared.migration.Migration.{Migration}
+use Rattle.bf_image.specs.declared.value_indexes.UnitIndex.{UnitIndex}
 use Rattle.bf_image.proofs.finding.Found.{alone_true}
 use Rattle.bf_image.proofs.finding.Owned.{target_unobjected}
-use Rattle.bf_migration.proofs.items.Lists.{all_of_contained}
-use Rattle.bf_migration.proofs.making.Unobjected.{joins_by_pair, key_there}
+use Rattle.bf_image.proofs.items.Lists.{all_of_contained}
+use Rattle.bf_image.proofs.making.Unobjected.{joins_by_pair, key_there}
 use Rattle.bf_image.proofs.owning.Targets.{name_tells_number}
-use Rattle.bf_migration.proofs.planning.Units.{IsUnitOf, unit_among}
+use Rattle.bf_image.proofs.planning.Units.{IsUnitOf, unit_among}
 use Rattle.bf_transpose.specs.InOrder.{values_in}
 use Rattle.bf_transpose.specs.KeysBehind.{with_key_behind}
 use Rattle.bf_transpose.specs.Scans.{IsIndexOf, gives, range_of}

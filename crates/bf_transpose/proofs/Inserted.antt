@@ -6,7 +6,7 @@ use Rattle.std.specs.BTreeSet.{insert_key}
 use Rattle.std.proofs.lemmas.Bool.{and_parts, cases_Bool}
 use Rattle.std.proofs.lemmas.Cmp.{tied_itself}
 use Rattle.bf_base.proofs.Order.{less_from_test, turned_less}
-use Rattle.bf_migration.proofs.items.Lists.{all_kept}
+use Rattle.bf_image.proofs.items.Lists.{all_kept}
 
 -- each item comes before all behind it
 abbrev pub ascends : {K : Type 0} → (K → K → Ordering) → List K → Bool

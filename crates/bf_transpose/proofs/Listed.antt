@@ -14,11 +14,11 @@ use Rattle.bf_index.specs.Pairs.{PairSet, keys_with}
 use Rattle.bf_index.proofs.Keys.{keys_with-index_of}
 use Rattle.bf_tree.specs.Trees.{Cond}
 use Rattle.bf_sql.specs.migrations.Granules.{granule}
-use Rattle.bf_query.specs.ByIndex.{all_fixed, fixed_value}
-use Rattle.bf_query.proofs.IndexRows.{value_held}
-use Rattle.bf_migration.specs.Migrations.{IsLawfulMigration, anchors_in}
-use Rattle.bf_migration.specs.declared.migration.Frozen.{Frozen}
-use Rattle.bf_migration.specs.declared.migration.Migration.{Migration}
+use Rattle.bf_access.specs.ByIndex.{all_fixed, fixed_value}
+use Rattle.bf_access.proofs.FixedValue.{value_held}
+use Rattle.bf_image.specs.Migrations.{IsLawfulMigration, anchors_in}
+use Rattle.bf_image.specs.declared.migration.Frozen.{Frozen}
+use Rattle.bf_image.specs.declared.migration.Migration.{Migration}
 use Rattle.bf_transpose.specs.Positions.{positions_under}
 use Rattle.bf_transpose.specs.Scans.{gives, granules_at, row_granules}
 use Rattle.bf_transpose.specs.Transposed.{IsTransposed}

@@ -8,7 +8,7 @@ use Rattle.bf_base.specs.declared.value.Value.{Value}
 use Rattle.bf_base.specs.Lists.{rises}
 use Rattle.bf_base.specs.Values.{key_cmp, key_cmp_total, key_cmp-IsAntisymmetric}
 use Rattle.bf_base.proofs.Order.{rises_tail, turned}
-use Rattle.bf_migration.specs.ByValues.{Valued, value_of}
+use Rattle.bf_index.specs.ByValues.{Valued, value_of}
 use Rattle.bf_transpose.specs.InOrder.{values_in}
 use Rattle.bf_transpose.proofs.Rising.{above_all, both_first, left_first, right_first}
 

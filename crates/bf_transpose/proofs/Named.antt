@@ -7,7 +7,7 @@ use Rattle.bf_base.proofs.Apart.{are_apart}
 use Rattle.bf_tree.specs.declared.migration.Target.{Target}
 use Rattle.bf_sql.specs.Database.{Database, same_table}
 use Rattle.bf_sql.specs.migrations.Targets.{target_table}
-use Rattle.bf_migration.proofs.items.Names.{name-equal, name-symmetric}
+use Rattle.bf_image.proofs.items.Names.{name-equal, name-symmetric}
 use Rattle.bf_transpose.proofs.Finding.{found_passes}
 
 module _ (old : Database) (table : Table) where

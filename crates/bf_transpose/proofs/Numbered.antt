@@ -5,8 +5,8 @@ use Rattle.bf_base.specs.declared.table.Table.{Table}
 use Rattle.bf_sql.specs.Database.{same_table}
 use Rattle.bf_sql.specs.migrations.Need.{target_of}
 use Rattle.bf_sql.specs.migrations.Targets.{target_table}
-use Rattle.bf_migration.specs.Migrations.{IsLawfulMigration, old_of, target_at}
-use Rattle.bf_migration.specs.declared.migration.Migration.{Migration}
+use Rattle.bf_image.specs.Migrations.{IsLawfulMigration, old_of, target_at}
+use Rattle.bf_image.specs.declared.migration.Migration.{Migration}
 use Rattle.bf_transpose.proofs.Finding.{found_nowhere, found_there, position-map}
 use Rattle.bf_transpose.proofs.Named.{is_it}
 

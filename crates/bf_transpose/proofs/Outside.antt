@@ -21,11 +21,11 @@ use Rattle.bf_tree.specs.declared.migration.Target.{Target}
 use Rattle.bf_sql.specs.Database.{Database, table_rows}
 use Rattle.bf_sql.specs.migrations.Granules.{UnitForm, anchors_of, granule, part_in}
 use Rattle.bf_sql.specs.migrations.Targets.{target_table}
-use Rattle.bf_query.proofs.Within.{key_within}
+use Rattle.bf_access.proofs.Within.{key_within}
 use Rattle.bf_image.specs.Lookup.{behind_tag}
-use Rattle.bf_migration.specs.Migrations.{IsLawfulMigration, anchors_in, old_of, target_at}
-use Rattle.bf_migration.specs.declared.migration.Frozen.{Frozen}
-use Rattle.bf_migration.specs.declared.migration.Migration.{Migration}
+use Rattle.bf_image.specs.Migrations.{IsLawfulMigration, anchors_in, old_of, target_at}
+use Rattle.bf_image.specs.declared.migration.Frozen.{Frozen}
+use Rattle.bf_image.specs.declared.migration.Migration.{Migration}
 use Rattle.bf_image.proofs.owning.Stored.{position_is, rows_are}
 use Rattle.bf_transpose.specs.KeysBehind.{with_key_behind}
 use Rattle.bf_transpose.specs.Scans.{IsDriverOf, gives, range_of}

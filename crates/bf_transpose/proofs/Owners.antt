@@ -19,12 +19,12 @@ use Rattle.bf_sql.specs.migrations.Granules.{granules_of, owner_of, part_in}
 use Rattle.bf_sql.specs.migrations.Need.{giving, has_key_of, may_satisfy, target_of, total_places}
 use Rattle.bf_sql.specs.migrations.Targets.{target_table}
 use Rattle.bf_image.specs.Laws.{owns}
-use Rattle.bf_migration.specs.Migrations.{IsLawfulMigration, old_of, owner_in}
-use Rattle.bf_migration.specs.declared.migration.Migration.{Migration}
-use Rattle.bf_migration.proofs.cutting.Targets.{new_names}
+use Rattle.bf_image.specs.Migrations.{IsLawfulMigration, old_of, owner_in}
+use Rattle.bf_image.specs.declared.migration.Migration.{Migration}
+use Rattle.bf_image.proofs.cutting.Targets.{new_names}
 use Rattle.bf_image.proofs.finding.Owned.{one_owner, target_unobjected}
-use Rattle.bf_migration.proofs.making.Arms.{key-itself}
-use Rattle.bf_migration.proofs.making.Unobjected.{names_new}
+use Rattle.bf_image.proofs.making.Arms.{key-itself}
+use Rattle.bf_image.proofs.making.Unobjected.{names_new}
 use Rattle.bf_transpose.proofs.Finding.{found_among, found_passes}
 use Rattle.bf_transpose.proofs.Fixed.{key_fixed}
 use Rattle.bf_transpose.proofs.Keyed.{none_yet, nothing_inserted, owner_alone, owner_inserted}

@@ -6,7 +6,7 @@ use Rattle.bf_base.specs.declared.granule.Place.TheVariants.{Group}
 use Rattle.bf_heap.specs.KeyRanges.{is_before, is_behind, is_within}
 use Rattle.bf_heap.specs.declared.key_range.KeyRange.{KeyRange}
 use Rattle.bf_sql.specs.migrations.Granules.{granule}
-use Rattle.bf_migration.specs.ByValues.{Valued, value_of}
+use Rattle.bf_index.specs.ByValues.{Valued, value_of}
 use Rattle.bf_transpose.specs.Scans.{AreWithin, gives}
 use Rattle.bf_transpose.specs.declared.scan.Search.{Search}
 use Rattle.bf_transpose.proofs.Bounded.{passed_above, passed_below}

@@ -10,7 +10,7 @@ use Rattle.bf_base.specs.Lists.{has, rises, same_key}
 use Rattle.bf_base.specs.Values.{key_cmp, key_cmp_total, key_cmp-IsAntisymmetric}
 use Rattle.bf_base.proofs.Apart.{has-filter, rises-filter}
 use Rattle.bf_base.proofs.Order.{first_is, look_up, rises_cons, rises_skip, same_from_look_ups, symmetric}
-use Rattle.bf_migration.proofs.items.Values.{distinct-apart, in_order-apart, same-equal, same-itself, values_in_order-has}
+use Rattle.bf_index.proofs.Values.{distinct-apart, in_order-apart, same-equal, same-itself, values_in_order-has}
 use Rattle.bf_transpose.specs.InOrder.{values_in}
 
 abbrev Values : Type 0

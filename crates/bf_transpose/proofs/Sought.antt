@@ -31,16 +31,16 @@ use Rattle.bf_sql.specs.migrations.Granules.{UnitForm, anchor_values, from_with,
 use Rattle.bf_sql.specs.migrations.Images.{arm_rows, groups_by, item_over, matches_of_join, rows_of_join}
 use Rattle.bf_sql.specs.migrations.Plans.{rows_unit_of}
 use Rattle.bf_sql.specs.migrations.Targets.{arm_kind, arm_scope}
-use Rattle.bf_migration.specs.ByValues.{value_of}
-use Rattle.bf_migration.specs.Migrations.{ArePart, IsLawfulMigration, from_values, old_of, target_at, unit_at, value_indexes}
-use Rattle.bf_migration.specs.PlannedUnits.{form_by, target_named, values_form}
-use Rattle.bf_migration.specs.declared.migration.Migration.{Migration}
-use Rattle.bf_migration.specs.declared.value_indexes.UnitIndex.{UnitIndex}
+use Rattle.bf_index.specs.ByValues.{value_of}
+use Rattle.bf_image.specs.Migrations.{ArePart, IsLawfulMigration, from_values, old_of, target_at, unit_at, value_indexes}
+use Rattle.bf_image.specs.PlannedUnits.{form_by, target_named, values_form}
+use Rattle.bf_image.specs.declared.migration.Migration.{Migration}
+use Rattle.bf_image.specs.declared.value_indexes.UnitIndex.{UnitIndex}
 use Rattle.bf_image.proofs.owning.Armed.{HasArmedTarget, IsArmed, armed_within, part_armed}
 use Rattle.bf_image.proofs.owning.Targets.{name_tells_number}
 use Rattle.bf_image.proofs.parting.UnitParts.{part, part_by_rows, part_is, part_planned}
-use Rattle.bf_migration.proofs.planning.Driven.{IsNamed, driven_named, part_by_numbers, rows_by_numbers}
-use Rattle.bf_migration.proofs.planning.Units.{by_values, planned_as}
+use Rattle.bf_image.proofs.planning.Driven.{IsNamed, driven_named, part_by_numbers, rows_by_numbers}
+use Rattle.bf_image.proofs.planning.Units.{by_values, planned_as}
 use Rattle.bf_transpose.specs.InOrder.{values_in}
 use Rattle.bf_transpose.specs.Scans.{gives, granules_in, has_arm, is_sought, value_granules}
 use Rattle.bf_transpose.proofs.Rising.{filtered_among}

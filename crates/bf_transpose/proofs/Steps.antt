@@ -9,7 +9,7 @@ use Rattle.bf_base.specs.declared.granule.Granule.{Granule}
 use Rattle.bf_base.specs.declared.granule.Place.TheVariants.{Group, Row}
 use Rattle.bf_base.specs.declared.value.Value.{Value}
 use Rattle.bf_sql.specs.migrations.Granules.{granule}
-use Rattle.bf_migration.specs.ByValues.{Valued, value_of}
+use Rattle.bf_index.specs.ByValues.{Valued, value_of}
 use Rattle.bf_transpose.specs.Scans.{granules_at, row_granules, value_granules}
 
 -- the first items and the next, if there is one

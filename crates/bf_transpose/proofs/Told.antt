@@ -6,8 +6,8 @@ use Rattle.bf_base.specs.declared.value.Value.{Value}
 use Rattle.bf_base.specs.Lists.{same_name}
 use Rattle.bf_tree.specs.declared.migration.Target.{Target}
 use Rattle.bf_sql.specs.migrations.Granules.{part_in}
-use Rattle.bf_migration.specs.Migrations.{ArePart, IsLawfulMigration, old_of, target_at}
-use Rattle.bf_migration.specs.declared.migration.Migration.{Migration}
+use Rattle.bf_image.specs.Migrations.{ArePart, IsLawfulMigration, old_of, target_at}
+use Rattle.bf_image.specs.declared.migration.Migration.{Migration}
 use Rattle.bf_image.proofs.owning.Armed.{HasArmedTarget, IsArmed, armed_within, part_armed}
 use Rattle.bf_image.proofs.owning.Targets.{name_tells_number}
 

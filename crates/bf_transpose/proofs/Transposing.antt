@@ -17,7 +17,7 @@ use Rattle.bf_tree.specs.Evaluation.{holds_on}
 use Rattle.bf_tree.specs.Trees.{literal, column, Cond, compared, both}
 use Rattle.bf_sql.specs.migrations.Images.{first_row}
 use Rattle.bf_sql.specs.migrations.Placed.{placed_over}
-use Rattle.bf_migration.proofs.making.Arms.{cell_left, cell_right}
+use Rattle.bf_image.proofs.making.Arms.{cell_left, cell_right}
 use Rattle.bf_transpose.specs.Transposed.{column_copied, fixing, place_copied, transposed}
 
 module _ (new old : List Value) (copied : ℕ → Option ℕ) (same : (at place : ℕ) → copied at ≡ Some place → cell new at ≡ cell old place) where

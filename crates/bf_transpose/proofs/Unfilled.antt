@@ -17,7 +17,7 @@ use Rattle.bf_sql.specs.Scopes.{place_of}
 use Rattle.bf_sql.specs.migrations.MigrationObjections.{is_by_row, keeps_apart, tag_of, target_objections}
 use Rattle.bf_sql.specs.migrations.Need.{total_places}
 use Rattle.bf_sql.specs.migrations.Targets.{arm_kind, arm_key, arm_scope, first_arm, is_total, item_places, key_items, plain_ref, target_table}
-use Rattle.bf_migration.proofs.making.Unobjected.{key_there}
+use Rattle.bf_image.proofs.making.Unobjected.{key_there}
 
 -- the places that totals fill, of items of which the first is at a place
 abbrev totals_from : ℕ → List Item → List ℕ

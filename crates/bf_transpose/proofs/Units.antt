@@ -20,13 +20,13 @@ use Rattle.bf_sql.specs.migrations.Granules.{UnitForm, anchor_values, anchors_of
 use Rattle.bf_sql.specs.migrations.Images.{rows_of_join}
 use Rattle.bf_sql.specs.migrations.MigrationObjections.{is_by_row}
 use Rattle.bf_sql.specs.migrations.Targets.{arm_kind}
-use Rattle.bf_migration.specs.ByValues.{Valued, by_value, positions_of, value_of}
-use Rattle.bf_migration.specs.Migrations.{IsLawfulMigration, anchors_in, from_values, old_of, unit_at, unit_index, units_in, value_indexes}
-use Rattle.bf_migration.specs.PlannedUnits.{unit_form}
-use Rattle.bf_migration.specs.declared.migration.Migration.{Migration}
-use Rattle.bf_migration.specs.declared.value_indexes.UnitIndex.{UnitIndex}
-use Rattle.bf_migration.proofs.planning.Units.{IsUnitOf, unit_among, units_stand_for}
-use Rattle.bf_migration.proofs.planning.Within.{allowed, alone_by_group}
+use Rattle.bf_index.specs.ByValues.{Valued, by_value, positions_of, value_of}
+use Rattle.bf_image.specs.Migrations.{IsLawfulMigration, anchors_in, from_values, old_of, unit_at, unit_index, units_in, value_indexes}
+use Rattle.bf_image.specs.PlannedUnits.{unit_form}
+use Rattle.bf_image.specs.declared.migration.Migration.{Migration}
+use Rattle.bf_image.specs.declared.value_indexes.UnitIndex.{UnitIndex}
+use Rattle.bf_image.proofs.planning.Units.{IsUnitOf, unit_among, units_stand_for}
+use Rattle.bf_image.proofs.planning.Within.{allowed, alone_by_group}
 use Rattle.bf_transpose.specs.InOrder.{values_in}
 use Rattle.bf_transpose.specs.Scans.{granules_in, row_granules, value_granules, values_indexed, values_of_both}
 use Rattle.bf_transpose.proofs.Rising.{in_parts}

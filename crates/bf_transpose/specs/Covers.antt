@@ -6,10 +6,10 @@ use Rattle.bf_tree.specs.declared.bound.Action.{Action}
 use Rattle.bf_tree.specs.declared.bound.Action.TheVariants as action
 use Rattle.bf_tree.specs.declared.bound.Bound.{Bound}
 use Rattle.bf_sql.specs.migrations.Need.{needed_for, target_of}
-use Rattle.bf_query.specs.Actions.{action_table}
-use Rattle.bf_migration.specs.Migrations.{IsLawfulMigration, old_of, value_indexes}
-use Rattle.bf_migration.specs.declared.migration.Migration.{Migration}
-use Rattle.bf_migration.specs.declared.value_indexes.UnitIndex.{UnitIndex}
+use Rattle.bf_live.specs.Replies.{action_table}
+use Rattle.bf_image.specs.Migrations.{IsLawfulMigration, old_of, value_indexes}
+use Rattle.bf_image.specs.declared.migration.Migration.{Migration}
+use Rattle.bf_image.specs.declared.value_indexes.UnitIndex.{UnitIndex}
 use Rattle.bf_transpose.specs.declared.cover.Cover.{Cover}
 
 -- what an action needs of a migration; nothing where there is none

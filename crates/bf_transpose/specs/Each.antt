@@ -6,9 +6,9 @@ use Rattle.bf_tree.specs.declared.plan.ArmKind.TheVariants.{ByFrom, ByJoin, ByPa
 use Rattle.bf_tree.specs.declared.plan.PlacedArm.{PlacedArm}
 use Rattle.bf_tree.specs.declared.plan.Unit.{Unit as Planned}
 use Rattle.bf_sql.specs.migrations.Placed.{placed_arm}
-use Rattle.bf_migration.specs.Migrations.{old_of}
-use Rattle.bf_migration.specs.BoundArms.{arm_at}
-use Rattle.bf_migration.specs.declared.migration.Migration.{Migration}
+use Rattle.bf_image.specs.Migrations.{old_of}
+use Rattle.bf_image.specs.BoundArms.{arm_at}
+use Rattle.bf_image.specs.declared.migration.Migration.{Migration}
 use Rattle.bf_transpose.specs.Transposed.{is_always}
 
 -- whether an arm makes a row of each row of FROM: it goes by these, joins nothing, and each conjunct of its condition is true of each row

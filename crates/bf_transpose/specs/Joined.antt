@@ -10,8 +10,8 @@ use Rattle.bf_tree.specs.declared.plan.PlacedArm.{PlacedArm}
 use Rattle.bf_tree.specs.declared.plan.PlacedItem.{PlacedItem}
 use Rattle.bf_sql.specs.migrations.Granules.{granule, part_of, values_unit}
 use Rattle.bf_sql.specs.migrations.Placed.{placed_arm}
-use Rattle.bf_migration.specs.Migrations.{old_of, unit_at}
-use Rattle.bf_migration.specs.declared.migration.Migration.{Migration}
+use Rattle.bf_image.specs.Migrations.{old_of, unit_at}
+use Rattle.bf_image.specs.declared.migration.Migration.{Migration}
 use Rattle.bf_transpose.specs.Transposed.{place_copied}
 
 -- whether an item copies one of two places

@@ -1,7 +1,7 @@
 -- What a pass over the values of two indexes has ahead.
 use Rattle.std.specs.Prelude.{ℕ, ◌+◌, ◌-◌, List, [], ◌∷◌, ◌++◌, map, drop, length, Option, Some, None}
 use Rattle.bf_base.specs.declared.value.Value.{Value}
-use Rattle.bf_migration.specs.ByValues.{value_of}
+use Rattle.bf_index.specs.ByValues.{value_of}
 use Rattle.bf_transpose.specs.InOrder.{values_in}
 use Rattle.bf_transpose.specs.declared.merge.Merge.{Merge}
 

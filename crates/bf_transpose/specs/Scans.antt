@@ -12,14 +12,14 @@ use Rattle.bf_tree.specs.Evaluation.{holds_on}
 use Rattle.bf_tree.specs.Trees.{Cond}
 use Rattle.bf_sql.specs.migrations.Granules.{granule, part_in, places_in, rows_unit}
 use Rattle.bf_sql.specs.migrations.Targets.{target_table}
-use Rattle.bf_query.specs.Ranges.{key_range_of}
-use Rattle.bf_migration.specs.ByValues.{Valued, value_of}
+use Rattle.bf_access.specs.Ranges.{key_range_of}
+use Rattle.bf_index.specs.ByValues.{Valued, value_of}
 use Rattle.bf_image.specs.FrozenUnits.{IsUnitIn}
-use Rattle.bf_migration.specs.Migrations.{IsLawfulMigration, old_of, source_of, target_at, unit_at, value_indexes}
+use Rattle.bf_image.specs.Migrations.{IsLawfulMigration, old_of, source_of, target_at, unit_at, value_indexes}
 use Rattle.bf_image.specs.declared.frozen_unit.FrozenUnit.{FrozenUnit}
-use Rattle.bf_migration.specs.declared.migration.Frozen.{Frozen}
-use Rattle.bf_migration.specs.declared.migration.Migration.{Migration}
-use Rattle.bf_migration.specs.declared.value_indexes.UnitIndex.{UnitIndex}
+use Rattle.bf_image.specs.declared.migration.Frozen.{Frozen}
+use Rattle.bf_image.specs.declared.migration.Migration.{Migration}
+use Rattle.bf_image.specs.declared.value_indexes.UnitIndex.{UnitIndex}
 use Rattle.bf_transpose.specs.InOrder.{values_in}
 use Rattle.bf_transpose.specs.KeysBehind.{with_key_behind}
 use Rattle.bf_transpose.specs.declared.scan.Search.{Search}

@@ -17,10 +17,10 @@ use Rattle.bf_tree.specs.Trees.{literal, column, Cond, always, compared, both}
 use Rattle.bf_sql.specs.migrations.Granules.{granule}
 use Rattle.bf_sql.specs.migrations.Placed.{placed_arm}
 use Rattle.bf_sql.specs.migrations.Targets.{arm_kind, width}
-use Rattle.bf_migration.specs.Migrations.{old_of}
-use Rattle.bf_migration.specs.BoundArms.{arm_at}
-use Rattle.bf_migration.specs.declared.migration.Frozen.{Frozen}
-use Rattle.bf_migration.specs.declared.migration.Migration.{Migration}
+use Rattle.bf_image.specs.Migrations.{old_of}
+use Rattle.bf_image.specs.BoundArms.{arm_at}
+use Rattle.bf_image.specs.declared.migration.Frozen.{Frozen}
+use Rattle.bf_image.specs.declared.migration.Migration.{Migration}
 use Rattle.bf_transpose.specs.Scans.{IsDriverOf, gives}
 use Rattle.bf_transpose.specs.declared.scan.Behind.{Behind}
 use Rattle.bf_transpose.specs.declared.scan.Search.{Search}

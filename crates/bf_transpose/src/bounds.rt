@@ -4,15 +4,15 @@
 ghost use Rattle.std.specs.Prelude.{◌≡◌, ◌≤◌, IfOk, IsTrue, drop, length, slice_get, take};
 ghost use Rattle.std.specs.List.{list_all};
 ghost use Rattle.bf_heap.specs.KeyRanges.{is_before, is_behind};
-ghost use Rattle.bf_query.specs.Ranges.{key_range_of};
-ghost use Rattle.bf_migration.specs.ByValues.{value_of};
+ghost use Rattle.bf_access.specs.Ranges.{key_range_of};
+ghost use Rattle.bf_index.specs.ByValues.{value_of};
 ghost use Rattle.bf_transpose.specs.KeysBehind.{passes_at, with_key, with_key_behind};
 ghost use Rattle.bf_transpose.specs.Positions.{positions_under};
 
+use bf_access::key_range;
 use bf_base::{Key, Memory, Sequence, Table};
 use bf_heap::{FrozenHeap, KeyRange};
-use bf_migration::ByValue;
-use bf_query::range::key_range;
+use bf_index::ByValue;
 use bf_tree::Cond;
 use std::alloc::Global;
 

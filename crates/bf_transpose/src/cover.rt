@@ -6,15 +6,15 @@ ghost use Rattle.std.specs.Option.{option_map};
 ghost use Rattle.bf_base.specs.Tables.{IsKeyWithin};
 ghost use Rattle.bf_sql.specs.Conditions.{fixed_key};
 ghost use Rattle.bf_sql.specs.migrations.Need.{giving, has_key_of, may_satisfy, needed_for, target_of};
-ghost use Rattle.bf_query.specs.Actions.{IsWellBound};
-ghost use Rattle.bf_migration.specs.Migrations.{IsLawfulMigration, old_of, value_indexes};
+ghost use Rattle.bf_live.specs.Replies.{IsWellBound};
+ghost use Rattle.bf_image.specs.Migrations.{IsLawfulMigration, old_of, value_indexes};
 ghost use Rattle.bf_transpose.specs.Covers.{IsCoverOf, IsFound, can_need};
 
 use crate::owning::{owner_giving, owning};
 use crate::scan;
 use crate::target::target_of;
 use bf_base::{Granule, Key, Memory, Row, Table};
-use bf_migration::{Migration, ValueIndexes};
+use bf_image::{Migration, ValueIndexes};
 use bf_tree::{Action, Bound, Cond};
 use std::alloc::Global;
 

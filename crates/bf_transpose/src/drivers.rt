@@ -4,14 +4,14 @@
 ghost use Rattle.std.specs.Prelude.{◌≡◌, ◌==◌, ◌∷◌, [], IfSome, IsTrue, filter};
 ghost use Rattle.std.specs.Option.{option_map};
 ghost use Rattle.bf_sql.specs.migrations.Placed.{placed_arm};
-ghost use Rattle.bf_migration.specs.BoundArms.{arm_at};
-ghost use Rattle.bf_migration.specs.Migrations.{IsLawfulMigration, old_of};
+ghost use Rattle.bf_image.specs.BoundArms.{arm_at};
+ghost use Rattle.bf_image.specs.Migrations.{IsLawfulMigration, old_of};
 ghost use Rattle.bf_transpose.specs.Each.{MakesEach, makes_each};
 ghost use Rattle.bf_transpose.specs.Scans.{IsDriverOf};
 ghost use Rattle.bf_transpose.specs.Transposed.{AreCopies, begins_at};
 
 use crate::transposed::{Copies, is_always};
-use bf_migration::{Frozen, Migration};
+use bf_image::{Frozen, Migration};
 use bf_tree::{Arm, ArmKind, PlacedArm, Unit, UnitKind};
 
 /// The old table whose rows a unit goes by; none of a unit that goes by values. It compares about

@@ -1,13 +1,13 @@
 //! The columns of a new table that copy the values by which a unit of joins goes.
 
 ghost use Rattle.std.specs.Prelude.{◌≡◌, ◌≤◌, IfOk, IfSome, length, position};
-ghost use Rattle.bf_migration.specs.Migrations.{IsLawfulMigration};
+ghost use Rattle.bf_image.specs.Migrations.{IsLawfulMigration};
 ghost use Rattle.bf_transpose.specs.Joined.{AreCarried, IsArmByValues, columns_of_on, copies_either};
 
 use crate::drivers::arms_at;
 use crate::transposed::place_copied;
 use bf_base::Memory;
-use bf_migration::Migration;
+use bf_image::Migration;
 use bf_tree::{PlacedArm, PlacedItem, UnitKind};
 use std::alloc::Global;
 

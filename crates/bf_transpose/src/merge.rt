@@ -5,7 +5,7 @@ ghost use Rattle.std.specs.Option.{option_map};
 ghost use Rattle.bf_transpose.specs.Merging.{steps_ahead, values_ahead, values_stepped};
 
 use bf_base::Key;
-use bf_migration::ByValue;
+use bf_index::ByValue;
 use std::cmp::Ordering;
 
 /// A pass over the values of two indexes in their order, each value once where both have it.

@@ -8,12 +8,11 @@ ghost use Rattle.bf_tree.specs.declared.migration.Target.{Target};
 ghost use Rattle.bf_sql.specs.Conditions.{fixed_key};
 ghost use Rattle.bf_sql.specs.migrations.Granules.{part_in};
 ghost use Rattle.bf_sql.specs.migrations.Need.{giving, has_key_of, may_satisfy, target_of, total_places};
-ghost use Rattle.bf_migration.specs.Migrations.{IsLawfulMigration, old_of, target_at, value_indexes};
+ghost use Rattle.bf_image.specs.Migrations.{IsLawfulMigration, old_of, target_at, value_indexes};
 
 use crate::condition::{may_be_met, total_places};
 use bf_base::{Granule, Key, Memory, Row, Table, key_of};
-use bf_image::{owner, rows_of};
-use bf_migration::{Migration, ValueIndexes};
+use bf_image::{Migration, ValueIndexes, owner, rows_of};
 use bf_tree::Cond;
 use std::alloc::Global;
 use std::collections::BTreeSet;

@@ -4,10 +4,10 @@ ghost use Rattle.std.specs.Prelude.{◌≡◌, ◌<◌, IfSome, length, position
 ghost use Rattle.std.specs.Option.{option_map};
 ghost use Rattle.bf_sql.specs.Database.{same_table};
 ghost use Rattle.bf_sql.specs.migrations.Need.{target_of};
-ghost use Rattle.bf_migration.specs.Migrations.{IsLawfulMigration, old_of, target_at};
+ghost use Rattle.bf_image.specs.Migrations.{IsLawfulMigration, old_of, target_at};
 
 use bf_base::Table;
-use bf_migration::Migration;
+use bf_image::Migration;
 
 /// Where the first table stands that has the name, the columns and the key of another.
 fn place_of(tables: &[Table], table: &Table) -> Option<usize>

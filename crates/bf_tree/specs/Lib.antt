@@ -6,5 +6,7 @@ pub mod Fixed
 pub mod Limits
 pub mod Places
 pub mod Settling
+pub mod Totals
 pub mod Trees
+pub mod ValueObjections
 pub mod Views

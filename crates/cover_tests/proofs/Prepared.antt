@@ -14,7 +14,7 @@ use Rattle.bf_sql.specs.Bound.{catalog_of, changes_schema, unless_objected, with
 use Rattle.bf_sql.specs.Database.{Database, IsDatabase}
 use Rattle.bf_sql.specs.Objections.{objections}
 use Rattle.bf_sql.specs.migrations.Plans.{plan_made, prepared_action, prepared_of}
-use Rattle.bf_query.specs.Actions.{IsWellBound}
+use Rattle.bf_live.specs.Replies.{IsWellBound}
 use Rattle.bf_live.proofs.locking.Writing.{is_well_bound}
 use Rattle.bf_live.proofs.statements.Bare.{bare_is_database}
 

@@ -3,13 +3,13 @@
 ghost use Rattle.std.specs.List.{list_all};
 ghost use Rattle.std.specs.Prelude.{◌∷◌, [], IfOk, IfSome, IsTrue, true};
 ghost use Rattle.bf_tree.specs.Limits.{IsNarrowMigrate};
-ghost use Rattle.bf_query.specs.Actions.{IsWellBound};
-ghost use Rattle.bf_migration.specs.Migrations.{IsLawfulMigration};
+ghost use Rattle.bf_live.specs.Replies.{IsWellBound};
+ghost use Rattle.bf_image.specs.Migrations.{IsLawfulMigration};
 ghost use Rattle.bf_eager.specs.Eager.{IsWholeGroup};
 
 use bf_base::Memory;
 use bf_eager::{Eager, is_alone, is_narrow};
-use bf_migration::Migration;
+use bf_image::Migration;
 use bf_plan::prepare;
 use bf_tree::{Bound, Migrate, Statement};
 use std::alloc::Global;

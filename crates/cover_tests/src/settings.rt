@@ -1,13 +1,13 @@
 //! Statements behind a flip, as texts, and the first of which something else is told than it wants.
 
 ghost use Rattle.std.specs.Prelude.{IfOk, IfSome};
-ghost use Rattle.bf_query.specs.Actions.{IsWellBound};
-ghost use Rattle.bf_migration.specs.Migrations.{IsLawfulMigration};
+ghost use Rattle.bf_live.specs.Replies.{IsWellBound};
+ghost use Rattle.bf_image.specs.Migrations.{IsLawfulMigration};
 
 use crate::databases::{Told, bound, migration};
 use crate::told::{Part, part_told, put};
 use bf_base::Memory;
-use bf_migration::Migration;
+use bf_image::Migration;
 use bf_parse::script;
 use bf_tree::{Bound, Script, Statement};
 use std::alloc::Global;

@@ -1,11 +1,11 @@
 //! Covers as texts: each granule as its unit, a colon, and its position or its value, with a space
 //! between.
 
-ghost use Rattle.bf_query.specs.Actions.{IsWellBound};
-ghost use Rattle.bf_migration.specs.Migrations.{IsLawfulMigration};
+ghost use Rattle.bf_live.specs.Replies.{IsWellBound};
+ghost use Rattle.bf_image.specs.Migrations.{IsLawfulMigration};
 
 use bf_base::{Granule, Memory, Place};
-use bf_migration::{Migration, ValueIndexes};
+use bf_image::{Migration, ValueIndexes};
 use bf_text::{put_number, put_values};
 use bf_transpose::cover::{Cover, can_need, cover_of};
 use bf_tree::Bound;

@@ -2,13 +2,14 @@
 
 ghost use Rattle.std.specs.Prelude.{IfOk};
 ghost use Rattle.boxcar.specs.Table.{Shows};
-ghost use Rattle.bf_migration.specs.Migrations.{IsLawfulMigration};
+ghost use Rattle.bf_image.specs.Migrations.{IsLawfulMigration};
 
 use crate::entries::put;
 use bf_base::{Granule, Key, Name, Place, Value};
 use bf_eager::{Eager, is_alone, is_narrow};
-use bf_image::{granule_of, owner, positions};
-use bf_migration::{CatalogPass, Migration, MigrationPass, Registry, ValueIndexes};
+use bf_image::{
+    CatalogPass, Migration, MigrationPass, Registry, ValueIndexes, granule_of, owner, positions,
+};
 use bf_parse::script;
 use bf_tree::{Catalog, Migrate, Statement};
 use std::alloc::Global;

@@ -1,14 +1,14 @@
 //! Migrations that are begun on filled tables.
 
 ghost use Rattle.std.specs.Prelude.{IfOk};
-ghost use Rattle.bf_migration.specs.Migrations.{IsLawfulMigration};
+ghost use Rattle.bf_image.specs.Migrations.{IsLawfulMigration};
 
 use crate::filling::filled;
 use crate::kinds::{Kind, query};
 use anyhow::bail;
 use bf_base::Memory;
 use bf_eager::{Eager, is_narrow};
-use bf_migration::Migration;
+use bf_image::Migration;
 use bf_parse::script;
 use bf_tree::{Migrate, Statement};
 use std::alloc::Global;

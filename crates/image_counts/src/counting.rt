@@ -1,12 +1,11 @@
 //! Owners of keys, and the rows of their granules.
 
 ghost use Rattle.std.specs.Prelude.{◌≡◌};
-ghost use Rattle.bf_migration.specs.Migrations.{IsLawfulMigration, value_indexes};
+ghost use Rattle.bf_image.specs.Migrations.{IsLawfulMigration, value_indexes};
 
 use crate::kinds::{Kind, key};
 use bf_base::{Key, Memory, Name};
-use bf_image::{owner, rows_of};
-use bf_migration::{Migration, ValueIndexes};
+use bf_image::{Migration, ValueIndexes, owner, rows_of};
 use std::alloc::Global;
 
 /// How many rows the granule of the owner of a key of a table has, if the key has one.

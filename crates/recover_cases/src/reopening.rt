@@ -2,7 +2,7 @@
 
 use bf_base::{Name, NameError};
 use bf_disk::TapeDisk;
-use bf_migration::Registry;
+use bf_image::Registry;
 use bf_recover::reopen;
 use bf_store::Store;
 use bf_tree::Sweep;

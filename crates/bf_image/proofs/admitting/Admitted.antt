@@ -33,8 +33,8 @@ use Rattle.bf_sql.specs.migrations.Extents.{Extent, numbers, texts, beyond, exte
 use Rattle.bf_sql.specs.migrations.MigrationObjections.{kind_of_item, item_kinds, failing_objections, target_objections}
 use Rattle.bf_sql.specs.migrations.Targets.{either_admit, arm_kind, arm_scope, item_admit, extent_of_item, first_arm, column_admit, target_table, item_name}
 use Rattle.bf_sql.specs.migrations.Images.{arm_rows, image_of, rows_of_join}
-use Rattle.bf_migration.proofs.items.Lists.{none_left, none_right, none_when, none_of_each, all_both, all_so, all_of_blocks}
-use Rattle.bf_migration.proofs.making.Unobjected.{two_sided, alone_in_groups, arms_ok}
+use Rattle.bf_image.proofs.items.Lists.{none_left, none_right, none_when, none_of_each, all_both, all_so, all_of_blocks}
+use Rattle.bf_image.proofs.making.Unobjected.{two_sided, alone_in_groups, arms_ok}
 use Rattle.bf_image.proofs.admitting.Few.{goes_over_few}
 use Rattle.bf_image.proofs.admitting.Fits.{fit_all, rows_fit, safe_items}
 use Rattle.bf_image.proofs.admitting.Within.{fits, unchecked_fits, is_numeric, between_numeric, negated_numeric, plus_numeric, minus_numeric, times_numeric, summed_numeric}

@@ -12,8 +12,8 @@ use Rattle.bf_tree.specs.declared.reply.Refusal.TheVariants as refusal
 use Rattle.bf_sql.specs.Database.{Database, table_rows}
 use Rattle.bf_sql.specs.RowObjections.{size_objections}
 use Rattle.bf_sql.specs.migrations.MigrationObjections.{sources_of}
-use Rattle.bf_migration.proofs.items.Lists.{none_of_each, none_when, all_so, some_of_those}
-use Rattle.bf_migration.proofs.items.Names.{name-equal}
+use Rattle.bf_image.proofs.items.Lists.{none_of_each, none_when, all_so, some_of_those}
+use Rattle.bf_image.proofs.items.Names.{name-equal}
 use Rattle.bf_image.proofs.keeping.SameTables.{is_inside}
 use Rattle.bf_image.proofs.keeping.Sources.{arms_inside_sources}
 

@@ -31,9 +31,9 @@ use Rattle.bf_sql.specs.migrations.Extents.{extent_of, may_fail, admit_of_extent
 use Rattle.bf_sql.specs.migrations.MigrationObjections.{is_by_group}
 use Rattle.bf_sql.specs.migrations.Targets.{arm_scope, names_of_join, extent_of_item, item_admit}
 use Rattle.bf_sql.specs.migrations.Images.{is_equal_on, item_over, group_value, groups_by, matches_of_join, satisfying, rows_of_join}
-use Rattle.bf_migration.proofs.items.Lists.{all_so, all_both, all_found, all_of_blocks, all_of_map, has_own, all_kept}
-use Rattle.bf_migration.proofs.making.Arms.{passes, made, rows_by, key-equal, key-itself, key-symmetric}
-use Rattle.bf_migration.proofs.items.Values.{distinct-has}
+use Rattle.bf_image.proofs.items.Lists.{all_so, all_both, all_found, all_of_blocks, all_of_map, has_own, all_kept}
+use Rattle.bf_image.proofs.making.Arms.{passes, made, rows_by, key-equal, key-itself, key-symmetric}
+use Rattle.bf_index.proofs.Values.{distinct-has}
 use Rattle.bf_image.proofs.admitting.Few.{is_few}
 use Rattle.bf_image.proofs.admitting.Within.{fits, value_fits, total_fits}
 

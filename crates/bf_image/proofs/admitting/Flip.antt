@@ -28,11 +28,11 @@ use Rattle.bf_sql.specs.Database.{Database, Stored, IsDatabase, stored_at, store
 use Rattle.bf_sql.specs.migrations.MigrationObjections.{sources_of, is_taken, target_objections, tag_of, keeps_apart, is_by_row}
 use Rattle.bf_sql.specs.migrations.Targets.{arm_kind, arm_key, item_places, key_items, first_arm, item_name, column_admit, target_key, target_table}
 use Rattle.bf_sql.specs.migrations.Images.{image_of, flipped}
-use Rattle.bf_migration.specs.Lawful.{IsLawful}
-use Rattle.bf_migration.proofs.items.Lists.{none_left, none_right, none_when, none_of_each, all_append, all_of_map, all_kept}
-use Rattle.bf_migration.proofs.items.Names.{name-equal}
-use Rattle.bf_migration.proofs.cutting.Targets.{new_names}
-use Rattle.bf_migration.proofs.making.Unobjected.{key_there, names_new, targets_unobjected}
+use Rattle.bf_image.specs.Lawful.{IsLawful}
+use Rattle.bf_image.proofs.items.Lists.{none_left, none_right, none_when, none_of_each, all_append, all_of_map, all_kept}
+use Rattle.bf_image.proofs.items.Names.{name-equal}
+use Rattle.bf_image.proofs.cutting.Targets.{new_names}
+use Rattle.bf_image.proofs.making.Unobjected.{key_there, names_new, targets_unobjected}
 use Rattle.bf_image.proofs.making.Unions.{image_apart}
 use Rattle.bf_image.proofs.finding.Owned.{find_alike}
 use Rattle.bf_image.proofs.admitting.Admitted.{image_admitted, length_enumerated}

@@ -23,15 +23,15 @@ use Rattle.bf_tree.specs.declared.items.Aggregate.{Aggregate}
 use Rattle.bf_tree.specs.declared.items.Aggregate.TheVariants.{Count, Sum, Min, Max}
 use Rattle.bf_tree.specs.declared.reply.Refusal.TheVariants as refusal
 use Rattle.bf_sql.specs.Database.{is_fit}
-use Rattle.bf_sql.specs.RowObjections.{argument_objections}
+use Rattle.bf_tree.specs.ValueObjections.{argument_objections}
 use Rattle.bf_sql.specs.migrations.Extents.{Extent, numbers, texts, beyond, extent_between, least_of, greatest_of, extent_negated, extent_plus, extent_minus, extent_times, extent_summed, extent_of, extent_of_total, may_fail, admit_of_extent}
 use Rattle.bf_sql.specs.migrations.Images.{value_or_nought}
-use Rattle.bf_sql.specs.Totals.{lesser, greater, exact_sum, values_of, total_of}
-use Rattle.bf_range.specs.Within.{is_within, is_held}
-use Rattle.bf_range.proofs.Order.{tests}
-use Rattle.bf_range.proofs.Within.{fits_where, value_given}
-use Rattle.bf_range.proofs.Totals.{sure_within, total_unobjected}
-use Rattle.bf_migration.proofs.items.Lists.{none_right, none_when}
+use Rattle.bf_tree.specs.Totals.{lesser, greater, exact_sum, values_of, total_of}
+use Rattle.bf_sql.specs.migrations.Within.{is_within, is_held}
+use Rattle.bf_sql.proofs.extents.Order.{tests}
+use Rattle.bf_sql.proofs.extents.Within.{fits_where, value_given}
+use Rattle.bf_sql.proofs.extents.Totals.{sure_within, total_unobjected}
+use Rattle.bf_image.proofs.items.Lists.{none_right, none_when}
 
 abbrev pub fits : Admit → Value → Bool
 fits a v = is_fit (fit_of a v)

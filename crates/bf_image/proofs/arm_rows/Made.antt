@@ -17,9 +17,9 @@ use Rattle.bf_tree.specs.declared.plan.ArmKind.TheVariants.{ByFrom, ByJoin, ByPa
 use Rattle.bf_tree.specs.declared.plan.PlacedArm.{PlacedArm}
 use Rattle.bf_sql.specs.migrations.Placed.{is_equal_at, placed_groups, placed_matches, placed_rows}
 use Rattle.bf_image.specs.ArmRows.{AreOfOne, CanMake, CanMatch, IsUnobjected, groups_of, made_of, rows_of_match, those_if_any}
-use Rattle.bf_migration.proofs.items.Lists.{none_left, none_right, all_kept}
-use Rattle.bf_migration.proofs.items.Values.{distinct-alike}
-use Rattle.bf_migration.proofs.making.Arms.{key-equal, key-itself, key-symmetric}
+use Rattle.bf_image.proofs.items.Lists.{none_left, none_right, all_kept}
+use Rattle.bf_index.proofs.Values.{distinct-alike}
+use Rattle.bf_image.proofs.making.Arms.{key-equal, key-itself, key-symmetric}
 
 none_of : {X Y : Type 0} (f : X → List Y) (xs : List X) → flat_map f xs ≡ [] → AllByRecursion (λ x. f x ≡ []) xs
 none_of f [] e = tt

@@ -9,10 +9,10 @@ use Rattle.bf_tree.specs.declared.migration.Migrate.{Migrate}
 use Rattle.bf_sql.specs.Database.{Database}
 use Rattle.bf_sql.specs.migrations.Images.{image_of}
 use Rattle.bf_image.specs.Laws.{rows_of_parts}
-use Rattle.bf_migration.specs.Lawful.{IsLawful}
-use Rattle.bf_migration.proofs.items.Bags.{tally, tally-same_items}
-use Rattle.bf_migration.proofs.making.Unobjected.{arms_fine, names_new}
-use Rattle.bf_migration.proofs.cutting.Targets.{parts_of_target}
+use Rattle.bf_image.specs.Lawful.{IsLawful}
+use Rattle.bf_index.proofs.Bags.{tally, tally-same_items}
+use Rattle.bf_image.proofs.making.Unobjected.{arms_fine, names_new}
+use Rattle.bf_image.proofs.cutting.Targets.{parts_of_target}
 
 counted : {X : Type 0} (p : X → Bool) (xs : List X) → tally p xs ≡ count_by p xs
 counted p xs = is_count_by (tally p) p refl (λ x ys. one (p x) (tally p ys)) xs

@@ -22,21 +22,21 @@ use Rattle.bf_sql.specs.migrations.Granules.{UnitForm, rows_unit, values_unit, a
 use Rattle.bf_sql.specs.migrations.Images.{group_value, rows_of_join}
 use Rattle.bf_sql.specs.migrations.MigrationObjections.{is_by_row, sources_of}
 use Rattle.bf_sql.specs.migrations.Targets.{arm_kind}
-use Rattle.bf_migration.specs.BoundArms.{HasFewRows, IsJoined, IsOfUnit, arm_values, entries_of, places_in_from, places_in_join}
-use Rattle.bf_migration.specs.ByValues.{values_at}
-use Rattle.bf_migration.specs.Migrations.{IsLawfulMigration, anchored_at, anchors_in, old_of, source_of, stored_of, unit_at}
-use Rattle.bf_migration.specs.PlannedUnits.{form_by, unit_form}
-use Rattle.bf_migration.specs.declared.arms.FrozenArm.{FrozenArm}
-use Rattle.bf_migration.specs.declared.migration.Frozen.{Frozen}
-use Rattle.bf_migration.specs.declared.migration.Migration.{Migration}
+use Rattle.bf_image.specs.BoundArms.{HasFewRows, IsJoined, IsOfUnit, arm_values, entries_of, places_in_from, places_in_join}
+use Rattle.bf_index.specs.ByValues.{values_at}
+use Rattle.bf_image.specs.Migrations.{IsLawfulMigration, anchored_at, anchors_in, old_of, source_of, stored_of, unit_at}
+use Rattle.bf_image.specs.PlannedUnits.{form_by, unit_form}
+use Rattle.bf_image.specs.declared.arms.FrozenArm.{FrozenArm}
+use Rattle.bf_image.specs.declared.migration.Frozen.{Frozen}
+use Rattle.bf_image.specs.declared.migration.Migration.{Migration}
 use Rattle.bf_image.proofs.admitting.Few.{few_named}
 use Rattle.bf_image.proofs.cutting.Anchors.{count_is, place_is}
-use Rattle.bf_migration.proofs.items.Names.{name-equal}
-use Rattle.bf_migration.proofs.planning.Bound.{from_rows, group_cells, joined_of, left_cells, right_cells, rows_found}
-use Rattle.bf_migration.proofs.planning.Indexes.{IsArmOf, arm_of, each_found, has_values, values_alike}
-use Rattle.bf_migration.proofs.planning.Sourced.{stored_source}
-use Rattle.bf_migration.proofs.planning.Units.{unit_at_number}
-use Rattle.bf_migration.proofs.planning.Within.{alone_by_group}
+use Rattle.bf_image.proofs.items.Names.{name-equal}
+use Rattle.bf_image.proofs.planning.Bound.{from_rows, group_cells, joined_of, left_cells, right_cells, rows_found}
+use Rattle.bf_image.proofs.planning.Indexes.{IsArmOf, arm_of, each_found, has_values, values_alike}
+use Rattle.bf_image.proofs.planning.Sourced.{stored_source}
+use Rattle.bf_image.proofs.planning.Units.{unit_at_number}
+use Rattle.bf_image.proofs.planning.Within.{alone_by_group}
 
 found_passes : {X : Type 0} (test : X → Bool) (xs : List X) (x : X) → find test xs ≡ Some x → test x ≡ true
 found_passes test [] x e = absurd cc

@@ -12,8 +12,8 @@ use Rattle.bf_base.specs.Lists.{has}
 use Rattle.bf_base.proofs.Apart.{are_apart}
 use Rattle.bf_base.proofs.Order.{list_any-map}
 use Rattle.bf_sql.specs.migrations.Granules.{UnitForm, granule, same_place, same_granule}
-use Rattle.bf_migration.proofs.making.Arms.{key-equal, key-itself}
-use Rattle.bf_migration.proofs.cutting.Parts.{at_seam, one_longer}
+use Rattle.bf_image.proofs.making.Arms.{key-equal, key-itself}
+use Rattle.bf_image.proofs.cutting.Parts.{at_seam, one_longer}
 
 pub alone_true : (b : Bool) → (b || false) ≡ true → b ≡ true
 alone_true true e = refl

@@ -20,10 +20,10 @@ use Rattle.bf_sql.specs.Scopes.{place_of}
 use Rattle.bf_sql.specs.migrations.Targets.{key_by, arm_scope, width, from_key, join_key}
 use Rattle.bf_sql.specs.migrations.Images.{is_equal_on, first_row, group_value, satisfying, matches_of_join}
 use Rattle.bf_sql.specs.migrations.Granules.{left_value, from_with, join_with}
-use Rattle.bf_migration.proofs.items.Bags.{blocks_filtered}
-use Rattle.bf_migration.proofs.items.Values.{by_value, of_one_value}
-use Rattle.bf_migration.proofs.making.Arms.{passes, made, of_match, of_pair, of_from, rows_by, single_form, as_pairs, some_of_all, filters_exchanged, key-equal, key-itself, key-symmetric}
-use Rattle.bf_migration.proofs.making.Unobjected.{as_wide, two_sided}
+use Rattle.bf_index.proofs.Bags.{blocks_filtered}
+use Rattle.bf_index.proofs.Values.{by_value, of_one_value}
+use Rattle.bf_image.proofs.making.Arms.{passes, made, of_match, of_pair, of_from, rows_by, single_form, as_pairs, some_of_all, filters_exchanged, key-equal, key-itself, key-symmetric}
+use Rattle.bf_image.proofs.making.Unobjected.{as_wide, two_sided}
 use Rattle.bf_image.proofs.making.Keys.{cells_left, cells_right}
 use Rattle.bf_image.proofs.making.ArmKeys.{first_with, key_in, keys_within, join_key_is}
 use Rattle.bf_image.proofs.finding.Found.{alone_true, any_of_blocks, any_always, none_other}

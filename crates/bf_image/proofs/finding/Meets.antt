@@ -25,14 +25,14 @@ use Rattle.bf_sql.specs.migrations.Images.{arm_rows, rows_of_join}
 use Rattle.bf_sql.specs.migrations.Granules.{rows_driven}
 use Rattle.bf_image.specs.Lookup.{has_the_key, partner, join_met, from_met}
 use Rattle.bf_image.specs.Lookup.{join_rows_met, from_rows_met, rows_met}
-use Rattle.bf_migration.proofs.making.Arms.{of_pair, of_match, is_one_sided, places_on, value-equal, key-equal, key-itself, cell_left, cell_right}
-use Rattle.bf_migration.proofs.making.Unobjected.{two_sided, as_wide}
+use Rattle.bf_image.proofs.making.Arms.{of_pair, of_match, is_one_sided, places_on, value-equal, key-equal, key-itself, cell_left, cell_right}
+use Rattle.bf_image.proofs.making.Unobjected.{two_sided, as_wide}
 use Rattle.bf_image.proofs.finding.Found.{none_other}
-use Rattle.bf_migration.proofs.items.Names.{name-equal}
+use Rattle.bf_image.proofs.items.Names.{name-equal}
 use Rattle.bf_image.proofs.finding.Looked.{one_row, all_of_slice}
-use Rattle.bf_migration.proofs.cutting.Parts.{if_there}
-use Rattle.bf_migration.proofs.making.Arms.{rows_by, single_form, as_pairs, of_from}
-use Rattle.bf_migration.proofs.items.Bags.{blocks_equal, blocks_equal_where}
+use Rattle.bf_image.proofs.cutting.Parts.{if_there}
+use Rattle.bf_image.proofs.making.Arms.{rows_by, single_form, as_pairs, of_from}
+use Rattle.bf_index.proofs.Bags.{blocks_equal, blocks_equal_where}
 use Rattle.bf_image.proofs.making.ArmKeys.{key_in, keys_apart, keys_within, from_with_join, join_has_from}
 use Rattle.bf_image.proofs.making.Keys.{cells_left, cells_right, other_side, turned_sides, all_behind}
 

@@ -25,12 +25,12 @@ use Rattle.bf_sql.specs.migrations.Targets.{target_table, arm_kind}
 use Rattle.bf_sql.specs.migrations.Images.{image_of}
 use Rattle.bf_sql.specs.migrations.Granules.{UnitForm, rows_unit, values_unit, units_of, anchors_of, anchor_values, places_in, granule, granules_of, part_in, owner_of, same_place, same_granule}
 use Rattle.bf_image.specs.Laws.{rows_of_parts, owns, swept}
-use Rattle.bf_migration.specs.Lawful.{IsLawful}
-use Rattle.bf_migration.proofs.items.Lists.{none_left, none_right}
-use Rattle.bf_migration.proofs.items.Bags.{map_of_blocks}
-use Rattle.bf_migration.proofs.making.Arms.{key-equal}
-use Rattle.bf_migration.proofs.items.Values.{values_in_order-has}
-use Rattle.bf_migration.proofs.making.Unobjected.{targets_unobjected}
+use Rattle.bf_image.specs.Lawful.{IsLawful}
+use Rattle.bf_image.proofs.items.Lists.{none_left, none_right}
+use Rattle.bf_index.proofs.Bags.{map_of_blocks}
+use Rattle.bf_image.proofs.making.Arms.{key-equal}
+use Rattle.bf_index.proofs.Values.{values_in_order-has}
+use Rattle.bf_image.proofs.making.Unobjected.{targets_unobjected}
 use Rattle.bf_image.proofs.cutting.Made.{same_rows}
 use Rattle.bf_image.proofs.making.Unions.{image_apart}
 

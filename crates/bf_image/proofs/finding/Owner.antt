@@ -30,16 +30,16 @@ use Rattle.bf_sql.specs.migrations.MigrationObjections.{drivers_of, is_by_row, i
 use Rattle.bf_sql.specs.migrations.Images.{arm_rows, rows_of_join}
 use Rattle.bf_sql.specs.migrations.Granules.{UnitForm, rows_unit, values_unit, arms_of, units_of, rows_driven, from_with, join_with, left_value, right_value, anchor_values, places_in, granules_of, part_at, owner_of, same_place}
 use Rattle.bf_image.specs.Laws.{owns}
-use Rattle.bf_migration.specs.Lawful.{IsLawful}
+use Rattle.bf_image.specs.Lawful.{IsLawful}
 use Rattle.bf_image.specs.Lookup.{behind_tag, has_the_key, row_with, values_by, places_by, candidates}
-use Rattle.bf_migration.proofs.items.Lists.{all_both}
-use Rattle.bf_migration.proofs.items.Bags.{blocks_equal, map_of_blocks}
-use Rattle.bf_migration.proofs.items.Names.{name-equal, name-symmetric}
-use Rattle.bf_migration.proofs.items.Values.{values_in_order-has}
-use Rattle.bf_migration.proofs.making.Arms.{made, rows_by, key-equal, key-itself, key-symmetric}
-use Rattle.bf_migration.proofs.cutting.Parts.{labelled, driven, as_driven, if_there, if_absent}
-use Rattle.bf_migration.proofs.cutting.Targets.{named, named_labelled, named_blocks, has_at_place, one_of_name, new_names}
-use Rattle.bf_migration.proofs.making.Unobjected.{two_sided, alone_in_groups, arms_ok, key_there, joins_by_join, joins_by_pair, names_new}
+use Rattle.bf_image.proofs.items.Lists.{all_both}
+use Rattle.bf_index.proofs.Bags.{blocks_equal, map_of_blocks}
+use Rattle.bf_image.proofs.items.Names.{name-equal, name-symmetric}
+use Rattle.bf_index.proofs.Values.{values_in_order-has}
+use Rattle.bf_image.proofs.making.Arms.{made, rows_by, key-equal, key-itself, key-symmetric}
+use Rattle.bf_image.proofs.cutting.Parts.{labelled, driven, as_driven, if_there, if_absent}
+use Rattle.bf_image.proofs.cutting.Targets.{named, named_labelled, named_blocks, has_at_place, one_of_name, new_names}
+use Rattle.bf_image.proofs.making.Unobjected.{two_sided, alone_in_groups, arms_ok, key_there, joins_by_join, joins_by_pair, names_new}
 use Rattle.bf_image.proofs.making.Keys.{key_places, key_of_made}
 use Rattle.bf_image.proofs.making.ArmKeys.{key_in, keys_apart}
 use Rattle.bf_image.proofs.making.Unions.{same_cons, keeps, arms_keep, alike, with_first, same_places, same_places_itself}

@@ -23,19 +23,19 @@ use Rattle.bf_sql.specs.migrations.Images.{arm_rows}
 use Rattle.bf_sql.specs.migrations.MigrationObjections.{is_by_row}
 use Rattle.bf_sql.specs.migrations.Plans.{rows_unit_of}
 use Rattle.bf_sql.specs.migrations.Targets.{arm_kind}
-use Rattle.bf_migration.specs.BoundArms.{arm_at}
+use Rattle.bf_image.specs.BoundArms.{arm_at}
 use Rattle.bf_image.specs.Giving.{has_any, has_row_of}
-use Rattle.bf_migration.specs.Lawful.{IsLawful}
+use Rattle.bf_image.specs.Lawful.{IsLawful}
 use Rattle.bf_image.specs.Lookup.{from_rows_met, join_rows_met}
-use Rattle.bf_migration.specs.Migrations.{IsLawfulMigration, old_of, target_at}
-use Rattle.bf_migration.specs.PlannedUnits.{arm_named, target_named}
-use Rattle.bf_migration.specs.declared.migration.Migration.{Migration}
+use Rattle.bf_image.specs.Migrations.{IsLawfulMigration, old_of, target_at}
+use Rattle.bf_image.specs.PlannedUnits.{arm_named, target_named}
+use Rattle.bf_image.specs.declared.migration.Migration.{Migration}
 use Rattle.bf_image.proofs.arm_gives.Any.{list_any-blocks}
 use Rattle.bf_image.proofs.owning.Targets.{name_tells_number}
 use Rattle.bf_image.proofs.parting.DriverRows.{IsDriven, by_row, rows_of_row}
 use Rattle.bf_image.proofs.parting.UnitRows.{driven_here, pair}
-use Rattle.bf_migration.proofs.planning.Driven.{IsNamed, part_by_numbers, rows_by_numbers}
-use Rattle.bf_migration.proofs.planning.Units.{arm_at_named}
+use Rattle.bf_image.proofs.planning.Driven.{IsNamed, part_by_numbers, rows_by_numbers}
+use Rattle.bf_image.proofs.planning.Units.{arm_at_named}
 
 one_test : {X : Type 0} (b : Bool) (xs : List X) → list_any (λ x. b) xs ≡ (b && has_any xs)
 one_test true [] = refl

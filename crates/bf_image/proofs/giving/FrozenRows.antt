@@ -11,14 +11,14 @@ use Rattle.bf_sql.specs.migrations.Granules.{granule, part_at, rows_unit}
 use Rattle.bf_sql.specs.migrations.Images.{arm_rows}
 use Rattle.bf_sql.specs.migrations.Plans.{rows_unit_of}
 use Rattle.bf_sql.specs.migrations.Targets.{arm_kind}
-use Rattle.bf_migration.specs.BoundArms.{IsFound, IsFrozenArm, arm_at}
+use Rattle.bf_image.specs.BoundArms.{IsFound, IsFrozenArm, arm_at}
 use Rattle.bf_image.specs.FrozenUnits.{IsFrozenUnit}
 use Rattle.bf_image.specs.Giving.{gives_row, has_any, has_row_of}
 use Rattle.bf_image.specs.Lookup.{from_rows_met, join_rows_met}
-use Rattle.bf_migration.specs.Migrations.{IsLawfulMigration, old_of}
-use Rattle.bf_migration.specs.declared.arms.FrozenArm.{FrozenArm}
+use Rattle.bf_image.specs.Migrations.{IsLawfulMigration, old_of}
+use Rattle.bf_image.specs.declared.arms.FrozenArm.{FrozenArm}
 use Rattle.bf_image.specs.declared.frozen_unit.FrozenUnit.{FrozenUnit}
-use Rattle.bf_migration.specs.declared.migration.Migration.{Migration}
+use Rattle.bf_image.specs.declared.migration.Migration.{Migration}
 use Rattle.bf_image.proofs.giving.DriverRows.{gives_by, gives_here, none_here, none_of_other, none_given}
 use Rattle.bf_image.proofs.parting.FoundArms.{as_many, found_at}
 use Rattle.bf_image.proofs.parting.UnitTables.{HasDriver, arms_planned}

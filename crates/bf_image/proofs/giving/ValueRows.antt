@@ -19,12 +19,12 @@ use Rattle.bf_sql.specs.Database.{Database}
 use Rattle.bf_sql.specs.migrations.Granules.{granule, from_with, join_with, values_unit}
 use Rattle.bf_sql.specs.migrations.Images.{arm_rows}
 use Rattle.bf_sql.specs.migrations.Targets.{arm_kind}
-use Rattle.bf_migration.specs.BoundArms.{entries_of}
+use Rattle.bf_image.specs.BoundArms.{entries_of}
 use Rattle.bf_image.specs.Giving.{gives_row, has_any, has_row_of, makes_any}
-use Rattle.bf_migration.specs.Migrations.{IsLawfulMigration, old_of, target_at}
-use Rattle.bf_migration.specs.declared.arms.FrozenArm.{FrozenArm}
-use Rattle.bf_migration.specs.declared.migration.Frozen.{Frozen}
-use Rattle.bf_migration.specs.declared.migration.Migration.{Migration}
+use Rattle.bf_image.specs.Migrations.{IsLawfulMigration, old_of, target_at}
+use Rattle.bf_image.specs.declared.arms.FrozenArm.{FrozenArm}
+use Rattle.bf_image.specs.declared.migration.Frozen.{Frozen}
+use Rattle.bf_image.specs.declared.migration.Migration.{Migration}
 use Rattle.bf_image.proofs.arm_gives.Any.{joined_in_turn, made_alone, made_in_turn}
 use Rattle.bf_image.proofs.giving.DriverRows.{rows_of_one}
 use Rattle.bf_image.proofs.owning.Armed.{IsArmed, armed_within, unit_armed}

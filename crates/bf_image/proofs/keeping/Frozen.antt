@@ -19,13 +19,13 @@ use Rattle.bf_sql.specs.RowObjections.{size_objections, row_objections}
 use Rattle.bf_sql.specs.migrations.Images.{image_of}
 use Rattle.bf_sql.specs.migrations.MigrationObjections.{sources_of, is_taken, migrate_objections}
 use Rattle.bf_sql.specs.migrations.Targets.{arm_sources, target_table}
-use Rattle.bf_migration.specs.Lawful.{IsLawful}
+use Rattle.bf_image.specs.Lawful.{IsLawful}
 use Rattle.bf_sql.specs.migrations.Placed.{placed_arm}
 use Rattle.bf_image.specs.Sources.{frozen_of, HaveSameSources, HaveSameTables, tables_made}
 use Rattle.bf_image.proofs.admitting.Flip.{all_left, kept_any}
-use Rattle.bf_migration.proofs.items.Bags.{blocks_equal_where}
-use Rattle.bf_migration.proofs.items.Lists.{none_left, none_right, none_when, all_kept, has_own, map_equal_where}
-use Rattle.bf_migration.proofs.items.Names.{name-equal, name-itself}
+use Rattle.bf_index.proofs.Bags.{blocks_equal_where}
+use Rattle.bf_image.proofs.items.Lists.{none_left, none_right, none_when, all_kept, has_own, map_equal_where}
+use Rattle.bf_image.proofs.items.Names.{name-equal, name-itself}
 use Rattle.bf_image.proofs.keeping.SameTables.{targets_objected, target_table_same, drivers_same, placed_same, is_inside}
 use Rattle.bf_image.proofs.keeping.Sources.{arms_inside_own, arms_inside_sources, tables_same, images_same}
 

@@ -29,8 +29,8 @@ use Rattle.bf_sql.specs.migrations.Targets.{kind_by, names_of_join, equalities, 
 use Rattle.bf_tree.specs.declared.plan.PlacedArm.{PlacedArm}
 use Rattle.bf_sql.specs.migrations.Placed.{placed_item, placed_pair, placed_arm, placed_rows}
 use Rattle.bf_image.specs.Sources.{table_under}
-use Rattle.bf_migration.proofs.items.Bags.{blocks_equal_where}
-use Rattle.bf_migration.proofs.items.Lists.{all_equal_where, any_equal_where, pairs_equal_where}
+use Rattle.bf_index.proofs.Bags.{blocks_equal_where}
+use Rattle.bf_image.proofs.items.Lists.{all_equal_where, any_equal_where, pairs_equal_where}
 use Rattle.bf_image.proofs.making.PlacedArms.{placed_alike}
 
 -- the tables of an arm are under some names

@@ -24,11 +24,11 @@ use Rattle.bf_sql.specs.migrations.Images.{arm_rows, image_of, rows_of_join}
 use Rattle.bf_sql.specs.migrations.MigrationObjections.{sources_of, driver_by, drivers_of, is_by_row}
 use Rattle.bf_sql.specs.migrations.Targets.{arm_kind, arm_scope, arm_sources, names_of_join, on_places, width}
 use Rattle.bf_image.specs.Sources.{table_under}
-use Rattle.bf_migration.proofs.items.Bags.{blocks_equal_where}
-use Rattle.bf_migration.proofs.items.Lists.{all_so, all_append, all_kept, all_of_blocks, all_of_map, all_in_blocks, all_with_numbers, all_distinct, all_of_contained, each_block_within, some_of_those, filter_equal_where, looked_up_where}
-use Rattle.bf_migration.proofs.items.Names.{name-equal, name-itself, name-symmetric}
+use Rattle.bf_index.proofs.Bags.{blocks_equal_where}
+use Rattle.bf_image.proofs.items.Lists.{all_so, all_append, all_kept, all_of_blocks, all_of_map, all_in_blocks, all_with_numbers, all_distinct, all_of_contained, each_block_within, some_of_those, filter_equal_where, looked_up_where}
+use Rattle.bf_image.proofs.items.Names.{name-equal, name-itself, name-symmetric}
 use Rattle.bf_image.proofs.keeping.SameTables.{is_inside, scopes, widths, places, kinds, rows_same, target_table_same, drivers_same}
-use Rattle.bf_migration.proofs.items.Values.{distinct-has}
+use Rattle.bf_index.proofs.Values.{distinct-has}
 
 -- the tables of each arm of a target are under their names
 pub arms_inside_own : (arms : List Arm) → list_all (is_inside (flat_map arm_sources arms)) arms ≡ true

@@ -20,14 +20,14 @@ use Rattle.bf_sql.specs.Database.{Database, Stored, IsDatabase, stored_at, table
 use Rattle.bf_sql.specs.Scopes.{place_of}
 use Rattle.bf_sql.specs.migrations.Targets.{kind_by, key_by, arm_kind, arm_scope, width, from_key, join_key, on_places, equalities, names_of_join}
 use Rattle.bf_sql.specs.migrations.Images.{is_equal_on, first_row, group_value, satisfying, rows_of_join}
-use Rattle.bf_migration.proofs.items.Lists.{all_so, all_found, has_own}
-use Rattle.bf_migration.proofs.items.Bags.{tally, tally-same_items, turned_round}
-use Rattle.bf_migration.proofs.items.Values.{distinct-apart, distinct-has}
-use Rattle.bf_migration.proofs.making.Arms.{passes, made, of_match, of_pair, of_from, rows_by, single_form, as_pairs, is_one_sided, places_on, key-equal, key-itself, key-symmetric, cell_left, cell_right}
-use Rattle.bf_migration.proofs.cutting.Parts.{if_there, whole_by}
-use Rattle.bf_migration.proofs.making.Unobjected.{joins_by_pair, as_wide, two_sided}
+use Rattle.bf_image.proofs.items.Lists.{all_so, all_found, has_own}
+use Rattle.bf_index.proofs.Bags.{tally, tally-same_items, turned_round}
+use Rattle.bf_index.proofs.Values.{distinct-apart, distinct-has}
+use Rattle.bf_image.proofs.making.Arms.{passes, made, of_match, of_pair, of_from, rows_by, single_form, as_pairs, is_one_sided, places_on, key-equal, key-itself, key-symmetric, cell_left, cell_right}
+use Rattle.bf_image.proofs.cutting.Parts.{if_there, whole_by}
+use Rattle.bf_image.proofs.making.Unobjected.{joins_by_pair, as_wide, two_sided}
 use Rattle.bf_image.proofs.making.Keys.{cells_left, cells_right, apart_again, carried_all, all_behind}
-use Rattle.bf_migration.proofs.items.Once.{count_if, tally_of_blocks, tally_of_map, tally_of_apart, once_in_pairs}
+use Rattle.bf_image.proofs.items.Once.{count_if, tally_of_blocks, tally_of_map, tally_of_apart, once_in_pairs}
 
 same_from_equal : (a b : List Value) → a ≡ b → same_key a b ≡ true
 same_from_equal a b e = ap (same_key a) (sym e) ∙ key-itself a

@@ -29,23 +29,23 @@ use Rattle.bf_tree.specs.declared.plan.PlacedArm.{PlacedArm}
 use Rattle.bf_tree.specs.declared.reply.Refusal.{Refusal}
 use Rattle.bf_tree.specs.declared.reply.Refusal.TheVariants as refusal
 use Rattle.bf_sql.specs.Database.{Database, Stored, IsDatabase, stored_at, table_at, table_rows, is_admitted, no_table}
-use Rattle.bf_sql.specs.RowObjections.{argument_objections, sum_objections, answer_objections}
+use Rattle.bf_tree.specs.ValueObjections.{argument_objections, sum_objections, answer_objections}
 use Rattle.bf_sql.specs.Scopes.{Scope, scope_of, place_of, read_in, admitted_by}
 use Rattle.bf_sql.specs.migrations.Extents.{extent_of_total, may_fail}
 use Rattle.bf_sql.specs.migrations.Images.{group_value}
 use Rattle.bf_sql.specs.migrations.MigrationObjections.{is_by_group, is_grouped_item, inherits_key, failing_objections, target_objections}
 use Rattle.bf_sql.specs.migrations.Placed.{placed_arm, placed_groups, placed_item, placed_matches, placed_pair}
 use Rattle.bf_sql.specs.migrations.Targets.{arm_kind, arm_scope, extent_of_item, is_total, key_items}
-use Rattle.bf_range.specs.Within.{is_held}
-use Rattle.bf_range.proofs.Rows.{row_held}
-use Rattle.bf_range.proofs.Totals.{total_unobjected}
-use Rattle.bf_query.proofs.Renaming.{answer_objections-over}
+use Rattle.bf_sql.specs.migrations.Within.{is_held}
+use Rattle.bf_sql.proofs.extents.Rows.{row_held}
+use Rattle.bf_sql.proofs.extents.Totals.{total_unobjected}
+use Rattle.bf_sql.proofs.Renaming.{answer_objections-over}
 use Rattle.bf_image.specs.ArmRows.{AreOfOne, CanMake, IsUnobjected, item_objections}
-use Rattle.bf_migration.specs.Lawful.{IsLawful}
-use Rattle.bf_migration.proofs.items.Lists.{none_left, none_right, none_when, none_of_each, all_both, all_found, all_kept, all_of_contained}
+use Rattle.bf_image.specs.Lawful.{IsLawful}
+use Rattle.bf_image.proofs.items.Lists.{none_left, none_right, none_when, none_of_each, all_both, all_found, all_kept, all_of_contained}
 use Rattle.bf_image.proofs.admitting.Few.{is_few, goes_over_few, few_sources}
-use Rattle.bf_migration.proofs.making.Arms.{key-equal}
-use Rattle.bf_migration.proofs.making.Unobjected.{key_there}
+use Rattle.bf_image.proofs.making.Arms.{key-equal}
+use Rattle.bf_image.proofs.making.Unobjected.{key_there}
 use Rattle.bf_image.proofs.finding.Owned.{target_unobjected}
 
 each_so : {X : Type 0} (P : X → Type 0) → ((x : X) → P x) → (xs : List X) → AllByRecursion P xs

@@ -21,7 +21,7 @@ use Rattle.bf_sql.specs.Database.{Database}
 use Rattle.bf_sql.specs.Scopes.{Scope, place_of}
 use Rattle.bf_sql.specs.migrations.Targets.{arm_scope, arm_key, plain_ref, key_items}
 use Rattle.bf_sql.specs.migrations.Images.{item_over, first_row, is_equal_on}
-use Rattle.bf_migration.proofs.making.Arms.{made, is_one_sided, places_on, value-equal, cell_left}
+use Rattle.bf_image.proofs.making.Arms.{made, is_one_sided, places_on, value-equal, cell_left}
 
 abbrev some_item : Item
 some_item = item.Named (literal (Int (pos 0))) []

@@ -28,7 +28,7 @@ use Rattle.bf_sql.specs.Conditions.{condition_of}
 use Rattle.bf_sql.specs.Scopes.{Scope, place_of, read_in}
 use Rattle.bf_sql.specs.migrations.Targets.{arm_scope, arm_kind}
 use Rattle.bf_sql.specs.migrations.Images.{first_row, value_or_nought, item_over, group_value, groups_by, is_equal_on, matches_of_join, satisfying, arm_rows}
-use Rattle.bf_sql.specs.Totals.{lesser, greater, or_null, sum_of, values_of, total_of}
+use Rattle.bf_tree.specs.Totals.{lesser, greater, or_null, sum_of, values_of, total_of}
 use Rattle.bf_sql.specs.migrations.Placed.{is_equal_at, placed_pair, placed_item, placed_arm, placed_over, placed_groups, placed_matches, placed_rows}
 
 map_alike : {X Y : Type 0} (f g : X → Y) → ((x : X) → f x ≡ g x) → (xs : List X) → map f xs ≡ map g xs

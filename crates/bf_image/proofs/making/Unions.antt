@@ -23,13 +23,13 @@ use Rattle.bf_sql.specs.Database.{Database, IsDatabase, table_rows}
 use Rattle.bf_sql.specs.migrations.Targets.{arm_kind, key_items, first_arm, target_table}
 use Rattle.bf_sql.specs.migrations.MigrationObjections.{tag_of, inherits_key, keeps_apart, is_by_row, target_objections}
 use Rattle.bf_sql.specs.migrations.Images.{item_over, image_of, groups_by, satisfying, rows_of_join}
-use Rattle.bf_migration.proofs.items.Lists.{all_both}
-use Rattle.bf_migration.proofs.items.Bags.{tally, tally-append}
-use Rattle.bf_migration.proofs.making.Arms.{made, value-equal, key-itself}
-use Rattle.bf_migration.proofs.cutting.Parts.{whole_by}
-use Rattle.bf_migration.proofs.making.Unobjected.{two_sided, alone_in_groups, arms_ok, key_there}
+use Rattle.bf_image.proofs.items.Lists.{all_both}
+use Rattle.bf_index.proofs.Bags.{tally, tally-append}
+use Rattle.bf_image.proofs.making.Arms.{made, value-equal, key-itself}
+use Rattle.bf_image.proofs.cutting.Parts.{whole_by}
+use Rattle.bf_image.proofs.making.Unobjected.{two_sided, alone_in_groups, arms_ok, key_there}
 use Rattle.bf_image.proofs.making.Keys.{key_places, key_of_made}
-use Rattle.bf_migration.proofs.items.Once.{count_if, tally_of_blocks, tally_of_map, once_passes, apart_from_tallies}
+use Rattle.bf_image.proofs.items.Once.{count_if, tally_of_blocks, tally_of_map, once_passes, apart_from_tallies}
 use Rattle.bf_image.proofs.making.ArmKeys.{once_by}
 
 -- the key of one item more

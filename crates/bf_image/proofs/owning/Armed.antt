@@ -18,9 +18,9 @@ use Rattle.bf_sql.specs.migrations.Granules.{UnitForm, rows_unit, values_unit, a
 use Rattle.bf_sql.specs.migrations.Images.{arm_rows}
 use Rattle.bf_sql.specs.migrations.MigrationObjections.{drivers_of, is_by_row}
 use Rattle.bf_sql.specs.migrations.Targets.{arm_kind}
-use Rattle.bf_migration.specs.Migrations.{target_at}
-use Rattle.bf_migration.specs.declared.migration.Migration.{Migration}
-use Rattle.bf_migration.proofs.planning.Numbered.{each_append, each_of_blocks, each_of_map, each_kept}
+use Rattle.bf_image.specs.Migrations.{target_at}
+use Rattle.bf_image.specs.declared.migration.Migration.{Migration}
+use Rattle.bf_image.proofs.planning.Numbered.{each_append, each_of_blocks, each_of_map, each_kept}
 
 -- ARMED: a target with an arm
 abbrev pub IsArmed : Target → Type 0

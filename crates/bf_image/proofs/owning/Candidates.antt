@@ -19,19 +19,19 @@ use Rattle.bf_tree.specs.declared.plan.UnitKind.{UnitKind}
 use Rattle.bf_tree.specs.declared.plan.UnitKind.TheVariants.{Rows, Groups, Joins}
 use Rattle.bf_sql.specs.migrations.Granules.{UnitForm, rows_unit, values_unit, granule}
 use Rattle.bf_sql.specs.migrations.Targets.{arm_kind}
-use Rattle.bf_migration.specs.BoundArms.{IsFrozenArm, IsOfUnit}
+use Rattle.bf_image.specs.BoundArms.{IsFrozenArm, IsOfUnit}
 use Rattle.bf_image.specs.Lookup.{places_by, values_by}
-use Rattle.bf_migration.specs.Migrations.{IsLawfulMigration, old_of, target_at, unit_at, units_in}
+use Rattle.bf_image.specs.Migrations.{IsLawfulMigration, old_of, target_at, unit_at, units_in}
 use Rattle.bf_image.specs.Owners.{candidates_at}
-use Rattle.bf_migration.specs.PlannedUnits.{form_by, unit_form}
-use Rattle.bf_migration.specs.declared.arms.FrozenArm.{FrozenArm}
-use Rattle.bf_migration.specs.declared.migration.Frozen.{Frozen}
-use Rattle.bf_migration.specs.declared.migration.Migration.{Migration}
-use Rattle.bf_migration.proofs.items.Names.{name-itself}
+use Rattle.bf_image.specs.PlannedUnits.{form_by, unit_form}
+use Rattle.bf_image.specs.declared.arms.FrozenArm.{FrozenArm}
+use Rattle.bf_image.specs.declared.migration.Frozen.{Frozen}
+use Rattle.bf_image.specs.declared.migration.Migration.{Migration}
+use Rattle.bf_image.proofs.items.Names.{name-itself}
 use Rattle.bf_image.proofs.owning.Armed.{IsOfArmed, armed_within, unit_armed}
 use Rattle.bf_image.proofs.owning.Stored.{each_found}
 use Rattle.bf_image.proofs.owning.Targets.{name_tells_number}
-use Rattle.bf_migration.proofs.planning.Units.{unit_at_number}
+use Rattle.bf_image.proofs.planning.Units.{unit_at_number}
 
 module _ (m : Migration) (t : Target) (key : List Value) where
   abbrev of_unit : ℕ × UnitForm → List Granule

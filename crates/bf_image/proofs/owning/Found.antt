@@ -9,13 +9,13 @@ use Rattle.bf_base.specs.declared.value.Value.{Value}
 use Rattle.bf_tree.specs.declared.migration.Target.{Target}
 use Rattle.bf_sql.specs.migrations.Granules.{granule, owner_of}
 use Rattle.bf_image.specs.Laws.{owns}
-use Rattle.bf_migration.specs.Migrations.{IsLawfulMigration, old_of, target_at, units_in}
+use Rattle.bf_image.specs.Migrations.{IsLawfulMigration, old_of, target_at, units_in}
 use Rattle.bf_image.specs.Owners.{candidates_at}
-use Rattle.bf_migration.specs.PlannedUnits.{unit_form}
-use Rattle.bf_migration.specs.declared.migration.Migration.{Migration}
+use Rattle.bf_image.specs.PlannedUnits.{unit_form}
+use Rattle.bf_image.specs.declared.migration.Migration.{Migration}
 use Rattle.bf_image.proofs.finding.Owner.{looked_up}
 use Rattle.bf_image.proofs.owning.Candidates.{candidates_from, candidates_more, no_more_candidates}
-use Rattle.bf_migration.proofs.planning.Units.{units_stand_for}
+use Rattle.bf_image.proofs.planning.Units.{units_stand_for}
 
 module _ (m : Migration) (lawful : IsLawfulMigration m) (target : ℕ) (there : target < length m.plan.migrate.targets) (key : List Value) where
   abbrev t : Target

@@ -12,10 +12,10 @@ use Rattle.bf_base.specs.declared.value.Value.{Value}
 use Rattle.bf_base.specs.Lists.{same_name}
 use Rattle.bf_tree.specs.declared.migration.Target.{Target}
 use Rattle.bf_sql.specs.migrations.Granules.{owner_of}
-use Rattle.bf_migration.specs.Migrations.{old_of, owner_in, target_at}
-use Rattle.bf_migration.specs.declared.migration.Migration.{Migration}
+use Rattle.bf_image.specs.Migrations.{old_of, owner_in, target_at}
+use Rattle.bf_image.specs.declared.migration.Migration.{Migration}
 use Rattle.bf_image.proofs.finding.Owned.{find_alike}
-use Rattle.bf_migration.proofs.items.Names.{name-symmetric}
+use Rattle.bf_image.proofs.items.Names.{name-symmetric}
 
 module _ (name : List ℕ) (ts : List Target) where
   abbrev has_name : Target → Bool

@@ -8,9 +8,9 @@ use Rattle.bf_base.specs.Tables.{key_of}
 use Rattle.bf_tree.specs.declared.migration.Target.{Target}
 use Rattle.bf_sql.specs.migrations.Targets.{target_table}
 use Rattle.bf_image.specs.Laws.{owns}
-use Rattle.bf_migration.specs.Migrations.{ArePart, IsLawfulMigration, old_of, target_at}
+use Rattle.bf_image.specs.Migrations.{ArePart, IsLawfulMigration, old_of, target_at}
 use Rattle.bf_image.specs.Owners.{is_row_with}
-use Rattle.bf_migration.specs.declared.migration.Migration.{Migration}
+use Rattle.bf_image.specs.declared.migration.Migration.{Migration}
 use Rattle.bf_image.proofs.owning.Armed.{IsArmed, HasArmedTarget, armed_within, part_armed}
 use Rattle.bf_image.proofs.owning.Targets.{name_tells_number}
 

@@ -12,11 +12,11 @@ use Rattle.bf_base.proofs.Parts.{find-map}
 use Rattle.bf_heap.specs.Heaps.{Entry, key_of_entry, row_under}
 use Rattle.bf_sql.specs.Database.{Stored, no_table, stored_at, table_at, table_rows}
 use Rattle.bf_image.specs.Lookup.{has_the_key, row_with}
-use Rattle.bf_migration.specs.Migrations.{HasOwnKeys, IsLawfulMigration, old_of, source_of, stored_of}
-use Rattle.bf_migration.specs.declared.migration.Frozen.{Frozen}
-use Rattle.bf_migration.specs.declared.migration.Migration.{Migration}
-use Rattle.bf_migration.proofs.making.Arms.{key-symmetric}
-use Rattle.bf_migration.proofs.planning.Numbered.{each_so}
+use Rattle.bf_image.specs.Migrations.{HasOwnKeys, IsLawfulMigration, old_of, source_of, stored_of}
+use Rattle.bf_image.specs.declared.migration.Frozen.{Frozen}
+use Rattle.bf_image.specs.declared.migration.Migration.{Migration}
+use Rattle.bf_image.proofs.making.Arms.{key-symmetric}
+use Rattle.bf_image.proofs.planning.Numbered.{each_so}
 
 -- an item that is found is one of those of which something holds
 pub each_found : {X : Type 0} (P : X → Type 0) (test : X → Bool) (xs : List X) (x : X) → AllByRecursion P xs → find test xs ≡ Some x → P x

@@ -8,11 +8,11 @@ use Rattle.bf_base.specs.Lists.{same_name, has}
 use Rattle.bf_base.proofs.Apart.{are_apart}
 use Rattle.bf_base.proofs.Order.{same_from_some}
 use Rattle.bf_tree.specs.declared.migration.Target.{Target}
-use Rattle.bf_migration.specs.Migrations.{IsLawfulMigration, old_of, target_at}
-use Rattle.bf_migration.specs.declared.migration.Migration.{Migration}
-use Rattle.bf_migration.proofs.items.Names.{name-itself, name-symmetric}
-use Rattle.bf_migration.proofs.cutting.Targets.{new_names}
-use Rattle.bf_migration.proofs.making.Unobjected.{names_new}
+use Rattle.bf_image.specs.Migrations.{IsLawfulMigration, old_of, target_at}
+use Rattle.bf_image.specs.declared.migration.Migration.{Migration}
+use Rattle.bf_image.proofs.items.Names.{name-itself, name-symmetric}
+use Rattle.bf_image.proofs.cutting.Targets.{new_names}
+use Rattle.bf_image.proofs.making.Unobjected.{names_new}
 
 abbrev name_of : Target → List ℕ
 name_of t = t.name

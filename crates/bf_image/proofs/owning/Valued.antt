@@ -18,11 +18,11 @@ use Rattle.bf_sql.specs.Scopes.{Scope, place_of}
 use Rattle.bf_sql.specs.migrations.Granules.{left_places, left_value}
 use Rattle.bf_sql.specs.migrations.Placed.{placed_pair}
 use Rattle.bf_sql.specs.migrations.Targets.{arm_kind, arm_scope, kind_by, on_places, width}
-use Rattle.bf_migration.specs.BoundArms.{IsFrozenArm, places_in_from, places_of_on}
+use Rattle.bf_image.specs.BoundArms.{IsFrozenArm, places_in_from, places_of_on}
 use Rattle.bf_image.specs.Lookup.{row_with, values_by}
-use Rattle.bf_migration.specs.Migrations.{IsLawfulMigration, old_of}
-use Rattle.bf_migration.specs.declared.arms.FrozenArm.{FrozenArm}
-use Rattle.bf_migration.specs.declared.migration.Migration.{Migration}
+use Rattle.bf_image.specs.Migrations.{IsLawfulMigration, old_of}
+use Rattle.bf_image.specs.declared.arms.FrozenArm.{FrozenArm}
+use Rattle.bf_image.specs.declared.migration.Migration.{Migration}
 use Rattle.bf_image.proofs.owning.Stored.{row_is, table_is}
 
 -- an arm by pairs has no groups

@@ -3,8 +3,8 @@ use Rattle.std.proofs.Common.{◌≡◌, ℕ, List, [], ◌++◌, map, sym, ap, 
 use Rattle.std.proofs.lemmas.List.{map-append}
 use Rattle.bf_base.specs.declared.value.Value.{Value}
 use Rattle.bf_tree.specs.declared.migration.Target.{Target}
-use Rattle.bf_migration.specs.Migrations.{AreBehind, target_at}
-use Rattle.bf_migration.specs.declared.migration.Migration.{Migration}
+use Rattle.bf_image.specs.Migrations.{AreBehind, target_at}
+use Rattle.bf_image.specs.declared.migration.Migration.{Migration}
 
 module _ (m : Migration) where
   abbrev named : ℕ × List Value → Target × List Value

@@ -23,19 +23,19 @@ use Rattle.bf_sql.specs.migrations.Placed.{placed_arm, placed_item}
 use Rattle.bf_sql.specs.migrations.Plans.{numbered_arms, rows_unit_of}
 use Rattle.bf_sql.specs.migrations.Targets.{arm_kind, arm_scope, is_total, key_items, names_of_join}
 use Rattle.bf_image.specs.ArmRows.{CanMake, IsUnobjected, item_objections}
-use Rattle.bf_migration.specs.Lawful.{IsLawful}
+use Rattle.bf_image.specs.Lawful.{IsLawful}
 use Rattle.bf_image.specs.Lookup.{from_rows_met, join_rows_met, rows_met}
-use Rattle.bf_migration.specs.PlannedUnits.{arm_named, target_named}
+use Rattle.bf_image.specs.PlannedUnits.{arm_named, target_named}
 use Rattle.bf_image.proofs.finding.Found.{alone_true}
 use Rattle.bf_image.proofs.finding.Looked.{one_row}
 use Rattle.bf_image.proofs.finding.Meets.{driven_met}
 use Rattle.bf_image.proofs.finding.Owned.{target_unobjected}
 use Rattle.bf_image.proofs.finding.Owner.{its_arm_two_sided}
-use Rattle.bf_migration.proofs.items.Lists.{all_of_contained}
-use Rattle.bf_migration.proofs.items.Names.{name-symmetric}
-use Rattle.bf_migration.proofs.making.Unobjected.{key_there}
-use Rattle.bf_migration.proofs.planning.Driven.{IsNamed, arm_among, named_from_numbered, part_by_numbers, rows_by_numbers, target_among}
-use Rattle.bf_migration.proofs.planning.Numbered.{IsNumbered, all_numbered, each_of_map, named_by_numbers}
+use Rattle.bf_image.proofs.items.Lists.{all_of_contained}
+use Rattle.bf_image.proofs.items.Names.{name-symmetric}
+use Rattle.bf_image.proofs.making.Unobjected.{key_there}
+use Rattle.bf_image.proofs.planning.Driven.{IsNamed, arm_among, named_from_numbered, part_by_numbers, rows_by_numbers, target_among}
+use Rattle.bf_image.proofs.planning.Numbered.{IsNumbered, all_numbered, each_of_map, named_by_numbers}
 
 -- those that pass a test pass it
 each_passes : {X : Type 0} (P : X → Type 0) (test : X → Bool) (xs : List X) → AllByRecursion P xs → AllByRecursion (λ x. P x × (test x ≡ true)) (filter test xs)

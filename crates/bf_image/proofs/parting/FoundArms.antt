@@ -1,10 +1,10 @@
 -- Arms that are found at pairs of numbers, one for each.
 use Rattle.std.proofs.Common.{◌≡◌, ℕ, zero, suc, ◌+◌, ◌<◌, List, [], ◌∷◌, ◌++◌, length, get_or, take, Some, refl, sym, ap, subst, arith}
 use Rattle.std.proofs.lemmas.List.{take_more}
-use Rattle.bf_migration.specs.BoundArms.{IsFound, arm_at}
+use Rattle.bf_image.specs.BoundArms.{IsFound, arm_at}
 use Rattle.bf_image.specs.FrozenUnits.{AreFound}
-use Rattle.bf_migration.specs.declared.arms.FrozenArm.{FrozenArm}
-use Rattle.bf_migration.specs.declared.migration.Migration.{Migration}
+use Rattle.bf_image.specs.declared.arms.FrozenArm.{FrozenArm}
+use Rattle.bf_image.specs.declared.migration.Migration.{Migration}
 
 module _ (m : Migration) where
   -- an arm is found at a pair of numbers

@@ -2,13 +2,13 @@
 use Rattle.std.proofs.Common.{◌≡◌, Bor, Option, Some, None, sym, ap, ◌∙◌, subst}
 use Rattle.std.specs.Prelude.{option_map}
 use Rattle.bf_sql.specs.migrations.Granules.{values_unit}
-use Rattle.bf_migration.specs.BoundArms.{IsOfUnit}
+use Rattle.bf_image.specs.BoundArms.{IsOfUnit}
 use Rattle.bf_image.specs.FrozenUnits.{IsFrozenUnit}
-use Rattle.bf_migration.specs.Migrations.{old_of, unit_at, unit_index}
-use Rattle.bf_migration.specs.declared.arms.FrozenArm.{FrozenArm}
+use Rattle.bf_image.specs.Migrations.{old_of, unit_at, unit_index}
+use Rattle.bf_image.specs.declared.arms.FrozenArm.{FrozenArm}
 use Rattle.bf_image.specs.declared.frozen_unit.FrozenUnit.{FrozenUnit}
-use Rattle.bf_migration.specs.declared.migration.Migration.{Migration}
-use Rattle.bf_migration.specs.declared.value_indexes.UnitIndex.{UnitIndex}
+use Rattle.bf_image.specs.declared.migration.Migration.{Migration}
+use Rattle.bf_image.specs.declared.value_indexes.UnitIndex.{UnitIndex}
 use Rattle.bf_image.proofs.parting.ValueParts.{IsValued, valued, index_at}
 
 module _ (unit : FrozenUnit) (whole : IsFrozenUnit unit) (bound : FrozenArm) (armed : unit.valued ≡ Some bound) where

@@ -16,14 +16,14 @@ use Rattle.bf_sql.specs.Database.{Database, table_at}
 use Rattle.bf_sql.specs.migrations.Images.{arm_rows}
 use Rattle.bf_sql.specs.migrations.Placed.{placed_pair, placed_rows}
 use Rattle.bf_sql.specs.migrations.Targets.{arm_kind, arm_scope, equalities, join_key, names_of_join, width}
-use Rattle.bf_migration.specs.BoundArms.{IsFrozenArm, IsJoined}
+use Rattle.bf_image.specs.BoundArms.{IsFrozenArm, IsJoined}
 use Rattle.bf_image.specs.Lookup.{partner, join_met, from_met, row_with, join_rows_met, from_rows_met}
-use Rattle.bf_migration.specs.Migrations.{IsLawfulMigration, old_of, source_of}
-use Rattle.bf_migration.specs.declared.arms.FrozenArm.{FrozenArm}
-use Rattle.bf_migration.specs.declared.migration.Frozen.{Frozen}
-use Rattle.bf_migration.specs.declared.migration.Migration.{Migration}
+use Rattle.bf_image.specs.Migrations.{IsLawfulMigration, old_of, source_of}
+use Rattle.bf_image.specs.declared.arms.FrozenArm.{FrozenArm}
+use Rattle.bf_image.specs.declared.migration.Frozen.{Frozen}
+use Rattle.bf_image.specs.declared.migration.Migration.{Migration}
 use Rattle.bf_image.proofs.making.PlacedArms.{placed_alike}
-use Rattle.bf_migration.proofs.making.Unobjected.{joins_by_join}
+use Rattle.bf_image.proofs.making.Unobjected.{joins_by_join}
 use Rattle.bf_image.proofs.parting.OldTables.{table_found, row_found}
 
 -- an option as a slice is its list

@@ -11,10 +11,10 @@ use Rattle.bf_base.proofs.Parts.{find-map}
 use Rattle.bf_heap.specs.Heaps.{Entry, row_under}
 use Rattle.bf_sql.specs.Database.{Stored, no_table, stored_at, table_at, table_rows}
 use Rattle.bf_image.specs.Lookup.{row_with}
-use Rattle.bf_migration.specs.Migrations.{IsLawfulMigration, HasOwnKeys, old_of, stored_of, source_of}
-use Rattle.bf_migration.specs.declared.migration.Frozen.{Frozen}
-use Rattle.bf_migration.specs.declared.migration.Migration.{Migration}
-use Rattle.bf_migration.proofs.making.Arms.{key-symmetric}
+use Rattle.bf_image.specs.Migrations.{IsLawfulMigration, HasOwnKeys, old_of, stored_of, source_of}
+use Rattle.bf_image.specs.declared.migration.Frozen.{Frozen}
+use Rattle.bf_image.specs.declared.migration.Migration.{Migration}
+use Rattle.bf_image.proofs.making.Arms.{key-symmetric}
 
 module _ {X : Type 0} (P : X → Type 0) where
   -- what holds of all holds of the one that is found

@@ -8,10 +8,10 @@ use Rattle.bf_tree.specs.declared.migration.Target.{Target}
 use Rattle.bf_tree.specs.declared.plan.Unit.{Unit as Planned}
 use Rattle.bf_tree.specs.declared.plan.UnitKind.TheVariants.{Rows, Groups, Joins}
 use Rattle.bf_sql.specs.migrations.Granules.{UnitForm, rows_unit, granule, part_at, part_of}
-use Rattle.bf_migration.specs.Migrations.{IsLawfulMigration, old_of, unit_at}
-use Rattle.bf_migration.specs.PlannedUnits.{form_by, unit_form}
-use Rattle.bf_migration.specs.declared.migration.Migration.{Migration}
-use Rattle.bf_migration.proofs.planning.Units.{unit_at_number}
+use Rattle.bf_image.specs.Migrations.{IsLawfulMigration, old_of, unit_at}
+use Rattle.bf_image.specs.PlannedUnits.{form_by, unit_form}
+use Rattle.bf_image.specs.declared.migration.Migration.{Migration}
+use Rattle.bf_image.proofs.planning.Units.{unit_at_number}
 
 module _ (m : Migration) (number : ℕ) (place : Place) where
   abbrev pub part : List (Target × List Value)

@@ -10,16 +10,16 @@ use Rattle.bf_sql.specs.migrations.MigrationObjections.{is_by_row}
 use Rattle.bf_sql.specs.migrations.Plans.{rows_unit_of}
 use Rattle.bf_sql.specs.migrations.Targets.{arm_kind}
 use Rattle.bf_image.specs.ArmRows.{CanMake}
-use Rattle.bf_migration.specs.BoundArms.{IsFound, IsFrozenArm, arm_at}
-use Rattle.bf_migration.specs.Migrations.{AreBehind, IsLawfulMigration, old_of, target_at}
-use Rattle.bf_migration.specs.PlannedUnits.{arm_named}
-use Rattle.bf_migration.specs.declared.arms.FrozenArm.{FrozenArm}
-use Rattle.bf_migration.specs.declared.migration.Migration.{Migration}
+use Rattle.bf_image.specs.BoundArms.{IsFound, IsFrozenArm, arm_at}
+use Rattle.bf_image.specs.Migrations.{AreBehind, IsLawfulMigration, old_of, target_at}
+use Rattle.bf_image.specs.PlannedUnits.{arm_named}
+use Rattle.bf_image.specs.declared.arms.FrozenArm.{FrozenArm}
+use Rattle.bf_image.specs.declared.migration.Migration.{Migration}
 use Rattle.bf_image.proofs.parting.Behind.{behind_more}
 use Rattle.bf_image.proofs.parting.Blocks.{one_more_block}
 use Rattle.bf_image.proofs.parting.DriverRows.{IsDriven, all_driven, by_row, makes_any}
-use Rattle.bf_migration.proofs.planning.Driven.{rows_by_numbers}
-use Rattle.bf_migration.proofs.planning.Units.{arm_at_named}
+use Rattle.bf_image.proofs.planning.Driven.{rows_by_numbers}
+use Rattle.bf_image.proofs.planning.Units.{arm_at_named}
 
 each_get : {X : Type 0} (P : X → Type 0) (xs : List X) (i : ℕ) (d : X) → AllByRecursion P xs → i < length xs → P (get_or xs i d)
 each_get P [] i d all within = absurd (omega arith)

@@ -20,23 +20,23 @@ use Rattle.bf_sql.specs.migrations.MigrationObjections.{is_by_row}
 use Rattle.bf_sql.specs.migrations.Plans.{rows_unit_of}
 use Rattle.bf_sql.specs.migrations.Targets.{arm_kind}
 use Rattle.bf_image.specs.ArmRows.{CanMake}
-use Rattle.bf_migration.specs.BoundArms.{IsFound, IsFrozenArm, arm_at}
+use Rattle.bf_image.specs.BoundArms.{IsFound, IsFrozenArm, arm_at}
 use Rattle.bf_image.specs.FrozenUnits.{AreFound, GoesByRows, IsDriven, IsFrozenUnit, IsRowAt}
 use Rattle.bf_image.specs.Lookup.{from_rows_met, join_rows_met}
-use Rattle.bf_migration.specs.Migrations.{AreBehind, IsLawfulMigration, IsPartBehind, old_of, source_of}
-use Rattle.bf_migration.specs.PlannedUnits.{arm_named}
-use Rattle.bf_migration.specs.declared.arms.FrozenArm.{FrozenArm}
+use Rattle.bf_image.specs.Migrations.{AreBehind, IsLawfulMigration, IsPartBehind, old_of, source_of}
+use Rattle.bf_image.specs.PlannedUnits.{arm_named}
+use Rattle.bf_image.specs.declared.arms.FrozenArm.{FrozenArm}
 use Rattle.bf_image.specs.declared.frozen_unit.FrozenUnit.{FrozenUnit}
-use Rattle.bf_migration.specs.declared.migration.Frozen.{Frozen}
-use Rattle.bf_migration.specs.declared.migration.Migration.{Migration}
+use Rattle.bf_image.specs.declared.migration.Frozen.{Frozen}
+use Rattle.bf_image.specs.declared.migration.Migration.{Migration}
 use Rattle.bf_image.proofs.parting.Behind.{none_behind}
 use Rattle.bf_image.proofs.parting.DriverRows.{part_past, rows_of_row}
 use Rattle.bf_image.proofs.parting.FoundArms.{as_many, found_at}
 use Rattle.bf_image.proofs.parting.OldTables.{row_at_found, rows_missing}
 use Rattle.bf_image.proofs.parting.UnitParts.{part_by_rows}
 use Rattle.bf_image.proofs.parting.UnitRows.{bound_by_row, bound_here, bound_makes_any, driven_here, more_rows}
-use Rattle.bf_migration.proofs.planning.Driven.{part_by_numbers, rows_by_numbers}
-use Rattle.bf_migration.proofs.planning.Units.{planned_as}
+use Rattle.bf_image.proofs.planning.Driven.{part_by_numbers, rows_by_numbers}
+use Rattle.bf_image.proofs.planning.Units.{planned_as}
 
 module _ (m : Migration) (number : ℕ) (arms : List FrozenArm) where
   -- a unit that goes by the rows of a table does so by the one of its name, or has nothing where there is none

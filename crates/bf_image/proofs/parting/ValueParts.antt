@@ -13,10 +13,10 @@ use Rattle.bf_sql.specs.migrations.Granules.{UnitForm, rows_unit, values_unit, f
 use Rattle.bf_sql.specs.migrations.Placed.{placed_arm, placed_rows}
 use Rattle.bf_sql.specs.migrations.Targets.{arm_kind}
 use Rattle.bf_image.specs.ArmRows.{AreOfOne, CanMake}
-use Rattle.bf_migration.specs.BoundArms.{IsFrozenArm, IsOfUnit}
-use Rattle.bf_migration.specs.Migrations.{AreBehind, IsLawfulMigration, old_of, target_at, unit_at, unit_index, units_in, value_indexes}
-use Rattle.bf_migration.specs.declared.arms.FrozenArm.{FrozenArm}
-use Rattle.bf_migration.specs.declared.migration.Migration.{Migration}
+use Rattle.bf_image.specs.BoundArms.{IsFrozenArm, IsOfUnit}
+use Rattle.bf_image.specs.Migrations.{AreBehind, IsLawfulMigration, old_of, target_at, unit_at, unit_index, units_in, value_indexes}
+use Rattle.bf_image.specs.declared.arms.FrozenArm.{FrozenArm}
+use Rattle.bf_image.specs.declared.migration.Migration.{Migration}
 use Rattle.bf_image.proofs.parting.MetRows.{rows_of_bound}
 use Rattle.bf_image.proofs.parting.UnitParts.{part, part_is}
 use Rattle.bf_image.proofs.parting.ValueRows.{IsOf, of_migrate, one_group, makes_with}

@@ -20,20 +20,20 @@ use Rattle.bf_sql.specs.migrations.Placed.{placed_arm}
 use Rattle.bf_sql.specs.migrations.Plans.{numbered_arms}
 use Rattle.bf_sql.specs.migrations.Targets.{arm_kind}
 use Rattle.bf_image.specs.ArmRows.{AreOfOne, CanMake}
-use Rattle.bf_migration.specs.BoundArms.{IsFrozenArm, IsJoined, entries_of}
-use Rattle.bf_migration.specs.ByValues.{Valued, by_value, positions_under}
-use Rattle.bf_migration.specs.Lawful.{IsLawful}
-use Rattle.bf_migration.specs.Migrations.{from_values, old_of, unit_at, unit_index, units_in}
-use Rattle.bf_migration.specs.PlannedUnits.{target_named}
-use Rattle.bf_migration.specs.declared.arms.FrozenArm.{FrozenArm}
-use Rattle.bf_migration.specs.declared.migration.Frozen.{Frozen}
-use Rattle.bf_migration.specs.declared.migration.Migration.{Migration}
-use Rattle.bf_migration.specs.declared.value_indexes.UnitIndex.{UnitIndex}
-use Rattle.bf_migration.proofs.Indexed.{rows_are, under_is}
+use Rattle.bf_image.specs.BoundArms.{IsFrozenArm, IsJoined, entries_of}
+use Rattle.bf_index.specs.ByValues.{Valued, by_value, positions_under}
+use Rattle.bf_image.specs.Lawful.{IsLawful}
+use Rattle.bf_image.specs.Migrations.{from_values, old_of, unit_at, unit_index, units_in}
+use Rattle.bf_image.specs.PlannedUnits.{target_named}
+use Rattle.bf_image.specs.declared.arms.FrozenArm.{FrozenArm}
+use Rattle.bf_image.specs.declared.migration.Frozen.{Frozen}
+use Rattle.bf_image.specs.declared.migration.Migration.{Migration}
+use Rattle.bf_image.specs.declared.value_indexes.UnitIndex.{UnitIndex}
+use Rattle.bf_index.proofs.Indexed.{rows_are, under_is}
 use Rattle.bf_image.proofs.making.CanMake.{can_make, can_make_of_part, part_of_one}
 use Rattle.bf_image.proofs.parting.OldTables.{rows_found}
-use Rattle.bf_migration.proofs.planning.Driven.{arm_among, named_from_numbered, target_among}
-use Rattle.bf_migration.proofs.planning.Numbered.{IsNumbered, all_numbered, arms_by_numbers, each_append, each_kept, each_of_map, named_by_numbers, without_number}
+use Rattle.bf_image.proofs.planning.Driven.{arm_among, named_from_numbered, target_among}
+use Rattle.bf_image.proofs.planning.Numbered.{IsNumbered, all_numbered, arms_by_numbers, each_append, each_kept, each_of_map, named_by_numbers, without_number}
 
 -- the rows at some positions
 abbrev pub rows_at : List (List Value) → List ℕ → List (List Value)

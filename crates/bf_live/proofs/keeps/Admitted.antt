@@ -18,10 +18,11 @@ use Rattle.bf_tree.specs.declared.reply.Refusal.TheVariants as refusal
 use Rattle.bf_sql.specs.Database.{is_admitted, is_fit}
 use Rattle.bf_sql.specs.Objections.{tuple_objections}
 use Rattle.bf_sql.specs.Queries.{changed}
-use Rattle.bf_sql.specs.RowObjections.{fit_objections, unfit_objections, unfit_row_objections, taken_key_objections, value_objections, change_objections}
-use Rattle.bf_query.specs.Actions.{admitted_at}
-use Rattle.bf_query.proofs.Effects.{nothing_before, not_when}
-use Rattle.bf_query.proofs.Inserting.{objections_to}
+use Rattle.bf_sql.specs.RowObjections.{fit_objections, unfit_objections, unfit_row_objections, taken_key_objections, change_objections}
+use Rattle.bf_tree.specs.ValueObjections.{value_objections}
+use Rattle.bf_live.specs.Replies.{admitted_at}
+use Rattle.bf_live.proofs.querying.Effects.{nothing_before, not_when}
+use Rattle.bf_live.proofs.querying.Inserting.{objections_to}
 
 abbrev pub IsAdmitted : Table → List Value → Type 0
 IsAdmitted table row = is_admitted table row ≡ true

@@ -25,16 +25,16 @@ use Rattle.bf_sql.specs.Objections.{objections}
 use Rattle.bf_sql.specs.Queries.{changed, selected}
 use Rattle.bf_txn.specs.declared.write.Write.{Write}
 use Rattle.bf_txn.specs.Writes.{table_key_cmp, table_key_of, with_write, writes_to}
-use Rattle.bf_query.specs.Actions.{IsChange, objections_on, action_table, write_of, writes_of, written}
-use Rattle.bf_query.specs.Meanings.{HoldRowsOf, IsBoundAs, entries_of, rows_after, writes_after}
-use Rattle.bf_query.specs.Merged.{entries_under}
-use Rattle.bf_query.proofs.AsWritten.{database_law}
-use Rattle.bf_query.proofs.Binding.{as_stored, insert_found, rows_admitted, stored_table}
-use Rattle.bf_query.proofs.Held.{own_held}
-use Rattle.bf_query.proofs.Keyed.{is_map-fold}
-use Rattle.bf_query.proofs.Merging.{rows_of}
-use Rattle.bf_query.proofs.OwnKeys.{OwnKeys, filtered, fold_keeps, own_keys, with_one_more}
-use Rattle.bf_query.proofs.RowsAsEntries.{hold_rows}
+use Rattle.bf_live.specs.Replies.{IsChange, objections_on, action_table, write_of, writes_of, written}
+use Rattle.bf_live.specs.Meanings.{HoldRowsOf, IsBoundAs, entries_of, rows_after, writes_after}
+use Rattle.bf_live.specs.Merged.{entries_under}
+use Rattle.bf_live.proofs.querying.AsWritten.{database_law}
+use Rattle.bf_live.proofs.querying.Binding.{as_stored, insert_found, rows_admitted, stored_table}
+use Rattle.bf_live.proofs.querying.Held.{own_held}
+use Rattle.bf_live.proofs.querying.Keyed.{is_map-fold}
+use Rattle.bf_live.proofs.querying.Merging.{rows_of}
+use Rattle.bf_live.proofs.querying.OwnKeys.{OwnKeys, filtered, fold_keeps, own_keys, with_one_more}
+use Rattle.bf_live.proofs.querying.RowsAsEntries.{hold_rows}
 use Rattle.bf_live.proofs.keeps.Admitted.{IsAdmitted, changed_admitted, tuples_admitted}
 use Rattle.bf_live.proofs.keeps.Items.{each_passes}
 use Rattle.bf_live.proofs.keeps.Rows.{keeps_with_rows}

@@ -15,8 +15,8 @@ use Rattle.bf_tree.specs.declared.reply.Refusal.TheVariants as refusal
 use Rattle.bf_sql.specs.Database.{Database, Stored, IsDatabase, is_keyed, is_on_table, is_within, stored_at, stored_in_order, table_at, with_tables}
 use Rattle.bf_sql.specs.Meaning.{index_of, next_number, created_table, with_index}
 use Rattle.bf_sql.specs.Objections.{column_names, names_objections, new_index_objections, new_table_objections, rule_names, rules_objections, table_objections}
-use Rattle.bf_query.proofs.Binding.{found}
-use Rattle.bf_query.proofs.Effects.{nothing_before, not_when}
+use Rattle.bf_live.proofs.querying.Binding.{found}
+use Rattle.bf_live.proofs.querying.Effects.{nothing_before, not_when}
 use Rattle.bf_live.proofs.keeps.Items.{any_found, list_all_if}
 use Rattle.bf_live.proofs.keeps.Places.{named_within, new_key_within}
 use Rattle.bf_live.proofs.keeps.Rows.{are_admitted, is_key_within, name_of, stored_at-look_up}

@@ -14,7 +14,7 @@ use Rattle.bf_sql.specs.Meaning.{keyless_table, named_places, created_table}
 use Rattle.bf_sql.specs.Scopes.{twice_objections}
 use Rattle.bf_sql.specs.Objections.{column_names, names_objections, rule_names}
 use Rattle.bf_sql.specs.Scopes.{is_qualified_by, place_of, scope_of, unqualified}
-use Rattle.bf_query.proofs.Effects.{nothing_before, not_when}
+use Rattle.bf_live.proofs.querying.Effects.{nothing_before, not_when}
 
 second_of : (a b : Bool) → (a || b) ≡ true → a ≡ false → b ≡ true
 second_of true b e f = absurd cc

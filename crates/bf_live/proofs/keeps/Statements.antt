@@ -8,7 +8,7 @@ use Rattle.bf_sql.specs.Database.{Database, IsDatabase, empty_database}
 use Rattle.bf_sql.specs.Meaning.{effect, executed, unless_refused}
 use Rattle.bf_sql.specs.Objections.{objections}
 use Rattle.bf_sql.specs.RowObjections.{row_objections}
-use Rattle.bf_query.proofs.Effects.{nothing_before}
+use Rattle.bf_live.proofs.querying.Effects.{nothing_before}
 use Rattle.bf_live.specs.Autocommit.{is_autocommit}
 use Rattle.bf_live.proofs.keeps.Changes.{keeps_insert, keeps_update, keeps_delete}
 use Rattle.bf_live.proofs.keeps.New.{keeps_create_table, keeps_create_index}

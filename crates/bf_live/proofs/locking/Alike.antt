@@ -15,10 +15,10 @@ use Rattle.bf_sql.specs.Conditions.{fixed_key}
 use Rattle.bf_sql.specs.Database.{Database, Stored, IsDatabase, no_table, stored_at, table_at, table_rows}
 use Rattle.bf_sql.specs.Objections.{objections}
 use Rattle.bf_sql.specs.Queries.{selected}
-use Rattle.bf_query.specs.Meanings.{entries_of}
-use Rattle.bf_query.proofs.Binding.{as_stored}
-use Rattle.bf_query.proofs.OwnKeys.{fixed_selected}
-use Rattle.bf_query.proofs.RowsAsEntries.{hold_rows, rows_are}
+use Rattle.bf_live.specs.Meanings.{entries_of}
+use Rattle.bf_live.proofs.querying.Binding.{as_stored}
+use Rattle.bf_live.proofs.querying.OwnKeys.{fixed_selected}
+use Rattle.bf_live.proofs.querying.RowsAsEntries.{hold_rows, rows_are}
 use Rattle.bf_live.proofs.statements.Bare.{either_found, same_action, same_bound, same_objections}
 use Rattle.bf_sql.specs.Agreement.{row_at}
 

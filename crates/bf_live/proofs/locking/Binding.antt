@@ -18,9 +18,9 @@ use Rattle.bf_sql.specs.Objections.{objections}
 use Rattle.bf_sql.specs.RowObjections.{row_objections}
 use Rattle.bf_live.specs.Live.{committed}
 use Rattle.bf_txn.specs.declared.write.Write.{Write}
-use Rattle.bf_query.specs.Actions.{IsChange, objections_on, action_table, writes_of, written}
-use Rattle.bf_query.specs.Meanings.{IsBoundAs, writes_after}
-use Rattle.bf_query.proofs.AsWritten.{select_law}
+use Rattle.bf_live.specs.Replies.{IsChange, objections_on, action_table, writes_of, written}
+use Rattle.bf_live.specs.Meanings.{IsBoundAs, writes_after}
+use Rattle.bf_live.proofs.querying.AsWritten.{select_law}
 use Rattle.bf_live.specs.Open.{IsOpen, writes_behind}
 use Rattle.bf_live.proofs.statements.Committing.{committed_means, stays_open}
 use Rattle.bf_sql.specs.Agreement.{AgreeOn}

@@ -21,8 +21,8 @@ use Rattle.bf_sql.specs.Objections.{objections}
 use Rattle.bf_live.specs.Live.{committed}
 use Rattle.bf_txn.specs.declared.write.Write.{Write}
 use Rattle.bf_txn.specs.Writes.{table_key_cmp, table_key_of, with_write}
-use Rattle.bf_query.specs.Actions.{objections_on, writes_of, written}
-use Rattle.bf_query.proofs.OwnKeys.{by_recursion, with_one_more}
+use Rattle.bf_live.specs.Replies.{objections_on, writes_of, written}
+use Rattle.bf_live.proofs.querying.OwnKeys.{by_recursion, with_one_more}
 use Rattle.bf_live.specs.Open.{IsOpen, IsStep, writes_behind}
 use Rattle.bf_live.proofs.statements.Seeing.{begun}
 use Rattle.bf_sql.specs.Agreement.{AgreeAt, AgreeOn}

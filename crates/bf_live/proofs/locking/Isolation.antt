@@ -21,8 +21,8 @@ use Rattle.bf_sql.specs.Database.{Database}
 use Rattle.bf_live.specs.Live.{committed}
 use Rattle.bf_txn.specs.declared.write.Write.{Write}
 use Rattle.bf_txn.specs.Writes.{table_key_cmp, table_key_of}
-use Rattle.bf_query.proofs.Binding.{one_name}
-use Rattle.bf_query.proofs.OwnKeys.{by_recursion, each, weakened}
+use Rattle.bf_live.proofs.querying.Binding.{one_name}
+use Rattle.bf_live.proofs.querying.OwnKeys.{by_recursion, each, weakened}
 use Rattle.bf_live.specs.Open.{IsOpen}
 use Rattle.bf_live.proofs.statements.Seeing.{nothing_written, same_catalog}
 use Rattle.bf_sql.specs.Agreement.{AgreeAt, AgreeOn}

@@ -22,12 +22,12 @@ use Rattle.bf_sql.specs.Bound.{catalog_of}
 use Rattle.bf_live.specs.Live.{committed, written_to}
 use Rattle.bf_txn.specs.declared.write.Write.{Write}
 use Rattle.bf_txn.specs.Writes.{table_key_cmp, table_key_of, written_at, writes_to}
-use Rattle.bf_query.specs.Meanings.{entries_of}
-use Rattle.bf_query.specs.Merged.{applied, entries_under}
-use Rattle.bf_query.proofs.Binding.{as_stored, one_name}
-use Rattle.bf_query.proofs.Keyed.{row_under-entries_under}
-use Rattle.bf_query.proofs.OwnKeys.{OwnKeys, by_recursion, own_keys}
-use Rattle.bf_query.proofs.RowsAsEntries.{rows_are}
+use Rattle.bf_live.specs.Meanings.{entries_of}
+use Rattle.bf_live.specs.Merged.{applied, entries_under}
+use Rattle.bf_live.proofs.querying.Binding.{as_stored, one_name}
+use Rattle.bf_live.proofs.querying.Keyed.{row_under-entries_under}
+use Rattle.bf_live.proofs.querying.OwnKeys.{OwnKeys, by_recursion, own_keys}
+use Rattle.bf_live.proofs.querying.RowsAsEntries.{rows_are}
 use Rattle.bf_live.specs.Open.{IsOpen}
 use Rattle.bf_live.proofs.statements.Named.{found_among}
 use Rattle.bf_live.proofs.statements.Seeing.{Stands, same_catalog, seen_at}

@@ -18,10 +18,10 @@ use Rattle.bf_sql.specs.Meaning.{effect, executed, unless_refused}
 use Rattle.bf_sql.specs.Objections.{objections}
 use Rattle.bf_sql.specs.RowObjections.{row_objections}
 use Rattle.bf_txn.specs.declared.write.Write.{Write}
-use Rattle.bf_query.specs.Actions.{objections_on, action_table, writes_of, written}
-use Rattle.bf_query.specs.Meanings.{IsBoundAs}
-use Rattle.bf_query.proofs.AsWritten.{reply_law, select_law}
-use Rattle.bf_query.proofs.Binding.{stored_table, well_bound}
+use Rattle.bf_live.specs.Replies.{objections_on, action_table, writes_of, written}
+use Rattle.bf_live.specs.Meanings.{IsBoundAs}
+use Rattle.bf_live.proofs.querying.AsWritten.{reply_law, select_law}
+use Rattle.bf_live.proofs.querying.Binding.{stored_table, well_bound}
 use Rattle.bf_sql.specs.Agreement.{AgreeOn}
 use Rattle.bf_sql.specs.Footprints.{action_locks, catalog_change, catalog_read, footprint_of}
 use Rattle.bf_live.specs.FootprintLaw.{ActAlike, IsBoundIn, rows_of, written_behind}

@@ -24,9 +24,10 @@ use Rattle.bf_sql.specs.Conditions.{fixed_key}
 use Rattle.bf_sql.specs.Database.{Database, IsDatabase, stored_at, table_at, table_rows}
 use Rattle.bf_sql.specs.Queries.{answer_of, changed, selected}
 use Rattle.bf_tree.specs.declared.items.Items.{Items}
-use Rattle.bf_sql.specs.RowObjections.{answer_objections, change_objections, taken_key_objections, unfit_row_objections}
-use Rattle.bf_query.specs.Actions.{IsWellBound, admitted_at, change_reply, objections_on, select_reply, action_table, unless_refused, write_of, writes_of}
-use Rattle.bf_query.proofs.Binding.{as_stored}
+use Rattle.bf_sql.specs.RowObjections.{change_objections, taken_key_objections, unfit_row_objections}
+use Rattle.bf_tree.specs.ValueObjections.{answer_objections}
+use Rattle.bf_live.specs.Replies.{IsWellBound, admitted_at, change_reply, objections_on, select_reply, action_table, unless_refused, write_of, writes_of}
+use Rattle.bf_live.proofs.querying.Binding.{as_stored}
 use Rattle.bf_sql.specs.Agreement.{AgreeAt, AgreeOn, row_at}
 use Rattle.bf_sql.specs.Footprints.{Lock, action_locks, catalog_read, change_locks, in_key_order, insert_locks, read_locks}
 use Rattle.bf_live.proofs.locking.Alike.{own_table, selected_at}

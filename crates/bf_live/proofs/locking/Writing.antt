@@ -27,10 +27,10 @@ use Rattle.bf_sql.specs.Objections.{objections}
 use Rattle.bf_sql.specs.Queries.{changed}
 use Rattle.bf_sql.specs.RowObjections.{row_objections}
 use Rattle.bf_txn.specs.declared.write.Write.{Write}
-use Rattle.bf_query.specs.Actions.{IsWellBound, action_table, write_of, writes_of}
-use Rattle.bf_query.proofs.Binding.{well_bound}
-use Rattle.bf_query.proofs.FixedKey.{key_held}
-use Rattle.bf_query.proofs.OwnKeys.{each}
+use Rattle.bf_live.specs.Replies.{IsWellBound, action_table, write_of, writes_of}
+use Rattle.bf_live.proofs.querying.Binding.{well_bound}
+use Rattle.bf_sql.proofs.FixedKey.{key_held}
+use Rattle.bf_live.proofs.querying.OwnKeys.{each}
 use Rattle.bf_sql.specs.Footprints.{HasKeys, Lock, action_locks, catalog_read, change_locks, footprint_of, in_key_order, insert_locks}
 use Rattle.bf_live.specs.FootprintLaw.{IsBoundIn, IsLocked, IsLockedChange, rows_of}
 use Rattle.bf_live.proofs.locking.Elements.{behind, here, in_order_has_each, mapped}

@@ -16,14 +16,14 @@ use Rattle.bf_sql.specs.Database.{Database, Stored, IsDatabase, stored_at, table
 use Rattle.bf_sql.specs.Meaning.{executed}
 use Rattle.bf_txn.specs.declared.write.Write.{Write}
 use Rattle.bf_txn.specs.Writes.{AreWrites}
-use Rattle.bf_query.specs.Actions.{IsChange, objections_on, action_table, writes_of, written}
-use Rattle.bf_query.specs.Meanings.{IsBoundAs, entries_of, rows_after, writes_after}
-use Rattle.bf_query.specs.Merged.{rows_under}
-use Rattle.bf_query.proofs.AsWritten.{database_law}
-use Rattle.bf_query.proofs.Binding.{as_stored, one_name}
-use Rattle.bf_query.proofs.Effects.{sorted_with_all}
-use Rattle.bf_query.proofs.Keeping.{other_tables_stay, others_keep, own_kept}
-use Rattle.bf_query.proofs.OwnKeys.{by_recursion, each, weakened}
+use Rattle.bf_live.specs.Replies.{IsChange, objections_on, action_table, writes_of, written}
+use Rattle.bf_live.specs.Meanings.{IsBoundAs, entries_of, rows_after, writes_after}
+use Rattle.bf_live.specs.Merged.{rows_under}
+use Rattle.bf_live.proofs.querying.AsWritten.{database_law}
+use Rattle.bf_live.proofs.querying.Binding.{as_stored, one_name}
+use Rattle.bf_live.proofs.querying.Effects.{sorted_with_all}
+use Rattle.bf_live.proofs.querying.Keeping.{other_tables_stay, others_keep, own_kept}
+use Rattle.bf_live.proofs.querying.OwnKeys.{by_recursion, each, weakened}
 use Rattle.bf_live.proofs.keeps.Changes.{keeps_insert, keeps_update, keeps_delete}
 use Rattle.bf_live.specs.Live.{committed, written_to}
 use Rattle.bf_live.specs.Actions.{IsOn}

@@ -19,8 +19,8 @@ use Rattle.bf_tree.specs.declared.statement.Statement.TheVariants.{CreateTable, 
 use Rattle.bf_sql.specs.Database.{Database, Stored, IsDatabase, stored_at, stored_in_order, table_at, with_tables}
 use Rattle.bf_sql.specs.Meaning.{effect, executed, index_of, next_number, created_table, unless_refused, with_index}
 use Rattle.bf_sql.specs.Objections.{names_objections, objections, rule_names, rules_objections}
-use Rattle.bf_query.specs.Meanings.{IsBoundAs}
-use Rattle.bf_query.proofs.Effects.{nothing_before, not_when}
+use Rattle.bf_live.specs.Meanings.{IsBoundAs}
+use Rattle.bf_live.proofs.querying.Effects.{nothing_before, not_when}
 use Rattle.bf_sql.specs.Bound.{catalog_of}
 use Rattle.bf_live.proofs.keeps.New.{keeps_create_table, keeps_create_index}
 

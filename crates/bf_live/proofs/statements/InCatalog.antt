@@ -11,8 +11,8 @@ use Rattle.bf_tree.specs.declared.reply.Reply.TheVariants as reply
 use Rattle.bf_tree.specs.declared.statement.Statement.{Statement}
 use Rattle.bf_sql.specs.Database.{Database, IsDatabase}
 use Rattle.bf_sql.specs.Meaning.{executed}
-use Rattle.bf_query.specs.Actions.{action_table}
-use Rattle.bf_query.specs.Meanings.{IsBoundAs}
+use Rattle.bf_live.specs.Replies.{action_table}
+use Rattle.bf_live.specs.Meanings.{IsBoundAs}
 use Rattle.bf_live.specs.Autocommit.{is_autocommit}
 use Rattle.bf_live.specs.Live.{committed}
 use Rattle.bf_txn.specs.declared.write.Write.{Write}

@@ -13,12 +13,12 @@ use Rattle.bf_tree.specs.declared.reply.Refusal.{Refusal}
 use Rattle.bf_tree.specs.declared.statement.Statement.{Statement}
 use Rattle.bf_sql.specs.Database.{Database, Stored, IsDatabase, stored_at, table_rows}
 use Rattle.bf_txn.specs.declared.write.Write.{Write}
-use Rattle.bf_query.specs.Actions.{HaveOwnKeys, IsChange, objections_on, rows_for, action_table, writes_of, written}
-use Rattle.bf_query.specs.Meanings.{HoldRowsOf, IsBoundAs, entries_of, writes_after}
-use Rattle.bf_query.specs.Merged.{StandUnderOwnKeys, rows_under}
-use Rattle.bf_query.proofs.Binding.{as_stored, leaves_keys, stored_table, well_bound}
-use Rattle.bf_query.proofs.OwnKeys.{by_recursion}
-use Rattle.bf_query.proofs.RowsAsEntries.{hold_rows}
+use Rattle.bf_live.specs.Replies.{HaveOwnKeys, IsChange, objections_on, rows_for, action_table, writes_of, written}
+use Rattle.bf_live.specs.Meanings.{HoldRowsOf, IsBoundAs, entries_of, writes_after}
+use Rattle.bf_live.specs.Merged.{StandUnderOwnKeys, rows_under}
+use Rattle.bf_live.proofs.querying.Binding.{as_stored, leaves_keys, stored_table, well_bound}
+use Rattle.bf_live.proofs.querying.OwnKeys.{by_recursion}
+use Rattle.bf_live.proofs.querying.RowsAsEntries.{hold_rows}
 use Rattle.bf_live.specs.Live.{committed, written_to}
 use Rattle.bf_live.specs.Actions.{IsOn}
 use Rattle.bf_live.specs.Open.{IsOpen}

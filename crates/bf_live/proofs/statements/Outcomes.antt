@@ -15,8 +15,8 @@ use Rattle.bf_sql.specs.Database.{Database, IsDatabase}
 use Rattle.bf_sql.specs.Meaning.{effect, executed, unless_refused}
 use Rattle.bf_sql.specs.Objections.{objections}
 use Rattle.bf_sql.specs.RowObjections.{row_objections}
-use Rattle.bf_query.specs.Actions.{action_table}
-use Rattle.bf_query.specs.Meanings.{IsBoundAs, writes_after}
+use Rattle.bf_live.specs.Replies.{action_table}
+use Rattle.bf_live.specs.Meanings.{IsBoundAs, writes_after}
 use Rattle.bf_live.specs.Autocommit.{is_autocommit}
 use Rattle.bf_txn.specs.declared.write.Write.{Write}
 use Rattle.bf_live.specs.Open.{writes_behind}

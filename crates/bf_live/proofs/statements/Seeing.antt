@@ -4,11 +4,11 @@ use Rattle.bf_base.specs.declared.value.Value.{Value}
 use Rattle.bf_base.specs.declared.table.Table.{Table}
 use Rattle.bf_base.specs.Lists.{same_name}
 use Rattle.bf_tree.specs.Limits.{HasNarrowTables}
-use Rattle.bf_query.specs.Meanings.{entries_of}
-use Rattle.bf_query.specs.Merged.{StandUnderOwnKeys}
-use Rattle.bf_query.proofs.Binding.{as_stored}
-use Rattle.bf_query.proofs.OwnKeys.{each, weakened}
-use Rattle.bf_query.proofs.RowsAsEntries.{hold_rows, rows_are}
+use Rattle.bf_live.specs.Meanings.{entries_of}
+use Rattle.bf_live.specs.Merged.{StandUnderOwnKeys}
+use Rattle.bf_live.proofs.querying.Binding.{as_stored}
+use Rattle.bf_live.proofs.querying.OwnKeys.{each, weakened}
+use Rattle.bf_live.proofs.querying.RowsAsEntries.{hold_rows, rows_are}
 use Rattle.bf_tree.specs.declared.catalog.Catalog.{Catalog}
 use Rattle.bf_sql.specs.Database.{Database, Stored, IsDatabase, stored_at}
 use Rattle.bf_sql.specs.Bound.{catalog_of}

@@ -12,9 +12,9 @@ use Rattle.bf_tree.specs.declared.reply.Reply.{Reply}
 use Rattle.bf_tree.specs.declared.statement.Statement.{Statement}
 use Rattle.bf_sql.specs.Database.{Database, IsDatabase, stored_at, table_rows}
 use Rattle.bf_sql.specs.Meaning.{executed}
-use Rattle.bf_query.specs.Actions.{IsChange, IsSelect, change_reply, objections_on, rows_for, select_reply, action_table, writes_of, written}
-use Rattle.bf_query.specs.Meanings.{IsBoundAs, entries_of, writes_after}
-use Rattle.bf_query.proofs.AsWritten.{reply_law, select_law}
+use Rattle.bf_live.specs.Replies.{IsChange, IsSelect, change_reply, objections_on, rows_for, select_reply, action_table, writes_of, written}
+use Rattle.bf_live.specs.Meanings.{IsBoundAs, entries_of, writes_after}
+use Rattle.bf_live.proofs.querying.AsWritten.{reply_law, select_law}
 use Rattle.bf_live.specs.Live.{committed}
 use Rattle.bf_txn.specs.declared.write.Write.{Write}
 use Rattle.bf_live.specs.Open.{IsOpen, IsStep}

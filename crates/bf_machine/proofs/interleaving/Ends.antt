@@ -1,7 +1,7 @@
 -- Commit and abort keep all.
 use Rattle.std.proofs.Common.{◌≡◌, ◌⊎◌, ℕ, ◌+◌, Bool, true, false, List, [], ◌∷◌, ◌++◌, length, map, Option, Some, refl, sym, ap, subst, ◌∙◌, arith, inr}
 use Rattle.boxcar.specs.Table.{Where}
-use Rattle.bf_migration.specs.declared.migration.Migration.{Migration}
+use Rattle.bf_image.specs.declared.migration.Migration.{Migration}
 use Rattle.bf_tree.specs.declared.history.Outcome.{Outcome}
 use Rattle.bf_tree.specs.declared.history.Outcome.TheVariants.{Committed, RolledBack}
 use Rattle.bf_tree.specs.declared.history.Entry.{Entry}

@@ -29,7 +29,7 @@ use Rattle.bf_sql.specs.RowObjections.{row_objections}
 use Rattle.bf_sql.specs.migrations.Images.{flipped, image_of}
 use Rattle.bf_sql.specs.migrations.MigrationObjections.{sources_of}
 use Rattle.bf_sql.specs.migrations.Targets.{first_arm, target_table}
-use Rattle.bf_migration.proofs.items.Lists.{all_append, all_kept, all_of_map, all_so}
+use Rattle.bf_image.proofs.items.Lists.{all_append, all_kept, all_of_map, all_so}
 use Rattle.bf_live.proofs.statements.Creating.{narrow_with_new}
 use Rattle.bf_machine.specs.interleaving.Kept.{IsWithinLimits}
 

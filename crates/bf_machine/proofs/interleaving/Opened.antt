@@ -17,12 +17,13 @@ use Rattle.bf_heap.specs.Heaps.{Entry, key_of_entry, row_under}
 use Rattle.bf_txn.specs.declared.write.Write.{Write}
 use Rattle.bf_txn.specs.Writes.{AreWrites, writes_to}
 use Rattle.bf_sql.specs.Database.{Database, Stored, is_admitted, is_keyed, is_on_table, is_within}
-use Rattle.bf_query.specs.Meanings.{entries_of}
-use Rattle.bf_query.specs.Merged.{HasOwnKey, applied, entries_under}
-use Rattle.bf_query.proofs.Keyed.{by_key, is_map-fold, row_under-applied}
-use Rattle.bf_query.proofs.Merging.{RisesFrom, write_keys}
-use Rattle.bf_query.proofs.OwnKeys.{OwnKeys, by_recursion, each, fold_keeps, own_keys}
-use Rattle.bf_migration.proofs.items.Lists.{all_so}
+use Rattle.bf_live.specs.Meanings.{entries_of}
+use Rattle.bf_live.specs.Merged.{HasOwnKey, applied, entries_under}
+use Rattle.bf_live.proofs.querying.Keyed.{by_key, is_map-fold, row_under-applied}
+use Rattle.bf_live.proofs.querying.Merging.{write_keys}
+use Rattle.bf_index.proofs.Rising.{RisesFrom}
+use Rattle.bf_live.proofs.querying.OwnKeys.{OwnKeys, by_recursion, each, fold_keeps, own_keys}
+use Rattle.bf_image.proofs.items.Lists.{all_so}
 use Rattle.bf_live.specs.Live.{committed, written_to}
 use Rattle.bf_live.specs.Open.{IsOpen}
 use Rattle.bf_live.proofs.statements.Seeing.{Stands}

@@ -20,8 +20,8 @@ use Rattle.bf_sql.specs.migrations.Lazy.{LazyState, view_of}
 use Rattle.bf_sql.specs.migrations.MigrationObjections.{migrate_objections}
 use Rattle.bf_sql.specs.migrations.Need.{needed_for}
 use Rattle.bf_sql.specs.migrations.Plans.{plan_made, prepared_of}
-use Rattle.bf_query.specs.Actions.{action_table}
-use Rattle.bf_query.specs.Meanings.{IsBoundAs, writes_after}
+use Rattle.bf_live.specs.Replies.{action_table}
+use Rattle.bf_live.specs.Meanings.{IsBoundAs, writes_after}
 use Rattle.bf_txn.specs.declared.write.Write.{Write}
 use Rattle.bf_image.proofs.keeping.Prepared.{prepared_alike}
 use Rattle.bf_live.specs.Live.{committed}

@@ -30,8 +30,8 @@ use Rattle.bf_sql.specs.migrations.Images.{flipped}
 use Rattle.bf_sql.specs.migrations.MigrationObjections.{migrate_objections}
 use Rattle.bf_sql.specs.migrations.Plans.{prepared_of}
 use Rattle.bf_image.proofs.admitting.Flip.{flip_keeps}
-use Rattle.bf_query.specs.Actions.{action_table}
-use Rattle.bf_query.proofs.OwnKeys.{each}
+use Rattle.bf_live.specs.Replies.{action_table}
+use Rattle.bf_live.proofs.querying.OwnKeys.{each}
 use Rattle.bf_txn.specs.declared.write.Write.{Write}
 use Rattle.bf_live.specs.Live.{committed}
 use Rattle.bf_live.specs.Open.{IsOpen, IsStep, writes_behind}

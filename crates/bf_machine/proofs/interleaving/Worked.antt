@@ -21,7 +21,7 @@ use Rattle.bf_sql.specs.Groups.{session_at}
 use Rattle.bf_sql.specs.FootprintExamples.{create}
 use Rattle.bf_sql.specs.Footprints.{Lock, catalog_change}
 use Rattle.bf_live.specs.OpenGroups.{Holds, HoldsIn}
-use Rattle.bf_query.proofs.OwnKeys.{each}
+use Rattle.bf_live.proofs.querying.OwnKeys.{each}
 use Rattle.bf_machine.specs.interleaving.Events.{Asks, Begins, Commits, Executes, asks, at_once, begins, begun, begun_again, asked, committed, commits_now, executes, one_more, opened, stepped, with_open}
 use Rattle.bf_machine.specs.interleaving.Examples.{YoungerIsRefused, empty_store, two_creating}
 use Rattle.bf_machine.specs.interleaving.Kept.{HasStart, IsCurrent, fresh, phase_of}

@@ -18,7 +18,7 @@ use Rattle.bf_sql.specs.Database.{Database}
 use Rattle.bf_sql.specs.Groups.{commits as commits_text}
 use Rattle.bf_sql.specs.History.{commits_with}
 use Rattle.bf_sql.specs.migrations.Lazy.{LazyState, view_of}
-use Rattle.bf_migration.specs.Registries.{Registry}
+use Rattle.bf_image.specs.Registries.{Registry}
 use Rattle.bf_store.specs.Stores.{IsByPass, IsOf, Store}
 use Rattle.bf_machine.specs.declared.so_far.Began.{Began as BeganGroup}
 use Rattle.bf_machine.specs.declared.so_far.OpenGroup.{OpenGroup}

@@ -20,7 +20,7 @@ use Rattle.bf_tree.specs.declared.script.Script.{Script}
 use Rattle.bf_sql.specs.Database.{Database}
 use Rattle.bf_sql.specs.Groups.{session_at}
 use Rattle.bf_sql.specs.History.{replayed}
-use Rattle.bf_migration.specs.Registries.{Registry}
+use Rattle.bf_image.specs.Registries.{Registry}
 use Rattle.bf_machine.specs.declared.machine.Machine.TheInside.{Inside}
 use Rattle.bf_machine.specs.declared.so_far.Began.{Began as BeganGroup}
 use Rattle.bf_machine.specs.declared.so_far.OpenGroup.{OpenGroup}

@@ -17,7 +17,7 @@ use Rattle.bf_sql.specs.Groups.{commits as commits_text, session_at}
 use Rattle.bf_sql.specs.History.{commits_with}
 use Rattle.bf_sql.specs.Database.{Database}
 use Rattle.bf_sql.specs.migrations.Lazy.{view_of}
-use Rattle.bf_migration.specs.Registries.{Registry}
+use Rattle.bf_image.specs.Registries.{Registry}
 use Rattle.bf_store.specs.Stores.{IsOf, Store}
 use Rattle.bf_machine.specs.declared.so_far.Began.{Began as BeganGroup}
 use Rattle.bf_machine.specs.declared.so_far.OpenGroup.{OpenGroup}

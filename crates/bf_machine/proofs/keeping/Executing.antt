@@ -23,7 +23,7 @@ use Rattle.bf_sql.specs.migrations.Plans.{prepared_of}
 use Rattle.bf_sql.specs.Groups.{ends_block, groups_in, has_statement, session_at, statements_in}
 use Rattle.bf_txn.specs.declared.write.Write.{Write}
 use Rattle.bf_live.specs.OpenGroups.{Holds, Replays}
-use Rattle.bf_migration.specs.Registries.{Registry}
+use Rattle.bf_image.specs.Registries.{Registry}
 use Rattle.bf_store.specs.States.{HaveMoved}
 use Rattle.bf_store.specs.Stores.{Store}
 use Rattle.bf_machine.specs.declared.so_far.Began.{Began as BeganGroup}

@@ -11,7 +11,7 @@ use Rattle.bf_tree.specs.declared.script.Session.{Session}
 use Rattle.bf_sql.specs.Bound.{catalog_of}
 use Rattle.bf_sql.specs.Database.{Database}
 use Rattle.bf_sql.specs.migrations.Lazy.{view_of}
-use Rattle.bf_migration.specs.Registries.{Registry}
+use Rattle.bf_image.specs.Registries.{Registry}
 use Rattle.bf_store.specs.Stores.{IsOf, Store}
 use Rattle.bf_sql.specs.Groups.{no_session, session_at}
 use Rattle.bf_machine.specs.declared.so_far.SessionSoFar.{SessionSoFar}

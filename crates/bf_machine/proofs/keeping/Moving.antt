@@ -11,10 +11,10 @@ use Rattle.bf_tree.specs.declared.reply.Reply.{Reply}
 use Rattle.bf_tree.specs.declared.script.Script.{Script}
 use Rattle.bf_sql.specs.Database.{Database}
 use Rattle.bf_sql.specs.migrations.Lazy.{LazyState, Migration, migrations_so_far, view_of}
-use Rattle.bf_migration.specs.Migrations.{value_indexes}
-use Rattle.bf_migration.specs.Registries.{Registry}
-use Rattle.bf_migration.specs.declared.migration.Migration.{Migration as Kept}
-use Rattle.bf_migration.specs.declared.value_indexes.UnitIndex.{UnitIndex}
+use Rattle.bf_image.specs.Migrations.{value_indexes}
+use Rattle.bf_image.specs.Registries.{Registry}
+use Rattle.bf_image.specs.declared.migration.Migration.{Migration as Kept}
+use Rattle.bf_image.specs.declared.value_indexes.UnitIndex.{UnitIndex}
 use Rattle.bf_store.specs.States.{AreGranules, AreGranulesIfAny, with_moved}
 use Rattle.bf_store.specs.Stores.{AreIndexesOf, IsByPass, IsOf, Store, migration_of}
 use Rattle.bf_store.proofs.moving.Ordered.{moves_in_order}

@@ -15,7 +15,7 @@ use Rattle.bf_tree.specs.declared.script.Session.{Session}
 use Rattle.bf_sql.specs.Database.{Database}
 use Rattle.bf_sql.specs.Groups.{no_session, session_at}
 use Rattle.bf_txn.specs.declared.write.Write.{Write}
-use Rattle.bf_migration.specs.Registries.{Registry}
+use Rattle.bf_image.specs.Registries.{Registry}
 use Rattle.bf_store.specs.Stores.{Store}
 use Rattle.bf_machine.specs.declared.so_far.Began.{Began as BeganGroup}
 use Rattle.bf_machine.specs.declared.so_far.OpenGroup.{OpenGroup}

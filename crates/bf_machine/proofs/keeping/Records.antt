@@ -10,7 +10,7 @@ use Rattle.bf_base.specs.Lists.{has}
 use Rattle.bf_base.proofs.Apart.{apart-filter, rises-filter}
 use Rattle.bf_sql.specs.migrations.Granules.{granules_of, same_granule}
 use Rattle.bf_sql.specs.migrations.Lazy.{LazyState, Migration, is_done, with_record_of_moves}
-use Rattle.bf_migration.specs.declared.migration.Migration.{Migration as Kept}
+use Rattle.bf_image.specs.declared.migration.Migration.{Migration as Kept}
 use Rattle.bf_store.specs.States.{by_place, place_cmp, to_move, with_moved}
 use Rattle.bf_store.specs.Stores.{IsByPass, migration_of}
 use Rattle.bf_store.proofs.Granules.{granule_cmp_total}

@@ -17,7 +17,7 @@ use Rattle.bf_sql.specs.Bound.{catalog_of}
 use Rattle.bf_sql.specs.Database.{Database, Stored, IsDatabase, is_admitted, is_keyed, is_on_table, is_within, stored_at, stored_in_order, with_tables}
 use Rattle.bf_sql.specs.Meaning.{next_number, with_index}
 use Rattle.bf_sql.specs.migrations.Lazy.{LazyState, seen, view_of}
-use Rattle.bf_migration.proofs.items.Lists.{all_so}
+use Rattle.bf_image.proofs.items.Lists.{all_so}
 use Rattle.bf_store.specs.States.{IsLazy}
 use Rattle.bf_store.proofs.changing.Changing.{view_with_table}
 use Rattle.bf_store.proofs.coming.Found.{name_of}

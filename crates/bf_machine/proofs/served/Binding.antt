@@ -19,8 +19,8 @@ use Rattle.bf_sql.specs.migrations.Plans.{prepared_action, prepared_of}
 use Rattle.bf_tree.specs.declared.bound.Action.{Action}
 use Rattle.bf_tree.specs.declared.bound.Action.TheVariants as action
 use Rattle.bf_sql.specs.Footprints.{HasKeys}
-use Rattle.bf_query.specs.Actions.{IsWellBound}
-use Rattle.bf_query.proofs.Binding.{well_bound}
+use Rattle.bf_live.specs.Replies.{IsWellBound}
+use Rattle.bf_live.proofs.querying.Binding.{well_bound}
 use Rattle.bf_live.proofs.locking.Reading.{parts_of}
 use Rattle.bf_sql.specs.Groups.{no_session, session_at}
 use Rattle.bf_image.proofs.keeping.Prepared.{bare_catalog, prepared_alike}

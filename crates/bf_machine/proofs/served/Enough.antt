@@ -12,8 +12,8 @@ use Rattle.bf_sql.specs.Database.{Database}
 use Rattle.bf_sql.specs.migrations.Granules.{granules_of, same_granule}
 use Rattle.bf_sql.specs.migrations.Lazy.{LazyState, Migration, anchored, is_done, pending, sweep_by, sweep_of}
 use Rattle.bf_sql.specs.migrations.Need.{needed_for}
-use Rattle.bf_migration.specs.declared.migration.Migration.{Migration as Kept}
-use Rattle.bf_migration.proofs.items.Lists.{all_so}
+use Rattle.bf_image.specs.declared.migration.Migration.{Migration as Kept}
+use Rattle.bf_image.proofs.items.Lists.{all_so}
 use Rattle.bf_store.specs.States.{IsComplete, IsUnderWayIfAny, granules_done, need_of, to_move}
 use Rattle.bf_store.specs.Stores.{IsByPass}
 use Rattle.bf_store.proofs.coming.Parts.{granules_apart}

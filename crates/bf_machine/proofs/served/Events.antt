@@ -10,7 +10,7 @@ use Rattle.bf_tree.specs.declared.statement.Statement.{Statement}
 use Rattle.boxcar.specs.Table.{Where}
 use Rattle.bf_sql.specs.Database.{Database}
 use Rattle.bf_sql.specs.migrations.Lazy.{LazyState}
-use Rattle.bf_migration.specs.declared.migration.Migration.{Migration}
+use Rattle.bf_image.specs.declared.migration.Migration.{Migration}
 use Rattle.bf_sql.specs.Groups.{session_at}
 use Rattle.bf_machine.specs.interleaving.Calls.{replies_at, statements_at}
 use Rattle.bf_machine.specs.interleaving.Events.{Begins, ended, opened, rest_of, text_of, with_open}

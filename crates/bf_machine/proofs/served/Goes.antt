@@ -17,7 +17,7 @@ use Rattle.bf_tree.specs.declared.statement.Statement.TheVariants.{Commit, Rollb
 use Rattle.boxcar.specs.Table.{Where}
 use Rattle.bf_sql.specs.Database.{Database}
 use Rattle.bf_sql.specs.migrations.Lazy.{LazyState}
-use Rattle.bf_migration.specs.declared.migration.Migration.{Migration}
+use Rattle.bf_image.specs.declared.migration.Migration.{Migration}
 use Rattle.bf_sql.specs.Groups.{commits, ends_block, groups_in, has_statement, session_at, statements_in, statements_of}
 use Rattle.bf_machine.specs.Movement.{moving_seen, with_need}
 use Rattle.bf_machine.specs.interleaving.Calls.{replies_at, statements_at}

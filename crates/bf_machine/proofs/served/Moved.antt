@@ -18,7 +18,7 @@ use Rattle.bf_sql.specs.migrations.Lazy.{DoneGranule, LazyState, Migration, done
 use Rattle.bf_sql.specs.migrations.Need.{needed, needed_by, needed_for}
 use Rattle.bf_sql.specs.migrations.Plans.{prepared_of}
 use Rattle.bf_image.proofs.finding.Found.{same_granule-equal, same_granule-itself}
-use Rattle.bf_migration.proofs.items.Lists.{all_so, filter_equal_where, has_own}
+use Rattle.bf_image.proofs.items.Lists.{all_so, filter_equal_where, has_own}
 use Rattle.bf_store.specs.States.{by_place, need_of, to_move, with_moved}
 use Rattle.bf_store.proofs.moving.Moving.{has_if_passes}
 use Rattle.bf_store.proofs.moving.Needing.{none_left_if_done}

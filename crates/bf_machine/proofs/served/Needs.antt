@@ -18,9 +18,9 @@ use Rattle.bf_sql.specs.Database.{Database}
 use Rattle.bf_sql.specs.migrations.Granules.{granules_of, same_granule}
 use Rattle.bf_sql.specs.migrations.Lazy.{LazyState, Migration, is_done}
 use Rattle.bf_sql.specs.migrations.Need.{giving, has_key_of, may_satisfy, needed_for, target_of}
-use Rattle.bf_migration.specs.Migrations.{old_of}
-use Rattle.bf_migration.specs.declared.migration.Migration.{Migration as Kept}
-use Rattle.bf_migration.proofs.items.Lists.{all_kept}
+use Rattle.bf_image.specs.Migrations.{old_of}
+use Rattle.bf_image.specs.declared.migration.Migration.{Migration as Kept}
+use Rattle.bf_image.proofs.items.Lists.{all_kept}
 use Rattle.bf_store.specs.States.{AreGranules, AreGranulesIfAny, IsLazy, IsUnderWayIfAny, need_of, to_move, with_moved}
 use Rattle.bf_store.specs.Stores.{IsByPass, migration_of}
 use Rattle.bf_store.proofs.coming.Parts.{granules_apart}

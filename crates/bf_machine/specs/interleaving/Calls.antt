@@ -8,7 +8,7 @@ use Rattle.bf_tree.specs.declared.script.Script.{Script}
 use Rattle.bf_tree.specs.declared.statement.Statement.{Statement}
 use Rattle.bf_base.specs.declared.granule.Granule.{Granule}
 use Rattle.boxcar.specs.Table.{Where}
-use Rattle.bf_migration.specs.declared.migration.Migration.{Migration}
+use Rattle.bf_image.specs.declared.migration.Migration.{Migration}
 use Rattle.bf_sql.specs.migrations.Plans.{prepared_of}
 use Rattle.bf_store.specs.States.{IsComplete, to_move}
 use Rattle.bf_transpose.specs.Covers.{IsCoverOf}

@@ -9,7 +9,7 @@ use Rattle.bf_tree.specs.declared.script.Script.{Script}
 use Rattle.bf_sql.specs.Database.{Database}
 use Rattle.bf_sql.specs.Groups.{statements_in}
 use Rattle.bf_sql.specs.migrations.Lazy.{LazyState}
-use Rattle.bf_migration.specs.declared.migration.Migration.{Migration}
+use Rattle.bf_image.specs.declared.migration.Migration.{Migration}
 use Rattle.bf_live.specs.OpenGroups.{Answered}
 use Rattle.bf_machine.specs.interleaving.Groups.{Pending, answered_by}
 

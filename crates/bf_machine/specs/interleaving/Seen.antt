@@ -12,7 +12,7 @@ use Rattle.bf_tree.specs.declared.statement.Statement.TheVariants.{Begin}
 use Rattle.bf_sql.specs.Bound.{catalog_of}
 use Rattle.bf_sql.specs.Database.{Database}
 use Rattle.bf_sql.specs.migrations.Lazy.{view_of}
-use Rattle.bf_migration.specs.Registries.{Registry}
+use Rattle.bf_image.specs.Registries.{Registry}
 use Rattle.bf_store.specs.Stores.{IsOf, Store}
 use Rattle.bf_sql.specs.Groups.{ends_block, no_session, session_at}
 use Rattle.bf_machine.specs.declared.so_far.Began.{Began as BeganGroup}

@@ -15,7 +15,7 @@ use crate::settle::settle;
 use crate::so_far::{SessionSoFar, close_by, least_left_behind};
 use crate::stand::Ending;
 use bf_base::Memory;
-use bf_migration::Registry;
+use bf_image::Registry;
 use bf_tree::{Cause, Entry, Outcome, Reply};
 use std::sync::Wait;
 

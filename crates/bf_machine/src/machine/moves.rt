@@ -4,7 +4,7 @@ ghost use Rattle.std.specs.Prelude.{◌≡◌, ◌≢◌, ◌↔◌, ℕ, [], Er
 ghost use Rattle.std.specs.Option.{option_map, option_map_or};
 ghost use Rattle.boxcar.specs.Table.{Shows};
 ghost use Rattle.bf_sql.specs.migrations.Lazy.{migrations_so_far};
-ghost use Rattle.bf_migration.specs.Migrations.{value_indexes};
+ghost use Rattle.bf_image.specs.Migrations.{value_indexes};
 ghost use Rattle.bf_store.specs.Calls.{IsMoveOf, IsSweepOf};
 ghost use Rattle.bf_store.specs.States.{IsComplete, granules_done_if_any, to_move, with_moved};
 ghost use Rattle.bf_store.specs.Stores.{IsByPass, IsOf, migration_of};
@@ -21,7 +21,7 @@ use crate::machine::statements::are_same;
 use crate::opened::Opened;
 use crate::stand::MoveError;
 use bf_base::{Granule, Memory};
-use bf_migration::{MigrationPass, Registry, ValueIndexes};
+use bf_image::{MigrationPass, Registry, ValueIndexes};
 use bf_store::{Moved, Store};
 use bf_tree::Sweep;
 use std::alloc::Global;

@@ -22,7 +22,7 @@ use crate::opened::Opened;
 use crate::so_far::{OpenGroup, least_left_behind};
 use crate::stand::Step;
 use bf_base::Memory;
-use bf_migration::{MigrationPass, Registry};
+use bf_image::{MigrationPass, Registry};
 use bf_store::Store;
 use bf_transpose::Cover;
 use bf_tree::{Bound, Refusal, Reply};

@@ -22,7 +22,7 @@ use Rattle.bf_tree.specs.declared.plan.ArmKind.TheVariants.{ByFrom, ByJoin, ByPa
 use Rattle.bf_sql.specs.Database.{Database, Stored, table_rows, stored_in_order, without, with_tables}
 use Rattle.bf_sql.specs.Conditions.{condition_of}
 use Rattle.bf_sql.specs.Scopes.{Scope, read_in}
-use Rattle.bf_sql.specs.Totals.{total_of}
+use Rattle.bf_tree.specs.Totals.{total_of}
 use Rattle.bf_sql.specs.migrations.Targets.{arm_scope, arm_kind, target_table}
 use Rattle.bf_sql.specs.migrations.MigrationObjections.{sources_of}
 

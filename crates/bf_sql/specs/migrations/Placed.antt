@@ -24,7 +24,7 @@ use Rattle.bf_sql.specs.Conditions.{condition_of}
 use Rattle.bf_sql.specs.Scopes.{Scope, place_of}
 use Rattle.bf_sql.specs.migrations.Targets.{arm_scope, arm_kind}
 use Rattle.bf_sql.specs.migrations.Images.{first_row, value_or_nought}
-use Rattle.bf_sql.specs.Totals.{total_of}
+use Rattle.bf_tree.specs.Totals.{total_of}
 
 -- whether two places of a row have equal values
 abbrev pub is_equal_at : List Value → ℕ × ℕ → Bool

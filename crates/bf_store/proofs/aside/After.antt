@@ -6,8 +6,8 @@ use Rattle.bf_tree.specs.declared.plan.Plan.{Plan}
 use Rattle.bf_sql.specs.Bound.{catalog_of}
 use Rattle.bf_sql.specs.Database.{Database}
 use Rattle.bf_sql.specs.migrations.Lazy.{LazyState, migrations_so_far}
-use Rattle.bf_migration.specs.Lawful.{IsLawful}
-use Rattle.bf_migration.specs.Registries.{Registry}
+use Rattle.bf_image.specs.Lawful.{IsLawful}
+use Rattle.bf_image.specs.Registries.{Registry}
 use Rattle.bf_store.specs.Calls.{IsFlipOf, MayFlip}
 use Rattle.bf_store.specs.Flips.{IsBegun, emptied}
 use Rattle.bf_store.specs.States.{IsLazy, frozen_lazily}

@@ -10,10 +10,10 @@ use Rattle.bf_base.specs.declared.value.Value.{Value}
 use Rattle.bf_base.specs.Lists.{has, same_name}
 use Rattle.bf_base.proofs.Apart.{are_apart, apart_across, apart_left}
 use Rattle.bf_sql.specs.Database.{Database, IsDatabase, Stored, stored_at, table_rows, with_rows}
-use Rattle.bf_query.specs.Meanings.{entries_of}
+use Rattle.bf_live.specs.Meanings.{entries_of}
 use Rattle.bf_image.specs.Sources.{table_under}
-use Rattle.bf_migration.specs.declared.migration.Frozen.{Frozen}
-use Rattle.bf_migration.proofs.items.Names.{name-symmetric}
+use Rattle.bf_image.specs.declared.migration.Frozen.{Frozen}
+use Rattle.bf_image.proofs.items.Names.{name-symmetric}
 use Rattle.bf_live.specs.Aside.{set_aside}
 use Rattle.bf_live.proofs.Aside.{database_back, none_aside, one_more_is_taken, own_keys_had, put_back, stored_aside}
 use Rattle.bf_heap.specs.Heaps.{Entry}

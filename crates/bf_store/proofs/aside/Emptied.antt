@@ -22,9 +22,9 @@ use Rattle.bf_sql.specs.Database.{Database, IsDatabase, Stored, without}
 use Rattle.bf_sql.specs.migrations.MigrationObjections.{sources_of}
 use Rattle.bf_sql.specs.migrations.Plans.{plan_made}
 use Rattle.bf_sql.specs.migrations.Targets.{first_arm, target_table}
-use Rattle.bf_query.proofs.OwnKeys.{each}
-use Rattle.bf_migration.specs.Lawful.{IsLawful}
-use Rattle.bf_migration.proofs.items.Lists.{all_append, all_kept, all_of_map, all_so}
+use Rattle.bf_live.proofs.querying.OwnKeys.{each}
+use Rattle.bf_image.specs.Lawful.{IsLawful}
+use Rattle.bf_image.proofs.items.Lists.{all_append, all_kept, all_of_map, all_so}
 use Rattle.bf_live.specs.Drafts.{AreNamedApart, CanExchange, IsExchangeOf, Prepared, tables_after}
 use Rattle.bf_live.specs.Live.{IsUnderOwnKeys, TableRows, exchanged, stored}
 use Rattle.bf_live.proofs.Aside.{aside_leaves_unread, can_exchange_aside, catalog_aside}

@@ -17,13 +17,13 @@ use Rattle.bf_sql.specs.Bound.{catalog_of}
 use Rattle.bf_sql.specs.Database.{Database, IsDatabase, Stored, stored_at}
 use Rattle.bf_sql.specs.migrations.MigrationObjections.{sources_of}
 use Rattle.bf_sql.specs.migrations.Plans.{plan_made}
-use Rattle.bf_query.specs.Meanings.{entries_of}
-use Rattle.bf_query.proofs.OwnKeys.{filtered}
-use Rattle.bf_query.proofs.RowsAsEntries.{rows_are}
-use Rattle.bf_migration.specs.Lawful.{IsLawful}
-use Rattle.bf_migration.specs.Migrations.{HasOwnKeys, IsLawfulMigration, old_of, stored_of}
-use Rattle.bf_migration.specs.declared.migration.Frozen.{Frozen}
-use Rattle.bf_migration.specs.declared.migration.Migration.{Migration as Kept}
+use Rattle.bf_live.specs.Meanings.{entries_of}
+use Rattle.bf_live.proofs.querying.OwnKeys.{filtered}
+use Rattle.bf_live.proofs.querying.RowsAsEntries.{rows_are}
+use Rattle.bf_image.specs.Lawful.{IsLawful}
+use Rattle.bf_image.specs.Migrations.{HasOwnKeys, IsLawfulMigration, old_of, stored_of}
+use Rattle.bf_image.specs.declared.migration.Frozen.{Frozen}
+use Rattle.bf_image.specs.declared.migration.Migration.{Migration as Kept}
 use Rattle.bf_image.proofs.keeping.Frozen.{frozen_same}
 use Rattle.bf_image.proofs.keeping.Prepared.{plan_by_sources}
 use Rattle.bf_live.proofs.statements.Named.{IsThere, all_there, rows_there}

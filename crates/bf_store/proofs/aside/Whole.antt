@@ -9,9 +9,9 @@ use Rattle.bf_tree.specs.declared.plan.Plan.{Plan}
 use Rattle.bf_sql.specs.Bound.{catalog_of}
 use Rattle.bf_sql.specs.Database.{Database}
 use Rattle.bf_sql.specs.migrations.Plans.{plan_made}
-use Rattle.bf_migration.specs.Lawful.{IsLawful}
-use Rattle.bf_migration.specs.Migrations.{IsLawfulMigration, old_of}
-use Rattle.bf_migration.specs.declared.migration.Frozen.{Frozen}
+use Rattle.bf_image.specs.Lawful.{IsLawful}
+use Rattle.bf_image.specs.Migrations.{IsLawfulMigration, old_of}
+use Rattle.bf_image.specs.declared.migration.Frozen.{Frozen}
 use Rattle.bf_live.specs.Aside.{set_aside as without_rows_of}
 use Rattle.bf_live.specs.Drafts.{AreNamedApart, CanExchange, IsExchangeOf, Prepared, tables_after}
 use Rattle.bf_live.specs.Live.{TableRows, exchanged, stored}

@@ -30,10 +30,10 @@ use Rattle.bf_sql.specs.migrations.Lazy.{Migration, LazyState, pending, pending_
 use Rattle.bf_sql.specs.migrations.Need.{needed, needed_by}
 use Rattle.bf_sql.specs.migrations.Plans.{plan_made}
 use Rattle.bf_sql.specs.migrations.Targets.{target_table}
-use Rattle.bf_query.proofs.OwnKeys.{weakened}
+use Rattle.bf_live.proofs.querying.OwnKeys.{weakened}
 use Rattle.bf_image.specs.Sources.{table_under}
-use Rattle.bf_migration.proofs.items.Lists.{none_left, none_right}
-use Rattle.bf_migration.proofs.items.Names.{name-equal}
+use Rattle.bf_image.proofs.items.Lists.{none_left, none_right}
+use Rattle.bf_image.proofs.items.Names.{name-equal}
 use Rattle.bf_image.proofs.keeping.Frozen.{objections_alike}
 use Rattle.bf_store.specs.States.{IsUnderWayIfAny, IsLazy, IsSeenAs}
 use Rattle.bf_store.proofs.changing.Flipping.{flips, seen_itself, on_time_itself, view_itself}

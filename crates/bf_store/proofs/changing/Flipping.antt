@@ -28,11 +28,11 @@ use Rattle.bf_sql.specs.migrations.Images.{image_of, replaced, flipped}
 use Rattle.bf_sql.specs.migrations.Lazy.{Migration, LazyState, pending, pending_of, rows_from, due, is_on_time, seen, view_of, begun, flipped_lazily}
 use Rattle.bf_sql.specs.migrations.MigrationObjections.{sources_of, is_taken, migrate_objections}
 use Rattle.bf_sql.specs.migrations.Targets.{target_table}
-use Rattle.bf_migration.specs.Lawful.{IsLawful}
+use Rattle.bf_image.specs.Lawful.{IsLawful}
 use Rattle.bf_image.specs.Sources.{table_under}
 use Rattle.bf_image.proofs.admitting.Flip.{all_left, kept_any}
-use Rattle.bf_migration.proofs.items.Lists.{none_left, none_right, none_when, none_of_each, all_kept, all_so}
-use Rattle.bf_migration.proofs.items.Names.{name-equal, name-itself}
+use Rattle.bf_image.proofs.items.Lists.{none_left, none_right, none_when, none_of_each, all_kept, all_so}
+use Rattle.bf_image.proofs.items.Names.{name-equal, name-itself}
 use Rattle.bf_live.proofs.statements.Named.{IsThere, all_there}
 use Rattle.bf_store.specs.States.{IsLazy, IsSeenAs}
 use Rattle.bf_store.proofs.coming.Found.{name_of, are_admitted, stored_at-look_up, has-stored_at}

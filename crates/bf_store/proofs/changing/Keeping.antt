@@ -8,8 +8,8 @@ use Rattle.bf_sql.specs.Database.{Database}
 use Rattle.bf_sql.specs.migrations.Images.{flipped}
 use Rattle.bf_sql.specs.migrations.Lazy.{LazyState, pending_of, view_of}
 use Rattle.bf_sql.specs.migrations.MigrationObjections.{sources_of}
-use Rattle.bf_migration.specs.Lawful.{IsLawful}
-use Rattle.bf_migration.proofs.items.Lists.{none_left, none_right}
+use Rattle.bf_image.specs.Lawful.{IsLawful}
+use Rattle.bf_image.proofs.items.Lists.{none_left, none_right}
 use Rattle.bf_image.proofs.keeping.Frozen.{frozen_same, frozen_lawful}
 use Rattle.bf_image.proofs.keeping.SameTables.{is_inside, target_table_same}
 use Rattle.bf_image.proofs.keeping.Sources.{arms_inside_sources, tables_same, images_same}

@@ -21,7 +21,7 @@ use Rattle.bf_sql.specs.migrations.Lazy.{DoneGranule, Migration, is_done, pendin
 use Rattle.bf_sql.specs.migrations.Targets.{target_table}
 use Rattle.bf_image.specs.Sources.{table_under}
 use Rattle.bf_image.proofs.finding.Found.{same_granule-equal}
-use Rattle.bf_migration.proofs.items.Names.{name-equal}
+use Rattle.bf_image.proofs.items.Names.{name-equal}
 use Rattle.bf_live.proofs.statements.Named.{IsThere}
 use Rattle.bf_store.specs.States.{IsUnderWay, IsUnderWayIfAny, granules_done}
 use Rattle.bf_store.proofs.coming.Found.{same_granule-symmetric, passes_if_found, each_at_found, none_if_not_found}

@@ -13,7 +13,7 @@ use Rattle.bf_base.proofs.Order.{same_from_some, symmetric, look_up, is_some-loo
 use Rattle.bf_base.proofs.Parts.{find-map}
 use Rattle.bf_sql.specs.Database.{Database, Stored, stored_at, is_admitted}
 use Rattle.bf_sql.specs.migrations.Granules.{same_place, same_granule}
-use Rattle.bf_migration.proofs.items.Lists.{all_found}
+use Rattle.bf_image.proofs.items.Lists.{all_found}
 use Rattle.bf_live.proofs.locking.Elements.{here, behind}
 use Rattle.bf_live.proofs.statements.Named.{found_among}
 

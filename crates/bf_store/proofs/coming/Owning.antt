@@ -15,7 +15,7 @@ use Rattle.bf_sql.specs.migrations.Granules.{granules_of, part_in, owner_of}
 use Rattle.bf_sql.specs.migrations.Lazy.{Migration, is_done, pending, due}
 use Rattle.bf_image.specs.Laws.{owns}
 use Rattle.bf_image.proofs.finding.Owned.{one_owner}
-use Rattle.bf_migration.proofs.items.Names.{name-equal}
+use Rattle.bf_image.proofs.items.Names.{name-equal}
 use Rattle.bf_live.proofs.statements.Named.{IsThere}
 use Rattle.bf_store.specs.States.{IsUnderWay, is_free, settled_by}
 use Rattle.bf_store.proofs.coming.Due.{made_by}

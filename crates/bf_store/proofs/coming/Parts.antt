@@ -24,13 +24,13 @@ use Rattle.bf_sql.specs.migrations.Granules.{UnitForm, rows_unit, values_unit, a
 use Rattle.bf_sql.specs.migrations.Images.{image_of}
 use Rattle.bf_sql.specs.migrations.MigrationObjections.{drivers_of, is_by_row}
 use Rattle.bf_sql.specs.migrations.Targets.{arm_kind, target_table}
-use Rattle.bf_migration.specs.Lawful.{IsLawful}
+use Rattle.bf_image.specs.Lawful.{IsLawful}
 use Rattle.bf_image.proofs.admitting.Admitted.{image_admitted}
 use Rattle.bf_image.proofs.admitting.Few.{goes_over_few, few_sources}
 use Rattle.bf_image.proofs.admitting.Flip.{key_within}
 use Rattle.bf_image.proofs.cutting.Made.{same_rows}
 use Rattle.bf_image.proofs.finding.Owned.{part_keys_apart, same_table, target_unobjected}
-use Rattle.bf_migration.proofs.items.Lists.{all_of_contained}
+use Rattle.bf_image.proofs.items.Lists.{all_of_contained}
 use Rattle.bf_live.proofs.locking.Elements.{here, behind}
 
 -- NO OTHER TABLE. A test of targets that none passes

@@ -9,10 +9,10 @@ use Rattle.bf_base.specs.declared.granule.Granule.{Granule}
 use Rattle.bf_base.specs.declared.granule.Place.{Place}
 use Rattle.bf_sql.specs.migrations.Granules.{UnitForm, anchors_of, granule, rows_unit}
 use Rattle.bf_sql.specs.migrations.Lazy.{DoneGranule, Migration, anchored, is_done}
-use Rattle.bf_migration.specs.Migrations.{IsLawfulMigration, anchored_at, anchors_in, old_of, unit_at, units_in}
-use Rattle.bf_migration.specs.PlannedUnits.{unit_form}
-use Rattle.bf_migration.specs.declared.migration.Migration.{Migration as Kept}
-use Rattle.bf_migration.proofs.planning.Units.{units_stand_for}
+use Rattle.bf_image.specs.Migrations.{IsLawfulMigration, anchored_at, anchors_in, old_of, unit_at, units_in}
+use Rattle.bf_image.specs.PlannedUnits.{unit_form}
+use Rattle.bf_image.specs.declared.migration.Migration.{Migration as Kept}
+use Rattle.bf_image.proofs.planning.Units.{units_stand_for}
 use Rattle.bf_store.specs.Anchors.{anchor_of, anchors_ahead, anchors_left, is_open, next_from, unit_anchors}
 use Rattle.bf_store.specs.Stores.{migration_of, next_anchor}
 use Rattle.bf_store.specs.declared.anchor.Anchor.{Anchor}

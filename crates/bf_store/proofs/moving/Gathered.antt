@@ -16,10 +16,10 @@ use Rattle.bf_txn.specs.declared.write.Write.{Write}
 use Rattle.bf_txn.specs.Writes.{writes_to}
 use Rattle.bf_sql.specs.Database.{Database}
 use Rattle.bf_sql.specs.migrations.Targets.{target_table}
-use Rattle.bf_migration.specs.Migrations.{IsLawfulMigration, old_of, target_at}
-use Rattle.bf_migration.specs.declared.migration.Migration.{Migration as Kept}
-use Rattle.bf_migration.proofs.cutting.Targets.{new_names}
-use Rattle.bf_migration.proofs.making.Unobjected.{names_new}
+use Rattle.bf_image.specs.Migrations.{IsLawfulMigration, old_of, target_at}
+use Rattle.bf_image.specs.declared.migration.Migration.{Migration as Kept}
+use Rattle.bf_image.proofs.cutting.Targets.{new_names}
+use Rattle.bf_image.proofs.making.Unobjected.{names_new}
 use Rattle.bf_live.specs.Live.{NamedRows}
 use Rattle.bf_live.specs.Puts.{all_puts}
 use Rattle.bf_live.proofs.Putting.{names_stay, pushed}

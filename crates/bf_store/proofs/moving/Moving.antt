@@ -19,7 +19,7 @@ use Rattle.bf_sql.specs.Database.{Database, Stored, IsDatabase, is_admitted, is_
 use Rattle.bf_sql.specs.migrations.Granules.{granules_of, same_granule}
 use Rattle.bf_sql.specs.migrations.Lazy.{Migration, is_done, pending, rows_from, due, is_early, is_on_time, seen, with_rows_of}
 use Rattle.bf_image.proofs.finding.Found.{same_granule-equal}
-use Rattle.bf_migration.proofs.items.Lists.{all_so}
+use Rattle.bf_image.proofs.items.Lists.{all_so}
 use Rattle.bf_live.proofs.statements.Named.{IsThere, all_there}
 use Rattle.bf_store.specs.States.{IsUnderWay, granules_done}
 use Rattle.bf_store.proofs.coming.Due.{due_apart, due_admitted, due_parts, with_done, done_then}

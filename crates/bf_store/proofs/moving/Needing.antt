@@ -19,7 +19,7 @@ use Rattle.bf_sql.specs.migrations.Granules.{granules_of, same_granule}
 use Rattle.bf_sql.specs.migrations.Lazy.{DoneGranule, Migration, LazyState, is_done, not_done, pending_of, done_by, with_record_of_moves, moved}
 use Rattle.bf_sql.specs.migrations.Need.{giving, needed_for}
 use Rattle.bf_image.proofs.finding.Found.{same_granule-itself}
-use Rattle.bf_migration.proofs.items.Lists.{all_kept, has_own}
+use Rattle.bf_image.proofs.items.Lists.{all_kept, has_own}
 use Rattle.bf_store.specs.States.{IsUnderWayIfAny, IsLazy, IsQuiet, AreGranules, AreGranulesIfAny, HaveMoved, granules_done, need_of, need_of_all}
 use Rattle.bf_store.proofs.coming.Parts.{granules_apart}
 use Rattle.bf_store.proofs.moving.Moves.{moves}

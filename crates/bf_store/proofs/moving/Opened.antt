@@ -14,9 +14,9 @@ use Rattle.bf_txn.specs.Writes.{writes_to}
 use Rattle.bf_sql.specs.Database.{Database, Stored, IsDatabase, stored_at}
 use Rattle.bf_sql.specs.migrations.Granules.{same_granule}
 use Rattle.bf_sql.specs.migrations.Lazy.{Migration, LazyState, pending, due, is_early, is_on_time, with_rows_of}
-use Rattle.bf_query.specs.Meanings.{entries_of}
-use Rattle.bf_query.proofs.OwnKeys.{own_keys, by_recursion, each, weakened}
-use Rattle.bf_migration.proofs.items.Lists.{all_so}
+use Rattle.bf_live.specs.Meanings.{entries_of}
+use Rattle.bf_live.proofs.querying.OwnKeys.{own_keys, by_recursion, each, weakened}
+use Rattle.bf_image.proofs.items.Lists.{all_so}
 use Rattle.bf_live.specs.Live.{committed, written_to}
 use Rattle.bf_live.proofs.statements.Named.{IsThere, all_there}
 use Rattle.bf_live.proofs.statements.Seeing.{Stands, begun}

@@ -25,13 +25,13 @@ use Rattle.bf_sql.specs.migrations.Granules.{UnitForm, rows_unit, values_unit, a
 use Rattle.bf_sql.specs.migrations.Images.{rows_of_join}
 use Rattle.bf_sql.specs.migrations.Lazy.{DoneGranule, Migration, is_done}
 use Rattle.bf_sql.specs.migrations.Targets.{arm_kind}
-use Rattle.bf_migration.specs.ByValues.{Valued, by_value, positions_of}
-use Rattle.bf_migration.specs.Migrations.{from_values, old_of, unit_at, unit_index, units_in, value_indexes}
-use Rattle.bf_migration.specs.declared.migration.Migration.{Migration as Kept}
-use Rattle.bf_migration.specs.declared.value_indexes.UnitIndex.{UnitIndex}
+use Rattle.bf_index.specs.ByValues.{Valued, by_value, positions_of}
+use Rattle.bf_image.specs.Migrations.{from_values, old_of, unit_at, unit_index, units_in, value_indexes}
+use Rattle.bf_image.specs.declared.migration.Migration.{Migration as Kept}
+use Rattle.bf_image.specs.declared.value_indexes.UnitIndex.{UnitIndex}
 use Rattle.bf_image.proofs.finding.Found.{same_granule-itself}
-use Rattle.bf_migration.proofs.items.Lists.{all_kept, has_own}
-use Rattle.bf_migration.proofs.items.Values.{same-itself, values_in_order-has}
+use Rattle.bf_image.proofs.items.Lists.{all_kept, has_own}
+use Rattle.bf_index.proofs.Values.{same-itself, values_in_order-has}
 use Rattle.bf_image.proofs.parting.ValueParts.{index_at}
 use Rattle.bf_store.specs.Anchors.{AreOf, anchors_left, has_all_groups, is_open, unit_anchors}
 use Rattle.bf_store.specs.Marks.{AreInOrder, granules_in, is_group_of}

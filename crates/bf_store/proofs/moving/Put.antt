@@ -22,12 +22,12 @@ use Rattle.bf_sql.specs.Database.{Database, IsDatabase, Stored, is_admitted, is_
 use Rattle.bf_sql.specs.migrations.Granules.{granules_of, part_in, part_of, same_granule}
 use Rattle.bf_sql.specs.migrations.Lazy.{Migration, is_done, is_on_time, pending, rows_from, with_rows_of}
 use Rattle.bf_sql.specs.migrations.Targets.{target_table}
-use Rattle.bf_query.specs.Meanings.{entries_of}
-use Rattle.bf_query.specs.Merged.{HasOwnKey, WritesOwnKey, applied, rows_under}
-use Rattle.bf_query.proofs.OwnKeys.{by_recursion, each}
-use Rattle.bf_query.proofs.RowsAsEntries.{rows_are}
+use Rattle.bf_live.specs.Meanings.{entries_of}
+use Rattle.bf_live.specs.Merged.{HasOwnKey, WritesOwnKey, applied, rows_under}
+use Rattle.bf_live.proofs.querying.OwnKeys.{by_recursion, each}
+use Rattle.bf_live.proofs.querying.RowsAsEntries.{rows_are}
 use Rattle.bf_image.specs.Sources.{table_under}
-use Rattle.bf_migration.proofs.items.Names.{name-equal}
+use Rattle.bf_image.proofs.items.Names.{name-equal}
 use Rattle.bf_live.specs.Live.{NamedRows, committed, written_to}
 use Rattle.bf_live.specs.Puts.{all_puts}
 use Rattle.bf_live.proofs.statements.Named.{IsThere, all_there}

@@ -31,11 +31,11 @@ use Rattle.bf_txn.specs.declared.write.Write.{Write}
 use Rattle.bf_txn.specs.Writes.{writes_to}
 use Rattle.bf_sql.specs.migrations.Targets.{target_table}
 use Rattle.bf_store.specs.Puts.{put_of}
-use Rattle.bf_query.specs.Merged.{HasOwnKey, StandUnderOwnKeys, WritesOwnKey, applied, entries_under, rows_under}
-use Rattle.bf_query.proofs.Binding.{row_within}
-use Rattle.bf_query.proofs.Effects.{rows_placed, tuple_write}
-use Rattle.bf_query.proofs.Keyed.{is_map-fold}
-use Rattle.bf_query.proofs.OwnKeys.{each, own_keys}
+use Rattle.bf_live.specs.Merged.{HasOwnKey, StandUnderOwnKeys, WritesOwnKey, applied, entries_under, rows_under}
+use Rattle.bf_live.proofs.querying.Binding.{row_within}
+use Rattle.bf_live.proofs.querying.Effects.{rows_placed, tuple_write}
+use Rattle.bf_live.proofs.querying.Keyed.{is_map-fold}
+use Rattle.bf_live.proofs.querying.OwnKeys.{each, own_keys}
 
 pub same_itself : (name : List ℕ) → same_name name name ≡ true
 same_itself name = same_name-tie name name ∙ ap is_eq (tied_itself name_cmp_total name)

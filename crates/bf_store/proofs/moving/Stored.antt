@@ -13,7 +13,7 @@ use Rattle.bf_sql.specs.Database.{Database, Stored}
 use Rattle.bf_sql.specs.migrations.Granules.{granules_of, same_granule}
 use Rattle.bf_sql.specs.migrations.Lazy.{DoneGranule, LazyState, Migration, is_done, not_done, with_record_of_moves, with_rows_of}
 use Rattle.bf_image.proofs.finding.Found.{same_granule-itself}
-use Rattle.bf_migration.proofs.items.Lists.{all_kept}
+use Rattle.bf_image.proofs.items.Lists.{all_kept}
 use Rattle.bf_store.specs.Calls.{IsMoveOf, moved_by}
 use Rattle.bf_store.specs.declared.moved.Moved.{Moved}
 use Rattle.bf_store.specs.Marks.{AreInOrder, granules_in, left_of, marked}

@@ -15,7 +15,7 @@ use Rattle.bf_sql.specs.migrations.Images.{arm_rows}
 use Rattle.bf_sql.specs.migrations.MigrationObjections.{drivers_of, is_by_row}
 use Rattle.bf_sql.specs.migrations.Targets.{arm_kind}
 use Rattle.bf_image.proofs.owning.Armed.{each_at}
-use Rattle.bf_migration.proofs.planning.Numbered.{each_append, each_of_blocks, each_of_map, each_kept}
+use Rattle.bf_image.proofs.planning.Numbered.{each_append, each_of_blocks, each_of_map, each_kept}
 
 module _ (P : Target → Type 0) where
   each_paired : {X : Type 0} (t : Target) → P t → (xs : List X) → AllByRecursion (λ (p : Target × X). P p.0) (map (λ x. (t, x)) xs)

@@ -15,11 +15,11 @@ use Rattle.bf_txn.specs.Writes.{writes_to}
 use Rattle.bf_sql.specs.Database.{Database, Stored, stored_at}
 use Rattle.bf_sql.specs.migrations.Lazy.{Migration, LazyState, due, is_early, is_on_time, seen, view_of}
 use Rattle.bf_sql.specs.migrations.Targets.{target_table}
-use Rattle.bf_query.specs.Meanings.{entries_of}
-use Rattle.bf_query.specs.Merged.{entries_under, rows_under, StandUnderOwnKeys}
-use Rattle.bf_query.proofs.OwnKeys.{OwnKeys, own_keys, by_recursion}
+use Rattle.bf_live.specs.Meanings.{entries_of}
+use Rattle.bf_live.specs.Merged.{entries_under, rows_under, StandUnderOwnKeys}
+use Rattle.bf_live.proofs.querying.OwnKeys.{OwnKeys, own_keys, by_recursion}
 use Rattle.bf_image.specs.Sources.{table_under}
-use Rattle.bf_migration.proofs.items.Names.{name-equal}
+use Rattle.bf_image.proofs.items.Names.{name-equal}
 use Rattle.bf_live.specs.Live.{committed, written_to}
 use Rattle.bf_live.proofs.statements.Named.{IsThere, all_there}
 use Rattle.bf_store.specs.States.{IsUnderWayIfAny, IsLazy, IsSeenAs, AreFree, IsOpenLazily, under}

@@ -20,8 +20,8 @@ use Rattle.bf_sql.specs.migrations.Need.{needed, needed_by}
 use Rattle.bf_sql.specs.migrations.Plans.{kind_by_values, numbered_arms, plan_made, planned_units, prepared_of}
 use Rattle.bf_sql.specs.migrations.Targets.{arm_kind, arm_sources}
 use Rattle.bf_image.specs.Sources.{HaveSameTables}
-use Rattle.bf_migration.proofs.items.Lists.{has_own}
-use Rattle.bf_migration.proofs.items.Names.{name-itself}
+use Rattle.bf_image.proofs.items.Lists.{has_own}
+use Rattle.bf_image.proofs.items.Names.{name-itself}
 use Rattle.bf_image.proofs.keeping.Frozen.{arms_alike, objections_alike, tables_alike}
 use Rattle.bf_image.proofs.keeping.SameTables.{drivers_same, kinds}
 use Rattle.bf_image.proofs.keeping.Sources.{arms_inside_sources}

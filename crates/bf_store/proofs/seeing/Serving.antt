@@ -28,13 +28,14 @@ use Rattle.bf_tree.specs.Trees.{Expr, Cond, always, compared, between, opposite}
 use Rattle.bf_tree.specs.Trees.{both, either}
 use Rattle.bf_sql.specs.Database.{Database, Stored, same_admit, same_column, same_table}
 use Rattle.bf_sql.specs.Queries.{selected, answer_of, changed}
-use Rattle.bf_sql.specs.RowObjections.{unfit_row_objections, taken_key_objections, answer_objections, change_objections}
+use Rattle.bf_sql.specs.RowObjections.{unfit_row_objections, taken_key_objections, change_objections}
+use Rattle.bf_tree.specs.ValueObjections.{answer_objections}
 use Rattle.bf_sql.specs.migrations.Granules.{granules_of, part_in}
 use Rattle.bf_sql.specs.migrations.Lazy.{Migration, is_done, pending, due}
 use Rattle.bf_sql.specs.migrations.Need.{mentions_total, may_satisfy, has_key_of, target_of, giving, needed_for}
 use Rattle.bf_sql.specs.migrations.Targets.{target_table}
-use Rattle.bf_query.specs.Actions.{action_table, admitted_at, objections_on, select_reply, change_reply, writes_of, write_of, unless_refused}
-use Rattle.bf_migration.proofs.items.Names.{name-equal, name-itself}
+use Rattle.bf_live.specs.Replies.{action_table, admitted_at, objections_on, select_reply, change_reply, writes_of, write_of, unless_refused}
+use Rattle.bf_image.proofs.items.Names.{name-equal, name-itself}
 use Rattle.bf_live.proofs.statements.Named.{IsThere}
 use Rattle.bf_store.specs.States.{IsUnderWay, IsUnderWayIfAny, HaveMoved}
 use Rattle.bf_store.proofs.coming.Due.{made_by}

@@ -25,11 +25,11 @@ use Rattle.bf_sql.specs.Objections.{objections}
 use Rattle.bf_sql.specs.Queries.{selected, changed}
 use Rattle.bf_sql.specs.migrations.Lazy.{LazyState, due, is_early, seen, view_of}
 use Rattle.bf_sql.specs.migrations.Need.{needed_for, has_key_of, giving, target_of}
-use Rattle.bf_query.specs.Actions.{action_table, IsSelect, IsChange, objections_on, select_reply, change_reply, writes_of, written, rows_for, write_of}
-use Rattle.bf_query.specs.Meanings.{IsBoundAs, entries_of}
-use Rattle.bf_query.proofs.AsWritten.{select_law, reply_law}
-use Rattle.bf_query.proofs.Binding.{as_stored, stored_table}
-use Rattle.bf_query.proofs.OwnKeys.{by_recursion, each, with_one_more, weakened}
+use Rattle.bf_live.specs.Replies.{action_table, IsSelect, IsChange, objections_on, select_reply, change_reply, writes_of, written, rows_for, write_of}
+use Rattle.bf_live.specs.Meanings.{IsBoundAs, entries_of}
+use Rattle.bf_live.proofs.querying.AsWritten.{select_law, reply_law}
+use Rattle.bf_live.proofs.querying.Binding.{as_stored, stored_table}
+use Rattle.bf_live.proofs.querying.OwnKeys.{by_recursion, each, with_one_more, weakened}
 use Rattle.bf_live.specs.Live.{committed, written_to}
 use Rattle.bf_live.specs.Open.{IsOpen, IsStep}
 use Rattle.bf_live.proofs.statements.Bare.{same_objections, same_action}

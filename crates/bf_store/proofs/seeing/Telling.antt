@@ -21,12 +21,13 @@ use Rattle.bf_txn.specs.Writes.{KeyWrite, table_key_of, writes_in, writes_to}
 use Rattle.bf_txn.proofs.Tables.{table_key_cmp_total}
 use Rattle.bf_sql.specs.Database.{Database, IsDatabase, Stored, stored_at, table_at, table_rows}
 use Rattle.bf_sql.specs.migrations.Lazy.{LazyState, due, seen, view_of}
-use Rattle.bf_query.specs.Meanings.{entries_of}
-use Rattle.bf_query.specs.Merged.{WritesOwnKey, applied, changed_by}
-use Rattle.bf_query.proofs.Keyed.{by_key, row_under-applied}
-use Rattle.bf_query.proofs.Merging.{RisesFrom, rows_of, write_keys}
-use Rattle.bf_query.proofs.OwnKeys.{by_recursion, each, filtered}
-use Rattle.bf_migration.proofs.items.Names.{name-equal}
+use Rattle.bf_live.specs.Meanings.{entries_of}
+use Rattle.bf_live.specs.Merged.{WritesOwnKey, applied, changed_by}
+use Rattle.bf_live.proofs.querying.Keyed.{by_key, row_under-applied}
+use Rattle.bf_live.proofs.querying.Merging.{rows_of, write_keys}
+use Rattle.bf_index.proofs.Rising.{RisesFrom}
+use Rattle.bf_live.proofs.querying.OwnKeys.{by_recursion, each, filtered}
+use Rattle.bf_image.proofs.items.Names.{name-equal}
 use Rattle.bf_live.specs.Live.{committed, written_to}
 use Rattle.bf_live.proofs.statements.Named.{IsThere, all_there}
 use Rattle.bf_live.proofs.statements.Seeing.{Stands, nothing_written}

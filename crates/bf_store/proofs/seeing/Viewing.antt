@@ -15,7 +15,7 @@ use Rattle.bf_base.proofs.Parts.{filter_all, list_all_each}
 use Rattle.bf_sql.specs.Bound.{catalog_of}
 use Rattle.bf_sql.specs.Database.{Database, Stored, IsDatabase, stored_at, is_admitted, is_keyed, is_within, is_on_table}
 use Rattle.bf_sql.specs.migrations.Lazy.{Migration, LazyState, due, is_early, is_on_time, seen, view_of}
-use Rattle.bf_migration.proofs.items.Lists.{all_so}
+use Rattle.bf_image.proofs.items.Lists.{all_so}
 use Rattle.bf_live.proofs.statements.Named.{IsThere, all_there}
 use Rattle.bf_store.specs.States.{IsUnderWayIfAny, IsLazy}
 use Rattle.bf_store.proofs.coming.Due.{due_apart_if_any, due_admitted}

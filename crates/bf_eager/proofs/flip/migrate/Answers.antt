@@ -8,8 +8,8 @@ use Rattle.bf_sql.specs.Bound.{catalog_of}
 use Rattle.bf_sql.specs.Database.{Database, IsDatabase}
 use Rattle.bf_sql.specs.migrations.Images.{flipped}
 use Rattle.bf_image.proofs.admitting.Flip.{flip_keeps}
-use Rattle.bf_migration.specs.Migrations.{old_of}
-use Rattle.bf_migration.specs.declared.migration.Migration.{Migration}
+use Rattle.bf_image.specs.Migrations.{old_of}
+use Rattle.bf_image.specs.declared.migration.Migration.{Migration}
 use Rattle.bf_live.specs.Live.{IsUnderOwnKeys, TableRows, exchanged, held_in, stored}
 use Rattle.bf_eager.specs.Flips.{Made, AreMade, heaped}
 use Rattle.bf_sql.specs.RowObjections.{first_oversize}

@@ -1,6 +1,6 @@
 -- Copies of the sources are old tables, over which what the catalog allows is lawful.
 use Rattle.std.proofs.Common.{List, ℕ, sym, subst}
-use Rattle.bf_migration.specs.declared.migration.Frozen.{Frozen}
+use Rattle.bf_image.specs.declared.migration.Frozen.{Frozen}
 use Rattle.bf_eager.specs.Freezing.{AreFrozen}
 use Rattle.bf_eager.proofs.Lawful.{lawful_migration}
 use Rattle.bf_eager.proofs.flip.migration_of.Goals as goal

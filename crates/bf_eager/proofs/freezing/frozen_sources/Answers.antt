@@ -5,8 +5,8 @@ use Rattle.std.proofs.lemmas.List.{append-nil, map-append}
 use Rattle.std.proofs.lemmas.Option.{same_Some}
 use Rattle.bf_base.specs.declared.table.Table.{Table}
 use Rattle.bf_sql.specs.Database.{Stored, table_rows}
-use Rattle.bf_query.specs.Meanings.{entries_of}
-use Rattle.bf_migration.specs.declared.migration.Frozen.{Frozen}
+use Rattle.bf_live.specs.Meanings.{entries_of}
+use Rattle.bf_image.specs.declared.migration.Frozen.{Frozen}
 use Rattle.bf_eager.proofs.Copying.{AreFrozenOf, all_frozen, can_freeze, freeze_one, stored_so}
 use Rattle.bf_eager.proofs.freezing.frozen_sources.Goals as goal
 

@@ -4,7 +4,7 @@ use Rattle.bf_base.specs.declared.value.Value.{Value}
 use Rattle.bf_tree.specs.declared.migration.Target.{Target}
 use Rattle.bf_sql.specs.migrations.Granules.{granule, part_of}
 use Rattle.bf_eager.specs.Gathering.{named, parts_at, places_of_rows}
-use Rattle.bf_migration.specs.Migrations.{old_of}
+use Rattle.bf_image.specs.Migrations.{old_of}
 use Rattle.bf_eager.proofs.Parting.{row_more}
 use Rattle.bf_eager.proofs.gathering.add_rows.Goals as goal
 

@@ -4,9 +4,9 @@ use Rattle.bf_base.specs.declared.granule.Place.TheVariants.{Group}
 use Rattle.bf_base.specs.declared.value.Value.{Value}
 use Rattle.bf_tree.specs.declared.migration.Target.{Target}
 use Rattle.bf_sql.specs.migrations.Granules.{granule, part_of}
-use Rattle.bf_migration.specs.ByValues.{Valued}
+use Rattle.bf_index.specs.ByValues.{Valued}
 use Rattle.bf_eager.specs.Gathering.{Numbered, named, parts_at, places_of_values}
-use Rattle.bf_migration.specs.Migrations.{old_of}
+use Rattle.bf_image.specs.Migrations.{old_of}
 use Rattle.bf_eager.proofs.Parting.{take_none, value_more}
 use Rattle.bf_eager.proofs.gathering.add_values.Goals.{in-Some+in_ok-copy+in_ok-add_part, in_default}
 use Rattle.bf_eager.proofs.gathering.add_values.Goals as goal

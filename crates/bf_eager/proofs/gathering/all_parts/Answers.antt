@@ -6,8 +6,8 @@ use Rattle.std.specs.Option.{option_and_then}
 use Rattle.bf_base.specs.declared.value.Value.{Value}
 use Rattle.bf_tree.specs.declared.migration.Target.{Target}
 use Rattle.bf_eager.specs.Gathering.{Numbered, gathered_of, named, parts_at, places_of_rows, places_of_values}
-use Rattle.bf_migration.specs.Migrations.{anchors_in, units_in, value_indexes}
-use Rattle.bf_migration.specs.declared.value_indexes.UnitIndex.{UnitIndex}
+use Rattle.bf_image.specs.Migrations.{anchors_in, units_in, value_indexes}
+use Rattle.bf_image.specs.declared.value_indexes.UnitIndex.{UnitIndex}
 use Rattle.bf_eager.proofs.Counted.{few_units, units_counted}
 use Rattle.bf_eager.proofs.Parting.{all_units, rows_more, values_more}
 use Rattle.bf_eager.proofs.gathering.all_parts.Goals.{in-Some+in_ok-add_values-in-Some, in-None+in_ok-add_rows-in-None}

@@ -1,7 +1,7 @@
 use Rattle.std.proofs.Common.{◌≡◌, take}
 use Rattle.std.specs.List.{enumerate_from}
 use Rattle.bf_eager.specs.Gathering.{gathered_of, named}
-use Rattle.bf_migration.specs.Migrations.{units_in}
+use Rattle.bf_image.specs.Migrations.{units_in}
 use Rattle.bf_eager.proofs.gathering.all_parts.Given as goal
 
 -- the rows of the units so far

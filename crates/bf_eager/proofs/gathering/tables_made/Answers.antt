@@ -4,7 +4,7 @@ use Rattle.std.specs.Global.{Vec}
 use Rattle.std.proofs.lemmas.Result.{IfOk-weaker}
 use Rattle.bf_tree.specs.declared.plan.Plan.{Plan}
 use Rattle.bf_eager.specs.Flips.{AreMade, Made}
-use Rattle.bf_migration.specs.Migrations.{old_of}
+use Rattle.bf_image.specs.Migrations.{old_of}
 use Rattle.bf_eager.specs.Sorting.{Sorted, rows_made, table_alone, with_rows}
 use Rattle.bf_eager.proofs.Made.{all_made}
 use Rattle.bf_eager.proofs.Numbering.{sorted_all}

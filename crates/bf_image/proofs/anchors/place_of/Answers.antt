@@ -3,7 +3,7 @@ use Rattle.std.specs.Prelude.{option_map, slice_get}
 use Rattle.std.proofs.lemmas.Bool.Decides.{nat_tests}
 use Rattle.bf_base.specs.declared.granule.Place.TheVariants.{Row, Group}
 use Rattle.bf_sql.specs.migrations.Granules.{granule}
-use Rattle.bf_migration.specs.BoundArms.{arm_values}
+use Rattle.bf_image.specs.BoundArms.{arm_values}
 use Rattle.bf_image.proofs.cutting.Swept.{anchored_by_rows, anchored_by_values, narrow_arm}
 use Rattle.bf_image.proofs.anchors.place_of.Goals as goal
 

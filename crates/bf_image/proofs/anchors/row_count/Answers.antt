@@ -1,5 +1,5 @@
 use Rattle.std.proofs.Common.{◌∙◌, length, sym, ap}
-use Rattle.bf_migration.specs.BoundArms.{entries_of}
+use Rattle.bf_image.specs.BoundArms.{entries_of}
 use Rattle.bf_image.proofs.cutting.Swept.{count_at}
 use Rattle.bf_image.proofs.anchors.row_count.Goals as goal
 

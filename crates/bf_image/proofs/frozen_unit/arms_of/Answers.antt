@@ -3,7 +3,7 @@ use Rattle.std.proofs.lemmas.List.{take_all}
 use Rattle.bf_tree.specs.declared.plan.Unit.{Unit as Planned}
 use Rattle.bf_sql.specs.migrations.Plans.{rows_unit_of}
 use Rattle.bf_image.specs.FrozenUnits.{AreFound}
-use Rattle.bf_migration.specs.Migrations.{old_of}
+use Rattle.bf_image.specs.Migrations.{old_of}
 use Rattle.bf_image.proofs.parting.FoundArms.{found_more}
 use Rattle.bf_image.proofs.parting.UnitRows.{found_here}
 use Rattle.bf_image.proofs.frozen_unit.arms_of.Goals as goal

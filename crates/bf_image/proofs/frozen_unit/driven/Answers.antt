@@ -6,7 +6,7 @@ use Rattle.bf_tree.specs.declared.plan.Unit.{Unit as Planned}
 use Rattle.bf_tree.specs.declared.plan.UnitKind.TheVariants.{Rows}
 use Rattle.bf_image.proofs.parting.UnitParts.{part_planned, part_by_values}
 use Rattle.bf_image.proofs.parting.UnitTables.{driven_by}
-use Rattle.bf_migration.proofs.planning.Units.{planned_as}
+use Rattle.bf_image.proofs.planning.Units.{planned_as}
 use Rattle.bf_image.proofs.frozen_unit.driven.Goals as goal
 
 -- there is no such unit

@@ -3,7 +3,7 @@ use Rattle.std.specs.Prelude.{option_map, slice_get}
 use Rattle.std.specs.Option.{option_to_list}
 use Rattle.bf_base.specs.declared.value.Value.{Value}
 use Rattle.bf_heap.specs.Heaps.{Entry}
-use Rattle.bf_migration.specs.BoundArms.{entries_of}
+use Rattle.bf_image.specs.BoundArms.{entries_of}
 use Rattle.bf_image.specs.Giving.{makes_any}
 use Rattle.bf_image.proofs.arm_gives.Any.{made_of_none}
 use Rattle.bf_image.proofs.giving.ValueRows.{makes_of_some, makes_of_more, makes_of_none}

@@ -3,7 +3,7 @@ use Rattle.std.specs.Prelude.{option_map, slice_get}
 use Rattle.std.specs.List.{list_any}
 use Rattle.std.specs.Option.{option_to_list}
 use Rattle.bf_heap.specs.Heaps.{Entry}
-use Rattle.bf_migration.specs.BoundArms.{entries_of}
+use Rattle.bf_image.specs.BoundArms.{entries_of}
 use Rattle.bf_image.specs.Giving.{makes_any}
 use Rattle.bf_image.proofs.parting.ValueRows.{rows_at}
 use Rattle.bf_image.proofs.giving.makes_any_among.Given as goal

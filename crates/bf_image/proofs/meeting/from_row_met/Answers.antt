@@ -5,7 +5,7 @@ use Rattle.bf_base.specs.declared.value.Value.{Value as Cell}
 use Rattle.bf_base.specs.Tables.{cell}
 use Rattle.bf_sql.specs.migrations.Targets.{arm_scope, equalities}
 use Rattle.bf_image.specs.Lookup.{partner}
-use Rattle.bf_migration.specs.Migrations.{old_of}
+use Rattle.bf_image.specs.Migrations.{old_of}
 use Rattle.bf_image.proofs.parting.MetRows.{has_on, pairs_are, from_rows_are}
 use Rattle.bf_image.proofs.meeting.from_row_met.Goals as goal
 

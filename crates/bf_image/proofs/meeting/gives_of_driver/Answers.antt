@@ -3,7 +3,7 @@ use Rattle.std.specs.Option.{option_map, option_to_list}
 use Rattle.std.proofs.lemmas.Result.{IfOk-weaker}
 use Rattle.bf_sql.specs.migrations.Images.{arm_rows}
 use Rattle.bf_image.specs.Giving.{has_any}
-use Rattle.bf_migration.specs.Migrations.{old_of}
+use Rattle.bf_image.specs.Migrations.{old_of}
 use Rattle.bf_image.proofs.parting.MetRows.{rows_of_bound}
 use Rattle.bf_image.proofs.meeting.gives_of_driver.Goals as goal
 

@@ -12,7 +12,7 @@ loop-place-preserved c = λ scope pairs same.
     let made : ℕ → Value = λ place. cell c.args.row.now (partner scope pairs (c.args.ahead.other + place) - c.args.ahead.driver) in
     let more : take (i + 1) key ≡ take i key ++ get_or key i 0 ∷ [] = take_more key i 0 (omega arith) in
     let met : c.partner-met.result ≡ partner scope pairs (c.args.ahead.other + get_or key i 0) = c.partner-met.ensures scope pairs same ∙ ap (λ n. partner scope pairs (c.args.ahead.other + n)) c.from.ensures in
-    let value : c.in_ok-value_at.field-0 ≡ made (get_or key i 0) = c.in_ok-value_at.ensures ∙ ap (cell c.args.row.now) (c.saturating_sub.ensures ∙ ap (λ n. n - c.args.ahead.driver) met) in
+    let value : c.in_ok-column_value.field-0 ≡ made (get_or key i 0) = c.in_ok-column_value.ensures ∙ ap (cell c.args.row.now) (c.saturating_sub.ensures ∙ ap (λ n. n - c.args.ahead.driver) met) in
     c.in_ok-push.ensures.items ∙ ap₂ (λ vs v. vs ++ v ∷ []) (c.loop-place.invariant scope pairs same) value ∙ sym (ap (map made) more ∙ map-append made (take i key) (get_or key i 0 ∷ []))
 
 pub returns : goal.returns

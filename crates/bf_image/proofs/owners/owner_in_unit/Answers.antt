@@ -2,7 +2,7 @@ use Rattle.std.proofs.Common.{◌≡◌, true, false, sym, ap, ◌∙◌}
 use Rattle.std.specs.List.{list_any}
 use Rattle.bf_sql.specs.migrations.Granules.{granule}
 use Rattle.bf_image.specs.Laws.{owns}
-use Rattle.bf_migration.specs.Migrations.{old_of, target_at}
+use Rattle.bf_image.specs.Migrations.{old_of, target_at}
 use Rattle.bf_image.specs.Owners.{is_row_with}
 use Rattle.bf_image.proofs.owning.Found.{one_in_unit}
 use Rattle.bf_image.proofs.owning.Parts.{owns_by_number}

@@ -1,6 +1,6 @@
 use Rattle.std.proofs.Common.{◌<◌, sym, ◌∙◌, arith, rules}
 use Rattle.bf_image.proofs.owning.Found.{all_left, found_here, left_past, none_left}
-use Rattle.bf_migration.proofs.planning.Units.{units_few}
+use Rattle.bf_image.proofs.planning.Units.{units_few}
 use Rattle.bf_image.proofs.owners.owner_of_target.Goals as goal
 
 pub loop-number-init : goal.loop-number-init

@@ -1,7 +1,7 @@
 use Rattle.std.proofs.Common.{◌≡◌, find}
 use Rattle.bf_sql.specs.migrations.Granules.{owner_of}
 use Rattle.bf_image.specs.Laws.{owns}
-use Rattle.bf_migration.specs.Migrations.{old_of, target_at}
+use Rattle.bf_image.specs.Migrations.{old_of, target_at}
 use Rattle.bf_image.proofs.owning.Candidates.{candidates_from}
 use Rattle.bf_image.proofs.owners.owner_of_target.Given as goal
 

@@ -4,7 +4,7 @@ use Rattle.std.specs.Option.{option_to_list}
 use Rattle.bf_base.specs.declared.granule.Place.TheVariants.{Row}
 use Rattle.bf_base.specs.Lists.{same_key}
 use Rattle.bf_image.specs.Lookup.{behind_tag, has_the_key}
-use Rattle.bf_migration.specs.Migrations.{old_of, source_of, target_at}
+use Rattle.bf_image.specs.Migrations.{old_of, source_of, target_at}
 use Rattle.bf_image.proofs.owning.Stored.{no_rows, position_is}
 use Rattle.bf_image.proofs.owners.place_by_row.Goals as goal
 

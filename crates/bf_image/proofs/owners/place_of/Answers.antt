@@ -4,7 +4,7 @@ use Rattle.std.specs.Option.{option_to_list}
 use Rattle.std.proofs.lemmas.Option.{slice_get_past, slice_get_read}
 use Rattle.bf_sql.specs.migrations.Granules.{granule, rows_unit}
 use Rattle.bf_image.specs.Lookup.{places_by}
-use Rattle.bf_migration.specs.Migrations.{old_of, target_at, unit_at}
+use Rattle.bf_image.specs.Migrations.{old_of, target_at, unit_at}
 use Rattle.bf_image.specs.Owners.{candidates_at}
 use Rattle.bf_image.proofs.owning.Candidates.{narrow_from, no_place, no_place_by_arm, place_by_driver}
 use Rattle.bf_image.proofs.owners.place_of.Goals as goal

@@ -1,5 +1,5 @@
 use Rattle.std.proofs.Common.{◌≡◌, fold, refl, subst, sym, ap, ◌∙◌, arith}
-use Rattle.bf_query.specs.Merged.{applied_to}
+use Rattle.bf_live.specs.Merged.{applied_to}
 use Rattle.bf_live.specs.Commits.{LeaveRoom, key_puts, taken_by}
 use Rattle.bf_live.specs.Live.{rows_in}
 use Rattle.bf_live.proofs.Heaps.{apart_nowhere, is_same, room_found, room_left, room_same, rows_apart, rows_changed}

@@ -2,7 +2,7 @@ use Rattle.std.proofs.Common.{◌≡◌, [], ◌∷◌, ◌++◌, List, sym, ap,
 use Rattle.std.proofs.lemmas.Grind.{fold-append}
 use Rattle.std.proofs.lemmas.List.{append_assoc}
 use Rattle.bf_heap.specs.Heaps.{Entry}
-use Rattle.bf_query.specs.Merged.{applied_to}
+use Rattle.bf_live.specs.Merged.{applied_to}
 use Rattle.bf_txn.specs.Writes.{KeyWrite}
 use Rattle.bf_live.specs.Commits.{key_puts}
 use Rattle.bf_live.proofs.Written.{key_first}

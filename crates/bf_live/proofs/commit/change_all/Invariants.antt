@@ -1,5 +1,5 @@
 use Rattle.std.proofs.Common.{◌≡◌, ◌≤◌, ◌+◌, ◌++◌, fold}
-use Rattle.bf_query.specs.Merged.{applied_to}
+use Rattle.bf_live.specs.Merged.{applied_to}
 use Rattle.bf_live.specs.Commits.{key_puts}
 use Rattle.bf_live.proofs.commit.change_all.Given as goal
 

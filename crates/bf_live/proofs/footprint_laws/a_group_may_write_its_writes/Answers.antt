@@ -1,4 +1,4 @@
-use Rattle.bf_query.proofs.OwnKeys.{each}
+use Rattle.bf_live.proofs.querying.OwnKeys.{each}
 use Rattle.bf_live.proofs.statements.Seeing.{begun}
 use Rattle.bf_live.specs.OpenGroups.{MayWrite}
 use Rattle.bf_live.proofs.locking.Groups.{may_write_all}

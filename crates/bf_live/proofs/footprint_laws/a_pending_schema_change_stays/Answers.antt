@@ -1,4 +1,4 @@
-use Rattle.bf_query.proofs.OwnKeys.{by_recursion}
+use Rattle.bf_live.proofs.querying.OwnKeys.{by_recursion}
 use Rattle.bf_live.specs.OpenGroups.{MayWrite}
 use Rattle.bf_live.proofs.locking.Isolation.{alone}
 use Rattle.bf_live.proofs.footprint_laws.a_pending_schema_change_stays.Goals as goal

@@ -3,7 +3,7 @@ use Rattle.std.specs.Vec.Iter.{into_iter_items}
 use Rattle.std.proofs.lemmas.Grind.{fold-append}
 use Rattle.std.proofs.lemmas.List.{map-append}
 use Rattle.bf_heap.specs.Heaps.{Entry}
-use Rattle.bf_query.specs.Merged.{applied_to}
+use Rattle.bf_live.specs.Merged.{applied_to}
 use Rattle.bf_txn.specs.Writes.{KeyWrite}
 use Rattle.bf_live.specs.Puts.{put_writes}
 use Rattle.bf_live.proofs.puts.put_each.Goals as goal

@@ -1,6 +1,6 @@
 use Rattle.std.proofs.Common.{◌≡◌, ◌≤◌, ◌+◌, ◌++◌, fold, length}
 use Rattle.std.specs.Vec.Iter.{into_iter_items}
-use Rattle.bf_query.specs.Merged.{applied_to}
+use Rattle.bf_live.specs.Merged.{applied_to}
 use Rattle.bf_live.specs.Puts.{put_writes}
 use Rattle.bf_live.proofs.puts.put_each.Given as goal
 

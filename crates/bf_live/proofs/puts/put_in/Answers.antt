@@ -1,6 +1,6 @@
 use Rattle.std.proofs.Common.{◌≡◌, fold, length, refl, subst, sym, ap, ◌∙◌, arith}
 use Rattle.std.specs.List.{All}
-use Rattle.bf_query.specs.Merged.{applied_to}
+use Rattle.bf_live.specs.Merged.{applied_to}
 use Rattle.bf_live.specs.Commits.{HasRoomIn, LeaveRoom, taken_by, with_writes_to}
 use Rattle.bf_live.specs.Live.{NamedRows, rows_in}
 use Rattle.bf_live.specs.Puts.{put_writes}

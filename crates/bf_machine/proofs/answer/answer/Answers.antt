@@ -5,7 +5,7 @@ use Rattle.bf_tree.specs.declared.bound.Action.TheVariants as action
 use Rattle.bf_tree.specs.declared.reply.Reply.TheVariants as reply
 use Rattle.bf_txn.specs.declared.write.Write.{Write}
 use Rattle.bf_tree.specs.declared.statement.Statement.TheVariants as statement
-use Rattle.bf_query.specs.Meanings.{IsBoundAs}
+use Rattle.bf_live.specs.Meanings.{IsBoundAs}
 use Rattle.bf_sql.specs.Database.{Database}
 use Rattle.bf_sql.specs.Meaning.{executed}
 use Rattle.bf_sql.specs.Objections.{objections}

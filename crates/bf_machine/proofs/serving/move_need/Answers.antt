@@ -6,8 +6,8 @@ use Rattle.std.specs.Option.{option_map}
 use Rattle.std.proofs.lemmas.Bool.{false≢true}
 use Rattle.std.proofs.lemmas.Option.{same_Some}
 use Rattle.boxcar.specs.Table.{Where}
-use Rattle.bf_migration.specs.declared.migration.Migration.{Migration as Kept}
-use Rattle.bf_migration.specs.Migrations.{value_indexes}
+use Rattle.bf_image.specs.declared.migration.Migration.{Migration as Kept}
+use Rattle.bf_image.specs.Migrations.{value_indexes}
 use Rattle.bf_store.specs.Stores.{IsByPass}
 use Rattle.bf_machine.specs.declared.journal.KeepError.TheVariants.{Memory}
 use Rattle.bf_machine.specs.interleaving.Journals.{nothing_yet}

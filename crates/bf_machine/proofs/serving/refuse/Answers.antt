@@ -2,7 +2,7 @@
 use Rattle.std.proofs.Common.{◌≡◌, Option, sym, subst, ◌∙◌, inr}
 use Rattle.std.specs.Option.{option_map}
 use Rattle.boxcar.specs.Table.{Where}
-use Rattle.bf_migration.specs.declared.migration.Migration.{Migration as Kept}
+use Rattle.bf_image.specs.declared.migration.Migration.{Migration as Kept}
 use Rattle.bf_store.specs.Stores.{IsOf}
 use Rattle.bf_machine.specs.interleaving.Calls.{IsEnough}
 use Rattle.bf_machine.specs.interleaving.Machines.{Machine}

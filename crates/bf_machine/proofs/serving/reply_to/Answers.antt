@@ -9,7 +9,7 @@ use Rattle.boxcar.specs.Table.{Where}
 use Rattle.bf_base.specs.declared.granule.Granule.{Granule}
 use Rattle.bf_base.specs.declared.memory.Memory.{Memory}
 use Rattle.bf_base.specs.Lists.{rises}
-use Rattle.bf_migration.specs.declared.migration.Migration.{Migration as Kept}
+use Rattle.bf_image.specs.declared.migration.Migration.{Migration as Kept}
 use Rattle.bf_store.specs.States.{AreGranulesIfAny, granule_cmp}
 use Rattle.bf_store.specs.Stores.{IsOf}
 use Rattle.bf_transpose.specs.Covers.{IsCoverOf}

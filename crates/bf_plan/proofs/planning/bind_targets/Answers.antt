@@ -8,7 +8,7 @@ use Rattle.bf_sql.specs.migrations.Placed.{placed_arm}
 use Rattle.bf_sql.specs.migrations.Targets.{target_table}
 use Rattle.bf_bind.proofs.Walks.{pass_stops}
 use Rattle.bf_plan.proofs.Planned.{few_arms, placed_more, units_more}
-use Rattle.bf_arm.proofs.Walked.{all_at, made_of_more, passes}
+use Rattle.bf_plan.proofs.Walked.{all_at, made_of_more, passes}
 use Rattle.bf_plan.specs.declared.target.BoundTarget.{BoundTarget}
 use Rattle.bf_plan.proofs.planning.bind_targets.Goals as goal
 

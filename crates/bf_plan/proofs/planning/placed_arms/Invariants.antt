@@ -1,5 +1,5 @@
 use Rattle.std.proofs.Common.{◌≡◌, map, take}
-use Rattle.bf_arm.specs.declared.arm.BoundArm.{BoundArm}
+use Rattle.bf_plan.specs.declared.arm.BoundArm.{BoundArm}
 use Rattle.bf_plan.proofs.planning.placed_arms.Given as goal
 
 abbrev pub invariant-loop-arm : goal.invariant-loop-arm

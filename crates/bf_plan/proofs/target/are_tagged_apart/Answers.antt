@@ -2,7 +2,7 @@ use Rattle.std.proofs.Common.{◌≡◌, not, true, take, sym, ap, ◌∙◌}
 use Rattle.std.specs.Option.{option_cmp, option_eq}
 use Rattle.std.specs.Ordering.{int_cmp, int_eq}
 use Rattle.bf_plan.specs.Targets.{tagged_by}
-use Rattle.bf_arm.specs.declared.arm.BoundArm.{BoundArm}
+use Rattle.bf_plan.specs.declared.arm.BoundArm.{BoundArm}
 use Rattle.bf_plan.proofs.Seen.{same_tag-tie, seen_next, was_new}
 use Rattle.bf_plan.proofs.Walked.{one_passed}
 use Rattle.bf_plan.proofs.target.are_tagged_apart.Goals as goal

@@ -1,6 +1,6 @@
 use Rattle.std.proofs.Common.{map, ◌∙◌}
 use Rattle.bf_tree.specs.declared.reply.Cell.TheVariants as cells
-use Rattle.bf_query.proofs.Steps.{all_given}
+use Rattle.bf_tree.proofs.Steps.{all_given}
 use Rattle.bf_query.proofs.answer.all_columns.Goals as goal
 
 pub returns : goal.returns

@@ -3,9 +3,9 @@ use Rattle.std.specs.List.{flat_map}
 use Rattle.std.proofs.lemmas.List.Folds.{flat_map-map}
 use Rattle.bf_base.specs.Tables.{cell}
 use Rattle.bf_tree.specs.Evaluation.{sure_value, value_of}
-use Rattle.bf_sql.specs.RowObjections.{value_objections}
+use Rattle.bf_tree.specs.ValueObjections.{value_objections}
 use Rattle.bf_tree.specs.declared.reply.Cell.TheVariants as cells
-use Rattle.bf_query.proofs.Steps.{passes_on, stops, goes_on, gives_on, all_passed, all_given}
+use Rattle.bf_tree.proofs.Steps.{passes_on, stops, goes_on, gives_on, all_passed, all_given}
 use Rattle.bf_query.proofs.answer.all_values.Goals as goal
 
 pub returns-in_err-values : goal.returns-in_err-values

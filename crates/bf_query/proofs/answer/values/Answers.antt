@@ -1,7 +1,7 @@
 use Rattle.bf_base.specs.Tables.{cell}
 use Rattle.bf_tree.specs.Evaluation.{value_of}
-use Rattle.bf_sql.specs.RowObjections.{value_objections}
-use Rattle.bf_query.proofs.Steps.{passes_on, stops}
+use Rattle.bf_tree.specs.ValueObjections.{value_objections}
+use Rattle.bf_tree.proofs.Steps.{passes_on, stops}
 use Rattle.bf_query.proofs.answer.values.Goals as goal
 
 pub returns-in_err-value_or_refusal : goal.returns-in_err-value_or_refusal

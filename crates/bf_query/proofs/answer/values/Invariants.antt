@@ -2,7 +2,7 @@ use Rattle.std.proofs.Common.{◌≡◌, [], map, take}
 use Rattle.std.specs.List.{flat_map}
 use Rattle.bf_base.specs.Tables.{cell}
 use Rattle.bf_tree.specs.Evaluation.{sure_value, value_of}
-use Rattle.bf_sql.specs.RowObjections.{value_objections}
+use Rattle.bf_tree.specs.ValueObjections.{value_objections}
 use Rattle.bf_tree.specs.declared.reply.Cell.TheVariants as cells
 use Rattle.bf_query.proofs.answer.values.Given as goal
 

@@ -1,6 +1,6 @@
 use Rattle.std.proofs.Common.{ℕ}
 use Rattle.bf_tree.specs.Trees.{Expr}
-use Rattle.bf_query.proofs.Stopping.{handed_on, stops_at_item}
+use Rattle.bf_tree.proofs.Stopping.{handed_on, stops_at_item}
 use Rattle.bf_query.proofs.change.changed_row.Goals as goal
 
 -- the first set that has an objection

@@ -4,7 +4,7 @@ use Rattle.bf_base.specs.Tables.{cell}
 use Rattle.bf_tree.specs.Evaluation.{sure_value}
 use Rattle.bf_sql.specs.Queries.{changed}
 use Rattle.bf_sql.specs.RowObjections.{change_objections}
-use Rattle.bf_query.specs.Actions.{admitted_at}
+use Rattle.bf_live.specs.Replies.{admitted_at}
 use Rattle.bf_query.proofs.change.changed_row.Given as goal
 
 -- the sets from here on have all objections, and make the rest of the new row

@@ -1,7 +1,7 @@
 use Rattle.std.proofs.Common.{List, sym, ap, ◌∙◌, fold}
 use Rattle.bf_query.specs.declared.change.Planned.{Planned}
-use Rattle.bf_query.specs.Actions.{rows_for, written, writes_of}
-use Rattle.bf_query.proofs.Keeping.{writes_are_to}
+use Rattle.bf_live.specs.Replies.{rows_for, written, writes_of}
+use Rattle.bf_live.proofs.querying.Keeping.{writes_are_to}
 use Rattle.bf_tree.specs.declared.reply.Refusal.{Refusal}
 use Rattle.bf_txn.specs.Writes.{with_write, writes_in}
 use Rattle.bf_txn.proofs.Tables.{gathered_alike}

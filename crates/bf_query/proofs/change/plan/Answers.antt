@@ -1,7 +1,7 @@
 use Rattle.std.proofs.Common.{ap, ◌∙◌, Bor, map}
 use Rattle.bf_base.specs.declared.row.Row.{Row}
-use Rattle.bf_query.specs.Merged.{StandUnderOwnKeys}
-use Rattle.bf_query.proofs.OwnKeys.{selected_within}
+use Rattle.bf_live.specs.Merged.{StandUnderOwnKeys}
+use Rattle.bf_live.proofs.querying.OwnKeys.{selected_within}
 use Rattle.bf_query.proofs.change.plan.Goals as goal
 
 pub plan_update-requires : goal.plan_update-requires

@@ -1,7 +1,7 @@
 use Rattle.std.proofs.Common.{Bor}
 use Rattle.bf_base.specs.declared.row.Row.{Row}
 use Rattle.bf_base.specs.Tables.{IsKeyWithin}
-use Rattle.bf_query.proofs.Stopping.{has_item}
+use Rattle.bf_tree.proofs.Stopping.{has_item}
 use Rattle.bf_query.proofs.change.plan_delete.Goals as goal
 
 pub key_of-requires : goal.key_of-requires

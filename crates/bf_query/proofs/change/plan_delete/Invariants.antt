@@ -1,7 +1,7 @@
 use Rattle.std.proofs.Common.{◌≡◌, map, take, None}
 use Rattle.bf_base.specs.Tables.{key_of}
 use Rattle.bf_txn.specs.Writes.{gathered}
-use Rattle.bf_query.specs.Actions.{write_of}
+use Rattle.bf_live.specs.Replies.{write_of}
 use Rattle.bf_query.proofs.change.plan_delete.Given as goal
 
 -- the rows so far have their writes

@@ -1,9 +1,9 @@
 use Rattle.std.proofs.Common.{List, Option, ◌≡◌, Some, None, refl, ap₂, ◌∙◌}
 use Rattle.bf_base.specs.declared.value.Value.{Value}
 use Rattle.bf_base.specs.Tables.{key_of}
-use Rattle.bf_query.specs.Actions.{write_of}
-use Rattle.bf_query.proofs.Inserting.{next_tuple, refused_at}
-use Rattle.bf_query.proofs.Stopping.{gathered_more}
+use Rattle.bf_live.specs.Replies.{write_of}
+use Rattle.bf_live.proofs.querying.Inserting.{next_tuple, refused_at}
+use Rattle.bf_query.proofs.Gathering.{gathered_more}
 use Rattle.bf_query.proofs.change.plan_insert.Goals as goal
 
 not_some : {A : Type 0} (o : Option A) → ((x : A) → o ≡ Some x → ⊥) → o ≡ None

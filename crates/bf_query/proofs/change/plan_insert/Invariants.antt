@@ -4,8 +4,8 @@ use Rattle.bf_base.specs.Lists.{with_before_from}
 use Rattle.bf_base.specs.Tables.{key_of}
 use Rattle.bf_sql.specs.RowObjections.{insert_objections, unfit_row_objections, taken_key_objections}
 use Rattle.bf_txn.specs.Writes.{gathered}
-use Rattle.bf_query.specs.Actions.{write_of}
-use Rattle.bf_query.specs.Merged.{rows_under}
+use Rattle.bf_live.specs.Replies.{write_of}
+use Rattle.bf_live.specs.Merged.{rows_under}
 use Rattle.bf_query.proofs.change.plan_insert.Given as goal
 
 -- the tuples so far have their writes; the tuples from here on have all objections

@@ -4,8 +4,9 @@ use Rattle.bf_base.specs.Tables.{IsKeyWithin, cell, key_of}
 use Rattle.bf_base.specs.declared.value.Value.{Value}
 use Rattle.bf_sql.specs.Queries.{changed}
 use Rattle.bf_sql.specs.RowObjections.{change_objections}
-use Rattle.bf_query.specs.Actions.{admitted_at, write_of}
-use Rattle.bf_query.proofs.Stopping.{gathered_more, has_item, next_ahead}
+use Rattle.bf_live.specs.Replies.{admitted_at, write_of}
+use Rattle.bf_tree.proofs.Stopping.{has_item, next_ahead}
+use Rattle.bf_query.proofs.Gathering.{gathered_more}
 use Rattle.bf_query.proofs.change.plan_update.Goals as goal
 
 pub key_of-requires : goal.key_of-requires

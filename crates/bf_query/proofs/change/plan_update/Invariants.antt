@@ -4,7 +4,7 @@ use Rattle.bf_base.specs.Tables.{cell, key_of}
 use Rattle.bf_sql.specs.Queries.{changed}
 use Rattle.bf_sql.specs.RowObjections.{change_objections}
 use Rattle.bf_txn.specs.Writes.{gathered}
-use Rattle.bf_query.specs.Actions.{admitted_at, write_of}
+use Rattle.bf_live.specs.Replies.{admitted_at, write_of}
 use Rattle.bf_query.proofs.change.plan_update.Given as goal
 
 -- the rows so far have their writes, and the rows from here on have all objections

@@ -1,8 +1,8 @@
 use Rattle.std.proofs.Common.{◌∙◌, None}
 use Rattle.bf_base.specs.Tables.{cell}
 use Rattle.bf_tree.specs.Evaluation.{holds_on}
-use Rattle.bf_query.specs.Merged.{entries_under}
-use Rattle.bf_query.proofs.Effects.{rows_remade, remade-removed}
+use Rattle.bf_live.specs.Merged.{entries_under}
+use Rattle.bf_live.proofs.querying.Effects.{rows_remade, remade-removed}
 use Rattle.bf_query.proofs.laws.a_delete_leaves_the_other_rows.Goals as goal
 
 pub returns : goal.returns

@@ -1,6 +1,7 @@
 use Rattle.bf_txn.specs.Writes.{writes_to}
-use Rattle.bf_query.proofs.IndexRows.{value_held, value_selected}
-use Rattle.bf_query.proofs.Listing.{entries_at-index}
+use Rattle.bf_query.proofs.IndexRows.{value_selected}
+use Rattle.bf_access.proofs.FixedValue.{value_held}
+use Rattle.bf_access.proofs.Listing.{entries_at-index}
 use Rattle.bf_query.proofs.laws.an_index_has_the_rows_of_its_value.Goals as goal
 
 pub returns : goal.returns

@@ -2,8 +2,8 @@ use Rattle.std.proofs.Common.{◌∙◌, Some}
 use Rattle.bf_base.specs.Tables.{cell}
 use Rattle.bf_tree.specs.Evaluation.{holds_on}
 use Rattle.bf_sql.specs.Queries.{changed}
-use Rattle.bf_query.specs.Merged.{entries_under}
-use Rattle.bf_query.proofs.Effects.{rows_remade, remade-changed}
+use Rattle.bf_live.specs.Merged.{entries_under}
+use Rattle.bf_live.proofs.querying.Effects.{rows_remade, remade-changed}
 use Rattle.bf_query.proofs.laws.an_update_changes_its_rows.Goals as goal
 
 pub returns : goal.returns

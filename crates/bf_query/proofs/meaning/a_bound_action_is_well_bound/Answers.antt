@@ -1,4 +1,4 @@
-use Rattle.bf_query.proofs.Binding.{well_bound, leaves_keys, stored_table}
+use Rattle.bf_live.proofs.querying.Binding.{well_bound, leaves_keys, stored_table}
 use Rattle.bf_query.proofs.meaning.a_bound_action_is_well_bound.Goals as goal
 
 pub returns : goal.returns

@@ -1,7 +1,7 @@
-use Rattle.bf_query.proofs.AsWritten.{reply_law, database_law}
-use Rattle.bf_query.proofs.Binding.{stored_table}
-use Rattle.bf_query.proofs.RowsAsEntries.{hold_rows}
-use Rattle.bf_query.specs.Meanings.{entries_of}
+use Rattle.bf_live.proofs.querying.AsWritten.{reply_law, database_law}
+use Rattle.bf_live.proofs.querying.Binding.{stored_table}
+use Rattle.bf_live.proofs.querying.RowsAsEntries.{hold_rows}
+use Rattle.bf_live.specs.Meanings.{entries_of}
 use Rattle.std.proofs.Common.{[]}
 use Rattle.bf_sql.specs.Database.{table_rows}
 use Rattle.bf_query.proofs.meaning.a_bound_change_means_what_is_written.Goals as goal

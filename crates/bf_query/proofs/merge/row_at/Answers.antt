@@ -1,7 +1,7 @@
 use Rattle.std.proofs.Common.{List, Option, unwrap_or, sym, ap, ◌∙◌}
 use Rattle.bf_base.specs.declared.value.Value.{Value}
 use Rattle.bf_heap.specs.Heaps.{row_under}
-use Rattle.bf_query.proofs.Keyed.{row_under-entries_under}
+use Rattle.bf_live.proofs.querying.Keyed.{row_under-entries_under}
 use Rattle.bf_query.proofs.merge.row_at.Goals as goal
 
 -- what is written to the key, and else the heap's row

@@ -1,7 +1,7 @@
 use Rattle.std.proofs.Common.{◌≡◌, ◌++◌, map}
 use Rattle.bf_base.specs.Tables.{cell}
 use Rattle.bf_sql.specs.Queries.{selected}
-use Rattle.bf_query.specs.Merged.{rows_ahead, steps_ahead}
+use Rattle.bf_live.specs.Merged.{rows_ahead, steps_ahead}
 use Rattle.bf_query.specs.RowsAhead.{entries_ahead}
 use Rattle.bf_query.proofs.merge.scan.Given as goal
 

@@ -12,14 +12,14 @@ use Rattle.bf_heap.specs.declared.key_range.KeyRange.{KeyRange}
 use Rattle.bf_heap.specs.Heaps.{Entry, key_of_entry}
 use Rattle.bf_heap.specs.KeyRanges.{is_within}
 use Rattle.bf_txn.specs.Writes.{KeyWrite, key_writes_to}
-use Rattle.bf_query.specs.ByIndex.{entries_with, fixed_value}
-use Rattle.bf_query.specs.Ranges.{key_range_of}
+use Rattle.bf_access.specs.ByIndex.{entries_with, fixed_value}
+use Rattle.bf_access.specs.Ranges.{key_range_of}
 use Rattle.bf_query.specs.RowsAhead.{entries_ahead}
 use Rattle.bf_query.specs.declared.rows_ahead.RowsAhead.TheVariants.{Listed}
 use Rattle.bf_query.proofs.IndexRows.{index_ahead, with_in_order}
-use Rattle.bf_query.proofs.Keyed.{by_key_in}
+use Rattle.bf_live.proofs.querying.Keyed.{by_key_in}
 use Rattle.bf_query.proofs.RangeRows.{range_ahead}
-use Rattle.bf_query.proofs.OwnKeys.{fixed_selected}
+use Rattle.bf_live.proofs.querying.OwnKeys.{fixed_selected}
 use Rattle.bf_query.proofs.merge.selected_rows.Goals as goal
 
 -- a fixed key leaves the one row that is looked up

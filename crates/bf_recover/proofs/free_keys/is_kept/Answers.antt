@@ -1,6 +1,6 @@
 use Rattle.std.proofs.Common.{◌≡◌, Option, Some, None, option_map, is_some, refl, sym, ap, ◌∙◌}
 use Rattle.bf_sql.specs.Database.{Database, Stored, stored_at}
-use Rattle.bf_query.specs.Meanings.{entries_of}
+use Rattle.bf_live.specs.Meanings.{entries_of}
 use Rattle.bf_recover.proofs.Freeing.{kept_in_heap}
 use Rattle.bf_recover.proofs.free_keys.is_kept.Goals as goal
 

@@ -4,7 +4,7 @@ use Rattle.std.proofs.lemmas.Option.{same_Some}
 use Rattle.bf_base.specs.declared.granule.Granule.{Granule}
 use Rattle.bf_base.specs.Lists.{has}
 use Rattle.bf_sql.specs.migrations.Granules.{granule, granules_of, same_granule}
-use Rattle.bf_migration.specs.Migrations.{old_of, value_indexes}
+use Rattle.bf_image.specs.Migrations.{old_of, value_indexes}
 use Rattle.bf_store.specs.States.{AreGranulesIfAny, to_move, with_moved}
 use Rattle.bf_recover.specs.Moves.{granules_at, is_told_of}
 use Rattle.bf_recover.proofs.Moving.{legal, may_move, not_if_done_before, not_if_never, not_if_strange, not_if_untold}

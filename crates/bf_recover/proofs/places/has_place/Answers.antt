@@ -1,7 +1,7 @@
 use Rattle.std.proofs.Common.{Option, ap, ◌∙◌}
 use Rattle.std.specs.Prelude.{slice_get}
 use Rattle.std.specs.Option.{option_and_then}
-use Rattle.bf_migration.specs.declared.value_indexes.UnitIndex.{UnitIndex}
+use Rattle.bf_image.specs.declared.value_indexes.UnitIndex.{UnitIndex}
 use Rattle.bf_recover.specs.Places.{is_row_below}
 use Rattle.bf_recover.proofs.Known.{places_by_row, places_by_value}
 use Rattle.bf_recover.proofs.places.has_place.Goals as goal

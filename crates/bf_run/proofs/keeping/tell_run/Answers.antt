@@ -5,10 +5,10 @@ use Rattle.std.proofs.lemmas.Bool.Decides.{nat_tests}
 use Rattle.bf_tree.specs.declared.script.Script.{Script}
 use Rattle.bf_sql.specs.migrations.Lazy.{sweep_of}
 use Rattle.bf_text.specs.Report.{report_text}
-use Rattle.bf_keep.specs.Answers.{AreSizesOf, AreToldTheirCauses, HasAnswered}
-use Rattle.bf_keep.specs.Crashing.{KeepsOnLog, ended_on_log}
-use Rattle.bf_keep.specs.Sayable.{IsSayableScript}
-use Rattle.bf_keep.specs.declared.log_journal.LogJournal.{LogJournal}
+use Rattle.bf_run.specs.Answers.{AreSizesOf, AreToldTheirCauses, HasAnswered}
+use Rattle.bf_run.specs.Crashing.{KeepsOnLog, ended_on_log}
+use Rattle.bf_run.specs.Sayable.{IsSayableScript}
+use Rattle.bf_run.specs.declared.log_journal.LogJournal.{LogJournal}
 use Rattle.bf_machine.specs.RunOver.{IsRunOver}
 use Rattle.bf_machine.specs.interleaving.Kept.{IsKept, fresh}
 use Rattle.bf_machine.specs.interleaving.Machines.{Machine, transcripts_of}

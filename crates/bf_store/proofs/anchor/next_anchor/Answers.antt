@@ -1,7 +1,7 @@
 use Rattle.std.proofs.Common.{◌+◌, ◌≤◌, length, sym, ap, ◌∙◌, arith}
 use Rattle.std.specs.Option.{option_map}
-use Rattle.bf_migration.specs.Migrations.{units_in}
-use Rattle.bf_migration.proofs.planning.Units.{units_few}
+use Rattle.bf_image.specs.Migrations.{units_in}
+use Rattle.bf_image.proofs.planning.Units.{units_few}
 use Rattle.bf_store.specs.Anchors.{anchor_of}
 use Rattle.bf_store.proofs.moving.Anchoring.{found_here, next_unit, none_behind, none_here, units_counted}
 use Rattle.bf_store.proofs.anchor.next_anchor.Goals as goal

@@ -2,8 +2,8 @@ use Rattle.std.proofs.Common.{◌≡◌, ◌≤◌, List, Option, None, Some, fa
 use Rattle.std.specs.Prelude.{slice_get}
 use Rattle.std.specs.Option.{option_and_then}
 use Rattle.bf_sql.specs.migrations.Lazy.{is_done}
-use Rattle.bf_migration.specs.Migrations.{anchored_at, anchors_in}
-use Rattle.bf_migration.specs.declared.value_indexes.UnitIndex.{UnitIndex}
+use Rattle.bf_image.specs.Migrations.{anchored_at, anchors_in}
+use Rattle.bf_image.specs.declared.value_indexes.UnitIndex.{UnitIndex}
 use Rattle.bf_store.specs.Anchors.{has_all_groups}
 use Rattle.bf_store.specs.Marks.{granules_in, is_group_of}
 use Rattle.bf_store.specs.Stores.{migration_of}

@@ -1,8 +1,8 @@
 -- A migration that the registry does not take comes back as it was, and so do the rows.
 use Rattle.std.proofs.Common.{List, sym, ap, subst, ◌∙◌}
 use Rattle.std.specs.Prelude.{fold}
-use Rattle.bf_migration.specs.declared.migration.Frozen.{Frozen}
-use Rattle.bf_migration.specs.declared.migration.Migration.{Migration as Kept}
+use Rattle.bf_image.specs.declared.migration.Frozen.{Frozen}
+use Rattle.bf_image.specs.declared.migration.Migration.{Migration as Kept}
 use Rattle.bf_store.specs.Flips.{MayComeBack, with_back}
 use Rattle.bf_store.proofs.flip.begin.Goals as goal
 

@@ -1,7 +1,7 @@
 -- A unit without anchors is passed over.
 use Rattle.std.proofs.Common.{◌<◌, ◌≤◌, length, sym, ◌∙◌, arith}
-use Rattle.bf_migration.specs.Migrations.{old_of, units_in}
-use Rattle.bf_migration.proofs.planning.Units.{units_few}
+use Rattle.bf_image.specs.Migrations.{old_of, units_in}
+use Rattle.bf_image.proofs.planning.Units.{units_few}
 use Rattle.bf_store.proofs.aside.Anchors.{count_at, here_first, none_behind, passed_over}
 use Rattle.bf_store.proofs.moving.Anchoring.{units_counted}
 use Rattle.bf_store.proofs.flip.first_anchor.Goals as goal

@@ -1,5 +1,5 @@
 use Rattle.std.proofs.Common.{◌≡◌, [], drop}
-use Rattle.bf_migration.specs.Migrations.{old_of, units_in}
+use Rattle.bf_image.specs.Migrations.{old_of, units_in}
 use Rattle.bf_store.specs.Stores.{migration_of, next_anchor}
 use Rattle.bf_store.proofs.aside.Anchors.{anchors_from, first_of}
 use Rattle.bf_store.proofs.flip.first_anchor.Given as goal

@@ -1,8 +1,8 @@
 -- The rows of the sources are aside, and come back where the migration does not begin.
 use Rattle.std.proofs.Common.{◌≡◌, ◌<◌, ◌^◌, List, length, map, sym, ap, ap₂, subst, ◌∙◌, lit<}
 use Rattle.bf_sql.specs.migrations.Lazy.{DoneGranule}
-use Rattle.bf_migration.specs.Migrations.{old_of}
-use Rattle.bf_migration.specs.declared.migration.Migration.{Migration as Kept}
+use Rattle.bf_image.specs.Migrations.{old_of}
+use Rattle.bf_image.specs.declared.migration.Migration.{Migration as Kept}
 use Rattle.bf_live.specs.Live.{held_in}
 use Rattle.bf_store.specs.Flips.{frozen_in}
 use Rattle.bf_store.specs.Stores.{migration_of, next_anchor}

@@ -3,9 +3,9 @@ use Rattle.std.proofs.Common.{◌≡◌, List, Some, map, sym, ap, subst, ◌∙
 use Rattle.std.specs.Prelude.{fold}
 use Rattle.std.specs.Vec.Iter.{into_iter_items}
 use Rattle.bf_heap.specs.Heaps.{Entry}
-use Rattle.bf_query.specs.Meanings.{entries_of}
+use Rattle.bf_live.specs.Meanings.{entries_of}
 use Rattle.bf_sql.specs.Database.{Database, IsDatabase, Stored, stored_at, with_rows}
-use Rattle.bf_migration.specs.declared.migration.Frozen.{Frozen}
+use Rattle.bf_image.specs.declared.migration.Frozen.{Frozen}
 use Rattle.bf_store.specs.Flips.{MayComeBack, with_back}
 use Rattle.bf_store.proofs.flip.put_back.Goals as goal
 

@@ -1,4 +1,4 @@
-use Rattle.bf_query.proofs.OwnKeys.{each}
+use Rattle.bf_live.proofs.querying.OwnKeys.{each}
 use Rattle.bf_store.proofs.seeing.Telling.{AreAlike, stand_where_seen, told_is_all, told_is_all_seen, told_legal}
 use Rattle.bf_store.proofs.laws.a_record_leaves_out_what_changes_nothing.Goals as goal
 

@@ -3,8 +3,8 @@ use Rattle.bf_base.specs.declared.granule.Granule.{Granule}
 use Rattle.bf_sql.specs.Database.{IsDatabase}
 use Rattle.bf_sql.specs.migrations.Granules.{part_of}
 use Rattle.bf_sql.specs.migrations.Lazy.{is_done}
-use Rattle.bf_migration.specs.Migrations.{old_of}
-use Rattle.bf_migration.specs.declared.migration.Migration.{Migration as Kept}
+use Rattle.bf_image.specs.Migrations.{old_of}
+use Rattle.bf_image.specs.declared.migration.Migration.{Migration as Kept}
 use Rattle.bf_live.specs.Live.{NamedRows}
 use Rattle.bf_store.specs.Anchors.{AreOf, next_from}
 use Rattle.bf_store.specs.Marks.{granules_in}

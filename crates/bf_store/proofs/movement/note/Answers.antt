@@ -2,7 +2,7 @@ use Rattle.std.proofs.Common.{List, sym, subst}
 use Rattle.bf_sql.specs.migrations.Granules.{granules_of, same_granule}
 use Rattle.bf_sql.specs.migrations.Lazy.{DoneGranule}
 use Rattle.bf_base.specs.Lists.{has}
-use Rattle.bf_migration.specs.Migrations.{old_of}
+use Rattle.bf_image.specs.Migrations.{old_of}
 use Rattle.bf_store.specs.Anchors.{AreOf}
 use Rattle.bf_store.specs.Marks.{granules_in}
 use Rattle.bf_store.proofs.Marking.{each_marked}

@@ -7,7 +7,7 @@ use Rattle.bf_base.specs.Tables.{key_of}
 use Rattle.bf_base.specs.declared.table.Table.{Table}
 use Rattle.bf_base.specs.declared.value.Value.{Value}
 use Rattle.bf_sql.specs.migrations.Targets.{target_table}
-use Rattle.bf_migration.specs.Migrations.{old_of, target_at}
+use Rattle.bf_image.specs.Migrations.{old_of, target_at}
 use Rattle.bf_live.specs.Live.{NamedRows}
 use Rattle.bf_store.specs.Puts.{ArePuts}
 use Rattle.bf_store.proofs.moving.Gathered.{its_name, its_table, no_target, none_put_there, one_put_more}

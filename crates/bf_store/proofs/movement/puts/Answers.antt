@@ -7,9 +7,9 @@ use Rattle.bf_base.specs.declared.value.Value.{Value}
 use Rattle.bf_tree.specs.declared.migration.Migrate.{Migrate}
 use Rattle.bf_sql.specs.Database.{Database}
 use Rattle.bf_sql.specs.migrations.Granules.{part_of}
-use Rattle.bf_migration.specs.Migrations.{old_of, target_at}
+use Rattle.bf_image.specs.Migrations.{old_of, target_at}
 use Rattle.bf_image.proofs.owning.Armed.{HasArmedTarget, part_armed}
-use Rattle.bf_migration.proofs.planning.Numbered.{each_append}
+use Rattle.bf_image.proofs.planning.Numbered.{each_append}
 use Rattle.bf_store.specs.Puts.{ArePuts, Put}
 use Rattle.bf_store.proofs.movement.puts.Goals as goal
 

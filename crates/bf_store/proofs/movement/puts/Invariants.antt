@@ -1,6 +1,6 @@
 use Rattle.std.proofs.Common.{◌≡◌, ◌++◌, map}
 use Rattle.std.specs.Vec.Iter.{into_iter_items}
-use Rattle.bf_migration.specs.Migrations.{target_at}
+use Rattle.bf_image.specs.Migrations.{target_at}
 use Rattle.bf_store.specs.Puts.{ArePuts}
 use Rattle.bf_store.proofs.movement.puts.Given as goal
 

@@ -3,8 +3,8 @@ use Rattle.std.proofs.lemmas.List.{map-append}
 use Rattle.bf_base.specs.declared.granule.Granule.{Granule}
 use Rattle.bf_base.specs.declared.value.Value.{Value}
 use Rattle.bf_sql.specs.migrations.Granules.{granule as granule_at, part_of}
-use Rattle.bf_migration.specs.Migrations.{IsPartBehind, old_of, target_at}
-use Rattle.bf_migration.specs.declared.migration.Migration.{Migration}
+use Rattle.bf_image.specs.Migrations.{IsPartBehind, old_of, target_at}
+use Rattle.bf_image.specs.declared.migration.Migration.{Migration}
 use Rattle.bf_image.proofs.parting.Blocks.{one_more_block}
 use Rattle.bf_store.specs.Puts.{Put}
 use Rattle.bf_store.proofs.movement.rows_of_all.Goals as goal

@@ -6,7 +6,7 @@ use Rattle.bf_heap.specs.Heaps.{Entry}
 use Rattle.bf_txn.specs.declared.write.Write.{Write}
 use Rattle.bf_txn.specs.Writes.{KeyWrite, all_writes, writes_in}
 use Rattle.bf_sql.specs.Database.{Database, Stored, stored_at}
-use Rattle.bf_query.specs.Meanings.{entries_of}
+use Rattle.bf_live.specs.Meanings.{entries_of}
 use Rattle.bf_store.specs.Calls.{is_told}
 use Rattle.bf_store.specs.Told.{is_told_in}
 use Rattle.bf_store.proofs.seeing.Telling.{any_in_front, none_in_front}

@@ -3,7 +3,7 @@ use Rattle.std.specs.Prelude.{slice_get}
 use Rattle.std.specs.Option.{option_and_then}
 use Rattle.std.proofs.lemmas.Option.{slice_get_read}
 use Rattle.bf_tree.specs.declared.plan.PlacedArm.{PlacedArm}
-use Rattle.bf_migration.proofs.planning.Sourced.{placed_at}
+use Rattle.bf_image.proofs.planning.Sourced.{placed_at}
 use Rattle.bf_transpose.proofs.drivers.arms_at.Goals as goal
 
 pub returns-clause-placed : goal.returns-clause-placed

@@ -4,7 +4,7 @@ use Rattle.std.proofs.lemmas.Option.{same_Some}
 use Rattle.bf_base.specs.declared.table.Table.{Table}
 use Rattle.bf_tree.specs.declared.plan.PlacedArm.{PlacedArm}
 use Rattle.bf_sql.specs.migrations.Placed.{placed_arm}
-use Rattle.bf_migration.specs.Migrations.{old_of}
+use Rattle.bf_image.specs.Migrations.{old_of}
 use Rattle.bf_image.proofs.owning.Stored.{table_is}
 use Rattle.bf_transpose.specs.Transposed.{begins_at}
 use Rattle.bf_transpose.proofs.drivers.copies_of.Goals as goal

@@ -2,11 +2,11 @@ use Rattle.std.proofs.Common.{◌≡◌, Option, Some, None, Bor, IfSome, option
 use Rattle.std.specs.Prelude.{ℕ, List, slice_get}
 use Rattle.std.proofs.lemmas.Option.{slice_get_read}
 use Rattle.bf_sql.specs.migrations.Granules.{rows_unit}
-use Rattle.bf_migration.specs.Migrations.{source_of, unit_at}
-use Rattle.bf_migration.specs.PlannedUnits.{form_by, unit_form}
-use Rattle.bf_migration.specs.declared.migration.Frozen.{Frozen}
-use Rattle.bf_migration.specs.declared.migration.Migration.{Migration}
-use Rattle.bf_migration.proofs.planning.Units.{unit_at_number}
+use Rattle.bf_image.specs.Migrations.{source_of, unit_at}
+use Rattle.bf_image.specs.PlannedUnits.{form_by, unit_form}
+use Rattle.bf_image.specs.declared.migration.Frozen.{Frozen}
+use Rattle.bf_image.specs.declared.migration.Migration.{Migration}
+use Rattle.bf_image.proofs.planning.Units.{unit_at_number}
 use Rattle.bf_transpose.specs.Scans.{IsDriverOf}
 use Rattle.bf_transpose.proofs.drivers.driver_of.Goals as goal
 

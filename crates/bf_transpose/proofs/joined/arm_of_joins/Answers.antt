@@ -4,10 +4,10 @@ use Rattle.std.specs.Prelude.{slice_get, slice_index_or}
 use Rattle.std.proofs.lemmas.Option.{same_Some, slice_get_read}
 use Rattle.bf_tree.specs.declared.plan.Unit.{Unit as Planned}
 use Rattle.bf_sql.specs.migrations.Placed.{placed_arm}
-use Rattle.bf_migration.specs.BoundArms.{arm_at}
-use Rattle.bf_migration.specs.Migrations.{old_of, unit_at}
-use Rattle.bf_migration.specs.PlannedUnits.{arm_named, form_by, target_named, unit_form, values_form}
-use Rattle.bf_migration.proofs.planning.Units.{arm_at_named, by_values, unit_at_number}
+use Rattle.bf_image.specs.BoundArms.{arm_at}
+use Rattle.bf_image.specs.Migrations.{old_of, unit_at}
+use Rattle.bf_image.specs.PlannedUnits.{arm_named, form_by, target_named, unit_form, values_form}
+use Rattle.bf_image.proofs.planning.Units.{arm_at_named, by_values, unit_at_number}
 use Rattle.bf_transpose.proofs.joined.arm_of_joins.Goals as goal
 
 pub returns-in_ok-arm-in-Joins : goal.returns-in_ok-arm-in-Joins

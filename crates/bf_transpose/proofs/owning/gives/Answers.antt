@@ -4,7 +4,7 @@ use Rattle.std.proofs.lemmas.List.{get_or_default}
 use Rattle.std.proofs.lemmas.Result.{IfOk-weaker}
 use Rattle.bf_tree.specs.declared.migration.Target.{Target}
 use Rattle.bf_sql.specs.migrations.Need.{may_satisfy, total_places}
-use Rattle.bf_migration.specs.Migrations.{target_at}
+use Rattle.bf_image.specs.Migrations.{target_at}
 use Rattle.bf_transpose.proofs.Told.{any_by_number}
 use Rattle.bf_transpose.proofs.owning.gives.Goals as goal
 

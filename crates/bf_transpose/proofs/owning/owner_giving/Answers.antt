@@ -1,5 +1,5 @@
 use Rattle.std.proofs.Common.{◌≡◌, ◌∷◌, [], true, false, cond, Some, None, sym, ap, ◌∙◌}
-use Rattle.bf_migration.specs.Migrations.{target_at}
+use Rattle.bf_image.specs.Migrations.{target_at}
 use Rattle.bf_transpose.proofs.Owners.{is_picked, owner_picked}
 use Rattle.bf_transpose.proofs.owning.owner_giving.Goals as goal
 

@@ -2,7 +2,7 @@ use Rattle.std.proofs.Common.{sym, ap, ◌∙◌}
 use Rattle.std.specs.BTreeSet.{BTreeSet}
 use Rattle.bf_base.specs.declared.granule.Granule.{Granule}
 use Rattle.bf_base.specs.Tables.{key_of}
-use Rattle.bf_migration.specs.Migrations.{owner_in}
+use Rattle.bf_image.specs.Migrations.{owner_in}
 use Rattle.bf_transpose.proofs.Owners.{none_owning, with_owner, without_owner}
 use Rattle.bf_transpose.proofs.owning.owners_of.Goals as goal
 use Rattle.bf_transpose.proofs.owning.owners_of.Goals.{in-Some+in_ok-insert, in_default}

@@ -1,6 +1,6 @@
 use Rattle.std.proofs.Common.{◌≡◌, take}
 use Rattle.bf_sql.specs.migrations.Need.{giving, has_key_of, target_of}
-use Rattle.bf_migration.specs.Migrations.{old_of}
+use Rattle.bf_image.specs.Migrations.{old_of}
 use Rattle.bf_transpose.proofs.owning.owners_of.Given as goal
 
 -- the owners of the keys so far

@@ -1,5 +1,5 @@
 use Rattle.std.proofs.Common.{◌≡◌, ◌++◌, map}
-use Rattle.bf_migration.specs.ByValues.{value_of}
+use Rattle.bf_index.specs.ByValues.{value_of}
 use Rattle.bf_transpose.specs.InOrder.{values_in}
 use Rattle.bf_transpose.specs.Merging.{steps_ahead, values_ahead}
 use Rattle.bf_transpose.specs.Scans.{value_granules}

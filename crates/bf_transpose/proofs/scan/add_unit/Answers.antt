@@ -3,8 +3,8 @@ use Rattle.std.proofs.Common.{◌≡◌, List, ◌++◌, None, Option, Some, sli
 use Rattle.std.specs.Option.{option_and_then}
 use Rattle.std.proofs.lemmas.Result.{on_ok_weaker}
 use Rattle.bf_base.specs.declared.granule.Granule.{Granule}
-use Rattle.bf_migration.specs.Migrations.{value_indexes}
-use Rattle.bf_migration.specs.declared.value_indexes.UnitIndex.{UnitIndex}
+use Rattle.bf_image.specs.Migrations.{value_indexes}
+use Rattle.bf_image.specs.declared.value_indexes.UnitIndex.{UnitIndex}
 use Rattle.bf_transpose.specs.Scans.{row_granules}
 use Rattle.bf_transpose.proofs.Units.{granules_indexed, rows_of_unit}
 use Rattle.bf_transpose.proofs.scan.add_unit.Goals as goal

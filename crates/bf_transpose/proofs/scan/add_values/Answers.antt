@@ -4,7 +4,7 @@ use Rattle.bf_base.specs.declared.granule.Granule.{Granule}
 use Rattle.bf_base.specs.declared.granule.Place.TheVariants.{Group}
 use Rattle.bf_base.specs.declared.value.Value.{Value}
 use Rattle.bf_sql.specs.migrations.Granules.{granule}
-use Rattle.bf_migration.specs.ByValues.{Valued, value_of}
+use Rattle.bf_index.specs.ByValues.{Valued, value_of}
 use Rattle.bf_transpose.specs.Scans.{value_granules}
 use Rattle.bf_transpose.proofs.Steps.{take_none, value_more}
 use Rattle.bf_transpose.proofs.scan.add_values.Goals.{in-Some+in_ok-copy+in_ok-push, in_default}

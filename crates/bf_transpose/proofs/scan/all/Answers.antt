@@ -1,8 +1,8 @@
 use Rattle.std.proofs.Common.{◌+◌, ◌<◌, ◌≤◌, List, ◌++◌, length, sym, ap, ◌∙◌, append_assoc, arith}
 use Rattle.std.proofs.lemmas.List.{append-nil}
 use Rattle.bf_base.specs.declared.granule.Granule.{Granule}
-use Rattle.bf_migration.specs.Migrations.{units_in}
-use Rattle.bf_migration.proofs.planning.Units.{units_few}
+use Rattle.bf_image.specs.Migrations.{units_in}
+use Rattle.bf_image.proofs.planning.Units.{units_few}
 use Rattle.bf_transpose.specs.Scans.{granules_in}
 use Rattle.bf_transpose.proofs.Units.{granules_from, granules_more, no_more_granules, units_counted}
 use Rattle.bf_transpose.proofs.scan.all.Goals as goal

@@ -1,6 +1,6 @@
 use Rattle.std.proofs.Common.{◌≡◌, ◌++◌}
 use Rattle.bf_sql.specs.migrations.Granules.{granules_of}
-use Rattle.bf_migration.specs.Migrations.{old_of}
+use Rattle.bf_image.specs.Migrations.{old_of}
 use Rattle.bf_transpose.proofs.Units.{granules_from}
 use Rattle.bf_transpose.proofs.scan.all.Given as goal
 

@@ -3,7 +3,7 @@ use Rattle.std.proofs.lemmas.List.{length_push}
 use Rattle.std.proofs.lemmas.Option.{slice_get_read}
 use Rattle.bf_tree.specs.declared.plan.Unit.{Unit as Planned}
 use Rattle.bf_image.specs.declared.frozen_unit.FrozenUnit.{FrozenUnit}
-use Rattle.bf_migration.proofs.planning.Units.{units_few}
+use Rattle.bf_image.proofs.planning.Units.{units_few}
 use Rattle.bf_transpose.proofs.Looked.{AreUnitsTo, all_units, one_more_unit}
 use Rattle.bf_transpose.proofs.scan.units_for.Goals as goal
 

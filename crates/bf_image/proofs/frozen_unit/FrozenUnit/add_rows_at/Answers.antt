@@ -1,7 +1,7 @@
 use Rattle.std.proofs.Common.{Option, Bor, sym, subst}
 use Rattle.std.specs.Prelude.{option_map}
 use Rattle.bf_image.specs.FrozenUnits.{GoesByRows, IsDriven}
-use Rattle.bf_migration.specs.declared.migration.Frozen.{Frozen}
+use Rattle.bf_image.specs.declared.migration.Frozen.{Frozen}
 use Rattle.bf_image.proofs.parting.UnitTables.{part_of_none}
 use Rattle.bf_image.proofs.frozen_unit.FrozenUnit.add_rows_at.Goals as goal
 

@@ -1,6 +1,6 @@
 use Rattle.std.proofs.Common.{◌≡◌, ◌<◌, ◌≤◌, List, length, get_or, ap, subst, ◌∙◌}
 use Rattle.std.specs.Option.{option_to_list}
-use Rattle.bf_migration.specs.declared.arms.FrozenArm.{FrozenArm}
+use Rattle.bf_image.specs.declared.arms.FrozenArm.{FrozenArm}
 use Rattle.bf_image.proofs.parting.UnitTables.{arm_bound, arm_by_row, arm_makes_any, has_driver, more_of_arm, part_of_arms, row_of_unit}
 use Rattle.bf_image.proofs.frozen_unit.FrozenUnit.add_rows_of_row.Goals as goal
 

@@ -3,9 +3,9 @@ use Rattle.std.specs.Prelude.{slice_get}
 use Rattle.std.specs.List.{flat_map}
 use Rattle.bf_sql.specs.Database.{table_rows}
 use Rattle.bf_image.specs.FrozenUnits.{GoesByRows}
-use Rattle.bf_migration.specs.Migrations.{AreBehind, old_of}
-use Rattle.bf_migration.specs.declared.migration.Frozen.{Frozen}
-use Rattle.bf_migration.proofs.planning.Driven.{rows_by_numbers}
+use Rattle.bf_image.specs.Migrations.{AreBehind, old_of}
+use Rattle.bf_image.specs.declared.migration.Frozen.{Frozen}
+use Rattle.bf_image.proofs.planning.Driven.{rows_by_numbers}
 use Rattle.bf_image.proofs.frozen_unit.FrozenUnit.add_rows_of_row.Given as goal
 
 -- the rows of the arms so far stand behind the others

@@ -2,7 +2,7 @@ use Rattle.std.proofs.Common.{◌≡◌, map, ap, ◌∙◌, []}
 use Rattle.std.proofs.lemmas.Result.{IfOk-weaker}
 use Rattle.bf_sql.specs.migrations.Granules.{from_with, join_with}
 use Rattle.bf_sql.specs.migrations.Targets.{arm_kind}
-use Rattle.bf_migration.specs.Migrations.{old_of}
+use Rattle.bf_image.specs.Migrations.{old_of}
 use Rattle.bf_image.proofs.parting.FrozenValues.{its_arm, its_index}
 use Rattle.bf_image.proofs.parting.ValueParts.{one_of_bound, bound_can_make, part_made}
 use Rattle.bf_image.proofs.frozen_unit.FrozenUnit.add_rows_under.Goals as goal

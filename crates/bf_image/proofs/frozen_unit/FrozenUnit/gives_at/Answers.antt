@@ -5,7 +5,7 @@ use Rattle.std.proofs.lemmas.Result.{IfOk-weaker}
 use Rattle.bf_heap.specs.Heaps.{Entry}
 use Rattle.bf_image.specs.FrozenUnits.{IsDriven}
 use Rattle.bf_image.specs.Giving.{has_row_of}
-use Rattle.bf_migration.specs.declared.migration.Frozen.{Frozen}
+use Rattle.bf_image.specs.declared.migration.Frozen.{Frozen}
 use Rattle.bf_image.proofs.parting.UnitTables.{HasDriver}
 use Rattle.bf_image.proofs.giving.FrozenRows.{gives_past}
 use Rattle.bf_image.proofs.frozen_unit.FrozenUnit.gives_at.Goals as goal

@@ -2,7 +2,7 @@ use Rattle.std.proofs.Common.{◌≡◌, ℕ, false, Some, take}
 use Rattle.std.specs.Prelude.{slice_get}
 use Rattle.std.specs.List.{list_any}
 use Rattle.bf_sql.specs.Database.{table_rows}
-use Rattle.bf_migration.specs.Migrations.{old_of}
+use Rattle.bf_image.specs.Migrations.{old_of}
 use Rattle.bf_image.proofs.giving.DriverRows.{gives_by}
 use Rattle.bf_image.proofs.parting.UnitTables.{HasDriver}
 use Rattle.bf_image.proofs.frozen_unit.FrozenUnit.gives_of_row.Given as goal

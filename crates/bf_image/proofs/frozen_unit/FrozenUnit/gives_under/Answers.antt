@@ -2,7 +2,7 @@ use Rattle.std.proofs.Common.{map, sym, ap, ap₂, ◌∙◌}
 use Rattle.std.specs.Prelude.{option_map}
 use Rattle.std.proofs.lemmas.Result.{IfOk-weaker}
 use Rattle.bf_heap.specs.Heaps.{Entry}
-use Rattle.bf_migration.specs.BoundArms.{entries_of}
+use Rattle.bf_image.specs.BoundArms.{entries_of}
 use Rattle.bf_image.specs.Giving.{makes_any}
 use Rattle.bf_image.proofs.giving.ValueRows.{gives_of_other, gives_of_own}
 use Rattle.bf_image.proofs.parting.FrozenValues.{has_index, its_arm, its_index}

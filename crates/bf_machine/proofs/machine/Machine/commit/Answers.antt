@@ -4,7 +4,7 @@ use Rattle.std.specs.Prelude.{slice_set}
 use Rattle.std.proofs.lemmas.List.{length-map, length-set}
 use Rattle.bf_tree.specs.declared.script.Session.{Session}
 use Rattle.bf_sql.specs.migrations.Lazy.{LazyState}
-use Rattle.bf_migration.specs.Registries.{Registry}
+use Rattle.bf_image.specs.Registries.{Registry}
 use Rattle.bf_tree.specs.declared.reply.Cause.{Cause}
 use Rattle.bf_machine.specs.declared.journal.KeepError.{KeepError}
 use Rattle.bf_machine.specs.declared.journal.KeepError.TheVariants.{Ended, Memory as NoMemory}

@@ -5,7 +5,7 @@ use Rattle.std.proofs.lemmas.Bool.Decides.{nat_tests}
 use Rattle.boxcar.specs.Table.{Where}
 use Rattle.bf_base.specs.declared.granule.Granule.{Granule}
 use Rattle.bf_sql.specs.migrations.Need.{needed_for}
-use Rattle.bf_migration.specs.declared.migration.Migration.{Migration as Kept}
+use Rattle.bf_image.specs.declared.migration.Migration.{Migration as Kept}
 use Rattle.bf_store.specs.Calls.{cover_of}
 use Rattle.bf_store.specs.States.{HaveMoved, to_move}
 use Rattle.bf_store.proofs.Calls.{cover_has_moved}

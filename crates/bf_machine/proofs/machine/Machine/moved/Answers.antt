@@ -5,8 +5,8 @@ use Rattle.std.specs.Result.{IsErr, IsErrAnd}
 use Rattle.std.proofs.lemmas.Bool.{false≢true}
 use Rattle.boxcar.specs.Table.{Where}
 use Rattle.bf_sql.specs.migrations.Lazy.{migrations_so_far}
-use Rattle.bf_migration.specs.Registries.{Registry}
-use Rattle.bf_migration.specs.declared.migration.Migration.{Migration as Kept}
+use Rattle.bf_image.specs.Registries.{Registry}
+use Rattle.bf_image.specs.declared.migration.Migration.{Migration as Kept}
 use Rattle.bf_store.specs.Calls.{IsMoveOf}
 use Rattle.bf_store.specs.States.{AreGranulesIfAny, with_moved}
 use Rattle.bf_store.specs.Stores.{IsOf, Store}

@@ -3,7 +3,7 @@ use Rattle.bf_base.specs.declared.row.Row.{Row}
 use Rattle.bf_heap.specs.Heaps.{Entry}
 use Rattle.bf_txn.specs.Writes.{KeyWrite}
 use Rattle.bf_query.specs.RowsAhead.{entries_ahead}
-use Rattle.bf_query.proofs.Merging.{at_end, below_none, below_first, entry_before, head_of, next_by_key, none_of, now_in_order, rows_alone, write_ahead, write_replaces}
+use Rattle.bf_live.proofs.querying.Merging.{at_end, below_none, below_first, entry_before, head_of, next_by_key, none_of, now_in_order, rows_alone, write_ahead, write_replaces}
 use Rattle.bf_query.proofs.merge.Merge.advance.Goals as goal
 
 -- only writes are ahead, or only rows, or nothing

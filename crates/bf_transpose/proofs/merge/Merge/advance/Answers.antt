@@ -1,6 +1,6 @@
 use Rattle.std.proofs.Common.{◌<◌, length, sym, arith}
 use Rattle.std.proofs.lemmas.Option.{slice_get_within}
-use Rattle.bf_migration.specs.ByValues.{Valued}
+use Rattle.bf_index.specs.ByValues.{Valued}
 use Rattle.bf_transpose.proofs.Merging.{alike, left_less, nothing, only_left, only_right, right_less}
 use Rattle.bf_transpose.proofs.merge.Merge.advance.Goals as goal
 

@@ -4,7 +4,7 @@ use Rattle.std.proofs.lemmas.List.{append-nil}
 use Rattle.bf_base.specs.declared.granule.Granule.{Granule}
 use Rattle.bf_base.specs.declared.granule.Place.TheVariants.{Row}
 use Rattle.bf_sql.specs.migrations.Granules.{granule}
-use Rattle.bf_migration.specs.Migrations.{anchors_in}
+use Rattle.bf_image.specs.Migrations.{anchors_in}
 use Rattle.bf_transpose.specs.Scans.{gives, row_granules}
 use Rattle.bf_transpose.proofs.Steps.{none_from, none_to, row_tested}
 use Rattle.bf_transpose.proofs.scan.Search.add_in_range.Goals as goal

@@ -1,5 +1,5 @@
 use Rattle.std.proofs.Common.{◌≡◌, ◌≤◌, ◌++◌, filter}
-use Rattle.bf_migration.specs.Migrations.{anchors_in}
+use Rattle.bf_image.specs.Migrations.{anchors_in}
 use Rattle.bf_transpose.specs.Scans.{gives, row_granules}
 use Rattle.bf_transpose.proofs.scan.Search.add_in_range.Given as goal
 

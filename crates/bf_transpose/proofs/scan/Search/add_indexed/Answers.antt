@@ -4,7 +4,7 @@ use Rattle.std.proofs.lemmas.Result.{on_ok_weaker}
 use Rattle.bf_base.specs.declared.granule.Granule.{Granule}
 use Rattle.bf_heap.specs.KeyRanges.{is_within}
 use Rattle.bf_heap.specs.declared.key_range.KeyRange.{KeyRange}
-use Rattle.bf_migration.specs.ByValues.{value_of}
+use Rattle.bf_index.specs.ByValues.{value_of}
 use Rattle.bf_transpose.proofs.Grouped.{value_within}
 use Rattle.bf_transpose.proofs.Sought.{found_at_values}
 use Rattle.bf_transpose.proofs.scan.Search.add_indexed.Goals as goal

@@ -2,7 +2,7 @@
 use Rattle.std.proofs.Common.{List, ◌++◌, sym, ap, ◌∙◌}
 use Rattle.std.proofs.lemmas.Result.{on_ok_weaker}
 use Rattle.bf_base.specs.declared.granule.Granule.{Granule}
-use Rattle.bf_migration.specs.Migrations.{anchors_in}
+use Rattle.bf_image.specs.Migrations.{anchors_in}
 use Rattle.bf_transpose.specs.Scans.{gives, row_granules}
 use Rattle.bf_transpose.proofs.Each.{all_rows}
 use Rattle.bf_transpose.proofs.scan.Search.add_rows.Goals as goal

@@ -4,8 +4,8 @@ use Rattle.std.specs.Option.{option_and_then}
 use Rattle.std.proofs.lemmas.List.{append-nil}
 use Rattle.std.proofs.lemmas.Result.{on_ok_weaker}
 use Rattle.bf_base.specs.declared.granule.Granule.{Granule}
-use Rattle.bf_migration.specs.Migrations.{value_indexes}
-use Rattle.bf_migration.specs.declared.value_indexes.UnitIndex.{UnitIndex}
+use Rattle.bf_image.specs.Migrations.{value_indexes}
+use Rattle.bf_image.specs.declared.value_indexes.UnitIndex.{UnitIndex}
 use Rattle.bf_transpose.specs.Scans.{gives, has_arm}
 use Rattle.bf_transpose.proofs.Sought.{none_in_unit}
 use Rattle.bf_transpose.proofs.Units.{rows_of_unit}

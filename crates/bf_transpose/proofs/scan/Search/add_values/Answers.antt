@@ -5,7 +5,7 @@ use Rattle.std.proofs.lemmas.List.{append-nil}
 use Rattle.bf_base.specs.declared.granule.Granule.{Granule}
 use Rattle.bf_base.specs.declared.granule.Place.TheVariants.{Group}
 use Rattle.bf_sql.specs.migrations.Granules.{granule}
-use Rattle.bf_migration.specs.ByValues.{Valued, value_of}
+use Rattle.bf_index.specs.ByValues.{Valued, value_of}
 use Rattle.bf_transpose.specs.Scans.{gives, value_granules}
 use Rattle.bf_transpose.proofs.Ranged.{none_before, none_behind}
 use Rattle.bf_transpose.proofs.Steps.{no_value_from, no_value_to, value_tested}

@@ -1,5 +1,5 @@
 use Rattle.std.proofs.Common.{◌≡◌, ◌≤◌, ◌++◌, filter, length, map, take}
-use Rattle.bf_migration.specs.ByValues.{value_of}
+use Rattle.bf_index.specs.ByValues.{value_of}
 use Rattle.bf_transpose.specs.Scans.{gives, value_granules}
 use Rattle.bf_transpose.proofs.scan.Search.add_values.Given as goal
 

@@ -3,8 +3,8 @@ use Rattle.std.specs.List.{list_any}
 use Rattle.std.proofs.lemmas.Result.{IfOk-weaker}
 use Rattle.bf_tree.specs.Trees.{always}
 use Rattle.bf_sql.specs.migrations.Granules.{granule}
-use Rattle.bf_migration.specs.Migrations.{ArePart}
-use Rattle.bf_migration.specs.declared.migration.Migration.{Migration}
+use Rattle.bf_image.specs.Migrations.{ArePart}
+use Rattle.bf_image.specs.declared.migration.Migration.{Migration}
 use Rattle.bf_transpose.specs.Scans.{gives, is_sought}
 use Rattle.bf_transpose.specs.Transposed.{is_always}
 use Rattle.bf_transpose.proofs.Alike.{given_any}

@@ -2,8 +2,8 @@ use Rattle.std.proofs.Common.{◌+◌, ◌<◌, ◌≤◌, Bool, List, ◌++◌,
 use Rattle.std.proofs.lemmas.List.{append-nil}
 use Rattle.std.proofs.lemmas.List.Elements.{filter-append}
 use Rattle.bf_base.specs.declared.granule.Granule.{Granule}
-use Rattle.bf_migration.specs.Migrations.{units_in}
-use Rattle.bf_migration.proofs.planning.Units.{units_few}
+use Rattle.bf_image.specs.Migrations.{units_in}
+use Rattle.bf_image.proofs.planning.Units.{units_few}
 use Rattle.bf_transpose.specs.Scans.{gives, granules_in}
 use Rattle.bf_transpose.proofs.Units.{granules_from, granules_more, no_more_granules, units_counted}
 use Rattle.bf_transpose.proofs.scan.Search.granules.Goals as goal

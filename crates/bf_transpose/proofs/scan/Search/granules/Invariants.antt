@@ -1,6 +1,6 @@
 use Rattle.std.proofs.Common.{◌≡◌, ◌++◌, filter}
 use Rattle.bf_sql.specs.migrations.Granules.{granules_of}
-use Rattle.bf_migration.specs.Migrations.{old_of}
+use Rattle.bf_image.specs.Migrations.{old_of}
 use Rattle.bf_transpose.specs.Scans.{gives}
 use Rattle.bf_transpose.proofs.Units.{granules_from}
 use Rattle.bf_transpose.proofs.scan.Search.granules.Given as goal

@@ -3,7 +3,7 @@ use Rattle.std.proofs.Common.{ap, ◌∙◌}
 use Rattle.std.proofs.lemmas.Result.{IfOk-weaker}
 use Rattle.bf_heap.specs.KeyRanges.{is_within}
 use Rattle.bf_heap.specs.declared.key_range.KeyRange.{KeyRange}
-use Rattle.bf_migration.specs.ByValues.{value_of}
+use Rattle.bf_index.specs.ByValues.{value_of}
 use Rattle.bf_transpose.proofs.Carried.{value_within}
 use Rattle.bf_transpose.proofs.scan.Search.range_of_joins.Goals as goal
 

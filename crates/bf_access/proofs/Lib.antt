@@ -1,0 +1,3 @@
+pub mod FixedValue
+pub mod Listing
+pub mod Within

@@ -1,5 +1,0 @@
-use Rattle.bf_migration.proofs.planning.Planned.{units_planned}
-use Rattle.bf_image.proofs.laws.a_plan_has_the_units_of_its_migration.Goals as goal
-
-pub returns : goal.returns
-returns c = units_planned

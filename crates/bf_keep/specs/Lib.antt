@@ -1,4 +1,0 @@
-pub mod Answers
-pub mod Crashing
-pub mod Records
-pub mod Sayable

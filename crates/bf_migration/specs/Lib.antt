@@ -1,6 +1,0 @@
-pub mod BoundArms
-pub mod ByValues
-pub mod Lawful
-pub mod Migrations
-pub mod PlannedUnits
-pub mod Registries

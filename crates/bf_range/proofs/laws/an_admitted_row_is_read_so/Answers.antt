@@ -1,5 +1,0 @@
-use Rattle.bf_range.proofs.Rows.{row_held}
-use Rattle.bf_range.proofs.laws.an_admitted_row_is_read_so.Goals as goal
-
-pub returns : goal.returns
-returns c = row_held

@@ -1,0 +1,2 @@
+pub mod RunningTotals
+pub mod Sums
