@@ -132,12 +132,17 @@ impl Page {
     }
 
     /// Where the row of a key is, or else where it goes, among rows in the order of their keys. It
-    /// compares at most seven keys, and takes no memory.
+    /// compares at most eight keys, and takes no memory: one where the keys of the page are numbers of
+    /// which each is one more than that before it.
     pub fn find(&self, key: &Key) -> Result<usize, usize>
         ensures bound { IsSearchInRange result (length self.now) }
         ensures position { IsBinarySearchResult (λ entry. key_cmp entry.0 key.now) self.now result }
     {
-        self.rows.binary_search_by(|entry| entry.0.compare(key))
+        let guess = key.rank().abs_diff(self.rank) as usize;
+        match self.rows.as_slice().get(guess) {
+            Some(entry) if entry.0.compare(key) == Ordering::Equal => Ok(guess),
+            _ => self.rows.binary_search_by(|entry| entry.0.compare(key)),
+        }
     }
 
     /// The rows, in the order of their keys. Takes no memory.
