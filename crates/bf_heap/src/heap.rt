@@ -70,7 +70,7 @@ impl Model for Heap {
 
 /// The place of the last page that does not begin behind a key, or else of the first page. It
 /// compares about log n keys, and takes no memory.
-fn page_of(pages: &[Page], key: &Key) -> usize
+fn page_among(pages: &[Page], key: &Key) -> usize
     requires { 0 < length pages.now }
     ensures { IsPageOf pages.now key.now result }
 {
@@ -113,6 +113,20 @@ fn is_page_of(pages: &[Page], place: usize, key: &Key) -> bool
     place < pages.len()
         && (place == 0 || !pages[place].begins_behind(key))
         && (place + 1 == pages.len() || pages[place + 1].begins_behind(key))
+}
+
+/// The same place as `page_among` gives. The page is tried first at which the key would stand if the
+/// keys were numbers without gaps that were put in order, of which each page has 32: there it compares
+/// two keys, and else about log n. Takes no memory.
+fn page_of(pages: &[Page], key: &Key) -> usize
+    requires { 0 < length pages.now }
+    ensures { IsPageOf pages.now key.now result }
+{
+    let guess = key.rank().abs_diff(pages[0].rank()) as usize / HALF;
+    if is_page_of(pages, guess, key) {
+        return guess;
+    }
+    page_among(pages, key)
 }
 
 /// The same place as `page_of` gives. A page and the one behind it are tried first, so for a key

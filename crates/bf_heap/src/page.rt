@@ -79,6 +79,27 @@ fn move_half(from: &mut Vec<(Key, Row)>, to: &mut Vec<(Key, Row)>)
     }
 }
 
+/// Where the row of a key is, or else where it goes, among rows in the order of their keys. Takes no
+/// memory.
+fn find_among(rows: &[(Key, Row)], key: &Key) -> Result<usize, usize>
+    ensures bound { IsSearchInRange result (length rows.now) }
+    ensures position { IsBinarySearchResult (λ entry. key_cmp entry.0 key.now) rows.now result }
+{
+    rows.binary_search_by(|entry| entry.0.compare(key))
+}
+
+/// Where the row of a key is, or else where it goes, among rows in the order of their keys. It compares
+/// one where the key goes behind the last. Takes no memory.
+fn find_behind(rows: &[(Key, Row)], key: &Key) -> Result<usize, usize>
+    ensures bound { IsSearchInRange result (length rows.now) }
+    ensures position { IsBinarySearchResult (λ entry. key_cmp entry.0 key.now) rows.now result }
+{
+    match rows.last() {
+        Some(last) if last.0.compare(key) == Ordering::Less => Err(rows.len()),
+        _ => find_among(rows, key),
+    }
+}
+
 impl Page {
     /// A page without rows, and the memory for 64.
     pub fn new(alloc: Global) -> Result<Page, Memory>
@@ -97,6 +118,13 @@ impl Page {
         ensures within { length self.now ≤ 64 }
     {
         self.rows.len()
+    }
+
+    /// The rank of the first key, and the least number where there is none. Takes no memory.
+    pub fn rank(&self) -> i64
+        ensures { result ≡ rank_of_page self.now }
+    {
+        self.rank
     }
 
     /// Whether the first key is greater than a key. Takes no memory.
@@ -138,10 +166,12 @@ impl Page {
         ensures bound { IsSearchInRange result (length self.now) }
         ensures position { IsBinarySearchResult (λ entry. key_cmp entry.0 key.now) self.now result }
     {
+        let rows = self.rows.as_slice();
         let guess = key.rank().abs_diff(self.rank) as usize;
-        match self.rows.as_slice().get(guess) {
+        match rows.get(guess) {
             Some(entry) if entry.0.compare(key) == Ordering::Equal => Ok(guess),
-            _ => self.rows.binary_search_by(|entry| entry.0.compare(key)),
+            Some(_) => find_among(rows, key),
+            None => find_behind(rows, key),
         }
     }
 

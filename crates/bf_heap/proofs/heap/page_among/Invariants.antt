@@ -1,6 +1,6 @@
 use Rattle.std.proofs.Common.{◌≡◌, ◌<◌, ◌≤◌, ◌-◌, length, true, false}
 use Rattle.bf_heap.specs.Pages.{begins_behind, page_at}
-use Rattle.bf_heap.proofs.heap.page_of.Given as goal
+use Rattle.bf_heap.proofs.heap.page_among.Given as goal
 
 -- the page at `low` does not begin behind the key, unless it is the first, and the one at `high` does, unless it is no page
 abbrev pub invariant-loop-high : goal.invariant-loop-high
