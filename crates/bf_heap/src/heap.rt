@@ -21,7 +21,7 @@ use std::marker::Model;
 /// below 2 ^ 32. Contracts see the rows in the order of their keys, and the room.
 ///
 /// The rows stand in pages of 1 to 64, in the order of the keys. A look-up compares about log n
-/// keys; a put or a removal near the last one, as where keys rise, at most eleven. A put of a new
+/// keys; a put or a removal near the last one, as where keys rise, at most twelve. A put of a new
 /// key moves at most 64 rows, and where its page is full and so is split, the places of the pages
 /// behind; a removal does so where a page loses its last row. `reserve` makes the pages of later
 /// rows, and a page that has lost its last row is kept for them.
@@ -441,7 +441,7 @@ impl Heap {
 
     /// Puts a row under a key, and answers the row that stood there. The key is there, or there is
     /// room. In the page of the last put or removal, or in the one behind it, it compares at most
-    /// eleven keys, and else about log n. Takes no memory.
+    /// twelve keys, and else about log n. Takes no memory.
     pub fn put(&mut self, key: Key, row: Row) -> Option<Row>
         requires { IsTrue (has_row self.old.entries key) ⊎ (0 < self.old.spare) }
         ensures former { result ≡ row_under self.old.entries key }
@@ -477,7 +477,7 @@ impl Heap {
 
     /// Takes the row under a key out, and answers it; `None` exactly where there is none, and then
     /// the heap is as it was. In the page of the last put or removal, or in the one behind it, it
-    /// compares at most eleven keys, and else about log n. Takes no memory.
+    /// compares at most twelve keys, and else about log n. Takes no memory.
     pub fn remove(&mut self, key: &Key) -> Option<Row>
         ensures former { result ≡ row_under self.old.entries key.now }
         ensures entries { self.new.entries ≡ without_row self.old.entries key.now }
