@@ -13,9 +13,12 @@ ghost use Rattle.bf_heap.specs.Pages.{rows_of};
 use crate::cursor::Cursor;
 use crate::heap::{Heap, Parts, find_in};
 use crate::page::Page;
-use bf_base::{Key, Memory, Row};
+use bf_base::{Key, Memory, Row, Value};
 use std::alloc::Global;
 use std::marker::Model;
+
+/// Reading ahead ends with the row whose values bring it to so many bytes.
+const AHEAD: usize = 8192;
 
 /// A heap that no longer changes, whose rows are found by position as well as by key. Contracts see
 /// the rows in the order of their keys.
@@ -62,6 +65,35 @@ fn begun(starts: &[u32], position: u32) -> usize
     ensures begun { AreBegun starts.now position result }
 {
     starts.partition_point(|start| *start <= position)
+}
+
+/// About how many bytes the values of a row take: 8 a number, and the length of a text. It looks at each
+/// value, and not at the bytes of a text.
+fn bytes_of(row: &Row) -> usize {
+    let mut bytes: usize = 0;
+    for value in row.as_slice() {
+        let more = match value {
+            Value::Int(_) => 8,
+            Value::Text(text) => text.as_bytes().len(),
+        };
+        bytes = bytes.saturating_add(more);
+    }
+    bytes
+}
+
+/// Looks at the values of rows, up to the row with which they come to `AHEAD` bytes, and answers how many
+/// rows these are.
+fn read_values(rows: &[(Key, Row)]) -> usize
+    ensures { result ≤ length rows.now }
+{
+    let mut bytes: usize = 0;
+    for (count, (_, row)) in rows.iter().enumerate() {
+        if bytes >= AHEAD {
+            return count;
+        }
+        bytes = bytes.saturating_add(bytes_of(row));
+    }
+    rows.len()
 }
 
 impl FrozenHeap {
@@ -125,6 +157,43 @@ impl FrozenHeap {
         } else {
             None
         }
+    }
+
+    /// Looks at the values of rows from a position on, ahead of their use, and answers how many rows these
+    /// are: at most `most`, none past the end of the page, and none once some kilobytes were seen. Rows
+    /// that came in another order than that of their keys stand apart in memory. Looked at one behind the
+    /// other, the processor can wait for several at once. Takes no memory.
+    pub fn read_ahead(&self, position: u32, most: u32) -> u32
+        ensures within { result ≤ most }
+    {
+        let begun = begun(&self.starts, position);
+        if begun == 0 {
+            return 0;
+        }
+        let here = begun - 1;
+        let page = &self.parts.pages[here];
+        let place = (position - self.starts[here]) as usize;
+        let count = page.len();
+        if place >= count {
+            return 0;
+        }
+        let left = count - place;
+        let many = if (most as usize) < left {
+            most as usize
+        } else {
+            left
+        };
+        read_values(&page.rows()[place..place + many]) as u32
+    }
+
+    /// Reads ahead for one who goes over the positions below `end` in order. `read` is the first position
+    /// that was not read ahead: where `position` has come to it, rows from there on are. It answers the
+    /// new `read`, a hint on which no result depends. Takes no memory.
+    pub fn read_on(&self, position: u32, end: u32, read: u32) -> u32 {
+        if position < read {
+            return read;
+        }
+        position.saturating_add(self.read_ahead(position, end.saturating_sub(position)))
     }
 
     /// The position of the row under a key, counted from 0, and `None` exactly where there is none. It

@@ -20,8 +20,8 @@ pub struct FrozenUnit<'a> {
     pub migration: &'a Migration,
     /// Its number among the units of the plan.
     pub number: u8,
-    // The table whose rows it goes by; none where it goes by values.
-    pub(crate) driver: Option<&'a Frozen>,
+    /// The table whose rows it goes by; none where it goes by values.
+    pub driver: Option<&'a Frozen>,
     // Its arms in their order where it goes by rows; else none.
     pub(crate) arms: Vec<FrozenArm<'a>>,
     // Its arm where it goes by values; else none.

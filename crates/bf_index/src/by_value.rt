@@ -85,7 +85,9 @@ fn index_of(
 {
     let mut index = BTreeMap::new(alloc);
     let mut rows = heap.first();
+    let mut read = 0;
     for position in 0..heap.len() {
+        read = heap.read_on(position, heap.len(), read);
         let Some((_, row)) = rows.get() else {
             unreachable!()
         };

@@ -16,7 +16,7 @@ use crate::anchor::{Anchor, next_anchor};
 use crate::done::Done;
 use crate::moved::{Moved, receipts};
 use crate::under_way::UnderWay;
-use bf_base::{Granule, Key, Memory, Row, Table, Value};
+use bf_base::{Granule, Key, Memory, Place, Row, Table, Value};
 use bf_image::{FrozenUnit, Migration, ValueIndexes};
 use bf_live::{LiveTables, Puts};
 use std::alloc::Global;
@@ -100,6 +100,36 @@ fn unit_of<'a>(
     }
 }
 
+/// The position behind the granules at the front that are of one unit and go by rows at positions that
+/// follow one another; 0 where the first goes by a value.
+fn run_end(granules: &[Granule]) -> u32 {
+    let Some(first) = granules.first() else {
+        return 0;
+    };
+    let Place::Row(start) = first.place else {
+        return 0;
+    };
+    let unit = first.unit;
+    let mut end = start;
+    for granule in granules {
+        let place = Place::Row(end);
+        if *granule != (Granule { unit, place }) {
+            return end;
+        }
+        end = end.saturating_add(1);
+    }
+    end
+}
+
+/// Reads old rows of a unit ahead of their use from a place on, as [`bf_heap::FrozenHeap::read_on`] does;
+/// none where the unit goes by values. Takes no memory.
+fn read_on(unit: &FrozenUnit<'_>, place: &Place, end: u32, read: u32) -> u32 {
+    match (unit.driver, place) {
+        (Some(driver), Place::Row(position)) => driver.rows.heap().read_on(*position, end, read),
+        _ => read,
+    }
+}
+
 /// The rows that come from some granules, in one list, each with the number of its target. The tables of
 /// a unit are looked up once for granules of it that stand together.
 fn rows_of_all(
@@ -113,10 +143,13 @@ fn rows_of_all(
     ensures { IfOk result (λ rows. map (λ p. (target_at migration.now p.0, p.1)) rows.items
         ≡ flat_map (part_of (old_of migration.now) migration.now.plan.migrate) granules.now) }
 {
-    let mut rows = Vec::new(alloc);
+    let mut rows = Vec::with_capacity(alloc, granules.len())?;
     let mut last = None;
+    let end = run_end(granules);
+    let mut read = 0;
     for granule in granules {
         let unit = unit_of(alloc, migration, indexes, last, granule.unit)?;
+        read = read_on(&unit, &granule.place, end, read);
         unit.add_rows_of(alloc, &granule.place, &mut rows)?;
         last = Some(unit);
     }

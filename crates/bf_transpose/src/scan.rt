@@ -473,6 +473,20 @@ impl<'a> Search<'a> {
         self.add(alloc, Granule { unit, place }, granules)
     }
 
+    /// Reads rows of a unit's driver ahead of their use, as [`bf_heap::FrozenHeap::read_on`] does. Takes no
+    /// memory.
+    fn read_on(&self, unit: u8, position: u32, end: u32, read: u32) -> u32
+        requires { IsSearch self.now }
+    {
+        let Some(found) = self.unit(unit) else {
+            return read;
+        };
+        match found.driver {
+            Some(driver) => driver.rows.heap().read_on(position, end, read),
+            None => read,
+        }
+    }
+
     /// Adds those granules of a unit that goes by rows. Only rows whose keys are in the range are
     /// tried, and of these only such as satisfy what is known of the driver's rows, if anything is.
     fn add_in_range(
@@ -489,7 +503,9 @@ impl<'a> Search<'a> {
             (row_granules unit (anchors_in self.now.migration.now unit))) }
     {
         let (first, end) = self.bounds(unit);
+        let mut read = first;
         for position in first..end {
+            read = self.read_on(unit, position, end, read);
             self.add_row(alloc, unit, behind, position, granules)?;
         }
         Ok(())

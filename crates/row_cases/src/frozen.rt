@@ -2,12 +2,14 @@
 //!
 //! `get KEY ..` answers the number of the row of a key, and `seek KEY ..` that of the row at the key's position. `at
 //! POSITION` answers whether a row stands there. `rows` lists the numbers of the rows by their positions, `first` those
-//! from the first one on, and `len` answers how many there are.
+//! from the first one on, and `len` answers how many there are. `look POSITION MOST` answers how many rows are read
+//! ahead from a position on, and `ahead END` the first position below an end of which no row has been read ahead when
+//! its turn comes, or else the end.
 
-use crate::answers::{Answer, Run, tell_count};
+use crate::answers::{Answer, Run, tell_count, tell_number};
 use crate::calls::{Structure, tell_lines};
 use crate::heaps::tell_cursor;
-use anyhow::bail;
+use anyhow::{Context, bail};
 use bf_base::{Key, Row};
 use bf_heap::{FrozenHeap, Heap};
 use std::alloc::Global;
@@ -18,6 +20,24 @@ fn seek(heap: &FrozenHeap, key: &Key) -> Answer {
         Some(position) => Answer::of_entry(heap.at(position)),
         None => Answer::Nothing,
     }
+}
+
+/// The first position below an end of which no row has been read ahead when its turn comes, or else the end.
+fn first_not_ahead(heap: &FrozenHeap, end: u32) -> u32 {
+    let mut read = 0;
+    for position in 0..end {
+        read = heap.read_on(position, end, read);
+        if read <= position {
+            return position;
+        }
+    }
+    end
+}
+
+/// How many rows are read ahead, by the words that tell from where and how many at most.
+fn look(heap: &FrozenHeap, words: &str) -> anyhow::Result<u32> {
+    let (position, most) = words.split_once(" ").context("no two numbers")?;
+    Ok(heap.read_ahead(position.parse()?, most.parse()?))
 }
 
 fn tell_rows(heap: &FrozenHeap, told: &mut String) -> anyhow::Result<()> {
@@ -62,6 +82,11 @@ impl Structure for FrozenHeap {
             "rows" => tell_rows(self, told)?,
             "first" => tell_cursor(self.first(), told)?,
             "len" => tell_count(self.len(), self.is_empty(), told)?,
+            "look" => tell_number(" ", i64::from(look(self, words)?), told)?,
+            "ahead" => {
+                let first = first_not_ahead(self, words.parse()?);
+                tell_number(" ", i64::from(first), told)?
+            }
             _ => return Ok(false),
         }
         Ok(true)
