@@ -3,7 +3,6 @@
 ghost use Rattle.std.specs.List.{AllByRecursion, list_all};
 ghost use Rattle.std.specs.Prelude.{◌≡◌, IfOk, OnErr, OnOk, false, IsTrue};
 ghost use Rattle.bf_eager.specs.Groups.{leave_schema, left_behind};
-ghost use Rattle.bf_sql.specs.Database.{IsDatabase};
 ghost use Rattle.bf_tree.specs.Limits.{HasNarrowTables, IsNarrowIfMigrate, is_narrow_statement};
 ghost use Rattle.bf_sql.specs.Bound.{catalog_of, changes_schema};
 ghost use Rattle.bf_sql.specs.History.{run_group};

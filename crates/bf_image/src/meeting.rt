@@ -22,7 +22,7 @@ ghost use Rattle.bf_image.specs.declared.migration.Migration.{Migration};
 use crate::arm_gives::makes_any;
 use crate::arm_rows::{column_value, row_made};
 use crate::arms::FrozenArm;
-use bf_base::{Key, Memory, Row, Value};
+use bf_base::{Key, Memory, Row};
 use bf_tree::ArmKind;
 use std::alloc::Global;
 

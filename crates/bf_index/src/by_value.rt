@@ -1,6 +1,6 @@
 //! The rows of a table by the values that they have at some places.
 
-ghost use Rattle.std.specs.Prelude.{◌≡◌, [], ◌∷◌, ◌++◌, List, IfOk, IsTrue, OnOk, if◌then◌else◌, length, map, nat_lt, slice_get, unwrap_or};
+ghost use Rattle.std.specs.Prelude.{◌≡◌, [], ◌∷◌, ◌++◌, List, IfOk, IsTrue, OnOk, if◌then◌else◌, length, nat_lt, slice_get, unwrap_or};
 ghost use Rattle.std.specs.BTreeMap as tree;
 ghost use Rattle.std.specs.List.{list_all};
 ghost use Rattle.std.specs.List.Sorted.{IsBinarySearchResult, IsSearchInRange};

@@ -1,6 +1,6 @@
 //! Rows put into the heaps of tables under their keys.
 
-ghost use Rattle.std.specs.Prelude.{◌≡◌, ◌≤◌, ◌+◌, ◌++◌, ◌∷◌, [], IfOk, OnErr, OnOk, fold, length};
+ghost use Rattle.std.specs.Prelude.{◌≡◌, ◌≤◌, ◌+◌, ◌++◌, ◌∷◌, [], OnErr, OnOk, fold, length};
 ghost use Rattle.std.specs.List.{All};
 ghost use Rattle.bf_live.specs.Merged.{applied_to};
 ghost use Rattle.bf_live.specs.Live.{rows_in};

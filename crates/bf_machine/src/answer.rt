@@ -1,6 +1,6 @@
 //! What a statement of an open group replies and leaves pending.
 
-ghost use Rattle.std.specs.Prelude.{◌≡◌, [], IfOk, OnErr, OnOk, ℕ, Bool, false};
+ghost use Rattle.std.specs.Prelude.{◌≡◌, [], IfOk, OnErr, OnOk, Bool, false};
 ghost use Rattle.bf_tree.specs.Limits.{IsNarrowMigrate};
 ghost use Rattle.bf_tree.specs.declared.statement.Statement.{Statement};
 ghost use Rattle.bf_tree.specs.declared.statement.Statement.TheVariants as statement;
@@ -18,7 +18,7 @@ use bf_base::Memory;
 use bf_live::LiveTables;
 use bf_query::run_on_table;
 use bf_store::Store;
-use bf_tree::{Action, Bound, Plan, Refusal, Reply};
+use bf_tree::{Action, Bound, Plan, Reply};
 use std::alloc::Global;
 
 /// Replies to a MIGRATE that the catalog allows, by its plan, on tables into which all rows have moved.

@@ -1,6 +1,6 @@
 //! The rows of a table as a transaction sees them: those of the heap, under what it has written.
 
-ghost use Rattle.std.specs.Prelude.{◌≡◌, ◌<◌, ℕ, IfOk, IsTrue, OnSome, map};
+ghost use Rattle.std.specs.Prelude.{◌≡◌, ◌<◌, IfOk, IsTrue, OnSome, map};
 ghost use Rattle.std.specs.Option.{option_map, option_to_list};
 ghost use Rattle.bf_base.specs.Maps.{is_map};
 ghost use Rattle.bf_base.specs.Tables.{cell};

@@ -1,7 +1,6 @@
 //! The lazy store.
 
 ghost use Rattle.std.specs.Prelude.{◌≡◌, ◌+◌, ◌≤◌, ◌∷◌, [], IfOk, None, OnErr, OnOk, map};
-ghost use Rattle.std.specs.Option.{option_map};
 ghost use Rattle.bf_tree.specs.Limits.{HasNarrowTables, IsNarrowMigrate, is_narrow};
 ghost use Rattle.std.specs.Prelude.{IsTrue};
 ghost use Rattle.bf_sql.specs.Bound.{catalog_of};

@@ -1,6 +1,6 @@
 //! Rows under their keys, put among others: all of them, or none.
 
-ghost use Rattle.std.specs.Prelude.{◌≡◌, [], ◌+◌, ◌≤◌, OnErr, OnOk, fold, length, vec_capacity, vec_len};
+ghost use Rattle.std.specs.Prelude.{◌≡◌, [], ◌≤◌, OnErr, OnOk, fold, length, vec_capacity};
 ghost use Rattle.bf_txn.specs.Formers.{restored, undone};
 ghost use Rattle.bf_txn.specs.Writes.{with_key_write};
 

@@ -1,6 +1,6 @@
 //! Places among the writes to a table.
 
-ghost use Rattle.std.specs.Prelude.{◌≡◌, [], ◌++◌, IfNone, IfSome, IsTrue, drop, filter, slice_get};
+ghost use Rattle.std.specs.Prelude.{◌≡◌, [], ◌++◌, IfNone, drop, filter, slice_get};
 ghost use Rattle.std.specs.Option.{option_map, option_to_list};
 ghost use Rattle.std.specs.Range.Bound.{bound_map};
 ghost use Rattle.bf_heap.specs.KeyRanges.{is_within};
