@@ -1,8 +1,6 @@
 -- A run on one thread, session after session.
-use Rattle.std.specs.Prelude.{◌≡◌, ℕ, Bool, true, false, not, List, length, map, flat_map, zip}
-use Rattle.std.specs.List.{list_all, range_with_len}
-use Rattle.bf_tree.specs.declared.statement.Statement.{Statement}
-use Rattle.bf_tree.specs.declared.statement.Statement.TheVariants.{Migrate}
+use Rattle.std.specs.Prelude.{◌≡◌, ℕ, Bool, false, List, length, map, flat_map, zip}
+use Rattle.std.specs.List.{range_with_len}
 use Rattle.bf_tree.specs.declared.script.Script.{Script}
 use Rattle.bf_tree.specs.declared.reply.Cause.{Cause}
 use Rattle.bf_tree.specs.declared.reply.Reply.{Reply}
@@ -14,14 +12,6 @@ use Rattle.bf_sql.specs.Groups.{groups_in, statements_in, outcomes_from}
 use Rattle.bf_tree.specs.Answered.{IsAllAnswered}
 use Rattle.bf_sql.specs.History.{IsLegalHistory}
 use Rattle.bf_machine.specs.Movement.{movement, sweep_told}
-
-abbrev pub is_migrate : Statement → Bool
-is_migrate (Migrate migrate) = true
-is_migrate other = false
-
--- no MIGRATE stands in a script
-abbrev pub migrates_nothing : Script → Bool
-migrates_nothing script = list_all (λ s. list_all (λ statement. not (is_migrate statement)) s.statements) script.sessions
 
 -- the groups of a script, each as its session, its first and its last statement: session after session, in the order of
 -- the text

@@ -11,7 +11,7 @@ use Rattle.bf_log.specs.declared.log.Standing.TheVariants.{Ready, Halted as Stop
 use Rattle.bf_machine.specs.declared.journal.KeepError.{KeepError}
 use Rattle.bf_machine.specs.declared.journal.KeepError.TheVariants.{Ended, Memory}
 use Rattle.bf_machine.specs.interleaving.Events.{Event, aborts, asks, begins, commits_now, ends_by_log, executes, finishes, moves, refuses}
-use Rattle.bf_machine.specs.interleaving.Journals.{IsBeside, IsChangeOf, IsEventBeside, Keeps, ended_by, ended_in, nothing_yet, one_beside}
+use Rattle.bf_machine.specs.interleaving.Journals.{IsBeside, IsChangeOf, IsEventBeside, Keeps, ended_by, ended_in, nothing_yet, one_beside, unkept_move}
 use Rattle.bf_machine.specs.interleaving.Machines.{EndedGroup, Machine}
 use Rattle.bf_sql.specs.Database.{Database}
 use Rattle.bf_sql.specs.migrations.Lazy.{LazyState}
@@ -171,3 +171,5 @@ module _ {D : Type 0} {g : Ghosts D} where
     }
     events_told start m j _ _ (one_beside {now = now} {next = next} {k = k} {l = l} before event beside) ready =
         event_told event k l beside (ended_in Answers before) (events_told start m j now k before ready)
+    events_told start m j _ _ (unkept_move {now = now} {k = k} {l = l} before cause refused) ready =
+        still_told (log_of k) (log_of l) (ended_in Answers before) (inr (Err (Ended cause), refused.2.1)) (events_told start m j now k before ready)

@@ -17,7 +17,7 @@ use Rattle.bf_tree.specs.declared.reply.Refusal.TheVariants.{NoTransaction}
 use Rattle.bf_tree.specs.declared.script.Script.{Script}
 use Rattle.bf_machine.specs.declared.journal.KeepError.{KeepError}
 use Rattle.bf_machine.specs.interleaving.Events.{EndsByLog, Event, aborts, asked, asks, at_once, begins, commits_behind, commits_now, ends_by_log, executes, finishes, moves, one_more, refuses, rest_of, text_of, told_at_death}
-use Rattle.bf_machine.specs.interleaving.Journals.{Keeps, ended_by, ended_in, nothing_yet, one_beside}
+use Rattle.bf_machine.specs.interleaving.Journals.{Keeps, ended_by, ended_in, nothing_yet, one_beside, unkept_move}
 use Rattle.bf_machine.specs.interleaving.Kept.{IsKept}
 use Rattle.bf_machine.specs.interleaving.Machines.{EndedGroup, Group, Machine, Open, open_at, told_at, transcripts_of, with_replies}
 use Rattle.bf_machine.proofs.interleaving.Caused.{own_next, told_size}
@@ -153,6 +153,7 @@ module _ {J : Type 0} (Answers : LazyState → LazyState → J → J → Result 
         both_told next (ended_in Answers before) (ended_by event) (all_told now next (grown_by start now next so_far.0 event) (ended_in Answers before) so_far.1)
             (ended_now start now next so_far.0 event),
       )
+  told_in m j _ _ kept (unkept_move {now = now} {k = k} {l = l} before cause refused) = told_in m j now k kept before
 
   -- EACH GROUP that they end is told its cause
   pub told_their_causes : (m : Machine) (j : J) (next : Machine) (k : J) → IsKept start m → (keeps : Keeps Answers start m j next k)

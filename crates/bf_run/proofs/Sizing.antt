@@ -6,7 +6,7 @@ use Rattle.bf_machine.specs.declared.journal.KeepError.{KeepError}
 use Rattle.bf_machine.specs.declared.journal.KeepError.TheVariants.{Ended}
 use Rattle.bf_machine.specs.interleaving.Events.{Event, aborts, asks, at_once, begins, commits_now, ends_by_log, executes, finishes, moves, refuses}
 use Rattle.bf_machine.specs.interleaving.Events as events
-use Rattle.bf_machine.specs.interleaving.Journals.{IsEventBeside, IsUnkeptFor, Keeps, ended_by, ended_in, nothing_yet, one_beside}
+use Rattle.bf_machine.specs.interleaving.Journals.{IsEventBeside, IsUnkeptFor, Keeps, ended_by, ended_in, nothing_yet, one_beside, unkept_move}
 use Rattle.bf_machine.specs.interleaving.Kept.{IsKept}
 use Rattle.bf_machine.specs.interleaving.Machines.{EndedGroup, Machine, Open, open_at}
 use Rattle.bf_machine.proofs.interleaving.Reaching.{reached_keeps_all}
@@ -111,3 +111,4 @@ module _ {D : Type 0} {g : Ghosts D} {J : Type 0} (log_of : J → Log D g) (star
   events_sized m j _ _ (one_beside {now = now} {next = next} {k = k} {l = l} before event beside) kept =
       let so_far = events_sized m j now k before kept in
       (reached_keeps_all start now next so_far.0 (events.one_more at_once event), event_sized now next event k l so_far.0 beside (ended_in Answers before) so_far.1)
+  events_sized m j _ _ (unkept_move {now = now} {k = k} {l = l} before cause refused) kept = events_sized m j now k before kept

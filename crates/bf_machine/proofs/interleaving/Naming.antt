@@ -12,7 +12,7 @@ use Rattle.bf_sql.specs.migrations.Lazy.{LazyState}
 use Rattle.bf_store.specs.Stores.{Store}
 use Rattle.bf_machine.specs.declared.journal.KeepError.{KeepError}
 use Rattle.bf_machine.specs.interleaving.Events.{Event, Reaches, aborts, asked, asks, at_once, begins, commits_now, ends_by_log, executes, finishes, moves, one_more, refuses}
-use Rattle.bf_machine.specs.interleaving.Journals.{Keeps, ended_by, ended_in, nothing_yet, one_beside}
+use Rattle.bf_machine.specs.interleaving.Journals.{Keeps, ended_by, ended_in, nothing_yet, one_beside, unkept_move}
 use Rattle.bf_machine.specs.interleaving.Kept.{IsKept, IsOpening, fresh, fresh_with}
 use Rattle.bf_machine.specs.interleaving.Machines.{EndedGroup, IsAmong, Machine, MayEnd, Open, these}
 use Rattle.bf_machine.proofs.interleaving.New.{new_is_kept}
@@ -96,6 +96,7 @@ module _ (may : MayEnd) where
   reaches_renamed {Answers = Answers} m j _ _ (one_beside {now = now} {next = next} {k = k} {l = l} before event beside) so =
       one_more (reaches_renamed m j now k before (λ g among. so g (Contains-append_left (ended_in Answers before) (ended_by event) g among)))
       (event_renamed now next event (λ g among. so g (Contains-append_right (ended_in Answers before) (ended_by event) g among)))
+  reaches_renamed m j _ _ (unkept_move {now = now} {k = k} {l = l} before cause refused) so = reaches_renamed m j now k before so
 
 -- and all is kept of a machine whose log may end those alone that it has ended
 pub named_is_kept : {J : Type 0} (Answers : LazyState → LazyState → J → J → Result (Unit {0}) KeepError → Type 0) (start : Database) (logged : Bool) (store : Store) (script : Script) (retries : ℕ) (m : Machine) → m ≡ fresh logged store script retries

@@ -12,7 +12,7 @@ use Rattle.bf_tree.specs.declared.reply.Cause.{Cause}
 use Rattle.bf_machine.specs.declared.journal.KeepError.{KeepError}
 use Rattle.bf_machine.specs.declared.journal.KeepError.TheVariants.{Ended, Memory}
 use Rattle.bf_machine.specs.interleaving.Events.{Asks, Begins, EndsByLog, Event, Reaches, aborts, asked, asks, at_once, begins, commits_now, ends_by_log, executes, finishes, moves, one_more, refuses}
-use Rattle.bf_machine.specs.interleaving.Journals.{IsBeside, IsChangeOf, IsEventBeside, IsRefused, IsUnkeptFor, Keeps, KeepsOrIsRefused, ended_by, nothing_yet, one_beside}
+use Rattle.bf_machine.specs.interleaving.Journals.{IsBeside, IsChangeOf, IsEventBeside, IsRefused, IsUnkeptFor, Keeps, KeepsOrIsRefused, ended_by, nothing_yet, one_beside, unkept_move}
 use Rattle.bf_machine.specs.interleaving.Calls.{HasReplied}
 use Rattle.bf_machine.specs.interleaving.Machines.{Machine, Open}
 use Rattle.bf_machine.specs.interleaving.Serving.{LeavesStore}
@@ -22,6 +22,8 @@ module _ {J : Type 0} (Answers : LazyState → LazyState → J → J → Result 
   keeps_both m j now k _ _ one nothing_yet = one
   keeps_both m j now k _ _ one (one_beside {now = then} {next = next} {k = h} {l = l} before event beside) =
       one_beside (keeps_both m j now k then h one before) event beside
+  keeps_both m j now k _ _ one (unkept_move {now = then} {k = h} {l = l} before cause refused) =
+      unkept_move (keeps_both m j now k then h one before) cause refused
 
   -- where neither changes
   pub keeps_not : (m next : Machine) (j k : J) → next ≡ m → k ≡ j → Keeps Answers start m j next k
@@ -83,6 +85,7 @@ module _ {J : Type 0} (Answers : LazyState → LazyState → J → J → Result 
   leaves : (m next : Machine) (u v : Unit {0}) (j : J) → Keeps {J = Unit {0}} (λ lazy then before after answer. ⊥) start m u next v → Keeps Answers start m j next j
   leaves m _ u _ j nothing_yet = nothing_yet
   leaves m _ u _ j (one_beside {now = now} {next = next} {k = k} {l = l} before event beside) = one_beside (leaves m now u k j before) event (not_asked event k l beside j)
+  leaves m _ u _ j (unkept_move before cause refused) = absurd refused.2
 
   pub keeps_leaves : (m next : Machine) (j : J) → LeavesStore start m next → Keeps Answers start m j next j
   keeps_leaves m next j left = leaves m next tt tt j left
@@ -91,6 +94,7 @@ module _ {J : Type 0} (Answers : LazyState → LazyState → J → J → Result 
   pub keeps_reach : (m : Machine) (j : J) (next : Machine) (l : J) → Keeps Answers start m j next l → Reaches start m next
   keeps_reach m j _ _ nothing_yet = at_once
   keeps_reach m j _ _ (one_beside {now = now} {next = next} {k = k} {l = l} before event beside) = one_more (keeps_reach m j now k before) event
+  keeps_reach m j _ _ (unkept_move {now = now} {k = k} {l = l} before cause refused) = keeps_reach m j now k before
 
   -- also where the call is refused
   pub reach_still : (ends : Bool) (m : Machine) (j : J) (next : Machine) (l : J) (r : Result (Unit {0}) KeepError) → KeepsOrIsRefused Answers ends start m j next l r → Reaches start m next

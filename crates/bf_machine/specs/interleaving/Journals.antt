@@ -111,15 +111,18 @@ module _ {J : Type 0} (Answers : LazyState → LazyState → J → J → Result 
   IsEventBeside {m = m} (ends_by_log s by) j k = IsRefused (IsUnkeptFor m s by.cause) m.lazy j k by.cause
   IsEventBeside {m = m} {next = next} other j k = IsBeside (IsChangeOf m) m.lazy next.lazy j k
 
-  -- KEEPS: events one after the other, each beside the journal
+  -- KEEPS: events one after the other, each beside the journal, and moves between them that it has not kept
   pub data Keeps (start : Database) (m : Machine) (j : J) : Machine → J → Type 0 where
     nothing_yet : Keeps start m j m j
     one_beside : {now next : Machine} {k l : J} → Keeps start m j now k → (event : Event start now next) → IsEventBeside event k l → Keeps start m j next l
+    -- or the journal has not kept a move, for a cause, by which no group ends: the machine stays
+    unkept_move : {now : Machine} {k l : J} → Keeps start m j now k → (cause : Cause) → IsRefused (IsUnkeptMove now.lazy cause) now.lazy k l cause → Keeps start m j now l
 
   -- the groups that they end by a cause of the log, in order
   abbrev pub ended_in : {start : Database} {m : Machine} {j : J} {next : Machine} {l : J} → Keeps start m j next l → List EndedGroup
   ended_in nothing_yet = []
   ended_in (one_beside before event beside) = ended_in before ++ ended_by event
+  ended_in (unkept_move before cause refused) = ended_in before
 
   -- KEEPS, OR IS REFUSED: the events are beside the journal; a call that tells a cause, of a log that may end groups, has come behind
   -- them to a move that the journal has not kept for it

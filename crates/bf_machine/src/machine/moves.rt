@@ -60,6 +60,18 @@ impl<N: Opened> Machine<N> {
         self.store.done(alloc)
     }
 
+    /// Those of some granules of the last migration that have not moved, in the order in which they are told.
+    /// It costs a look-up for each.
+    ///
+    /// # Errors
+    /// Where memory runs out.
+    pub fn need(&self, alloc: Global, granules: &[Granule]) -> Result<Vec<Granule>, Memory>
+        ensures { IfOk result (λ left. left.items
+            ≡ to_move self.now.lazy.last granules.now) }
+    {
+        self.store.need(alloc, granules)
+    }
+
     /// Moves granules of a migration that one record may move, as one change, given its old rows by their
     /// values. The move of those that have not moved is kept in the journal before; where all have, nothing
     /// is kept. No session goes on, and the database that sessions see stays. It costs what the journal

@@ -9,7 +9,7 @@ use Rattle.bf_journal.proofs.Runs.{longer, replayed_more, whole}
 use Rattle.bf_log.specs.declared.log.Log.{Log}
 use Rattle.bf_machine.specs.declared.journal.KeepError.{KeepError}
 use Rattle.bf_machine.specs.interleaving.Events.{at_once, one_more}
-use Rattle.bf_machine.specs.interleaving.Journals.{Keeps, ended_by, ended_in, nothing_yet, one_beside}
+use Rattle.bf_machine.specs.interleaving.Journals.{Keeps, ended_by, ended_in, nothing_yet, one_beside, unkept_move}
 use Rattle.bf_machine.specs.interleaving.Kept.{IsKept}
 use Rattle.bf_machine.specs.interleaving.Machines.{EndedGroup, Machine}
 use Rattle.bf_machine.proofs.interleaving.Reaching.{reached_keeps_all}
@@ -24,7 +24,7 @@ use Rattle.bf_tree.specs.declared.statement.Statement.{Statement}
 use Rattle.bf_run.specs.Answers.{HasAnswered, if_committed}
 use Rattle.bf_run.specs.Crashing.{Follows, IsWhatHasFailed, LeavesBefore, Recovers}
 use Rattle.bf_run.proofs.crashing.Changing.{Leaves, goes_before, grows, none_failed_then, stays}
-use Rattle.bf_run.proofs.crashing.Failing.{Turned, turns}
+use Rattle.bf_run.proofs.crashing.Failing.{Turned, turns, turns_by_move}
 use Rattle.bf_run.proofs.crashing.Growing.{Grows, grows_by}
 use Rattle.bf_run.proofs.crashing.Makes.{entries, seen}
 
@@ -132,3 +132,9 @@ module _ {D : Type 0} {g : Ghosts D} (earlier : (log : Log D g) (t u : ℕ) (lef
         let turned = turns log_of start now so_far.0 behind old so_far.1.stands so_far.1.failed so_far.1.none_failed so_far.1.failed_is next event new goes in
         let one = one_event behind (ended_by event) now next old new so_far.0 kept_next so_far.1 turned (grows_by now next start event) in
         (kept_next, subst (λ (all : List EndedGroup). Recovers opened start all next (log_of new)) (append_assoc ended (ended_in Answers before) (ended_by event)) one)
+    events_keep ended m j _ _ kept was (unkept_move {now = now} {k = old} {l = new} before cause refused) =
+        let so_far = events_keep ended m j now old kept was before in
+        let behind : List EndedGroup = ended ++ ended_in Answers before in
+        let turned = turns_by_move log_of start now so_far.0 behind old so_far.1.stands so_far.1.failed so_far.1.none_failed so_far.1.failed_is cause new refused in
+        let one = one_event behind [] now now old new so_far.0 so_far.0 so_far.1 turned (refl, inl refl) in
+        (so_far.0, subst (λ (all : List EndedGroup). Recovers opened start all now (log_of new)) (append-nil behind) one)

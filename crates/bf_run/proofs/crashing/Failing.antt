@@ -13,7 +13,7 @@ use Rattle.bf_log.specs.declared.log.Standing.TheVariants.{Ready, Halted as Stop
 use Rattle.bf_machine.specs.declared.journal.KeepError.{KeepError}
 use Rattle.bf_machine.specs.declared.journal.KeepError.TheVariants as keeps
 use Rattle.bf_machine.specs.interleaving.Events.{EndsByLog, Event}
-use Rattle.bf_machine.specs.interleaving.Journals.{IsBeside, IsChangeOf, IsEventBeside, IsMoveIn, IsRefused, IsUnkeptFor, ended_by}
+use Rattle.bf_machine.specs.interleaving.Journals.{IsBeside, IsChangeOf, IsEventBeside, IsMoveIn, IsRefused, IsUnkeptFor, IsUnkeptMove, ended_by}
 use Rattle.bf_machine.specs.interleaving.Kept.{IsKept}
 use Rattle.bf_machine.specs.interleaving.Machines.{EndedGroup, Machine}
 use Rattle.bf_machine.proofs.served.Keeping.{event_beside}
@@ -210,3 +210,13 @@ module _ {D : Type 0} {g : Ghosts D} where
           let more : ended_by event ≡ group_of ends.0 next ends.1 ∷ [] = ap (λ (e : Event start m next). ended_by e) ends.2 in
           subst (λ (more : List EndedGroup). Turns (ended ++ more) next.lazy (log_of new)) (sym more) (by_end ends.0 next ends.1 new ends.3)
     ]
+
+    -- with a move that was not kept, by which no group ends
+    pub turns_by_move : (cause : Cause) (new : J) → IsRefused Answers (IsUnkeptMove m.lazy cause) m.lazy old new cause → Turns (ended ++ []) m.lazy (log_of new)
+    turns_by_move cause new (other, change, answered) =
+        let left = refused m.lazy other (log_of old) (log_of new) on cause answered.0 in
+        elim left.0 as (λ _. Turns (ended ++ []) m.lazy (log_of new)) [
+          | inl nothing ↦ stores_nothing start m.script m.history ended [] m.lazy (log_of old) on failed none failed_is m.lazy (log_of new) (Err (keeps.Ended cause)) refl answered.1 nothing left.1
+          | inr failing ↦ fails start m.script m.history ended [] m.lazy (log_of old) on failed none failed_is m.lazy other (log_of new) refl failing.0 left.1
+              (inl (move_makes_nothing start m kept other change.1))
+        ]
