@@ -16,6 +16,6 @@ pub mod stand;
 pub use journal::{Journal, KeepError, Unkept};
 pub use machine::{Machine, Parts};
 pub use opened::Opened;
-pub use serving::{in_order, prepare_next};
+pub use serving::{in_order, prepare_next, record_len};
 pub use so_far::Pending;
 pub use stand::{Ending, MoveError, Stand, Step};

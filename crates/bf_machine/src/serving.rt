@@ -151,8 +151,8 @@ pub fn prepare_next<N: Opened>(
 }
 
 /// How many of some granules, which stand in the order of unit and place, one record may move: the first
-/// of one unit, 64 at most.
-fn record_len(granules: &[Granule]) -> usize
+/// of one unit, 64 at most. It looks at as many.
+pub fn record_len(granules: &[Granule]) -> usize
     ensures within { result ≤ length granules.now }
     ensures some { 0 < length granules.now → 0 < result }
     ensures few { result ≤ most_moved }

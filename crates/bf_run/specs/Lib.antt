@@ -1,10 +1,12 @@
 pub mod Answers
 pub mod Causes
+pub mod Come
 pub mod Crashing
 pub mod Creating
 pub mod Keeping
 pub mod Outcome
 pub mod Records
+pub mod Requests
 pub mod Running
 pub mod Sayable
 pub mod Top
