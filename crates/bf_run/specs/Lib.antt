@@ -2,6 +2,7 @@ pub mod Answers
 pub mod Causes
 pub mod Crashing
 pub mod Creating
+pub mod Deaths
 pub mod Keeping
 pub mod Outcome
 pub mod Records

@@ -6,17 +6,20 @@ ghost use Rattle.bf_journal.specs.States.{IsReady, StandsOn};
 ghost use Rattle.bf_run.specs.Sayable.{IsSayableScript};
 ghost use Rattle.bf_log.specs.Append.{disk_of};
 ghost use Rattle.bf_machine.specs.interleaving.Kept.{IsWithinLimits};
+ghost use Rattle.bf_phrase.specs.Limits.{most_of_phase};
 ghost use Rattle.bf_recover.specs.Legal.{first_state};
 ghost use Rattle.bf_recover.specs.Steps.{StepsTo};
 ghost use Rattle.bf_sql.specs.migrations.Lazy.{view_of};
 ghost use Rattle.bf_store.specs.Stores.{IsOf};
 ghost use Rattle.bf_run.specs.Creating.{shelf_of};
+ghost use Rattle.bf_run.specs.Deaths.{HasFewInPhases};
 ghost use Rattle.bf_run.specs.Outcome.{ComesOfLog, HoldsAsked};
 ghost use Rattle.bf_run.specs.Running.{KeepsOthers};
 ghost use Rattle.bf_run.specs.Top.{IsOpenErrorTold, IsRunOverDisk, IsServed, IsTextOfRun, ServedOn};
 ghost use Rattle.bf_run.specs.Untold.{IsBrokenOffOn, IsUntold, LeavesUntold, ReadsLog};
 ghost use Rattle.bf_run.specs.Words.{running};
 
+use crate::death_laws::sessions_that_tell_no_death_ran_over;
 use crate::journal_laws::{
     a_size_that_is_told_is_that_of_a_record, every_crash_leaves_a_prefix, what_ends_groups_is_told,
 };
@@ -26,7 +29,6 @@ use bf_base::Memory;
 use bf_disk::{Disk, DiskError, Shelf};
 use bf_image::Registry;
 use bf_log::{Log, OpenError};
-use bf_machine::interleaving_laws::sessions_that_have_ended_ran_over;
 use bf_machine::{Machine, Opened, in_order};
 use bf_recover::reopen;
 use bf_store::Store;
@@ -58,6 +60,7 @@ fn tell_run<N: Opened, D: Disk, R: Wait>(
     requires logged { N.logged ≡ true }
     requires limits { IsWithinLimits script }
     requires sayable { IsSayableScript script }
+    requires few { HasFewInPhases most_of_phase script }
     requires stands { StandsOn first_state StepsTo store.lazy journal.old.log }
     requires ready { IsReady journal.old.log }
     requires alone { LeavesAlone first_state StepsTo store.lazy journal.old.log }
@@ -72,7 +75,7 @@ fn tell_run<N: Opened, D: Disk, R: Wait>(
     let mut machine: Machine<N> = Machine::new(alloc, store, script, RETRIES)?;
     // Its contract says what a machine keeps; and then laws of what comes of it beside a log.
     let _ = machine.session_count();
-    sessions_that_have_ended_ran_over(PhantomData::<LogJournal<D>>);
+    sessions_that_tell_no_death_ran_over(PhantomData::<LogJournal<D>>);
     every_crash_leaves_a_prefix(PhantomData::<D>);
     what_ends_groups_is_told(PhantomData::<D>);
     a_size_that_is_told_is_that_of_a_record(PhantomData::<D>);
@@ -112,6 +115,7 @@ fn serve_over<N: Opened, D: Disk, R: Wait>(
     requires logged { N.logged ≡ true }
     requires limits { IsWithinLimits script }
     requires sayable { IsSayableScript script }
+    requires few { HasFewInPhases most_of_phase script }
     requires stands { StandsOn first_state StepsTo store.lazy log }
     requires ready { IsReady log }
     requires alone { LeavesAlone first_state StepsTo store.lazy log }
@@ -146,6 +150,7 @@ fn run_with<D: Disk, R: Wait>(
 ) -> (D, Result<(Status, Vec<u8>), Memory>)
     requires limits { IsWithinLimits script }
     requires sayable { IsSayableScript script }
+    requires few { HasFewInPhases most_of_phase script }
     ensures told { IfOk result.1 (λ a. IsRunOverDisk D.seen D.may_leave D.moment D.left_since D.fault_count
         script disk result.0 a.0 a.1.items) }
     ensures untold { OnErr result.1
@@ -166,6 +171,7 @@ fn run_over<D: Disk, R: Wait>(
 ) -> (D, Result<(Status, Vec<u8>), Memory>)
     requires limits { IsWithinLimits script }
     requires sayable { IsSayableScript script }
+    requires few { HasFewInPhases most_of_phase script }
     ensures told { IfOk result.1 (λ a. IsRunOverDisk D.seen D.may_leave D.moment D.left_since D.fault_count
         script disk result.0 a.0 a.1.items) }
     ensures untold { OnErr result.1
@@ -192,6 +198,7 @@ pub(crate) fn run<S: Shelf, R: Wait>(
     requires none_taken { (path : List ℕ) → S.taken shelf.old path ≡ None }
     requires limits { IsWithinLimits script }
     requires sayable { IsSayableScript script }
+    requires few { HasFewInPhases most_of_phase script }
     ensures causes { IfOk result (λ a. ComesOfLog path.now
         (shelf_of S.Disk.seen S.Disk.may_leave S.Disk.moment S.Disk.left_since S.Disk.fault_count S.held S.fault_count
         shelf.old shelf.new) a.0) }

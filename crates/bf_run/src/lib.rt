@@ -4,6 +4,7 @@
 
 mod changes;
 mod creating;
+pub mod death_laws;
 pub mod journal_laws;
 mod keeping;
 pub mod laws;

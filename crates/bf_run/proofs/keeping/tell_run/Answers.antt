@@ -5,10 +5,9 @@ use Rattle.std.proofs.lemmas.Bool.Decides.{nat_tests}
 use Rattle.bf_tree.specs.declared.script.Script.{Script}
 use Rattle.bf_sql.specs.migrations.Lazy.{sweep_of}
 use Rattle.bf_text.specs.Report.{report_text}
-use Rattle.bf_run.specs.Answers.{AreSizesOf, AreToldTheirCauses, HasAnswered}
+use Rattle.bf_run.specs.Answers.{AreSizesOf, AreToldTheirCauses}
 use Rattle.bf_run.specs.Crashing.{KeepsOnLog, ended_on_log}
 use Rattle.bf_run.specs.Sayable.{IsSayableScript}
-use Rattle.bf_run.specs.declared.log_journal.LogJournal.{LogJournal}
 use Rattle.bf_machine.specs.RunOver.{IsRunOver}
 use Rattle.bf_machine.specs.interleaving.Kept.{IsKept, fresh}
 use Rattle.bf_machine.specs.interleaving.Machines.{Machine, transcripts_of}
@@ -19,7 +18,7 @@ use Rattle.bf_run.specs.Top.{ServedOn}
 use Rattle.bf_run.specs.declared.status.Status.TheVariants.{Done, DiskFault}
 use Rattle.bf_run.proofs.Caused.{caused}
 use Rattle.bf_run.proofs.Kept.{given_at_done, given_at_fault, keeps_at_done, keeps_at_fault, not_spent_if, ready_if, recovered}
-use Rattle.bf_run.proofs.Served.{ran_over}
+use Rattle.bf_phrase.specs.Limits.{most_of_phase}
 use Rattle.bf_run.proofs.Untold.{broken_off, kept_behind, run_with_last}
 use Rattle.bf_run.proofs.keeping.tell_run.Goals as goal
 
@@ -42,8 +41,8 @@ returns-then-faults-clause-served g c =
     let new : m ≡ fresh g.N.Opened.logged c.args.store script 15 = c.in_ok-machine.ensures in
     let keeps_all : KeepsOnLog opening m c.args.journal.now now c.in_order.new.journal = c.in_order.ensures.keeps in
     let ended = ended_on_log keeps_all in
-    let ran = ran_over (λ lazy next (old : LogJournal g.row.D.Denot g.D.Disk) new answer. HasAnswered lazy next old.log new.log answer) g.N.Opened.logged opening c.args.store script 15 m now c.args.journal.now c.in_order.new.journal keeps_all
-    c.sessions_that_have_ended_ran_over.ensures new c.session_count.ensures.kept c.in_ok-in_order.ensures.answered (c.in_ok-in_order.ensures.no_death refl) in
+    let ran = c.sessions_that_tell_no_death_ran_over.ensures.few opening g.N.Opened.logged c.args.store script 15 most_of_phase m now c.args.journal.now c.in_order.new.journal keeps_all
+    new c.session_count.ensures.kept c.in_ok-in_order.ensures.answered c.requires.few (omega arith) in
     let told_causes = c.what_ends_groups_is_told.ensures.causes opening m now c.args.journal.now c.in_order.new.journal keeps_all c.requires.ready in
     let own : now.script ≡ script = sym c.script.ensures.script ∙ c.script.ensures.opened ∙ sym c.requires.script in
     let replied : AreToldTheirCauses script (transcripts_of now) ended =
@@ -88,8 +87,8 @@ returns-then-is_ready-clause-served g c =
     let new : m ≡ fresh g.N.Opened.logged c.args.store script 15 = c.in_ok-machine.ensures in
     let keeps_all : KeepsOnLog opening m c.args.journal.now now c.in_order.new.journal = c.in_order.ensures.keeps in
     let ended = ended_on_log keeps_all in
-    let ran = ran_over (λ lazy next (old : LogJournal g.row.D.Denot g.D.Disk) new answer. HasAnswered lazy next old.log new.log answer) g.N.Opened.logged opening c.args.store script 15 m now c.args.journal.now c.in_order.new.journal keeps_all
-    c.sessions_that_have_ended_ran_over.ensures new c.session_count.ensures.kept c.in_ok-in_order.ensures.answered (c.in_ok-in_order.ensures.no_death refl) in
+    let ran = c.sessions_that_tell_no_death_ran_over.ensures.few opening g.N.Opened.logged c.args.store script 15 most_of_phase m now c.args.journal.now c.in_order.new.journal keeps_all
+    new c.session_count.ensures.kept c.in_ok-in_order.ensures.answered c.requires.few (omega arith) in
     let told_causes = c.what_ends_groups_is_told.ensures.causes opening m now c.args.journal.now c.in_order.new.journal keeps_all c.requires.ready in
     let own : now.script ≡ script = sym c.script.ensures.script ∙ c.script.ensures.opened ∙ sym c.requires.script in
     let replied : AreToldTheirCauses script (transcripts_of now) ended =

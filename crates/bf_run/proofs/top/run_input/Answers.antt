@@ -1,5 +1,6 @@
 use Rattle.std.proofs.Common.{refl, subst}
 use Rattle.bf_run.specs.Top.{HasRead}
+use Rattle.bf_run.proofs.deaths.Few.{script_has_few}
 use Rattle.bf_run.proofs.Answered.{of_none_run}
 use Rattle.bf_run.proofs.Migrates.{script_within}
 use Rattle.bf_run.proofs.Sayable.{script_sayable}
@@ -14,6 +15,11 @@ pub run-requires-clause-sayable : goal.run-requires-clause-sayable
 run-requires-clause-sayable g c =
     let read = subst (HasRead _) c.in-Ok.is c.in_ok-script.ensures in
     script_sayable read.bytes c.in-Ok.script read.is_read.1
+
+pub run-requires-clause-few : goal.run-requires-clause-few
+run-requires-clause-few g c =
+    let read = subst (HasRead _) c.in-Ok.is c.in_ok-script.ensures in
+    script_has_few read.bytes c.in-Ok.script read.is_read.1
 
 pub returns-in-Err-clause-answer : goal.returns-in-Err-clause-answer
 returns-in-Err-clause-answer g c =
