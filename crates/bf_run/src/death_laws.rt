@@ -56,7 +56,7 @@ pub fn sessions_that_have_ended_ran_with_deaths<J: Journal>(_of: PhantomData<J>)
         (m next : Machine) (j l : J) (keeps : Keeps J.Answers start m j next l)
         → m ≡ fresh logged store script retries → IsKept start m
         → ((s : ℕ) → IsPlace next.script s → HasSessionEnded next s)
-        → IsRunWithDeaths next.retries start next.script (ended_in J.Answers keeps)
+        → IsRunWithDeaths retries start script (ended_in J.Answers keeps)
         (transcripts_of next) next.history (sweep_of next.lazy.last) }
 {}
 
@@ -84,13 +84,13 @@ pub fn sessions_that_tell_no_death_ran_over<J: Journal>(_of: PhantomData<J>)
         → m ≡ fresh logged store script retries → IsKept start m
         → ((s : ℕ) → IsPlace next.script s → HasSessionEnded next s)
         → IsTrue (tell_no_death (transcripts_of next))
-        → IsRunOver start next.script (ended_in J.Answers keeps) (transcripts_of next) next.history
+        → IsRunOver start script (ended_in J.Answers keeps) (transcripts_of next) next.history
         (sweep_of next.lazy.last) }
     ensures few { (start : Database) (logged : Bool) (store : Store) (script : Script) (retries most : ℕ)
         (m next : Machine) (j l : J) (keeps : Keeps J.Answers start m j next l)
         → m ≡ fresh logged store script retries → IsKept start m
         → ((s : ℕ) → IsPlace next.script s → HasSessionEnded next s)
         → HasFewInPhases most script → most ≤ retries + 1
-        → IsRunOver start next.script (ended_in J.Answers keeps) (transcripts_of next) next.history
+        → IsRunOver start script (ended_in J.Answers keeps) (transcripts_of next) next.history
         (sweep_of next.lazy.last) }
 {}

@@ -182,32 +182,31 @@ module _ {J : Type 0} (Answers : LazyState → LazyState → J → J → Result 
       let here = same_event now next event in
       (here.0 ∙ so_far.0, here.1 ∙ so_far.1)
 
-  pub ran_with_deaths : (logged : Bool) (store : Store) (script : Script) (retries : ℕ) (m next : Machine) (j l : J) (keeps : Keeps Answers start m j next l)
-      → m ≡ fresh logged store script retries → IsKept start m → ((s : ℕ) → IsPlace next.script s → HasSessionEnded next s)
-      → IsRunWithDeaths next.retries start next.script (ended_in Answers keeps) (transcripts_of next) next.history (sweep_of next.lazy.last)
-  ran_with_deaths logged store script retries m next j l keeps new kept ended =
-      ran next (ended_in Answers keeps) (named_is_kept Answers start logged store script retries m new kept j next l keeps) ended
-
   -- as they were at the beginning
-  pub same_as_begun : (logged : Bool) (store : Store) (script : Script) (retries : ℕ) (m next : Machine) (j l : J) → Keeps Answers start m j next l → m ≡ fresh logged store script retries
+  same_as_begun : (logged : Bool) (store : Store) (script : Script) (retries : ℕ) (m next : Machine) (j l : J) → Keeps Answers start m j next l → m ≡ fresh logged store script retries
       → (next.script ≡ script) × (next.retries ≡ retries)
   same_as_begun logged store script retries m next j l keeps new =
       let same = same_kept m j next l keeps in
       (same.0 ∙ ap (λ (k : Machine). k.script) new, same.1 ∙ ap (λ (k : Machine). k.retries) new)
 
-  -- where none is told, and where no phase has more sessions than a group has lives
   module _ (logged : Bool) (store : Store) (script : Script) (retries : ℕ) (m next : Machine) (j l : J) (keeps : Keeps Answers start m j next l)
       (new : m ≡ fresh logged store script retries) (kept : IsKept start m) (ended : (s : ℕ) → IsPlace next.script s → HasSessionEnded next s) where
+    abbrev WithDeaths : ℕ → Script → Type 0
+    WithDeaths r k = IsRunWithDeaths r start k (ended_in Answers keeps) (transcripts_of next) next.history (sweep_of next.lazy.last)
+
+    pub ran_with_deaths : WithDeaths retries script
+    ran_with_deaths =
+        let same = same_as_begun logged store script retries m next j l keeps new in
+        let it = named_is_kept Answers start logged store script retries m new kept j next l keeps in
+        subst (λ (r : ℕ). WithDeaths r script) same.1 (subst (λ (k : Script). WithDeaths next.retries k) same.0 (ran next (ended_in Answers keeps) it ended))
+
+    -- where none is told, and where no phase has more sessions than a group has lives
     abbrev Over : Type 0
-    Over = IsRunOver start next.script (ended_in Answers keeps) (transcripts_of next) next.history (sweep_of next.lazy.last)
+    Over = IsRunOver start script (ended_in Answers keeps) (transcripts_of next) next.history (sweep_of next.lazy.last)
 
     pub ran_over_told : tell_no_death (transcripts_of next) ≡ true → Over
-    ran_over_told none =
-        without_told next.retries start next.script (ended_in Answers keeps) (transcripts_of next) next.history (sweep_of next.lazy.last)
-        (ran_with_deaths logged store script retries m next j l keeps new kept ended) none
+    ran_over_told none = without_told retries start script (ended_in Answers keeps) (transcripts_of next) next.history (sweep_of next.lazy.last) ran_with_deaths none
 
     pub ran_over_few : (most : ℕ) → HasFewInPhases most script → most ≤ retries + 1 → Over
     ran_over_few most few lives =
-        let same = same_as_begun logged store script retries m next j l keeps new in
-        without_many next.retries start next.script (ended_in Answers keeps) (transcripts_of next) next.history (sweep_of next.lazy.last)
-        (ran_with_deaths logged store script retries m next j l keeps new kept ended) most (subst (HasFewInPhases most) (sym same.0) few) (omega (arith, lives, same.1))
+        without_many retries start script (ended_in Answers keeps) (transcripts_of next) next.history (sweep_of next.lazy.last) ran_with_deaths most few lives

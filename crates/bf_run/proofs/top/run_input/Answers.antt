@@ -1,6 +1,5 @@
 use Rattle.std.proofs.Common.{refl, subst}
 use Rattle.bf_run.specs.Top.{HasRead}
-use Rattle.bf_run.proofs.deaths.Few.{script_has_few}
 use Rattle.bf_run.proofs.Answered.{of_none_run}
 use Rattle.bf_run.proofs.Migrates.{script_within}
 use Rattle.bf_run.proofs.Sayable.{script_sayable}
@@ -16,12 +15,7 @@ run-requires-clause-sayable g c =
     let read = subst (HasRead _) c.in-Ok.is c.in_ok-script.ensures in
     script_sayable read.bytes c.in-Ok.script read.is_read.1
 
-pub run-requires-clause-few : goal.run-requires-clause-few
-run-requires-clause-few g c =
-    let read = subst (HasRead _) c.in-Ok.is c.in_ok-script.ensures in
-    script_has_few read.bytes c.in-Ok.script read.is_read.1
-
 pub returns-in-Err-clause-answer : goal.returns-in-Err-clause-answer
 returns-in-Err-clause-answer g c =
     let read = subst (HasRead _) c.in-Err.is c.in_ok-script.ensures in
-    of_none_run _ _ c.args.path.now c.in-Err.told read (refl, refl)
+    of_none_run _ _ c.args.path.now _ c.in-Err.told read (refl, refl)
