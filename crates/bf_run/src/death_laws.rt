@@ -1,4 +1,4 @@
-//! Laws. Each is the contract of a function that does nothing.
+//! Laws of groups that die, as contracts of functions that do nothing.
 
 ghost use Rattle.std.specs.Prelude.{◌≡◌, ◌+◌, ◌≤◌, ℕ, Bool, List, [], Ok, Some, IsTrue, find, slice_get};
 ghost use Rattle.bf_phrase.specs.Limits.{most_of_phase};
@@ -20,6 +20,7 @@ ghost use Rattle.bf_machine.specs.interleaving.Kept.{IsKept, fresh};
 ghost use Rattle.bf_machine.specs.interleaving.Machines.{EndedGroup, Group, Machine, transcripts_of};
 ghost use Rattle.bf_machine.specs.interleaving.Serving.{deaths_at};
 ghost use Rattle.bf_run.specs.Deaths.{HasFewInPhases, IsRunWithDeaths, MayDie, tell_no_death};
+ghost use Rattle.bf_run.specs.Words.{usual_retries};
 
 use bf_machine::Journal;
 use std::marker::PhantomData;
@@ -60,8 +61,8 @@ pub fn sessions_that_have_ended_ran_with_deaths<J: Journal>(_of: PhantomData<J>)
         (transcripts_of next) next.history (sweep_of next.lazy.last) }
 {}
 
-/// A run in which no group is told that it died is one without deaths; so is one of which no phase has
-/// more sessions than a group has lives.
+/// A run in which no group is told that it died is one without deaths, and the other way round; so is one
+/// of which no phase has more sessions than a group has lives.
 pub fn a_run_that_tells_no_death_has_none()
     ensures told { (retries : ℕ) (start : Database) (script : Script) (ended : List EndedGroup)
         (transcripts : List (List Reply)) (history : List Entry) (sweep : Sweep)
@@ -73,6 +74,19 @@ pub fn a_run_that_tells_no_death_has_none()
         → IsRunWithDeaths retries start script ended transcripts history sweep
         → HasFewInPhases most script → most ≤ retries + 1
         → IsRunOver start script ended transcripts history sweep }
+    ensures tells_none { (start : Database) (script : Script) (ended : List EndedGroup)
+        (transcripts : List (List Reply)) (history : List Entry) (sweep : Sweep)
+        → IsRunOver start script ended transcripts history sweep → IsTrue (tell_no_death transcripts) }
+{}
+
+/// So is each run of a script that is read, and no reply of it tells of a death, where a group begins again
+/// as often as where the words give no number, or more often.
+pub fn a_script_that_is_read_runs_without_deaths()
+    ensures { (text : List ℕ) (retries : ℕ) (start : Database) (script : Script)
+        (ended : List EndedGroup) (transcripts : List (List Reply)) (history : List Entry) (sweep : Sweep)
+        → IsScriptText text (Ok script) → usual_retries ≤ retries
+        → IsRunWithDeaths retries start script ended transcripts history sweep
+        → IsRunOver start script ended transcripts history sweep × IsTrue (tell_no_death transcripts) }
 {}
 
 /// So once each session of a machine beside a journal has ended, of which no group is told that it died,

@@ -151,7 +151,9 @@ fn run_with<D: Disk, R: Wait>(
         (IsUntold D.seen D.may_leave D.moment D.left_since script disk result.0) }
 {
     match reopen(alloc, rt, registry, disk) {
-        Ok((store, log)) => serve_over::<Brand, D, R>(alloc, rt, registry, store, log, script, retries),
+        Ok((store, log)) => serve_over::<Brand, D, R>(
+            alloc, rt, registry, store, log, script, retries,
+        ),
         Err((disk, error)) => (disk, tell_open_error(alloc, error)),
     }
 }

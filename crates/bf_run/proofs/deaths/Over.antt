@@ -38,6 +38,7 @@ use Rattle.bf_run.specs.Deaths.{EndsByRule, HasFewInPhases, IsRunWithDeaths, May
 use Rattle.bf_run.proofs.deaths.Lists.{first_in, found_in, later_in, of_part, test_at}
 use Rattle.bf_run.proofs.deaths.Rivals.{fewer}
 use Rattle.bf_run.proofs.deaths.Rule.{may_die}
+use Rattle.bf_run.proofs.deaths.Told.{none_tells, told_dead}
 
 -- what is allowed may be said otherwise, given a group of the script and that it is told the cause
 otherwise : (script : Script) (Allowed Other : ℕ → Group → Cause → Type 0) (told : List (List Reply))
@@ -114,6 +115,12 @@ module _ (retries : ℕ) (start : Database) (script : Script) (ended : List Ende
 
   pub without_many : (most : ℕ) → HasFewInPhases most script → most ≤ retries + 1 → IsRunOver start script ended transcripts history sweep
   without_many most few lives = without (λ s group h whole is allowed. (let less = fewer start script history s group most (retries + 1) few allowed.rivals whole in omega (arith, less, lives)))
+
+-- and no reply of one without deaths tells of one
+pub tells_none : (start : Database) (script : Script) (ended : List EndedGroup) (transcripts : List (List Reply)) (history : List Entry) (sweep : Sweep)
+    → IsRunOver start script ended transcripts history sweep → tell_no_death transcripts ≡ true
+tells_none start script ended transcripts history sweep run =
+    none_tells transcripts (λ s j h below is. false≢true ((told_dead start script (EndsByLogAlone ended) transcripts history run.history_legal s j h below is).allowed.0))
 
 -- ---- what a machine ran whose sessions have ended
 module _ {start : Database} (m : Machine) (groups : List EndedGroup) (kept : IsKept start (renamed (these groups) m)) (ended : (s : ℕ) → IsPlace m.script s → HasSessionEnded m s) where

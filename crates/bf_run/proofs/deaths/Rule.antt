@@ -22,17 +22,13 @@ use Rattle.bf_run.proofs.deaths.Lists.{apart_test, at_is, first_in, later_in, of
 use Rattle.bf_run.proofs.deaths.Numbers.{above_earlier, within_phase}
 use Rattle.bf_run.proofs.deaths.Replies.{death_is}
 use Rattle.bf_run.proofs.deaths.Rivals.{fewer}
-use Rattle.bf_run.proofs.deaths.Told.{dead, transcript_at}
+use Rattle.bf_run.proofs.deaths.Told.{dead, none_tells, tells_there, transcript_at}
 
 -- a reply that is there
 got : (xs : List Reply) (j : ℕ) (r : Reply) → slice_get xs j ≡ Some r → (j < length xs) × (slice_index_or xs j Begun ≡ r)
 got [] j r is = let none : ◌≡◌ {A = Option Reply} None (Some r) = is in absurd cc
 got (x ∷ xs) zero r is = let same : x ≡ r = same_Some x r is in (omega arith, same)
 got (x ∷ xs) (suc j) r is = let later = got xs j r is in (omega (arith, later.0), later.1)
-
--- a death that stands at a place
-tells_there : (xs : List Reply) (j : ℕ) (r : Reply) (h : ℕ) → j < length xs → slice_index_or xs j r ≡ r → r ≡ Ended (Died h) → slice_index_or xs j Begun ≡ Ended (Died h)
-tells_there xs j r h below is tells = at_is xs j Begun r below ∙ (is ∙ tells)
 
 -- a group's deaths by its start number
 same_deaths : (began : List Began) (t k n : ℕ) (g : Group) (one : HasStart began t g k) (other : HasStart began t g n) → k ≡ n → one.deaths ≡ other.deaths
@@ -188,23 +184,15 @@ module _ {start : Database} (m : Machine) (kept : IsKept start m) where
 
   -- NONE IS TOLD where none may be
   none_if : ((s : ℕ) (group : Group) (h : ℕ) → AllowedNow start m s group (Died h) → ⊥) → tell_no_death (transcripts_of m) ≡ true
-  none_if none = test_all tells_no_death (transcripts_of m) (λ t there. test_all (λ r. not (is_death r)) t (λ r in_t. one t r there in_t))
+  none_if none = none_tells (transcripts_of m) none_there
     where
-      not_dead : (k : ℕ) (r : Reply) → Contains (replies_at m k) r → is_death r ≡ true → ⊥
-      not_dead k r there tells =
-          let told = death_is r tells in
-          let is = tells_there (replies_at m k) there.0 r told.number there.1 there.2 told.is in
-          let d = dead m kept k there.0 told.number there.1 is in
-          none k d.group told.number d.allowed
-
-      one : (t : List Reply) (r : Reply) → Contains (transcripts_of m) t → Contains t r → not (is_death r) ≡ true
-      one t r there in_t = elim (cases_Bool (is_death r)) as (λ _. not (is_death r) ≡ true) [
-        | inl tells ↦
-            let own : slice_index_or (transcripts_of m) there.0 [] ≡ t = at_is (transcripts_of m) there.0 [] t there.1 ∙ there.2 in
-            let is : t ≡ replies_at m (suc there.0) = sym own ∙ transcript_at m kept (suc there.0) in
-            absurd (not_dead (suc there.0) r (subst (λ (rs : List Reply). Contains rs r) is in_t) tells)
-        | inr other ↦ rw other refl
-      ]
+      none_there : (s j h : ℕ) → j < length (slice_index_or ([] ∷ transcripts_of m) s []) → slice_index_or (slice_index_or ([] ∷ transcripts_of m) s []) j Begun ≡ Ended (Died h) → ⊥
+      none_there s j h below is =
+          let own = transcript_at m kept s in
+          let within : j < length (replies_at m s) = subst (λ (rs : List Reply). j < length rs) own below in
+          let here : slice_index_or (replies_at m s) j Begun ≡ Ended (Died h) = subst (λ (rs : List Reply). slice_index_or rs j Begun ≡ Ended (Died h)) own is in
+          let d = dead m kept s j h within here in
+          none s d.group h d.allowed
 
   -- as where no phase has more sessions than a group has lives
   pub none_told : (most : ℕ) → HasFewInPhases most m.script → most ≤ m.retries + 1 → tell_no_death (transcripts_of m) ≡ true
