@@ -13,12 +13,12 @@ pub mod Recorded
 pub mod Replied
 pub mod Running
 pub mod Sayable
-pub mod Served
 pub mod Sizing
 pub mod Stating
 pub mod Telling
 pub mod Told
 pub mod Untold
 pub mod crashing
+pub mod deaths
 pub mod one
 pub mod saying

@@ -8,8 +8,6 @@ use Rattle.bf_run.specs.Crashing.{AreGroupsInOrder, KeepsOnLog, Recovers, ended_
 use Rattle.bf_run.specs.declared.log_journal.LogJournal.{LogJournal}
 use Rattle.bf_machine.specs.interleaving.Events.{Reaches}
 use Rattle.bf_machine.specs.interleaving.Kept.{IsKept}
-use Rattle.bf_machine.specs.InOrder.{none_open}
-use Rattle.bf_machine.specs.RunOver.{EndsByLogAlone, IsRunOver}
 use Rattle.bf_machine.specs.interleaving.Machines.{EndedGroup, Machine, transcripts_of}
 use Rattle.bf_machine.proofs.interleaving.Reaching.{reached_keeps_all}
 use Rattle.bf_machine.proofs.served.Ending.{reached_script}
@@ -17,10 +15,10 @@ use Rattle.bf_machine.proofs.served.Keeping.{keeps_reach}
 use Rattle.bf_recover.specs.Legal.{first_state}
 use Rattle.bf_recover.specs.Steps.{StepsTo}
 use Rattle.bf_sql.specs.Database.{Database}
-use Rattle.bf_sql.specs.History.{IsLegalHistory, replayed}
+use Rattle.bf_sql.specs.History.{replayed}
 use Rattle.bf_sql.specs.migrations.Lazy.{LazyState, sweep_of, view_of}
-use Rattle.bf_tree.specs.Answered.{IsAllAnswered}
 use Rattle.bf_tree.specs.declared.script.Script.{Script}
+use Rattle.bf_run.specs.Deaths.{IsRunWithDeaths}
 use Rattle.bf_run.specs.Keeping.{KeepsOn}
 use Rattle.bf_run.specs.Untold.{IsBrokenOffOn}
 use Rattle.bf_run.specs.declared.status.Status.TheVariants.{Memory}
@@ -32,12 +30,12 @@ kept_behind {D = D} {g = g} opening m now j k kept keeps =
     reached_keeps_all opening m now kept (keeps_reach (λ lazy next (old : LogJournal D g) new answer. HasAnswered lazy next old.log new.log answer) opening m j now k keeps)
 
 -- a run with the state of the store at its end
-abbrev pub run_with_last : (opening : Database) (script : Script) (now : Machine) (ended : List EndedGroup) → now.script ≡ script → IsKept opening now
-    → IsRunOver opening now.script ended (transcripts_of now) now.history (sweep_of now.lazy.last)
-    → IsRunOver opening script ended (transcripts_of now) now.history (sweep_of now.lazy.last)
-run_with_last opening script now ended own kept ran = record {
-  history_legal = subst (λ (k : Script). IsLegalHistory k (EndsByLogAlone ended) none_open opening (transcripts_of now) now.history) own ran.history_legal;
-  all_answered = subst (λ (k : Script). IsAllAnswered k (transcripts_of now)) own ran.all_answered;
+abbrev pub run_with_last : (retries : ℕ) (opening : Database) (script : Script) (now : Machine) (ended : List EndedGroup) → now.script ≡ script → IsKept opening now
+    → IsRunWithDeaths retries opening script ended (transcripts_of now) now.history (sweep_of now.lazy.last)
+    → IsRunWithDeaths retries opening script ended (transcripts_of now) now.history (sweep_of now.lazy.last)
+run_with_last retries opening script now ended own kept ran = record {
+  history_legal = ran.history_legal;
+  all_answered = ran.all_answered;
   last = now.lazy;
   seen_as = subst (λ (k : Script). view_of now.lazy ≡ (replayed k opening now.history).1) own (kept.store_valid.seen_as.view ∙ kept.history_legal.replay);
   swept = refl;

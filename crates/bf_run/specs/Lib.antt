@@ -3,6 +3,7 @@ pub mod Causes
 pub mod Come
 pub mod Crashing
 pub mod Creating
+pub mod Deaths
 pub mod Keeping
 pub mod Outcome
 pub mod Records

@@ -57,18 +57,19 @@ pub record HasRead (input : Stream) (read : Result Script (Status × Vec ℕ)) :
   pub are_told : IfTold input.bytes (λ told. bytes ≡ told)
   pub is_read : IsScriptRead input bytes read
 
--- the text of a run over a log, of which this holds, or of none, before which that does, for its status
-abbrev pub IsTextOfRun : RunClaim → Type 0 → Script → Status → List ℕ → Type 0
-IsTextOfRun Holds Before script Done text = IsRunTold (Holds Done script) script text
-IsTextOfRun Holds Before script DiskFault text = ((text ≡ fault_of_disk) × Before) ⊎ IsRunTold (Holds DiskFault script) script text
-IsTextOfRun Holds Before script (NotALog at) text = text ≡ not_a_log_text at
-IsTextOfRun Holds Before script other text = ⊥
+-- the text of a run over a log, in which groups begin again so often after a death, and of which this holds; or of none, before which that does;
+-- for its status
+abbrev pub IsTextOfRun : ℕ → RunClaim → Type 0 → Script → Status → List ℕ → Type 0
+IsTextOfRun retries Holds Before script Done text = IsRunTold retries (Holds Done script) script text
+IsTextOfRun retries Holds Before script DiskFault text = ((text ≡ fault_of_disk) × Before) ⊎ IsRunTold retries (Holds DiskFault script) script text
+IsTextOfRun retries Holds Before script (NotALog at) text = text ≡ not_a_log_text at
+IsTextOfRun retries Holds Before script other text = ⊥
 
 -- a script was served, of which this holds: its status, by a disk's count of faults before and after, and the report
-abbrev pub IsServed : RunClaim → Script → ℕ → ℕ → Status → List ℕ → Type 0
-IsServed Holds script before after Done text = IsRunTold (Holds Done script) script text × (after ≤ before)
-IsServed Holds script before after DiskFault text = IsRunTold (Holds DiskFault script) script text × (before < after)
-IsServed Holds script before after other text = ⊥
+abbrev pub IsServed : ℕ → RunClaim → Script → ℕ → ℕ → Status → List ℕ → Type 0
+IsServed retries Holds script before after Done text = IsRunTold retries (Holds Done script) script text × (after ≤ before)
+IsServed retries Holds script before after DiskFault text = IsRunTold retries (Holds DiskFault script) script text × (before < after)
+IsServed retries Holds script before after other text = ⊥
 
 -- over the database that is seen of the state which a log keeps
 abbrev pub ServedOn : {D : Type 0} {g : Ghosts D} → Database → Log D g → D → RunClaim
@@ -95,15 +96,15 @@ module _ {V : Type 0} (seen : V → Option (List ℕ)) (may_leave : V → List �
       IsOpened old start × IfTold (seen new) (λ file. KeepsFile may_leave moment left_since old new status script start history ended)
       × AreCaused start script history (seen new) (fault_count new) status ended × IsGivenBy seen may_leave status new last
 
-  abbrev pub IsRunOverDisk : Script → V → V → Status → List ℕ → Type 0
-  IsRunOverDisk script old new Done text = IsRunTold (HoldsOver old new Done script) script text × (fault_count new ≤ fault_count old)
-  IsRunOverDisk script old new DiskFault text =
-      (((text ≡ fault_of_disk) × IsReadAtMost seen may_leave moment left_since old new) ⊎ IsRunTold (HoldsOver old new DiskFault script) script text)
+  abbrev pub IsRunOverDisk : ℕ → Script → V → V → Status → List ℕ → Type 0
+  IsRunOverDisk retries script old new Done text = IsRunTold retries (HoldsOver old new Done script) script text × (fault_count new ≤ fault_count old)
+  IsRunOverDisk retries script old new DiskFault text =
+      (((text ≡ fault_of_disk) × IsReadAtMost seen may_leave moment left_since old new) ⊎ IsRunTold retries (HoldsOver old new DiskFault script) script text)
       × Rose (fault_count old) (fault_count new)
-  IsRunOverDisk script old new (NotALog at) text =
+  IsRunOverDisk retries script old new (NotALog at) text =
       (text ≡ not_a_log_text at) × IfTold (seen old) (λ file. RefusedAt first_state StepsTo file at)
       × OnlyRead seen may_leave moment left_since old new × (fault_count new ≤ fault_count old)
-  IsRunOverDisk script old new other text = ⊥
+  IsRunOverDisk retries script old new other text = ⊥
 
 -- the answer to a source that is asked to be run over nothing, for the bytes that it tells, or for some
 pub record IsInputAnswer (input : Stream) (status : Status) (text : List ℕ) : Type 0 where

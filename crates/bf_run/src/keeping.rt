@@ -17,6 +17,7 @@ ghost use Rattle.bf_run.specs.Top.{IsOpenErrorTold, IsRunOverDisk, IsServed, IsT
 ghost use Rattle.bf_run.specs.Untold.{IsBrokenOffOn, IsUntold, LeavesUntold, ReadsLog};
 ghost use Rattle.bf_run.specs.Words.{running};
 
+use crate::death_laws::sessions_that_have_ended_ran_with_deaths;
 use crate::journal_laws::{
     a_size_that_is_told_is_that_of_a_record, every_crash_leaves_a_prefix, what_ends_groups_is_told,
 };
@@ -26,7 +27,6 @@ use bf_base::Memory;
 use bf_disk::{Disk, DiskError, Shelf};
 use bf_image::Registry;
 use bf_log::{Log, OpenError};
-use bf_machine::interleaving_laws::sessions_that_have_ended_ran_over;
 use bf_machine::{Machine, Opened, in_order};
 use bf_recover::reopen;
 use bf_store::Store;
@@ -37,12 +37,8 @@ use std::marker::{Brand, PhantomData};
 use std::mem::forget;
 use std::sync::Wait;
 
-/// How often a group begins again after a death, where the words give no number. None dies where sessions run one
-/// after the other.
-const RETRIES: u16 = 15;
-
 /// The status of a run of a script over a store, whose changes a journal keeps, and its whole report. The
-/// sessions are served one after the other.
+/// sessions are served one after the other, and a group begins again `retries` times after deaths.
 fn tell_run<N: Opened, D: Disk, R: Wait>(
     alloc: Global,
     rt: &R,
@@ -50,6 +46,7 @@ fn tell_run<N: Opened, D: Disk, R: Wait>(
     store: Store,
     journal: &mut LogJournal<D>,
     script: Script,
+    retries: u16,
 ) -> Result<(Status, Vec<u8>), Memory>
     requires opening { view_of store.lazy ≡ N.opening }
     requires migration { IsOf N.registry store.migration }
@@ -61,7 +58,7 @@ fn tell_run<N: Opened, D: Disk, R: Wait>(
     requires stands { StandsOn first_state StepsTo store.lazy journal.old.log }
     requires ready { IsReady journal.old.log }
     requires alone { LeavesAlone first_state StepsTo store.lazy journal.old.log }
-    ensures served { IfOk result (λ a. IsServed
+    ensures served { IfOk result (λ a. IsServed retries
         (ServedOn N.opening journal.old.log (disk_of journal.new.log)) script
         (D.fault_count (disk_of journal.old.log)) (D.fault_count (disk_of journal.new.log))
         a.0 a.1.items) }
@@ -69,10 +66,10 @@ fn tell_run<N: Opened, D: Disk, R: Wait>(
         (IsBrokenOffOn N.opening journal.old.log (disk_of journal.new.log) script) }
 {
     let faults = journal.faults();
-    let mut machine: Machine<N> = Machine::new(alloc, store, script, RETRIES)?;
+    let mut machine: Machine<N> = Machine::new(alloc, store, script, retries)?;
     // Its contract says what a machine keeps; and then laws of what comes of it beside a log.
     let _ = machine.session_count();
-    sessions_that_have_ended_ran_over(PhantomData::<LogJournal<D>>);
+    sessions_that_have_ended_ran_with_deaths(PhantomData::<LogJournal<D>>);
     every_crash_leaves_a_prefix(PhantomData::<D>);
     what_ends_groups_is_told(PhantomData::<D>);
     a_size_that_is_told_is_that_of_a_record(PhantomData::<D>);
@@ -104,6 +101,7 @@ fn serve_over<N: Opened, D: Disk, R: Wait>(
     store: Store,
     log: Log<D>,
     script: Script,
+    retries: u16,
 ) -> (D, Result<(Status, Vec<u8>), Memory>)
     requires opening { view_of store.lazy ≡ N.opening }
     requires migration { IsOf N.registry store.migration }
@@ -115,13 +113,13 @@ fn serve_over<N: Opened, D: Disk, R: Wait>(
     requires stands { StandsOn first_state StepsTo store.lazy log }
     requires ready { IsReady log }
     requires alone { LeavesAlone first_state StepsTo store.lazy log }
-    ensures served { IfOk result.1 (λ a. IsServed (ServedOn N.opening log result.0) script
+    ensures served { IfOk result.1 (λ a. IsServed retries (ServedOn N.opening log result.0) script
         (D.fault_count (disk_of log)) (D.fault_count result.0) a.0 a.1.items) }
     ensures broken_off { OnErr result.1
         (IsBrokenOffOn N.opening log result.0 script) }
 {
     let mut journal = LogJournal::of(alloc, log);
-    let told = tell_run::<N, D, R>(alloc, rt, registry, store, &mut journal, script);
+    let told = tell_run::<N, D, R>(alloc, rt, registry, store, &mut journal, script, retries);
     (journal.into_disk(), told)
 }
 
@@ -143,16 +141,19 @@ fn run_with<D: Disk, R: Wait>(
     registry: &Registry,
     disk: D,
     script: Script,
+    retries: u16,
 ) -> (D, Result<(Status, Vec<u8>), Memory>)
     requires limits { IsWithinLimits script }
     requires sayable { IsSayableScript script }
     ensures told { IfOk result.1 (λ a. IsRunOverDisk D.seen D.may_leave D.moment D.left_since D.fault_count
-        script disk result.0 a.0 a.1.items) }
+        retries script disk result.0 a.0 a.1.items) }
     ensures untold { OnErr result.1
         (IsUntold D.seen D.may_leave D.moment D.left_since script disk result.0) }
 {
     match reopen(alloc, rt, registry, disk) {
-        Ok((store, log)) => serve_over::<Brand, D, R>(alloc, rt, registry, store, log, script),
+        Ok((store, log)) => serve_over::<Brand, D, R>(
+            alloc, rt, registry, store, log, script, retries,
+        ),
         Err((disk, error)) => (disk, tell_open_error(alloc, error)),
     }
 }
@@ -163,31 +164,33 @@ fn run_over<D: Disk, R: Wait>(
     rt: &R,
     disk: D,
     script: Script,
+    retries: u16,
 ) -> (D, Result<(Status, Vec<u8>), Memory>)
     requires limits { IsWithinLimits script }
     requires sayable { IsSayableScript script }
     ensures told { IfOk result.1 (λ a. IsRunOverDisk D.seen D.may_leave D.moment D.left_since D.fault_count
-        script disk result.0 a.0 a.1.items) }
+        retries script disk result.0 a.0 a.1.items) }
     ensures untold { OnErr result.1
         (IsUntold D.seen D.may_leave D.moment D.left_since script disk result.0) }
 {
     let Ok((registry, _empty)) = Registry::new(alloc, rt) else {
         return (disk, Err(Memory));
     };
-    let ran = run_with(alloc, rt, &registry, disk, script);
+    let ran = run_with(alloc, rt, &registry, disk, script, retries);
     // What a migration set aside goes with the program too.
     forget(registry);
     ran
 }
 
-/// The status of a script that is asked to be run over the log under a path, and its whole text. The file is
-/// put back whatever came of it.
+/// The status of a script that is asked to be run over the log under a path, where a group begins again
+/// `retries` times after deaths, and its whole text. The file is put back whatever came of it.
 pub(crate) fn run<S: Shelf, R: Wait>(
     alloc: Global,
     rt: &R,
     path: &str,
     shelf: &mut S,
     script: Script,
+    retries: u16,
 ) -> Result<(Status, Vec<u8>), Memory>
     requires none_taken { (path : List ℕ) → S.taken shelf.old path ≡ None }
     requires limits { IsWithinLimits script }
@@ -195,7 +198,7 @@ pub(crate) fn run<S: Shelf, R: Wait>(
     ensures causes { IfOk result (λ a. ComesOfLog path.now
         (shelf_of S.Disk.seen S.Disk.may_leave S.Disk.moment S.Disk.left_since S.Disk.fault_count S.held S.fault_count
         shelf.old shelf.new) a.0) }
-    ensures text { IfOk result (λ a. IsTextOfRun (HoldsAsked (Some (running path.now))
+    ensures text { IfOk result (λ a. IsTextOfRun retries (HoldsAsked (Some (running path.now retries))
         (shelf_of S.Disk.seen S.Disk.may_leave S.Disk.moment S.Disk.left_since S.Disk.fault_count S.held S.fault_count
         shelf.old shelf.new))
         (ReadsLog (shelf_of S.Disk.seen S.Disk.may_leave S.Disk.moment S.Disk.left_since S.Disk.fault_count S.held
@@ -213,7 +216,7 @@ pub(crate) fn run<S: Shelf, R: Wait>(
         Err(DiskError::Fault) => return disk_fault(alloc),
         Err(DiskError::Memory) => return Err(Memory),
     };
-    let (disk, told) = run_over(alloc, rt, disk, script);
+    let (disk, told) = run_over(alloc, rt, disk, script, retries);
     shelf.put_back(path, disk);
     told
 }

@@ -5,6 +5,7 @@
 mod catalogs;
 mod changes;
 mod creating;
+pub mod death_laws;
 pub mod engine;
 pub mod journal_laws;
 mod keeping;

@@ -11,7 +11,7 @@ ghost use Rattle.bf_run.specs.Outcome.{Ends, IsAnswer, fault_text};
 ghost use Rattle.bf_run.specs.Running.{KeepsOthers};
 ghost use Rattle.bf_run.specs.Top.{HasRead, IsInputAnswer, IsScriptOf, Tells};
 ghost use Rattle.bf_run.specs.Untold.{RunsOut};
-ghost use Rattle.bf_run.specs.Words.{IfCreating, IfNoPath, IfRunning, asked, running};
+ghost use Rattle.bf_run.specs.Words.{IfCreating, IfNoPath, IfRunning, asked, running, usual_retries};
 
 use crate::creating::create;
 use crate::keeping::run;
@@ -50,8 +50,12 @@ fn answer_fault(alloc: Global, fault: ScriptFault) -> Result<(Status, Vec<u8>), 
     Ok((Status::Script(fault), fault_line(alloc, fault)?))
 }
 
-/// How often a group begins again after a death. None dies where sessions run one after the other.
-const RETRIES: u16 = 0;
+/// How often a group begins again after a death in a run over a database that is not kept. None dies there, since
+/// sessions run one after the other.
+const NO_RETRIES: u16 = 0;
+
+/// How often a group begins again after a death, where the words give no number.
+const USUAL_RETRIES: u16 = 15;
 
 /// The report of a run of a script over the empty database, by a machine whose type names both and the registry
 /// of its migrations. The sessions are served one after the other.
@@ -70,7 +74,7 @@ fn serve<N: Opened, R: Wait>(
     ensures { IfOk result (λ text. Tells (IsRunInOrder script) text.items) }
 {
     let store = Store::of(alloc, LiveTables::new(alloc));
-    let mut machine: Machine<N> = Machine::new(alloc, store, script, RETRIES)?;
+    let mut machine: Machine<N> = Machine::new(alloc, store, script, NO_RETRIES)?;
     in_order(alloc, rt, registry, &mut Unkept, &mut machine, &[])?;
     // Their contracts say that the script is the one that was given, and that it ran in order.
     let _ = machine.script();
@@ -166,7 +170,7 @@ fn run_input<I: Source, S: Shelf, R: Wait>(
     shelf: &mut S,
 ) -> Result<(Status, Vec<u8>), Memory>
     requires { (path : List ℕ) → S.taken shelf.old path ≡ None }
-    ensures answer { IfOk result (λ a. IsAnswer (Some (running path.now))
+    ensures answer { IfOk result (λ a. IsAnswer (Some (running path.now usual_retries))
         (record {
           bytes = I.left input.old;
           bytes_after = I.left input.new;
@@ -184,7 +188,7 @@ fn run_input<I: Source, S: Shelf, R: Wait>(
     ensures none_taken { (path : List ℕ) → S.taken shelf.new path ≡ None }
 {
     match read_script(alloc, input)? {
-        Ok(script) => run(alloc, rt, path, shelf, script),
+        Ok(script) => run(alloc, rt, path, shelf, script, USUAL_RETRIES),
         Err(told) => Ok(told),
     }
 }

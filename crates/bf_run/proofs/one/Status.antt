@@ -267,5 +267,5 @@ one_status None input bytes shelf held_after faults_after one other tells d e p 
 one_status (Some trying) input bytes shelf held_after faults_after one other tells d e p q = one_of_input input bytes one other d e p q
 one_status (Some (creating path)) input bytes shelf held_after faults_after one other tells d e p q =
     one_of_file shelf path tells held_after faults_after one other d e p.1 q.1
-one_status (Some (running path)) input bytes shelf held_after faults_after one other tells d e p q =
+one_status (Some (running path retries)) input bytes shelf held_after faults_after one other tells d e p q =
     one_of_run shelf path tells held_after faults_after input bytes one other d e p q

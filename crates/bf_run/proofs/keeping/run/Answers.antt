@@ -16,7 +16,7 @@ returns-clause-text g c =
     let shelf = shelf_of g.S.Disk.Disk.seen g.S.Disk.Disk.may_leave g.S.Disk.Disk.moment g.S.Disk.Disk.left_since g.S.Disk.Disk.fault_count g.S.Shelf.held g.S.Shelf.fault_count
     c.args.shelf.now c.put_back.new.self in
     IfOk-weaker c.run_over-disk.result.1 _ _
-    (λ a is. (comes shelf c.args.path.now _ c.in-Ok.disk c.run_over-disk.result.0 took.given took.away.0 c.put_back.ensures.held c.args.script
+    (λ a is. (comes shelf c.args.path.now _ c.in-Ok.disk c.run_over-disk.result.0 took.given took.away.0 c.put_back.ensures.held c.args.retries c.args.script
     (λ stays. counted_none _ _ _ _ _ _ took.faults took.counted took.away.1.there stays c.put_back.ensures.faults)
     (λ rose. counted_one _ _ _ _ _ _ took.faults took.away.1.there rose c.put_back.ensures.faults) a.0 a.1.items is).1)
     c.run_over-disk.ensures.told

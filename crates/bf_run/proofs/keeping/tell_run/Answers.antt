@@ -5,21 +5,19 @@ use Rattle.std.proofs.lemmas.Bool.Decides.{nat_tests}
 use Rattle.bf_tree.specs.declared.script.Script.{Script}
 use Rattle.bf_sql.specs.migrations.Lazy.{sweep_of}
 use Rattle.bf_text.specs.Report.{report_text}
-use Rattle.bf_run.specs.Answers.{AreSizesOf, AreToldTheirCauses, HasAnswered}
+use Rattle.bf_run.specs.Answers.{AreSizesOf, AreToldTheirCauses}
 use Rattle.bf_run.specs.Crashing.{KeepsOnLog, ended_on_log}
 use Rattle.bf_run.specs.Sayable.{IsSayableScript}
-use Rattle.bf_run.specs.declared.log_journal.LogJournal.{LogJournal}
-use Rattle.bf_machine.specs.RunOver.{IsRunOver}
 use Rattle.bf_machine.specs.interleaving.Kept.{IsKept, fresh}
 use Rattle.bf_machine.specs.interleaving.Machines.{Machine, transcripts_of}
 use Rattle.bf_run.specs.Causes.{AreCaused}
+use Rattle.bf_run.specs.Deaths.{IsRunWithDeaths}
 use Rattle.bf_run.specs.Keeping.{IsGivenBy, KeepsOn}
 use Rattle.bf_run.specs.Outcome.{IsRunTold}
 use Rattle.bf_run.specs.Top.{ServedOn}
 use Rattle.bf_run.specs.declared.status.Status.TheVariants.{Done, DiskFault}
 use Rattle.bf_run.proofs.Caused.{caused}
 use Rattle.bf_run.proofs.Kept.{given_at_done, given_at_fault, keeps_at_done, keeps_at_fault, not_spent_if, ready_if, recovered}
-use Rattle.bf_run.proofs.Served.{ran_over}
 use Rattle.bf_run.proofs.Untold.{broken_off, kept_behind, run_with_last}
 use Rattle.bf_run.proofs.keeping.tell_run.Goals as goal
 
@@ -39,11 +37,11 @@ returns-then-faults-clause-served g c =
     let now : Machine = c.in_order.new.machine in
     let log = c.args.journal.now.log in
     let last = c.in_order.new.journal.log in
-    let new : m ≡ fresh g.N.Opened.logged c.args.store script 15 = c.in_ok-machine.ensures in
+    let new : m ≡ fresh g.N.Opened.logged c.args.store script c.args.retries = c.in_ok-machine.ensures in
     let keeps_all : KeepsOnLog opening m c.args.journal.now now c.in_order.new.journal = c.in_order.ensures.keeps in
     let ended = ended_on_log keeps_all in
-    let ran = ran_over (λ lazy next (old : LogJournal g.row.D.Denot g.D.Disk) new answer. HasAnswered lazy next old.log new.log answer) g.N.Opened.logged opening c.args.store script 15 m now c.args.journal.now c.in_order.new.journal keeps_all
-    c.sessions_that_have_ended_ran_over.ensures new c.session_count.ensures.kept c.in_ok-in_order.ensures.answered (c.in_ok-in_order.ensures.no_death refl) in
+    let ran = c.sessions_that_have_ended_ran_with_deaths.ensures opening g.N.Opened.logged c.args.store script c.args.retries m now c.args.journal.now c.in_order.new.journal keeps_all
+    new c.session_count.ensures.kept c.in_ok-in_order.ensures.answered in
     let told_causes = c.what_ends_groups_is_told.ensures.causes opening m now c.args.journal.now c.in_order.new.journal keeps_all c.requires.ready in
     let own : now.script ≡ script = sym c.script.ensures.script ∙ c.script.ensures.opened ∙ sym c.requires.script in
     let replied : AreToldTheirCauses script (transcripts_of now) ended =
@@ -58,12 +56,12 @@ returns-then-faults-clause-served g c =
     let sizes : AreSizesOf opening script now.history ended =
     subst (λ (k : Script). AreSizesOf opening k now.history ended) own (c.a_size_that_is_told_is_that_of_a_record.ensures opening m now c.args.journal.now c.in_order.new.journal keeps_all c.session_count.ensures.kept) in
     let causes : AreCaused opening script now.history (g.D.Disk.seen last.disk) (g.D.Disk.fault_count last.disk) DiskFault ended = caused {g = g.D.Disk} last opening script now.history ended told_causes sizes DiskFault (λ is. absurd cc) in
-    let over : IsRunOver opening script ended (transcripts_of now) now.history (sweep_of now.lazy.last) =
-    run_with_last opening script now ended own kept_now ran in
+    let over : IsRunWithDeaths c.args.retries opening script ended (transcripts_of now) now.history (sweep_of now.lazy.last) =
+    run_with_last c.args.retries opening script now ended own kept_now ran in
     let given : IsGivenBy g.D.Disk.seen g.D.Disk.may_leave DiskFault last.disk now.lazy = given_at_fault {g = g.D.Disk} now.lazy last recovers.stands in
     let parts = c.into_parts-parts.ensures in
     let swept = c.sweep-sweep.ensures in
-    let told : IsRunTold (ServedOn opening log last.disk DiskFault script) script c.in_ok-text.text.items = record {
+    let told : IsRunTold c.args.retries (ServedOn opening log last.disk DiskFault script) script c.in_ok-text.text.items = record {
       start = opening;
       transcripts = transcripts_of now;
       history = now.history;
@@ -85,11 +83,11 @@ returns-then-is_ready-clause-served g c =
     let now : Machine = c.in_order.new.machine in
     let log = c.args.journal.now.log in
     let last = c.in_order.new.journal.log in
-    let new : m ≡ fresh g.N.Opened.logged c.args.store script 15 = c.in_ok-machine.ensures in
+    let new : m ≡ fresh g.N.Opened.logged c.args.store script c.args.retries = c.in_ok-machine.ensures in
     let keeps_all : KeepsOnLog opening m c.args.journal.now now c.in_order.new.journal = c.in_order.ensures.keeps in
     let ended = ended_on_log keeps_all in
-    let ran = ran_over (λ lazy next (old : LogJournal g.row.D.Denot g.D.Disk) new answer. HasAnswered lazy next old.log new.log answer) g.N.Opened.logged opening c.args.store script 15 m now c.args.journal.now c.in_order.new.journal keeps_all
-    c.sessions_that_have_ended_ran_over.ensures new c.session_count.ensures.kept c.in_ok-in_order.ensures.answered (c.in_ok-in_order.ensures.no_death refl) in
+    let ran = c.sessions_that_have_ended_ran_with_deaths.ensures opening g.N.Opened.logged c.args.store script c.args.retries m now c.args.journal.now c.in_order.new.journal keeps_all
+    new c.session_count.ensures.kept c.in_ok-in_order.ensures.answered in
     let told_causes = c.what_ends_groups_is_told.ensures.causes opening m now c.args.journal.now c.in_order.new.journal keeps_all c.requires.ready in
     let own : now.script ≡ script = sym c.script.ensures.script ∙ c.script.ensures.opened ∙ sym c.requires.script in
     let replied : AreToldTheirCauses script (transcripts_of now) ended =
@@ -104,12 +102,12 @@ returns-then-is_ready-clause-served g c =
     let sizes : AreSizesOf opening script now.history ended =
     subst (λ (k : Script). AreSizesOf opening k now.history ended) own (c.a_size_that_is_told_is_that_of_a_record.ensures opening m now c.args.journal.now c.in_order.new.journal keeps_all c.session_count.ensures.kept) in
     let causes : AreCaused opening script now.history (g.D.Disk.seen last.disk) (g.D.Disk.fault_count last.disk) Done ended = caused {g = g.D.Disk} last opening script now.history ended told_causes sizes Done (λ _. ready) in
-    let over : IsRunOver opening script ended (transcripts_of now) now.history (sweep_of now.lazy.last) =
-    run_with_last opening script now ended own kept_now ran in
+    let over : IsRunWithDeaths c.args.retries opening script ended (transcripts_of now) now.history (sweep_of now.lazy.last) =
+    run_with_last c.args.retries opening script now ended own kept_now ran in
     let given : IsGivenBy g.D.Disk.seen g.D.Disk.may_leave Done last.disk now.lazy = given_at_done {g = g.D.Disk} now.lazy last recovers.stands ready in
     let parts = c.into_parts-parts.ensures in
     let swept = c.sweep-sweep.ensures in
-    let told : IsRunTold (ServedOn opening log last.disk Done script) script c.in_ok-text.text.items = record {
+    let told : IsRunTold c.args.retries (ServedOn opening log last.disk Done script) script c.in_ok-text.text.items = record {
       start = opening;
       transcripts = transcripts_of now;
       history = now.history;
@@ -126,7 +124,7 @@ pub returns-in_err-in_order-clause-broken_off : goal.returns-in_err-in_order-cla
 returns-in_err-in_order-clause-broken_off g c =
     let script : Script = c.args.script in
     let m : Machine = c.in_ok-machine.machine in
-    let new : m ≡ fresh g.N.Opened.logged c.args.store script 15 = c.in_ok-machine.ensures in
+    let new : m ≡ fresh g.N.Opened.logged c.args.store script c.args.retries = c.in_ok-machine.ensures in
     on_err c.from_residual-in_err-in_order.result (broken_off {g = g.D.Disk} g.N.Opened.opening c.args.store.lazy script m c.in_order.new.machine c.args.journal.now c.in_order.new.journal
     (ap (λ (k : Machine). k.script) new) (ap (λ (k : Machine). k.lazy) new) c.session_count.ensures.kept c.requires.stands c.requires.alone c.in_order.ensures.keeps c.every_crash_leaves_a_prefix.ensures.whole)
 
@@ -134,7 +132,7 @@ pub returns-in_err-text-clause-broken_off : goal.returns-in_err-text-clause-brok
 returns-in_err-text-clause-broken_off g c =
     let script : Script = c.args.script in
     let m : Machine = c.in_ok-machine.machine in
-    let new : m ≡ fresh g.N.Opened.logged c.args.store script 15 = c.in_ok-machine.ensures in
+    let new : m ≡ fresh g.N.Opened.logged c.args.store script c.args.retries = c.in_ok-machine.ensures in
     on_err c.from_residual-in_err-text.result (broken_off {g = g.D.Disk} g.N.Opened.opening c.args.store.lazy script m c.in_order.new.machine c.args.journal.now c.in_order.new.journal
     (ap (λ (k : Machine). k.script) new) (ap (λ (k : Machine). k.lazy) new) c.session_count.ensures.kept c.requires.stands c.requires.alone c.in_order.ensures.keeps c.every_crash_leaves_a_prefix.ensures.whole)
 
@@ -142,7 +140,7 @@ pub returns-else-is_ready-clause-broken_off : goal.returns-else-is_ready-clause-
 returns-else-is_ready-clause-broken_off g c =
     let script : Script = c.args.script in
     let m : Machine = c.in_ok-machine.machine in
-    let new : m ≡ fresh g.N.Opened.logged c.args.store script 15 = c.in_ok-machine.ensures in
+    let new : m ≡ fresh g.N.Opened.logged c.args.store script c.args.retries = c.in_ok-machine.ensures in
     broken_off {g = g.D.Disk} g.N.Opened.opening c.args.store.lazy script m c.in_order.new.machine c.args.journal.now c.in_order.new.journal
     (ap (λ (k : Machine). k.script) new) (ap (λ (k : Machine). k.lazy) new) c.session_count.ensures.kept c.requires.stands c.requires.alone c.in_order.ensures.keeps c.every_crash_leaves_a_prefix.ensures.whole
 
@@ -150,6 +148,6 @@ pub returns-then-is_given_up-clause-broken_off : goal.returns-then-is_given_up-c
 returns-then-is_given_up-clause-broken_off g c =
     let script : Script = c.args.script in
     let m : Machine = c.in_ok-machine.machine in
-    let new : m ≡ fresh g.N.Opened.logged c.args.store script 15 = c.in_ok-machine.ensures in
+    let new : m ≡ fresh g.N.Opened.logged c.args.store script c.args.retries = c.in_ok-machine.ensures in
     broken_off {g = g.D.Disk} g.N.Opened.opening c.args.store.lazy script m c.in_order.new.machine c.args.journal.now c.in_order.new.journal
     (ap (λ (k : Machine). k.script) new) (ap (λ (k : Machine). k.lazy) new) c.session_count.ensures.kept c.requires.stands c.requires.alone c.in_order.ensures.keeps c.every_crash_leaves_a_prefix.ensures.whole

@@ -18,4 +18,4 @@ run-requires-clause-sayable g c =
 pub returns-in-Err-clause-answer : goal.returns-in-Err-clause-answer
 returns-in-Err-clause-answer g c =
     let read = subst (HasRead _) c.in-Err.is c.in_ok-script.ensures in
-    of_none_run _ _ c.args.path.now c.in-Err.told read (refl, refl)
+    of_none_run _ _ c.args.path.now _ c.in-Err.told read (refl, refl)
