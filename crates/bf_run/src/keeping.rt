@@ -1,18 +1,20 @@
 //! Running a script over the database that a log keeps.
 
-ghost use Rattle.std.specs.Prelude.{◌≡◌, ℕ, List, None, Some, IfOk, OnErr, true};
+ghost use Rattle.std.specs.Prelude.{◌≡◌, ◌<◌, ◌≤◌, ℕ, List, None, Some, IfOk, OnErr, true};
 ghost use Rattle.bf_journal.specs.Leaving.{LeavesAlone};
 ghost use Rattle.bf_journal.specs.States.{IsReady, StandsOn};
 ghost use Rattle.bf_run.specs.Sayable.{IsSayableScript};
-ghost use Rattle.bf_log.specs.Append.{disk_of};
+ghost use Rattle.bf_log.specs.Append.{disk_of, standing_of};
 ghost use Rattle.bf_machine.specs.interleaving.Kept.{IsWithinLimits};
 ghost use Rattle.bf_recover.specs.Legal.{first_state};
 ghost use Rattle.bf_recover.specs.Steps.{StepsTo};
-ghost use Rattle.bf_sql.specs.migrations.Lazy.{view_of};
+ghost use Rattle.bf_sql.specs.migrations.Lazy.{sweep_of, view_of};
 ghost use Rattle.bf_store.specs.Stores.{IsOf};
 ghost use Rattle.bf_run.specs.Creating.{shelf_of};
 ghost use Rattle.bf_run.specs.Outcome.{ComesOfLog, HoldsAsked};
+ghost use Rattle.bf_run.specs.Answers.{is_ready};
 ghost use Rattle.bf_run.specs.Running.{KeepsOthers};
+ghost use Rattle.bf_text.specs.Report.{report_text};
 ghost use Rattle.bf_run.specs.Top.{IsOpenErrorTold, IsRunOverDisk, IsServed, IsTextOfRun, ServedOn};
 ghost use Rattle.bf_run.specs.Untold.{IsBrokenOffOn, IsUntold, LeavesUntold, ReadsLog};
 ghost use Rattle.bf_run.specs.Words.{running};
@@ -22,65 +24,85 @@ use crate::journal_laws::{
     a_size_that_is_told_is_that_of_a_record, every_crash_leaves_a_prefix, what_ends_groups_is_told,
 };
 use crate::log_journal::LogJournal;
+use crate::phases::serve_script;
 use crate::status::{Status, disk_fault, not_a_log_line};
 use bf_base::Memory;
 use bf_disk::{Disk, DiskError, Shelf};
 use bf_image::Registry;
 use bf_log::{Log, OpenError};
-use bf_machine::{Machine, Opened, in_order};
+use bf_machine::Parts;
+use bf_machine::interleaving_laws::events_keep_all;
 use bf_recover::reopen;
 use bf_store::Store;
 use bf_text::report;
 use bf_tree::Script;
 use std::alloc::Global;
-use std::marker::{Brand, PhantomData};
+use std::marker::PhantomData;
 use std::mem::forget;
 use std::sync::Wait;
+use std::thread::Threads;
 
-/// The status of a run of a script over a store, whose changes a journal keeps, and its whole report. The
-/// sessions are served one after the other, and a group begins again `retries` times after deaths.
-fn tell_run<N: Opened, D: Disk, R: Wait>(
+/// The status of a run of a script over a store, whose changes a journal keeps, and its whole report. The journal comes
+/// back, whatever came of it. A group begins again `retries` times after deaths.
+fn tell_run<D: Disk + Send, R: Threads + Wait + Sync>(
     alloc: Global,
     rt: &R,
     registry: &Registry,
     store: Store,
-    journal: &mut LogJournal<D>,
+    journal: LogJournal<D>,
     script: Script,
     retries: u16,
-) -> Result<(Status, Vec<u8>), Memory>
-    requires opening { view_of store.lazy ≡ N.opening }
-    requires migration { IsOf N.registry store.migration }
-    requires registry { registry.now ≡ N.registry }
-    requires script { script ≡ N.script }
-    requires logged { N.logged ≡ true }
+) -> (LogJournal<D>, Result<(Status, Vec<u8>), Memory>)
+    requires migration { IsOf registry.now store.migration }
     requires limits { IsWithinLimits script }
     requires sayable { IsSayableScript script }
-    requires stands { StandsOn first_state StepsTo store.lazy journal.old.log }
-    requires ready { IsReady journal.old.log }
-    requires alone { LeavesAlone first_state StepsTo store.lazy journal.old.log }
-    ensures served { IfOk result (λ a. IsServed retries
-        (ServedOn N.opening journal.old.log (disk_of journal.new.log)) script
-        (D.fault_count (disk_of journal.old.log)) (D.fault_count (disk_of journal.new.log))
+    requires stands { StandsOn first_state StepsTo store.lazy journal.log }
+    requires ready { IsReady journal.log }
+    requires alone { LeavesAlone first_state StepsTo store.lazy journal.log }
+    ensures served { IfOk result.1 (λ a. IsServed retries
+        (ServedOn (view_of store.lazy) journal.log (disk_of result.0.log)) script
+        (D.fault_count (disk_of journal.log)) (D.fault_count (disk_of result.0.log))
         a.0 a.1.items) }
-    ensures broken_off { OnErr result
-        (IsBrokenOffOn N.opening journal.old.log (disk_of journal.new.log) script) }
+    ensures broken_off { OnErr result.1
+        (IsBrokenOffOn (view_of store.lazy) journal.log (disk_of result.0.log) script) }
 {
     let faults = journal.faults();
-    let mut machine: Machine<N> = Machine::new(alloc, store, script, retries)?;
-    // Its contract says what a machine keeps; and then laws of what comes of it beside a log.
-    let _ = machine.session_count();
+    // Their contracts say that a new machine over the store keeps what machines do; and then laws of what comes of it
+    // beside a log.
+    let _ = store.live();
+    let _ = store.migration();
+    events_keep_all();
     sessions_that_have_ended_ran_with_deaths(PhantomData::<LogJournal<D>>);
     every_crash_leaves_a_prefix(PhantomData::<D>);
     what_ends_groups_is_told(PhantomData::<D>);
     a_size_that_is_told_is_that_of_a_record(PhantomData::<D>);
-    in_order(alloc, rt, registry, journal, &mut machine, &[])?;
+    let (journal, served) = serve_script(alloc, rt, registry, store, script, retries, journal);
+    let parts = match served {
+        Ok(parts) => parts,
+        Err(memory) => return (journal, Err(memory)),
+    };
     if journal.is_given_up() {
-        return Err(Memory);
+        return (journal, Err(Memory));
     }
-    // Its contract says that the script is the one that was given.
-    let _ = machine.script();
-    let sweep = machine.sweep();
-    let parts = machine.into_parts();
+    let told = tell_parts(alloc, parts, &journal, faults);
+    (journal, told)
+}
+
+/// What is told of a script that was served beside a journal, by the count of its device's faults from before.
+fn tell_parts<D: Disk>(
+    alloc: Global,
+    parts: Parts,
+    journal: &LogJournal<D>,
+    faults: u64,
+) -> Result<(Status, Vec<u8>), Memory>
+    ensures text { IfOk result (λ a. a.1.items
+        ≡ report_text parts.transcripts.sessions parts.history.entries None (sweep_of parts.store.lazy.last)) }
+    ensures fault { IfOk result (λ a. faults < D.fault_count (disk_of journal.now.log)
+        → a.0 ≡ Status.DiskFault) }
+    ensures done { IfOk result (λ a. D.fault_count (disk_of journal.now.log) ≤ faults
+        → (a.0 ≡ Status.Done) × (is_ready (standing_of journal.now.log) ≡ true)) }
+{
+    let sweep = parts.store.sweep();
     let text = report(alloc, &parts.transcripts, &parts.history, None, &sweep)?;
     // The program ends behind its report, and its memory goes with it.
     forget(parts);
@@ -94,7 +116,7 @@ fn tell_run<N: Opened, D: Disk, R: Wait>(
 }
 
 /// Serves a script over a store that was reopened, and gives back the disk of its log, whatever came of it.
-fn serve_over<N: Opened, D: Disk, R: Wait>(
+fn serve_over<D: Disk + Send, R: Threads + Wait + Sync>(
     alloc: Global,
     rt: &R,
     registry: &Registry,
@@ -103,23 +125,20 @@ fn serve_over<N: Opened, D: Disk, R: Wait>(
     script: Script,
     retries: u16,
 ) -> (D, Result<(Status, Vec<u8>), Memory>)
-    requires opening { view_of store.lazy ≡ N.opening }
-    requires migration { IsOf N.registry store.migration }
-    requires registry { registry.now ≡ N.registry }
-    requires script { script ≡ N.script }
-    requires logged { N.logged ≡ true }
+    requires migration { IsOf registry.now store.migration }
     requires limits { IsWithinLimits script }
     requires sayable { IsSayableScript script }
     requires stands { StandsOn first_state StepsTo store.lazy log }
     requires ready { IsReady log }
     requires alone { LeavesAlone first_state StepsTo store.lazy log }
-    ensures served { IfOk result.1 (λ a. IsServed retries (ServedOn N.opening log result.0) script
+    ensures served { IfOk result.1 (λ a. IsServed retries
+        (ServedOn (view_of store.lazy) log result.0) script
         (D.fault_count (disk_of log)) (D.fault_count result.0) a.0 a.1.items) }
     ensures broken_off { OnErr result.1
-        (IsBrokenOffOn N.opening log result.0 script) }
+        (IsBrokenOffOn (view_of store.lazy) log result.0 script) }
 {
-    let mut journal = LogJournal::of(alloc, log);
-    let told = tell_run::<N, D, R>(alloc, rt, registry, store, &mut journal, script, retries);
+    let journal = LogJournal::of(alloc, log);
+    let (journal, told) = tell_run(alloc, rt, registry, store, journal, script, retries);
     (journal.into_disk(), told)
 }
 
@@ -135,7 +154,7 @@ fn tell_open_error(alloc: Global, error: OpenError) -> Result<(Status, Vec<u8>),
 }
 
 /// Reopens the log of a disk with a registry for its migrations, and runs a script over the database that it keeps.
-fn run_with<D: Disk, R: Wait>(
+fn run_with<D: Disk + Send, R: Threads + Wait + Sync>(
     alloc: Global,
     rt: &R,
     registry: &Registry,
@@ -151,15 +170,13 @@ fn run_with<D: Disk, R: Wait>(
         (IsUntold D.seen D.may_leave D.moment D.left_since script disk result.0) }
 {
     match reopen(alloc, rt, registry, disk) {
-        Ok((store, log)) => serve_over::<Brand, D, R>(
-            alloc, rt, registry, store, log, script, retries,
-        ),
+        Ok((store, log)) => serve_over(alloc, rt, registry, store, log, script, retries),
         Err((disk, error)) => (disk, tell_open_error(alloc, error)),
     }
 }
 
 /// Runs a script over the database that the log of a disk keeps.
-fn run_over<D: Disk, R: Wait>(
+fn run_over<D: Disk + Send, R: Threads + Wait + Sync>(
     alloc: Global,
     rt: &R,
     disk: D,
@@ -184,7 +201,7 @@ fn run_over<D: Disk, R: Wait>(
 
 /// The status of a script that is asked to be run over the log under a path, where a group begins again
 /// `retries` times after deaths, and its whole text. The file is put back whatever came of it.
-pub(crate) fn run<S: Shelf, R: Wait>(
+pub(crate) fn run<S: Shelf, R: Threads + Wait + Sync>(
     alloc: Global,
     rt: &R,
     path: &str,
@@ -192,6 +209,8 @@ pub(crate) fn run<S: Shelf, R: Wait>(
     script: Script,
     retries: u16,
 ) -> Result<(Status, Vec<u8>), Memory>
+where
+    S::Disk: Send,
     requires none_taken { (path : List ℕ) → S.taken shelf.old path ≡ None }
     requires limits { IsWithinLimits script }
     requires sayable { IsSayableScript script }

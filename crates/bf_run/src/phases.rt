@@ -1,16 +1,23 @@
 //! The phases of a script: the sessions of each run at the same time.
 
-ghost use Rattle.std.specs.Prelude.{◌≡◌, ◌<◌, ◌≤◌, length};
-ghost use Rattle.bf_machine.specs.interleaving.Journals.{AreSaid};
-ghost use Rattle.bf_run.specs.Come.{HasCome};
+ghost use Rattle.std.specs.Prelude.{◌≡◌, ◌<◌, ◌≤◌, ℕ, IfOk, OnOk, length};
+ghost use Rattle.bf_sql.specs.migrations.Lazy.{view_of};
+ghost use Rattle.bf_store.specs.Stores.{IsOf};
+ghost use Rattle.bf_machine.specs.interleaving.Calls.{HasSessionEnded, IsPlace};
+ghost use Rattle.bf_machine.specs.interleaving.Journals.{AreSaid, Keeps};
+ghost use Rattle.bf_machine.specs.interleaving.Kept.{IsWithinLimits, fresh};
+ghost use Rattle.bf_machine.specs.interleaving.Machines.{Machine as Seen};
+ghost use Rattle.bf_run.specs.Come.{HasCome, IsLeftBy};
 
 use crate::engine::{Beginning, Engine};
 use crate::shared::Shared;
 use bf_base::Memory;
 use bf_image::Registry;
-use bf_machine::{Journal, Machine};
+use bf_machine::{Journal, Machine, Parts, in_order};
+use bf_store::Store;
 use bf_tree::{Script, Session};
 use std::alloc::Global;
+use std::marker::Brand;
 use std::sync::{Condvar, Mutex, Wait};
 use std::thread::{Threads, map_indices};
 
@@ -68,11 +75,11 @@ fn serve_all<N: Beginning<J> + Send + Sync, J: Journal + Send, R: Threads + Wait
 }
 
 /// Serves a script's sessions over a machine beside its journal: those of a phase at the same time, on threads, one phase
-/// after the other. The machine and the journal come back as they have come.
+/// after the other; and then, one after the other, what is left. The machine and the journal come back as they have come.
 ///
 /// # Errors
-/// Where memory runs out. Each thread has ended then.
-pub(crate) fn serve_on_threads<
+/// Where memory runs out, or too much has changed. Each thread has ended then.
+fn serve_machine<
     N: Beginning<J> + Send + Sync,
     J: Journal + Send,
     R: Threads + Wait + Sync,
@@ -90,6 +97,8 @@ pub(crate) fn serve_on_threads<
     requires logged { J.ends ≡ N.logged }
     requires said { AreSaid J.Says N.script }
     ensures come { HasCome J.Answers N.opening N.begins result.0 result.1 }
+    ensures ended { OnOk result.2
+        ((s : ℕ) → IsPlace result.0.script s → HasSessionEnded result.0 s) }
 {
     let shared = Shared {
         alloc,
@@ -100,7 +109,83 @@ pub(crate) fn serve_on_threads<
         script,
     };
     let served = serve_all(&shared);
-    let Shared { engine, .. } = shared;
-    let (machine, journal) = engine.into_inner().into_parts();
+    let Shared {
+        alloc: _,
+        rt: _,
+        engine,
+        happened: _,
+        registry: _,
+        script: _,
+    } = shared;
+    let (mut machine, mut journal) = engine.into_inner().into_parts();
+    if served.is_err() {
+        return (machine, journal, served);
+    }
+    let served = in_order(alloc, rt, registry, &mut journal, &mut machine, &[]);
     (machine, journal, served)
+}
+
+/// Serves a script over a store, whose type names what it began with, beside a journal.
+fn serve_over<
+    N: Beginning<J> + Send + Sync,
+    J: Journal + Send,
+    R: Threads + Wait + Sync,
+>(
+    alloc: Global,
+    rt: &R,
+    registry: &Registry,
+    store: Store,
+    script: Script,
+    retries: u16,
+    journal: J,
+) -> (J, Result<Parts, Memory>)
+    requires begins { (m : Seen) → m ≡ fresh N.logged store script retries → N.begins m journal }
+    requires opening { view_of store.lazy ≡ N.opening }
+    requires migration { IsOf N.registry store.migration }
+    requires registry { registry.now ≡ N.registry }
+    requires script { script ≡ N.script }
+    requires limits { IsWithinLimits script }
+    requires logged { J.ends ≡ N.logged }
+    requires said { AreSaid J.Says N.script }
+    ensures come { (next : Seen) × HasCome J.Answers N.opening N.begins next result.0
+        × IfOk result.1 (IsLeftBy next) }
+{
+    let Ok(copy) = script.copy(alloc) else {
+        return (journal, Err(Memory));
+    };
+    let made: Result<Machine<N>, Memory> = Machine::new(alloc, store, script, retries);
+    let machine = match made {
+        Ok(machine) => machine,
+        Err(memory) => return (journal, Err(memory)),
+    };
+    let (machine, journal, served) = serve_machine(alloc, rt, registry, copy, machine, journal);
+    match served {
+        Ok(()) => (journal, Ok(machine.into_parts())),
+        Err(memory) => (journal, Err(memory)),
+    }
+}
+
+/// Serves a script over a store beside a journal, in which each change of the store is kept before it is made: the sessions of
+/// a phase at the same time, each on a thread of its own, one phase after the other. A group begins again `retries` times after
+/// deaths. What the machine leaves comes back, and the journal, whatever came of it.
+///
+/// # Errors
+/// Where memory runs out, or too much has changed. Each thread has ended then.
+pub fn serve_script<J: Journal + Send, R: Threads + Wait + Sync>(
+    alloc: Global,
+    rt: &R,
+    registry: &Registry,
+    store: Store,
+    script: Script,
+    retries: u16,
+    journal: J,
+) -> (J, Result<Parts, Memory>)
+    requires migration { IsOf registry.now store.migration }
+    requires limits { IsWithinLimits script }
+    requires said { AreSaid J.Says script }
+    ensures keeps { (next : Seen)
+        × Keeps J.Answers (view_of store.lazy) (fresh J.ends store script retries) journal next result.0
+        × IfOk result.1 (IsLeftBy next) }
+{
+    serve_over::<Brand, J, R>(alloc, rt, registry, store, script, retries, journal)
 }

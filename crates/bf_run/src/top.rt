@@ -33,6 +33,7 @@ use std::alloc::Global;
 use std::marker::Brand;
 use std::mem::forget;
 use std::sync::Wait;
+use std::thread::Threads;
 
 /// The status of words that ask for nothing, and what is written.
 fn usage(alloc: Global) -> Result<(Status, Vec<u8>), Memory>
@@ -162,13 +163,15 @@ fn try_input<I: Source, R: Wait>(
 }
 
 /// The status of an input that is asked to be run over a log, and its whole text.
-fn run_input<I: Source, S: Shelf, R: Wait>(
+fn run_input<I: Source, S: Shelf, R: Threads + Wait + Sync>(
     alloc: Global,
     rt: &R,
     path: &str,
     input: &mut I,
     shelf: &mut S,
 ) -> Result<(Status, Vec<u8>), Memory>
+where
+    S::Disk: Send,
     requires { (path : List ℕ) → S.taken shelf.old path ≡ None }
     ensures answer { IfOk result (λ a. IsAnswer (Some (running path.now usual_retries))
         (record {
@@ -194,13 +197,15 @@ fn run_input<I: Source, S: Shelf, R: Wait>(
 }
 
 /// The status and its whole text, before a byte is written.
-fn answer<I: Source, S: Shelf, R: Wait>(
+fn answer<I: Source, S: Shelf, R: Threads + Wait + Sync>(
     alloc: Global,
     rt: &R,
     words: &[&str],
     input: &mut I,
     shelf: &mut S,
 ) -> Result<(Status, Vec<u8>), Memory>
+where
+    S::Disk: Send,
     requires { (path : List ℕ) → S.taken shelf.old path ≡ None }
     ensures answer { IfOk result (λ a. IsAnswer (asked (map (λ word. word.now) words.now))
         (record {
@@ -244,7 +249,7 @@ fn answer<I: Source, S: Shelf, R: Wait>(
 /// what it costs to find and move the rows that it needs. `run` reads the log once before that, and adds a record for
 /// each change, which is synced twice before its reply. Script and tables are not freed:
 /// the call is a program's last, and their memory goes with the program.
-pub fn bullfrog<I: Source, O: Sink, S: Shelf, R: Wait>(
+pub fn bullfrog<I: Source, O: Sink, S: Shelf, R: Threads + Wait + Sync>(
     rt: &R,
     alloc: Global,
     words: &[&str],
@@ -252,6 +257,8 @@ pub fn bullfrog<I: Source, O: Sink, S: Shelf, R: Wait>(
     output: &mut O,
     shelf: &mut S,
 ) -> Status
+where
+    S::Disk: Send,
     requires { (path : List ℕ) → S.taken shelf.old path ≡ None }
     ensures ends { Ends (map (λ word. word.now) words.now)
         (record {

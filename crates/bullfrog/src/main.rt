@@ -17,6 +17,7 @@ use std::fs::{File, Files};
 use std::io::ErrorKind;
 use std::process::ExitCode;
 use std::sync::Wait;
+use std::thread::Threads;
 use std::{env, io};
 use writing::Writing;
 
@@ -35,7 +36,7 @@ fn texts(alloc: Global, words: &[String]) -> Result<Vec<&str>, AllocError> {
 
 fn serve<R>(rt: &R, words: &[&str]) -> Status
 where
-    R: AllocGlobal + Files<File = File> + Input + Print + Wait,
+    R: AllocGlobal + Files<File = File> + Input + Print + Threads + Wait + Sync,
 {
     let mut source = Reading::new(rt.reader());
     let mut sink = Writing::new(io::writer(rt));
@@ -46,7 +47,7 @@ where
 /// Words that are not UTF-8 are served as none, which are wrong too.
 fn run<R>(rt: &R) -> Status
 where
-    R: Env + AllocGlobal + Files<File = File> + Input + Print + Wait,
+    R: Env + AllocGlobal + Files<File = File> + Input + Print + Threads + Wait + Sync,
 {
     match words(rt) {
         Ok(words) => match texts(rt.alloc(), words.as_slice()) {
