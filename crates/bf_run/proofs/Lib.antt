@@ -22,3 +22,4 @@ pub mod crashing
 pub mod deaths
 pub mod one
 pub mod saying
+pub mod threads

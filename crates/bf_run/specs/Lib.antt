@@ -10,6 +10,7 @@ pub mod Records
 pub mod Requests
 pub mod Running
 pub mod Sayable
+pub mod Sections
 pub mod Top
 pub mod Untold
 pub mod Words

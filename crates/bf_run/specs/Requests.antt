@@ -1,5 +1,6 @@
 -- A STATEMENT THAT IS MADE READY outside the lock: where its session stood, and how it is bound in the catalog of that moment.
 use Rattle.std.specs.Prelude.{◌≡◌, ℕ, ◌-◌, ◌<◌, ◌≤◌, Bool, List, length, Option, Some, IfSome, IsTrue, option_map, slice_get}
+use Rattle.std.specs.List.{All}
 use Rattle.bf_base.specs.declared.granule.Granule.{Granule}
 use Rattle.bf_base.specs.Lists.{rises}
 use Rattle.boxcar.specs.Table.{Shows, Where}
@@ -78,7 +79,7 @@ pub record StandsAt (m : Machine) (p : Position) : Type 0 where
 
 -- the open group of a session holds all locks of a request
 abbrev pub HoldsAll : Machine → Request → Type 0
-HoldsAll m r = (k : ℕ) (lock : Lock) → slice_get r.locks k ≡ Some lock → IsCovered m r.at.session lock.0 lock.1
+HoldsAll m r = All (λ lock. IsCovered m r.at.session lock.0 lock.1) r.locks
 
 -- NEEDED: granules of the last migration at the request's position, in the order of unit and place
 abbrev pub AreNeededOf : Request → List Granule → Type 0

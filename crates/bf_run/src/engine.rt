@@ -1,12 +1,13 @@
 //! What the threads of a run share under one lock.
 
-ghost use Rattle.std.specs.Prelude.{◌≡◌, ◌<◌, [], IfSome, Some, length};
+ghost use Rattle.std.specs.Prelude.{◌≡◌, ◌<◌, [], IfOk, IfSome, Some, length};
 ghost use Rattle.boxcar.specs.Table.{Shows};
 ghost use Rattle.bf_image.specs.Migrations.{value_indexes};
 ghost use Rattle.bf_store.specs.Stores.{migration_of};
 ghost use Rattle.bf_machine.specs.interleaving.Calls.{IsPlace};
 ghost use Rattle.bf_machine.specs.interleaving.Journals.{AreSaid, IsOneRecord};
 ghost use Rattle.bf_run.specs.Come.{HasCome};
+ghost use Rattle.bf_run.specs.Sections.{AreNeededIfAny};
 
 use crate::lookups::Lookups;
 use crate::requests::{Position, Request};
@@ -294,6 +295,7 @@ impl<N: Beginning<J>, J: Journal> Engine<N, J> {
         request: &Request<N>,
     ) -> Result<Ran, Memory>
         requires registry { registry.now ≡ N.registry }
+        ensures { IfOk result (AreNeededIfAny request.now) }
     {
         let Engine {
             alloc,

@@ -7,7 +7,7 @@ ghost use Rattle.bf_machine.specs.interleaving.Calls.{HasSessionEnded, IsPlace};
 ghost use Rattle.bf_machine.specs.interleaving.Journals.{AreSaid, Keeps};
 ghost use Rattle.bf_machine.specs.interleaving.Kept.{IsWithinLimits, fresh};
 ghost use Rattle.bf_machine.specs.interleaving.Machines.{Machine as Seen};
-ghost use Rattle.bf_run.specs.Come.{HasCome, IsLeftBy};
+ghost use Rattle.bf_run.specs.Come.{HasCome, LeavesParts};
 
 use crate::engine::{Beginning, Engine};
 use crate::shared::Shared;
@@ -48,9 +48,12 @@ fn serve_phase<N: Beginning<J> + Send + Sync, J: Journal + Send, R: Threads + Wa
     if count == 1 {
         return shared.serve(first);
     }
-    let served = map_indices(shared.rt, shared.alloc, count, &|place| {
-        shared.serve(first.saturating_add(place as u32))
-    })?;
+    let served = map_indices(
+        shared.rt,
+        shared.alloc,
+        count,
+        &|place| { shared.serve(first.saturating_add(place as u32)) },
+    )?;
     for one in served {
         one?;
     }
@@ -79,11 +82,7 @@ fn serve_all<N: Beginning<J> + Send + Sync, J: Journal + Send, R: Threads + Wait
 ///
 /// # Errors
 /// Where memory runs out, or too much has changed. Each thread has ended then.
-fn serve_machine<
-    N: Beginning<J> + Send + Sync,
-    J: Journal + Send,
-    R: Threads + Wait + Sync,
->(
+fn serve_machine<N: Beginning<J> + Send + Sync, J: Journal + Send, R: Threads + Wait + Sync>(
     alloc: Global,
     rt: &R,
     registry: &Registry,
@@ -126,11 +125,7 @@ fn serve_machine<
 }
 
 /// Serves a script over a store, whose type names what it began with, beside a journal.
-fn serve_over<
-    N: Beginning<J> + Send + Sync,
-    J: Journal + Send,
-    R: Threads + Wait + Sync,
->(
+fn serve_over<N: Beginning<J> + Send + Sync, J: Journal + Send, R: Threads + Wait + Sync>(
     alloc: Global,
     rt: &R,
     registry: &Registry,
@@ -148,7 +143,7 @@ fn serve_over<
     requires logged { J.ends ≡ N.logged }
     requires said { AreSaid J.Says N.script }
     ensures come { (next : Seen) × HasCome J.Answers N.opening N.begins next result.0
-        × IfOk result.1 (IsLeftBy next) }
+        × IfOk result.1 (LeavesParts next) }
 {
     let Ok(copy) = script.copy(alloc) else {
         return (journal, Err(Memory));
@@ -185,7 +180,7 @@ pub fn serve_script<J: Journal + Send, R: Threads + Wait + Sync>(
     requires said { AreSaid J.Says script }
     ensures keeps { (next : Seen)
         × Keeps J.Answers (view_of store.lazy) (fresh J.ends store script retries) journal next result.0
-        × IfOk result.1 (IsLeftBy next) }
+        × IfOk result.1 (LeavesParts next) }
 {
     serve_over::<Brand, J, R>(alloc, rt, registry, store, script, retries, journal)
 }

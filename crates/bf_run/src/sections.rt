@@ -2,16 +2,18 @@
 //! reply, a group that ends, granules that move. Each is one event beside the journal, or none.
 
 ghost use Rattle.std.specs.Prelude.{◌≡◌, ◌⊎◌, ◌<◌, ℕ, [], IfOk, IfSome, IsTrue, Some, length, true};
+ghost use Rattle.std.specs.Option.{option_map};
 ghost use Rattle.boxcar.specs.Table.{Shows};
 ghost use Rattle.bf_image.specs.Migrations.{value_indexes};
-ghost use Rattle.bf_store.specs.Stores.{migration_of};
+ghost use Rattle.bf_store.specs.Stores.{IsOf, migration_of};
 ghost use Rattle.bf_sql.specs.Bound.{catalog_of};
 ghost use Rattle.bf_machine.specs.interleaving.Calls.{CanCommit, IsPlace};
 ghost use Rattle.bf_machine.specs.interleaving.Events.{EndsByLog};
 ghost use Rattle.bf_machine.specs.interleaving.Journals.{AreSaid, IsOneRecord, Keeps};
-ghost use Rattle.bf_machine.specs.interleaving.Kept.{IsKept, is_of_log};
+ghost use Rattle.bf_machine.specs.interleaving.Kept.{is_of_log};
 ghost use Rattle.bf_machine.specs.interleaving.Serving.{LeavesStore};
 ghost use Rattle.bf_run.specs.Requests.{HoldsAll, IsPresentCatalog, StandsAt};
+ghost use Rattle.bf_run.specs.Sections.{AreNeededIfAny};
 
 use crate::catalogs::copy_of;
 use crate::requests::Request;
@@ -85,12 +87,13 @@ pub(crate) fn ask_for<N: Opened>(
 ) -> Result<Asked, Memory>
     requires registry { registry.now ≡ N.registry }
     requires place { IsPlace machine.old.script request.now.at.session }
-    requires kept { IsKept N.opening machine.old }
     requires present { IsPresentCatalog N.registry machine.old catalog.now }
     requires index { index < length request.now.locks }
     ensures leaves { LeavesStore N.opening machine.old machine.new }
     ensures present { IsPresentCatalog N.registry machine.new catalog.now }
 {
+    // Its contract says that the script is the one that the type names, and what a machine keeps.
+    let _ = machine.script();
     let session = request.at.session;
     if !stands_at(registry, machine, catalog, request) || machine.start(session).is_none() {
         return Ok(Asked::Elsewhere);
@@ -108,10 +111,26 @@ fn holds_all<N: Opened>(machine: &Machine<N>, request: &Request<N>) -> bool
     requires { IsPlace machine.now.script request.now.at.session }
     ensures { IsTrue result → HoldsAll machine.now request.now }
 {
-    request
-        .locks
-        .iter()
-        .all(|(name, mode)| machine.covers(request.at.session, name, *mode))
+    for (name, mode) in request.locks.as_slice() {
+        if !machine.covers(request.at.session, name, *mode) {
+            return false;
+        }
+    }
+    true
+}
+
+/// Whether two passes of a registry are of one migration, or there is neither.
+fn are_one(registry: &Registry, one: Option<&MigrationPass>, other: Option<&MigrationPass>) -> bool
+    requires one { IsOf registry.now (option_map (λ pass. pass.now) one) }
+    requires other { IsOf registry.now (option_map (λ pass. pass.now) other) }
+    ensures { IsTrue result → option_map (λ pass. pass.now.value) one.entry
+        ≡ option_map (λ pass. pass.now.value) other.entry }
+{
+    match (one, other) {
+        (Some(one), Some(other)) => registry.same_migration(one, other),
+        (None, None) => true,
+        (Some(_), None) | (None, Some(_)) => false,
+    }
 }
 
 /// How a statement went that was made ready.
@@ -139,13 +158,20 @@ pub(crate) fn run_statement<N: Opened>(
 ) -> Result<Ran, Memory>
     requires registry { registry.now ≡ N.registry }
     requires place { IsPlace machine.old.script request.now.at.session }
-    requires kept { IsKept N.opening machine.old }
     requires present { IsPresentCatalog N.registry machine.old catalog.now }
     ensures leaves { LeavesStore N.opening machine.old machine.new }
     ensures present { IsPresentCatalog N.registry machine.new catalog.now }
+    ensures needs { IfOk result (AreNeededIfAny request.now) }
 {
+    // Its contract says that the script is the one that the type names, and what a machine keeps.
+    let _ = machine.script();
     let at = &request.at;
+    let pass = machine.migration();
+    let last = pass.as_ref();
     if !stands_at(registry, machine, catalog, request) {
+        return Ok(Ran::Elsewhere);
+    }
+    if !are_one(registry, at.migration.as_ref(), last) {
         return Ok(Ran::Elsewhere);
     }
     if machine.start(at.session).is_some() && !holds_all(machine, request) {
@@ -161,8 +187,7 @@ pub(crate) fn run_statement<N: Opened>(
         None if machine.is_complete() => &nothing,
         None => return Ok(Ran::Elsewhere),
     };
-    let migration = at.migration.as_ref();
-    match machine.exec(registry, at.session, migration, &request.bound, cover)? {
+    match machine.exec(registry, at.session, last, &request.bound, cover)? {
         Step::Replied => Ok(Ran::Replied),
         Step::Need(granules) => Ok(Ran::Need(granules)),
         Step::Stale(_) => Ok(Ran::Elsewhere),

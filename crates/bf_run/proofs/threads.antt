@@ -1,0 +1,5 @@
+pub mod Asking
+pub mod Catalogs
+pub mod Coming
+pub mod Moving
+pub mod Needing

@@ -1,0 +1,63 @@
+-- A statement that was made ready is the machine's next one, where the machine still stands there.
+use Rattle.std.proofs.Common.{◌≡◌, ◌⊎◌, ℕ, zero, suc, ◌+◌, ◌-◌, Bool, List, [], ◌∷◌, length, Option, Some, None, refl, sym, ap, subst, ◌∙◌, inl, inr}
+use Rattle.std.specs.Prelude.{IfSome, IsSomeAnd, slice_get}
+use Rattle.std.specs.List.{All, slice_index_or}
+use Rattle.std.proofs.lemmas.Option.{same_Some}
+use Rattle.bf_tree.specs.Catalogs.{Catalog}
+use Rattle.bf_tree.specs.declared.bound.Bound.{Bound}
+use Rattle.bf_tree.specs.declared.script.Script.{Script}
+use Rattle.bf_tree.specs.declared.statement.Statement.{Statement}
+use Rattle.bf_sql.specs.Bound.{catalog_of, without_rows}
+use Rattle.bf_sql.specs.Database.{Database, IsDatabase}
+use Rattle.bf_sql.specs.Footprints.{Lock, footprint_of}
+use Rattle.bf_sql.specs.Groups.{session_at}
+use Rattle.bf_sql.specs.migrations.Plans.{prepared_of}
+use Rattle.bf_live.specs.OpenGroups.{Holds, HoldsIn}
+use Rattle.bf_live.specs.Replies.{IsWellBound}
+use Rattle.bf_image.specs.Registries.{Registry}
+use Rattle.bf_machine.specs.interleaving.Calls.{CanAsk, CanExec, CanRefuse, IsCovered, IsPlace}
+use Rattle.bf_machine.specs.interleaving.Kept.{IsKept}
+use Rattle.bf_machine.specs.interleaving.Machines.{Machine, Open, open_at}
+use Rattle.bf_machine.specs.interleaving.Serving.{IsBoundNext, is_in_block}
+use Rattle.bf_machine.proofs.served.Binding.{has_keys, next_bound, prepared_well}
+use Rattle.bf_machine.proofs.served.Locking.{can_ask}
+use Rattle.bf_machine.proofs.served.Replying.{to_exec}
+use Rattle.bf_run.specs.Requests.{HoldsAll, IsPreparedAt, IsRequest, Position, Request, StandsAt, statement_at}
+
+-- an item that is got at a place is read there
+pub read_at : {X : Type 0} (xs : List X) (i : ℕ) (x : X) → slice_get xs i ≡ Some x → slice_index_or xs i x ≡ x
+read_at [] i x is = absurd cc
+read_at (y ∷ ys) zero x is = same_Some y x is
+read_at (y ∷ ys) (suc i) x is = read_at ys i x is
+
+-- what is prepared at a position is well bound, and has keys
+pub well_bound_at : (script : Script) (p : Position) (bound : Bound) → IsDatabase (without_rows p.catalog.value) → IsPreparedAt script p bound → IsWellBound bound.action
+well_bound_at script p bound database is = prepared_well (without_rows p.catalog.value) database p.in_block bound is.statement is.prepared_so
+
+module _ {start : Database} (registry : Registry) (m : Machine) (kept : IsKept start m) (r : Request) (is : IsRequest registry m.script r) (at : StandsAt m r.at) where
+  there : prepared_of (without_rows (catalog_of m.db)) (is_in_block m r.at.session) is.prepared.statement ≡ Some r.bound
+  there =
+      subst (λ (b : Bool). prepared_of (without_rows (catalog_of m.db)) b is.prepared.statement ≡ Some r.bound) (sym at.block)
+      (subst (λ (c : Catalog). prepared_of (without_rows c) r.at.in_block is.prepared.statement ≡ Some r.bound) at.catalog is.prepared.prepared_so)
+
+  pub bound_next : ((o : Open) × IsBoundNext m r.at.session o r.bound) ⊎ CanRefuse m r.at.session
+  bound_next = next_bound m kept r.at.session r.at.place is.at.session at.stands is.prepared.statement (read_at (session_at m.script r.at.session).statements (r.at.place - 1) is.prepared.statement is.prepared.is) r.bound there
+
+  -- of an open group each lock of its footprint may be asked for
+  pub may_ask : (o : Open) → open_at m r.at.session ≡ Some o → (k : ℕ) (lock : Lock) → slice_get r.locks k ≡ Some lock → CanAsk m r.at.session start lock.0 lock.1
+  may_ask o open k lock among = elim bound_next as (λ _. CanAsk m r.at.session start lock.0 lock.1) [
+    | inl next ↦
+        can_ask m kept r.at.session next.0 (footprint_of r.bound) next.1.to_lock m.locks lock.0 lock.1 (k, (subst (λ (fs : List Lock). slice_get fs k ≡ Some lock) is.locks among))
+    | inr refused ↦ absurd (let clash : None ≡ Some o = sym refused.1.closed ∙ open in cc)
+  ]
+
+  -- and where they are held, or no group is open, it may have its reply
+  held_by : (o : Open) → open_at m r.at.session ≡ Some o → HoldsAll m r → Holds m.locks o.start (footprint_of r.bound)
+  held_by o open all = subst (λ (fs : List Lock). Holds m.locks o.start fs) is.locks
+      (λ k d within. subst (λ (found : Option Open). IsSomeAnd found (λ (p : Open). HoldsIn m.locks p.start (slice_index_or r.locks k d).0 (slice_index_or r.locks k d).1)) open (all k d within))
+
+  pub may_run : ((o : Open) → open_at m r.at.session ≡ Some o → HoldsAll m r) → CanExec m r.at.session start r.bound
+  may_run all = elim bound_next as (λ _. CanExec m r.at.session start r.bound) [
+    | inl next ↦ inl (to_exec m r.at.session next.0 r.bound next.1 m.locks (held_by next.0 next.1.to_lock.is (all next.0 next.1.to_lock.is)) start kept)
+    | inr refused ↦ inr refused
+  ]
