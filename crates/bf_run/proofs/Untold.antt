@@ -1,5 +1,5 @@
 -- A run over a log that ended for want of memory.
-use Rattle.std.proofs.Common.{◌≡◌, List, [], inr, refl, subst, ◌∙◌}
+use Rattle.std.proofs.Common.{◌≡◌, ℕ, List, [], inr, refl, subst, ◌∙◌}
 use Rattle.bf_disk.specs.declared.disk.Disk.{Ghosts}
 use Rattle.bf_journal.specs.Leaving.{LeavesAlone}
 use Rattle.bf_journal.specs.States.{StandsOn}

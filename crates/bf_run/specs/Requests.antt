@@ -1,5 +1,5 @@
 -- A STATEMENT THAT IS MADE READY outside the lock: where its session stood, and how it is bound in the catalog of that moment.
-use Rattle.std.specs.Prelude.{◌≡◌, ℕ, ◌-◌, ◌<◌, ◌≤◌, Bool, List, length, Option, Some, IfSome, IsTrue, option_map, slice_get}
+use Rattle.std.specs.Prelude.{◌≡◌, ◌⊎◌, ℕ, ◌-◌, ◌<◌, ◌≤◌, Bool, List, [], length, Option, Some, None, IfSome, IsSomeAnd, IsTrue, option_map, slice_get}
 use Rattle.std.specs.List.{All}
 use Rattle.bf_base.specs.declared.granule.Granule.{Granule}
 use Rattle.bf_base.specs.Lists.{rises}
@@ -16,13 +16,13 @@ use Rattle.bf_sql.specs.migrations.Plans.{prepared_of}
 use Rattle.bf_image.specs.Registries.{Registry}
 use Rattle.bf_image.specs.declared.migration.Migration.{Migration}
 use Rattle.bf_plan.specs.Limits.{KeepsPlanLimits}
-use Rattle.bf_store.specs.States.{AreGranules, granule_cmp}
+use Rattle.bf_store.specs.States.{AreGranules, IsComplete, granule_cmp}
 use Rattle.bf_store.specs.Stores.{IsOf, migration_of}
 use Rattle.bf_transpose.specs.Covers.{IsCoverOf}
 use Rattle.bf_transpose.specs.declared.cover.Cover.{Cover}
 use Rattle.bf_machine.specs.declared.stand.Stand.TheVariants as stand
 use Rattle.bf_machine.specs.interleaving.Calls.{IsCovered, IsPlace, StandsAs}
-use Rattle.bf_machine.specs.interleaving.Machines.{Machine}
+use Rattle.bf_machine.specs.interleaving.Machines.{Machine, Open, open_at}
 use Rattle.bf_machine.specs.interleaving.Serving.{is_in_block}
 
 -- statement n of session s, both counted from 1
@@ -80,6 +80,18 @@ pub record StandsAt (m : Machine) (p : Position) : Type 0 where
 -- the open group of a session holds all locks of a request
 abbrev pub HoldsAll : Machine → Request → Type 0
 HoldsAll m r = All (λ lock. IsCovered m r.at.session lock.0 lock.1) r.locks
+
+-- READY: the machine stands at the request, with the same last migration, and where a group is open it holds the locks; a request without a
+-- cover is one of a machine in which nothing of that migration is left to move
+pub record IsReady (m : Machine) (r : Request) : Type 0 where
+  pub stands : StandsAt m r.at
+  pub migration : option_map (λ (p : Where Migration). p.value) r.at.migration ≡ option_map (λ (p : Where Migration). p.value) m.pass
+  pub held : (o : Open) → open_at m r.at.session ≡ Some o → HoldsAll m r
+  pub complete : r.cover ≡ None → IsSomeAnd m.lazy.last IsComplete
+
+-- its cover, or where nothing is left to move no granule
+abbrev pub IsCoverAt : Machine → Request → Cover → Type 0
+IsCoverAt m r cover = (r.cover ≡ Some cover) ⊎ (IsSomeAnd m.lazy.last IsComplete × (cover.granules.items ≡ []))
 
 -- NEEDED: granules of the last migration at the request's position, in the order of unit and place
 abbrev pub AreNeededOf : Request → List Granule → Type 0

@@ -34,13 +34,14 @@ pub struct Position<N: Opened> {
 }
 
 impl<N: Opened> Model for Position<N> {
+    ghost use Rattle.std.specs.Coded.{codes};
     ghost use Rattle.boxcar.specs.Table.{where_coded};
     ghost use Rattle.bf_image.specs.contracts.migration.Migration as migrations;
     ghost use Rattle.bf_run.specs.Requests.{IsPosition, Position as Seen};
 
     ghost Value = { Seen };
 
-    ghost coded = { Prim.hlevel (where_coded migrations.the_row.coded) };
+    ghost coded = { Prim.hlevel (codes, where_coded migrations.the_row.coded) };
 
     ghost view = { λ p. record {
       session = p.session;

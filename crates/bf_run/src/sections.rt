@@ -12,7 +12,7 @@ ghost use Rattle.bf_machine.specs.interleaving.Events.{EndsByLog};
 ghost use Rattle.bf_machine.specs.interleaving.Journals.{AreSaid, IsOneRecord, Keeps};
 ghost use Rattle.bf_machine.specs.interleaving.Kept.{is_of_log};
 ghost use Rattle.bf_machine.specs.interleaving.Serving.{LeavesStore};
-ghost use Rattle.bf_run.specs.Requests.{HoldsAll, IsPresentCatalog, StandsAt};
+ghost use Rattle.bf_run.specs.Requests.{HoldsAll, IsCoverAt, IsPresentCatalog, IsReady, StandsAt};
 ghost use Rattle.bf_run.specs.Sections.{AreNeededIfAny};
 
 use crate::catalogs::copy_of;
@@ -144,6 +144,57 @@ pub(crate) enum Ran {
     Elsewhere,
 }
 
+/// Whether a statement that was made ready may have its reply, or be told what it needs: the machine still stands there, in the
+/// same catalog and with the same last migration, its group holds the locks, and it has its cover, but where nothing of the
+/// migration is left to move.
+fn is_ready<N: Opened>(
+    registry: &Registry,
+    machine: &Machine<N>,
+    catalog: &Option<CatalogPass>,
+    request: &Request<N>,
+) -> bool
+    requires registry { registry.now ≡ N.registry }
+    requires place { IsPlace machine.now.script request.now.at.session }
+    requires present { IsPresentCatalog N.registry machine.now catalog.now }
+    ensures { IsTrue result → IsReady machine.now request.now }
+{
+    let session = request.at.session;
+    let pass = machine.migration();
+    stands_at(registry, machine, catalog, request)
+        && are_one(registry, request.at.migration.as_ref(), pass.as_ref())
+        && (machine.start(session).is_none() || holds_all(machine, request))
+        && (request.cover.is_some() || machine.is_complete())
+}
+
+/// Replies to a statement that may have its reply, or tells what is to move first.
+///
+/// # Errors
+/// Where memory runs out, or 2 ^ 32 rows or more change. The machine is as it was then.
+fn run_ready<N: Opened>(
+    registry: &Registry,
+    machine: &mut Machine<N>,
+    request: &Request<N>,
+    cover: &Cover,
+) -> Result<Ran, Memory>
+    requires registry { registry.now ≡ N.registry }
+    requires place { IsPlace machine.old.script request.now.at.session }
+    requires ready { IsReady machine.old request.now }
+    requires cover { IsCoverAt machine.old request.now cover.now }
+    ensures leaves { LeavesStore N.opening machine.old machine.new }
+    ensures same { machine.new.db ≡ machine.old.db }
+    ensures needs { IfOk result (AreNeededIfAny request.now) }
+{
+    // Its contract says that the script is the one that the type names, and what a machine keeps.
+    let _ = machine.script();
+    let pass = machine.migration();
+    let session = request.at.session;
+    match machine.exec(registry, session, pass.as_ref(), &request.bound, cover)? {
+        Step::Replied => Ok(Ran::Replied),
+        Step::Need(granules) => Ok(Ran::Need(granules)),
+        Step::Stale(_) => Ok(Ran::Elsewhere),
+    }
+}
+
 /// Replies to a statement that was made ready, if the machine still stands there, its locks are held, and nothing that it
 /// needs is left to move.
 ///
@@ -163,18 +214,7 @@ pub(crate) fn run_statement<N: Opened>(
     ensures present { IsPresentCatalog N.registry machine.new catalog.now }
     ensures needs { IfOk result (AreNeededIfAny request.now) }
 {
-    // Its contract says that the script is the one that the type names, and what a machine keeps.
-    let _ = machine.script();
-    let at = &request.at;
-    let pass = machine.migration();
-    let last = pass.as_ref();
-    if !stands_at(registry, machine, catalog, request) {
-        return Ok(Ran::Elsewhere);
-    }
-    if !are_one(registry, at.migration.as_ref(), last) {
-        return Ok(Ran::Elsewhere);
-    }
-    if machine.start(at.session).is_some() && !holds_all(machine, request) {
+    if !is_ready(registry, machine, catalog, request) {
         return Ok(Ran::Elsewhere);
     }
     let nothing = Cover {
@@ -182,15 +222,9 @@ pub(crate) fn run_statement<N: Opened>(
         migration: 0,
         granules: Vec::new(alloc),
     };
-    let cover = match &request.cover {
-        Some(cover) => cover,
-        None if machine.is_complete() => &nothing,
-        None => return Ok(Ran::Elsewhere),
-    };
-    match machine.exec(registry, at.session, last, &request.bound, cover)? {
-        Step::Replied => Ok(Ran::Replied),
-        Step::Need(granules) => Ok(Ran::Need(granules)),
-        Step::Stale(_) => Ok(Ran::Elsewhere),
+    match &request.cover {
+        Some(cover) => run_ready(registry, machine, request, cover),
+        None => run_ready(registry, machine, request, &nothing),
     }
 }
 

@@ -12,6 +12,7 @@ use bf_tree::{Reply, Transcripts};
 use std::alloc::Global;
 use std::sync::Wait;
 use std::test::Fail;
+use std::thread::Threads;
 
 /// How many scripts there are, of the seeds from 0.
 const SCRIPTS: u64 = 1000;
@@ -34,7 +35,11 @@ struct Both {
 }
 
 /// The report of the top call on a script.
-fn reported(rt: &impl Wait, alloc: Global, text: &[u8]) -> Result<Vec<u8>, Fail> {
+fn reported(
+    rt: &(impl Threads + Wait + Sync),
+    alloc: Global,
+    text: &[u8],
+) -> Result<Vec<u8>, Fail> {
     let mut input = CalmSource::new(text.to_vec(alloc)?);
     let mut output = MemorySink::new(alloc, 1 << 16, Vec::new(alloc))?;
     let mut shelf = MemoryShelf::new(alloc);
@@ -59,7 +64,7 @@ fn told_by(words: &[u8]) -> Option<Progress> {
 }
 
 impl Both {
-    fn of(rt: &impl Wait, alloc: Global, text: &[u8]) -> Result<Both, Fail> {
+    fn of(rt: &(impl Threads + Wait + Sync), alloc: Global, text: &[u8]) -> Result<Both, Fail> {
         Ok(Both {
             told: tell(alloc, text)?,
             report: reported(rt, alloc, text)?,

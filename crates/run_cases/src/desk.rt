@@ -11,6 +11,7 @@ use bf_run::{Status, bullfrog};
 use case_files::tell_bytes;
 use std::alloc::{AllocError, Global};
 use std::sync::Wait;
+use std::thread::Threads;
 
 /// The file of the log.
 pub const LOG: &str = "log";
@@ -76,7 +77,7 @@ impl Desk {
     /// Adds what a call prints, and behind that the number of its status where it does not end well.
     pub fn call(
         &mut self,
-        rt: &impl Wait,
+        rt: &(impl Threads + Wait + Sync),
         alloc: Global,
         words: &[&str],
         script: &str,
@@ -118,7 +119,7 @@ impl Desk {
     /// Adds what is printed of a script over the log that is left where its calls from one on were never made.
     pub fn stop(
         &self,
-        rt: &impl Wait,
+        rt: &(impl Threads + Wait + Sync),
         alloc: Global,
         call: u64,
         torn: &[u8],

@@ -6,10 +6,36 @@ use anyhow::bail;
 use case_files::Teller;
 use std::alloc::Global;
 use std::sync::Wait;
+use std::thread::Threads;
+
+/// Whether a phase of a script has several sessions.
+fn has_sessions_beside(script: &str) -> bool {
+    script
+        .split("PHASE;")
+        .any(|phase| phase.split("SESSION;").count() > 2)
+}
+
+/// The script with each session in a phase of its own, where a phase has several: over a log these run at the same time,
+/// in an order that is not told before.
+fn one_after_the_other(alloc: Global, script: &str) -> anyhow::Result<String> {
+    let mut apart = String::new(alloc);
+    let mut sessions = script.split("SESSION;");
+    if !has_sessions_beside(script) {
+        apart.push_str(script)?;
+        return Ok(apart);
+    }
+    if let Some(front) = sessions.next() {
+        apart.push_str(front)?;
+    }
+    for session in sessions {
+        write!(apart, "PHASE; SESSION;{session}")?;
+    }
+    Ok(apart)
+}
 
 /// Adds what is told of a script over an empty log that is made first.
 fn call_over_log(
-    rt: &impl Wait,
+    rt: &(impl Threads + Wait + Sync),
     alloc: Global,
     script: &str,
     told: &mut String,
@@ -17,16 +43,17 @@ fn call_over_log(
     let mut desk = Desk::new(alloc);
     let mut made = String::new(alloc);
     desk.call(rt, alloc, &["create", LOG], "", &mut made)?;
-    desk.call(rt, alloc, &["run", LOG], script, told)
+    let apart = one_after_the_other(alloc, script)?;
+    desk.call(rt, alloc, &["run", LOG], apart.as_str(), told)
 }
 
 /// Tells what is printed of a script, or what steps tell. Fails where over a log something else is printed.
 #[derive(Clone, Copy)]
-pub struct Run<'a, R: Wait> {
+pub struct Run<'a, R: Threads + Wait + Sync> {
     pub rt: &'a R,
 }
 
-impl<R: Wait> Teller for Run<'_, R> {
+impl<R: Threads + Wait + Sync> Teller for Run<'_, R> {
     fn tell(&self, alloc: Global, text: &str, told: &mut String) -> anyhow::Result<()> {
         if let Some(steps) = text.strip_prefix("$ ") {
             return take_steps(self.rt, alloc, steps, told);

@@ -2,6 +2,8 @@
 //!
 //! - `call WORDS` calls the program with these words, of which `''` is the empty one, and with the script of the lines
 //!   below. It tells what is printed, and the status.
+//! - `only S WORDS` calls it so too, and tells of what is printed the replies of session S and the last line: what the order
+//!   of sessions that run at the same time leaves as it is.
 //! - `set BYTES` puts a file with these bytes under `log`.
 //! - `fail DEVICE N` lets the N-th call of a device fail: `read` or `write` of the calls to come, or `disk` of the file
 //!   to be set.
@@ -19,10 +21,11 @@ use anyhow::bail;
 use case_files::{bytes_of, first_word};
 use std::alloc::{AllocError, Global};
 use std::sync::Wait;
+use std::thread::Threads;
 
 /// Adds what steps tell, which follow one another behind marks.
 pub fn take_steps(
-    rt: &impl Wait,
+    rt: &(impl Threads + Wait + Sync),
     alloc: Global,
     steps: &str,
     told: &mut String,
@@ -36,7 +39,7 @@ pub fn take_steps(
 
 /// Adds what a step tells: a line, and the lines of its script.
 fn take_step(
-    rt: &impl Wait,
+    rt: &(impl Threads + Wait + Sync),
     alloc: Global,
     step: &str,
     desk: &mut Desk,
@@ -52,7 +55,7 @@ fn take_step(
 
 /// Adds what a line tells with a script behind it.
 fn take(
-    rt: &impl Wait,
+    rt: &(impl Threads + Wait + Sync),
     alloc: Global,
     line: &str,
     script: &str,
@@ -62,6 +65,7 @@ fn take(
     let (verb, rest) = first_word(line);
     match verb {
         "call" => desk.call(rt, alloc, &words_of(alloc, line)?, script, told),
+        "only" => call_of(rt, alloc, rest, script, desk, told),
         "fail" => fail(rest, desk),
         "show" => desk.show(word_of(rest), told),
         "count" => desk.count(told),
@@ -70,6 +74,28 @@ fn take(
             take_with(rt, alloc, verb, &bytes, script, desk, told)
         }
     }
+}
+
+/// Adds what a call prints of one session, whose number stands before the words, and the last line.
+fn call_of(
+    rt: &(impl Threads + Wait + Sync),
+    alloc: Global,
+    line: &str,
+    script: &str,
+    desk: &mut Desk,
+    told: &mut String,
+) -> anyhow::Result<()> {
+    let mut printed = String::new(alloc);
+    desk.call(rt, alloc, &words_of(alloc, line)?, script, &mut printed)?;
+    let (session, _) = first_word(line);
+    let mut own = String::new(alloc);
+    write!(own, "{session}.")?;
+    for line in printed.as_str().split("\n") {
+        if line.starts_with(own.as_str()) || line.starts_with("end ") {
+            writeln!(told, "{line}")?;
+        }
+    }
+    Ok(())
 }
 
 /// The words behind the first one of a line.
@@ -99,7 +125,7 @@ fn fail(which: &str, desk: &mut Desk) -> anyhow::Result<()> {
 
 /// Adds what a step with bytes tells.
 fn take_with(
-    rt: &impl Wait,
+    rt: &(impl Threads + Wait + Sync),
     alloc: Global,
     verb: &str,
     bytes: &[u8],
@@ -118,7 +144,7 @@ fn take_with(
 /// Adds what is printed of a script over what each stop leaves of the log, with the number of the first call that is
 /// not made, where it is not what was printed before.
 fn stop_at_each(
-    rt: &impl Wait,
+    rt: &(impl Threads + Wait + Sync),
     alloc: Global,
     torn: &[u8],
     script: &str,

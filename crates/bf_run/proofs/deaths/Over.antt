@@ -26,7 +26,7 @@ use Rattle.bf_machine.specs.RunOver.{EndsByLogAlone, IsRunOver}
 use Rattle.bf_machine.specs.declared.journal.KeepError.{KeepError}
 use Rattle.bf_machine.specs.interleaving.Calls.{HasSessionEnded, IsPlace}
 use Rattle.bf_machine.specs.interleaving.Events.{Event, aborts, asked, asks, begins, commits_now, ends_by_log, executes, finishes, moves, refuses}
-use Rattle.bf_machine.specs.interleaving.Journals.{Keeps, ended_in, nothing_yet, one_beside}
+use Rattle.bf_machine.specs.interleaving.Journals.{Keeps, ended_in, nothing_yet, one_beside, unkept_move}
 use Rattle.bf_machine.specs.interleaving.Kept.{AllowedNow, IsKept, fresh}
 use Rattle.bf_machine.specs.interleaving.Machines.{EndedGroup, Group, Machine, Open, these, transcripts_of}
 use Rattle.bf_machine.proofs.interleaving.Answers.{Told}
@@ -188,6 +188,7 @@ module _ {J : Type 0} (Answers : LazyState → LazyState → J → J → Result 
       let so_far = same_kept m j now k before in
       let here = same_event now next event in
       (here.0 ∙ so_far.0, here.1 ∙ so_far.1)
+  same_kept m j _ _ (unkept_move {now = now} {k = k} {l = l} before cause refused) = same_kept m j now k before
 
   -- as they were at the beginning
   same_as_begun : (logged : Bool) (store : Store) (script : Script) (retries : ℕ) (m next : Machine) (j l : J) → Keeps Answers start m j next l → m ≡ fresh logged store script retries

@@ -45,16 +45,16 @@ module _ {start : Database} (registry : Registry) (m : Machine) (kept : IsKept s
 
   -- of an open group each lock of its footprint may be asked for
   pub may_ask : (o : Open) → open_at m r.at.session ≡ Some o → (k : ℕ) (lock : Lock) → slice_get r.locks k ≡ Some lock → CanAsk m r.at.session start lock.0 lock.1
-  may_ask o open k lock among = elim bound_next as (λ _. CanAsk m r.at.session start lock.0 lock.1) [
+  may_ask o found k lock among = elim bound_next as (λ _. CanAsk m r.at.session start lock.0 lock.1) [
     | inl next ↦
         can_ask m kept r.at.session next.0 (footprint_of r.bound) next.1.to_lock m.locks lock.0 lock.1 (k, (subst (λ (fs : List Lock). slice_get fs k ≡ Some lock) is.locks among))
-    | inr refused ↦ absurd (let clash : None ≡ Some o = sym refused.1.closed ∙ open in cc)
+    | inr refused ↦ absurd (let clash : None ≡ Some o = sym refused.1.closed ∙ found in cc)
   ]
 
   -- and where they are held, or no group is open, it may have its reply
   held_by : (o : Open) → open_at m r.at.session ≡ Some o → HoldsAll m r → Holds m.locks o.start (footprint_of r.bound)
-  held_by o open all = subst (λ (fs : List Lock). Holds m.locks o.start fs) is.locks
-      (λ k d within. subst (λ (found : Option Open). IsSomeAnd found (λ (p : Open). HoldsIn m.locks p.start (slice_index_or r.locks k d).0 (slice_index_or r.locks k d).1)) open (all k d within))
+  held_by o found all = subst (λ (fs : List Lock). Holds m.locks o.start fs) is.locks
+      (λ k d within. subst (λ (some : Option Open). IsSomeAnd some (λ (p : Open). HoldsIn m.locks p.start (slice_index_or r.locks k d).0 (slice_index_or r.locks k d).1)) found (all k d within))
 
   pub may_run : ((o : Open) → open_at m r.at.session ≡ Some o → HoldsAll m r) → CanExec m r.at.session start r.bound
   may_run all = elim bound_next as (λ _. CanExec m r.at.session start r.bound) [
