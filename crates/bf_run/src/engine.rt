@@ -193,14 +193,16 @@ impl<N: Beginning<J>, J: Journal> Engine<N, J> {
     }
 
     /// Where a session stands whose next statement is to be made ready, and whether anything of the last migration is
-    /// left to move. `None` where there is no pass of the catalog.
-    fn position(&self, session: u32, place: u32) -> Option<(Position<N>, bool)>
+    /// left to move. `None` where no statement is next, and where there is no pass of the catalog.
+    fn position(&self, session: u32) -> Option<(Position<N>, bool)>
         requires place { IsPlace N.script session }
     {
+        // Their contracts say that the script is the one that the type names, and that the catalog is a database's.
         let _ = self.machine.script();
-        if self.machine.stand(session) != Stand::Statement(place) {
+        let _ = self.machine.catalog();
+        let Stand::Statement(place) = self.machine.stand(session) else {
             return None;
-        }
+        };
         let catalog = self.catalog.as_ref()?;
         let migration = self.machine.migration();
         let is_left = migration.is_some() && !self.machine.is_complete();
@@ -247,7 +249,7 @@ impl<N: Beginning<J>, J: Journal> Engine<N, J> {
                 self.happened();
                 Ok(Due::Ending)
             }
-            Stand::Statement(place) => match self.position(session, place) {
+            Stand::Statement(_) => match self.position(session) {
                 Some((at, is_left)) => Ok(Due::Statement(at, is_left)),
                 None => Err(Memory),
             },
