@@ -152,10 +152,10 @@ impl<N: Beginning<J>, J: Journal> Engine<N, J> {
         let Engine { machine, .. } = self;
         // Its contract says that the script is the one that the type names.
         let _ = machine.script();
-        if machine.stand(session) == Stand::Begin {
-            machine.begin(session)?;
+        if machine.stand(session) != Stand::Begin {
+            return Ok(());
         }
-        Ok(())
+        machine.begin(session)
     }
 
     /// Rolls a session's block back.
@@ -164,9 +164,10 @@ impl<N: Beginning<J>, J: Journal> Engine<N, J> {
     {
         let Engine { machine, .. } = self;
         let _ = machine.script();
-        if machine.stand(session) == Stand::Abort {
-            machine.abort(session);
+        if machine.stand(session) != Stand::Abort {
+            return;
         }
+        machine.abort(session);
     }
 
     /// Commits a session's group.
@@ -185,10 +186,10 @@ impl<N: Beginning<J>, J: Journal> Engine<N, J> {
             ..
         } = self;
         let _ = machine.script();
-        if machine.stand(session) == Stand::Commit {
-            commit(*alloc, rt, registry, machine, journal, catalog, session)?;
+        if machine.stand(session) != Stand::Commit {
+            return Ok(());
         }
-        Ok(())
+        commit(*alloc, rt, registry, machine, journal, catalog, session)
     }
 
     /// Where a session stands whose next statement is to be made ready, and whether anything of the last migration is

@@ -1,0 +1,64 @@
+-- A statement that is made ready at a position.
+use Rattle.std.proofs.Common.{◌≡◌, ℕ, ◌+◌, ◌-◌, ◌<◌, ◌≤◌, false, List, [], length, Option, Some, None, sym, ap, subst, ◌∙◌, arith}
+use Rattle.std.specs.Prelude.{Result, Ok, Err, IfOk, IfSome, slice_get}
+use Rattle.std.specs.List.{slice_index_or}
+use Rattle.bf_base.specs.declared.memory.Memory.{Memory}
+use Rattle.boxcar.specs.Table.{Where}
+use Rattle.bf_tree.specs.Catalogs.{Catalog}
+use Rattle.bf_tree.specs.declared.bound.Bound.{Bound}
+use Rattle.bf_tree.specs.declared.script.Script.{Script}
+use Rattle.bf_tree.specs.declared.script.Session.{Session}
+use Rattle.bf_tree.specs.declared.statement.Statement.{Statement}
+use Rattle.bf_sql.specs.Bound.{without_rows}
+use Rattle.bf_sql.specs.Database.{IsDatabase}
+use Rattle.bf_sql.specs.Groups.{session_at}
+use Rattle.bf_sql.specs.migrations.Plans.{prepared_of}
+use Rattle.bf_image.specs.Registries.{Registry}
+use Rattle.bf_image.specs.declared.migration.Migration.{Migration}
+use Rattle.bf_plan.specs.Limits.{KeepsPlanLimits}
+use Rattle.bf_transpose.specs.Covers.{IsCoverOf, can_need}
+use Rattle.bf_transpose.specs.declared.cover.Cover.{Cover}
+use Rattle.bf_machine.specs.interleaving.Calls.{IsPlace}
+use Rattle.bf_machine.proofs.served.Binding.{session_read}
+use Rattle.bf_machine.proofs.served.Needs.{needs_none}
+use Rattle.bf_machine.proofs.served.Nexts.{got}
+use Rattle.bf_run.specs.Requests.{IsPosition, IsPreparedAt, Position, statement_at}
+
+module _ (registry : Registry) (script : Script) (p : Position) (is : IsPosition registry script p) (sessions : List Session) (all : sessions ≡ script.sessions) where
+  pub session_within : p.session - 1 < length sessions
+  session_within = let sizes : length sessions ≡ length script.sessions = ap length all in omega (arith, is.session.0, is.session.1, sizes)
+
+  module _ (session : Session) (own : session ≡ slice_index_or sessions (p.session - 1) session) (statements : List Statement) (texts : statements ≡ session.statements) where
+    texts_are : statements ≡ (session_at script p.session).statements
+    texts_are =
+        texts ∙ ap (λ (x : Session). x.statements)
+        (own ∙ (ap (λ (xs : List Session). slice_index_or xs (p.session - 1) session) all ∙ session_read script p.session is.session session))
+
+    pub statement_within : p.place - 1 < length statements
+    statement_within = subst (λ (ss : List Statement). p.place - 1 < length ss) (sym texts_are) is.within
+
+    module _ (st : Statement) (here : st ≡ slice_index_or statements (p.place - 1) st) where
+      pub is_statement : statement_at script p.session p.place ≡ Some st
+      is_statement =
+          got (session_at script p.session).statements (p.place - 1) st is.within
+          (sym (here ∙ ap (λ (ss : List Statement). slice_index_or ss (p.place - 1) st) texts_are))
+
+      pub limits_at : KeepsPlanLimits p.catalog.value st
+      limits_at = is.limits st is_statement
+
+      -- what is prepared there, is so at the position
+      pub prepared_at : (catalog : Catalog) → catalog ≡ p.catalog.value → (r : Result Bound Memory) → IfOk r (λ bound. prepared_of (without_rows catalog) p.in_block st ≡ Some bound) → IfOk r (IsPreparedAt script p)
+      prepared_at catalog same (Ok bound) so = record {
+        statement = st;
+        is = is_statement;
+        prepared_so = subst (λ (c : Catalog). prepared_of (without_rows c) p.in_block st ≡ Some bound) same so;
+      }
+      prepared_at catalog same (Err memory) so = so
+
+-- a statement that can need nothing of a migration
+pub nothing_needed : (bound : Bound) (m : Migration) (cover : Cover) → cover.catalog ≡ bound.catalog → cover.migration ≡ m.number → cover.granules.items ≡ [] → can_need m bound.action ≡ false → IsCoverOf (Some m) bound cover
+nothing_needed bound m cover catalog number none can = record {
+  catalog = catalog;
+  migration = number;
+  granules = none ∙ sym (needs_none m bound.action can);
+}
