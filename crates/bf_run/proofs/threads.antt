@@ -3,3 +3,4 @@ pub mod Catalogs
 pub mod Coming
 pub mod Moving
 pub mod Needing
+pub mod Telling
