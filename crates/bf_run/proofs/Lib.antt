@@ -23,3 +23,4 @@ pub mod deaths
 pub mod one
 pub mod saying
 pub mod threads
+pub mod Crosses

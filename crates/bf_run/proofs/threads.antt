@@ -7,3 +7,4 @@ pub mod Making
 pub mod Moving
 pub mod Needing
 pub mod Standing
+pub mod Telling

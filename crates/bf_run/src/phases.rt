@@ -28,7 +28,7 @@ fn phase_end(sessions: &[Session], from: usize) -> usize
     ensures within { result ≤ length sessions.now }
 {
     let phase = sessions[from].phase;
-    for to in from..sessions.len() {
+    for to in from + 1..sessions.len() {
         if sessions[to].phase != phase {
             return to;
         }
@@ -36,23 +36,31 @@ fn phase_end(sessions: &[Session], from: usize) -> usize
     sessions.len()
 }
 
-/// Serves so many sessions from one on at the same time, each on a thread of its own; one alone on the caller's.
+/// The number of the session at a place, counted from 1; the greatest of its type, which no session has, where it has none.
+fn number_at(place: usize) -> u32 {
+    match u32::try_from(place) {
+        Ok(before) => before.saturating_add(1),
+        Err(_) => u32::MAX,
+    }
+}
+
+/// Serves so many sessions from a place on at the same time, each on a thread of its own; one alone on the caller's.
 ///
 /// # Errors
 /// Where memory runs out. Each thread has ended then.
 fn serve_phase<N: Beginning<J> + Send + Sync, J: Journal + Send, R: Threads + Wait + Sync>(
     shared: &Shared<'_, '_, N, J, R>,
-    first: u32,
+    from: usize,
     count: usize,
 ) -> Result<(), Memory> {
     if count == 1 {
-        return shared.serve(first);
+        return shared.serve(number_at(from));
     }
     let served = map_indices(
         shared.rt,
         shared.alloc,
         count,
-        &|place| { shared.serve(first.saturating_add(place as u32)) },
+        &|place| { shared.serve(number_at(from.saturating_add(place))) },
     )?;
     for one in served {
         one?;
@@ -71,7 +79,7 @@ fn serve_all<N: Beginning<J> + Send + Sync, J: Journal + Send, R: Threads + Wait
     let mut from = 0;
     while from < sessions.len() {
         let to = phase_end(sessions, from);
-        serve_phase(shared, from as u32 + 1, to - from)?;
+        serve_phase(shared, from, to - from)?;
         from = to;
     }
     Ok(())

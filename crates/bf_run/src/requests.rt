@@ -4,9 +4,10 @@
 ghost use Rattle.std.specs.Prelude.{◌≡◌, IfOk, IfSome};
 ghost use Rattle.std.specs.Option.{option_map};
 ghost use Rattle.bf_live.specs.Replies.{IsWellBound};
-ghost use Rattle.bf_store.specs.Stores.{AreIndexesOf};
+ghost use Rattle.bf_store.specs.Stores.{AreIndexesOf, IsOf};
 ghost use Rattle.bf_transpose.specs.Covers.{IsCoverOf};
-ghost use Rattle.bf_run.specs.Requests.{IsPreparedAt};
+ghost use Rattle.boxcar.specs.Table.{Shows};
+ghost use Rattle.bf_run.specs.Requests.{IsPosition, IsPreparedAt, IsRequest};
 
 use bf_base::Memory;
 use bf_image::{CatalogPass, MigrationPass, Registry, ValueIndexes};
@@ -87,6 +88,77 @@ impl<N: Opened> Model for Request<N> {
 
     ghost invariant = { λ r. IsRequest N.registry N.script
         (record { at = r.at; bound = r.bound; locks = r.locks.items; cover = r.cover }) };
+}
+
+impl<N: Opened> Position<N> {
+    /// The session.
+    pub fn session(&self) -> u32
+        ensures session { result ≡ self.now.session }
+        ensures own { IsPosition N.registry N.script self.now }
+    {
+        self.session
+    }
+
+    /// The number of its next statement.
+    pub fn place(&self) -> u32
+        ensures { result ≡ self.now.place }
+    {
+        self.place
+    }
+
+    /// Whether that stands in an open block.
+    pub fn in_block(&self) -> bool
+        ensures { result ≡ self.now.in_block }
+    {
+        self.in_block
+    }
+
+    /// What reads the catalog of that moment.
+    pub fn catalog(&self) -> &CatalogPass
+        ensures pass { result.now ≡ self.now.catalog }
+        ensures own { Shows N.registry.catalogs self.now.catalog }
+    {
+        &self.catalog
+    }
+
+    /// What reads the last migration of that moment, if there was one.
+    pub fn migration(&self) -> Option<&MigrationPass>
+        ensures pass { option_map (λ pass. pass.now) result ≡ self.now.migration }
+        ensures own { IsOf N.registry self.now.migration }
+    {
+        self.migration.as_ref()
+    }
+}
+
+impl<N: Opened> Request<N> {
+    /// Where its session stood.
+    pub fn at(&self) -> &Position<N>
+        ensures at { result.now ≡ self.now.at }
+        ensures own { IsRequest N.registry N.script self.now }
+    {
+        &self.at
+    }
+
+    /// The statement as it is bound, and planned.
+    pub fn bound(&self) -> &Bound
+        ensures { result.now ≡ self.now.bound }
+    {
+        &self.bound
+    }
+
+    /// The locks of its footprint, in the order of asking.
+    pub fn locks(&self) -> &[(LockName, Mode)]
+        ensures { result.now ≡ self.now.locks }
+    {
+        self.locks.as_slice()
+    }
+
+    /// What it needs moved, whether it has moved or not. `None` where nothing of the migration was left to move.
+    pub fn cover(&self) -> Option<&Cover>
+        ensures { option_map (λ cover. cover.now) result ≡ self.now.cover }
+    {
+        self.cover.as_ref()
+    }
 }
 
 /// A statement as it is bound in the catalog of a position, and planned where it is a MIGRATE. It costs what

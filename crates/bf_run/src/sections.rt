@@ -1,25 +1,27 @@
 //! What a thread does to the machine and its journal in one section under their lock: a lock that it asks for, a statement that has its
 //! reply, a group that ends, granules that move. Each is one event beside the journal, or none.
 
-ghost use Rattle.std.specs.Prelude.{◌≡◌, ◌⊎◌, ◌<◌, ℕ, [], IfOk, IfSome, IsTrue, Some, length, true};
+ghost use Rattle.std.specs.Prelude.{◌≡◌, ◌⊎◌, ◌<◌, ℕ, [], All, IfOk, IfSome, IsSomeAnd, IsTrue, None, Some, length, true};
 ghost use Rattle.std.specs.Option.{option_map};
 ghost use Rattle.boxcar.specs.Table.{Shows};
 ghost use Rattle.bf_image.specs.Migrations.{value_indexes};
 ghost use Rattle.bf_store.specs.Stores.{IsOf, migration_of};
+ghost use Rattle.bf_store.specs.States.{IsComplete};
 ghost use Rattle.bf_sql.specs.Bound.{catalog_of};
-ghost use Rattle.bf_machine.specs.interleaving.Calls.{CanCommit, IsPlace};
+ghost use Rattle.bf_machine.specs.interleaving.Calls.{CanCommit, IsCovered, IsPlace};
 ghost use Rattle.bf_machine.specs.interleaving.Events.{EndsByLog};
 ghost use Rattle.bf_machine.specs.interleaving.Journals.{AreSaid, IsOneRecord, Keeps};
 ghost use Rattle.bf_machine.specs.interleaving.Kept.{is_of_log};
+ghost use Rattle.bf_machine.specs.interleaving.Machines.{Open, open_at};
 ghost use Rattle.bf_machine.specs.interleaving.Serving.{LeavesStore};
 ghost use Rattle.bf_run.specs.Requests.{HoldsAll, IsCoverAt, IsPresentCatalog, IsReady, StandsAt};
 ghost use Rattle.bf_run.specs.Sections.{AreNeededIfAny};
 
 use crate::catalogs::copy_of;
-use crate::requests::Request;
+use crate::requests::{Position, Request};
 use bf_base::{Granule, Memory};
 use bf_image::{CatalogPass, MigrationPass, Registry, ValueIndexes};
-use bf_locks::LockAnswer;
+use bf_locks::{LockAnswer, LockName, Mode};
 use bf_machine::{Journal, Machine, MoveError, Opened, Stand, Step};
 use bf_transpose::Cover;
 use bf_tree::Cause;
@@ -46,20 +48,34 @@ fn stands_at<N: Opened>(
     registry: &Registry,
     machine: &Machine<N>,
     catalog: &Option<CatalogPass>,
-    request: &Request<N>,
+    at: &Position<N>,
 ) -> bool
     requires registry { registry.now ≡ N.registry }
-    requires place { IsPlace machine.now.script request.now.at.session }
+    requires place { IsPlace machine.now.script at.now.session }
     requires present { IsPresentCatalog N.registry machine.now catalog.now }
-    ensures { IsTrue result → StandsAt machine.now request.now.at }
+    ensures { IsTrue result → StandsAt machine.now at.now }
 {
-    let at = &request.at;
+    let session = at.session();
     let Some(pass) = catalog else {
         return false;
     };
-    machine.stand(at.session) == Stand::Statement(at.place)
-        && machine.is_in_block(at.session) == at.in_block
-        && registry.same_catalog(&at.catalog, pass)
+    let Stand::Statement(place) = machine.stand(session) else {
+        return false;
+    };
+    if place != at.place() {
+        return false;
+    }
+    if !are_equal(machine.is_in_block(session), at.in_block()) {
+        return false;
+    }
+    registry.same_catalog(at.catalog(), pass)
+}
+
+/// Whether two answers are equal.
+fn are_equal(one: bool, other: bool) -> bool
+    ensures { IsTrue result → one ≡ other }
+{
+    one == other
 }
 
 /// How a lock was asked for.
@@ -78,6 +94,7 @@ pub(crate) enum Asked {
 ///
 /// # Errors
 /// Where memory runs out. The machine is as it was then.
+#[tactic(auto, using(crate::proofs::threads::Coming::leaves_same, crate::proofs::threads::Coming::leaves_asked))]
 pub(crate) fn ask_for<N: Opened>(
     registry: &Registry,
     machine: &mut Machine<N>,
@@ -94,11 +111,14 @@ pub(crate) fn ask_for<N: Opened>(
 {
     // Its contract says that the script is the one that the type names, and what a machine keeps.
     let _ = machine.script();
-    let session = request.at.session;
-    if !stands_at(registry, machine, catalog, request) || machine.start(session).is_none() {
+    let session = request.at().session();
+    if !stands_at(registry, machine, catalog, request.at()) {
         return Ok(Asked::Elsewhere);
     }
-    let (name, mode) = &request.locks[index];
+    let Some(_) = machine.start(session) else {
+        return Ok(Asked::Elsewhere);
+    };
+    let (name, mode) = &request.locks()[index];
     match machine.lock(session, name, *mode)? {
         LockAnswer::Granted => Ok(Asked::Granted),
         LockAnswer::Wait(_) => Ok(Asked::Waits),
@@ -106,17 +126,40 @@ pub(crate) fn ask_for<N: Opened>(
     }
 }
 
-/// Whether a session's open group holds all locks of a statement that was made ready.
-fn holds_all<N: Opened>(machine: &Machine<N>, request: &Request<N>) -> bool
-    requires { IsPlace machine.now.script request.now.at.session }
-    ensures { IsTrue result → HoldsAll machine.now request.now }
+/// Whether a session's open group holds some locks.
+fn holds_all<N: Opened>(machine: &Machine<N>, session: u32, locks: &[(LockName, Mode)]) -> bool
+    requires { IsPlace machine.now.script session }
+    ensures { IsTrue result → All (λ lock. IsCovered machine.now session lock.0 lock.1) locks.now }
 {
-    for (name, mode) in request.locks.as_slice() {
-        if !machine.covers(request.at.session, name, *mode) {
+    for (name, mode) in locks {
+        if !machine.covers(session, name, *mode) {
             return false;
         }
     }
     true
+}
+
+/// Whether a session's open group, if there is one, holds all locks of a statement that was made ready.
+fn holds_if_open<N: Opened>(machine: &Machine<N>, request: &Request<N>) -> bool
+    requires { IsPlace machine.now.script request.now.at.session }
+    ensures { IsTrue result → (o : Open) → open_at machine.now request.now.at.session ≡ Some o
+        → HoldsAll machine.now request.now }
+{
+    let session = request.at().session();
+    match machine.start(session) {
+        Some(_) => holds_all(machine, session, request.locks()),
+        None => true,
+    }
+}
+
+/// Whether a statement that was made ready has its cover, or nothing of the last migration is left to move.
+fn is_covered<N: Opened>(machine: &Machine<N>, request: &Request<N>) -> bool
+    ensures { IsTrue result → request.now.cover ≡ None → IsSomeAnd machine.now.lazy.last IsComplete }
+{
+    match request.cover() {
+        Some(_) => true,
+        None => machine.is_complete(),
+    }
 }
 
 /// Whether two passes of a registry are of one migration, or there is neither.
@@ -158,18 +201,25 @@ fn is_ready<N: Opened>(
     requires present { IsPresentCatalog N.registry machine.now catalog.now }
     ensures { IsTrue result → IsReady machine.now request.now }
 {
-    let session = request.at.session;
+    let at = request.at();
     let pass = machine.migration();
-    stands_at(registry, machine, catalog, request)
-        && are_one(registry, request.at.migration.as_ref(), pass.as_ref())
-        && (machine.start(session).is_none() || holds_all(machine, request))
-        && (request.cover.is_some() || machine.is_complete())
+    if !stands_at(registry, machine, catalog, at) {
+        return false;
+    }
+    if !are_one(registry, at.migration(), pass.as_ref()) {
+        return false;
+    }
+    if !holds_if_open(machine, request) {
+        return false;
+    }
+    is_covered(machine, request)
 }
 
 /// Replies to a statement that may have its reply, or tells what is to move first.
 ///
 /// # Errors
 /// Where memory runs out, or 2 ^ 32 rows or more change. The machine is as it was then.
+#[tactic(auto, using(crate::proofs::threads::Coming::leaves_same, crate::proofs::threads::Coming::leaves_replied))]
 fn run_ready<N: Opened>(
     registry: &Registry,
     machine: &mut Machine<N>,
@@ -187,8 +237,8 @@ fn run_ready<N: Opened>(
     // Its contract says that the script is the one that the type names, and what a machine keeps.
     let _ = machine.script();
     let pass = machine.migration();
-    let session = request.at.session;
-    match machine.exec(registry, session, pass.as_ref(), &request.bound, cover)? {
+    let session = request.at().session();
+    match machine.exec(registry, session, pass.as_ref(), request.bound(), cover)? {
         Step::Replied => Ok(Ran::Replied),
         Step::Need(granules) => Ok(Ran::Need(granules)),
         Step::Stale(_) => Ok(Ran::Elsewhere),
@@ -200,6 +250,7 @@ fn run_ready<N: Opened>(
 ///
 /// # Errors
 /// Where memory runs out, or 2 ^ 32 rows or more change. The machine is as it was then.
+#[tactic(auto, using(crate::proofs::threads::Coming::leaves_same))]
 pub(crate) fn run_statement<N: Opened>(
     alloc: Global,
     registry: &Registry,
@@ -218,11 +269,11 @@ pub(crate) fn run_statement<N: Opened>(
         return Ok(Ran::Elsewhere);
     }
     let nothing = Cover {
-        catalog: request.bound.catalog,
+        catalog: 0,
         migration: 0,
         granules: Vec::new(alloc),
     };
-    match &request.cover {
+    match request.cover() {
         Some(cover) => run_ready(registry, machine, request, cover),
         None => run_ready(registry, machine, request, &nothing),
     }

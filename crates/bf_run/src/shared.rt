@@ -107,7 +107,7 @@ impl<'r, 'g, N: Beginning<J>, J: Journal, R: Wait> Shared<'r, 'g, N, J, R> {
 
     /// Makes a statement ready, and drives it.
     fn drive(&self, at: Position<N>, is_left: bool) -> Result<Turn, Memory> {
-        let lookups = match &at.migration {
+        let lookups = match at.migration() {
             Some(pass) if is_left => Some(self.lookups(pass)?),
             _ => None,
         };
@@ -129,7 +129,7 @@ impl<'r, 'g, N: Beginning<J>, J: Journal, R: Wait> Shared<'r, 'g, N, J, R> {
     /// Asks for the locks of a request, one after the other, each in a section of its own; and tells how the turn ends
     /// where one is not granted.
     fn ask_for_all(&self, request: &Request<N>) -> Result<Option<Turn>, Memory> {
-        for index in 0..request.locks.len() {
+        for index in 0..request.locks().len() {
             let (asked, seen) = self
                 .engine
                 .lock(self.rt)
@@ -152,7 +152,7 @@ impl<'r, 'g, N: Beginning<J>, J: Journal, R: Wait> Shared<'r, 'g, N, J, R> {
     fn move_need(&self, request: &Request<N>, granules: &[Granule]) -> Result<(), Memory>
         requires { AreNeededOf request.now granules.now }
     {
-        let Some(pass) = &request.at.migration else {
+        let Some(pass) = request.at().migration() else {
             return Ok(());
         };
         let lookups = self.lookups(pass)?;
@@ -161,7 +161,7 @@ impl<'r, 'g, N: Beginning<J>, J: Journal, R: Wait> Shared<'r, 'g, N, J, R> {
             let (record, later) = left.split_at(record_len(left));
             let moved = self.engine.lock(self.rt).move_granules(
                 self.registry,
-                Some(request.at.session),
+                Some(request.at().session()),
                 pass,
                 lookups.indexes(),
                 record,

@@ -7,14 +7,28 @@ use Rattle.bf_tree.specs.declared.reply.Cause.{Cause}
 use Rattle.bf_machine.specs.declared.journal.KeepError.{KeepError}
 use Rattle.bf_machine.specs.declared.stand.Ending.{Ending}
 use Rattle.bf_machine.specs.declared.stand.Ending.TheVariants.{Committed, Ended}
-use Rattle.bf_machine.specs.interleaving.Calls.{IsEnding}
-use Rattle.bf_machine.specs.interleaving.Events.{Aborts, Begins, aborts, commits_now}
+use Rattle.bf_locks.specs.declared.answer.LockAnswer.{LockAnswer}
+use Rattle.bf_locks.specs.declared.mode.Mode.{Mode}
+use Rattle.bf_locks.specs.declared.name.LockName.{LockName}
+use Rattle.bf_tree.specs.declared.bound.Bound.{Bound}
+use Rattle.bf_machine.specs.interleaving.Calls.{HasReplied, IsEnding}
+use Rattle.bf_machine.specs.interleaving.Events.{Aborts, Asks, Begins, aborts, commits_now}
 use Rattle.bf_machine.specs.interleaving.Journals.{IsBeside, IsChangeOf, IsLeftFor, IsRefused, Keeps, nothing_yet, one_beside}
 use Rattle.bf_machine.specs.interleaving.Machines.{Machine}
 use Rattle.bf_machine.specs.interleaving.Serving.{LeavesStore}
 use Rattle.bf_machine.proofs.keeping.Beside.{beside_weaker}
-use Rattle.bf_machine.proofs.served.Keeping.{keeps_both, keeps_end, keeps_leaves, keeps_still, leaves_beginning}
+use Rattle.bf_machine.proofs.served.Keeping.{keeps_both, keeps_end, keeps_leaves, keeps_reply, keeps_still, leaves_asking, leaves_beginning, leaves_not}
 use Rattle.bf_run.specs.Come.{HasCome}
+
+-- the store stays where nothing happens, where a lock is asked for, and where a statement has its reply
+pub leaves_same : (start : Database) (m next : Machine) → next ≡ m → LeavesStore start m next
+leaves_same start m next same = leaves_not start m next same
+
+pub leaves_asked : (start : Database) (m next : Machine) (s : ℕ) (name : LockName) (mode : Mode) (answer : LockAnswer) → Asks m s start name mode answer next → LeavesStore start m next
+leaves_asked start m next s name mode answer by = leaves_asking start m m next (leaves_not start m m refl) s name mode answer by
+
+pub leaves_replied : (start : Database) (m next : Machine) (s : ℕ) (bound : Bound) → HasReplied m s bound next → LeavesStore start m next
+leaves_replied start m next s bound by = keeps_reply {J = Unit {0}} (λ lazy then before after answer. ⊥) start m tt m tt s bound next nothing_yet by
 
 module _ {J : Type 0} (Answers : LazyState → LazyState → J → J → Result (Unit {0}) KeepError → Type 0) (start : Database) where
   -- one call each

@@ -28,8 +28,8 @@ module _ {J : Type 0} (Answers : LazyState → LazyState → J → J → Result 
   pub not_moved : (m next : Machine) (j k : J) → next ≡ m → IsBeside Answers (IsMoveIn m.lazy) m.lazy next.lazy j k → Keeps Answers start m j next k
   not_moved m next j k same beside = keeps_still Answers start m j m j next k nothing_yet same (of_machine m next j k beside)
 
-  pub refused : (m now next : Machine) (j k : J) (cause : Cause) → now ≡ m → IsRefused Answers (IsUnkeptMove m.lazy cause) m.lazy j k cause → MayHaveEnded now cause next → Keeps Answers start m j next k
-  refused m now next j k cause stays refused ended =
+  pub unkept : (m now next : Machine) (j k : J) (cause : Cause) → now ≡ m → IsRefused Answers (IsUnkeptMove m.lazy cause) m.lazy j k cause → MayHaveEnded now cause next → Keeps Answers start m j next k
+  unkept m now next j k cause stays not ended =
       subst (λ (n : Machine). Keeps Answers start n j next k) stays
       (elim ended as (λ _. Keeps Answers start now j next k) [
         | inl same ↦ subst (λ (n : Machine). Keeps Answers start now j n k) (sym same) (unkept_move nothing_yet cause here)
@@ -37,7 +37,7 @@ module _ {J : Type 0} (Answers : LazyState → LazyState → J → J → Result 
       ])
     where
       here : IsRefused Answers (IsUnkeptMove now.lazy cause) now.lazy j k cause
-      here = subst (λ (n : Machine). IsRefused Answers (IsUnkeptMove n.lazy cause) n.lazy j k cause) (sym stays) refused
+      here = subst (λ (n : Machine). IsRefused Answers (IsUnkeptMove n.lazy cause) n.lazy j k cause) (sym stays) not
 
 -- the catalog stays
 pub moved_catalog : (m next : Machine) (granules : List Granule) → Moves m granules next → catalog_of next.db ≡ catalog_of m.db

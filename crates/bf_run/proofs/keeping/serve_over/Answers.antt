@@ -6,6 +6,7 @@ use Rattle.bf_log.specs.Append.{disk_of}
 use Rattle.bf_log.specs.declared.log.Log.{Log}
 use Rattle.bf_recover.specs.Legal.{first_state}
 use Rattle.bf_recover.specs.Steps.{StepsTo}
+use Rattle.bf_sql.specs.migrations.Lazy.{view_of}
 use Rattle.bf_run.specs.Untold.{IsBrokenOffOn}
 use Rattle.bf_run.proofs.keeping.serve_over.Goals as goal
 
@@ -15,13 +16,13 @@ on_err_weaker (Err error) weaker so = weaker so
 
 pub returns-clause-broken_off : goal.returns-clause-broken_off
 returns-clause-broken_off g c =
-    let last = c.tell_run-told.new.journal.log in
-    on_err_weaker c.tell_run-told.result
-    (λ off. subst (λ (disk : g.row.D.Denot). IsBrokenOffOn {g = g.D.Disk} g.N.Opened.opening c.args.log disk c.args.script) (sym c.into_disk.ensures)
-    (subst (λ (log : Log g.row.D.Denot g.D.Disk). IsBrokenOffOn {g = g.D.Disk} g.N.Opened.opening log (disk_of last) c.args.script) c.of-journal.ensures off))
-    c.tell_run-told.ensures.broken_off
+    let last = c.tell_run-journal.result.0.log in
+    on_err_weaker c.tell_run-journal.result.1
+    (λ off. subst (λ (disk : g.row.D.Denot). IsBrokenOffOn {g = g.D.Disk} (view_of c.args.store.lazy) c.args.log disk c.args.script) (sym c.into_disk.ensures)
+    (subst (λ (log : Log g.row.D.Denot g.D.Disk). IsBrokenOffOn {g = g.D.Disk} (view_of c.args.store.lazy) log (disk_of last) c.args.script) c.of-journal.ensures off))
+    c.tell_run-journal.ensures.broken_off
 
 -- the journal begins with the log that was given
-pub tell_run-told-requires-clause-alone : goal.tell_run-told-requires-clause-alone
-tell_run-told-requires-clause-alone g c =
+pub tell_run-journal-requires-clause-alone : goal.tell_run-journal-requires-clause-alone
+tell_run-journal-requires-clause-alone g c =
     subst (λ (log : Log g.row.D.Denot g.D.Disk). LeavesAlone first_state StepsTo c.args.store.lazy log) (sym c.of-journal.ensures) c.requires.alone
