@@ -203,7 +203,9 @@ impl<N: Beginning<J>, J: Journal> Engine<N, J> {
         let Stand::Statement(place) = self.machine.stand(session) else {
             return None;
         };
-        let catalog = self.catalog.as_ref()?;
+        let Some(catalog) = &self.catalog else {
+            return None;
+        };
         let migration = self.machine.migration();
         let is_left = migration.is_some() && !self.machine.is_complete();
         let at = Position {
@@ -280,7 +282,9 @@ impl<N: Beginning<J>, J: Journal> Engine<N, J> {
             count,
             ..
         } = self;
+        // Their contracts say that the script is the one that the type names, and has the session.
         let _ = machine.script();
+        let _ = request.at();
         let asked = ask_for(registry, machine, catalog, request, index)?;
         if asked == Asked::Died {
             *count = count.saturating_add(1);
@@ -307,6 +311,7 @@ impl<N: Beginning<J>, J: Journal> Engine<N, J> {
             ..
         } = self;
         let _ = machine.script();
+        let _ = request.at();
         run_statement(*alloc, registry, machine, catalog, request)
     }
 

@@ -174,7 +174,9 @@ fn bound_at<N: Opened>(
 ) -> Result<Bound, Memory>
     requires registry { registry.now ≡ N.registry }
     requires script { script.now ≡ N.script }
-    ensures { IfOk result (IsPreparedAt N.script at.now) }
+    ensures position { IsPosition N.registry N.script at.now }
+    ensures prepared { IfOk result (IsPreparedAt N.script at.now) }
+    ensures well_bound { IfOk result (λ bound. IsWellBound bound.action) }
 {
     let sessions = script.sessions.as_slice();
     let statements = sessions[at.session as usize - 1].statements.as_slice();

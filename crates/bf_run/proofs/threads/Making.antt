@@ -1,26 +1,19 @@
 -- A statement that is made ready at a position.
-use Rattle.std.proofs.Common.{◌≡◌, ℕ, ◌+◌, ◌-◌, ◌<◌, ◌≤◌, false, List, [], length, Option, Some, None, sym, ap, subst, ◌∙◌, arith}
-use Rattle.std.specs.Prelude.{Result, Ok, Err, IfOk, IfSome, slice_get}
+use Rattle.std.proofs.Common.{◌≡◌, ◌-◌, ◌<◌, List, length, Some, sym, ap, subst, ◌∙◌, arith}
+use Rattle.std.specs.Prelude.{Result, Ok, Err, IfOk}
 use Rattle.std.specs.List.{slice_index_or}
 use Rattle.bf_base.specs.declared.memory.Memory.{Memory}
-use Rattle.boxcar.specs.Table.{Where}
 use Rattle.bf_tree.specs.Catalogs.{Catalog}
 use Rattle.bf_tree.specs.declared.bound.Bound.{Bound}
 use Rattle.bf_tree.specs.declared.script.Script.{Script}
 use Rattle.bf_tree.specs.declared.script.Session.{Session}
 use Rattle.bf_tree.specs.declared.statement.Statement.{Statement}
 use Rattle.bf_sql.specs.Bound.{without_rows}
-use Rattle.bf_sql.specs.Database.{IsDatabase}
 use Rattle.bf_sql.specs.Groups.{session_at}
 use Rattle.bf_sql.specs.migrations.Plans.{prepared_of}
 use Rattle.bf_image.specs.Registries.{Registry}
-use Rattle.bf_image.specs.declared.migration.Migration.{Migration}
 use Rattle.bf_plan.specs.Limits.{KeepsPlanLimits}
-use Rattle.bf_transpose.specs.Covers.{IsCoverOf, can_need}
-use Rattle.bf_transpose.specs.declared.cover.Cover.{Cover}
-use Rattle.bf_machine.specs.interleaving.Calls.{IsPlace}
 use Rattle.bf_machine.proofs.served.Binding.{session_read}
-use Rattle.bf_machine.proofs.served.Needs.{needs_none}
 use Rattle.bf_machine.proofs.served.Nexts.{got}
 use Rattle.bf_run.specs.Requests.{IsPosition, IsPreparedAt, Position, statement_at}
 
@@ -55,10 +48,7 @@ module _ (registry : Registry) (script : Script) (p : Position) (is : IsPosition
       }
       prepared_at catalog same (Err memory) so = so
 
--- a statement that can need nothing of a migration
-pub nothing_needed : (bound : Bound) (m : Migration) (cover : Cover) → cover.catalog ≡ bound.catalog → cover.migration ≡ m.number → cover.granules.items ≡ [] → can_need m bound.action ≡ false → IsCoverOf (Some m) bound cover
-nothing_needed bound m cover catalog number none can = record {
-  catalog = catalog;
-  migration = number;
-  granules = none ∙ sym (needs_none m bound.action can);
-}
+-- what follows of each result
+pub if_ok : (P Q : Bound → Type 0) (r : Result Bound Memory) → ((bound : Bound) → P bound → Q bound) → IfOk r P → IfOk r Q
+if_ok P Q (Ok bound) weaker so = weaker bound so
+if_ok P Q (Err memory) weaker so = so

@@ -1,5 +1,14 @@
+use Rattle.std.proofs.Common.{◌≡◌, sym, subst, ◌∙◌}
+use Rattle.bf_tree.specs.declared.script.Script.{Script}
+use Rattle.bf_machine.specs.interleaving.Calls.{IsPlace}
 use Rattle.bf_run.proofs.threads.Going.{goes_leaving}
 use Rattle.bf_run.proofs.engine.Engine.run_statement.Goals as goal
+
+pub run_statement-requires-clause-place : goal.run_statement-requires-clause-place
+run_statement-requires-clause-place g c =
+    let m = c.self.inside.machine in
+    let same : m.script ≡ g.N.Opened.script = sym c.script.ensures.script ∙ c.script.ensures.opened in
+    subst (λ (script : Script). IsPlace script c.args.request.now.at.session) (sym same) c.at.ensures.own.at.session
 
 pub invariant_of-self : goal.invariant_of-self
 invariant_of-self g c =
