@@ -27,7 +27,7 @@ module _ {start : Database} (registry : Registry) (script : Script) (m : Machine
   own_place : IsPlace m.script s
   own_place = subst (λ (sc : Script). IsPlace sc s) (sym same) place
 
-  position : Position
+  abbrev position : Position
   position = record { session = s; place = n; in_block = in_block; catalog = catalog; migration = migration }
 
   in_own : IsPosition registry m.script position

@@ -105,7 +105,7 @@ module _ {D : Type 0} {g : Ghosts D} (retries : ℕ) (store : Store) (script : S
     served taken before same status text written fault done =
         let after = g.fault_count (disk_of k.log) in
         let Goal : Status → Type 0 = λ s. IsServed retries (ServedOn (view_of store.lazy) j.log (disk_of k.log)) script (g.fault_count (disk_of j.log)) after s text in
-        elim cases_lt before after as (λ _. Goal status) [
+        elim (cases_lt before after) as (λ _. Goal status) [
           | inl rose ↦ subst Goal (sym (fault rose)) (told_at_fault taken text written, subst (λ n. n < after) same rose)
           | inr stays ↦
               let is = done stays in
