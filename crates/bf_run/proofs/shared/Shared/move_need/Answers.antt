@@ -17,15 +17,15 @@ needed_of : (given : Option (Where Migration)) (pass : Where Migration) (granule
     → AreGranules (migration_of pass.value []) granules × IsTrue (rises granule_cmp granules)
 needed_of given pass granules same are = subst (λ (o : Option (Where Migration)). IfSome o (λ p. AreGranules (migration_of p.value []) granules × IsTrue (rises granule_cmp granules))) (sym same) are
 
-pub loop-left-init : goal.loop-left-init
-loop-left-init g c = ([], refl)
+pub loop-pass-init : goal.loop-pass-init
+loop-pass-init g c = ([], refl)
 
 pub move_granules-requires-clause-granules : goal.move_granules-requires-clause-granules
 move_granules-requires-clause-granules g c = ?
 
-pub loop-left-preserved : goal.loop-left-preserved
-loop-left-preserved g c =
+pub loop-pass-preserved : goal.loop-pass-preserved
+loop-pass-preserved g c =
     let own = c.split_at.result.0.now in
     let later = c.split_at.result.1.now in
-    let before = c.loop-left.invariant.0 in
-    (before ++ own, c.loop-left.invariant.1 ∙ (ap (λ (gs : List Granule). before ++ gs) c.split_at.ensures.by_index.0 ∙ sym (append_assoc before own later)))
+    let before = c.loop-pass.invariant.0 in
+    (before ++ own, c.loop-pass.invariant.1 ∙ (ap (λ (gs : List Granule). before ++ gs) c.split_at.ensures.by_index.0 ∙ sym (append_assoc before own later)))

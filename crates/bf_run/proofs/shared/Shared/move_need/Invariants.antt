@@ -3,8 +3,8 @@ use Rattle.std.proofs.Common.{◌≡◌, List, ◌++◌, length}
 use Rattle.bf_base.specs.declared.granule.Granule.{Granule}
 use Rattle.bf_run.proofs.shared.Shared.move_need.Given as goal
 
-abbrev pub invariant-loop-left : goal.invariant-loop-left
-invariant-loop-left g l = (before : List Granule) × (l.granules ≡ before ++ l.left)
+abbrev pub invariant-loop-pass : goal.invariant-loop-pass
+invariant-loop-pass g l = (before : List Granule) × (l.granules ≡ before ++ l.left)
 
-abbrev pub decreases-loop-left : goal.decreases-loop-left
-decreases-loop-left g l = length l.left
+abbrev pub decreases-loop-pass : goal.decreases-loop-pass
+decreases-loop-pass g l = length l.left
