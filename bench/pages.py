@@ -21,6 +21,8 @@ PAGES = {
     "docs/EXAMPLES.md": "page_examples.cases",
     "docs/LANGUAGE.md": "page_language.cases",
 }
+# How a case runs a script over its log.
+RUN = "$ call run log"
 LINK = re.compile(r"\((?:\.\./)?(examples/\w+\.sql)\)")
 
 
@@ -78,7 +80,7 @@ class Page:
         """The file of these cases."""
         parts = []
         for title, is_one_log, pairs in self.cases:
-            steps = [f"$ call run log\n{script}" for script, _ in pairs]
+            steps = [f"{RUN}\n{script}" for script, _ in pairs]
             shown = "\n".join(["$ call create log", *steps]) if is_one_log else pairs[0][0] + "\n"
             told = "\n".join(["created", *[report for _, report in pairs]]) if is_one_log else pairs[0][1]
             parts.append(f"=== {title}\n{shown}\n---\n{told}\n")
