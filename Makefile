@@ -4,8 +4,17 @@
 example:
 	cd crates/bullfrog && rt try -- try < ../../examples/customer_split.sql
 
+# Proves the program and leaves it at build/bullfrog: about an hour and a half on four processors, and
+# a minute behind the gate.
+program:
+	python3 bench/program.py
+
 # Proves everything, tries the edits that must be refused, and runs every test: the merge gate.
 test:
 	rt ci
 
-.PHONY: example test
+# Holds the scripts and reports of the documents against the cases that the gate runs.
+docs:
+	python3 bench/pages.py
+
+.PHONY: docs example program test
