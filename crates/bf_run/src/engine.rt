@@ -43,6 +43,8 @@ pub struct Engine<N: Beginning<J>, J: Journal> {
     catalog: Option<CatalogPass>,
     /// Commits, ended attempts, moves and ended sessions so far.
     count: u64,
+    /// Where the sessions of the present phase begin.
+    from: usize,
     /// Whether memory ran out for a session, which ends the run.
     out_of_memory: bool,
     /// The old rows of the last migration by their values, once a session has needed them.
@@ -99,9 +101,20 @@ impl<N: Beginning<J>, J: Journal> Engine<N, J> {
             journal,
             catalog,
             count: 0,
+            from: 0,
             out_of_memory: false,
             lookups: None,
         }
+    }
+
+    /// The phase begins whose first session stands at a place.
+    pub(crate) fn begin_phase(&mut self, from: usize) {
+        self.from = from;
+    }
+
+    /// Where the sessions of the present phase begin.
+    pub(crate) fn phase_from(&self) -> usize {
+        self.from
     }
 
     /// How much has happened.

@@ -36,31 +36,22 @@ fn phase_end(sessions: &[Session], from: usize) -> usize
     sessions.len()
 }
 
-/// The number of the session at a place, counted from 1; the greatest of its type, which no session has, where it has none.
-fn number_at(place: usize) -> u32 {
-    match u32::try_from(place) {
-        Ok(before) => before.saturating_add(1),
-        Err(_) => u32::MAX,
-    }
-}
-
-/// Serves so many sessions from a place on at the same time, each on a thread of its own; one alone on the caller's.
+/// Serves so many sessions, those of the present phase, at the same time, each on a thread of its own; one alone on the caller's.
 ///
 /// # Errors
 /// Where memory runs out. Each thread has ended then.
 fn serve_phase<N: Beginning<J> + Send + Sync, J: Journal + Send, R: Threads + Wait + Sync>(
     shared: &Shared<'_, '_, N, J, R>,
-    from: usize,
     count: usize,
 ) -> Result<(), Memory> {
     if count == 1 {
-        return shared.serve(number_at(from));
+        return shared.serve_at(0);
     }
     let served = map_indices(
         shared.rt,
         shared.alloc,
         count,
-        &|place| { shared.serve(number_at(from.saturating_add(place))) },
+        &|place| { shared.serve_at(place) },
     )?;
     for one in served {
         one?;
@@ -79,7 +70,8 @@ fn serve_all<N: Beginning<J> + Send + Sync, J: Journal + Send, R: Threads + Wait
     let mut from = 0;
     while from < sessions.len() {
         let to = phase_end(sessions, from);
-        serve_phase(shared, from, to - from)?;
+        shared.begin_phase(from);
+        serve_phase(shared, to - from)?;
         from = to;
     }
     Ok(())

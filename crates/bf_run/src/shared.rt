@@ -40,12 +40,34 @@ pub(crate) enum Turn {
     Ended,
 }
 
+/// The number of the session at a place, counted from 1; the greatest of its type, which no session has, where it has none.
+fn number_at(place: usize) -> u32 {
+    match u32::try_from(place) {
+        Ok(before) => before.saturating_add(1),
+        Err(_) => u32::MAX,
+    }
+}
+
 impl<'r, 'g, N: Beginning<J>, J: Journal, R: Wait> Shared<'r, 'g, N, J, R> {
+    /// The phase begins whose first session stands at a place.
+    pub(crate) fn begin_phase(&self, from: usize) {
+        self.engine.lock(self.rt).begin_phase(from);
+    }
+
+    /// Serves the session at a place of the present phase.
+    ///
+    /// # Errors
+    /// As [`Shared::serve`].
+    pub(crate) fn serve_at(&self, place: usize) -> Result<(), Memory> {
+        let from = self.engine.lock(self.rt).phase_from();
+        self.serve(number_at(from.saturating_add(place)))
+    }
+
     /// Serves a session: takes its turns until each of its statements has its reply.
     ///
     /// # Errors
     /// Where memory runs out, or ran out for another session. Each session ends then.
-    pub(crate) fn serve(&self, session: u32) -> Result<(), Memory> {
+    fn serve(&self, session: u32) -> Result<(), Memory> {
         if session == 0 || session as usize > self.script.sessions.len() {
             return Ok(());
         }
@@ -107,12 +129,7 @@ impl<'r, 'g, N: Beginning<J>, J: Journal, R: Wait> Shared<'r, 'g, N, J, R> {
 
     /// Makes a statement ready, and drives it.
     fn drive(&self, at: Position<N>, is_left: bool) -> Result<Turn, Memory> {
-        let lookups = match at.migration() {
-            Some(pass) if is_left => Some(self.lookups(pass)?),
-            _ => None,
-        };
-        let indexes = lookups.as_ref().map(|found| found.indexes());
-        let request = Request::of(self.alloc, self.registry, &self.script, at, indexes)?;
+        let request = self.make_ready(at, is_left)?;
         if let Some(turn) = self.ask_for_all(&request)? {
             return Ok(turn);
         }
@@ -124,6 +141,18 @@ impl<'r, 'g, N: Beginning<J>, J: Journal, R: Wait> Shared<'r, 'g, N, J, R> {
             self.move_need(&request, granules.as_slice())?;
         }
         Ok(Turn::Again)
+    }
+
+    /// A statement made ready, by the old rows of the migration by their values where something of it is left to move.
+    fn make_ready(&self, at: Position<N>, is_left: bool) -> Result<Request<N>, Memory> {
+        if let Some(pass) = at.migration()
+            && is_left
+        {
+            let lookups = self.lookups(pass)?;
+            let indexes = Some(lookups.indexes());
+            return Request::of(self.alloc, self.registry, &self.script, at, indexes);
+        }
+        Request::of(self.alloc, self.registry, &self.script, at, None)
     }
 
     /// Asks for the locks of a request, one after the other, each in a section of its own; and tells how the turn ends

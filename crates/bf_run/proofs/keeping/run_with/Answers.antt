@@ -59,13 +59,13 @@ returns-in-Err-clause-told g c =
     c.tell_open_error.ensures
 
 pub serve_over-requires-clause-stands : goal.serve_over-requires-clause-stands
-serve_over-requires-clause-stands g c = c.in-Ok.ensures.reopened.stands
+serve_over-requires-clause-stands g c κs within = c.in-Ok.ensures.reopened.stands
 
 pub serve_over-requires-clause-alone : goal.serve_over-requires-clause-alone
-serve_over-requires-clause-alone g c = c.in-Ok.ensures.reopened.alone
+serve_over-requires-clause-alone g c κs within = c.in-Ok.ensures.reopened.alone
 
 pub serve_over-requires-clause-ready : goal.serve_over-requires-clause-ready
-serve_over-requires-clause-ready g c = c.in-Ok.ensures.reopened.ready
+serve_over-requires-clause-ready g c κs within = c.in-Ok.ensures.reopened.ready
 
 pub returns-in-Ok-clause-untold : goal.returns-in-Ok-clause-untold
 returns-in-Ok-clause-untold g c =

@@ -24,5 +24,5 @@ returns-clause-broken_off g c =
 
 -- the journal begins with the log that was given
 pub tell_run-journal-requires-clause-alone : goal.tell_run-journal-requires-clause-alone
-tell_run-journal-requires-clause-alone g c =
+tell_run-journal-requires-clause-alone g c κs within =
     subst (λ (log : Log g.row.D.Denot g.D.Disk). LeavesAlone first_state StepsTo c.args.store.lazy log) (sym c.of-journal.ensures) c.requires.alone

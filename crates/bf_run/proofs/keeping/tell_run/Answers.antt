@@ -34,7 +34,7 @@ returns-clause-served g c =
     (c.what_ends_groups_is_told.ensures.replies opening m now j k keeps kept)
     (c.what_ends_groups_is_told.ensures.causes opening m now j k keeps c.requires.ready)
     (c.a_size_that_is_told_is_that_of_a_record.ensures opening m now j k keeps kept)
-    recovers taken c.faults.result c.faults.ensures a.0 a.1.items (text ∙ report_of now c.in-Ok.parts parts) fault done)
+    recovers taken c.faults-faults.result c.faults-faults.ensures a.0 a.1.items (text ∙ report_of now c.in-Ok.parts parts) fault done)
     told.text told.fault told.done
 
 pub returns-clause-broken_off : goal.returns-clause-broken_off

@@ -20,10 +20,14 @@ returns-in-Ok-served g c =
     let next = c.serve_machine-machine.result.0 in
     let parts = c.into_parts.ensures in
     record {
-      come = (next, by.come, record {
-        ended = (let ended = by.ended in rw c.in-Ok-served.is at ended);
-        lazy = λ i. (parts.store i).lazy;
-        transcripts = parts.transcripts;
-        history = parts.history;
-      })
+      come = (
+        next,
+        by.come,
+        record {
+          ended = (let ended = by.ended in rw c.in-Ok-served.is at ended);
+          lazy = λ i. (parts.store i).lazy;
+          transcripts = parts.transcripts;
+          history = parts.history;
+        },
+      );
     }

@@ -6,12 +6,12 @@ use Rattle.bf_run.proofs.Sayable.{script_sayable}
 use Rattle.bf_run.proofs.top.run_input.Goals as goal
 
 pub run-requires-clause-limits : goal.run-requires-clause-limits
-run-requires-clause-limits g c =
+run-requires-clause-limits g c κs within =
     let read = subst (HasRead _) c.in-Ok.is c.in_ok-script.ensures in
     script_within read.bytes c.in-Ok.script read.is_read.1
 
 pub run-requires-clause-sayable : goal.run-requires-clause-sayable
-run-requires-clause-sayable g c =
+run-requires-clause-sayable g c κs within =
     let read = subst (HasRead _) c.in-Ok.is c.in_ok-script.ensures in
     script_sayable read.bytes c.in-Ok.script read.is_read.1
 
