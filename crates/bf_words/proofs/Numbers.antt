@@ -26,7 +26,7 @@ is_within least most ds =
     nat_le least (digits_value 10 ds) && nat_le (digits_value 10 ds) most
 
 pub none_limited : (least most : ℕ) (ds : List ℕ) → (IsNumeral 10 ds → least ≤ digits_value 10 ds → digits_value 10 ds ≤ most → ⊥) → None ≡ limited least most ds
-none_limited least most ds no = go (is_decimal ds && is_within least most ds) refl
+none_limited least most ds excluded = go (is_decimal ds && is_within least most ds) refl
   where
     go : (t : Bool) → (is_decimal ds && is_within least most ds) ≡ t → None ≡ limited least most ds
     go false t = rw t refl
@@ -34,4 +34,4 @@ none_limited least most ds no = go (is_decimal ds && is_within least most ds) re
         let outer = and_parts (is_decimal ds) (is_within least most ds) t in
         let digits = and_parts (nat_lt 0 (length ds)) (list_all (λ d. nat_lt (digit_value d) 10) ds) outer.0 in
         let ends = and_parts (nat_le least (digits_value 10 ds)) (nat_le (digits_value 10 ds) most) outer.1 in
-        absurd (no (ltb-true 0 (length ds) digits.0, all_from ds digits.1) (leb-true _ _ ends.0) (leb-true _ _ ends.1))
+        absurd (excluded (ltb-true 0 (length ds) digits.0, all_from ds digits.1) (leb-true _ _ ends.0) (leb-true _ _ ends.1))

@@ -55,12 +55,19 @@ pub fn read_words<'a>(_alloc: Global, words: &[&'a str]) -> Result<Words<'a>, Wo
     ensures refused { IfErr result (λ error. error ≡ WordsError.Usage
         → asked (map (λ word. word.now) words.now) ≡ None) }
 {
+    match asked(words) {
+        Some(read) => Ok(read),
+        None => Err(WordsError::Usage),
+    }
+}
+
+/// What the words ask for.
+fn asked<'a>(words: &[&'a str]) -> Option<Words<'a>>
+    ensures { option_map asked_by result ≡ asked (map (λ word. word.now) words.now) }
+{
     match words {
-        [first, rest @ ..] => match asked_behind(first, rest) {
-            Some(read) => Ok(read),
-            None => Err(WordsError::Usage),
-        },
-        [] => Err(WordsError::Usage),
+        [first, rest @ ..] => asked_behind(*first, rest),
+        [] => None,
     }
 }
 
