@@ -1,0 +1,285 @@
+//! The trackers of a migration's units, each with its own way to name a place.
+
+ghost use Rattle.std.specs.Prelude.{◌≡◌, ◌∷◌, ◌++◌, [], List, IfOk, OnErr, map};
+ghost use Rattle.bf_bench.specs.Notes.{Stands};
+ghost use Rattle.bf_drive.specs.Lists.{Entry, most_granules};
+ghost use Rattle.bf_trackers.specs.Answers.{IsOfKey};
+ghost use Rattle.bf_trackers.specs.Holding.{AreFinished, HoldClaims};
+ghost use Rattle.bf_trackers.specs.Seats.{found_at};
+ghost use Rattle.bf_trackers.specs.Units.{AreDoneIn, AreMade, AreSeatsOf, HasPlace, IsAnswered, IsSeatOf, MayBeDone, first_seat_of, new_seat_of, positions_in, shape_of};
+
+use crate::seats::{Ending, TrackerSeats};
+use crate::stripes::Stripes;
+use bf_base::{Granule, Key, Memory, Place};
+use bf_bench::Taken;
+use bf_bits::{BitSeat, Bits};
+use bf_drive::{Claim, Wip};
+use std::alloc::Global;
+use std::marker::Model;
+use std::sync::Wait;
+
+/// What a unit goes by.
+#[derive(Clone, Copy, Debug, PartialEq, Eq)]
+pub enum Shape {
+    /// So many rows.
+    Rows(u32),
+    /// The values of a group or of a join.
+    Keys,
+}
+
+/// The tracker of a unit.
+#[derive(Drop)]
+pub enum UnitTracker {
+    /// Of a unit that goes by rows: their positions.
+    Rows(Bits),
+    /// Of a unit that goes by the values of a group or of a join.
+    Keys(Stripes),
+}
+
+/// The trackers of units, by their numbers. Threads share them by `&`, each with seats of its own.
+#[derive(Drop)]
+pub struct UnitTrackers {
+    units: Vec<UnitTracker>,
+}
+
+impl Model for UnitTrackers {
+    ghost use Rattle.std.specs.Prelude.{List};
+    ghost use Rattle.bf_trackers.specs.declared.units.UnitTracker.{UnitTracker as Seen};
+
+    ghost Value = { List Seen };
+
+    ghost view = { λ all. all.units.items };
+}
+
+// The positions of a unit among some granules.
+fn positions_done(alloc: Global, unit: u8, done: &[Granule]) -> Result<Vec<u32>, Memory>
+    ensures { IfOk result (λ positions. positions.items ≡ positions_in unit done.now) }
+{
+    let mut positions = Vec::new(alloc);
+    for granule in done {
+        if granule.unit == unit && let Place::Row(at) = granule.place {
+            positions.push(at)?;
+        }
+    }
+    Ok(positions)
+}
+
+// The keys of a unit among some granules.
+fn keys_done(alloc: Global, unit: u8, done: &[Granule]) -> Result<Vec<Key>, Memory> {
+    let mut keys = Vec::new(alloc);
+    for granule in done {
+        if granule.unit == unit && let Place::Group(key) = &granule.place {
+            keys.push(key.copy(alloc)?)?;
+        }
+    }
+    Ok(keys)
+}
+
+// The tracker of a unit, in which those of some granules are done that are its own, and its first seat.
+fn made(
+    alloc: Global,
+    unit: u8,
+    shape: Shape,
+    done: &[Granule],
+) -> Result<(UnitTracker, Option<BitSeat>), Memory>
+    requires { MayBeDone (positions_in unit done.now) shape }
+    ensures shape { IfOk result (λ made. shape_of made.0 ≡ shape) }
+    ensures seat { IfOk result (λ made. made.1 ≡ first_seat_of (positions_in unit done.now) made.0) }
+{
+    match shape {
+        Shape::Rows(rows) => {
+            let positions = positions_done(alloc, unit, done)?;
+            let (bits, seat) = Bits::of_done(alloc, rows, positions.as_slice())?;
+            Ok((UnitTracker::Rows(bits), Some(seat)))
+        }
+        Shape::Keys => {
+            let keys = keys_done(alloc, unit, done)?;
+            let stripes = Stripes::of_done(alloc, keys.as_slice())?;
+            Ok((UnitTracker::Keys(stripes), None))
+        }
+    }
+}
+
+// A seat of a tracker that holds nothing, split off from another one.
+fn split_off(tracker: &UnitTracker, seat: &mut Option<BitSeat>) -> Option<BitSeat>
+    requires own { IsSeatOf tracker.now seat.old }
+    ensures same { seat.new ≡ seat.old }
+    ensures new { result ≡ new_seat_of tracker.now }
+{
+    match (tracker, seat) {
+        (UnitTracker::Rows(bits), Some(seat)) => Some(bits.split(seat)),
+        _ => None,
+    }
+}
+
+impl UnitTrackers {
+    /// Trackers of units of these shapes, in which exactly these granules are done and none is held, and
+    /// their first seats. It goes over the granules once for each unit, and is linear in the rows.
+    ///
+    /// # Errors
+    /// Where memory runs out.
+    pub fn of(
+        alloc: Global,
+        shapes: &[Shape],
+        done: &[Granule],
+    ) -> Result<(UnitTrackers, TrackerSeats), Memory>
+        requires few { length shapes.now ≤ 256 }
+        requires done { AreDoneIn shapes.now done.now }
+        ensures made { IfOk result (λ made. AreMade shapes.now done.now made.0 made.1.units) }
+        ensures holds { IfOk result (λ made. HoldClaims made.0 made.1 []) }
+    {
+        let mut units = Vec::with_capacity(alloc, shapes.len())?;
+        let mut seats = Vec::with_capacity(alloc, shapes.len())?;
+        for (number, shape) in shapes.iter().enumerate() {
+            let (unit, seat) = made(alloc, number as u8, *shape, done)?;
+            units.push(unit)?;
+            seats.push(seat)?;
+        }
+        let seats = TrackerSeats {
+            units: seats,
+            count: 0,
+        };
+        Ok((UnitTrackers { units }, seats))
+    }
+
+    /// Seats for another actor, which hold nothing. Takes no memory but for their list.
+    ///
+    /// # Errors
+    /// Where memory runs out.
+    pub fn split(&self, alloc: Global, first: &mut TrackerSeats) -> Result<TrackerSeats, Memory>
+        requires own { AreSeatsOf self.now first.old.units }
+        ensures same { first.new ≡ first.old }
+        ensures new { IfOk result (λ seats. seats.units ≡ map new_seat_of self.now) }
+        ensures holds { IfOk result (λ seats. HoldClaims self.now seats []) }
+    {
+        let mut units = Vec::with_capacity(alloc, self.units.len())?;
+        for number in 0..self.units.len() {
+            units.push(split_off(&self.units[number], &mut first.units[number]))?;
+        }
+        Ok(TrackerSeats { units, count: 0 })
+    }
+
+    /// Claims a granule, by one step where its unit goes by rows, and else under the lock of its stripe:
+    /// `Busy` where it is held, `Done` where it is done. A claim of a row takes no lock and no memory.
+    ///
+    /// # Errors
+    /// Where memory runs out. Nothing is claimed then.
+    pub fn claim<R: Wait>(
+        &self,
+        rt: &R,
+        seats: &mut TrackerSeats,
+        granule: &Granule,
+    ) -> Result<Taken, Memory>
+        requires own { AreSeatsOf self.now seats.old.units }
+        requires place { HasPlace self.now granule.now }
+        requires room { seats.old.count < most_granules }
+        ensures holds { Stands (HoldClaims self.now) granule.now seats.old seats.new result }
+        ensures answer { IfOk result (IsAnswered self.now seats.new granule.now) }
+        ensures memory { OnErr result (seats.new ≡ seats.old) }
+    {
+        match (self.units.get(granule.unit as usize), &granule.place) {
+            (Some(UnitTracker::Rows(bits)), Place::Row(at)) => {
+                Ok(seats.claim_row(bits, granule.unit, *at))
+            }
+            (Some(UnitTracker::Keys(stripes)), Place::Group(key)) => {
+                let taken = stripes.claim(rt, key)?;
+                if let Taken::Claimed(_) = &taken {
+                    seats.count += 1;
+                }
+                Ok(taken)
+            }
+            _ => unreachable!(),
+        }
+    }
+
+    // Ends the last claim that seats hold.
+    fn end<R: Wait>(
+        &self,
+        rt: &R,
+        seats: &mut TrackerSeats,
+        granule: &Granule,
+        claim: Claim,
+        ending: Ending,
+    )
+        requires holds { (rest : List Entry)
+            × HoldClaims self.now seats.old (rest ++ (granule.now, claim) ∷ []) }
+        ensures holds { (rest : List Entry)
+            → HoldClaims self.now seats.old (rest ++ (granule.now, claim) ∷ [])
+            → HoldClaims self.now seats.new rest }
+        ensures finished { AreFinished ending ((granule.now, claim) ∷ []) seats.old seats.new }
+    {
+        match (self.units.get(granule.unit as usize), claim) {
+            (Some(UnitTracker::Rows(bits)), Claim::Row(claim)) => {
+                seats.end_row(bits, granule.unit, claim, ending);
+            }
+            (Some(UnitTracker::Keys(stripes)), Claim::Group(claim)) => {
+                match ending {
+                    Ending::Finished => stripes.finish(rt, claim),
+                    Ending::GivenBack => stripes.give_back(rt, claim),
+                }
+                seats.count -= 1;
+            }
+            _ => unreachable!(),
+        }
+    }
+
+    // Ends all claims that seats hold, the last first.
+    fn end_all<R: Wait>(&self, rt: &R, seats: &mut TrackerSeats, mut wip: Wip, ending: Ending)
+        requires holds { HoldClaims self.now seats.old wip }
+        ensures spent { HoldClaims self.now seats.new [] }
+        ensures finished { AreFinished ending wip seats.old seats.new }
+    {
+        while let Some((granule, claim)) = wip.pop() {
+            self.end(rt, seats, &granule, claim, ending);
+        }
+        wip.end();
+    }
+
+    /// Finishes the last claim that seats hold: its granule is done. Takes no memory.
+    pub fn finish<R: Wait>(&self, rt: &R, seats: &mut TrackerSeats, granule: &Granule, claim: Claim)
+        requires holds { (rest : List Entry)
+            × HoldClaims self.now seats.old (rest ++ (granule.now, claim) ∷ []) }
+        ensures holds { (rest : List Entry)
+            → HoldClaims self.now seats.old (rest ++ (granule.now, claim) ∷ [])
+            → HoldClaims self.now seats.new rest }
+        ensures finished { AreFinished Finished ((granule.now, claim) ∷ []) seats.old seats.new }
+    {
+        self.end(rt, seats, granule, claim, Ending::Finished);
+    }
+
+    /// Gives back the last claim that seats hold: its granule is free. Takes no memory.
+    pub fn give_back<R: Wait>(
+        &self,
+        rt: &R,
+        seats: &mut TrackerSeats,
+        granule: &Granule,
+        claim: Claim,
+    )
+        requires holds { (rest : List Entry)
+            × HoldClaims self.now seats.old (rest ++ (granule.now, claim) ∷ []) }
+        ensures holds { (rest : List Entry)
+            → HoldClaims self.now seats.old (rest ++ (granule.now, claim) ∷ [])
+            → HoldClaims self.now seats.new rest }
+        ensures finished { AreFinished GivenBack ((granule.now, claim) ∷ []) seats.old seats.new }
+    {
+        self.end(rt, seats, granule, claim, Ending::GivenBack);
+    }
+
+    /// Finishes all claims that seats hold: their granules are done. Takes no memory.
+    pub fn finish_all<R: Wait>(&self, rt: &R, seats: &mut TrackerSeats, wip: Wip)
+        requires holds { HoldClaims self.now seats.old wip }
+        ensures spent { HoldClaims self.now seats.new [] }
+        ensures finished { AreFinished Finished wip seats.old seats.new }
+    {
+        self.end_all(rt, seats, wip, Ending::Finished);
+    }
+
+    /// Gives back all claims that seats hold: their granules are free. Takes no memory.
+    pub fn give_back_all<R: Wait>(&self, rt: &R, seats: &mut TrackerSeats, wip: Wip)
+        requires holds { HoldClaims self.now seats.old wip }
+        ensures spent { HoldClaims self.now seats.new [] }
+        ensures finished { AreFinished GivenBack wip seats.old seats.new }
+    {
+        self.end_all(rt, seats, wip, Ending::GivenBack);
+    }
+}
