@@ -1,5 +1,5 @@
 -- What a claim of a granule answers, by what its tracker answers.
-use Rattle.std.specs.Prelude.{◌≡◌, List, ⊤, ⊥}
+use Rattle.std.specs.Prelude.{◌≡◌, List, ⊤}
 use Rattle.bf_base.specs.declared.value.Value.{Value}
 use Rattle.bf_bits.specs.declared.bits.BitAnswer.{BitAnswer}
 use Rattle.bf_bits.specs.declared.bits.BitAnswer.TheVariants as bit

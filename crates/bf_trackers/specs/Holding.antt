@@ -1,5 +1,5 @@
 -- HELD: which claims of which granules seats hold.
-use Rattle.std.specs.Prelude.{◌≡◌, ℕ, ◌==◌, Bool, true, false, List, [], ◌∷◌, fold, length, slice_get, ⊤, ⊥}
+use Rattle.std.specs.Prelude.{◌≡◌, ℕ, ◌==◌, Bool, true, false, List, [], ◌∷◌, fold, length, slice_get, ⊤}
 use Rattle.std.specs.List.{AllByRecursion}
 use Rattle.bf_drive.specs.Claims.{IsOf}
 use Rattle.bf_drive.specs.Lists.{Entry}

@@ -1,5 +1,5 @@
 -- The trackers of units, the places that they track, and seats of them.
-use Rattle.std.specs.Prelude.{◌≡◌, ℕ, ◌==◌, ◌<◌, All, Bool, true, false, List, [], ◌∷◌, Option, Some, None, flat_map, length, map, slice_get, ⊤, ⊥}
+use Rattle.std.specs.Prelude.{◌≡◌, ℕ, ◌==◌, ◌<◌, All, Bool, true, false, List, [], ◌∷◌, Option, Some, None, flat_map, length, map, slice_get, ⊤}
 use Rattle.bf_base.specs.declared.granule.Granule.{Granule}
 use Rattle.bf_base.specs.declared.granule.Place.{Place}
 use Rattle.bf_base.specs.declared.granule.Place.TheVariants.{Row, Group}

@@ -6,7 +6,7 @@ use Rattle.bf_base.specs.declared.granule.Granule.{Granule}
 use Rattle.bf_base.specs.Lists.{in_order, rises}
 use Rattle.bf_drive.specs.Lists.{Entry, granules_in}
 use Rattle.bf_image.specs.declared.migration.Migration.{Migration}
-use Rattle.bf_store.specs.States.{AreGranules, most_moved, place_cmp}
+use Rattle.bf_store.specs.States.{AreGranules, granule_cmp, most_moved, place_cmp}
 use Rattle.bf_store.specs.Stores.{migration_of}
 
 pub record Work : Type 0 where
@@ -14,11 +14,11 @@ pub record Work : Type 0 where
   pub wip : List Entry
   pub granules : List Granule
 
--- the granules of a list in the order of their places
+-- granules in the order of unit and place
 abbrev pub by_place : List Granule → List Granule
-by_place granules = in_order place_cmp (λ g. g.place) granules
+by_place granules = in_order granule_cmp (λ g. g) granules
 
--- the claimed granules in the order of their places, as one record may move them
+-- the claimed granules in their order, as one record may move them
 pub record IsWork (pass : Where Migration) (wip : List Entry) (granules : List Granule) : Type 0 where
   pub sorted : granules ≡ by_place (granules_in wip)
   pub of_it : AreGranules (migration_of pass.value []) granules

@@ -45,7 +45,7 @@ fn mixed(so_far: u64, part: u64) -> u64 {
 // A number with a value mixed in.
 fn mixed_with(so_far: u64, value: &Value) -> u64 {
     match value {
-        Value::Int(number) => mixed(so_far, *number as u64),
+        Value::Int(number) => mixed(so_far, number.cast_unsigned()),
         Value::Text(text) => {
             let mut all = mixed(so_far, 1);
             for byte in text.as_bytes() {

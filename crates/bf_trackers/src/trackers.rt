@@ -1,15 +1,16 @@
 //! The trackers of a migration, with its pass.
 
-ghost use Rattle.std.specs.Prelude.{◌≡◌, ◌∷◌, ◌++◌, [], List, IfOk, OnErr, IsTrue, map};
+ghost use Rattle.std.specs.Prelude.{◌≡◌, ◌<◌, ◌≤◌, ◌∷◌, ◌++◌, [], List, IfOk, OnErr, Some, length, map};
+ghost use Rattle.std.specs.Option.{option_map};
 ghost use Rattle.boxcar.specs.Table.{Shows};
 ghost use Rattle.bf_bench.specs.Notes.{Stands};
-ghost use Rattle.bf_bench.specs.declared.bench.Taken.TheVariants as taken;
 ghost use Rattle.bf_drive.specs.Lists.{Entry, most_granules};
-ghost use Rattle.bf_image.specs.Migrations.{IsLawfulMigration};
+ghost use Rattle.bf_image.specs.Migrations.{IsLawfulMigration, old_of, unit_at};
 ghost use Rattle.bf_store.specs.States.{AreGranules};
 ghost use Rattle.bf_store.specs.Stores.{migration_of};
 ghost use Rattle.bf_trackers.specs.Holding.{AreFinished};
-ghost use Rattle.bf_trackers.specs.Migrations.{HoldsClaims, IsGranuleOf, shapes_of};
+ghost use Rattle.bf_trackers.specs.Migrations.{HoldsClaims, IsGranuleOf, shape_in, shapes_of};
+ghost use Rattle.bf_trackers.specs.declared.seats.Ending.TheVariants.{Finished, GivenBack};
 ghost use Rattle.bf_trackers.specs.Units.{AreMade, AreSeatsOf, IsAnswered, new_seat_of};
 
 use crate::seats::TrackerSeats;
@@ -39,6 +40,19 @@ impl Model for Trackers {
     ghost invariant = { λ all. AreOf all.pass.value all.units };
 }
 
+// What a unit of a migration goes by.
+fn shape(migration: &Migration, unit: u8) -> Shape
+    requires lawful { IsLawfulMigration migration.now }
+    requires there { unit < length migration.now.plan.units }
+    ensures { option_map (shape_in (old_of migration.now)) (unit_at migration.now unit)
+        ≡ Some result }
+{
+    match migration.arm_by_values(unit) {
+        Some(_) => Shape::Keys,
+        None => Shape::Rows(positions(migration, unit)),
+    }
+}
+
 // What each unit of a migration goes by.
 fn shapes(alloc: Global, migration: &Migration) -> Result<Vec<Shape>, Memory>
     requires lawful { IsLawfulMigration migration.now }
@@ -48,11 +62,7 @@ fn shapes(alloc: Global, migration: &Migration) -> Result<Vec<Shape>, Memory>
     let count = migration.plan.units.as_slice().len();
     let mut shapes = Vec::with_capacity(alloc, count)?;
     for number in 0..count {
-        let unit = number as u8;
-        shapes.push(match migration.arm_by_values(unit) {
-            Some(_) => Shape::Keys,
-            None => Shape::Rows(positions(migration, unit)),
-        })?;
+        shapes.push(shape(migration, number as u8))?;
     }
     Ok(shapes)
 }

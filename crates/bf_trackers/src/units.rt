@@ -1,8 +1,9 @@
 //! The trackers of a migration's units, each with its own way to name a place.
 
-ghost use Rattle.std.specs.Prelude.{◌≡◌, ◌∷◌, ◌++◌, [], List, IfOk, OnErr, map};
+ghost use Rattle.std.specs.Prelude.{◌≡◌, ◌∷◌, ◌++◌, [], List, IfOk, OnErr, length, map};
 ghost use Rattle.bf_bench.specs.Notes.{Stands};
 ghost use Rattle.bf_drive.specs.Lists.{Entry, most_granules};
+ghost use Rattle.bf_trackers.specs.declared.seats.Ending.TheVariants.{Finished, GivenBack};
 ghost use Rattle.bf_trackers.specs.Answers.{IsOfKey};
 ghost use Rattle.bf_trackers.specs.Holding.{AreFinished, HoldClaims};
 ghost use Rattle.bf_trackers.specs.Seats.{found_at};
@@ -112,6 +113,23 @@ fn split_off(tracker: &UnitTracker, seat: &mut Option<BitSeat>) -> Option<BitSea
     }
 }
 
+// Such a seat for each tracker.
+fn split_each(
+    alloc: Global,
+    trackers: &[UnitTracker],
+    seats: &mut [Option<BitSeat>],
+) -> Result<Vec<Option<BitSeat>>, Memory>
+    requires own { AreSeatsOf trackers.now seats.old }
+    ensures same { seats.new ≡ seats.old }
+    ensures new { IfOk result (λ new. new.items ≡ map new_seat_of trackers.now) }
+{
+    let mut new = Vec::with_capacity(alloc, trackers.len())?;
+    for number in 0..trackers.len() {
+        new.push(split_off(&trackers[number], &mut seats[number]))?;
+    }
+    Ok(new)
+}
+
 impl UnitTrackers {
     /// Trackers of units of these shapes, in which exactly these granules are done and none is held, and
     /// their first seats. It goes over the granules once for each unit, and is linear in the rows.
@@ -130,8 +148,8 @@ impl UnitTrackers {
     {
         let mut units = Vec::with_capacity(alloc, shapes.len())?;
         let mut seats = Vec::with_capacity(alloc, shapes.len())?;
-        for (number, shape) in shapes.iter().enumerate() {
-            let (unit, seat) = made(alloc, number as u8, *shape, done)?;
+        for number in 0..shapes.len() {
+            let (unit, seat) = made(alloc, number as u8, shapes[number], done)?;
             units.push(unit)?;
             seats.push(seat)?;
         }
@@ -152,10 +170,7 @@ impl UnitTrackers {
         ensures new { IfOk result (λ seats. seats.units ≡ map new_seat_of self.now) }
         ensures holds { IfOk result (λ seats. HoldClaims self.now seats []) }
     {
-        let mut units = Vec::with_capacity(alloc, self.units.len())?;
-        for number in 0..self.units.len() {
-            units.push(split_off(&self.units[number], &mut first.units[number]))?;
-        }
+        let units = split_each(alloc, self.units.as_slice(), first.units.as_mut_slice())?;
         Ok(TrackerSeats { units, count: 0 })
     }
 

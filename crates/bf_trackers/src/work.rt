@@ -1,12 +1,12 @@
 //! The work that one record of moves is to do.
 
-ghost use Rattle.std.specs.Prelude.{◌≡◌, ◌≤◌, ◌∷◌, [], ℕ, IfErr, IfOk, IsTrue, OnErr, OnOk, length, map};
+ghost use Rattle.std.specs.Prelude.{◌≡◌, ◌≤◌, ◌∷◌, [], ℕ, IfErr, IfOk, IsTrue, insert, length, map};
 ghost use Rattle.std.specs.List.{AllByRecursion};
 ghost use Rattle.boxcar.specs.Table.{Shows};
 ghost use Rattle.bf_base.specs.Lists.{placed, rises};
 ghost use Rattle.bf_bench.specs.Notes.{AreOfOneUnit};
 ghost use Rattle.bf_drive.specs.Lists.{granules_in};
-ghost use Rattle.bf_store.specs.States.{AreGranules, most_moved, place_cmp};
+ghost use Rattle.bf_store.specs.States.{AreGranules, granule_cmp, most_moved, place_cmp};
 ghost use Rattle.bf_store.specs.Stores.{migration_of};
 ghost use Rattle.bf_trackers.specs.Migrations.{IsGranuleOf};
 ghost use Rattle.bf_trackers.specs.Works.{by_place};
@@ -15,7 +15,6 @@ use bf_base::{Granule, Memory};
 use bf_drive::Wip;
 use bf_image::MigrationPass;
 use std::alloc::Global;
-use std::cmp::Ordering;
 use std::marker::Model;
 
 /// Granules that an actor has claimed, for one record of moves: in the order of their places, with
@@ -40,29 +39,32 @@ impl Model for Work {
     ghost invariant = { λ work. IsWork work.pass work.wip work.granules.items };
 }
 
-// The index at which a granule is to stand among others in the order of their places.
-fn index_for(granules: &[Granule], granule: &Granule) -> usize {
-    match granules.binary_search_by(|other| other.place.cmp(&granule.place)) {
-        Ok(index) => index,
-        Err(index) => index,
+// The index at which a granule is to stand among others in their order: that of the first which it
+// comes before.
+fn index_for(granules: &[Granule], granule: &Granule) -> usize
+    ensures within { result ≤ length granules.now }
+    ensures index { insert granules.now result granule.now
+        ≡ placed granule_cmp (λ g. g) granules.now granule.now }
+{
+    for index in 0..granules.len() {
+        if granule.cmp(&granules[index]).is_lt() {
+            return index;
+        }
     }
+    granules.len()
 }
 
-// Adds a granule to others in the order of their places.
-fn place(granules: &mut Vec<Granule>, granule: Granule) -> Result<(), Memory> {
-    let index = index_for(granules.as_slice(), &granule);
-    granules.insert(index, granule)?;
-    Ok(())
-}
-
-// Copies of the granules of a list, in the order of their places.
-fn in_order(alloc: Global, wip: &Wip) -> Result<Vec<Granule>, Memory> {
+// Copies of the granules of a list, in their order.
+fn in_order(alloc: Global, wip: &Wip) -> Result<Vec<Granule>, Memory>
+    ensures { IfOk result (λ granules. granules.items ≡ by_place (granules_in wip.now)) }
+{
     let mut granules = Vec::with_capacity(alloc, wip.len() as usize)?;
     for index in 0..wip.len() {
         let Some(granule) = wip.at(index) else {
             unreachable!();
         };
-        place(&mut granules, granule.copy(alloc)?)?;
+        let place = index_for(granules.as_slice(), granule);
+        granules.insert(place, granule.copy(alloc)?)?;
     }
     Ok(granules)
 }
